@@ -1,0 +1,2 @@
+//! Blocks of bits, and the bit vector that stands on them.
+#![tactic(auto)]

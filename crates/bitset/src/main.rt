@@ -1,0 +1,4 @@
+//! The program `bitset`.
+#![tactic(auto)]
+
+fn main() {}
