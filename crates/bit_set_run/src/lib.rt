@@ -1,2 +1,10 @@
 //! Commands over a table of sixteen sets, and the program that reads them from lines.
 #![tactic(auto)]
+
+mod commands;
+mod names;
+mod numbers;
+
+pub use commands::{Command, Reply};
+pub use names::SetName;
+pub use numbers::Numbers;
