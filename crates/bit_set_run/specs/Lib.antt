@@ -1,3 +1,5 @@
 pub mod Cuts
 pub mod Lines
+pub mod Run
+pub mod Sets
 pub mod Words
