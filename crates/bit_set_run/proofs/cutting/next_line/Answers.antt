@@ -1,6 +1,7 @@
-use Rattle.std.proofs.Common.{rules, ◌≡◌, ◌<◌, ◌∷◌, ◌++◌, [], IfNone, IfSome, MatchOption, length, ℕ, ◌+◌, ◌-◌, ◌*◌, ◌≤◌, ◌/◌, ◌%◌, Bool, true, false, nat_eq, nat_lt, List, slice_index_or, slice_set, bit_and, bit_or, Fits, w8, w32, w64, Bor, MutBor}
-use Rattle.bit_set_run.specs.Lines.{lines_of}
+use Rattle.std.proofs.Common.{refl}
+use Rattle.bit_set_run.proofs.LineLemmas.{lines_of-cut}
 use Rattle.bit_set_run.proofs.cutting.next_line.Goals as goal
 
 pub returns-clause-lines : goal.returns-clause-lines
-returns-clause-lines c = let u = c.unwrap_or in let k = c.cut.ensures in let f = c.if-is_empty.false in ?
+returns-clause-lines c =
+    lines_of-cut c.args.input.now c.cut.result.0.now c.cut.result.1 _ c.unwrap_or.result c.if-is_empty.ensures c.cut.ensures.before c.cut.ensures.after refl c.unwrap_or.ensures
