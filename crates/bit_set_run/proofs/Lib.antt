@@ -1,3 +1,4 @@
 pub mod CutLemmas
 pub mod LineLemmas
+pub mod ReadingLemmas
 pub mod SetLemmas

@@ -6,6 +6,7 @@ mod cutting;
 mod laws;
 mod names;
 mod numbers;
+mod reading;
 
 pub use commands::{Command, Reply};
 pub use laws::{lines_are_unique, words_are_unique};
