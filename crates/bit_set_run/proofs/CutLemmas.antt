@@ -37,7 +37,7 @@ onto_some : (b : ℕ) (parts : List (List ℕ)) → onto_first b parts ≢ []
 onto_some b [] = λ e. cc
 onto_some b (part ∷ parts) = λ e. cc
 
-parts_some : (byte : ℕ) (text : List ℕ) → parts_at byte text ≢ []
+pub parts_some : (byte : ℕ) (text : List ℕ) → parts_at byte text ≢ []
 parts_some byte [] = λ e. cc
 parts_some byte (b ∷ bs) =
     elim (eqb_tells b byte) [

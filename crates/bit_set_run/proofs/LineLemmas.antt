@@ -1,5 +1,5 @@
 -- `lines_of`, a line at a time, and that it gives the lines of the input and no others.
-use Rattle.std.proofs.Common.{◌≡◌, ◌≢◌, ℕ, ◌==◌, ◌⊎◌, inl, inr, Bool, true, false, List, [], ◌∷◌, ◌++◌, length, ap, sym, ◌∙◌, subst, refl, ne_eqb, append_assoc, Option, None, Some, IfSome, MatchOption, unwrap_or, Bor}
+use Rattle.std.proofs.Common.{◌≡◌, ◌≢◌, ℕ, ◌==◌, ◌⊎◌, inl, inr, Bool, true, false, List, [], ◌∷◌, ◌++◌, length, ap, sym, ◌∙◌, subst, refl, ne_eqb, append_assoc, Option, None, Some, IfSome, IfNone, unwrap_or, Bor}
 use Rattle.std.proofs.lemmas.Bool.{false≢true}
 use Rattle.std.proofs.lemmas.Bool.Decides.{eqb_tells}
 use Rattle.std.proofs.lemmas.List.{same_from_push}
@@ -104,10 +104,10 @@ lines_of-only input lines are =
       | inr short ↦ sym (lines_of-short lines input are.whole short.0 short.1)
     ]
 
--- the line before the first byte 10 of an input, or the whole of it, and the lines of what comes after
-pub lines_of-cut : (input line : List ℕ) (after : Option (Bor (List ℕ))) (nothing found : Bor (List ℕ)) → false ≡ (length input == 0) → Lacks 10 line → MatchOption after (line ≡ input) (λ rest. input ≡ line ++ 10 ∷ rest.now) → nothing.now ≡ [] → found ≡ unwrap_or after nothing → lines_of input ≡ line ∷ lines_of found.now
-lines_of-cut [] line after nothing found some lacks is none same = absurd (false≢true some)
-lines_of-cut (b ∷ bs) line None nothing found some lacks is none same =
-    rw (same, none) (rw is (lines_of-open b bs (subst (Lacks 10) is lacks)))
-lines_of-cut (b ∷ bs) line (Some rest) nothing found some lacks is none same =
-    rw same (ap lines_of is ∙ lines_of-ended line rest.now lacks)
+-- what stands before the first byte 10 of an input is its first line
+pub lines_of-first : (input : List ℕ) (found : Option (Bor (List ℕ) × Bor (List ℕ))) (whole parts : Bor (List ℕ) × Bor (List ℕ)) → false ≡ (length input == 0) → IfNone found (Lacks 10 input) → IfSome found (λ p. Lacks 10 p.0.now) → IfSome found (λ p. input ≡ p.0.now ++ 10 ∷ p.1.now) → whole.0.now ≡ input → whole.1.now ≡ [] → parts ≡ unwrap_or found whole → lines_of input ≡ parts.0.now ∷ lines_of parts.1.now
+lines_of-first [] found whole parts some lacks first joined front rest same = absurd (false≢true some)
+lines_of-first (b ∷ bs) None whole parts some lacks first joined front rest same =
+    rw (same, front, rest) (lines_of-open b bs lacks)
+lines_of-first (b ∷ bs) (Some p) whole parts some lacks first joined front rest same =
+    rw same (ap lines_of joined ∙ lines_of-ended p.0.now p.1.now first)

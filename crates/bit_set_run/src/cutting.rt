@@ -4,19 +4,16 @@ ghost use Rattle.std.specs.Prelude.{◌≡◌, ◌<◌, ◌∷◌, ◌++◌, [],
 ghost use Rattle.bit_set_run.specs.Cuts.{Lacks};
 ghost use Rattle.bit_set_run.specs.Lines.{lines_of};
 
-/// What stands before the first such byte, or the whole text where there is none; and what stands
-/// after that byte. One scan, up to that byte.
+/// What stands before the first such byte and what stands after it; `None` where there is none. One
+/// scan, up to that byte.
 #[inline]
-pub(crate) fn cut(text: &[u8], byte: u8) -> (&[u8], Option<&[u8]>)
-    ensures before { Lacks byte result.0.now }
-    ensures after { MatchOption result.1
-        (result.0.now ≡ text.now)
-        (λ after. text.now ≡ result.0.now ++ byte ∷ after.now) }
+pub(crate) fn split_once(text: &[u8], byte: u8) -> Option<(&[u8], &[u8])>
+    ensures whole { IfNone result (Lacks byte text.now) }
+    ensures first { IfSome result (λ parts. Lacks byte parts.0.now) }
+    ensures joined { IfSome result (λ parts. text.now ≡ parts.0.now ++ byte ∷ parts.1.now) }
 {
-    match text.iter().position(|b| *b == byte) {
-        None => (text, None),
-        Some(at) => (&text[..at], Some(&text[at + 1..])),
-    }
+    let at = text.iter().position(|b| *b == byte)?;
+    Some((&text[..at], &text[at + 1..]))
 }
 
 /// The first line of the input, and what comes after it; `None` at an empty input.
@@ -30,6 +27,5 @@ pub(crate) fn next_line(input: &[u8]) -> Option<(&[u8], &[u8])>
     if input.is_empty() {
         return None;
     }
-    let (line, after) = cut(input, b'\n');
-    Some((line, after.unwrap_or(&[])))
+    Some(split_once(input, b'\n').unwrap_or((input, &[])))
 }

@@ -5,7 +5,7 @@ ghost use Rattle.std.specs.Char.{IsAsciiDigit};
 ghost use Rattle.bit_set_run.specs.Reading.{held, name_and_number, name_of, number_of, reading, verb_of, within_range};
 ghost use Rattle.bit_set_run.specs.Words.{words_of};
 
-use crate::cutting::cut;
+use crate::cutting::split_once;
 use crate::{Command, SetName};
 
 /// Why a line is no command.
@@ -32,24 +32,24 @@ enum Verb {
 pub(crate) fn read_line(line: &[u8]) -> Result<Command, BadLine>
     ensures { result ≡ reading line.now }
 {
-    let (word, Some(words)) = cut(line, b' ') else {
+    let Some((word, words)) = split_once(line, b' ') else {
         return Err(BadLine::BadCommand);
     };
-    match verb_of(word).ok_or(BadLine::BadCommand)? {
+    let Some(verb) = verb_of(word) else {
+        return Err(BadLine::BadCommand);
+    };
+    match verb {
         Verb::Insert => {
-            let (name, number) = read_name_and_number(words)?;
-            Ok(Command::Insert(name, number))
+            read_name_and_number(words).map(|(name, number)| Command::Insert(name, number))
         }
         Verb::Remove => {
-            let (name, number) = read_name_and_number(words)?;
-            Ok(Command::Remove(name, number))
+            read_name_and_number(words).map(|(name, number)| Command::Remove(name, number))
         }
         Verb::Contains => {
-            let (name, number) = read_name_and_number(words)?;
-            Ok(Command::Contains(name, number))
+            read_name_and_number(words).map(|(name, number)| Command::Contains(name, number))
         }
-        Verb::Count => Ok(Command::Count(read_name(words)?)),
-        Verb::Items => Ok(Command::Items(read_name(words)?)),
+        Verb::Count => read_name(words).map(Command::Count),
+        Verb::Items => read_name(words).map(Command::Items),
     }
 }
 
@@ -80,7 +80,7 @@ fn read_name(word: &[u8]) -> Result<SetName, BadLine>
 fn read_name_and_number(words: &[u8]) -> Result<(SetName, usize), BadLine>
     ensures { result ≡ within_range (λ p. p.1 ∷ []) (name_and_number (words_of words.now)) }
 {
-    let (name, Some(number)) = cut(words, b' ') else {
+    let Some((name, number)) = split_once(words, b' ') else {
         return Err(BadLine::BadCommand);
     };
     Ok((read_name(name)?, read_number(number)?))
