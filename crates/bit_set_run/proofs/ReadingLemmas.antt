@@ -1,5 +1,5 @@
 -- Numbers read a digit at a time, and what a line's words come to.
-use Rattle.std.proofs.Common.{◌≡◌, ◌≢◌, ℕ, zero, suc, ◌+◌, ◌-◌, ◌*◌, ◌<◌, ◌≤◌, Bool, true, false, ◌&&◌, List, [], ◌∷◌, ◌++◌, length, take, get_or, ap, sym, ◌∙◌, refl, arith, eqb, nat_lt, ◌⊎◌, inl, inr, Option, None, Some, Result, Ok, Err, nat_le, if◌then◌else◌}
+use Rattle.std.proofs.Common.{◌≡◌, ◌≢◌, ℕ, zero, suc, ◌+◌, ◌-◌, ◌*◌, ◌<◌, ◌≤◌, Bool, true, false, ◌&&◌, List, [], ◌∷◌, ◌++◌, length, take, get_or, ap, sym, ◌∙◌, refl, arith, eqb, nat_lt, ◌⊎◌, inl, inr, Option, None, Some, Result, Ok, Err, IsOkAnd, MatchResult, nat_le, if◌then◌else◌}
 use Rattle.std.specs.Char.{is_ascii_digit, digit_value, IsAsciiDigit}
 use Rattle.std.specs.Str.{all_ascii_digits}
 use Rattle.std.specs.Str.Parse.{digits_value}
@@ -9,12 +9,15 @@ use Rattle.std.proofs.lemmas.Bool.Decides.{eqb_tells}
 use Rattle.std.specs.List.{list_all}
 use Rattle.std.specs.Option.{option_and_then, option_map}
 use Rattle.bit_set_run.specs.Cuts.{Lacks}
+use Rattle.bit_set_run.specs.declared.commands.Command.{Command}
+use Rattle.bit_set_run.specs.declared.reading.Verb.{Verb}
+use Rattle.bit_set_run.specs.declared.reading.Verb.TheVariants.{Insert, Remove, Contains, Count, Items}
 use Rattle.bit_set_run.specs.declared.reading.BadLine.{BadLine}
 use Rattle.bit_set_run.specs.declared.reading.BadLine.TheVariants.{BadCommand, BadNumber}
-use Rattle.bit_set_run.specs.Reading.{held, name_alone, name_and_number, name_of, number_of, within_range}
+use Rattle.bit_set_run.specs.Reading.{command_of, held, name_alone, name_and_number, name_of, number_of, numbers_of, reading, verb_of, within_range}
 use Rattle.bit_set_run.specs.Run.{greatest}
 use Rattle.bit_set_run.specs.Words.{words_of}
-use Rattle.bit_set_run.proofs.CutLemmas.{parts_at-first, parts_some}
+use Rattle.bit_set_run.proofs.CutLemmas.{parts_at-first, parts_at-one, parts_some}
 
 and_parts : (a b : Bool) → (a && b) ≡ true → (a ≡ true) × (b ≡ true)
 and_parts true b e = (refl, e)
@@ -138,3 +141,30 @@ pub both_of-ok : (name number : Option ℕ) (s n : ℕ) → Ok s ≡ within_rang
 both_of-ok None number s n named is = cc
 both_of-ok (Some t) None s n named is = cc
 both_of-ok (Some t) (Some m) s n named is = ok_by_test (list_all (λ k. nat_le k greatest) (m ∷ [])) m t s n named is
+
+alone : (verb : Option Verb) → within_range numbers_of (option_and_then (λ v. command_of v []) verb) ≡ Err BadCommand
+alone None = refl
+alone (Some Insert) = refl
+alone (Some Remove) = refl
+alone (Some Contains) = refl
+alone (Some Count) = refl
+alone (Some Items) = refl
+
+-- a line without a space spells nothing, since each verb wants a name
+pub reading-word : (line : List ℕ) → Lacks 32 line → reading line ≡ Err BadCommand
+reading-word line lacks = rw (parts_at-one 32 line lacks) (alone (verb_of line))
+
+-- a line with one is a verb and the words after the space
+pub reading-words : (word words : List ℕ) → Lacks 32 word → reading (word ++ 32 ∷ words) ≡ within_range numbers_of (option_and_then (λ verb. command_of verb (words_of words)) (verb_of word))
+reading-words word words lacks = rw (parts_at-first 32 word words lacks)
+
+made : {X : Type 0} (make : X → Command) (numbers : X → List ℕ) (fits : Bool) (x : X) (told : Result X BadLine) (out : Result Command BadLine) → told ≡ (if fits then Ok x else Err BadNumber) → MatchResult told (λ x. IsOkAnd out (λ y. y ≡ make x)) (λ e. out ≡ Err e) → out ≡ (if fits then Ok (make x) else Err BadNumber)
+made make numbers true x told (Ok y) is cases = ap Ok (rw is at cases)
+made make numbers true x told (Err e) is cases = absurd (rw is at cases)
+made make numbers false x told out is cases = rw is at cases
+
+-- what is told of a command, by what is told of the values that it is made of
+pub mapped : {X : Type 0} (make : X → Command) (numbers : X → List ℕ) (found : Option X) (told : Result X BadLine) (out : Result Command BadLine) → ((x : X) → numbers_of (make x) ≡ numbers x) → told ≡ within_range numbers found → MatchResult told (λ x. IsOkAnd out (λ y. y ≡ make x)) (λ e. out ≡ Err e) → out ≡ within_range numbers_of (option_map make found)
+mapped make numbers None told out same is cases = rw is at cases
+mapped make numbers (Some x) told out same is cases =
+    rw (same x) (made make numbers (list_all (λ n. nat_le n greatest) (numbers x)) x told out is cases)
