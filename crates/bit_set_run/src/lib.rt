@@ -4,7 +4,12 @@
 mod commands;
 mod names;
 mod numbers;
+mod plain;
+mod running;
+mod table;
 
 pub use commands::{Command, Reply};
 pub use names::SetName;
 pub use numbers::Numbers;
+pub use running::{RunFault, run};
+pub use table::Table;
