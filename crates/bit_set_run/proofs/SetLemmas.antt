@@ -36,9 +36,9 @@ same_rest x y xs ys hx hy e same n =
     elim (cases_lt n (x + 1)) [
       | inl lt ↦ has-below (x + 1) xs n hx lt ∙ sym (has-below (y + 1) ys n hy (omega (arith, e, lt)))
       | inr ge ↦
-        let not_x : eqb x n ≡ false = ne_eqb x n (λ f. omega (arith, f, ge)) in
-        let not_y : eqb y n ≡ false = ne_eqb y n (λ f. omega (arith, e, f, ge)) in
-        ap (λ b. b || has xs n) (sym not_x) ∙ same n ∙ ap (λ b. b || has ys n) not_y
+          let not_x : eqb x n ≡ false = ne_eqb x n (λ f. omega (arith, f, ge)) in
+          let not_y : eqb y n ≡ false = ne_eqb y n (λ f. omega (arith, e, f, ge)) in
+          ap (λ b. b || has xs n) (sym not_x) ∙ same n ∙ ap (λ b. b || has ys n) not_y
     ]
 
 -- ascending lists with the same members are one list
@@ -94,7 +94,7 @@ without_it : (x n m : ℕ) (b : Bool) → x ≡ n → (not (eqb n m) && b) ≡ (
 without_it x n m b e = rw e (elim (eqb n m) as (λ t. (not t && b) ≡ (not t && (t || b))) [ true ↦ refl | false ↦ refl ])
 
 beside_it : (x n m : ℕ) (b : Bool) → (x ≡ n → ⊥) → (eqb x m || (not (eqb n m) && b)) ≡ (not (eqb n m) && (eqb x m || b))
-beside_it x n m b other = 
+beside_it x n m b other =
     elim (cases_eq n m) [
       | inl e ↦ let yes : eqb n m ≡ true = eq-eqb n m e in let no : eqb x m ≡ false = ne_eqb x m (λ f. other (f ∙ sym e)) in rw (yes, no) refl
       | inr ne ↦ let no : eqb n m ≡ false = ne_eqb n m ne in rw no refl
@@ -106,7 +106,6 @@ has-without (x ∷ xs) n m =
     without_cases (λ s. has s m ≡ (not (eqb n m) && has (x ∷ xs) m)) x xs n
     (λ e. has-without xs n m ∙ without_it x n m (has xs m) e)
     (λ other. ap (λ b. eqb x m || b) (has-without xs n m) ∙ beside_it x n m (has xs m) other)
-
 
 pub AscendsFrom-without : (low : ℕ) (xs : List ℕ) (n : ℕ) → AscendsFrom low xs → AscendsFrom low (without xs n)
 AscendsFrom-without low [] n h = tt
@@ -178,8 +177,8 @@ elements-set_true bs cs v lt same =
     (λ k. elim (cases_eq k v) [
       | inl e ↦ let here : eqb v k ≡ true = eq-eqb v k (sym e) in rw e (get_or-set_same cs v true false lt) ∙ sym (has-put (elements bs) v k ∙ ap (λ b. b || has (elements bs) k) here)
       | inr other ↦
-        let elsewhere : eqb v k ≡ false = ne_eqb v k (λ e. other (sym e)) in
-        get_or-set_other cs v k true false other ∙ same k ∙ sym (has-put (elements bs) v k ∙ ap (λ b. b || has (elements bs) k) elsewhere ∙ has-elements bs k)
+          let elsewhere : eqb v k ≡ false = ne_eqb v k (λ e. other (sym e)) in
+          get_or-set_other cs v k true false other ∙ same k ∙ sym (has-put (elements bs) v k ∙ ap (λ b. b || has (elements bs) k) elsewhere ∙ has-elements bs k)
     ])
 
 get_or_set_false : (bs : List Bool) (v : ℕ) → get_or (set bs v false) v false ≡ false
@@ -194,8 +193,8 @@ elements-set_false bs v =
     (λ k. elim (cases_eq k v) [
       | inl e ↦ let here : eqb v k ≡ true = eq-eqb v k (sym e) in rw e (get_or_set_false bs v) ∙ sym (has-without (elements bs) v k ∙ ap (λ b. not b && has (elements bs) k) here)
       | inr other ↦
-        let elsewhere : eqb v k ≡ false = ne_eqb v k (λ e. other (sym e)) in
-        get_or-set_other bs v k false false other ∙ sym (has-without (elements bs) v k ∙ ap (λ b. not b && has (elements bs) k) elsewhere ∙ has-elements bs k)
+          let elsewhere : eqb v k ≡ false = ne_eqb v k (λ e. other (sym e)) in
+          get_or-set_other bs v k false false other ∙ sym (has-without (elements bs) v k ∙ ap (λ b. not b && has (elements bs) k) elsewhere ∙ has-elements bs k)
     ])
 
 get_or_padded : (bs : List Bool) (n k : ℕ) → get_or (bs ++ replicate n false) k false ≡ get_or bs k false
@@ -207,7 +206,7 @@ get_or_padded (b ∷ bs) n (suc k) = get_or_padded bs n k
 
 -- a list filled up with false reads as before
 pub get_or_filled_up : (bs : List Bool) (n k : ℕ) → length bs ≤ n → get_or (take n bs ++ replicate (n - length bs) false) k false ≡ get_or bs k false
-get_or_filled_up bs n k le = 
+get_or_filled_up bs n k le =
     rw (take_all n bs le) (get_or_padded bs (n - length bs) k)
 
 -- a number that is in no set without it

@@ -29,8 +29,22 @@ impl Table {
         let set = || PlainSet::new(alloc);
         Table {
             sets: [
-                set(), set(), set(), set(), set(), set(), set(), set(), set(), set(), set(),
-                set(), set(), set(), set(), set(),
+                set(),
+                set(),
+                set(),
+                set(),
+                set(),
+                set(),
+                set(),
+                set(),
+                set(),
+                set(),
+                set(),
+                set(),
+                set(),
+                set(),
+                set(),
+                set(),
             ],
         }
     }

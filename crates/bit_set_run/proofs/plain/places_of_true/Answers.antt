@@ -9,7 +9,7 @@ loop-place-preserved c =
     let place = c.loop-place.place in
     elim c.if-here.branch [
       | then-here+in_ok-push w ↦
-        rw (w.places-is, w.in_ok-push.ensures.items, c.loop-place.invariant) (sym (elements-take_more values place true c.loop-place-test.true w.if-here.true))
+          rw (w.places-is, w.in_ok-push.ensures.items, c.loop-place.invariant) (sym (elements-take_more values place true c.loop-place-test.true w.if-here.true))
       | else-here w ↦
-        rw (w.places-is, c.loop-place.invariant) (sym (elements-take_more values place false c.loop-place-test.true w.if-here.false ∙ append-nil _))
+          rw (w.places-is, c.loop-place.invariant) (sym (elements-take_more values place false c.loop-place-test.true w.if-here.false ∙ append-nil _))
     ]
