@@ -6,10 +6,12 @@ mod names;
 mod numbers;
 mod plain;
 mod running;
+mod streams;
 mod table;
 
 pub use commands::{Command, Reply};
 pub use names::SetName;
 pub use numbers::Numbers;
 pub use running::{RunFault, run};
+pub use streams::LinesFault;
 pub use table::Table;
