@@ -1,5 +1,5 @@
 -- The parts of a text that is cut at a byte.
-use Rattle.std.proofs.Common.{◌≡◌, ◌≢◌, ℕ, Bool, true, false, eqb, List, [], ◌∷◌, ◌++◌, inl, inr, ap, sym, ◌∙◌, refl, ne_eqb, eq-eqb}
+use Rattle.std.proofs.Common.{◌≡◌, ◌≢◌, ℕ, false, eqb, List, [], ◌∷◌, ◌++◌, inl, inr, ap, sym, ◌∙◌, refl, ne_eqb, eq-eqb}
 use Rattle.std.proofs.lemmas.Bool.Decides.{eqb_tells}
 use Rattle.std.proofs.lemmas.List.Elements.{All-nil, All-cons, All-head, All-tail, All-weaker}
 use Rattle.std.proofs.lemmas.List.Splits.{slice_split_none, slice_split_at, join_with_byte-slice_split}
@@ -29,7 +29,7 @@ parts_lack : (byte : ℕ) (text : List ℕ) → All (Lacks byte) (parts_at byte 
 parts_lack byte [] = All-cons (Lacks byte) [] [] (All-nil (λ b. b ≢ byte)) (All-nil (Lacks byte))
 parts_lack byte (b ∷ bs) =
     elim (eqb_tells b byte) [
-      inl same ↦ rw same.0 (All-cons (Lacks byte) [] (parts_at byte bs) (All-nil (λ b. b ≢ byte)) (parts_lack byte bs))
+      | inl same ↦ rw same.0 (All-cons (Lacks byte) [] (parts_at byte bs) (All-nil (λ b. b ≢ byte)) (parts_lack byte bs))
       | inr other ↦ rw other.0 (onto_lacks byte b (parts_at byte bs) other.1 (parts_lack byte bs))
     ]
 
@@ -41,7 +41,7 @@ pub parts_some : (byte : ℕ) (text : List ℕ) → parts_at byte text ≢ []
 parts_some byte [] = λ e. cc
 parts_some byte (b ∷ bs) =
     elim (eqb_tells b byte) [
-      inl same ↦ rw same.0 (λ e. cc)
+      | inl same ↦ rw same.0 (λ e. cc)
       | inr other ↦ rw other.0 (onto_some b (parts_at byte bs))
     ]
 

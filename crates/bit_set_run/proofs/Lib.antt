@@ -1,4 +1,6 @@
 pub mod CutLemmas
 pub mod LineLemmas
 pub mod ReadingLemmas
+pub mod RunLemmas
 pub mod SetLemmas
+pub mod StreamLemmas

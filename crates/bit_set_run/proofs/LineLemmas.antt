@@ -1,10 +1,10 @@
 -- `lines_of`, a line at a time, and that it gives the lines of the input and no others.
-use Rattle.std.proofs.Common.{◌≡◌, ◌≢◌, ℕ, ◌==◌, ◌⊎◌, inl, inr, Bool, true, false, List, [], ◌∷◌, ◌++◌, length, ap, sym, ◌∙◌, subst, refl, ne_eqb, append_assoc, Option, None, Some, IfSome, IfNone, unwrap_or, Bor}
+use Rattle.std.proofs.Common.{◌≡◌, ◌≢◌, ℕ, ◌==◌, inl, inr, false, List, [], ◌∷◌, ◌++◌, length, ap, sym, ◌∙◌, refl, ne_eqb, append_assoc, Option, None, Some, IfSome, IfNone, unwrap_or, Bor}
 use Rattle.std.proofs.lemmas.Bool.{false≢true}
 use Rattle.std.proofs.lemmas.Bool.Decides.{eqb_tells}
 use Rattle.std.proofs.lemmas.List.{same_from_push}
 use Rattle.std.proofs.lemmas.List.Elements.{All-nil, All-cons, All-head, All-tail}
-use Rattle.std.specs.List.{All, last_or, onto_first}
+use Rattle.std.specs.List.{All, onto_first}
 use Rattle.bit_set_run.specs.Cuts.{Lacks}
 use Rattle.bit_set_run.specs.Lines.{lines_of, ended, EndsWithBytes, AreLines}
 
@@ -31,10 +31,11 @@ in_front : (text rest : List ℕ) (lines : List (List ℕ)) → Lacks 10 text �
 in_front text rest lines lacks are = record {
   whole = All-cons (Lacks 10) text lines lacks are.whole;
   joined = elim are.joined [
-    inl all ↦ inl (ap (λ bs. text ++ 10 ∷ bs) all)
+    | inl all ↦ inl (ap (λ bs. text ++ 10 ∷ bs) all)
     | inr short ↦ inr (append_assoc text (10 ∷ rest) (10 ∷ []) ∙ ap (λ bs. text ++ 10 ∷ bs) short.0, last_below text lines rest short.0 short.1)
   ];
 }
+
 some : (xs : List ℕ) → xs ++ 10 ∷ [] ≡ [] → ⊥
 some [] e = cc
 some (x ∷ xs) e = cc
@@ -48,25 +49,26 @@ longer : (b : ℕ) (bs : List ℕ) (lines : List (List ℕ)) → b ≢ 10 → Ar
 longer b bs [] other are = record {
   whole = All-cons (Lacks 10) (b ∷ []) [] (All-cons (λ x. x ≢ 10) b [] other (All-nil (λ x. x ≢ 10))) (All-nil (Lacks 10));
   joined = elim are.joined [
-    inl all ↦ inr (ap (λ xs. b ∷ (xs ++ 10 ∷ [])) all, (λ e. cc))
+    | inl all ↦ inr (ap (λ xs. b ∷ (xs ++ 10 ∷ [])) all, (λ e. cc))
     | inr short ↦ absurd (some bs short.0)
   ];
 }
 longer b bs (line ∷ lines) other are = record {
   whole = All-cons (Lacks 10) (b ∷ line) lines
-    (All-cons (λ x. x ≢ 10) b line other (All-head (Lacks 10) line lines are.whole))
-    (All-tail (Lacks 10) line lines are.whole);
+      (All-cons (λ x. x ≢ 10) b line other (All-head (Lacks 10) line lines are.whole))
+      (All-tail (Lacks 10) line lines are.whole);
   joined = elim are.joined [
-    inl all ↦ inl (ap (λ xs. b ∷ xs) all)
+    | inl all ↦ inl (ap (λ xs. b ∷ xs) all)
     | inr short ↦ inr (ap (λ xs. b ∷ xs) short.0, last_longer b line lines short.1)
   ];
 }
+
 -- every input has its lines
 pub lines_of-are : (input : List ℕ) → AreLines input (lines_of input)
 lines_of-are [] = record { whole = All-nil (Lacks 10); joined = inl refl }
 lines_of-are (b ∷ bs) =
     elim (eqb_tells b 10) [
-      inl ten ↦ rw (ten.0, ten.1) (in_front [] bs (lines_of bs) (All-nil (λ x. x ≢ 10)) (lines_of-are bs))
+      | inl ten ↦ rw (ten.0, ten.1) (in_front [] bs (lines_of bs) (All-nil (λ x. x ≢ 10)) (lines_of-are bs))
       | inr other ↦ rw other.0 (longer b bs (lines_of bs) other.1 (lines_of-are bs))
     ]
 
@@ -93,14 +95,15 @@ lines_of-short ((b ∷ bs) ∷ []) input lack e last =
 lines_of-short (line ∷ next ∷ lines) input lack e last =
     let found : (front : List ℕ) × (ended (next ∷ lines) ≡ front ++ 10 ∷ []) = ended_ends next lines in
     let same : input ≡ line ++ 10 ∷ found.0 =
-        (same_from_push input (line ++ 10 ∷ found.0) 10 10 (e ∙ ap (λ bs. line ++ 10 ∷ bs) found.1 ∙ sym (append_assoc line (10 ∷ found.0) (10 ∷ [])))).0 in
+    (same_from_push input (line ++ 10 ∷ found.0) 10 10 (e ∙ ap (λ bs. line ++ 10 ∷ bs) found.1 ∙ sym (append_assoc line (10 ∷ found.0) (10 ∷ [])))).0 in
     ap lines_of same ∙ lines_of-ended line found.0 (All-head (Lacks 10) line (next ∷ lines) lack)
     ∙ ap (λ rest. line ∷ rest) (lines_of-short (next ∷ lines) found.0 (All-tail (Lacks 10) line (next ∷ lines) lack) (sym found.1) last)
+
 -- no other texts are its lines
 pub lines_of-only : (input : List ℕ) (lines : List (List ℕ)) → AreLines input lines → lines ≡ lines_of input
 lines_of-only input lines are =
     elim are.joined [
-      inl all ↦ sym (ap lines_of all ∙ lines_of-all lines are.whole)
+      | inl all ↦ sym (ap lines_of all ∙ lines_of-all lines are.whole)
       | inr short ↦ sym (lines_of-short lines input are.whole short.0 short.1)
     ]
 

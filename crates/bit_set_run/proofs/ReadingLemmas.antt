@@ -1,5 +1,5 @@
 -- Numbers read a digit at a time, and what a line's words come to.
-use Rattle.std.proofs.Common.{◌≡◌, ◌≢◌, ℕ, zero, suc, ◌+◌, ◌-◌, ◌*◌, ◌<◌, ◌≤◌, Bool, true, false, ◌&&◌, List, [], ◌∷◌, ◌++◌, length, take, get_or, ap, sym, ◌∙◌, refl, arith, eqb, nat_lt, ◌⊎◌, inl, inr, Option, None, Some, Result, Ok, Err, IsOkAnd, MatchResult, nat_le, if◌then◌else◌}
+use Rattle.std.proofs.Common.{◌≡◌, ℕ, zero, suc, ◌+◌, ◌-◌, ◌*◌, ◌<◌, Bool, true, false, ◌&&◌, List, [], ◌∷◌, ◌++◌, length, take, get_or, ap, sym, ◌∙◌, refl, arith, eqb, nat_lt, ◌⊎◌, inl, inr, Option, None, Some, Result, Ok, Err, IsOkAnd, MatchResult, nat_le, if◌then◌else◌}
 use Rattle.std.specs.Char.{is_ascii_digit, digit_value, IsAsciiDigit}
 use Rattle.std.specs.Str.{all_ascii_digits}
 use Rattle.std.specs.Str.Parse.{digits_value}
@@ -64,28 +64,28 @@ record IsCut (text : List ℕ) : Type 0 where
 
 first_space : (b : ℕ) (bs : List ℕ) → eqb b 32 ≡ true → b ≡ 32 → IsCut (b ∷ bs)
 first_space b bs test same = elim (words_of bs) as (λ ws. words_of bs ≡ ws → IsCut (b ∷ bs)) [
-    [] ↦ λ e. absurd (parts_some 32 bs e)
-    | w ∷ ws ↦ λ e. record { first = []; second = w; others = ws; place = 0; words = rw (test, e); below = omega arith; space = same }
-  ] refl
+  | [] ↦ λ e. absurd (parts_some 32 bs e)
+  | w ∷ ws ↦ λ e. record { first = []; second = w; others = ws; place = 0; words = rw (test, e); below = omega arith; space = same }
+] refl
 
 -- a text is its one word, or has a space
 one_word : (text : List ℕ) → (words_of text ≡ text ∷ []) ⊎ IsCut text
 one_word [] = inl refl
 one_word (b ∷ bs) = elim (eqb_tells b 32) [
-    inl same ↦ inr (first_space b bs same.0 same.1)
-    | inr other ↦ elim (one_word bs) [
-      inl alone ↦ inl (rw (other.0, alone))
-      | inr two ↦ inr record {
-        first = b ∷ two.first;
-        second = two.second;
-        others = two.others;
-        place = suc two.place;
-        words = rw (other.0, two.words);
-        below = omega (arith, two.below);
-        space = two.space;
-      }
-    ]
+  | inl same ↦ inr (first_space b bs same.0 same.1)
+  | inr other ↦ elim (one_word bs) [
+    | inl alone ↦ inl (rw (other.0, alone))
+    | inr two ↦ inr record {
+      first = b ∷ two.first;
+      second = two.second;
+      others = two.others;
+      place = suc two.place;
+      words = rw (other.0, two.words);
+      below = omega (arith, two.below);
+      space = two.space;
+    }
   ]
+]
 
 -- with a space in it a word names no set and is no number
 name_of-cut : (text : List ℕ) (place : ℕ) → place < length text → get_or text place 0 ≡ 32 → name_of text ≡ None
@@ -100,9 +100,9 @@ number_of-cut text place below space = number_of-other text place below (rw spac
 -- a name alone is what the whole text spells
 pub name_alone-words : (text : List ℕ) → name_alone (words_of text) ≡ name_of text
 name_alone-words text = elim (one_word text) [
-    inl alone ↦ rw alone
-    | inr two ↦ rw (two.words, name_of-cut text two.place two.below two.space)
-  ]
+  | inl alone ↦ rw alone
+  | inr two ↦ rw (two.words, name_of-cut text two.place two.below two.space)
+]
 
 -- a name and a number, where either was read
 abbrev pub both_of : Option ℕ → Option ℕ → Option (ℕ × ℕ)
@@ -115,9 +115,9 @@ nothing (Some s) = refl
 -- the text after the first space is the number
 pub name_and_number-words : (name number : List ℕ) → Lacks 32 name → name_and_number (words_of (name ++ 32 ∷ number)) ≡ both_of (name_of name) (number_of number)
 name_and_number-words name number lacks = rw (parts_at-first 32 name number lacks) (elim (one_word number) [
-    inl alone ↦ rw alone
-    | inr two ↦ rw (two.words, number_of-cut number two.place two.below two.space) (nothing (name_of name))
-  ])
+  | inl alone ↦ rw alone
+  | inr two ↦ rw (two.words, number_of-cut number two.place two.below two.space) (nothing (name_of name))
+])
 
 by_test : (fits : Bool) (n t : ℕ) (e : BadLine) → ◌≡◌ {A = Result ℕ BadLine} (Err e) (if fits then Ok n else Err BadNumber) → ◌≡◌ {A = Result (ℕ × ℕ) BadLine} (Err e) (if fits then Ok (t, n) else Err BadNumber)
 by_test true n t e is = cc

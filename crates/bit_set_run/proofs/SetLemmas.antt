@@ -1,7 +1,7 @@
 -- What the operations of `specs/Sets.antt` do to the members, that they keep the order, and that the members fix a set.
-use Rattle.std.proofs.Common.{◌≡◌, ◌≢◌, ℕ, ◌+◌, ◌<◌, ◌≤◌, Bool, true, false, not, ◌||◌, ◌&&◌, cond, eqb, ltb, List, [], ◌∷◌, length, get_or, ◌++◌, suc, zero, count_by, set, refl, sym, ap, inl, inr, ◌∙◌, arith, rules, filter}
-use Rattle.std.proofs.lemmas.Bool.{eqb-true, eqb-false, eq-eqb, ne_eqb, ltb-true, ltb-false, lt-ltb, le-ltb, true≢false, cases_eq, cases_lt, cases_order}
-use Rattle.std.proofs.lemmas.Bool.Decides.{nat_tests}
+use Rattle.std.proofs.Common.{◌≡◌, ℕ, ◌+◌, ◌<◌, ◌≤◌, Bool, true, false, not, ◌||◌, ◌&&◌, cond, eqb, ltb, List, [], ◌∷◌, length, get_or, ◌++◌, suc, zero, count_by, set, take, replicate, ◌-◌, refl, sym, ap, inl, inr, ◌∙◌, arith}
+use Rattle.std.proofs.lemmas.Bool.{eq-eqb, ne_eqb, lt-ltb, le-ltb, true≢false, cases_eq, cases_lt, cases_order}
+use Rattle.std.proofs.lemmas.List.{get_or-set_same, get_or-set_other, take_all, take_more, length-take-le}
 use Rattle.std.proofs.lemmas.List.Recursion.{is_count_by}
 use Rattle.bit_set_run.specs.Sets.{AscendsFrom, IsAscending, has, put, without, elements_from, elements}
 
@@ -35,9 +35,9 @@ same_rest x y xs ys hx hy e same n =
     elim (cases_lt n (x + 1)) [
       | inl lt ↦ has-below (x + 1) xs n hx lt ∙ sym (has-below (y + 1) ys n hy (omega (arith, e, lt)))
       | inr ge ↦
-        let not_x : eqb x n ≡ false = ne_eqb x n (λ f. omega (arith, f, ge)) in
-        let not_y : eqb y n ≡ false = ne_eqb y n (λ f. omega (arith, e, f, ge)) in
-        ap (λ b. b || has xs n) (sym not_x) ∙ same n ∙ ap (λ b. b || has ys n) not_y
+          let not_x : eqb x n ≡ false = ne_eqb x n (λ f. omega (arith, f, ge)) in
+          let not_y : eqb y n ≡ false = ne_eqb y n (λ f. omega (arith, e, f, ge)) in
+          ap (λ b. b || has xs n) (sym not_x) ∙ same n ∙ ap (λ b. b || has ys n) not_y
     ]
 
 -- ascending lists with the same members are one list
@@ -93,7 +93,7 @@ without_it : (x n m : ℕ) (b : Bool) → x ≡ n → (not (eqb n m) && b) ≡ (
 without_it x n m b e = rw e (elim (eqb n m) as (λ t. (not t && b) ≡ (not t && (t || b))) [ true ↦ refl | false ↦ refl ])
 
 beside_it : (x n m : ℕ) (b : Bool) → (x ≡ n → ⊥) → (eqb x m || (not (eqb n m) && b)) ≡ (not (eqb n m) && (eqb x m || b))
-beside_it x n m b other = 
+beside_it x n m b other =
     elim (cases_eq n m) [
       | inl e ↦ let yes : eqb n m ≡ true = eq-eqb n m e in let no : eqb x m ≡ false = ne_eqb x m (λ f. other (f ∙ sym e)) in rw (yes, no) refl
       | inr ne ↦ let no : eqb n m ≡ false = ne_eqb n m ne in rw no refl
@@ -105,7 +105,6 @@ has-without (x ∷ xs) n m =
     without_cases (λ s. has s m ≡ (not (eqb n m) && has (x ∷ xs) m)) x xs n
     (λ e. has-without xs n m ∙ without_it x n m (has xs m) e)
     (λ other. ap (λ b. eqb x m || b) (has-without xs n m) ∙ beside_it x n m (has xs m) other)
-
 
 pub AscendsFrom-without : (low : ℕ) (xs : List ℕ) (n : ℕ) → AscendsFrom low xs → AscendsFrom low (without xs n)
 AscendsFrom-without low [] n h = tt
@@ -169,3 +168,61 @@ elements_from-push place (false ∷ bs) b = elements_from-push (place + 1) bs b 
 -- one more value, at the end
 pub elements-push : (bs : List Bool) (b : Bool) → elements (bs ++ b ∷ []) ≡ elements bs ++ cond b (length bs ∷ []) []
 elements-push bs b = elements_from-push 0 bs b ∙ ap (λ n. elements bs ++ cond b (n ∷ []) []) (omega arith)
+
+-- a value made true, where the list read as another before: the set gains its place
+pub elements-set_true : (bs cs : List Bool) (v : ℕ) → v < length cs → ((k : ℕ) → get_or cs k false ≡ get_or bs k false) → elements (set cs v true) ≡ put (elements bs) v
+elements-set_true bs cs v lt same =
+    elements-by_members (set cs v true) (put (elements bs) v) (AscendsFrom-put 0 _ v (omega arith) (IsAscending-elements bs))
+    (λ k. elim (cases_eq k v) [
+      | inl e ↦ let here : eqb v k ≡ true = eq-eqb v k (sym e) in rw e (get_or-set_same cs v true false lt) ∙ sym (has-put (elements bs) v k ∙ ap (λ b. b || has (elements bs) k) here)
+      | inr other ↦
+          let elsewhere : eqb v k ≡ false = ne_eqb v k (λ e. other (sym e)) in
+          get_or-set_other cs v k true false other ∙ same k ∙ sym (has-put (elements bs) v k ∙ ap (λ b. b || has (elements bs) k) elsewhere ∙ has-elements bs k)
+    ])
+
+get_or_set_false : (bs : List Bool) (v : ℕ) → get_or (set bs v false) v false ≡ false
+get_or_set_false [] v = refl
+get_or_set_false (b ∷ bs) zero = refl
+get_or_set_false (b ∷ bs) (suc v) = get_or_set_false bs v
+
+-- a value made false: the set loses its place
+pub elements-set_false : (bs : List Bool) (v : ℕ) → elements (set bs v false) ≡ without (elements bs) v
+elements-set_false bs v =
+    elements-by_members (set bs v false) (without (elements bs) v) (AscendsFrom-without 0 _ v (IsAscending-elements bs))
+    (λ k. elim (cases_eq k v) [
+      | inl e ↦ let here : eqb v k ≡ true = eq-eqb v k (sym e) in rw e (get_or_set_false bs v) ∙ sym (has-without (elements bs) v k ∙ ap (λ b. not b && has (elements bs) k) here)
+      | inr other ↦
+          let elsewhere : eqb v k ≡ false = ne_eqb v k (λ e. other (sym e)) in
+          get_or-set_other bs v k false false other ∙ sym (has-without (elements bs) v k ∙ ap (λ b. not b && has (elements bs) k) elsewhere ∙ has-elements bs k)
+    ])
+
+get_or_padded : (bs : List Bool) (n k : ℕ) → get_or (bs ++ replicate n false) k false ≡ get_or bs k false
+get_or_padded [] zero k = refl
+get_or_padded [] (suc n) zero = refl
+get_or_padded [] (suc n) (suc k) = get_or_padded [] n k
+get_or_padded (b ∷ bs) n zero = refl
+get_or_padded (b ∷ bs) n (suc k) = get_or_padded bs n k
+
+-- a list filled up with false reads as before
+pub get_or_filled_up : (bs : List Bool) (n k : ℕ) → length bs ≤ n → get_or (take n bs ++ replicate (n - length bs) false) k false ≡ get_or bs k false
+get_or_filled_up bs n k le =
+    rw (take_all n bs le) (get_or_padded bs (n - length bs) k)
+
+-- a number that is in no set without it
+pub without_absent : (s : List ℕ) (n : ℕ) → IsAscending s → has s n ≡ false → without s n ≡ s
+without_absent s n up absent =
+    same_members (without s n) s (AscendsFrom-without 0 s n up) up
+    (λ m. elim (cases_eq n m) [
+      | inl e ↦ let here : eqb n m ≡ true = eq-eqb n m e in has-without s n m ∙ rw here (sym (rw (← e) absent))
+      | inr other ↦ let elsewhere : eqb n m ≡ false = ne_eqb n m other in has-without s n m ∙ rw elsewhere refl
+    ])
+
+-- lists that read alike keep one set
+pub elements-alike : (bs cs : List Bool) → ((k : ℕ) → get_or cs k false ≡ get_or bs k false) → elements cs ≡ elements bs
+elements-alike bs cs alike = elements-by_members cs (elements bs) (IsAscending-elements bs) (λ k. alike k ∙ sym (has-elements bs k))
+
+-- the set of a front, one value on
+pub elements-take_more : (bs : List Bool) (i : ℕ) (b : Bool) → i < length bs → get_or bs i false ≡ b → elements (take (i + 1) bs) ≡ elements (take i bs) ++ cond b (i ∷ []) []
+elements-take_more bs i b lt is =
+    let long : length (take i bs) ≡ i = length-take-le i bs (omega (arith, lt)) in
+    ap elements (take_more bs i false lt) ∙ rw is (elements-push (take i bs) b ∙ rw long refl)

@@ -3,4 +3,5 @@ pub mod Lines
 pub mod Reading
 pub mod Run
 pub mod Sets
+pub mod Streams
 pub mod Words

@@ -9,12 +9,10 @@ pub fn lines_are_unique()
     ensures are { (input : List ℕ) → AreLines input (lines_of input) }
     ensures only { (input : List ℕ) (lines : List (List ℕ)) → AreLines input lines → lines ≡ lines_of input }
     ensures none { lines_of [] ≡ [] }
-{
-}
+{}
 
 /// Every line has its words, and has them in one way.
 pub fn words_are_unique()
     ensures are { (line : List ℕ) → AreWords line (words_of line) }
     ensures only { (line : List ℕ) (words : List (List ℕ)) → AreWords line words → words ≡ words_of line }
-{
-}
+{}

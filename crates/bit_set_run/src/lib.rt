@@ -6,9 +6,16 @@ mod cutting;
 mod laws;
 mod names;
 mod numbers;
+mod plain;
 mod reading;
+mod running;
+mod streams;
+mod table;
 
 pub use commands::{Command, Reply};
 pub use laws::{lines_are_unique, words_are_unique};
 pub use names::SetName;
 pub use numbers::Numbers;
+pub use running::{RunFault, run};
+pub use streams::LinesFault;
+pub use table::Table;

@@ -109,5 +109,7 @@ fn with_digit(number: Option<usize>, digit: u8) -> Option<usize>
     requires { IsAsciiDigit digit }
     ensures { (n : ℕ) → number ≡ held n → result ≡ held (n * 10 + (digit - 48)) }
 {
-    number?.checked_mul(10)?.checked_add(usize::from(digit - b'0'))
+    number?
+        .checked_mul(10)?
+        .checked_add(usize::from(digit - b'0'))
 }

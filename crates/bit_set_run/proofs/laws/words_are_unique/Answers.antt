@@ -1,5 +1,4 @@
 use Rattle.bit_set_run.proofs.CutLemmas.{parts_at-are, parts_at-only}
-use Rattle.bit_set_run.specs.Words.{AreWords}
 use Rattle.std.proofs.Common.{sym}
 use Rattle.bit_set_run.proofs.laws.words_are_unique.Goals as goal
 

@@ -1,7 +1,6 @@
-use Rattle.std.proofs.Common.{ℕ, List, [], ◌∷◌, refl, ap, ◌∙◌}
+use Rattle.std.proofs.Common.{[], refl}
 use Rattle.bit_set_run.specs.declared.commands.Command.TheVariants as command
-use Rattle.bit_set_run.specs.Reading.{name_of, name_and_number}
-use Rattle.bit_set_run.specs.Words.{words_of}
+use Rattle.bit_set_run.specs.Reading.{name_of}
 use Rattle.bit_set_run.proofs.ReadingLemmas.{mapped, reading-word, reading-words, name_alone-words}
 use Rattle.bit_set_run.proofs.reading.read_line.Goals as goal
 
@@ -9,11 +8,11 @@ pub returns-in_default : goal.returns-in_default
 returns-in_default c = rw (reading-word c.args.line.now c.in_default.ensures.whole)
 
 pub returns-in_default-verb_of : goal.returns-in_default-verb_of
-returns-in_default-verb_of c = 
+returns-in_default-verb_of c =
     rw (c.in-Some.ensures.joined, reading-words c.in-Some.word.now c.in-Some.words.now c.in-Some.ensures.first, ← c.in_default-verb_of.ensures)
 
 pub returns-in-Count : goal.returns-in-Count
-returns-in-Count c = 
+returns-in-Count c =
     rw (c.in-Some.ensures.joined, reading-words c.in-Some.word.now c.in-Some.words.now c.in-Some.ensures.first, ← c.in-Some-verb_of.ensures, c.in-Count.is, name_alone-words c.in-Some.words.now)
     (mapped command.Count (λ _. []) (name_of c.in-Some.words.now) c.read_name.result c.map-in-Count.result (λ x. refl) c.read_name.ensures c.map-in-Count.ensures.cases)
 

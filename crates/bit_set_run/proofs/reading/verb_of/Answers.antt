@@ -1,7 +1,6 @@
-use Rattle.std.proofs.Common.{rules, ◌≡◌, ℕ, List, arith}
+use Rattle.std.proofs.Common.{rules, arith}
 use Rattle.std.specs.Prelude.{codes}
 use Rattle.std.proofs.lemmas.Slice.Eq.{text_from_reads}
-use Rattle.bit_set_run.specs.Reading.{verb_of}
 use Rattle.bit_set_run.proofs.reading.verb_of.Goals as goal
 
 pub returns-in-insert : goal.returns-in-insert
