@@ -1,12 +1,12 @@
 -- A run, one command on.
-use Rattle.std.proofs.Common.{◌≡◌, ℕ, ◌+◌, ◌<◌, List, [], ◌∷◌, ◌++◌, length, get_or, take, append_assoc, refl, ap, sym, ◌∙◌}
-use Rattle.std.proofs.lemmas.List.{take_more}
-use Rattle.std.proofs.Common.{Result, Ok, Err, false, OnOk}
+use Rattle.std.proofs.Common.{◌≡◌, ℕ, ◌+◌, ◌<◌, ◌≤◌, List, [], ◌∷◌, ◌++◌, length, get_or, take, append_assoc, refl, ap, sym, ◌∙◌}
+use Rattle.std.proofs.lemmas.List.{take_more, take_all}
+use Rattle.std.proofs.Common.{Result, Ok, Err, true, false, OnOk}
 use Rattle.std.specs.Result.{is_err}
 use Rattle.std.proofs.lemmas.Bool.{true≢false}
 use Rattle.bit_set_run.specs.declared.commands.Command.{Command}
 use Rattle.bit_set_run.specs.declared.commands.Reply.{Reply}
-use Rattle.bit_set_run.specs.Run.{Sets, step, run_of}
+use Rattle.bit_set_run.specs.Run.{Sets, Answer, Run, step, run_of}
 
 -- a run of commands and of one more
 pub sets-run_of_push : (sets : Sets) (commands : List Command) (command : Command) → (run_of sets (commands ++ command ∷ [])).sets ≡ (step (run_of sets commands).sets command).sets
