@@ -1,5 +1,5 @@
 -- Sets of whole numbers, each as the list of its members in ascending order.
-use Rattle.std.specs.Prelude.{ℕ, ◌+◌, ◌≤◌, Bool, false, not, ◌||◌, ◌==◌, nat_lt, if◌then◌else◌, List, [], ◌∷◌, filter}
+use Rattle.std.specs.Prelude.{ℕ, ◌+◌, ◌≤◌, Bool, true, false, not, ◌||◌, ◌==◌, nat_lt, if◌then◌else◌, List, [], ◌∷◌, filter}
 
 -- the numbers strictly ascend, and the first is at least `low`
 abbrev pub AscendsFrom : ℕ → List ℕ → Type 0
