@@ -4,3 +4,4 @@ pub mod ReadingLemmas
 pub mod RunLemmas
 pub mod SetLemmas
 pub mod StreamLemmas
+pub mod TextLemmas

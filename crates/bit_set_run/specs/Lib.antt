@@ -4,4 +4,5 @@ pub mod Reading
 pub mod Run
 pub mod Sets
 pub mod Streams
+pub mod Texts
 pub mod Words

@@ -11,6 +11,7 @@ mod reading;
 mod running;
 mod streams;
 mod table;
+mod texts;
 
 pub use commands::{Command, Reply};
 pub use laws::{lines_are_unique, words_are_unique};
