@@ -1,5 +1,6 @@
 pub mod CutLemmas
 pub mod LineLemmas
+pub mod OutputLemmas
 pub mod ReadingLemmas
 pub mod RunLemmas
 pub mod SetLemmas

@@ -1,5 +1,6 @@
 pub mod Cuts
 pub mod Lines
+pub mod Output
 pub mod Reading
 pub mod Run
 pub mod Sets

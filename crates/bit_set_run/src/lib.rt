@@ -1,6 +1,7 @@
 //! Commands over a table of sixteen sets, and the program that reads them from lines.
 #![tactic(auto)]
 
+mod answers;
 mod commands;
 mod cutting;
 mod laws;

@@ -1,0 +1,43 @@
+-- What the program writes for an input.
+use Rattle.std.specs.Prelude.{ℕ, List, [], ◌∷◌, ◌++◌, map, Result, Ok, Err}
+use Rattle.bit_set_run.specs.declared.commands.Command.{Command}
+use Rattle.bit_set_run.specs.declared.commands.Reply.{Reply}
+use Rattle.bit_set_run.specs.declared.reading.BadLine.{BadLine}
+use Rattle.bit_set_run.specs.Lines.{lines_of}
+use Rattle.bit_set_run.specs.Reading.{reading}
+use Rattle.bit_set_run.specs.Run.{no_sets, run_of, step, Sets}
+use Rattle.bit_set_run.specs.Texts.{text_of, text_of_bad}
+
+-- what a line was read as
+abbrev pub Line : Type 0
+Line = Result Command BadLine
+
+-- the commands among the lines, in order: a bad line is none
+abbrev pub commands_of : List Line → List Command
+commands_of [] = []
+commands_of (Ok command ∷ lines) = command ∷ commands_of lines
+commands_of (Err bad ∷ lines) = commands_of lines
+
+-- A text for each line, and a byte 10 after it: for a command the text of the next of the replies, which
+-- are as many as the commands.
+abbrev pub answers : List Line → List Reply → List ℕ
+answers [] replies = []
+answers (Ok command ∷ lines) [] = []
+answers (Ok command ∷ lines) (reply ∷ replies) = text_of reply ++ 10 ∷ answers lines replies
+answers (Err bad ∷ lines) replies = text_of_bad bad ++ 10 ∷ answers lines replies
+
+-- The lines of the input are read, their commands are run on sixteen empty sets, and each line has its
+-- answer.
+abbrev pub output : List ℕ → List ℕ
+output input =
+    let lines : List Line = map reading (lines_of input) in
+    answers lines (run_of no_sets (commands_of lines)).replies
+
+-- One line alone: its answer, and the sets after it.
+abbrev pub answer_to : Sets → Line → List ℕ
+answer_to sets (Ok command) = text_of (step sets command).reply ++ 10 ∷ []
+answer_to sets (Err bad) = text_of_bad bad ++ 10 ∷ []
+
+abbrev pub sets_after : Sets → Line → Sets
+sets_after sets (Ok command) = (step sets command).sets
+sets_after sets (Err bad) = sets
