@@ -4,5 +4,6 @@ pub mod OutputLemmas
 pub mod ReadingLemmas
 pub mod RunLemmas
 pub mod SetLemmas
+pub mod SpellingLemmas
 pub mod StreamLemmas
 pub mod TextLemmas

@@ -4,6 +4,7 @@ pub mod Output
 pub mod Reading
 pub mod Run
 pub mod Sets
+pub mod Spelling
 pub mod Streams
 pub mod Texts
 pub mod Words

@@ -15,7 +15,7 @@ mod table;
 mod texts;
 
 pub use commands::{Command, Reply};
-pub use laws::{lines_are_unique, words_are_unique};
+pub use laws::{commands_are_read_back, lines_are_unique, outputs_are_as_shown, words_are_unique};
 pub use names::SetName;
 pub use numbers::Numbers;
 pub use running::{RunFault, run};
