@@ -5,5 +5,6 @@ pub mod ReadingLemmas
 pub mod RunLemmas
 pub mod SetLemmas
 pub mod SpellingLemmas
+pub mod StrangeLemmas
 pub mod StreamLemmas
 pub mod TextLemmas

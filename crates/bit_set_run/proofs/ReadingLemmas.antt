@@ -19,7 +19,7 @@ use Rattle.bit_set_run.specs.Run.{greatest}
 use Rattle.bit_set_run.specs.Words.{words_of}
 use Rattle.bit_set_run.proofs.CutLemmas.{parts_at-first, parts_at-one, parts_some}
 
-and_parts : (a b : Bool) → (a && b) ≡ true → (a ≡ true) × (b ≡ true)
+pub and_parts : (a b : Bool) → (a && b) ≡ true → (a ≡ true) × (b ≡ true)
 and_parts true b e = (refl, e)
 and_parts false b e = cc
 
@@ -108,7 +108,7 @@ name_alone-words text = elim (one_word text) [
 abbrev pub both_of : Option ℕ → Option ℕ → Option (ℕ × ℕ)
 both_of name number = option_and_then (λ s. option_map (λ n. (s, n)) number) name
 
-nothing : (name : Option ℕ) → None ≡ both_of name None
+pub nothing : (name : Option ℕ) → None ≡ both_of name None
 nothing None = refl
 nothing (Some s) = refl
 

@@ -1,7 +1,7 @@
 -- The line of a command is read as that command.
-use Rattle.std.proofs.Common.{◌≡◌, ℕ, ◌+◌, ◌-◌, ◌<◌, ◌≤◌, ◌^◌, Bool, true, false, not, ◌==◌, ◌&&◌, inl, inr, ◌≢◌, ◌⊎◌, List, [], ◌∷◌, ◌++◌, length, Option, Some, Result, Ok, nat_lt, nat_le, arith, refl, ap, lt-ltb, le-leb, lit<, get_or}
+use Rattle.std.proofs.Common.{◌≡◌, ℕ, ◌+◌, ◌-◌, ◌<◌, ◌≤◌, ◌^◌, Bool, true, false, not, ◌==◌, ◌&&◌, inl, inr, ◌≢◌, List, [], ◌∷◌, ◌++◌, length, Some, Ok, arith, refl, lt-ltb, le-leb}
 use Rattle.std.specs.Prelude.{codes, decimal}
-use Rattle.std.specs.List.{All, list_all}
+use Rattle.std.specs.List.{list_all}
 use Rattle.std.specs.Option.{option_and_then, option_map}
 use Rattle.std.specs.Str.{all_ascii_digits}
 use Rattle.std.specs.Str.Parse.{digits_value}
@@ -11,13 +11,12 @@ use Rattle.std.proofs.lemmas.List.Elements.{All-cons, All-head, All-nil}
 use Rattle.std.proofs.lemmas.Str.Parse.{IsNumeralModel, numerals_by_value, tells_all_ascii_digits}
 use Rattle.bit_set_run.specs.declared.commands.Command.{Command}
 use Rattle.bit_set_run.specs.declared.commands.Command.TheVariants.{Insert, Remove, Contains, Count, Items}
-use Rattle.bit_set_run.specs.declared.reading.BadLine.{BadLine}
 use Rattle.bit_set_run.specs.Cuts.{Lacks}
-use Rattle.bit_set_run.specs.Reading.{command_of, name_alone, name_and_number, name_of, number_of, numbers_of, reading, verb_of, within_range}
+use Rattle.bit_set_run.specs.Reading.{command_of, name_alone, name_and_number, name_of, number_of, numbers_of, reading, verb_of}
 use Rattle.bit_set_run.specs.Run.{greatest}
 use Rattle.bit_set_run.specs.Spelling.{figures, letter, line_of, CanBeHad}
 use Rattle.bit_set_run.specs.Words.{words_of}
-use Rattle.bit_set_run.proofs.ReadingLemmas.{both_of, name_alone-words, name_and_number-words, reading-words}
+use Rattle.bit_set_run.proofs.ReadingLemmas.{name_alone-words, name_and_number-words, reading-words}
 
 own : IsNumeralModel (λ ds. all_ascii_digits ds ≡ true) (digits_value 10)
 own = numerals_by_value (λ ds. all_ascii_digits ds ≡ true) tells_all_ascii_digits
@@ -45,9 +44,9 @@ wrong rest e = cc
 by_test : (text : List ℕ) → list_all (λ b. not (b == 32)) text ≡ true → Lacks 32 text
 by_test [] is = All-nil (λ b. b ≢ 32)
 by_test (b ∷ bs) is = elim (eqb_tells b 32) [
-    inl same ↦ absurd (wrong (list_all (λ x. not (x == 32)) bs) (rw same.0 at is))
-    | inr other ↦ All-cons (λ x. x ≢ 32) b bs other.1 (by_test bs (rw other.0 at is))
-  ]
+  | inl same ↦ absurd (wrong (list_all (λ x. not (x == 32)) bs) (rw same.0 at is))
+  | inr other ↦ All-cons (λ x. x ≢ 32) b bs other.1 (by_test bs (rw other.0 at is))
+]
 
 with_number : (make : ℕ → ℕ → Command) (word : List ℕ) (name n : ℕ) → Lacks 32 word → option_and_then (λ verb. command_of verb (words_of ((name + 97) ∷ figures n))) (verb_of word) ≡ option_map (λ (s, m). make s m) (name_and_number (words_of ((name + 97) ∷ figures n))) → numbers_of (make name n) ≡ n ∷ [] → name < 16 → n ≤ greatest → reading (word ++ (letter name ++ figures n)) ≡ Ok (make name n)
 with_number make word name n lacks verb given below fits =

@@ -1,5 +1,6 @@
 -- The command that a line spells.
-use Rattle.std.specs.Prelude.{ℕ, ◌-◌, ◌&&◌, nat_lt, nat_le, if◌then◌else◌, List, [], ◌∷◌, length, codes, Option, None, Some, Result, Ok, Err}
+use Rattle.std.specs.Prelude.{ℕ, ◌-◌, Bool, ◌&&◌, ◌||◌, ◌==◌, nat_lt, nat_le, if◌then◌else◌, List, [], ◌∷◌, length, codes, Option, None, Some, Result, Ok, Err}
+use Rattle.std.specs.Char.{is_ascii_digit, is_ascii_lowercase}
 use Rattle.std.specs.Int.{is_in_range}
 use Rattle.std.specs.List.{list_all}
 use Rattle.std.specs.Option.{option_and_then, option_map}
@@ -74,11 +75,15 @@ abbrev pub within_range : {X : Type 0} → (X → List ℕ) → Option X → Res
 within_range numbers None = Err BadCommand
 within_range numbers (Some x) = if list_all (λ n. nat_le n greatest) (numbers x) then Ok x else Err BadNumber
 
--- the number where a `usize` holds it
-abbrev pub held : ℕ → Option ℕ
-held n = if nat_le n greatest then Some n else None
-
 -- A line whose words spell no command is a bad command; one that spells a command with too large a
 -- number is a bad number.
 abbrev pub reading : List ℕ → Result Command BadLine
 reading line = within_range numbers_of (spelled (words_of line))
+
+-- the bytes that a command's line can have: small letters, digits and the space
+abbrev pub is_plain : ℕ → Bool
+is_plain b = is_ascii_lowercase b || is_ascii_digit b || b == 32
+
+-- the number where a `usize` holds it
+abbrev pub held : ℕ → Option ℕ
+held n = if nat_le n greatest then Some n else None

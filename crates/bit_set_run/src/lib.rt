@@ -15,7 +15,10 @@ mod table;
 mod texts;
 
 pub use commands::{Command, Reply};
-pub use laws::{commands_are_read_back, lines_are_unique, outputs_are_as_shown, words_are_unique};
+pub use laws::{
+    commands_are_read_back, lines_are_unique, outputs_are_as_shown, strange_lines_are_bad_commands,
+    words_are_unique,
+};
 pub use names::SetName;
 pub use numbers::Numbers;
 pub use running::{RunFault, run};
