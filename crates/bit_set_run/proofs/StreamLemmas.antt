@@ -64,9 +64,9 @@ Appends-all old mid new text so_far kept =
     rw whole (Appends-kept old mid new so_far.sent so_far.written kept)
 
 pub HasRead-more :
-  (old mid new : Option (List ℕ)) (input buffer behind : List ℕ) (turns n : ℕ)
-  → HasRead old mid input turns → Consumes mid new (take n buffer) → n ≤ length buffer → 0 < n → length input + n ≤ limit
-  → HasRead old new (input ++ take n (buffer ++ behind)) (turns + 1)
+    (old mid new : Option (List ℕ)) (input buffer behind : List ℕ) (turns n : ℕ)
+    → HasRead old mid input turns → Consumes mid new (take n buffer) → n ≤ length buffer → 0 < n → length input + n ≤ limit
+    → HasRead old new (input ++ take n (buffer ++ behind)) (turns + 1)
 HasRead-more old mid new input buffer behind turns n so_far read within some small =
     let piece : take n (buffer ++ behind) ≡ take n buffer = take-append-le n buffer behind within in
     let long : length (take n buffer) ≡ n = length-take-le n buffer within in
@@ -78,9 +78,9 @@ HasRead-more old mid new input buffer behind turns n so_far read within some sma
 
 -- a read that brings the bytes past the limit
 pub GaveCount-past :
-  (old mid new : Option (List ℕ)) (input buffer : List ℕ) (turns n : ℕ)
-  → HasRead old mid input turns → Consumes mid new (take n buffer) → n ≤ length buffer → length input + length buffer ≤ limit + 1 → limit < length input + n
-  → GaveCount old new (limit + 1)
+    (old mid new : Option (List ℕ)) (input buffer : List ℕ) (turns n : ℕ)
+    → HasRead old mid input turns → Consumes mid new (take n buffer) → n ≤ length buffer → length input + length buffer ≤ limit + 1 → limit < length input + n
+    → GaveCount old new (limit + 1)
 GaveCount-past old mid new input buffer turns n so_far read within room past = record {
   bytes = input ++ take n buffer;
   taken = Consumes-append old mid new input (take n buffer) so_far.taken read;

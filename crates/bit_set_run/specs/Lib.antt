@@ -1,4 +1,6 @@
+pub mod Answered
 pub mod Cuts
+pub mod Exits
 pub mod Lines
 pub mod Output
 pub mod Reading

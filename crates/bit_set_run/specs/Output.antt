@@ -1,9 +1,10 @@
 -- What the program writes for an input.
-use Rattle.std.specs.Prelude.{ℕ, List, [], ◌∷◌, ◌++◌, map, Result, Ok, Err}
+use Prim.Native.String.{String}
+use Rattle.std.specs.Prelude.{◌≡◌, ℕ, codes, List, [], ◌∷◌, ◌++◌, map, Result, Ok, Err}
 use Rattle.bit_set_run.specs.declared.commands.Command.{Command}
 use Rattle.bit_set_run.specs.declared.commands.Reply.{Reply}
 use Rattle.bit_set_run.specs.declared.reading.BadLine.{BadLine}
-use Rattle.bit_set_run.specs.Lines.{lines_of}
+use Rattle.bit_set_run.specs.Lines.{ended, lines_of}
 use Rattle.bit_set_run.specs.Reading.{reading}
 use Rattle.bit_set_run.specs.Run.{no_sets, run_of, step, Sets}
 use Rattle.bit_set_run.specs.Texts.{text_of, text_of_bad}
@@ -32,6 +33,10 @@ abbrev pub output : List ℕ → List ℕ
 output input =
     let lines : List Line = map reading (lines_of input) in
     answers lines (run_of no_sets (commands_of lines)).replies
+
+-- each line beside its answer
+abbrev pub Gives : List (String × String) → Type 0
+Gives rows = output (ended (map (λ row. codes row.0) rows)) ≡ ended (map (λ row. codes row.1) rows)
 
 -- One line alone: its answer, and the sets after it.
 abbrev pub answer_to : Sets → Line → List ℕ

@@ -1,10 +1,10 @@
 //! What the definitions of the contracts come to, as facts that are proved of them.
 
-ghost use Rattle.std.specs.Prelude.{◌≡◌, ℕ, false, List, [], codes, Contains};
+ghost use Rattle.std.specs.Prelude.{◌≡◌, ℕ, false, List, [], ◌∷◌, codes, Contains};
 ghost use Rattle.bit_set_run.specs.declared.commands.Command.{Command};
 ghost use Rattle.bit_set_run.specs.declared.reading.BadLine.TheVariants.{BadCommand};
 ghost use Rattle.bit_set_run.specs.Lines.{lines_of, AreLines};
-ghost use Rattle.bit_set_run.specs.Output.{output};
+ghost use Rattle.bit_set_run.specs.Output.{output, Gives};
 ghost use Rattle.bit_set_run.specs.Reading.{is_plain, reading};
 ghost use Rattle.bit_set_run.specs.Spelling.{line_of, CanBeHad};
 ghost use Rattle.bit_set_run.specs.Words.{words_of, AreWords};
@@ -22,14 +22,50 @@ pub fn words_are_unique()
     ensures only { (line : List ℕ) (words : List (List ℕ)) → AreWords line words → words ≡ words_of line }
 {}
 
-/// What two inputs give, by the definitions alone: a run over sets, and a run of refusals.
+/// What three inputs give, by the definitions alone: each line beside its answer.
 pub fn outputs_are_as_shown()
-    ensures sets { output (codes "insert a 3\ninsert a 3\ninsert a 400\ncontains a 3\nremove a 3\ncontains a 3\ncount a\nitems a\nitems b\n")
-        ≡ codes "true\nfalse\ntrue\ntrue\ntrue\nfalse\n1\n{400}\n{}\n" }
-    ensures refusals { output (codes "insert a 18446744073709551615\nfrob\nfrob 99999999999999999999\ninsert a 99999999999999999999\ninsert q 99999999999999999999\n\ninsert a\ninsert  a 1\ninsert a -1\ninsert a 007\nremove a 18446744073709551615\nitems a")
-        ≡ codes "refused element\nbad command\nbad command\nbad number\nbad command\nbad command\nbad command\nbad command\nbad command\ntrue\nfalse\n{7}\n" }
-    ensures edges { output (codes "insert p 18446744073709551614\ninsert p 2\ninsert p 10\nitems p\ncount A\ncount a\r\ncount\ta\n count a\ncount a \ncount ab\ninsert a 1 2\ninsert a +1\ninsert a 18446744073709551616\n\n")
-        ≡ codes "true\ntrue\ntrue\n{2, 10, 18446744073709551614}\nbad command\nbad command\nbad command\nbad command\nbad command\nbad command\nbad command\nbad command\nbad number\nbad command\n" }
+    ensures sets { Gives (
+        ("insert a 3", "true") ∷
+        ("insert a 3", "false") ∷
+        ("insert a 400", "true") ∷
+        ("contains a 3", "true") ∷
+        ("remove a 3", "true") ∷
+        ("contains a 3", "false") ∷
+        ("count a", "1") ∷
+        ("items a", "{400}") ∷
+        ("items b", "{}") ∷
+        []) }
+    ensures refusals { Gives (
+        ("insert a 18446744073709551615", "refused element") ∷
+        ("frob", "bad command") ∷
+        ("frob 99999999999999999999", "bad command") ∷
+        ("insert a 99999999999999999999", "bad number") ∷
+        ("insert q 99999999999999999999", "bad command") ∷
+        ("", "bad command") ∷
+        ("insert a", "bad command") ∷
+        ("insert  a 1", "bad command") ∷
+        ("insert a -1", "bad command") ∷
+        ("insert a 007", "true") ∷
+        ("remove a 18446744073709551615", "false") ∷
+        ("items a", "{7}") ∷
+        []) }
+    ensures edges { Gives (
+        ("insert p 18446744073709551614", "true") ∷
+        ("insert p 10", "true") ∷
+        ("insert p 2", "true") ∷
+        ("items p", "{2, 10, 18446744073709551614}") ∷
+        ("count p", "3") ∷
+        ("count A", "bad command") ∷
+        ("count a\r", "bad command") ∷
+        ("count\ta", "bad command") ∷
+        (" count a", "bad command") ∷
+        ("count a ", "bad command") ∷
+        ("count ab", "bad command") ∷
+        ("insert a 1 2", "bad command") ∷
+        ("insert a +1", "bad command") ∷
+        ("insert a 18446744073709551616", "bad number") ∷
+        []) }
+    ensures last_line { output (codes "count a\n\ncount a") ≡ codes "0\nbad command\n0\n" }
     ensures nothing { output [] ≡ [] }
 {}
 

@@ -4,23 +4,25 @@
 mod answers;
 mod commands;
 mod cutting;
-mod laws;
+pub mod laws;
+mod lines;
 mod names;
 mod numbers;
 mod plain;
 mod reading;
 mod running;
+mod starting;
 mod streams;
 mod table;
+#[cfg(test)]
+mod tests;
 mod texts;
 
 pub use commands::{Command, Reply};
-pub use laws::{
-    commands_are_read_back, lines_are_unique, outputs_are_as_shown, strange_lines_are_bad_commands,
-    words_are_unique,
-};
+pub use lines::run_lines;
 pub use names::SetName;
 pub use numbers::Numbers;
 pub use running::{RunFault, run};
+pub use starting::{Exit, start};
 pub use streams::LinesFault;
 pub use table::Table;

@@ -13,3 +13,7 @@ returns-clause-refusals c = refl
 pub returns-clause-edges : goal.returns-clause-edges
 unfolding digits
 returns-clause-edges c = refl
+
+pub returns-clause-last_line : goal.returns-clause-last_line
+unfolding digits
+returns-clause-last_line c = refl
