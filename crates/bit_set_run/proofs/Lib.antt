@@ -3,7 +3,6 @@ pub mod LineLemmas
 pub mod OutputLemmas
 pub mod ReadingLemmas
 pub mod RunLemmas
-pub mod SetLemmas
 pub mod SpellingLemmas
 pub mod StrangeLemmas
 pub mod StreamLemmas

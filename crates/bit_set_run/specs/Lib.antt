@@ -5,7 +5,7 @@ pub mod Lines
 pub mod Output
 pub mod Reading
 pub mod Run
-pub mod Sets
+pub use Rattle.bit_set.specs.Sets
 pub mod Spelling
 pub mod Streams
 pub mod Texts

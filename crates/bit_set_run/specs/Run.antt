@@ -1,10 +1,11 @@
 -- What a command does to sixteen sets of numbers, and what a run of commands does.
-use Rattle.std.specs.Prelude.{◌≡◌, ℕ, ◌<◌, Bool, not, ◌==◌, if◌then◌else◌, List, [], ◌∷◌, ◌++◌, length, take, replicate, slice_index_or, slice_set}
+use Rattle.std.specs.Prelude.{◌≡◌, ℕ, ◌<◌, Bool, not, ◌==◌, if◌then◌else◌, List, [], ◌∷◌, ◌++◌, length, take, drop, take_while, replicate, slice_get, slice_index_or, slice_set, Some}
+use Rattle.std.specs.List.{list_any}
 use Rattle.bit_set_run.specs.declared.commands.Command.{Command}
-use Rattle.bit_set_run.specs.declared.commands.Command.TheVariants.{Insert, Remove, Contains, Count, Items as ItemsOf}
+use Rattle.bit_set_run.specs.declared.commands.Command.TheVariants.{Insert, Remove, Contains, Extend, Truncate, Empty, Reset, Count, IsEmpty, Items as ItemsOf, Copy, RestIter}
 use Rattle.bit_set_run.specs.declared.commands.Reply.{Reply}
-use Rattle.bit_set_run.specs.declared.commands.Reply.TheVariants.{Truth, Number, Items, Element}
-use Rattle.bit_set_run.specs.Sets.{has, put, without}
+use Rattle.bit_set_run.specs.declared.commands.Reply.TheVariants.{Truth, Done, Number, Items, Rest, Element, Same}
+use Rattle.bit_set.specs.Sets.{has, put, put_all, those_below, without}
 
 -- sixteen sets, by their places
 abbrev pub Sets : Type 0
@@ -31,16 +32,34 @@ pub record Answer : Type 0 where
 abbrev pub answer_with : Sets → Reply → Answer
 answer_with sets reply = record { sets = sets; reply = reply }
 
+-- the set of a name becomes this one, and this is the reply
+abbrev pub change_to : Sets → ℕ → List ℕ → Reply → Answer
+change_to sets name set reply = record { sets = slice_set sets name set; reply = reply }
+
+-- the items before the first that no set can have
+abbrev pub elements_before_greatest : List ℕ → List ℕ
+elements_before_greatest items = take_while (λ n. not (n == greatest)) items
+
 -- one command
 abbrev pub step : Sets → Command → Answer
 step sets (Insert name n) =
     if n == greatest then answer_with sets Element
-    else record { sets = slice_set sets name (put (set_of sets name) n); reply = Truth (not (has (set_of sets name) n)) }
-step sets (Remove name n) =
-    record { sets = slice_set sets name (without (set_of sets name) n); reply = Truth (has (set_of sets name) n) }
+    else change_to sets name (put (set_of sets name) n) (Truth (not (has (set_of sets name) n)))
+step sets (Remove name n) = change_to sets name (without (set_of sets name) n) (Truth (has (set_of sets name) n))
 step sets (Contains name n) = answer_with sets (Truth (has (set_of sets name) n))
+-- the items go in up to the first that no set can have
+step sets (Extend name items) =
+    change_to sets name (put_all (set_of sets name) (elements_before_greatest items)) (if list_any (λ n. n == greatest) items then Element else Done)
+step sets (Truncate name n) = change_to sets name (those_below (set_of sets name) n) Done
+step sets (Empty name) = change_to sets name [] Done
+step sets (Reset name) = change_to sets name [] Done
 step sets (Count name) = answer_with sets (Number (length (set_of sets name)))
+step sets (IsEmpty name) = answer_with sets (Truth (length (set_of sets name) == 0))
 step sets (ItemsOf name) = answer_with sets (Items (set_of sets name))
+step sets (Copy from to) =
+    if from == to then answer_with sets Same
+    else change_to sets to (set_of sets from) Done
+step sets (RestIter name n) = let rest = drop n (set_of sets name) in answer_with sets (Rest (length rest) rest)
 
 -- what some commands leave, and what they answer, a reply each
 pub record Run : Type 0 where
@@ -55,8 +74,15 @@ run_of sets (command ∷ commands) =
     let rest : Run = run_of first.sets commands in
     record { sets = rest.sets; replies = first.reply ∷ rest.replies }
 
--- a run that stopped before command k: the sets and the replies are those of the commands before it
+-- what a command leaves that was refused memory: what stood before, but that items of an `Extend` may be in, from the front
+abbrev pub LeftBy : Sets → Command → Sets → Type 0
+LeftBy old (Extend name items) new = (n : ℕ) × (n < length items) × (new ≡ slice_set old name (put_all (set_of old name) (take n items)))
+LeftBy old command new = new ≡ old
+
+-- a run that stopped at command k: the replies are those of the commands before it, and the sets those that it leaves
 pub record StoppedAt (k : ℕ) (commands : List Command) (old new : Sets) (old_replies new_replies : List Reply) : Type 0 where
   pub within : k < length commands
-  pub sets : new ≡ (run_of old (take k commands)).sets
+  pub command : Command
+  pub at : slice_get commands k ≡ Some command
+  pub sets : LeftBy (run_of old (take k commands)).sets command new
   pub replies : new_replies ≡ old_replies ++ (run_of old (take k commands)).replies

@@ -2,16 +2,23 @@
 use Rattle.std.specs.Prelude.{ℕ, if◌then◌else◌, List, ◌++◌, codes, decimal}
 use Rattle.std.specs.List.{join_by}
 use Rattle.bit_set_run.specs.declared.commands.Reply.{Reply}
-use Rattle.bit_set_run.specs.declared.commands.Reply.TheVariants.{Truth, Number, Items, Element}
+use Rattle.bit_set_run.specs.declared.commands.Reply.TheVariants.{Truth, Done, Number, Items, Rest, Element, Same}
 use Rattle.bit_set_run.specs.declared.reading.BadLine.{BadLine}
 use Rattle.bit_set_run.specs.declared.reading.BadLine.TheVariants.{BadCommand, BadNumber}
+
+-- the text of some numbers: in decimal, joined by a comma and a space, between braces
+abbrev pub items_text : List ℕ → List ℕ
+items_text ns = codes "{" ++ join_by decimal (codes ", ") ns ++ codes "}"
 
 -- the text of a reply
 abbrev pub text_of : Reply → List ℕ
 text_of (Truth b) = if b then codes "true" else codes "false"
 text_of (Number n) = decimal n
-text_of (Items ns) = codes "{" ++ join_by decimal (codes ", ") ns ++ codes "}"
+text_of (Items ns) = items_text ns
+text_of Done = codes "ok"
+text_of (Rest count ns) = decimal count ++ codes " " ++ items_text ns
 text_of Element = codes "refused element"
+text_of Same = codes "refused same"
 
 -- the text of a line that is no command
 abbrev pub text_of_bad : BadLine → List ℕ

@@ -9,10 +9,24 @@ pub enum Command {
     Remove(SetName, usize),
     /// Whether a number is in a set.
     Contains(SetName, usize),
+    /// Put some numbers into a set, one after another.
+    Extend(SetName, Numbers),
+    /// Take out the numbers that are not below this one.
+    Truncate(SetName, usize),
+    /// Take out all numbers; the set keeps its length.
+    Empty(SetName),
+    /// Take out all numbers; the set has length 0.
+    Reset(SetName),
     /// How many numbers are in a set.
     Count(SetName),
+    /// Whether no number is in a set.
+    IsEmpty(SetName),
     /// The numbers in a set.
     Items(SetName),
+    /// Make the second set hold what the first does.
+    Copy(SetName, SetName),
+    /// What is left of a walk over a set after so many of its numbers: how many, and which.
+    RestIter(SetName, usize),
 }
 
 /// What `run` answers to a command.
@@ -20,10 +34,16 @@ pub enum Command {
 pub enum Reply {
     /// Yes or no: whether the set changed, or whether the number is in it.
     Truth(bool),
+    /// It is done.
+    Done,
     /// How many.
     Number(usize),
     /// The numbers of a set, ascending.
     Items(Numbers),
-    /// The number cannot be an element, and nothing changed.
+    /// How many numbers are left of a walk, and which, ascending.
+    Rest(usize, Numbers),
+    /// A number cannot be an element, and it is not put in.
     Element,
+    /// A set cannot be copied to itself, and nothing changed.
+    Same,
 }

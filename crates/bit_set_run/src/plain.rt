@@ -1,5 +1,5 @@
 ghost use Rattle.std.specs.Prelude.{◌≡◌, ℕ, ◌<◌, ◌^◌, ◌-◌, not, List, [], length, IfOk, OnOk, OnErr, ◌≤◌, false, vec_len, slice_index_or};
-ghost use Rattle.bit_set_run.specs.Sets.{has, put, without, elements};
+ghost use Rattle.bit_set.specs.Sets.{has, put, without, elements};
 
 use std::alloc::{AllocError, Global};
 use std::marker::Model;
@@ -12,7 +12,7 @@ pub struct PlainSet {
 
 impl Model for PlainSet {
     ghost use Rattle.std.specs.Prelude.{ℕ, List};
-    ghost use Rattle.bit_set_run.specs.Sets.{elements};
+    ghost use Rattle.bit_set.specs.Sets.{elements};
 
     ghost Value = { List ℕ };
 

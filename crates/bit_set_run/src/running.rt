@@ -65,6 +65,7 @@ fn answer(alloc: Global, table: &mut Table, command: &Command) -> Result<Reply, 
         Command::Insert(name, value) => Ok(Reply::Truth(table.insert(*name, *value)?)),
         Command::Remove(name, value) => Ok(Reply::Truth(table.remove(*name, *value))),
         Command::Contains(name, value) => Ok(Reply::Truth(table.set(*name).contains(*value))),
+        Command::Extend(..) | Command::Truncate(..) | Command::Empty(..) | Command::Reset(..) | Command::IsEmpty(..) | Command::Copy(..) | Command::RestIter(..) => Ok(Reply::Same),
         Command::Count(name) => Ok(Reply::Number(table.set(*name).count())),
         Command::Items(name) => {
             let items = table.set(*name).items(alloc)?;

@@ -1,5 +1,5 @@
 ghost use Rattle.std.specs.Prelude.{◌≡◌, ℕ, ◌<◌, ◌-◌, ◌^◌, not, List, [], length, IfOk, OnOk, OnErr, slice_set, slice_index_or};
-ghost use Rattle.bit_set_run.specs.Sets.{has, put, without};
+ghost use Rattle.bit_set.specs.Sets.{has, put, without};
 ghost use Rattle.bit_set_run.specs.Run.{no_sets, set_of};
 
 use crate::SetName;

@@ -1,8 +1,7 @@
 //! The texts that answer lines.
 
 ghost use Rattle.std.specs.Prelude.{◌≡◌, ◌++◌, OnOk, codes, decimal};
-ghost use Rattle.std.specs.List.{join_by};
-ghost use Rattle.bit_set_run.specs.Texts.{text_of, text_of_bad};
+ghost use Rattle.bit_set_run.specs.Texts.{items_text, text_of, text_of_bad};
 
 use crate::Reply;
 use crate::reading::BadLine;
@@ -16,8 +15,11 @@ pub(crate) fn append_reply(out: &mut Vec<u8>, reply: &Reply) -> Result<(), Alloc
     match reply {
         Reply::Truth(true) => out.extend_from_slice(b"true"),
         Reply::Truth(false) => out.extend_from_slice(b"false"),
+        Reply::Done => out.extend_from_slice(b"ok"),
         Reply::Number(number) => append_decimal(out, *number),
         Reply::Items(items) => append_items(out, items.as_slice()),
+        Reply::Rest(count, items) => append_rest(out, *count, items.as_slice()),
+        Reply::Same => out.extend_from_slice(b"refused same"),
         Reply::Element => out.extend_from_slice(b"refused element"),
     }
 }
@@ -34,7 +36,7 @@ pub(crate) fn bad_text(bad: BadLine) -> &'static [u8]
 
 fn append_items(out: &mut Vec<u8>, items: &[usize]) -> Result<(), AllocError>
     ensures { OnOk result (out.new.items
-        ≡ out.old.items ++ (codes "{" ++ join_by decimal (codes ", ") items.now ++ codes "}")) }
+        ≡ out.old.items ++ items_text items.now) }
 {
     out.extend_from_slice(b"{")?;
     for (place, item) in items.iter().enumerate() {
@@ -44,6 +46,15 @@ fn append_items(out: &mut Vec<u8>, items: &[usize]) -> Result<(), AllocError>
         append_decimal(out, *item)?;
     }
     out.extend_from_slice(b"}")
+}
+
+fn append_rest(out: &mut Vec<u8>, count: usize, items: &[usize]) -> Result<(), AllocError>
+    ensures { OnOk result (out.new.items
+        ≡ out.old.items ++ (decimal count ++ codes " " ++ items_text items.now)) }
+{
+    append_decimal(out, count)?;
+    out.extend_from_slice(b" ")?;
+    append_items(out, items)
 }
 
 fn append_decimal(out: &mut Vec<u8>, number: usize) -> Result<(), AllocError>

@@ -1,5 +1,5 @@
 use Rattle.std.proofs.Common.{[], ◌∷◌, ◌++◌, List, ℕ, true, false, sym, ap, ◌∙◌, append-nil, arith}
-use Rattle.bit_set_run.proofs.SetLemmas.{elements-take_more}
+use Rattle.bit_set.proofs.SetLemmas.{elements-take_more}
 use Rattle.bit_set_run.proofs.plain.places_of_true.Goals as goal
 use Rattle.bit_set_run.proofs.plain.places_of_true.Goals.{then-here+in_ok-push, else-here}
 

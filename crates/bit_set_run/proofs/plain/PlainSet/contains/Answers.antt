@@ -1,7 +1,7 @@
 use Rattle.std.proofs.Common.{false, sym, ◌∙◌, arith}
 use Rattle.std.proofs.lemmas.Bool.{le-ltb}
 use Rattle.std.proofs.lemmas.List.{get_or_read, get_or_past}
-use Rattle.bit_set_run.proofs.SetLemmas.{has-elements}
+use Rattle.bit_set.proofs.SetLemmas.{has-elements}
 use Rattle.bit_set_run.proofs.plain.PlainSet.contains.Goals as goal
 
 pub returns-then-value-len : goal.returns-then-value-len

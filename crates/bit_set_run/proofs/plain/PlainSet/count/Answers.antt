@@ -1,5 +1,5 @@
 use Rattle.std.proofs.Common.{◌≡◌, sym, ◌∙◌, rules, count_by}
-use Rattle.bit_set_run.proofs.SetLemmas.{length-elements}
+use Rattle.bit_set.proofs.SetLemmas.{length-elements}
 use Rattle.bit_set_run.proofs.plain.PlainSet.count.Goals as goal
 
 pub returns : goal.returns

@@ -1,6 +1,6 @@
 use Rattle.std.proofs.Common.{not, false, sym, ap, ◌∙◌, arith}
 use Rattle.std.proofs.lemmas.List.{get_or_read}
-use Rattle.bit_set_run.proofs.SetLemmas.{has-elements, elements-set_true}
+use Rattle.bit_set.proofs.SetLemmas.{has-elements, elements-set_true}
 use Rattle.bit_set_run.proofs.plain.PlainSet.insert.Goals as goal
 
 pub returns-clause-answer : goal.returns-clause-answer

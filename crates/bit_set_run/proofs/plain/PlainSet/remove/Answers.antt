@@ -1,7 +1,7 @@
 use Rattle.std.proofs.Common.{◌≡◌, false, sym, ◌∙◌, arith}
 use Rattle.std.proofs.lemmas.List.{get_or_read, get_or_past}
-use Rattle.bit_set_run.specs.Sets.{has, elements}
-use Rattle.bit_set_run.proofs.SetLemmas.{has-elements, without_absent, IsAscending-elements, elements-set_false}
+use Rattle.bit_set.specs.Sets.{has, elements}
+use Rattle.bit_set.proofs.SetLemmas.{has-elements, without_absent, IsAscending-elements, elements-set_false}
 use Rattle.bit_set_run.proofs.plain.PlainSet.remove.Goals as goal
 
 pub returns-then-value-len-clause-answer : goal.returns-then-value-len-clause-answer
