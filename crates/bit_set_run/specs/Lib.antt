@@ -1,6 +1,7 @@
 pub mod Answered
 pub mod Cuts
 pub mod Exits
+pub mod Kept
 pub mod Lines
 pub mod Output
 pub mod Reading

@@ -8,13 +8,14 @@ use crate::cutting::next_line;
 use crate::reading::read_line;
 use crate::texts::{append_reply, bad_text};
 use crate::{Reply, Table, run};
+use bit_set::BitBlock;
 use std::alloc::{AllocError, Global};
 
 /// What the program writes for the input: for each of its lines a text and a newline.
-pub(crate) fn answer(alloc: Global, input: &[u8]) -> Result<Vec<u8>, AllocError>
+pub(crate) fn answer<B: BitBlock>(alloc: Global, input: &[u8]) -> Result<Vec<u8>, AllocError>
     ensures { IfOk result (λ text. text.items ≡ output input.now) }
 {
-    let mut table = Table::new(alloc);
+    let mut table = Table::<B>::new(alloc);
     let mut replies = Vec::new(alloc);
     let mut text = Vec::new(alloc);
     let mut rest = input;
@@ -26,9 +27,9 @@ pub(crate) fn answer(alloc: Global, input: &[u8]) -> Result<Vec<u8>, AllocError>
 }
 
 // Runs the command of a line and appends its answer. The vector of replies lends its room alone.
-fn answer_line(
+fn answer_line<B: BitBlock>(
     alloc: Global,
-    table: &mut Table,
+    table: &mut Table<B>,
     line: &[u8],
     replies: &mut Vec<Reply>,
     text: &mut Vec<u8>,

@@ -8,10 +8,10 @@ pub mod laws;
 mod lines;
 mod names;
 mod numbers;
-mod plain;
 mod reading;
 mod running;
 mod starting;
+mod stepping;
 mod streams;
 mod table;
 #[cfg(test)]

@@ -5,15 +5,16 @@ ghost use Rattle.bit_set_run.specs.Answered.{IsAnswered, IsCutOff};
 use crate::LinesFault;
 use crate::answers::answer;
 use crate::streams::{read_input, write_output};
+use bit_set::BitBlock;
 use std::alloc::Global;
 use std::io::{Read, Write};
 
-/// Reads lines to the end of the reader, executes their commands on sixteen empty sets, and writes a line for each.
+/// Reads lines to the end of the reader, executes their commands on sixteen empty sets over blocks of type `B`, and writes a line for each.
 ///
 /// The whole output is made before any of it is written, and the writer is flushed behind it. At most 1,048,577 reads
 /// are made. At [`LinesFault::Read`], [`LinesFault::TooLarge`] and [`LinesFault::Memory`] nothing was written; at
 /// [`LinesFault::Write`] a beginning of the output may have been. No failed read or write is tried again.
-pub fn run_lines<R: Read, W: Write>(
+pub fn run_lines<B: BitBlock, R: Read, W: Write>(
     alloc: Global,
     reader: &mut R,
     writer: &mut W,
@@ -32,6 +33,6 @@ pub fn run_lines<R: Read, W: Write>(
     ensures memory_unwritten { result ≡ Err LinesFault.Memory → writer.new ≡ writer.old }
 {
     let input = read_input(alloc, reader)?;
-    let text = answer(alloc, input.as_slice())?;
+    let text = answer::<B>(alloc, input.as_slice())?;
     write_output(writer, text.as_slice())
 }

@@ -1,7 +1,8 @@
 ghost use Rattle.std.specs.Prelude.{◌≡◌, ℕ, List, ◌++◌, [], ◌∷◌, IfOk, OnOk, OnErr};
-ghost use Rattle.bit_set_run.specs.Run.{step, run_of, StoppedAt};
+ghost use Rattle.bit_set_run.specs.Run.{step, run_of, LeftBy, StoppedAt};
 
-use crate::{Command, Numbers, Reply, Table};
+use crate::{Command, Reply, Table};
+use bit_set::BitBlock;
 use std::alloc::{AllocError, Global};
 use thiserror::Error;
 
@@ -15,11 +16,12 @@ pub enum RunFault {
 
 /// Executes the commands on the table, one after another, and appends a reply for each.
 ///
-/// At [`RunFault::Memory`] the commands before the one named have been executed and have their replies,
-/// and it and those after it have changed nothing. A reply's room is reserved before its command runs.
-pub fn run(
+/// At [`RunFault::Memory`] the commands before the one named have been executed and have their replies.
+/// It and those after it have changed nothing, but that an [`Command::Extend`] may have put in a front
+/// of its items. A reply's room is reserved before its command runs.
+pub fn run<B: BitBlock>(
     alloc: Global,
-    table: &mut Table,
+    table: &mut Table<B>,
     commands: &[Command],
     replies: &mut Vec<Reply>,
 ) -> Result<(), RunFault>
@@ -36,40 +38,20 @@ pub fn run(
     Ok(())
 }
 
-// One command, and its reply behind the others. Where memory is refused nothing changes.
-fn execute(
+// One command, and its reply behind the others.
+fn execute<B: BitBlock>(
     alloc: Global,
-    table: &mut Table,
+    table: &mut Table<B>,
     command: &Command,
     replies: &mut Vec<Reply>,
 ) -> Result<(), AllocError>
     ensures replies { OnOk result (replies.new.items ≡ replies.old.items ++ (step table.old command.now).reply ∷ []) }
     ensures sets { OnOk result (table.new ≡ (step table.old command.now).sets) }
-    ensures kept_replies { OnErr result (replies.new.items ≡ replies.old.items) }
-    ensures kept_sets { OnErr result (table.new ≡ table.old) }
+    ensures kept { OnErr result (replies.new.items ≡ replies.old.items) }
+    ensures left { OnErr result (LeftBy table.old command.now table.new) }
 {
     replies.reserve(1)?;
-    let reply = answer(alloc, table, command)?;
+    let reply = table.answer(alloc, command)?;
     replies.push_reserved(reply);
     Ok(())
-}
-
-// One command. Where memory is refused nothing changes.
-fn answer(alloc: Global, table: &mut Table, command: &Command) -> Result<Reply, AllocError>
-    ensures reply { IfOk result (λ reply. reply ≡ (step table.old command.now).reply) }
-    ensures sets { OnOk result (table.new ≡ (step table.old command.now).sets) }
-    ensures refused { OnErr result (table.new ≡ table.old) }
-{
-    match command {
-        Command::Insert(_, usize::MAX) => Ok(Reply::Element),
-        Command::Insert(name, value) => Ok(Reply::Truth(table.insert(*name, *value)?)),
-        Command::Remove(name, value) => Ok(Reply::Truth(table.remove(*name, *value))),
-        Command::Contains(name, value) => Ok(Reply::Truth(table.set(*name).contains(*value))),
-        Command::Extend(..) | Command::Truncate(..) | Command::Empty(..) | Command::Reset(..) | Command::IsEmpty(..) | Command::Copy(..) | Command::RestIter(..) => Ok(Reply::Same),
-        Command::Count(name) => Ok(Reply::Number(table.set(*name).count())),
-        Command::Items(name) => {
-            let items = table.set(*name).items(alloc)?;
-            Ok(Reply::Items(Numbers::from_vec(items)))
-        }
-    }
 }

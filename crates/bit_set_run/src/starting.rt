@@ -1,9 +1,10 @@
-ghost use Rattle.std.specs.Prelude.{◌≡◌, ℕ, ◌+◌, ◌↔◌, ◌⊎◌, false, map, string_bytes, codes, IfSome};
+ghost use Rattle.std.specs.Prelude.{◌≡◌, ℕ, ◌+◌, ◌↔◌, ◌⊎◌, false, map, string_bytes, codes, is_some, IfSome};
 ghost use Rattle.bit_set_run.specs.Exits.{takes, names_block, IsExit};
 ghost use Rattle.bit_set_run.specs.Streams.{limit, GaveCount};
 ghost use Rattle.bit_set_run.specs.Answered.{IsAnswered, IsCutOff};
 
 use crate::{LinesFault, run_lines};
+use bit_set::BitBlock;
 use std::alloc::Global;
 use std::io::{Read, Write};
 
@@ -14,7 +15,8 @@ pub struct Exit {
     pub text: &'static str,
 }
 
-/// Does what the program does: answers the lines of the reader, where the words are none or the name of a block type.
+/// Does what the program does: answers the lines of the reader over the type of blocks that the word names, or
+/// over `u32` where there is no word.
 ///
 /// | Status | When |
 /// |---|---|
@@ -46,17 +48,38 @@ pub fn start<R: Read, W: Write>(
     ensures too_large { result.status ≡ 5 → GaveCount (R.remaining reader.old) (R.remaining reader.new) (limit + 1) }
     ensures too_large_unwritten { result.status ≡ 5 → writer.new ≡ writer.old }
 {
-    if !are_taken(words) {
-        return Exit {
+    match block_type(words) {
+        None => Exit {
             status: 2,
             text: "usage: bitset [u8|u16|u32|u64|usize]",
-        };
-    }
-    match run_lines(alloc, reader, writer) {
-        Ok(()) => Exit {
-            status: 0,
-            text: "",
         },
+        Some(BlockType::U8) => answer_lines::<u8, R, W>(alloc, reader, writer),
+        Some(BlockType::U16) => answer_lines::<u16, R, W>(alloc, reader, writer),
+        Some(BlockType::U32) => answer_lines::<u32, R, W>(alloc, reader, writer),
+        Some(BlockType::U64) => answer_lines::<u64, R, W>(alloc, reader, writer),
+        Some(BlockType::Usize) => answer_lines::<usize, R, W>(alloc, reader, writer),
+    }
+}
+
+// The lines of the reader answered over this type of blocks, as an exit.
+fn answer_lines<B: BitBlock, R: Read, W: Write>(
+    alloc: Global,
+    reader: &mut R,
+    writer: &mut W,
+) -> Exit
+    ensures exit { IsExit result.status result.text.now }
+    ensures used { (result.status ≡ 2) → ⊥ }
+    ensures answered { result.status ≡ 0 → IfSome (R.remaining reader.old)
+        (IsAnswered (R.remaining reader.new) (W.contents writer.old) (W.contents writer.new)) }
+    ensures refused { result.status ≡ 3 → writer.new ≡ writer.old }
+    ensures unread { result.text.now ≡ codes "read failed" → writer.new ≡ writer.old }
+    ensures unwritten { result.text.now ≡ codes "write failed" → IfSome (R.remaining reader.old)
+        (IsCutOff (R.remaining reader.new) (W.contents writer.old) (W.contents writer.new)) }
+    ensures too_large { result.status ≡ 5 → GaveCount (R.remaining reader.old) (R.remaining reader.new) (limit + 1) }
+    ensures too_large_unwritten { result.status ≡ 5 → writer.new ≡ writer.old }
+{
+    match run_lines::<B, R, W>(alloc, reader, writer) {
+        Ok(()) => Exit { status: 0, text: "" },
         Err(LinesFault::Memory) => Exit {
             status: 3,
             text: "memory refused",
@@ -76,20 +99,37 @@ pub fn start<R: Read, W: Write>(
     }
 }
 
-// Whether the program takes these words.
-fn are_taken(words: &[String]) -> bool
-    ensures { result ≡ takes (map string_bytes words.now) }
+// The types of blocks that the program's word chooses from.
+#[derive(Clone, Copy)]
+enum BlockType {
+    U8,
+    U16,
+    U32,
+    U64,
+    Usize,
+}
+
+// The type that the words choose, `u32` where there is no word; `None` where they are not the program's.
+fn block_type(words: &[String]) -> Option<BlockType>
+    ensures { is_some result ≡ takes (map string_bytes words.now) }
 {
     match words {
-        [] => true,
-        [word] => names_block(word.as_str()),
-        _ => false,
+        [] => Some(BlockType::U32),
+        [word] => named_type(word.as_str()),
+        _ => None,
     }
 }
 
-// Whether the word names a block type.
-fn names_block(word: &str) -> bool
-    ensures { result ≡ names_block word.now }
+// The type that the word names.
+fn named_type(word: &str) -> Option<BlockType>
+    ensures { is_some result ≡ names_block word.now }
 {
-    matches!(word, "u8" | "u16" | "u32" | "u64" | "usize")
+    match word {
+        "u8" => Some(BlockType::U8),
+        "u16" => Some(BlockType::U16),
+        "u32" => Some(BlockType::U32),
+        "u64" => Some(BlockType::U64),
+        "usize" => Some(BlockType::Usize),
+        _ => None,
+    }
 }

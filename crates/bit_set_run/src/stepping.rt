@@ -1,0 +1,118 @@
+//! One command over sixteen sets.
+
+ghost use Rattle.std.specs.Prelude.{◌≡◌, ℕ, ◌<◌, ◌==◌, not, map, length, take, drop, IfOk, OnOk, OnErr, slice_index_or, slice_set, if◌then◌else◌};
+ghost use Rattle.std.specs.List.{list_any};
+ghost use Rattle.bit_set.specs.Sets.{has, put, put_all};
+ghost use Rattle.bit_set_run.specs.Kept.{kept};
+ghost use Rattle.bit_set_run.specs.Run.{step, greatest, elements_before_greatest, LeftBy};
+ghost use Rattle.bit_set_run.specs.declared.commands.Reply.TheVariants.{Truth, Done, Rest, Element};
+
+use crate::{Command, Numbers, Reply};
+use bit_set::{BitBlock, BitSet, Iter, SetError};
+use std::alloc::{AllocError, Global};
+use std::mem;
+
+// One command, over the sets themselves.
+pub(crate) fn answer<B: BitBlock>(
+    alloc: Global,
+    sets: &mut [BitSet<B>; 16],
+    command: &Command,
+) -> Result<Reply, AllocError>
+    ensures reply { IfOk result (λ reply. reply ≡ (step (map kept sets.old) command.now).reply) }
+    ensures sets { OnOk result (map kept sets.new ≡ (step (map kept sets.old) command.now).sets) }
+    ensures left { OnErr result (LeftBy (map kept sets.old) command.now (map kept sets.new)) }
+{
+    match command {
+        Command::Insert(name, n) => insert(&mut sets[name.place()], *n),
+        Command::Remove(name, n) => Ok(Reply::Truth(sets[name.place()].remove(*n))),
+        Command::Contains(name, n) => Ok(Reply::Truth(sets[name.place()].contains(*n))),
+        Command::Extend(name, items) => extend(&mut sets[name.place()], items),
+        Command::Truncate(name, n) => {
+            sets[name.place()].truncate(*n);
+            Ok(Reply::Done)
+        }
+        Command::Empty(name) => {
+            sets[name.place()].make_empty();
+            Ok(Reply::Done)
+        }
+        Command::Reset(name) => {
+            sets[name.place()].reset();
+            Ok(Reply::Done)
+        }
+        Command::Count(name) => Ok(Reply::Number(sets[name.place()].count())),
+        Command::IsEmpty(name) => Ok(Reply::Truth(sets[name.place()].is_empty())),
+        Command::Items(name) => Ok(Reply::Items(items_from(alloc, sets[name.place()].iter())?)),
+        Command::Copy(from, to) if from == to => Ok(Reply::Same),
+        Command::Copy(from, to) => copy(alloc, sets, from.place(), to.place()),
+        Command::RestIter(name, n) => rest(alloc, sets[name.place()].iter(), *n),
+    }
+}
+
+fn insert<B: BitBlock>(set: &mut BitSet<B>, n: usize) -> Result<Reply, AllocError>
+    ensures reply { IfOk result (λ reply. reply ≡ (if n == greatest then Element else Truth (not (has (kept set.old) n)))) }
+    ensures after { OnOk result (kept set.new ≡ (if n == greatest then kept set.old else put (kept set.old) n)) }
+    ensures left { OnErr result (kept set.new ≡ kept set.old) }
+{
+    match set.insert(n) {
+        Ok(new) => Ok(Reply::Truth(new)),
+        Err(SetError::Memory(refusal)) => Err(refusal),
+        Err(_) => Ok(Reply::Element),
+    }
+}
+
+fn extend<B: BitBlock>(set: &mut BitSet<B>, items: &Numbers) -> Result<Reply, AllocError>
+    ensures reply { IfOk result (λ reply. reply ≡ (if list_any (λ n. n == greatest) items.now then Element else Done)) }
+    ensures after { OnOk result (kept set.new ≡ put_all (kept set.old) (elements_before_greatest items.now)) }
+    ensures left { OnErr result ((n : ℕ) × (n < length items.now) × (kept set.new ≡ put_all (kept set.old) (take n items.now))) }
+{
+    match set.extend(items.as_slice().iter().copied()) {
+        Ok(()) => Ok(Reply::Done),
+        Err(SetError::Memory(refusal)) => Err(refusal),
+        Err(_) => Ok(Reply::Element),
+    }
+}
+
+// Makes the set at the second place hold what the one at the first does.
+fn copy<B: BitBlock>(
+    alloc: Global,
+    sets: &mut [BitSet<B>; 16],
+    from: usize,
+    to: usize,
+) -> Result<Reply, AllocError>
+    requires places { (from < 16) × (to < 16) }
+    requires apart { from ≡ to → ⊥ }
+    ensures reply { IfOk result (λ reply. reply ≡ Done) }
+    ensures after { OnOk result (map kept sets.new ≡ slice_set (map kept sets.old) to (slice_index_or (map kept sets.old) from [])) }
+    ensures left { OnErr result (map kept sets.new ≡ map kept sets.old) }
+{
+    // The set is taken out of its place, so that another of the array can be read beside it. It takes no memory.
+    let mut set = mem::replace(&mut sets[to], BitSet::new_general(alloc));
+    let copied = set.clone_from(&sets[from]);
+    sets[to] = set;
+    copied?;
+    Ok(Reply::Done)
+}
+
+// The numbers that are left of a walk.
+fn numbers_of<B: BitBlock>(alloc: Global, walk: Iter<'_, B>) -> Result<Numbers, AllocError>
+    ensures { IfOk result (λ numbers. numbers ≡ walk.left) }
+{
+    Ok(Numbers::from_vec(walk.collect(alloc)?))
+}
+
+// What is left of a walk after so many of its numbers, or after all where there are fewer.
+fn rest<B: BitBlock>(
+    alloc: Global,
+    mut walk: Iter<'_, B>,
+    taken: usize,
+) -> Result<Reply, AllocError>
+    ensures { IfOk result (λ reply. reply ≡ Rest (length (drop taken walk.left)) (drop taken walk.left)) }
+{
+    for _ in 0..taken {
+        if walk.next().is_none() {
+            break;
+        }
+    }
+    let count = walk.clone().count();
+    Ok(Reply::Rest(count, numbers_of(alloc, walk)?))
+}
