@@ -1,5 +1,5 @@
 -- A list of truth values, and the blocks that store it.
-use Rattle.std.specs.Prelude.{ℕ, zero, suc, ◌+◌, ◌-◌, ◌*◌, ◌/◌, ◌%◌, min, Bool, true, false, List, [], ◌∷◌, map, length, take, drop, if◌then◌else◌, ◌==◌}
+use Rattle.std.specs.Prelude.{ℕ, ◌+◌, ◌-◌, ◌*◌, ◌/◌, ◌%◌, min, Bool, true, false, List, [], ◌∷◌, map, length, take, drop, ◌==◌}
 use Rattle.std.specs.Int.{bit_at}
 use Rattle.std.specs.List.{range_with_len, flat_map}
 
@@ -12,10 +12,15 @@ pub record Bits : Type 0 where
 abbrev pub blocks_for : ℕ → ℕ → ℕ
 blocks_for w n = n / w + min 1 (n % w)
 
+-- the binary digit of a truth value
+abbrev pub digit_of : Bool → ℕ
+digit_of true = 1
+digit_of false = 0
+
 -- the number whose lowest binary digit is the first value
 unfoldable pub number_of : List Bool → ℕ
 number_of [] = 0
-number_of (b ∷ bs) = number_of bs * 2 + (if b then 1 else 0)
+number_of (b ∷ bs) = number_of bs * 2 + digit_of b
 
 -- block k has the w values from k * w on
 unfoldable pub blocks_of : ℕ → List Bool → List ℕ
