@@ -1,2 +1,3 @@
 pub mod Bits
 pub mod Storage
+pub mod Steps
