@@ -1,2 +1,4 @@
 //! Blocks of bits, and the bit vector that stands on them.
 #![tactic(auto)]
+
+pub mod bit_vec;
