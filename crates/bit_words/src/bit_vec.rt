@@ -1,4 +1,8 @@
-//! Blocks of bits, and the bit vector over them.
-mod steps;
+//! Bit vectors over blocks of any lawful type.
 
+mod block;
+mod steps;
+mod words;
+
+pub use block::BitBlock;
 pub use steps::Steps;
