@@ -1,2 +1,4 @@
 pub mod Words
 pub mod BitsLemmas
+pub mod StorageLemmas
+pub mod Masks

@@ -1,6 +1,7 @@
 //! Bit vectors over blocks of any lawful type.
 
 mod block;
+mod masks;
 mod steps;
 mod words;
 
