@@ -1,8 +1,8 @@
 -- The number of what an operator gives, from its digits. `words.rt` names this set, and no other file needs it.
-use Rattle.std.proofs.Common.{◌≡◌, ℕ, ◌+◌, ◌-◌, ◌*◌, ◌/◌, ◌%◌, ◌^◌, ◌<◌, refl, bit_and, bit_or, bit_xor, sym, ◌∙◌, subst, arith, ⊎_elim}
+use Rattle.std.proofs.Common.{◌≡◌, ℕ, ◌+◌, ◌-◌, ◌*◌, ◌/◌, ◌%◌, ◌^◌, ◌<◌, refl, bit_and, bit_or, bit_xor, sym, ap, ◌∙◌, subst, arith, ⊎_elim}
 use Rattle.std.specs.Int.{bit_at}
 use Rattle.std.proofs.lemmas.Bool.{cases_lt}
-use Rattle.std.proofs.lemmas.Nat.{and_le_l, or_lt, xor_lt}
+use Rattle.std.proofs.lemmas.Nat.{and_le_l, or_lt, xor_lt, one_shl}
 use Rattle.std.proofs.lemmas.Nat.Bits.{bit_at_and, bit_at_or, bit_at_xor, same_from_bits_below}
 use Rattle.bit_words.specs.Digits.{IsBoth, IsEither, IsDifferent, IsComplement, IsShiftedLeft, IsShiftedRight}
 use Rattle.bit_words.specs.DigitLaws.{complement, shifted_left, shifted_right}
@@ -28,22 +28,26 @@ pub shifted_left-number : (w m d r : ℕ) → d < w → r < 2 ^ w → IsShiftedL
 shifted_left-number w m d r within fits is =
     let other = shifted_left w m d (m * 2 ^ d % 2 ^ w) within refl in
     same_from_bits_below w r (m * 2 ^ d % 2 ^ w) fits other.0 (λ i below.
-      ⊎_elim
-        (λ low. is.zeros i low ∙ sym (other.1.zeros i low))
-        (λ high.
-          let back : i - d + d ≡ i = omega arith in
-          let place : i - d + d < w = omega arith in
-          subst (λ x. bit_at r x ≡ bit_at (m * 2 ^ d % 2 ^ w) x) back
-            (is.moved (i - d) place ∙ sym (other.1.moved (i - d) place)))
-        (cases_lt i d))
+    ⊎_elim
+    (λ low. is.zeros i low ∙ sym (other.1.zeros i low))
+    (λ high.
+    let back : i - d + d ≡ i = omega arith in
+    let place : i - d + d < w = omega arith in
+    subst (λ x. bit_at r x ≡ bit_at (m * 2 ^ d % 2 ^ w) x) back
+    (is.moved (i - d) place ∙ sym (other.1.moved (i - d) place)))
+    (cases_lt i d))
 
 pub shifted_right-number : (w m d r : ℕ) → m < 2 ^ w → r < 2 ^ w → IsShiftedRight w m d r → r ≡ m / 2 ^ d
 shifted_right-number w m d r small fits is =
     let other = shifted_right w m d (m / 2 ^ d) small refl in
     same_from_bits_below w r (m / 2 ^ d) fits other.0 (λ i below.
-      ⊎_elim
-        (λ inside. is.moved i inside ∙ sym (other.1.moved i inside))
-        (λ past. is.zeros i below past ∙ sym (other.1.zeros i below past))
-        (cases_lt (i + d) w))
+    ⊎_elim
+    (λ inside. is.moved i inside ∙ sym (other.1.moved i inside))
+    (λ past. is.zeros i below past ∙ sym (other.1.zeros i below past))
+    (cases_lt (i + d) w))
 
 pub ruleset number_of_digits = (both-number, either-number, different-number, complement-number, shifted_left-number, shifted_right-number)
+
+-- 1 moved to a place.
+pub one_moved : (w i m : ℕ) → i < w → m ≡ 1 → m * 2 ^ i % 2 ^ w ≡ 2 ^ i
+one_moved w i m within is = ap (λ x. x * 2 ^ i % 2 ^ w) is ∙ one_shl i w within

@@ -1,6 +1,7 @@
 //! Bit vectors over blocks of any lawful type.
 
 mod block;
+mod integers;
 mod words;
 
 pub use block::BitBlock;
