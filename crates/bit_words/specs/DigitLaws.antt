@@ -1,13 +1,14 @@
 -- The operators on numbers of w digits do to the digits what `Digits` says, at any width.
-use Rattle.std.specs.Prelude.{◌≡◌, ℕ, zero, suc, ◌+◌, ◌-◌, ◌*◌, ◌/◌, ◌%◌, ◌^◌, ◌<◌, bit_and, bit_or, bit_xor}
+use Rattle.std.specs.Prelude.{◌≡◌, ℕ, zero, suc, ◌+◌, ◌-◌, ◌*◌, ◌/◌, ◌%◌, ◌^◌, ◌<◌, ◌≤◌, ◌==◌, ◌↔◌, true, bit_and, bit_or, bit_xor}
 use Rattle.std.specs.Int.{bit_at}
 use Rattle.std.proofs.Common.{sym, ◌∙◌, ap, arith}
+use Rattle.std.proofs.lemmas.Bool.{eqb-true, eq-eqb}
 use Rattle.std.proofs.lemmas.Nat.{and_le_l, or_lt, xor_lt, and-not, pow_below, pow_pos, shr_split, shr_le, shr-shr, mod_below}
 use Rattle.std.proofs.lemmas.Nat.Bits.{bit_at_and, bit_at_or, bit_at_xor, and_pow, bit_at-lt, bit_at_above, bit_at_cat_low, bit_at_cat_high, bit_at-zero}
 use Rattle.bit_words.specs.Digits.{IsBoth, IsEither, IsDifferent, IsComplement, IsShiftedLeft, IsShiftedRight}
 
-pub both : (w m n r : ℕ) → m < 2 ^ w → r ≡ bit_and m n → (r < 2 ^ w) × IsBoth w m n r
-both w m n r small is =
+pub both : (w m n r : ℕ) → m < 2 ^ w → n < 2 ^ w → r ≡ bit_and m n → (r < 2 ^ w) × IsBoth w m n r
+both w m n r small also is =
     (omega (arith, and_le_l m n), record { digit = λ i within. ap (λ x. bit_at x i) is ∙ bit_at_and m n i })
 
 pub either : (w m n r : ℕ) → m < 2 ^ w → n < 2 ^ w → r ≡ bit_or m n → (r < 2 ^ w) × IsEither w m n r
@@ -72,3 +73,14 @@ shifted_right w m d r small is = (
     zeros = λ i within past. ap (λ x. bit_at x i) is ∙ bit_at-shr m d i ∙ bit_at_above m w (i + d) small past;
   },
 )
+
+-- `+` and `-` where the result is the number of a block.
+pub added : (w m n r : ℕ) → m < 2 ^ w → n < 2 ^ w → m + n < 2 ^ w → r ≡ m + n → (r < 2 ^ w) × (r ≡ m + n)
+added w m n r small also fits is = (omega arith, is)
+
+pub subtracted : (w m n r : ℕ) → m < 2 ^ w → n < 2 ^ w → n ≤ m → r ≡ m - n → (r < 2 ^ w) × (r + n ≡ m)
+subtracted w m n r small also below is = (omega arith, omega arith)
+
+-- `==` of two blocks that are their own numbers.
+pub compared : (w m n : ℕ) → m < 2 ^ w → n < 2 ^ w → (m == n ≡ true) ↔ (m ≡ n)
+compared w m n small also = (eqb-true m n, eq-eqb m n)

@@ -1,6 +1,8 @@
 //! Bit vectors over blocks of any lawful type.
 
 mod block;
+mod changes;
+mod integers;
 mod masks;
 mod steps;
 mod words;

@@ -1,0 +1,367 @@
+// The unsigned integers of the machine as blocks: a value is its own number.
+ghost use Rattle.std.specs.Prelude.{◌≡◌, ℕ, ◌+◌, ◌^◌, ◌<◌, ◌≤◌, ◌↔◌, true, refl};
+ghost use Rattle.std.proofs.Common.{lit<};
+ghost use Rattle.bit_words.specs.DigitLaws.{both, either, different, complement, added, subtracted, compared};
+ghost use Rattle.bit_words.specs.Digits.{IsWidth};
+
+use super::BitBlock;
+
+impl BitBlock for u8 {
+    ghost width = { 8 };
+
+    ghost number = { λ a. a };
+
+    ghost block = { λ m. m };
+
+    ghost is_block = { λ a. a < 2 ^ 8 };
+
+    fn bits() -> usize {
+        8
+    }
+
+    fn zero() -> u8 {
+        0
+    }
+
+    fn one() -> u8 {
+        1
+    }
+
+    fn count_ones(self) -> usize {
+        self.count_ones() as usize
+    }
+
+    fn from_byte(byte: u8) -> u8 {
+        byte
+    }
+
+    #[tactic(auto, using(crate::specs::DigitLaws::shifted_left))]
+    fn shift_left(self, distance: usize) -> u8 {
+        self << distance as u32
+    }
+
+    #[tactic(auto, using(crate::specs::DigitLaws::shifted_right))]
+    fn shift_right(self, distance: usize) -> u8 {
+        self >> distance as u32
+    }
+
+    ghost width_law = { record { positive = lit< tt; whole_bytes = refl; fits = lit< tt } };
+
+    ghost number_law = { λ a is. (is, refl) };
+
+    ghost block_law = { λ m fits. (fits, refl) };
+
+    ghost eq_law = { compared 8 };
+
+    ghost can_and = { λ _ _ _ _. tt };
+
+    ghost and_law = { both 8 };
+
+    ghost can_or = { λ _ _ _ _. tt };
+
+    ghost or_law = { either 8 };
+
+    ghost can_xor = { λ _ _ _ _. tt };
+
+    ghost xor_law = { different 8 };
+
+    ghost can_complement = { λ _ _. tt };
+
+    ghost not_law = { complement 8 };
+
+    ghost can_sum = { λ _ _ _ _ fits. fits };
+
+    ghost add_law = { added 8 };
+
+    ghost can_subtract = { λ _ _ _ _ below. below };
+
+    ghost sub_law = { subtracted 8 };
+}
+
+impl BitBlock for u16 {
+    ghost width = { 16 };
+
+    ghost number = { λ a. a };
+
+    ghost block = { λ m. m };
+
+    ghost is_block = { λ a. a < 2 ^ 16 };
+
+    fn bits() -> usize {
+        16
+    }
+
+    fn zero() -> u16 {
+        0
+    }
+
+    fn one() -> u16 {
+        1
+    }
+
+    fn count_ones(self) -> usize {
+        self.count_ones() as usize
+    }
+
+    fn from_byte(byte: u8) -> u16 {
+        byte as u16
+    }
+
+    #[tactic(auto, using(crate::specs::DigitLaws::shifted_left))]
+    fn shift_left(self, distance: usize) -> u16 {
+        self << distance as u32
+    }
+
+    #[tactic(auto, using(crate::specs::DigitLaws::shifted_right))]
+    fn shift_right(self, distance: usize) -> u16 {
+        self >> distance as u32
+    }
+
+    ghost width_law = { record { positive = lit< tt; whole_bytes = refl; fits = lit< tt } };
+
+    ghost number_law = { λ a is. (is, refl) };
+
+    ghost block_law = { λ m fits. (fits, refl) };
+
+    ghost eq_law = { compared 16 };
+
+    ghost can_and = { λ _ _ _ _. tt };
+
+    ghost and_law = { both 16 };
+
+    ghost can_or = { λ _ _ _ _. tt };
+
+    ghost or_law = { either 16 };
+
+    ghost can_xor = { λ _ _ _ _. tt };
+
+    ghost xor_law = { different 16 };
+
+    ghost can_complement = { λ _ _. tt };
+
+    ghost not_law = { complement 16 };
+
+    ghost can_sum = { λ _ _ _ _ fits. fits };
+
+    ghost add_law = { added 16 };
+
+    ghost can_subtract = { λ _ _ _ _ below. below };
+
+    ghost sub_law = { subtracted 16 };
+}
+
+impl BitBlock for u32 {
+    ghost width = { 32 };
+
+    ghost number = { λ a. a };
+
+    ghost block = { λ m. m };
+
+    ghost is_block = { λ a. a < 2 ^ 32 };
+
+    fn bits() -> usize {
+        32
+    }
+
+    fn zero() -> u32 {
+        0
+    }
+
+    fn one() -> u32 {
+        1
+    }
+
+    fn count_ones(self) -> usize {
+        self.count_ones() as usize
+    }
+
+    fn from_byte(byte: u8) -> u32 {
+        byte as u32
+    }
+
+    #[tactic(auto, using(crate::specs::DigitLaws::shifted_left))]
+    fn shift_left(self, distance: usize) -> u32 {
+        self << distance as u32
+    }
+
+    #[tactic(auto, using(crate::specs::DigitLaws::shifted_right))]
+    fn shift_right(self, distance: usize) -> u32 {
+        self >> distance as u32
+    }
+
+    ghost width_law = { record { positive = lit< tt; whole_bytes = refl; fits = lit< tt } };
+
+    ghost number_law = { λ a is. (is, refl) };
+
+    ghost block_law = { λ m fits. (fits, refl) };
+
+    ghost eq_law = { compared 32 };
+
+    ghost can_and = { λ _ _ _ _. tt };
+
+    ghost and_law = { both 32 };
+
+    ghost can_or = { λ _ _ _ _. tt };
+
+    ghost or_law = { either 32 };
+
+    ghost can_xor = { λ _ _ _ _. tt };
+
+    ghost xor_law = { different 32 };
+
+    ghost can_complement = { λ _ _. tt };
+
+    ghost not_law = { complement 32 };
+
+    ghost can_sum = { λ _ _ _ _ fits. fits };
+
+    ghost add_law = { added 32 };
+
+    ghost can_subtract = { λ _ _ _ _ below. below };
+
+    ghost sub_law = { subtracted 32 };
+}
+
+impl BitBlock for u64 {
+    ghost width = { 64 };
+
+    ghost number = { λ a. a };
+
+    ghost block = { λ m. m };
+
+    ghost is_block = { λ a. a < 2 ^ 64 };
+
+    fn bits() -> usize {
+        64
+    }
+
+    fn zero() -> u64 {
+        0
+    }
+
+    fn one() -> u64 {
+        1
+    }
+
+    fn count_ones(self) -> usize {
+        self.count_ones() as usize
+    }
+
+    fn from_byte(byte: u8) -> u64 {
+        byte as u64
+    }
+
+    #[tactic(auto, using(crate::specs::DigitLaws::shifted_left))]
+    fn shift_left(self, distance: usize) -> u64 {
+        self << distance as u32
+    }
+
+    #[tactic(auto, using(crate::specs::DigitLaws::shifted_right))]
+    fn shift_right(self, distance: usize) -> u64 {
+        self >> distance as u32
+    }
+
+    ghost width_law = { record { positive = lit< tt; whole_bytes = refl; fits = lit< tt } };
+
+    ghost number_law = { λ a is. (is, refl) };
+
+    ghost block_law = { λ m fits. (fits, refl) };
+
+    ghost eq_law = { compared 64 };
+
+    ghost can_and = { λ _ _ _ _. tt };
+
+    ghost and_law = { both 64 };
+
+    ghost can_or = { λ _ _ _ _. tt };
+
+    ghost or_law = { either 64 };
+
+    ghost can_xor = { λ _ _ _ _. tt };
+
+    ghost xor_law = { different 64 };
+
+    ghost can_complement = { λ _ _. tt };
+
+    ghost not_law = { complement 64 };
+
+    ghost can_sum = { λ _ _ _ _ fits. fits };
+
+    ghost add_law = { added 64 };
+
+    ghost can_subtract = { λ _ _ _ _ below. below };
+
+    ghost sub_law = { subtracted 64 };
+}
+
+impl BitBlock for usize {
+    ghost width = { 64 };
+
+    ghost number = { λ a. a };
+
+    ghost block = { λ m. m };
+
+    ghost is_block = { λ a. a < 2 ^ 64 };
+
+    fn bits() -> usize {
+        64
+    }
+
+    fn zero() -> usize {
+        0
+    }
+
+    fn one() -> usize {
+        1
+    }
+
+    fn count_ones(self) -> usize {
+        self.count_ones() as usize
+    }
+
+    fn from_byte(byte: u8) -> usize {
+        byte as usize
+    }
+
+    #[tactic(auto, using(crate::specs::DigitLaws::shifted_left))]
+    fn shift_left(self, distance: usize) -> usize {
+        self << distance as u32
+    }
+
+    #[tactic(auto, using(crate::specs::DigitLaws::shifted_right))]
+    fn shift_right(self, distance: usize) -> usize {
+        self >> distance as u32
+    }
+
+    ghost width_law = { record { positive = lit< tt; whole_bytes = refl; fits = lit< tt } };
+
+    ghost number_law = { λ a is. (is, refl) };
+
+    ghost block_law = { λ m fits. (fits, refl) };
+
+    ghost eq_law = { compared 64 };
+
+    ghost can_and = { λ _ _ _ _. tt };
+
+    ghost and_law = { both 64 };
+
+    ghost can_or = { λ _ _ _ _. tt };
+
+    ghost or_law = { either 64 };
+
+    ghost can_xor = { λ _ _ _ _. tt };
+
+    ghost xor_law = { different 64 };
+
+    ghost can_complement = { λ _ _. tt };
+
+    ghost not_law = { complement 64 };
+
+    ghost can_sum = { λ _ _ _ _ fits. fits };
+
+    ghost add_law = { added 64 };
+
+    ghost can_subtract = { λ _ _ _ _ below. below };
+
+    ghost sub_law = { subtracted 64 };
+}
