@@ -2,3 +2,4 @@ pub mod Words
 pub mod BitsLemmas
 pub mod StorageLemmas
 pub mod Masks
+pub mod ChangeLemmas

@@ -1,6 +1,6 @@
 // Reads and changes of a vector of blocks, each told by the value at every index. They keep its
 // length and room unless they say otherwise, and know nothing of how many values it holds.
-ghost use Rattle.std.specs.Prelude.{◌≡◌, ◌≢◌, ℕ, ◌<◌, ◌≤◌, ◌/◌, ◌==◌, ◌&&◌, ◌||◌, ◌↔◌, All, IsTrue, length, map, set, get_or, replicate, nat_lt, nat_le, vec_len, vec_capacity, true, false};
+ghost use Rattle.std.specs.Prelude.{◌≡◌, ◌≢◌, ℕ, ◌<◌, ◌≤◌, ◌/◌, ◌%◌, ◌==◌, ◌&&◌, ◌||◌, ◌↔◌, All, IsTrue, length, map, set, get_or, replicate, nat_lt, nat_le, vec_len, vec_capacity, true, false};
 ghost use Rattle.bit_words.specs.Bits.{blocks_for};
 ghost use Rattle.bit_words.specs.Storage.{value_at};
 
@@ -14,6 +14,22 @@ pub(crate) fn block_count<B: BitBlock>(len: usize) -> usize
     ensures { result ≡ blocks_for B.width len }
 {
     len.div_ceil(B::bits())
+}
+
+// The block in which index `i` is, and its place there.
+#[inline]
+pub(crate) fn block_index<B: BitBlock>(i: usize) -> usize
+    ensures { result ≡ i / B.width }
+{
+    i / B::bits()
+}
+
+#[inline]
+pub(crate) fn place_in_block<B: BitBlock>(i: usize) -> usize
+    ensures value { result ≡ i % B.width }
+    ensures within { result < B.width }
+{
+    i % B::bits()
 }
 
 #[inline]
@@ -45,7 +61,8 @@ pub(crate) fn value_of<B: BitBlock>(blocks: &[B], i: usize) -> bool
     requires each { All B.is_block blocks.now }
     ensures { result ≡ value_at B.width (map B.number blocks.now) i }
 {
-    has_one_at(block_at(blocks, i / B::bits()), i % B::bits())
+    let block = block_at(blocks, block_index::<B>(i));
+    has_one_at(block, place_in_block::<B>(i))
 }
 
 // The value at `i` becomes `bit`.
@@ -59,8 +76,8 @@ pub(crate) fn put_value<B: BitBlock>(blocks: &mut Vec<B>, i: usize, bit: bool)
     ensures len { vec_len blocks.new ≡ vec_len blocks.old }
     ensures capacity { vec_capacity blocks.new ≡ vec_capacity blocks.old }
 {
-    let k = i / B::bits();
-    let block = with_digit(block_at(blocks, k), i % B::bits(), bit);
+    let k = block_index::<B>(i);
+    let block = with_digit(block_at(blocks, k), place_in_block::<B>(i), bit);
     put_block(blocks, k, block);
 }
 
@@ -73,8 +90,8 @@ pub(crate) fn raise_from<B: BitBlock>(blocks: &mut Vec<B>, start: usize)
     ensures len { vec_len blocks.new ≡ vec_len blocks.old }
     ensures capacity { vec_capacity blocks.new ≡ vec_capacity blocks.old }
 {
-    let k = start / B::bits();
-    let block = with_ones_from(block_at(blocks, k), start % B::bits());
+    let k = block_index::<B>(start);
+    let block = with_ones_from(block_at(blocks, k), place_in_block::<B>(start));
     put_block(blocks, k, block);
 }
 
@@ -87,11 +104,11 @@ pub(crate) fn lower_from<B: BitBlock>(blocks: &mut Vec<B>, len: usize)
     ensures len { vec_len blocks.new ≡ vec_len blocks.old }
     ensures capacity { vec_capacity blocks.new ≡ vec_capacity blocks.old }
 {
-    let place = len % B::bits();
+    let place = place_in_block::<B>(len);
     if place == 0 {
         return;
     }
-    let k = len / B::bits();
+    let k = block_index::<B>(len);
     let block = cut_from(block_at(blocks, k), place);
     put_block(blocks, k, block);
 }
