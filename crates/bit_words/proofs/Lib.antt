@@ -3,3 +3,4 @@ pub mod BitsLemmas
 pub mod StorageLemmas
 pub mod Masks
 pub mod ChangeLemmas
+pub mod VectorLemmas

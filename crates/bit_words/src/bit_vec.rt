@@ -5,7 +5,9 @@ mod changes;
 mod integers;
 mod masks;
 mod steps;
+mod vector;
 mod words;
 
 pub use block::BitBlock;
 pub use steps::Steps;
+pub use vector::BitVec;
