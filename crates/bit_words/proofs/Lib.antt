@@ -4,3 +4,4 @@ pub mod StorageLemmas
 pub mod Masks
 pub mod ChangeLemmas
 pub mod VectorLemmas
+pub mod TidyLemmas

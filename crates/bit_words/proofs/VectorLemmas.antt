@@ -1,24 +1,24 @@
 -- What the calls of a bit vector cite: its length, its room and its list.
-use Rattle.std.proofs.Common.{◌≡◌, ℕ, ◌+◌, ◌-◌, ◌*◌, ◌/◌, ◌%◌, ◌^◌, ◌<◌, ◌≤◌, min, Bool, true, false, zero, suc, List, [], ◌∷◌, map, length, get_or, refl, sym, ap, ◌∙◌, arith, ⊎_elim, Option, Some, None, slice_get, All, mul-le-mul_right, pow_pos}
+use Rattle.std.proofs.Common.{◌≡◌, ℕ, ◌+◌, ◌*◌, ◌/◌, ◌%◌, ◌^◌, ◌<◌, ◌≤◌, Bool, false, zero, suc, List, [], ◌∷◌, map, length, get_or, refl, sym, ap, ◌∙◌, arith, ⊎_elim, Some, None, slice_get, All, mul-le-mul_right, pow_pos}
 use Rattle.std.proofs.lemmas.Bool.{cases_lt}
 use Rattle.std.proofs.lemmas.Bool.Decides.{nat_tests}
-use Rattle.std.proofs.lemmas.List.{get_or-map}
-use Rattle.std.proofs.lemmas.List.Elements.{All-tail}
+use Rattle.std.proofs.lemmas.List.{get_or-map, length-map}
+use Rattle.std.proofs.lemmas.List.Elements.{All-tail, All-same, All-nil}
 use Rattle.std.proofs.lemmas.Nat.Bits.{bit_at-lt, bit_at-zero, same_from_bits_below}
 use Rattle.std.specs.Int.{bit_at}
 use Rattle.std.proofs.lemmas.Option.{slice_get-get_or, slice_get_past}
 use Rattle.bit_words.specs.Bits.{Bits, blocks_for}
-use Rattle.bit_words.specs.Storage.{is_one, value_at, values_of, room_of, IsCleanFrom, IsTidy}
+use Rattle.bit_words.specs.Storage.{is_one, value_at, values_of, room_of, IsTidy}
 use Rattle.bit_words.proofs.BitsLemmas.{blocks_for-enough, blocks_for-least}
-use Rattle.bit_words.proofs.StorageLemmas.{length-values_of, get_or-values_of, value_at-is, value_at-place}
+use Rattle.bit_words.proofs.StorageLemmas.{length-values_of, value_at-past, get_or-values_of, value_at-is, value_at-place}
 use Rattle.bit_words.proofs.Masks.{is_one-zero}
 
 -- ---- the length and the room
 
-pub length_from_view : (w n r : ℕ) (ms : List ℕ) (v : Bits) → record {values = values_of w ms n; room = r} ≡ v → length v.values ≡ n
+pub length_from_view : (w n r : ℕ) (ms : List ℕ) (v : Bits) → record { values = values_of w ms n; room = r } ≡ v → length v.values ≡ n
 length_from_view w n r ms v e = sym (ap (λ b. length b.values) e) ∙ length-values_of w ms n
 
-pub room_from_view : (r : ℕ) (bs : List Bool) (v : Bits) → record {values = bs; room = r} ≡ v → v.room ≡ r
+pub room_from_view : (r : ℕ) (bs : List Bool) (v : Bits) → record { values = bs; room = r } ≡ v → v.room ≡ r
 room_from_view r bs v e = sym (ap (λ b. b.room) e)
 
 pub le-room_of : (w blocks n : ℕ) → 0 < w → n < 2 ^ 64 → blocks_for w n ≤ blocks → n ≤ room_of w blocks
@@ -68,8 +68,25 @@ pub zero_from_all_false : {X : Type 0} (w n : ℕ) (f : X → ℕ) (P : X → Ty
 zero_from_all_false w n f P xs pos below tidy falses k d within =
     sym (get_or-map f xs k d 0 within)
     ∙ same_from_bits_below w _ 0 (numbers_below w f P xs below tidy.each k) (pow_pos w) (λ j inside.
-        let value : value_at w (map f xs) (k * w + j) ≡ false = ⊎_elim
-          (λ index. sym (get_or-values_of w (map f xs) n (k * w + j) false index) ∙ falses (k * w + j) false (rw length-values_of index))
-          (λ past. tidy.tail.clean (k * w + j) past)
-          (cases_lt (k * w + j) n) in
-        bit_from_false _ j (sym (value_at-place w (map f xs) k j inside) ∙ value) ∙ sym (bit_at-zero j))
+    let value : value_at w (map f xs) (k * w + j) ≡ false = ⊎_elim
+    (λ index. sym (get_or-values_of w (map f xs) n (k * w + j) false index) ∙ falses (k * w + j) false (rw length-values_of index))
+    (λ past. tidy.tail.clean (k * w + j) past)
+    (cases_lt (k * w + j) n) in
+    bit_from_false _ j (sym (value_at-place w (map f xs) k j inside) ∙ value) ∙ sym (bit_at-zero j))
+
+-- ---- the empty list
+
+blocks_for-none : (w : ℕ) → 0 < w → 0 ≡ blocks_for w 0
+blocks_for-none w pos = let l = blocks_for-least w 0 0 pos (omega arith) in omega arith
+
+pub tidy_nil : {X : Type 0} (w : ℕ) (f : X → ℕ) (P : X → Type 0) (xs : List X) → 0 < w → xs ≡ [] → IsTidy w f P xs 0
+tidy_nil w f P xs pos e = record {
+  each = All-same P xs [] e (All-nil P);
+  count = ap length e ∙ blocks_for-none w pos;
+  tail = record { clean = λ i past. value_at-past w (map f xs) i (rw (length-map, ap length e) (omega arith)) };
+  fits = omega arith;
+}
+
+pub values_of-none : (w : ℕ) (ms : List ℕ) → values_of w ms 0 ≡ []
+unfolding values_of
+values_of-none w ms = refl

@@ -5,6 +5,7 @@ mod changes;
 mod integers;
 mod masks;
 mod steps;
+mod tidy;
 mod vector;
 mod words;
 

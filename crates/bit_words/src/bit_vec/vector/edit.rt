@@ -3,8 +3,8 @@ ghost use Rattle.std.specs.Prelude.{◌≡◌, ◌+◌, ◌<◌, ◌≤◌, [], 
 
 use super::BitVec;
 use crate::bit_vec::BitBlock;
-use crate::bit_vec::changes::{block_count, fill_blocks, lower_from, put_value, raise_from};
-use crate::bit_vec::words::all_ones;
+use crate::bit_vec::changes::block_count;
+use crate::bit_vec::tidy::{append_values, fill_values, keep_values, set_value};
 use std::alloc::AllocError;
 
 impl<B: BitBlock> BitVec<B> {
@@ -15,7 +15,7 @@ impl<B: BitBlock> BitVec<B> {
         ensures values { self.new.values ≡ slice_set self.old.values i bit }
         ensures room { self.new.room ≡ self.old.room }
     {
-        put_value(&mut self.blocks, i, bit);
+        set_value(&mut self.blocks, self.len, i, bit);
     }
 
     /// Makes every value be `bit`. Writes each block once, and the last one twice at most.
@@ -23,12 +23,7 @@ impl<B: BitBlock> BitVec<B> {
         ensures values { self.new.values ≡ replicate (length self.old.values) bit }
         ensures room { self.new.room ≡ self.old.room }
     {
-        if bit {
-            fill_blocks(&mut self.blocks, all_ones());
-            lower_from(&mut self.blocks, self.len);
-        } else {
-            fill_blocks(&mut self.blocks, B::zero());
-        }
+        fill_values(&mut self.blocks, self.len, bit);
     }
 
     /// Keeps the first `n` values; nothing where there are no more. Writes one block at most.
@@ -39,8 +34,7 @@ impl<B: BitBlock> BitVec<B> {
         if n >= self.len {
             return;
         }
-        self.blocks.truncate(block_count::<B>(n));
-        lower_from(&mut self.blocks, n);
+        keep_values(&mut self.blocks, self.len, n);
         self.len = n;
     }
 
@@ -70,12 +64,7 @@ impl<B: BitBlock> BitVec<B> {
         let len = self.len + n;
         let count = block_count::<B>(len);
         self.blocks.reserve(count - self.blocks.len())?;
-        let block = if bit { all_ones() } else { B::zero() };
-        self.blocks.resize(count, block).unwrap();
-        if bit {
-            raise_from(&mut self.blocks, self.len);
-            lower_from(&mut self.blocks, len);
-        }
+        append_values(&mut self.blocks, self.len, len, bit);
         self.len = len;
         Ok(())
     }
@@ -89,10 +78,8 @@ impl<B: BitBlock> BitVec<B> {
         ensures succeeds { length other.now.values ≤ self.old.room → IsOk result }
         ensures room { self.old.room ≤ self.new.room }
     {
-        let count = other.blocks.len();
-        if count > self.blocks.len() {
-            self.blocks.reserve(count - self.blocks.len())?;
-        }
+        let missing = other.blocks.len().saturating_sub(self.blocks.len());
+        self.blocks.reserve(missing)?;
         self.blocks.clear();
         self.blocks.extend_from_slice(&other.blocks).unwrap();
         self.len = other.len;

@@ -1,4 +1,4 @@
-use Rattle.std.proofs.Common.{◌≡◌, ◌<◌, ◌/◌, map, length, sym, ap, ◌∙◌, Some, arith}
+use Rattle.std.proofs.Common.{◌≡◌, map, sym, ap, ◌∙◌, Some, arith}
 use Rattle.bit_words.specs.Storage.{value_at}
 use Rattle.bit_words.proofs.BitsLemmas.{blocks_for-above}
 use Rattle.bit_words.proofs.VectorLemmas.{slice_get-values_of, slice_get-values_of_past}
