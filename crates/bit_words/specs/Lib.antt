@@ -1,2 +1,5 @@
 pub mod Digits
 pub mod DigitLaws
+pub mod Bits
+pub mod Storage
+pub mod Steps

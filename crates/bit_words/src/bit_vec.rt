@@ -2,6 +2,8 @@
 
 mod block;
 mod integers;
+mod steps;
 mod words;
 
 pub use block::BitBlock;
+pub use steps::Steps;

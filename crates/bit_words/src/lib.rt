@@ -2,3 +2,4 @@
 #![tactic(auto)]
 
 pub mod bit_vec;
+pub mod laws;

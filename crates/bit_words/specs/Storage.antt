@@ -1,0 +1,23 @@
+-- How a vector of blocks holds a list of truth values. No public clause cites this.
+use Rattle.std.specs.Prelude.{◌≡◌, ℕ, ◌/◌, ◌%◌, ◌≤◌, Bool, false, List, map, length, get_or, ◌==◌, All}
+use Rattle.std.specs.Int.{bit_at}
+use Rattle.std.specs.List.{range_with_len}
+use Rattle.bit_words.specs.Bits.{blocks_for}
+
+-- value i is digit i % w of block i / w, and false where there is no such block
+unfoldable pub value_at : ℕ → List ℕ → ℕ → Bool
+value_at w ms i = bit_at (get_or ms (i / w) 0) (i % w) == 1
+
+-- the first n of these values
+unfoldable pub values_of : ℕ → List ℕ → ℕ → List Bool
+values_of w ms n = map (value_at w ms) (range_with_len 0 n)
+
+-- every value from n on is false
+pub record IsCleanFrom (w : ℕ) (ms : List ℕ) (n : ℕ) : Type 0 where
+  pub clean : (i : ℕ) → n ≤ i → value_at w ms i ≡ false
+
+-- The blocks xs hold a list of n values: each is a block value, there are as many as it takes, and what no value uses is 0.
+pub record IsTidy {X : Type 0} (w : ℕ) (number : X → ℕ) (is_block : X → Type 0) (xs : List X) (n : ℕ) : Type 0 where
+  pub each : All is_block xs
+  pub count : length xs ≡ blocks_for w n
+  pub tail : IsCleanFrom w (map number xs) n
