@@ -1,2 +1,4 @@
 pub mod Words
 pub mod BitsLemmas
+pub mod LowestLemmas
+pub mod OnesLemmas
