@@ -2,3 +2,5 @@ pub mod Words
 pub mod BitsLemmas
 pub mod LowestLemmas
 pub mod OnesLemmas
+pub mod StorageLemmas
+pub mod Masks

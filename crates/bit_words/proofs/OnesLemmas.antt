@@ -1,5 +1,5 @@
 -- The ones of the blocks of a list are its true values.
-use Rattle.std.proofs.Common.{◌≡◌, ℕ, zero, suc, ◌+◌, ◌*◌, ◌/◌, ◌%◌, ◌^◌, ◌<◌, ◌≤◌, Bool, true, false, cond, List, [], ◌∷◌, ◌++◌, map, length, take, drop, count_ones, refl, sym, ap, ◌∙◌, arith, take_all}
+use Rattle.std.proofs.Common.{◌≡◌, ℕ, zero, suc, ◌+◌, ◌*◌, ◌/◌, ◌%◌, ◌^◌, ◌<◌, Bool, true, false, cond, List, [], ◌∷◌, ◌++◌, map, length, take, drop, count_ones, refl, sym, ap, ◌∙◌, arith, take_all}
 use Rattle.std.specs.Int.{bit_at}
 use Rattle.std.specs.List.{sum_by, count_by, range_with_len}
 use Rattle.std.proofs.Math.Nat.{pow-suc}

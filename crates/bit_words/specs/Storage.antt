@@ -4,9 +4,13 @@ use Rattle.std.specs.Int.{bit_at}
 use Rattle.std.specs.List.{range_with_len}
 use Rattle.bit_words.specs.Bits.{blocks_for}
 
+-- whether digit j of m is 1
+abbrev pub is_one : ℕ → ℕ → Bool
+is_one m j = bit_at m j == 1
+
 -- value i is digit i % w of block i / w, and false where there is no such block
 unfoldable pub value_at : ℕ → List ℕ → ℕ → Bool
-value_at w ms i = bit_at (get_or ms (i / w) 0) (i % w) == 1
+value_at w ms i = is_one (get_or ms (i / w) 0) (i % w)
 
 -- the first n of these values
 unfoldable pub values_of : ℕ → List ℕ → ℕ → List Bool

@@ -2,6 +2,7 @@
 
 mod block;
 mod integers;
+mod masks;
 mod steps;
 mod words;
 
