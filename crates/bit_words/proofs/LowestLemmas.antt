@@ -24,7 +24,6 @@ odd_part (suc w) m pos fits =
     (λ odd. (0, (m / 2, (omega arith, record { is = omega arith }))))
     (λ even.
     let before = odd_part w (m / 2) (omega arith) small in
-    let low = before.1.1.0 in
     (suc before.0, (before.1.0, (omega arith, record { is = twice_odd m before.0 before.1.0 before.1.1.1.is (omega arith) }))))
     (cases_lt 0 (m % 2))
 

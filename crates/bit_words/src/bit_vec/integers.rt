@@ -16,7 +16,7 @@ impl BitBlock for u8 {
     ghost is_block = { λ a. a < 2 ^ 8 };
 
     fn bits() -> usize {
-        8
+        u8::BITS as usize
     }
 
     fn zero() -> u8 {
@@ -28,7 +28,7 @@ impl BitBlock for u8 {
     }
 
     fn count_ones(self) -> usize {
-        self.count_ones() as usize
+        u8::count_ones(self) as usize
     }
 
     fn from_byte(byte: u8) -> u8 {
@@ -37,12 +37,12 @@ impl BitBlock for u8 {
 
     #[tactic(auto, using(crate::specs::DigitLaws::shifted_left))]
     fn shift_left(self, distance: usize) -> u8 {
-        self << distance as u32
+        self << distance as u8
     }
 
     #[tactic(auto, using(crate::specs::DigitLaws::shifted_right))]
     fn shift_right(self, distance: usize) -> u8 {
-        self >> distance as u32
+        self >> distance as u8
     }
 
     ghost width_law = { record { positive = lit< tt; whole_bytes = refl; fits = lit< tt } };
@@ -88,7 +88,7 @@ impl BitBlock for u16 {
     ghost is_block = { λ a. a < 2 ^ 16 };
 
     fn bits() -> usize {
-        16
+        u16::BITS as usize
     }
 
     fn zero() -> u16 {
@@ -100,7 +100,7 @@ impl BitBlock for u16 {
     }
 
     fn count_ones(self) -> usize {
-        self.count_ones() as usize
+        u16::count_ones(self) as usize
     }
 
     fn from_byte(byte: u8) -> u16 {
@@ -109,12 +109,12 @@ impl BitBlock for u16 {
 
     #[tactic(auto, using(crate::specs::DigitLaws::shifted_left))]
     fn shift_left(self, distance: usize) -> u16 {
-        self << distance as u32
+        self << distance as u16
     }
 
     #[tactic(auto, using(crate::specs::DigitLaws::shifted_right))]
     fn shift_right(self, distance: usize) -> u16 {
-        self >> distance as u32
+        self >> distance as u16
     }
 
     ghost width_law = { record { positive = lit< tt; whole_bytes = refl; fits = lit< tt } };
@@ -160,7 +160,7 @@ impl BitBlock for u32 {
     ghost is_block = { λ a. a < 2 ^ 32 };
 
     fn bits() -> usize {
-        32
+        u32::BITS as usize
     }
 
     fn zero() -> u32 {
@@ -172,7 +172,7 @@ impl BitBlock for u32 {
     }
 
     fn count_ones(self) -> usize {
-        self.count_ones() as usize
+        u32::count_ones(self) as usize
     }
 
     fn from_byte(byte: u8) -> u32 {
@@ -232,7 +232,7 @@ impl BitBlock for u64 {
     ghost is_block = { λ a. a < 2 ^ 64 };
 
     fn bits() -> usize {
-        64
+        u64::BITS as usize
     }
 
     fn zero() -> u64 {
@@ -244,7 +244,7 @@ impl BitBlock for u64 {
     }
 
     fn count_ones(self) -> usize {
-        self.count_ones() as usize
+        u64::count_ones(self) as usize
     }
 
     fn from_byte(byte: u8) -> u64 {
@@ -253,12 +253,12 @@ impl BitBlock for u64 {
 
     #[tactic(auto, using(crate::specs::DigitLaws::shifted_left))]
     fn shift_left(self, distance: usize) -> u64 {
-        self << distance as u32
+        self << distance as u64
     }
 
     #[tactic(auto, using(crate::specs::DigitLaws::shifted_right))]
     fn shift_right(self, distance: usize) -> u64 {
-        self >> distance as u32
+        self >> distance as u64
     }
 
     ghost width_law = { record { positive = lit< tt; whole_bytes = refl; fits = lit< tt } };
@@ -304,7 +304,7 @@ impl BitBlock for usize {
     ghost is_block = { λ a. a < 2 ^ 64 };
 
     fn bits() -> usize {
-        64
+        usize::BITS as usize
     }
 
     fn zero() -> usize {
@@ -316,7 +316,7 @@ impl BitBlock for usize {
     }
 
     fn count_ones(self) -> usize {
-        self.count_ones() as usize
+        usize::count_ones(self) as usize
     }
 
     fn from_byte(byte: u8) -> usize {
@@ -325,12 +325,12 @@ impl BitBlock for usize {
 
     #[tactic(auto, using(crate::specs::DigitLaws::shifted_left))]
     fn shift_left(self, distance: usize) -> usize {
-        self << distance as u32
+        self << distance
     }
 
     #[tactic(auto, using(crate::specs::DigitLaws::shifted_right))]
     fn shift_right(self, distance: usize) -> usize {
-        self >> distance as u32
+        self >> distance
     }
 
     ghost width_law = { record { positive = lit< tt; whole_bytes = refl; fits = lit< tt } };
