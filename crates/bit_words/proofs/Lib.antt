@@ -4,3 +4,4 @@ pub mod LowestLemmas
 pub mod OnesLemmas
 pub mod StorageLemmas
 pub mod Masks
+pub mod ChangeLemmas

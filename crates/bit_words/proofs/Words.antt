@@ -1,8 +1,8 @@
 -- The number of what an operator gives, from its digits. `words.rt` names this set, and no other file needs it.
-use Rattle.std.proofs.Common.{◌≡◌, ℕ, ◌+◌, ◌-◌, ◌*◌, ◌/◌, ◌%◌, ◌^◌, ◌<◌, refl, bit_and, bit_or, bit_xor, sym, ◌∙◌, subst, arith, ⊎_elim}
+use Rattle.std.proofs.Common.{◌≡◌, ℕ, ◌+◌, ◌-◌, ◌*◌, ◌/◌, ◌%◌, ◌^◌, ◌<◌, refl, bit_and, bit_or, bit_xor, sym, ap, ◌∙◌, subst, arith, ⊎_elim}
 use Rattle.std.specs.Int.{bit_at}
 use Rattle.std.proofs.lemmas.Bool.{cases_lt}
-use Rattle.std.proofs.lemmas.Nat.{and_le_l, or_lt, xor_lt}
+use Rattle.std.proofs.lemmas.Nat.{and_le_l, or_lt, xor_lt, one_shl}
 use Rattle.std.proofs.lemmas.Nat.Bits.{bit_at_and, bit_at_or, bit_at_xor, same_from_bits_below}
 use Rattle.bit_words.specs.Digits.{IsBoth, IsEither, IsDifferent, IsComplement, IsShiftedLeft, IsShiftedRight}
 use Rattle.bit_words.specs.DigitLaws.{complement, shifted_left, shifted_right}
@@ -47,3 +47,7 @@ shifted_right-number w m d r small fits is =
     (cases_lt (i + d) w))
 
 pub ruleset number_of_digits = (both-number, either-number, different-number, complement-number, shifted_left-number, shifted_right-number)
+
+-- 1 moved to a place.
+pub one_moved : (w i m : ℕ) → i < w → m ≡ 1 → m * 2 ^ i % 2 ^ w ≡ 2 ^ i
+one_moved w i m within is = ap (λ x. x * 2 ^ i % 2 ^ w) is ∙ one_shl i w within

@@ -3,6 +3,7 @@
 mod block;
 #[cfg(test)]
 mod block_tests;
+mod changes;
 mod integers;
 mod masks;
 mod steps;

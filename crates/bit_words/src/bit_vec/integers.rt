@@ -1,8 +1,7 @@
 // The unsigned integers of the machine as blocks: a value is its own number.
-ghost use Rattle.std.specs.Prelude.{◌≡◌, ℕ, ◌+◌, ◌^◌, ◌<◌, ◌≤◌, ◌↔◌, true, refl};
+ghost use Rattle.std.specs.Prelude.{◌^◌, ◌<◌, refl};
 ghost use Rattle.std.proofs.Common.{lit<};
 ghost use Rattle.bit_words.specs.DigitLaws.{both, either, different, complement, added, subtracted, compared};
-ghost use Rattle.bit_words.specs.Digits.{IsWidth};
 
 use super::BitBlock;
 
@@ -15,31 +14,38 @@ impl BitBlock for u8 {
 
     ghost is_block = { λ a. a < 2 ^ 8 };
 
+    #[inline]
     fn bits() -> usize {
         u8::BITS as usize
     }
 
+    #[inline]
     fn zero() -> u8 {
         0
     }
 
+    #[inline]
     fn one() -> u8 {
         1
     }
 
+    #[inline]
     fn count_ones(self) -> usize {
         u8::count_ones(self) as usize
     }
 
+    #[inline]
     fn from_byte(byte: u8) -> u8 {
         byte
     }
 
+    #[inline]
     #[tactic(auto, using(crate::specs::DigitLaws::shifted_left))]
     fn shift_left(self, distance: usize) -> u8 {
         self << distance as u8
     }
 
+    #[inline]
     #[tactic(auto, using(crate::specs::DigitLaws::shifted_right))]
     fn shift_right(self, distance: usize) -> u8 {
         self >> distance as u8
@@ -87,31 +93,38 @@ impl BitBlock for u16 {
 
     ghost is_block = { λ a. a < 2 ^ 16 };
 
+    #[inline]
     fn bits() -> usize {
         u16::BITS as usize
     }
 
+    #[inline]
     fn zero() -> u16 {
         0
     }
 
+    #[inline]
     fn one() -> u16 {
         1
     }
 
+    #[inline]
     fn count_ones(self) -> usize {
         u16::count_ones(self) as usize
     }
 
+    #[inline]
     fn from_byte(byte: u8) -> u16 {
         byte as u16
     }
 
+    #[inline]
     #[tactic(auto, using(crate::specs::DigitLaws::shifted_left))]
     fn shift_left(self, distance: usize) -> u16 {
         self << distance as u16
     }
 
+    #[inline]
     #[tactic(auto, using(crate::specs::DigitLaws::shifted_right))]
     fn shift_right(self, distance: usize) -> u16 {
         self >> distance as u16
@@ -159,31 +172,38 @@ impl BitBlock for u32 {
 
     ghost is_block = { λ a. a < 2 ^ 32 };
 
+    #[inline]
     fn bits() -> usize {
         u32::BITS as usize
     }
 
+    #[inline]
     fn zero() -> u32 {
         0
     }
 
+    #[inline]
     fn one() -> u32 {
         1
     }
 
+    #[inline]
     fn count_ones(self) -> usize {
         u32::count_ones(self) as usize
     }
 
+    #[inline]
     fn from_byte(byte: u8) -> u32 {
         byte as u32
     }
 
+    #[inline]
     #[tactic(auto, using(crate::specs::DigitLaws::shifted_left))]
     fn shift_left(self, distance: usize) -> u32 {
         self << distance as u32
     }
 
+    #[inline]
     #[tactic(auto, using(crate::specs::DigitLaws::shifted_right))]
     fn shift_right(self, distance: usize) -> u32 {
         self >> distance as u32
@@ -231,31 +251,38 @@ impl BitBlock for u64 {
 
     ghost is_block = { λ a. a < 2 ^ 64 };
 
+    #[inline]
     fn bits() -> usize {
         u64::BITS as usize
     }
 
+    #[inline]
     fn zero() -> u64 {
         0
     }
 
+    #[inline]
     fn one() -> u64 {
         1
     }
 
+    #[inline]
     fn count_ones(self) -> usize {
         u64::count_ones(self) as usize
     }
 
+    #[inline]
     fn from_byte(byte: u8) -> u64 {
         byte as u64
     }
 
+    #[inline]
     #[tactic(auto, using(crate::specs::DigitLaws::shifted_left))]
     fn shift_left(self, distance: usize) -> u64 {
         self << distance as u64
     }
 
+    #[inline]
     #[tactic(auto, using(crate::specs::DigitLaws::shifted_right))]
     fn shift_right(self, distance: usize) -> u64 {
         self >> distance as u64
@@ -303,31 +330,38 @@ impl BitBlock for usize {
 
     ghost is_block = { λ a. a < 2 ^ 64 };
 
+    #[inline]
     fn bits() -> usize {
         usize::BITS as usize
     }
 
+    #[inline]
     fn zero() -> usize {
         0
     }
 
+    #[inline]
     fn one() -> usize {
         1
     }
 
+    #[inline]
     fn count_ones(self) -> usize {
         usize::count_ones(self) as usize
     }
 
+    #[inline]
     fn from_byte(byte: u8) -> usize {
         byte as usize
     }
 
+    #[inline]
     #[tactic(auto, using(crate::specs::DigitLaws::shifted_left))]
     fn shift_left(self, distance: usize) -> usize {
         self << distance
     }
 
+    #[inline]
     #[tactic(auto, using(crate::specs::DigitLaws::shifted_right))]
     fn shift_right(self, distance: usize) -> usize {
         self >> distance

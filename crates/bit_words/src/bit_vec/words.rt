@@ -1,6 +1,7 @@
 // The operators of a block type, each as a function whose clauses name the digits and the number
 // of the result. Generic code calls these, and so cites no law.
-ghost use Rattle.std.specs.Prelude.{◌≡◌, ◌+◌, ◌-◌, ◌*◌, ◌/◌, ◌%◌, ◌^◌, ◌<◌, ◌≤◌, ◌==◌, bit_and, bit_or, bit_xor};
+ghost use Rattle.std.specs.Prelude.{◌≡◌, ℕ, ◌+◌, ◌-◌, ◌*◌, ◌/◌, ◌%◌, ◌^◌, ◌<◌, ◌≤◌, ◌==◌, bit_and, bit_or, bit_xor, count_ones};
+ghost use Rattle.std.specs.Int.{bit_at};
 ghost use Rattle.bit_words.specs.Digits.{IsBoth, IsEither, IsDifferent, IsComplement, IsShiftedLeft, IsShiftedRight};
 
 use super::BitBlock;
@@ -105,4 +106,44 @@ pub(crate) fn same<B: BitBlock>(a: B, b: B) -> bool
     ensures { result ≡ (B.number a == B.number b) }
 {
     a == b
+}
+
+// The block whose digit at a place is 1, and no other.
+#[inline]
+#[tactic(auto, using(crate::proofs::Words::one_moved))]
+pub(crate) fn one_at<B: BitBlock>(place: usize) -> B
+    requires { place < B.width }
+    ensures of_block { B.is_block result }
+    ensures of_number { B.number result ≡ 2 ^ place }
+{
+    shift_left(B::one(), place)
+}
+
+// The block whose digits below a place are 1, and no others.
+#[inline]
+pub(crate) fn ones_below<B: BitBlock>(place: usize) -> B
+    requires { place < B.width }
+    ensures of_block { B.is_block result }
+    ensures of_number { B.number result ≡ 2 ^ place - 1 }
+{
+    block_sub(one_at(place), B::one())
+}
+
+// The block whose digits are all 1.
+#[inline]
+pub(crate) fn all_ones<B: BitBlock>() -> B
+    ensures of_block { B.is_block result }
+    ensures of_number { B.number result ≡ 2 ^ B.width - 1 }
+{
+    block_not(B::zero())
+}
+
+// Whether the digit at a place is 1.
+#[inline]
+pub(crate) fn has_one_at<B: BitBlock>(a: B, place: usize) -> bool
+    requires of_block { B.is_block a }
+    requires within { place < B.width }
+    ensures { result ≡ (bit_at (B.number a) place == 1) }
+{
+    same(block_and(shift_right(a, place), B::one()), B::one())
 }
