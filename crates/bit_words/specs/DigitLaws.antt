@@ -28,7 +28,7 @@ one_left (suc zero) (suc zero) p a_low b_low pos is = absurd (omega arith)
 one_left (suc zero) (suc (suc b)) p a_low b_low pos is = absurd (omega arith)
 one_left (suc (suc a)) b p a_low b_low pos is = absurd (omega arith)
 
-bit_at-complement : (w m i : ℕ) → m < 2 ^ w → i < w → bit_at (2 ^ w - 1 - m) i ≡ 1 - bit_at m i
+pub bit_at-complement : (w m i : ℕ) → m < 2 ^ w → i < w → bit_at (2 ^ w - 1 - m) i ≡ 1 - bit_at m i
 bit_at-complement w m i small within =
     let r : ℕ = 2 ^ w - 1 - m in
     let sum = and-not w m (2 ^ i) small (pow_below i w within) in
@@ -43,11 +43,11 @@ bit_at-mod : (w n i : ℕ) → i < w → bit_at (n % 2 ^ w) i ≡ bit_at n i
 bit_at-mod w n i within =
     sym (bit_at_cat_low (n / 2 ^ w) w (n % 2 ^ w) i within) ∙ ap (λ x. bit_at x i) (shr_split n w)
 
-bit_at-shl_low : (m d i : ℕ) → i < d → bit_at (m * 2 ^ d) i ≡ 0
+pub bit_at-shl_low : (m d i : ℕ) → i < d → bit_at (m * 2 ^ d) i ≡ 0
 bit_at-shl_low m d i low =
     ap (λ x. bit_at x i) (let e : m * 2 ^ d ≡ m * 2 ^ d + 0 = omega arith in e) ∙ bit_at_cat_low m d 0 i low ∙ bit_at-zero i
 
-bit_at-shl_high : (m d i : ℕ) → bit_at (m * 2 ^ d) (i + d) ≡ bit_at m i
+pub bit_at-shl_high : (m d i : ℕ) → bit_at (m * 2 ^ d) (i + d) ≡ bit_at m i
 bit_at-shl_high m d i =
     ap (λ x. bit_at x (i + d)) (let e : m * 2 ^ d ≡ m * 2 ^ d + 0 = omega arith in e)
     ∙ bit_at_cat_high m d 0 (i + d) (pow_pos d) (omega arith)

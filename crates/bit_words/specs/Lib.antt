@@ -3,3 +3,4 @@ pub mod DigitLaws
 pub mod Bits
 pub mod Storage
 pub mod Steps
+pub mod Lowest

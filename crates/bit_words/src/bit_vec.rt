@@ -1,6 +1,8 @@
 //! Bit vectors over blocks of any lawful type.
 
 mod block;
+#[cfg(test)]
+mod block_tests;
 mod changes;
 mod integers;
 mod masks;

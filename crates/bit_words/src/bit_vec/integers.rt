@@ -1,8 +1,7 @@
 // The unsigned integers of the machine as blocks: a value is its own number.
-ghost use Rattle.std.specs.Prelude.{◌≡◌, ℕ, ◌+◌, ◌^◌, ◌<◌, ◌≤◌, ◌↔◌, true, refl};
+ghost use Rattle.std.specs.Prelude.{◌^◌, ◌<◌, refl};
 ghost use Rattle.std.proofs.Common.{lit<};
 ghost use Rattle.bit_words.specs.DigitLaws.{both, either, different, complement, added, subtracted, compared};
-ghost use Rattle.bit_words.specs.Digits.{IsWidth};
 
 use super::BitBlock;
 
@@ -15,34 +14,41 @@ impl BitBlock for u8 {
 
     ghost is_block = { λ a. a < 2 ^ 8 };
 
+    #[inline]
     fn bits() -> usize {
-        8
+        u8::BITS as usize
     }
 
+    #[inline]
     fn zero() -> u8 {
         0
     }
 
+    #[inline]
     fn one() -> u8 {
         1
     }
 
+    #[inline]
     fn count_ones(self) -> usize {
-        self.count_ones() as usize
+        u8::count_ones(self) as usize
     }
 
+    #[inline]
     fn from_byte(byte: u8) -> u8 {
         byte
     }
 
+    #[inline]
     #[tactic(auto, using(crate::specs::DigitLaws::shifted_left))]
     fn shift_left(self, distance: usize) -> u8 {
-        self << distance as u32
+        self << distance as u8
     }
 
+    #[inline]
     #[tactic(auto, using(crate::specs::DigitLaws::shifted_right))]
     fn shift_right(self, distance: usize) -> u8 {
-        self >> distance as u32
+        self >> distance as u8
     }
 
     ghost width_law = { record { positive = lit< tt; whole_bytes = refl; fits = lit< tt } };
@@ -87,34 +93,41 @@ impl BitBlock for u16 {
 
     ghost is_block = { λ a. a < 2 ^ 16 };
 
+    #[inline]
     fn bits() -> usize {
-        16
+        u16::BITS as usize
     }
 
+    #[inline]
     fn zero() -> u16 {
         0
     }
 
+    #[inline]
     fn one() -> u16 {
         1
     }
 
+    #[inline]
     fn count_ones(self) -> usize {
-        self.count_ones() as usize
+        u16::count_ones(self) as usize
     }
 
+    #[inline]
     fn from_byte(byte: u8) -> u16 {
         byte as u16
     }
 
+    #[inline]
     #[tactic(auto, using(crate::specs::DigitLaws::shifted_left))]
     fn shift_left(self, distance: usize) -> u16 {
-        self << distance as u32
+        self << distance as u16
     }
 
+    #[inline]
     #[tactic(auto, using(crate::specs::DigitLaws::shifted_right))]
     fn shift_right(self, distance: usize) -> u16 {
-        self >> distance as u32
+        self >> distance as u16
     }
 
     ghost width_law = { record { positive = lit< tt; whole_bytes = refl; fits = lit< tt } };
@@ -159,31 +172,38 @@ impl BitBlock for u32 {
 
     ghost is_block = { λ a. a < 2 ^ 32 };
 
+    #[inline]
     fn bits() -> usize {
-        32
+        u32::BITS as usize
     }
 
+    #[inline]
     fn zero() -> u32 {
         0
     }
 
+    #[inline]
     fn one() -> u32 {
         1
     }
 
+    #[inline]
     fn count_ones(self) -> usize {
-        self.count_ones() as usize
+        u32::count_ones(self) as usize
     }
 
+    #[inline]
     fn from_byte(byte: u8) -> u32 {
         byte as u32
     }
 
+    #[inline]
     #[tactic(auto, using(crate::specs::DigitLaws::shifted_left))]
     fn shift_left(self, distance: usize) -> u32 {
         self << distance as u32
     }
 
+    #[inline]
     #[tactic(auto, using(crate::specs::DigitLaws::shifted_right))]
     fn shift_right(self, distance: usize) -> u32 {
         self >> distance as u32
@@ -231,34 +251,41 @@ impl BitBlock for u64 {
 
     ghost is_block = { λ a. a < 2 ^ 64 };
 
+    #[inline]
     fn bits() -> usize {
-        64
+        u64::BITS as usize
     }
 
+    #[inline]
     fn zero() -> u64 {
         0
     }
 
+    #[inline]
     fn one() -> u64 {
         1
     }
 
+    #[inline]
     fn count_ones(self) -> usize {
-        self.count_ones() as usize
+        u64::count_ones(self) as usize
     }
 
+    #[inline]
     fn from_byte(byte: u8) -> u64 {
         byte as u64
     }
 
+    #[inline]
     #[tactic(auto, using(crate::specs::DigitLaws::shifted_left))]
     fn shift_left(self, distance: usize) -> u64 {
-        self << distance as u32
+        self << distance as u64
     }
 
+    #[inline]
     #[tactic(auto, using(crate::specs::DigitLaws::shifted_right))]
     fn shift_right(self, distance: usize) -> u64 {
-        self >> distance as u32
+        self >> distance as u64
     }
 
     ghost width_law = { record { positive = lit< tt; whole_bytes = refl; fits = lit< tt } };
@@ -303,34 +330,41 @@ impl BitBlock for usize {
 
     ghost is_block = { λ a. a < 2 ^ 64 };
 
+    #[inline]
     fn bits() -> usize {
-        64
+        usize::BITS as usize
     }
 
+    #[inline]
     fn zero() -> usize {
         0
     }
 
+    #[inline]
     fn one() -> usize {
         1
     }
 
+    #[inline]
     fn count_ones(self) -> usize {
-        self.count_ones() as usize
+        usize::count_ones(self) as usize
     }
 
+    #[inline]
     fn from_byte(byte: u8) -> usize {
         byte as usize
     }
 
+    #[inline]
     #[tactic(auto, using(crate::specs::DigitLaws::shifted_left))]
     fn shift_left(self, distance: usize) -> usize {
-        self << distance as u32
+        self << distance
     }
 
+    #[inline]
     #[tactic(auto, using(crate::specs::DigitLaws::shifted_right))]
     fn shift_right(self, distance: usize) -> usize {
-        self >> distance as u32
+        self >> distance
     }
 
     ghost width_law = { record { positive = lit< tt; whole_bytes = refl; fits = lit< tt } };
