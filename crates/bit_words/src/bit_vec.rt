@@ -3,6 +3,7 @@
 mod block;
 #[cfg(test)]
 mod block_tests;
+mod blocks;
 mod changes;
 mod integers;
 mod masks;
@@ -12,5 +13,6 @@ mod vector;
 mod words;
 
 pub use block::BitBlock;
+pub use blocks::Blocks;
 pub use steps::Steps;
 pub use vector::BitVec;
