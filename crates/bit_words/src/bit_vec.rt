@@ -4,6 +4,7 @@ mod block;
 #[cfg(test)]
 mod block_tests;
 mod blocks;
+mod bytes;
 mod changes;
 mod integers;
 mod masks;
@@ -15,4 +16,4 @@ mod words;
 pub use block::BitBlock;
 pub use blocks::Blocks;
 pub use steps::Steps;
-pub use vector::BitVec;
+pub use vector::{BitVec, BitsError};
