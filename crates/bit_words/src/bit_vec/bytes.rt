@@ -1,5 +1,5 @@
 // Blocks made of bytes: the highest bit of a byte is the first of eight values.
-ghost use Rattle.std.specs.Prelude.{◌≡◌, ℕ, ◌*◌, ◌^◌, ◌<◌, ◌≤◌, All, map, length, IfOk, IsOk, slice_index};
+ghost use Rattle.std.specs.Prelude.{◌≡◌, ℕ, ◌+◌, ◌*◌, ◌^◌, ◌<◌, ◌≤◌, All, map, length, IfOk, IsOk, slice_index};
 ghost use Rattle.bit_words.specs.Bits.{blocks_for};
 ghost use Rattle.bit_words.specs.Storage.{is_one, value_at, byte_value};
 
@@ -16,15 +16,26 @@ pub(crate) fn blocks_of_bytes<B: BitBlock>(alloc: Global, bytes: &[u8]) -> Resul
     ensures len { IfOk result (λ blocks. length blocks.items ≡ blocks_for B.width (8 * length bytes.now)) }
     ensures empty { length bytes.now ≡ 0 → IsOk result }
 {
-    let step = B::bits() / 8;
     let count = block_count::<B>(8 * bytes.len());
     let mut blocks = Vec::with_capacity(alloc, count)?;
     for k in 0..count {
-        let start = k * step;
-        let end = (start + step).min(bytes.len());
-        blocks.push_reserved(block_of_bytes(&bytes[start..end]));
+        blocks.push_reserved(block_of_bytes(bytes_of_block::<B>(bytes, k)));
     }
     Ok(blocks)
+}
+
+// The bytes of block `k`: as many as a block holds, or those that are left.
+#[inline]
+fn bytes_of_block<B: BitBlock>(bytes: &[u8], k: usize) -> &[u8]
+    requires few { 8 * length bytes.now < 2 ^ 64 }
+    requires in_bounds { k < blocks_for B.width (8 * length bytes.now) }
+    ensures len { 8 * length result.now ≤ B.width }
+    ensures values { (j : ℕ) → j < B.width → byte_value result.now j ≡ byte_value bytes.now (k * B.width + j) }
+{
+    let step = B::bits() / 8;
+    let start = k * step;
+    let end = (start + step).min(bytes.len());
+    &bytes[start..end]
 }
 
 // One block of no more bytes than it holds.
