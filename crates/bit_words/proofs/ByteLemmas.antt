@@ -1,8 +1,8 @@
 -- The values of bytes: a byte turned round, one moved into its place in a block, and the list of all.
-use Rattle.std.proofs.Common.{◌≡◌, ◌≢◌, ℕ, zero, suc, ◌+◌, ◌-◌, ◌*◌, ◌/◌, ◌%◌, ◌^◌, ◌<◌, ◌≤◌, Bool, true, false, ◌&&◌, ◌||◌, ◌==◌, nat_lt, List, [], ◌∷◌, ◌++◌, map, length, get_or, take, drop, flat_map, refl, sym, ap, ap₂, ◌∙◌, arith, ⊎_elim, mod-lt, div-add-mod', w8, min, slice_range, get_or-take, get_or-drop, length-take, length-append}
-use Rattle.std.proofs.lemmas.Bool.{cases_lt, cases_eq}
+use Rattle.std.proofs.Common.{◌≡◌, ℕ, zero, suc, ◌+◌, ◌-◌, ◌*◌, ◌/◌, ◌%◌, ◌^◌, ◌<◌, ◌≤◌, Bool, true, false, ◌&&◌, ◌||◌, ◌==◌, nat_lt, List, [], ◌∷◌, length, get_or, drop, refl, sym, ap, ap₂, ◌∙◌, arith, ⊎_elim, mod-lt, div-add-mod', w8, min, slice_range, get_or-take, get_or-drop, length-take, length-append}
+use Rattle.std.proofs.lemmas.Bool.{cases_lt}
 use Rattle.std.proofs.lemmas.Bool.Decides.{nat_tests}
-use Rattle.std.proofs.lemmas.Nat.Bits.{bit_at-suc, bit_at-zero, bit_at_lowest, bit_at_cat_low, bit_at_above}
+use Rattle.std.proofs.lemmas.Nat.Bits.{bit_at-suc, bit_at_lowest, bit_at_above}
 use Rattle.std.proofs.lemmas.List.{get_or_past, get_or_append_left, get_or-append_right}
 use Rattle.std.proofs.lemmas.List.FromFn.{get_or-map-range_with_len}
 use Rattle.std.specs.Int.{bit_at, reverse_bits, reverse_bits_onto}
@@ -26,20 +26,20 @@ turned : (k n a : ℕ) → ((i : ℕ) → i < k → bit_at (reverse_bits_onto k 
 unfolding reverse_bits_onto
 turned zero n a = (λ i h. absurd (omega arith), λ i. ap (bit_at a) (omega arith))
 turned (suc k) n a =
-    let r = turned k (n / 2) (a * 2 + n % 2) in
-    ( λ i h. ⊎_elim
-        (λ low.
+    let r = turned k (n / 2) (a * 2 + n % 2) in (
+      λ i h. ⊎_elim
+          (λ low.
           let e : suc (k - 1 - i) ≡ suc k - 1 - i = omega arith in
           r.0 i low ∙ sym (bit_at-suc n (k - 1 - i)) ∙ ap (bit_at n) e)
-        (λ high.
+          (λ high.
           let e : k + 0 ≡ i = omega arith in
           let z : suc k - 1 - i ≡ 0 = omega arith in
           ap (bit_at (reverse_bits_onto k (n / 2) (a * 2 + n % 2))) (sym e)
           ∙ r.1 0 ∙ bit_at_pushed_low a (n % 2) (omega arith) ∙ sym (bit_at_lowest n) ∙ ap (bit_at n) (sym z))
-        (cases_lt i k)
-    , λ i.
-        let e : k + suc i ≡ suc k + i = omega arith in
-        ap (bit_at (reverse_bits_onto k (n / 2) (a * 2 + n % 2))) (sym e) ∙ r.1 (suc i) ∙ bit_at_pushed a (n % 2) i (omega arith)
+          (cases_lt i k),
+      λ i.
+          let e : k + suc i ≡ suc k + i = omega arith in
+          ap (bit_at (reverse_bits_onto k (n / 2) (a * 2 + n % 2))) (sym e) ∙ r.1 (suc i) ∙ bit_at_pushed a (n % 2) i (omega arith),
     )
 
 pub is_one-turned : (n i : ℕ) → i < 8 → is_one (reverse_bits w8 n) i ≡ is_one n (7 - i)
@@ -79,37 +79,37 @@ byte_added w m n d r q p bytes old turn small place moved either j within =
     is_one-either w m r q j either within
     ∙ ap (λ a. a || is_one r j) (old j within)
     ∙ ⊎_elim
-      (λ before.
-        let here : nat_lt j (8 * p) ≡ true = grind (arith, nat_tests) in
-        let inside : nat_lt j (8 * (p + 1)) ≡ true = grind (arith, nat_tests) in
-        ap₂ (λ t b. (t && byte_value bytes j) || b) here (moved_below w n d r j moved (omega arith))
-        ∙ or_false (byte_value bytes j)
-        ∙ ap (λ t. t && byte_value bytes j) (sym inside))
-      (λ from.
-        let here : nat_lt j (8 * p) ≡ false = grind (arith, nat_tests) in
-        ap₂ (λ t b. (t && byte_value bytes j) || b) here (moved_from w n d r j moved (omega arith) within)
-        ∙ ⊎_elim
-          (λ in_byte.
-            let inside : nat_lt j (8 * (p + 1)) ≡ true = grind (arith, nat_tests) in
-            let e : 7 - (j - d) ≡ 7 - (j - 8 * p) = omega arith in
-            ap (λ x. is_one x (j - d)) turn
-            ∙ is_one-turned (get_or bytes p 0) (j - d) (omega arith)
-            ∙ ap (is_one (get_or bytes p 0)) e
-            ∙ sym (byte_value-is bytes j p (j - 8 * p) (omega arith) (omega arith))
-            ∙ ap (λ t. t && byte_value bytes j) (sym inside))
-          (λ past.
-            let inside : nat_lt j (8 * (p + 1)) ≡ false = grind (arith, nat_tests) in
-            is_one-above n (j - d) small (omega arith) ∙ ap (λ t. t && byte_value bytes j) (sym inside))
-          (cases_lt j (8 * (p + 1))))
-      (cases_lt j (8 * p))
+    (λ before.
+    let here : nat_lt j (8 * p) ≡ true = grind (arith, nat_tests) in
+    let inside : nat_lt j (8 * (p + 1)) ≡ true = grind (arith, nat_tests) in
+    ap₂ (λ t b. (t && byte_value bytes j) || b) here (moved_below w n d r j moved (omega arith))
+    ∙ or_false (byte_value bytes j)
+    ∙ ap (λ t. t && byte_value bytes j) (sym inside))
+    (λ from.
+    let here : nat_lt j (8 * p) ≡ false = grind (arith, nat_tests) in
+    ap₂ (λ t b. (t && byte_value bytes j) || b) here (moved_from w n d r j moved (omega arith) within)
+    ∙ ⊎_elim
+    (λ in_byte.
+    let inside : nat_lt j (8 * (p + 1)) ≡ true = grind (arith, nat_tests) in
+    let e : 7 - (j - d) ≡ 7 - (j - 8 * p) = omega arith in
+    ap (λ x. is_one x (j - d)) turn
+    ∙ is_one-turned (get_or bytes p 0) (j - d) (omega arith)
+    ∙ ap (is_one (get_or bytes p 0)) e
+    ∙ sym (byte_value-is bytes j p (j - 8 * p) (omega arith) (omega arith))
+    ∙ ap (λ t. t && byte_value bytes j) (sym inside))
+    (λ past.
+    let inside : nat_lt j (8 * (p + 1)) ≡ false = grind (arith, nat_tests) in
+    is_one-above n (j - d) small (omega arith) ∙ ap (λ t. t && byte_value bytes j) (sym inside))
+    (cases_lt j (8 * (p + 1))))
+    (cases_lt j (8 * p))
 
 pub bytes_ended : (w m n : ℕ) (bytes : List ℕ) → length bytes ≤ n → ((j : ℕ) → j < w → is_one m j ≡ (nat_lt j (8 * n) && byte_value bytes j)) → (j : ℕ) → j < w → is_one m j ≡ byte_value bytes j
 bytes_ended w m n bytes h digits j within =
     digits j within
     ∙ ⊎_elim
-      (λ inside. let t : nat_lt j (8 * n) ≡ true = grind (arith, nat_tests) in ap (λ b. b && byte_value bytes j) t)
-      (λ past. let t : nat_lt j (8 * n) ≡ false = grind (arith, nat_tests) in ap (λ b. b && byte_value bytes j) t ∙ sym (byte_value-past bytes j (omega arith)))
-      (cases_lt j (8 * n))
+    (λ inside. let t : nat_lt j (8 * n) ≡ true = grind (arith, nat_tests) in ap (λ b. b && byte_value bytes j) t)
+    (λ past. let t : nat_lt j (8 * n) ≡ false = grind (arith, nat_tests) in ap (λ b. b && byte_value bytes j) t ∙ sym (byte_value-past bytes j (omega arith)))
+    (cases_lt j (8 * n))
 
 -- ---- the bytes of one block: w is the width, s bytes, and there are n bytes in all
 
@@ -135,8 +135,8 @@ part_at bytes a b s q be below h =
     ⊎_elim
     (λ inside. get_or-take (b - a) (drop a bytes) q 0 (omega arith) ∙ get_or-drop a bytes q 0)
     (λ past.
-      get_or_past (slice_range bytes a b) q 0 (omega (arith, length-take (b - a) (drop a bytes)))
-      ∙ sym (get_or_past bytes (a + q) 0 (omega arith)))
+    get_or_past (slice_range bytes a b) q 0 (omega (arith, length-take (b - a) (drop a bytes)))
+    ∙ sym (get_or_past bytes (a + q) 0 (omega arith)))
     (cases_lt (a + q) b)
 
 pub part-values : (w s k : ℕ) (bytes : List ℕ) (a b : ℕ) → w ≡ 8 * s → a ≡ k * s → b ≡ min (a + s) (length bytes) → a < length bytes → (j : ℕ) → j < w → byte_value (slice_range bytes a b) j ≡ byte_value bytes (k * w + j)
@@ -176,15 +176,15 @@ get_or-values_of_bytes [] i = sym (byte_value-past [] i (omega arith))
 get_or-values_of_bytes (byte ∷ bytes) i =
     ⊎_elim
     (λ first.
-      get_or_append_left (values_of_byte byte) (values_of_bytes bytes) false i (rw length-values_of_byte first)
-      ∙ get_or-values_of_byte byte i first
-      ∙ sym (byte_value-first byte bytes i first))
+    get_or_append_left (values_of_byte byte) (values_of_bytes bytes) false i (rw length-values_of_byte first)
+    ∙ get_or-values_of_byte byte i first
+    ∙ sym (byte_value-first byte bytes i first))
     (λ rest.
-      let e : 8 + (i - 8) ≡ i = omega arith in
-      get_or-append_right (values_of_byte byte) (values_of_bytes bytes) 8 i false (length-values_of_byte byte) rest
-      ∙ get_or-values_of_bytes bytes (i - 8)
-      ∙ sym (byte_value-rest byte bytes (i - 8))
-      ∙ ap (byte_value (byte ∷ bytes)) e)
+    let e : 8 + (i - 8) ≡ i = omega arith in
+    get_or-append_right (values_of_byte byte) (values_of_bytes bytes) 8 i false (length-values_of_byte byte) rest
+    ∙ get_or-values_of_bytes bytes (i - 8)
+    ∙ sym (byte_value-rest byte bytes (i - 8))
+    ∙ ap (byte_value (byte ∷ bytes)) e)
     (cases_lt i 8)
 
 -- ---- the blocks

@@ -9,7 +9,10 @@ use super::words::{block_or, shift_left};
 use std::alloc::{AllocError, Global};
 
 // The blocks of the values of all bytes.
-pub(crate) fn blocks_of_bytes<B: BitBlock>(alloc: Global, bytes: &[u8]) -> Result<Vec<B>, AllocError>
+pub(crate) fn blocks_of_bytes<B: BitBlock>(
+    alloc: Global,
+    bytes: &[u8],
+) -> Result<Vec<B>, AllocError>
     requires { 8 * length bytes.now < 2 ^ 64 }
     ensures values { IfOk result (λ blocks. (i : ℕ) → value_at B.width (map B.number blocks.items) i ≡ byte_value bytes.now i) }
     ensures each { IfOk result (λ blocks. All B.is_block blocks.items) }

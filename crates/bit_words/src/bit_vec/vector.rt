@@ -1,8 +1,8 @@
 ghost use Rattle.std.specs.Prelude.{◌≡◌, ◌≤◌, ◌↔◌, All, IsTrue, false, length, map, slice_get};
 ghost use Rattle.bit_words.specs.Bits.{blocks_of};
 
-use super::{BitBlock, Blocks};
 use super::changes::{are_zero, value_of};
+use super::{BitBlock, Blocks};
 use std::marker::Model;
 
 mod edit;

@@ -6,7 +6,6 @@ ghost use Rattle.bit_words.specs.declared.bit_vec.vector.making.BitsError.TheVar
 use super::BitVec;
 use crate::bit_vec::BitBlock;
 use crate::bit_vec::bytes::blocks_of_bytes;
-use crate::bit_vec::changes::block_count;
 use std::alloc::{AllocError, Global};
 use thiserror::Error;
 
