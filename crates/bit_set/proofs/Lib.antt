@@ -1,2 +1,6 @@
 pub mod SetLemmas
 pub mod SetLaws
+pub mod ValueLemmas
+pub mod CountLemmas
+pub mod ItemLemmas
+pub mod ByteLemmas

@@ -1,1 +1,5 @@
 pub mod Sets
+pub mod Faults
+pub mod Effects
+pub mod Walks
+pub use Rattle.bit_words.specs.Bits

@@ -1,4 +1,13 @@
 //! Sets of whole numbers, each kept as the true places of a bit vector.
 #![tactic(auto)]
 
+mod faults;
 pub mod laws;
+mod set;
+mod walks;
+
+pub use bit_words::bit_vec;
+pub use bit_words::bit_vec::BitBlock;
+pub use faults::SetError;
+pub use set::BitSet;
+pub use walks::Iter;
