@@ -4,6 +4,8 @@
 mod faults;
 pub mod laws;
 mod set;
+#[cfg(test)]
+mod tests;
 mod walks;
 
 pub use bit_words::bit_vec;

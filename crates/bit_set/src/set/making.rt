@@ -1,5 +1,5 @@
 // Calls that make a set.
-ghost use Rattle.std.specs.Prelude.{◌≡◌, ◌≢◌, ℕ, ◌+◌, ◌-◌, ◌*◌, ◌<◌, ◌↔◌, IfOk, IfErr, IsErrOf, IsTrue, List, [], length, slice_index, Some};
+ghost use Rattle.std.specs.Prelude.{◌≡◌, ◌≢◌, ℕ, ◌+◌, ◌-◌, ◌*◌, ◌<◌, ◌↔◌, IfOk, IfErr, IsOk, IsErrOf, IsTrue, List, [], length, slice_index, Some};
 ghost use Rattle.std.specs.Int.{bit_at};
 ghost use Rattle.std.specs.Iterator.{Drains, IsFinite, YieldsThen};
 ghost use Rattle.bit_words.specs.Bits.{values_of_bytes};
@@ -26,6 +26,7 @@ impl<B: BitBlock> BitSet<B> {
     pub fn with_capacity_general(alloc: Global, len: usize) -> Result<Self, AllocError>
         ensures elements { IfOk result (λ set. elements set.values ≡ []) }
         ensures length { IfOk result (λ set. length set.values ≡ len) }
+        ensures empty { len ≡ 0 → IsOk result }
     {
         let bits = BitVec::from_elem_general(alloc, len, false)?;
         Ok(BitSet { bits })
@@ -33,10 +34,10 @@ impl<B: BitBlock> BitSet<B> {
 
     /// The set that the bit vector keeps: the indexes at which it is true. Constant time.
     #[inline]
-    pub fn from_bit_vec_general(bits: BitVec<B>) -> Self
-        ensures { result ≡ bits }
+    pub fn from_bit_vec_general(bit_vec: BitVec<B>) -> Self
+        ensures { result ≡ bit_vec }
     {
-        BitSet { bits }
+        BitSet { bits: bit_vec }
     }
 
     /// The set of the bits that are 1, those of each byte counted from the highest. Fails at
@@ -47,6 +48,7 @@ impl<B: BitBlock> BitSet<B> {
         ensures length { IfOk result (λ set. length set.values ≡ 8 * length bytes.now) }
         ensures too_long { IsErrOf result SetError.Length ↔ (usize.MAX < 8 * length bytes.now) }
         ensures fits { IfErr result (λ fault. fault ≢ SetError.Element) }
+        ensures empty { length bytes.now ≡ 0 → IsOk result }
     {
         let bits = BitVec::from_bytes_general(alloc, bytes)?;
         Ok(BitSet { bits })
@@ -66,14 +68,15 @@ impl<B: BitBlock> BitSet<B> {
             × YieldsThen I.next_gives iter items (Some item) rest
             × (fault ≢ SetError.Length) × ((fault ≡ SetError.Element) ↔ (item ≡ greatest))) }
     {
-        let mut set = BitSet::new_general(alloc);
+        let mut set = Self::new_general(alloc);
         set.extend(iter)?;
         Ok(set)
     }
 
     /// An equal set of the same length. Copies the blocks; fails only where memory is refused.
     pub fn clone(&self, alloc: Global) -> Result<Self, AllocError>
-        ensures { IfOk result (λ set. set.values ≡ self.now.values) }
+        ensures values { IfOk result (λ set. set.values ≡ self.now.values) }
+        ensures empty { length self.now.values ≡ 0 → IsOk result }
     {
         let bits = self.bits.clone(alloc)?;
         Ok(BitSet { bits })
@@ -93,16 +96,17 @@ impl BitSet<u32> {
     pub fn with_capacity(alloc: Global, len: usize) -> Result<Self, AllocError>
         ensures elements { IfOk result (λ set. elements set.values ≡ []) }
         ensures length { IfOk result (λ set. length set.values ≡ len) }
+        ensures empty { len ≡ 0 → IsOk result }
     {
         BitSet::with_capacity_general(alloc, len)
     }
 
     /// [`BitSet::from_bit_vec_general`] over blocks of 32 bits.
     #[inline]
-    pub fn from_bit_vec(bits: BitVec<u32>) -> Self
-        ensures { result ≡ bits }
+    pub fn from_bit_vec(bit_vec: BitVec<u32>) -> Self
+        ensures { result ≡ bit_vec }
     {
-        BitSet::from_bit_vec_general(bits)
+        BitSet::from_bit_vec_general(bit_vec)
     }
 
     /// [`BitSet::from_bytes_general`] over blocks of 32 bits.
@@ -112,6 +116,7 @@ impl BitSet<u32> {
         ensures length { IfOk result (λ set. length set.values ≡ 8 * length bytes.now) }
         ensures too_long { IsErrOf result SetError.Length ↔ (usize.MAX < 8 * length bytes.now) }
         ensures fits { IfErr result (λ fault. fault ≢ SetError.Element) }
+        ensures empty { length bytes.now ≡ 0 → IsOk result }
     {
         BitSet::from_bytes_general(alloc, bytes)
     }
