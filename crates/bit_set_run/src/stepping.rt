@@ -41,7 +41,7 @@ pub(crate) fn answer<B: BitBlock>(
         }
         Command::Count(name) => Ok(Reply::Number(sets[name.place()].count())),
         Command::IsEmpty(name) => Ok(Reply::Truth(sets[name.place()].is_empty())),
-        Command::Items(name) => Ok(Reply::Items(items_from(alloc, sets[name.place()].iter())?)),
+        Command::Items(name) => Ok(Reply::Items(numbers_of(alloc, sets[name.place()].iter())?)),
         Command::Copy(from, to) if from == to => Ok(Reply::Same),
         Command::Copy(from, to) => copy(alloc, sets, from.place(), to.place()),
         Command::RestIter(name, n) => rest(alloc, sets[name.place()].iter(), *n),
@@ -113,6 +113,6 @@ fn rest<B: BitBlock>(
             break;
         }
     }
-    let count = walk.clone().count();
-    Ok(Reply::Rest(count, numbers_of(alloc, walk)?))
+    let numbers = numbers_of(alloc, walk)?;
+    Ok(Reply::Rest(numbers.as_slice().len(), numbers))
 }
