@@ -1,0 +1,2 @@
+pub mod SetLemmas
+pub mod SetLaws

@@ -1,0 +1,4 @@
+//! Sets of whole numbers, each kept as the true places of a bit vector.
+#![tactic(auto)]
+
+pub mod laws;
