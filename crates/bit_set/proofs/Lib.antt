@@ -1,2 +1,4 @@
 pub mod SetLemmas
 pub mod SetLaws
+pub mod PlaceLemmas
+pub mod LowestStep

@@ -1,1 +1,3 @@
 pub mod Sets
+pub mod Walk
+pub mod Places
