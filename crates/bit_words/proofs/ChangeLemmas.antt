@@ -82,7 +82,7 @@ past_blocks w ms len i h p = let test : nat_lt i len ≡ false = grind (arith, n
 div_lt : (w i j : ℕ) → 0 < w → i / w < j / w → i < j
 div_lt w i j pos h = let a = (div-lt_iff_lt-mul pos).0 h in omega (arith, div-mul-le_self j w)
 
-div_le : (w i j : ℕ) → 0 < w → i ≤ j → i / w ≤ j / w
+pub div_le : (w i j : ℕ) → 0 < w → i ≤ j → i / w ≤ j / w
 div_le w i j pos h = ⊎_elim (λ below. let a = div_lt w j i pos below in absurd (omega arith)) (λ le. le) (cases_lt (j / w) (i / w))
 
 pub lowered_whole : (w : ℕ) (ms : List ℕ) (len : ℕ) → 0 < w → len % w ≡ 0 → length ms ≡ blocks_for w len → (i : ℕ) → value_at w ms i ≡ (nat_lt i len && value_at w ms i)

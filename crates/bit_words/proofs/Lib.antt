@@ -5,3 +5,5 @@ pub mod OnesLemmas
 pub mod StorageLemmas
 pub mod Masks
 pub mod ChangeLemmas
+pub mod VectorLemmas
+pub mod TidyLemmas

@@ -6,6 +6,7 @@ use Rattle.std.proofs.lemmas.Bool.{cases_lt, cases_order}
 use Rattle.std.proofs.lemmas.Nat.{pow_pos, pow_below, ones_cat, ones_le_self, zero_from_ones}
 use Rattle.std.proofs.lemmas.Nat.Bits.{bit_at_lowest, bit_at-suc, bit_at-pow_same, bit_at-pow_other, bit_at-lt, bit_at_cat_high, same_from_bits_below}
 use Rattle.bit_words.specs.DigitLaws.{bit_at-complement, bit_at-shl_low, bit_at-shl_high}
+use Rattle.bit_words.proofs.Words.{complement-number}
 use Rattle.bit_words.specs.Lowest.{LowestIsFound}
 
 -- m is an odd number, q * 2 + 1, with i zeros below it
@@ -109,6 +110,7 @@ found w m i pos fits within s =
     record {
       lowest = record { one = s.here; zeros = s.below };
       within = within;
+      negated = λ n small turned. let e = complement-number w m n fits small turned in omega (arith, e);
       negated_fits = omega arith;
       alone = λ r small both.
           same_from_bits_below w r (2 ^ i) small (pow_below i w within)

@@ -1,7 +1,7 @@
 -- The lowest 1 among the binary digits of a number.
-use Rattle.std.specs.Prelude.{◌≡◌, ◌≢◌, ℕ, ◌-◌, ◌^◌, ◌<◌, count_ones}
+use Rattle.std.specs.Prelude.{◌≡◌, ◌≢◌, ℕ, ◌+◌, ◌-◌, ◌^◌, ◌<◌, count_ones}
 use Rattle.std.specs.Int.{bit_at}
-use Rattle.bit_words.specs.Digits.{IsBoth}
+use Rattle.bit_words.specs.Digits.{IsBoth, IsComplement}
 
 -- Digit i of m is 1, and those below it are 0.
 pub record IsLowest (m i : ℕ) : Type 0 where
@@ -17,7 +17,8 @@ pub record IsCleared (w m i r : ℕ) : Type 0 where
 pub record LowestIsFound (w m i : ℕ) : Type 0 where
   pub lowest : IsLowest m i
   pub within : i < w
-  -- `!m + 1` does not wrap
+  -- `!m + 1`, which does not wrap
+  pub negated : (n : ℕ) → n < 2 ^ w → IsComplement w m n → n + 1 ≡ 2 ^ w - m
   pub negated_fits : 2 ^ w - m < 2 ^ w
   -- `m & (!m + 1)`
   pub alone : (r : ℕ) → r < 2 ^ w → IsBoth w m (2 ^ w - m) r → r ≡ 2 ^ i

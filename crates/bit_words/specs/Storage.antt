@@ -1,5 +1,5 @@
 -- How a vector of blocks holds a list of truth values. No public clause cites this.
-use Rattle.std.specs.Prelude.{◌≡◌, ℕ, ◌/◌, ◌%◌, ◌≤◌, Bool, false, List, map, length, get_or, ◌==◌, All}
+use Rattle.std.specs.Prelude.{◌≡◌, ℕ, ◌-◌, ◌*◌, ◌^◌, min, ◌/◌, ◌%◌, ◌<◌, ◌≤◌, Bool, false, List, map, length, get_or, ◌==◌, All}
 use Rattle.std.specs.Int.{bit_at}
 use Rattle.std.specs.List.{range_with_len}
 use Rattle.bit_words.specs.Bits.{blocks_for}
@@ -20,8 +20,13 @@ values_of w ms n = map (value_at w ms) (range_with_len 0 n)
 pub record IsCleanFrom (w : ℕ) (ms : List ℕ) (n : ℕ) : Type 0 where
   pub clean : (i : ℕ) → n ≤ i → value_at w ms i ≡ false
 
--- The blocks xs hold a list of n values: each is a block value, there are as many as it takes, and what no value uses is 0.
+-- how many values there is room for in that many blocks of w: no more than `usize::MAX`
+abbrev pub room_of : ℕ → ℕ → ℕ
+room_of w blocks = min (blocks * w) (2 ^ 64 - 1)
+
+-- The blocks xs hold a list of n values: each is a block value, there are as many as it takes, what no value uses is 0, and n is a `usize`.
 pub record IsTidy {X : Type 0} (w : ℕ) (number : X → ℕ) (is_block : X → Type 0) (xs : List X) (n : ℕ) : Type 0 where
   pub each : All is_block xs
   pub count : length xs ≡ blocks_for w n
   pub tail : IsCleanFrom w (map number xs) n
+  pub fits : n < 2 ^ 64

@@ -7,7 +7,10 @@ mod changes;
 mod integers;
 mod masks;
 mod steps;
+mod tidy;
+mod vector;
 mod words;
 
 pub use block::BitBlock;
 pub use steps::Steps;
+pub use vector::BitVec;

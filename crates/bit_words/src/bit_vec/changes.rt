@@ -115,7 +115,9 @@ pub(crate) fn lower_from<B: BitBlock>(blocks: &mut Vec<B>, len: usize)
 
 // Each block becomes `block`.
 pub(crate) fn fill_blocks<B: BitBlock>(blocks: &mut Vec<B>, block: B)
-    ensures items { blocks.new.items ≡ replicate (vec_len blocks.old) block }
+    requires of_block { B.is_block block }
+    ensures numbers { map B.number blocks.new.items ≡ replicate (vec_len blocks.old) (B.number block) }
+    ensures each { All B.is_block blocks.new.items }
     ensures len { vec_len blocks.new ≡ vec_len blocks.old }
     ensures capacity { vec_capacity blocks.new ≡ vec_capacity blocks.old }
 {
