@@ -7,3 +7,4 @@ pub mod Masks
 pub mod ChangeLemmas
 pub mod VectorLemmas
 pub mod TidyLemmas
+pub mod ByteLemmas

@@ -4,3 +4,4 @@ pub mod Bits
 pub mod Storage
 pub mod Steps
 pub mod Lowest
+pub mod Source

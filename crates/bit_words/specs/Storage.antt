@@ -20,6 +20,10 @@ values_of w ms n = map (value_at w ms) (range_with_len 0 n)
 pub record IsCleanFrom (w : ℕ) (ms : List ℕ) (n : ℕ) : Type 0 where
   pub clean : (i : ℕ) → n ≤ i → value_at w ms i ≡ false
 
+-- value i of a list of bytes, the highest digit of each byte first
+unfoldable pub byte_value : List ℕ → ℕ → Bool
+byte_value bytes i = is_one (get_or bytes (i / 8) 0) (7 - i % 8)
+
 -- how many values there is room for in that many blocks of w: no more than `usize::MAX`
 abbrev pub room_of : ℕ → ℕ → ℕ
 room_of w blocks = min (blocks * w) (2 ^ 64 - 1)

@@ -3,6 +3,8 @@
 mod block;
 #[cfg(test)]
 mod block_tests;
+mod blocks;
+mod bytes;
 mod changes;
 mod integers;
 mod masks;
@@ -12,5 +14,6 @@ mod vector;
 mod words;
 
 pub use block::BitBlock;
+pub use blocks::Blocks;
 pub use steps::Steps;
-pub use vector::BitVec;
+pub use vector::{BitVec, BitsError};

@@ -1,11 +1,14 @@
 ghost use Rattle.std.specs.Prelude.{◌≡◌, ◌≤◌, ◌↔◌, All, IsTrue, false, length, map, slice_get};
 ghost use Rattle.bit_words.specs.Bits.{blocks_of};
 
-use super::BitBlock;
-use super::changes::{are_zero, block_index, value_of};
+use super::changes::{are_zero, value_of};
+use super::{BitBlock, Blocks};
 use std::marker::Model;
 
 mod edit;
+mod making;
+
+pub use making::BitsError;
 
 /// A list of truth values, kept as bits in a vector of blocks.
 ///
@@ -74,5 +77,15 @@ impl<B: BitBlock> BitVec<B> {
         ensures each { All B.is_block result.now }
     {
         &self.blocks
+    }
+
+    /// A walk over these blocks. Constant time.
+    #[inline]
+    pub fn blocks(&self) -> Blocks<'_, B>
+        ensures numbers { map B.number result.left ≡ blocks_of B.width self.now.values }
+        ensures each { All B.is_block result.left }
+        ensures pulls { result.pulls ≡ 0 }
+    {
+        Blocks::over(self.storage())
     }
 }
