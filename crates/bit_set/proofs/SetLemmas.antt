@@ -196,7 +196,7 @@ elements-set_false bs v =
           get_or-set_other bs v k false false other ∙ sym (has-without (elements bs) v k ∙ ap (λ b. not b && has (elements bs) k) elsewhere ∙ has-elements bs k)
     ])
 
-get_or_padded : (bs : List Bool) (n k : ℕ) → get_or (bs ++ replicate n false) k false ≡ get_or bs k false
+pub get_or_padded : (bs : List Bool) (n k : ℕ) → get_or (bs ++ replicate n false) k false ≡ get_or bs k false
 get_or_padded [] zero k = refl
 get_or_padded [] (suc n) zero = refl
 get_or_padded [] (suc n) (suc k) = get_or_padded [] n k

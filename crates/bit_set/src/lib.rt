@@ -1,5 +1,16 @@
 //! Sets of whole numbers, each kept as the true places of a bit vector.
 #![tactic(auto)]
 
+mod faults;
 pub mod laws;
 mod lowest;
+mod set;
+#[cfg(test)]
+mod tests;
+mod walks;
+
+pub use bit_words::bit_vec;
+pub use bit_words::bit_vec::BitBlock;
+pub use faults::SetError;
+pub use set::BitSet;
+pub use walks::Iter;

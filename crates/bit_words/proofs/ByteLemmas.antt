@@ -47,7 +47,7 @@ is_one-turned n i h = ap (λ d. d == 1) ((turned 8 n 0).0 i h)
 
 -- ---- a byte at its place in a block
 
-byte_value-is : (bytes : List ℕ) (i q p : ℕ) → i / 8 ≡ q → i % 8 ≡ p → byte_value bytes i ≡ is_one (get_or bytes q 0) (7 - p)
+pub byte_value-is : (bytes : List ℕ) (i q p : ℕ) → i / 8 ≡ q → i % 8 ≡ p → byte_value bytes i ≡ is_one (get_or bytes q 0) (7 - p)
 unfolding byte_value
 byte_value-is bytes i q p e f = ap₂ (λ a b. is_one (get_or bytes a 0) (7 - b)) e f
 

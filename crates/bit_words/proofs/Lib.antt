@@ -8,3 +8,4 @@ pub mod ChangeLemmas
 pub mod VectorLemmas
 pub mod TidyLemmas
 pub mod ByteLemmas
+pub mod SourceLemmas

@@ -7,7 +7,7 @@ use Rattle.std.proofs.lemmas.List.Elements.{All-tail, All-same, All-nil}
 use Rattle.std.proofs.lemmas.Nat.Bits.{bit_at-lt, bit_at-zero, same_from_bits_below}
 use Rattle.std.specs.Int.{bit_at}
 use Rattle.std.proofs.lemmas.Option.{slice_get-get_or, slice_get_past}
-use Rattle.bit_words.specs.Bits.{Bits, blocks_for}
+use Rattle.bit_words.specs.Bits.{Bits, IsWithinRoom, blocks_for}
 use Rattle.bit_words.specs.Storage.{is_one, value_at, values_of, room_of, IsTidy}
 use Rattle.bit_words.proofs.BitsLemmas.{blocks_for-enough, blocks_for-least}
 use Rattle.bit_words.proofs.StorageLemmas.{length-values_of, value_at-past, get_or-values_of, value_at-is, value_at-place}
@@ -33,6 +33,13 @@ room_of-short w blocks n pos h =
 
 pub room_of-le : (w a b : ℕ) → a ≤ b → room_of w a ≤ room_of w b
 room_of-le w a b h = let m = mul-le-mul_right w h in omega arith
+
+pub is_within_room : {X : Type 0} (w n cap : ℕ) (f : X → ℕ) (P : X → Type 0) (xs : List X) (v : Bits) → 0 < w → IsTidy w f P xs n → length xs ≤ cap → record { values = values_of w (map f xs) n; room = room_of w cap } ≡ v → IsWithinRoom v
+is_within_room w n cap f P xs v pos tidy h e = record {
+  holds_values = rw (length_from_view w n (room_of w cap) (map f xs) v e, room_from_view (room_of w cap) (values_of w (map f xs) n) v e)
+      (le-room_of w cap n pos tidy.fits (let c = tidy.count in omega arith));
+  fits = rw (room_from_view (room_of w cap) (values_of w (map f xs) n) v e) (omega arith);
+}
 
 -- ---- one value
 

@@ -1,5 +1,5 @@
 -- A list of truth values, and the blocks that store it.
-use Rattle.std.specs.Prelude.{ℕ, ◌+◌, ◌-◌, ◌*◌, ◌/◌, ◌%◌, min, Bool, true, false, List, [], ◌∷◌, map, length, take, drop, ◌==◌}
+use Rattle.std.specs.Prelude.{ℕ, ◌≤◌, ◌^◌, ◌+◌, ◌-◌, ◌*◌, ◌/◌, ◌%◌, min, Bool, true, false, List, [], ◌∷◌, map, length, take, drop, ◌==◌}
 use Rattle.std.specs.Int.{bit_at}
 use Rattle.std.specs.List.{range_with_len, flat_map}
 
@@ -7,6 +7,11 @@ use Rattle.std.specs.List.{range_with_len, flat_map}
 pub record Bits : Type 0 where
   pub values : List Bool
   pub room : ℕ
+
+-- What holds of every bit vector: the list is no longer than the room, and the room is a `usize`.
+pub record IsWithinRoom (v : Bits) : Type 0 where
+  pub holds_values : length v.values ≤ v.room
+  pub fits : v.room ≤ 2 ^ 64 - 1
 
 -- how many blocks of w values a list of n has: n / w, rounded up
 abbrev pub blocks_for : ℕ → ℕ → ℕ

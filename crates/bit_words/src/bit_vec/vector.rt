@@ -1,5 +1,5 @@
 ghost use Rattle.std.specs.Prelude.{◌≡◌, ◌≤◌, ◌↔◌, All, IsTrue, false, length, map, slice_get};
-ghost use Rattle.bit_words.specs.Bits.{blocks_of};
+ghost use Rattle.bit_words.specs.Bits.{blocks_of, IsWithinRoom};
 
 use super::changes::{are_zero, value_of};
 use super::{BitBlock, Blocks};
@@ -37,7 +37,8 @@ impl<B: BitBlock> BitVec<B> {
     /// How many values the list has. Constant time.
     #[inline]
     pub fn len(&self) -> usize
-        ensures { result ≡ length self.now.values }
+        ensures value { result ≡ length self.now.values }
+        ensures fits { IsWithinRoom self.now }
     {
         self.len
     }
@@ -65,7 +66,7 @@ impl<B: BitBlock> BitVec<B> {
     #[inline]
     pub fn capacity(&self) -> usize
         ensures value { result ≡ self.now.room }
-        ensures holds_values { length self.now.values ≤ result }
+        ensures fits { IsWithinRoom self.now }
     {
         self.blocks.capacity().saturating_mul(B::bits())
     }
@@ -75,6 +76,7 @@ impl<B: BitBlock> BitVec<B> {
     pub fn storage(&self) -> &[B]
         ensures numbers { map B.number result.now ≡ blocks_of B.width self.now.values }
         ensures each { All B.is_block result.now }
+        ensures fits { IsWithinRoom self.now }
     {
         &self.blocks
     }
@@ -85,6 +87,7 @@ impl<B: BitBlock> BitVec<B> {
         ensures numbers { map B.number result.left ≡ blocks_of B.width self.now.values }
         ensures each { All B.is_block result.left }
         ensures pulls { result.pulls ≡ 0 }
+        ensures fits { IsWithinRoom self.now }
     {
         Blocks::over(self.storage())
     }

@@ -1,0 +1,34 @@
+-- Items that come into a set one by one.
+use Rattle.std.proofs.Common.{◌≡◌, ◌≢◌, ℕ, ◌+◌, ◌<◌, ◌≤◌, ◌↔◌, max, Bool, List, [], ◌∷◌, ◌++◌, length, refl, sym, ap, ◌∙◌, arith}
+use Rattle.bit_set.specs.Sets.{elements, put, put_all, bound_of}
+use Rattle.bit_set.specs.Effects.{TakesIn}
+use Rattle.bit_set.specs.Faults.{IsRefusal, greatest}
+use Rattle.bit_set.specs.declared.faults.SetError.{SetError}
+use Rattle.bit_set.specs.declared.faults.SetError.TheVariants.{Element, Length, Memory}
+
+put_all-push : (s items : List ℕ) (n : ℕ) → put_all s (items ++ n ∷ []) ≡ put (put_all s items) n
+put_all-push s [] n = refl
+put_all-push s (x ∷ xs) n = put_all-push (put s x) xs n
+
+bound_of-push : (items : List ℕ) (n : ℕ) → bound_of (items ++ n ∷ []) ≡ max (bound_of items) (n + 1)
+bound_of-push [] n = omega arith
+bound_of-push (x ∷ xs) n = let rest = bound_of-push xs n in omega (arith, rest)
+
+pub TakesIn-none : (values : List Bool) → TakesIn [] values values
+TakesIn-none values = record { members = refl; long = omega arith }
+
+pub TakesIn-more : (items : List ℕ) (n : ℕ) (old mid new : List Bool) → TakesIn items old mid → elements new ≡ put (elements mid) n → length new ≡ max (length mid) (n + 1) → TakesIn (items ++ n ∷ []) old new
+TakesIn-more items n old mid new so_far members long = record {
+  members = members ∙ ap (λ s. put s n) so_far.members ∙ sym (put_all-push (elements old) items n);
+  long = omega (arith, long, so_far.long, bound_of-push items n);
+}
+
+-- which fault a refusal is
+pub IsRefusal-fault : (fault : SetError) (item room : ℕ) → IsRefusal fault item room → (fault ≢ Length) × ((fault ≡ Element) ↔ (item ≡ greatest))
+IsRefusal-fault Element item room is = (λ e. cc, (λ e. is, λ e. refl))
+IsRefusal-fault Length item room is = absurd is
+IsRefusal-fault (Memory fault) item room is = (λ e. cc, (λ e. cc, λ e. absurd (omega (arith, e, is.1))))
+
+-- what items make of a list with no value
+pub TakesIn-empty : (items : List ℕ) (old new : List Bool) → old ≡ [] → TakesIn items old new → (elements new ≡ put_all [] items) × (length new ≡ bound_of items)
+TakesIn-empty items old new is took = (took.members ∙ ap (λ bs. put_all (elements bs) items) is, omega (arith, took.long, ap length is))

@@ -1,0 +1,22 @@
+use Rattle.std.proofs.Common.{[], ◌∷◌, ◌++◌, ◌<◌, refl, sym, arith}
+use Rattle.std.proofs.lemmas.Bool.{true≢false}
+use Rattle.std.specs.declared.option.Option.TheVariants.{Some}
+use Rattle.std.proofs.iter.Next.{Yields-more}
+use Rattle.std.proofs.lemmas.List.Elements.{All-pop}
+use Rattle.bit_set.proofs.ItemLemmas.{TakesIn-more}
+use Rattle.bit_set.proofs.set.BitSet.extend.Goals as goal
+
+pub loop-item-preserved : goal.loop-item-preserved
+loop-item-preserved g c = record {
+  taken = TakesIn-more c.loop-item.yielded c.in-Some.item c.args.self.now.values c.loop-item.self.values c.insert.new.self.values c.loop-item.invariant.taken c.in_ok-insert.ensures.elements c.in_ok-insert.ensures.length;
+  room = omega (arith, c.loop-item.invariant.room, c.insert.ensures.room);
+}
+
+pub returns-in_err-insert-clause-succeeds : goal.returns-in_err-insert-clause-succeeds
+returns-in_err-insert-clause-succeeds g c along =
+    let items = c.loop-item.yielded in
+    let item = c.in-Some.item in
+    let next_gives = g.I.Iterator.next_gives in
+    let more = Yields-more next_gives c.into_iter-item-iterator.result items c.loop-item.item-iterator item c.next.new.self c.loop-item.yielded_by c.in-Some.ensures.steps in
+    let low : item < c.args.self.now.room = (All-pop (λ n. n < c.args.self.now.room) (items ++ item ∷ []) items (Some item) refl (along (items ++ item ∷ []) c.next.new.self (rw c.into_iter-item-iterator.ensures.into_iter_gives at more))).1 in
+    absurd (true≢false (sym (c.in_err-insert.ensures.succeeds (omega (arith, low, c.loop-item.invariant.room)))))

@@ -1,0 +1,7 @@
+use Rattle.bit_set.proofs.ValueLemmas.{empty_where_all_false}
+use Rattle.bit_set.proofs.set.BitSet.is_empty.Goals as goal
+
+pub returns : goal.returns
+returns g c =
+    let both = empty_where_all_false c.self.inside.bits.values in
+    rw (← c.self.view_is) (λ is. both.0 (c.none.ensures.0 is), λ none. c.none.ensures.1 (both.1 none))

@@ -1,0 +1,10 @@
+use Rattle.std.proofs.Common.{false}
+use Rattle.std.proofs.lemmas.List.{length-replicate}
+use Rattle.bit_set.proofs.ValueLemmas.{elements-all_false}
+use Rattle.bit_set.proofs.set.BitSet.with_capacity_general.Goals as goal
+
+pub returns-clause-elements : goal.returns-clause-elements
+returns-clause-elements g c = rw c.in_ok-bits.ensures.values (elements-all_false c.args.len)
+
+pub returns-clause-length : goal.returns-clause-length
+returns-clause-length g c = rw c.in_ok-bits.ensures.values (length-replicate c.args.len false)

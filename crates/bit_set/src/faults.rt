@@ -1,0 +1,42 @@
+ghost use Rattle.std.specs.Prelude.{◌≡◌};
+
+use crate::bit_vec::BitsError;
+use std::alloc::AllocError;
+use thiserror::Error;
+
+/// Why a set did not take something in.
+#[derive(Clone, Copy, Debug, PartialEq, Eq, Error)]
+pub enum SetError {
+    /// The number is `usize::MAX`: a length is above each element, and no length is above this one.
+    #[error("the element does not fit")]
+    Element,
+    /// The bytes have more bits than a `usize` counts.
+    #[error("too many bits")]
+    Length,
+    /// A growth was refused.
+    #[error("memory refused")]
+    Memory(AllocError),
+}
+
+impl From<AllocError> for SetError {
+    ghost use Rattle.bit_set.specs.declared.faults.SetError.TheVariants.{Memory};
+
+    ghost from_gives = { λ fault error. error ≡ Memory fault };
+
+    fn from(fault: AllocError) -> SetError {
+        SetError::Memory(fault)
+    }
+}
+
+impl From<BitsError> for SetError {
+    ghost use Rattle.bit_set.specs.Faults.{of_bits};
+
+    ghost from_gives = { λ fault error. error ≡ of_bits fault };
+
+    fn from(fault: BitsError) -> SetError {
+        match fault {
+            BitsError::Length => SetError::Length,
+            BitsError::Memory(fault) => SetError::Memory(fault),
+        }
+    }
+}

@@ -1,0 +1,82 @@
+ghost use Rattle.std.specs.Prelude.{◌≡◌, ◌≤◌, ◌↔◌, IsTrue, [], length};
+ghost use Rattle.bit_set.specs.Sets.{elements, has};
+
+use crate::BitBlock;
+use crate::bit_vec::BitVec;
+use std::marker::Model;
+
+mod changing;
+mod making;
+
+/// A set of whole numbers below `usize::MAX`, kept as a bit vector: a number is an element exactly
+/// where the vector is true at it.
+///
+/// Contracts see the bit vector, as its list of truth values and its room. The elements of the list
+/// and its length fix it.
+#[derive(Drop)]
+pub struct BitSet<B: BitBlock = u32> {
+    bits: BitVec<B>,
+}
+
+impl<B: BitBlock> Model for BitSet<B> {
+    ghost use Rattle.bit_words.specs.Bits.{Bits};
+
+    ghost Value = { Bits };
+
+    ghost view = { λ set. set.bits };
+}
+
+impl<B: BitBlock> BitSet<B> {
+    /// Whether `value` is an element. Constant time.
+    #[inline]
+    pub fn contains(&self, value: usize) -> bool
+        ensures { result ≡ has (elements self.now.values) value }
+    {
+        self.bits.get(value).unwrap_or(false)
+    }
+
+    /// How many elements there are. Adds up the ones of each block.
+    pub fn count(&self) -> usize
+        ensures { result ≡ length (elements self.now.values) }
+    {
+        let mut ones = 0;
+        let blocks = self.bits.storage();
+        for block in blocks {
+            ones += block.count_ones();
+        }
+        ones
+    }
+
+    /// How many elements there are: the older name of [`BitSet::count`].
+    #[inline]
+    pub fn len(&self) -> usize
+        ensures { result ≡ length (elements self.now.values) }
+    {
+        self.count()
+    }
+
+    /// Whether there is no element. Reads each block once at most.
+    #[inline]
+    pub fn is_empty(&self) -> bool
+        ensures { IsTrue result ↔ (elements self.now.values ≡ []) }
+    {
+        self.bits.none()
+    }
+
+    /// Below which number an element goes in without memory. Constant time.
+    #[inline]
+    pub fn capacity(&self) -> usize
+        ensures value { result ≡ self.now.room }
+        ensures holds_values { length self.now.values ≤ result }
+    {
+        self.bits.capacity()
+    }
+
+    /// The bit vector that keeps the set. Constant time.
+    #[inline]
+    pub fn get_ref(&self) -> &BitVec<B>
+        ensures { result.now ≡ self.now }
+    {
+        &self.bits
+    }
+}

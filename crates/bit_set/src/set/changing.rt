@@ -1,0 +1,120 @@
+// Calls that change a set in place.
+ghost use Rattle.std.specs.Prelude.{◌≡◌, ℕ, ◌+◌, ◌<◌, ◌≤◌, ◌↔◌, max, min, not, IfOk, IfErr, OnOk, OnErr, IsOk, IsErrOf, All, List, [], length, Some};
+ghost use Rattle.std.specs.Iterator.{Drains, HoldsAlong, IsFinite, YieldsThen};
+ghost use Rattle.bit_set.specs.Sets.{elements, has, put, those_below, without};
+ghost use Rattle.bit_set.specs.Effects.{TakesIn};
+ghost use Rattle.bit_set.specs.Faults.{IsRefusal};
+
+use crate::{BitBlock, BitSet, SetError};
+use std::alloc::AllocError;
+
+impl<B: BitBlock> BitSet<B> {
+    /// Puts `value` in, and answers whether it is new. Constant time, but for a growth at or past
+    /// the length. Fails at `usize::MAX`, and where a growth past the room is refused; then nothing
+    /// changed.
+    #[inline]
+    pub fn insert(&mut self, value: usize) -> Result<bool, SetError>
+        ensures answer { IfOk result (λ new. new ≡ not (has (elements self.old.values) value)) }
+        ensures elements { OnOk result (elements self.new.values ≡ put (elements self.old.values) value) }
+        ensures length { OnOk result (length self.new.values ≡ max (length self.old.values) (value + 1)) }
+
+        ensures unfit { IsErrOf result SetError.Element ↔ (value ≡ usize.MAX) }
+        ensures refused { IfErr result (λ fault. IsRefusal fault value self.old.room) }
+        ensures err { OnErr result (self.new ≡ self.old) }
+        ensures succeeds { value < self.old.room → IsOk result }
+        ensures room { self.old.room ≤ self.new.room }
+    {
+        let len = self.bits.len();
+        if value == usize::MAX {
+            return Err(SetError::Element);
+        }
+        if value >= len {
+            self.bits.grow(value - len + 1, false)?;
+        }
+        let new = !self.contains(value);
+        self.bits.set(value, true);
+        Ok(new)
+    }
+
+    /// Puts the items in, one by one. It stops at the first item that [`BitSet::insert`] refuses: the
+    /// items before it stay in, and the rest is dropped.
+    pub fn extend<I: Iterator<Item = usize> + Drop>(&mut self, iter: I) -> Result<(), SetError>
+        requires can { I.can_next iter }
+        requires ends { IsFinite (I.remaining iter) }
+        ensures ok { OnOk result ((items : List ℕ) × Drains I.next_gives iter items
+            × TakesIn items self.old.values self.new.values) }
+        ensures err { IfErr result (λ fault. (items : List ℕ) × (item : ℕ) × (rest : I)
+            × YieldsThen I.next_gives iter items (Some item) rest
+            × TakesIn items self.old.values self.new.values × IsRefusal fault item self.new.room) }
+        ensures succeeds { HoldsAlong I.next_gives iter (All (λ item. item < self.old.room)) → IsOk result }
+        ensures room { self.old.room ≤ self.new.room }
+    {
+        for item in iter {
+            self.insert(item)?;
+        }
+        Ok(())
+    }
+
+    /// Takes `value` out, and answers whether it was in. Constant time.
+    #[inline]
+    pub fn remove(&mut self, value: usize) -> bool
+        ensures answer { result ≡ has (elements self.old.values) value }
+        ensures elements { elements self.new.values ≡ without (elements self.old.values) value }
+        ensures length { length self.new.values ≡ length self.old.values }
+        ensures room { self.old.room ≤ self.new.room }
+    {
+        let had = self.contains(value);
+        if had {
+            self.bits.set(value, false);
+        }
+        had
+    }
+
+    /// Keeps the elements below `len`, and shortens the length to it. Writes one block at most.
+    pub fn truncate(&mut self, len: usize)
+        ensures elements { elements self.new.values ≡ those_below (elements self.old.values) len }
+        ensures length { length self.new.values ≡ min (length self.old.values) len }
+        ensures room { self.old.room ≤ self.new.room }
+    {
+        self.bits.truncate(len);
+    }
+
+    /// Takes every element out; the length stays. Writes each block once.
+    pub fn make_empty(&mut self)
+        ensures elements { elements self.new.values ≡ [] }
+        ensures length { length self.new.values ≡ length self.old.values }
+        ensures room { self.old.room ≤ self.new.room }
+    {
+        self.bits.fill(false);
+    }
+
+    /// Takes every element out: the older name of [`BitSet::make_empty`].
+    #[inline]
+    pub fn clear(&mut self)
+        ensures elements { elements self.new.values ≡ [] }
+        ensures length { length self.new.values ≡ length self.old.values }
+        ensures room { self.old.room ≤ self.new.room }
+    {
+        self.make_empty();
+    }
+
+    /// Takes every element out and makes the length 0. The room stays. Constant time.
+    pub fn reset(&mut self)
+        ensures values { self.new.values ≡ [] }
+        ensures room { self.old.room ≤ self.new.room }
+    {
+        self.bits.remove_all();
+    }
+
+    /// Becomes equal to `other`, in one pass over its blocks. Fails only where its length passes the
+    /// room and a growth is refused; then nothing changed.
+    pub fn clone_from(&mut self, other: &Self) -> Result<(), AllocError>
+        ensures ok { OnOk result (self.new.values ≡ other.now.values) }
+        ensures err { OnErr result (self.new ≡ self.old) }
+        ensures full { OnErr result (self.old.room < length other.now.values) }
+        ensures succeeds { length other.now.values ≤ self.old.room → IsOk result }
+        ensures room { self.old.room ≤ self.new.room }
+    {
+        self.bits.clone_from(&other.bits)
+    }
+}
