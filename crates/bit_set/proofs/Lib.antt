@@ -1,8 +1,10 @@
 pub mod SetLemmas
 pub mod SetLaws
-pub mod PlaceLemmas
-pub mod LowestStep
 pub mod ValueLemmas
 pub mod CountLemmas
 pub mod ItemLemmas
 pub mod ByteLemmas
+pub mod PlaceLemmas
+pub mod LowestStep
+pub mod WalkLemmas
+pub mod WalkLaws

@@ -1,18 +1,18 @@
 -- The steps that take the lowest 1 off a block, at the numbers of the blocks.
-use Rattle.std.proofs.Common.{◌≡◌, ℕ, ◌+◌, ◌-◌, ◌^◌, ◌<◌, ◌≤◌, count_ones, refl, sym, ap, ◌∙◌, subst, arith}
+use Rattle.std.proofs.Common.{◌≡◌, ℕ, ◌+◌, ◌-◌, ◌^◌, ◌<◌, count_ones, sym, ap, ◌∙◌, subst, arith}
 use Rattle.bit_words.specs.Digits.{IsBoth, IsComplement}
 use Rattle.bit_words.specs.Lowest.{IsLowest, IsCleared}
 use Rattle.bit_set.specs.Places.{IsAlone}
 use Rattle.bit_words.proofs.LowestLemmas.{lowest_found}
-use Rattle.bit_words.proofs.Words.{complement-number}
 use Rattle.std.proofs.lemmas.Nat.{pow_pos}
 
--- `!m + 1` does not wrap
-pub negated_fits : (w m n : ℕ) → 0 < m → m < 2 ^ w → n < 2 ^ w → IsComplement w m n → n + 1 < 2 ^ w
-negated_fits w m n pos small fits is = omega (arith, complement-number w m n small fits is)
-
+-- `!m + 1`
 pub negated_is : (w m n : ℕ) → 0 < m → m < 2 ^ w → n < 2 ^ w → IsComplement w m n → n + 1 ≡ 2 ^ w - m
-negated_is w m n pos small fits is = omega (arith, complement-number w m n small fits is)
+negated_is w m n pos small fits is = (lowest_found w m pos small).1.negated n fits is
+
+-- it does not wrap
+pub negated_fits : (w m n : ℕ) → 0 < m → m < 2 ^ w → n < 2 ^ w → IsComplement w m n → n + 1 < 2 ^ w
+negated_fits w m n pos small fits is = omega (arith, negated_is w m n pos small fits is, (lowest_found w m pos small).1.negated_fits)
 
 pub alone : (w m n l : ℕ) → 0 < m → m < 2 ^ w → l < 2 ^ w → n ≡ 2 ^ w - m → IsBoth w m n l → IsAlone w m l
 alone w m n l pos small fits is both =

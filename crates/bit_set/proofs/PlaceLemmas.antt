@@ -1,8 +1,8 @@
 -- The places of the ones of blocks: a block of zeros, the lowest one, how many there are, and those of a list of truth values.
-use Rattle.std.proofs.Common.{◌≡◌, ◌≢◌, ℕ, zero, suc, ◌+◌, ◌-◌, ◌*◌, ◌/◌, ◌%◌, ◌^◌, ◌<◌, ◌≤◌, Bool, true, false, cond, eqb, List, [], ◌∷◌, ◌++◌, map, length, get_or, All, count_ones, refl, sym, ap, ◌∙◌, subst, inl, inr, arith}
+use Rattle.std.proofs.Common.{◌≡◌, ℕ, zero, suc, ◌+◌, ◌-◌, ◌*◌, ◌/◌, ◌%◌, ◌^◌, ◌<◌, ◌≤◌, Bool, true, false, cond, eqb, List, [], ◌∷◌, ◌++◌, length, get_or, All, count_ones, refl, sym, ap, ◌∙◌, subst, inl, inr, arith}
 use Rattle.std.specs.Int.{bit_at}
-use Rattle.std.specs.List.{sum_by, range_with_len, flat_map}
-use Rattle.std.proofs.lemmas.Bool.{eq-eqb, ne_eqb, cases_eq, cases_lt, cases_order}
+use Rattle.std.specs.List.{sum_by, range_with_len}
+use Rattle.std.proofs.lemmas.Bool.{eq-eqb, cases_lt}
 use Rattle.std.proofs.lemmas.Nat.Bits.{bit_at-zero, bit_at-lt}
 use Rattle.std.proofs.lemmas.List.{length-append, get_or_append_left, get_or-append_right}
 use Rattle.std.proofs.lemmas.List.Elements.{All-nil, All-cons, All-head, All-tail}
@@ -12,7 +12,7 @@ use Rattle.bit_words.proofs.BitsLemmas.{blocks_of-digit}
 use Rattle.bit_words.proofs.OnesLemmas.{ones_are_digits}
 use Rattle.bit_set.proofs.SetLemmas.{elements-alike, length-elements-le}
 use Rattle.std.proofs.lemmas.List.FromFn.{length-map-range_with_len, get_or-map-range_with_len}
-use Rattle.bit_words.specs.Bits.{blocks_of, blocks_for, digit_of}
+use Rattle.bit_words.specs.Bits.{blocks_of, digit_of}
 use Rattle.bit_words.specs.Lowest.{IsLowest, IsCleared}
 use Rattle.bit_words.specs.Storage.{is_one}
 use Rattle.bit_set.specs.Sets.{elements_from, elements}

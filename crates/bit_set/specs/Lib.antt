@@ -1,7 +1,6 @@
 pub mod Sets
-pub mod Walk
-pub mod Places
 pub mod Faults
 pub mod Effects
-pub mod Walks
+pub mod Walk
+pub mod Places
 pub use Rattle.bit_words.specs.Bits

@@ -1,5 +1,5 @@
 -- Where the ones of blocks are. No public clause cites this.
-use Rattle.std.specs.Prelude.{◌≡◌, ℕ, ◌+◌, ◌-◌, ◌<◌, ◌≤◌, Bool, List, map, count_ones}
+use Rattle.std.specs.Prelude.{◌≡◌, ℕ, ◌+◌, ◌-◌, ◌*◌, ◌^◌, ◌<◌, ◌≤◌, Bool, List, ◌∷◌, map, length, count_ones, All}
 use Rattle.std.specs.List.{range_with_len, flat_map}
 use Rattle.bit_words.specs.Digits.{IsBoth}
 use Rattle.bit_words.specs.Lowest.{IsLowest, IsCleared}
@@ -24,3 +24,12 @@ pub record IsAlone (w m l : ℕ) : Type 0 where
   pub within : (o : ℕ) → o + 1 ≡ l → count_ones o < w
   pub lowest : (o : ℕ) → o + 1 ≡ l → IsLowest m (count_ones o)
   pub cleared : (o r : ℕ) → o + 1 ≡ l → IsBoth w m (m - 1) r → IsCleared w m (count_ones o) r
+
+-- A walk whose block in hand is x, with place `place` for its first digit, and xs past it.
+pub record IsWalk {X : Type 0} (w : ℕ) (number : X → ℕ) (is_block : X → Type 0) (place : ℕ) (x : X) (xs : List X) : Type 0 where
+  pub in_hand : is_block x
+  pub each : All is_block xs
+  -- each place of a block past the one in hand can be counted
+  pub fits : place + w * length xs < 2 ^ 64
+  pub below : All (λ n. n < 2 ^ 64) (places w place (number x ∷ map number xs))
+  pub few : length (places w place (number x ∷ map number xs)) < 2 ^ 64

@@ -7,10 +7,10 @@ mod lowest;
 mod set;
 #[cfg(test)]
 mod tests;
-mod walks;
+mod walk;
 
 pub use bit_words::bit_vec;
 pub use bit_words::bit_vec::BitBlock;
 pub use faults::SetError;
 pub use set::BitSet;
-pub use walks::Iter;
+pub use walk::Iter;

@@ -3,7 +3,7 @@ ghost use Rattle.std.specs.Prelude.{◌≡◌, ◌-◌, ◌^◌, ◌<◌};
 ghost use Rattle.bit_words.specs.Lowest.{IsLowest, IsCleared};
 ghost use Rattle.bit_set.specs.Places.{IsAlone};
 
-use bit_words::bit_vec::BitBlock;
+use crate::BitBlock;
 
 // Takes the lowest 1 off a block, and gives its place.
 #[inline]

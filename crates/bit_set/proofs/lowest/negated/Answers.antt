@@ -1,4 +1,4 @@
-use Rattle.std.proofs.Common.{◌+◌, ◌^◌, ◌<◌, arith}
+use Rattle.std.proofs.Common.{arith}
 use Rattle.bit_set.proofs.LowestStep.{negated_fits, negated_is}
 use Rattle.bit_set.proofs.lowest.negated.Goals as goal
 

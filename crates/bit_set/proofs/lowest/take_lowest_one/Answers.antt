@@ -1,4 +1,4 @@
-use Rattle.std.proofs.Common.{◌+◌, ◌-◌, ◌≡◌, ◌≤◌, arith, sym, ap, subst}
+use Rattle.std.proofs.Common.{◌-◌, ◌≡◌, ◌≤◌, arith, sym, subst}
 use Rattle.bit_words.specs.Digits.{IsBoth}
 use Rattle.bit_words.specs.Lowest.{IsCleared}
 use Rattle.bit_set.proofs.lowest.take_lowest_one.Goals as goal
