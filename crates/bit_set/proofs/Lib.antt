@@ -4,3 +4,7 @@ pub mod ValueLemmas
 pub mod CountLemmas
 pub mod ItemLemmas
 pub mod ByteLemmas
+pub mod PlaceLemmas
+pub mod LowestStep
+pub mod WalkLemmas
+pub mod WalkLaws

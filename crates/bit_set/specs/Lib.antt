@@ -1,5 +1,6 @@
 pub mod Sets
 pub mod Faults
 pub mod Effects
-pub mod Walks
+pub mod Walk
+pub mod Places
 pub use Rattle.bit_words.specs.Bits

@@ -3,13 +3,14 @@
 
 mod faults;
 pub mod laws;
+mod lowest;
 mod set;
 #[cfg(test)]
 mod tests;
-mod walks;
+mod walk;
 
 pub use bit_words::bit_vec;
 pub use bit_words::bit_vec::BitBlock;
 pub use faults::SetError;
 pub use set::BitSet;
-pub use walks::Iter;
+pub use walk::Iter;

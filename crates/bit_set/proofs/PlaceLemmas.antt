@@ -1,0 +1,172 @@
+-- The places of the ones of blocks: a block of zeros, the lowest one, how many there are, and those of a list of truth values.
+use Rattle.std.proofs.Common.{◌≡◌, ℕ, zero, suc, ◌+◌, ◌-◌, ◌*◌, ◌/◌, ◌%◌, ◌^◌, ◌<◌, ◌≤◌, Bool, true, false, cond, eqb, List, [], ◌∷◌, ◌++◌, length, get_or, All, count_ones, refl, sym, ap, ◌∙◌, subst, inl, inr, arith}
+use Rattle.std.specs.Int.{bit_at}
+use Rattle.std.specs.List.{sum_by, range_with_len}
+use Rattle.std.proofs.lemmas.Bool.{eq-eqb, cases_lt}
+use Rattle.std.proofs.lemmas.Nat.Bits.{bit_at-zero, bit_at-lt}
+use Rattle.std.proofs.lemmas.List.{length-append, get_or_append_left, get_or-append_right}
+use Rattle.std.proofs.lemmas.List.Elements.{All-nil, All-cons, All-head, All-tail}
+use Rattle.std.proofs.lemmas.List.Sums.{sum_by-cons}
+use Rattle.std.proofs.Math.Nat.{div-add-mod', mod-lt}
+use Rattle.bit_words.proofs.BitsLemmas.{blocks_of-digit}
+use Rattle.bit_words.proofs.OnesLemmas.{ones_are_digits}
+use Rattle.bit_set.proofs.SetLemmas.{elements-alike, length-elements-le}
+use Rattle.std.proofs.lemmas.List.FromFn.{length-map-range_with_len, get_or-map-range_with_len}
+use Rattle.bit_words.specs.Bits.{blocks_of, digit_of}
+use Rattle.bit_words.specs.Lowest.{IsLowest, IsCleared}
+use Rattle.bit_words.specs.Storage.{is_one}
+use Rattle.bit_set.specs.Sets.{elements_from, elements}
+use Rattle.bit_set.specs.Places.{digits_from, values_in, places}
+
+is_one-zero : (a : ℕ) → is_one 0 a ≡ false
+is_one-zero a = ap (λ n. eqb n 1) (bit_at-zero a)
+
+is_one-one : (m a : ℕ) → bit_at m a ≡ 1 → is_one m a ≡ true
+is_one-one m a h = eq-eqb (bit_at m a) 1 h
+
+is_one-none : (m a : ℕ) → bit_at m a ≡ 0 → is_one m a ≡ false
+is_one-none m a h = ap (λ n. eqb n 1) h
+
+-- digits that are 0 are passed over
+zeros_passed : (a w p : ℕ) (bs : List Bool) → elements_from p (digits_from 0 a w ++ bs) ≡ elements_from (p + w) bs
+zeros_passed a zero p bs = ap (λ n. elements_from n bs) (let e : p ≡ p + zero = omega arith in e)
+zeros_passed a (suc w) p bs =
+    ap (λ b. cond b (p ∷ elements_from (p + 1) (digits_from 0 (a + 1) w ++ bs)) (elements_from (p + 1) (digits_from 0 (a + 1) w ++ bs))) (is_one-zero a)
+    ∙ zeros_passed (a + 1) w (p + 1) bs
+    ∙ ap (λ n. elements_from n bs) (let e : p + 1 + w ≡ p + suc w = omega arith in e)
+
+-- digits that are the same
+same_digits : (m r a w : ℕ) → ((k : ℕ) → a ≤ k → k < a + w → bit_at r k ≡ bit_at m k) → digits_from r a w ≡ digits_from m a w
+same_digits m r a zero same = refl
+same_digits m r a (suc w) same =
+    let here : is_one r a ≡ is_one m a = ap (λ n. eqb n 1) (same a (omega arith) (omega arith)) in
+    let rest : digits_from r (a + 1) w ≡ digits_from m (a + 1) w = same_digits m r (a + 1) w (λ k low high. same k (omega arith) (omega arith)) in
+    ap (λ b. b ∷ digits_from r (a + 1) w) here ∙ ap (λ bs. is_one m a ∷ bs) rest
+
+-- the lowest 1 comes first, and then the ones of the digits without it
+lowest_from : (m r i a w p : ℕ) (bs : List Bool) → IsLowest m i → IsCleared (a + w) m i r → a ≤ i → i < a + w → elements_from p (digits_from m a w ++ bs) ≡ (p + (i - a)) ∷ elements_from p (digits_from r a w ++ bs)
+lowest_from m r i a zero p bs low cleared from within = absurd (omega arith)
+lowest_from m r i a (suc w) p bs low cleared from within =
+    elim (cases_lt a i) [
+      | inl below ↦
+          let none : is_one m a ≡ false = is_one-none m a (low.zeros a below) in
+          let none_there : is_one r a ≡ false = is_one-none r a (cleared.kept a (omega arith) (λ e. omega (arith, e)) ∙ low.zeros a below) in
+          let along : a + 1 + w ≡ a + suc w = omega arith in
+          let place : p + 1 + (i - (a + 1)) ≡ p + (i - a) = omega arith in
+          let rest = lowest_from m r i (a + 1) w (p + 1) bs low (subst (λ x. IsCleared x m i r) (sym along) cleared) (omega arith) (omega arith) in
+          ap (λ b. cond b (p ∷ elements_from (p + 1) (digits_from m (a + 1) w ++ bs)) (elements_from (p + 1) (digits_from m (a + 1) w ++ bs))) none
+          ∙ rest
+          ∙ ap (λ x. x ∷ elements_from (p + 1) (digits_from r (a + 1) w ++ bs)) place
+          ∙ ap (λ b. (p + (i - a)) ∷ cond b (p ∷ elements_from (p + 1) (digits_from r (a + 1) w ++ bs)) (elements_from (p + 1) (digits_from r (a + 1) w ++ bs))) (sym none_there)
+      | inr past ↦
+          let here : i ≡ a = omega arith in
+          let one : is_one m a ≡ true = is_one-one m a (ap (bit_at m) (sym here) ∙ low.one) in
+          let none_there : is_one r a ≡ false = is_one-none r a (ap (bit_at r) (sym here) ∙ cleared.cleared) in
+          let place : p ≡ p + (i - a) = omega arith in
+          let rest : digits_from r (a + 1) w ≡ digits_from m (a + 1) w = same_digits m r (a + 1) w (λ k from_next inside. cleared.kept k (omega arith) (λ e. omega (arith, e))) in
+          ap (λ b. cond b (p ∷ elements_from (p + 1) (digits_from m (a + 1) w ++ bs)) (elements_from (p + 1) (digits_from m (a + 1) w ++ bs))) one
+          ∙ ap (λ x. x ∷ elements_from (p + 1) (digits_from m (a + 1) w ++ bs)) place
+          ∙ ap (λ ds. (p + (i - a)) ∷ elements_from (p + 1) (ds ++ bs)) (sym rest)
+          ∙ ap (λ b. (p + (i - a)) ∷ cond b (p ∷ elements_from (p + 1) (digits_from r (a + 1) w ++ bs)) (elements_from (p + 1) (digits_from r (a + 1) w ++ bs))) (sym none_there)
+    ]
+
+-- ---- the blocks in a row
+
+pub places-nil : (w p : ℕ) → places w p [] ≡ []
+unfolding places
+places-nil w p = refl
+
+pub places-zero : (w p : ℕ) (ms : List ℕ) → places w p (0 ∷ ms) ≡ places w (p + w) ms
+unfolding places
+places-zero w p ms = zeros_passed 0 w p (values_in w ms)
+
+pub places-lowest : (w p m r i : ℕ) (ms : List ℕ) → IsLowest m i → i < w → IsCleared w m i r → places w p (m ∷ ms) ≡ (p + i) ∷ places w p (r ∷ ms)
+unfolding places
+places-lowest w p m r i ms low within cleared =
+    let whole : 0 + w ≡ w = omega arith in
+    lowest_from m r i 0 w p (values_in w ms) low (subst (λ x. IsCleared x m i r) (sym whole) cleared) (omega arith) (omega arith)
+    ∙ ap (λ x. x ∷ elements_from p (values_in w (r ∷ ms))) (let e : p + (i - 0) ≡ p + i = omega arith in e)
+
+-- ---- those of a list of truth values
+
+value_in : (w : ℕ) (ms : List ℕ) (q j : ℕ) → j < w → get_or (values_in w ms) (q * w + j) false ≡ is_one (get_or ms q 0) j
+value_in w [] q j within = sym (is_one-zero j)
+value_in w (m ∷ ms) zero j within =
+    ap (λ k. get_or (digits_from m 0 w ++ values_in w ms) k false) (let e : zero * w + j ≡ j = omega arith in e)
+    ∙ get_or_append_left (digits_from m 0 w) (values_in w ms) false j (rw length-map-range_with_len within)
+    ∙ get_or-map-range_with_len (is_one m) 0 w j j false within (omega arith)
+value_in w (m ∷ ms) (suc q) j within =
+    let long : length (digits_from m 0 w) ≡ w = length-map-range_with_len (is_one m) 0 w in
+    get_or-append_right (digits_from m 0 w) (values_in w ms) w (suc q * w + j) false long (omega arith)
+    ∙ ap (λ k. get_or (values_in w ms) k false) (let e : suc q * w + j - w ≡ q * w + j = omega arith in e)
+    ∙ value_in w ms q j within
+
+read_back : (b : Bool) → eqb (digit_of b) 1 ≡ b
+read_back true = refl
+read_back false = refl
+
+-- the blocks of a list hold the list, and false past its end
+values_in-blocks_of : (w : ℕ) (values : List Bool) → 0 < w → (k : ℕ) → get_or (values_in w (blocks_of w values)) k false ≡ get_or values k false
+values_in-blocks_of w values pos k =
+    let split : k ≡ k / w * w + k % w = sym (div-add-mod' k w) in
+    let within : k % w < w = mod-lt k pos in
+    ap (λ x. get_or (values_in w (blocks_of w values)) x false) split
+    ∙ value_in w (blocks_of w values) (k / w) (k % w) within
+    ∙ ap (λ d. eqb d 1) (blocks_of-digit w (k / w) (k % w) values within)
+    ∙ read_back (get_or values (k / w * w + k % w) false)
+    ∙ ap (λ x. get_or values x false) (sym split)
+
+pub places-blocks_of : (w : ℕ) (values : List Bool) → 0 < w → places w 0 (blocks_of w values) ≡ elements values
+unfolding places
+places-blocks_of w values pos = elements-alike values (values_in w (blocks_of w values)) (values_in-blocks_of w values pos)
+
+-- ---- how many there are
+
+one_more : (m a p : ℕ) (xs : List ℕ) → length (cond (is_one m a) (p ∷ xs) xs) ≡ bit_at m a + length xs
+one_more m a p xs =
+    elim (cases_lt 0 (bit_at m a)) [
+      | inl some ↦
+          let one : bit_at m a ≡ 1 = omega (arith, bit_at-lt m a) in
+          ap (λ b. length (cond b (p ∷ xs) xs)) (is_one-one m a one) ∙ omega (arith, one)
+      | inr none ↦
+          let zero_there : bit_at m a ≡ 0 = omega arith in
+          ap (λ b. length (cond b (p ∷ xs) xs)) (is_one-none m a zero_there) ∙ omega (arith, zero_there)
+    ]
+
+count_digits : (m a w p : ℕ) (bs : List Bool) → length (elements_from p (digits_from m a w ++ bs)) ≡ sum_by (bit_at m) (range_with_len a w) + length (elements_from (p + w) bs)
+count_digits m a zero p bs = ap (λ n. length (elements_from n bs)) (let e : p ≡ p + zero = omega arith in e) ∙ omega arith
+count_digits m a (suc w) p bs =
+    let along : p + 1 + w ≡ p + suc w = omega arith in
+    one_more m a p (elements_from (p + 1) (digits_from m (a + 1) w ++ bs))
+    ∙ ap (λ n. bit_at m a + n) (count_digits m (a + 1) w (p + 1) bs ∙ ap (λ n. sum_by (bit_at m) (range_with_len (a + 1) w) + length (elements_from n bs)) along)
+    ∙ (let e = sum_by-cons (bit_at m) a (range_with_len (a + 1) w) in omega (arith, e))
+
+pub length-places : (w p : ℕ) (ms : List ℕ) → All (λ m. m < 2 ^ w) ms → length (places w p ms) ≡ sum_by count_ones ms
+unfolding places
+length-places w p [] each = refl
+length-places w p (m ∷ ms) each =
+    let ones = ones_are_digits w m (All-head (λ n. n < 2 ^ w) m ms each) in
+    let rest = length-places w (p + w) ms (All-tail (λ n. n < 2 ^ w) m ms each) in
+    let first = sum_by-cons count_ones m ms in
+    count_digits m 0 w p (values_in w ms) ∙ omega (arith, ones, rest, first)
+
+length-values_in : (w : ℕ) (ms : List ℕ) → length (values_in w ms) ≡ length ms * w
+length-values_in w [] = omega arith
+length-values_in w (m ∷ ms) =
+    length-append (digits_from m 0 w) (values_in w ms)
+    ∙ (let rest = length-values_in w ms in let first = length-map-range_with_len (is_one m) 0 w in omega (arith, rest, first))
+
+-- no more than digits
+pub length-places-le : (w p : ℕ) (ms : List ℕ) → length (places w p ms) ≤ length ms * w
+unfolding places
+length-places-le w p ms = let most = length-elements-le p (values_in w ms) in omega (arith, most, length-values_in w ms)
+
+-- ---- what the elements of a list of truth values are below
+
+elements_from-below : (p bound : ℕ) (bs : List Bool) → p + length bs ≤ bound → All (λ n. n < bound) (elements_from p bs)
+elements_from-below p bound [] fits = All-nil (λ n. n < bound)
+elements_from-below p bound (true ∷ bs) fits = All-cons (λ n. n < bound) p _ (omega arith) (elements_from-below (p + 1) bound bs (omega arith))
+elements_from-below p bound (false ∷ bs) fits = elements_from-below (p + 1) bound bs (omega arith)
+
+pub elements-below : (bound : ℕ) (values : List Bool) → length values ≤ bound → All (λ n. n < bound) (elements values)
+elements-below bound values fits = elements_from-below 0 bound values (omega arith)

@@ -1,0 +1,36 @@
+-- Walks over the elements of a set, block by block.
+use Rattle.std.specs.Prelude.{◌≡◌, ℕ, ◌+◌, ◌-◌, ◌*◌, ◌^◌, ◌≤◌, Bool, nat_lt, if◌then◌else◌, List, [], length, Option, Some, None, MatchOption}
+use Rattle.std.specs.Iterator.{YieldsFirst}
+use Rattle.bit_words.specs.Bits.{blocks_for}
+use Rattle.bit_set.specs.Sets.{elements}
+
+-- What contracts see of a walk: the elements from its place on, how often it called `next` on its
+-- block source, and how many blocks are past the block in hand.
+pub record Walk : Type 0 where
+  pub left : List ℕ
+  pub pulls : ℕ
+  pub blocks : ℕ
+
+-- A call of `next` on s gave r and left t: the first of what was left, or None at the end, which
+-- stays. It pulled each block that it passed once at most, and once more where it found the end.
+pub record Advances (s : Walk) (r : Option ℕ) (t : Walk) : Type 0 where
+  pub item : YieldsFirst (λ walk. walk.left) s r t
+  pub goes_on : s.pulls ≤ t.pulls
+  pub pulled : MatchOption r (t.pulls ≤ s.pulls + s.blocks + 1) (λ _. t.pulls + t.blocks ≤ s.pulls + s.blocks)
+  pub passed : MatchOption r (t.blocks ≡ 0) (λ _. Unit {0})
+
+-- From s, the calls of `next` up to the first None gave the items and left t.
+pub record IsWalkedOut (s : Walk) (items : List ℕ) (t : Walk) : Type 0 where
+  pub all : items ≡ s.left
+  pub ended : t.left ≡ []
+  pub pulled : t.pulls ≤ s.pulls + s.blocks + 1
+
+-- At the making of a walk over the elements of a list of truth values, in blocks of w. It has pulled one block, or found that there is none.
+pub record IsAtStart (w : ℕ) (values : List Bool) (s : Walk) : Type 0 where
+  pub left : s.left ≡ elements values
+  pub pulls : s.pulls ≡ 1
+  pub blocks : s.blocks ≡ blocks_for w (length values) - 1
+
+-- the digits of the block in hand and of the blocks past it, where that fits a `usize`
+abbrev pub bound_on_rest : ℕ → ℕ → Option ℕ
+bound_on_rest w blocks = if nat_lt ((1 + blocks) * w) (2 ^ 64) then Some ((1 + blocks) * w) else None
