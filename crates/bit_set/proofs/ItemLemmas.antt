@@ -1,8 +1,9 @@
 -- Items that come into a set one by one.
-use Rattle.std.proofs.Common.{◌≡◌, ◌≢◌, ℕ, ◌+◌, ◌↔◌, max, Bool, List, [], ◌∷◌, ◌++◌, length, refl, sym, ap, ◌∙◌, arith}
+use Rattle.std.proofs.Common.{◌<◌, ◌≡◌, ◌≢◌, ℕ, ◌+◌, ◌↔◌, max, Bool, List, [], ◌∷◌, ◌++◌, length, refl, sym, ap, ◌∙◌, arith}
 use Rattle.bit_set.specs.Sets.{elements, put, put_all, bound_of}
 use Rattle.bit_set.specs.Effects.{TakesIn}
-use Rattle.bit_set.specs.Faults.{IsRefusal, greatest}
+use Rattle.bit_set.specs.Bounds.{greatest}
+use Rattle.bit_set.specs.Faults.{IsRefusal}
 use Rattle.bit_set.specs.declared.faults.SetError.{SetError}
 use Rattle.bit_set.specs.declared.faults.SetError.TheVariants.{Element, Length, Memory}
 
@@ -15,12 +16,13 @@ bound_of-push [] n = omega arith
 bound_of-push (x ∷ xs) n = let rest = bound_of-push xs n in omega (arith, rest)
 
 pub TakesIn-none : (values : List Bool) → TakesIn [] values values
-TakesIn-none values = record { members = refl; long = omega arith }
+TakesIn-none values = record { members = refl; long = omega arith; fit = omega arith }
 
-pub TakesIn-more : (items : List ℕ) (n : ℕ) (old mid new : List Bool) → TakesIn items old mid → elements new ≡ put (elements mid) n → length new ≡ max (length mid) (n + 1) → TakesIn (items ++ n ∷ []) old new
-TakesIn-more items n old mid new so_far members long = record {
+pub TakesIn-more : (items : List ℕ) (n : ℕ) (old mid new : List Bool) → TakesIn items old mid → elements new ≡ put (elements mid) n → length new ≡ max (length mid) (n + 1) → n < greatest → TakesIn (items ++ n ∷ []) old new
+TakesIn-more items n old mid new so_far members long low = record {
   members = members ∙ ap (λ s. put s n) so_far.members ∙ sym (put_all-push (elements old) items n);
   long = omega (arith, long, so_far.long, bound_of-push items n);
+  fit = omega (arith, low, so_far.fit, bound_of-push items n);
 }
 
 -- which fault a refusal is

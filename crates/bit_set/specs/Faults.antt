@@ -1,13 +1,10 @@
 -- Why a set does not take a number in.
 use Rattle.std.specs.Prelude.{◌≡◌, ℕ, ◌<◌, ◌≤◌}
+use Rattle.bit_set.specs.Bounds.{greatest}
 use Rattle.bit_words.specs.declared.bit_vec.vector.making.BitsError.{BitsError}
 use Rattle.bit_words.specs.declared.bit_vec.vector.making.BitsError.TheVariants.{Length as BitsLength, Memory as BitsMemory}
 use Rattle.bit_set.specs.declared.faults.SetError.{SetError}
 use Rattle.bit_set.specs.declared.faults.SetError.TheVariants.{Element, Length, Memory}
-
--- the greatest `usize`: no set has it, since a length is above each element
-abbrev pub greatest : ℕ
-greatest = 18446744073709551615
 
 -- the same fault of the bit vector
 abbrev pub of_bits : BitsError → SetError

@@ -1,3 +1,4 @@
+pub mod Bounds
 pub mod Sets
 pub mod Faults
 pub mod Effects

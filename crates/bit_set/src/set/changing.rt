@@ -19,6 +19,7 @@ impl<B: BitBlock> BitSet<B> {
         ensures length { OnOk result (length self.new.values ≡ max (length self.old.values) (value + 1)) }
 
         ensures unfit { IsErrOf result SetError.Element ↔ (value ≡ usize.MAX) }
+        ensures fit { OnOk result (value < usize.MAX) }
         ensures refused { IfErr result (λ fault. IsRefusal fault value self.old.room) }
         ensures err { OnErr result (self.new ≡ self.old) }
         ensures succeeds { value < self.old.room → IsOk result }

@@ -4,7 +4,7 @@ ghost use Rattle.std.specs.Int.{bit_at};
 ghost use Rattle.std.specs.Iterator.{Drains, IsFinite, YieldsThen};
 ghost use Rattle.bit_words.specs.Bits.{values_of_bytes};
 ghost use Rattle.bit_set.specs.Sets.{bound_of, elements, has, put_all};
-ghost use Rattle.bit_set.specs.Faults.{greatest};
+ghost use Rattle.bit_set.specs.Bounds.{greatest};
 
 use crate::bit_vec::BitVec;
 use crate::{BitBlock, BitSet, SetError};

@@ -8,7 +8,7 @@ use Rattle.bit_set.proofs.set.BitSet.extend.Goals as goal
 
 pub loop-item-preserved : goal.loop-item-preserved
 loop-item-preserved g c = record {
-  taken = TakesIn-more c.loop-item.yielded c.in-Some.item c.args.self.now.values c.loop-item.self.values c.insert.new.self.values c.loop-item.invariant.taken c.in_ok-insert.ensures.elements c.in_ok-insert.ensures.length;
+  taken = TakesIn-more c.loop-item.yielded c.in-Some.item c.args.self.now.values c.loop-item.self.values c.insert.new.self.values c.loop-item.invariant.taken c.in_ok-insert.ensures.elements c.in_ok-insert.ensures.length c.in_ok-insert.ensures.fit;
   room = omega (arith, c.loop-item.invariant.room, c.insert.ensures.room);
 }
 
