@@ -16,7 +16,7 @@ use Rattle.bit_set_run.specs.Reading.{command_of, name_alone, name_and_number, n
 use Rattle.bit_set_run.specs.Run.{greatest}
 use Rattle.bit_set_run.specs.Spelling.{figures, letter, line_of, CanBeHad}
 use Rattle.bit_set_run.specs.Words.{words_of}
-use Rattle.bit_set_run.proofs.ReadingLemmas.{name_alone-words, name_and_number-words, reading-words}
+use Rattle.bit_set_run.proofs.ReadingLemmas.{name_alone_words, name_and_number-words, reading-words}
 
 own : IsNumeralModel (λ ds. all_ascii_digits ds ≡ true) (digits_value 10)
 own = numerals_by_value (λ ds. all_ascii_digits ds ≡ true) tells_all_ascii_digits
@@ -54,7 +54,7 @@ with_number make word name n lacks verb given below fits =
 
 with_name : (make : ℕ → Command) (word : List ℕ) (name : ℕ) → Lacks 32 word → option_and_then (λ verb. command_of verb (words_of ((name + 97) ∷ []))) (verb_of word) ≡ option_map make (name_alone (words_of ((name + 97) ∷ []))) → numbers_of (make name) ≡ [] → name < 16 → reading (word ++ letter name) ≡ Ok (make name)
 with_name make word name lacks verb given below =
-    rw (reading-words word ((name + 97) ∷ []) lacks, verb, name_alone-words ((name + 97) ∷ []), name_of-letter name below, given)
+    rw (reading-words word ((name + 97) ∷ []) lacks, verb, name_alone_words ((name + 97) ∷ []), name_of-letter name below, given)
 
 pub reading-line_of : (command : Command) → CanBeHad command → reading (line_of command) ≡ Ok command
 reading-line_of (Insert name n) had =
