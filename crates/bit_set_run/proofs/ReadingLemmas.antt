@@ -1,5 +1,5 @@
 -- Numbers read a digit at a time, and what a line's words come to.
-use Rattle.std.proofs.Common.{◌≡◌, ℕ, zero, suc, ◌+◌, ◌-◌, ◌*◌, ◌<◌, Bool, true, false, not, ◌&&◌, List, [], ◌∷◌, ◌++◌, length, take, get_or, ap, sym, ◌∙◌, refl, append_assoc, arith, eqb, nat_lt, ◌⊎◌, inl, inr, Option, None, Some, Result, Ok, Err, IsOkAnd, MatchResult, nat_le, if◌then◌else◌}
+use Rattle.std.proofs.Common.{◌≡◌, ℕ, zero, suc, ◌+◌, ◌-◌, ◌*◌, ◌<◌, Bool, true, false, not, ◌&&◌, List, [], ◌∷◌, ◌++◌, length, take, get_or, ap, sym, ◌∙◌, refl, arith, eqb, nat_lt, ◌⊎◌, inl, inr, Option, None, Some, Result, Ok, Err, nat_le, if◌then◌else◌}
 use Rattle.std.specs.Char.{is_ascii_digit, digit_value, IsAsciiDigit}
 use Rattle.std.specs.Prelude.{codes}
 use Rattle.std.specs.Str.{all_ascii_digits, bytes_eq}
@@ -10,7 +10,6 @@ use Rattle.std.proofs.lemmas.Bool.Decides.{eqb_tells}
 use Rattle.std.specs.List.{list_all}
 use Rattle.std.specs.Option.{option_and_then, option_map, option_zip}
 use Rattle.bit_set_run.specs.Cuts.{Lacks}
-use Rattle.bit_set_run.specs.declared.commands.Command.{Command}
 use Rattle.bit_set_run.specs.declared.commands.Command.TheVariants.{RestIter}
 use Rattle.bit_set_run.specs.declared.reading.Verb.{Verb}
 use Rattle.bit_set_run.specs.declared.reading.Verb.TheVariants.{Insert, Remove, Contains, Extend, Truncate, Empty, Reset, Count, IsEmpty, Items, Copy, Rest}
@@ -124,14 +123,10 @@ two_names-words first second lacks = rw (parts_at-first 32 first second lacks) (
   | inr two ↦ rw (two.words, name_of-cut second two.place two.below two.space) (nothing (name_of first))
 ])
 
--- a name that was read, and one that was not
+-- a name that was read
 pub named : (name : Option ℕ) (s : ℕ) → Ok s ≡ within_range (λ (s : ℕ). []) name → name ≡ Some s
 named None s is = cc
 named (Some t) s is = cc
-
-pub unnamed : (name : Option ℕ) (e : BadLine) → Err e ≡ within_range (λ (s : ℕ). []) name → (name ≡ None) × (e ≡ BadCommand)
-unnamed None e is = (refl, cc)
-unnamed (Some t) e is = cc
 
 by_test : {Y : Type 0} (fits : Bool) (y : Y) (t : ℕ) (e : BadLine) → ◌≡◌ {A = Result Y BadLine} (Err e) (if fits then Ok y else Err BadNumber) → ◌≡◌ {A = Result (ℕ × Y) BadLine} (Err e) (if fits then Ok (t, y) else Err BadNumber)
 by_test true y t e is = cc
@@ -188,14 +183,3 @@ reading-word line lacks = rw (parts_at-one 32 line lacks) (alone (verb_of line))
 -- a line with one is a verb and the words after the space
 pub reading-words : (word words : List ℕ) → Lacks 32 word → reading (word ++ 32 ∷ words) ≡ within_range numbers_of (option_and_then (λ verb. command_of verb (words_of words)) (verb_of word))
 reading-words word words lacks = rw (parts_at-first 32 word words lacks)
-
-made : {X : Type 0} (make : X → Command) (numbers : X → List ℕ) (fits : Bool) (x : X) (told : Result X BadLine) (out : Result Command BadLine) → told ≡ (if fits then Ok x else Err BadNumber) → MatchResult told (λ x. IsOkAnd out (λ y. y ≡ make x)) (λ e. out ≡ Err e) → out ≡ (if fits then Ok (make x) else Err BadNumber)
-made make numbers true x told (Ok y) is cases = ap Ok (rw is at cases)
-made make numbers true x told (Err e) is cases = absurd (rw is at cases)
-made make numbers false x told out is cases = rw is at cases
-
--- what is told of a command, by what is told of the values that it is made of
-pub mapped : {X : Type 0} (make : X → Command) (numbers : X → List ℕ) (found : Option X) (told : Result X BadLine) (out : Result Command BadLine) → ((x : X) → numbers_of (make x) ≡ numbers x) → told ≡ within_range numbers found → MatchResult told (λ x. IsOkAnd out (λ y. y ≡ make x)) (λ e. out ≡ Err e) → out ≡ within_range numbers_of (option_map make found)
-mapped make numbers None told out same is cases = rw is at cases
-mapped make numbers (Some x) told out same is cases =
-    rw (same x) (made make numbers (list_all (λ n. nat_le n greatest) (numbers x)) x told out is cases)
