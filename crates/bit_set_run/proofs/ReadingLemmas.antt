@@ -1,20 +1,21 @@
 -- Numbers read a digit at a time, and what a line's words come to.
-use Rattle.std.proofs.Common.{◌≡◌, ℕ, zero, suc, ◌+◌, ◌-◌, ◌*◌, ◌<◌, Bool, true, false, ◌&&◌, List, [], ◌∷◌, ◌++◌, length, take, get_or, ap, sym, ◌∙◌, refl, arith, eqb, nat_lt, ◌⊎◌, inl, inr, Option, None, Some, Result, Ok, Err, IsOkAnd, MatchResult, nat_le, if◌then◌else◌}
+use Rattle.std.proofs.Common.{◌≡◌, ℕ, zero, suc, ◌+◌, ◌-◌, ◌*◌, ◌<◌, Bool, true, false, not, ◌&&◌, List, [], ◌∷◌, ◌++◌, length, take, get_or, ap, sym, ◌∙◌, refl, arith, eqb, nat_lt, ◌⊎◌, inl, inr, Option, None, Some, Result, Ok, Err, nat_le, if◌then◌else◌}
 use Rattle.std.specs.Char.{is_ascii_digit, digit_value, IsAsciiDigit}
-use Rattle.std.specs.Str.{all_ascii_digits}
+use Rattle.std.specs.Prelude.{codes}
+use Rattle.std.specs.Str.{all_ascii_digits, bytes_eq}
 use Rattle.std.specs.Str.Parse.{digits_value}
 use Rattle.std.proofs.lemmas.Int.Digits.{digits_value_more}
 use Rattle.std.proofs.lemmas.Str.{digit_value_digit}
 use Rattle.std.proofs.lemmas.Bool.Decides.{eqb_tells}
 use Rattle.std.specs.List.{list_all}
-use Rattle.std.specs.Option.{option_and_then, option_map}
+use Rattle.std.specs.Option.{option_and_then, option_map, option_zip}
 use Rattle.bit_set_run.specs.Cuts.{Lacks}
-use Rattle.bit_set_run.specs.declared.commands.Command.{Command}
+use Rattle.bit_set_run.specs.declared.commands.Command.TheVariants.{RestIter}
 use Rattle.bit_set_run.specs.declared.reading.Verb.{Verb}
-use Rattle.bit_set_run.specs.declared.reading.Verb.TheVariants.{Insert, Remove, Contains, Count, Items}
+use Rattle.bit_set_run.specs.declared.reading.Verb.TheVariants.{Insert, Remove, Contains, Extend, Truncate, Empty, Reset, Count, IsEmpty, Items, Copy, Rest}
 use Rattle.bit_set_run.specs.declared.reading.BadLine.{BadLine}
 use Rattle.bit_set_run.specs.declared.reading.BadLine.TheVariants.{BadCommand, BadNumber}
-use Rattle.bit_set_run.specs.Reading.{command_of, held, name_alone, name_and_number, name_of, number_of, numbers_of, reading, verb_of, within_range}
+use Rattle.bit_set_run.specs.Reading.{command_of, held, name_alone, name_and_number, name_of, number_of, numbers_of, reading, rest_of, two_names, verb_of, within_range}
 use Rattle.bit_set_run.specs.Run.{greatest}
 use Rattle.bit_set_run.specs.Words.{words_of}
 use Rattle.bit_set_run.proofs.CutLemmas.{parts_at-first, parts_at-one, parts_some}
@@ -98,57 +99,82 @@ number_of-cut : (text : List ℕ) (place : ℕ) → place < length text → get_
 number_of-cut text place below space = number_of-other text place below (rw space)
 
 -- a name alone is what the whole text spells
-pub name_alone-words : (text : List ℕ) → name_alone (words_of text) ≡ name_of text
-name_alone-words text = elim (one_word text) [
+pub name_alone_words : (text : List ℕ) → name_alone (words_of text) ≡ name_of text
+name_alone_words text = elim (one_word text) [
   | inl alone ↦ rw alone
   | inr two ↦ rw (two.words, name_of-cut text two.place two.below two.space)
 ]
 
--- a name and a number, where either was read
-abbrev pub both_of : Option ℕ → Option ℕ → Option (ℕ × ℕ)
-both_of name number = option_and_then (λ s. option_map (λ n. (s, n)) number) name
-
-pub nothing : (name : Option ℕ) → None ≡ both_of name None
+pub nothing : {X Y : Type 0} (x : Option X) → None ≡ option_zip {U = Y} x None
 nothing None = refl
-nothing (Some s) = refl
+nothing (Some x) = refl
 
 -- the text after the first space is the number
-pub name_and_number-words : (name number : List ℕ) → Lacks 32 name → name_and_number (words_of (name ++ 32 ∷ number)) ≡ both_of (name_of name) (number_of number)
+pub name_and_number-words : (name number : List ℕ) → Lacks 32 name → name_and_number (words_of (name ++ 32 ∷ number)) ≡ option_zip (name_of name) (number_of number)
 name_and_number-words name number lacks = rw (parts_at-first 32 name number lacks) (elim (one_word number) [
   | inl alone ↦ rw alone
   | inr two ↦ rw (two.words, number_of-cut number two.place two.below two.space) (nothing (name_of name))
 ])
 
-by_test : (fits : Bool) (n t : ℕ) (e : BadLine) → ◌≡◌ {A = Result ℕ BadLine} (Err e) (if fits then Ok n else Err BadNumber) → ◌≡◌ {A = Result (ℕ × ℕ) BadLine} (Err e) (if fits then Ok (t, n) else Err BadNumber)
-by_test true n t e is = cc
-by_test false n t e is = cc
+-- it is the second name
+pub two_names-words : (first second : List ℕ) → Lacks 32 first → two_names (words_of (first ++ 32 ∷ second)) ≡ option_zip (name_of first) (name_of second)
+two_names-words first second lacks = rw (parts_at-first 32 first second lacks) (elim (one_word second) [
+  | inl alone ↦ rw alone
+  | inr two ↦ rw (two.words, name_of-cut second two.place two.below two.space) (nothing (name_of first))
+])
 
-ok_by_test : (fits : Bool) (m t s n : ℕ) → ◌≡◌ {A = Result ℕ BadLine} (Ok s) (Ok t) → ◌≡◌ {A = Result ℕ BadLine} (Ok n) (if fits then Ok m else Err BadNumber) → ◌≡◌ {A = Result (ℕ × ℕ) BadLine} (Ok (s, n)) (if fits then Ok (t, m) else Err BadNumber)
-ok_by_test true m t s n named is = cc
-ok_by_test false m t s n named is = cc
+-- a name that was read
+pub named : (name : Option ℕ) (s : ℕ) → Ok s ≡ within_range (λ (s : ℕ). []) name → name ≡ Some s
+named None s is = cc
+named (Some t) s is = cc
 
--- what is told of a name and a number, by what is told of each
-pub both_of-name_err : (name number : Option ℕ) (e : BadLine) → Err e ≡ within_range (λ (s : ℕ). []) name → Err e ≡ within_range (λ (p : ℕ × ℕ). p.1 ∷ []) (both_of name number)
-both_of-name_err None number e is = cc
-both_of-name_err (Some s) number e is = cc
+by_test : {Y : Type 0} (fits : Bool) (y : Y) (t : ℕ) (e : BadLine) → ◌≡◌ {A = Result Y BadLine} (Err e) (if fits then Ok y else Err BadNumber) → ◌≡◌ {A = Result (ℕ × Y) BadLine} (Err e) (if fits then Ok (t, y) else Err BadNumber)
+by_test true y t e is = cc
+by_test false y t e is = cc
 
-pub both_of-number_err : (name number : Option ℕ) (s : ℕ) (e : BadLine) → Ok s ≡ within_range (λ (s : ℕ). []) name → Err e ≡ within_range (λ (n : ℕ). n ∷ []) number → Err e ≡ within_range (λ (p : ℕ × ℕ). p.1 ∷ []) (both_of name number)
-both_of-number_err None number s e named is = cc
-both_of-number_err (Some t) None s e named is = cc
-both_of-number_err (Some t) (Some n) s e named is = by_test (list_all (λ m. nat_le m greatest) (n ∷ [])) n t e is
+ok_by_test : {Y : Type 0} (fits : Bool) (z : Y) (s : ℕ) (y : Y) → ◌≡◌ {A = Result Y BadLine} (Ok y) (if fits then Ok z else Err BadNumber) → ◌≡◌ {A = Result (ℕ × Y) BadLine} (Ok (s, y)) (if fits then Ok (s, z) else Err BadNumber)
+ok_by_test true z s y is = cc
+ok_by_test false z s y is = cc
 
-pub both_of-ok : (name number : Option ℕ) (s n : ℕ) → Ok s ≡ within_range (λ (s : ℕ). []) name → Ok n ≡ within_range (λ (n : ℕ). n ∷ []) number → Ok (s, n) ≡ within_range (λ (p : ℕ × ℕ). p.1 ∷ []) (both_of name number)
-both_of-ok None number s n named is = cc
-both_of-ok (Some t) None s n named is = cc
-both_of-ok (Some t) (Some m) s n named is = ok_by_test (list_all (λ k. nat_le k greatest) (m ∷ [])) m t s n named is
+-- what is told of a name and another value, by what is told of each
+pub zip-name_err : {Y : Type 0} (numbers : Y → List ℕ) (name : Option ℕ) (other : Option Y) (e : BadLine) → Err e ≡ within_range (λ (s : ℕ). []) name → Err e ≡ within_range (λ (p : ℕ × Y). numbers p.1) (option_zip name other)
+zip-name_err numbers None other e is = cc
+zip-name_err numbers (Some s) other e is = cc
+
+pub zip-other_err : {Y : Type 0} (numbers : Y → List ℕ) (name : Option ℕ) (other : Option Y) (s : ℕ) (e : BadLine) → Ok s ≡ within_range (λ (s : ℕ). []) name → Err e ≡ within_range numbers other → Err e ≡ within_range (λ (p : ℕ × Y). numbers p.1) (option_zip name other)
+zip-other_err numbers name None s e is told = rw (named name s is) (cc)
+zip-other_err numbers name (Some y) s e is told = rw (named name s is) (by_test (list_all (λ m. nat_le m greatest) (numbers y)) y s e told)
+
+pub zip-ok : {Y : Type 0} (numbers : Y → List ℕ) (name : Option ℕ) (other : Option Y) (s : ℕ) (y : Y) → Ok s ≡ within_range (λ (s : ℕ). []) name → Ok y ≡ within_range numbers other → Ok (s, y) ≡ within_range (λ (p : ℕ × Y). numbers p.1) (option_zip name other)
+zip-ok numbers name None s y is told = cc
+zip-ok numbers name (Some z) s y is told = rw (named name s is) (ok_by_test (list_all (λ k. nat_le k greatest) (numbers z)) z s y told)
+
+-- what is told of numbers of which some are read, and whether one of those was too large
+abbrev pub told : List ℕ → Bool → Option (List ℕ) → Result (List ℕ) BadLine
+told read large None = Err BadCommand
+told read large (Some ns) = if not large && list_all (λ n. nat_le n greatest) ns then Ok (read ++ ns) else Err BadNumber
+
+-- `rest` and a walk alone
+pub rest_of-alone : (walk : List ℕ) → rest_of (walk ∷ []) ≡ None
+rest_of-alone walk = elim (bytes_eq walk (codes "iter")) as (λ v. (if v then option_map (λ (s, n). RestIter s n) (name_and_number []) else None) ≡ None) [
+  | true ↦ refl
+  | false ↦ refl
+]
 
 alone : (verb : Option Verb) → within_range numbers_of (option_and_then (λ v. command_of v []) verb) ≡ Err BadCommand
 alone None = refl
 alone (Some Insert) = refl
 alone (Some Remove) = refl
 alone (Some Contains) = refl
+alone (Some Extend) = refl
+alone (Some Truncate) = refl
+alone (Some Empty) = refl
+alone (Some Reset) = refl
 alone (Some Count) = refl
+alone (Some IsEmpty) = refl
 alone (Some Items) = refl
+alone (Some Copy) = refl
+alone (Some Rest) = refl
 
 -- a line without a space spells nothing, since each verb wants a name
 pub reading-word : (line : List ℕ) → Lacks 32 line → reading line ≡ Err BadCommand
@@ -157,14 +183,3 @@ reading-word line lacks = rw (parts_at-one 32 line lacks) (alone (verb_of line))
 -- a line with one is a verb and the words after the space
 pub reading-words : (word words : List ℕ) → Lacks 32 word → reading (word ++ 32 ∷ words) ≡ within_range numbers_of (option_and_then (λ verb. command_of verb (words_of words)) (verb_of word))
 reading-words word words lacks = rw (parts_at-first 32 word words lacks)
-
-made : {X : Type 0} (make : X → Command) (numbers : X → List ℕ) (fits : Bool) (x : X) (told : Result X BadLine) (out : Result Command BadLine) → told ≡ (if fits then Ok x else Err BadNumber) → MatchResult told (λ x. IsOkAnd out (λ y. y ≡ make x)) (λ e. out ≡ Err e) → out ≡ (if fits then Ok (make x) else Err BadNumber)
-made make numbers true x told (Ok y) is cases = ap Ok (rw is at cases)
-made make numbers true x told (Err e) is cases = absurd (rw is at cases)
-made make numbers false x told out is cases = rw is at cases
-
--- what is told of a command, by what is told of the values that it is made of
-pub mapped : {X : Type 0} (make : X → Command) (numbers : X → List ℕ) (found : Option X) (told : Result X BadLine) (out : Result Command BadLine) → ((x : X) → numbers_of (make x) ≡ numbers x) → told ≡ within_range numbers found → MatchResult told (λ x. IsOkAnd out (λ y. y ≡ make x)) (λ e. out ≡ Err e) → out ≡ within_range numbers_of (option_map make found)
-mapped make numbers None told out same is cases = rw is at cases
-mapped make numbers (Some x) told out same is cases =
-    rw (same x) (made make numbers (list_all (λ n. nat_le n greatest) (numbers x)) x told out is cases)

@@ -1,17 +1,18 @@
 -- A line with an empty word, or with a byte that no command has, is a bad command.
-use Rattle.std.proofs.Common.{◌≡◌, ℕ, zero, suc, ◌<◌, Bool, true, false, ◌&&◌, ◌||◌, ◌==◌, nat_lt, nat_le, List, [], ◌∷◌, length, get_or, Option, None, Some, Err, inl, inr, arith, refl, ap, sym, ◌∙◌, leb-true, le-leb}
+use Rattle.std.proofs.Common.{◌≡◌, ℕ, zero, suc, ◌<◌, Bool, true, false, ◌&&◌, ◌||◌, ◌==◌, nat_lt, nat_le, List, [], ◌∷◌, length, get_or, Option, None, Some, Err, inl, inr, arith, refl, ap, sym, ◌∙◌, if◌then◌else◌, leb-true, le-leb}
 use Rattle.std.specs.Char.{is_ascii_digit, is_ascii_lowercase}
 use Rattle.std.specs.Cmp.Lexicographic.{same_text}
 use Rattle.std.specs.Int.{is_in_range}
 use Rattle.std.specs.List.{list_all, onto_first, Contains}
-use Rattle.std.specs.Option.{option_and_then}
+use Rattle.std.specs.Map.{lookup}
+use Rattle.std.specs.Option.{option_and_then, option_zip}
 use Rattle.std.specs.Prelude.{codes}
 use Rattle.std.specs.Str.{all_ascii_digits, bytes_eq}
 use Rattle.std.proofs.lemmas.Bool.Decides.{eqb_tells}
 use Rattle.bit_set_run.specs.declared.reading.BadLine.TheVariants.{BadCommand}
 use Rattle.bit_set_run.specs.declared.reading.Verb.{Verb}
 use Rattle.bit_set_run.specs.declared.reading.Verb.TheVariants as verb
-use Rattle.bit_set_run.specs.Reading.{command_of, is_plain, name_alone, name_and_number, name_of, number_of, reading, spelled, verb_of}
+use Rattle.bit_set_run.specs.Reading.{all_numbers, command_of, is_plain, name_alone, name_and_number, name_and_numbers, name_of, number_of, reading, rest_of, spelled, two_names, verb_of, verbs}
 use Rattle.bit_set_run.specs.Words.{words_of}
 use Rattle.bit_set_run.proofs.ReadingLemmas.{and_parts, nothing}
 
@@ -32,14 +33,14 @@ one_false : (a : Bool) → (a && true) ≡ false → a ≡ false
 one_false true e = e
 one_false false e = refl
 
-middle_false : (a b c : Bool) → ((a || b) || c) ≡ false → b ≡ false
-middle_false true b c e = cc
-middle_false false true c e = cc
-middle_false false false c e = refl
+middle_false : (a b c d : Bool) → (((a || b) || c) || d) ≡ false → b ≡ false
+middle_false true b c d e = cc
+middle_false false true c d e = cc
+middle_false false false c d e = refl
 
-first_false : (a b c : Bool) → ((a || b) || c) ≡ false → a ≡ false
-first_false true b c e = cc
-first_false false b c e = refl
+first_false : (a b c d : Bool) → (((a || b) || c) || d) ≡ false → a ≡ false
+first_false true b c d e = cc
+first_false false b c d e = refl
 
 regroup : (a b c : Bool) → ((a && b) && c) ≡ (a && (b && c))
 regroup true b c = refl
@@ -51,25 +52,24 @@ not_same word text fit unfit = elim (bytes_eq word text) as (λ v. v ≡ bytes_e
   | false ↦ λ e. refl
 ] refl
 
+lookup-unfit : (entries : List (List ℕ × Verb)) (word : List ℕ) → list_all (λ e. is_fit e.0) entries ≡ true → is_fit word ≡ false → lookup (bytes_eq word) entries ≡ None
+lookup-unfit [] word fit unfit = refl
+lookup-unfit (e ∷ es) word fit unfit =
+    let parts : (is_fit e.0 ≡ true) × (list_all (λ x. is_fit x.0) es ≡ true) = and_parts (is_fit e.0) (list_all (λ x. is_fit x.0) es) fit in
+    rw (not_same word e.0 parts.0 unfit) (lookup-unfit es word parts.1 unfit)
+
 verb_of-unfit : (word : List ℕ) → is_fit word ≡ false → verb_of word ≡ None
-verb_of-unfit word unfit =
-    rw (
-      not_same word (codes "insert") refl unfit,
-      not_same word (codes "remove") refl unfit,
-      not_same word (codes "contains") refl unfit,
-      not_same word (codes "count") refl unfit,
-      not_same word (codes "items") refl unfit,
-    )
+verb_of-unfit word unfit = lookup-unfit verbs word refl unfit
 
 digit_is_plain : (b : ℕ) → is_plain b ≡ false → is_ascii_digit b ≡ false
-digit_is_plain b strange = middle_false (is_ascii_lowercase b) (is_ascii_digit b) (b == 32) strange
+digit_is_plain b strange = middle_false (is_ascii_lowercase b) (is_ascii_digit b) (b == 95) (b == 32) strange
 
 name_is_plain : (b : ℕ) → is_plain b ≡ false → is_in_range 97 112 b ≡ false
 name_is_plain b strange = elim (is_in_range 97 112 b) as (λ v. v ≡ is_in_range 97 112 b → v ≡ false) [
   | true ↦ λ e.
       let both : (nat_le 97 b ≡ true) × (nat_le b 112 ≡ true) = and_parts (nat_le 97 b) (nat_le b 112) (sym e) in
       let small : is_ascii_lowercase b ≡ true = rw (both.0, le-leb b 122 (omega (arith, leb-true b 112 both.1))) in
-      sym small ∙ first_false (is_ascii_lowercase b) (is_ascii_digit b) (b == 32) strange
+      sym small ∙ first_false (is_ascii_lowercase b) (is_ascii_digit b) (b == 95) (b == 32) strange
   | false ↦ λ e. refl
 ] refl
 
@@ -95,21 +95,60 @@ name_alone-unfit [] unfit = refl
 name_alone-unfit (name ∷ []) unfit = name_of-unfit name (one_false (is_fit name) unfit)
 name_alone-unfit (name ∷ more ∷ others) unfit = refl
 
+zip_none : {X Y : Type 0} (a b : Bool) (x : Option X) (y : Option Y) → (a ≡ false → x ≡ None) → (b ≡ false → y ≡ None) → (a && b) ≡ false → option_zip x y ≡ None
+zip_none true b x y first second unfit = rw (second unfit) (sym (nothing x))
+zip_none false b x y first second unfit = rw (first refl)
+
 name_and_number-unfit : (words : List (List ℕ)) → list_all is_fit words ≡ false → name_and_number words ≡ None
 name_and_number-unfit [] unfit = refl
 name_and_number-unfit (name ∷ []) unfit = refl
-name_and_number-unfit (name ∷ number ∷ []) unfit = elim (is_fit name) as (λ v. v ≡ is_fit name → (v && (is_fit number && true)) ≡ false → name_and_number (name ∷ number ∷ []) ≡ None) [
-  | true ↦ λ e rest. rw (number_of-unfit number (one_false (is_fit number) rest)) (sym (nothing (name_of name)))
-  | false ↦ λ e rest. rw (name_of-unfit name (sym e))
-] refl unfit
+name_and_number-unfit (name ∷ number ∷ []) unfit =
+    zip_none (is_fit name) (is_fit number && true) (name_of name) (number_of number)
+    (name_of-unfit name) (λ e. number_of-unfit number (one_false (is_fit number) e)) unfit
 name_and_number-unfit (name ∷ number ∷ more ∷ others) unfit = refl
+
+two_names-unfit : (words : List (List ℕ)) → list_all is_fit words ≡ false → two_names words ≡ None
+two_names-unfit [] unfit = refl
+two_names-unfit (first ∷ []) unfit = refl
+two_names-unfit (first ∷ second ∷ []) unfit =
+    zip_none (is_fit first) (is_fit second && true) (name_of first) (name_of second)
+    (name_of-unfit first) (λ e. name_of-unfit second (one_false (is_fit second) e)) unfit
+two_names-unfit (first ∷ second ∷ more ∷ others) unfit = refl
+
+all_numbers-unfit : (words : List (List ℕ)) → list_all is_fit words ≡ false → all_numbers words ≡ None
+all_numbers-unfit [] unfit = cc
+all_numbers-unfit (word ∷ words) unfit =
+    rw (zip_none (is_fit word) (list_all is_fit words) (number_of word) (all_numbers words) (number_of-unfit word) (all_numbers-unfit words) unfit)
+
+name_and_numbers-unfit : (words : List (List ℕ)) → list_all is_fit words ≡ false → name_and_numbers words ≡ None
+name_and_numbers-unfit [] unfit = refl
+name_and_numbers-unfit (name ∷ numbers) unfit =
+    zip_none (is_fit name) (list_all is_fit numbers) (name_of name) (all_numbers numbers) (name_of-unfit name) (all_numbers-unfit numbers) unfit
+
+either_none : {X : Type 0} (test : Bool) → ◌≡◌ {A = Option X} (if test then None else None) None
+either_none true = refl
+either_none false = refl
+
+rest_of-unfit : (words : List (List ℕ)) → list_all is_fit words ≡ false → rest_of words ≡ None
+rest_of-unfit [] unfit = refl
+rest_of-unfit (walk ∷ words) unfit = elim (is_fit walk) as (λ v. v ≡ is_fit walk → (v && list_all is_fit words) ≡ false → rest_of (walk ∷ words) ≡ None) [
+  | true ↦ λ e rest. rw (name_and_number-unfit words rest) (either_none (bytes_eq walk (codes "iter")))
+  | false ↦ λ e rest. rw (not_same walk (codes "iter") refl (sym e))
+] refl unfit
 
 command_of-unfit : (v : Verb) (words : List (List ℕ)) → list_all is_fit words ≡ false → command_of v words ≡ None
 command_of-unfit verb.Insert words unfit = rw (name_and_number-unfit words unfit)
 command_of-unfit verb.Remove words unfit = rw (name_and_number-unfit words unfit)
 command_of-unfit verb.Contains words unfit = rw (name_and_number-unfit words unfit)
+command_of-unfit verb.Extend words unfit = rw (name_and_numbers-unfit words unfit)
+command_of-unfit verb.Truncate words unfit = rw (name_and_number-unfit words unfit)
+command_of-unfit verb.Empty words unfit = rw (name_alone-unfit words unfit)
+command_of-unfit verb.Reset words unfit = rw (name_alone-unfit words unfit)
 command_of-unfit verb.Count words unfit = rw (name_alone-unfit words unfit)
+command_of-unfit verb.IsEmpty words unfit = rw (name_alone-unfit words unfit)
 command_of-unfit verb.Items words unfit = rw (name_alone-unfit words unfit)
+command_of-unfit verb.Copy words unfit = rw (two_names-unfit words unfit)
+command_of-unfit verb.Rest words unfit = rest_of-unfit words unfit
 
 arguments_unfit : (v : Option Verb) (words : List (List ℕ)) → list_all is_fit words ≡ false → option_and_then (λ w. command_of w words) v ≡ None
 arguments_unfit None words unfit = refl

@@ -39,7 +39,7 @@ fn answer_line<B: BitBlock>(
     ensures sets { OnOk result (table.new ≡ sets_after table.old (reading line.now)) }
     ensures text { OnOk result (text.new.items ≡ text.old.items ++ answer_to table.old (reading line.now)) }
 {
-    match read_line(line) {
+    match read_line(alloc, line)? {
         Err(bad) => text.extend_from_slice(bad_text(bad))?,
         Ok(command) => {
             if run(alloc, table, &[command], replies).is_err() {

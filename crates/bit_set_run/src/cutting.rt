@@ -3,6 +3,7 @@
 ghost use Rattle.std.specs.Prelude.{◌≡◌, ◌<◌, ◌∷◌, ◌++◌, [], IfNone, IfSome, MatchOption, length};
 ghost use Rattle.bit_set_run.specs.Cuts.{Lacks};
 ghost use Rattle.bit_set_run.specs.Lines.{lines_of};
+ghost use Rattle.bit_set_run.specs.Words.{words_of, words_left};
 
 /// What stands before the first such byte and what stands after it; `None` where there is none. One
 /// scan, up to that byte.
@@ -28,4 +29,16 @@ pub(crate) fn next_line(input: &[u8]) -> Option<(&[u8], &[u8])>
         return None;
     }
     Some(split_once(input, b'\n').unwrap_or((input, &[])))
+}
+
+/// The first word of the text, and what comes after the space behind it; `None` where there is no space.
+#[inline]
+pub(crate) fn first_word(text: &[u8]) -> (&[u8], Option<&[u8]>)
+    ensures words { words_of text.now ≡ result.0.now ∷ words_left result.1 }
+    ensures shorter { IfSome result.1 (λ rest. length rest.now < length text.now) }
+{
+    match split_once(text, b' ') {
+        Some((word, rest)) => (word, Some(rest)),
+        None => (text, None),
+    }
 }

@@ -22,7 +22,7 @@ pub fn words_are_unique()
     ensures only { (line : List ℕ) (words : List (List ℕ)) → AreWords line words → words ≡ words_of line }
 {}
 
-/// What three inputs give, by the definitions alone: each line beside its answer.
+/// What some inputs give, by the definitions alone: each line beside its answer.
 pub fn outputs_are_as_shown()
     ensures sets { Gives (
         ("insert a 3", "true") ∷
@@ -64,6 +64,56 @@ pub fn outputs_are_as_shown()
         ("insert a 1 2", "bad command") ∷
         ("insert a +1", "bad command") ∷
         ("insert a 18446744073709551616", "bad number") ∷
+        []) }
+    ensures whole_sets { Gives (
+        ("extend a 9 18446744073709551615 11", "refused element") ∷
+        ("extend a", "ok") ∷
+        ("items a", "{9}") ∷
+        ("copy a a", "refused same") ∷
+        ("copy a b", "ok") ∷
+        ("items b", "{9}") ∷
+        ("truncate b 9", "ok") ∷
+        ("is_empty b", "true") ∷
+        ("extend b 5 6 99999999999999999999", "bad number") ∷
+        ("extend b 5 x 99999999999999999999", "bad command") ∷
+        ("items b", "{}") ∷
+        ("extend b 3 1 2 1", "ok") ∷
+        ("count b", "3") ∷
+        ("empty b", "ok") ∷
+        ("reset a", "ok") ∷
+        ("items a", "{}") ∷
+        []) }
+    ensures rests { Gives (
+        ("extend b 3 200", "ok") ∷
+        ("rest iter b 0", "2 {3, 200}") ∷
+        ("rest iter b 1", "1 {200}") ∷
+        ("rest iter b 9", "0 {}") ∷
+        ("rest iter q 1", "bad command") ∷
+        []) }
+    ensures whole_set_edges { Gives (
+        ("extend p 99999999999999999999 5 ", "bad command") ∷
+        ("extend p 5  6", "bad command") ∷
+        ("extend q 99999999999999999999", "bad command") ∷
+        ("extend", "bad command") ∷
+        ("extend p 4 18446744073709551615 99999999999999999999", "bad number") ∷
+        ("extend p 18446744073709551615", "refused element") ∷
+        ("extend p 8 7", "ok") ∷
+        ("is_empty p", "false") ∷
+        ("copy p q", "bad command") ∷
+        ("copy p", "bad command") ∷
+        ("copy p a b", "bad command") ∷
+        ("copy a p", "ok") ∷
+        ("count p", "0") ∷
+        ("truncate p 99999999999999999999", "bad number") ∷
+        ("truncate p", "bad command") ∷
+        ("isempty p", "bad command") ∷
+        ("rest p 1", "bad command") ∷
+        ("rest iter", "bad command") ∷
+        ("rest iter p", "bad command") ∷
+        ("rest iter p 99999999999999999999", "bad number") ∷
+        ("iter p 1", "bad command") ∷
+        ("empty p 1", "bad command") ∷
+        ("reset", "bad command") ∷
         []) }
     ensures last_line { output (codes "count a\n\ncount a") ≡ codes "0\nbad command\n0\n" }
     ensures nothing { output [] ≡ [] }

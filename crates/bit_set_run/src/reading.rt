@@ -1,12 +1,14 @@
 //! A line read as a command.
 
-ghost use Rattle.std.specs.Prelude.{◌≡◌, ℕ, ◌+◌, ◌-◌, ◌*◌, [], ◌∷◌};
+ghost use Rattle.std.specs.Prelude.{◌≡◌, ℕ, ◌+◌, ◌-◌, ◌*◌, [], ◌∷◌, IfOk, OnErr, slice_get};
 ghost use Rattle.std.specs.Char.{IsAsciiDigit};
-ghost use Rattle.bit_set_run.specs.Reading.{held, name_and_number, name_of, number_of, reading, verb_of, within_range};
-ghost use Rattle.bit_set_run.specs.Words.{words_of};
+ghost use Rattle.std.specs.Option.{option_and_then};
+ghost use Rattle.bit_set_run.specs.Reading.{all_numbers, command_of, held, name_and_number, name_of, number_of, numbers_of, reading, rest_of, two_names, verb_of, within_range};
+ghost use Rattle.bit_set_run.specs.Words.{words_left, words_of};
 
-use crate::cutting::split_once;
-use crate::{Command, SetName};
+use crate::cutting::{first_word, split_once};
+use crate::{Command, Numbers, SetName};
+use std::alloc::{AllocError, Global};
 
 /// Why a line is no command.
 #[derive(Clone, Copy, Debug, PartialEq, Eq)]
@@ -23,33 +25,29 @@ enum Verb {
     Insert,
     Remove,
     Contains,
+    Extend,
+    Truncate,
+    Empty,
+    Reset,
     Count,
+    IsEmpty,
     Items,
+    Copy,
+    Rest,
 }
 
 /// The command that the line spells. A word that does not fit is told before a number too large,
-/// wherever in the line they stand. No memory is taken.
-pub(crate) fn read_line(line: &[u8]) -> Result<Command, BadLine>
-    ensures { result ≡ reading line.now }
+/// wherever in the line they stand. Memory is taken for the numbers of an `extend` alone.
+pub(crate) fn read_line(alloc: Global, line: &[u8]) -> Result<Result<Command, BadLine>, AllocError>
+    ensures read { IfOk result (λ read. read ≡ reading line.now) }
+    ensures memory { OnErr result (option_and_then verb_of (slice_get (words_of line.now) 0) ≡ Some Verb.Extend) }
 {
     let Some((word, words)) = split_once(line, b' ') else {
-        return Err(BadLine::BadCommand);
+        return Ok(Err(BadLine::BadCommand));
     };
-    let Some(verb) = verb_of(word) else {
-        return Err(BadLine::BadCommand);
-    };
-    match verb {
-        Verb::Insert => {
-            read_name_and_number(words).map(|(name, number)| Command::Insert(name, number))
-        }
-        Verb::Remove => {
-            read_name_and_number(words).map(|(name, number)| Command::Remove(name, number))
-        }
-        Verb::Contains => {
-            read_name_and_number(words).map(|(name, number)| Command::Contains(name, number))
-        }
-        Verb::Count => read_name(words).map(Command::Count),
-        Verb::Items => read_name(words).map(Command::Items),
+    match verb_of(word) {
+        Some(verb) => read_command(alloc, verb, words),
+        None => Ok(Err(BadLine::BadCommand)),
     }
 }
 
@@ -60,10 +58,79 @@ fn verb_of(word: &[u8]) -> Option<Verb>
         b"insert" => Some(Verb::Insert),
         b"remove" => Some(Verb::Remove),
         b"contains" => Some(Verb::Contains),
+        b"extend" => Some(Verb::Extend),
+        b"truncate" => Some(Verb::Truncate),
+        b"empty" => Some(Verb::Empty),
+        b"reset" => Some(Verb::Reset),
         b"count" => Some(Verb::Count),
+        b"is_empty" => Some(Verb::IsEmpty),
         b"items" => Some(Verb::Items),
+        b"copy" => Some(Verb::Copy),
+        b"rest" => Some(Verb::Rest),
         _ => None,
     }
+}
+
+// What the verb and the words after it spell.
+#[tactic(auto, using(crate::proofs::ReadingLemmas::name_alone_words))]
+fn read_command(
+    alloc: Global,
+    verb: Verb,
+    words: &[u8],
+) -> Result<Result<Command, BadLine>, AllocError>
+    ensures read { IfOk result (λ read. read ≡ within_range numbers_of (command_of verb (words_of words.now))) }
+    ensures memory { OnErr result (verb ≡ Verb.Extend) }
+{
+    match verb {
+        Verb::Insert => {
+            Ok(read_name_and_number(words).map(|(name, number)| Command::Insert(name, number)))
+        }
+        Verb::Remove => {
+            Ok(read_name_and_number(words).map(|(name, number)| Command::Remove(name, number)))
+        }
+        Verb::Contains => {
+            Ok(read_name_and_number(words).map(|(name, number)| Command::Contains(name, number)))
+        }
+        Verb::Extend => read_extend(alloc, words),
+        Verb::Truncate => {
+            Ok(read_name_and_number(words).map(|(name, number)| Command::Truncate(name, number)))
+        }
+        Verb::Empty => Ok(read_name(words).map(Command::Empty)),
+        Verb::Reset => Ok(read_name(words).map(Command::Reset)),
+        Verb::Count => Ok(read_name(words).map(Command::Count)),
+        Verb::IsEmpty => Ok(read_name(words).map(Command::IsEmpty)),
+        Verb::Items => Ok(read_name(words).map(Command::Items)),
+        Verb::Copy => Ok(read_two_names(words).map(|(from, to)| Command::Copy(from, to))),
+        Verb::Rest => Ok(read_rest(words)),
+    }
+}
+
+// The walk after `rest`, and its own words.
+fn read_rest(words: &[u8]) -> Result<Command, BadLine>
+    ensures { result ≡ within_range numbers_of (rest_of (words_of words.now)) }
+{
+    let Some((walk, words)) = split_once(words, b' ') else {
+        return Err(BadLine::BadCommand);
+    };
+    match walk {
+        b"iter" => {
+            read_name_and_number(words).map(|(name, number)| Command::RestIter(name, number))
+        }
+        _ => Err(BadLine::BadCommand),
+    }
+}
+
+// A set's name and the numbers to put into it.
+fn read_extend(alloc: Global, words: &[u8]) -> Result<Result<Command, BadLine>, AllocError>
+    ensures { IfOk result (λ read. read ≡ within_range numbers_of (command_of Verb.Extend (words_of words.now))) }
+{
+    let (name, numbers) = first_word(words);
+    let name = match read_name(name) {
+        Ok(name) => name,
+        Err(bad) => return Ok(Err(bad)),
+    };
+    let numbers = read_numbers(alloc, numbers)?;
+    Ok(numbers.map(|numbers| Command::Extend(name, numbers)))
 }
 
 // The set that the word names.
@@ -84,6 +151,41 @@ fn read_name_and_number(words: &[u8]) -> Result<(SetName, usize), BadLine>
         return Err(BadLine::BadCommand);
     };
     Ok((read_name(name)?, read_number(number)?))
+}
+
+// Two sets' names with a space between them.
+fn read_two_names(words: &[u8]) -> Result<(SetName, SetName), BadLine>
+    ensures { result ≡ within_range (λ _. []) (two_names (words_of words.now)) }
+{
+    let Some((first, second)) = split_once(words, b' ') else {
+        return Err(BadLine::BadCommand);
+    };
+    Ok((read_name(first)?, read_name(second)?))
+}
+
+// The numbers that the words write, one each: a word that writes none is told before a number too large.
+fn read_numbers(
+    alloc: Global,
+    words: Option<&[u8]>,
+) -> Result<Result<Numbers, BadLine>, AllocError>
+    ensures { IfOk result (λ read. read ≡ within_range (λ ns. ns) (all_numbers (words_left words.entry))) }
+{
+    let mut numbers = Vec::new(alloc);
+    let mut too_large = false;
+    let mut rest = words;
+    'words: while let Some(words) = rest {
+        let (word, after) = first_word(words);
+        match read_number(word) {
+            Ok(number) => numbers.push(number)?,
+            Err(BadLine::BadNumber) => too_large = true,
+            Err(BadLine::BadCommand) => return Ok(Err(BadLine::BadCommand)),
+        }
+        rest = after;
+    }
+    if too_large {
+        return Ok(Err(BadLine::BadNumber));
+    }
+    Ok(Ok(Numbers::from_vec(numbers)))
 }
 
 // The number that the word writes.

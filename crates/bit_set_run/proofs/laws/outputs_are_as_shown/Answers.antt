@@ -14,6 +14,18 @@ pub returns-clause-edges : goal.returns-clause-edges
 unfolding digits
 returns-clause-edges c = refl
 
+pub returns-clause-whole_sets : goal.returns-clause-whole_sets
+unfolding digits
+returns-clause-whole_sets c = refl
+
+pub returns-clause-rests : goal.returns-clause-rests
+unfolding digits
+returns-clause-rests c = refl
+
+pub returns-clause-whole_set_edges : goal.returns-clause-whole_set_edges
+unfolding digits
+returns-clause-whole_set_edges c = refl
+
 pub returns-clause-last_line : goal.returns-clause-last_line
 unfolding digits
 returns-clause-last_line c = refl

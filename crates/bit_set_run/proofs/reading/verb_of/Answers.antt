@@ -14,3 +14,16 @@ returns-in-remove c =
 pub returns-in-contains : goal.returns-in-contains
 returns-in-contains c =
     rw (text_from_reads c.args.word.now (codes "contains") (omega arith) (search rules))
+
+pub returns-in-extend : goal.returns-in-extend
+returns-in-extend c =
+    rw (text_from_reads c.args.word.now (codes "extend") (omega arith) (search rules))
+
+pub returns-in-truncate : goal.returns-in-truncate
+returns-in-truncate c =
+    rw (text_from_reads c.args.word.now (codes "truncate") (omega arith) (search rules))
+
+-- the word `is_empty`, of which the first letter is shared with others
+pub returns-in-105 : goal.returns-in-105
+returns-in-105 c =
+    rw (text_from_reads c.args.word.now (codes "is_empty") (omega arith) (search rules))
