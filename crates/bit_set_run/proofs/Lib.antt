@@ -7,3 +7,4 @@ pub mod SpellingLemmas
 pub mod StrangeLemmas
 pub mod StreamLemmas
 pub mod TextLemmas
+pub mod SteppingLemmas

@@ -1,5 +1,5 @@
 -- What a command does to sixteen sets of numbers, and what a run of commands does.
-use Rattle.std.specs.Prelude.{◌≡◌, ℕ, ◌<◌, Bool, not, ◌==◌, if◌then◌else◌, List, [], ◌∷◌, ◌++◌, length, take, drop, take_while, replicate, slice_get, slice_index_or, slice_set, Some}
+use Rattle.std.specs.Prelude.{◌≡◌, ℕ, ◌<◌, Bool, not, ◌==◌, if◌then◌else◌, List, [], ◌∷◌, ◌++◌, length, take, drop, replicate, slice_get, slice_index_or, slice_set, Some}
 use Rattle.std.specs.List.{list_any}
 use Rattle.bit_set_run.specs.declared.commands.Command.{Command}
 use Rattle.bit_set_run.specs.declared.commands.Command.TheVariants.{Insert, Remove, Contains, Extend, Truncate, Empty, Reset, Count, IsEmpty, Items as ItemsOf, Copy, RestIter}
@@ -38,7 +38,8 @@ change_to sets name set reply = record { sets = slice_set sets name set; reply =
 
 -- the items before the first that no set can have
 abbrev pub elements_before_greatest : List ℕ → List ℕ
-elements_before_greatest items = take_while (λ n. not (n == greatest)) items
+elements_before_greatest [] = []
+elements_before_greatest (n ∷ ns) = if n == greatest then [] else n ∷ elements_before_greatest ns
 
 -- one command
 abbrev pub step : Sets → Command → Answer

@@ -1,6 +1,6 @@
 //! One command over sixteen sets.
 
-ghost use Rattle.std.specs.Prelude.{◌≡◌, ℕ, ◌<◌, ◌==◌, not, map, length, take, drop, IfOk, OnOk, OnErr, slice_index_or, slice_set, if◌then◌else◌};
+ghost use Rattle.std.specs.Prelude.{◌≡◌, ℕ, ◌<◌, ◌==◌, not, map, length, take, drop, [], IfOk, OnOk, OnErr, slice_index_or, slice_set, if◌then◌else◌};
 ghost use Rattle.std.specs.List.{list_any};
 ghost use Rattle.bit_set.specs.Sets.{has, put, put_all};
 ghost use Rattle.bit_set_run.specs.Kept.{kept};
@@ -67,8 +67,9 @@ fn extend<B: BitBlock>(set: &mut BitSet<B>, items: &Numbers) -> Result<Reply, Al
 {
     match set.extend(items.as_slice().iter().copied()) {
         Ok(()) => Ok(Reply::Done),
+        Err(SetError::Element) => Ok(Reply::Element),
         Err(SetError::Memory(refusal)) => Err(refusal),
-        Err(_) => Ok(Reply::Element),
+        Err(SetError::Length) => unreachable!(),
     }
 }
 
@@ -89,30 +90,33 @@ fn copy<B: BitBlock>(
     let mut set = mem::replace(&mut sets[to], BitSet::new_general(alloc));
     let copied = set.clone_from(&sets[from]);
     sets[to] = set;
-    copied?;
-    Ok(Reply::Done)
+    match copied {
+        Ok(()) => Ok(Reply::Done),
+        Err(refusal) => Err(refusal),
+    }
 }
 
 // The numbers that are left of a walk.
 fn numbers_of<B: BitBlock>(alloc: Global, walk: Iter<'_, B>) -> Result<Numbers, AllocError>
-    ensures { IfOk result (λ numbers. numbers ≡ walk.left) }
+    ensures { IfOk result (λ numbers. numbers ≡ walk.entry.left) }
 {
     Ok(Numbers::from_vec(walk.collect(alloc)?))
 }
 
-// What is left of a walk after so many of its numbers, or after all where there are fewer.
-fn rest<B: BitBlock>(
-    alloc: Global,
-    mut walk: Iter<'_, B>,
-    taken: usize,
-) -> Result<Reply, AllocError>
-    ensures { IfOk result (λ reply. reply ≡ Rest (length (drop taken walk.left)) (drop taken walk.left)) }
+// Takes so many numbers of a walk, or all where there are fewer.
+fn pass_over<B: BitBlock>(walk: &mut Iter<'_, B>, count: usize)
+    ensures { walk.new.left ≡ drop count walk.old.left }
 {
-    for _ in 0..taken {
-        if walk.next().is_none() {
-            break;
-        }
+    if count > 0 {
+        let _last = walk.nth(count - 1);
     }
-    let numbers = numbers_of(alloc, walk)?;
-    Ok(Reply::Rest(numbers.as_slice().len(), numbers))
+}
+
+// What is left of a walk after so many of its numbers, or after all where there are fewer.
+fn rest<B: BitBlock>(alloc: Global, mut walk: Iter<'_, B>, taken: usize) -> Result<Reply, AllocError>
+    ensures { IfOk result (λ reply. reply ≡ Rest (length (drop taken walk.entry.left)) (drop taken walk.entry.left)) }
+{
+    pass_over(&mut walk, taken);
+    let count = walk.clone().count();
+    Ok(Reply::Rest(count, numbers_of(alloc, walk)?))
 }

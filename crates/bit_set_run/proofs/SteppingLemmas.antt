@@ -1,0 +1,124 @@
+-- What single commands rest on: items up to the greatest number, walks, and an array of sets.
+use Rattle.std.proofs.Common.{◌≡◌, ◌==◌, if◌then◌else◌, cond, not, ℕ, ◌+◌, ◌<◌, ◌≤◌, Bool, true, false, eqb, List, [], ◌∷◌, ◌++◌, length, get_or, take, drop, map, set, Option, Some, None, refl, sym, ap, ◌∙◌, arith}
+use Rattle.std.proofs.lemmas.Bool.{eq-eqb, ne_eqb}
+use Rattle.std.proofs.lemmas.List.{append_assoc, length-append, take_more, take-append-drop, drop_all, drop_at, map-id, set-set, set-get_or, map-set, get_or-map, get_or-set_other}
+use Rattle.std.proofs.lemmas.Iterator.{YieldsList, YieldsList-from_slice}
+use Rattle.std.proofs.lemmas.Iterator.Consumers.{YieldsList-from_copied, YieldsList-so_far, YieldsList-turn, YieldsList-from_shown}
+use Rattle.std.proofs.Common.{Iter}
+use Rattle.std.specs.declared.iter.Copied.{Copied}
+use Rattle.std.proofs.iter.Yields.{copies, fronts}
+use Rattle.std.specs.Iterator.{Yields, YieldsThen, SkipsThenYields}
+use Rattle.std.specs.List.{list_any}
+use Rattle.bit_set.specs.Bits.{Bits}
+use Rattle.bit_set.specs.Sets.{bound_of, elements, has, put}
+use Rattle.bit_set_run.specs.Kept.{kept}
+use Rattle.bit_set.specs.Walk.{Walk, Advances}
+use Rattle.bit_set_run.specs.declared.commands.Command.TheVariants.{Insert}
+use Rattle.bit_set_run.specs.declared.commands.Reply.TheVariants.{Truth, Element}
+use Rattle.bit_set_run.specs.Run.{greatest, elements_before_greatest, step, answer_with, change_to}
+
+-- where each item is below the greatest number, none is that
+pub none_greatest : (items : List ℕ) → bound_of items ≤ greatest → list_any (λ n. eqb n greatest) items ≡ false
+none_greatest [] fit = refl
+none_greatest (n ∷ ns) fit =
+    let other : eqb n greatest ≡ false = ne_eqb n greatest (λ e. omega (arith, e, fit)) in
+    rw other (none_greatest ns (omega (arith, fit)))
+
+-- all of them are before it
+pub all_before : (items : List ℕ) → bound_of items ≤ greatest → elements_before_greatest items ≡ items
+all_before [] fit = refl
+all_before (n ∷ ns) fit =
+    let other : eqb n greatest ≡ false = ne_eqb n greatest (λ e. omega (arith, e, fit)) in
+    rw other (ap (λ xs. n ∷ xs) (all_before ns (omega (arith, fit))))
+
+-- where it stands behind them, they are those before it
+pub some_greatest : (front rest : List ℕ) → bound_of front ≤ greatest → list_any (λ n. eqb n greatest) (front ++ greatest ∷ rest) ≡ true
+some_greatest [] rest fit = refl
+some_greatest (n ∷ ns) rest fit =
+    let other : eqb n greatest ≡ false = ne_eqb n greatest (λ e. omega (arith, e, fit)) in
+    rw other (some_greatest ns rest (omega (arith, fit)))
+
+pub front_before : (front rest : List ℕ) → bound_of front ≤ greatest → elements_before_greatest (front ++ greatest ∷ rest) ≡ front
+front_before [] rest fit = refl
+front_before (n ∷ ns) rest fit =
+    let other : eqb n greatest ≡ false = ne_eqb n greatest (λ e. omega (arith, e, fit)) in
+    rw other (ap (λ xs. n ∷ xs) (front_before ns rest (omega (arith, fit))))
+
+-- the items before one of a list
+pub record StandsBefore (all items : List ℕ) (item : ℕ) : Type 0 where
+  pub front : items ≡ take (length items) all
+  pub within : length items < length all
+  pub whole : all ≡ items ++ item ∷ drop (length items + 1) all
+
+pub stands_before : (all items : List ℕ) (item : ℕ) → items ≡ take (length items) all → length items < length all → item ≡ get_or all (length items) item → StandsBefore all items item
+stands_before all items item front within is = record {
+  front = front;
+  within = within;
+  whole =
+    sym (take-append-drop (length items + 1) all)
+    ∙ ap (λ xs. xs ++ drop (length items + 1) all) (take_more all (length items) item within ∙ ap (λ xs. xs ++ get_or all (length items) item ∷ []) (sym front) ∙ ap (λ x. items ++ x ∷ []) (sym is))
+    ∙ append_assoc items (item ∷ []) (drop (length items + 1) all);
+}
+
+-- a walk shows what is left of it
+pub walk_yields : (s : Walk) → YieldsList Advances (λ x. x) s s.left
+walk_yields s = YieldsList-from_shown Advances (λ x. x) (λ walk. walk.left) (λ s t step. ap length step.item.0) (λ s x t step. step.item) s
+
+left_of_yields : (s t : Walk) (items : List ℕ) → Yields Advances s items t → s.left ≡ items ++ t.left
+left_of_yields s t [] run = ap (λ walk. walk.left) run
+left_of_yields s t (x ∷ xs) run = run.1.item ∙ ap (λ ys. x ∷ ys) (left_of_yields run.0 t xs run.2)
+
+-- what is left behind some items and one more
+pub left_of_skipped : (s u : Walk) (n : ℕ) (r : Option ℕ) → SkipsThenYields Advances s n r u → u.left ≡ drop (n + 1) s.left
+left_of_skipped s u n None run =
+    let t = run.1.0 in
+    let left = left_of_yields s t run.0 run.1.1 in
+    let ended = run.1.2.item in
+    let whole : s.left ≡ run.0 ++ [] = left ∙ ap (λ ys. run.0 ++ ys) ended.0 in
+    let short : length s.left ≤ n + 1 = omega (arith, ap length whole, length-append run.0 [], run.2) in
+    ended.1 ∙ sym (drop_all (n + 1) s.left short)
+left_of_skipped s u n (Some x) run =
+    let t = run.1.0 in
+    let left = left_of_yields s t run.0 run.1.1 in
+    let whole : s.left ≡ (run.0 ++ x ∷ []) ++ u.left = left ∙ ap (λ ys. run.0 ++ ys) run.1.2.item ∙ sym (append_assoc run.0 (x ∷ []) u.left) in
+    let long : length (run.0 ++ x ∷ []) ≡ n + 1 = omega (arith, length-append run.0 (x ∷ []), run.2) in
+    sym (ap (drop (n + 1)) whole ∙ drop_at (run.0 ++ x ∷ []) u.left (n + 1) long)
+
+-- a set of the array becomes one that another place holds
+pub copied_over : (sets : List Bits) (from to : ℕ) (gone set_now source : Bits) → from < length sets → (from ≡ to → ⊥) → source ≡ get_or (set sets to gone) from source → set_now.values ≡ source.values → map kept (set (set sets to gone) to set_now) ≡ set (map kept sets) to (get_or (map kept sets) from [])
+copied_over sets from to gone set_now source within apart at values =
+    let there : source ≡ get_or sets from source = at ∙ get_or-set_other sets to from gone source apart in
+    let kept_there : kept set_now ≡ get_or (map kept sets) from [] = ap elements values ∙ ap kept there ∙ sym (get_or-map kept sets from source [] within) in
+    ap (map kept) (set-set sets to gone set_now) ∙ map-set kept sets to set_now ∙ ap (λ s. set (map kept sets) to s) kept_there
+
+-- a set that is put back where it was taken
+pub put_back : (sets : List Bits) (to : ℕ) (gone set_now : Bits) → set_now ≡ get_or sets to set_now → map kept (set (set sets to gone) to set_now) ≡ map kept sets
+put_back sets to gone set_now at =
+    ap (map kept) (set-set sets to gone set_now ∙ ap (λ s. set sets to s) at ∙ set-get_or sets to set_now)
+
+-- one set of the array is changed by f
+pub change_is : (sets : List Bits) (place name : ℕ) (d set_now : Bits) (f : List ℕ → List ℕ) → place ≡ name → place < length sets → kept set_now ≡ f (kept (get_or sets place d)) → map kept (set sets place set_now) ≡ set (map kept sets) name (f (get_or (map kept sets) name []))
+change_is sets place name d set_now f at within changed =
+    map-set kept sets place set_now ∙ ap (λ t. set (map kept sets) place t) (changed ∙ ap f (sym (get_or-map kept sets place d [] within))) ∙ ap (λ p. set (map kept sets) p (f (get_or (map kept sets) p []))) at
+
+-- one set of the array is as it was
+pub no_change_is : (sets : List Bits) (place : ℕ) (d set_now : Bits) → place < length sets → kept set_now ≡ kept (get_or sets place d) → map kept (set sets place set_now) ≡ map kept sets
+no_change_is sets place d set_now within same =
+    change_is sets place place d set_now (λ s. s) refl within same ∙ set-get_or (map kept sets) place []
+
+-- what an insert leaves, the greatest number included
+pub sets-insert : (sets : List (List ℕ)) (name n : ℕ) → set sets name (if n == greatest then get_or sets name [] else put (get_or sets name []) n) ≡ (step sets (Insert name n)).sets
+sets-insert sets name n =
+    elim (eqb n greatest) as (λ b. set sets name (cond b (get_or sets name []) (put (get_or sets name []) n)) ≡ (cond b (answer_with sets Element) (change_to sets name (put (get_or sets name []) n) (Truth (not (has (get_or sets name []) n))))).sets) [
+      | true ↦ set-get_or sets name []
+      | false ↦ refl
+    ]
+
+-- the items that a copied slice gave before one more
+pub copied_before : (s u : Copied (Iter ℕ)) (all items : List ℕ) (item : ℕ) → s.iter.rest.now ≡ all → YieldsThen (copies fronts) s items (Some item) u → StandsBefore all items item
+copied_before s u all items item shown run =
+    let source : YieldsList fronts (λ y. y.now) s.iter all = YieldsList-from_slice all shown in
+    let yields : YieldsList (copies fronts) (λ x. x) s all = YieldsList-from_copied {s = s} source in
+    let so_far = YieldsList-so_far yields items run.0 run.1 in
+    let turn = YieldsList-turn yields items run.0 run.1 (Some item) u item refl run.2 in
+    stands_before all items item (sym (map-id items) ∙ so_far) turn.0 turn.1

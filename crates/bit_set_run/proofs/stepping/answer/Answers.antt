@@ -1,0 +1,48 @@
+use Rattle.std.proofs.Common.{ap, ◌==◌, ◌∙◌, if◌then◌else◌, [], take, map, arith}
+use Rattle.std.proofs.lemmas.Result.{on_ok_weaker, on_err_weaker}
+use Rattle.bit_set.specs.Sets.{elements, put, put_all, those_below, without}
+use Rattle.bit_set_run.specs.Kept.{kept}
+use Rattle.bit_set_run.specs.Run.{greatest, elements_before_greatest}
+use Rattle.bit_set_run.proofs.SteppingLemmas.{change_is, no_change_is, sets-insert}
+use Rattle.bit_set_run.proofs.stepping.answer.Goals as goal
+
+pub returns-in-Insert-clause-sets : goal.returns-in-Insert-clause-sets
+returns-in-Insert-clause-sets g c =
+    let sets = c.args.sets.now in
+    let n = c.in-Insert.n in
+    rw c.in-Insert.is (on_ok_weaker c.insert.result (λ after. change_is sets c.place.result c.in-Insert.name c.index-sets-place.result c.insert.new.set (λ s. if n == greatest then s else put s n) c.place.ensures.place (omega (arith, c.told-sets, c.place.ensures.within)) after ∙ sets-insert (map kept sets) c.in-Insert.name n) c.insert.ensures.after)
+
+pub returns-in-Insert-clause-left : goal.returns-in-Insert-clause-left
+returns-in-Insert-clause-left g c =
+    let sets = c.args.sets.now in
+    rw c.in-Insert.is (on_err_weaker c.insert.result (λ left. no_change_is sets c.place.result c.index-sets-place.result c.insert.new.set (omega (arith, c.told-sets, c.place.ensures.within)) left) c.insert.ensures.left)
+
+pub returns-in-Remove-clause-sets : goal.returns-in-Remove-clause-sets
+returns-in-Remove-clause-sets g c =
+    let sets = c.args.sets.now in
+    rw c.in-Remove.is (change_is sets c.place-in-Remove.result c.in-Remove.name c.index-sets-place-in-Remove.result c.remove.new.self (λ s. without s c.in-Remove.n) c.place-in-Remove.ensures.place (omega (arith, c.told-sets, c.place-in-Remove.ensures.within)) c.remove.ensures.elements)
+
+pub returns-in-Extend-clause-sets : goal.returns-in-Extend-clause-sets
+returns-in-Extend-clause-sets g c =
+    let sets = c.args.sets.now in
+    rw c.in-Extend.is (on_ok_weaker c.extend.result (λ after. change_is sets c.place-in-Extend.result c.in-Extend.name c.index-sets-place-in-Extend.result c.extend.new.set (λ s. put_all s (elements_before_greatest c.in-Extend.items)) c.place-in-Extend.ensures.place (omega (arith, c.told-sets, c.place-in-Extend.ensures.within)) after) c.extend.ensures.after)
+
+pub returns-in-Extend-clause-left : goal.returns-in-Extend-clause-left
+returns-in-Extend-clause-left g c =
+    let sets = c.args.sets.now in
+    rw c.in-Extend.is (on_err_weaker c.extend.result (λ left. (left.0, left.1, change_is sets c.place-in-Extend.result c.in-Extend.name c.index-sets-place-in-Extend.result c.extend.new.set (λ s. put_all s (take left.0 c.in-Extend.items)) c.place-in-Extend.ensures.place (omega (arith, c.told-sets, c.place-in-Extend.ensures.within)) left.2)) c.extend.ensures.left)
+
+pub returns-in-Truncate-clause-sets : goal.returns-in-Truncate-clause-sets
+returns-in-Truncate-clause-sets g c =
+    let sets = c.args.sets.now in
+    rw c.in-Truncate.is (change_is sets c.place-in-Truncate.result c.in-Truncate.name c.index-sets-place-in-Truncate.result c.truncate.new.self (λ s. those_below s c.in-Truncate.n) c.place-in-Truncate.ensures.place (omega (arith, c.told-sets, c.place-in-Truncate.ensures.within)) c.truncate.ensures.elements)
+
+pub returns-in-Empty-clause-sets : goal.returns-in-Empty-clause-sets
+returns-in-Empty-clause-sets g c =
+    let sets = c.args.sets.now in
+    rw c.in-Empty.is (change_is sets c.place-in-Empty.result c.in-Empty.name c.index-sets-place-in-Empty.result c.make_empty.new.self (λ _. []) c.place-in-Empty.ensures.place (omega (arith, c.told-sets, c.place-in-Empty.ensures.within)) c.make_empty.ensures.elements)
+
+pub returns-in-Reset-clause-sets : goal.returns-in-Reset-clause-sets
+returns-in-Reset-clause-sets g c =
+    let sets = c.args.sets.now in
+    rw c.in-Reset.is (change_is sets c.place-in-Reset.result c.in-Reset.name c.index-sets-place-in-Reset.result c.reset.new.self (λ _. []) c.place-in-Reset.ensures.place (omega (arith, c.told-sets, c.place-in-Reset.ensures.within)) (ap elements c.reset.ensures.values))
