@@ -164,10 +164,7 @@ fn read_two_names(words: &[u8]) -> Result<(SetName, SetName), BadLine>
 }
 
 // The numbers that the words write, one each: a word that writes none is told before a number too large.
-fn read_numbers(
-    alloc: Global,
-    words: Option<&[u8]>,
-) -> Result<Result<Numbers, BadLine>, AllocError>
+fn read_numbers(alloc: Global, words: Option<&[u8]>) -> Result<Result<Numbers, BadLine>, AllocError>
     ensures { IfOk result (λ read. read ≡ within_range (λ ns. ns) (all_numbers (words_left words.entry))) }
 {
     let mut numbers = Vec::new(alloc);

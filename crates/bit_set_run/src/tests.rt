@@ -39,6 +39,18 @@ fn answers_runs(rt: HostRuntime) -> Result<(), Fail> {
             b"insert q 99999999999999999999\n\ninsert a\ninsert  a 1\ninsert a -1\ninsert a 007\nremove a 18446744073709551615\nitems a\n",
             b"bad command\nbad command\nbad command\nbad command\nbad command\ntrue\nfalse\n{7}\n",
         ),
+        (
+            b"extend a 9 18446744073709551615 11\nextend a\nitems a\ncopy a a\ncopy a b\nitems b\ntruncate b 9\nis_empty b\n",
+            b"refused element\nok\n{9}\nrefused same\nok\n{9}\nok\ntrue\n",
+        ),
+        (
+            b"extend b 5 6 99999999999999999999\nextend b 5 x 99999999999999999999\nitems b\nextend b 3 1 2 1\ncount b\nempty b\nreset b\nitems b\n",
+            b"bad number\nbad command\n{}\nok\n3\nok\nok\n{}\n",
+        ),
+        (
+            b"extend b 3 200\nrest iter b 0\nrest iter b 1\nrest iter b 9\nrest iter q 1\n",
+            b"ok\n2 {3, 200}\n1 {200}\n0 {}\nbad command\n",
+        ),
         (b"", b""),
         // The last line may lack its newline.
         (
