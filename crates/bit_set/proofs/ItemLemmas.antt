@@ -1,5 +1,5 @@
 -- Items that come into a set one by one.
-use Rattle.std.proofs.Common.{◌≡◌, ◌≢◌, ℕ, ◌+◌, ◌↔◌, max, Bool, List, [], ◌∷◌, ◌++◌, length, refl, sym, ap, ◌∙◌, arith}
+use Rattle.std.proofs.Common.{◌≡◌, ◌≢◌, ℕ, ◌+◌, ◌<◌, ◌≤◌, ◌↔◌, max, Bool, List, [], ◌∷◌, ◌++◌, length, refl, sym, ap, ◌∙◌, arith}
 use Rattle.bit_set.specs.Sets.{elements, put, put_all, bound_of}
 use Rattle.bit_set.specs.Effects.{TakesIn}
 use Rattle.bit_set.specs.Faults.{IsRefusal, greatest}

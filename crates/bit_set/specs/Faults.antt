@@ -1,5 +1,5 @@
 -- Why a set does not take a number in.
-use Rattle.std.specs.Prelude.{◌≡◌, ℕ, ◌<◌, ◌≤◌}
+use Rattle.std.specs.Prelude.{◌≡◌, ℕ, ◌<◌, ◌≤◌, ◌-◌, ◌^◌}
 use Rattle.bit_words.specs.declared.bit_vec.vector.making.BitsError.{BitsError}
 use Rattle.bit_words.specs.declared.bit_vec.vector.making.BitsError.TheVariants.{Length as BitsLength, Memory as BitsMemory}
 use Rattle.bit_set.specs.declared.faults.SetError.{SetError}
