@@ -2,7 +2,6 @@
 use crate::bit_vec::BitVec;
 use crate::{BitBlock, BitSet, SetError};
 use std::alloc::{AllocError, Global};
-use std::process::Abort;
 use std::test::Fail;
 
 // The elements, as the walk gives them.
@@ -70,63 +69,85 @@ fn truncate_keeps_what_is_below(rt: HostRuntime) -> Result<(), Fail> {
     Ok(())
 }
 
+fn set_of(alloc: Global, numbers: &[usize]) -> Result<BitSet, SetError> {
+    BitSet::from_iter(alloc, numbers.iter().copied())
+}
+
 #[test]
 fn items_go_in_one_by_one(rt: HostRuntime) -> Result<(), Fail> {
-    let alloc = rt.alloc();
-    let set = BitSet::<u32>::from_iter(alloc, Vec::from_array(alloc, [0, 2, 2, 3])?.into_iter())?;
-    assert_eq!(rt; items(alloc, &set)?.as_slice(), [0, 2, 3].as_slice());
+    let set = set_of(rt.alloc(), &[0, 2, 2, 3])?;
+    assert_eq!(rt; items(rt.alloc(), &set)?.as_slice(), [0, 2, 3].as_slice());
     assert_eq!(rt; set.count(), 3);
     assert_eq!(rt; set.get_ref().len(), 4);
-    let mut stopped = BitSet::new(alloc);
-    let more = Vec::from_array(alloc, [7, 18446744073709551615, 9])?;
-    assert_eq!(rt; stopped.extend(more.into_iter()), Err(SetError::Element));
-    assert_eq!(rt; items(alloc, &stopped)?.as_slice(), [7].as_slice());
+    Ok(())
+}
+
+fn put_all(set: &mut BitSet, numbers: &[usize]) -> Result<(), SetError> {
+    set.extend(numbers.iter().copied())
+}
+
+#[test]
+fn items_before_a_refused_one_stay_in(rt: HostRuntime) -> Result<(), Fail> {
+    let mut set = BitSet::new(rt.alloc());
+    let answer = put_all(&mut set, &[7, 18446744073709551615, 9]);
+    assert_eq!(rt; answer, Err(SetError::Element));
+    assert_eq!(rt; items(rt.alloc(), &set)?.as_slice(), [7].as_slice());
     Ok(())
 }
 
 #[test]
 fn sets_have_lengths(rt: HostRuntime) -> Result<(), Fail> {
-    let alloc = rt.alloc();
-    let empty = BitSet::with_capacity(alloc, 100)?;
+    let empty = BitSet::with_capacity(rt.alloc(), 100)?;
     assert_eq!(rt; empty.get_ref().len(), 100);
     assert!(rt; empty.is_empty());
-    let set = BitSet::<u32>::from_iter(alloc, Vec::from_array(alloc, [400, 1])?.into_iter())?;
-    let copy = set.clone(alloc)?;
-    assert_eq!(rt; items(alloc, &copy)?.as_slice(), [1, 400].as_slice());
-    assert_eq!(rt; copy.get_ref().len(), 401);
-    Ok(())
-}
-
-// Each call once, with memory for all that it asks.
-fn makes_each_call<B: BitBlock>(rt: &impl Abort, alloc: Global) -> Result<(), SetError> {
-    let mut set = BitSet::<B>::with_capacity_general(alloc, 20)?;
-    assert!(rt; set.capacity() >= 20);
-    set.extend(20..24)?;
-    assert!(rt; set.remove(22));
-    assert!(rt; !set.remove(22));
-    assert_eq!(rt; set.len(), 3);
-    let mut copy = BitSet::<B>::new_general(alloc);
-    copy.clone_from(&set)?;
-    assert_eq!(rt; items(alloc, &copy)?.as_slice(), [20, 21, 23].as_slice());
-    assert_eq!(rt; copy.get_ref().len(), 24);
-    copy.make_empty();
-    assert!(rt; copy.is_empty());
-    assert_eq!(rt; copy.get_ref().len(), 24);
-    set.clear();
-    assert_eq!(rt; set.get_ref().len(), 24);
-    set.reset();
-    assert_eq!(rt; set.get_ref().len(), 0);
-    let bytes = BitSet::<B>::from_bytes_general(alloc, &[0b0100_1010, 0b1000_0000])?;
-    assert_eq!(rt; items(alloc, &bytes)?.as_slice(), [1, 4, 6, 8].as_slice());
-    let ones = BitSet::<B>::from_bit_vec_general(BitVec::from_elem_general(alloc, 9, true)?);
-    assert_eq!(rt; ones.count(), 9);
     Ok(())
 }
 
 #[test]
+fn a_clone_has_the_items_and_the_length(rt: HostRuntime) -> Result<(), Fail> {
+    let copy = set_of(rt.alloc(), &[400, 1])?.clone(rt.alloc())?;
+    assert_eq!(rt; items(rt.alloc(), &copy)?.as_slice(), [1, 400].as_slice());
+    assert_eq!(rt; copy.get_ref().len(), 401);
+    Ok(())
+}
+
+// How many elements there are as some go in and out, and the length at the end.
+fn counts<B: BitBlock>(alloc: Global) -> Result<[usize; 4], SetError> {
+    let mut set = BitSet::<B>::with_capacity_general(alloc, 20)?;
+    set.extend(20..24)?;
+    let all = set.len();
+    set.remove(22);
+    let left = set.count();
+    set.clear();
+    Ok([all, left, set.count(), set.get_ref().len()])
+}
+
+// How many elements a copy has, its length once they are out, and the length after that.
+fn copied<B: BitBlock>(alloc: Global) -> Result<[usize; 3], SetError> {
+    let bytes = BitSet::<B>::from_bytes_general(alloc, &[0b0100_1010, 0b1000_0000])?;
+    let mut copy = BitSet::<B>::new_general(alloc);
+    copy.clone_from(&bytes)?;
+    let count = copy.count();
+    copy.make_empty();
+    let len = copy.get_ref().len();
+    copy.reset();
+    Ok([count, len, copy.get_ref().len()])
+}
+
+// Whether nine ones are a set that has 8, that is not empty, and that has room for them.
+fn has_nine<B: BitBlock>(alloc: Global) -> Result<bool, AllocError> {
+    let set = BitSet::<B>::from_bit_vec_general(BitVec::from_elem_general(alloc, 9, true)?);
+    Ok(set.contains(8) && !set.is_empty() && set.capacity() >= 9)
+}
+
+#[test]
 fn every_call_succeeds(rt: HostRuntime) -> Result<(), Fail> {
-    makes_each_call::<u8>(&rt, rt.alloc())?;
-    makes_each_call::<u64>(&rt, rt.alloc())?;
+    assert_eq!(rt; counts::<u8>(rt.alloc())?, [4, 3, 0, 24]);
+    assert_eq!(rt; counts::<u64>(rt.alloc())?, [4, 3, 0, 24]);
+    assert_eq!(rt; copied::<u8>(rt.alloc())?, [4, 16, 0]);
+    assert_eq!(rt; copied::<u64>(rt.alloc())?, [4, 16, 0]);
+    assert!(rt; has_nine::<u8>(rt.alloc())?);
+    assert!(rt; has_nine::<u64>(rt.alloc())?);
     Ok(())
 }
 
