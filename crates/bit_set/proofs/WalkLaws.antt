@@ -1,5 +1,5 @@
 -- What whole walks give, by one step after another.
-use Rattle.std.proofs.Common.{◌≡◌, ℕ, ◌+◌, ◌≤◌, Bool, List, [], ◌∷◌, length, Option, Some, None, refl, sym, ap, ◌∙◌, arith}
+use Rattle.std.proofs.Common.{◌≡◌, ℕ, ◌+◌, ◌≤◌, max, Bool, List, [], ◌∷◌, length, Option, Some, None, refl, sym, ap, ◌∙◌, arith}
 use Rattle.std.specs.Iterator.{YieldsThen, Drains}
 use Rattle.bit_words.specs.Bits.{blocks_for}
 use Rattle.bit_set.specs.Sets.{elements}
@@ -23,7 +23,7 @@ walked_out s t (x ∷ xs) run =
       pulled = omega (arith, rest.pulled, step.pulled);
     }
 
-pub walked_whole : (w : ℕ) (values : List Bool) (s t : Walk) (items : List ℕ) → IsAtStart w values s → YieldsThen Advances s items None t → (items ≡ elements values) × (t.pulls ≤ blocks_for w (length values) + 2)
+pub walked_whole : (w : ℕ) (values : List Bool) (s t : Walk) (items : List ℕ) → IsAtStart w values s → YieldsThen Advances s items None t → (items ≡ elements values) × (t.pulls ≤ max 1 (blocks_for w (length values)) + 1)
 walked_whole w values s t items start run =
     let out = walked_out s t items run in
     (out.all ∙ start.left, omega (arith, out.pulled, start.pulls, start.blocks))

@@ -8,6 +8,8 @@ mod set;
 #[cfg(test)]
 mod tests;
 mod walk;
+#[cfg(test)]
+mod walk_tests;
 
 pub use bit_words::bit_vec;
 pub use bit_words::bit_vec::BitBlock;

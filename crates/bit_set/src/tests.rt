@@ -152,16 +152,6 @@ fn every_call_succeeds(rt: HostRuntime) -> Result<(), Fail> {
 }
 
 #[test]
-fn a_walk_stays_at_its_end(rt: HostRuntime) -> Result<(), Fail> {
-    let set = BitSet::from_bytes(rt.alloc(), &[0b0100_1010])?;
-    let mut walk = set.iter();
-    for item in [Some(1), Some(4), Some(6), None, None] {
-        assert_eq!(rt; walk.next(), item);
-    }
-    Ok(())
-}
-
-#[test]
 fn too_much_memory_is_refused(rt: HostRuntime) -> Result<(), Fail> {
     let alloc = rt.alloc();
     let refused = Err(SetError::Memory(AllocError));

@@ -9,6 +9,8 @@ mod changes;
 mod integers;
 mod masks;
 mod steps;
+#[cfg(test)]
+mod tests;
 mod tidy;
 mod vector;
 mod words;
