@@ -1,6 +1,6 @@
 //! What the definitions of the contracts come to, as facts that are proved of them.
 
-ghost use Rattle.std.specs.Prelude.{◌≡◌, ℕ, false, List, [], ◌∷◌, codes, Contains};
+ghost use Rattle.std.specs.Prelude.{◌≡◌, ℕ, false, List, [], ◌∷◌, codes, length, Contains};
 ghost use Rattle.bit_set_run.specs.declared.commands.Command.{Command};
 ghost use Rattle.bit_set_run.specs.declared.reading.BadLine.TheVariants.{BadCommand};
 ghost use Rattle.bit_set_run.specs.Lines.{lines_of, AreLines};
@@ -67,6 +67,11 @@ pub fn outputs_are_as_shown()
         []) }
     ensures last_line { output (codes "count a\n\ncount a") ≡ codes "0\nbad command\n0\n" }
     ensures nothing { output [] ≡ [] }
+{}
+
+/// An output has a line for each line of its input.
+pub fn each_line_has_one_answer()
+    ensures { (input : List ℕ) → length (lines_of (output input)) ≡ length (lines_of input) }
 {}
 
 /// Each command has a line that is read as it.
