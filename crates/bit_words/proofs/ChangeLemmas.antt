@@ -1,0 +1,108 @@
+-- What a write of one block does to the value at every index.
+use Rattle.std.proofs.Common.{◌≡◌, ◌≢◌, ℕ, ◌*◌, ◌/◌, ◌%◌, ◌<◌, ◌≤◌, Bool, true, false, ◌&&◌, ◌||◌, ◌==◌, nat_lt, nat_le, List, length, get_or, set, refl, sym, ap, ap₂, ◌∙◌, arith, ⊎_elim, div-add-mod', mod-lt, div-lt_iff_lt-mul, div-mul-le_self}
+use Rattle.std.proofs.lemmas.Bool.{cases_lt, cases_eq}
+use Rattle.std.proofs.lemmas.Bool.Decides.{nat_tests}
+use Rattle.bit_words.specs.Bits.{blocks_for}
+use Rattle.bit_words.specs.Storage.{is_one, value_at}
+use Rattle.bit_words.proofs.StorageLemmas.{value_at-is, value_at-past, value_at-set_same, value_at-set_other}
+
+-- ---- within one block, places follow indexes
+
+same_place : (w i j : ℕ) → i / w ≡ j / w → i % w ≡ j % w → i ≡ j
+same_place w i j e f = let p = ap (λ q. q * w) e in omega (arith, div-add-mod' i w, div-add-mod' j w)
+
+nat_le-places : (w i j : ℕ) → j / w ≡ i / w → nat_le i j ≡ nat_le (i % w) (j % w)
+nat_le-places w i j e = let p = ap (λ q. q * w) e in let a = div-add-mod' i w in let b = div-add-mod' j w in grind (arith, nat_tests)
+
+nat_lt-places : (w i j : ℕ) → i / w ≡ j / w → nat_lt i j ≡ nat_lt (i % w) (j % w)
+nat_lt-places w i j e = let p = ap (λ q. q * w) e in let a = div-add-mod' i w in let b = div-add-mod' j w in grind (arith, nat_tests)
+
+-- ---- one block written
+
+written_same : (w : ℕ) (ms ns : List ℕ) (k m i : ℕ) → ns ≡ set ms k m → k < length ms → i / w ≡ k → value_at w ns i ≡ is_one m (i % w)
+written_same w ms ns k m i e h p = ap (λ xs. value_at w xs i) e ∙ value_at-set_same w ms k m i h p
+
+written_other : (w : ℕ) (ms ns : List ℕ) (k m i : ℕ) → ns ≡ set ms k m → i / w ≢ k → value_at w ns i ≡ value_at w ms i
+written_other w ms ns k m i e p = ap (λ xs. value_at w xs i) e ∙ value_at-set_other w ms k m i p
+
+-- the value at an index, by the block that was read
+read_at : (w : ℕ) (ms : List ℕ) (k m i : ℕ) → m ≡ get_or ms k 0 → i / w ≡ k → value_at w ms i ≡ is_one m (i % w)
+read_at w ms k m i e p = value_at-is w ms i ∙ ap (λ x. is_one x (i % w)) (ap (λ q. get_or ms q 0) p ∙ sym e)
+
+pub value_read : (w : ℕ) (ms : List ℕ) (i k p m : ℕ) → k ≡ i / w → p ≡ i % w → m ≡ get_or ms k 0 → is_one m p ≡ value_at w ms i
+value_read w ms i k p m ke pe read = ap (is_one m) pe ∙ sym (read_at w ms k m i read (sym ke))
+
+pub put_same : (w : ℕ) (ms ns : List ℕ) (i k p n : ℕ) (b : Bool) → k ≡ i / w → p ≡ i % w → k < length ms → ns ≡ set ms k n → is_one n p ≡ b → value_at w ns i ≡ b
+put_same w ms ns i k p n b ke pe h e digit = written_same w ms ns k n i e h (sym ke) ∙ ap (is_one n) (sym pe) ∙ digit
+
+pub put_others : (w : ℕ) (ms ns : List ℕ) (i k p m n : ℕ) → 0 < w → k ≡ i / w → p ≡ i % w → k < length ms → m ≡ get_or ms k 0 → ns ≡ set ms k n → ((j : ℕ) → j < w → j ≢ p → is_one n j ≡ is_one m j) → (j : ℕ) → j ≢ i → value_at w ns j ≡ value_at w ms j
+put_others w ms ns i k p m n pos ke pe h read e digits j ne =
+    ⊎_elim
+    (λ here. written_same w ms ns k n j e h here
+    ∙ digits (j % w) (mod-lt j pos) (λ q. ne (same_place w j i (here ∙ ke) (q ∙ pe)))
+    ∙ sym (read_at w ms k m j read here))
+    (λ there. written_other w ms ns k n j e there)
+    (cases_eq (j / w) k)
+
+or_false : (a b : Bool) → a ≡ (a || (b && false))
+or_false true b = refl
+or_false false true = refl
+or_false false false = refl
+
+and_true : (a b : Bool) → (a || b) ≡ (a || (b && true))
+and_true true b = refl
+and_true false true = refl
+and_true false false = refl
+
+pub raised : (w : ℕ) (ms ns : List ℕ) (s k p m n : ℕ) → 0 < w → k ≡ s / w → p ≡ s % w → k < length ms → m ≡ get_or ms k 0 → ns ≡ set ms k n → ((j : ℕ) → j < w → is_one n j ≡ (is_one m j || nat_le p j)) → (i : ℕ) → value_at w ns i ≡ (value_at w ms i || (nat_le s i && (i / w == s / w)))
+raised w ms ns s k p m n pos ke pe h read e digits i =
+    ⊎_elim
+    (λ here.
+    let test : (i / w == s / w) ≡ true = grind (arith, nat_tests) in
+    written_same w ms ns k n i e h here
+    ∙ digits (i % w) (mod-lt i pos)
+    ∙ ap₂ (λ a b. a || b) (sym (read_at w ms k m i read here)) (ap (λ q. nat_le q (i % w)) pe ∙ sym (nat_le-places w s i (here ∙ ke)))
+    ∙ and_true (value_at w ms i) (nat_le s i)
+    ∙ ap (λ t. value_at w ms i || (nat_le s i && t)) (sym test))
+    (λ there.
+    let other : i / w ≢ s / w = λ q. there (q ∙ sym ke) in
+    let test : (i / w == s / w) ≡ false = grind (arith, nat_tests) in
+    written_other w ms ns k n i e there
+    ∙ or_false (value_at w ms i) (nat_le s i)
+    ∙ ap (λ t. value_at w ms i || (nat_le s i && t)) (sym test))
+    (cases_eq (i / w) k)
+
+-- in a block other than the one at which the values end, the index tells on which side it is
+kept_before : (w : ℕ) (ms : List ℕ) (len i : ℕ) → i < len → value_at w ms i ≡ (nat_lt i len && value_at w ms i)
+kept_before w ms len i h = let test : nat_lt i len ≡ true = grind (arith, nat_tests) in ap (λ t. t && value_at w ms i) (sym test)
+
+past_blocks : (w : ℕ) (ms : List ℕ) (len i : ℕ) → len ≤ i → length ms ≤ i / w → value_at w ms i ≡ (nat_lt i len && value_at w ms i)
+past_blocks w ms len i h p = let test : nat_lt i len ≡ false = grind (arith, nat_tests) in value_at-past w ms i p ∙ ap (λ t. t && value_at w ms i) (sym test)
+
+div_lt : (w i j : ℕ) → 0 < w → i / w < j / w → i < j
+div_lt w i j pos h = let a = (div-lt_iff_lt-mul pos).0 h in omega (arith, div-mul-le_self j w)
+
+pub div_le : (w i j : ℕ) → 0 < w → i ≤ j → i / w ≤ j / w
+div_le w i j pos h = ⊎_elim (λ below. let a = div_lt w j i pos below in absurd (omega arith)) (λ le. le) (cases_lt (j / w) (i / w))
+
+pub lowered_whole : (w : ℕ) (ms : List ℕ) (len : ℕ) → 0 < w → len % w ≡ 0 → length ms ≡ blocks_for w len → (i : ℕ) → value_at w ms i ≡ (nat_lt i len && value_at w ms i)
+lowered_whole w ms len pos z count i =
+    ⊎_elim
+    (λ before. kept_before w ms len i before)
+    (λ past. past_blocks w ms len i past (let l = div_le w len i pos past in omega arith))
+    (cases_lt i len)
+
+pub lowered : (w : ℕ) (ms ns : List ℕ) (len k p m n : ℕ) → 0 < w → k ≡ len / w → p ≡ len % w → p ≢ 0 → length ms ≡ blocks_for w len → m ≡ get_or ms k 0 → ns ≡ set ms k n → ((j : ℕ) → j < w → is_one n j ≡ (nat_lt j p && is_one m j)) → (i : ℕ) → value_at w ns i ≡ (nat_lt i len && value_at w ms i)
+lowered w ms ns len k p m n pos ke pe nz count read e digits i =
+    ⊎_elim
+    (λ here.
+    written_same w ms ns k n i e (omega arith) here
+    ∙ digits (i % w) (mod-lt i pos)
+    ∙ ap₂ (λ a b. a && b) (ap (nat_lt (i % w)) pe ∙ sym (nat_lt-places w i len (here ∙ ke))) (sym (read_at w ms k m i read here)))
+    (λ there.
+    written_other w ms ns k n i e there
+    ∙ ⊎_elim
+    (λ before. kept_before w ms len i before)
+    (λ past. past_blocks w ms len i past (let l = div_le w len i pos past in let far : i / w ≢ len / w = λ q. there (q ∙ sym ke) in omega arith))
+    (cases_lt i len))
+    (cases_eq (i / w) k)

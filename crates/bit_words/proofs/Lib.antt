@@ -1,0 +1,11 @@
+pub mod Words
+pub mod BitsLemmas
+pub mod LowestLemmas
+pub mod OnesLemmas
+pub mod StorageLemmas
+pub mod Masks
+pub mod ChangeLemmas
+pub mod VectorLemmas
+pub mod TidyLemmas
+pub mod ByteLemmas
+pub mod SourceLemmas

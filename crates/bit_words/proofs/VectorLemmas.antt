@@ -1,0 +1,99 @@
+-- What the calls of a bit vector cite: its length, its room and its list.
+use Rattle.std.proofs.Common.{◌≡◌, ℕ, ◌+◌, ◌*◌, ◌/◌, ◌%◌, ◌^◌, ◌<◌, ◌≤◌, Bool, false, zero, suc, List, [], ◌∷◌, map, length, get_or, refl, sym, ap, ◌∙◌, arith, ⊎_elim, Some, None, slice_get, All, mul-le-mul_right, pow_pos}
+use Rattle.std.proofs.lemmas.Bool.{cases_lt}
+use Rattle.std.proofs.lemmas.Bool.Decides.{nat_tests}
+use Rattle.std.proofs.lemmas.List.{get_or-map, length-map}
+use Rattle.std.proofs.lemmas.List.Elements.{All-tail, All-same, All-nil}
+use Rattle.std.proofs.lemmas.Nat.Bits.{bit_at-lt, bit_at-zero, same_from_bits_below}
+use Rattle.std.specs.Int.{bit_at}
+use Rattle.std.proofs.lemmas.Option.{slice_get-get_or, slice_get_past}
+use Rattle.bit_words.specs.Bits.{Bits, IsWithinRoom, blocks_for}
+use Rattle.bit_words.specs.Storage.{is_one, value_at, values_of, room_of, IsTidy}
+use Rattle.bit_words.proofs.BitsLemmas.{blocks_for-enough, blocks_for-least}
+use Rattle.bit_words.proofs.StorageLemmas.{length-values_of, value_at-past, get_or-values_of, value_at-is, value_at-place}
+use Rattle.bit_words.proofs.Masks.{is_one-zero}
+
+-- ---- the length and the room
+
+pub length_from_view : (w n r : ℕ) (ms : List ℕ) (v : Bits) → record { values = values_of w ms n; room = r } ≡ v → length v.values ≡ n
+length_from_view w n r ms v e = sym (ap (λ b. length b.values) e) ∙ length-values_of w ms n
+
+pub room_from_view : (r : ℕ) (bs : List Bool) (v : Bits) → record { values = bs; room = r } ≡ v → v.room ≡ r
+room_from_view r bs v e = sym (ap (λ b. b.room) e)
+
+pub le-room_of : (w blocks n : ℕ) → 0 < w → n < 2 ^ 64 → blocks_for w n ≤ blocks → n ≤ room_of w blocks
+le-room_of w blocks n pos fits h = let a = mul-le-mul_right w h in omega (arith, blocks_for-enough w n pos)
+
+pub room_of-short : (w blocks n : ℕ) → 0 < w → blocks < blocks_for w n → room_of w blocks < n
+room_of-short w blocks n pos h =
+    ⊎_elim
+    (λ short. short)
+    (λ enough. let a : n ≤ blocks * w = omega arith in let l = blocks_for-least w n blocks pos a in absurd (omega arith))
+    (cases_lt (room_of w blocks) n)
+
+pub room_of-le : (w a b : ℕ) → a ≤ b → room_of w a ≤ room_of w b
+room_of-le w a b h = let m = mul-le-mul_right w h in omega arith
+
+pub is_within_room : {X : Type 0} (w n cap : ℕ) (f : X → ℕ) (P : X → Type 0) (xs : List X) (v : Bits) → 0 < w → IsTidy w f P xs n → length xs ≤ cap → record { values = values_of w (map f xs) n; room = room_of w cap } ≡ v → IsWithinRoom v
+is_within_room w n cap f P xs v pos tidy h e = record {
+  holds_values = rw (length_from_view w n (room_of w cap) (map f xs) v e, room_from_view (room_of w cap) (values_of w (map f xs) n) v e)
+      (le-room_of w cap n pos tidy.fits (let c = tidy.count in omega arith));
+  fits = rw (room_from_view (room_of w cap) (values_of w (map f xs) n) v e) (omega arith);
+}
+
+-- ---- one value
+
+pub slice_get-values_of_past : (w : ℕ) (ms : List ℕ) (n i : ℕ) → n ≤ i → slice_get (values_of w ms n) i ≡ None
+slice_get-values_of_past w ms n i h = slice_get_past (values_of w ms n) i (rw length-values_of h)
+
+pub slice_get-values_of : (w : ℕ) (ms : List ℕ) (n i : ℕ) → i < n → slice_get (values_of w ms n) i ≡ Some (value_at w ms i)
+slice_get-values_of w ms n i h = slice_get-get_or (values_of w ms n) i false (rw length-values_of h) ∙ ap Some (get_or-values_of w ms n i false h)
+
+-- ---- all the blocks
+
+pub numbers_below : {X : Type 0} (w : ℕ) (f : X → ℕ) (P : X → Type 0) (xs : List X) → ((x : X) → P x → f x < 2 ^ w) → All P xs → (k : ℕ) → get_or (map f xs) k 0 < 2 ^ w
+numbers_below w f P [] below each k = pow_pos w
+numbers_below w f P (x ∷ xs) below each zero = below x (each 0 x (omega arith))
+numbers_below w f P (x ∷ xs) below each (suc k) = numbers_below w f P xs below (All-tail P x xs each) k
+
+all_zero_map : {X : Type 0} (f : X → ℕ) (xs : List X) → All (λ x. f x ≡ 0) xs → (k : ℕ) → get_or (map f xs) k 0 ≡ 0
+all_zero_map f [] each k = refl
+all_zero_map f (x ∷ xs) each zero = each 0 x (omega arith)
+all_zero_map f (x ∷ xs) each (suc k) = all_zero_map f xs (All-tail (λ x. f x ≡ 0) x xs each) k
+
+pub all_false_from_zero : {X : Type 0} (w n : ℕ) (f : X → ℕ) (xs : List X) → All (λ x. f x ≡ 0) xs → All (λ b. b ≡ false) (values_of w (map f xs) n)
+all_false_from_zero w n f xs zeros k d within =
+    get_or-values_of w (map f xs) n k d (rw (← length-values_of w (map f xs) n) within)
+    ∙ value_at-is w (map f xs) k
+    ∙ ap (λ m. is_one m (k % w)) (all_zero_map f xs zeros (k / w))
+    ∙ is_one-zero (k % w)
+
+bit_from_false : (m j : ℕ) → is_one m j ≡ false → bit_at m j ≡ 0
+bit_from_false m j h = let l = bit_at-lt m j in grind (arith, nat_tests)
+
+pub zero_from_all_false : {X : Type 0} (w n : ℕ) (f : X → ℕ) (P : X → Type 0) (xs : List X) → 0 < w → ((x : X) → P x → f x < 2 ^ w) → IsTidy w f P xs n → All (λ b. b ≡ false) (values_of w (map f xs) n) → All (λ x. f x ≡ 0) xs
+zero_from_all_false w n f P xs pos below tidy falses k d within =
+    sym (get_or-map f xs k d 0 within)
+    ∙ same_from_bits_below w _ 0 (numbers_below w f P xs below tidy.each k) (pow_pos w) (λ j inside.
+    let value : value_at w (map f xs) (k * w + j) ≡ false = ⊎_elim
+    (λ index. sym (get_or-values_of w (map f xs) n (k * w + j) false index) ∙ falses (k * w + j) false (rw length-values_of index))
+    (λ past. tidy.tail.clean (k * w + j) past)
+    (cases_lt (k * w + j) n) in
+    bit_from_false _ j (sym (value_at-place w (map f xs) k j inside) ∙ value) ∙ sym (bit_at-zero j))
+
+-- ---- the empty list
+
+blocks_for-none : (w : ℕ) → 0 < w → 0 ≡ blocks_for w 0
+blocks_for-none w pos = let l = blocks_for-least w 0 0 pos (omega arith) in omega arith
+
+pub tidy_nil : {X : Type 0} (w : ℕ) (f : X → ℕ) (P : X → Type 0) (xs : List X) → 0 < w → xs ≡ [] → IsTidy w f P xs 0
+tidy_nil w f P xs pos e = record {
+  each = All-same P xs [] e (All-nil P);
+  count = ap length e ∙ blocks_for-none w pos;
+  tail = record { clean = λ i past. value_at-past w (map f xs) i (rw (length-map, ap length e) (omega arith)) };
+  fits = omega arith;
+}
+
+pub values_of-none : (w : ℕ) (ms : List ℕ) → values_of w ms 0 ≡ []
+unfolding values_of
+values_of-none w ms = refl

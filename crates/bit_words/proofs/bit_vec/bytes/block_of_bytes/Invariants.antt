@@ -1,0 +1,9 @@
+use Rattle.std.proofs.Common.{◌≡◌, ℕ, ◌*◌, ◌<◌, ◌&&◌, nat_lt}
+use Rattle.bit_words.specs.Storage.{is_one, byte_value}
+use Rattle.bit_words.proofs.bit_vec.bytes.block_of_bytes.Given as goal
+
+abbrev pub invariant-loop-place : goal.invariant-loop-place
+invariant-loop-place g l = record {
+  of_block : g.B.BitBlock.is_block l.block;
+  digits : (j : ℕ) → j < g.B.BitBlock.width → is_one (g.B.BitBlock.number l.block) j ≡ (nat_lt j (8 * l.place) && byte_value l.bytes j);
+}

@@ -1,0 +1,12 @@
+use Rattle.std.proofs.Common.{◌<◌, ◌≡◌, arith, map, length, get_or}
+use Rattle.std.proofs.lemmas.List.{length-map}
+use Rattle.bit_words.proofs.ChangeLemmas.{raised}
+use Rattle.bit_words.proofs.bit_vec.changes.raise_from.Goals as goal
+
+pub returns-clause-values : goal.returns-clause-values
+returns-clause-values g c =
+    let xs = c.args.blocks.now.items in
+    let f = g.B.BitBlock.number in
+    let within : c.block_index-k.result < length (map f xs) = rw length-map (omega arith) in
+    let read : f c.block_at.result ≡ get_or (map f xs) c.block_index-k.result 0 = rw c.deref.ensures.value at c.block_at.ensures.of_number in
+    raised _ (map f xs) _ _ _ _ _ _ g.met.B.BitBlock.width_law.positive c.block_index-k.ensures c.place_in_block.ensures.value within read c.put_block.ensures.numbers c.with_ones_from-block.ensures.digits

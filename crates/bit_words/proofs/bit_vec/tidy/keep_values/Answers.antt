@@ -1,0 +1,11 @@
+use Rattle.std.proofs.Common.{arith}
+use Rattle.bit_words.proofs.TidyLemmas.{blocks_for-le, cut_kept}
+use Rattle.bit_words.proofs.bit_vec.tidy.keep_values.Goals as goal
+
+pub keep_blocks-requires-clause-fewer : goal.keep_blocks-requires-clause-fewer
+keep_blocks-requires-clause-fewer g c =
+    let le = blocks_for-le g.B.BitBlock.width c.args.len c.args.old g.met.B.BitBlock.width_law.positive c.requires.shorter in omega arith
+
+pub returns-clause-kept : goal.returns-clause-kept
+returns-clause-kept g c =
+    cut_kept _ _ _ _ _ _ g.met.B.BitBlock.width_law.positive c.block_count.ensures c.keep_blocks.ensures.numbers c.lower_from.ensures.values

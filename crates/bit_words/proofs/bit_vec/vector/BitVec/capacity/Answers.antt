@@ -1,0 +1,7 @@
+use Rattle.std.proofs.Common.{arith}
+use Rattle.bit_words.proofs.VectorLemmas.{is_within_room}
+use Rattle.bit_words.proofs.bit_vec.vector.BitVec.capacity.Goals as goal
+
+pub returns-clause-fits : goal.returns-clause-fits
+returns-clause-fits g c =
+    is_within_room _ _ _ _ _ _ _ g.met.B.BitBlock.width_law.positive c.self.invariant (omega arith) c.self.view_is

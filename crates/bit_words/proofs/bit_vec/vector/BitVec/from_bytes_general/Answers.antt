@@ -1,0 +1,20 @@
+use Rattle.std.proofs.Common.{◌≡◌, ◌*◌, length, sym, ap, ◌∙◌, arith}
+use Rattle.bit_words.specs.Bits.{blocks_for}
+use Rattle.bit_words.proofs.ByteLemmas.{byte_value-past, length-values_of_bytes, get_or-values_of_bytes}
+use Rattle.bit_words.proofs.StorageLemmas.{values_of-same}
+use Rattle.bit_words.proofs.bit_vec.vector.BitVec.from_bytes_general.Goals as goal
+
+pub invariant_of-result : goal.invariant_of-result
+invariant_of-result g c =
+    let len : c.in-Some.len ≡ 8 * length c.args.bytes.now = omega (arith, c.in-Some.ensures) in
+    record {
+      each = c.in_ok-blocks.ensures.each;
+      count = c.in_ok-blocks.ensures.len ∙ ap (blocks_for g.B.BitBlock.width) (sym len);
+      tail = record { clean = λ i past. c.in_ok-blocks.ensures.values i ∙ byte_value-past c.args.bytes.now i (omega arith) };
+      fits = omega arith;
+    }
+
+pub returns-clause-values : goal.returns-clause-values
+returns-clause-values g c =
+    let len : c.in-Some.len ≡ 8 * length c.args.bytes.now = omega (arith, c.in-Some.ensures) in
+    values_of-same _ _ _ _ (length-values_of_bytes c.args.bytes.now ∙ sym len) (λ i below. c.in_ok-blocks.ensures.values i ∙ sym (get_or-values_of_bytes c.args.bytes.now i))

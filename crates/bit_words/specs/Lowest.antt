@@ -1,0 +1,28 @@
+-- The lowest 1 among the binary digits of a number.
+use Rattle.std.specs.Prelude.{◌≡◌, ◌≢◌, ℕ, ◌+◌, ◌-◌, ◌^◌, ◌<◌, count_ones}
+use Rattle.std.specs.Int.{bit_at}
+use Rattle.bit_words.specs.Digits.{IsBoth, IsComplement}
+
+-- Digit i of m is 1, and those below it are 0.
+pub record IsLowest (m i : ℕ) : Type 0 where
+  pub one : bit_at m i ≡ 1
+  pub zeros : (k : ℕ) → k < i → bit_at m k ≡ 0
+
+-- Of w digits, r has those of m with digit i made 0.
+pub record IsCleared (w m i r : ℕ) : Type 0 where
+  pub cleared : bit_at r i ≡ 0
+  pub kept : (k : ℕ) → k < w → k ≢ i → bit_at r k ≡ bit_at m k
+
+-- How blocks of w digits find the lowest 1 of m, at place i, and clear it.
+pub record LowestIsFound (w m i : ℕ) : Type 0 where
+  pub lowest : IsLowest m i
+  pub within : i < w
+  -- `!m + 1`, which does not wrap
+  pub negated : (n : ℕ) → n < 2 ^ w → IsComplement w m n → n + 1 ≡ 2 ^ w - m
+  pub negated_fits : 2 ^ w - m < 2 ^ w
+  -- `m & (!m + 1)`
+  pub alone : (r : ℕ) → r < 2 ^ w → IsBoth w m (2 ^ w - m) r → r ≡ 2 ^ i
+  -- the place is the count of ones below it
+  pub counted : count_ones (2 ^ i - 1) ≡ i
+  -- `m & (m - 1)`
+  pub rest : (r : ℕ) → IsBoth w m (m - 1) r → IsCleared w m i r

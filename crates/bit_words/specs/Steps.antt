@@ -1,0 +1,11 @@
+-- How far a chain of links goes.
+use Rattle.std.specs.Prelude.{ℕ, ◌+◌}
+use Rattle.bit_words.specs.declared.bit_vec.steps.Link.{Link}
+use Rattle.bit_words.specs.declared.bit_vec.steps.Link.TheVariants.{Zero}
+use Rattle.bit_words.specs.declared.bit_vec.steps.Link.{More', Same'}
+
+-- one for each link that says `More`
+abbrev pub depth : Link → ℕ
+depth Zero = 0
+depth (More' _ _ before) = depth before + 1
+depth (Same' _ _ before) = depth before

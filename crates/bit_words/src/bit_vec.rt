@@ -1,0 +1,21 @@
+//! Bit vectors over blocks of any lawful type.
+
+mod block;
+#[cfg(test)]
+mod block_tests;
+mod blocks;
+mod bytes;
+mod changes;
+mod integers;
+mod masks;
+mod steps;
+#[cfg(test)]
+mod tests;
+mod tidy;
+mod vector;
+mod words;
+
+pub use block::BitBlock;
+pub use blocks::Blocks;
+pub use steps::Steps;
+pub use vector::{BitVec, BitsError};

@@ -1,0 +1,43 @@
+pub mod block24;
+
+use super::BitBlock;
+use super::words::{
+    block_add, block_and, block_not, block_or, block_sub, block_xor, shift_left, shift_right,
+};
+use block24::Block24;
+
+// The ones of a byte, of its complement, and of what is left of it once only its low four bits
+// have room above and the low one of those is dropped.
+fn counts<B: BitBlock>(byte: u8) -> [usize; 3] {
+    let low = B::from_byte(byte);
+    let high = shift_left(low, B::bits() - 4);
+    let dropped = shift_right(high, B::bits() - 3);
+    [
+        low.count_ones(),
+        block_not(low).count_ones(),
+        dropped.count_ones(),
+    ]
+}
+
+#[test]
+fn bits_move_within_the_width(rt: HostRuntime) {
+    assert_eq!(rt; counts::<u8>(0b0100_1011), [4, 4, 2]);
+    assert_eq!(rt; counts::<u16>(0b0100_1011), [4, 12, 2]);
+    assert_eq!(rt; counts::<Block24>(0b0100_1011), [4, 20, 2]);
+    assert_eq!(rt; counts::<u32>(0b0100_1011), [4, 28, 2]);
+    assert_eq!(rt; counts::<u64>(0b0100_1011), [4, 60, 2]);
+    assert_eq!(rt; counts::<usize>(0b0100_1011), [4, 60, 2]);
+}
+
+#[test]
+fn forty_gives_up_its_lowest_one(rt: HostRuntime) {
+    let block = 40u8;
+    let negated = block_add(block_not(block), u8::one());
+    let low = block_and(block, negated);
+    let below = block_sub(low, u8::one());
+    let rest = block_and(block, block_sub(block, u8::one()));
+    assert_eq!(rt; [negated, low, below, rest], [216, 8, 7, 32]);
+    assert_eq!(rt; BitBlock::count_ones(below), 3);
+    assert_eq!(rt; block_or(low, rest), block);
+    assert_eq!(rt; block_xor(block, rest), low);
+}

@@ -1,0 +1,141 @@
+// Reads and changes of a vector of blocks, each told by the value at every index. They keep its
+// length and room unless they say otherwise, and know nothing of how many values it holds.
+ghost use Rattle.std.specs.Prelude.{◌≡◌, ◌≢◌, ℕ, ◌<◌, ◌≤◌, ◌/◌, ◌%◌, ◌==◌, ◌&&◌, ◌||◌, ◌↔◌, All, IsTrue, length, map, set, get_or, replicate, nat_lt, nat_le, vec_len, vec_capacity, true, false};
+ghost use Rattle.bit_words.specs.Bits.{blocks_for};
+ghost use Rattle.bit_words.specs.Storage.{value_at};
+
+use super::BitBlock;
+use super::masks::{cut_from, with_digit, with_ones_from};
+use super::words::{has_one_at, same};
+
+// How many blocks a list of `len` values has.
+#[inline]
+pub(crate) fn block_count<B: BitBlock>(len: usize) -> usize
+    ensures { result ≡ blocks_for B.width len }
+{
+    len.div_ceil(B::bits())
+}
+
+// The block in which index `i` is, and its place there.
+#[inline]
+pub(crate) fn block_index<B: BitBlock>(i: usize) -> usize
+    ensures { result ≡ i / B.width }
+{
+    i / B::bits()
+}
+
+#[inline]
+pub(crate) fn place_in_block<B: BitBlock>(i: usize) -> usize
+    ensures value { result ≡ i % B.width }
+    ensures within { result < B.width }
+{
+    i % B::bits()
+}
+
+#[inline]
+pub(crate) fn block_at<B: BitBlock>(blocks: &[B], k: usize) -> B
+    requires in_bounds { k < length blocks.now }
+    requires each { All B.is_block blocks.now }
+    ensures of_block { B.is_block result }
+    ensures of_number { B.number result ≡ get_or (map B.number blocks.now) k 0 }
+{
+    blocks[k]
+}
+
+#[inline]
+pub(crate) fn put_block<B: BitBlock>(blocks: &mut Vec<B>, k: usize, block: B)
+    requires in_bounds { k < vec_len blocks.old }
+    requires each { All B.is_block blocks.old.items }
+    requires of_block { B.is_block block }
+    ensures numbers { map B.number blocks.new.items ≡ set (map B.number blocks.old.items) k (B.number block) }
+    ensures each { All B.is_block blocks.new.items }
+    ensures len { vec_len blocks.new ≡ vec_len blocks.old }
+    ensures capacity { vec_capacity blocks.new ≡ vec_capacity blocks.old }
+{
+    blocks[k] = block;
+}
+
+#[inline]
+pub(crate) fn value_of<B: BitBlock>(blocks: &[B], i: usize) -> bool
+    requires in_bounds { i / B.width < length blocks.now }
+    requires each { All B.is_block blocks.now }
+    ensures { result ≡ value_at B.width (map B.number blocks.now) i }
+{
+    let block = block_at(blocks, block_index::<B>(i));
+    has_one_at(block, place_in_block::<B>(i))
+}
+
+// The value at `i` becomes `bit`.
+#[inline]
+pub(crate) fn put_value<B: BitBlock>(blocks: &mut Vec<B>, i: usize, bit: bool)
+    requires in_bounds { i / B.width < vec_len blocks.old }
+    requires each { All B.is_block blocks.old.items }
+    ensures same { value_at B.width (map B.number blocks.new.items) i ≡ bit }
+    ensures others { (j : ℕ) → j ≢ i → value_at B.width (map B.number blocks.new.items) j ≡ value_at B.width (map B.number blocks.old.items) j }
+    ensures each { All B.is_block blocks.new.items }
+    ensures len { vec_len blocks.new ≡ vec_len blocks.old }
+    ensures capacity { vec_capacity blocks.new ≡ vec_capacity blocks.old }
+{
+    let k = block_index::<B>(i);
+    let block = with_digit(block_at(blocks, k), place_in_block::<B>(i), bit);
+    put_block(blocks, k, block);
+}
+
+// The values from `start` to the end of its block become true.
+pub(crate) fn raise_from<B: BitBlock>(blocks: &mut Vec<B>, start: usize)
+    requires in_bounds { start / B.width < vec_len blocks.old }
+    requires each { All B.is_block blocks.old.items }
+    ensures values { (i : ℕ) → value_at B.width (map B.number blocks.new.items) i ≡ (value_at B.width (map B.number blocks.old.items) i || (nat_le start i && (i / B.width == start / B.width))) }
+    ensures each { All B.is_block blocks.new.items }
+    ensures len { vec_len blocks.new ≡ vec_len blocks.old }
+    ensures capacity { vec_capacity blocks.new ≡ vec_capacity blocks.old }
+{
+    let k = block_index::<B>(start);
+    let block = with_ones_from(block_at(blocks, k), place_in_block::<B>(start));
+    put_block(blocks, k, block);
+}
+
+// The values from `len` on become false, where there is no block past them.
+pub(crate) fn lower_from<B: BitBlock>(blocks: &mut Vec<B>, len: usize)
+    requires count { vec_len blocks.old ≡ blocks_for B.width len }
+    requires each { All B.is_block blocks.old.items }
+    ensures values { (i : ℕ) → value_at B.width (map B.number blocks.new.items) i ≡ (nat_lt i len && value_at B.width (map B.number blocks.old.items) i) }
+    ensures each { All B.is_block blocks.new.items }
+    ensures len { vec_len blocks.new ≡ vec_len blocks.old }
+    ensures capacity { vec_capacity blocks.new ≡ vec_capacity blocks.old }
+{
+    let place = place_in_block::<B>(len);
+    if place == 0 {
+        return;
+    }
+    let k = block_index::<B>(len);
+    let block = cut_from(block_at(blocks, k), place);
+    put_block(blocks, k, block);
+}
+
+// Each block becomes `block`.
+pub(crate) fn fill_blocks<B: BitBlock>(blocks: &mut Vec<B>, block: B)
+    requires of_block { B.is_block block }
+    ensures numbers { map B.number blocks.new.items ≡ replicate (vec_len blocks.old) (B.number block) }
+    ensures each { All B.is_block blocks.new.items }
+    ensures len { vec_len blocks.new ≡ vec_len blocks.old }
+    ensures capacity { vec_capacity blocks.new ≡ vec_capacity blocks.old }
+{
+    for place in blocks.iter_mut() {
+        *place = block;
+    }
+}
+
+// Whether every block is 0.
+pub(crate) fn are_zero<B: BitBlock>(blocks: &[B]) -> bool
+    requires { All B.is_block blocks.now }
+    ensures { IsTrue result ↔ All (λ block. B.number block ≡ 0) blocks.now }
+{
+    let zero = B::zero();
+    for block in blocks {
+        if !same(*block, zero) {
+            return false;
+        }
+    }
+    true
+}

@@ -1,0 +1,48 @@
+// A block with some of its digits written. Each clause is by digit, as the test that it is 1.
+ghost use Rattle.std.specs.Prelude.{◌≡◌, ◌≢◌, ℕ, ◌<◌, ◌&&◌, ◌||◌, nat_lt, nat_le};
+ghost use Rattle.bit_words.specs.Storage.{is_one};
+
+use super::BitBlock;
+use super::words::{block_and, block_not, block_or, one_at, ones_below};
+
+// The digit at `place` becomes `bit`.
+#[inline]
+#[tactic(auto, using(crate::proofs::Masks::masks))]
+pub(crate) fn with_digit<B: BitBlock>(block: B, place: usize, bit: bool) -> B
+    requires of_block { B.is_block block }
+    requires within { place < B.width }
+    ensures of_block { B.is_block result }
+    ensures same { is_one (B.number result) place ≡ bit }
+    ensures others { (j : ℕ) → j < B.width → j ≢ place → is_one (B.number result) j ≡ is_one (B.number block) j }
+{
+    let mask = one_at(place);
+    if bit {
+        block_or(block, mask)
+    } else {
+        block_and(block, block_not(mask))
+    }
+}
+
+// The digits from `place` on become 1.
+#[inline]
+#[tactic(auto, using(crate::proofs::Masks::masks))]
+pub(crate) fn with_ones_from<B: BitBlock>(block: B, place: usize) -> B
+    requires of_block { B.is_block block }
+    requires within { place < B.width }
+    ensures of_block { B.is_block result }
+    ensures digits { (j : ℕ) → j < B.width → is_one (B.number result) j ≡ (is_one (B.number block) j || nat_le place j) }
+{
+    block_or(block, block_not(ones_below(place)))
+}
+
+// The digits from `place` on become 0.
+#[inline]
+#[tactic(auto, using(crate::proofs::Masks::masks))]
+pub(crate) fn cut_from<B: BitBlock>(block: B, place: usize) -> B
+    requires of_block { B.is_block block }
+    requires within { place < B.width }
+    ensures of_block { B.is_block result }
+    ensures digits { (j : ℕ) → j < B.width → is_one (B.number result) j ≡ (nat_lt j place && is_one (B.number block) j) }
+{
+    block_and(block, ones_below(place))
+}

@@ -1,0 +1,61 @@
+//! A count that only contracts see.
+ghost use Rattle.std.specs.Prelude.{◌≡◌, ◌+◌};
+
+use std::marker::Model;
+use std::snapshot::Snapshot;
+
+/// How many steps were taken. Contracts see the number; at run time it has no bytes and costs nothing.
+#[derive(Drop)]
+pub struct Steps {
+    link: Snapshot<Link>,
+}
+
+// The count is the length of the chain, which no code can read.
+#[derive(Drop)]
+enum Link {
+    Zero,
+    More(Snapshot<Snapshot<Link>>),
+    Same(Snapshot<Snapshot<Link>>),
+}
+
+impl Model for Steps {
+    ghost use Rattle.std.specs.Prelude.{ℕ};
+
+    ghost Value = { ℕ };
+
+    ghost use Rattle.bit_words.specs.Steps.{depth};
+
+    ghost view = { λ steps. depth steps.link.value };
+}
+
+impl Steps {
+    /// No step.
+    #[inline]
+    pub fn new() -> Self
+        ensures { result ≡ 0 }
+    {
+        Steps {
+            link: Snapshot::of(&Link::Zero),
+        }
+    }
+
+    /// One step more.
+    #[inline]
+    pub fn tick(&mut self)
+        ensures { self.new ≡ self.old + 1 }
+    {
+        self.link = Snapshot::of(&Link::More(Snapshot::of(&self.link)));
+    }
+
+    /// The same count, which goes on by itself.
+    #[inline]
+    pub fn clone(&self) -> Self
+        ensures { result ≡ self.now }
+    {
+        Steps {
+            link: Snapshot::of(&Link::Same(Snapshot::of(&self.link))),
+        }
+    }
+}
+
+const _: () = prove!(size_of::<Steps>() == 0);

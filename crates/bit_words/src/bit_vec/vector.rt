@@ -1,0 +1,94 @@
+ghost use Rattle.std.specs.Prelude.{◌≡◌, ◌≤◌, ◌↔◌, All, IsTrue, false, length, map, slice_get};
+ghost use Rattle.bit_words.specs.Bits.{blocks_of, IsWithinRoom};
+
+use super::changes::{are_zero, value_of};
+use super::{BitBlock, Blocks};
+use std::marker::Model;
+
+mod edit;
+mod making;
+
+pub use making::BitsError;
+
+/// A list of truth values, kept as bits in a vector of blocks.
+///
+/// Contracts see the list, as `values`, and `room`, the length up to which it grows without memory.
+/// Value `i` is bit `i % B::bits()` of block `i / B::bits()`; bits of the last block past the
+/// length are 0.
+#[derive(Drop)]
+pub struct BitVec<B: BitBlock = u32> {
+    blocks: Vec<B>,
+    len: usize,
+}
+
+impl<B: BitBlock> Model for BitVec<B> {
+    ghost use Rattle.std.specs.Prelude.{map, vec_capacity};
+    ghost use Rattle.bit_words.specs.Bits.{Bits};
+    ghost use Rattle.bit_words.specs.Storage.{values_of, room_of, IsTidy};
+
+    ghost Value = { Bits };
+
+    ghost view = { λ v. record { values = values_of B.width (map B.number v.blocks.items) v.len; room = room_of B.width (vec_capacity v.blocks) } };
+
+    ghost invariant = { λ v. IsTidy B.width B.number B.is_block v.blocks.items v.len };
+}
+
+impl<B: BitBlock> BitVec<B> {
+    /// How many values the list has. Constant time.
+    #[inline]
+    pub fn len(&self) -> usize
+        ensures value { result ≡ length self.now.values }
+        ensures fits { IsWithinRoom self.now }
+    {
+        self.len
+    }
+
+    /// The value at `i`, or `None` at or past the length. Constant time.
+    #[inline]
+    pub fn get(&self, i: usize) -> Option<bool>
+        ensures { result ≡ slice_get self.now.values i }
+    {
+        if i >= self.len {
+            return None;
+        }
+        Some(value_of(&self.blocks, i))
+    }
+
+    /// Whether no value is true. Reads each block once at most.
+    pub fn none(&self) -> bool
+        ensures { IsTrue result ↔ All (λ bit. bit ≡ false) self.now.values }
+    {
+        are_zero(&self.blocks)
+    }
+
+    /// Up to which length the list grows without memory: the blocks of room times their width,
+    /// or `usize::MAX` where that is greater. Constant time.
+    #[inline]
+    pub fn capacity(&self) -> usize
+        ensures value { result ≡ self.now.room }
+        ensures fits { IsWithinRoom self.now }
+    {
+        self.blocks.capacity().saturating_mul(B::bits())
+    }
+
+    /// The blocks in which the list is kept. Constant time.
+    #[inline]
+    pub fn storage(&self) -> &[B]
+        ensures numbers { map B.number result.now ≡ blocks_of B.width self.now.values }
+        ensures each { All B.is_block result.now }
+        ensures fits { IsWithinRoom self.now }
+    {
+        &self.blocks
+    }
+
+    /// A walk over these blocks. Constant time.
+    #[inline]
+    pub fn blocks(&self) -> Blocks<'_, B>
+        ensures numbers { map B.number result.left ≡ blocks_of B.width self.now.values }
+        ensures each { All B.is_block result.left }
+        ensures pulls { result.pulls ≡ 0 }
+        ensures fits { IsWithinRoom self.now }
+    {
+        Blocks::over(self.storage())
+    }
+}

@@ -1,0 +1,88 @@
+// Calls that change the list in place.
+ghost use Rattle.std.specs.Prelude.{◌≡◌, ◌+◌, ◌<◌, ◌≤◌, [], ◌++◌, length, replicate, slice_set, take, IsOk, OnErr, OnOk};
+
+use super::BitVec;
+use crate::bit_vec::BitBlock;
+use crate::bit_vec::changes::block_count;
+use crate::bit_vec::tidy::{append_values, fill_values, keep_values, set_value};
+use std::alloc::AllocError;
+
+impl<B: BitBlock> BitVec<B> {
+    /// Makes the value at `i` be `bit`. Constant time.
+    #[inline]
+    pub fn set(&mut self, i: usize, bit: bool)
+        requires { i < length self.old.values }
+        ensures values { self.new.values ≡ slice_set self.old.values i bit }
+        ensures room { self.new.room ≡ self.old.room }
+    {
+        set_value(&mut self.blocks, self.len, i, bit);
+    }
+
+    /// Makes every value be `bit`. Writes each block once, and the last one twice at most.
+    pub fn fill(&mut self, bit: bool)
+        ensures values { self.new.values ≡ replicate (length self.old.values) bit }
+        ensures room { self.new.room ≡ self.old.room }
+    {
+        fill_values(&mut self.blocks, self.len, bit);
+    }
+
+    /// Keeps the first `n` values; nothing where there are no more. Writes one block at most.
+    pub fn truncate(&mut self, n: usize)
+        ensures values { self.new.values ≡ take n self.old.values }
+        ensures room { self.new.room ≡ self.old.room }
+    {
+        if n >= self.len {
+            return;
+        }
+        keep_values(&mut self.blocks, self.len, n);
+        self.len = n;
+    }
+
+    /// Makes the list empty. Constant time.
+    #[inline]
+    pub fn remove_all(&mut self)
+        ensures values { self.new.values ≡ [] }
+        ensures room { self.new.room ≡ self.old.room }
+    {
+        self.blocks.clear();
+        self.len = 0;
+    }
+
+    /// Appends `n` values `bit`. Writes each new block once, and those at both ends twice at most;
+    /// moves the old blocks where the room was missing. Fails only there, and then nothing changed.
+    pub fn grow(&mut self, n: usize, bit: bool) -> Result<(), AllocError>
+        requires { length self.old.values + n ≤ usize.MAX }
+        ensures ok { OnOk result (self.new.values ≡ self.old.values ++ replicate n bit) }
+        ensures err { OnErr result (self.new ≡ self.old) }
+        ensures full { OnErr result (self.old.room < length self.old.values + n) }
+        ensures succeeds { length self.old.values + n ≤ self.old.room → IsOk result }
+        ensures room { self.old.room ≤ self.new.room }
+    {
+        if n == 0 {
+            return Ok(());
+        }
+        let len = self.len + n;
+        let count = block_count::<B>(len);
+        self.blocks.reserve(count - self.blocks.len())?;
+        append_values(&mut self.blocks, self.len, len, bit);
+        self.len = len;
+        Ok(())
+    }
+
+    /// Takes over the list of `other`, in one pass over its blocks. Fails only where the room was
+    /// missing, and then nothing changed.
+    pub fn clone_from(&mut self, other: &Self) -> Result<(), AllocError>
+        ensures ok { OnOk result (self.new.values ≡ other.now.values) }
+        ensures err { OnErr result (self.new ≡ self.old) }
+        ensures full { OnErr result (self.old.room < length other.now.values) }
+        ensures succeeds { length other.now.values ≤ self.old.room → IsOk result }
+        ensures room { self.old.room ≤ self.new.room }
+    {
+        let missing = other.blocks.len().saturating_sub(self.blocks.len());
+        self.blocks.reserve(missing)?;
+        self.blocks.clear();
+        self.blocks.extend_from_slice(&other.blocks).unwrap();
+        self.len = other.len;
+        Ok(())
+    }
+}

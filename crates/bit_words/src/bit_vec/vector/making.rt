@@ -1,0 +1,101 @@
+// Calls that make a bit vector.
+ghost use Rattle.std.specs.Prelude.{◌≡◌, ◌*◌, ◌<◌, ◌↔◌, [], length, replicate, IfOk, IsErrOf, IsOk};
+ghost use Rattle.bit_words.specs.Bits.{values_of_bytes};
+ghost use Rattle.bit_words.specs.declared.bit_vec.vector.making.BitsError.TheVariants.{Memory};
+
+use super::BitVec;
+use crate::bit_vec::BitBlock;
+use crate::bit_vec::bytes::blocks_of_bytes;
+use std::alloc::{AllocError, Global};
+use thiserror::Error;
+
+/// Why bytes could not be made a bit vector.
+#[derive(Clone, Copy, Debug, PartialEq, Eq, Error)]
+pub enum BitsError {
+    /// Eight times the number of bytes is more than `usize::MAX`.
+    #[error("too many bits")]
+    Length,
+    #[error("memory refused")]
+    Memory(AllocError),
+}
+
+impl From<AllocError> for BitsError {
+    ghost from_gives = { λ fault e. e ≡ Memory fault };
+
+    fn from(fault: AllocError) -> BitsError {
+        BitsError::Memory(fault)
+    }
+}
+
+impl BitVec<u32> {
+    /// The empty list, over blocks of 32 bits. Takes no memory.
+    pub fn new(alloc: Global) -> Self
+        ensures { result.values ≡ [] }
+    {
+        BitVec::new_general(alloc)
+    }
+
+    /// `n` times `bit`, over blocks of 32 bits. Writes each block once.
+    pub fn from_elem(alloc: Global, n: usize, bit: bool) -> Result<Self, AllocError>
+        ensures values { IfOk result (λ vector. vector.values ≡ replicate n bit) }
+        ensures empty { n ≡ 0 → IsOk result }
+    {
+        BitVec::from_elem_general(alloc, n, bit)
+    }
+
+    /// Eight values a byte, its highest bit first, over blocks of 32 bits. One step a byte.
+    pub fn from_bytes(alloc: Global, bytes: &[u8]) -> Result<Self, BitsError>
+        ensures values { IfOk result (λ vector. vector.values ≡ values_of_bytes bytes.now) }
+        ensures too_long { IsErrOf result BitsError.Length ↔ (usize.MAX < 8 * length bytes.now) }
+        ensures empty { length bytes.now ≡ 0 → IsOk result }
+    {
+        BitVec::from_bytes_general(alloc, bytes)
+    }
+}
+
+impl<B: BitBlock> BitVec<B> {
+    /// The empty list. Takes no memory.
+    pub fn new_general(alloc: Global) -> Self
+        ensures { result.values ≡ [] }
+    {
+        BitVec {
+            blocks: Vec::new(alloc),
+            len: 0,
+        }
+    }
+
+    /// `n` times `bit`. Writes each block once, and the last one twice.
+    pub fn from_elem_general(alloc: Global, n: usize, bit: bool) -> Result<Self, AllocError>
+        ensures values { IfOk result (λ vector. vector.values ≡ replicate n bit) }
+        ensures empty { n ≡ 0 → IsOk result }
+    {
+        let mut vector = BitVec::new_general(alloc);
+        vector.grow(n, bit)?;
+        Ok(vector)
+    }
+
+    /// Eight values a byte, its highest bit first. One step a byte.
+    ///
+    /// `Length` comes exactly where there are more values than `usize::MAX`, before any growth.
+    pub fn from_bytes_general(alloc: Global, bytes: &[u8]) -> Result<Self, BitsError>
+        ensures values { IfOk result (λ vector. vector.values ≡ values_of_bytes bytes.now) }
+        ensures too_long { IsErrOf result BitsError.Length ↔ (usize.MAX < 8 * length bytes.now) }
+        ensures empty { length bytes.now ≡ 0 → IsOk result }
+    {
+        let Some(len) = bytes.len().checked_mul(8) else {
+            return Err(BitsError::Length);
+        };
+        let blocks = blocks_of_bytes(alloc, bytes)?;
+        Ok(BitVec { blocks, len })
+    }
+
+    /// A bit vector of the same list. Copies each block once.
+    pub fn clone(&self, alloc: Global) -> Result<Self, AllocError>
+        ensures values { IfOk result (λ vector. vector.values ≡ self.now.values) }
+        ensures empty { length self.now.values ≡ 0 → IsOk result }
+    {
+        let mut vector = BitVec::new_general(alloc);
+        vector.clone_from(self)?;
+        Ok(vector)
+    }
+}
