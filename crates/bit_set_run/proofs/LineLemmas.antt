@@ -73,7 +73,7 @@ lines_of-are (b ∷ bs) =
     ]
 
 -- texts of which each has a byte 10 after it are the lines of the whole
-lines_of-all : (lines : List (List ℕ)) → All (Lacks 10) lines → lines_of (ended lines) ≡ lines
+pub lines_of-all : (lines : List (List ℕ)) → All (Lacks 10) lines → lines_of (ended lines) ≡ lines
 lines_of-all [] lack = refl
 lines_of-all (line ∷ lines) lack =
     rw (lines_of-ended line (ended lines) (All-head (Lacks 10) line lines lack), lines_of-all lines (All-tail (Lacks 10) line lines lack))

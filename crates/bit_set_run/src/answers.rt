@@ -1,6 +1,6 @@
 //! An input answered, a line at a time.
 
-ghost use Rattle.std.specs.Prelude.{◌≡◌, ◌++◌, [], IfOk, OnOk};
+ghost use Rattle.std.specs.Prelude.{◌≡◌, [], ◌∷◌, ◌++◌, IfOk, OnOk};
 ghost use Rattle.bit_set_run.specs.Output.{answer_to, output, sets_after};
 ghost use Rattle.bit_set_run.specs.Reading.{reading};
 
@@ -37,7 +37,7 @@ fn answer_line<B: BitBlock>(
     requires { replies.old.items ≡ [] }
     ensures replies { OnOk result (replies.new.items ≡ []) }
     ensures sets { OnOk result (table.new ≡ sets_after table.old (reading line.now)) }
-    ensures text { OnOk result (text.new.items ≡ text.old.items ++ answer_to table.old (reading line.now)) }
+    ensures text { OnOk result (text.new.items ≡ text.old.items ++ (answer_to table.old (reading line.now) ++ 10 ∷ [])) }
 {
     match read_line(alloc, line)? {
         Err(bad) => text.extend_from_slice(bad_text(bad))?,

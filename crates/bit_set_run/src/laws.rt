@@ -1,11 +1,13 @@
 //! What the definitions of the contracts come to, as facts that are proved of them.
 
-ghost use Rattle.std.specs.Prelude.{◌≡◌, ℕ, false, List, [], ◌∷◌, codes, Contains};
+ghost use Rattle.std.specs.Prelude.{◌≡◌, ℕ, false, List, [], ◌∷◌, codes, length, map, Contains};
 ghost use Rattle.bit_set_run.specs.declared.commands.Command.{Command};
+ghost use Rattle.bit_set_run.specs.declared.reading.BadLine.{BadLine};
 ghost use Rattle.bit_set_run.specs.declared.reading.BadLine.TheVariants.{BadCommand};
 ghost use Rattle.bit_set_run.specs.Lines.{lines_of, AreLines};
-ghost use Rattle.bit_set_run.specs.Output.{output, Gives};
+ghost use Rattle.bit_set_run.specs.Output.{answer_to, answers_from, output, sets_after, Gives, Line};
 ghost use Rattle.bit_set_run.specs.Reading.{is_plain, reading};
+ghost use Rattle.bit_set_run.specs.Run.{no_sets, Sets};
 ghost use Rattle.bit_set_run.specs.Spelling.{line_of, CanBeHad};
 ghost use Rattle.bit_set_run.specs.Words.{words_of, AreWords};
 
@@ -117,6 +119,16 @@ pub fn outputs_are_as_shown()
         []) }
     ensures last_line { output (codes "count a\n\ncount a") ≡ codes "0\nbad command\n0\n" }
     ensures nothing { output [] ≡ [] }
+{}
+
+/// An output has a line for each line of its input: its answer, on the sets that the lines before it left.
+/// A bad line leaves them as they were.
+pub fn each_line_has_one_answer()
+    ensures as_many { (input : List ℕ) → length (lines_of (output input)) ≡ length (lines_of input) }
+    ensures answers { (input : List ℕ) → lines_of (output input) ≡ answers_from no_sets (map reading (lines_of input)) }
+    ensures first { (sets : Sets) (line : Line) (lines : List Line)
+        → answers_from sets (line ∷ lines) ≡ answer_to sets line ∷ answers_from (sets_after sets line) lines }
+    ensures bad { (sets : Sets) (bad : BadLine) → sets_after sets (Err bad) ≡ sets }
 {}
 
 /// Each command has a line that is read as it.
