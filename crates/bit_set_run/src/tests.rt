@@ -19,7 +19,7 @@ const REPLIES_A: &[u8] = b"true\nfalse\ntrue\ntrue\ntrue\nfalse\n1\n{400}\n{}\n"
 fn answered(alloc: Global, input: &[u8]) -> Result<Vec<u8>, LinesFault> {
     let mut reader = input;
     let mut writer = Vec::new(alloc);
-    run_lines(alloc, &mut reader, &mut writer)?;
+    run_lines::<u32, _, _>(alloc, &mut reader, &mut writer)?;
     Ok(writer)
 }
 
@@ -208,7 +208,7 @@ fn leaves_a_read_that_failed(rt: HostRuntime) -> Result<(), Fail> {
             reader.fails_at = fails_at;
             reader.kind = kind;
             let mut writer = writer(rt.alloc());
-            let result = run_lines(rt.alloc(), &mut reader, &mut writer);
+            let result = run_lines::<u32, _, _>(rt.alloc(), &mut reader, &mut writer);
             assert_eq!(rt; result, Err(LinesFault::Read));
             assert_eq!(rt; reader.calls.saturating_sub(1), fails_at, "not tried again");
             assert_eq!(rt; (writer.calls, writer.flushes), (0, 0));
@@ -225,7 +225,7 @@ fn leaves_a_write_that_failed(rt: HostRuntime) -> Result<(), Fail> {
             let mut writer = writer(rt.alloc());
             writer.fails_at = fails_at;
             writer.kind = kind;
-            let result = run_lines(rt.alloc(), &mut reader(RUN_A), &mut writer);
+            let result = run_lines::<u32, _, _>(rt.alloc(), &mut reader(RUN_A), &mut writer);
             assert_eq!(rt; result, Err(LinesFault::Write));
             assert_eq!(rt; writer.calls.saturating_sub(1), fails_at, "not tried again");
             assert_eq!(rt; writer.flushes, 0);
@@ -243,7 +243,7 @@ fn writes_in_pieces_and_flushes(rt: HostRuntime) -> Result<(), Fail> {
     let mut patient = writer(rt.alloc());
     patient.piece = 1;
     assert_eq!(rt;
-        run_lines(rt.alloc(), &mut reader(RUN_A), &mut patient),
+        run_lines::<u32, _, _>(rt.alloc(), &mut reader(RUN_A), &mut patient),
         Ok(())
     );
     assert_eq!(rt; patient.bytes.as_slice(), REPLIES_A);
@@ -251,7 +251,7 @@ fn writes_in_pieces_and_flushes(rt: HostRuntime) -> Result<(), Fail> {
 
     let mut unflushed = writer(rt.alloc());
     unflushed.flush_fails = true;
-    let result = run_lines(rt.alloc(), &mut reader(RUN_A), &mut unflushed);
+    let result = run_lines::<u32, _, _>(rt.alloc(), &mut reader(RUN_A), &mut unflushed);
     assert_eq!(rt; result, Err(LinesFault::Write));
     assert_eq!(rt; unflushed.bytes.as_slice(), REPLIES_A);
     assert_eq!(rt; unflushed.flushes, 1);
@@ -271,7 +271,7 @@ fn takes_inputs_up_to_the_limit(rt: HostRuntime) -> Result<(), Fail> {
     let mut reader = reader(&input);
     reader.piece = usize::MAX;
     let mut writer = writer(rt.alloc());
-    let result = run_lines(rt.alloc(), &mut reader, &mut writer);
+    let result = run_lines::<u32, _, _>(rt.alloc(), &mut reader, &mut writer);
     assert_eq!(rt; result, Err(LinesFault::TooLarge));
     assert_eq!(rt; writer.calls, 0);
     Ok(())
@@ -281,7 +281,7 @@ fn takes_inputs_up_to_the_limit(rt: HostRuntime) -> Result<(), Fail> {
 fn runs_commands_by_hand(rt: HostRuntime) -> Result<(), Fail> {
     assert_eq!(rt; SetName::from_letter(b'q'), None);
     let a = SetName::from_letter(b'a').ok_or("a")?;
-    let mut table = Table::new(rt.alloc());
+    let mut table: Table<u32> = Table::new(rt.alloc());
     let mut replies = Vec::new(rt.alloc());
     let commands = [
         Command::Insert(a, 5),
