@@ -7,11 +7,11 @@ use Rattle.std.proofs.lemmas.List.Elements.{All-append, All-cons, All-nil}
 use Rattle.std.specs.Fmt.{digit_glyph, digits, digits_onto}
 use Rattle.std.specs.List.{flat_map, join_by, list_all}
 use Rattle.bit_set_run.specs.declared.commands.Reply.{Reply}
-use Rattle.bit_set_run.specs.declared.commands.Reply.TheVariants.{Truth, Number, Items, Element}
+use Rattle.bit_set_run.specs.declared.commands.Reply.TheVariants.{Truth, Done, Number, Items, Rest, Element, Same}
 use Rattle.bit_set_run.specs.declared.reading.BadLine.{BadLine}
 use Rattle.bit_set_run.specs.declared.reading.BadLine.TheVariants.{BadCommand, BadNumber}
 use Rattle.bit_set_run.specs.Cuts.{Lacks}
-use Rattle.bit_set_run.specs.Texts.{text_of, text_of_bad}
+use Rattle.bit_set_run.specs.Texts.{items_text, text_of, text_of_bad}
 use Rattle.std.specs.Prelude.{codes, decimal}
 
 -- one more item behind others
@@ -77,14 +77,22 @@ items_lack : (ns : List ℕ) → Lacks 10 (join_by decimal (44 ∷ 32 ∷ []) ns
 items_lack [] = All-nil (λ b. b ≢ 10)
 items_lack (n ∷ ns) = All-append (λ b. b ≢ 10) (decimal n) (flat_map (λ m. (44 ∷ 32 ∷ []) ++ decimal m) ns) (decimal-lacks n) (others_lack ns)
 
+items_text-lacks : (ns : List ℕ) → Lacks 10 (items_text ns)
+items_text-lacks ns =
+    All-append (λ b. b ≢ 10) (codes "{" ++ join_by decimal (codes ", ") ns) (codes "}")
+    (All-append (λ b. b ≢ 10) (codes "{") (join_by decimal (codes ", ") ns) (by_test (codes "{") refl) (items_lack ns))
+    (by_test (codes "}") refl)
+
 pub text_of-lacks : (reply : Reply) → Lacks 10 (text_of reply)
 text_of-lacks (Truth true) = by_test (codes "true") refl
 text_of-lacks (Truth false) = by_test (codes "false") refl
 text_of-lacks (Number n) = decimal-lacks n
-text_of-lacks (Items ns) =
-    All-append (λ b. b ≢ 10) (codes "{" ++ join_by decimal (codes ", ") ns) (codes "}")
-    (All-append (λ b. b ≢ 10) (codes "{") (join_by decimal (codes ", ") ns) (by_test (codes "{") refl) (items_lack ns))
-    (by_test (codes "}") refl)
+text_of-lacks (Items ns) = items_text-lacks ns
+text_of-lacks Done = by_test (codes "ok") refl
+text_of-lacks (Rest count ns) =
+    All-append (λ b. b ≢ 10) (decimal count ++ codes " ") (items_text ns)
+    (All-append (λ b. b ≢ 10) (decimal count) (codes " ") (decimal-lacks count) (by_test (codes " ") refl)) (items_text-lacks ns)
+text_of-lacks Same = by_test (codes "refused same") refl
 text_of-lacks Element = by_test (codes "refused element") refl
 
 pub text_of_bad-lacks : (bad : BadLine) → Lacks 10 (text_of_bad bad)

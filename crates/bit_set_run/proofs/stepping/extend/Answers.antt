@@ -1,4 +1,4 @@
-use Rattle.std.proofs.Common.{◌≡◌, ◌++◌, ◌∷◌, ℕ, List, length, drop, ◌+◌, refl, sym, ap, ◌∙◌}
+use Rattle.std.proofs.Common.{◌≡◌, ◌++◌, ◌∷◌, ℕ, List, length, drop, ◌+◌, refl, sym, ap, ◌∙◌, arith}
 use Rattle.std.proofs.iter.Yields.{Copied-Drains}
 use Rattle.bit_set.specs.Sets.{put_all}
 use Rattle.bit_set_run.specs.Kept.{kept}
@@ -37,4 +37,4 @@ returns-in-Err-Memory-clause-left g c =
     let h = c.in-Err-Memory.ensures.err in
     let shown : c.copied.result.iter.rest.now ≡ c.args.items.now = cc in
     let before = copied_before c.copied.result h.2 c.args.items.now h.0 h.1 shown h.3 in
-    (length h.0, before.within, h.4.members ∙ ap (put_all (kept c.args.set.now)) before.front)
+    (length h.0, omega (arith, before.within), h.4.members ∙ ap (put_all (kept c.args.set.now)) before.front)
