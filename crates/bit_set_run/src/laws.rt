@@ -1,15 +1,19 @@
 //! What the definitions of the contracts come to, as facts that are proved of them.
 
-ghost use Rattle.std.specs.Prelude.{◌≡◌, ℕ, false, List, [], ◌∷◌, codes, length, map, Contains};
+ghost use Rattle.std.specs.Prelude.{IfOk, OnOk, ◌≡◌, ℕ, false, List, [], ◌∷◌, codes, length, map, Contains};
 ghost use Rattle.bit_set_run.specs.declared.commands.Command.{Command};
 ghost use Rattle.bit_set_run.specs.declared.reading.BadLine.{BadLine};
 ghost use Rattle.bit_set_run.specs.declared.reading.BadLine.TheVariants.{BadCommand};
 ghost use Rattle.bit_set_run.specs.Lines.{lines_of, AreLines};
 ghost use Rattle.bit_set_run.specs.Output.{answer_to, answers_from, output, sets_after, Gives, Line};
 ghost use Rattle.bit_set_run.specs.Reading.{is_plain, reading};
-ghost use Rattle.bit_set_run.specs.Run.{no_sets, Sets};
+ghost use Rattle.bit_set_run.specs.Run.{no_sets, run_of, Sets};
 ghost use Rattle.bit_set_run.specs.Spelling.{line_of, CanBeHad};
 ghost use Rattle.bit_set_run.specs.Words.{words_of, AreWords};
+
+use crate::{Command, Reply, RunFault, Table, run};
+use bit_set::BitBlock;
+use std::alloc::Global;
 
 /// Every input has its lines, and has them in one way; an empty input has none.
 pub fn lines_are_unique()
@@ -142,3 +146,23 @@ pub fn strange_lines_are_bad_commands()
     ensures empty_word { (line : List ℕ) → Contains (words_of line) [] → reading line ≡ Err BadCommand }
     ensures strange_byte { (line : List ℕ) (b : ℕ) → Contains line b → is_plain b ≡ false → reading line ≡ Err BadCommand }
 {}
+
+/// The same commands on two tables with equal sets, over any two types of blocks: where memory is found, the
+/// replies are the same, and so are the sets afterwards.
+pub fn replies_agree<A: BitBlock, B: BitBlock>(
+    alloc: Global,
+    first: &mut Table<A>,
+    second: &mut Table<B>,
+    commands: &[Command],
+) -> Result<(Vec<Reply>, Vec<Reply>), RunFault>
+    requires { first.old ≡ second.old }
+    ensures agree { IfOk result (λ replies. replies.0.items ≡ replies.1.items) }
+    ensures replies { IfOk result (λ replies. replies.0.items ≡ (run_of first.old commands.now).replies) }
+    ensures sets { OnOk result (first.new ≡ second.new) }
+{
+    let mut first_replies = Vec::new(alloc);
+    let mut second_replies = Vec::new(alloc);
+    run(alloc, first, commands, &mut first_replies)?;
+    run(alloc, second, commands, &mut second_replies)?;
+    Ok((first_replies, second_replies))
+}
