@@ -1,0 +1,12 @@
+pub mod Answered
+pub mod Cuts
+pub mod Exits
+pub mod Lines
+pub mod Output
+pub mod Reading
+pub mod Run
+pub mod Sets
+pub mod Spelling
+pub mod Streams
+pub mod Texts
+pub mod Words

@@ -1,2 +1,28 @@
 //! Commands over a table of sixteen sets, and the program that reads them from lines.
 #![tactic(auto)]
+
+mod answers;
+mod commands;
+mod cutting;
+pub mod laws;
+mod lines;
+mod names;
+mod numbers;
+mod plain;
+mod reading;
+mod running;
+mod starting;
+mod streams;
+mod table;
+#[cfg(test)]
+mod tests;
+mod texts;
+
+pub use commands::{Command, Reply};
+pub use lines::run_lines;
+pub use names::SetName;
+pub use numbers::Numbers;
+pub use running::{RunFault, run};
+pub use starting::{Exit, start};
+pub use streams::LinesFault;
+pub use table::Table;

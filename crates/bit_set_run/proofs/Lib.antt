@@ -1,0 +1,10 @@
+pub mod CutLemmas
+pub mod LineLemmas
+pub mod OutputLemmas
+pub mod ReadingLemmas
+pub mod RunLemmas
+pub mod SetLemmas
+pub mod SpellingLemmas
+pub mod StrangeLemmas
+pub mod StreamLemmas
+pub mod TextLemmas

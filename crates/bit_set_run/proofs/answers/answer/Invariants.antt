@@ -1,0 +1,14 @@
+use Rattle.std.proofs.Common.{◌≡◌, ◌++◌, [], length}
+use Rattle.bit_set_run.specs.Lines.{lines_of}
+use Rattle.bit_set_run.specs.Output.{output}
+use Rattle.bit_set_run.proofs.OutputLemmas.{output_from}
+use Rattle.bit_set_run.proofs.answers.answer.Given as goal
+
+abbrev pub invariant-loop-line : goal.invariant-loop-line
+invariant-loop-line l = record {
+  replies : l.replies.items ≡ [];
+  done : l.text.items ++ output_from l.table (lines_of l.rest) ≡ output l.input;
+}
+
+abbrev pub decreases-loop-line : goal.decreases-loop-line
+decreases-loop-line l = length l.rest

@@ -1,0 +1,19 @@
+use Rattle.std.proofs.Common.{refl}
+use Rattle.std.specs.Fmt.{digits}
+use Rattle.bit_set_run.proofs.laws.outputs_are_as_shown.Goals as goal
+
+pub returns-clause-sets : goal.returns-clause-sets
+unfolding digits
+returns-clause-sets c = refl
+
+pub returns-clause-refusals : goal.returns-clause-refusals
+unfolding digits
+returns-clause-refusals c = refl
+
+pub returns-clause-edges : goal.returns-clause-edges
+unfolding digits
+returns-clause-edges c = refl
+
+pub returns-clause-last_line : goal.returns-clause-last_line
+unfolding digits
+returns-clause-last_line c = refl

@@ -1,0 +1,54 @@
+//! An input answered, a line at a time.
+
+ghost use Rattle.std.specs.Prelude.{◌≡◌, [], ◌∷◌, ◌++◌, IfOk, OnOk};
+ghost use Rattle.bit_set_run.specs.Output.{answer_to, output, sets_after};
+ghost use Rattle.bit_set_run.specs.Reading.{reading};
+
+use crate::cutting::next_line;
+use crate::reading::read_line;
+use crate::texts::{append_reply, bad_text};
+use crate::{Reply, Table, run};
+use std::alloc::{AllocError, Global};
+
+/// What the program writes for the input: for each of its lines a text and a newline.
+pub(crate) fn answer(alloc: Global, input: &[u8]) -> Result<Vec<u8>, AllocError>
+    ensures { IfOk result (λ text. text.items ≡ output input.now) }
+{
+    let mut table = Table::new(alloc);
+    let mut replies = Vec::new(alloc);
+    let mut text = Vec::new(alloc);
+    let mut rest = input;
+    while let Some((line, after)) = next_line(rest) {
+        answer_line(alloc, &mut table, line, &mut replies, &mut text)?;
+        rest = after;
+    }
+    Ok(text)
+}
+
+// Runs the command of a line and appends its answer. The vector of replies lends its room alone.
+fn answer_line(
+    alloc: Global,
+    table: &mut Table,
+    line: &[u8],
+    replies: &mut Vec<Reply>,
+    text: &mut Vec<u8>,
+) -> Result<(), AllocError>
+    requires { replies.old.items ≡ [] }
+    ensures replies { OnOk result (replies.new.items ≡ []) }
+    ensures sets { OnOk result (table.new ≡ sets_after table.old (reading line.now)) }
+    ensures text { OnOk result (text.new.items ≡ text.old.items ++ (answer_to table.old (reading line.now) ++ 10 ∷ [])) }
+{
+    match read_line(line) {
+        Err(bad) => text.extend_from_slice(bad_text(bad))?,
+        Ok(command) => {
+            if run(alloc, table, &[command], replies).is_err() {
+                return Err(AllocError);
+            }
+            if let Some(reply) = replies.pop() {
+                append_reply(text, &reply)?;
+            }
+        }
+    }
+    text.push(b'\n')?;
+    Ok(())
+}

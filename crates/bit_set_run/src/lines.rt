@@ -1,0 +1,37 @@
+ghost use Rattle.std.specs.Prelude.{◌≡◌, ◌+◌, IfSome, OnOk};
+ghost use Rattle.bit_set_run.specs.Streams.{limit, GaveCount};
+ghost use Rattle.bit_set_run.specs.Answered.{IsAnswered, IsCutOff};
+
+use crate::LinesFault;
+use crate::answers::answer;
+use crate::streams::{read_input, write_output};
+use std::alloc::Global;
+use std::io::{Read, Write};
+
+/// Reads lines to the end of the reader, executes their commands on sixteen empty sets, and writes a line for each.
+///
+/// The whole output is made before any of it is written, and the writer is flushed behind it. At most 1,048,577 reads
+/// are made. At [`LinesFault::Read`], [`LinesFault::TooLarge`] and [`LinesFault::Memory`] nothing was written; at
+/// [`LinesFault::Write`] a beginning of the output may have been. No failed read or write is tried again.
+pub fn run_lines<R: Read, W: Write>(
+    alloc: Global,
+    reader: &mut R,
+    writer: &mut W,
+) -> Result<(), LinesFault>
+    ensures answered { OnOk result (IfSome (R.remaining reader.old)
+        (IsAnswered (R.remaining reader.new) (W.contents writer.old) (W.contents writer.new))) }
+    ensures write { result ≡ Err LinesFault.Write → IfSome (R.remaining reader.old)
+        (IsCutOff (R.remaining reader.new) (W.contents writer.old) (W.contents writer.new)) }
+
+    // One byte past the limit is read, and no more.
+    ensures too_large { result ≡ Err LinesFault.TooLarge → GaveCount (R.remaining reader.old) (R.remaining reader.new) (limit + 1) }
+
+    // Nothing is written before the whole output is there.
+    ensures read_unwritten { result ≡ Err LinesFault.Read → writer.new ≡ writer.old }
+    ensures too_large_unwritten { result ≡ Err LinesFault.TooLarge → writer.new ≡ writer.old }
+    ensures memory_unwritten { result ≡ Err LinesFault.Memory → writer.new ≡ writer.old }
+{
+    let input = read_input(alloc, reader)?;
+    let text = answer(alloc, input.as_slice())?;
+    write_output(writer, text.as_slice())
+}

@@ -1,0 +1,82 @@
+ghost use Rattle.std.specs.Prelude.{◌≡◌, ◌≢◌, ℕ, ◌+◌, ◌≤◌, IfOk, IfErr, OnOk, OnErr};
+ghost use Rattle.std.specs.Io.KnownBytes.{Appends};
+ghost use Rattle.bit_set_run.specs.Streams.{limit, GaveAll, GaveCount, HoldsBeginning};
+ghost use Rattle.bit_set_run.specs.declared.streams.LinesFault.TheVariants.{Memory};
+
+use std::alloc::{AllocError, Global};
+use std::io::{Read, Write};
+use thiserror::Error;
+
+/// Why lines were not answered, or not wholly.
+#[derive(Clone, Copy, Debug, PartialEq, Eq, Error)]
+pub enum LinesFault {
+    /// A read failed.
+    #[error("read failed")]
+    Read,
+    /// The input has more than 1,048,576 bytes.
+    #[error("input too large")]
+    TooLarge,
+    /// Memory was refused.
+    #[error("memory refused")]
+    Memory,
+    /// A write failed or took no byte, or the flush failed.
+    #[error("write failed")]
+    Write,
+}
+
+impl From<AllocError> for LinesFault {
+    ghost from_gives = { λ _ fault. fault ≡ Memory };
+
+    fn from(_refusal: AllocError) -> Self {
+        LinesFault::Memory
+    }
+}
+
+// How many bytes an input may have.
+const LIMIT: usize = 1_048_576;
+
+// How many bytes a read asks for at most.
+const PIECE: usize = 8192;
+
+// Reads to the end. A read that goes on brings a byte, so at most one read more is made than an input has bytes.
+pub(crate) fn read_input<R: Read>(alloc: Global, reader: &mut R) -> Result<Vec<u8>, LinesFault>
+    ensures ok { IfOk result (λ input. GaveAll (R.remaining reader.old) (R.remaining reader.new) input.items) }
+    ensures too_large { result ≡ Err LinesFault.TooLarge → GaveCount (R.remaining reader.old) (R.remaining reader.new) (limit + 1) }
+    ensures not_write { result ≢ Err LinesFault.Write }
+{
+    let mut input = Vec::new(alloc);
+    let mut piece = [0u8; PIECE];
+    for _ in 0..LIMIT + 1 {
+        let wanted = PIECE.min(LIMIT + 1 - input.len());
+        let Ok(count) = reader.read(&mut piece[..wanted]) else {
+            return Err(LinesFault::Read);
+        };
+        if count == 0 {
+            return Ok(input);
+        }
+        if input.len() + count > LIMIT {
+            return Err(LinesFault::TooLarge);
+        }
+        input.extend_from_slice(&piece[..count])?;
+    }
+    Err(LinesFault::TooLarge)
+}
+
+// Writes all of the text and flushes. A write that failed is not tried again.
+pub(crate) fn write_output<W: Write>(writer: &mut W, text: &[u8]) -> Result<(), LinesFault>
+    ensures ok { OnOk result (Appends (W.contents writer.old) (W.contents writer.new) text.now) }
+    ensures write { OnErr result (HoldsBeginning (W.contents writer.old) (W.contents writer.new) text.now) }
+    ensures fault { IfErr result (λ fault. fault ≡ LinesFault.Write) }
+{
+    let mut rest = text;
+    while !rest.is_empty() {
+        match writer.write(rest) {
+            Ok(0) | Err(_) => return Err(LinesFault::Write),
+            Ok(count) => rest = &rest[count..],
+        }
+    }
+    match writer.flush() {
+        Ok(()) => Ok(()),
+        Err(_) => Err(LinesFault::Write),
+    }
+}
