@@ -62,11 +62,11 @@ LeftBy-nothing sets (RestIter name n) = refl
 
 -- a run that stops at a command that it has read
 pub StoppedAt-here :
-  (place : ℕ) (commands : List Command) (old mid new : Sets) (old_replies mid_replies new_replies : List Reply) (command : Command)
-  → HasRun place commands old mid old_replies mid_replies
-  → place < length commands → command ≡ get_or commands place command
-  → LeftBy mid command new → new_replies ≡ mid_replies
-  → StoppedAt place commands old new old_replies new_replies
+    (place : ℕ) (commands : List Command) (old mid new : Sets) (old_replies mid_replies new_replies : List Reply) (command : Command)
+    → HasRun place commands old mid old_replies mid_replies
+    → place < length commands → command ≡ get_or commands place command
+    → LeftBy mid command new → new_replies ≡ mid_replies
+    → StoppedAt place commands old new old_replies new_replies
 StoppedAt-here place commands old mid new old_replies mid_replies new_replies command so_far lt is left replies = record {
   within = lt;
   command = command;

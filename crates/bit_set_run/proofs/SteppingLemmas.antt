@@ -55,9 +55,9 @@ stands_before all items item front within is = record {
   front = front;
   within = within;
   whole =
-    sym (take-append-drop (length items + 1) all)
-    ∙ ap (λ xs. xs ++ drop (length items + 1) all) (take_more all (length items) item within ∙ ap (λ xs. xs ++ get_or all (length items) item ∷ []) (sym front) ∙ ap (λ x. items ++ x ∷ []) (sym is))
-    ∙ append_assoc items (item ∷ []) (drop (length items + 1) all);
+      sym (take-append-drop (length items + 1) all)
+      ∙ ap (λ xs. xs ++ drop (length items + 1) all) (take_more all (length items) item within ∙ ap (λ xs. xs ++ get_or all (length items) item ∷ []) (sym front) ∙ ap (λ x. items ++ x ∷ []) (sym is))
+      ∙ append_assoc items (item ∷ []) (drop (length items + 1) all);
 }
 
 -- a walk shows what is left of it

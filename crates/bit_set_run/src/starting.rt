@@ -79,7 +79,10 @@ fn answer_lines<B: BitBlock, R: Read, W: Write>(
     ensures too_large_unwritten { result.status ≡ 5 → writer.new ≡ writer.old }
 {
     match run_lines::<B, R, W>(alloc, reader, writer) {
-        Ok(()) => Exit { status: 0, text: "" },
+        Ok(()) => Exit {
+            status: 0,
+            text: "",
+        },
         Err(LinesFault::Memory) => Exit {
             status: 3,
             text: "memory refused",

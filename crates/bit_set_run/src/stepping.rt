@@ -113,7 +113,11 @@ fn pass_over<B: BitBlock>(walk: &mut Iter<'_, B>, count: usize)
 }
 
 // What is left of a walk after so many of its numbers, or after all where there are fewer.
-fn rest<B: BitBlock>(alloc: Global, mut walk: Iter<'_, B>, taken: usize) -> Result<Reply, AllocError>
+fn rest<B: BitBlock>(
+    alloc: Global,
+    mut walk: Iter<'_, B>,
+    taken: usize,
+) -> Result<Reply, AllocError>
     ensures { IfOk result (λ reply. reply ≡ Rest (length (drop taken walk.entry.left)) (drop taken walk.entry.left)) }
 {
     pass_over(&mut walk, taken);

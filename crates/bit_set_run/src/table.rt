@@ -31,8 +31,22 @@ impl<B: BitBlock> Table<B> {
         let set = || BitSet::new_general(alloc);
         Table {
             sets: [
-                set(), set(), set(), set(), set(), set(), set(), set(), set(), set(), set(), set(),
-                set(), set(), set(), set(),
+                set(),
+                set(),
+                set(),
+                set(),
+                set(),
+                set(),
+                set(),
+                set(),
+                set(),
+                set(),
+                set(),
+                set(),
+                set(),
+                set(),
+                set(),
+                set(),
             ],
         }
     }
