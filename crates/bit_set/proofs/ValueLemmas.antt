@@ -1,11 +1,11 @@
 -- What a bit vector does to the set that it keeps.
-use Rattle.std.proofs.Common.{◌≡◌, ℕ, ◌+◌, ◌<◌, ◌≤◌, Bool, true, false, not, ◌||◌, ◌&&◌, ◌↔◌, ltb, List, [], ◌∷◌, ◌++◌, length, get_or, set, take, drop, replicate, slice_get, Some, zero, suc, refl, sym, ap, ◌∙◌, inl, inr, arith}
+use Rattle.std.proofs.Common.{◌≡◌, ℕ, ◌+◌, ◌<◌, ◌≤◌, Bool, true, false, ◌&&◌, ◌↔◌, ltb, List, [], ◌∷◌, ◌++◌, length, get_or, set, take, drop, replicate, slice_get, zero, suc, refl, sym, ap, ◌∙◌, inl, inr, arith}
 use Rattle.std.specs.Option.{unwrap_or}
 use Rattle.std.specs.List.{All}
 use Rattle.std.proofs.lemmas.Bool.{lt-ltb, le-ltb, cases_lt}
-use Rattle.std.proofs.lemmas.List.{get_or-take, get_or_past, length-take-le, ext_get_or, drop_more, drop_all}
-use Rattle.bit_set.specs.Sets.{IsAscending, has, put, without, elements, elements_from, those_below}
-use Rattle.bit_set.proofs.SetLemmas.{IsAscending-elements, has-elements, elements-by_members, elements-set_true, elements-set_false, without_absent, get_or_padded}
+use Rattle.std.proofs.lemmas.List.{get_or-take, get_or_past, drop_more, drop_all}
+use Rattle.bit_set.specs.Sets.{has, put, without, elements, elements_from, those_below}
+use Rattle.bit_set.proofs.SetLemmas.{IsAscending-elements, has-elements, elements-by_members, elements-set_true, elements-set_false, get_or_padded}
 use Rattle.bit_set.proofs.SetLaws.{IsAscending-those_below, has-those_below}
 
 -- a value read with `false` past the end

@@ -1,5 +1,5 @@
 -- A run, one command on.
-use Rattle.std.proofs.Common.{◌≡◌, ℕ, ◌+◌, ◌<◌, ◌≤◌, List, [], ◌∷◌, ◌++◌, length, get_or, take, append_assoc, refl, ap, sym, ◌∙◌}
+use Rattle.std.proofs.Common.{◌≡◌, ℕ, ◌+◌, ◌<◌, List, [], ◌∷◌, ◌++◌, length, get_or, take, append_assoc, refl, ap, sym, ◌∙◌}
 use Rattle.std.proofs.lemmas.List.{take_more, set-get_or}
 use Rattle.std.proofs.Common.{Result, Ok, Err, true, false, OnOk, OnErr, arith}
 use Rattle.std.specs.Result.{is_err}
@@ -8,7 +8,7 @@ use Rattle.std.proofs.lemmas.Bool.{true≢false}
 use Rattle.bit_set_run.specs.declared.commands.Command.{Command}
 use Rattle.bit_set_run.specs.declared.commands.Reply.{Reply}
 use Rattle.bit_set_run.specs.declared.commands.Command.TheVariants.{Insert, Remove, Contains, Extend, Truncate, Empty, Reset, Count, IsEmpty, Items as ItemsOf, Copy, RestIter}
-use Rattle.bit_set_run.specs.Run.{Sets, Answer, Run, step, run_of, LeftBy, StoppedAt}
+use Rattle.bit_set_run.specs.Run.{Sets, step, run_of, LeftBy, StoppedAt}
 
 -- a run of commands and of one more
 pub sets-run_of_push : (sets : Sets) (commands : List Command) (command : Command) → (run_of sets (commands ++ command ∷ [])).sets ≡ (step (run_of sets commands).sets command).sets

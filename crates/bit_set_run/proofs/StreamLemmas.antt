@@ -1,8 +1,8 @@
 -- Reads and writes one after another, at a reader and a writer that tell their bytes.
-use Rattle.std.proofs.Common.{◌≡◌, ℕ, ◌+◌, ◌<◌, ◌≤◌, List, [], ◌∷◌, ◌++◌, length, take, drop, Option, None, Some, refl, sym, ap, ◌∙◌, append_assoc, arith}
+use Rattle.std.proofs.Common.{◌≡◌, ℕ, ◌+◌, ◌<◌, ◌≤◌, List, [], ◌++◌, length, take, drop, Option, None, Some, refl, sym, ap, ◌∙◌, append_assoc, arith}
 use Rattle.std.proofs.lemmas.List.{append-nil, take-append-drop, length-append, length-take-le, take-append-le}
-use Rattle.std.specs.Io.KnownBytes.{Consumes, IsAtEnd, Appends, Keeps}
-use Rattle.bit_set_run.specs.Streams.{limit, GaveAll, GaveCount, HoldsBeginning}
+use Rattle.std.specs.Io.KnownBytes.{Consumes, Appends, Keeps}
+use Rattle.bit_set_run.specs.Streams.{limit, GaveCount, HoldsBeginning}
 
 pub Consumes-nothing : (known : Option (List ℕ)) → Consumes known known []
 Consumes-nothing None = tt

@@ -1,5 +1,5 @@
 -- What answering the lines of an input does to a reader and a writer that tell their bytes.
-use Rattle.std.specs.Prelude.{◌≡◌, ℕ, ◌≤◌, List, length, Option, IfSome}
+use Rattle.std.specs.Prelude.{ℕ, ◌≤◌, List, length, Option}
 use Rattle.std.specs.Io.KnownBytes.{IsAtEnd, Appends}
 use Rattle.bit_set_run.specs.Output.{output}
 use Rattle.bit_set_run.specs.Streams.{limit, HoldsBeginning}

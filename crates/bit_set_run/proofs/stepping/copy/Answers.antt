@@ -1,4 +1,4 @@
-use Rattle.std.proofs.Common.{◌≡◌, ◌<◌, length, get_or, sym, ap, ◌∙◌, arith}
+use Rattle.std.proofs.Common.{◌≡◌, get_or, sym, ap, ◌∙◌, arith}
 use Rattle.bit_set_run.proofs.SteppingLemmas.{copied_over, put_back}
 use Rattle.bit_set_run.proofs.stepping.copy.Goals as goal
 

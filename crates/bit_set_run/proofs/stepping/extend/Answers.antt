@@ -1,4 +1,4 @@
-use Rattle.std.proofs.Common.{◌≡◌, ◌++◌, ◌∷◌, ℕ, List, length, drop, ◌+◌, refl, sym, ap, ◌∙◌, arith}
+use Rattle.std.proofs.Common.{◌≡◌, ◌++◌, ◌∷◌, length, drop, ◌+◌, refl, sym, ap, ◌∙◌, arith}
 use Rattle.std.proofs.iter.Yields.{Copied-Drains}
 use Rattle.bit_set.specs.Sets.{put_all}
 use Rattle.bit_set_run.specs.Kept.{kept}

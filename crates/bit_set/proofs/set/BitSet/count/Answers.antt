@@ -1,4 +1,4 @@
-use Rattle.std.proofs.Common.{◌≡◌, count_ones, get_or, take, take_all, length, sym, ap, ◌∙◌, arith}
+use Rattle.std.proofs.Common.{◌≡◌, count_ones, get_or, take_all, ap, ◌∙◌, arith}
 use Rattle.std.specs.List.{sum_by}
 use Rattle.bit_set.proofs.CountLemmas.{ones_of_all, ones_of_some}
 use Rattle.bit_set.proofs.set.BitSet.count.Goals as goal
