@@ -1,5 +1,5 @@
 // Calls that make a set.
-ghost use Rattle.std.specs.Prelude.{◌≡◌, ◌≢◌, ℕ, ◌+◌, ◌-◌, ◌*◌, ◌<◌, ◌↔◌, IfOk, IfErr, IsOk, IsErrOf, IsTrue, List, [], length, slice_index, Some};
+ghost use Rattle.std.specs.Prelude.{◌≡◌, ◌≢◌, ℕ, ◌+◌, ◌-◌, ◌*◌, ◌<◌, ◌≤◌, ◌↔◌, IfOk, IfErr, IsOk, IsErrOf, IsTrue, List, [], length, slice_index, Some};
 ghost use Rattle.std.specs.Int.{bit_at};
 ghost use Rattle.std.specs.Iterator.{Drains, IsFinite, YieldsThen};
 ghost use Rattle.bit_words.specs.Bits.{values_of_bytes};
@@ -65,7 +65,7 @@ impl<B: BitBlock> BitSet<B> {
         ensures ok { IfOk result (λ set. (items : List ℕ) × Drains I.next_gives iter items
             × (elements set.values ≡ put_all [] items) × (length set.values ≡ bound_of items)) }
         ensures err { IfErr result (λ fault. (items : List ℕ) × (item : ℕ) × (rest : I)
-            × YieldsThen I.next_gives iter items (Some item) rest
+            × YieldsThen I.next_gives iter items (Some item) rest × (bound_of items ≤ greatest)
             × (fault ≢ SetError.Length) × ((fault ≡ SetError.Element) ↔ (item ≡ greatest))) }
     {
         let mut set = Self::new_general(alloc);

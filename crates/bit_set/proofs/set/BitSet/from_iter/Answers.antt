@@ -13,4 +13,4 @@ returns-in_err-extend-clause-err g c =
     let p = err_from_is_err_and c.from_residual.result c.from_residual.ensures.1 in
     let stopped = c.in_err-extend.ensures.err in
     let fault = IsRefusal-fault c.in_err-extend.field-0.0 stopped.1 c.extend.new.self.room stopped.5 in
-    rw (p.1, p.2) (stopped.0, stopped.1, stopped.2, stopped.3, fault.0, fault.1)
+    rw (p.1, p.2) (stopped.0, stopped.1, stopped.2, stopped.3, stopped.4.fit, fault.0, fault.1)
