@@ -1,5 +1,5 @@
 -- What a write of one block does to the value at every index.
-use Rattle.std.proofs.Common.{◌≡◌, ◌≢◌, ℕ, ◌*◌, ◌/◌, ◌%◌, ◌<◌, ◌≤◌, Bool, true, false, ◌&&◌, ◌||◌, ◌==◌, nat_lt, nat_le, List, length, get_or, set, refl, sym, ap, ap₂, ◌∙◌, arith, ⊎_elim, div-add-mod', mod-lt, div-lt_iff_lt-mul, div-mul-le_self}
+use Rattle.std.proofs.Common.{◌≡◌, ◌≢◌, ℕ, suc, ◌+◌, ◌*◌, ◌/◌, ◌%◌, ◌<◌, ◌≤◌, Bool, true, false, ◌&&◌, ◌||◌, nat_lt, nat_le, List, length, get_or, set, refl, sym, ap, ap₂, ◌∙◌, arith, ⊎_elim, div-add-mod', mod-lt, div-lt_iff_lt-mul, div-mul-le_self, mul-le-mul_right}
 use Rattle.std.proofs.lemmas.Bool.{cases_lt, cases_eq}
 use Rattle.std.proofs.lemmas.Bool.Decides.{nat_tests}
 use Rattle.bit_words.specs.Bits.{blocks_for}
@@ -14,7 +14,7 @@ same_place w i j e f = let p = ap (λ q. q * w) e in omega (arith, div-add-mod' 
 nat_le-places : (w i j : ℕ) → j / w ≡ i / w → nat_le i j ≡ nat_le (i % w) (j % w)
 nat_le-places w i j e = let p = ap (λ q. q * w) e in let a = div-add-mod' i w in let b = div-add-mod' j w in grind (arith, nat_tests)
 
-nat_lt-places : (w i j : ℕ) → i / w ≡ j / w → nat_lt i j ≡ nat_lt (i % w) (j % w)
+pub nat_lt-places : (w i j : ℕ) → i / w ≡ j / w → nat_lt i j ≡ nat_lt (i % w) (j % w)
 nat_lt-places w i j e = let p = ap (λ q. q * w) e in let a = div-add-mod' i w in let b = div-add-mod' j w in grind (arith, nat_tests)
 
 -- ---- one block written
@@ -44,33 +44,10 @@ put_others w ms ns i k p m n pos ke pe h read e digits j ne =
     (λ there. written_other w ms ns k n j e there)
     (cases_eq (j / w) k)
 
-or_false : (a b : Bool) → a ≡ (a || (b && false))
-or_false true b = refl
-or_false false true = refl
-or_false false false = refl
-
-and_true : (a b : Bool) → (a || b) ≡ (a || (b && true))
-and_true true b = refl
-and_true false true = refl
-and_true false false = refl
-
-pub raised : (w : ℕ) (ms ns : List ℕ) (s k p m n : ℕ) → 0 < w → k ≡ s / w → p ≡ s % w → k < length ms → m ≡ get_or ms k 0 → ns ≡ set ms k n → ((j : ℕ) → j < w → is_one n j ≡ (is_one m j || nat_le p j)) → (i : ℕ) → value_at w ns i ≡ (value_at w ms i || (nat_le s i && (i / w == s / w)))
-raised w ms ns s k p m n pos ke pe h read e digits i =
-    ⊎_elim
-    (λ here.
-    let test : (i / w == s / w) ≡ true = grind (arith, nat_tests) in
-    written_same w ms ns k n i e h here
-    ∙ digits (i % w) (mod-lt i pos)
-    ∙ ap₂ (λ a b. a || b) (sym (read_at w ms k m i read here)) (ap (λ q. nat_le q (i % w)) pe ∙ sym (nat_le-places w s i (here ∙ ke)))
-    ∙ and_true (value_at w ms i) (nat_le s i)
-    ∙ ap (λ t. value_at w ms i || (nat_le s i && t)) (sym test))
-    (λ there.
-    let other : i / w ≢ s / w = λ q. there (q ∙ sym ke) in
-    let test : (i / w == s / w) ≡ false = grind (arith, nat_tests) in
-    written_other w ms ns k n i e there
-    ∙ or_false (value_at w ms i) (nat_le s i)
-    ∙ ap (λ t. value_at w ms i || (nat_le s i && t)) (sym test))
-    (cases_eq (i / w) k)
+or_and_false : (a b : Bool) → a ≡ (a || (b && false))
+or_and_false true b = refl
+or_and_false false true = refl
+or_and_false false false = refl
 
 -- in a block other than the one at which the values end, the index tells on which side it is
 kept_before : (w : ℕ) (ms : List ℕ) (len i : ℕ) → i < len → value_at w ms i ≡ (nat_lt i len && value_at w ms i)
@@ -79,11 +56,47 @@ kept_before w ms len i h = let test : nat_lt i len ≡ true = grind (arith, nat_
 past_blocks : (w : ℕ) (ms : List ℕ) (len i : ℕ) → len ≤ i → length ms ≤ i / w → value_at w ms i ≡ (nat_lt i len && value_at w ms i)
 past_blocks w ms len i h p = let test : nat_lt i len ≡ false = grind (arith, nat_tests) in value_at-past w ms i p ∙ ap (λ t. t && value_at w ms i) (sym test)
 
-div_lt : (w i j : ℕ) → 0 < w → i / w < j / w → i < j
+pub div_lt : (w i j : ℕ) → 0 < w → i / w < j / w → i < j
 div_lt w i j pos h = let a = (div-lt_iff_lt-mul pos).0 h in omega (arith, div-mul-le_self j w)
 
 pub div_le : (w i j : ℕ) → 0 < w → i ≤ j → i / w ≤ j / w
 div_le w i j pos h = ⊎_elim (λ below. let a = div_lt w j i pos below in absurd (omega arith)) (λ le. le) (cases_lt (j / w) (i / w))
+
+-- ---- ones from the end of the values on, up to another index
+
+-- where that index is in the same block
+pub digits_between : (w s t k p e m n : ℕ) → k ≡ t / w → e ≡ t % w → ((j : ℕ) → j < w → is_one n j ≡ (is_one m j || (nat_lt j e && nat_le p j))) → (j : ℕ) → j < w → is_one n j ≡ (is_one m j || (nat_lt (k * w + j) t && nat_le p j))
+digits_between w s t k p e m n ke ee digits j h =
+    let q = ap (λ x. x * w) ke in
+    let split = div-add-mod' t w in
+    let test : nat_lt j e ≡ nat_lt (k * w + j) t = grind (arith, nat_tests) in
+    digits j h ∙ ap (λ x. is_one m j || (x && nat_le p j)) test
+
+-- where it is in a later one
+pub digits_from : (w s t k p m n : ℕ) → 0 < w → k ≡ s / w → s ≤ t → t / w ≢ k → ((j : ℕ) → j < w → is_one n j ≡ (is_one m j || nat_le p j)) → (j : ℕ) → j < w → is_one n j ≡ (is_one m j || (nat_lt (k * w + j) t && nat_le p j))
+digits_from w s t k p m n pos ke forward later digits j h =
+    let le = div_le w s t pos forward in
+    let above = mul-le-mul_right w (let l : suc k ≤ t / w = omega arith in l) in
+    let test : nat_lt (k * w + j) t ≡ true = let low = div-mul-le_self t w in grind (arith, nat_tests) in
+    digits j h ∙ ap (λ x. is_one m j || (x && nat_le p j)) (sym test)
+
+pub raised : (w : ℕ) (ms ns : List ℕ) (s t k p m n : ℕ) → 0 < w → k ≡ s / w → p ≡ s % w → p ≢ 0 → length ms ≡ blocks_for w s → m ≡ get_or ms k 0 → ns ≡ set ms k n → ((j : ℕ) → j < w → is_one n j ≡ (is_one m j || (nat_lt (k * w + j) t && nat_le p j))) → (i : ℕ) → i / w < length ms → value_at w ns i ≡ (value_at w ms i || (nat_lt i t && nat_le s i))
+raised w ms ns s t k p m n pos ke pe nz count read e digits i within =
+    ⊎_elim
+    (λ here.
+    let index : k * w + i % w ≡ i = ap (λ q. q * w + i % w) (sym here) ∙ div-add-mod' i w in
+    written_same w ms ns k n i e (omega arith) here
+    ∙ digits (i % w) (mod-lt i pos)
+    ∙ ap₂ (λ a b. a || b) (sym (read_at w ms k m i read here)) (ap₂ (λ a b. nat_lt a t && b) index (ap (λ q. nat_le q (i % w)) pe ∙ sym (nat_le-places w s i (here ∙ ke)))))
+    (λ there.
+    let before = div_lt w i s pos (omega arith) in
+    let test : nat_le s i ≡ false = grind (arith, nat_tests) in
+    written_other w ms ns k n i e there
+    ∙ or_and_false (value_at w ms i) (nat_lt i t)
+    ∙ ap (λ x. value_at w ms i || (nat_lt i t && x)) (sym test))
+    (cases_eq (i / w) k)
+
+-- ---- zeros from the end of the values on
 
 pub lowered_whole : (w : ℕ) (ms : List ℕ) (len : ℕ) → 0 < w → len % w ≡ 0 → length ms ≡ blocks_for w len → (i : ℕ) → value_at w ms i ≡ (nat_lt i len && value_at w ms i)
 lowered_whole w ms len pos z count i =

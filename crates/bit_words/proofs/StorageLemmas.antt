@@ -75,10 +75,6 @@ blocks-values_of w ms n h count each c =
 
 -- ---- changes of the list, by index
 
-pub values_of-kept : (w : ℕ) (ms ms' : List ℕ) (n : ℕ) → ((i : ℕ) → i < n → value_at w ms' i ≡ value_at w ms i) → values_of w ms' n ≡ values_of w ms n
-values_of-kept w ms ms' n h =
-    values_of-same w ms' n _ (length-values_of w ms n) (λ i below. h i below ∙ sym (get_or-values_of w ms n i false below))
-
 pub values_of-take : (w : ℕ) (ms ms' : List ℕ) (n m : ℕ) → n ≤ m → ((i : ℕ) → i < n → value_at w ms' i ≡ value_at w ms i) → values_of w ms' n ≡ take n (values_of w ms m)
 values_of-take w ms ms' n m le h =
     values_of-same w ms' n _ (omega (arith, length-take n (values_of w ms m), length-values_of w ms m)) (λ i below.

@@ -1,14 +1,14 @@
 -- What appending, keeping and filling whole blocks does to the value at every index.
-use Rattle.std.proofs.Common.{◌≡◌, ℕ, zero, suc, ◌+◌, ◌-◌, ◌/◌, ◌%◌, ◌^◌, ◌<◌, ◌≤◌, Bool, true, false, ◌&&◌, ◌||◌, ◌==◌, nat_lt, nat_le, List, ◌∷◌, ◌++◌, map, length, get_or, take, replicate, refl, sym, ap, ap₂, ◌∙◌, arith, ⊎_elim, mod-lt, get_or-take}
+use Rattle.std.proofs.Common.{◌≡◌, ℕ, zero, suc, ◌+◌, ◌-◌, ◌/◌, ◌%◌, ◌^◌, ◌<◌, ◌≤◌, Bool, true, false, ◌&&◌, ◌||◌, nat_lt, nat_le, List, ◌∷◌, ◌++◌, map, length, get_or, take, replicate, refl, sym, ap, ap₂, ◌∙◌, arith, ⊎_elim, mod-lt, get_or-take, set, ◌≢◌, get_or-set_same, get_or-set_other}
 use Rattle.std.proofs.lemmas.Bool.{cases_lt, cases_eq}
 use Rattle.std.proofs.lemmas.Bool.Decides.{nat_tests}
-use Rattle.std.proofs.lemmas.List.{get_or_append_left, get_or-append_right, get_or-replicate, length-replicate, length-append, map-append, take_all}
+use Rattle.std.proofs.lemmas.List.{get_or_append_left, get_or-append_right, get_or_past, get_or-replicate, length-replicate, length-append, map-append, take_all}
 use Rattle.bit_words.specs.Bits.{blocks_for}
 use Rattle.bit_words.specs.Storage.{is_one, value_at, IsCleanFrom}
 use Rattle.bit_words.proofs.Masks.{is_one-ones, is_one-zero}
 use Rattle.bit_words.proofs.BitsLemmas.{blocks_for-above, blocks_for-enough, blocks_for-least}
 use Rattle.bit_words.proofs.StorageLemmas.{value_at-is, value_at-past}
-use Rattle.bit_words.proofs.ChangeLemmas.{div_le}
+use Rattle.bit_words.proofs.ChangeLemmas.{div_lt, nat_lt-places}
 
 -- ---- whole blocks
 
@@ -25,16 +25,6 @@ value_at-append_new w ms m n i past within =
 
 pub value_at-take : (w c : ℕ) (ms : List ℕ) (i : ℕ) → i / w < c → value_at w (take c ms) i ≡ value_at w ms i
 value_at-take w c ms i h = value_at-block w (take c ms) i _ (get_or-take c ms (i / w) 0 h) ∙ sym (value_at-is w ms i)
-
-pub value_at-copies : (w m n i : ℕ) → i / w < m → value_at w (replicate m n) i ≡ is_one n (i % w)
-value_at-copies w m n i h = value_at-block w (replicate m n) i n (get_or-replicate m (i / w) n 0 h)
-
-pub value_at-zeros : (w m n i : ℕ) → n ≡ 0 → value_at w (replicate m n) i ≡ false
-value_at-zeros w m n i e =
-    ⊎_elim
-    (λ within. value_at-copies w m n i within ∙ ap (λ x. is_one x (i % w)) e ∙ is_one-zero (i % w))
-    (λ past. value_at-past w (replicate m n) i (rw length-replicate past))
-    (cases_lt (i / w) m)
 
 pub value_at-append_zeros : (w : ℕ) (ms : List ℕ) (m n i : ℕ) → n ≡ 0 → length ms ≤ i / w → value_at w (ms ++ replicate m n) i ≡ false
 value_at-append_zeros w ms m n i e past =
@@ -59,44 +49,89 @@ or_false : (a : Bool) → (a || false) ≡ a
 or_false true = refl
 or_false false = refl
 
-or_true : (a : Bool) → (a || true) ≡ true
-or_true true = refl
-or_true false = refl
+and_true : (a : Bool) → (false || (a && true)) ≡ a
+and_true true = refl
+and_true false = refl
 
--- ---- appending ones: blocks of ones, the end of the old last block raised, and the end of the new one lowered
+-- ---- blocks of ones up to a length
 
-pub ones_kept : (w : ℕ) (ms rs ts us : List ℕ) (old len m n : ℕ) → 0 < w → old < len → length ms ≡ blocks_for w old → rs ≡ ms ++ replicate m n → ((i : ℕ) → value_at w ts i ≡ (value_at w rs i || (nat_le old i && (i / w == old / w)))) → ((i : ℕ) → value_at w us i ≡ (nat_lt i len && value_at w ts i)) → (i : ℕ) → i < old → value_at w us i ≡ value_at w ms i
-ones_kept w ms rs ts us old len m n pos longer count e raised lowered i below =
-    let inside : nat_lt i len ≡ true = grind (arith, nat_tests) in
-    let before : nat_le old i ≡ false = grind (arith, nat_tests) in
-    let block = blocks_for-above w old i pos below in
-    let same : value_at w rs i ≡ value_at w ms i = ap (λ xs. value_at w xs i) e ∙ value_at-append_old w ms (replicate m n) i (omega arith) in
-    lowered i
-    ∙ ap (λ t. t && value_at w ts i) inside
-    ∙ raised i
-    ∙ ap (λ t. value_at w rs i || (t && (i / w == old / w))) before
-    ∙ or_false (value_at w rs i)
-    ∙ same
+past_the_end : (w len i : ℕ) → 0 < w → len / w < i / w → nat_lt i len ≡ false
+past_the_end w len i pos h = let l = div_lt w len i pos h in grind (arith, nat_tests)
 
-pub ones_added : (w : ℕ) (ms rs ts us : List ℕ) (old len m n : ℕ) → 0 < w → length ms ≡ blocks_for w old → length ms + m ≡ blocks_for w len → n ≡ 2 ^ w - 1 → rs ≡ ms ++ replicate m n → ((i : ℕ) → value_at w ts i ≡ (value_at w rs i || (nat_le old i && (i / w == old / w)))) → ((i : ℕ) → value_at w us i ≡ (nat_lt i len && value_at w ts i)) → (i : ℕ) → old ≤ i → i < len → value_at w us i ≡ true
-ones_added w ms rs ts us old len m n pos count total ones e raised lowered i after below =
-    let inside : nat_lt i len ≡ true = grind (arith, nat_tests) in
-    let reached : nat_le old i ≡ true = grind (arith, nat_tests) in
-    lowered i
-    ∙ ap (λ t. t && value_at w ts i) inside
-    ∙ raised i
-    ∙ ap (λ t. value_at w rs i || (t && (i / w == old / w))) reached
-    ∙ ⊎_elim
-    (λ here.
-    let test : (i / w == old / w) ≡ true = grind (arith, nat_tests) in
-    ap (λ t. value_at w rs i || t) test ∙ or_true (value_at w rs i))
+-- the whole blocks are ones, the block at which the values end has those below its place, and there are zeros past it
+ones_up_to : (w : ℕ) (rs : List ℕ) (len i : ℕ) → 0 < w → (i / w < len / w → get_or rs (i / w) 0 ≡ 2 ^ w - 1) → (i / w ≡ len / w → get_or rs (i / w) 0 ≡ 2 ^ (len % w) - 1) → (len / w < i / w → get_or rs (i / w) 0 ≡ 0) → value_at w rs i ≡ nat_lt i len
+ones_up_to w rs len i pos whole cut past =
+    ⊎_elim
+    (λ before.
+    let l = div_lt w i len pos before in
+    let test : nat_lt i len ≡ true = grind (arith, nat_tests) in
+    value_at-block w rs i _ (whole before) ∙ ones_true w _ i pos refl ∙ sym test)
+    (λ from.
+    ⊎_elim
+    (λ here. value_at-block w rs i _ (cut here) ∙ is_one-ones _ (len % w) (i % w) refl ∙ sym (nat_lt-places w i len here))
     (λ there.
-    let le = div_le w old i pos after in
-    let block = blocks_for-above w len i pos below in
-    let new : value_at w rs i ≡ true =
-    ap (λ xs. value_at w xs i) e ∙ value_at-append_new w ms m n i (omega arith) (omega arith) ∙ ones_true w n i pos ones in
-    ap (λ t. t || (i / w == old / w)) new)
-    (cases_eq (i / w) (old / w))
+    let beyond : len / w < i / w = omega arith in
+    value_at-block w rs i 0 (past beyond) ∙ is_one-zero (i % w) ∙ sym (past_the_end w len i pos beyond))
+    (cases_eq (i / w) (len / w)))
+    (cases_lt (i / w) (len / w))
+
+-- ---- appending blocks of ones
+
+pub none_pushed : (w : ℕ) (ms : List ℕ) (len i : ℕ) → 0 < w → len / w < length ms → length ms ≤ i / w → value_at w ms i ≡ nat_lt i len
+none_pushed w ms len i pos h past = value_at-past w ms i past ∙ sym (past_the_end w len i pos (omega arith))
+
+pushed_block : (ms rs : List ℕ) (count n q : ℕ) → rs ≡ ms ++ replicate count n → length ms ≤ q → q < length ms + count → get_or rs q 0 ≡ n
+pushed_block ms rs count n q e past within =
+    ap (λ xs. get_or xs q 0) e
+    ∙ get_or-append_right ms (replicate count n) (length ms) q 0 refl past
+    ∙ get_or-replicate count (q - length ms) n 0 (omega arith)
+
+length-pushed : (ms rs : List ℕ) (count n : ℕ) → rs ≡ ms ++ replicate count n → length rs ≡ length ms + count
+length-pushed ms rs count n e = rw (e, length-append, length-replicate) refl
+
+pub whole_pushed : (w : ℕ) (ms rs : List ℕ) (len count n i : ℕ) → 0 < w → len % w ≡ 0 → length ms + count ≡ len / w → n ≡ 2 ^ w - 1 → rs ≡ ms ++ replicate count n → length ms ≤ i / w → value_at w rs i ≡ nat_lt i len
+whole_pushed w ms rs len count n i pos z total ones e past =
+    let size = length-pushed ms rs count n e in
+    ones_up_to w rs len i pos
+    (λ before. pushed_block ms rs count n (i / w) e past (omega arith) ∙ ones)
+    (λ here. get_or_past rs (i / w) 0 (omega arith) ∙ sym (ap (λ p. 2 ^ p - 1) z))
+    (λ beyond. get_or_past rs (i / w) 0 (omega arith))
+
+pub cut_pushed : (w : ℕ) (ms rs us : List ℕ) (len count extra m n i : ℕ) → 0 < w → length ms + count ≡ len / w → n ≡ 2 ^ w - 1 → rs ≡ ms ++ replicate count n → extra ≡ 1 → m ≡ 2 ^ (len % w) - 1 → us ≡ rs ++ replicate extra m → length ms ≤ i / w → value_at w us i ≡ nat_lt i len
+cut_pushed w ms rs us len count extra m n i pos total ones e one cut f past =
+    let size = length-pushed ms rs count n e in
+    let all = length-pushed rs us extra m f in
+    ones_up_to w us len i pos
+    (λ before. ap (λ xs. get_or xs (i / w) 0) f
+    ∙ get_or_append_left rs (replicate extra m) 0 (i / w) (omega arith)
+    ∙ pushed_block ms rs count n (i / w) e past (omega arith)
+    ∙ ones)
+    (λ here. pushed_block rs us extra m (i / w) f (omega arith) (omega arith) ∙ cut)
+    (λ beyond. get_or_past us (i / w) 0 (omega arith))
+
+pub kept_below : (w : ℕ) (ms rs : List ℕ) (count n i : ℕ) → rs ≡ ms ++ replicate count n → i / w < length ms → value_at w rs i ≡ value_at w ms i
+kept_below w ms rs count n i e within = ap (λ xs. value_at w xs i) e ∙ value_at-append_old w ms (replicate count n) i within
+
+-- ---- a longer list: its old last block raised, and blocks of ones after it
+
+pub ones_kept : (w : ℕ) (ms rs us : List ℕ) (old len size : ℕ) → 0 < w → size ≡ blocks_for w old → ((i : ℕ) → i / w < size → value_at w rs i ≡ (value_at w ms i || (nat_lt i len && nat_le old i))) → ((i : ℕ) → i / w < size → value_at w us i ≡ value_at w rs i) → (i : ℕ) → i < old → value_at w us i ≡ value_at w ms i
+ones_kept w ms rs us old len size pos count raised kept i below =
+    let within = blocks_for-above w old i pos below in
+    let inside : i / w < size = omega arith in
+    let before : (nat_lt i len && nat_le old i) ≡ false = grind (arith, nat_tests) in
+    kept i inside ∙ raised i inside ∙ ap (λ t. value_at w ms i || t) before ∙ or_false (value_at w ms i)
+
+pub ones_added : (w : ℕ) (ms rs us : List ℕ) (old len size : ℕ) → IsCleanFrom w ms old → ((i : ℕ) → i / w < size → value_at w rs i ≡ (value_at w ms i || (nat_lt i len && nat_le old i))) → ((i : ℕ) → i / w < size → value_at w us i ≡ value_at w rs i) → ((i : ℕ) → size ≤ i / w → value_at w us i ≡ nat_lt i len) → (i : ℕ) → old ≤ i → value_at w us i ≡ nat_lt i len
+ones_added w ms rs us old len size tail raised kept added i after =
+    ⊎_elim
+    (λ within.
+    let reached : nat_le old i ≡ true = grind (arith, nat_tests) in
+    kept i within
+    ∙ raised i within
+    ∙ ap₂ (λ a t. a || (nat_lt i len && t)) (tail.clean i after) reached
+    ∙ and_true (nat_lt i len))
+    (λ past. added i past)
+    (cases_lt (i / w) size)
 
 -- ---- appending zeros
 
@@ -127,17 +162,41 @@ cut_kept w ms rs us len c pos count e lowered i below =
     ∙ ap (λ xs. value_at w xs i) e
     ∙ value_at-take w c ms i (omega arith)
 
--- ---- the same block at every place
+-- ---- every value written in place
 
-pub ones_filled : (w : ℕ) (rs us : List ℕ) (len m n : ℕ) → 0 < w → m ≡ blocks_for w len → n ≡ 2 ^ w - 1 → rs ≡ replicate m n → ((i : ℕ) → value_at w us i ≡ (nat_lt i len && value_at w rs i)) → (i : ℕ) → i < len → value_at w us i ≡ true
-ones_filled w rs us len m n pos count ones e lowered i below =
-    let inside : nat_lt i len ≡ true = grind (arith, nat_tests) in
-    let block = blocks_for-above w len i pos below in
-    lowered i
-    ∙ ap (λ t. t && value_at w rs i) inside
-    ∙ ap (λ xs. value_at w xs i) e
-    ∙ value_at-copies w m n i (omega arith)
-    ∙ ones_true w n i pos ones
+-- past the blocks there was nothing, and nothing comes
+unwritten : (w : ℕ) (ms rs : List ℕ) (c q : ℕ) → ((k : ℕ) → c ≤ k → get_or rs k 0 ≡ get_or ms k 0) → c ≤ q → length ms ≤ q → get_or rs q 0 ≡ 0
+unwritten w ms rs c q others from past = others q from ∙ get_or_past ms q 0 past
 
-pub zeros_filled : (w : ℕ) (rs : List ℕ) (m n : ℕ) → n ≡ 0 → rs ≡ replicate m n → (i : ℕ) → value_at w rs i ≡ false
-zeros_filled w rs m n z e i = ap (λ xs. value_at w xs i) e ∙ value_at-zeros w m n i z
+pub whole_filled : (w : ℕ) (ms rs : List ℕ) (len n : ℕ) → 0 < w → length ms ≡ blocks_for w len → len % w ≡ 0 → n ≡ 2 ^ w - 1 → ((k : ℕ) → k < len / w → get_or rs k 0 ≡ n) → ((k : ℕ) → len / w ≤ k → get_or rs k 0 ≡ get_or ms k 0) → (i : ℕ) → value_at w rs i ≡ nat_lt i len
+whole_filled w ms rs len n pos count z ones filled others i =
+    ones_up_to w rs len i pos
+    (λ before. filled (i / w) before ∙ ones)
+    (λ here. unwritten w ms rs (len / w) (i / w) others (omega arith) (omega arith) ∙ sym (ap (λ p. 2 ^ p - 1) z))
+    (λ beyond. unwritten w ms rs (len / w) (i / w) others (omega arith) (omega arith))
+
+pub cut_filled : (w : ℕ) (ms rs us : List ℕ) (len m n : ℕ) → 0 < w → length ms ≡ blocks_for w len → length rs ≡ length ms → len % w ≢ 0 → n ≡ 2 ^ w - 1 → ((k : ℕ) → k < len / w → get_or rs k 0 ≡ n) → ((k : ℕ) → len / w ≤ k → get_or rs k 0 ≡ get_or ms k 0) → m ≡ 2 ^ (len % w) - 1 → us ≡ set rs (len / w) m → (i : ℕ) → value_at w us i ≡ nat_lt i len
+cut_filled w ms rs us len m n pos count size nz ones filled others cut e i =
+    ones_up_to w us len i pos
+    (λ before. other (omega arith) ∙ filled (i / w) before ∙ ones)
+    (λ here. ap (λ xs. get_or xs (i / w) 0) e ∙ ap (λ q. get_or (set rs (len / w) m) q 0) here ∙ get_or-set_same rs (len / w) m 0 (omega arith) ∙ cut)
+    (λ beyond. other (omega arith) ∙ unwritten w ms rs (len / w) (i / w) others (omega arith) (omega arith))
+  where
+    other : i / w ≢ len / w → get_or us (i / w) 0 ≡ get_or rs (i / w) 0
+    other ne = ap (λ xs. get_or xs (i / w) 0) e ∙ get_or-set_other rs (len / w) (i / w) m 0 ne
+
+pub zeros_filled : (w : ℕ) (ms rs : List ℕ) (n : ℕ) → n ≡ 0 → ((k : ℕ) → k < length ms → get_or rs k 0 ≡ n) → ((k : ℕ) → length ms ≤ k → get_or rs k 0 ≡ get_or ms k 0) → (i : ℕ) → value_at w rs i ≡ false
+zeros_filled w ms rs n z filled others i =
+    value_at-block w rs i 0
+    (⊎_elim
+    (λ within. filled (i / w) within ∙ z)
+    (λ past. unwritten w ms rs (length ms) (i / w) others past past)
+    (cases_lt (i / w) (length ms)))
+    ∙ is_one-zero (i % w)
+
+-- what a test of the index says of it
+pub below_true : (len i : ℕ) → i < len → nat_lt i len ≡ true
+below_true len i h = grind (arith, nat_tests)
+
+pub above_false : (len i : ℕ) → len ≤ i → nat_lt i len ≡ false
+above_false len i h = grind (arith, nat_tests)

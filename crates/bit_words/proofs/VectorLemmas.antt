@@ -31,9 +31,6 @@ room_of-short w blocks n pos h =
     (λ enough. let a : n ≤ blocks * w = omega arith in let l = blocks_for-least w n blocks pos a in absurd (omega arith))
     (cases_lt (room_of w blocks) n)
 
-pub room_of-le : (w a b : ℕ) → a ≤ b → room_of w a ≤ room_of w b
-room_of-le w a b h = let m = mul-le-mul_right w h in omega arith
-
 pub is_within_room : {X : Type 0} (w n cap : ℕ) (f : X → ℕ) (P : X → Type 0) (xs : List X) (v : Bits) → 0 < w → IsTidy w f P xs n → length xs ≤ cap → record { values = values_of w (map f xs) n; room = room_of w cap } ≡ v → IsWithinRoom v
 is_within_room w n cap f P xs v pos tidy h e = record {
   holds_values = rw (length_from_view w n (room_of w cap) (map f xs) v e, room_from_view (room_of w cap) (values_of w (map f xs) n) v e)

@@ -5,7 +5,7 @@ ghost use Rattle.bit_words.specs.Bits.{blocks_for};
 ghost use Rattle.bit_words.specs.Storage.{value_at};
 
 use super::BitBlock;
-use super::masks::{cut_from, with_digit, with_ones_from};
+use super::masks::{cut_from, with_digit, with_ones_between, with_ones_from};
 use super::words::{has_one_at, same};
 
 // How many blocks a list of `len` values has.
@@ -81,18 +81,28 @@ pub(crate) fn put_value<B: BitBlock>(blocks: &mut Vec<B>, i: usize, bit: bool)
     put_block(blocks, k, block);
 }
 
-// The values from `start` to the end of its block become true.
-pub(crate) fn raise_from<B: BitBlock>(blocks: &mut Vec<B>, start: usize)
-    requires in_bounds { start / B.width < vec_len blocks.old }
+// The values from `len` on, up to `end`, become true in the last block; none where it is full.
+pub(crate) fn raise_last<B: BitBlock>(blocks: &mut Vec<B>, len: usize, end: usize)
+    requires count { vec_len blocks.old ≡ blocks_for B.width len }
     requires each { All B.is_block blocks.old.items }
-    ensures values { (i : ℕ) → value_at B.width (map B.number blocks.new.items) i ≡ (value_at B.width (map B.number blocks.old.items) i || (nat_le start i && (i / B.width == start / B.width))) }
+    requires forward { len ≤ end }
+    ensures values { (i : ℕ) → i / B.width < vec_len blocks.old → value_at B.width (map B.number blocks.new.items) i ≡ (value_at B.width (map B.number blocks.old.items) i || (nat_lt i end && nat_le len i)) }
     ensures each { All B.is_block blocks.new.items }
     ensures len { vec_len blocks.new ≡ vec_len blocks.old }
     ensures capacity { vec_capacity blocks.new ≡ vec_capacity blocks.old }
 {
-    let k = block_index::<B>(start);
-    let block = with_ones_from(block_at(blocks, k), place_in_block::<B>(start));
-    put_block(blocks, k, block);
+    let place = place_in_block::<B>(len);
+    if place == 0 {
+        return;
+    }
+    let k = block_index::<B>(len);
+    let last = block_at(blocks, k);
+    if block_index::<B>(end) == k {
+        let raised = with_ones_between(last, place, place_in_block::<B>(end));
+        put_block(blocks, k, raised);
+    } else {
+        put_block(blocks, k, with_ones_from(last, place));
+    }
 }
 
 // The values from `len` on become false, where there is no block past them.
@@ -113,16 +123,19 @@ pub(crate) fn lower_from<B: BitBlock>(blocks: &mut Vec<B>, len: usize)
     put_block(blocks, k, block);
 }
 
-// Each block becomes `block`.
-pub(crate) fn fill_blocks<B: BitBlock>(blocks: &mut Vec<B>, block: B)
+// Each of the first `count` blocks becomes `block`.
+pub(crate) fn fill_blocks<B: BitBlock>(blocks: &mut Vec<B>, count: usize, block: B)
+    requires in_bounds { count ≤ vec_len blocks.old }
+    requires each { All B.is_block blocks.old.items }
     requires of_block { B.is_block block }
-    ensures numbers { map B.number blocks.new.items ≡ replicate (vec_len blocks.old) (B.number block) }
+    ensures filled { (k : ℕ) → k < count → get_or (map B.number blocks.new.items) k 0 ≡ B.number block }
+    ensures others { (k : ℕ) → count ≤ k → get_or (map B.number blocks.new.items) k 0 ≡ get_or (map B.number blocks.old.items) k 0 }
     ensures each { All B.is_block blocks.new.items }
     ensures len { vec_len blocks.new ≡ vec_len blocks.old }
     ensures capacity { vec_capacity blocks.new ≡ vec_capacity blocks.old }
 {
-    for place in blocks.iter_mut() {
-        *place = block;
+    for k in 0..count {
+        put_block(blocks, k, block);
     }
 }
 

@@ -23,6 +23,17 @@ pub(crate) fn with_digit<B: BitBlock>(block: B, place: usize, bit: bool) -> B
     }
 }
 
+// The block whose digits from `place` on are 1, and no others.
+#[inline]
+#[tactic(auto, using(crate::proofs::Masks::masks))]
+fn ones_from<B: BitBlock>(place: usize) -> B
+    requires { place < B.width }
+    ensures of_block { B.is_block result }
+    ensures digits { (j : ℕ) → j < B.width → is_one (B.number result) j ≡ nat_le place j }
+{
+    block_not(ones_below(place))
+}
+
 // The digits from `place` on become 1.
 #[inline]
 #[tactic(auto, using(crate::proofs::Masks::masks))]
@@ -32,7 +43,32 @@ pub(crate) fn with_ones_from<B: BitBlock>(block: B, place: usize) -> B
     ensures of_block { B.is_block result }
     ensures digits { (j : ℕ) → j < B.width → is_one (B.number result) j ≡ (is_one (B.number block) j || nat_le place j) }
 {
-    block_or(block, block_not(ones_below(place)))
+    block_or(block, ones_from(place))
+}
+
+// The block whose digits from `start` to before `end` are 1, and no others.
+#[inline]
+#[tactic(auto, using(crate::proofs::Masks::masks))]
+fn ones_between<B: BitBlock>(start: usize, end: usize) -> B
+    requires from { start < B.width }
+    requires to { end < B.width }
+    ensures of_block { B.is_block result }
+    ensures digits { (j : ℕ) → j < B.width → is_one (B.number result) j ≡ (nat_lt j end && nat_le start j) }
+{
+    block_and(ones_below(end), ones_from(start))
+}
+
+// The digits from `start` to before `end` become 1.
+#[inline]
+#[tactic(auto, using(crate::proofs::Masks::masks))]
+pub(crate) fn with_ones_between<B: BitBlock>(block: B, start: usize, end: usize) -> B
+    requires of_block { B.is_block block }
+    requires from { start < B.width }
+    requires to { end < B.width }
+    ensures of_block { B.is_block result }
+    ensures digits { (j : ℕ) → j < B.width → is_one (B.number result) j ≡ (is_one (B.number block) j || (nat_lt j end && nat_le start j)) }
+{
+    block_or(block, ones_between(start, end))
 }
 
 // The digits from `place` on become 0.

@@ -1,11 +1,14 @@
 // Changes of the blocks of a list: they keep the digits that no value uses at 0.
-ghost use Rattle.std.specs.Prelude.{◌≡◌, ◌≢◌, ℕ, ◌-◌, ◌^◌, ◌<◌, ◌≤◌, ◌++◌, All, map, replicate, take, vec_len, vec_capacity};
+ghost use Rattle.std.specs.Prelude.{◌≡◌, ◌≢◌, ℕ, ◌-◌, ◌/◌, ◌<◌, ◌≤◌, ◌++◌, All, false, nat_lt, map, replicate, take, vec_len, vec_capacity};
 ghost use Rattle.bit_words.specs.Bits.{blocks_for};
 ghost use Rattle.bit_words.specs.Storage.{value_at, IsTidy};
 
 use super::BitBlock;
-use super::changes::{block_count, fill_blocks, lower_from, put_value, raise_from};
-use super::words::all_ones;
+use super::changes::{
+    block_count, block_index, fill_blocks, lower_from, place_in_block, put_block, put_value,
+    raise_last,
+};
+use super::words::{all_ones, ones_below};
 
 // Appends copies of `block` until there are `count` blocks. There is room for them.
 fn push_copies<B: BitBlock>(blocks: &mut Vec<B>, count: usize, block: B)
@@ -19,6 +22,28 @@ fn push_copies<B: BitBlock>(blocks: &mut Vec<B>, count: usize, block: B)
     ensures capacity { vec_capacity blocks.old ≤ vec_capacity blocks.new }
 {
     blocks.resize(count, block).unwrap();
+}
+
+// Appends blocks of ones until there are those of `len` values. There is room for them.
+fn push_ones<B: BitBlock>(blocks: &mut Vec<B>, len: usize)
+    requires more { vec_len blocks.old ≤ blocks_for B.width len }
+    requires room { blocks_for B.width len ≤ vec_capacity blocks.old }
+    requires each { All B.is_block blocks.old.items }
+    ensures kept { (i : ℕ) → i / B.width < vec_len blocks.old → value_at B.width (map B.number blocks.new.items) i ≡ value_at B.width (map B.number blocks.old.items) i }
+    ensures added { (i : ℕ) → vec_len blocks.old ≤ i / B.width → value_at B.width (map B.number blocks.new.items) i ≡ nat_lt i len }
+    ensures each { All B.is_block blocks.new.items }
+    ensures len { vec_len blocks.new ≡ blocks_for B.width len }
+    ensures capacity { vec_capacity blocks.old ≤ vec_capacity blocks.new }
+{
+    let whole = block_index::<B>(len);
+    if blocks.len() > whole {
+        return;
+    }
+    push_copies(blocks, whole, all_ones());
+    let place = place_in_block::<B>(len);
+    if place != 0 {
+        push_copies(blocks, whole + 1, ones_below(place));
+    }
 }
 
 // Keeps the first `count` blocks.
@@ -37,20 +62,18 @@ fn keep_blocks<B: BitBlock>(blocks: &mut Vec<B>, count: usize)
 // Appends `bit` to a list of `old` values until there are `len`. There is room for the blocks.
 pub(crate) fn append_values<B: BitBlock>(blocks: &mut Vec<B>, old: usize, len: usize, bit: bool)
     requires tidy { IsTidy B.width B.number B.is_block blocks.old.items old }
-    requires longer { old < len }
+    requires longer { old ≤ len }
     requires room { blocks_for B.width len ≤ vec_capacity blocks.old }
     ensures kept { (i : ℕ) → i < old → value_at B.width (map B.number blocks.new.items) i ≡ value_at B.width (map B.number blocks.old.items) i }
     ensures added { (i : ℕ) → old ≤ i → i < len → value_at B.width (map B.number blocks.new.items) i ≡ bit }
     ensures tidy { IsTidy B.width B.number B.is_block blocks.new.items len }
     ensures capacity { vec_capacity blocks.old ≤ vec_capacity blocks.new }
 {
-    let count = block_count::<B>(len);
     if bit {
-        push_copies(blocks, count, all_ones());
-        raise_from(blocks, old);
-        lower_from(blocks, len);
+        raise_last(blocks, old, len);
+        push_ones(blocks, len);
     } else {
-        push_copies(blocks, count, B::zero());
+        push_copies(blocks, block_count::<B>(len), B::zero());
     }
 }
 
@@ -66,6 +89,34 @@ pub(crate) fn keep_values<B: BitBlock>(blocks: &mut Vec<B>, old: usize, len: usi
     lower_from(blocks, len);
 }
 
+// Makes each of `len` values true.
+fn fill_ones<B: BitBlock>(blocks: &mut Vec<B>, len: usize)
+    requires count { vec_len blocks.old ≡ blocks_for B.width len }
+    requires each { All B.is_block blocks.old.items }
+    ensures values { (i : ℕ) → value_at B.width (map B.number blocks.new.items) i ≡ nat_lt i len }
+    ensures each { All B.is_block blocks.new.items }
+    ensures len { vec_len blocks.new ≡ vec_len blocks.old }
+    ensures capacity { vec_capacity blocks.new ≡ vec_capacity blocks.old }
+{
+    let whole = block_index::<B>(len);
+    fill_blocks(blocks, whole, all_ones());
+    let place = place_in_block::<B>(len);
+    if place != 0 {
+        put_block(blocks, whole, ones_below(place));
+    }
+}
+
+// Makes every value false.
+fn fill_zeros<B: BitBlock>(blocks: &mut Vec<B>)
+    requires { All B.is_block blocks.old.items }
+    ensures values { (i : ℕ) → value_at B.width (map B.number blocks.new.items) i ≡ false }
+    ensures each { All B.is_block blocks.new.items }
+    ensures len { vec_len blocks.new ≡ vec_len blocks.old }
+    ensures capacity { vec_capacity blocks.new ≡ vec_capacity blocks.old }
+{
+    fill_blocks(blocks, blocks.len(), B::zero());
+}
+
 // Makes each of `len` values be `bit`.
 pub(crate) fn fill_values<B: BitBlock>(blocks: &mut Vec<B>, len: usize, bit: bool)
     requires tidy { IsTidy B.width B.number B.is_block blocks.old.items len }
@@ -74,10 +125,9 @@ pub(crate) fn fill_values<B: BitBlock>(blocks: &mut Vec<B>, len: usize, bit: boo
     ensures capacity { vec_capacity blocks.new ≡ vec_capacity blocks.old }
 {
     if bit {
-        fill_blocks(blocks, all_ones());
-        lower_from(blocks, len);
+        fill_ones(blocks, len);
     } else {
-        fill_blocks(blocks, B::zero());
+        fill_zeros(blocks);
     }
 }
 

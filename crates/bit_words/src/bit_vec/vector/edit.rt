@@ -18,7 +18,7 @@ impl<B: BitBlock> BitVec<B> {
         set_value(&mut self.blocks, self.len, i, bit);
     }
 
-    /// Makes every value be `bit`. Writes each block once, and the last one twice at most.
+    /// Makes every value be `bit`. Writes each block once.
     pub fn fill(&mut self, bit: bool)
         ensures values { self.new.values ≡ replicate (length self.old.values) bit }
         ensures room { self.new.room ≡ self.old.room }
@@ -48,7 +48,7 @@ impl<B: BitBlock> BitVec<B> {
         self.len = 0;
     }
 
-    /// Appends `n` values `bit`. Writes each new block once, and those at both ends twice at most;
+    /// Appends `n` values `bit`. Writes each new block once, and the old last one where it takes ones;
     /// moves the old blocks where the room was missing. Fails only there, and then nothing changed.
     pub fn grow(&mut self, n: usize, bit: bool) -> Result<(), AllocError>
         requires { length self.old.values + n ≤ usize.MAX }

@@ -64,7 +64,7 @@ impl<B: BitBlock> BitVec<B> {
         }
     }
 
-    /// `n` times `bit`. Writes each block once, and the last one twice.
+    /// `n` times `bit`. Writes each block once.
     pub fn from_elem_general(alloc: Global, n: usize, bit: bool) -> Result<Self, AllocError>
         ensures values { IfOk result (λ vector. vector.values ≡ replicate n bit) }
         ensures empty { n ≡ 0 → IsOk result }
