@@ -1,14 +1,14 @@
 -- A run, one command on.
 use Rattle.std.proofs.Common.{◌≡◌, ℕ, ◌+◌, ◌<◌, List, [], ◌∷◌, ◌++◌, length, get_or, take, append_assoc, refl, ap, sym, ◌∙◌}
 use Rattle.std.proofs.lemmas.List.{take_more, set-get_or}
-use Rattle.std.proofs.Common.{Result, Ok, Err, true, false, OnOk, OnErr, arith}
+use Rattle.std.proofs.Common.{Result, Ok, Err, true, false, OnOk, OnErr}
 use Rattle.std.specs.Result.{is_err}
 use Rattle.std.proofs.lemmas.Option.{slice_get_read}
 use Rattle.std.proofs.lemmas.Bool.{true≢false}
 use Rattle.bit_set_run.specs.declared.commands.Command.{Command}
 use Rattle.bit_set_run.specs.declared.commands.Reply.{Reply}
 use Rattle.bit_set_run.specs.declared.commands.Command.TheVariants.{Insert, Remove, Contains, Extend, Truncate, Empty, Reset, Count, IsEmpty, Items as ItemsOf, Copy, RestIter}
-use Rattle.bit_set_run.specs.Run.{Sets, step, run_of, LeftBy, StoppedAt}
+use Rattle.bit_set_run.specs.Run.{Sets, elements_before_greatest, step, run_of, LeftBy, StoppedAt}
 
 -- a run of commands and of one more
 pub sets-run_of_push : (sets : Sets) (commands : List Command) (command : Command) → (run_of sets (commands ++ command ∷ [])).sets ≡ (step (run_of sets commands).sets command).sets
@@ -50,7 +50,7 @@ pub LeftBy-nothing : (sets : Sets) (command : Command) → LeftBy sets command s
 LeftBy-nothing sets (Insert name n) = refl
 LeftBy-nothing sets (Remove name n) = refl
 LeftBy-nothing sets (Contains name n) = refl
-LeftBy-nothing sets (Extend name items) = (0, omega arith, sym (set-get_or sets name []))
+LeftBy-nothing sets (Extend name items) = ([], elements_before_greatest items, refl, sym (set-get_or sets name []))
 LeftBy-nothing sets (Truncate name n) = refl
 LeftBy-nothing sets (Empty name) = refl
 LeftBy-nothing sets (Reset name) = refl

@@ -24,41 +24,26 @@ none_greatest (n ∷ ns) fit =
     let other : eqb n greatest ≡ false = ne_eqb n greatest (λ e. omega (arith, e, fit)) in
     rw other (none_greatest ns (omega (arith, fit)))
 
--- all of them are before it
-pub all_before : (items : List ℕ) → bound_of items ≤ greatest → elements_before_greatest items ≡ items
-all_before [] fit = refl
-all_before (n ∷ ns) fit =
-    let other : eqb n greatest ≡ false = ne_eqb n greatest (λ e. omega (arith, e, fit)) in
-    rw other (ap (λ xs. n ∷ xs) (all_before ns (omega (arith, fit))))
-
--- where it stands behind them, they are those before it
+-- where it stands behind them, it is found
 pub some_greatest : (front rest : List ℕ) → bound_of front ≤ greatest → list_any (λ n. eqb n greatest) (front ++ greatest ∷ rest) ≡ true
 some_greatest [] rest fit = refl
 some_greatest (n ∷ ns) rest fit =
     let other : eqb n greatest ≡ false = ne_eqb n greatest (λ e. omega (arith, e, fit)) in
     rw other (some_greatest ns rest (omega (arith, fit)))
 
-pub front_before : (front rest : List ℕ) → bound_of front ≤ greatest → elements_before_greatest (front ++ greatest ∷ rest) ≡ front
+-- they are among those before it
+pub front_before : (front rest : List ℕ) → bound_of front ≤ greatest → elements_before_greatest (front ++ rest) ≡ front ++ elements_before_greatest rest
 front_before [] rest fit = refl
 front_before (n ∷ ns) rest fit =
     let other : eqb n greatest ≡ false = ne_eqb n greatest (λ e. omega (arith, e, fit)) in
     rw other (ap (λ xs. n ∷ xs) (front_before ns rest (omega (arith, fit))))
 
--- the items before one of a list
-pub record StandsBefore (all items : List ℕ) (item : ℕ) : Type 0 where
-  pub front : items ≡ take (length items) all
-  pub within : length items < length all
-  pub whole : all ≡ items ++ item ∷ drop (length items + 1) all
-
-pub stands_before : (all items : List ℕ) (item : ℕ) → items ≡ take (length items) all → length items < length all → item ≡ get_or all (length items) item → StandsBefore all items item
-stands_before all items item front within is = record {
-  front = front;
-  within = within;
-  whole =
-      sym (take-append-drop (length items + 1) all)
-      ∙ ap (λ xs. xs ++ drop (length items + 1) all) (take_more all (length items) item within ∙ ap (λ xs. xs ++ get_or all (length items) item ∷ []) (sym front) ∙ ap (λ x. items ++ x ∷ []) (sym is))
-      ∙ append_assoc items (item ∷ []) (drop (length items + 1) all);
-}
+-- a list is its first items, the next one and the rest
+stands_before : (all items : List ℕ) (item : ℕ) → items ≡ take (length items) all → length items < length all → item ≡ get_or all (length items) item → all ≡ items ++ item ∷ drop (length items + 1) all
+stands_before all items item front within is =
+    sym (take-append-drop (length items + 1) all)
+    ∙ ap (λ xs. xs ++ drop (length items + 1) all) (take_more all (length items) item within ∙ ap (λ xs. xs ++ get_or all (length items) item ∷ []) (sym front) ∙ ap (λ x. items ++ x ∷ []) (sym is))
+    ∙ append_assoc items (item ∷ []) (drop (length items + 1) all)
 
 -- a walk shows what is left of it
 pub walk_yields : (s : Walk) → YieldsList Advances (λ x. x) s s.left
@@ -115,7 +100,7 @@ sets-insert sets name n =
     ]
 
 -- the items that a copied slice gave before one more
-pub copied_before : (s u : Copied (Iter ℕ)) (all items : List ℕ) (item : ℕ) → s.iter.rest.now ≡ all → YieldsThen (copies fronts) s items (Some item) u → StandsBefore all items item
+pub copied_before : (s u : Copied (Iter ℕ)) (all items : List ℕ) (item : ℕ) → s.iter.rest.now ≡ all → YieldsThen (copies fronts) s items (Some item) u → all ≡ items ++ item ∷ drop (length items + 1) all
 copied_before s u all items item shown run =
     let source : YieldsList fronts (λ y. y.now) s.iter all = YieldsList-from_slice all shown in
     let yields : YieldsList (copies fronts) (λ x. x) s all = YieldsList-from_copied {s = s} source in

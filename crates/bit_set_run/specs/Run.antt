@@ -1,5 +1,5 @@
 -- What a command does to sixteen sets of numbers, and what a run of commands does.
-use Rattle.std.specs.Prelude.{◌≡◌, ℕ, ◌<◌, ◌≤◌, not, ◌==◌, if◌then◌else◌, List, [], ◌∷◌, ◌++◌, length, take, drop, replicate, slice_get, slice_index_or, slice_set, Some}
+use Rattle.std.specs.Prelude.{◌≡◌, ℕ, ◌<◌, not, ◌==◌, if◌then◌else◌, List, [], ◌∷◌, ◌++◌, length, take, drop, replicate, slice_get, slice_index_or, slice_set, Some}
 use Rattle.std.specs.List.{list_any}
 use Rattle.bit_set_run.specs.declared.commands.Command.{Command}
 use Rattle.bit_set_run.specs.declared.commands.Command.TheVariants.{Insert, Remove, Contains, Extend, Truncate, Empty, Reset, Count, IsEmpty, Items as ItemsOf, Copy, RestIter}
@@ -75,9 +75,9 @@ run_of sets (command ∷ commands) =
     let rest : Run = run_of first.sets commands in
     record { sets = rest.sets; replies = first.reply ∷ rest.replies }
 
--- what a command leaves that was refused memory: what stood before, but that items of an `Extend` may be in, from the front
+-- what a command leaves that was refused memory: what stood before, but that a front of what an `Extend` puts in may be in
 abbrev pub LeftBy : Sets → Command → Sets → Type 0
-LeftBy old (Extend name items) new = (n : ℕ) × (n ≤ length items) × (new ≡ slice_set old name (put_all (set_of old name) (take n items)))
+LeftBy old (Extend name items) new = (front back : List ℕ) × (elements_before_greatest items ≡ front ++ back) × (new ≡ slice_set old name (put_all (set_of old name) front))
 LeftBy old command new = new ≡ old
 
 -- a run that stopped at command k: the replies are those of the commands before it, and the sets those that it leaves

@@ -1,6 +1,6 @@
 //! One command over sixteen sets.
 
-ghost use Rattle.std.specs.Prelude.{◌≡◌, ℕ, ◌<◌, ◌≤◌, ◌==◌, not, map, length, take, drop, [], IfOk, OnOk, OnErr, slice_index_or, slice_set, if◌then◌else◌};
+ghost use Rattle.std.specs.Prelude.{◌≡◌, ℕ, ◌<◌, ◌==◌, not, map, List, length, drop, [], ◌++◌, IfOk, OnOk, OnErr, slice_index_or, slice_set, if◌then◌else◌};
 ghost use Rattle.std.specs.List.{list_any};
 ghost use Rattle.bit_set.specs.Sets.{has, put, put_all};
 ghost use Rattle.bit_set_run.specs.Kept.{kept};
@@ -63,7 +63,7 @@ fn insert<B: BitBlock>(set: &mut BitSet<B>, n: usize) -> Result<Reply, AllocErro
 fn extend<B: BitBlock>(set: &mut BitSet<B>, items: &Numbers) -> Result<Reply, AllocError>
     ensures reply { IfOk result (λ reply. reply ≡ (if list_any (λ n. n == greatest) items.now then Element else Done)) }
     ensures after { OnOk result (kept set.new ≡ put_all (kept set.old) (elements_before_greatest items.now)) }
-    ensures left { OnErr result ((n : ℕ) × (n ≤ length items.now) × (kept set.new ≡ put_all (kept set.old) (take n items.now))) }
+    ensures left { OnErr result ((front back : List ℕ) × (elements_before_greatest items.now ≡ front ++ back) × (kept set.new ≡ put_all (kept set.old) front)) }
 {
     match set.extend(items.as_slice().iter().copied()) {
         Ok(()) => Ok(Reply::Done),

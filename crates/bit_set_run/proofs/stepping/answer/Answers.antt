@@ -1,4 +1,4 @@
-use Rattle.std.proofs.Common.{ap, ◌==◌, ◌∙◌, if◌then◌else◌, [], take, map, arith}
+use Rattle.std.proofs.Common.{ap, ◌==◌, ◌∙◌, if◌then◌else◌, [], map, arith}
 use Rattle.std.proofs.lemmas.Result.{on_ok_weaker, on_err_weaker}
 use Rattle.bit_set.specs.Sets.{elements, put, put_all, those_below, without}
 use Rattle.bit_set_run.specs.Kept.{kept}
@@ -30,7 +30,7 @@ returns-in-Extend-clause-sets g c =
 pub returns-in-Extend-clause-left : goal.returns-in-Extend-clause-left
 returns-in-Extend-clause-left g c =
     let sets = c.args.sets.now in
-    rw c.in-Extend.is (on_err_weaker c.extend.result (λ left. (left.0, left.1, change_is sets c.place-in-Extend.result c.in-Extend.name c.index-sets-place-in-Extend.result c.extend.new.set (λ s. put_all s (take left.0 c.in-Extend.items)) c.place-in-Extend.ensures.place (omega (arith, c.told-sets, c.place-in-Extend.ensures.within)) left.2)) c.extend.ensures.left)
+    rw c.in-Extend.is (on_err_weaker c.extend.result (λ left. (left.0, left.1, left.2, change_is sets c.place-in-Extend.result c.in-Extend.name c.index-sets-place-in-Extend.result c.extend.new.set (λ s. put_all s left.0) c.place-in-Extend.ensures.place (omega (arith, c.told-sets, c.place-in-Extend.ensures.within)) left.3)) c.extend.ensures.left)
 
 pub returns-in-Truncate-clause-sets : goal.returns-in-Truncate-clause-sets
 returns-in-Truncate-clause-sets g c =

@@ -1,9 +1,9 @@
-use Rattle.std.proofs.Common.{◌≡◌, ◌++◌, ◌∷◌, length, drop, ◌+◌, refl, sym, ap, ◌∙◌, arith}
+use Rattle.std.proofs.Common.{◌≡◌, ◌++◌, ◌∷◌, length, drop, ◌+◌, refl, sym, ap, ◌∙◌, append-nil, []}
 use Rattle.std.proofs.iter.Yields.{Copied-Drains}
 use Rattle.bit_set.specs.Sets.{put_all}
 use Rattle.bit_set_run.specs.Kept.{kept}
 use Rattle.bit_set_run.specs.Run.{elements_before_greatest, greatest}
-use Rattle.bit_set_run.proofs.SteppingLemmas.{none_greatest, all_before, some_greatest, front_before, copied_before}
+use Rattle.bit_set_run.proofs.SteppingLemmas.{none_greatest, some_greatest, front_before, copied_before}
 use Rattle.bit_set_run.proofs.stepping.extend.Goals as goal
 
 pub returns-in-Ok-clause-reply : goal.returns-in-Ok-clause-reply
@@ -18,17 +18,17 @@ returns-in-Ok-clause-after g c =
     let h = c.in-Ok.ensures.ok in
     let shown : c.copied.result.iter.rest.now ≡ c.args.items.now = cc in
     let whole : h.0 ≡ c.args.items.now = Copied-Drains c.copied.result h.0 h.1 ∙ shown in
-    h.2.members ∙ ap (put_all (kept c.args.set.now)) (sym (all_before h.0 h.2.fit) ∙ ap elements_before_greatest whole)
+    h.2.members ∙ ap (put_all (kept c.args.set.now)) (sym (append-nil h.0) ∙ sym (front_before h.0 [] h.2.fit) ∙ ap elements_before_greatest (append-nil h.0 ∙ whole))
 
 pub returns-in-Err-Element : goal.returns-in-Err-Element
 returns-in-Err-Element g c =
     let h = c.in-Err-Element.ensures.err in
     let shown : c.copied.result.iter.rest.now ≡ c.args.items.now = cc in
     let before = copied_before c.copied.result h.2 c.args.items.now h.0 h.1 shown h.3 in
-    let whole : c.args.items.now ≡ h.0 ++ greatest ∷ drop (length h.0 + 1) c.args.items.now = before.whole ∙ ap (λ n. h.0 ++ n ∷ drop (length h.0 + 1) c.args.items.now) (rw c.in-Err-Element.field-0-is at h.5) in
+    let whole : c.args.items.now ≡ h.0 ++ greatest ∷ drop (length h.0 + 1) c.args.items.now = before ∙ ap (λ n. h.0 ++ n ∷ drop (length h.0 + 1) c.args.items.now) (rw c.in-Err-Element.field-0-is at h.5) in
     record {
       reply = rw (whole, some_greatest h.0 (drop (length h.0 + 1) c.args.items.now) h.4.fit) refl;
-      after = h.4.members ∙ ap (put_all (kept c.args.set.now)) (sym (front_before h.0 (drop (length h.0 + 1) c.args.items.now) h.4.fit) ∙ ap elements_before_greatest (sym whole));
+      after = h.4.members ∙ ap (put_all (kept c.args.set.now)) (sym (append-nil h.0) ∙ sym (front_before h.0 (greatest ∷ drop (length h.0 + 1) c.args.items.now) h.4.fit) ∙ ap elements_before_greatest (sym whole));
       left = tt;
     }
 
@@ -37,4 +37,4 @@ returns-in-Err-Memory-clause-left g c =
     let h = c.in-Err-Memory.ensures.err in
     let shown : c.copied.result.iter.rest.now ≡ c.args.items.now = cc in
     let before = copied_before c.copied.result h.2 c.args.items.now h.0 h.1 shown h.3 in
-    (length h.0, omega (arith, before.within), h.4.members ∙ ap (put_all (kept c.args.set.now)) before.front)
+    (h.0, elements_before_greatest (h.1 ∷ drop (length h.0 + 1) c.args.items.now), ap elements_before_greatest before ∙ front_before h.0 (h.1 ∷ drop (length h.0 + 1) c.args.items.now) h.4.fit, h.4.members)
