@@ -1,5 +1,5 @@
 // Blocks made of bytes: the highest bit of a byte is the first of eight values.
-ghost use Rattle.std.specs.Prelude.{◌≡◌, ℕ, ◌+◌, ◌*◌, ◌^◌, ◌<◌, ◌≤◌, All, map, length, IfOk, IsOk, slice_index};
+ghost use Rattle.std.specs.Prelude.{◌≡◌, ℕ, ◌+◌, ◌*◌, ◌^◌, ◌<◌, ◌≤◌, ◌&&◌, All, map, nat_lt, length, IfOk, IsOk};
 ghost use Rattle.bit_words.specs.Bits.{blocks_for};
 ghost use Rattle.bit_words.specs.Storage.{is_one, value_at, byte_value};
 
@@ -42,14 +42,32 @@ fn bytes_of_block<B: BitBlock>(bytes: &[u8], k: usize) -> &[u8]
 }
 
 // One block of no more bytes than it holds.
+#[inline]
 fn block_of_bytes<B: BitBlock>(bytes: &[u8]) -> B
     requires { 8 * length bytes.now ≤ B.width }
     ensures of_block { B.is_block result }
     ensures digits { (j : ℕ) → j < B.width → is_one (B.number result) j ≡ byte_value bytes.now j }
 {
+    let whole = B::bits() / 8;
+    // All blocks but the last are whole, and the compiler unrolls a loop whose count it knows.
+    if bytes.len() == whole {
+        block_of_first(bytes, whole)
+    } else {
+        block_of_first(bytes, bytes.len())
+    }
+}
+
+// One block of the first `count` bytes.
+#[inline]
+fn block_of_first<B: BitBlock>(bytes: &[u8], count: usize) -> B
+    requires in_bounds { count ≤ length bytes.now }
+    requires within { 8 * count ≤ B.width }
+    ensures of_block { B.is_block result }
+    ensures digits { (j : ℕ) → j < B.width → is_one (B.number result) j ≡ (nat_lt j (8 * count) && byte_value bytes.now j) }
+{
     let mut block = B::zero();
-    for (place, byte) in bytes.iter().enumerate() {
-        let digits = B::from_byte(byte.reverse_bits());
+    for place in 0..count {
+        let digits = B::from_byte(bytes[place].reverse_bits());
         block = block_or(block, shift_left(digits, 8 * place));
     }
     block

@@ -1,12 +1,9 @@
-use Rattle.std.proofs.Common.{◌∙◌, arith}
-use Rattle.bit_words.proofs.ByteLemmas.{byte_added, bytes_ended}
+use Rattle.std.proofs.Common.{◌/◌, arith}
+use Rattle.bit_words.proofs.ByteLemmas.{bytes_ended}
 use Rattle.bit_words.proofs.bit_vec.bytes.block_of_bytes.Goals as goal
 
-pub loop-place-preserved : goal.loop-place-preserved
-loop-place-preserved g c = record {
-  of_block = c.block_or-block.ensures.of_block;
-  digits = byte_added _ _ _ _ _ _ c.loop-place.place c.args.bytes.now c.loop-place.invariant.digits (c.from_byte-digits.ensures.of_number ∙ c.reverse_bits.ensures) (omega arith) (omega arith) c.shift_left.ensures.of_digits c.block_or-block.ensures.of_digits;
-}
+pub returns-then-bytes-whole-clause-digits : goal.returns-then-bytes-whole-clause-digits
+returns-then-bytes-whole-clause-digits g c = bytes_ended _ _ (c.bits-whole.result / 8) _ (omega arith) c.block_of_first.ensures.digits
 
-pub returns-clause-digits : goal.returns-clause-digits
-returns-clause-digits g c = bytes_ended _ _ c.loop-place.place c.args.bytes.now (omega arith) c.loop-place.invariant.digits
+pub returns-else-bytes-whole-clause-digits : goal.returns-else-bytes-whole-clause-digits
+returns-else-bytes-whole-clause-digits g c = bytes_ended _ _ _ _ (omega arith) c.block_of_first-else-bytes-whole.ensures.digits
