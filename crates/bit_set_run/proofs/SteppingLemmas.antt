@@ -24,6 +24,11 @@ none_greatest (n ∷ ns) fit =
     let other : eqb n greatest ≡ false = ne_eqb n greatest (λ e. omega (arith, e, fit)) in
     rw other (none_greatest ns (omega (arith, fit)))
 
+-- an item below it is before it
+pub before_taken : (item : ℕ) (rest : List ℕ) → item < greatest → elements_before_greatest (item ∷ rest) ≡ item ∷ elements_before_greatest rest
+before_taken item rest low =
+    let other : eqb item greatest ≡ false = ne_eqb item greatest (λ e. omega (arith, e, low)) in rw other refl
+
 -- where it stands behind them, it is found
 pub some_greatest : (front rest : List ℕ) → bound_of front ≤ greatest → list_any (λ n. eqb n greatest) (front ++ greatest ∷ rest) ≡ true
 some_greatest [] rest fit = refl
@@ -80,6 +85,10 @@ copied_over sets from to gone set_now source within apart at values =
 pub put_back : (sets : List Bits) (to : ℕ) (gone set_now : Bits) → set_now ≡ get_or sets to set_now → map kept (set (set sets to gone) to set_now) ≡ map kept sets
 put_back sets to gone set_now at =
     ap (map kept) (set-set sets to gone set_now ∙ ap (λ s. set sets to s) at ∙ set-get_or sets to set_now)
+
+-- the set of a name is the one at its place
+pub set_at : (sets : List Bits) (place name : ℕ) (d : Bits) → place ≡ name → place < length sets → get_or (map kept sets) name [] ≡ kept (get_or sets place d)
+set_at sets place name d at within = ap (λ p. get_or (map kept sets) p []) (sym at) ∙ get_or-map kept sets place d [] within
 
 -- one set of the array is changed by f
 pub change_is : (sets : List Bits) (place name : ℕ) (d set_now : Bits) (f : List ℕ → List ℕ) → place ≡ name → place < length sets → kept set_now ≡ f (kept (get_or sets place d)) → map kept (set sets place set_now) ≡ set (map kept sets) name (f (get_or (map kept sets) name []))
