@@ -51,25 +51,25 @@ stands_before all items item front within is =
     ∙ append_assoc items (item ∷ []) (drop (length items + 1) all)
 
 -- a walk shows what is left of it
-pub walk_yields : (s : Walk) → YieldsList Advances (λ x. x) s s.left
-walk_yields s = YieldsList-from_shown Advances (λ x. x) (λ walk. walk.left) (λ s t step. ap length step.item.0) (λ s x t step. step.item) s
+pub walk_yields : (w : ℕ) (s : Walk) → YieldsList (Advances w) (λ x. x) s s.left
+walk_yields w s = YieldsList-from_shown (Advances w) (λ x. x) (λ walk. walk.left) (λ s t step. ap length step.item.0) (λ s x t step. step.item) s
 
-left_of_yields : (s t : Walk) (items : List ℕ) → Yields Advances s items t → s.left ≡ items ++ t.left
-left_of_yields s t [] run = ap (λ walk. walk.left) run
-left_of_yields s t (x ∷ xs) run = run.1.item ∙ ap (λ ys. x ∷ ys) (left_of_yields run.0 t xs run.2)
+left_of_yields : (w : ℕ) (s t : Walk) (items : List ℕ) → Yields (Advances w) s items t → s.left ≡ items ++ t.left
+left_of_yields w s t [] run = ap (λ walk. walk.left) run
+left_of_yields w s t (x ∷ xs) run = run.1.item ∙ ap (λ ys. x ∷ ys) (left_of_yields w run.0 t xs run.2)
 
 -- what is left behind some items and one more
-pub left_of_skipped : (s u : Walk) (n : ℕ) (r : Option ℕ) → SkipsThenYields Advances s n r u → u.left ≡ drop (n + 1) s.left
-left_of_skipped s u n None run =
+pub left_of_skipped : (w : ℕ) (s u : Walk) (n : ℕ) (r : Option ℕ) → SkipsThenYields (Advances w) s n r u → u.left ≡ drop (n + 1) s.left
+left_of_skipped w s u n None run =
     let t = run.1.0 in
-    let left = left_of_yields s t run.0 run.1.1 in
+    let left = left_of_yields w s t run.0 run.1.1 in
     let ended = run.1.2.item in
     let whole : s.left ≡ run.0 ++ [] = left ∙ ap (λ ys. run.0 ++ ys) ended.0 in
     let short : length s.left ≤ n + 1 = omega (arith, ap length whole, length-append run.0 [], run.2) in
     ended.1 ∙ sym (drop_all (n + 1) s.left short)
-left_of_skipped s u n (Some x) run =
+left_of_skipped w s u n (Some x) run =
     let t = run.1.0 in
-    let left = left_of_yields s t run.0 run.1.1 in
+    let left = left_of_yields w s t run.0 run.1.1 in
     let whole : s.left ≡ (run.0 ++ x ∷ []) ++ u.left = left ∙ ap (λ ys. run.0 ++ ys) run.1.2.item ∙ sym (append_assoc run.0 (x ∷ []) u.left) in
     let long : length (run.0 ++ x ∷ []) ≡ n + 1 = omega (arith, length-append run.0 (x ∷ []), run.2) in
     sym (ap (drop (n + 1)) whole ∙ drop_at (run.0 ++ x ∷ []) u.left (n + 1) long)
