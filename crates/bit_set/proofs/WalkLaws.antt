@@ -1,6 +1,8 @@
 -- What whole walks give, by one step after another.
-use Rattle.std.proofs.Common.{◌≡◌, ℕ, ◌+◌, ◌≤◌, max, Bool, List, [], ◌∷◌, length, Option, Some, None, refl, sym, ap, ◌∙◌, arith}
-use Rattle.std.specs.Iterator.{YieldsThen, Drains}
+use Rattle.std.proofs.Common.{◌≡◌, ℕ, ◌+◌, ◌-◌, ◌*◌, ◌/◌, ◌<◌, ◌≤◌, max, Bool, List, [], ◌∷◌, length, Option, Some, None, refl, sym, ap, ◌∙◌, arith}
+use Rattle.std.specs.Iterator.{Yields, YieldsThen, Drains}
+use Rattle.std.proofs.Math.Nat.{le_of_mul-le-mul_left, mul-sub, mul_comm}
+use Rattle.std.proofs.lemmas.Nat.{div-mul-add}
 use Rattle.bit_words.specs.Bits.{blocks_for}
 use Rattle.bit_set.specs.Sets.{elements}
 use Rattle.bit_set.specs.Walk.{Walk, Advances, IsWalkedOut, IsAtStart}
@@ -34,3 +36,19 @@ none_for_good w s t (Some x) ended step = absurd (let e = sym ended ∙ step.ite
 
 pub counted : (w : ℕ) (s : Walk) (items : List ℕ) → Drains (Advances w) s items → length items ≡ length s.left
 counted w s items run = ap length (walked_out w s run.0 items run.1).all
+
+-- a walk goes along its blocks
+along : (w : ℕ) (s t : Walk) (items : List ℕ) → Yields (Advances w) s items t → t.place + w * t.blocks ≡ s.place + w * s.blocks
+along w s t [] run = sym (ap (λ walk. walk.place + w * walk.blocks) run)
+along w s t (x ∷ xs) run = along w run.0 t xs run.2 ∙ run.1.along
+
+-- after an item the block in hand is the one that has it
+pub in_hand : (w : ℕ) (values : List Bool) (s t : Walk) (items : List ℕ) (x : ℕ) → 0 < w → IsAtStart w values s → YieldsThen (Advances w) s items (Some x) t → t.blocks ≡ blocks_for w (length values) - 1 - x / w
+in_hand w values s t items x pos start run =
+    let past = blocks_for w (length values) - 1 in
+    let whole : t.place + w * t.blocks ≡ w * past = run.2.along ∙ along w s run.0 items run.1 ∙ omega (arith, start.place, ap (λ k. w * k) start.blocks) in
+    let few : t.blocks ≤ past = le_of_mul-le-mul_left (omega (arith, whole)) pos in
+    let first : t.place ≡ (past - t.blocks) * w = omega (arith, whole, mul-sub w past t.blocks, mul_comm w (past - t.blocks)) in
+    let number : (past - t.blocks) * w + (x - t.place) ≡ x = omega (arith, first, run.2.at.0) in
+    let block : x / w ≡ past - t.blocks = ap (λ n. n / w) (sym number) ∙ div-mul-add (past - t.blocks) w (x - t.place) (omega (arith, run.2.at)) in
+    omega (arith, few, block)
