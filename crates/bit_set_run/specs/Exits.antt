@@ -26,7 +26,7 @@ pub data IsExit : ℕ → List ℕ → Type 0 where
   unwritten : IsExit 4 (codes "write failed")
   too_large : IsExit 5 (codes "input too large")
 
--- the block type that a word names (no public clause cites this)
+-- The block type that a word names. No public clause cites this.
 abbrev pub type_named : List ℕ → Option BlockType
 type_named word =
     if bytes_eq word (codes "u8") then Some U8
@@ -36,13 +36,13 @@ type_named word =
     else if bytes_eq word (codes "usize") then Some Usize
     else None
 
--- the block type that the words choose (no public clause cites this)
+-- The block type that the words choose. No public clause cites this.
 abbrev pub type_chosen : List (List ℕ) → Option BlockType
 type_chosen [] = Some U32
 type_chosen (word ∷ []) = type_named word
 type_chosen (word ∷ more ∷ words) = None
 
--- the status at an end of the lines, and what is said there (no public clause cites these)
+-- The status at an end of the lines, and what is said there. No public clause cites these.
 abbrev pub status_at : {X : Type 0} → Result X LinesFault → ℕ
 status_at (Ok nothing) = 0
 status_at (Err Memory) = 3
