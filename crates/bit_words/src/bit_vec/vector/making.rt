@@ -30,7 +30,8 @@ impl From<AllocError> for BitsError {
 impl BitVec<u32> {
     /// The empty list, over blocks of 32 bits. Takes no memory.
     pub fn new(alloc: Global) -> Self
-        ensures { result.values ≡ [] }
+        ensures values { result.values ≡ [] }
+        ensures room { result.room ≡ 0 }
     {
         BitVec::new_general(alloc)
     }
@@ -56,7 +57,8 @@ impl BitVec<u32> {
 impl<B: BitBlock> BitVec<B> {
     /// The empty list. Takes no memory.
     pub fn new_general(alloc: Global) -> Self
-        ensures { result.values ≡ [] }
+        ensures values { result.values ≡ [] }
+        ensures room { result.room ≡ 0 }
     {
         BitVec {
             blocks: Vec::new(alloc),
