@@ -42,7 +42,7 @@ fn push_ones<B: BitBlock>(blocks: &mut Vec<B>, len: usize)
     push_copies(blocks, whole, all_ones());
     let place = place_in_block::<B>(len);
     if place != 0 {
-        push_copies(blocks, whole + 1, ones_below(place));
+        blocks.push_reserved(ones_below(place));
     }
 }
 
