@@ -79,7 +79,7 @@ impl<B: BitBlock> BitVec<B> {
         ensures room { self.old.room ≤ self.new.room }
     {
         let missing = other.blocks.len().saturating_sub(self.blocks.len());
-        self.blocks.reserve(missing)?;
+        self.blocks.reserve_exact(missing)?;
         self.blocks.clear();
         self.blocks.extend_from_slice(&other.blocks).unwrap();
         self.len = other.len;
