@@ -3,8 +3,8 @@ ghost use Rattle.std.specs.Prelude.{◌≡◌, ◌+◌, ◌<◌, ◌≤◌, [], 
 
 use super::BitVec;
 use crate::bit_vec::BitBlock;
-use crate::bit_vec::changes::block_count;
-use crate::bit_vec::tidy::{append_values, fill_values, keep_values, set_value};
+use crate::bit_vec::changes::{block_count, put_value};
+use crate::bit_vec::tidy::{append_values, fill_values, keep_values};
 use std::alloc::AllocError;
 
 impl<B: BitBlock> BitVec<B> {
@@ -15,7 +15,7 @@ impl<B: BitBlock> BitVec<B> {
         ensures values { self.new.values ≡ slice_set self.old.values i bit }
         ensures room { self.new.room ≡ self.old.room }
     {
-        set_value(&mut self.blocks, self.len, i, bit);
+        put_value(&mut self.blocks, i, bit);
     }
 
     /// Makes every value be `bit`. Writes each block once.
