@@ -1,4 +1,4 @@
-ghost use Rattle.std.specs.Prelude.{◌≡◌, ◌≤◌, ◌↔◌, All, IsTrue, false, length, map, slice_get};
+ghost use Rattle.std.specs.Prelude.{◌≡◌, ◌↔◌, All, IsTrue, false, length, map, slice_get};
 ghost use Rattle.bit_words.specs.Bits.{blocks_of, IsWithinRoom};
 
 use super::changes::{are_zero, value_of};
