@@ -1,4 +1,4 @@
--- The number of what an operator gives, from its digits. `words.rt` names the set.
+-- The number of what an operator gives, from its digits. `words.rt` names the set, and `LowestLemmas` one of it.
 use Rattle.std.proofs.Common.{◌≡◌, ℕ, ◌+◌, ◌-◌, ◌*◌, ◌/◌, ◌%◌, ◌^◌, ◌<◌, refl, bit_and, bit_or, sym, ap, ◌∙◌, subst, arith, ⊎_elim}
 use Rattle.std.specs.Int.{bit_at}
 use Rattle.std.proofs.lemmas.Bool.{cases_lt}

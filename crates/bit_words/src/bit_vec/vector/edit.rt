@@ -8,7 +8,7 @@ use crate::bit_vec::tidy::{append_values, fill_values, keep_values};
 use std::alloc::AllocError;
 
 impl<B: BitBlock> BitVec<B> {
-    /// Makes the value at `i` be `bit`. Constant time.
+    /// Makes the value at `i` be `bit`, where `i` is below [`len`](Self::len). Constant time.
     #[inline]
     pub fn set(&mut self, i: usize, bit: bool)
         requires { i < length self.old.values }
@@ -48,8 +48,9 @@ impl<B: BitBlock> BitVec<B> {
         self.len = 0;
     }
 
-    /// Appends `n` values `bit`. Writes each new block once, and the old last one where it takes ones;
-    /// moves the old blocks where the room was missing. Fails only there, and then nothing changed.
+    /// Appends `n` values `bit`; the new length must fit a `usize`. Writes each new block once, and the
+    /// old last one where it takes ones; moves the old blocks where the room was missing. Fails only
+    /// there, and then nothing changed.
     pub fn grow(&mut self, n: usize, bit: bool) -> Result<(), AllocError>
         requires { length self.old.values + n ≤ usize.MAX }
         ensures ok { OnOk result (self.new.values ≡ self.old.values ++ replicate n bit) }
@@ -69,8 +70,8 @@ impl<B: BitBlock> BitVec<B> {
         Ok(())
     }
 
-    /// Takes over the list of `other`, in one pass over its blocks. Fails only where the room was
-    /// missing, and then nothing changed.
+    /// Takes over the list of `other`, in one pass over its blocks. Where the room was missing it asks
+    /// for that of `other` and may move the old blocks. Fails only there, and then nothing changed.
     pub fn clone_from(&mut self, other: &Self) -> Result<(), AllocError>
         ensures ok { OnOk result (self.new.values ≡ other.now.values) }
         ensures err { OnErr result (self.new ≡ self.old) }
