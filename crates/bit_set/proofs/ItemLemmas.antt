@@ -1,5 +1,5 @@
 -- Items that come into a set one by one.
-use Rattle.std.proofs.Common.{◌<◌, ◌≡◌, ◌≢◌, ℕ, ◌+◌, ◌↔◌, max, Bool, List, [], ◌∷◌, ◌++◌, length, refl, sym, ap, ◌∙◌, arith}
+use Rattle.std.proofs.Common.{◌<◌, ◌≤◌, ◌≡◌, ◌≢◌, ℕ, ◌+◌, ◌↔◌, max, Bool, List, [], ◌∷◌, ◌++◌, length, refl, sym, ap, ◌∙◌, arith}
 use Rattle.bit_set.specs.Sets.{elements, put, put_all, bound_of}
 use Rattle.bit_set.specs.Effects.{TakesIn}
 use Rattle.bit_set.specs.Bounds.{greatest}
@@ -31,3 +31,9 @@ IsRefusal-fault (Memory fault) item room is = (λ e. cc, (λ e. cc, λ e. absurd
 -- what items make of a list with no value
 pub TakesIn-empty : (items : List ℕ) (old new : List Bool) → old ≡ [] → TakesIn items old new → (elements new ≡ put_all [] items) × (length new ≡ bound_of items)
 TakesIn-empty items old new is took = (took.members ∙ ap (λ bs. put_all (elements bs) items) is, omega (arith, took.long, ap length is))
+
+-- the item that is refused lies past all that came in
+pub TakesIn-past : (items : List ℕ) (item : ℕ) (old new : List Bool) (fault : SetError) (room : ℕ) → old ≡ [] → TakesIn items old new → length new ≤ item → IsRefusal fault item room → (bound_of items ≤ item) × (item ≤ greatest)
+TakesIn-past items item old new Element room is took past refused = (omega (arith, took.long, past, ap length is), omega (arith, refused))
+TakesIn-past items item old new Length room is took past refused = absurd refused
+TakesIn-past items item old new (Memory fault) room is took past refused = (omega (arith, took.long, past, ap length is), omega (arith, refused.1))

@@ -1,5 +1,5 @@
 -- Walks over the elements of a set, block by block.
-use Rattle.std.specs.Prelude.{◌≡◌, ℕ, ◌+◌, ◌-◌, ◌*◌, ◌^◌, ◌≤◌, Bool, nat_lt, if◌then◌else◌, List, [], length, Option, Some, None, MatchOption}
+use Rattle.std.specs.Prelude.{◌≡◌, ℕ, ◌+◌, ◌-◌, ◌*◌, ◌^◌, ◌<◌, ◌≤◌, Bool, nat_lt, if◌then◌else◌, List, [], length, Option, Some, None, MatchOption}
 use Rattle.std.specs.Iterator.{YieldsFirst}
 use Rattle.bit_words.specs.Bits.{blocks_for}
 use Rattle.bit_set.specs.Sets.{elements}
@@ -30,6 +30,8 @@ pub record IsAtStart (w : ℕ) (values : List Bool) (s : Walk) : Type 0 where
   pub left : s.left ≡ elements values
   pub pulls : s.pulls ≡ 1
   pub blocks : s.blocks ≡ blocks_for w (length values) - 1
+  -- so that the elements can be counted
+  pub few : length s.left < 2 ^ 64
 
 -- the digits of the block in hand and of the blocks past it, where that fits a `usize`
 abbrev pub bound_on_rest : ℕ → ℕ → Option ℕ

@@ -62,7 +62,7 @@ impl<'a, B: BitBlock> Iter<'a, B> {
         ones
     }
 
-    /// The same walk at the same place, whose count of pulls goes on. Constant time.
+    /// Another walk over what is left. It counts its pulls on from this one's. Constant time.
     #[inline]
     pub fn clone(&self) -> Self
         ensures { result ≡ self.now }
@@ -103,7 +103,7 @@ impl<'a, B: BitBlock> Iterator for Iter<'a, B> {
 }
 
 impl<B: BitBlock> BitSet<B> {
-    /// The elements in ascending order, each once. A walk may be left at any point.
+    /// A walk over the elements, in ascending order. Constant time.
     #[inline]
     pub fn iter(&self) -> Iter<'_, B>
         ensures left { result.left ≡ elements self.now.values }

@@ -21,9 +21,11 @@ impl<B: BitBlock> BitSet<B> {
         ensures unfit { IsErrOf result SetError.Element ↔ (value ≡ usize.MAX) }
         ensures fit { OnOk result (value < usize.MAX) }
         ensures refused { IfErr result (λ fault. IsRefusal fault value self.old.room) }
+        ensures past { OnErr result (length self.old.values ≤ value) }
         ensures err { OnErr result (self.new ≡ self.old) }
         ensures succeeds { value < self.old.room → IsOk result }
         ensures room { self.old.room ≤ self.new.room }
+        ensures kept { value < length self.old.values → self.new.room ≡ self.old.room }
     {
         let len = self.bits.len();
         if value == usize::MAX {
@@ -37,8 +39,8 @@ impl<B: BitBlock> BitSet<B> {
         Ok(new)
     }
 
-    /// Puts the items in, one by one. It stops at the first item that [`BitSet::insert`] refuses: the
-    /// items before it stay in, and the rest is dropped.
+    /// Puts the items in, one by one. Constant time an item, but for growths. It stops at the first
+    /// item that [`BitSet::insert`] refuses: the items before it stay in, and the rest is dropped.
     pub fn extend<I: Iterator<Item = usize> + Drop>(&mut self, iter: I) -> Result<(), SetError>
         requires can { I.can_next iter }
         requires ends { IsFinite (I.remaining iter) }
@@ -46,7 +48,8 @@ impl<B: BitBlock> BitSet<B> {
             × TakesIn items self.old.values self.new.values) }
         ensures err { IfErr result (λ fault. (items : List ℕ) × (item : ℕ) × (rest : I)
             × YieldsThen I.next_gives iter items (Some item) rest
-            × TakesIn items self.old.values self.new.values × IsRefusal fault item self.new.room) }
+            × TakesIn items self.old.values self.new.values × (length self.new.values ≤ item)
+            × IsRefusal fault item self.new.room) }
         ensures succeeds { HoldsAlong I.next_gives iter (All (λ item. item < self.old.room)) → IsOk result }
         ensures room { self.old.room ≤ self.new.room }
     {
@@ -62,7 +65,7 @@ impl<B: BitBlock> BitSet<B> {
         ensures answer { result ≡ has (elements self.old.values) value }
         ensures elements { elements self.new.values ≡ without (elements self.old.values) value }
         ensures length { length self.new.values ≡ length self.old.values }
-        ensures room { self.old.room ≤ self.new.room }
+        ensures room { self.new.room ≡ self.old.room }
     {
         let had = self.contains(value);
         if had {
@@ -75,7 +78,7 @@ impl<B: BitBlock> BitSet<B> {
     pub fn truncate(&mut self, len: usize)
         ensures elements { elements self.new.values ≡ those_below (elements self.old.values) len }
         ensures length { length self.new.values ≡ min (length self.old.values) len }
-        ensures room { self.old.room ≤ self.new.room }
+        ensures room { self.new.room ≡ self.old.room }
     {
         self.bits.truncate(len);
     }
@@ -84,7 +87,7 @@ impl<B: BitBlock> BitSet<B> {
     pub fn make_empty(&mut self)
         ensures elements { elements self.new.values ≡ [] }
         ensures length { length self.new.values ≡ length self.old.values }
-        ensures room { self.old.room ≤ self.new.room }
+        ensures room { self.new.room ≡ self.old.room }
     {
         self.bits.fill(false);
     }
@@ -94,7 +97,7 @@ impl<B: BitBlock> BitSet<B> {
     pub fn clear(&mut self)
         ensures elements { elements self.new.values ≡ [] }
         ensures length { length self.new.values ≡ length self.old.values }
-        ensures room { self.old.room ≤ self.new.room }
+        ensures room { self.new.room ≡ self.old.room }
     {
         self.make_empty();
     }
@@ -102,7 +105,7 @@ impl<B: BitBlock> BitSet<B> {
     /// Takes every element out and makes the length 0. The room stays. Constant time.
     pub fn reset(&mut self)
         ensures values { self.new.values ≡ [] }
-        ensures room { self.old.room ≤ self.new.room }
+        ensures room { self.new.room ≡ self.old.room }
     {
         self.bits.remove_all();
     }

@@ -11,7 +11,7 @@ use crate::{BitBlock, BitSet, SetError};
 use std::alloc::{AllocError, Global};
 
 impl<B: BitBlock> BitSet<B> {
-    /// The empty set of length 0. It takes no memory.
+    /// The empty set of length 0. Constant time; it takes no memory.
     #[inline]
     pub fn new_general(alloc: Global) -> Self
         ensures { result.values ≡ [] }
@@ -26,6 +26,7 @@ impl<B: BitBlock> BitSet<B> {
     pub fn with_capacity_general(alloc: Global, len: usize) -> Result<Self, AllocError>
         ensures elements { IfOk result (λ set. elements set.values ≡ []) }
         ensures length { IfOk result (λ set. length set.values ≡ len) }
+        ensures room { IfOk result (λ set. len ≤ set.room) }
         ensures empty { len ≡ 0 → IsOk result }
     {
         let bits = BitVec::from_elem_general(alloc, len, false)?;
@@ -40,8 +41,8 @@ impl<B: BitBlock> BitSet<B> {
         BitSet { bits: bit_vec }
     }
 
-    /// The set of the bits that are 1, those of each byte counted from the highest. Fails at
-    /// [`SetError::Length`] before it asks for memory, or where memory is refused.
+    /// The set of the bits that are 1, those of each byte counted from the highest. One step a byte.
+    /// Fails at [`SetError::Length`] before it asks for memory, or where memory is refused.
     pub fn from_bytes_general(alloc: Global, bytes: &[u8]) -> Result<Self, SetError>
         ensures values { IfOk result (λ set. set.values ≡ values_of_bytes bytes.now) }
         ensures elements { IfOk result (λ set. (q r : ℕ) → r < 8 → IsTrue (has (elements set.values) (8 * q + r)) ↔ (bit_at (slice_index bytes.now q) (7 - r) ≡ 1)) }
@@ -54,8 +55,9 @@ impl<B: BitBlock> BitSet<B> {
         Ok(BitSet { bits })
     }
 
-    /// The set of the items, as long as its greatest element asks. Fails at the first item that is
-    /// `usize::MAX`, or for which memory is refused; the rest of the items is dropped.
+    /// The set of the items, as long as its greatest element asks. Constant time an item, but for
+    /// growths. Fails at the first item that is `usize::MAX`, or for which memory is refused: one past
+    /// all items before it. The rest of the items is dropped.
     pub fn from_iter<I: Iterator<Item = usize> + Drop>(
         alloc: Global,
         iter: I,
@@ -65,7 +67,7 @@ impl<B: BitBlock> BitSet<B> {
         ensures ok { IfOk result (λ set. (items : List ℕ) × Drains I.next_gives iter items
             × (elements set.values ≡ put_all [] items) × (length set.values ≡ bound_of items)) }
         ensures err { IfErr result (λ fault. (items : List ℕ) × (item : ℕ) × (rest : I)
-            × YieldsThen I.next_gives iter items (Some item) rest × (bound_of items ≤ greatest)
+            × YieldsThen I.next_gives iter items (Some item) rest × (bound_of items ≤ item) × (item ≤ greatest)
             × (fault ≢ SetError.Length) × ((fault ≡ SetError.Element) ↔ (item ≡ greatest))) }
     {
         let mut set = Self::new_general(alloc);
@@ -73,7 +75,7 @@ impl<B: BitBlock> BitSet<B> {
         Ok(set)
     }
 
-    /// An equal set of the same length. Copies the blocks; fails only where memory is refused.
+    /// A set of its own over the same list. Copies each block once; fails only where memory is refused.
     pub fn clone(&self, alloc: Global) -> Result<Self, AllocError>
         ensures values { IfOk result (λ set. set.values ≡ self.now.values) }
         ensures empty { length self.now.values ≡ 0 → IsOk result }
@@ -96,6 +98,7 @@ impl BitSet<u32> {
     pub fn with_capacity(alloc: Global, len: usize) -> Result<Self, AllocError>
         ensures elements { IfOk result (λ set. elements set.values ≡ []) }
         ensures length { IfOk result (λ set. length set.values ≡ len) }
+        ensures room { IfOk result (λ set. len ≤ set.room) }
         ensures empty { len ≡ 0 → IsOk result }
     {
         BitSet::with_capacity_general(alloc, len)

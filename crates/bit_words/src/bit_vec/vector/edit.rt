@@ -53,14 +53,12 @@ impl<B: BitBlock> BitVec<B> {
     pub fn grow(&mut self, n: usize, bit: bool) -> Result<(), AllocError>
         requires { length self.old.values + n ≤ usize.MAX }
         ensures ok { OnOk result (self.new.values ≡ self.old.values ++ replicate n bit) }
+        ensures holds_values { OnOk result (length self.old.values + n ≤ self.new.room) }
         ensures err { OnErr result (self.new ≡ self.old) }
         ensures full { OnErr result (self.old.room < length self.old.values + n) }
         ensures succeeds { length self.old.values + n ≤ self.old.room → IsOk result }
         ensures room { self.old.room ≤ self.new.room }
     {
-        if n == 0 {
-            return Ok(());
-        }
         let len = self.len + n;
         let count = block_count::<B>(len);
         self.blocks.reserve(count - self.blocks.len())?;

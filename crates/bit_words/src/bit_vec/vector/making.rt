@@ -1,5 +1,5 @@
 // Calls that make a bit vector.
-ghost use Rattle.std.specs.Prelude.{◌≡◌, ◌*◌, ◌<◌, ◌↔◌, [], length, replicate, IfOk, IsErrOf, IsOk};
+ghost use Rattle.std.specs.Prelude.{◌≡◌, ◌*◌, ◌<◌, ◌≤◌, ◌↔◌, [], length, replicate, IfOk, IsErrOf, IsOk};
 ghost use Rattle.bit_words.specs.Bits.{values_of_bytes};
 ghost use Rattle.bit_words.specs.declared.bit_vec.vector.making.BitsError.TheVariants.{Memory};
 
@@ -38,6 +38,7 @@ impl BitVec<u32> {
     /// `n` times `bit`, over blocks of 32 bits. Writes each block once.
     pub fn from_elem(alloc: Global, n: usize, bit: bool) -> Result<Self, AllocError>
         ensures values { IfOk result (λ vector. vector.values ≡ replicate n bit) }
+        ensures holds_values { IfOk result (λ vector. n ≤ vector.room) }
         ensures empty { n ≡ 0 → IsOk result }
     {
         BitVec::from_elem_general(alloc, n, bit)
@@ -67,6 +68,7 @@ impl<B: BitBlock> BitVec<B> {
     /// `n` times `bit`. Writes each block once.
     pub fn from_elem_general(alloc: Global, n: usize, bit: bool) -> Result<Self, AllocError>
         ensures values { IfOk result (λ vector. vector.values ≡ replicate n bit) }
+        ensures holds_values { IfOk result (λ vector. n ≤ vector.room) }
         ensures empty { n ≡ 0 → IsOk result }
     {
         let mut vector = BitVec::new_general(alloc);

@@ -1,5 +1,5 @@
 use Rattle.std.proofs.lemmas.Result.{err_from_is_err_and}
-use Rattle.bit_set.proofs.ItemLemmas.{TakesIn-empty, IsRefusal-fault}
+use Rattle.bit_set.proofs.ItemLemmas.{TakesIn-empty, TakesIn-past, IsRefusal-fault}
 use Rattle.bit_set.proofs.set.BitSet.from_iter.Goals as goal
 
 pub returns-clause-ok : goal.returns-clause-ok
@@ -12,5 +12,6 @@ pub returns-in_err-extend-clause-err : goal.returns-in_err-extend-clause-err
 returns-in_err-extend-clause-err g c =
     let p = err_from_is_err_and c.from_residual.result c.from_residual.ensures.1 in
     let stopped = c.in_err-extend.ensures.err in
-    let fault = IsRefusal-fault c.in_err-extend.field-0.0 stopped.1 c.extend.new.self.room stopped.5 in
-    rw (p.1, p.2) (stopped.0, stopped.1, stopped.2, stopped.3, stopped.4.fit, fault.0, fault.1)
+    let fault = IsRefusal-fault c.in_err-extend.field-0.0 stopped.1 c.extend.new.self.room stopped.6 in
+    let past = TakesIn-past stopped.0 stopped.1 c.new_general-set.result.values c.extend.new.self.values c.in_err-extend.field-0.0 c.extend.new.self.room c.new_general-set.ensures stopped.4 stopped.5 stopped.6 in
+    rw (p.1, p.2) (stopped.0, stopped.1, stopped.2, stopped.3, past.0, past.1, fault.0, fault.1)

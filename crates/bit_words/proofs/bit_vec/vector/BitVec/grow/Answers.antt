@@ -1,8 +1,8 @@
-use Rattle.std.proofs.Common.{◌<◌, ◌+◌, length, ◌++◌, replicate, ◌∙◌, ap, ◌^◌, arith, rules}
+use Rattle.std.proofs.Common.{◌<◌, ◌+◌, length, vec_capacity, ◌++◌, replicate, ◌∙◌, ap, ◌^◌, arith, rules}
 use Rattle.std.proofs.lemmas.Result.{err_from_is_err_and}
 use Rattle.bit_words.proofs.StorageLemmas.{values_of-append}
 use Rattle.bit_words.proofs.TidyLemmas.{blocks_for-le}
-use Rattle.bit_words.proofs.VectorLemmas.{length_from_view, room_from_view, room_of-short}
+use Rattle.bit_words.proofs.VectorLemmas.{le-room_of, length_from_view, room_from_view, room_of-short}
 use Rattle.bit_words.proofs.bit_vec.vector.BitVec.grow.Goals as goal
 
 pub overflow_add-len : goal.overflow_add-len
@@ -32,3 +32,9 @@ pub returns-clause-ok : goal.returns-clause-ok
 returns-clause-ok g c =
     values_of-append _ _ _ _ _ _ (rw c.reserve.ensures.items at c.append_values.ensures.kept) c.append_values.ensures.added
     ∙ ap (λ v. v.values ++ replicate c.args.n c.args.bit) c.self.view_is
+
+pub returns-clause-holds_values : goal.returns-clause-holds_values
+returns-clause-holds_values g c =
+    let len = length_from_view _ _ _ _ _ c.self.view_is in
+    let enough = le-room_of g.B.BitBlock.width (vec_capacity c.append_values.new.blocks) (c.self.inside.len + c.args.n) g.met.B.BitBlock.width_law.positive (omega arith) (omega arith) in
+    omega (arith, len, enough)
