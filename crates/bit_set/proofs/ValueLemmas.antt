@@ -65,6 +65,9 @@ has-within bs v is = within bs v (sym (has-elements bs v) ∙ is)
     within (b ∷ bs) zero is = omega arith
     within (b ∷ bs) (suc v) is = let rest = within bs v is in omega (arith, rest)
 
+pub has-past : (bs : List Bool) (v : ℕ) → length bs ≤ v → has (elements bs) v ≡ false
+has-past bs v past = has-elements bs v ∙ get_or_past bs v false past
+
 -- no value is true exactly where the set is empty
 pub empty_where_all_false : (bs : List Bool) → All (λ bit. bit ≡ false) bs ↔ (elements bs ≡ [])
 empty_where_all_false bs = (

@@ -1,12 +1,14 @@
 -- What whole walks give, by one step after another.
-use Rattle.std.proofs.Common.{◌≡◌, ℕ, ◌+◌, ◌≤◌, max, Bool, List, [], ◌∷◌, length, Option, Some, None, refl, sym, ap, ◌∙◌, arith}
-use Rattle.std.specs.Iterator.{YieldsThen, Drains}
+use Rattle.std.proofs.Common.{◌≡◌, ℕ, ◌+◌, ◌-◌, ◌*◌, ◌/◌, ◌<◌, ◌≤◌, max, Bool, List, [], ◌∷◌, length, Option, Some, None, refl, sym, ap, ◌∙◌, arith}
+use Rattle.std.specs.Iterator.{Yields, YieldsThen, Drains}
+use Rattle.std.proofs.Math.Nat.{le_of_mul-le-mul_left, mul-sub, mul_comm}
+use Rattle.std.proofs.lemmas.Nat.{div-mul-add}
 use Rattle.bit_words.specs.Bits.{blocks_for}
 use Rattle.bit_set.specs.Sets.{elements}
 use Rattle.bit_set.specs.Walk.{Walk, Advances, IsWalkedOut, IsAtStart}
 
-pub walked_out : (s t : Walk) (items : List ℕ) → YieldsThen Advances s items None t → IsWalkedOut s items t
-walked_out s t [] run =
+pub walked_out : (w : ℕ) (s t : Walk) (items : List ℕ) → YieldsThen (Advances w) s items None t → IsWalkedOut s items t
+walked_out w s t [] run =
     let pulls = ap (λ walk. walk.pulls) run.1 in
     let blocks = ap (λ walk. walk.blocks) run.1 in
     record {
@@ -14,23 +16,39 @@ walked_out s t [] run =
       ended = run.2.item.1;
       pulled = omega (arith, run.2.pulled, pulls, blocks);
     }
-walked_out s t (x ∷ xs) run =
+walked_out w s t (x ∷ xs) run =
     let step = run.1.1 in
-    let rest = walked_out run.1.0 t xs (run.0, run.1.2, run.2) in
+    let rest = walked_out w run.1.0 t xs (run.0, run.1.2, run.2) in
     record {
       all = ap (λ ys. x ∷ ys) rest.all ∙ sym step.item;
       ended = rest.ended;
       pulled = omega (arith, rest.pulled, step.pulled);
     }
 
-pub walked_whole : (w : ℕ) (values : List Bool) (s t : Walk) (items : List ℕ) → IsAtStart w values s → YieldsThen Advances s items None t → (items ≡ elements values) × (t.pulls ≤ max 1 (blocks_for w (length values)) + 1)
+pub walked_whole : (w : ℕ) (values : List Bool) (s t : Walk) (items : List ℕ) → IsAtStart w values s → YieldsThen (Advances w) s items None t → (items ≡ elements values) × (t.pulls ≤ max 1 (blocks_for w (length values)) + 1)
 walked_whole w values s t items start run =
-    let out = walked_out s t items run in
+    let out = walked_out w s t items run in
     (out.all ∙ start.left, omega (arith, out.pulled, start.pulls, start.blocks))
 
-pub none_for_good : (s t : Walk) (r : Option ℕ) → s.left ≡ [] → Advances s r t → (r ≡ None) × (t.left ≡ [])
-none_for_good s t None ended step = (refl, step.item.1)
-none_for_good s t (Some x) ended step = absurd (let e = sym ended ∙ step.item in cc)
+pub none_for_good : (w : ℕ) (s t : Walk) (r : Option ℕ) → s.left ≡ [] → Advances w s r t → (r ≡ None) × (t.left ≡ [])
+none_for_good w s t None ended step = (refl, step.item.1)
+none_for_good w s t (Some x) ended step = absurd (let e = sym ended ∙ step.item in cc)
 
-pub counted : (s : Walk) (items : List ℕ) → Drains Advances s items → length items ≡ length s.left
-counted s items run = ap length (walked_out s run.0 items run.1).all
+pub counted : (w : ℕ) (s : Walk) (items : List ℕ) → Drains (Advances w) s items → length items ≡ length s.left
+counted w s items run = ap length (walked_out w s run.0 items run.1).all
+
+-- a walk goes along its blocks
+along : (w : ℕ) (s t : Walk) (items : List ℕ) → Yields (Advances w) s items t → t.place + w * t.blocks ≡ s.place + w * s.blocks
+along w s t [] run = sym (ap (λ walk. walk.place + w * walk.blocks) run)
+along w s t (x ∷ xs) run = along w run.0 t xs run.2 ∙ run.1.along
+
+-- after an item the block in hand is the one that has it
+pub in_hand : (w : ℕ) (values : List Bool) (s t : Walk) (items : List ℕ) (x : ℕ) → 0 < w → IsAtStart w values s → YieldsThen (Advances w) s items (Some x) t → t.blocks ≡ blocks_for w (length values) - 1 - x / w
+in_hand w values s t items x pos start run =
+    let past = blocks_for w (length values) - 1 in
+    let whole : t.place + w * t.blocks ≡ w * past = run.2.along ∙ along w s run.0 items run.1 ∙ omega (arith, start.place, ap (λ k. w * k) start.blocks) in
+    let few : t.blocks ≤ past = le_of_mul-le-mul_left (omega (arith, whole)) pos in
+    let first : t.place ≡ (past - t.blocks) * w = omega (arith, whole, mul-sub w past t.blocks, mul_comm w (past - t.blocks)) in
+    let number : (past - t.blocks) * w + (x - t.place) ≡ x = omega (arith, first, run.2.at.0) in
+    let block : x / w ≡ past - t.blocks = ap (λ n. n / w) (sym number) ∙ div-mul-add (past - t.blocks) w (x - t.place) (omega (arith, run.2.at)) in
+    omega (arith, few, block)

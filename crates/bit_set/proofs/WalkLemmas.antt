@@ -1,9 +1,9 @@
 -- What a pull and a taken item do to a walk.
-use Rattle.std.proofs.Common.{◌≡◌, ℕ, ◌+◌, ◌-◌, ◌*◌, ◌^◌, ◌<◌, ◌≤◌, ◌/◌, Bool, List, [], ◌∷◌, map, length, All, Option, Some, None, sum_by, count_ones, sym, ap, ◌∙◌, subst, arith}
+use Rattle.std.proofs.Common.{◌≡◌, ℕ, suc, ◌+◌, ◌-◌, ◌*◌, ◌^◌, ◌<◌, ◌≤◌, ◌/◌, Bool, List, [], ◌∷◌, map, length, All, Option, Some, None, sum_by, count_ones, sym, ap, ◌∙◌, subst, arith}
 use Rattle.std.specs.Prelude.{IfSome}
 use Rattle.std.specs.Option.{SomeIff, unwrap_or}
 use Rattle.std.specs.Iterator.{UpTo, at_most, YieldsFirst}
-use Rattle.std.proofs.Math.Nat.{mul-le-mul_left, mul-div-le}
+use Rattle.std.proofs.Math.Nat.{mul-suc, mul-le-mul_left, mul-div-le}
 use Rattle.std.proofs.lemmas.List.{length-map}
 use Rattle.std.proofs.lemmas.List.Elements.{All-nil, All-cons, All-head, All-tail, All-map, All-weaker, All-same, All-rest}
 use Rattle.std.proofs.lemmas.List.Sums.{sum_by-cons}
@@ -18,6 +18,10 @@ use Rattle.bit_set.proofs.PlaceLemmas.{places-nil, places-zero, places-lowest, p
 -- the blocks past the first are within the length
 past_fits : (w len past : ℕ) → past ≡ blocks_for w len - 1 → past ≤ len / w
 past_fits w len past is = omega arith
+
+-- a pull takes one block on
+pub pulled_along : (place w m n : ℕ) → n ≡ suc m → place + w + w * m ≡ place + w * n
+pulled_along place w m n is = let product = ap (λ k. w * k) is in omega (arith, product, mul-suc w m)
 
 module _ {X : Type 0} (w : ℕ) (n : X → ℕ) (b : X → Type 0) where
   -- what is left

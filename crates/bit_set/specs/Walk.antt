@@ -4,20 +4,23 @@ use Rattle.std.specs.Iterator.{YieldsFirst}
 use Rattle.bit_words.specs.Bits.{blocks_for}
 use Rattle.bit_set.specs.Sets.{elements}
 
--- What contracts see of a walk: the elements from its place on, how often it called `next` on its
--- block source, and how many blocks are past the block in hand.
+-- What contracts see of a walk: the elements that are left, how often it called `next` on its block
+-- source, the number that stands first in the block in hand, and how many blocks are past that block.
 pub record Walk : Type 0 where
   pub left : List ℕ
   pub pulls : ℕ
+  pub place : ℕ
   pub blocks : ℕ
 
--- A call of `next` on s gave r and left t: the first of what was left, or None at the end, which
--- stays. It pulled each block that it passed once at most, and once more where it found the end.
-pub record Advances (s : Walk) (r : Option ℕ) (t : Walk) : Type 0 where
+-- A call of `next` on s gave r and left t, over blocks of w: the first of what was left, or None at the
+-- end, which stays. It pulled each block that it passed once at most, and once more where it found the
+-- end. The block in hand is then the one that has the item, or the last.
+pub record Advances (w : ℕ) (s : Walk) (r : Option ℕ) (t : Walk) : Type 0 where
   pub item : YieldsFirst (λ walk. walk.left) s r t
   pub goes_on : s.pulls ≤ t.pulls
   pub pulled : MatchOption r (t.pulls ≤ s.pulls + s.blocks + 1) (λ _. t.pulls + t.blocks ≤ s.pulls + s.blocks)
-  pub passed : MatchOption r (t.blocks ≡ 0) (λ _. Unit {0})
+  pub along : t.place + w * t.blocks ≡ s.place + w * s.blocks
+  pub at : MatchOption r (t.blocks ≡ 0) (λ x. (t.place ≤ x) × (x < t.place + w))
 
 -- From s, the calls of `next` up to the first None gave the items and left t.
 pub record IsWalkedOut (s : Walk) (items : List ℕ) (t : Walk) : Type 0 where
@@ -29,6 +32,7 @@ pub record IsWalkedOut (s : Walk) (items : List ℕ) (t : Walk) : Type 0 where
 pub record IsAtStart (w : ℕ) (values : List Bool) (s : Walk) : Type 0 where
   pub left : s.left ≡ elements values
   pub pulls : s.pulls ≡ 1
+  pub place : s.place ≡ 0
   pub blocks : s.blocks ≡ blocks_for w (length values) - 1
   -- so that the elements can be counted
   pub few : length s.left < 2 ^ 64

@@ -1,6 +1,6 @@
 //! Laws of sets of numbers, as the contracts of functions that do nothing. A set is the list of its
 //! members in strictly ascending order.
-ghost use Rattle.std.specs.Prelude.{◌≡◌, ℕ, ◌+◌, ◌<◌, ◌≤◌, ◌↔◌, ◌==◌, ◌&&◌, ◌||◌, max, not, nat_lt, Bool, true, IsTrue, Some, None, Option, List, [], length, slice_get};
+ghost use Rattle.std.specs.Prelude.{◌≡◌, ℕ, ◌+◌, ◌-◌, ◌/◌, ◌<◌, ◌≤◌, ◌↔◌, ◌==◌, ◌&&◌, ◌||◌, max, not, nat_lt, Bool, true, IsTrue, Some, None, Option, List, [], length, slice_get};
 ghost use Rattle.std.specs.FinSet as set;
 ghost use Rattle.std.specs.Ordering.{nat_cmp};
 ghost use Rattle.std.specs.Iterator.{YieldsThen, Drains};
@@ -49,12 +49,15 @@ pub fn sets_are_finite_sets()
 
 /// What whole walks give. From any point on, the calls of `next` up to the first `None` give just the
 /// elements that are left, in their order, and pull at most once more than there are blocks past the
-/// block in hand. After it there are `None`s alone. From the making on there is at most one pull more
+/// block in hand. After it there are `None`s alone. After an item the block in hand is the one that has
+/// it, which fixes the blocks that `size_hint` counts. From the making on there is at most one pull more
 /// than there are blocks, and two where there is none. However `next` is called, it is these calls, so the
 /// number of items that generic code counts is the number of elements left.
 pub fn whole_walks<B: BitBlock + 'static>()
     ensures rest { (s t : Walk) (items : List ℕ) → YieldsThen ⟦<Iter<'static, B> as Iterator>⟧.next_gives s items None t → IsWalkedOut s items t }
     ensures whole { (values : List Bool) (s t : Walk) (items : List ℕ) → IsAtStart B.width values s → YieldsThen ⟦<Iter<'static, B> as Iterator>⟧.next_gives s items None t → (items ≡ elements values) × (t.pulls ≤ max 1 (blocks_for B.width (length values)) + 1) }
+    ensures in_hand { (values : List Bool) (s t : Walk) (items : List ℕ) (x : ℕ) → IsAtStart B.width values s
+        → YieldsThen ⟦<Iter<'static, B> as Iterator>⟧.next_gives s items (Some x) t → t.blocks ≡ blocks_for B.width (length values) - 1 - x / B.width }
     ensures for_good { (s t : Walk) (r : Option ℕ) → s.left ≡ [] → ⟦<Iter<'static, B> as Iterator>⟧.next_gives s r t → (r ≡ None) × (t.left ≡ []) }
     ensures count { (s : Walk) (items : List ℕ) → Drains ⟦<Iter<'static, B> as Iterator>⟧.next_gives s items → length items ≡ length s.left }
 {}

@@ -28,7 +28,7 @@ impl<'a, B: BitBlock> Model for Iter<'a, B> {
 
     ghost Value = { Walk };
 
-    ghost view = { λ it. record { left = places B.width it.place (B.number it.block ∷ map B.number it.blocks.left); pulls = it.blocks.pulls; blocks = length it.blocks.left } };
+    ghost view = { λ it. record { left = places B.width it.place (B.number it.block ∷ map B.number it.blocks.left); pulls = it.blocks.pulls; place = it.place; blocks = length it.blocks.left } };
 
     ghost invariant = { λ it. IsWalk B.width B.number B.is_block it.place it.block it.blocks.left };
 }
@@ -39,6 +39,7 @@ impl<'a, B: BitBlock> Iter<'a, B> {
     pub(crate) fn over(bits: &'a BitVec<B>) -> Self
         ensures left { result.left ≡ elements bits.now.values }
         ensures pulls { result.pulls ≡ 1 }
+        ensures place { result.place ≡ 0 }
         ensures blocks { result.blocks ≡ blocks_for B.width (length bits.now.values) - 1 }
         ensures fits { length result.left < 2 ^ 64 }
     {
@@ -78,7 +79,7 @@ impl<'a, B: BitBlock> Iter<'a, B> {
 impl<'a, B: BitBlock> Iterator for Iter<'a, B> {
     type Item = usize;
 
-    ghost next_gives = { Advances };
+    ghost next_gives = { Advances B.width };
 
     ghost remaining = { item_count (λ walk. walk.left) };
 
@@ -108,6 +109,7 @@ impl<B: BitBlock> BitSet<B> {
     pub fn iter(&self) -> Iter<'_, B>
         ensures left { result.left ≡ elements self.now.values }
         ensures pulls { result.pulls ≡ 1 }
+        ensures place { result.place ≡ 0 }
         ensures blocks { result.blocks ≡ blocks_for B.width (length self.now.values) - 1 }
         ensures fits { length result.left < 2 ^ 64 }
     {

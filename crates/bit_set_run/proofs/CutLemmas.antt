@@ -1,9 +1,10 @@
 -- The parts of a text that is cut at a byte.
-use Rattle.std.proofs.Common.{◌≡◌, ◌≢◌, ℕ, false, eqb, List, [], ◌∷◌, ◌++◌, inl, inr, ap, sym, ◌∙◌, refl, ne_eqb, eq-eqb}
+use Rattle.std.proofs.Common.{◌≡◌, ◌≢◌, ℕ, true, false, not, ◌==◌, eqb, List, [], ◌∷◌, ◌++◌, inl, inr, ap, sym, ◌∙◌, refl, ne_eqb, eq-eqb}
+use Rattle.std.proofs.lemmas.Bool.{false≢true}
 use Rattle.std.proofs.lemmas.Bool.Decides.{eqb_tells}
 use Rattle.std.proofs.lemmas.List.Elements.{All-nil, All-cons, All-head, All-tail, All-weaker}
 use Rattle.std.proofs.lemmas.List.Splits.{slice_split_none, slice_split_at, join_with_byte-slice_split}
-use Rattle.std.specs.List.{All, join_with_byte, onto_first}
+use Rattle.std.specs.List.{All, list_all, join_with_byte, onto_first}
 use Rattle.bit_set_run.specs.Cuts.{Lacks, parts_at}
 
 -- where the byte is lacking there is one part
@@ -16,6 +17,14 @@ pub parts_at-first : (byte : ℕ) (text rest : List ℕ) → Lacks byte text →
 parts_at-first byte text rest lacks =
     slice_split_at (λ b. eqb b byte) text byte rest
     (All-weaker (λ b. b ≢ byte) (λ b. eqb b byte ≡ false) (λ b other. ne_eqb b byte other) text lacks) (eq-eqb byte byte refl)
+
+-- a text lacks the byte where a test of each of its bytes says so
+pub lacks_by_test : (byte : ℕ) (text : List ℕ) → list_all (λ b. not (b == byte)) text ≡ true → Lacks byte text
+lacks_by_test byte [] is = All-nil (λ b. b ≢ byte)
+lacks_by_test byte (b ∷ bs) is = elim (eqb_tells b byte) [
+  | inl same ↦ absurd (false≢true (rw same.0 at is))
+  | inr other ↦ All-cons (λ x. x ≢ byte) b bs other.1 (lacks_by_test byte bs (rw other.0 at is))
+]
 
 onto_lacks : (byte b : ℕ) (parts : List (List ℕ)) → b ≢ byte → All (Lacks byte) parts → All (Lacks byte) (onto_first b parts)
 onto_lacks byte b [] other lack =

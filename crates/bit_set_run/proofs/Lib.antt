@@ -1,4 +1,5 @@
 pub mod CutLemmas
+pub mod ExitLemmas
 pub mod LineLemmas
 pub mod OutputLemmas
 pub mod ReadingLemmas

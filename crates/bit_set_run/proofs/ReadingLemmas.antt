@@ -6,6 +6,7 @@ use Rattle.std.specs.Str.{all_ascii_digits, bytes_eq}
 use Rattle.std.specs.Str.Parse.{digits_value}
 use Rattle.std.proofs.lemmas.Int.Digits.{digits_value_more}
 use Rattle.std.proofs.lemmas.Str.{digit_value_digit}
+use Rattle.std.proofs.lemmas.Bool.{and_parts, and_right}
 use Rattle.std.proofs.lemmas.Bool.Decides.{eqb_tells}
 use Rattle.std.specs.List.{list_all}
 use Rattle.std.specs.Option.{option_and_then, option_map, option_zip}
@@ -20,19 +21,11 @@ use Rattle.bit_set_run.specs.Run.{greatest}
 use Rattle.bit_set_run.specs.Words.{words_of}
 use Rattle.bit_set_run.proofs.CutLemmas.{parts_at-first, parts_at-one, parts_some}
 
-pub and_parts : (a b : Bool) → (a && b) ≡ true → (a ≡ true) × (b ≡ true)
-and_parts true b e = (refl, e)
-and_parts false b e = cc
-
-no_second : (a b : Bool) → b ≡ false → (a && b) ≡ false
-no_second true b e = e
-no_second false b e = refl
-
 -- a byte that is no digit
 pub not_all_digits : (ds : List ℕ) (i : ℕ) → i < length ds → is_ascii_digit (get_or ds i 0) ≡ false → all_ascii_digits ds ≡ false
 not_all_digits [] i below other = absurd (omega arith)
 not_all_digits (d ∷ ds) zero below other = rw other
-not_all_digits (d ∷ ds) (suc i) below other = no_second (is_ascii_digit d) (all_ascii_digits ds) (not_all_digits ds i (omega arith) other)
+not_all_digits (d ∷ ds) (suc i) below other = and_right (is_ascii_digit d) (all_ascii_digits ds) (not_all_digits ds i (omega arith) other)
 
 -- one more digit
 pub all_digits_more : (ds : List ℕ) (i : ℕ) → i < length ds → all_ascii_digits (take i ds) ≡ true → is_ascii_digit (get_or ds i 0) ≡ true → all_ascii_digits (take (suc i) ds) ≡ true
@@ -44,7 +37,7 @@ all_digits_more (d ∷ ds) (suc i) below so_far digit =
 
 -- with such a byte a word is no number
 pub number_of-other : (ds : List ℕ) (i : ℕ) → i < length ds → is_ascii_digit (get_or ds i 0) ≡ false → number_of ds ≡ None
-number_of-other ds i below other = rw (no_second (nat_lt 0 (length ds)) (all_ascii_digits ds) (not_all_digits ds i below other))
+number_of-other ds i below other = rw (and_right (nat_lt 0 (length ds)) (all_ascii_digits ds) (not_all_digits ds i below other))
 
 -- the number so far, with one more digit behind it
 pub held_more : (ds : List ℕ) (i : ℕ) (number next : Option ℕ) → i < length ds → IsAsciiDigit (get_or ds i 0) → ((n : ℕ) → number ≡ held n → next ≡ held (n * 10 + (get_or ds i 0 - 48))) → number ≡ held (digits_value 10 (take i ds)) → next ≡ held (digits_value 10 (take (i + 1) ds))

@@ -1,14 +1,13 @@
 -- A run, one command on.
-use Rattle.std.proofs.Common.{◌≡◌, ℕ, ◌+◌, ◌<◌, List, [], ◌∷◌, ◌++◌, length, get_or, take, append_assoc, refl, ap, sym, ◌∙◌}
-use Rattle.std.proofs.lemmas.List.{take_more, set-get_or}
+use Rattle.std.proofs.Common.{◌≡◌, ℕ, ◌+◌, ◌<◌, ◌≤◌, ◌⊎◌, List, [], ◌∷◌, ◌++◌, length, get_or, take, append_assoc, refl, ap, sym, ◌∙◌}
+use Rattle.std.proofs.lemmas.List.{take_more}
 use Rattle.std.proofs.Common.{Result, Ok, Err, true, false, OnOk, OnErr}
 use Rattle.std.specs.Result.{is_err}
 use Rattle.std.proofs.lemmas.Option.{slice_get_read}
 use Rattle.std.proofs.lemmas.Bool.{true≢false}
 use Rattle.bit_set_run.specs.declared.commands.Command.{Command}
 use Rattle.bit_set_run.specs.declared.commands.Reply.{Reply}
-use Rattle.bit_set_run.specs.declared.commands.Command.TheVariants.{Insert, Remove, Contains, Extend, Truncate, Empty, Reset, Count, IsEmpty, Items as ItemsOf, Copy, RestIter}
-use Rattle.bit_set_run.specs.Run.{Sets, elements_before_greatest, step, run_of, LeftBy, StoppedAt}
+use Rattle.bit_set_run.specs.Run.{Sets, step, run_of, RefusedBy, StoppedAt}
 
 -- a run of commands and of one more
 pub sets-run_of_push : (sets : Sets) (commands : List Command) (command : Command) → (run_of sets (commands ++ command ∷ [])).sets ≡ (step (run_of sets commands).sets command).sets
@@ -45,34 +44,19 @@ pub when_no_error : {T E P : Type 0} (r : Result T E) → is_err r ≡ false →
 when_no_error (Ok x) none p = p
 when_no_error (Err e) none p = absurd (true≢false none)
 
--- where nothing is done, nothing is left to be said
-pub LeftBy-nothing : (sets : Sets) (command : Command) → LeftBy sets command sets
-LeftBy-nothing sets (Insert name n) = refl
-LeftBy-nothing sets (Remove name n) = refl
-LeftBy-nothing sets (Contains name n) = refl
-LeftBy-nothing sets (Extend name items) = ([], elements_before_greatest items, refl, sym (set-get_or sets name []))
-LeftBy-nothing sets (Truncate name n) = refl
-LeftBy-nothing sets (Empty name) = refl
-LeftBy-nothing sets (Reset name) = refl
-LeftBy-nothing sets (Count name) = refl
-LeftBy-nothing sets (IsEmpty name) = refl
-LeftBy-nothing sets (ItemsOf name) = refl
-LeftBy-nothing sets (Copy from to) = refl
-LeftBy-nothing sets (RestIter name n) = refl
-
 -- a run that stops at a command that it has read
 pub StoppedAt-here :
-    (place : ℕ) (commands : List Command) (old mid new : Sets) (old_replies mid_replies new_replies : List Reply) (command : Command)
+    (place : ℕ) (commands : List Command) (room : ℕ) (old mid new : Sets) (old_replies mid_replies new_replies : List Reply) (command : Command)
     → HasRun place commands old mid old_replies mid_replies
     → place < length commands → command ≡ get_or commands place command
-    → LeftBy mid command new → new_replies ≡ mid_replies
-    → StoppedAt place commands old new old_replies new_replies
-StoppedAt-here place commands old mid new old_replies mid_replies new_replies command so_far lt is left replies = record {
+    → new_replies ≡ mid_replies → ((room ≤ length mid_replies) × (new ≡ mid)) ⊎ RefusedBy mid command new
+    → StoppedAt place commands room old new old_replies new_replies
+StoppedAt-here place commands room old mid new old_replies mid_replies new_replies command so_far lt is replies stopped = record {
   within = lt;
   command = command;
   at = slice_get_read commands (length commands) place command refl lt is;
-  sets = rw so_far.sets at left;
   replies = replies ∙ so_far.replies;
+  sets = rw so_far.sets at (rw (sym replies) at stopped);
 }
 
 -- what holds at `Err` holds where there is an error

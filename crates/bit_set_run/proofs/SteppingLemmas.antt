@@ -24,6 +24,11 @@ none_greatest (n ∷ ns) fit =
     let other : eqb n greatest ≡ false = ne_eqb n greatest (λ e. omega (arith, e, fit)) in
     rw other (none_greatest ns (omega (arith, fit)))
 
+-- an item below it is before it
+pub before_taken : (item : ℕ) (rest : List ℕ) → item < greatest → elements_before_greatest (item ∷ rest) ≡ item ∷ elements_before_greatest rest
+before_taken item rest low =
+    let other : eqb item greatest ≡ false = ne_eqb item greatest (λ e. omega (arith, e, low)) in rw other refl
+
 -- where it stands behind them, it is found
 pub some_greatest : (front rest : List ℕ) → bound_of front ≤ greatest → list_any (λ n. eqb n greatest) (front ++ greatest ∷ rest) ≡ true
 some_greatest [] rest fit = refl
@@ -46,25 +51,25 @@ stands_before all items item front within is =
     ∙ append_assoc items (item ∷ []) (drop (length items + 1) all)
 
 -- a walk shows what is left of it
-pub walk_yields : (s : Walk) → YieldsList Advances (λ x. x) s s.left
-walk_yields s = YieldsList-from_shown Advances (λ x. x) (λ walk. walk.left) (λ s t step. ap length step.item.0) (λ s x t step. step.item) s
+pub walk_yields : (w : ℕ) (s : Walk) → YieldsList (Advances w) (λ x. x) s s.left
+walk_yields w s = YieldsList-from_shown (Advances w) (λ x. x) (λ walk. walk.left) (λ s t step. ap length step.item.0) (λ s x t step. step.item) s
 
-left_of_yields : (s t : Walk) (items : List ℕ) → Yields Advances s items t → s.left ≡ items ++ t.left
-left_of_yields s t [] run = ap (λ walk. walk.left) run
-left_of_yields s t (x ∷ xs) run = run.1.item ∙ ap (λ ys. x ∷ ys) (left_of_yields run.0 t xs run.2)
+left_of_yields : (w : ℕ) (s t : Walk) (items : List ℕ) → Yields (Advances w) s items t → s.left ≡ items ++ t.left
+left_of_yields w s t [] run = ap (λ walk. walk.left) run
+left_of_yields w s t (x ∷ xs) run = run.1.item ∙ ap (λ ys. x ∷ ys) (left_of_yields w run.0 t xs run.2)
 
 -- what is left behind some items and one more
-pub left_of_skipped : (s u : Walk) (n : ℕ) (r : Option ℕ) → SkipsThenYields Advances s n r u → u.left ≡ drop (n + 1) s.left
-left_of_skipped s u n None run =
+pub left_of_skipped : (w : ℕ) (s u : Walk) (n : ℕ) (r : Option ℕ) → SkipsThenYields (Advances w) s n r u → u.left ≡ drop (n + 1) s.left
+left_of_skipped w s u n None run =
     let t = run.1.0 in
-    let left = left_of_yields s t run.0 run.1.1 in
+    let left = left_of_yields w s t run.0 run.1.1 in
     let ended = run.1.2.item in
     let whole : s.left ≡ run.0 ++ [] = left ∙ ap (λ ys. run.0 ++ ys) ended.0 in
     let short : length s.left ≤ n + 1 = omega (arith, ap length whole, length-append run.0 [], run.2) in
     ended.1 ∙ sym (drop_all (n + 1) s.left short)
-left_of_skipped s u n (Some x) run =
+left_of_skipped w s u n (Some x) run =
     let t = run.1.0 in
-    let left = left_of_yields s t run.0 run.1.1 in
+    let left = left_of_yields w s t run.0 run.1.1 in
     let whole : s.left ≡ (run.0 ++ x ∷ []) ++ u.left = left ∙ ap (λ ys. run.0 ++ ys) run.1.2.item ∙ sym (append_assoc run.0 (x ∷ []) u.left) in
     let long : length (run.0 ++ x ∷ []) ≡ n + 1 = omega (arith, length-append run.0 (x ∷ []), run.2) in
     sym (ap (drop (n + 1)) whole ∙ drop_at (run.0 ++ x ∷ []) u.left (n + 1) long)
@@ -80,6 +85,10 @@ copied_over sets from to gone set_now source within apart at values =
 pub put_back : (sets : List Bits) (to : ℕ) (gone set_now : Bits) → set_now ≡ get_or sets to set_now → map kept (set (set sets to gone) to set_now) ≡ map kept sets
 put_back sets to gone set_now at =
     ap (map kept) (set-set sets to gone set_now ∙ ap (λ s. set sets to s) at ∙ set-get_or sets to set_now)
+
+-- the set of a name is the one at its place
+pub set_at : (sets : List Bits) (place name : ℕ) (d : Bits) → place ≡ name → place < length sets → get_or (map kept sets) name [] ≡ kept (get_or sets place d)
+set_at sets place name d at within = ap (λ p. get_or (map kept sets) p []) (sym at) ∙ get_or-map kept sets place d [] within
 
 -- one set of the array is changed by f
 pub change_is : (sets : List Bits) (place name : ℕ) (d set_now : Bits) (f : List ℕ → List ℕ) → place ≡ name → place < length sets → kept set_now ≡ f (kept (get_or sets place d)) → map kept (set sets place set_now) ≡ set (map kept sets) name (f (get_or (map kept sets) name []))

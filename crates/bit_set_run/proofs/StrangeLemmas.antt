@@ -8,13 +8,14 @@ use Rattle.std.specs.Map.{lookup}
 use Rattle.std.specs.Option.{option_and_then, option_zip}
 use Rattle.std.specs.Prelude.{codes}
 use Rattle.std.specs.Str.{all_ascii_digits, bytes_eq}
+use Rattle.std.proofs.lemmas.Bool.{and_parts, and_right}
 use Rattle.std.proofs.lemmas.Bool.Decides.{eqb_tells}
 use Rattle.bit_set_run.specs.declared.reading.BadLine.TheVariants.{BadCommand}
 use Rattle.bit_set_run.specs.declared.reading.Verb.{Verb}
 use Rattle.bit_set_run.specs.declared.reading.Verb.TheVariants as verb
 use Rattle.bit_set_run.specs.Reading.{all_numbers, command_of, is_plain, name_alone, name_and_number, name_and_numbers, name_of, number_of, reading, rest_of, spelled, two_names, verb_of, verbs}
 use Rattle.bit_set_run.specs.Words.{words_of}
-use Rattle.bit_set_run.proofs.ReadingLemmas.{and_parts, nothing}
+use Rattle.bit_set_run.proofs.ReadingLemmas.{nothing}
 
 -- a word that a command can have: not empty, and each byte is plain
 abbrev is_fit : List ℕ → Bool
@@ -24,10 +25,6 @@ is_fit (b ∷ bs) = is_plain b && list_all is_plain bs
 fit_is_plain : (word : List ℕ) → list_all is_plain word ≡ false → is_fit word ≡ false
 fit_is_plain [] strange = cc
 fit_is_plain (b ∷ bs) strange = strange
-
-second_false : (a b : Bool) → b ≡ false → (a && b) ≡ false
-second_false true b e = e
-second_false false b e = refl
 
 one_false : (a : Bool) → (a && true) ≡ false → a ≡ false
 one_false true e = e
@@ -81,14 +78,14 @@ name_of-unfit (letter ∷ more ∷ others) unfit = refl
 digits_are_plain : (ds : List ℕ) → list_all is_plain ds ≡ false → all_ascii_digits ds ≡ false
 digits_are_plain [] unfit = cc
 digits_are_plain (d ∷ ds) unfit = elim (is_plain d) as (λ v. v ≡ is_plain d → (v && list_all is_plain ds) ≡ false → all_ascii_digits (d ∷ ds) ≡ false) [
-  | true ↦ λ e rest. second_false (is_ascii_digit d) (all_ascii_digits ds) (digits_are_plain ds rest)
+  | true ↦ λ e rest. and_right (is_ascii_digit d) (all_ascii_digits ds) (digits_are_plain ds rest)
   | false ↦ λ e rest. rw (digit_is_plain d (sym e))
 ] refl unfit
 
 number_of-unfit : (word : List ℕ) → is_fit word ≡ false → number_of word ≡ None
 number_of-unfit [] unfit = refl
 number_of-unfit (d ∷ ds) unfit =
-    rw (second_false (nat_lt 0 (length (d ∷ ds))) (all_ascii_digits (d ∷ ds)) (digits_are_plain (d ∷ ds) unfit))
+    rw (and_right (nat_lt 0 (length (d ∷ ds))) (all_ascii_digits (d ∷ ds)) (digits_are_plain (d ∷ ds) unfit))
 
 name_alone-unfit : (words : List (List ℕ)) → list_all is_fit words ≡ false → name_alone words ≡ None
 name_alone-unfit [] unfit = refl
@@ -164,7 +161,7 @@ spelled-unfit (word ∷ words) unfit = elim (is_fit word) as (λ v. v ≡ is_fit
 contains_false : {X : Type 0} (test : X → Bool) (xs : List X) (x : X) (k : ℕ) → k < length xs → get_or xs k x ≡ x → test x ≡ false → list_all test xs ≡ false
 contains_false test [] x k below at fails = absurd (omega arith)
 contains_false test (y ∷ ys) x zero below at fails = rw (at, fails)
-contains_false test (y ∷ ys) x (suc k) below at fails = second_false (test y) (list_all test ys) (contains_false test ys x k (omega arith) at fails)
+contains_false test (y ∷ ys) x (suc k) below at fails = and_right (test y) (list_all test ys) (contains_false test ys x k (omega arith) at fails)
 
 reading-unfit : (line : List ℕ) → list_all is_fit (words_of line) ≡ false → reading line ≡ Err BadCommand
 reading-unfit line unfit = rw (spelled-unfit (words_of line) unfit)
@@ -186,7 +183,7 @@ words_of-plain (b ∷ bs) = elim (eqb_tells b 32) [
 plain_to_fit : (words : List (List ℕ)) → list_all (list_all is_plain) words ≡ false → list_all is_fit words ≡ false
 plain_to_fit [] strange = cc
 plain_to_fit (word ∷ words) strange = elim (list_all is_plain word) as (λ v. v ≡ list_all is_plain word → (v && list_all (list_all is_plain) words) ≡ false → list_all is_fit (word ∷ words) ≡ false) [
-  | true ↦ λ e rest. second_false (is_fit word) (list_all is_fit words) (plain_to_fit words rest)
+  | true ↦ λ e rest. and_right (is_fit word) (list_all is_fit words) (plain_to_fit words rest)
   | false ↦ λ e rest. rw (fit_is_plain word (sym e))
 ] refl strange
 

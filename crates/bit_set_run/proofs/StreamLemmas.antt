@@ -1,34 +1,9 @@
 -- Reads and writes one after another, at a reader and a writer that tell their bytes.
-use Rattle.std.proofs.Common.{◌≡◌, ℕ, ◌+◌, ◌<◌, ◌≤◌, List, [], ◌++◌, length, take, drop, Option, None, Some, refl, sym, ap, ◌∙◌, append_assoc, arith}
+use Rattle.std.proofs.Common.{◌≡◌, ℕ, ◌+◌, ◌<◌, ◌≤◌, List, [], ◌++◌, length, take, drop, Option, refl, sym, ap, ◌∙◌, append_assoc, arith}
+use Rattle.std.proofs.KnownBytes.{Appends-kept, Appends-nil, Appends-trans, Consumes-trans}
 use Rattle.std.proofs.lemmas.List.{append-nil, take-append-drop, length-append, length-take-le, take-append-le}
 use Rattle.std.specs.Io.KnownBytes.{Consumes, Appends, Keeps}
 use Rattle.bit_set_run.specs.Streams.{limit, GaveCount, HoldsBeginning}
-
-pub Consumes-nothing : (known : Option (List ℕ)) → Consumes known known []
-Consumes-nothing None = tt
-Consumes-nothing (Some xs) = refl
-
-pub Consumes-append : (old mid new : Option (List ℕ)) (xs ys : List ℕ) → Consumes old mid xs → Consumes mid new ys → Consumes old new (xs ++ ys)
-Consumes-append None mid new xs ys first second = tt
-Consumes-append (Some a) None new xs ys first second = absurd first
-Consumes-append (Some a) (Some b) None xs ys first second = absurd second
-Consumes-append (Some a) (Some b) (Some c) xs ys first second = first ∙ ap (λ t. xs ++ t) second ∙ sym (append_assoc xs ys c)
-
-pub Appends-nothing : (known : Option (List ℕ)) → Appends known known []
-Appends-nothing None = tt
-Appends-nothing (Some xs) = sym (append-nil xs)
-
-pub Appends-append : (old mid new : Option (List ℕ)) (xs ys : List ℕ) → Appends old mid xs → Appends mid new ys → Appends old new (xs ++ ys)
-Appends-append None mid new xs ys first second = tt
-Appends-append (Some a) None new xs ys first second = absurd first
-Appends-append (Some a) (Some b) None xs ys first second = absurd second
-Appends-append (Some a) (Some b) (Some c) xs ys first second = second ∙ ap (λ t. t ++ ys) first ∙ append_assoc a xs ys
-
-pub Appends-kept : (old mid new : Option (List ℕ)) (xs : List ℕ) → Appends old mid xs → Keeps mid new → Appends old new xs
-Appends-kept None mid new xs first kept = tt
-Appends-kept (Some a) None new xs first kept = absurd first
-Appends-kept (Some a) (Some b) None xs first kept = absurd kept
-Appends-kept (Some a) (Some b) (Some c) xs first kept = kept ∙ first
 
 -- the bytes so far, and a read more
 pub record HasRead (old new : Option (List ℕ)) (input : List ℕ) (turns : ℕ) : Type 0 where
@@ -43,13 +18,13 @@ pub record HasSent (old new : Option (List ℕ)) (text rest : List ℕ) : Type 0
   pub written : Appends old new sent
 
 pub HasSent-start : (known : Option (List ℕ)) (text : List ℕ) → HasSent known known text text
-HasSent-start known text = record { sent = []; parts = refl; written = Appends-nothing known }
+HasSent-start known text = record { sent = []; parts = refl; written = Appends-nil known }
 
 pub HasSent-more : (old mid new : Option (List ℕ)) (text rest : List ℕ) (n : ℕ) → HasSent old mid text rest → Appends mid new (take n rest) → HasSent old new text (drop n rest)
 HasSent-more old mid new text rest n so_far write = record {
   sent = so_far.sent ++ take n rest;
   parts = so_far.parts ∙ ap (λ t. so_far.sent ++ t) (sym (take-append-drop n rest)) ∙ sym (append_assoc so_far.sent (take n rest) (drop n rest));
-  written = Appends-append old mid new so_far.sent (take n rest) so_far.written write;
+  written = Appends-trans old mid new so_far.sent (take n rest) so_far.written write;
 }
 
 -- what was sent before a write that failed is a beginning
@@ -71,7 +46,7 @@ HasRead-more old mid new input buffer behind turns n so_far read within some sma
     let piece : take n (buffer ++ behind) ≡ take n buffer = take-append-le n buffer behind within in
     let long : length (take n buffer) ≡ n = length-take-le n buffer within in
     rw piece record {
-      taken = Consumes-append old mid new input (take n buffer) so_far.taken read;
+      taken = Consumes-trans old mid new input (take n buffer) so_far.taken read;
       small = rw (length-append, long) small;
       turn = rw (length-append, long) (omega (arith, so_far.turn, some));
     }
@@ -83,6 +58,6 @@ pub GaveCount-past :
     → GaveCount old new (limit + 1)
 GaveCount-past old mid new input buffer turns n so_far read within room past = record {
   bytes = input ++ take n buffer;
-  taken = Consumes-append old mid new input (take n buffer) so_far.taken read;
+  taken = Consumes-trans old mid new input (take n buffer) so_far.taken read;
   count_is = let long : length (take n buffer) ≡ n = length-take-le n buffer within in rw (length-append, long) (omega (arith, within, room, past));
 }

@@ -1,16 +1,16 @@
 -- The text of a list of numbers, an item at a time.
-use Rattle.std.proofs.Common.{◌≡◌, ◌≢◌, ℕ, zero, suc, ◌+◌, ◌/◌, ◌%◌, ◌<◌, ◌≤◌, Bool, true, false, not, ◌&&◌, ◌==◌, nat_lt, if◌then◌else◌, inl, inr, List, [], ◌∷◌, ◌++◌, length, take, get_or, ap, sym, ◌∙◌, refl, arith, append_assoc, append-nil}
+use Rattle.std.proofs.Common.{◌≡◌, ◌≢◌, ℕ, zero, suc, ◌+◌, ◌/◌, ◌%◌, ◌<◌, ◌≤◌, Bool, true, false, ◌==◌, nat_lt, if◌then◌else◌, List, [], ◌∷◌, ◌++◌, length, take, get_or, ap, sym, ◌∙◌, refl, arith, append_assoc, append-nil}
 use Rattle.std.proofs.lemmas.Grind.{flat_map-append}
 use Rattle.std.proofs.lemmas.List.{take_more}
-use Rattle.std.proofs.lemmas.Bool.Decides.{eqb_tells}
 use Rattle.std.proofs.lemmas.List.Elements.{All-append, All-cons, All-nil}
 use Rattle.std.specs.Fmt.{digit_glyph, digits, digits_onto}
-use Rattle.std.specs.List.{flat_map, join_by, list_all}
+use Rattle.std.specs.List.{flat_map, join_by}
 use Rattle.bit_set_run.specs.declared.commands.Reply.{Reply}
 use Rattle.bit_set_run.specs.declared.commands.Reply.TheVariants.{Truth, Done, Number, Items, Rest, Element, Same}
 use Rattle.bit_set_run.specs.declared.reading.BadLine.{BadLine}
 use Rattle.bit_set_run.specs.declared.reading.BadLine.TheVariants.{BadCommand, BadNumber}
 use Rattle.bit_set_run.specs.Cuts.{Lacks}
+use Rattle.bit_set_run.proofs.CutLemmas.{lacks_by_test}
 use Rattle.bit_set_run.specs.Texts.{items_text, text_of, text_of_bad}
 use Rattle.std.specs.Prelude.{codes, decimal}
 
@@ -35,16 +35,6 @@ items_first out (x ∷ xs) zero none below = simp (append_assoc, append-nil)
 items_first out (x ∷ xs) (suc i) none below = absurd (omega arith)
 
 -- No text of an answer has a byte 10 in it.
-wrong : (rest : Bool) → (false && rest) ≡ true → ⊥
-wrong rest e = cc
-
-by_test : (text : List ℕ) → list_all (λ b. not (b == 10)) text ≡ true → Lacks 10 text
-by_test [] is = All-nil (λ b. b ≢ 10)
-by_test (b ∷ bs) is = elim (eqb_tells b 10) [
-  | inl same ↦ absurd (wrong (list_all (λ x. not (x == 10)) bs) (rw same.0 at is))
-  | inr other ↦ All-cons (λ x. x ≢ 10) b bs other.1 (by_test bs (rw other.0 at is))
-]
-
 either : (b : Bool) (xs ys : List ℕ) → Lacks 10 xs → Lacks 10 ys → Lacks 10 (if b then xs else ys)
 either true xs ys left right = left
 either false xs ys left right = right
@@ -70,7 +60,7 @@ others_lack : (ns : List ℕ) → Lacks 10 (flat_map (λ n. (44 ∷ 32 ∷ []) +
 others_lack [] = All-nil (λ b. b ≢ 10)
 others_lack (n ∷ ns) =
     All-append (λ b. b ≢ 10) ((44 ∷ 32 ∷ []) ++ decimal n) (flat_map (λ m. (44 ∷ 32 ∷ []) ++ decimal m) ns)
-    (All-append (λ b. b ≢ 10) (44 ∷ 32 ∷ []) (decimal n) (by_test (44 ∷ 32 ∷ []) refl) (decimal-lacks n))
+    (All-append (λ b. b ≢ 10) (44 ∷ 32 ∷ []) (decimal n) (lacks_by_test 10 (44 ∷ 32 ∷ []) refl) (decimal-lacks n))
     (others_lack ns)
 
 items_lack : (ns : List ℕ) → Lacks 10 (join_by decimal (44 ∷ 32 ∷ []) ns)
@@ -80,21 +70,21 @@ items_lack (n ∷ ns) = All-append (λ b. b ≢ 10) (decimal n) (flat_map (λ m.
 items_text-lacks : (ns : List ℕ) → Lacks 10 (items_text ns)
 items_text-lacks ns =
     All-append (λ b. b ≢ 10) (codes "{" ++ join_by decimal (codes ", ") ns) (codes "}")
-    (All-append (λ b. b ≢ 10) (codes "{") (join_by decimal (codes ", ") ns) (by_test (codes "{") refl) (items_lack ns))
-    (by_test (codes "}") refl)
+    (All-append (λ b. b ≢ 10) (codes "{") (join_by decimal (codes ", ") ns) (lacks_by_test 10 (codes "{") refl) (items_lack ns))
+    (lacks_by_test 10 (codes "}") refl)
 
 pub text_of-lacks : (reply : Reply) → Lacks 10 (text_of reply)
-text_of-lacks (Truth true) = by_test (codes "true") refl
-text_of-lacks (Truth false) = by_test (codes "false") refl
+text_of-lacks (Truth true) = lacks_by_test 10 (codes "true") refl
+text_of-lacks (Truth false) = lacks_by_test 10 (codes "false") refl
 text_of-lacks (Number n) = decimal-lacks n
 text_of-lacks (Items ns) = items_text-lacks ns
-text_of-lacks Done = by_test (codes "ok") refl
+text_of-lacks Done = lacks_by_test 10 (codes "ok") refl
 text_of-lacks (Rest count ns) =
     All-append (λ b. b ≢ 10) (decimal count ++ codes " ") (items_text ns)
-    (All-append (λ b. b ≢ 10) (decimal count) (codes " ") (decimal-lacks count) (by_test (codes " ") refl)) (items_text-lacks ns)
-text_of-lacks Same = by_test (codes "refused same") refl
-text_of-lacks Element = by_test (codes "refused element") refl
+    (All-append (λ b. b ≢ 10) (decimal count) (codes " ") (decimal-lacks count) (lacks_by_test 10 (codes " ") refl)) (items_text-lacks ns)
+text_of-lacks Same = lacks_by_test 10 (codes "refused same") refl
+text_of-lacks Element = lacks_by_test 10 (codes "refused element") refl
 
 pub text_of_bad-lacks : (bad : BadLine) → Lacks 10 (text_of_bad bad)
-text_of_bad-lacks BadCommand = by_test (codes "bad command") refl
-text_of_bad-lacks BadNumber = by_test (codes "bad number") refl
+text_of_bad-lacks BadCommand = lacks_by_test 10 (codes "bad command") refl
+text_of_bad-lacks BadNumber = lacks_by_test 10 (codes "bad number") refl

@@ -1,6 +1,10 @@
 -- The words that the program takes, and how it ends.
-use Rattle.std.specs.Prelude.{ℕ, Bool, true, false, ◌||◌, List, [], ◌∷◌, codes}
+use Rattle.std.specs.Prelude.{ℕ, Bool, true, false, ◌||◌, if◌then◌else◌, List, [], ◌∷◌, codes, Option, None, Some, Result, Ok, Err}
 use Rattle.std.specs.Str.{bytes_eq}
+use Rattle.bit_set_run.specs.declared.starting.BlockType.{BlockType}
+use Rattle.bit_set_run.specs.declared.starting.BlockType.TheVariants.{U8, U16, U32, U64, Usize}
+use Rattle.bit_set_run.specs.declared.streams.LinesFault.{LinesFault}
+use Rattle.bit_set_run.specs.declared.streams.LinesFault.TheVariants.{Read, TooLarge, Memory, Write}
 
 -- whether a word names a block type
 abbrev pub names_block : List ℕ → Bool
@@ -21,3 +25,34 @@ pub data IsExit : ℕ → List ℕ → Type 0 where
   unread : IsExit 4 (codes "read failed")
   unwritten : IsExit 4 (codes "write failed")
   too_large : IsExit 5 (codes "input too large")
+
+-- The block type that a word names. No public clause cites this.
+abbrev pub type_named : List ℕ → Option BlockType
+type_named word =
+    if bytes_eq word (codes "u8") then Some U8
+    else if bytes_eq word (codes "u16") then Some U16
+    else if bytes_eq word (codes "u32") then Some U32
+    else if bytes_eq word (codes "u64") then Some U64
+    else if bytes_eq word (codes "usize") then Some Usize
+    else None
+
+-- The block type that the words choose. No public clause cites this.
+abbrev pub type_chosen : List (List ℕ) → Option BlockType
+type_chosen [] = Some U32
+type_chosen (word ∷ []) = type_named word
+type_chosen (word ∷ more ∷ words) = None
+
+-- The status at an end of the lines, and what is said there. No public clause cites these.
+abbrev pub status_at : {X : Type 0} → Result X LinesFault → ℕ
+status_at (Ok nothing) = 0
+status_at (Err Memory) = 3
+status_at (Err Read) = 4
+status_at (Err Write) = 4
+status_at (Err TooLarge) = 5
+
+abbrev pub said_at : {X : Type 0} → Result X LinesFault → List ℕ
+said_at (Ok nothing) = []
+said_at (Err Memory) = codes "memory refused"
+said_at (Err Read) = codes "read failed"
+said_at (Err Write) = codes "write failed"
+said_at (Err TooLarge) = codes "input too large"

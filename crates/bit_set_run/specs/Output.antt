@@ -19,7 +19,8 @@ commands_of [] = []
 commands_of (Ok command ∷ lines) = command ∷ commands_of lines
 commands_of (Err bad ∷ lines) = commands_of lines
 
--- a text for each line: for a command that of the next reply, of which there are as many as commands
+-- A text for each line: for a command that of the next reply. Where the replies end before the commands the rest
+-- is dropped, which a run never does: `laws::each_line_has_one_answer` has a text for each line.
 abbrev pub answers : List Line → List Reply → List (List ℕ)
 answers [] replies = []
 answers (Ok command ∷ lines) [] = []

@@ -133,6 +133,6 @@ reading line = within_range numbers_of (spelled (words_of line))
 abbrev pub is_plain : ℕ → Bool
 is_plain b = is_ascii_lowercase b || is_ascii_digit b || b == 95 || b == 32
 
--- the number where a `usize` holds it
+-- The number where a `usize` holds it. No public clause cites this.
 abbrev pub held : ℕ → Option ℕ
 held n = if nat_le n greatest then Some n else None

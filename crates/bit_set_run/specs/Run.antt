@@ -1,5 +1,5 @@
 -- What a command does to sixteen sets of numbers, and what a run of commands does.
-use Rattle.std.specs.Prelude.{◌≡◌, ℕ, ◌<◌, not, ◌==◌, if◌then◌else◌, List, [], ◌∷◌, ◌++◌, length, take, drop, replicate, slice_get, slice_index_or, slice_set, Some}
+use Rattle.std.specs.Prelude.{◌≡◌, ◌≢◌, ℕ, ◌<◌, ◌≤◌, ◌⊎◌, false, not, ◌==◌, if◌then◌else◌, List, [], ◌∷◌, ◌++◌, length, take, drop, replicate, slice_get, slice_index_or, slice_set, Some}
 use Rattle.std.specs.List.{list_any}
 use Rattle.bit_set_run.specs.declared.commands.Command.{Command}
 use Rattle.bit_set_run.specs.declared.commands.Command.TheVariants.{Insert, Remove, Contains, Extend, Truncate, Empty, Reset, Count, IsEmpty, Items as ItemsOf, Copy, RestIter}
@@ -75,15 +75,25 @@ run_of sets (command ∷ commands) =
     let rest : Run = run_of first.sets commands in
     record { sets = rest.sets; replies = first.reply ∷ rest.replies }
 
--- what a command leaves that was refused memory: what stood before, but that a front of what an `Extend` puts in may be in
-abbrev pub LeftBy : Sets → Command → Sets → Type 0
-LeftBy old (Extend name items) new = (front back : List ℕ) × (elements_before_greatest items ≡ front ++ back) × (new ≡ slice_set old name (put_all (set_of old name) front))
-LeftBy old command new = new ≡ old
+-- which commands can be refused memory, and what they leave: what stood before, but that an `Extend` has put in
+-- the items before the one that was refused
+abbrev pub RefusedBy : Sets → Command → Sets → Type 0
+RefusedBy old (Insert name n) new = (n < greatest) × (has (set_of old name) n ≡ false) × (new ≡ old)
+RefusedBy old (Extend name items) new =
+    (front : List ℕ) × (item : ℕ) × (back : List ℕ) × (elements_before_greatest items ≡ front ++ item ∷ back)
+    × (new ≡ slice_set old name (put_all (set_of old name) front))
+RefusedBy old (ItemsOf name) new = new ≡ old
+RefusedBy old (Copy from to) new = (from ≢ to) × (new ≡ old)
+RefusedBy old (RestIter name n) new = new ≡ old
+RefusedBy old command new = ⊥
 
--- a run that stopped at command k: the replies are those of the commands before it, and the sets those that it leaves
-pub record StoppedAt (k : ℕ) (commands : List Command) (old new : Sets) (old_replies new_replies : List Reply) : Type 0 where
+-- A run that stopped at command k, with room for this many replies at its start: the replies are those of the
+-- commands before it. Either there was no room for one more, and the command did nothing, or it was refused memory.
+pub record StoppedAt (k : ℕ) (commands : List Command) (room : ℕ) (old new : Sets) (old_replies new_replies : List Reply) : Type 0 where
   pub within : k < length commands
   pub command : Command
   pub at : slice_get commands k ≡ Some command
-  pub sets : LeftBy (run_of old (take k commands)).sets command new
   pub replies : new_replies ≡ old_replies ++ (run_of old (take k commands)).replies
+  pub sets :
+      ((room ≤ length new_replies) × (new ≡ (run_of old (take k commands)).sets))
+      ⊎ RefusedBy (run_of old (take k commands)).sets command new

@@ -9,7 +9,7 @@ use Rattle.bit_set_run.specs.Cuts.{Lacks, parts_at}
 abbrev pub words_of : List ℕ → List (List ℕ)
 words_of line = parts_at 32 line
 
--- the words of a text that may be missing
+-- The words of a text that may be missing. No public clause cites this.
 abbrev pub words_left : Option (Bor (List ℕ)) → List (List ℕ)
 words_left text = option_map_or (λ t. words_of t.now) text []
 

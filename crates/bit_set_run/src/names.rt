@@ -2,9 +2,6 @@ ghost use Rattle.std.specs.Prelude.{◌≡◌, ℕ, ◌+◌, ◌<◌, ◌≤◌,
 
 use std::marker::Model;
 
-/// How many sets a table has.
-pub const SETS: usize = 16;
-
 /// The name of one of the sixteen sets of a table: a letter from `a` to `p`.
 ///
 /// A contract sees it as the place of the set: 0 for `a`, 15 for `p`.

@@ -1,5 +1,5 @@
-ghost use Rattle.std.specs.Prelude.{◌≡◌, ℕ, List, ◌++◌, [], ◌∷◌, IfOk, OnOk, OnErr};
-ghost use Rattle.bit_set_run.specs.Run.{step, run_of, LeftBy, StoppedAt};
+ghost use Rattle.std.specs.Prelude.{◌≡◌, ℕ, ◌≤◌, ◌⊎◌, List, ◌++◌, [], ◌∷◌, IfOk, OnOk, OnErr, vec_len, vec_capacity};
+ghost use Rattle.bit_set_run.specs.Run.{step, run_of, RefusedBy, StoppedAt};
 
 use crate::{Command, Reply, Table};
 use bit_set::BitBlock;
@@ -17,8 +17,9 @@ pub enum RunFault {
 /// Executes the commands on the table, one after another, and appends a reply for each.
 ///
 /// At [`RunFault::Memory`] the commands before the one named have been executed and have their replies.
-/// It and those after it have changed nothing, but that an [`Command::Extend`] may have put in a front
-/// of its items. A reply's room is reserved before its command runs.
+/// It and those after it have changed nothing, but that an [`Command::Extend`] has put in the items before
+/// the one that was refused. A reply's room is reserved before its command runs: where there is room for
+/// the replies, only an insert, an extend, a copy, `Items` and `RestIter` can be refused memory.
 pub fn run<B: BitBlock>(
     alloc: Global,
     table: &mut Table<B>,
@@ -28,7 +29,7 @@ pub fn run<B: BitBlock>(
     ensures replies { OnOk result (replies.new.items ≡ replies.old.items ++ (run_of table.old commands.now).replies) }
     ensures sets { OnOk result (table.new ≡ (run_of table.old commands.now).sets) }
     ensures memory { (k : ℕ) → result ≡ Err (RunFault.Memory k)
-        → StoppedAt k commands.now table.old table.new replies.old.items replies.new.items }
+        → StoppedAt k commands.now (vec_capacity replies.old) table.old table.new replies.old.items replies.new.items }
 {
     for (place, command) in commands.iter().enumerate() {
         if execute(alloc, table, command, replies).is_err() {
@@ -48,7 +49,9 @@ fn execute<B: BitBlock>(
     ensures replies { OnOk result (replies.new.items ≡ replies.old.items ++ (step table.old command.now).reply ∷ []) }
     ensures sets { OnOk result (table.new ≡ (step table.old command.now).sets) }
     ensures kept { OnErr result (replies.new.items ≡ replies.old.items) }
-    ensures left { OnErr result (LeftBy table.old command.now table.new) }
+    ensures capacity { vec_capacity replies.old ≤ vec_capacity replies.new }
+    ensures stopped { OnErr result (((vec_capacity replies.old ≤ vec_len replies.old) × (table.new ≡ table.old))
+        ⊎ RefusedBy table.old command.now table.new) }
 {
     replies.reserve(1)?;
     let reply = table.answer(alloc, command)?;

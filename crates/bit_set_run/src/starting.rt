@@ -1,5 +1,5 @@
 ghost use Rattle.std.specs.Prelude.{◌≡◌, ℕ, ◌+◌, ◌↔◌, ◌⊎◌, false, map, string_bytes, codes, is_some, IfSome};
-ghost use Rattle.bit_set_run.specs.Exits.{takes, names_block, IsExit};
+ghost use Rattle.bit_set_run.specs.Exits.{takes, names_block, said_at, status_at, type_chosen, type_named, IsExit};
 ghost use Rattle.bit_set_run.specs.Streams.{limit, GaveCount};
 ghost use Rattle.bit_set_run.specs.Answered.{IsAnswered, IsCutOff};
 
@@ -11,7 +11,9 @@ use std::io::{Read, Write};
 /// How the program ends: its status, and what it says on standard error, which is nothing at status 0.
 #[derive(Clone, Copy, Debug, PartialEq, Eq)]
 pub struct Exit {
+    /// The status that the program leaves.
     pub status: u8,
+    /// What it says, without a newline.
     pub text: &'static str,
 }
 
@@ -78,7 +80,15 @@ fn answer_lines<B: BitBlock, R: Read, W: Write>(
     ensures too_large { result.status ≡ 5 → GaveCount (R.remaining reader.old) (R.remaining reader.new) (limit + 1) }
     ensures too_large_unwritten { result.status ≡ 5 → writer.new ≡ writer.old }
 {
-    match run_lines::<B, R, W>(alloc, reader, writer) {
+    exit_of(run_lines::<B, R, W>(alloc, reader, writer))
+}
+
+// The exit at this end of the lines.
+fn exit_of(ended: Result<(), LinesFault>) -> Exit
+    ensures status { result.status ≡ status_at ended }
+    ensures text { result.text.now ≡ said_at ended }
+{
+    match ended {
         Ok(()) => Exit {
             status: 0,
             text: "",
@@ -114,7 +124,8 @@ enum BlockType {
 
 // The type that the words choose, `u32` where there is no word; `None` where they are not the program's.
 fn block_type(words: &[String]) -> Option<BlockType>
-    ensures { is_some result ≡ takes (map string_bytes words.now) }
+    ensures chosen { result ≡ type_chosen (map string_bytes words.now) }
+    ensures taken { is_some result ≡ takes (map string_bytes words.now) }
 {
     match words {
         [] => Some(BlockType::U32),
@@ -125,7 +136,8 @@ fn block_type(words: &[String]) -> Option<BlockType>
 
 // The type that the word names.
 fn named_type(word: &str) -> Option<BlockType>
-    ensures { is_some result ≡ names_block word.now }
+    ensures named { result ≡ type_named word.now }
+    ensures known { is_some result ≡ names_block word.now }
 {
     match word {
         "u8" => Some(BlockType::U8),

@@ -1,10 +1,10 @@
 //! One command over sixteen sets.
 
-ghost use Rattle.std.specs.Prelude.{◌≡◌, ℕ, ◌<◌, ◌==◌, not, map, List, length, drop, [], ◌++◌, IfOk, OnOk, OnErr, slice_index_or, slice_set, if◌then◌else◌};
+ghost use Rattle.std.specs.Prelude.{◌≡◌, ℕ, ◌<◌, ◌==◌, ◌∷◌, false, not, map, List, length, drop, [], ◌++◌, IfOk, OnOk, OnErr, slice_index_or, slice_set, if◌then◌else◌};
 ghost use Rattle.std.specs.List.{list_any};
 ghost use Rattle.bit_set.specs.Sets.{has, put, put_all};
 ghost use Rattle.bit_set_run.specs.Kept.{kept};
-ghost use Rattle.bit_set_run.specs.Run.{step, greatest, elements_before_greatest, LeftBy};
+ghost use Rattle.bit_set_run.specs.Run.{step, greatest, elements_before_greatest, RefusedBy};
 ghost use Rattle.bit_set_run.specs.declared.commands.Reply.TheVariants.{Truth, Done, Rest, Element};
 
 use crate::{Command, Numbers, Reply};
@@ -20,7 +20,7 @@ pub(crate) fn answer<B: BitBlock>(
 ) -> Result<Reply, AllocError>
     ensures reply { IfOk result (λ reply. reply ≡ (step (map kept sets.old) command.now).reply) }
     ensures sets { OnOk result (map kept sets.new ≡ (step (map kept sets.old) command.now).sets) }
-    ensures left { OnErr result (LeftBy (map kept sets.old) command.now (map kept sets.new)) }
+    ensures refused { OnErr result (RefusedBy (map kept sets.old) command.now (map kept sets.new)) }
 {
     match command {
         Command::Insert(name, n) => insert(&mut sets[name.place()], *n),
@@ -51,7 +51,7 @@ pub(crate) fn answer<B: BitBlock>(
 fn insert<B: BitBlock>(set: &mut BitSet<B>, n: usize) -> Result<Reply, AllocError>
     ensures reply { IfOk result (λ reply. reply ≡ (if n == greatest then Element else Truth (not (has (kept set.old) n)))) }
     ensures after { OnOk result (kept set.new ≡ (if n == greatest then kept set.old else put (kept set.old) n)) }
-    ensures left { OnErr result (kept set.new ≡ kept set.old) }
+    ensures refused { OnErr result ((n < greatest) × (has (kept set.old) n ≡ false) × (kept set.new ≡ kept set.old)) }
 {
     match set.insert(n) {
         Ok(new) => Ok(Reply::Truth(new)),
@@ -63,7 +63,8 @@ fn insert<B: BitBlock>(set: &mut BitSet<B>, n: usize) -> Result<Reply, AllocErro
 fn extend<B: BitBlock>(set: &mut BitSet<B>, items: &Numbers) -> Result<Reply, AllocError>
     ensures reply { IfOk result (λ reply. reply ≡ (if list_any (λ n. n == greatest) items.now then Element else Done)) }
     ensures after { OnOk result (kept set.new ≡ put_all (kept set.old) (elements_before_greatest items.now)) }
-    ensures left { OnErr result ((front back : List ℕ) × (elements_before_greatest items.now ≡ front ++ back) × (kept set.new ≡ put_all (kept set.old) front)) }
+    ensures refused { OnErr result ((front : List ℕ) × (item : ℕ) × (back : List ℕ)
+        × (elements_before_greatest items.now ≡ front ++ item ∷ back) × (kept set.new ≡ put_all (kept set.old) front)) }
 {
     match set.extend(items.as_slice().iter().copied()) {
         Ok(()) => Ok(Reply::Done),

@@ -1,6 +1,6 @@
 ghost use Rattle.std.specs.Prelude.{◌≡◌, ℕ, IfOk, OnOk, OnErr};
 ghost use Rattle.bit_set_run.specs.Kept.{kept};
-ghost use Rattle.bit_set_run.specs.Run.{no_sets, set_of, step, LeftBy};
+ghost use Rattle.bit_set_run.specs.Run.{no_sets, set_of, step, RefusedBy};
 
 use crate::stepping::answer;
 use crate::{Command, Reply, SetName};
@@ -63,7 +63,7 @@ impl<B: BitBlock> Table<B> {
     pub(crate) fn answer(&mut self, alloc: Global, command: &Command) -> Result<Reply, AllocError>
         ensures reply { IfOk result (λ reply. reply ≡ (step self.old command.now).reply) }
         ensures sets { OnOk result (self.new ≡ (step self.old command.now).sets) }
-        ensures left { OnErr result (LeftBy self.old command.now self.new) }
+        ensures refused { OnErr result (RefusedBy self.old command.now self.new) }
     {
         answer(alloc, &mut self.sets, command)
     }

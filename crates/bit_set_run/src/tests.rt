@@ -1,10 +1,9 @@
 //! Rows and runs with their exact bytes, and readers and writers that fail.
 
 mod fakes;
+mod tables;
 
-use crate::{
-    Command, Exit, LinesFault, Numbers, Reply, RunFault, SetName, Table, run, run_lines, start,
-};
+use crate::{Command, Exit, LinesFault, RunFault, SetName, run_lines, start};
 use fakes::{EndlessReader, PieceReader, PieceWriter};
 use std::alloc::Global;
 use std::io::ErrorKind;
@@ -15,87 +14,67 @@ const RUN_A: &[u8] =
 
 const REPLIES_A: &[u8] = b"true\nfalse\ntrue\ntrue\ntrue\nfalse\n1\n{400}\n{}\n";
 
-// What the lines of an input are answered with.
-fn answered(alloc: Global, input: &[u8]) -> Result<Vec<u8>, LinesFault> {
+// Inputs, and their outputs.
+const ROWS: &[(&[u8], &[u8])] = &[
+    (
+        b"insert a 3\ninsert a 3\ninsert a 400\nremove a 3\ncount a\nitems a\n",
+        b"true\nfalse\ntrue\ntrue\n1\n{400}\n",
+    ),
+    (RUN_A, REPLIES_A),
+    (
+        b"insert a 18446744073709551615\ncontains a 18446744073709551615\nfrob\nfrob 99999999999999999999\ninsert a 99999999999999999999\n",
+        b"refused element\nfalse\nbad command\nbad command\nbad number\n",
+    ),
+    (
+        b"insert q 99999999999999999999\n\ninsert a\ninsert  a 1\ninsert a -1\ninsert a 007\nremove a 18446744073709551615\nitems a\n",
+        b"bad command\nbad command\nbad command\nbad command\nbad command\ntrue\nfalse\n{7}\n",
+    ),
+    (
+        b"extend a 9 18446744073709551615 11\nextend a\nitems a\ncopy a a\ncopy a b\nitems b\ntruncate b 9\nis_empty b\nextend b 5 6 99999999999999999999\nextend b 5 x 99999999999999999999\nitems b\nextend b 3 1 2 1\ncount b\nempty b\nreset a\nitems a\n",
+        b"refused element\nok\n{9}\nrefused same\nok\n{9}\nok\ntrue\nbad number\nbad command\n{}\nok\n3\nok\nok\n{}\n",
+    ),
+    (
+        b"extend b 3 200\nrest iter b 0\nrest iter b 1\nrest iter b 9\nrest iter q 1\n",
+        b"ok\n2 {3, 200}\n1 {200}\n0 {}\nbad command\n",
+    ),
+    (b"", b""),
+    // The last line may lack its newline.
+    (
+        b"insert p 0\ninsert p 10\nitems p",
+        b"true\ntrue\n{0, 10}\n",
+    ),
+    // A carriage return, a tab, a byte past ASCII, a capital letter, a plus sign and spaces at the ends.
+    (
+        b"count a\r\n\tcount a\ncount\t a\ncount \xC3\xA4\nCount a\ninsert a +1\n count a\ncount a \n\n",
+        b"bad command\nbad command\nbad command\nbad command\nbad command\nbad command\nbad command\nbad command\nbad command\n",
+    ),
+];
+
+// What the program leaves at these words and this input.
+fn started(alloc: Global, words: &[String], input: &[u8]) -> (Exit, Vec<u8>) {
     let mut reader = input;
     let mut writer = Vec::new(alloc);
-    run_lines::<u32, _, _>(alloc, &mut reader, &mut writer)?;
-    Ok(writer)
+    let exit = start(alloc, words, &mut reader, &mut writer);
+    (exit, writer)
 }
 
 #[test]
-fn answers_runs(rt: HostRuntime) -> Result<(), Fail> {
-    for (input, output) in [
-        (
-            b"insert a 3\ninsert a 3\ninsert a 400\nremove a 3\ncount a\nitems a\n".as_slice(),
-            b"true\nfalse\ntrue\ntrue\n1\n{400}\n".as_slice(),
-        ),
-        (RUN_A, REPLIES_A),
-        (
-            b"insert a 18446744073709551615\nfrob\nfrob 99999999999999999999\ninsert a 99999999999999999999\n",
-            b"refused element\nbad command\nbad command\nbad number\n",
-        ),
-        (
-            b"insert q 99999999999999999999\n\ninsert a\ninsert  a 1\ninsert a -1\ninsert a 007\nremove a 18446744073709551615\nitems a\n",
-            b"bad command\nbad command\nbad command\nbad command\nbad command\ntrue\nfalse\n{7}\n",
-        ),
-        (
-            b"extend a 9 18446744073709551615 11\nextend a\nitems a\ncopy a a\ncopy a b\nitems b\ntruncate b 9\nis_empty b\n",
-            b"refused element\nok\n{9}\nrefused same\nok\n{9}\nok\ntrue\n",
-        ),
-        (
-            b"extend b 5 6 99999999999999999999\nextend b 5 x 99999999999999999999\nitems b\nextend b 3 1 2 1\ncount b\nempty b\nreset b\nitems b\n",
-            b"bad number\nbad command\n{}\nok\n3\nok\nok\n{}\n",
-        ),
-        (
-            b"extend b 3 200\nrest iter b 0\nrest iter b 1\nrest iter b 9\nrest iter q 1\n",
-            b"ok\n2 {3, 200}\n1 {200}\n0 {}\nbad command\n",
-        ),
-        (b"", b""),
-        // The last line may lack its newline.
-        (
-            b"insert p 0\ninsert p 10\nitems p",
-            b"true\ntrue\n{0, 10}\n",
-        ),
-        // A carriage return, a tab, a byte past ASCII, a capital letter, a plus sign and spaces at the ends.
-        (
-            b"count a\r\n\tcount a\ncount\t a\ncount \xC3\xA4\nCount a\ninsert a +1\n count a\ncount a \n\n",
-            b"bad command\nbad command\nbad command\nbad command\nbad command\nbad command\nbad command\nbad command\nbad command\n",
-        ),
-    ] {
-        assert_eq!(rt; answered(rt.alloc(), input)?.as_slice(), output);
-    }
-    Ok(())
-}
-
-#[test]
-fn starts_by_words(rt: HostRuntime) -> Result<(), Fail> {
-    for word in ["u8", "u16", "u32", "u64", "usize"] {
-        let words = [String::from_str(rt.alloc(), word)?];
-        let mut reader = RUN_A;
-        let mut writer = Vec::new(rt.alloc());
-        let exit = start(rt.alloc(), &words, &mut reader, &mut writer);
-        assert_eq!(rt;
-            exit,
-            Exit {
-                status: 0,
-                text: ""
-            },
-            "{word}"
-        );
-        assert_eq!(rt; writer.as_slice(), REPLIES_A, "{word}");
-    }
-    let mut reader = RUN_A;
-    let mut writer = Vec::new(rt.alloc());
-    let exit = start(rt.alloc(), &[], &mut reader, &mut writer);
-    assert_eq!(rt;
-        exit,
-        Exit {
-            status: 0,
-            text: ""
+fn answers_rows_under_each_word(rt: HostRuntime) -> Result<(), Fail> {
+    let done = Exit {
+        status: 0,
+        text: "",
+    };
+    for (input, output) in ROWS {
+        let (exit, written) = started(rt.alloc(), &[], input);
+        assert_eq!(rt; exit, done);
+        assert_eq!(rt; written.as_slice(), *output);
+        for word in ["u8", "u16", "u32", "u64", "usize"] {
+            let words = [String::from_str(rt.alloc(), word)?];
+            let (exit, written) = started(rt.alloc(), &words, input);
+            assert_eq!(rt; exit, done, "{word}");
+            assert_eq!(rt; written.as_slice(), *output, "{word}");
         }
-    );
-    assert_eq!(rt; writer.as_slice(), REPLIES_A);
+    }
     Ok(())
 }
 
@@ -261,7 +240,8 @@ fn writes_in_pieces_and_flushes(rt: HostRuntime) -> Result<(), Fail> {
 #[test]
 fn takes_inputs_up_to_the_limit(rt: HostRuntime) -> Result<(), Fail> {
     let mut input = vec![in rt.alloc(); b'\n'; 1_048_576]?;
-    let output = answered(rt.alloc(), &input)?;
+    let (exit, output) = started(rt.alloc(), &[], &input);
+    assert_eq!(rt; exit.status, 0);
     assert_eq!(rt; output.len(), 12_582_912);
     for line in output.chunks(12) {
         assert_eq!(rt; line, b"bad command\n".as_slice());
@@ -274,38 +254,6 @@ fn takes_inputs_up_to_the_limit(rt: HostRuntime) -> Result<(), Fail> {
     let result = run_lines::<u32, _, _>(rt.alloc(), &mut reader, &mut writer);
     assert_eq!(rt; result, Err(LinesFault::TooLarge));
     assert_eq!(rt; writer.calls, 0);
-    Ok(())
-}
-
-#[test]
-fn runs_commands_by_hand(rt: HostRuntime) -> Result<(), Fail> {
-    assert_eq!(rt; SetName::from_letter(b'q'), None);
-    let a = SetName::from_letter(b'a').ok_or("a")?;
-    let mut table: Table<u32> = Table::new(rt.alloc());
-    let mut replies = Vec::new(rt.alloc());
-    let commands = [
-        Command::Insert(a, 5),
-        Command::Remove(a, 6),
-        Command::Contains(a, 5),
-        Command::Count(a),
-        Command::Items(a),
-        Command::Insert(a, usize::MAX),
-        Command::Insert(a, usize::MAX - 1),
-        Command::Count(a),
-    ];
-    let result = run(rt.alloc(), &mut table, &commands, &mut replies);
-    assert_eq!(rt; result, Err(RunFault::Memory(6)));
-    let five = Numbers::from_vec(vec![in rt.alloc(); 5]?);
-    assert_eq!(rt; five.as_slice(), [5].as_slice());
-    let wanted = [
-        Reply::Truth(true),
-        Reply::Truth(false),
-        Reply::Truth(true),
-        Reply::Number(1),
-        Reply::Items(five),
-        Reply::Element,
-    ];
-    assert_eq!(rt; replies.as_slice(), wanted.as_slice());
     Ok(())
 }
 

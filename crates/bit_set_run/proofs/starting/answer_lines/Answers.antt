@@ -1,17 +1,6 @@
-use Rattle.bit_set_run.specs.Exits.{done, refused, unread, unwritten, too_large}
+use Rattle.bit_set_run.proofs.ExitLemmas.{is_exit}
 use Rattle.bit_set_run.proofs.starting.answer_lines.Goals as goal
 
-pub returns-in-Ok-clause-exit : goal.returns-in-Ok-clause-exit
-returns-in-Ok-clause-exit g c = done
-
-pub returns-in-Err-Memory-clause-exit : goal.returns-in-Err-Memory-clause-exit
-returns-in-Err-Memory-clause-exit g c = refused
-
-pub returns-in-Err-Read-clause-exit : goal.returns-in-Err-Read-clause-exit
-returns-in-Err-Read-clause-exit g c = unread
-
-pub returns-in-Err-Write-clause-exit : goal.returns-in-Err-Write-clause-exit
-returns-in-Err-Write-clause-exit g c = unwritten
-
-pub returns-in-Err-TooLarge-clause-exit : goal.returns-in-Err-TooLarge-clause-exit
-returns-in-Err-TooLarge-clause-exit g c = too_large
+pub returns-clause-exit : goal.returns-clause-exit
+returns-clause-exit g c =
+    rw (c.exit_of.ensures.status, c.exit_of.ensures.text) (is_exit c.run_lines.result)

@@ -1,9 +1,9 @@
 use Rattle.std.proofs.Common.{ap, ◌==◌, ◌∙◌, if◌then◌else◌, [], map, arith}
 use Rattle.std.proofs.lemmas.Result.{on_ok_weaker, on_err_weaker}
-use Rattle.bit_set.specs.Sets.{elements, put, put_all, those_below, without}
+use Rattle.bit_set.specs.Sets.{elements, has, put, put_all, those_below, without}
 use Rattle.bit_set_run.specs.Kept.{kept}
 use Rattle.bit_set_run.specs.Run.{greatest, elements_before_greatest}
-use Rattle.bit_set_run.proofs.SteppingLemmas.{change_is, no_change_is, sets-insert}
+use Rattle.bit_set_run.proofs.SteppingLemmas.{change_is, no_change_is, set_at, sets-insert}
 use Rattle.bit_set_run.proofs.stepping.answer.Goals as goal
 
 pub returns-in-Insert-clause-sets : goal.returns-in-Insert-clause-sets
@@ -12,10 +12,11 @@ returns-in-Insert-clause-sets g c =
     let n = c.in-Insert.n in
     rw c.in-Insert.is (on_ok_weaker c.insert.result (λ after. change_is sets c.place.result c.in-Insert.name c.index-sets-place.result c.insert.new.set (λ s. if n == greatest then s else put s n) c.place.ensures.place (omega (arith, c.told-sets, c.place.ensures.within)) after ∙ sets-insert (map kept sets) c.in-Insert.name n) c.insert.ensures.after)
 
-pub returns-in-Insert-clause-left : goal.returns-in-Insert-clause-left
-returns-in-Insert-clause-left g c =
+pub returns-in-Insert-clause-refused : goal.returns-in-Insert-clause-refused
+returns-in-Insert-clause-refused g c =
     let sets = c.args.sets.now in
-    rw c.in-Insert.is (on_err_weaker c.insert.result (λ left. no_change_is sets c.place.result c.index-sets-place.result c.insert.new.set (omega (arith, c.told-sets, c.place.ensures.within)) left) c.insert.ensures.left)
+    let there = set_at sets c.place.result c.in-Insert.name c.index-sets-place.result c.place.ensures.place (omega (arith, c.told-sets, c.place.ensures.within)) in
+    rw c.in-Insert.is (on_err_weaker c.insert.result (λ refused. (refused.0, ap (λ s. has s c.in-Insert.n) there ∙ refused.1, no_change_is sets c.place.result c.index-sets-place.result c.insert.new.set (omega (arith, c.told-sets, c.place.ensures.within)) refused.2)) c.insert.ensures.refused)
 
 pub returns-in-Remove-clause-sets : goal.returns-in-Remove-clause-sets
 returns-in-Remove-clause-sets g c =
@@ -27,10 +28,10 @@ returns-in-Extend-clause-sets g c =
     let sets = c.args.sets.now in
     rw c.in-Extend.is (on_ok_weaker c.extend.result (λ after. change_is sets c.place-in-Extend.result c.in-Extend.name c.index-sets-place-in-Extend.result c.extend.new.set (λ s. put_all s (elements_before_greatest c.in-Extend.items)) c.place-in-Extend.ensures.place (omega (arith, c.told-sets, c.place-in-Extend.ensures.within)) after) c.extend.ensures.after)
 
-pub returns-in-Extend-clause-left : goal.returns-in-Extend-clause-left
-returns-in-Extend-clause-left g c =
+pub returns-in-Extend-clause-refused : goal.returns-in-Extend-clause-refused
+returns-in-Extend-clause-refused g c =
     let sets = c.args.sets.now in
-    rw c.in-Extend.is (on_err_weaker c.extend.result (λ left. (left.0, left.1, left.2, change_is sets c.place-in-Extend.result c.in-Extend.name c.index-sets-place-in-Extend.result c.extend.new.set (λ s. put_all s left.0) c.place-in-Extend.ensures.place (omega (arith, c.told-sets, c.place-in-Extend.ensures.within)) left.3)) c.extend.ensures.left)
+    rw c.in-Extend.is (on_err_weaker c.extend.result (λ refused. (refused.0, refused.1, refused.2, refused.3, change_is sets c.place-in-Extend.result c.in-Extend.name c.index-sets-place-in-Extend.result c.extend.new.set (λ s. put_all s refused.0) c.place-in-Extend.ensures.place (omega (arith, c.told-sets, c.place-in-Extend.ensures.within)) refused.4)) c.extend.ensures.refused)
 
 pub returns-in-Truncate-clause-sets : goal.returns-in-Truncate-clause-sets
 returns-in-Truncate-clause-sets g c =

@@ -1,9 +1,9 @@
-use Rattle.std.proofs.Common.{◌≡◌, ◌++◌, ◌∷◌, length, drop, ◌+◌, refl, sym, ap, ◌∙◌, append-nil, []}
+use Rattle.std.proofs.Common.{◌≡◌, ◌<◌, ◌++◌, ◌∷◌, length, drop, ◌+◌, refl, sym, ap, ◌∙◌, append-nil, []}
 use Rattle.std.proofs.iter.Yields.{Copied-Drains}
 use Rattle.bit_set.specs.Sets.{put_all}
 use Rattle.bit_set_run.specs.Kept.{kept}
 use Rattle.bit_set_run.specs.Run.{elements_before_greatest, greatest}
-use Rattle.bit_set_run.proofs.SteppingLemmas.{none_greatest, some_greatest, front_before, copied_before}
+use Rattle.bit_set_run.proofs.SteppingLemmas.{none_greatest, some_greatest, before_taken, front_before, copied_before}
 use Rattle.bit_set_run.proofs.stepping.extend.Goals as goal
 
 pub returns-in-Ok-clause-reply : goal.returns-in-Ok-clause-reply
@@ -25,16 +25,18 @@ returns-in-Err-Element g c =
     let h = c.in-Err-Element.ensures.err in
     let shown : c.copied.result.iter.rest.now ≡ c.args.items.now = cc in
     let before = copied_before c.copied.result h.2 c.args.items.now h.0 h.1 shown h.3 in
-    let whole : c.args.items.now ≡ h.0 ++ greatest ∷ drop (length h.0 + 1) c.args.items.now = before ∙ ap (λ n. h.0 ++ n ∷ drop (length h.0 + 1) c.args.items.now) (rw c.in-Err-Element.field-0-is at h.5) in
+    let whole : c.args.items.now ≡ h.0 ++ greatest ∷ drop (length h.0 + 1) c.args.items.now = before ∙ ap (λ n. h.0 ++ n ∷ drop (length h.0 + 1) c.args.items.now) (rw c.in-Err-Element.field-0-is at h.6) in
     record {
       reply = rw (whole, some_greatest h.0 (drop (length h.0 + 1) c.args.items.now) h.4.fit) refl;
       after = h.4.members ∙ ap (put_all (kept c.args.set.now)) (sym (append-nil h.0) ∙ sym (front_before h.0 (greatest ∷ drop (length h.0 + 1) c.args.items.now) h.4.fit) ∙ ap elements_before_greatest (sym whole));
-      left = tt;
+      refused = tt;
     }
 
-pub returns-in-Err-Memory-clause-left : goal.returns-in-Err-Memory-clause-left
-returns-in-Err-Memory-clause-left g c =
+pub returns-in-Err-Memory-clause-refused : goal.returns-in-Err-Memory-clause-refused
+returns-in-Err-Memory-clause-refused g c =
     let h = c.in-Err-Memory.ensures.err in
     let shown : c.copied.result.iter.rest.now ≡ c.args.items.now = cc in
     let before = copied_before c.copied.result h.2 c.args.items.now h.0 h.1 shown h.3 in
-    (h.0, elements_before_greatest (h.1 ∷ drop (length h.0 + 1) c.args.items.now), ap elements_before_greatest before ∙ front_before h.0 (h.1 ∷ drop (length h.0 + 1) c.args.items.now) h.4.fit, h.4.members)
+    let rest = drop (length h.0 + 1) c.args.items.now in
+    let low : h.1 < greatest = (rw c.in-Err-Memory.field-0-is at h.6).1 in
+    (h.0, h.1, elements_before_greatest rest, ap elements_before_greatest before ∙ front_before h.0 (h.1 ∷ rest) h.4.fit ∙ ap (λ xs. h.0 ++ xs) (before_taken h.1 rest low), h.4.members)

@@ -6,5 +6,5 @@ use Rattle.bit_set_run.proofs.stepping.numbers_of.Goals as goal
 
 pub returns : goal.returns
 returns g c =
-    let told = items_from_collect c.collect.result c.collect.ensures.ran (walk_yields c.args.walk) in
+    let told = items_from_collect c.collect.result c.collect.ensures.ran (walk_yields g.B.BitBlock.width c.args.walk) in
     c.from_vec.ensures ∙ IfOk-at_ok (λ w. vec_items w ≡ c.args.walk.left) c.in_ok-collect.was told
