@@ -1,5 +1,6 @@
 -- The values of bytes: a byte turned round, one moved into its place in a block, and the list of all.
-use Rattle.std.proofs.Common.{◌≡◌, ℕ, zero, suc, ◌+◌, ◌-◌, ◌*◌, ◌/◌, ◌%◌, ◌^◌, ◌<◌, ◌≤◌, Bool, true, false, ◌&&◌, ◌||◌, ◌==◌, nat_lt, List, [], ◌∷◌, length, get_or, drop, refl, sym, ap, ap₂, ◌∙◌, arith, ⊎_elim, mod-lt, div-add-mod', w8, min, slice_range, get_or-take, get_or-drop, length-take, length-append}
+use Rattle.std.proofs.Common.{◌≡◌, ℕ, zero, suc, ◌+◌, ◌-◌, ◌*◌, ◌/◌, ◌%◌, ◌^◌, ◌<◌, ◌≤◌, true, false, ◌&&◌, ◌||◌, ◌==◌, nat_lt, List, [], ◌∷◌, length, get_or, drop, refl, sym, ap, ap₂, ◌∙◌, arith, ⊎_elim, mod-lt, div-add-mod', w8, min, slice_range, get_or-take, get_or-drop, length-take, length-append}
+use Rattle.std.proofs.Math.Bool.{or-false}
 use Rattle.std.proofs.lemmas.Bool.{cases_lt}
 use Rattle.std.proofs.lemmas.Bool.Decides.{nat_tests}
 use Rattle.std.proofs.lemmas.Nat.Bits.{bit_at-suc, bit_at_lowest, bit_at_above}
@@ -70,10 +71,6 @@ moved_from w n d r j is h k =
     let f : j - d + d < w = omega arith in
     ap (is_one r) (sym e) ∙ ap (λ x. x == 1) (is.moved (j - d) f)
 
-or_false : (a : Bool) → (a || false) ≡ a
-or_false true = refl
-or_false false = refl
-
 pub byte_added : (w m n d r q p : ℕ) (bytes : List ℕ) → ((j : ℕ) → j < w → is_one m j ≡ (nat_lt j (8 * p) && byte_value bytes j)) → n ≡ reverse_bits w8 (get_or bytes p 0) → n < 2 ^ 8 → d ≡ 8 * p → IsShiftedLeft w n d r → IsEither w m r q → (j : ℕ) → j < w → is_one q j ≡ (nat_lt j (8 * (p + 1)) && byte_value bytes j)
 byte_added w m n d r q p bytes old turn small place moved either j within =
     is_one-either w m r q j either within
@@ -83,7 +80,7 @@ byte_added w m n d r q p bytes old turn small place moved either j within =
     let here : nat_lt j (8 * p) ≡ true = grind (arith, nat_tests) in
     let inside : nat_lt j (8 * (p + 1)) ≡ true = grind (arith, nat_tests) in
     ap₂ (λ t b. (t && byte_value bytes j) || b) here (moved_below w n d r j moved (omega arith))
-    ∙ or_false (byte_value bytes j)
+    ∙ or-false (byte_value bytes j)
     ∙ ap (λ t. t && byte_value bytes j) (sym inside))
     (λ from.
     let here : nat_lt j (8 * p) ≡ false = grind (arith, nat_tests) in

@@ -1,5 +1,6 @@
 -- What appending, keeping and filling whole blocks does to the value at every index.
-use Rattle.std.proofs.Common.{◌≡◌, ℕ, zero, suc, ◌+◌, ◌-◌, ◌/◌, ◌%◌, ◌^◌, ◌<◌, ◌≤◌, Bool, true, false, ◌&&◌, ◌||◌, nat_lt, nat_le, List, ◌∷◌, ◌++◌, map, length, get_or, take, replicate, refl, sym, ap, ap₂, ◌∙◌, arith, ⊎_elim, mod-lt, get_or-take, set, ◌≢◌, get_or-set_same, get_or-set_other}
+use Rattle.std.proofs.Common.{◌≡◌, ℕ, zero, suc, ◌+◌, ◌-◌, ◌/◌, ◌%◌, ◌^◌, ◌<◌, ◌≤◌, Bool, true, false, ◌&&◌, ◌||◌, nat_lt, nat_le, List, [], ◌∷◌, ◌++◌, map, length, get_or, take, replicate, refl, sym, ap, ap₂, ◌∙◌, arith, ⊎_elim, mod-lt, get_or-take, set, ◌≢◌, get_or-set_same, get_or-set_other}
+use Rattle.std.proofs.Math.Bool.{or-false}
 use Rattle.std.proofs.lemmas.Bool.{cases_lt, cases_eq}
 use Rattle.std.proofs.lemmas.Bool.Decides.{nat_tests}
 use Rattle.std.proofs.lemmas.List.{get_or_append_left, get_or-append_right, get_or_past, get_or-replicate, length-replicate, length-append, map-append, take_all}
@@ -45,9 +46,8 @@ resized f xs len n x e h =
     map-append f (take n xs) (replicate (n - len) x)
     ∙ ap₂ (λ a b. map f a ++ b) (take_all n xs (omega arith)) (map-replicate f (n - len) x)
 
-or_false : (a : Bool) → (a || false) ≡ a
-or_false true = refl
-or_false false = refl
+pub map-pushed : {X : Type 0} (f : X → ℕ) (xs ys : List X) (x : X) → ys ≡ xs ++ x ∷ [] → map f ys ≡ map f xs ++ f x ∷ []
+map-pushed f xs ys x e = ap (map f) e ∙ map-append f xs (x ∷ [])
 
 and_true : (a : Bool) → (false || (a && true)) ≡ a
 and_true true = refl
@@ -97,16 +97,16 @@ whole_pushed w ms rs len count n i pos z total ones e past =
     (λ here. get_or_past rs (i / w) 0 (omega arith) ∙ sym (ap (λ p. 2 ^ p - 1) z))
     (λ beyond. get_or_past rs (i / w) 0 (omega arith))
 
-pub cut_pushed : (w : ℕ) (ms rs us : List ℕ) (len count extra m n i : ℕ) → 0 < w → length ms + count ≡ len / w → n ≡ 2 ^ w - 1 → rs ≡ ms ++ replicate count n → extra ≡ 1 → m ≡ 2 ^ (len % w) - 1 → us ≡ rs ++ replicate extra m → length ms ≤ i / w → value_at w us i ≡ nat_lt i len
-cut_pushed w ms rs us len count extra m n i pos total ones e one cut f past =
+pub cut_pushed : (w : ℕ) (ms rs us : List ℕ) (len count m n i : ℕ) → 0 < w → length ms + count ≡ len / w → n ≡ 2 ^ w - 1 → rs ≡ ms ++ replicate count n → m ≡ 2 ^ (len % w) - 1 → us ≡ rs ++ m ∷ [] → length ms ≤ i / w → value_at w us i ≡ nat_lt i len
+cut_pushed w ms rs us len count m n i pos total ones e cut f past =
     let size = length-pushed ms rs count n e in
-    let all = length-pushed rs us extra m f in
+    let all = length-pushed rs us 1 m f in
     ones_up_to w us len i pos
     (λ before. ap (λ xs. get_or xs (i / w) 0) f
-    ∙ get_or_append_left rs (replicate extra m) 0 (i / w) (omega arith)
+    ∙ get_or_append_left rs (m ∷ []) 0 (i / w) (omega arith)
     ∙ pushed_block ms rs count n (i / w) e past (omega arith)
     ∙ ones)
-    (λ here. pushed_block rs us extra m (i / w) f (omega arith) (omega arith) ∙ cut)
+    (λ here. pushed_block rs us 1 m (i / w) f (omega arith) (omega arith) ∙ cut)
     (λ beyond. get_or_past us (i / w) 0 (omega arith))
 
 pub kept_below : (w : ℕ) (ms rs : List ℕ) (count n i : ℕ) → rs ≡ ms ++ replicate count n → i / w < length ms → value_at w rs i ≡ value_at w ms i
@@ -119,7 +119,7 @@ ones_kept w ms rs us old len size pos count raised kept i below =
     let within = blocks_for-above w old i pos below in
     let inside : i / w < size = omega arith in
     let before : (nat_lt i len && nat_le old i) ≡ false = grind (arith, nat_tests) in
-    kept i inside ∙ raised i inside ∙ ap (λ t. value_at w ms i || t) before ∙ or_false (value_at w ms i)
+    kept i inside ∙ raised i inside ∙ ap (λ t. value_at w ms i || t) before ∙ or-false (value_at w ms i)
 
 pub ones_added : (w : ℕ) (ms rs us : List ℕ) (old len size : ℕ) → IsCleanFrom w ms old → ((i : ℕ) → i / w < size → value_at w rs i ≡ (value_at w ms i || (nat_lt i len && nat_le old i))) → ((i : ℕ) → i / w < size → value_at w us i ≡ value_at w rs i) → ((i : ℕ) → size ≤ i / w → value_at w us i ≡ nat_lt i len) → (i : ℕ) → old ≤ i → value_at w us i ≡ nat_lt i len
 ones_added w ms rs us old len size tail raised kept added i after =

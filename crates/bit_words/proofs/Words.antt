@@ -1,10 +1,10 @@
--- The number of what an operator gives, from its digits. `words.rt` names this set, and no other file needs it.
-use Rattle.std.proofs.Common.{◌≡◌, ℕ, ◌+◌, ◌-◌, ◌*◌, ◌/◌, ◌%◌, ◌^◌, ◌<◌, refl, bit_and, bit_or, bit_xor, sym, ap, ◌∙◌, subst, arith, ⊎_elim}
+-- The number of what an operator gives, from its digits. `words.rt` names the set, and `LowestLemmas` one of it.
+use Rattle.std.proofs.Common.{◌≡◌, ℕ, ◌+◌, ◌-◌, ◌*◌, ◌/◌, ◌%◌, ◌^◌, ◌<◌, refl, bit_and, bit_or, sym, ap, ◌∙◌, subst, arith, ⊎_elim}
 use Rattle.std.specs.Int.{bit_at}
 use Rattle.std.proofs.lemmas.Bool.{cases_lt}
-use Rattle.std.proofs.lemmas.Nat.{and_le_l, or_lt, xor_lt, one_shl}
-use Rattle.std.proofs.lemmas.Nat.Bits.{bit_at_and, bit_at_or, bit_at_xor, same_from_bits_below}
-use Rattle.bit_words.specs.Digits.{IsBoth, IsEither, IsDifferent, IsComplement, IsShiftedLeft, IsShiftedRight}
+use Rattle.std.proofs.lemmas.Nat.{and_le_l, or_lt, one_shl}
+use Rattle.std.proofs.lemmas.Nat.Bits.{bit_at_and, bit_at_or, same_from_bits_below}
+use Rattle.bit_words.specs.Digits.{IsBoth, IsEither, IsComplement, IsShiftedLeft, IsShiftedRight}
 use Rattle.bit_words.specs.DigitLaws.{complement, shifted_left, shifted_right}
 
 pub both-number : (w m n r : ℕ) → m < 2 ^ w → r < 2 ^ w → IsBoth w m n r → r ≡ bit_and m n
@@ -14,10 +14,6 @@ both-number w m n r small fits is =
 pub either-number : (w m n r : ℕ) → m < 2 ^ w → n < 2 ^ w → r < 2 ^ w → IsEither w m n r → r ≡ bit_or m n
 either-number w m n r small also fits is =
     same_from_bits_below w r (bit_or m n) fits (or_lt w m n small also) (λ i within. is.digit i within ∙ sym (bit_at_or m n i))
-
-pub different-number : (w m n r : ℕ) → m < 2 ^ w → n < 2 ^ w → r < 2 ^ w → IsDifferent w m n r → r ≡ bit_xor m n
-different-number w m n r small also fits is =
-    same_from_bits_below w r (bit_xor m n) fits (xor_lt w m n small also) (λ i within. is.digit i within ∙ sym (bit_at_xor m n i))
 
 pub complement-number : (w m r : ℕ) → m < 2 ^ w → r < 2 ^ w → IsComplement w m r → r ≡ 2 ^ w - 1 - m
 complement-number w m r small fits is =
@@ -46,7 +42,7 @@ shifted_right-number w m d r small fits is =
     (λ past. is.zeros i below past ∙ sym (other.1.zeros i below past))
     (cases_lt (i + d) w))
 
-pub ruleset number_of_digits = (both-number, either-number, different-number, complement-number, shifted_left-number, shifted_right-number)
+pub ruleset number_of_digits = (both-number, either-number, complement-number, shifted_left-number, shifted_right-number)
 
 -- 1 moved to a place.
 pub one_moved : (w i m : ℕ) → i < w → m ≡ 1 → m * 2 ^ i % 2 ^ w ≡ 2 ^ i

@@ -32,8 +32,8 @@ pub fn walk_of_blocks<B: BitBlock + 'static>()
     ensures pulls { (s t : Source B) (items : List B) → YieldsThen ⟦<Blocks<'static, B> as Iterator>⟧.next_gives s items None t → t.pulls ≡ s.pulls + length s.left + 1 }
 {}
 
-/// The ones of all blocks of a list together are as many as its true values. The ones of a number
-/// are the sum of its binary digits.
+/// Counting the digits that are 1, block by block, counts the true values of a list. In one number
+/// they are as many as the sum of its digits says.
 pub fn ones_of_blocks()
     ensures blocks { (w : ℕ) (values : List Bool) → 0 < w → sum_by count_ones (blocks_of w values) ≡ count_by (λ value. value) values }
     ensures digits { (w m : ℕ) → m < 2 ^ w → count_ones m ≡ sum_by (bit_at m) (range_with_len 0 w) }

@@ -14,7 +14,8 @@ impl<B: BitBlock> BitSet<B> {
     /// The empty set of length 0. Constant time; it takes no memory.
     #[inline]
     pub fn new_general(alloc: Global) -> Self
-        ensures { result.values ≡ [] }
+        ensures values { result.values ≡ [] }
+        ensures room { result.room ≡ 0 }
     {
         BitSet {
             bits: BitVec::new_general(alloc),
@@ -89,7 +90,8 @@ impl BitSet<u32> {
     /// [`BitSet::new_general`] over blocks of 32 bits.
     #[inline]
     pub fn new(alloc: Global) -> Self
-        ensures { result.values ≡ [] }
+        ensures values { result.values ≡ [] }
+        ensures room { result.room ≡ 0 }
     {
         BitSet::new_general(alloc)
     }

@@ -54,14 +54,16 @@ pub trait BitBlock: Copy
         ensures of_block { is_block result }
         ensures of_number { number result ≡ byte };
 
-    /// The bits moved to places that are higher by `distance`.
+    /// The bits moved to places that are higher by `distance`, which is below `bits()`. Those that leave
+    /// at the top are dropped, and zeros come in below.
     fn shift_left(self, distance: usize) -> Self
         requires of_block { is_block self }
         requires within { distance < width }
         ensures of_block { is_block result }
         ensures of_digits { IsShiftedLeft width (number self) distance (number result) };
 
-    /// The bits moved to places that are lower by `distance`.
+    /// The bits moved to places that are lower by `distance`, which is below `bits()`. Those that leave
+    /// below are dropped, and zeros come in at the top.
     fn shift_right(self, distance: usize) -> Self
         requires of_block { is_block self }
         requires within { distance < width }

@@ -1,9 +1,7 @@
 pub mod block24;
 
 use super::BitBlock;
-use super::words::{
-    block_add, block_and, block_not, block_or, block_sub, block_xor, shift_left, shift_right,
-};
+use super::words::{block_and, block_not, block_or, block_sub, shift_left, shift_right};
 use block24::Block24;
 
 // The ones of a byte, of its complement, and of what is left of it once only its low four bits
@@ -32,12 +30,12 @@ fn bits_move_within_the_width(rt: HostRuntime) {
 #[test]
 fn forty_gives_up_its_lowest_one(rt: HostRuntime) {
     let block = 40u8;
-    let negated = block_add(block_not(block), u8::one());
+    let negated = block_not(block) + u8::one();
     let low = block_and(block, negated);
     let below = block_sub(low, u8::one());
     let rest = block_and(block, block_sub(block, u8::one()));
     assert_eq!(rt; [negated, low, below, rest], [216, 8, 7, 32]);
     assert_eq!(rt; BitBlock::count_ones(below), 3);
     assert_eq!(rt; block_or(low, rest), block);
-    assert_eq!(rt; block_xor(block, rest), low);
+    assert_eq!(rt; block ^ rest, low);
 }

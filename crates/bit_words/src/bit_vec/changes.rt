@@ -1,6 +1,6 @@
 // Reads and changes of a vector of blocks, each told by the value at every index. They keep its
 // length and room unless they say otherwise, and know nothing of how many values it holds.
-ghost use Rattle.std.specs.Prelude.{◌≡◌, ◌≢◌, ℕ, ◌<◌, ◌≤◌, ◌/◌, ◌%◌, ◌==◌, ◌&&◌, ◌||◌, ◌↔◌, All, IsTrue, length, map, set, get_or, replicate, nat_lt, nat_le, vec_len, vec_capacity, true, false};
+ghost use Rattle.std.specs.Prelude.{◌≡◌, ◌≢◌, ℕ, ◌<◌, ◌≤◌, ◌/◌, ◌%◌, ◌==◌, ◌&&◌, ◌||◌, ◌↔◌, All, IsTrue, length, map, set, get_or, nat_lt, nat_le, vec_len, vec_capacity, true, false};
 ghost use Rattle.bit_words.specs.Bits.{blocks_for};
 ghost use Rattle.bit_words.specs.Storage.{value_at};
 

@@ -53,6 +53,16 @@ fn last_of_forty<B: BitBlock>(alloc: Global) -> Result<BitVec<B>, BitsError> {
     Ok(bits.clone(alloc)?)
 }
 
+// Of five values that are true but for the first: the outer two, what is past them, and whether
+// the room holds all.
+fn grown<B: BitBlock>(alloc: Global) -> Result<([Option<bool>; 3], bool), AllocError> {
+    let mut bits = BitVec::<B>::new_general(alloc);
+    bits.grow(5, true)?;
+    bits.set(0, false);
+    let ends = [bits.get(0), bits.get(4), bits.get(5)];
+    Ok((ends, bits.capacity() >= bits.len()))
+}
+
 // How many values and blocks there are, and how many blocks a walk and its copy have left after one.
 fn sizes<B: BitBlock>(bits: &BitVec<B>) -> [usize; 4] {
     let mut walk = bits.blocks();
@@ -76,10 +86,13 @@ fn each_call_answers_at_two_widths(rt: HostRuntime) -> Result<(), Fail> {
     let mut whole = last_of_forty::<u8>(rt.alloc())?;
     assert_eq!(rt; sizes(&whole), [40, 5, 4, 4]);
     assert_eq!(rt; nones(&mut whole), [false, true, true]);
+    let ends = [Some(false), Some(true), None];
+    assert_eq!(rt; grown::<u8>(rt.alloc())?, (ends, true));
 
     let mut odd = last_of_forty::<Block24>(rt.alloc())?;
     assert_eq!(rt; sizes(&odd), [40, 2, 1, 1]);
     assert_eq!(rt; nones(&mut odd), [false, true, true]);
+    assert_eq!(rt; grown::<Block24>(rt.alloc())?, (ends, true));
     Ok(())
 }
 

@@ -1,12 +1,11 @@
 // Changes of the blocks of a list: they keep the digits that no value uses at 0.
-ghost use Rattle.std.specs.Prelude.{◌≡◌, ◌≢◌, ℕ, ◌-◌, ◌/◌, ◌<◌, ◌≤◌, ◌++◌, All, false, nat_lt, map, replicate, take, vec_len, vec_capacity};
+ghost use Rattle.std.specs.Prelude.{◌≡◌, ℕ, ◌-◌, ◌/◌, ◌<◌, ◌≤◌, ◌++◌, All, false, nat_lt, map, replicate, take, vec_len, vec_capacity};
 ghost use Rattle.bit_words.specs.Bits.{blocks_for};
 ghost use Rattle.bit_words.specs.Storage.{value_at, IsTidy};
 
 use super::BitBlock;
 use super::changes::{
-    block_count, block_index, fill_blocks, lower_from, place_in_block, put_block, put_value,
-    raise_last,
+    block_count, block_index, fill_blocks, lower_from, place_in_block, put_block, raise_last,
 };
 use super::words::{all_ones, ones_below};
 
@@ -42,7 +41,7 @@ fn push_ones<B: BitBlock>(blocks: &mut Vec<B>, len: usize)
     push_copies(blocks, whole, all_ones());
     let place = place_in_block::<B>(len);
     if place != 0 {
-        push_copies(blocks, whole + 1, ones_below(place));
+        blocks.push_reserved(ones_below(place));
     }
 }
 
@@ -129,18 +128,4 @@ pub(crate) fn fill_values<B: BitBlock>(blocks: &mut Vec<B>, len: usize, bit: boo
     } else {
         fill_zeros(blocks);
     }
-}
-
-// Makes the value at `i` be `bit`, in a list of `len` values.
-#[inline]
-pub(crate) fn set_value<B: BitBlock>(blocks: &mut Vec<B>, len: usize, i: usize, bit: bool)
-    requires tidy { IsTidy B.width B.number B.is_block blocks.old.items len }
-    requires within { i < len }
-    ensures same { value_at B.width (map B.number blocks.new.items) i ≡ bit }
-    ensures others { (j : ℕ) → j ≢ i → value_at B.width (map B.number blocks.new.items) j ≡ value_at B.width (map B.number blocks.old.items) j }
-    ensures tidy { IsTidy B.width B.number B.is_block blocks.new.items len }
-    ensures capacity { vec_capacity blocks.new ≡ vec_capacity blocks.old }
-{
-    let _ = len;
-    put_value(blocks, i, bit);
 }

@@ -1,4 +1,4 @@
-ghost use Rattle.std.specs.Prelude.{◌≡◌, ◌≤◌, ◌↔◌, All, IsTrue, false, length, map, slice_get};
+ghost use Rattle.std.specs.Prelude.{◌≡◌, ◌↔◌, All, IsTrue, false, length, map, slice_get};
 ghost use Rattle.bit_words.specs.Bits.{blocks_of, IsWithinRoom};
 
 use super::changes::{are_zero, value_of};
@@ -61,8 +61,8 @@ impl<B: BitBlock> BitVec<B> {
         are_zero(&self.blocks)
     }
 
-    /// Up to which length the list grows without memory: the blocks of room times their width,
-    /// or `usize::MAX` where that is greater. Constant time.
+    /// The greatest length for which no memory is missing. Each block that there is room for counts
+    /// for its width, as far as a `usize` goes. Constant time.
     #[inline]
     pub fn capacity(&self) -> usize
         ensures value { result ≡ self.now.room }

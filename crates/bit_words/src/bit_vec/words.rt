@@ -1,8 +1,8 @@
 // The operators of a block type, each as a function whose clauses name the digits and the number
-// of the result. Generic code calls these, and so cites no law.
-ghost use Rattle.std.specs.Prelude.{◌≡◌, ℕ, ◌+◌, ◌-◌, ◌*◌, ◌/◌, ◌%◌, ◌^◌, ◌<◌, ◌≤◌, ◌==◌, bit_and, bit_or, bit_xor, count_ones};
+// of the result. Generic code calls these, and so cites no law of an operator.
+ghost use Rattle.std.specs.Prelude.{◌≡◌, ◌-◌, ◌*◌, ◌/◌, ◌%◌, ◌^◌, ◌<◌, ◌≤◌, ◌==◌, bit_and, bit_or};
 ghost use Rattle.std.specs.Int.{bit_at};
-ghost use Rattle.bit_words.specs.Digits.{IsBoth, IsEither, IsDifferent, IsComplement, IsShiftedLeft, IsShiftedRight};
+ghost use Rattle.bit_words.specs.Digits.{IsBoth, IsEither, IsComplement, IsShiftedLeft, IsShiftedRight};
 
 use super::BitBlock;
 
@@ -32,18 +32,6 @@ pub(crate) fn block_or<B: BitBlock>(a: B, b: B) -> B
 
 #[inline]
 #[tactic(auto, using(crate::proofs::Words::number_of_digits))]
-pub(crate) fn block_xor<B: BitBlock>(a: B, b: B) -> B
-    requires left { B.is_block a }
-    requires right { B.is_block b }
-    ensures of_block { B.is_block result }
-    ensures of_digits { IsDifferent B.width (B.number a) (B.number b) (B.number result) }
-    ensures of_number { B.number result ≡ bit_xor (B.number a) (B.number b) }
-{
-    a ^ b
-}
-
-#[inline]
-#[tactic(auto, using(crate::proofs::Words::number_of_digits))]
 pub(crate) fn block_not<B: BitBlock>(a: B) -> B
     requires { B.is_block a }
     ensures of_block { B.is_block result }
@@ -51,17 +39,6 @@ pub(crate) fn block_not<B: BitBlock>(a: B) -> B
     ensures of_number { B.number result ≡ 2 ^ B.width - 1 - B.number a }
 {
     !a
-}
-
-#[inline]
-pub(crate) fn block_add<B: BitBlock>(a: B, b: B) -> B
-    requires left { B.is_block a }
-    requires right { B.is_block b }
-    requires sum_fits { B.number a + B.number b < 2 ^ B.width }
-    ensures of_block { B.is_block result }
-    ensures of_number { B.number result ≡ B.number a + B.number b }
-{
-    a + b
 }
 
 #[inline]

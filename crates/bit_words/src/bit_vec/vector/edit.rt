@@ -3,19 +3,19 @@ ghost use Rattle.std.specs.Prelude.{◌≡◌, ◌+◌, ◌<◌, ◌≤◌, [], 
 
 use super::BitVec;
 use crate::bit_vec::BitBlock;
-use crate::bit_vec::changes::block_count;
-use crate::bit_vec::tidy::{append_values, fill_values, keep_values, set_value};
+use crate::bit_vec::changes::{block_count, put_value};
+use crate::bit_vec::tidy::{append_values, fill_values, keep_values};
 use std::alloc::AllocError;
 
 impl<B: BitBlock> BitVec<B> {
-    /// Makes the value at `i` be `bit`. Constant time.
+    /// Makes the value at `i` be `bit`, where `i` is below [`len`](Self::len). Constant time.
     #[inline]
     pub fn set(&mut self, i: usize, bit: bool)
         requires { i < length self.old.values }
         ensures values { self.new.values ≡ slice_set self.old.values i bit }
         ensures room { self.new.room ≡ self.old.room }
     {
-        set_value(&mut self.blocks, self.len, i, bit);
+        put_value(&mut self.blocks, i, bit);
     }
 
     /// Makes every value be `bit`. Writes each block once.
@@ -48,8 +48,9 @@ impl<B: BitBlock> BitVec<B> {
         self.len = 0;
     }
 
-    /// Appends `n` values `bit`. Writes each new block once, and the old last one where it takes ones;
-    /// moves the old blocks where the room was missing. Fails only there, and then nothing changed.
+    /// Appends `n` values `bit`; the new length must fit a `usize`. Writes each new block once, and the
+    /// old last one where it takes ones; moves the old blocks where the room was missing. Fails only
+    /// there, and then nothing changed.
     pub fn grow(&mut self, n: usize, bit: bool) -> Result<(), AllocError>
         requires { length self.old.values + n ≤ usize.MAX }
         ensures ok { OnOk result (self.new.values ≡ self.old.values ++ replicate n bit) }
@@ -67,8 +68,8 @@ impl<B: BitBlock> BitVec<B> {
         Ok(())
     }
 
-    /// Takes over the list of `other`, in one pass over its blocks. Fails only where the room was
-    /// missing, and then nothing changed.
+    /// Takes over the list of `other`, in one pass over its blocks. Where the room was missing it asks
+    /// for that of `other` and may move the old blocks. Fails only there, and then nothing changed.
     pub fn clone_from(&mut self, other: &Self) -> Result<(), AllocError>
         ensures ok { OnOk result (self.new.values ≡ other.now.values) }
         ensures err { OnErr result (self.new ≡ self.old) }
@@ -77,7 +78,7 @@ impl<B: BitBlock> BitVec<B> {
         ensures room { self.old.room ≤ self.new.room }
     {
         let missing = other.blocks.len().saturating_sub(self.blocks.len());
-        self.blocks.reserve(missing)?;
+        self.blocks.reserve_exact(missing)?;
         self.blocks.clear();
         self.blocks.extend_from_slice(&other.blocks).unwrap();
         self.len = other.len;

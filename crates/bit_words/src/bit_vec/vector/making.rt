@@ -15,6 +15,7 @@ pub enum BitsError {
     /// Eight times the number of bytes is more than `usize::MAX`.
     #[error("too many bits")]
     Length,
+    /// Memory for the blocks was refused.
     #[error("memory refused")]
     Memory(AllocError),
 }
@@ -30,12 +31,14 @@ impl From<AllocError> for BitsError {
 impl BitVec<u32> {
     /// The empty list, over blocks of 32 bits. Takes no memory.
     pub fn new(alloc: Global) -> Self
-        ensures { result.values ≡ [] }
+        ensures values { result.values ≡ [] }
+        ensures room { result.room ≡ 0 }
     {
         BitVec::new_general(alloc)
     }
 
-    /// `n` times `bit`, over blocks of 32 bits. Writes each block once.
+    /// `n` times `bit`, over blocks of 32 bits. Writes each block once. Fails only where memory is
+    /// refused, and never for `n` 0.
     pub fn from_elem(alloc: Global, n: usize, bit: bool) -> Result<Self, AllocError>
         ensures values { IfOk result (λ vector. vector.values ≡ replicate n bit) }
         ensures holds_values { IfOk result (λ vector. n ≤ vector.room) }
@@ -44,7 +47,10 @@ impl BitVec<u32> {
         BitVec::from_elem_general(alloc, n, bit)
     }
 
-    /// Eight values a byte, its highest bit first, over blocks of 32 bits. One step a byte.
+    /// The bits of each byte in turn, from the highest down, over blocks of 32 bits. One step a byte.
+    ///
+    /// `Length` comes exactly where there are more values than `usize::MAX`, and before memory is asked
+    /// for; `Memory` only where that is refused, and never for no bytes.
     pub fn from_bytes(alloc: Global, bytes: &[u8]) -> Result<Self, BitsError>
         ensures values { IfOk result (λ vector. vector.values ≡ values_of_bytes bytes.now) }
         ensures too_long { IsErrOf result BitsError.Length ↔ (usize.MAX < 8 * length bytes.now) }
@@ -57,7 +63,8 @@ impl BitVec<u32> {
 impl<B: BitBlock> BitVec<B> {
     /// The empty list. Takes no memory.
     pub fn new_general(alloc: Global) -> Self
-        ensures { result.values ≡ [] }
+        ensures values { result.values ≡ [] }
+        ensures room { result.room ≡ 0 }
     {
         BitVec {
             blocks: Vec::new(alloc),
@@ -65,7 +72,7 @@ impl<B: BitBlock> BitVec<B> {
         }
     }
 
-    /// `n` times `bit`. Writes each block once.
+    /// `n` times `bit`. Writes each block once. Fails only where memory is refused, and never for `n` 0.
     pub fn from_elem_general(alloc: Global, n: usize, bit: bool) -> Result<Self, AllocError>
         ensures values { IfOk result (λ vector. vector.values ≡ replicate n bit) }
         ensures holds_values { IfOk result (λ vector. n ≤ vector.room) }
@@ -76,9 +83,10 @@ impl<B: BitBlock> BitVec<B> {
         Ok(vector)
     }
 
-    /// Eight values a byte, its highest bit first. One step a byte.
+    /// The bits of each byte in turn, from the highest down. One step a byte.
     ///
-    /// `Length` comes exactly where there are more values than `usize::MAX`, before any growth.
+    /// `Length` comes exactly where there are more values than `usize::MAX`, and before memory is asked
+    /// for; `Memory` only where that is refused, and never for no bytes.
     pub fn from_bytes_general(alloc: Global, bytes: &[u8]) -> Result<Self, BitsError>
         ensures values { IfOk result (λ vector. vector.values ≡ values_of_bytes bytes.now) }
         ensures too_long { IsErrOf result BitsError.Length ↔ (usize.MAX < 8 * length bytes.now) }
@@ -91,7 +99,8 @@ impl<B: BitBlock> BitVec<B> {
         Ok(BitVec { blocks, len })
     }
 
-    /// A bit vector of the same list. Copies each block once.
+    /// A bit vector of the same list. Copies each block once. Fails only where memory is refused, and
+    /// never for an empty list.
     pub fn clone(&self, alloc: Global) -> Result<Self, AllocError>
         ensures values { IfOk result (λ vector. vector.values ≡ self.now.values) }
         ensures empty { length self.now.values ≡ 0 → IsOk result }

@@ -1,6 +1,6 @@
 use Rattle.std.proofs.Common.{◌≡◌, ◌%◌, ◌/◌, ◌-◌, ◌+◌, ◌∙◌, map, length, vec_len, arith}
 use Rattle.std.proofs.lemmas.List.{length-map}
-use Rattle.bit_words.proofs.TidyLemmas.{none_pushed, whole_pushed, cut_pushed, kept_below}
+use Rattle.bit_words.proofs.TidyLemmas.{none_pushed, whole_pushed, cut_pushed, kept_below, map-pushed}
 use Rattle.bit_words.proofs.bit_vec.tidy.push_ones.Goals as goal
 
 pub returns-then-len-whole-clause-added : goal.returns-then-len-whole-clause-added
@@ -9,7 +9,7 @@ returns-then-len-whole-clause-added g c = λ i past.
 
 pub returns-then-place-ne0-clause-kept : goal.returns-then-place-ne0-clause-kept
 returns-then-place-ne0-clause-kept g c = λ i within.
-    kept_below _ _ _ _ _ i c.push_copies-then-place-ne0.ensures.numbers (rw length-map (omega arith))
+    kept_below _ _ _ 1 _ i (map-pushed g.B.BitBlock.number _ _ _ c.push_reserved.ensures.items) (rw length-map (omega arith))
     ∙ kept_below _ _ _ _ _ i c.push_copies.ensures.numbers (rw length-map (omega arith))
 
 pub returns-then-place-ne0-clause-added : goal.returns-then-place-ne0-clause-added
@@ -18,7 +18,7 @@ returns-then-place-ne0-clause-added g c = λ i past.
     let xs = c.args.blocks.now.items in
     let total : length (map f xs) + (c.block_index-whole.result - vec_len c.args.blocks.now) ≡ c.args.len / g.B.BitBlock.width = rw length-map (omega arith) in
     let cut = c.ones_below.ensures.of_number in
-    cut_pushed _ (map f xs) _ _ _ _ _ _ _ i g.met.B.BitBlock.width_law.positive total c.all_ones.ensures.of_number c.push_copies.ensures.numbers (omega arith) (rw c.place_in_block-place.ensures.value at cut) c.push_copies-then-place-ne0.ensures.numbers (rw length-map (omega arith))
+    cut_pushed _ (map f xs) _ _ _ _ _ _ i g.met.B.BitBlock.width_law.positive total c.all_ones.ensures.of_number c.push_copies.ensures.numbers (rw c.place_in_block-place.ensures.value at cut) (map-pushed f _ c.push_reserved.new.self.items _ c.push_reserved.ensures.items) (rw length-map (omega arith))
 
 pub returns-else-place-ne0-clause-kept : goal.returns-else-place-ne0-clause-kept
 returns-else-place-ne0-clause-kept g c = λ i within.
