@@ -15,9 +15,6 @@ bound_of-push : (items : List ℕ) (n : ℕ) → bound_of (items ++ n ∷ []) �
 bound_of-push [] n = omega arith
 bound_of-push (x ∷ xs) n = let rest = bound_of-push xs n in omega (arith, rest)
 
-pub TakesIn-none : (values : List Bool) → TakesIn [] values values
-TakesIn-none values = record { members = refl; long = omega arith; fit = omega arith }
-
 pub TakesIn-more : (items : List ℕ) (n : ℕ) (old mid new : List Bool) → TakesIn items old mid → elements new ≡ put (elements mid) n → length new ≡ max (length mid) (n + 1) → n < greatest → TakesIn (items ++ n ∷ []) old new
 TakesIn-more items n old mid new so_far members long low = record {
   members = members ∙ ap (λ s. put s n) so_far.members ∙ sym (put_all-push (elements old) items n);

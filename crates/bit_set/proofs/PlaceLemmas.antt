@@ -3,13 +3,14 @@ use Rattle.std.proofs.Common.{◌≡◌, ℕ, zero, suc, ◌+◌, ◌-◌, ◌*�
 use Rattle.std.specs.Int.{bit_at}
 use Rattle.std.specs.List.{sum_by, range_with_len}
 use Rattle.std.proofs.lemmas.Bool.{eq-eqb, cases_lt}
-use Rattle.std.proofs.lemmas.Nat.Bits.{bit_at-zero, bit_at-lt}
+use Rattle.std.proofs.lemmas.Nat.Bits.{bit_at-lt}
 use Rattle.std.proofs.lemmas.List.{length-append, get_or_append_left, get_or-append_right}
 use Rattle.std.proofs.lemmas.List.Elements.{All-nil, All-cons, All-head, All-tail}
 use Rattle.std.proofs.lemmas.List.Sums.{sum_by-cons}
 use Rattle.std.proofs.Math.Nat.{div-add-mod', mod-lt}
 use Rattle.bit_words.proofs.BitsLemmas.{blocks_of-digit}
 use Rattle.bit_words.proofs.OnesLemmas.{ones_are_digits}
+use Rattle.bit_words.proofs.Masks.{is_one-zero}
 use Rattle.bit_set.proofs.SetLemmas.{elements-alike, length-elements-le}
 use Rattle.std.proofs.lemmas.List.FromFn.{length-map-range_with_len, get_or-map-range_with_len}
 use Rattle.bit_words.specs.Bits.{blocks_of, digit_of}
@@ -17,9 +18,6 @@ use Rattle.bit_words.specs.Lowest.{IsLowest, IsCleared}
 use Rattle.bit_words.specs.Storage.{is_one}
 use Rattle.bit_set.specs.Sets.{elements_from, elements}
 use Rattle.bit_set.specs.Places.{digits_from, values_in, places}
-
-is_one-zero : (a : ℕ) → is_one 0 a ≡ false
-is_one-zero a = ap (λ n. eqb n 1) (bit_at-zero a)
 
 is_one-one : (m a : ℕ) → bit_at m a ≡ 1 → is_one m a ≡ true
 is_one-one m a h = eq-eqb (bit_at m a) 1 h

@@ -7,16 +7,11 @@ use Rattle.std.specs.Ordering.{nat_cmp, eq_by_cmp, is_eq}
 use Rattle.std.specs.List.{list_any}
 use Rattle.std.specs.FinSet as set
 use Rattle.bit_set.specs.Sets.{AscendsFrom, IsAscending, has, put, without, elements, those_below, put_all, bound_of}
-use Rattle.bit_set.proofs.SetLemmas.{AscendsFrom-lower, AscendsFrom-put, has-below, has-put, has-without, has-elements}
+use Rattle.bit_set.proofs.SetLemmas.{AscendsFrom-lower, AscendsFrom-put, has-below, has-put, has-without, has-elements, or_swap}
 
 or_assoc : (a b c : Bool) → ((a || b) || c) ≡ (a || (b || c))
 or_assoc true b c = refl
 or_assoc false b c = refl
-
-or_swap : (a b c : Bool) → (a || (b || c)) ≡ (b || (a || c))
-or_swap true true c = refl
-or_swap true false c = refl
-or_swap false b c = refl
 
 and-false : (a : Bool) → false ≡ (a && false)
 and-false true = refl

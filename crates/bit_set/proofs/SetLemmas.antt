@@ -1,7 +1,7 @@
 -- What the operations of `specs/Sets.antt` do to the members, that they keep the order, and that the members fix a set.
-use Rattle.std.proofs.Common.{◌≡◌, ℕ, ◌+◌, ◌<◌, ◌≤◌, Bool, true, false, not, ◌||◌, ◌&&◌, cond, eqb, ltb, List, [], ◌∷◌, length, get_or, ◌++◌, suc, zero, count_by, set, take, replicate, ◌-◌, refl, sym, ap, inl, inr, ◌∙◌, arith}
+use Rattle.std.proofs.Common.{◌≡◌, ℕ, ◌+◌, ◌<◌, ◌≤◌, Bool, true, false, not, ◌||◌, ◌&&◌, cond, eqb, ltb, List, [], ◌∷◌, length, get_or, ◌++◌, suc, zero, count_by, set, replicate, refl, sym, ap, inl, inr, ◌∙◌, arith}
 use Rattle.std.proofs.lemmas.Bool.{eq-eqb, ne_eqb, lt-ltb, le-ltb, true≢false, cases_eq, cases_lt, cases_order}
-use Rattle.std.proofs.lemmas.List.{get_or-set_same, get_or-set_other, take_all, take_more, length-take-le}
+use Rattle.std.proofs.lemmas.List.{get_or-set_same, get_or-set_other}
 use Rattle.std.proofs.lemmas.List.Recursion.{is_count_by}
 use Rattle.bit_set.specs.Sets.{AscendsFrom, IsAscending, has, put, without, elements_from, elements}
 
@@ -53,7 +53,7 @@ same_members_from low (x ∷ xs) (y ∷ ys) hx hy same =
 pub same_members : (xs ys : List ℕ) → IsAscending xs → IsAscending ys → ((n : ℕ) → has xs n ≡ has ys n) → xs ≡ ys
 same_members xs ys = same_members_from 0 xs ys
 
-or_swap : (a b c : Bool) → (a || (b || c)) ≡ (b || (a || c))
+pub or_swap : (a b c : Bool) → (a || (b || c)) ≡ (b || (a || c))
 or_swap true true c = refl
 or_swap true false c = refl
 or_swap false b c = refl
@@ -159,16 +159,6 @@ length-elements-le place [] = omega arith
 length-elements-le place (true ∷ bs) = let more = length-elements-le (place + 1) bs in omega (arith, more)
 length-elements-le place (false ∷ bs) = let more = length-elements-le (place + 1) bs in omega (arith, more)
 
-elements_from-push : (place : ℕ) (bs : List Bool) (b : Bool) → elements_from place (bs ++ b ∷ []) ≡ elements_from place bs ++ cond b ((place + length bs) ∷ []) []
-elements_from-push place [] true = ap (λ n. n ∷ []) (omega arith)
-elements_from-push place [] false = refl
-elements_from-push place (true ∷ bs) b = ap (λ s. place ∷ s) (elements_from-push (place + 1) bs b ∙ ap (λ n. elements_from (place + 1) bs ++ cond b (n ∷ []) []) (omega arith))
-elements_from-push place (false ∷ bs) b = elements_from-push (place + 1) bs b ∙ ap (λ n. elements_from (place + 1) bs ++ cond b (n ∷ []) []) (omega arith)
-
--- one more value, at the end
-pub elements-push : (bs : List Bool) (b : Bool) → elements (bs ++ b ∷ []) ≡ elements bs ++ cond b (length bs ∷ []) []
-elements-push bs b = elements_from-push 0 bs b ∙ ap (λ n. elements bs ++ cond b (n ∷ []) []) (omega arith)
-
 -- a value made true, where the list read as another before: the set gains its place
 pub elements-set_true : (bs cs : List Bool) (v : ℕ) → v < length cs → ((k : ℕ) → get_or cs k false ≡ get_or bs k false) → elements (set cs v true) ≡ put (elements bs) v
 elements-set_true bs cs v lt same =
@@ -203,11 +193,6 @@ get_or_padded [] (suc n) (suc k) = get_or_padded [] n k
 get_or_padded (b ∷ bs) n zero = refl
 get_or_padded (b ∷ bs) n (suc k) = get_or_padded bs n k
 
--- a list filled up with false reads as before
-pub get_or_filled_up : (bs : List Bool) (n k : ℕ) → length bs ≤ n → get_or (take n bs ++ replicate (n - length bs) false) k false ≡ get_or bs k false
-get_or_filled_up bs n k le =
-    rw (take_all n bs le) (get_or_padded bs (n - length bs) k)
-
 -- a number that is in no set without it
 pub without_absent : (s : List ℕ) (n : ℕ) → IsAscending s → has s n ≡ false → without s n ≡ s
 without_absent s n up absent =
@@ -220,9 +205,3 @@ without_absent s n up absent =
 -- lists that read alike keep one set
 pub elements-alike : (bs cs : List Bool) → ((k : ℕ) → get_or cs k false ≡ get_or bs k false) → elements cs ≡ elements bs
 elements-alike bs cs alike = elements-by_members cs (elements bs) (IsAscending-elements bs) (λ k. alike k ∙ sym (has-elements bs k))
-
--- the set of a front, one value on
-pub elements-take_more : (bs : List Bool) (i : ℕ) (b : Bool) → i < length bs → get_or bs i false ≡ b → elements (take (i + 1) bs) ≡ elements (take i bs) ++ cond b (i ∷ []) []
-elements-take_more bs i b lt is =
-    let long : length (take i bs) ≡ i = length-take-le i bs (omega (arith, lt)) in
-    ap elements (take_more bs i false lt) ∙ rw is (elements-push (take i bs) b ∙ rw long refl)

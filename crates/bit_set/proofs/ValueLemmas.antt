@@ -1,10 +1,10 @@
 -- What a bit vector does to the set that it keeps.
-use Rattle.std.proofs.Common.{◌≡◌, ℕ, ◌+◌, ◌<◌, ◌≤◌, Bool, true, false, ◌&&◌, ◌↔◌, ltb, List, [], ◌∷◌, ◌++◌, length, get_or, set, take, drop, replicate, slice_get, zero, suc, refl, sym, ap, ◌∙◌, inl, inr, arith}
+use Rattle.std.proofs.Common.{◌≡◌, ℕ, ◌<◌, ◌≤◌, Bool, true, false, ◌&&◌, ◌↔◌, ltb, List, [], ◌∷◌, ◌++◌, length, get_or, set, take, replicate, slice_get, zero, suc, refl, sym, ap, ◌∙◌, inl, inr, arith}
 use Rattle.std.specs.Option.{unwrap_or}
 use Rattle.std.specs.List.{All}
 use Rattle.std.proofs.lemmas.Bool.{lt-ltb, le-ltb, cases_lt}
-use Rattle.std.proofs.lemmas.List.{get_or-take, get_or_past, drop_more, drop_all}
-use Rattle.bit_set.specs.Sets.{has, put, without, elements, elements_from, those_below}
+use Rattle.std.proofs.lemmas.List.{get_or-take, get_or_past}
+use Rattle.bit_set.specs.Sets.{has, put, without, elements, those_below}
 use Rattle.bit_set.proofs.SetLemmas.{IsAscending-elements, has-elements, elements-by_members, elements-set_true, elements-set_false, get_or_padded}
 use Rattle.bit_set.proofs.SetLaws.{IsAscending-those_below, has-those_below}
 
@@ -79,14 +79,3 @@ empty_where_all_false bs = (
     get_or-any [] k d within = absurd (omega arith)
     get_or-any (b ∷ bs) zero d within = refl
     get_or-any (b ∷ bs) (suc k) d within = get_or-any bs k d (omega arith)
-
--- no place is left past the end
-pub elements_from-end : (bs : List Bool) (place : ℕ) → length bs ≤ place → elements_from place (drop place bs) ≡ []
-elements_from-end bs place le = ap (elements_from place) (drop_all place bs le)
-
--- one place of a walk
-pub elements_from-here : (bs : List Bool) (place : ℕ) → place < length bs → get_or bs place false ≡ true → elements_from place (drop place bs) ≡ place ∷ elements_from (place + 1) (drop (place + 1) bs)
-elements_from-here bs place within is = ap (elements_from place) (drop_more bs place false within) ∙ rw is refl
-
-pub elements_from-past : (bs : List Bool) (place : ℕ) → place < length bs → get_or bs place false ≡ false → elements_from place (drop place bs) ≡ elements_from (place + 1) (drop (place + 1) bs)
-elements_from-past bs place within is = ap (elements_from place) (drop_more bs place false within) ∙ rw is refl

@@ -1,4 +1,4 @@
-// The lowest 1 of a block, in a mask, a subtraction and a count of ones.
+// The lowest 1 of a block, by a not, an addition, two masks, two subtractions and a count of ones.
 ghost use Rattle.std.specs.Prelude.{◌≡◌, ◌-◌, ◌^◌, ◌<◌};
 ghost use Rattle.bit_words.specs.Lowest.{IsLowest, IsCleared};
 ghost use Rattle.bit_set.specs.Places.{IsAlone};

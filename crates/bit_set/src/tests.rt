@@ -1,4 +1,5 @@
-//! Rows with their exact answers, each call once over two block types, and the texts of the faults.
+//! Rows with their exact answers, each generic call once over two block types, and the texts of the
+//! faults.
 use crate::bit_vec::BitVec;
 use crate::{BitBlock, BitSet, SetError};
 use std::alloc::{AllocError, Global};
@@ -140,6 +141,17 @@ fn has_nine<B: BitBlock>(alloc: Global) -> Result<bool, AllocError> {
     Ok(set.contains(8) && !set.is_empty() && set.capacity() >= 9)
 }
 
+// Whether one more number is new in a copy of a set of ten; and how many elements the set has, how
+// many the copy once it is cut off at 65, and the copy's length.
+fn cut<B: BitBlock>(alloc: Global) -> Result<(bool, [usize; 3]), SetError> {
+    let set = BitSet::<B>::from_iter(alloc, 60..70)?;
+    let mut copy = set.clone(alloc)?;
+    let new = copy.insert(100)?;
+    copy.truncate(65);
+    let left = items(alloc, &copy)?.len();
+    Ok((new, [set.count(), left, copy.get_ref().len()]))
+}
+
 #[test]
 fn every_call_succeeds(rt: HostRuntime) -> Result<(), Fail> {
     assert_eq!(rt; counts::<u8>(rt.alloc())?, [4, 3, 0, 24]);
@@ -148,6 +160,8 @@ fn every_call_succeeds(rt: HostRuntime) -> Result<(), Fail> {
     assert_eq!(rt; copied::<u64>(rt.alloc())?, [4, 16, 0]);
     assert!(rt; has_nine::<u8>(rt.alloc())?);
     assert!(rt; has_nine::<u64>(rt.alloc())?);
+    assert_eq!(rt; cut::<u8>(rt.alloc())?, (true, [10, 5, 65]));
+    assert_eq!(rt; cut::<u64>(rt.alloc())?, (true, [10, 5, 65]));
     Ok(())
 }
 

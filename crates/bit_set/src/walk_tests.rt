@@ -37,8 +37,16 @@ fn bounds<B: BitBlock>(set: &BitSet<B>) -> [(usize, Option<usize>); 3] {
     [made, stepped, walk.size_hint()]
 }
 
+// A set of 401 places over `u32` has 13 blocks, and its whole walk makes 14 pulls at most.
+fn pulls_at_401_places()
+    ensures { (values : List Bool) (s t : Walk) (items : List ℕ) → length values ≡ 401 → IsAtStart 32 values s → YieldsThen ⟦<Iter<'static, u32> as Iterator>⟧.next_gives s items None t → t.pulls ≤ 14 }
+{
+    whole_walks::<u32>();
+}
+
 #[test]
 fn the_bound_falls_with_the_blocks(rt: HostRuntime) -> Result<(), Fail> {
+    pulls_at_401_places();
     let wide = bounds(&set_of::<u32>(rt.alloc(), 0, 400)?);
     assert_eq!(rt; wide, [(0, Some(416)), (0, Some(32)), (0, Some(32))]);
     let narrow = bounds(&set_of::<u8>(rt.alloc(), 0, 400)?);
@@ -79,13 +87,6 @@ fn an_empty_set_has_no_item(rt: HostRuntime) {
     assert_eq!(rt; set.iter().count(), 0);
 }
 
-// A set of 401 places over `u32` has 13 blocks, and its whole walk makes 14 pulls at most.
-fn pulls_at_401_places()
-    ensures { (values : List Bool) (s t : Walk) (items : List ℕ) → length values ≡ 401 → IsAtStart 32 values s → YieldsThen ⟦<Iter<'static, u32> as Iterator>⟧.next_gives s items None t → t.pulls ≤ 14 }
-{
-    whole_walks::<u32>();
-}
-
 // What generic code counts.
 fn counted<I: Iterator<Item = usize>>(items: I) -> usize
     requires may_call { I.can_next items }
@@ -100,22 +101,15 @@ fn even_numbers(alloc: Global) -> Result<BitSet, SetError> {
 
 #[test]
 fn even_numbers_are_counted(rt: HostRuntime) -> Result<(), Fail> {
-    pulls_at_401_places();
     let set = even_numbers(rt.alloc())?;
     assert_eq!(rt; set.iter().count(), 5000);
     assert_eq!(rt; counted(set.iter()), 5000);
-    for item in &set {
-        assert!(rt; item % 2 == 0 && item < 10000);
+    let mut walk = set.iter();
+    for half in 0..5000 {
+        assert_eq!(rt; walk.next(), Some(half * 2));
     }
+    assert_eq!(rt; walk.next(), None);
     Ok(())
-}
-
-fn made_of<B: BitBlock>(alloc: Global, elements: &[usize]) -> Result<BitSet<B>, SetError> {
-    let mut set = BitSet::new_general(alloc);
-    for element in elements {
-        set.insert(*element)?;
-    }
-    Ok(set)
 }
 
 // The walk gives these items first.
@@ -143,8 +137,11 @@ fn agrees_at_each_point<B: BitBlock>(rt: &impl Abort, set: &BitSet<B>, elements:
 #[test]
 fn a_walk_is_its_list_at_each_point(rt: HostRuntime) -> Result<(), Fail> {
     let elements = [0, 1, 7, 8, 22, 23, 24, 47, 48, 63, 64, 65, 143, 400, 401];
-    agrees_at_each_point(&rt, &made_of::<u8>(rt.alloc(), &elements)?, &elements);
-    agrees_at_each_point(&rt, &made_of::<Block24>(rt.alloc(), &elements)?, &elements);
-    agrees_at_each_point(&rt, &made_of::<u64>(rt.alloc(), &elements)?, &elements);
+    let narrow = BitSet::<u8>::from_iter(rt.alloc(), elements.iter().copied())?;
+    agrees_at_each_point(&rt, &narrow, &elements);
+    let odd = BitSet::<Block24>::from_iter(rt.alloc(), elements.iter().copied())?;
+    agrees_at_each_point(&rt, &odd, &elements);
+    let wide = BitSet::<u64>::from_iter(rt.alloc(), elements.iter().copied())?;
+    agrees_at_each_point(&rt, &wide, &elements);
     Ok(())
 }

@@ -1,4 +1,4 @@
-use Rattle.std.proofs.Common.{◌≡◌, ◌+◌, ◌≤◌, max, length, ap, arith}
+use Rattle.std.proofs.Common.{◌≡◌, max, length, ap, arith}
 use Rattle.bit_words.specs.Bits.{blocks_for}
 use Rattle.bit_set.proofs.walk_tests.pulls_at_401_places.Goals as goal
 
