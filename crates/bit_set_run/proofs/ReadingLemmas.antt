@@ -17,7 +17,7 @@ use Rattle.bit_set_run.specs.declared.reading.Verb.TheVariants.{Insert, Remove, 
 use Rattle.bit_set_run.specs.declared.reading.BadLine.{BadLine}
 use Rattle.bit_set_run.specs.declared.reading.BadLine.TheVariants.{BadCommand, BadNumber}
 use Rattle.bit_set_run.specs.Reading.{command_of, held, name_alone, name_and_number, name_of, number_of, numbers_of, reading, rest_of, two_names, verb_of, within_range}
-use Rattle.bit_set_run.specs.Run.{greatest}
+use Rattle.bit_set.specs.Bounds.{greatest}
 use Rattle.bit_set_run.specs.Words.{words_of}
 use Rattle.bit_set_run.proofs.CutLemmas.{parts_at-first, parts_at-one, parts_some}
 

@@ -14,7 +14,7 @@ use Rattle.bit_set_run.specs.declared.commands.Command.{Command}
 use Rattle.bit_set_run.specs.declared.commands.Command.TheVariants.{Insert, Remove, Contains, Extend, Truncate, Empty, Reset, Count, IsEmpty, Items, Copy, RestIter}
 use Rattle.bit_set_run.specs.Cuts.{Lacks}
 use Rattle.bit_set_run.specs.Reading.{all_numbers, command_of, name_alone, name_and_number, name_of, number_of, numbers_of, reading, two_names, verb_of}
-use Rattle.bit_set_run.specs.Run.{greatest}
+use Rattle.bit_set.specs.Bounds.{greatest}
 use Rattle.bit_set_run.specs.Spelling.{figures, letter, line_of, CanBeHad}
 use Rattle.bit_set_run.specs.Words.{words_of}
 use Rattle.bit_set_run.proofs.CutLemmas.{lacks_by_test, parts_at-first, parts_at-one}

@@ -15,7 +15,8 @@ use Rattle.bit_set_run.specs.Kept.{kept}
 use Rattle.bit_set.specs.Walk.{Walk, Advances}
 use Rattle.bit_set_run.specs.declared.commands.Command.TheVariants.{Insert}
 use Rattle.bit_set_run.specs.declared.commands.Reply.TheVariants.{Truth, Element}
-use Rattle.bit_set_run.specs.Run.{greatest, elements_before_greatest, step, answer_with, change_to}
+use Rattle.bit_set.specs.Bounds.{greatest}
+use Rattle.bit_set_run.specs.Run.{elements_before_greatest, step, answer_with, change_to}
 
 -- where each item is below the greatest number, none is that
 pub none_greatest : (items : List ℕ) → bound_of items ≤ greatest → list_any (λ n. eqb n greatest) items ≡ false

@@ -13,7 +13,7 @@ use Rattle.bit_set_run.specs.declared.reading.BadLine.{BadLine}
 use Rattle.bit_set_run.specs.declared.reading.BadLine.TheVariants.{BadCommand, BadNumber}
 use Rattle.bit_set_run.specs.declared.reading.Verb.{Verb}
 use Rattle.bit_set_run.specs.declared.reading.Verb.TheVariants.{Insert, Remove, Contains, Extend, Truncate, Empty, Reset, Count, IsEmpty, Items, Copy, Rest}
-use Rattle.bit_set_run.specs.Run.{greatest}
+use Rattle.bit_set.specs.Bounds.{greatest}
 use Rattle.bit_set_run.specs.Words.{words_of}
 
 -- the verbs and their words

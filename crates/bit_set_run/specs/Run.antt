@@ -5,6 +5,7 @@ use Rattle.bit_set_run.specs.declared.commands.Command.{Command}
 use Rattle.bit_set_run.specs.declared.commands.Command.TheVariants.{Insert, Remove, Contains, Extend, Truncate, Empty, Reset, Count, IsEmpty, Items as ItemsOf, Copy, RestIter}
 use Rattle.bit_set_run.specs.declared.commands.Reply.{Reply}
 use Rattle.bit_set_run.specs.declared.commands.Reply.TheVariants.{Truth, Done, Number, Items, Rest, Element, Same}
+use Rattle.bit_set.specs.Bounds.{greatest}
 use Rattle.bit_set.specs.Sets.{has, put, put_all, those_below, without}
 
 -- sixteen sets, by their places
@@ -18,10 +19,6 @@ no_sets = replicate 16 []
 -- the set of a name
 abbrev pub set_of : Sets → ℕ → List ℕ
 set_of sets name = slice_index_or sets name []
-
--- the greatest number that a `usize` holds: no set can have it, since a length is above each element
-abbrev pub greatest : ℕ
-greatest = 18446744073709551615
 
 -- what a command leaves and answers
 pub record Answer : Type 0 where

@@ -4,7 +4,7 @@ use Rattle.std.specs.List.{All, flat_map}
 use Rattle.bit_set_run.specs.declared.commands.Command.{Command}
 use Rattle.bit_set_run.specs.declared.commands.Command.TheVariants.{Insert, Remove, Contains, Extend, Truncate, Empty, Reset, Count, IsEmpty, Items, Copy, RestIter}
 use Rattle.bit_set_run.specs.Reading.{numbers_of}
-use Rattle.bit_set_run.specs.Run.{greatest}
+use Rattle.bit_set.specs.Bounds.{greatest}
 
 -- a space and the letter of the set at a place
 abbrev pub letter : ℕ → List ℕ

@@ -4,7 +4,8 @@ ghost use Rattle.std.specs.Prelude.{◌≡◌, ℕ, ◌<◌, ◌==◌, ◌∷◌
 ghost use Rattle.std.specs.List.{list_any};
 ghost use Rattle.bit_set.specs.Sets.{has, put, put_all};
 ghost use Rattle.bit_set_run.specs.Kept.{kept};
-ghost use Rattle.bit_set_run.specs.Run.{step, greatest, elements_before_greatest, RefusedBy};
+ghost use Rattle.bit_set.specs.Bounds.{greatest};
+ghost use Rattle.bit_set_run.specs.Run.{step, elements_before_greatest, RefusedBy};
 ghost use Rattle.bit_set_run.specs.declared.commands.Reply.TheVariants.{Truth, Done, Rest, Element};
 
 use crate::{Command, Numbers, Reply};

@@ -2,7 +2,8 @@ use Rattle.std.proofs.Common.{ap, ◌==◌, ◌∙◌, if◌then◌else◌, [], 
 use Rattle.std.proofs.lemmas.Result.{on_ok_weaker, on_err_weaker}
 use Rattle.bit_set.specs.Sets.{elements, has, put, put_all, those_below, without}
 use Rattle.bit_set_run.specs.Kept.{kept}
-use Rattle.bit_set_run.specs.Run.{greatest, elements_before_greatest}
+use Rattle.bit_set.specs.Bounds.{greatest}
+use Rattle.bit_set_run.specs.Run.{elements_before_greatest}
 use Rattle.bit_set_run.proofs.SteppingLemmas.{change_is, no_change_is, set_at, sets-insert}
 use Rattle.bit_set_run.proofs.stepping.answer.Goals as goal
 

@@ -2,7 +2,8 @@ use Rattle.std.proofs.Common.{◌≡◌, ◌<◌, ◌++◌, ◌∷◌, length, d
 use Rattle.std.proofs.iter.Yields.{Copied-Drains}
 use Rattle.bit_set.specs.Sets.{put_all}
 use Rattle.bit_set_run.specs.Kept.{kept}
-use Rattle.bit_set_run.specs.Run.{elements_before_greatest, greatest}
+use Rattle.bit_set.specs.Bounds.{greatest}
+use Rattle.bit_set_run.specs.Run.{elements_before_greatest}
 use Rattle.bit_set_run.proofs.SteppingLemmas.{none_greatest, some_greatest, before_taken, front_before, copied_before}
 use Rattle.bit_set_run.proofs.stepping.extend.Goals as goal
 
