@@ -73,12 +73,12 @@ run_of sets (command ∷ commands) =
     record { sets = rest.sets; replies = first.reply ∷ rest.replies }
 
 -- which commands can be refused memory, and what they leave: what stood before, but that an `Extend` has put in
--- the items before the one that was refused
+-- the items before the one that was refused. What is put in was not in before.
 abbrev pub RefusedBy : Sets → Command → Sets → Type 0
 RefusedBy old (Insert name n) new = (n < greatest) × (has (set_of old name) n ≡ false) × (new ≡ old)
 RefusedBy old (Extend name items) new =
     (front : List ℕ) × (item : ℕ) × (back : List ℕ) × (elements_before_greatest items ≡ front ++ item ∷ back)
-    × (new ≡ slice_set old name (put_all (set_of old name) front))
+    × (has (put_all (set_of old name) front) item ≡ false) × (new ≡ slice_set old name (put_all (set_of old name) front))
 RefusedBy old (ItemsOf name) new = new ≡ old
 RefusedBy old (Copy from to) new = (from ≢ to) × (new ≡ old)
 RefusedBy old (RestIter name n) new = new ≡ old

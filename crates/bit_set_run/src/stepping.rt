@@ -65,7 +65,8 @@ fn extend<B: BitBlock>(set: &mut BitSet<B>, items: &Numbers) -> Result<Reply, Al
     ensures reply { IfOk result (λ reply. reply ≡ (if list_any (λ n. n == greatest) items.now then Element else Done)) }
     ensures after { OnOk result (kept set.new ≡ put_all (kept set.old) (elements_before_greatest items.now)) }
     ensures refused { OnErr result ((front : List ℕ) × (item : ℕ) × (back : List ℕ)
-        × (elements_before_greatest items.now ≡ front ++ item ∷ back) × (kept set.new ≡ put_all (kept set.old) front)) }
+        × (elements_before_greatest items.now ≡ front ++ item ∷ back)
+        × (has (put_all (kept set.old) front) item ≡ false) × (kept set.new ≡ put_all (kept set.old) front)) }
 {
     match set.extend(items.as_slice().iter().copied()) {
         Ok(()) => Ok(Reply::Done),

@@ -32,7 +32,8 @@ returns-in-Extend-clause-sets g c =
 pub returns-in-Extend-clause-refused : goal.returns-in-Extend-clause-refused
 returns-in-Extend-clause-refused g c =
     let sets = c.args.sets.now in
-    rw c.in-Extend.is (on_err_weaker c.extend.result (λ refused. (refused.0, refused.1, refused.2, refused.3, change_is sets c.place-in-Extend.result c.in-Extend.name c.index-sets-place-in-Extend.result c.extend.new.set (λ s. put_all s refused.0) c.place-in-Extend.ensures.place (omega (arith, c.told-sets, c.place-in-Extend.ensures.within)) refused.4)) c.extend.ensures.refused)
+    let there = set_at sets c.place-in-Extend.result c.in-Extend.name c.index-sets-place-in-Extend.result c.place-in-Extend.ensures.place (omega (arith, c.told-sets, c.place-in-Extend.ensures.within)) in
+    rw c.in-Extend.is (on_err_weaker c.extend.result (λ refused. (refused.0, refused.1, refused.2, refused.3, ap (λ s. has (put_all s refused.0) refused.1) there ∙ refused.4, change_is sets c.place-in-Extend.result c.in-Extend.name c.index-sets-place-in-Extend.result c.extend.new.set (λ s. put_all s refused.0) c.place-in-Extend.ensures.place (omega (arith, c.told-sets, c.place-in-Extend.ensures.within)) refused.5)) c.extend.ensures.refused)
 
 pub returns-in-Truncate-clause-sets : goal.returns-in-Truncate-clause-sets
 returns-in-Truncate-clause-sets g c =

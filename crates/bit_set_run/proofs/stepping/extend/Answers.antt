@@ -1,6 +1,7 @@
 use Rattle.std.proofs.Common.{◌≡◌, ◌<◌, ◌++◌, ◌∷◌, length, drop, ◌+◌, refl, sym, ap, ◌∙◌, append-nil, []}
 use Rattle.std.proofs.iter.Yields.{Copied-Drains}
-use Rattle.bit_set.specs.Sets.{put_all}
+use Rattle.bit_set.specs.Sets.{has, put_all}
+use Rattle.bit_set.proofs.ValueLemmas.{has-past}
 use Rattle.bit_set_run.specs.Kept.{kept}
 use Rattle.bit_set.specs.Bounds.{greatest}
 use Rattle.bit_set_run.specs.Run.{elements_before_greatest}
@@ -40,4 +41,4 @@ returns-in-Err-Memory-clause-refused g c =
     let before = copied_before c.copied.result h.2 c.args.items.now h.0 h.1 shown h.3 in
     let rest = drop (length h.0 + 1) c.args.items.now in
     let low : h.1 < greatest = (rw c.in-Err-Memory.field-0-is at h.6).1 in
-    (h.0, h.1, elements_before_greatest rest, ap elements_before_greatest before ∙ front_before h.0 (h.1 ∷ rest) h.4.fit ∙ ap (λ xs. h.0 ++ xs) (before_taken h.1 rest low), h.4.members)
+    (h.0, h.1, elements_before_greatest rest, ap elements_before_greatest before ∙ front_before h.0 (h.1 ∷ rest) h.4.fit ∙ ap (λ xs. h.0 ++ xs) (before_taken h.1 rest low), ap (λ s. has s h.1) (sym h.4.members) ∙ has-past c.extend.new.self.values h.1 h.5, h.4.members)
