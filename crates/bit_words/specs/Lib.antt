@@ -5,3 +5,4 @@ pub mod Storage
 pub mod Steps
 pub mod Lowest
 pub mod Source
+pub mod Merges

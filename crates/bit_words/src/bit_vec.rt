@@ -8,6 +8,7 @@ mod bytes;
 mod changes;
 mod integers;
 mod masks;
+mod merge;
 mod steps;
 #[cfg(test)]
 mod tests;
@@ -17,5 +18,6 @@ mod words;
 
 pub use block::BitBlock;
 pub use blocks::Blocks;
+pub use merge::Merge;
 pub use steps::Steps;
 pub use vector::{BitVec, BitsError};
