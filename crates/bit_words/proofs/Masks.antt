@@ -1,10 +1,10 @@
 -- A digit of a block that an operator gives, as a test. `masks.rt` names the set.
-use Rattle.std.proofs.Common.{◌≡◌, ◌≢◌, ℕ, zero, suc, ◌-◌, ◌^◌, ◌<◌, min, max, true, false, not, ◌&&◌, ◌||◌, ◌==◌, nat_lt, nat_le, refl, sym, ap, ◌∙◌, arith, ⊎_elim}
+use Rattle.std.proofs.Common.{◌≡◌, ◌≢◌, ℕ, zero, suc, ◌+◌, ◌-◌, ◌%◌, ◌^◌, ◌<◌, min, max, true, false, not, ◌&&◌, ◌||◌, ◌==◌, nat_lt, nat_le, refl, sym, ap, ◌∙◌, arith, ⊎_elim}
 use Rattle.std.specs.Int.{bit_at}
 use Rattle.std.proofs.lemmas.Bool.{cases_lt}
 use Rattle.std.proofs.lemmas.Bool.Decides.{nat_tests}
 use Rattle.std.proofs.lemmas.Nat.Bits.{bit_at-lt, bit_at-zero, bit_at-pow_same, bit_at-pow_other, bit_at_ones, bit_at_ones_above}
-use Rattle.bit_words.specs.Digits.{IsBoth, IsEither, IsComplement}
+use Rattle.bit_words.specs.Digits.{IsBoth, IsEither, IsDifferent, IsComplement}
 use Rattle.bit_words.specs.Storage.{is_one}
 
 test_both : (a b : ℕ) → a < 2 → b < 2 → (min a b == 1) ≡ ((a == 1) && (b == 1))
@@ -19,6 +19,15 @@ test_both (suc (suc a)) b h k = absurd (omega arith)
 test_either : (a b : ℕ) → a < 2 → b < 2 → (max a b == 1) ≡ ((a == 1) || (b == 1))
 test_either a b h k = grind arith
 
+test_different : (a b : ℕ) → a < 2 → b < 2 → ((a + b) % 2 == 1) ≡ (((a == 1) && not (b == 1)) || (not (a == 1) && (b == 1)))
+test_different zero zero h k = refl
+test_different zero (suc zero) h k = refl
+test_different zero (suc (suc b)) h k = absurd (omega arith)
+test_different (suc zero) zero h k = refl
+test_different (suc zero) (suc zero) h k = refl
+test_different (suc zero) (suc (suc b)) h k = absurd (omega arith)
+test_different (suc (suc a)) b h k = absurd (omega arith)
+
 test_not : (a : ℕ) → a < 2 → (1 - a == 1) ≡ not (a == 1)
 test_not a h = grind arith
 
@@ -27,6 +36,9 @@ is_one-both w m n r j is h = ap (λ d. d == 1) (is.digit j h) ∙ test_both _ _ 
 
 pub is_one-either : (w m n r j : ℕ) → IsEither w m n r → j < w → is_one r j ≡ (is_one m j || is_one n j)
 is_one-either w m n r j is h = ap (λ d. d == 1) (is.digit j h) ∙ test_either _ _ (bit_at-lt m j) (bit_at-lt n j)
+
+pub is_one-different : (w m n r j : ℕ) → IsDifferent w m n r → j < w → is_one r j ≡ ((is_one m j && not (is_one n j)) || (not (is_one m j) && is_one n j))
+is_one-different w m n r j is h = ap (λ d. d == 1) (is.digit j h) ∙ test_different _ _ (bit_at-lt m j) (bit_at-lt n j)
 
 pub is_one-complement : (w m r j : ℕ) → IsComplement w m r → j < w → is_one r j ≡ not (is_one m j)
 is_one-complement w m r j is h = ap (λ d. d == 1) (is.digit j h) ∙ test_not _ (bit_at-lt m j)
@@ -51,4 +63,4 @@ is_one-ones n k j e =
 pub not_lt-le : (j k : ℕ) → not (nat_lt j k) ≡ nat_le k j
 not_lt-le j k = grind (arith, nat_tests)
 
-pub ruleset masks = (is_one-both, is_one-either, is_one-complement, is_one-zero, is_one-pow_same, is_one-pow_other, is_one-ones, not_lt-le)
+pub ruleset masks = (is_one-both, is_one-either, is_one-different, is_one-complement, is_one-zero, is_one-pow_same, is_one-pow_other, is_one-ones, not_lt-le)

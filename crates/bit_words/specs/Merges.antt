@@ -1,5 +1,5 @@
 -- What two lists of truth values become, value by value.
-use Rattle.std.specs.Prelude.{Bool, true, false, not, ◌&&◌, ◌||◌, List, [], ◌∷◌}
+use Rattle.std.specs.Prelude.{Bool, false, not, ◌&&◌, ◌||◌, List, [], ◌∷◌}
 use Rattle.bit_words.specs.declared.bit_vec.merge.Merge.{Merge}
 use Rattle.bit_words.specs.declared.bit_vec.merge.Merge.TheVariants.{Union, Intersection, Difference, Symmetric}
 

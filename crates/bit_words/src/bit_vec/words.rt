@@ -2,7 +2,7 @@
 // of the result. Generic code calls these, and so cites no law of an operator.
 ghost use Rattle.std.specs.Prelude.{◌≡◌, ◌-◌, ◌*◌, ◌/◌, ◌%◌, ◌^◌, ◌<◌, ◌≤◌, ◌==◌, bit_and, bit_or};
 ghost use Rattle.std.specs.Int.{bit_at};
-ghost use Rattle.bit_words.specs.Digits.{IsBoth, IsEither, IsComplement, IsShiftedLeft, IsShiftedRight};
+ghost use Rattle.bit_words.specs.Digits.{IsBoth, IsEither, IsDifferent, IsComplement, IsShiftedLeft, IsShiftedRight};
 
 use super::BitBlock;
 
@@ -28,6 +28,16 @@ pub(crate) fn block_or<B: BitBlock>(a: B, b: B) -> B
     ensures of_number { B.number result ≡ bit_or (B.number a) (B.number b) }
 {
     a | b
+}
+
+#[inline]
+pub(crate) fn block_xor<B: BitBlock>(a: B, b: B) -> B
+    requires left { B.is_block a }
+    requires right { B.is_block b }
+    ensures of_block { B.is_block result }
+    ensures of_digits { IsDifferent B.width (B.number a) (B.number b) (B.number result) }
+{
+    a ^ b
 }
 
 #[inline]
