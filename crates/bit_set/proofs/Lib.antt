@@ -1,5 +1,6 @@
 pub mod SetLemmas
 pub mod SetLaws
+pub mod AlgebraLemmas
 pub mod ValueLemmas
 pub mod CountLemmas
 pub mod ItemLemmas

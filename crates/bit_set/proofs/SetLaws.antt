@@ -29,14 +29,14 @@ has-cond : (b : Bool) (xs ys : List ℕ) (m : ℕ) → has (cond b xs ys) m ≡ 
 has-cond true xs ys m = refl
 has-cond false xs ys m = refl
 
-has-filter : (p : ℕ → Bool) (xs : List ℕ) (m : ℕ) → has (filter p xs) m ≡ (p m && has xs m)
+pub has-filter : (p : ℕ → Bool) (xs : List ℕ) (m : ℕ) → has (filter p xs) m ≡ (p m && has xs m)
 has-filter p [] m = and-false (p m)
 has-filter p (x ∷ xs) m =
     has-cond (p x) (x ∷ filter p xs) (filter p xs) m
     ∙ ap (λ rest. cond (p x) (eqb x m || rest) rest) (has-filter p xs m)
     ∙ kept p x m (has xs m) (p x) refl
 
-AscendsFrom-filter : (low : ℕ) (p : ℕ → Bool) (xs : List ℕ) → AscendsFrom low xs → AscendsFrom low (filter p xs)
+pub AscendsFrom-filter : (low : ℕ) (p : ℕ → Bool) (xs : List ℕ) → AscendsFrom low xs → AscendsFrom low (filter p xs)
 AscendsFrom-filter low p [] h = tt
 AscendsFrom-filter low p (x ∷ xs) h =
     let rest : AscendsFrom (x + 1) (filter p xs) = AscendsFrom-filter (x + 1) p xs h.1 in
@@ -95,7 +95,7 @@ slice_get-elements values m = (λ is. there values m (sym (has-elements values m
 pub same_values : (bs cs : List Bool) → elements bs ≡ elements cs → length bs ≡ length cs → bs ≡ cs
 same_values bs cs same long = ext_get_or false bs cs long (λ i within. sym (has-elements bs i) ∙ ap (λ s. has s i) same ∙ has-elements cs i)
 
-abbrev finite : List ℕ → set.FinSet nat_cmp
+abbrev pub finite : List ℕ → set.FinSet nat_cmp
 finite s = set.from_list s
 
 has-list_any : (s : List ℕ) (m : ℕ) → list_any (λ y. eqb y m) s ≡ has s m
@@ -108,7 +108,7 @@ contains-has s m = set.contains-from_list_nat s m ∙ has-list_any s m
 tied : (n m : ℕ) → eq_by_cmp nat_cmp m n ≡ eqb n m
 tied n m = unsigned_tied m n ∙ nat_eq_equiv.symm m n
 
-same_finite : (s : List ℕ) (t : set.FinSet nat_cmp) → ((m : ℕ) → has s m ≡ set.contains t m) → finite s ≡ t
+pub same_finite : (s : List ℕ) (t : set.FinSet nat_cmp) → ((m : ℕ) → has s m ≡ set.contains t m) → finite s ≡ t
 same_finite s t same = set.same_set nat_cmp_total set.nat_cmp-IsAntisymmetric (finite s) t (λ m. contains-has s m ∙ same m)
 
 pub finite-put : (s : List ℕ) (n : ℕ) → finite (put s n) ≡ set.insert (finite s) n

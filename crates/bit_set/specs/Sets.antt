@@ -1,5 +1,7 @@
 -- Sets of whole numbers, each as the list of its members in ascending order.
 use Rattle.std.specs.Prelude.{ℕ, ◌+◌, ◌≤◌, max, Bool, false, not, ◌||◌, ◌==◌, nat_lt, if◌then◌else◌, List, [], ◌∷◌, filter}
+use Rattle.bit_words.specs.declared.bit_vec.merge.Merge.{Merge}
+use Rattle.bit_words.specs.declared.bit_vec.merge.Merge.TheVariants.{Union, Intersection, Difference, Symmetric}
 
 -- the numbers strictly ascend, and the first is at least `low`
 abbrev pub AscendsFrom : ℕ → List ℕ → Type 0
@@ -46,3 +48,26 @@ put_all xs (n ∷ ns) = put_all (put xs n) ns
 abbrev pub bound_of : List ℕ → ℕ
 bound_of [] = 0
 bound_of (n ∷ ns) = max (n + 1) (bound_of ns)
+
+-- what is in either set
+abbrev pub union : List ℕ → List ℕ → List ℕ
+union s t = put_all s t
+
+-- what is in both sets
+abbrev pub intersection : List ℕ → List ℕ → List ℕ
+intersection s t = filter (λ n. has t n) s
+
+-- what is in the first set alone
+abbrev pub difference : List ℕ → List ℕ → List ℕ
+difference s t = filter (λ n. not (has t n)) s
+
+-- what is in just one of two sets
+abbrev pub symmetric_difference : List ℕ → List ℕ → List ℕ
+symmetric_difference s t = union (difference s t) (difference t s)
+
+-- what two sets become
+abbrev pub merged_sets : Merge → List ℕ → List ℕ → List ℕ
+merged_sets Union s t = union s t
+merged_sets Intersection s t = intersection s t
+merged_sets Difference s t = difference s t
+merged_sets Symmetric s t = symmetric_difference s t

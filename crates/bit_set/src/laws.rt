@@ -6,8 +6,11 @@ ghost use Rattle.std.specs.Ordering.{nat_cmp};
 ghost use Rattle.std.specs.Iterator.{YieldsThen, Drains};
 ghost use Rattle.bit_words.specs.Bits.{blocks_for};
 ghost use Rattle.bit_set.specs.Walk.{Walk, IsWalkedOut, IsAtStart};
-ghost use Rattle.bit_set.specs.Sets.{IsAscending, has, put, put_all, without, those_below, elements, bound_of};
+ghost use Rattle.bit_words.specs.Merges.{merged_value, merged};
+ghost use Rattle.bit_words.specs.declared.bit_vec.merge.Merge.{Merge};
+ghost use Rattle.bit_set.specs.Sets.{IsAscending, has, put, put_all, without, those_below, elements, bound_of, union, intersection, difference, symmetric_difference, merged_sets};
 
+use crate::bit_vec::Merge;
 use crate::{BitBlock, Iter};
 
 /// What each operation does to the members of a set.
@@ -45,6 +48,45 @@ pub fn sets_are_finite_sets()
     ensures retain { (s : List ℕ) (n : ℕ) → set.from_list {R = nat_cmp} (those_below s n) ≡ set.retain (set.from_list s) (λ m. nat_lt m n) }
     ensures union { (s items : List ℕ) → set.from_list {R = nat_cmp} (put_all s items) ≡ set.union (set.from_list s) (set.from_list items) }
     ensures len { (s : List ℕ) → IsAscending s → set.len (set.from_list {R = nat_cmp} s) ≡ length s }
+{}
+
+/// The members of what two sets become.
+pub fn members_of_merged_sets()
+    ensures union { (s t : List ℕ) (n : ℕ) → has (union s t) n ≡ (has s n || has t n) }
+    ensures intersection { (s t : List ℕ) (n : ℕ) → has (intersection s t) n ≡ (has s n && has t n) }
+    ensures difference { (s t : List ℕ) (n : ℕ) → has (difference s t) n ≡ (has s n && not (has t n)) }
+    ensures symmetric_difference { (s t : List ℕ) (n : ℕ) → has (symmetric_difference s t) n ≡ ((has s n && not (has t n)) || (not (has s n) && has t n)) }
+    ensures merged { (merge : Merge) (s t : List ℕ) (n : ℕ) → has (merged_sets merge s t) n ≡ merged_value merge (has s n) (has t n) }
+{}
+
+/// What two sets become is strictly ascending.
+pub fn merged_sets_ascend()
+    ensures union { (s t : List ℕ) → IsAscending s → IsAscending (union s t) }
+    ensures intersection { (s t : List ℕ) → IsAscending s → IsAscending (intersection s t) }
+    ensures difference { (s t : List ℕ) → IsAscending s → IsAscending (difference s t) }
+    ensures symmetric_difference { (s t : List ℕ) → IsAscending s → IsAscending (symmetric_difference s t) }
+    ensures merged { (merge : Merge) (s t : List ℕ) → IsAscending s → IsAscending (merged_sets merge s t) }
+{}
+
+/// What two sets become is what two finite sets become. What is in just one of them is what the first
+/// has alone, and what the second has alone.
+pub fn merged_sets_are_finite_sets()
+    ensures union { (s t : List ℕ) → set.from_list {R = nat_cmp} (union s t) ≡ set.union (set.from_list s) (set.from_list t) }
+    ensures intersection { (s t : List ℕ) → set.from_list {R = nat_cmp} (intersection s t) ≡ set.intersection (set.from_list s) (set.from_list t) }
+    ensures difference { (s t : List ℕ) → set.from_list {R = nat_cmp} (difference s t) ≡ set.difference (set.from_list s) (set.from_list t) }
+    ensures symmetric_difference { (s t : List ℕ) → set.from_list {R = nat_cmp} (symmetric_difference s t)
+        ≡ set.union (set.difference (set.from_list s) (set.from_list t)) (set.difference (set.from_list t) (set.from_list s)) }
+{}
+
+/// Where two lists of truth values become one value by value, the shorter one going on with false, the
+/// sets that they keep become one.
+pub fn merged_lists_keep_merged_sets()
+    ensures union { (a b : List Bool) → elements (merged Merge.Union a b) ≡ union (elements a) (elements b) }
+    ensures intersection { (a b : List Bool) → elements (merged Merge.Intersection a b) ≡ intersection (elements a) (elements b) }
+    ensures difference { (a b : List Bool) → elements (merged Merge.Difference a b) ≡ difference (elements a) (elements b) }
+    ensures symmetric_difference { (a b : List Bool) → elements (merged Merge.Symmetric a b) ≡ symmetric_difference (elements a) (elements b) }
+    ensures merged { (merge : Merge) (a b : List Bool) → elements (merged merge a b) ≡ merged_sets merge (elements a) (elements b) }
+    ensures length { (merge : Merge) (a b : List Bool) → length (merged merge a b) ≡ max (length a) (length b) }
 {}
 
 /// What whole walks give. From any point on, the calls of `next` up to the first `None` give just the

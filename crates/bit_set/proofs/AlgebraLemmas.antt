@@ -1,0 +1,86 @@
+-- Two sets made one: the members of what comes out, its order, the same as finite sets of std, and two lists of
+-- truth values merged value by value.
+use Rattle.std.proofs.Common.{◌≡◌, ℕ, Bool, false, not, ◌||◌, ◌&&◌, List, [], ◌∷◌, length, max, get_or, zero, suc, refl, sym, ap, ◌∙◌, arith}
+use Rattle.std.proofs.Math.Bool.{and_comm, or_comm}
+use Rattle.std.specs.Cmp.{nat_cmp_total}
+use Rattle.std.specs.FinSet as set
+use Rattle.bit_words.specs.Merges.{merged_value, merged}
+use Rattle.bit_words.specs.declared.bit_vec.merge.Merge.{Merge}
+use Rattle.bit_words.specs.declared.bit_vec.merge.Merge.TheVariants.{Union, Intersection, Difference, Symmetric}
+use Rattle.bit_set.specs.Sets.{IsAscending, has, elements, union, intersection, difference, symmetric_difference, merged_sets}
+use Rattle.bit_set.proofs.SetLemmas.{has-elements, IsAscending-elements, elements-by_members}
+use Rattle.bit_set.proofs.SetLaws.{has-filter, has-put_all, AscendsFrom-filter, IsAscending-put_all, contains-has, finite, finite-put_all, same_finite}
+
+pub has-union : (s t : List ℕ) (n : ℕ) → has (union s t) n ≡ (has s n || has t n)
+has-union s t n = has-put_all s t n ∙ or_comm (has t n) (has s n)
+
+pub has-intersection : (s t : List ℕ) (n : ℕ) → has (intersection s t) n ≡ (has s n && has t n)
+has-intersection s t n = has-filter (λ m. has t m) s n ∙ and_comm (has t n) (has s n)
+
+pub has-difference : (s t : List ℕ) (n : ℕ) → has (difference s t) n ≡ (has s n && not (has t n))
+has-difference s t n = has-filter (λ m. not (has t m)) s n ∙ and_comm (not (has t n)) (has s n)
+
+pub has-symmetric : (s t : List ℕ) (n : ℕ) → has (symmetric_difference s t) n ≡ ((has s n && not (has t n)) || (not (has s n) && has t n))
+has-symmetric s t n =
+    has-union (difference s t) (difference t s) n
+    ∙ ap (λ b. b || has (difference t s) n) (has-difference s t n)
+    ∙ ap (λ b. (has s n && not (has t n)) || b) (has-difference t s n ∙ and_comm (has t n) (not (has s n)))
+
+-- a number is a member of what two sets become as each of them has it or not
+pub has-merged_sets : (merge : Merge) (s t : List ℕ) (n : ℕ) → has (merged_sets merge s t) n ≡ merged_value merge (has s n) (has t n)
+has-merged_sets Union s t n = has-union s t n
+has-merged_sets Intersection s t n = has-intersection s t n
+has-merged_sets Difference s t n = has-difference s t n
+has-merged_sets Symmetric s t n = has-symmetric s t n
+
+pub IsAscending-merged_sets : (merge : Merge) (s t : List ℕ) → IsAscending s → IsAscending (merged_sets merge s t)
+IsAscending-merged_sets Union s t up = IsAscending-put_all s t up
+IsAscending-merged_sets Intersection s t up = AscendsFrom-filter 0 (λ n. has t n) s up
+IsAscending-merged_sets Difference s t up = AscendsFrom-filter 0 (λ n. not (has t n)) s up
+IsAscending-merged_sets Symmetric s t up = IsAscending-put_all (difference s t) (difference t s) (AscendsFrom-filter 0 (λ n. not (has t n)) s up)
+
+-- where both sets lack it, what they become lacks it
+merged_value-neither : (merge : Merge) → merged_value merge false false ≡ false
+merged_value-neither Union = refl
+merged_value-neither Intersection = refl
+merged_value-neither Difference = refl
+merged_value-neither Symmetric = refl
+
+-- past its end each list goes on with false
+pub get_or-merged : (merge : Merge) (xs ys : List Bool) (k : ℕ) → get_or (merged merge xs ys) k false ≡ merged_value merge (get_or xs k false) (get_or ys k false)
+get_or-merged merge [] [] k = sym (merged_value-neither merge)
+get_or-merged merge (x ∷ xs) [] zero = refl
+get_or-merged merge (x ∷ xs) [] (suc k) = get_or-merged merge xs [] k
+get_or-merged merge [] (y ∷ ys) zero = refl
+get_or-merged merge [] (y ∷ ys) (suc k) = get_or-merged merge [] ys k
+get_or-merged merge (x ∷ xs) (y ∷ ys) zero = refl
+get_or-merged merge (x ∷ xs) (y ∷ ys) (suc k) = get_or-merged merge xs ys k
+
+-- the set that a merged list keeps is what the sets of the two become
+pub elements-merged : (merge : Merge) (xs ys : List Bool) → elements (merged merge xs ys) ≡ merged_sets merge (elements xs) (elements ys)
+elements-merged merge xs ys =
+    elements-by_members (merged merge xs ys) (merged_sets merge (elements xs) (elements ys))
+    (IsAscending-merged_sets merge (elements xs) (elements ys) (IsAscending-elements xs))
+    (λ k. get_or-merged merge xs ys k
+    ∙ ap (λ b. merged_value merge b (get_or ys k false)) (sym (has-elements xs k))
+    ∙ ap (λ b. merged_value merge (has (elements xs) k) b) (sym (has-elements ys k))
+    ∙ sym (has-merged_sets merge (elements xs) (elements ys) k))
+
+pub length-merged : (merge : Merge) (xs ys : List Bool) → length (merged merge xs ys) ≡ max (length xs) (length ys)
+length-merged merge [] [] = refl
+length-merged merge (x ∷ xs) [] = let rest = length-merged merge xs [] in omega (arith, rest)
+length-merged merge [] (y ∷ ys) = let rest = length-merged merge [] ys in omega (arith, rest)
+length-merged merge (x ∷ xs) (y ∷ ys) = let rest = length-merged merge xs ys in omega (arith, rest)
+
+pub finite-intersection : (s t : List ℕ) → finite (intersection s t) ≡ set.intersection (finite s) (finite t)
+finite-intersection s t =
+    same_finite (intersection s t) _ (λ n. has-intersection s t n ∙ sym (set.contains-intersection nat_cmp_total (finite s) (finite t) n ∙ ap (λ b. b && set.contains (finite t) n) (contains-has s n) ∙ ap (λ b. has s n && b) (contains-has t n)))
+
+pub finite-difference : (s t : List ℕ) → finite (difference s t) ≡ set.difference (finite s) (finite t)
+finite-difference s t =
+    same_finite (difference s t) _ (λ n. has-difference s t n ∙ sym (set.contains-difference nat_cmp_total (finite s) (finite t) n ∙ ap (λ b. b && not (set.contains (finite t) n)) (contains-has s n) ∙ ap (λ b. has s n && not b) (contains-has t n)))
+
+-- what is in just one of two sets: what the first has alone, and what the second has alone
+pub finite-symmetric : (s t : List ℕ) → finite (symmetric_difference s t) ≡ set.union (set.difference (finite s) (finite t)) (set.difference (finite t) (finite s))
+finite-symmetric s t =
+    finite-put_all (difference s t) (difference t s) ∙ ap (λ a. set.union a (finite (difference t s))) (finite-difference s t) ∙ ap (λ b. set.union (set.difference (finite s) (finite t)) b) (finite-difference t s)
