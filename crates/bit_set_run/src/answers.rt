@@ -12,7 +12,7 @@ use bit_set::BitBlock;
 use std::alloc::{AllocError, Global};
 
 /// What the program writes for the input: for each of its lines a text and a newline.
-pub(crate) fn answer<B: BitBlock>(alloc: Global, input: &[u8]) -> Result<Vec<u8>, AllocError>
+pub(crate) fn output<B: BitBlock>(alloc: Global, input: &[u8]) -> Result<Vec<u8>, AllocError>
     ensures { IfOk result (λ text. text.items ≡ output input.now) }
 {
     let mut table = Table::<B>::new(alloc);

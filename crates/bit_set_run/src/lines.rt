@@ -3,7 +3,7 @@ ghost use Rattle.bit_set_run.specs.Streams.{limit, GaveCount};
 ghost use Rattle.bit_set_run.specs.Answered.{IsAnswered, IsCutOff};
 
 use crate::LinesFault;
-use crate::answers::answer;
+use crate::answers::output;
 use crate::streams::{read_input, write_output};
 use bit_set::BitBlock;
 use std::alloc::Global;
@@ -33,6 +33,6 @@ pub fn run_lines<B: BitBlock, R: Read, W: Write>(
     ensures memory_unwritten { result ≡ Err LinesFault.Memory → writer.new ≡ writer.old }
 {
     let input = read_input(alloc, reader)?;
-    let text = answer::<B>(alloc, input.as_slice())?;
+    let text = output::<B>(alloc, input.as_slice())?;
     write_output(writer, text.as_slice())
 }

@@ -54,7 +54,7 @@ fn execute<B: BitBlock>(
         ⊎ RefusedBy table.old command.now table.new) }
 {
     replies.reserve(1)?;
-    let reply = table.answer(alloc, command)?;
+    let reply = table.apply(alloc, command)?;
     replies.push_reserved(reply);
     Ok(())
 }

@@ -14,7 +14,7 @@ use std::alloc::{AllocError, Global};
 use std::mem;
 
 // One command, over the sets themselves.
-pub(crate) fn answer<B: BitBlock>(
+pub(crate) fn step<B: BitBlock>(
     alloc: Global,
     sets: &mut [BitSet<B>; 16],
     command: &Command,

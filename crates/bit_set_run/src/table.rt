@@ -2,7 +2,7 @@ ghost use Rattle.std.specs.Prelude.{◌≡◌, ℕ, IfOk, OnOk, OnErr};
 ghost use Rattle.bit_set_run.specs.Kept.{kept};
 ghost use Rattle.bit_set_run.specs.Run.{no_sets, set_of, step, RefusedBy};
 
-use crate::stepping::answer;
+use crate::stepping::step;
 use crate::{Command, Reply, SetName};
 use bit_set::{BitBlock, BitSet};
 use std::alloc::{AllocError, Global};
@@ -60,11 +60,11 @@ impl<B: BitBlock> Table<B> {
     }
 
     // One command, and the reply to it.
-    pub(crate) fn answer(&mut self, alloc: Global, command: &Command) -> Result<Reply, AllocError>
+    pub(crate) fn apply(&mut self, alloc: Global, command: &Command) -> Result<Reply, AllocError>
         ensures reply { IfOk result (λ reply. reply ≡ (step self.old command.now).reply) }
         ensures sets { OnOk result (self.new ≡ (step self.old command.now).sets) }
         ensures refused { OnErr result (RefusedBy self.old command.now self.new) }
     {
-        answer(alloc, &mut self.sets, command)
+        step(alloc, &mut self.sets, command)
     }
 }

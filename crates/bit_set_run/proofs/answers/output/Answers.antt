@@ -1,6 +1,6 @@
 use Rattle.bit_set_run.specs.Output.{output}
 use Rattle.bit_set_run.proofs.OutputLemmas.{output-end, output-next, output-start}
-use Rattle.bit_set_run.proofs.answers.answer.Goals as goal
+use Rattle.bit_set_run.proofs.answers.output.Goals as goal
 
 pub loop-line-init : goal.loop-line-init
 loop-line-init g c = record {

@@ -5,7 +5,7 @@ use Rattle.bit_set_run.specs.Kept.{kept}
 use Rattle.bit_set.specs.Bounds.{greatest}
 use Rattle.bit_set_run.specs.Run.{elements_before_greatest}
 use Rattle.bit_set_run.proofs.SteppingLemmas.{change_is, no_change_is, set_at, sets-insert}
-use Rattle.bit_set_run.proofs.stepping.answer.Goals as goal
+use Rattle.bit_set_run.proofs.stepping.step.Goals as goal
 
 pub returns-in-Insert-clause-sets : goal.returns-in-Insert-clause-sets
 returns-in-Insert-clause-sets g c =
