@@ -3,7 +3,7 @@ use Rattle.std.proofs.Common.{◌≡◌, ◌==◌, if◌then◌else◌, cond, no
 use Rattle.std.proofs.lemmas.Bool.{ne_eqb}
 use Rattle.std.proofs.lemmas.List.{append_assoc, length-append, take_more, take-append-drop, drop_all, drop_at, map-id, set-set, set-get_or, map-set, get_or-map, get_or-set_other}
 use Rattle.std.proofs.lemmas.Iterator.{YieldsList, YieldsList-from_slice}
-use Rattle.std.proofs.lemmas.Iterator.Consumers.{YieldsList-from_copied, YieldsList-so_far, YieldsList-turn, YieldsList-from_shown}
+use Rattle.std.proofs.lemmas.Iterator.Consumers.{YieldsList-from_copied, YieldsList-so_far, YieldsList-turn}
 use Rattle.std.proofs.Common.{Iter}
 use Rattle.std.specs.declared.iter.Copied.{Copied}
 use Rattle.std.proofs.iter.Yields.{copies, fronts}
@@ -50,10 +50,6 @@ stands_before all items item front within is =
     sym (take-append-drop (length items + 1) all)
     ∙ ap (λ xs. xs ++ drop (length items + 1) all) (take_more all (length items) item within ∙ ap (λ xs. xs ++ get_or all (length items) item ∷ []) (sym front) ∙ ap (λ x. items ++ x ∷ []) (sym is))
     ∙ append_assoc items (item ∷ []) (drop (length items + 1) all)
-
--- a walk shows what is left of it
-pub walk_yields : (w : ℕ) (s : Walk) → YieldsList (Advances w) (λ x. x) s s.left
-walk_yields w s = YieldsList-from_shown (Advances w) (λ x. x) (λ walk. walk.left) (λ s t step. ap length step.item.0) (λ s x t step. step.item) s
 
 left_of_yields : (w : ℕ) (s t : Walk) (items : List ℕ) → Yields (Advances w) s items t → s.left ≡ items ++ t.left
 left_of_yields w s t [] run = ap (λ walk. walk.left) run

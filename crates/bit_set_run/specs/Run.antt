@@ -73,15 +73,15 @@ run_of sets (command ∷ commands) =
     record { sets = rest.sets; replies = first.reply ∷ rest.replies }
 
 -- which commands can be refused memory, and what they leave: what stood before, but that an `Extend` has put in
--- the items before the one that was refused. What is put in was not in before.
+-- the items before the one that was refused. What is put in was not in before, and numbers are listed where there is one.
 abbrev pub RefusedBy : Sets → Command → Sets → Type 0
 RefusedBy old (Insert name n) new = (n < greatest) × (has (set_of old name) n ≡ false) × (new ≡ old)
 RefusedBy old (Extend name items) new =
     (front : List ℕ) × (item : ℕ) × (back : List ℕ) × (elements_before_greatest items ≡ front ++ item ∷ back)
     × (has (put_all (set_of old name) front) item ≡ false) × (new ≡ slice_set old name (put_all (set_of old name) front))
-RefusedBy old (ItemsOf name) new = new ≡ old
+RefusedBy old (ItemsOf name) new = (set_of old name ≢ []) × (new ≡ old)
 RefusedBy old (Copy from to) new = (from ≢ to) × (new ≡ old)
-RefusedBy old (RestIter name n) new = new ≡ old
+RefusedBy old (RestIter name n) new = (drop n (set_of old name) ≢ []) × (new ≡ old)
 RefusedBy old command new = ⊥
 
 -- A run that stopped at command k, with room for this many replies at its start: the replies are those of the

@@ -1,6 +1,6 @@
 //! One command over sixteen sets.
 
-ghost use Rattle.std.specs.Prelude.{◌≡◌, ℕ, ◌<◌, ◌==◌, ◌∷◌, false, not, map, List, length, drop, [], ◌++◌, IfOk, OnOk, OnErr, slice_index_or, slice_set, if◌then◌else◌};
+ghost use Rattle.std.specs.Prelude.{◌≡◌, ◌≢◌, ℕ, ◌<◌, ◌==◌, ◌∷◌, false, not, map, List, length, drop, [], ◌++◌, IfOk, OnOk, OnErr, slice_index_or, slice_set, if◌then◌else◌};
 ghost use Rattle.std.specs.List.{list_any};
 ghost use Rattle.bit_set.specs.Sets.{has, put, put_all};
 ghost use Rattle.bit_set_run.specs.Kept.{kept};
@@ -99,11 +99,16 @@ fn copy<B: BitBlock>(
     }
 }
 
-// The numbers that are left of a walk.
+// The numbers that are left of a walk. Where there are none it asks for no memory.
 fn numbers_of<B: BitBlock>(alloc: Global, walk: Iter<'_, B>) -> Result<Numbers, AllocError>
-    ensures { IfOk result (λ numbers. numbers ≡ walk.entry.left) }
+    ensures all { IfOk result (λ numbers. numbers ≡ walk.entry.left) }
+    ensures refused { OnErr result (walk.entry.left ≢ []) }
 {
-    Ok(Numbers::from_vec(walk.collect(alloc)?))
+    let mut numbers = Vec::new(alloc);
+    for number in walk {
+        numbers.push(number)?;
+    }
+    Ok(Numbers::from_vec(numbers))
 }
 
 // Takes so many numbers of a walk, or all where there are fewer.
@@ -121,7 +126,8 @@ fn rest<B: BitBlock>(
     mut walk: Iter<'_, B>,
     taken: usize,
 ) -> Result<Reply, AllocError>
-    ensures { IfOk result (λ reply. reply ≡ Rest (length (drop taken walk.entry.left)) (drop taken walk.entry.left)) }
+    ensures reply { IfOk result (λ reply. reply ≡ Rest (length (drop taken walk.entry.left)) (drop taken walk.entry.left)) }
+    ensures refused { OnErr result (drop taken walk.entry.left ≢ []) }
 {
     pass_over(&mut walk, taken);
     let count = walk.clone().count();
