@@ -1,5 +1,6 @@
 -- Sets of whole numbers, each as the list of its members in ascending order.
 use Rattle.std.specs.Prelude.{ℕ, ◌+◌, ◌≤◌, max, Bool, false, not, ◌||◌, ◌==◌, nat_lt, if◌then◌else◌, List, [], ◌∷◌, filter}
+use Rattle.std.specs.List.{list_all}
 use Rattle.bit_words.specs.declared.bit_vec.merge.Merge.{Merge}
 use Rattle.bit_words.specs.declared.bit_vec.merge.Merge.TheVariants.{Union, Intersection, Difference, Symmetric}
 
@@ -71,3 +72,11 @@ merged_sets Union s t = union s t
 merged_sets Intersection s t = intersection s t
 merged_sets Difference s t = difference s t
 merged_sets Symmetric s t = symmetric_difference s t
+
+-- whether each number of the first set is in the second
+abbrev pub is_subset : List ℕ → List ℕ → Bool
+is_subset s t = list_all (λ n. has t n) s
+
+-- whether no number is in both sets
+abbrev pub is_disjoint : List ℕ → List ℕ → Bool
+is_disjoint s t = list_all (λ n. not (has t n)) s

@@ -8,7 +8,7 @@ ghost use Rattle.bit_words.specs.Bits.{blocks_for};
 ghost use Rattle.bit_set.specs.Walk.{Walk, IsWalkedOut, IsAtStart};
 ghost use Rattle.bit_words.specs.Merges.{merged_value, merged};
 ghost use Rattle.bit_words.specs.declared.bit_vec.merge.Merge.{Merge};
-ghost use Rattle.bit_set.specs.Sets.{IsAscending, has, put, put_all, without, those_below, elements, bound_of, union, intersection, difference, symmetric_difference, merged_sets};
+ghost use Rattle.bit_set.specs.Sets.{IsAscending, has, put, put_all, without, those_below, elements, bound_of, union, intersection, difference, symmetric_difference, merged_sets, is_subset, is_disjoint};
 
 use crate::bit_vec::Merge;
 use crate::{BitBlock, Iter};
@@ -87,6 +87,26 @@ pub fn merged_lists_keep_merged_sets()
     ensures symmetric_difference { (a b : List Bool) → elements (merged Merge.Symmetric a b) ≡ symmetric_difference (elements a) (elements b) }
     ensures merged { (merge : Merge) (a b : List Bool) → elements (merged merge a b) ≡ merged_sets merge (elements a) (elements b) }
     ensures length { (merge : Merge) (a b : List Bool) → length (merged merge a b) ≡ max (length a) (length b) }
+{}
+
+/// When a set is in another, and when two have nothing in common.
+pub fn sets_in_one_another()
+    ensures subset { (s t : List ℕ) → IsTrue (is_subset s t) ↔ ((n : ℕ) → IsTrue (has s n) → IsTrue (has t n)) }
+    ensures disjoint { (s t : List ℕ) → IsTrue (is_disjoint s t) ↔ ((n : ℕ) → IsTrue (has s n) → IsTrue (has t n) → ⊥) }
+    ensures no_difference { (s t : List ℕ) → IsTrue (is_subset s t) ↔ (difference s t ≡ []) }
+    ensures no_intersection { (s t : List ℕ) → IsTrue (is_disjoint s t) ↔ (intersection s t ≡ []) }
+    ensures both_ways { (s t : List ℕ) → IsAscending s → IsAscending t → (IsTrue (is_subset s t) × IsTrue (is_subset t s)) ↔ (s ≡ t) }
+    ensures finite_sets { (s t : List ℕ) → is_subset s t ≡ set.is_subset (set.from_list {R = nat_cmp} s) (set.from_list t) }
+{}
+
+/// Where the items of a set are put into the empty set, one by one, it becomes that set. So what is
+/// collected of a walk over what two sets become is what the operation in place leaves.
+pub fn collected_sets()
+    ensures set { (s : List ℕ) → IsAscending s → put_all [] s ≡ s }
+    ensures union { (a b : List Bool) → put_all [] (union (elements a) (elements b)) ≡ union (elements a) (elements b) }
+    ensures intersection { (a b : List Bool) → put_all [] (intersection (elements a) (elements b)) ≡ intersection (elements a) (elements b) }
+    ensures difference { (a b : List Bool) → put_all [] (difference (elements a) (elements b)) ≡ difference (elements a) (elements b) }
+    ensures symmetric_difference { (a b : List Bool) → put_all [] (symmetric_difference (elements a) (elements b)) ≡ symmetric_difference (elements a) (elements b) }
 {}
 
 /// What whole walks give. From any point on, the calls of `next` up to the first `None` give just the

@@ -1,0 +1,88 @@
+-- Which sets are in which, which have nothing in common, and that a set is the set of its items.
+use Rattle.std.proofs.Common.{◌≡◌, ℕ, Bool, true, false, not, ◌↔◌, cond, eqb, List, [], ◌∷◌, filter, refl, sym, ap, ◌∙◌, ⊎_elim}
+use Rattle.std.proofs.Math.Bool.{or-false}
+use Rattle.std.proofs.lemmas.Bool.{true≢false, eq-eqb, eqb-true, and_parts, and_from, or_cases, or_left, or_right, not-true, not_from_false, cases_Bool}
+use Rattle.std.specs.List.{list_all}
+use Rattle.std.specs.Cmp.{nat_cmp_total}
+use Rattle.std.specs.FinSet as set
+use Rattle.bit_words.specs.declared.bit_vec.merge.Merge.{Merge}
+use Rattle.bit_set.specs.Sets.{IsAscending, has, elements, put_all, intersection, difference, merged_sets, is_subset, is_disjoint}
+use Rattle.bit_set.proofs.SetLemmas.{same_members, IsAscending-elements}
+use Rattle.bit_set.proofs.SetLaws.{has-put_all, IsAscending-put_all, contains-has, finite}
+use Rattle.bit_set.proofs.AlgebraLemmas.{IsAscending-merged_sets}
+
+-- ---- a test that each member passes
+
+each_passes : (p : ℕ → Bool) (s : List ℕ) → list_all p s ≡ true → (n : ℕ) → has s n ≡ true → p n ≡ true
+each_passes p [] all n is = absurd (true≢false (sym is))
+each_passes p (x ∷ xs) all n is =
+    let parts = and_parts (p x) (list_all p xs) all in
+    ⊎_elim (λ here. ap p (sym (eqb-true x n here)) ∙ parts.0) (λ rest. each_passes p xs parts.1 n rest) (or_cases (eqb x n) (has xs n) is)
+
+all_pass : (p : ℕ → Bool) (s : List ℕ) → ((n : ℕ) → has s n ≡ true → p n ≡ true) → list_all p s ≡ true
+all_pass p [] each = refl
+all_pass p (x ∷ xs) each =
+    and_from (p x) (list_all p xs) (each x (or_left (eqb x x) (has xs x) (eq-eqb x x refl))) (all_pass p xs (λ n is. each n (or_right (eqb x n) (has xs n) is)))
+
+-- no member fails the test exactly where a filter for those that fail keeps none
+none_fails : (p q : ℕ → Bool) (s : List ℕ) → ((n : ℕ) → q n ≡ not (p n)) → list_all p s ≡ true → filter q s ≡ []
+none_fails p q [] other all = refl
+none_fails p q (x ∷ xs) other all =
+    let parts = and_parts (p x) (list_all p xs) all in
+    ap (λ b. cond b (x ∷ filter q xs) (filter q xs)) (other x ∙ ap not parts.0) ∙ none_fails p q xs other parts.1
+
+none_kept : (p q : ℕ → Bool) (s : List ℕ) → ((n : ℕ) → q n ≡ not (p n)) → filter q s ≡ [] → list_all p s ≡ true
+none_kept p q [] other none = refl
+none_kept p q (x ∷ xs) other none =
+    ⊎_elim
+    (λ yes. and_from (p x) (list_all p xs) yes (none_kept p q xs other (sym (ap (λ b. cond b (x ∷ filter q xs) (filter q xs)) (other x ∙ ap not yes)) ∙ none)))
+    (λ no. absurd (let e : x ∷ filter q xs ≡ [] = sym (ap (λ b. cond b (x ∷ filter q xs) (filter q xs)) (other x ∙ ap not no)) ∙ none in cc))
+    (cases_Bool (p x))
+
+-- ---- subsets
+
+pub is_subset-members : (s t : List ℕ) → (is_subset s t ≡ true) ↔ ((n : ℕ) → has s n ≡ true → has t n ≡ true)
+is_subset-members s t = (each_passes (λ n. has t n) s, all_pass (λ n. has t n) s)
+
+pub is_disjoint-members : (s t : List ℕ) → (is_disjoint s t ≡ true) ↔ ((n : ℕ) → has s n ≡ true → has t n ≡ true → ⊥)
+is_disjoint-members s t = (
+  λ all n in_s in_t. true≢false (sym in_t ∙ not-true (has t n) (each_passes (λ m. not (has t m)) s all n in_s)),
+  λ apart. all_pass (λ m. not (has t m)) s (λ n in_s. ⊎_elim (λ in_t. absurd (apart n in_s in_t)) (λ out. not_from_false (has t n) out) (cases_Bool (has t n))),
+)
+
+pub is_subset-no_difference : (s t : List ℕ) → (is_subset s t ≡ true) ↔ (difference s t ≡ [])
+is_subset-no_difference s t = (none_fails (λ n. has t n) (λ n. not (has t n)) s (λ n. refl), none_kept (λ n. has t n) (λ n. not (has t n)) s (λ n. refl))
+
+twice_not : (b : Bool) → b ≡ not (not b)
+twice_not true = refl
+twice_not false = refl
+
+pub is_disjoint-no_intersection : (s t : List ℕ) → (is_disjoint s t ≡ true) ↔ (intersection s t ≡ [])
+is_disjoint-no_intersection s t = (none_fails (λ n. not (has t n)) (λ n. has t n) s (λ n. twice_not (has t n)), none_kept (λ n. not (has t n)) (λ n. has t n) s (λ n. twice_not (has t n)))
+
+-- two tests that are true together are one
+pub same_tests : (a b : Bool) → (a ≡ true → b ≡ true) → (b ≡ true → a ≡ true) → a ≡ b
+same_tests true b there back = sym (there refl)
+same_tests false true there back = back refl
+same_tests false false there back = refl
+
+pub is_subset-both_ways : (s t : List ℕ) → IsAscending s → IsAscending t → ((is_subset s t ≡ true) × (is_subset t s ≡ true)) ↔ (s ≡ t)
+is_subset-both_ways s t s_up t_up = (
+  λ both. same_members s t s_up t_up (λ n. same_tests (has s n) (has t n) ((is_subset-members s t).0 both.0 n) ((is_subset-members t s).0 both.1 n)),
+  λ e. ((is_subset-members s t).1 (λ n is. ap (λ u. has u n) (sym e) ∙ is), (is_subset-members t s).1 (λ n is. ap (λ u. has u n) e ∙ is)),
+)
+
+pub is_subset-finite : (s t : List ℕ) → is_subset s t ≡ set.is_subset (finite s) (finite t)
+is_subset-finite s t =
+    same_tests (is_subset s t) (set.is_subset (finite s) (finite t))
+    (λ all. set.contains-is_subset nat_cmp_total (finite s) (finite t) (λ n is. contains-has t n ∙ (is_subset-members s t).0 all n (sym (contains-has s n) ∙ is)))
+    (λ all. (is_subset-members s t).1 (λ n is. sym (contains-has t n) ∙ set.is_subset-contains nat_cmp_total (finite s) (finite t) all n (contains-has s n ∙ is)))
+
+-- ---- collecting
+
+-- the items of a set, put in one by one, are that set
+pub put_all-items : (s : List ℕ) → IsAscending s → put_all [] s ≡ s
+put_all-items s up = same_members (put_all [] s) s (IsAscending-put_all [] s tt) up (λ n. has-put_all [] s n ∙ or-false (has s n))
+
+pub put_all-merged : (merge : Merge) (a b : List Bool) → put_all [] (merged_sets merge (elements a) (elements b)) ≡ merged_sets merge (elements a) (elements b)
+put_all-merged merge a b = put_all-items (merged_sets merge (elements a) (elements b)) (IsAscending-merged_sets merge (elements a) (elements b) (IsAscending-elements a))
