@@ -19,14 +19,14 @@ nat_lt-places w i j e = let p = ap (λ q. q * w) e in let a = div-add-mod' i w i
 
 -- ---- one block written
 
-written_same : (w : ℕ) (ms ns : List ℕ) (k m i : ℕ) → ns ≡ set ms k m → k < length ms → i / w ≡ k → value_at w ns i ≡ is_one m (i % w)
+pub written_same : (w : ℕ) (ms ns : List ℕ) (k m i : ℕ) → ns ≡ set ms k m → k < length ms → i / w ≡ k → value_at w ns i ≡ is_one m (i % w)
 written_same w ms ns k m i e h p = ap (λ xs. value_at w xs i) e ∙ value_at-set_same w ms k m i h p
 
-written_other : (w : ℕ) (ms ns : List ℕ) (k m i : ℕ) → ns ≡ set ms k m → i / w ≢ k → value_at w ns i ≡ value_at w ms i
+pub written_other : (w : ℕ) (ms ns : List ℕ) (k m i : ℕ) → ns ≡ set ms k m → i / w ≢ k → value_at w ns i ≡ value_at w ms i
 written_other w ms ns k m i e p = ap (λ xs. value_at w xs i) e ∙ value_at-set_other w ms k m i p
 
 -- the value at an index, by the block that was read
-read_at : (w : ℕ) (ms : List ℕ) (k m i : ℕ) → m ≡ get_or ms k 0 → i / w ≡ k → value_at w ms i ≡ is_one m (i % w)
+pub read_at : (w : ℕ) (ms : List ℕ) (k m i : ℕ) → m ≡ get_or ms k 0 → i / w ≡ k → value_at w ms i ≡ is_one m (i % w)
 read_at w ms k m i e p = value_at-is w ms i ∙ ap (λ x. is_one x (i % w)) (ap (λ q. get_or ms q 0) p ∙ sym e)
 
 pub value_read : (w : ℕ) (ms : List ℕ) (i k p m : ℕ) → k ≡ i / w → p ≡ i % w → m ≡ get_or ms k 0 → is_one m p ≡ value_at w ms i

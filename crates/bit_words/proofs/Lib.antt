@@ -9,3 +9,4 @@ pub mod VectorLemmas
 pub mod TidyLemmas
 pub mod ByteLemmas
 pub mod SourceLemmas
+pub mod MergeLemmas

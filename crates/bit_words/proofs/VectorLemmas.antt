@@ -21,6 +21,9 @@ length_from_view w n r ms v e = sym (ap (λ b. length b.values) e) ∙ length-va
 pub room_from_view : (r : ℕ) (bs : List Bool) (v : Bits) → record { values = bs; room = r } ≡ v → v.room ≡ r
 room_from_view r bs v e = sym (ap (λ b. b.room) e)
 
+pub no_longer_from_views : (w n m r s : ℕ) (ms os : List ℕ) (v u : Bits) → record { values = values_of w ms n; room = r } ≡ v → record { values = values_of w os m; room = s } ≡ u → length u.values ≤ length v.values → m ≤ n
+no_longer_from_views w n m r s ms os v u e f h = omega (arith, length_from_view w n r ms v e, length_from_view w m s os u f)
+
 pub le-room_of : (w blocks n : ℕ) → 0 < w → n < 2 ^ 64 → blocks_for w n ≤ blocks → n ≤ room_of w blocks
 le-room_of w blocks n pos fits h = let a = mul-le-mul_right w h in omega (arith, blocks_for-enough w n pos)
 

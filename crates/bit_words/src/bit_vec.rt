@@ -9,6 +9,7 @@ mod changes;
 mod integers;
 mod masks;
 mod merge;
+mod merging;
 mod steps;
 #[cfg(test)]
 mod tests;

@@ -7,6 +7,7 @@ use std::marker::Model;
 
 mod edit;
 mod making;
+mod merging;
 
 pub use making::BitsError;
 
