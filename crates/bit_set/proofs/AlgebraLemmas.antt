@@ -1,14 +1,16 @@
 -- Two sets made one: the members of what comes out, its order, the same as finite sets of std, and two lists of
 -- truth values merged value by value.
-use Rattle.std.proofs.Common.{◌≡◌, ℕ, Bool, false, not, ◌||◌, ◌&&◌, List, [], ◌∷◌, length, max, get_or, zero, suc, refl, sym, ap, ◌∙◌, arith}
+use Rattle.std.proofs.Common.{◌≡◌, ℕ, Bool, false, not, ◌-◌, ◌||◌, ◌&&◌, ◌++◌, List, length, length-append, replicate, max, get_or, sym, ap, ◌∙◌, arith}
 use Rattle.std.proofs.Math.Bool.{and_comm, or_comm}
+use Rattle.std.proofs.lemmas.List.{length-replicate}
 use Rattle.std.specs.Cmp.{nat_cmp_total}
 use Rattle.std.specs.FinSet as set
 use Rattle.bit_words.specs.Merges.{merged_value, merged}
+use Rattle.bit_words.proofs.MergeLemmas.{get_or-merged, length-merged}
 use Rattle.bit_words.specs.declared.bit_vec.merge.Merge.{Merge}
 use Rattle.bit_words.specs.declared.bit_vec.merge.Merge.TheVariants.{Union, Intersection, Difference, Symmetric}
 use Rattle.bit_set.specs.Sets.{IsAscending, has, elements, union, intersection, difference, symmetric_difference, merged_sets}
-use Rattle.bit_set.proofs.SetLemmas.{has-elements, IsAscending-elements, elements-by_members}
+use Rattle.bit_set.proofs.SetLemmas.{has-elements, IsAscending-elements, elements-by_members, elements-alike, get_or_padded}
 use Rattle.bit_set.proofs.SetLaws.{has-filter, has-put_all, AscendsFrom-filter, IsAscending-put_all, contains-has, finite, finite-put_all, same_finite}
 
 pub has-union : (s t : List ℕ) (n : ℕ) → has (union s t) n ≡ (has s n || has t n)
@@ -39,23 +41,6 @@ IsAscending-merged_sets Intersection s t up = AscendsFrom-filter 0 (λ n. has t 
 IsAscending-merged_sets Difference s t up = AscendsFrom-filter 0 (λ n. not (has t n)) s up
 IsAscending-merged_sets Symmetric s t up = IsAscending-put_all (difference s t) (difference t s) (AscendsFrom-filter 0 (λ n. not (has t n)) s up)
 
--- where both sets lack it, what they become lacks it
-merged_value-neither : (merge : Merge) → merged_value merge false false ≡ false
-merged_value-neither Union = refl
-merged_value-neither Intersection = refl
-merged_value-neither Difference = refl
-merged_value-neither Symmetric = refl
-
--- past its end each list goes on with false
-pub get_or-merged : (merge : Merge) (xs ys : List Bool) (k : ℕ) → get_or (merged merge xs ys) k false ≡ merged_value merge (get_or xs k false) (get_or ys k false)
-get_or-merged merge [] [] k = sym (merged_value-neither merge)
-get_or-merged merge (x ∷ xs) [] zero = refl
-get_or-merged merge (x ∷ xs) [] (suc k) = get_or-merged merge xs [] k
-get_or-merged merge [] (y ∷ ys) zero = refl
-get_or-merged merge [] (y ∷ ys) (suc k) = get_or-merged merge [] ys k
-get_or-merged merge (x ∷ xs) (y ∷ ys) zero = refl
-get_or-merged merge (x ∷ xs) (y ∷ ys) (suc k) = get_or-merged merge xs ys k
-
 -- the set that a merged list keeps is what the sets of the two become
 pub elements-merged : (merge : Merge) (xs ys : List Bool) → elements (merged merge xs ys) ≡ merged_sets merge (elements xs) (elements ys)
 elements-merged merge xs ys =
@@ -66,11 +51,14 @@ elements-merged merge xs ys =
     ∙ ap (λ b. merged_value merge (has (elements xs) k) b) (sym (has-elements ys k))
     ∙ sym (has-merged_sets merge (elements xs) (elements ys) k))
 
-pub length-merged : (merge : Merge) (xs ys : List Bool) → length (merged merge xs ys) ≡ max (length xs) (length ys)
-length-merged merge [] [] = refl
-length-merged merge (x ∷ xs) [] = let rest = length-merged merge xs [] in omega (arith, rest)
-length-merged merge [] (y ∷ ys) = let rest = length-merged merge [] ys in omega (arith, rest)
-length-merged merge (x ∷ xs) (y ∷ ys) = let rest = length-merged merge xs ys in omega (arith, rest)
+-- the same where the first list was lengthened with false
+pub elements-lengthened : (merge : Merge) (xs ys : List Bool) (n : ℕ) → elements (merged merge (xs ++ replicate n false) ys) ≡ merged_sets merge (elements xs) (elements ys)
+elements-lengthened merge xs ys n =
+    elements-merged merge (xs ++ replicate n false) ys ∙ ap (λ s. merged_sets merge s (elements ys)) (elements-alike xs (xs ++ replicate n false) (get_or_padded xs n))
+
+pub length-lengthened : (merge : Merge) (xs ys : List Bool) → length (merged merge (xs ++ replicate (length ys - length xs) false) ys) ≡ max (length xs) (length ys)
+length-lengthened merge xs ys =
+    omega (arith, length-merged merge (xs ++ replicate (length ys - length xs) false) ys, length-append xs (replicate (length ys - length xs) false), length-replicate (length ys - length xs) false)
 
 pub finite-intersection : (s t : List ℕ) → finite (intersection s t) ≡ set.intersection (finite s) (finite t)
 finite-intersection s t =

@@ -7,6 +7,7 @@ use std::marker::Model;
 
 mod changing;
 mod making;
+mod merging;
 
 /// A set of whole numbers below `usize::MAX`, kept as a bit vector: a number is an element exactly
 /// where the vector is true at it.

@@ -1,0 +1,13 @@
+use Rattle.std.proofs.Common.{◌-◌, length}
+use Rattle.bit_set.proofs.AlgebraLemmas.{elements-lengthened, length-lengthened}
+use Rattle.bit_set.proofs.set.BitSet.merge_with.Goals as goal
+
+pub returns-clause-elements : goal.returns-clause-elements
+returns-clause-elements g c =
+    let values = c.args.self.now.values in
+    rw (c.merge_blocks.ensures.values, c.self.view_is, c.in_ok-lengthen.ensures.ok, c.other.view_is)
+    (elements-lengthened c.args.merge values c.args.other.now.values (c.len.result - length values))
+
+pub returns-clause-length : goal.returns-clause-length
+returns-clause-length g c =
+    rw (c.merge_blocks.ensures.values, c.self.view_is, c.in_ok-lengthen.ensures.ok, c.len.ensures.value, c.other.view_is) (length-lengthened c.args.merge c.args.self.now.values c.args.other.now.values)

@@ -1,0 +1,105 @@
+// Calls that make a set, in place, what it and another become.
+ghost use Rattle.std.specs.Prelude.{◌≡◌, ◌-◌, ◌<◌, ◌≤◌, ◌++◌, max, OnOk, OnErr, IsOk, length, replicate, false};
+ghost use Rattle.bit_words.specs.Merges.{merged};
+ghost use Rattle.bit_set.specs.Sets.{elements, union, intersection, difference, symmetric_difference, merged_sets};
+
+use crate::bit_vec::{Merge, Steps};
+use crate::{BitBlock, BitSet};
+use std::alloc::AllocError;
+
+impl<B: BitBlock> BitSet<B> {
+    // Makes the list at least `len` long: it goes on with false.
+    #[inline]
+    fn lengthen(&mut self, len: usize) -> Result<(), AllocError>
+        ensures ok { OnOk result (self.new.values ≡ self.old.values ++ replicate (len - length self.old.values) false) }
+        ensures err { OnErr result (self.new ≡ self.old) }
+        ensures full { OnErr result (self.old.room < len) }
+        ensures succeeds { len ≤ self.old.room → IsOk result }
+        ensures room { self.old.room ≤ self.new.room }
+        ensures kept { len ≤ length self.old.values → self.new.room ≡ self.old.room }
+    {
+        let old = self.bits.len();
+        if len > old {
+            self.bits.grow(len - old, false)?;
+        }
+        Ok(())
+    }
+
+    // Each value becomes its merge with that of `other`. The shorter list goes on with false, so that
+    // the longer length stays.
+    #[inline]
+    fn merge_with(&mut self, other: &Self, merge: Merge) -> Result<(), AllocError>
+        ensures elements { OnOk result (elements self.new.values ≡ merged_sets merge (elements self.old.values) (elements other.now.values)) }
+        ensures length { OnOk result (length self.new.values ≡ max (length self.old.values) (length other.now.values)) }
+        ensures err { OnErr result (self.new ≡ self.old) }
+        ensures full { OnErr result (self.old.room < length other.now.values) }
+        ensures succeeds { length other.now.values ≤ self.old.room → IsOk result }
+        ensures room { self.old.room ≤ self.new.room }
+        ensures kept { length other.now.values ≤ length self.old.values → self.new.room ≡ self.old.room }
+    {
+        self.lengthen(other.bits.len())?;
+        self.bits
+            .merge_blocks(&other.bits, merge, &mut Steps::new());
+        Ok(())
+    }
+
+    /// Puts in what is in `other`. The length becomes the greater of both. One pass over the blocks.
+    /// Fails only where the length of `other` passes the room and a growth is refused; then nothing
+    /// changed.
+    pub fn union_with(&mut self, other: &Self) -> Result<(), AllocError>
+        ensures elements { OnOk result (elements self.new.values ≡ union (elements self.old.values) (elements other.now.values)) }
+        ensures length { OnOk result (length self.new.values ≡ max (length self.old.values) (length other.now.values)) }
+        ensures err { OnErr result (self.new ≡ self.old) }
+        ensures full { OnErr result (self.old.room < length other.now.values) }
+        ensures succeeds { length other.now.values ≤ self.old.room → IsOk result }
+        ensures room { self.old.room ≤ self.new.room }
+        ensures kept { length other.now.values ≤ length self.old.values → self.new.room ≡ self.old.room }
+    {
+        self.merge_with(other, Merge::Union)
+    }
+
+    /// Keeps what is in `other` too. The length becomes the greater of both. One pass over the blocks.
+    /// Fails only where the length of `other` passes the room and a growth is refused; then nothing
+    /// changed.
+    pub fn intersect_with(&mut self, other: &Self) -> Result<(), AllocError>
+        ensures elements { OnOk result (elements self.new.values ≡ intersection (elements self.old.values) (elements other.now.values)) }
+        ensures length { OnOk result (length self.new.values ≡ max (length self.old.values) (length other.now.values)) }
+        ensures err { OnErr result (self.new ≡ self.old) }
+        ensures full { OnErr result (self.old.room < length other.now.values) }
+        ensures succeeds { length other.now.values ≤ self.old.room → IsOk result }
+        ensures room { self.old.room ≤ self.new.room }
+        ensures kept { length other.now.values ≤ length self.old.values → self.new.room ≡ self.old.room }
+    {
+        self.merge_with(other, Merge::Intersection)
+    }
+
+    /// Takes out what is in `other`. The length becomes the greater of both. One pass over the blocks.
+    /// Fails only where the length of `other` passes the room and a growth is refused; then nothing
+    /// changed.
+    pub fn difference_with(&mut self, other: &Self) -> Result<(), AllocError>
+        ensures elements { OnOk result (elements self.new.values ≡ difference (elements self.old.values) (elements other.now.values)) }
+        ensures length { OnOk result (length self.new.values ≡ max (length self.old.values) (length other.now.values)) }
+        ensures err { OnErr result (self.new ≡ self.old) }
+        ensures full { OnErr result (self.old.room < length other.now.values) }
+        ensures succeeds { length other.now.values ≤ self.old.room → IsOk result }
+        ensures room { self.old.room ≤ self.new.room }
+        ensures kept { length other.now.values ≤ length self.old.values → self.new.room ≡ self.old.room }
+    {
+        self.merge_with(other, Merge::Difference)
+    }
+
+    /// Takes out what is in `other` too, and puts in the rest of it: what is in just one stays. The
+    /// length becomes the greater of both. One pass over the blocks. Fails only where the length of
+    /// `other` passes the room and a growth is refused; then nothing changed.
+    pub fn symmetric_difference_with(&mut self, other: &Self) -> Result<(), AllocError>
+        ensures elements { OnOk result (elements self.new.values ≡ symmetric_difference (elements self.old.values) (elements other.now.values)) }
+        ensures length { OnOk result (length self.new.values ≡ max (length self.old.values) (length other.now.values)) }
+        ensures err { OnErr result (self.new ≡ self.old) }
+        ensures full { OnErr result (self.old.room < length other.now.values) }
+        ensures succeeds { length other.now.values ≤ self.old.room → IsOk result }
+        ensures room { self.old.room ≤ self.new.room }
+        ensures kept { length other.now.values ≤ length self.old.values → self.new.room ≡ self.old.room }
+    {
+        self.merge_with(other, Merge::Symmetric)
+    }
+}
