@@ -5,13 +5,13 @@ use Rattle.std.specs.List.{sum_by, range_with_len}
 use Rattle.std.proofs.lemmas.Bool.{eq-eqb, cases_lt}
 use Rattle.std.proofs.lemmas.Nat.Bits.{bit_at-lt}
 use Rattle.std.proofs.lemmas.List.{length-append, get_or_append_left, get_or-append_right}
-use Rattle.std.proofs.lemmas.List.Elements.{All-nil, All-cons, All-head, All-tail}
+use Rattle.std.proofs.lemmas.List.Elements.{All-nil, All-cons}
 use Rattle.std.proofs.lemmas.List.Sums.{sum_by-cons}
 use Rattle.std.proofs.Math.Nat.{div-add-mod', mod-lt}
 use Rattle.bit_words.proofs.BitsLemmas.{blocks_of-digit}
 use Rattle.bit_words.proofs.OnesLemmas.{ones_are_digits}
 use Rattle.bit_words.proofs.Masks.{is_one-zero}
-use Rattle.bit_set.proofs.SetLemmas.{elements-alike, length-elements-le}
+use Rattle.bit_set.proofs.SetLemmas.{elements-alike, length-elements-le, length-elements_from_both}
 use Rattle.std.proofs.lemmas.List.FromFn.{length-map-range_with_len, get_or-map-range_with_len}
 use Rattle.bit_words.specs.Bits.{blocks_of, digit_of}
 use Rattle.bit_words.specs.Lowest.{IsLowest, IsCleared}
@@ -68,22 +68,23 @@ lowest_from m r i a (suc w) p bs low cleared from within =
           ∙ ap (λ b. (p + (i - a)) ∷ cond b (p ∷ elements_from (p + 1) (digits_from r (a + 1) w ++ bs)) (elements_from (p + 1) (digits_from r (a + 1) w ++ bs))) (sym none_there)
     ]
 
--- ---- the blocks in a row
+-- ---- a block and what is past it
 
-pub places-nil : (w p : ℕ) → places w p [] ≡ []
+pub places-zero : (w p : ℕ) (bs : List Bool) → places w p 0 bs ≡ elements_from (p + w) bs
 unfolding places
-places-nil w p = refl
+places-zero w p bs = zeros_passed 0 w p bs
 
-pub places-zero : (w p : ℕ) (ms : List ℕ) → places w p (0 ∷ ms) ≡ places w (p + w) ms
+-- the values past the first block are those of the next one
+pub places-next : (w p m : ℕ) (bs cs : List Bool) → bs ≡ digits_from m 0 w ++ cs → elements_from p bs ≡ places w p m cs
 unfolding places
-places-zero w p ms = zeros_passed 0 w p (values_in w ms)
+places-next w p m bs cs is = ap (elements_from p) is
 
-pub places-lowest : (w p m r i : ℕ) (ms : List ℕ) → IsLowest m i → i < w → IsCleared w m i r → places w p (m ∷ ms) ≡ (p + i) ∷ places w p (r ∷ ms)
+pub places-lowest : (w p m r i : ℕ) (bs : List Bool) → IsLowest m i → i < w → IsCleared w m i r → places w p m bs ≡ (p + i) ∷ places w p r bs
 unfolding places
-places-lowest w p m r i ms low within cleared =
+places-lowest w p m r i bs low within cleared =
     let whole : 0 + w ≡ w = omega arith in
-    lowest_from m r i 0 w p (values_in w ms) low (subst (λ x. IsCleared x m i r) (sym whole) cleared) (omega arith) (omega arith)
-    ∙ ap (λ x. x ∷ elements_from p (values_in w (r ∷ ms))) (let e : p + (i - 0) ≡ p + i = omega arith in e)
+    lowest_from m r i 0 w p bs low (subst (λ x. IsCleared x m i r) (sym whole) cleared) (omega arith) (omega arith)
+    ∙ ap (λ x. x ∷ elements_from p (digits_from r 0 w ++ bs)) (let e : p + (i - 0) ≡ p + i = omega arith in e)
 
 -- ---- those of a list of truth values
 
@@ -104,7 +105,7 @@ read_back true = refl
 read_back false = refl
 
 -- the blocks of a list hold the list, and false past its end
-values_in-blocks_of : (w : ℕ) (values : List Bool) → 0 < w → (k : ℕ) → get_or (values_in w (blocks_of w values)) k false ≡ get_or values k false
+pub values_in-blocks_of : (w : ℕ) (values : List Bool) → 0 < w → (k : ℕ) → get_or (values_in w (blocks_of w values)) k false ≡ get_or values k false
 values_in-blocks_of w values pos k =
     let split : k ≡ k / w * w + k % w = sym (div-add-mod' k w) in
     let within : k % w < w = mod-lt k pos in
@@ -114,9 +115,8 @@ values_in-blocks_of w values pos k =
     ∙ read_back (get_or values (k / w * w + k % w) false)
     ∙ ap (λ x. get_or values x false) (sym split)
 
-pub places-blocks_of : (w : ℕ) (values : List Bool) → 0 < w → places w 0 (blocks_of w values) ≡ elements values
-unfolding places
-places-blocks_of w values pos = elements-alike values (values_in w (blocks_of w values)) (values_in-blocks_of w values pos)
+pub elements-blocks_of : (w : ℕ) (values : List Bool) → 0 < w → elements (values_in w (blocks_of w values)) ≡ elements values
+elements-blocks_of w values pos = elements-alike values (values_in w (blocks_of w values)) (values_in-blocks_of w values pos)
 
 -- ---- how many there are
 
@@ -139,25 +139,30 @@ count_digits m a (suc w) p bs =
     ∙ ap (λ n. bit_at m a + n) (count_digits m (a + 1) w (p + 1) bs ∙ ap (λ n. sum_by (bit_at m) (range_with_len (a + 1) w) + length (elements_from n bs)) along)
     ∙ (let e = sum_by-cons (bit_at m) a (range_with_len (a + 1) w) in omega (arith, e))
 
-pub length-places : (w p : ℕ) (ms : List ℕ) → All (λ m. m < 2 ^ w) ms → length (places w p ms) ≡ sum_by count_ones ms
-unfolding places
-length-places w p [] each = refl
-length-places w p (m ∷ ms) each =
-    let ones = ones_are_digits w m (All-head (λ n. n < 2 ^ w) m ms each) in
-    let rest = length-places w (p + w) ms (All-tail (λ n. n < 2 ^ w) m ms each) in
-    let first = sum_by-cons count_ones m ms in
-    count_digits m 0 w p (values_in w ms) ∙ omega (arith, ones, rest, first)
+pub length-digits_from : (m w : ℕ) (bs : List Bool) → length (digits_from m 0 w ++ bs) ≡ w + length bs
+length-digits_from m w bs = let first = length-map-range_with_len (is_one m) 0 w in omega (arith, length-append (digits_from m 0 w) bs, first)
 
-length-values_in : (w : ℕ) (ms : List ℕ) → length (values_in w ms) ≡ length ms * w
+-- as many as the ones of the block and the true values past it
+pub length-places : (w p m : ℕ) (bs : List Bool) → m < 2 ^ w → length (places w p m bs) ≡ count_ones m + length (elements bs)
+unfolding places
+length-places w p m bs small =
+    count_digits m 0 w p bs ∙ omega (arith, ones_are_digits w m small, length-elements_from_both (p + w) 0 bs)
+
+pub length-values_in : (w : ℕ) (ms : List ℕ) → length (values_in w ms) ≡ length ms * w
 length-values_in w [] = omega arith
-length-values_in w (m ∷ ms) =
-    length-append (digits_from m 0 w) (values_in w ms)
-    ∙ (let rest = length-values_in w ms in let first = length-map-range_with_len (is_one m) 0 w in omega (arith, rest, first))
+length-values_in w (m ∷ ms) = let rest = length-values_in w ms in length-digits_from m w (values_in w ms) ∙ omega (arith, rest)
+
+-- one block more is counted
+pub length-elements-block : (w m : ℕ) (bs : List Bool) → m < 2 ^ w → length (elements (digits_from m 0 w ++ bs)) ≡ count_ones m + length (elements bs)
+unfolding places
+length-elements-block w m bs small = length-places w 0 m bs small
 
 -- no more than digits
-pub length-places-le : (w p : ℕ) (ms : List ℕ) → length (places w p ms) ≤ length ms * w
+pub length-places-le : (w p m : ℕ) (bs : List Bool) → length (places w p m bs) ≤ w + length bs
 unfolding places
-length-places-le w p ms = let most = length-elements-le p (values_in w ms) in omega (arith, most, length-values_in w ms)
+length-places-le w p m bs =
+    let most = length-elements-le p (digits_from m 0 w ++ bs) in
+    omega (arith, most, length-digits_from m w bs)
 
 -- ---- what the elements of a list of truth values are below
 

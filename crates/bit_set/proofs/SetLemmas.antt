@@ -141,7 +141,7 @@ pub elements-by_members : (bs : List Bool) (s : List ℕ) → IsAscending s → 
 elements-by_members bs s up same = same_members _ s (IsAscending-elements bs) up (λ k. has-elements bs k ∙ same k)
 
 -- how many elements there are does not depend on the place of the first value
-length-elements_from_both : (p q : ℕ) (bs : List Bool) → length (elements_from p bs) ≡ length (elements_from q bs)
+pub length-elements_from_both : (p q : ℕ) (bs : List Bool) → length (elements_from p bs) ≡ length (elements_from q bs)
 length-elements_from_both p q [] = refl
 length-elements_from_both p q (true ∷ bs) = let more = length-elements_from_both (p + 1) (q + 1) bs in omega (arith, more)
 length-elements_from_both p q (false ∷ bs) = length-elements_from_both (p + 1) (q + 1) bs

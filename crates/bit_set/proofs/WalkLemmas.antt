@@ -1,128 +1,153 @@
 -- What a pull and a taken item do to a walk.
-use Rattle.std.proofs.Common.{◌≡◌, ℕ, suc, ◌+◌, ◌-◌, ◌*◌, ◌^◌, ◌<◌, ◌≤◌, ◌/◌, Bool, List, [], ◌∷◌, map, length, All, Option, Some, None, sum_by, count_ones, sym, ap, ◌∙◌, subst, arith}
+use Rattle.std.proofs.Common.{◌≡◌, ℕ, ◌+◌, ◌-◌, ◌*◌, ◌^◌, ◌<◌, ◌≤◌, ◌/◌, Bool, List, [], ◌∷◌, ◌++◌, map, length, All, Option, Some, None, count_ones, sym, ap, ◌∙◌, subst, arith}
 use Rattle.std.specs.Prelude.{IfSome}
 use Rattle.std.specs.Option.{SomeIff, unwrap_or}
 use Rattle.std.specs.Iterator.{UpTo, at_most, YieldsFirst}
 use Rattle.std.proofs.Math.Nat.{mul-suc, mul-le-mul_left, mul-div-le}
 use Rattle.std.proofs.lemmas.List.{length-map}
-use Rattle.std.proofs.lemmas.List.Elements.{All-nil, All-cons, All-head, All-tail, All-map, All-weaker, All-same, All-rest}
-use Rattle.std.proofs.lemmas.List.Sums.{sum_by-cons}
+use Rattle.std.proofs.lemmas.List.Elements.{All-nil, All-head, All-tail, All-same, All-rest}
 use Rattle.bit_words.specs.Bits.{blocks_of, blocks_for}
 use Rattle.bit_words.specs.Lowest.{IsLowest, IsCleared}
 use Rattle.bit_words.proofs.BitsLemmas.{length-blocks_of}
-use Rattle.bit_set.specs.Sets.{elements}
-use Rattle.bit_set.specs.Places.{places, IsWalk}
+use Rattle.bit_set.specs.Sets.{elements_from, elements}
+use Rattle.bit_set.specs.Places.{digits_from, values_in, places, Ahead, PullsBlock, IsWalkable, CanWalk}
+use Rattle.bit_set.specs.Walk.{Walk, Advances, AdvancesByEach}
 use Rattle.bit_set.proofs.SetLemmas.{length-elements-le}
-use Rattle.bit_set.proofs.PlaceLemmas.{places-nil, places-zero, places-lowest, places-blocks_of, length-places, length-places-le, elements-below}
+use Rattle.bit_set.proofs.PlaceLemmas.{places-zero, places-next, places-lowest, length-digits_from, length-values_in, length-places-le, length-elements-block, elements-blocks_of, elements-below}
+
+-- a walk that passes each block just once pulls it once at most
+pub by_each : (w : ℕ) (s t : Walk) (r : Option ℕ) → AdvancesByEach w s r t → Advances w s r t
+by_each w s t None step = record { item = step.item; goes_on = step.goes_on; pulled = omega (arith, step.pulled); along = step.along; at = step.at }
+by_each w s t (Some x) step = record { item = step.item; goes_on = step.goes_on; pulled = omega (arith, step.pulled); along = step.along; at = step.at }
+
+-- a pull takes one block on
+pub pulled_along : (place w m n : ℕ) → n ≡ m + 1 → place + w + w * m ≡ place + w * n
+pulled_along place w m n is = let product = ap (λ k. w * k) is in omega (arith, product, mul-suc w m)
+
+-- a block of zeros is passed
+pub places-pulled : (w place m n : ℕ) (s t : List Bool) → m ≡ 0 → s ≡ digits_from n 0 w ++ t → places w place m s ≡ places w (place + w) n t
+places-pulled w place m n s t zero is = ap (λ k. places w place k s) zero ∙ places-zero w place s ∙ places-next w (place + w) n s t is
+
+-- where the last block in hand is used up
+pub places-ended : (w place m : ℕ) (s : List Bool) → m ≡ 0 → s ≡ [] → places w place m s ≡ []
+places-ended w place m s zero is = ap (λ k. places w place k s) zero ∙ places-zero w place s ∙ ap (elements_from (place + w)) is
+
+-- the values ahead are those of whole blocks
+long_pulled : {X : Type 0} (w : ℕ) (number : X → ℕ) (x : X) (s t : Ahead) → length s.values ≡ s.blocks * w → PullsBlock w number s (Some x) t → length t.values ≡ t.blocks * w
+long_pulled w number x s t long pull =
+    let whole : length s.values ≡ w + length t.values = ap length pull.values ∙ length-digits_from (number x) w t.values in
+    let product = ap (λ k. k * w) pull.blocks in
+    omega (arith, whole, long, product)
+
+pub CanWalk-pulled : {X : Type 0} (w place m : ℕ) (number : X → ℕ) (x : X) (s t : Ahead) → CanWalk w place m s → m ≡ 0 → PullsBlock w number s (Some x) t → CanWalk w (place + w) (number x) t
+CanWalk-pulled w place m number x s t can zero pull =
+    let same = places-pulled w place m (number x) s.values t.values zero pull.values in
+    record {
+      long = long_pulled w number x s t can.long pull;
+      fits = omega (arith, can.fits, pulled_along place w t.blocks s.blocks pull.blocks);
+      below = subst (All (λ n. n < 2 ^ 64)) same can.below;
+      few = subst (λ xs. length xs < 2 ^ 64) same can.few;
+    }
+
+pub CanWalk-taken : (w place m r i : ℕ) (ahead : Ahead) → CanWalk w place m ahead → IsLowest m i → i < w → IsCleared w m i r → CanWalk w place r ahead
+CanWalk-taken w place m r i ahead can low within cleared =
+    let same = places-lowest w place m r i ahead.values low within cleared in
+    record {
+      long = can.long;
+      fits = can.fits;
+      below = All-tail (λ n. n < 2 ^ 64) (place + i) (places w place r ahead.values) (subst (All (λ n. n < 2 ^ 64)) same can.below);
+      few = let shorter = ap length same in omega (arith, can.few, shorter);
+    }
+
+pub taken_fits : (w place m r i : ℕ) (ahead : Ahead) → CanWalk w place m ahead → IsLowest m i → i < w → IsCleared w m i r → place + i < 2 ^ 64
+taken_fits w place m r i ahead can low within cleared =
+    let same = places-lowest w place m r i ahead.values low within cleared in
+    All-head (λ n. n < 2 ^ 64) (place + i) (places w place r ahead.values) (subst (All (λ n. n < 2 ^ 64)) same can.below)
+
+-- no more items than digits
+pub left-most : (w place m : ℕ) (ahead : Ahead) → CanWalk w place m ahead → length (places w place m ahead.values) ≤ (1 + ahead.blocks) * w
+left-most w place m ahead can = let most = length-places-le w place m ahead.values in omega (arith, most, can.long)
+
+-- ---- the making of a walk
+
+-- With block m in hand and t ahead of it, a walk is at the start of s.
+pub record IsBegun (w m : ℕ) (s t : Ahead) : Type 0 where
+  pub all : places w 0 m t.values ≡ elements s.values
+  pub past : t.blocks ≡ s.blocks - 1
+  pub long : length t.values ≡ t.blocks * w
+
+pub begun : {X : Type 0} (w : ℕ) (number : X → ℕ) (zero : X) (s t : Ahead) (r : Option X) → length s.values ≡ s.blocks * w → PullsBlock w number s r t → number zero ≡ 0 → IsBegun w (number (unwrap_or r zero)) s t
+begun w number zero s t None long pull none = record {
+  all = places-ended w 0 (number zero) t.values none pull.values.1 ∙ sym (ap (elements_from 0) pull.values.0);
+  past = omega (arith, pull.blocks);
+  long = let no_value = ap length pull.values.1 in let product = ap (λ k. k * w) pull.blocks.1 in omega (arith, no_value, product);
+}
+begun w number zero s t (Some x) long pull none = record {
+  all = sym (places-next w 0 (number x) s.values t.values pull.values);
+  past = omega (arith, pull.blocks);
+  long = long_pulled w number x s t long pull;
+}
+
+pub begun_few : (w m : ℕ) (s t : Ahead) → IsWalkable w s → IsBegun w m s t → length (places w 0 m t.values) < 2 ^ 64
+begun_few w m s t can at = subst (λ xs. length xs < 2 ^ 64) (sym at.all) can.few
+
+pub CanWalk-begun : (w m : ℕ) (s t : Ahead) → IsWalkable w s → IsBegun w m s t → CanWalk w 0 m t
+CanWalk-begun w m s t can at = record {
+  long = at.long;
+  fits = let product = ap (λ k. w * k) at.past in omega (arith, product, can.fits);
+  below = subst (All (λ n. n < 2 ^ 64)) (sym at.all) can.below;
+  few = begun_few w m s t can at;
+}
 
 -- the blocks past the first are within the length
 past_fits : (w len past : ℕ) → past ≡ blocks_for w len - 1 → past ≤ len / w
 past_fits w len past is = omega arith
 
--- a pull takes one block on
-pub pulled_along : (place w m n : ℕ) → n ≡ suc m → place + w + w * m ≡ place + w * n
-pulled_along place w m n is = let product = ap (λ k. w * k) is in omega (arith, product, mul-suc w m)
+-- a walk can go over what reads as a list of truth values, in as many blocks
+pub IsWalkable-of : (w : ℕ) (ahead : Ahead) (values : List Bool) → length ahead.values ≡ ahead.blocks * w → ahead.blocks ≡ blocks_for w (length values) → elements ahead.values ≡ elements values → length values < 2 ^ 64 → IsWalkable w ahead
+IsWalkable-of w ahead values long blocks same fits = record {
+  long = long;
+  fits =
+      let past : ahead.blocks - 1 ≤ length values / w = past_fits w (length values) (ahead.blocks - 1) (ap (λ k. k - 1) blocks) in
+      omega (arith, mul-le-mul_left w past, mul-div-le (length values) w);
+  below = subst (All (λ n. n < 2 ^ 64)) (sym same) (elements-below (2 ^ 64) values (omega arith));
+  few = let most = length-elements-le 0 values in let many = ap length same in omega (arith, most, many);
+}
 
-module _ {X : Type 0} (w : ℕ) (n : X → ℕ) (b : X → Type 0) where
-  -- what is left
-  abbrev left : ℕ → X → List X → List ℕ
-  left place x xs = places w place (n x ∷ map n xs)
+-- ---- the blocks of one list of truth values
 
-  -- a block of zeros is passed
-  pub left-pulled : (place : ℕ) (x y : X) (ys : List X) → n x ≡ 0 → left place x (y ∷ ys) ≡ left (place + w) y ys
-  left-pulled place x y ys zero = ap (λ m. places w place (m ∷ n y ∷ map n ys)) zero ∙ places-zero w place (n y ∷ map n ys)
+module _ {X : Type 0} (w : ℕ) (number : X → ℕ) where
+  -- what blocks hold
+  abbrev held : List X → List Bool
+  held xs = values_in w (map number xs)
 
-  pub IsWalk-pulled : (place : ℕ) (x y : X) (ys : List X) → IsWalk w n b place x (y ∷ ys) → n x ≡ 0 → IsWalk w n b (place + w) y ys
-  IsWalk-pulled place x y ys walk zero =
-      let same = left-pulled place x y ys zero in
-      record {
-        in_hand = All-head b y ys walk.each;
-        each = All-tail b y ys walk.each;
-        fits = omega (arith, walk.fits);
-        below = subst (All (λ m. m < 2 ^ 64)) same walk.below;
-        few = subst (λ s. length s < 2 ^ 64) same walk.few;
-      }
+  pub length-held : (xs : List X) → length (held xs) ≡ length xs * w
+  length-held xs = length-values_in w (map number xs) ∙ ap (λ k. k * w) (length-map xs number)
 
-  -- where the last block in hand is used up
-  pub left-ended : (place : ℕ) (x : X) → n x ≡ 0 → left place x [] ≡ []
-  left-ended place x zero = ap (λ m. places w place (m ∷ [])) zero ∙ places-zero w place [] ∙ places-nil w (place + w)
+  pub length-blocks : (xs : List X) (values : List Bool) → map number xs ≡ blocks_of w values → length xs ≡ blocks_for w (length values)
+  length-blocks xs values is = sym (length-map xs number) ∙ ap length is ∙ length-blocks_of w values
 
-  -- the lowest one is taken
-  pub left-taken : (place i : ℕ) (x z : X) (xs : List X) → IsLowest (n x) i → i < w → IsCleared w (n x) i (n z) → left place x xs ≡ (place + i) ∷ left place z xs
-  left-taken place i x z xs low within cleared = places-lowest w place (n x) (n z) i (map n xs) low within cleared
+  pub elements-held : (xs : List X) (values : List Bool) → 0 < w → map number xs ≡ blocks_of w values → elements (held xs) ≡ elements values
+  elements-held xs values pos is = ap (λ ms. elements (values_in w ms)) is ∙ elements-blocks_of w values pos
 
-  pub IsWalk-taken : (place i : ℕ) (x z : X) (xs : List X) → IsWalk w n b place x xs → b z → IsLowest (n x) i → i < w → IsCleared w (n x) i (n z) → IsWalk w n b place z xs
-  IsWalk-taken place i x z xs walk is low within cleared =
-      let same = left-taken place i x z xs low within cleared in
-      record {
-        in_hand = is;
-        each = walk.each;
-        fits = walk.fits;
-        below = All-tail (λ m. m < 2 ^ 64) (place + i) (left place z xs) (subst (All (λ m. m < 2 ^ 64)) same walk.below);
-        few = let long : length ((place + i) ∷ left place z xs) < 2 ^ 64 = subst (λ s. length s < 2 ^ 64) same walk.few in omega arith;
-      }
-
-  pub taken_fits : (place i : ℕ) (x z : X) (xs : List X) → IsWalk w n b place x xs → IsLowest (n x) i → i < w → IsCleared w (n x) i (n z) → place + i < 2 ^ 64
-  taken_fits place i x z xs walk low within cleared =
-      All-head (λ m. m < 2 ^ 64) (place + i) (left place z xs) (subst (All (λ m. m < 2 ^ 64)) (left-taken place i x z xs low within cleared) walk.below)
-
-  -- no more items than digits
-  pub left-most : (place : ℕ) (x : X) (xs : List X) → length (left place x xs) ≤ (1 + length xs) * w
-  left-most place x xs =
-      let long : length (n x ∷ map n xs) ≡ 1 + length xs = let same = length-map xs n in omega (arith, same) in
-      subst (λ k. length (left place x xs) ≤ k * w) long (length-places-le w place (n x ∷ map n xs))
-
-  -- as many items as ones
-  pub left-count : (place : ℕ) (x : X) (xs : List X) → ((y : X) → b y → n y < 2 ^ w) → b x → All b xs → length (left place x xs) ≡ count_ones (n x) + sum_by count_ones (map n xs)
-  left-count place x xs small is each =
-      let rest : All (λ m. m < 2 ^ w) (map n xs) = All-map (λ m. m < 2 ^ w) n xs (All-weaker b (λ y. n y < 2 ^ w) small xs each) in
-      length-places w place (n x ∷ map n xs) (All-cons (λ m. m < 2 ^ w) (n x) (map n xs) (small x is) rest) ∙ sum_by-cons count_ones (n x) (map n xs)
+  pub IsWalkable-held : (xs : List X) (values : List Bool) (pulls : ℕ) → 0 < w → map number xs ≡ blocks_of w values → length values < 2 ^ 64 → IsWalkable w (record { values = held xs; blocks = length xs; pulls = pulls })
+  IsWalkable-held xs values pulls pos is fits = IsWalkable-of w _ values (length-held xs) (length-blocks xs values is) (elements-held xs values pos is) fits
 
   -- one block more is counted
-  pub count-more : (xs ys : List X) (y : X) (ones more total : ℕ) → xs ≡ y ∷ ys → ones + sum_by count_ones (map n xs) ≡ total → more ≡ count_ones (n y) → ones + more + sum_by count_ones (map n ys) ≡ total
-  count-more xs ys y ones more total is before same =
-      let split = ap (λ zs. sum_by count_ones (map n zs)) is ∙ sum_by-cons count_ones (n y) (map n ys) in
+  pub count_more : (xs ys : List X) (x : X) (ones more total : ℕ) → xs ≡ x ∷ ys → ones + length (elements (held xs)) ≡ total → number x < 2 ^ w → more ≡ count_ones (number x) → ones + more + length (elements (held ys)) ≡ total
+  count_more xs ys x ones more total is before small same =
+      let split = ap (λ zs. length (elements (held zs))) is ∙ length-elements-block w (number x) (held ys) small in
       omega (arith, split, before, same)
 
-  -- A walk with x in hand and ys past it is at the start of the values.
-  pub record IsStart (values : List Bool) (x : X) (ys : List X) : Type 0 where
-    pub all : left 0 x ys ≡ elements values
-    pub in_hand : b x
-    pub each : All b ys
-    pub past : length ys ≡ blocks_for w (length values) - 1
+-- the block in hand, where there may be none
+pub given_or : {X : Type 0} (P : X → Type 0) (r : Option X) (zero : X) → IfSome r P → P zero → P (unwrap_or r zero)
+given_or P None zero given none = none
+given_or P (Some x) zero given none = given
 
-  pub start : (values : List Bool) (xs ys : List X) (r : Option X) (zero : X) → 0 < w → map n xs ≡ blocks_of w values → All b xs → YieldsFirst (λ zs. zs) xs r ys → b zero → n zero ≡ 0 → IsStart values (unwrap_or r zero) ys
-  start values xs ys None zero pos is each first zero_is none =
-      let many : length xs ≡ blocks_for w (length values) = sym (length-map xs n) ∙ ap length is ∙ length-blocks_of w values in
-      let no_block : length xs ≡ 0 = ap length first.0 in
-      record {
-        all = ap (λ zs. left 0 zero zs) first.1 ∙ left-ended 0 zero none ∙ sym (places-nil w 0) ∙ ap (λ zs. places w 0 (map n zs)) (sym first.0) ∙ ap (places w 0) is ∙ places-blocks_of w values pos;
-        in_hand = zero_is;
-        each = All-same b ys [] first.1 (All-nil b);
-        past = ap length first.1 ∙ omega (arith, many, no_block);
-      }
-  start values xs ys (Some x) zero pos is each first zero_is none =
-      let many : length xs ≡ blocks_for w (length values) = sym (length-map xs n) ∙ ap length is ∙ length-blocks_of w values in
-      let one_more : length xs ≡ 1 + length ys = ap length first ∙ omega arith in
-      record {
-        all = ap (λ zs. places w 0 (map n zs)) (sym first) ∙ ap (places w 0) is ∙ places-blocks_of w values pos;
-        in_hand = All-head b x ys (All-same b (x ∷ ys) xs (sym first) each);
-        each = All-rest b x ys xs first each;
-        past = omega (arith, many, one_more);
-      }
-
-  pub start-few : (values : List Bool) (x : X) (ys : List X) → IsStart values x ys → length values < 2 ^ 64 → length (left 0 x ys) < 2 ^ 64
-  start-few values x ys at fits = let same = ap length at.all in let most = length-elements-le 0 values in omega (arith, same, most)
-
-  pub IsWalk-start : (values : List Bool) (x : X) (ys : List X) → IsStart values x ys → length values < 2 ^ 64 → IsWalk w n b 0 x ys
-  IsWalk-start values x ys at fits =
-      record {
-        in_hand = at.in_hand;
-        each = at.each;
-        fits = omega (arith, mul-le-mul_left w (past_fits w (length values) (length ys) at.past), mul-div-le (length values) w);
-        below = subst (All (λ m. m < 2 ^ 64)) (sym at.all) (elements-below (2 ^ 64) values (omega arith));
-        few = start-few values x ys at fits;
-      }
+-- a pull of lawful blocks gives one, and leaves such
+pub All-pulled : {X : Type 0} (P : X → Type 0) (xs ys : List X) (r : Option X) → All P xs → YieldsFirst (λ zs. zs) xs r ys → IfSome r P × All P ys
+All-pulled P xs ys None each first = (tt, All-same P ys [] first.1 (All-nil P))
+All-pulled P xs ys (Some x) each first = (All-head P x ys (All-same P (x ∷ ys) xs (sym first) each), All-rest P x ys xs first each)
 
 -- what a product bounds, it bounds where it fits
 pub within_product : (r : Option ℕ) (P : Type 0) (product m : ℕ) → SomeIff r P product → m ≤ product → IfSome r (UpTo (at_most m))

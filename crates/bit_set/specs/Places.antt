@@ -1,10 +1,10 @@
 -- Where the ones of blocks are. No public clause cites this.
-use Rattle.std.specs.Prelude.{◌≡◌, ℕ, ◌+◌, ◌-◌, ◌*◌, ◌^◌, ◌<◌, ◌≤◌, Bool, List, ◌∷◌, map, length, count_ones, All}
+use Rattle.std.specs.Prelude.{◌≡◌, ℕ, ◌+◌, ◌-◌, ◌*◌, ◌^◌, ◌<◌, ◌≤◌, Bool, List, [], ◌++◌, map, length, count_ones, All, Option, MatchOption}
 use Rattle.std.specs.List.{range_with_len, flat_map}
 use Rattle.bit_words.specs.Digits.{IsBoth}
 use Rattle.bit_words.specs.Lowest.{IsLowest, IsCleared}
 use Rattle.bit_words.specs.Storage.{is_one}
-use Rattle.bit_set.specs.Sets.{elements_from}
+use Rattle.bit_set.specs.Sets.{elements_from, elements}
 
 -- the w binary digits of m from digit a on, as truth values
 abbrev pub digits_from : ℕ → ℕ → ℕ → List Bool
@@ -14,9 +14,9 @@ digits_from m a w = map (is_one m) (range_with_len a w)
 abbrev pub values_in : ℕ → List ℕ → List Bool
 values_in w ms = flat_map (λ m. digits_from m 0 w) ms
 
--- the places of the ones of blocks of w digits, the first digit having place `place`
-unfoldable pub places : ℕ → ℕ → List ℕ → List ℕ
-places w place ms = elements_from place (values_in w ms)
+-- the places of the ones of a block m of w digits and of the true values past it, the first digit having place `place`
+unfoldable pub places : ℕ → ℕ → ℕ → List Bool → List ℕ
+places w place m values = elements_from place (digits_from m 0 w ++ values)
 
 -- Of w digits, l is the lowest 1 of m alone: the number o below it counts its place, and clearing goes by that place.
 pub record IsAlone (w m l : ℕ) : Type 0 where
@@ -25,11 +25,37 @@ pub record IsAlone (w m l : ℕ) : Type 0 where
   pub lowest : (o : ℕ) → o + 1 ≡ l → IsLowest m (count_ones o)
   pub cleared : (o r : ℕ) → o + 1 ≡ l → IsBoth w m (m - 1) r → IsCleared w m (count_ones o) r
 
--- A walk whose block in hand is x, with place `place` for its first digit, and xs past it.
-pub record IsWalk {X : Type 0} (w : ℕ) (number : X → ℕ) (is_block : X → Type 0) (place : ℕ) (x : X) (xs : List X) : Type 0 where
-  pub in_hand : is_block x
-  pub each : All is_block xs
+-- What lies ahead in a source of blocks: the values of the blocks that are not yet pulled, how many these are, and
+-- how often the source was pulled.
+pub record Ahead : Type 0 where
+  pub values : List Bool
+  pub blocks : ℕ
+  pub pulls : ℕ
+
+-- a pull that gave r: the first block, or None where there is none, and one more pull, at the end too
+pub record PullsBlock {X : Type 0} (w : ℕ) (number : X → ℕ) (s : Ahead) (r : Option X) (t : Ahead) : Type 0 where
+  pub values : MatchOption r ((s.values ≡ []) × (t.values ≡ [])) (λ x. s.values ≡ digits_from (number x) 0 w ++ t.values)
+  pub blocks : MatchOption r ((s.blocks ≡ 0) × (t.blocks ≡ 0)) (λ _. s.blocks ≡ t.blocks + 1)
+  pub counted : t.pulls ≡ s.pulls + 1
+
+-- A walk can go over the ones of all that is ahead, the first digit having place 0.
+pub record IsWalkable (w : ℕ) (ahead : Ahead) : Type 0 where
+  pub long : length ahead.values ≡ ahead.blocks * w
+  -- each place of a block past the first can be counted
+  pub fits : w * (ahead.blocks - 1) < 2 ^ 64
+  pub below : All (λ n. n < 2 ^ 64) (elements ahead.values)
+  pub few : length (elements ahead.values) < 2 ^ 64
+
+-- A walk can go over the ones of a block m and of what is ahead, m having place `place` for its first digit.
+pub record CanWalk (w place m : ℕ) (ahead : Ahead) : Type 0 where
+  pub long : length ahead.values ≡ ahead.blocks * w
   -- each place of a block past the one in hand can be counted
-  pub fits : place + w * length xs < 2 ^ 64
-  pub below : All (λ n. n < 2 ^ 64) (places w place (number x ∷ map number xs))
-  pub few : length (places w place (number x ∷ map number xs)) < 2 ^ 64
+  pub fits : place + w * ahead.blocks < 2 ^ 64
+  pub below : All (λ n. n < 2 ^ 64) (places w place m ahead.values)
+  pub few : length (places w place m ahead.values) < 2 ^ 64
+
+-- The fields of a walk: the block in hand is a block value, the source is sound, and the walk can go on.
+pub record IsWalk (is_block is_sound : Type 0) (w place m : ℕ) (ahead : Ahead) : Type 0 where
+  pub in_hand : is_block
+  pub sound : is_sound
+  pub can : CanWalk w place m ahead

@@ -22,6 +22,14 @@ pub record Advances (w : ℕ) (s : Walk) (r : Option ℕ) (t : Walk) : Type 0 wh
   pub along : t.place + w * t.blocks ≡ s.place + w * s.blocks
   pub at : MatchOption r (t.blocks ≡ 0) (λ x. (t.place ≤ x) × (x < t.place + w))
 
+-- The same, of a walk that pulls each block that it passes just once, and once more where it finds the end.
+pub record AdvancesByEach (w : ℕ) (s : Walk) (r : Option ℕ) (t : Walk) : Type 0 where
+  pub item : YieldsFirst (λ walk. walk.left) s r t
+  pub goes_on : s.pulls ≤ t.pulls
+  pub pulled : MatchOption r (t.pulls ≡ s.pulls + s.blocks + 1) (λ _. t.pulls + t.blocks ≡ s.pulls + s.blocks)
+  pub along : t.place + w * t.blocks ≡ s.place + w * s.blocks
+  pub at : MatchOption r (t.blocks ≡ 0) (λ x. (t.place ≤ x) × (x < t.place + w))
+
 -- From s, the calls of `next` up to the first None gave the items and left t.
 pub record IsWalkedOut (s : Walk) (items : List ℕ) (t : Walk) : Type 0 where
   pub all : items ≡ s.left

@@ -1,4 +1,4 @@
-//! The walk over a set's elements.
+//! The walks over a set's elements, and over what two sets make.
 ghost use Rattle.std.specs.Prelude.{◌≡◌, ◌-◌, ◌<◌, ◌^◌, IfSome, length};
 ghost use Rattle.std.specs.Iterator.{UpTo, item_count};
 ghost use Rattle.std.specs.Iterator.SizeHint.{IsWithinCount};
@@ -7,30 +7,25 @@ ghost use Rattle.bit_set.specs.Sets.{elements};
 ghost use Rattle.bit_set.specs.Walk.{Advances, IsAtStart, bound_on_rest};
 
 use crate::bit_vec::{BitVec, Blocks};
-use crate::lowest::take_lowest_one;
 use crate::{BitBlock, BitSet};
+use ones::Ones;
 use std::marker::Model;
+
+mod ones;
+mod source;
 
 /// The elements of a set in ascending order, each once. Looks at each block of the set once at most.
 #[derive(Drop)]
 pub struct Iter<'a, B: BitBlock> {
-    blocks: Blocks<'a, B>,
-    // What is left of the block in hand.
-    block: B,
-    // The place of its lowest digit.
-    place: usize,
+    ones: Ones<Blocks<'a, B>, B>,
 }
 
 impl<'a, B: BitBlock> Model for Iter<'a, B> {
-    ghost use Rattle.std.specs.Prelude.{◌∷◌, length, map};
     ghost use Rattle.bit_set.specs.Walk.{Walk};
-    ghost use Rattle.bit_set.specs.Places.{places, IsWalk};
 
     ghost Value = { Walk };
 
-    ghost view = { λ it. record { left = places B.width it.place (B.number it.block ∷ map B.number it.blocks.left); pulls = it.blocks.pulls; place = it.place; blocks = length it.blocks.left } };
-
-    ghost invariant = { λ it. IsWalk B.width B.number B.is_block it.place it.block it.blocks.left };
+    ghost view = { λ it. it.ones };
 }
 
 impl<'a, B: BitBlock> Iter<'a, B> {
@@ -43,12 +38,8 @@ impl<'a, B: BitBlock> Iter<'a, B> {
         ensures blocks { result.blocks ≡ blocks_for B.width (length bits.now.values) - 1 }
         ensures fits { length result.left < 2 ^ 64 }
     {
-        let mut blocks = bits.blocks();
-        let block = blocks.next().unwrap_or(B::zero());
         Iter {
-            blocks,
-            block,
-            place: 0,
+            ones: Ones::over(bits.blocks()),
         }
     }
 
@@ -56,11 +47,7 @@ impl<'a, B: BitBlock> Iter<'a, B> {
     pub fn count(self) -> usize
         ensures { result ≡ length self.entry.left }
     {
-        let mut ones = self.block.count_ones();
-        for block in self.blocks {
-            ones += block.count_ones();
-        }
-        ones
+        self.ones.count()
     }
 
     /// Another walk over what is left. It counts its pulls on from this one's. Constant time.
@@ -69,9 +56,7 @@ impl<'a, B: BitBlock> Iter<'a, B> {
         ensures { result ≡ self.now }
     {
         Iter {
-            blocks: self.blocks.clone(),
-            block: self.block,
-            place: self.place,
+            ones: self.ones.clone(),
         }
     }
 }
@@ -85,11 +70,7 @@ impl<'a, B: BitBlock> Iterator for Iter<'a, B> {
 
     #[inline]
     fn next(&mut self) -> Option<usize> {
-        while self.block == B::zero() {
-            self.block = self.blocks.next()?;
-            self.place += B::bits();
-        }
-        Some(self.place + take_lowest_one(&mut self.block))
+        self.ones.next()
     }
 
     #[inline]
@@ -98,8 +79,7 @@ impl<'a, B: BitBlock> Iterator for Iter<'a, B> {
         ensures lower { IsWithinCount result.0 (item_count (λ walk. walk.left) self.now) }
         ensures upper { IfSome result.1 (UpTo (item_count (λ walk. walk.left) self.now)) }
     {
-        let blocks = 1 + self.blocks.size_hint().0;
-        (0, blocks.checked_mul(B::bits()))
+        (0, self.ones.bound())
     }
 }
 

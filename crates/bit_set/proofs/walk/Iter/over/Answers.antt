@@ -1,39 +1,17 @@
-use Rattle.std.proofs.Common.{◌<◌, ◌^◌, length, arith}
-use Rattle.bit_set.proofs.WalkLemmas.{start, IsWalk-start, start-few}
+use Rattle.std.proofs.Common.{◌<◌, ◌-◌, ◌^◌, length, ap, ◌∙◌, arith}
+use Rattle.bit_set.proofs.WalkLemmas.{IsWalkable-held, elements-held, length-blocks}
 use Rattle.bit_set.proofs.walk.Iter.over.Goals as goal
 
-pub invariant_of-result : goal.invariant_of-result
-invariant_of-result g c =
-    let w = g.B.BitBlock.width in
-    let n = g.B.BitBlock.number in
-    let is = g.B.BitBlock.is_block in
-    let values = c.args.bits.now.values in
-    let at = start w n is values c.blocks-blocks.result.left c.next.new.self.left c.next.result c.zero.result g.met.B.BitBlock.width_law.positive c.blocks-blocks.ensures.numbers c.blocks-blocks.ensures.each c.next.ensures.steps.item c.zero.ensures.of_block c.zero.ensures.of_number in
-    let fits : length values < 2 ^ 64 = omega (arith, c.blocks-blocks.ensures.fits.holds_values, c.blocks-blocks.ensures.fits.fits) in
-    rw c.unwrap_or-block.ensures (IsWalk-start w n is values _ _ at fits)
+pub over-requires-clause-can : goal.over-requires-clause-can
+over-requires-clause-can g c =
+    let blocks = c.blocks-2.ensures in
+    let fits : length c.args.bits.now.values < 2 ^ 64 = omega (arith, blocks.fits.holds_values, blocks.fits.fits) in
+    IsWalkable-held g.B.BitBlock.width g.B.BitBlock.number c.blocks-2.result.left c.args.bits.now.values c.blocks-2.result.pulls g.met.B.BitBlock.width_law.positive blocks.numbers fits
 
 pub returns-clause-left : goal.returns-clause-left
 returns-clause-left g c =
-    let w = g.B.BitBlock.width in
-    let n = g.B.BitBlock.number in
-    let is = g.B.BitBlock.is_block in
-    let at = start w n is c.args.bits.now.values c.blocks-blocks.result.left c.next.new.self.left c.next.result c.zero.result g.met.B.BitBlock.width_law.positive c.blocks-blocks.ensures.numbers c.blocks-blocks.ensures.each c.next.ensures.steps.item c.zero.ensures.of_block c.zero.ensures.of_number in
-    rw c.unwrap_or-block.ensures at.all
+    c.over.ensures.left ∙ elements-held g.B.BitBlock.width g.B.BitBlock.number c.blocks-2.result.left c.args.bits.now.values g.met.B.BitBlock.width_law.positive c.blocks-2.ensures.numbers
 
 pub returns-clause-blocks : goal.returns-clause-blocks
 returns-clause-blocks g c =
-    let w = g.B.BitBlock.width in
-    let n = g.B.BitBlock.number in
-    let is = g.B.BitBlock.is_block in
-    let at = start w n is c.args.bits.now.values c.blocks-blocks.result.left c.next.new.self.left c.next.result c.zero.result g.met.B.BitBlock.width_law.positive c.blocks-blocks.ensures.numbers c.blocks-blocks.ensures.each c.next.ensures.steps.item c.zero.ensures.of_block c.zero.ensures.of_number in
-    at.past
-
-pub returns-clause-fits : goal.returns-clause-fits
-returns-clause-fits g c =
-    let w = g.B.BitBlock.width in
-    let n = g.B.BitBlock.number in
-    let is = g.B.BitBlock.is_block in
-    let values = c.args.bits.now.values in
-    let at = start w n is values c.blocks-blocks.result.left c.next.new.self.left c.next.result c.zero.result g.met.B.BitBlock.width_law.positive c.blocks-blocks.ensures.numbers c.blocks-blocks.ensures.each c.next.ensures.steps.item c.zero.ensures.of_block c.zero.ensures.of_number in
-    let fits : length values < 2 ^ 64 = omega (arith, c.blocks-blocks.ensures.fits.holds_values, c.blocks-blocks.ensures.fits.fits) in
-    rw c.unwrap_or-block.ensures (start-few w n is values _ _ at fits)
+    c.over.ensures.blocks ∙ ap (λ n. n - 1) (length-blocks g.B.BitBlock.width g.B.BitBlock.number c.blocks-2.result.left c.args.bits.now.values c.blocks-2.ensures.numbers)

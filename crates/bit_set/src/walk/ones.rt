@@ -1,0 +1,96 @@
+// The one walk over the ones of blocks, on which all others stand.
+ghost use Rattle.std.specs.Prelude.{◌≡◌, ◌+◌, ◌-◌, ◌<◌, ◌^◌, IfSome, Some, length};
+ghost use Rattle.std.specs.Iterator.{UpTo, item_count};
+ghost use Rattle.bit_set.specs.Sets.{elements};
+ghost use Rattle.bit_set.specs.Places.{IsWalkable};
+ghost use Rattle.bit_set.specs.Walk.{AdvancesByEach, bound_on_rest};
+
+use super::source::BlockSource;
+use crate::BitBlock;
+use crate::lowest::take_lowest_one;
+use std::marker::Model;
+
+// The places of the ones of the blocks of a source, in ascending order.
+#[derive(Drop)]
+pub(crate) struct Ones<S: BlockSource<B>, B: BitBlock> {
+    source: S,
+    // What is left of the block in hand.
+    block: B,
+    // The place of its lowest digit.
+    place: usize,
+}
+
+impl<S: BlockSource<B>, B: BitBlock> Model for Ones<S, B> {
+    ghost use Rattle.bit_set.specs.Walk.{Walk};
+    ghost use Rattle.bit_set.specs.Places.{places, IsWalk};
+
+    ghost Value = { Walk };
+
+    ghost view = { λ it. let ahead = S.ahead it.source in record { left = places B.width it.place (B.number it.block) ahead.values; pulls = ahead.pulls; place = it.place; blocks = ahead.blocks } };
+
+    ghost invariant = { λ it. IsWalk (B.is_block it.block) (S.is_sound it.source) B.width it.place (B.number it.block) (S.ahead it.source) };
+}
+
+impl<S: BlockSource<B>, B: BitBlock> Ones<S, B> {
+    // The walk over all ones of a source.
+    #[inline]
+    pub(crate) fn over(source: S) -> Self
+        requires sound { S.is_sound source }
+        requires can { IsWalkable B.width (S.ahead source) }
+        ensures left { result.left ≡ elements (S.ahead source).values }
+        ensures pulls { result.pulls ≡ (S.ahead source).pulls + 1 }
+        ensures place { result.place ≡ 0 }
+        ensures blocks { result.blocks ≡ (S.ahead source).blocks - 1 }
+        ensures fits { length result.left < 2 ^ 64 }
+    {
+        let mut source = source;
+        let block = source.pull().unwrap_or(B::zero());
+        Ones {
+            source,
+            block,
+            place: 0,
+        }
+    }
+
+    // The place of the next one.
+    #[inline]
+    pub(crate) fn next(&mut self) -> Option<usize>
+        ensures { AdvancesByEach B.width self.old result self.new }
+    {
+        while self.block == B::zero() {
+            self.block = self.source.pull()?;
+            self.place += B::bits();
+        }
+        Some(self.place + take_lowest_one(&mut self.block))
+    }
+
+    // At least none are left, and at most the digits of the block in hand and of those past it.
+    #[inline]
+    pub(crate) fn bound(&self) -> Option<usize>
+        ensures exact { result ≡ bound_on_rest B.width self.now.blocks }
+        ensures upper { IfSome result (UpTo (item_count (λ walk. walk.left) self.now)) }
+    {
+        let blocks = 1 + self.source.blocks_left();
+        blocks.checked_mul(B::bits())
+    }
+
+    // How many are left.
+    #[inline]
+    pub(crate) fn count(self) -> usize
+        ensures { result ≡ length self.left }
+    {
+        self.block.count_ones() + self.source.count_ones()
+    }
+
+    // The walk at the same place, its pulls going on.
+    #[inline]
+    pub(crate) fn clone(&self) -> Self
+        ensures { result ≡ self.now }
+    {
+        Ones {
+            source: self.source.copy(),
+            block: self.block,
+            place: self.place,
+        }
+    }
+}

@@ -1,0 +1,72 @@
+// Where a walk has its blocks from.
+ghost use Rattle.std.specs.Prelude.{◌≡◌, ◌^◌, ◌<◌, IfSome, length};
+ghost use Rattle.bit_set.specs.Places.{Ahead, PullsBlock};
+ghost use Rattle.bit_set.specs.Sets.{elements};
+
+use crate::BitBlock;
+use crate::bit_vec::Blocks;
+
+// Blocks in a row, pulled one by one.
+pub(crate) trait BlockSource<B: BitBlock>: Drop {
+    ghost use Rattle.bit_set.specs.Places.{Ahead};
+
+    // What is not yet pulled.
+    ghost ahead: { Self → Ahead };
+
+    // That the blocks ahead are block values.
+    ghost is_sound: { Self → Type 0 };
+
+    // The next block. `None` stays.
+    fn pull(&mut self) -> Option<B>
+        requires { is_sound self.old }
+        ensures steps { PullsBlock B.width B.number (ahead self.old) result (ahead self.new) }
+        ensures given { IfSome result B.is_block }
+        ensures sound { is_sound self.new };
+
+    // How many blocks are ahead.
+    fn blocks_left(&self) -> usize
+        requires { is_sound self.now }
+        ensures { result ≡ (ahead self.now).blocks };
+
+    // How many ones are ahead.
+    fn count_ones(self) -> usize
+        requires sound { is_sound self }
+        requires fits { length (elements (ahead self).values) < 2 ^ 64 }
+        ensures { result ≡ length (elements (ahead self).values) };
+
+    // The same blocks from the same place on, the pulls going on.
+    fn copy(&self) -> Self
+        ensures { result ≡ self.now };
+}
+
+impl<'a, B: BitBlock> BlockSource<B> for Blocks<'a, B> {
+    ghost use Rattle.std.specs.Prelude.{map, length, All};
+    ghost use Rattle.bit_set.specs.Places.{values_in};
+
+    ghost ahead = { λ blocks. record { values = values_in B.width (map B.number blocks.left); blocks = length blocks.left; pulls = blocks.pulls } };
+
+    ghost is_sound = { λ blocks. All B.is_block blocks.left };
+
+    #[inline]
+    fn pull(&mut self) -> Option<B> {
+        self.next()
+    }
+
+    #[inline]
+    fn blocks_left(&self) -> usize {
+        self.size_hint().0
+    }
+
+    fn count_ones(self) -> usize {
+        let mut ones = 0;
+        for block in self {
+            ones += block.count_ones();
+        }
+        ones
+    }
+
+    #[inline]
+    fn copy(&self) -> Self {
+        self.clone()
+    }
+}
