@@ -25,7 +25,6 @@ pub(crate) trait BlockSource<B: BitBlock>: Drop {
 
     // How many blocks are ahead.
     fn blocks_left(&self) -> usize
-        requires { is_sound self.now }
         ensures { result ≡ (ahead self.now).blocks };
 
     // How many ones are ahead.
