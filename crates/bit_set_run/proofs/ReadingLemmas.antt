@@ -1,8 +1,7 @@
 -- Numbers read a digit at a time, and what a line's words come to.
-use Rattle.std.proofs.Common.{◌≡◌, ℕ, zero, suc, ◌+◌, ◌-◌, ◌*◌, ◌<◌, Bool, true, false, not, ◌&&◌, List, [], ◌∷◌, ◌++◌, length, take, get_or, ap, sym, ◌∙◌, refl, arith, eqb, nat_lt, ◌⊎◌, inl, inr, Option, None, Some, Result, Ok, Err, nat_le, if◌then◌else◌}
+use Rattle.std.proofs.Common.{◌≡◌, ℕ, zero, suc, ◌+◌, ◌-◌, ◌*◌, ◌<◌, Bool, true, false, not, ◌&&◌, List, [], ◌∷◌, ◌++◌, length, take, get_or, ap, sym, ◌∙◌, refl, arith, eqb, nat_lt, ◌⊎◌, inl, inr, Option, None, Some, Result, Ok, Err, nat_le, if◌then◌else◌, MatchResult, IsOkAnd}
 use Rattle.std.specs.Char.{is_ascii_digit, digit_value, IsAsciiDigit}
-use Rattle.std.specs.Prelude.{codes}
-use Rattle.std.specs.Str.{all_ascii_digits, bytes_eq}
+use Rattle.std.specs.Str.{all_ascii_digits}
 use Rattle.std.specs.Str.Parse.{digits_value}
 use Rattle.std.proofs.lemmas.Int.Digits.{digits_value_more}
 use Rattle.std.proofs.lemmas.Str.{digit_value_digit}
@@ -11,12 +10,22 @@ use Rattle.std.proofs.lemmas.Bool.Decides.{eqb_tells}
 use Rattle.std.specs.List.{list_all}
 use Rattle.std.specs.Option.{option_and_then, option_map, option_zip}
 use Rattle.bit_set_run.specs.Cuts.{Lacks}
-use Rattle.bit_set_run.specs.declared.commands.Command.TheVariants.{RestIter}
-use Rattle.bit_set_run.specs.declared.reading.Verb.{Verb}
-use Rattle.bit_set_run.specs.declared.reading.Verb.TheVariants.{Insert, Remove, Contains, Extend, Truncate, Empty, Reset, Count, IsEmpty, Items, Copy, Rest}
+use Rattle.bit_set_run.specs.declared.commands.Command.{Command}
+use Rattle.bit_set_run.specs.declared.verbs.Verb.{Verb}
+use Rattle.bit_set_run.specs.declared.verbs.Verb.TheVariants.{Name, NameAndNumber, TwoNames, Extend, Rest}
+use Rattle.bit_set_run.specs.declared.verbs.NameVerb.{NameVerb}
+use Rattle.bit_set_run.specs.declared.verbs.NameVerb.TheVariants.{Empty}
+use Rattle.bit_set_run.specs.declared.verbs.NumberVerb.{NumberVerb}
+use Rattle.bit_set_run.specs.declared.verbs.NumberVerb.TheVariants.{Insert}
+use Rattle.bit_set_run.specs.declared.verbs.PairVerb.{PairVerb}
+use Rattle.bit_set_run.specs.declared.verbs.PairVerb.TheVariants.{Copy}
+use Rattle.bit_set_run.specs.declared.verbs.Walk.{Walk}
+use Rattle.bit_set_run.specs.declared.verbs.Walk.TheVariants.{Iter}
 use Rattle.bit_set_run.specs.declared.reading.BadLine.{BadLine}
 use Rattle.bit_set_run.specs.declared.reading.BadLine.TheVariants.{BadCommand, BadNumber}
-use Rattle.bit_set_run.specs.Reading.{command_of, held, name_alone, name_and_number, name_of, number_of, numbers_of, reading, rest_of, two_names, verb_of, within_range}
+use Rattle.bit_set_run.specs.Reading.{command_of, held, name_alone, name_and_number, name_of, number_of, reading, rest_command, rest_of, two_names, within_range}
+use Rattle.bit_set_run.specs.Spelling.{numbers_of}
+use Rattle.bit_set_run.specs.Verbs.{name_command, number_command, pair_command, verb_of, walk_of}
 use Rattle.bit_set.specs.Bounds.{greatest}
 use Rattle.bit_set_run.specs.Words.{words_of}
 use Rattle.bit_set_run.proofs.CutLemmas.{parts_at-first, parts_at-one, parts_some}
@@ -147,26 +156,46 @@ abbrev pub told : List ℕ → Bool → Option (List ℕ) → Result (List ℕ) 
 told read large None = Err BadCommand
 told read large (Some ns) = if not large && list_all (λ n. nat_le n greatest) ns then Ok (read ++ ns) else Err BadNumber
 
+-- the numbers of a command, by the shape of its words: the first verb stands for all
+pub numbers-name_command : (verb : NameVerb) (s : ℕ) → numbers_of (name_command verb s) ≡ []
+numbers-name_command Empty s = refl
+numbers-name_command verb s = refl
+
+pub numbers-number_command : (verb : NumberVerb) (p : ℕ × ℕ) → numbers_of (number_command verb p) ≡ p.1 ∷ []
+numbers-number_command Insert p = refl
+numbers-number_command verb p = refl
+
+pub numbers-pair_command : (verb : PairVerb) (p : ℕ × ℕ) → numbers_of (pair_command verb p) ≡ []
+numbers-pair_command Copy p = refl
+
+made_by_test : {X : Type 0} {Post : X → Command → Type 0} (fits : Bool) (make : X → Command) (x : X) (read : Result X BadLine) (result : Result Command BadLine) → ((x : X) (command : Command) → Post x command → command ≡ make x) → read ≡ (if fits then Ok x else Err BadNumber) → MatchResult read (λ x. IsOkAnd result (Post x)) (λ e. result ≡ Err e) → result ≡ (if fits then Ok (make x) else Err BadNumber)
+made_by_test true make x (Ok y) (Ok command) makes told made = ap Ok (makes y command made ∙ ap make (cc))
+made_by_test true make x (Ok y) (Err e) makes told made = absurd made
+made_by_test true make x (Err e) result makes told made = cc
+made_by_test false make x (Ok y) result makes told made = cc
+made_by_test false make x (Err e) result makes told made = made ∙ ap Err (cc)
+
+-- a command made of the operands that were read, where its numbers are theirs
+pub of_operands : {X : Type 0} {Post : X → Command → Type 0} (make : X → Command) (numbers : X → List ℕ) (operands : Option X) (read : Result X BadLine) (result : Result Command BadLine) → ((x : X) → numbers_of (make x) ≡ numbers x) → read ≡ within_range numbers operands → MatchResult read (λ x. IsOkAnd result (Post x)) (λ e. result ≡ Err e) → ((x : X) (command : Command) → Post x command → command ≡ make x) → result ≡ within_range numbers_of (option_map make operands)
+of_operands make numbers None (Ok x) result same told made makes = cc
+of_operands make numbers None (Err e) result same told made makes = made ∙ ap Err (cc)
+of_operands make numbers (Some x) read result same told made makes =
+    rw (same x) (made_by_test (list_all (λ n. nat_le n greatest) (numbers x)) make x read result makes told made)
+
 -- `rest` and a walk alone
-pub rest_of-alone : (walk : List ℕ) → rest_of (walk ∷ []) ≡ None
-rest_of-alone walk = elim (bytes_eq walk (codes "iter")) as (λ v. (if v then option_map (λ (s, n). RestIter s n) (name_and_number []) else None) ≡ None) [
-  | true ↦ refl
-  | false ↦ refl
-]
+rest_command-alone : (walk : Option Walk) → option_and_then (λ w. rest_command w []) walk ≡ None
+rest_command-alone None = refl
+rest_command-alone (Some Iter) = refl
+
+pub rest_of-alone : (word : List ℕ) → rest_of (word ∷ []) ≡ None
+rest_of-alone word = rest_command-alone (walk_of word)
 
 alone : (verb : Option Verb) → within_range numbers_of (option_and_then (λ v. command_of v []) verb) ≡ Err BadCommand
 alone None = refl
-alone (Some Insert) = refl
-alone (Some Remove) = refl
-alone (Some Contains) = refl
+alone (Some (Name verb)) = refl
+alone (Some (NameAndNumber verb)) = refl
+alone (Some (TwoNames verb)) = refl
 alone (Some Extend) = refl
-alone (Some Truncate) = refl
-alone (Some Empty) = refl
-alone (Some Reset) = refl
-alone (Some Count) = refl
-alone (Some IsEmpty) = refl
-alone (Some Items) = refl
-alone (Some Copy) = refl
 alone (Some Rest) = refl
 
 -- a line without a space spells nothing, since each verb wants a name

@@ -1,9 +1,8 @@
 -- The line of a command is read as that command.
-use Rattle.std.proofs.Common.{◌≡◌, ℕ, ◌+◌, ◌-◌, ◌<◌, ◌≤◌, ◌^◌, true, ◌≢◌, List, [], ◌∷◌, ◌++◌, length, Some, Ok, map, arith, refl, ap, ◌∙◌, append-nil, nat_le, lt-ltb, le-leb}
+use Rattle.std.proofs.Common.{◌≡◌, ℕ, ◌+◌, ◌-◌, ◌<◌, ◌≤◌, ◌^◌, ◌==◌, not, true, ◌≢◌, List, [], ◌∷◌, ◌++◌, length, Some, Ok, map, arith, refl, ap, ◌∙◌, append-nil, nat_le, lt-ltb, le-leb}
 use Rattle.std.specs.Char.{is_ascii_digit}
 use Rattle.std.specs.Prelude.{codes, decimal}
 use Rattle.std.specs.List.{list_all, All, flat_map}
-use Rattle.std.specs.Option.{option_and_then, option_map}
 use Rattle.std.specs.Str.{all_ascii_digits}
 use Rattle.std.specs.Str.Parse.{digits_value}
 use Rattle.std.proofs.lemmas.Bool.{and_parts, false≢true}
@@ -11,14 +10,23 @@ use Rattle.std.proofs.lemmas.Fmt.{decimal_nonempty, digits_decimal, digits_value
 use Rattle.std.proofs.lemmas.List.Elements.{All-cons, All-head, All-nil, All-tail}
 use Rattle.std.proofs.lemmas.Str.Parse.{IsNumeralModel, numerals_by_value, tells_all_ascii_digits}
 use Rattle.bit_set_run.specs.declared.commands.Command.{Command}
-use Rattle.bit_set_run.specs.declared.commands.Command.TheVariants.{Insert, Remove, Contains, Extend, Truncate, Empty, Reset, Count, IsEmpty, Items, Copy, RestIter}
+use Rattle.bit_set_run.specs.declared.commands.Command.TheVariants as command
+use Rattle.bit_set_run.specs.declared.verbs.Verb.TheVariants.{Name, NameAndNumber, TwoNames, Extend, Rest}
+use Rattle.bit_set_run.specs.declared.verbs.NameVerb.{NameVerb}
+use Rattle.bit_set_run.specs.declared.verbs.NameVerb.TheVariants.{Empty, Reset, Count, IsEmpty, Items}
+use Rattle.bit_set_run.specs.declared.verbs.NumberVerb.{NumberVerb}
+use Rattle.bit_set_run.specs.declared.verbs.NumberVerb.TheVariants.{Insert, Remove, Contains, Truncate}
+use Rattle.bit_set_run.specs.declared.verbs.PairVerb.{PairVerb}
+use Rattle.bit_set_run.specs.declared.verbs.PairVerb.TheVariants.{Copy}
+use Rattle.bit_set_run.specs.declared.verbs.Walk.TheVariants.{Iter}
 use Rattle.bit_set_run.specs.Cuts.{Lacks}
-use Rattle.bit_set_run.specs.Reading.{all_numbers, command_of, name_alone, name_and_number, name_of, number_of, numbers_of, reading, two_names, verb_of}
+use Rattle.bit_set_run.specs.Reading.{all_numbers, name_of, number_of, reading}
 use Rattle.bit_set.specs.Bounds.{greatest}
 use Rattle.bit_set_run.specs.Spelling.{figures, letter, line_of, CanBeHad}
+use Rattle.bit_set_run.specs.Verbs.{name_command, number_command, pair_command, verb_of, walk_of}
 use Rattle.bit_set_run.specs.Words.{words_of}
 use Rattle.bit_set_run.proofs.CutLemmas.{lacks_by_test, parts_at-first, parts_at-one}
-use Rattle.bit_set_run.proofs.ReadingLemmas.{name_alone_words, name_and_number-words, reading-words, two_names-words}
+use Rattle.bit_set_run.proofs.ReadingLemmas.{numbers-name_command, numbers-number_command, numbers-pair_command}
 
 own : IsNumeralModel (λ ds. all_ascii_digits ds ≡ true) (digits_value 10)
 own = numerals_by_value (λ ds. all_ascii_digits ds ≡ true) tells_all_ascii_digits
@@ -35,29 +43,6 @@ name_of-letter place below =
 
 one_byte : (b : ℕ) → b ≢ 32 → Lacks 32 (b ∷ [])
 one_byte b other = All-cons (λ x. x ≢ 32) b [] other (All-nil (λ x. x ≢ 32))
-
-given_both : (place n : ℕ) → place < 16 → n ≤ greatest → name_and_number (words_of ((place + 97) ∷ figures n)) ≡ Some (place, n)
-given_both place n below fits =
-    rw (name_and_number-words ((place + 97) ∷ []) (decimal n) (one_byte (place + 97) (λ e. absurd (omega arith))), name_of-letter place below, number_of-decimal n fits)
-
-with_number : (make : ℕ → ℕ → Command) (word : List ℕ) (name n : ℕ) → Lacks 32 word → option_and_then (λ verb. command_of verb (words_of ((name + 97) ∷ figures n))) (verb_of word) ≡ option_map (λ (s, m). make s m) (name_and_number (words_of ((name + 97) ∷ figures n))) → numbers_of (make name n) ≡ n ∷ [] → name < 16 → n ≤ greatest → reading (word ++ (letter name ++ figures n)) ≡ Ok (make name n)
-with_number make word name n lacks verb given below fits =
-    rw (reading-words word ((name + 97) ∷ figures n) lacks, verb, given_both name n below fits, given, le-leb n greatest fits)
-
-with_name : (make : ℕ → Command) (word : List ℕ) (name : ℕ) → Lacks 32 word → option_and_then (λ verb. command_of verb (words_of ((name + 97) ∷ []))) (verb_of word) ≡ option_map make (name_alone (words_of ((name + 97) ∷ []))) → numbers_of (make name) ≡ [] → name < 16 → reading (word ++ letter name) ≡ Ok (make name)
-with_name make word name lacks verb given below =
-    rw (reading-words word ((name + 97) ∷ []) lacks, verb, name_alone_words ((name + 97) ∷ []), name_of-letter name below, given)
-
-with_names : (make : ℕ → ℕ → Command) (word : List ℕ) (first second : ℕ) → Lacks 32 word → option_and_then (λ verb. command_of verb (words_of ((first + 97) ∷ letter second))) (verb_of word) ≡ option_map (λ (s, t). make s t) (two_names (words_of ((first + 97) ∷ letter second))) → numbers_of (make first second) ≡ [] → first < 16 → second < 16 → reading (word ++ (letter first ++ letter second)) ≡ Ok (make first second)
-with_names make word first second lacks verb given one two =
-    rw (
-      reading-words word ((first + 97) ∷ letter second) lacks,
-      verb,
-      two_names-words ((first + 97) ∷ []) ((second + 97) ∷ []) (one_byte (first + 97) (λ e. absurd (omega arith))),
-      name_of-letter first one,
-      name_of-letter second two,
-      given,
-    )
 
 digits_lack : (ds : List ℕ) → all_ascii_digits ds ≡ true → Lacks 32 ds
 digits_lack [] all = All-nil (λ b. b ≢ 32)
@@ -83,45 +68,76 @@ all_fit : (ns : List ℕ) → All (λ m. m ≤ greatest) ns → list_all (λ m. 
 all_fit [] fit = refl
 all_fit (n ∷ ns) fit = rw (le-leb n greatest (All-head (λ m. m ≤ greatest) n ns fit), all_fit ns (All-tail (λ m. m ≤ greatest) n ns fit))
 
-with_numbers : (name : ℕ) (ns : List ℕ) → name < 16 → All (λ m. m ≤ greatest) ns → reading (codes "extend" ++ (letter name ++ flat_map figures ns)) ≡ Ok (Extend name ns)
-with_numbers name ns below fit =
+-- the words of a line: its word, the letters of its sets and its numbers in decimal
+words_of-line : (word names ns : List ℕ) → Lacks 32 word → All (λ s. s < 16) names → All (λ m. m ≤ greatest) ns → words_of (word ++ (flat_map letter names ++ flat_map figures ns)) ≡ word ∷ (map (λ s. (s + 97) ∷ []) names ++ map decimal ns)
+words_of-line word [] ns lacks below fit = words_of-figures word ns lacks fit
+words_of-line word (s ∷ names) ns lacks below fit =
+    parts_at-first 32 word ((s + 97) ∷ (flat_map letter names ++ flat_map figures ns)) lacks
+    ∙ ap (λ ws. word ∷ ws) (words_of-line ((s + 97) ∷ []) names ns (one_byte (s + 97) (λ e. absurd (omega arith))) (All-tail (λ s. s < 16) s names below) fit)
+
+-- A line of each shape is read as the command of its verb.
+name_line : (verb : NameVerb) (word : List ℕ) (s : ℕ) → list_all (λ b. not (b == 32)) word ≡ true → verb_of word ≡ Some (Name verb) → All (λ s. s < 16) (s ∷ []) → reading (word ++ (flat_map letter (s ∷ []) ++ flat_map figures [])) ≡ Ok (name_command verb s)
+name_line verb word s plain is below =
     rw (
-      reading-words (codes "extend") ((name + 97) ∷ flat_map figures ns) (lacks_by_test 32 (codes "extend") refl),
-      words_of-figures ((name + 97) ∷ []) ns (one_byte (name + 97) (λ e. absurd (omega arith))) fit,
-      name_of-letter name below,
+      words_of-line word (s ∷ []) [] (lacks_by_test 32 word plain) below (All-nil (λ m. m ≤ greatest)),
+      is,
+      name_of-letter s (All-head (λ s. s < 16) s [] below),
+      numbers-name_command verb s,
+    )
+
+number_line : (verb : NumberVerb) (word : List ℕ) (s n : ℕ) → list_all (λ b. not (b == 32)) word ≡ true → verb_of word ≡ Some (NameAndNumber verb) → All (λ s. s < 16) (s ∷ []) → All (λ m. m ≤ greatest) (n ∷ []) → reading (word ++ (flat_map letter (s ∷ []) ++ flat_map figures (n ∷ []))) ≡ Ok (number_command verb (s, n))
+number_line verb word s n plain is below fit =
+    rw (
+      words_of-line word (s ∷ []) (n ∷ []) (lacks_by_test 32 word plain) below fit,
+      is,
+      name_of-letter s (All-head (λ s. s < 16) s [] below),
+      number_of-decimal n (All-head (λ m. m ≤ greatest) n [] fit),
+      numbers-number_command verb (s, n),
+      all_fit (n ∷ []) fit,
+    )
+
+pair_line : (verb : PairVerb) (word : List ℕ) (s t : ℕ) → list_all (λ b. not (b == 32)) word ≡ true → verb_of word ≡ Some (TwoNames verb) → All (λ s. s < 16) (s ∷ t ∷ []) → reading (word ++ (flat_map letter (s ∷ t ∷ []) ++ flat_map figures [])) ≡ Ok (pair_command verb (s, t))
+pair_line verb word s t plain is below =
+    rw (
+      words_of-line word (s ∷ t ∷ []) [] (lacks_by_test 32 word plain) below (All-nil (λ m. m ≤ greatest)),
+      is,
+      name_of-letter s (All-head (λ s. s < 16) s (t ∷ []) below),
+      name_of-letter t (All-head (λ s. s < 16) t [] (All-tail (λ s. s < 16) s (t ∷ []) below)),
+      numbers-pair_command verb (s, t),
+    )
+
+extend_line : (word : List ℕ) (s : ℕ) (ns : List ℕ) → list_all (λ b. not (b == 32)) word ≡ true → verb_of word ≡ Some Extend → All (λ s. s < 16) (s ∷ []) → All (λ m. m ≤ greatest) ns → reading (word ++ (flat_map letter (s ∷ []) ++ flat_map figures ns)) ≡ Ok (command.Extend s ns)
+extend_line word s ns plain is below fit =
+    rw (
+      words_of-line word (s ∷ []) ns (lacks_by_test 32 word plain) below fit,
+      is,
+      name_of-letter s (All-head (λ s. s < 16) s [] below),
       all_numbers-decimal ns fit,
       all_fit ns fit,
     )
 
-with_walk : (name n : ℕ) → name < 16 → n ≤ greatest → reading (codes "rest iter" ++ (letter name ++ figures n)) ≡ Ok (RestIter name n)
-with_walk name n below fits =
+rest_iter_line : (verb word : List ℕ) (s n : ℕ) → list_all (λ b. not (b == 32)) verb ≡ true → verb_of verb ≡ Some Rest → list_all (λ b. not (b == 32)) word ≡ true → walk_of word ≡ Some Iter → All (λ s. s < 16) (s ∷ []) → All (λ m. m ≤ greatest) (n ∷ []) → reading (verb ++ 32 ∷ (word ++ (flat_map letter (s ∷ []) ++ flat_map figures (n ∷ [])))) ≡ Ok (command.RestIter s n)
+rest_iter_line verb word s n one is two walk below fit =
     rw (
-      reading-words (codes "rest") (codes "iter" ++ (letter name ++ figures n)) (lacks_by_test 32 (codes "rest") refl),
-      given_both name n below fits,
-      le-leb n greatest fits,
+      parts_at-first 32 verb (word ++ (flat_map letter (s ∷ []) ++ flat_map figures (n ∷ []))) (lacks_by_test 32 verb one),
+      is,
+      words_of-line word (s ∷ []) (n ∷ []) (lacks_by_test 32 word two) below fit,
+      walk,
+      name_of-letter s (All-head (λ s. s < 16) s [] below),
+      number_of-decimal n (All-head (λ m. m ≤ greatest) n [] fit),
+      all_fit (n ∷ []) fit,
     )
 
-pub reading-line_of : (command : Command) → CanBeHad command → reading (line_of command) ≡ Ok command
-reading-line_of (Insert name n) had =
-    with_number Insert (codes "insert") name n (lacks_by_test 32 (codes "insert") refl) refl refl (All-head (λ s. s < 16) name [] had.names) (All-head (λ m. m ≤ greatest) n [] had.numbers)
-reading-line_of (Remove name n) had =
-    with_number Remove (codes "remove") name n (lacks_by_test 32 (codes "remove") refl) refl refl (All-head (λ s. s < 16) name [] had.names) (All-head (λ m. m ≤ greatest) n [] had.numbers)
-reading-line_of (Contains name n) had =
-    with_number Contains (codes "contains") name n (lacks_by_test 32 (codes "contains") refl) refl refl (All-head (λ s. s < 16) name [] had.names) (All-head (λ m. m ≤ greatest) n [] had.numbers)
-reading-line_of (Extend name ns) had = with_numbers name ns (All-head (λ s. s < 16) name [] had.names) had.numbers
-reading-line_of (Truncate name n) had =
-    with_number Truncate (codes "truncate") name n (lacks_by_test 32 (codes "truncate") refl) refl refl (All-head (λ s. s < 16) name [] had.names) (All-head (λ m. m ≤ greatest) n [] had.numbers)
-reading-line_of (Empty name) had =
-    with_name Empty (codes "empty") name (lacks_by_test 32 (codes "empty") refl) refl refl (All-head (λ s. s < 16) name [] had.names)
-reading-line_of (Reset name) had =
-    with_name Reset (codes "reset") name (lacks_by_test 32 (codes "reset") refl) refl refl (All-head (λ s. s < 16) name [] had.names)
-reading-line_of (Count name) had =
-    with_name Count (codes "count") name (lacks_by_test 32 (codes "count") refl) refl refl (All-head (λ s. s < 16) name [] had.names)
-reading-line_of (IsEmpty name) had =
-    with_name IsEmpty (codes "is_empty") name (lacks_by_test 32 (codes "is_empty") refl) refl refl (All-head (λ s. s < 16) name [] had.names)
-reading-line_of (Items name) had =
-    with_name Items (codes "items") name (lacks_by_test 32 (codes "items") refl) refl refl (All-head (λ s. s < 16) name [] had.names)
-reading-line_of (Copy from to) had =
-    with_names Copy (codes "copy") from to (lacks_by_test 32 (codes "copy") refl) refl refl
-    (All-head (λ s. s < 16) from (to ∷ []) had.names) (All-head (λ s. s < 16) to [] (All-tail (λ s. s < 16) from (to ∷ []) had.names))
-reading-line_of (RestIter name n) had = with_walk name n (All-head (λ s. s < 16) name [] had.names) (All-head (λ m. m ≤ greatest) n [] had.numbers)
+pub reading-line_of : (c : Command) → CanBeHad c → reading (line_of c) ≡ Ok c
+reading-line_of (command.Insert s n) had = number_line Insert (codes "insert") s n refl refl had.names had.numbers
+reading-line_of (command.Remove s n) had = number_line Remove (codes "remove") s n refl refl had.names had.numbers
+reading-line_of (command.Contains s n) had = number_line Contains (codes "contains") s n refl refl had.names had.numbers
+reading-line_of (command.Extend s ns) had = extend_line (codes "extend") s ns refl refl had.names had.numbers
+reading-line_of (command.Truncate s n) had = number_line Truncate (codes "truncate") s n refl refl had.names had.numbers
+reading-line_of (command.Empty s) had = name_line Empty (codes "empty") s refl refl had.names
+reading-line_of (command.Reset s) had = name_line Reset (codes "reset") s refl refl had.names
+reading-line_of (command.Count s) had = name_line Count (codes "count") s refl refl had.names
+reading-line_of (command.IsEmpty s) had = name_line IsEmpty (codes "is_empty") s refl refl had.names
+reading-line_of (command.Items s) had = name_line Items (codes "items") s refl refl had.names
+reading-line_of (command.Copy s t) had = pair_line Copy (codes "copy") s t refl refl had.names
+reading-line_of (command.RestIter s n) had = rest_iter_line (codes "rest") (codes "iter") s n refl refl refl refl had.names had.numbers

@@ -1,19 +1,21 @@
 -- A line with an empty word, or with a byte that no command has, is a bad command.
-use Rattle.std.proofs.Common.{◌≡◌, ℕ, zero, suc, ◌<◌, Bool, true, false, ◌&&◌, ◌||◌, ◌==◌, nat_lt, nat_le, List, [], ◌∷◌, length, get_or, Option, None, Some, Err, inl, inr, arith, refl, ap, sym, ◌∙◌, if◌then◌else◌, leb-true, le-leb}
+use Rattle.std.proofs.Common.{◌≡◌, ℕ, zero, suc, ◌<◌, Bool, true, false, ◌&&◌, ◌||◌, ◌==◌, nat_lt, nat_le, List, [], ◌∷◌, length, get_or, Option, None, Some, Err, inl, inr, arith, refl, ap, sym, ◌∙◌, leb-true, le-leb}
 use Rattle.std.specs.Char.{is_ascii_digit, is_ascii_lowercase}
 use Rattle.std.specs.Cmp.Lexicographic.{same_text}
 use Rattle.std.specs.Int.{is_in_range}
 use Rattle.std.specs.List.{list_all, onto_first, Contains}
 use Rattle.std.specs.Map.{lookup}
 use Rattle.std.specs.Option.{option_and_then, option_zip}
-use Rattle.std.specs.Prelude.{codes}
 use Rattle.std.specs.Str.{all_ascii_digits, bytes_eq}
 use Rattle.std.proofs.lemmas.Bool.{and_parts, and_right}
 use Rattle.std.proofs.lemmas.Bool.Decides.{eqb_tells}
 use Rattle.bit_set_run.specs.declared.reading.BadLine.TheVariants.{BadCommand}
-use Rattle.bit_set_run.specs.declared.reading.Verb.{Verb}
-use Rattle.bit_set_run.specs.declared.reading.Verb.TheVariants as verb
-use Rattle.bit_set_run.specs.Reading.{all_numbers, command_of, is_plain, name_alone, name_and_number, name_and_numbers, name_of, number_of, reading, rest_of, spelled, two_names, verb_of, verbs}
+use Rattle.bit_set_run.specs.declared.verbs.Verb.{Verb}
+use Rattle.bit_set_run.specs.declared.verbs.Verb.TheVariants.{Name, NameAndNumber, TwoNames, Extend, Rest}
+use Rattle.bit_set_run.specs.declared.verbs.Walk.{Walk}
+use Rattle.bit_set_run.specs.declared.verbs.Walk.TheVariants.{Iter}
+use Rattle.bit_set_run.specs.Reading.{all_numbers, command_of, is_plain, name_alone, name_and_number, name_and_numbers, name_of, number_of, reading, rest_command, rest_of, spelled, two_names}
+use Rattle.bit_set_run.specs.Verbs.{verb_of, verbs, walk_of, walks}
 use Rattle.bit_set_run.specs.Words.{words_of}
 use Rattle.bit_set_run.proofs.ReadingLemmas.{nothing}
 
@@ -49,7 +51,7 @@ not_same word text fit unfit = elim (bytes_eq word text) as (λ v. v ≡ bytes_e
   | false ↦ λ e. refl
 ] refl
 
-lookup-unfit : (entries : List (List ℕ × Verb)) (word : List ℕ) → list_all (λ e. is_fit e.0) entries ≡ true → is_fit word ≡ false → lookup (bytes_eq word) entries ≡ None
+lookup-unfit : {V : Type 0} (entries : List (List ℕ × V)) (word : List ℕ) → list_all (λ e. is_fit e.0) entries ≡ true → is_fit word ≡ false → lookup (bytes_eq word) entries ≡ None
 lookup-unfit [] word fit unfit = refl
 lookup-unfit (e ∷ es) word fit unfit =
     let parts : (is_fit e.0 ≡ true) × (list_all (λ x. is_fit x.0) es ≡ true) = and_parts (is_fit e.0) (list_all (λ x. is_fit x.0) es) fit in
@@ -122,30 +124,23 @@ name_and_numbers-unfit [] unfit = refl
 name_and_numbers-unfit (name ∷ numbers) unfit =
     zip_none (is_fit name) (list_all is_fit numbers) (name_of name) (all_numbers numbers) (name_of-unfit name) (all_numbers-unfit numbers) unfit
 
-either_none : {X : Type 0} (test : Bool) → ◌≡◌ {A = Option X} (if test then None else None) None
-either_none true = refl
-either_none false = refl
+rest_command-unfit : (walk : Option Walk) (words : List (List ℕ)) → list_all is_fit words ≡ false → option_and_then (λ w. rest_command w words) walk ≡ None
+rest_command-unfit None words unfit = refl
+rest_command-unfit (Some Iter) words unfit = rw (name_and_number-unfit words unfit)
 
 rest_of-unfit : (words : List (List ℕ)) → list_all is_fit words ≡ false → rest_of words ≡ None
 rest_of-unfit [] unfit = refl
-rest_of-unfit (walk ∷ words) unfit = elim (is_fit walk) as (λ v. v ≡ is_fit walk → (v && list_all is_fit words) ≡ false → rest_of (walk ∷ words) ≡ None) [
-  | true ↦ λ e rest. rw (name_and_number-unfit words rest) (either_none (bytes_eq walk (codes "iter")))
-  | false ↦ λ e rest. rw (not_same walk (codes "iter") refl (sym e))
+rest_of-unfit (word ∷ words) unfit = elim (is_fit word) as (λ v. v ≡ is_fit word → (v && list_all is_fit words) ≡ false → rest_of (word ∷ words) ≡ None) [
+  | true ↦ λ e rest. rest_command-unfit (walk_of word) words rest
+  | false ↦ λ e rest. rw (lookup-unfit walks word refl (sym e))
 ] refl unfit
 
-command_of-unfit : (v : Verb) (words : List (List ℕ)) → list_all is_fit words ≡ false → command_of v words ≡ None
-command_of-unfit verb.Insert words unfit = rw (name_and_number-unfit words unfit)
-command_of-unfit verb.Remove words unfit = rw (name_and_number-unfit words unfit)
-command_of-unfit verb.Contains words unfit = rw (name_and_number-unfit words unfit)
-command_of-unfit verb.Extend words unfit = rw (name_and_numbers-unfit words unfit)
-command_of-unfit verb.Truncate words unfit = rw (name_and_number-unfit words unfit)
-command_of-unfit verb.Empty words unfit = rw (name_alone-unfit words unfit)
-command_of-unfit verb.Reset words unfit = rw (name_alone-unfit words unfit)
-command_of-unfit verb.Count words unfit = rw (name_alone-unfit words unfit)
-command_of-unfit verb.IsEmpty words unfit = rw (name_alone-unfit words unfit)
-command_of-unfit verb.Items words unfit = rw (name_alone-unfit words unfit)
-command_of-unfit verb.Copy words unfit = rw (two_names-unfit words unfit)
-command_of-unfit verb.Rest words unfit = rest_of-unfit words unfit
+command_of-unfit : (verb : Verb) (words : List (List ℕ)) → list_all is_fit words ≡ false → command_of verb words ≡ None
+command_of-unfit (Name verb) words unfit = rw (name_alone-unfit words unfit)
+command_of-unfit (NameAndNumber verb) words unfit = rw (name_and_number-unfit words unfit)
+command_of-unfit (TwoNames verb) words unfit = rw (two_names-unfit words unfit)
+command_of-unfit Extend words unfit = rw (name_and_numbers-unfit words unfit)
+command_of-unfit Rest words unfit = rest_of-unfit words unfit
 
 arguments_unfit : (v : Option Verb) (words : List (List ℕ)) → list_all is_fit words ≡ false → option_and_then (λ w. command_of w words) v ≡ None
 arguments_unfit None words unfit = refl

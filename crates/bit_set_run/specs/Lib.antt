@@ -10,4 +10,5 @@ pub use Rattle.bit_set.specs.Sets
 pub mod Spelling
 pub mod Streams
 pub mod Texts
+pub mod Verbs
 pub mod Words

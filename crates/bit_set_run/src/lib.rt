@@ -17,6 +17,7 @@ mod table;
 #[cfg(test)]
 mod tests;
 mod texts;
+mod verbs;
 
 pub use commands::{Command, Reply};
 pub use lines::run_lines;

@@ -3,10 +3,13 @@
 ghost use Rattle.std.specs.Prelude.{◌≡◌, ℕ, ◌+◌, ◌-◌, ◌*◌, [], ◌∷◌, IfOk, OnErr, slice_get};
 ghost use Rattle.std.specs.Char.{IsAsciiDigit};
 ghost use Rattle.std.specs.Option.{option_and_then};
-ghost use Rattle.bit_set_run.specs.Reading.{all_numbers, command_of, held, name_and_number, name_of, number_of, numbers_of, reading, rest_of, two_names, verb_of, within_range};
+ghost use Rattle.bit_set_run.specs.Reading.{all_numbers, command_of, held, name_and_number, name_of, number_of, reading, rest_of, two_names, within_range};
+ghost use Rattle.bit_set_run.specs.Spelling.{numbers_of};
+ghost use Rattle.bit_set_run.specs.Verbs.{verb_of};
 ghost use Rattle.bit_set_run.specs.Words.{words_left, words_of};
 
 use crate::cutting::{first_word, split_once};
+use crate::verbs::{Verb, Walk, verb_of, walk_of};
 use crate::{Command, Numbers, SetName};
 use std::alloc::{AllocError, Global};
 
@@ -17,23 +20,6 @@ pub(crate) enum BadLine {
     BadCommand,
     /// They spell a command with a number that no `usize` holds.
     BadNumber,
-}
-
-// The first word of a command.
-#[derive(Clone, Copy)]
-enum Verb {
-    Insert,
-    Remove,
-    Contains,
-    Extend,
-    Truncate,
-    Empty,
-    Reset,
-    Count,
-    IsEmpty,
-    Items,
-    Copy,
-    Rest,
 }
 
 /// The command that the line spells. A word that does not fit is told before a number too large,
@@ -51,28 +37,7 @@ pub(crate) fn read_line(alloc: Global, line: &[u8]) -> Result<Result<Command, Ba
     }
 }
 
-fn verb_of(word: &[u8]) -> Option<Verb>
-    ensures { result ≡ verb_of word.now }
-{
-    match word {
-        b"insert" => Some(Verb::Insert),
-        b"remove" => Some(Verb::Remove),
-        b"contains" => Some(Verb::Contains),
-        b"extend" => Some(Verb::Extend),
-        b"truncate" => Some(Verb::Truncate),
-        b"empty" => Some(Verb::Empty),
-        b"reset" => Some(Verb::Reset),
-        b"count" => Some(Verb::Count),
-        b"is_empty" => Some(Verb::IsEmpty),
-        b"items" => Some(Verb::Items),
-        b"copy" => Some(Verb::Copy),
-        b"rest" => Some(Verb::Rest),
-        _ => None,
-    }
-}
-
 // What the verb and the words after it spell.
-#[tactic(auto, using(crate::proofs::ReadingLemmas::name_alone_words))]
 fn read_command(
     alloc: Global,
     verb: Verb,
@@ -82,41 +47,30 @@ fn read_command(
     ensures memory { OnErr result (verb ≡ Verb.Extend) }
 {
     match verb {
-        Verb::Insert => {
-            Ok(read_name_and_number(words).map(|(name, number)| Command::Insert(name, number)))
+        Verb::Name(verb) => Ok(read_name(words).map(|name| verb.command(name))),
+        Verb::NameAndNumber(verb) => {
+            Ok(read_name_and_number(words).map(|(name, number)| verb.command(name, number)))
         }
-        Verb::Remove => {
-            Ok(read_name_and_number(words).map(|(name, number)| Command::Remove(name, number)))
-        }
-        Verb::Contains => {
-            Ok(read_name_and_number(words).map(|(name, number)| Command::Contains(name, number)))
+        Verb::TwoNames(verb) => {
+            Ok(read_two_names(words).map(|(first, second)| verb.command(first, second)))
         }
         Verb::Extend => read_extend(alloc, words),
-        Verb::Truncate => {
-            Ok(read_name_and_number(words).map(|(name, number)| Command::Truncate(name, number)))
-        }
-        Verb::Empty => Ok(read_name(words).map(Command::Empty)),
-        Verb::Reset => Ok(read_name(words).map(Command::Reset)),
-        Verb::Count => Ok(read_name(words).map(Command::Count)),
-        Verb::IsEmpty => Ok(read_name(words).map(Command::IsEmpty)),
-        Verb::Items => Ok(read_name(words).map(Command::Items)),
-        Verb::Copy => Ok(read_two_names(words).map(|(from, to)| Command::Copy(from, to))),
         Verb::Rest => Ok(read_rest(words)),
     }
 }
 
-// The walk after `rest`, and its own words.
+// A walk and its own words, after `rest`.
 fn read_rest(words: &[u8]) -> Result<Command, BadLine>
     ensures { result ≡ within_range numbers_of (rest_of (words_of words.now)) }
 {
     let Some((walk, words)) = split_once(words, b' ') else {
         return Err(BadLine::BadCommand);
     };
-    match walk {
-        b"iter" => {
+    match walk_of(walk) {
+        Some(Walk::Iter) => {
             read_name_and_number(words).map(|(name, number)| Command::RestIter(name, number))
         }
-        _ => Err(BadLine::BadCommand),
+        None => Err(BadLine::BadCommand),
     }
 }
 

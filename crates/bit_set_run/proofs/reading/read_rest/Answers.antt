@@ -1,11 +1,23 @@
-use Rattle.std.proofs.Common.{rules}
+use Rattle.std.proofs.Common.{◌≡◌, [], ◌∷◌, refl, rules}
+use Rattle.bit_set_run.specs.declared.commands.Command.TheVariants.{RestIter}
+use Rattle.bit_set_run.specs.declared.verbs.Walk.{Walk}
+use Rattle.bit_set_run.specs.declared.verbs.Walk.TheVariants.{Iter}
+use Rattle.bit_set_run.specs.Reading.{name_and_number}
+use Rattle.bit_set_run.specs.Words.{words_of}
 use Rattle.bit_set_run.proofs.CutLemmas.{parts_at-first, parts_at-one}
-use Rattle.bit_set_run.proofs.ReadingLemmas.{rest_of-alone}
+use Rattle.bit_set_run.proofs.ReadingLemmas.{of_operands, rest_of-alone}
 use Rattle.bit_set_run.proofs.reading.read_rest.Goals as goal
+
+only_iter : (walk : Walk) → walk ≡ Iter
+only_iter Iter = refl
 
 pub returns-in_default : goal.returns-in_default
 returns-in_default c = rw (parts_at-one 32 c.args.words.now c.in_default.ensures.whole, rest_of-alone c.args.words.now)
 
-pub returns-in_default-walk : goal.returns-in_default-walk
-returns-in_default-walk c = rw (c.in-Some.ensures.joined, parts_at-first 32 c.in-Some.walk.now c.in-Some.words.now c.in-Some.ensures.first)
-    (search rules)
+pub returns-in-None : goal.returns-in-None
+returns-in-None c = rw (c.in-Some.ensures.joined, parts_at-first 32 c.in-Some.walk.now c.in-Some.words.now c.in-Some.ensures.first, ← c.in-None.ensures)
+
+pub returns-in-Some-Iter : goal.returns-in-Some-Iter
+returns-in-Some-Iter c =
+    rw (c.in-Some.ensures.joined, parts_at-first 32 c.in-Some.walk.now c.in-Some.words.now c.in-Some.ensures.first, ← c.in-Some-Iter.ensures, only_iter c.in-Some-Iter.field-0)
+    (of_operands (λ (s, n). RestIter s n) (λ p. p.1 ∷ []) (name_and_number (words_of c.in-Some.words.now)) c.read_name_and_number.result c.map.result (λ p. refl) c.read_name_and_number.ensures c.map.ensures.cases (λ x command made. search rules))

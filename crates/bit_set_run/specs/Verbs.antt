@@ -1,0 +1,66 @@
+-- The first words of commands, by what comes after them.
+use Rattle.std.specs.Prelude.{ℕ, List, [], ◌∷◌, codes, Option}
+use Rattle.std.specs.Map.{lookup}
+use Rattle.std.specs.Str.{bytes_eq}
+use Rattle.bit_set_run.specs.declared.commands.Command.{Command}
+use Rattle.bit_set_run.specs.declared.commands.Command.TheVariants as command
+use Rattle.bit_set_run.specs.declared.verbs.Verb.{Verb}
+use Rattle.bit_set_run.specs.declared.verbs.Verb.TheVariants.{Name, NameAndNumber, TwoNames, Extend, Rest}
+use Rattle.bit_set_run.specs.declared.verbs.NameVerb.{NameVerb}
+use Rattle.bit_set_run.specs.declared.verbs.NameVerb.TheVariants.{Empty, Reset, Count, IsEmpty, Items}
+use Rattle.bit_set_run.specs.declared.verbs.NumberVerb.{NumberVerb}
+use Rattle.bit_set_run.specs.declared.verbs.NumberVerb.TheVariants.{Insert, Remove, Contains, Truncate}
+use Rattle.bit_set_run.specs.declared.verbs.PairVerb.{PairVerb}
+use Rattle.bit_set_run.specs.declared.verbs.PairVerb.TheVariants.{Copy}
+use Rattle.bit_set_run.specs.declared.verbs.Walk.{Walk}
+use Rattle.bit_set_run.specs.declared.verbs.Walk.TheVariants.{Iter}
+
+-- the verbs and their words
+abbrev pub verbs : List (List ℕ × Verb)
+verbs =
+    (codes "insert", NameAndNumber Insert) ∷
+    (codes "remove", NameAndNumber Remove) ∷
+    (codes "contains", NameAndNumber Contains) ∷
+    (codes "extend", Extend) ∷
+    (codes "truncate", NameAndNumber Truncate) ∷
+    (codes "empty", Name Empty) ∷
+    (codes "reset", Name Reset) ∷
+    (codes "count", Name Count) ∷
+    (codes "is_empty", Name IsEmpty) ∷
+    (codes "items", Name Items) ∷
+    (codes "copy", TwoNames Copy) ∷
+    (codes "rest", Rest) ∷
+    []
+
+-- the verb that a word is
+abbrev pub verb_of : List ℕ → Option Verb
+verb_of word = lookup (bytes_eq word) verbs
+
+-- the walks that `rest` takes, and their words
+abbrev pub walks : List (List ℕ × Walk)
+walks =
+    (codes "iter", Iter) ∷
+    []
+
+-- the walk that a word is
+abbrev pub walk_of : List ℕ → Option Walk
+walk_of word = lookup (bytes_eq word) walks
+
+-- the command of a verb with a set's name
+abbrev pub name_command : NameVerb → ℕ → Command
+name_command Empty s = command.Empty s
+name_command Reset s = command.Reset s
+name_command Count s = command.Count s
+name_command IsEmpty s = command.IsEmpty s
+name_command Items s = command.Items s
+
+-- the command of a verb with a set's name and a number
+abbrev pub number_command : NumberVerb → ℕ × ℕ → Command
+number_command Insert (s, n) = command.Insert s n
+number_command Remove (s, n) = command.Remove s n
+number_command Contains (s, n) = command.Contains s n
+number_command Truncate (s, n) = command.Truncate s n
+
+-- the command of a verb with two sets' names
+abbrev pub pair_command : PairVerb → ℕ × ℕ → Command
+pair_command Copy (s, t) = command.Copy s t

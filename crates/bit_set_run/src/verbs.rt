@@ -1,0 +1,138 @@
+//! The first words of commands, by what comes after them.
+
+ghost use Rattle.std.specs.Prelude.{◌≡◌, map};
+ghost use Rattle.std.specs.Map.{lookup};
+ghost use Rattle.std.specs.Str.{bytes_eq};
+ghost use Rattle.bit_set_run.specs.Verbs.{name_command, number_command, pair_command, verb_of, walk_of};
+
+use crate::{Command, SetName};
+
+/// The first word of a command, by the shape of the words after it.
+#[derive(Clone, Copy)]
+pub(crate) enum Verb {
+    /// A set's name comes after it.
+    Name(NameVerb),
+    /// A set's name and a number.
+    NameAndNumber(NumberVerb),
+    /// Two sets' names.
+    TwoNames(PairVerb),
+    /// A set's name and any number of numbers.
+    Extend,
+    /// A walk and its own words.
+    Rest,
+}
+
+/// A verb with a set's name.
+#[derive(Clone, Copy)]
+pub(crate) enum NameVerb {
+    Empty,
+    Reset,
+    Count,
+    IsEmpty,
+    Items,
+}
+
+/// A verb with a set's name and a number.
+#[derive(Clone, Copy)]
+pub(crate) enum NumberVerb {
+    Insert,
+    Remove,
+    Contains,
+    Truncate,
+}
+
+/// A verb with two sets' names.
+#[derive(Clone, Copy)]
+pub(crate) enum PairVerb {
+    Copy,
+}
+
+/// A walk, of which `rest` tells what is left.
+#[derive(Clone, Copy)]
+pub(crate) enum Walk {
+    Iter,
+}
+
+const VERBS: [(&[u8], Verb); 12] = [
+    (b"insert", Verb::NameAndNumber(NumberVerb::Insert)),
+    (b"remove", Verb::NameAndNumber(NumberVerb::Remove)),
+    (b"contains", Verb::NameAndNumber(NumberVerb::Contains)),
+    (b"extend", Verb::Extend),
+    (b"truncate", Verb::NameAndNumber(NumberVerb::Truncate)),
+    (b"empty", Verb::Name(NameVerb::Empty)),
+    (b"reset", Verb::Name(NameVerb::Reset)),
+    (b"count", Verb::Name(NameVerb::Count)),
+    (b"is_empty", Verb::Name(NameVerb::IsEmpty)),
+    (b"items", Verb::Name(NameVerb::Items)),
+    (b"copy", Verb::TwoNames(PairVerb::Copy)),
+    (b"rest", Verb::Rest),
+];
+
+const WALKS: [(&[u8], Walk); 1] = [(b"iter", Walk::Iter)];
+
+/// The verb that the word is.
+pub(crate) fn verb_of(word: &[u8]) -> Option<Verb>
+    ensures { result ≡ verb_of word.now }
+{
+    lookup(&VERBS, word)
+}
+
+/// The walk that the word is.
+pub(crate) fn walk_of(word: &[u8]) -> Option<Walk>
+    ensures { result ≡ walk_of word.now }
+{
+    lookup(&WALKS, word)
+}
+
+// What stands beside the word in the table.
+fn lookup<T: Copy>(mut table: &[(&[u8], T)], word: &[u8]) -> Option<T>
+    ensures { result ≡ lookup (bytes_eq word.now) (map (λ entry. (entry.0.now, entry.1)) table.entry.now) }
+{
+    while let [entry, rest @ ..] = table {
+        if word == entry.0 {
+            return Some(entry.1);
+        }
+        table = rest;
+    }
+    None
+}
+
+impl NameVerb {
+    /// The command with this name.
+    pub(crate) fn command(self, name: SetName) -> Command
+        ensures { result ≡ name_command self name }
+    {
+        match self {
+            NameVerb::Empty => Command::Empty(name),
+            NameVerb::Reset => Command::Reset(name),
+            NameVerb::Count => Command::Count(name),
+            NameVerb::IsEmpty => Command::IsEmpty(name),
+            NameVerb::Items => Command::Items(name),
+        }
+    }
+}
+
+impl NumberVerb {
+    /// The command with this name and number.
+    pub(crate) fn command(self, name: SetName, number: usize) -> Command
+        ensures { result ≡ number_command self (name, number) }
+    {
+        match self {
+            NumberVerb::Insert => Command::Insert(name, number),
+            NumberVerb::Remove => Command::Remove(name, number),
+            NumberVerb::Contains => Command::Contains(name, number),
+            NumberVerb::Truncate => Command::Truncate(name, number),
+        }
+    }
+}
+
+impl PairVerb {
+    /// The command with these names.
+    pub(crate) fn command(self, first: SetName, second: SetName) -> Command
+        ensures { result ≡ pair_command self (first, second) }
+    {
+        match self {
+            PairVerb::Copy => Command::Copy(first, second),
+        }
+    }
+}
