@@ -10,3 +10,5 @@ pub mod PlaceLemmas
 pub mod LowestStep
 pub mod WalkLemmas
 pub mod WalkLaws
+pub mod UnlikeLemmas
+pub mod OrderLemmas

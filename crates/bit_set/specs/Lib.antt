@@ -3,5 +3,8 @@ pub mod Sets
 pub mod Faults
 pub mod Effects
 pub mod Walk
+pub mod Texts
+pub mod Order
+pub mod Differences
 pub mod Places
 pub use Rattle.bit_words.specs.Bits

@@ -2,11 +2,14 @@
 #![tactic(auto)]
 
 mod faults;
+mod hash;
 pub mod laws;
 mod lowest;
+mod order;
 mod set;
 #[cfg(test)]
 mod tests;
+mod texts;
 mod walk;
 #[cfg(test)]
 mod walk_tests;

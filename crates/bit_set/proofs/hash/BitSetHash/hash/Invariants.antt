@@ -1,0 +1,10 @@
+use Rattle.std.proofs.Common.{◌≡◌}
+use Rattle.std.specs.List.{fold}
+use Rattle.bit_set.specs.Sets.{elements}
+use Rattle.bit_set.specs.Order.{fed_of_set}
+use Rattle.bit_set.proofs.hash.BitSetHash.hash.Given as goal
+
+-- what is left is still to be fed
+abbrev pub invariant-loop-item : goal.invariant-loop-item
+invariant-loop-item g l =
+    fold g.H.Hasher.write l.state (fed_of_set l.item-iterator.left) ≡ fold g.H.Hasher.write l.fn.state (fed_of_set (elements l.self.values))
