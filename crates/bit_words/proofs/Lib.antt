@@ -10,3 +10,4 @@ pub mod TidyLemmas
 pub mod ByteLemmas
 pub mod SourceLemmas
 pub mod MergeLemmas
+pub mod CompareLemmas

@@ -68,7 +68,7 @@ all_false_from_zero w n f xs zeros k d within =
     ∙ ap (λ m. is_one m (k % w)) (all_zero_map f xs zeros (k / w))
     ∙ is_one-zero (k % w)
 
-bit_from_false : (m j : ℕ) → is_one m j ≡ false → bit_at m j ≡ 0
+pub bit_from_false : (m j : ℕ) → is_one m j ≡ false → bit_at m j ≡ 0
 bit_from_false m j h = let l = bit_at-lt m j in grind (arith, nat_tests)
 
 pub zero_from_all_false : {X : Type 0} (w n : ℕ) (f : X → ℕ) (P : X → Type 0) (xs : List X) → 0 < w → ((x : X) → P x → f x < 2 ^ w) → IsTidy w f P xs n → All (λ b. b ≡ false) (values_of w (map f xs) n) → All (λ x. f x ≡ 0) xs

@@ -3,6 +3,8 @@ use Rattle.std.specs.Prelude.{◌≡◌, ℕ, ◌-◌, ◌*◌, ◌^◌, min, �
 use Rattle.std.specs.Int.{bit_at}
 use Rattle.std.specs.List.{range_with_len}
 use Rattle.bit_words.specs.Bits.{blocks_for}
+use Rattle.bit_words.specs.Merges.{merged_value}
+use Rattle.bit_words.specs.declared.bit_vec.merge.Merge.{Merge}
 
 -- whether digit j of m is 1
 abbrev pub is_one : ℕ → ℕ → Bool
@@ -34,3 +36,11 @@ pub record IsTidy {X : Type 0} (w : ℕ) (number : X → ℕ) (is_block : X → 
   pub count : length xs ≡ blocks_for w n
   pub tail : IsCleanFrom w (map number xs) n
   pub fits : n < 2 ^ 64
+
+-- digit by digit, blocks start up to before stop of two lists merge to 0
+pub record MergesToZero (merge : Merge) (w : ℕ) (ms ns : List ℕ) (start stop : ℕ) : Type 0 where
+  pub digit : (k j : ℕ) → start ≤ k → k < stop → j < w → merged_value merge (is_one (get_or ms k 0) j) (is_one (get_or ns k 0) j) ≡ false
+
+-- at every index two lists of blocks merge to false
+pub record MergesToFalse (merge : Merge) (w : ℕ) (ms ns : List ℕ) : Type 0 where
+  pub value : (i : ℕ) → merged_value merge (value_at w ms i) (value_at w ns i) ≡ false

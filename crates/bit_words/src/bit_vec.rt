@@ -6,6 +6,7 @@ mod block_tests;
 mod blocks;
 mod bytes;
 mod changes;
+mod comparing;
 mod integers;
 mod masks;
 mod merge;

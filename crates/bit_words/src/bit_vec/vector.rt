@@ -5,6 +5,7 @@ use super::changes::{are_zero, value_of};
 use super::{BitBlock, Blocks};
 use std::marker::Model;
 
+mod compare;
 mod edit;
 mod making;
 mod merging;
