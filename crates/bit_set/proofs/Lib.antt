@@ -9,6 +9,7 @@ pub mod ByteLemmas
 pub mod PlaceLemmas
 pub mod LowestStep
 pub mod WalkLemmas
+pub mod PairLemmas
 pub mod WalkLaws
 pub mod UnlikeLemmas
 pub mod OrderLemmas

@@ -133,11 +133,11 @@ module _ {X : Type 0} (w : ℕ) (number : X → ℕ) where
   pub IsWalkable-held : (xs : List X) (values : List Bool) (pulls : ℕ) → 0 < w → map number xs ≡ blocks_of w values → length values < 2 ^ 64 → IsWalkable w (record { values = held xs; blocks = length xs; pulls = pulls })
   IsWalkable-held xs values pulls pos is fits = IsWalkable-of w _ values (length-held xs) (length-blocks xs values is) (elements-held xs values pos is) fits
 
-  -- one block more is counted
-  pub count_more : (xs ys : List X) (x : X) (ones more total : ℕ) → xs ≡ x ∷ ys → ones + length (elements (held xs)) ≡ total → number x < 2 ^ w → more ≡ count_ones (number x) → ones + more + length (elements (held ys)) ≡ total
-  count_more xs ys x ones more total is before small same =
-      let split = ap (λ zs. length (elements (held zs))) is ∙ length-elements-block w (number x) (held ys) small in
-      omega (arith, split, before, same)
+-- one block more is counted
+pub count_more : (w m : ℕ) (bs cs : List Bool) (ones more total : ℕ) → bs ≡ digits_from m 0 w ++ cs → ones + length (elements bs) ≡ total → m < 2 ^ w → more ≡ count_ones m → ones + more + length (elements cs) ≡ total
+count_more w m bs cs ones more total is before small same =
+    let split = ap (λ ds. length (elements ds)) is ∙ length-elements-block w m cs small in
+    omega (arith, split, before, same)
 
 -- the block in hand, where there may be none
 pub given_or : {X : Type 0} (P : X → Type 0) (r : Option X) (zero : X) → IfSome r P → P zero → P (unwrap_or r zero)

@@ -1,9 +1,11 @@
 -- Where the ones of blocks are. No public clause cites this.
-use Rattle.std.specs.Prelude.{◌≡◌, ℕ, ◌+◌, ◌-◌, ◌*◌, ◌^◌, ◌<◌, ◌≤◌, Bool, List, [], ◌++◌, map, length, count_ones, All, Option, MatchOption}
+use Rattle.std.specs.Prelude.{◌≡◌, ℕ, ◌+◌, ◌-◌, ◌*◌, ◌^◌, ◌<◌, ◌≤◌, Bool, List, [], ◌++◌, map, length, count_ones, All, Option, Some, None, MatchOption, IsSomeAnd}
 use Rattle.std.specs.List.{range_with_len, flat_map}
 use Rattle.bit_words.specs.Digits.{IsBoth}
 use Rattle.bit_words.specs.Lowest.{IsLowest, IsCleared}
 use Rattle.bit_words.specs.Storage.{is_one}
+use Rattle.bit_words.specs.Merges.{merged_value}
+use Rattle.bit_words.specs.declared.bit_vec.merge.Merge.{Merge}
 use Rattle.bit_set.specs.Sets.{elements_from, elements}
 
 -- the w binary digits of m from digit a on, as truth values
@@ -37,6 +39,17 @@ pub record PullsBlock {X : Type 0} (w : ℕ) (number : X → ℕ) (s : Ahead) (r
   pub values : MatchOption r ((s.values ≡ []) × (t.values ≡ [])) (λ x. s.values ≡ digits_from (number x) 0 w ++ t.values)
   pub blocks : MatchOption r ((s.blocks ≡ 0) × (t.blocks ≡ 0)) (λ _. s.blocks ≡ t.blocks + 1)
   pub counted : t.pulls ≡ s.pulls + 1
+
+-- of w digits, r has what those of m and n become
+pub record IsMergedBlock (w : ℕ) (merge : Merge) (m n r : ℕ) : Type 0 where
+  pub digit : (i : ℕ) → i < w → is_one r i ≡ merged_value merge (is_one m i) (is_one n i)
+
+-- a pull of two sides that gave a and b becomes r: the side that has ended goes on with zeros
+abbrev pub IsMergedPull : {X : Type 0} → ℕ → (X → ℕ) → Merge → Option X → Option X → Option X → Type 0
+IsMergedPull w number merge None None r = r ≡ None
+IsMergedPull w number merge (Some a) None r = IsSomeAnd r (λ x. IsMergedBlock w merge (number a) 0 (number x))
+IsMergedPull w number merge None (Some b) r = IsSomeAnd r (λ x. IsMergedBlock w merge 0 (number b) (number x))
+IsMergedPull w number merge (Some a) (Some b) r = IsSomeAnd r (λ x. IsMergedBlock w merge (number a) (number b) (number x))
 
 -- A walk can go over the ones of all that is ahead, the first digit having place 0.
 pub record IsWalkable (w : ℕ) (ahead : Ahead) : Type 0 where

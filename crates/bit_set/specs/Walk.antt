@@ -1,5 +1,5 @@
 -- Walks over the elements of a set, block by block.
-use Rattle.std.specs.Prelude.{◌≡◌, ℕ, ◌+◌, ◌-◌, ◌*◌, ◌^◌, ◌<◌, ◌≤◌, Bool, nat_lt, if◌then◌else◌, List, [], length, Option, Some, None, MatchOption}
+use Rattle.std.specs.Prelude.{◌≡◌, ℕ, ◌+◌, ◌-◌, ◌*◌, ◌^◌, ◌<◌, ◌≤◌, max, Bool, nat_lt, if◌then◌else◌, List, [], length, Option, Some, None, MatchOption}
 use Rattle.std.specs.Iterator.{YieldsFirst}
 use Rattle.bit_words.specs.Bits.{blocks_for}
 use Rattle.bit_set.specs.Sets.{elements}
@@ -30,6 +30,16 @@ pub record AdvancesByEach (w : ℕ) (s : Walk) (r : Option ℕ) (t : Walk) : Typ
   pub along : t.place + w * t.blocks ≡ s.place + w * s.blocks
   pub at : MatchOption r (t.blocks ≡ 0) (λ x. (t.place ≤ x) × (x < t.place + w))
 
+-- What contracts see of a walk that keeps a bound on the elements left.
+pub record BoundedWalk : Type 0 where
+  pub walk : Walk
+  pub bound : ℕ
+
+-- A call of `next` on such a walk, which lowers its bound by one until it is 0, at the end too.
+pub record AdvancesWithBound (w : ℕ) (s : BoundedWalk) (r : Option ℕ) (t : BoundedWalk) : Type 0 where
+  pub walk : AdvancesByEach w s.walk r t.walk
+  pub bound : t.bound ≡ s.bound - 1
+
 -- From s, the calls of `next` up to the first None gave the items and left t.
 pub record IsWalkedOut (s : Walk) (items : List ℕ) (t : Walk) : Type 0 where
   pub all : items ≡ s.left
@@ -42,6 +52,15 @@ pub record IsAtStart (w : ℕ) (values : List Bool) (s : Walk) : Type 0 where
   pub pulls : s.pulls ≡ 1
   pub place : s.place ≡ 0
   pub blocks : s.blocks ≡ blocks_for w (length values) - 1
+  -- so that the elements can be counted
+  pub few : length s.left < 2 ^ 64
+
+-- At the making of a walk over what two lists of truth values become, in blocks of w. It has pulled both once, and
+-- has as many blocks to go as the longer one.
+pub record StartsOverTwo (w : ℕ) (a b : List Bool) (s : Walk) : Type 0 where
+  pub pulls : s.pulls ≡ 1
+  pub place : s.place ≡ 0
+  pub blocks : s.blocks ≡ max (blocks_for w (length a)) (blocks_for w (length b)) - 1
   -- so that the elements can be counted
   pub few : length s.left < 2 ^ 64
 

@@ -18,4 +18,4 @@ pub use bit_words::bit_vec;
 pub use bit_words::bit_vec::BitBlock;
 pub use faults::SetError;
 pub use set::BitSet;
-pub use walk::Iter;
+pub use walk::{Difference, Intersection, Iter, SymmetricDifference, Union};

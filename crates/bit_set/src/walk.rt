@@ -11,8 +11,14 @@ use crate::{BitBlock, BitSet};
 use ones::Ones;
 use std::marker::Model;
 
+mod intersection;
 mod ones;
+mod pairs;
 mod source;
+mod two_sets;
+
+pub use intersection::Intersection;
+pub use two_sets::{Difference, SymmetricDifference, Union};
 
 /// The elements of a set in ascending order, each once. Looks at each block of the set once at most.
 #[derive(Drop)]

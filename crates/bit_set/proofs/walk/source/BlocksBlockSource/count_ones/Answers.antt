@@ -1,4 +1,4 @@
-use Rattle.std.proofs.Common.{map, length, sym, ap, arith}
+use Rattle.std.proofs.Common.{List, map, length, sym, ap, arith}
 use Rattle.std.proofs.lemmas.List.Elements.{All-head, All-rest, All-same}
 use Rattle.bit_set.specs.Places.{values_in}
 use Rattle.bit_set.specs.Sets.{elements}
@@ -26,8 +26,10 @@ overflow_add-ones g c =
     let is = g.B.BitBlock.is_block in
     let item = c.in-Some.ensures.steps.item in
     let before = c.loop-block.invariant in
+    let n = g.B.BitBlock.number in
+    let held = λ (xs : List g.row.B.Denot). values_in g.B.BitBlock.width (map n xs) in
     let of_block = All-head is c.in-Some.block c.next.new.self.left (All-same is _ _ (sym item) before.each) in
-    let more = count_more g.B.BitBlock.width g.B.BitBlock.number c.loop-block.block-iterator.left c.next.new.self.left c.in-Some.block c.loop-block.ones c.count_ones-ones.result _ item before.total (g.met.B.BitBlock.number_law c.in-Some.block of_block).0 c.count_ones-ones.ensures in
+    let more = count_more g.B.BitBlock.width (n c.in-Some.block) (held c.loop-block.block-iterator.left) (held c.next.new.self.left) c.loop-block.ones c.count_ones-ones.result _ (ap held item) before.total (g.met.B.BitBlock.number_law c.in-Some.block of_block).0 c.count_ones-ones.ensures in
     omega (arith, more, c.requires.fits)
 
 pub loop-block-preserved : goal.loop-block-preserved
@@ -35,12 +37,14 @@ loop-block-preserved g c =
     let is = g.B.BitBlock.is_block in
     let item = c.in-Some.ensures.steps.item in
     let before = c.loop-block.invariant in
+    let n = g.B.BitBlock.number in
+    let held = λ (xs : List g.row.B.Denot). values_in g.B.BitBlock.width (map n xs) in
     let of_block = All-head is c.in-Some.block c.next.new.self.left (All-same is _ _ (sym item) before.each) in
     record {
       may_call = tt;
       ends = tt;
       each = All-rest is c.in-Some.block c.next.new.self.left c.loop-block.block-iterator.left item before.each;
-      total = count_more g.B.BitBlock.width g.B.BitBlock.number c.loop-block.block-iterator.left c.next.new.self.left c.in-Some.block c.loop-block.ones c.count_ones-ones.result _ item before.total (g.met.B.BitBlock.number_law c.in-Some.block of_block).0 c.count_ones-ones.ensures;
+      total = count_more g.B.BitBlock.width (n c.in-Some.block) (held c.loop-block.block-iterator.left) (held c.next.new.self.left) c.loop-block.ones c.count_ones-ones.result _ (ap held item) before.total (g.met.B.BitBlock.number_law c.in-Some.block of_block).0 c.count_ones-ones.ensures;
     }
 
 pub returns : goal.returns

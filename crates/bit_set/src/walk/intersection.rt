@@ -1,0 +1,91 @@
+// The walk over what is in both of two sets.
+ghost use Rattle.std.specs.Prelude.{◌≡◌, Some, min, IfSome, length};
+ghost use Rattle.std.specs.Iterator.{UpTo, item_count};
+ghost use Rattle.std.specs.Iterator.SizeHint.{IsWithinCount};
+ghost use Rattle.bit_set.specs.Sets.{elements, intersection};
+ghost use Rattle.bit_set.specs.Walk.{AdvancesWithBound, StartsOverTwo};
+
+use super::ones::Ones;
+use super::pairs::{Pairs, ones_of_two};
+use crate::bit_vec::Merge;
+use crate::{BitBlock, BitSet};
+use std::marker::Model;
+
+/// What is in both of two sets, in ascending order, each once. Looks at each block of both sets once.
+/// It keeps a bound on the elements that are left.
+#[derive(Drop)]
+pub struct Intersection<'a, B: BitBlock> {
+    ones: Ones<Pairs<'a, B>, B>,
+    bound: usize,
+}
+
+impl<'a, B: BitBlock> Model for Intersection<'a, B> {
+    ghost use Rattle.std.specs.Prelude.{◌≤◌, length};
+    ghost use Rattle.bit_set.specs.Walk.{BoundedWalk};
+
+    ghost Value = { BoundedWalk };
+
+    ghost view = { λ it. record { walk = it.ones; bound = it.bound } };
+
+    ghost invariant = { λ it. length it.ones.left ≤ it.bound };
+}
+
+impl<'a, B: BitBlock> Intersection<'a, B> {
+    /// How many elements are left. Adds up the ones of each pair of blocks that is left.
+    pub fn count(self) -> usize
+        ensures { result ≡ length self.entry.walk.left }
+    {
+        self.ones.count()
+    }
+
+    /// Another walk over what is left. It counts its pulls on from this one's. Constant time.
+    #[inline]
+    pub fn clone(&self) -> Self
+        ensures { result ≡ self.now }
+    {
+        Intersection {
+            ones: self.ones.clone(),
+            bound: self.bound,
+        }
+    }
+}
+
+impl<'a, B: BitBlock> Iterator for Intersection<'a, B> {
+    type Item = usize;
+
+    ghost next_gives = { AdvancesWithBound B.width };
+
+    ghost remaining = { item_count (λ it. it.walk.left) };
+
+    #[inline]
+    fn next(&mut self) -> Option<usize> {
+        self.bound = self.bound.saturating_sub(1);
+        self.ones.next()
+    }
+
+    #[inline]
+    fn size_hint(&self) -> (usize, Option<usize>)
+        ensures exact { result ≡ (0, Some self.now.bound) }
+        ensures lower { IsWithinCount result.0 (item_count (λ it. it.walk.left) self.now) }
+        ensures upper { IfSome result.1 (UpTo (item_count (λ it. it.walk.left) self.now)) }
+    {
+        (0, Some(self.bound))
+    }
+}
+
+impl<B: BitBlock> BitSet<B> {
+    /// A walk over what is in this set and in the other one, in ascending order. Constant time.
+    #[inline]
+    pub fn intersection<'a>(&'a self, other: &'a Self) -> Intersection<'a, B>
+        ensures left { result.walk.left ≡ intersection (elements self.now.values) (elements other.now.values) }
+        ensures start { StartsOverTwo B.width self.now.values other.now.values result.walk }
+        ensures bound { result.bound ≡ min (length self.now.values) (length other.now.values) }
+    {
+        let first = self.get_ref();
+        let second = other.get_ref();
+        Intersection {
+            ones: ones_of_two(first, second, Merge::Intersection),
+            bound: first.len().min(second.len()),
+        }
+    }
+}

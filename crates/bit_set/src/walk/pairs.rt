@@ -1,0 +1,92 @@
+// The blocks of two sets, merged.
+ghost use Rattle.std.specs.Prelude.{◌≡◌, ◌-◌, ◌<◌, ◌^◌, max, IfSome, length};
+ghost use Rattle.bit_words.specs.Bits.{blocks_for};
+ghost use Rattle.bit_set.specs.Sets.{elements, merged_sets};
+ghost use Rattle.bit_set.specs.Places.{IsMergedPull};
+ghost use Rattle.bit_set.specs.Walk.{StartsOverTwo};
+
+use super::ones::Ones;
+use super::source::BlockSource;
+use crate::BitBlock;
+use crate::bit_vec::{BitVec, Blocks, Merge};
+
+// Two sides that are pulled as one, an ended side too.
+#[derive(Drop)]
+pub(crate) struct Pairs<'a, B: BitBlock> {
+    first: Blocks<'a, B>,
+    second: Blocks<'a, B>,
+    merge: Merge,
+}
+
+impl<'a, B: BitBlock> BlockSource<B> for Pairs<'a, B> {
+    ghost use Rattle.std.specs.Prelude.{◌≡◌, map, max, length, All};
+    ghost use Rattle.bit_words.specs.Merges.{merged};
+    ghost use Rattle.bit_set.specs.Places.{values_in};
+
+    ghost ahead = { λ pairs. record { values = merged pairs.merge (values_in B.width (map B.number pairs.first.left)) (values_in B.width (map B.number pairs.second.left)); blocks = max (length pairs.first.left) (length pairs.second.left); pulls = pairs.first.pulls } };
+
+    ghost is_sound = { λ pairs. (All B.is_block pairs.first.left) × (All B.is_block pairs.second.left) × (pairs.second.pulls ≡ pairs.first.pulls) };
+
+    #[inline]
+    fn pull(&mut self) -> Option<B> {
+        let first = self.first.next();
+        let second = self.second.next();
+        merged_block(self.merge, first, second)
+    }
+
+    #[inline]
+    fn blocks_left(&self) -> usize {
+        self.first.size_hint().0.max(self.second.size_hint().0)
+    }
+
+    fn count_ones(self) -> usize {
+        let mut pairs = self;
+        let mut ones = 0;
+        while let Some(block) = pairs.pull() {
+            ones += block.count_ones();
+        }
+        ones
+    }
+
+    #[inline]
+    fn copy(&self) -> Self {
+        Pairs {
+            first: self.first.clone(),
+            second: self.second.clone(),
+            merge: self.merge,
+        }
+    }
+}
+
+// What a pull of both sides gives. The side that has ended goes on with zeros.
+#[inline]
+fn merged_block<B: BitBlock>(merge: Merge, first: Option<B>, second: Option<B>) -> Option<B>
+    requires first { IfSome first B.is_block }
+    requires second { IfSome second B.is_block }
+    ensures merged { IsMergedPull B.width B.number merge first second result }
+    ensures of_block { IfSome result B.is_block }
+{
+    match (first, second) {
+        (Some(a), Some(b)) => Some(merge.of_blocks(a, b)),
+        (Some(a), None) => Some(merge.of_blocks(a, B::zero())),
+        (None, Some(b)) => Some(merge.of_blocks(B::zero(), b)),
+        (None, None) => None,
+    }
+}
+
+// The walk over what two bit vectors become.
+#[inline]
+pub(crate) fn ones_of_two<'a, B: BitBlock>(
+    first: &'a BitVec<B>,
+    second: &'a BitVec<B>,
+    merge: Merge,
+) -> Ones<Pairs<'a, B>, B>
+    ensures left { result.left ≡ merged_sets merge (elements first.now.values) (elements second.now.values) }
+    ensures start { StartsOverTwo B.width first.now.values second.now.values result }
+{
+    Ones::over(Pairs {
+        first: first.blocks(),
+        second: second.blocks(),
+        merge,
+    })
+}
