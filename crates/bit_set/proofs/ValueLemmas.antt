@@ -1,5 +1,5 @@
 -- What a bit vector does to the set that it keeps.
-use Rattle.std.proofs.Common.{◌≡◌, ℕ, ◌<◌, ◌≤◌, Bool, true, false, ◌&&◌, ◌↔◌, ltb, List, [], ◌∷◌, ◌++◌, length, get_or, set, take, replicate, slice_get, zero, suc, refl, sym, ap, ◌∙◌, inl, inr, arith}
+use Rattle.std.proofs.Common.{◌≡◌, ℕ, ◌<◌, ◌≤◌, Bool, true, false, ◌&&◌, ◌↔◌, ltb, List, [], ◌∷◌, ◌++◌, length, get_or, set, take, replicate, slice_get, Some, zero, suc, refl, sym, ap, ◌∙◌, inl, inr, arith}
 use Rattle.std.specs.Option.{unwrap_or}
 use Rattle.std.specs.List.{All}
 use Rattle.std.proofs.lemmas.Bool.{lt-ltb, le-ltb, cases_lt}
@@ -16,6 +16,10 @@ get_or-slice_get (b ∷ bs) (suc k) = get_or-slice_get bs k
 
 pub has-slice_get : (bs : List Bool) (k : ℕ) → unwrap_or (slice_get bs k) false ≡ has (elements bs) k
 has-slice_get bs k = get_or-slice_get bs k ∙ sym (has-elements bs k)
+
+-- what is read within the list is whether the place is a member
+pub has-read : (bs : List Bool) (k : ℕ) (b : Bool) → slice_get bs k ≡ Some b → b ≡ has (elements bs) k
+has-read bs k b is = ap (λ read. unwrap_or read false) (sym is) ∙ has-slice_get bs k
 
 get_or-all_false : (n k : ℕ) → get_or (replicate n false) k false ≡ false
 get_or-all_false zero k = refl

@@ -1,5 +1,5 @@
 // Calls that change a set in place.
-ghost use Rattle.std.specs.Prelude.{◌≡◌, ℕ, ◌+◌, ◌<◌, ◌≤◌, ◌↔◌, max, min, not, IfOk, IfErr, OnOk, OnErr, IsOk, IsErrOf, All, List, [], length, Some};
+ghost use Rattle.std.specs.Prelude.{◌≡◌, ℕ, ◌+◌, ◌-◌, ◌<◌, ◌≤◌, ◌↔◌, max, min, not, IfOk, IfErr, OnOk, OnErr, IsOk, IsErrOf, All, List, [], ◌++◌, length, replicate, false, Some};
 ghost use Rattle.std.specs.Iterator.{Drains, HoldsAlong, IsFinite, YieldsThen};
 ghost use Rattle.bit_set.specs.Sets.{elements, has, put, those_below, without};
 ghost use Rattle.bit_set.specs.Effects.{TakesIn};
@@ -27,16 +27,32 @@ impl<B: BitBlock> BitSet<B> {
         ensures room { self.old.room ≤ self.new.room }
         ensures kept { value < length self.old.values → self.new.room ≡ self.old.room }
     {
+        if value >= self.bits.len() {
+            self.lengthen_past(value)?;
+        }
+        Ok(!self.bits.replace(value, true))
+    }
+
+    // Makes the length one more than a value at or past it. It is no part of `insert`, which is then
+    // small enough to become a part of its caller's loop.
+    #[cold]
+    #[inline(never)]
+    fn lengthen_past(&mut self, value: usize) -> Result<(), SetError>
+        requires { length self.old.values ≤ value }
+        ensures values { OnOk result (self.new.values ≡ self.old.values ++ replicate (value + 1 - length self.old.values) false) }
+        ensures unfit { IsErrOf result SetError.Element ↔ (value ≡ usize.MAX) }
+        ensures fit { OnOk result (value < usize.MAX) }
+        ensures refused { IfErr result (λ fault. IsRefusal fault value self.old.room) }
+        ensures err { OnErr result (self.new ≡ self.old) }
+        ensures succeeds { value < self.old.room → IsOk result }
+        ensures room { self.old.room ≤ self.new.room }
+    {
         let len = self.bits.len();
         if value == usize::MAX {
             return Err(SetError::Element);
         }
-        if value >= len {
-            self.bits.grow(value - len + 1, false)?;
-        }
-        let new = !self.contains(value);
-        self.bits.set(value, true);
-        Ok(new)
+        self.bits.grow(value - len + 1, false)?;
+        Ok(())
     }
 
     /// Puts the items in, one by one. Constant time an item, but for growths. It stops at the first
@@ -67,11 +83,10 @@ impl<B: BitBlock> BitSet<B> {
         ensures length { length self.new.values ≡ length self.old.values }
         ensures room { self.new.room ≡ self.old.room }
     {
-        let had = self.contains(value);
-        if had {
-            self.bits.set(value, false);
+        if value >= self.bits.len() {
+            return false;
         }
-        had
+        self.bits.replace(value, false)
     }
 
     /// Keeps the elements below `len`, and shortens the length to it. Writes one block at most.

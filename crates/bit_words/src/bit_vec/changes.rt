@@ -65,11 +65,12 @@ pub(crate) fn value_of<B: BitBlock>(blocks: &[B], i: usize) -> bool
     has_one_at(block, place_in_block::<B>(i))
 }
 
-// The value at `i` becomes `bit`.
+// The value at `i` becomes `bit`, and what it was is the answer.
 #[inline]
-pub(crate) fn put_value<B: BitBlock>(blocks: &mut Vec<B>, i: usize, bit: bool)
+pub(crate) fn replace_value<B: BitBlock>(blocks: &mut Vec<B>, i: usize, bit: bool) -> bool
     requires in_bounds { i / B.width < vec_len blocks.old }
     requires each { All B.is_block blocks.old.items }
+    ensures was { result ≡ value_at B.width (map B.number blocks.old.items) i }
     ensures same { value_at B.width (map B.number blocks.new.items) i ≡ bit }
     ensures others { (j : ℕ) → j ≢ i → value_at B.width (map B.number blocks.new.items) j ≡ value_at B.width (map B.number blocks.old.items) j }
     ensures each { All B.is_block blocks.new.items }
@@ -77,8 +78,10 @@ pub(crate) fn put_value<B: BitBlock>(blocks: &mut Vec<B>, i: usize, bit: bool)
     ensures capacity { vec_capacity blocks.new ≡ vec_capacity blocks.old }
 {
     let k = block_index::<B>(i);
-    let block = with_digit(block_at(blocks, k), place_in_block::<B>(i), bit);
-    put_block(blocks, k, block);
+    let place = place_in_block::<B>(i);
+    let block = block_at(blocks, k);
+    put_block(blocks, k, with_digit(block, place, bit));
+    has_one_at(block, place)
 }
 
 // The values from `len` on, up to `end`, become true in the last block; none where it is full.

@@ -1,9 +1,9 @@
 // Calls that change the list in place.
-ghost use Rattle.std.specs.Prelude.{◌≡◌, ◌+◌, ◌<◌, ◌≤◌, [], ◌++◌, length, replicate, slice_set, take, IsOk, OnErr, OnOk};
+ghost use Rattle.std.specs.Prelude.{◌≡◌, ◌+◌, ◌<◌, ◌≤◌, [], ◌++◌, length, replicate, slice_get, slice_set, take, Some, IsOk, OnErr, OnOk};
 
 use super::BitVec;
 use crate::bit_vec::BitBlock;
-use crate::bit_vec::changes::{block_count, put_value};
+use crate::bit_vec::changes::{block_count, replace_value};
 use crate::bit_vec::tidy::{append_values, fill_values, keep_values};
 use std::alloc::AllocError;
 
@@ -15,7 +15,19 @@ impl<B: BitBlock> BitVec<B> {
         ensures values { self.new.values ≡ slice_set self.old.values i bit }
         ensures room { self.new.room ≡ self.old.room }
     {
-        put_value(&mut self.blocks, i, bit);
+        let _was = self.replace(i, bit);
+    }
+
+    /// Makes the value at `i` be `bit`, where `i` is below [`len`](Self::len), and answers what it was.
+    /// Constant time: one read and one write of one block.
+    #[inline]
+    pub fn replace(&mut self, i: usize, bit: bool) -> bool
+        requires { i < length self.old.values }
+        ensures was { slice_get self.old.values i ≡ Some result }
+        ensures values { self.new.values ≡ slice_set self.old.values i bit }
+        ensures room { self.new.room ≡ self.old.room }
+    {
+        replace_value(&mut self.blocks, i, bit)
     }
 
     /// Makes every value be `bit`. Writes each block once.

@@ -1,16 +1,19 @@
-use Rattle.std.proofs.Common.{sym, ◌∙◌}
+use Rattle.std.proofs.Common.{sym, arith}
 use Rattle.bit_set.specs.Sets.{elements}
 use Rattle.bit_set.proofs.SetLemmas.{IsAscending-elements, without_absent}
-use Rattle.bit_set.proofs.ValueLemmas.{elements-lowered, has-within}
+use Rattle.bit_set.proofs.ValueLemmas.{elements-lowered, has-past, has-read}
 use Rattle.bit_set.proofs.set.BitSet.remove.Goals as goal
 
-pub set-requires : goal.set-requires
-set-requires g c = rw c.self.view_is (has-within c.args.self.now.values c.args.value (sym c.contains-had.ensures ∙ c.if-had.true))
+pub returns-then-value-len-clause-answer : goal.returns-then-value-len-clause-answer
+returns-then-value-len-clause-answer g c = rw (← c.self.view_is) (sym (has-past c.self.inside.bits.values c.args.value (omega arith)))
 
-pub returns-then-had-clause-elements : goal.returns-then-had-clause-elements
-returns-then-had-clause-elements g c = rw (c.set.ensures.values, ← c.self.view_is) (elements-lowered c.self.inside.bits.values c.args.value)
+pub returns-then-value-len-clause-elements : goal.returns-then-value-len-clause-elements
+returns-then-value-len-clause-elements g c =
+    let values = c.self.inside.bits.values in
+    rw (← c.self.view_is) (sym (without_absent (elements values) c.args.value (IsAscending-elements values) (has-past values c.args.value (omega arith))))
 
-pub returns-else-had-clause-elements : goal.returns-else-had-clause-elements
-returns-else-had-clause-elements g c =
-    let values = c.args.self.now.values in
-    sym (without_absent (elements values) c.args.value (IsAscending-elements values) (sym c.contains-had.ensures ∙ c.if-had.false))
+pub returns-clause-answer : goal.returns-clause-answer
+returns-clause-answer g c = rw (← c.self.view_is) (has-read c.self.inside.bits.values _ _ c.replace.ensures.was)
+
+pub returns-clause-elements : goal.returns-clause-elements
+returns-clause-elements g c = rw (c.replace.ensures.values, ← c.self.view_is) (elements-lowered c.self.inside.bits.values c.args.value)
