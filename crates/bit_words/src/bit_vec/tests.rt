@@ -33,7 +33,8 @@ fn a_list_is_cut_grown_and_filled(rt: HostRuntime) -> Result<(), Fail> {
     assert_eq!(rt; bits.get(14), Some(false));
     assert_eq!(rt; bits.get(15), None);
 
-    bits.set(0, false);
+    assert!(rt; bits.replace(0, false));
+    assert!(rt; !bits.replace(0, false));
     assert_eq!(rt; bits.storage(), [8190].as_slice());
 
     bits.fill(true);
