@@ -167,6 +167,7 @@ numbers-number_command verb p = refl
 
 pub numbers-pair_command : (verb : PairVerb) (p : ℕ × ℕ) → numbers_of (pair_command verb p) ≡ []
 numbers-pair_command Copy p = refl
+numbers-pair_command verb p = refl
 
 made_by_test : {X : Type 0} {Post : X → Command → Type 0} (fits : Bool) (make : X → Command) (x : X) (read : Result X BadLine) (result : Result Command BadLine) → ((x : X) (command : Command) → Post x command → command ≡ make x) → read ≡ (if fits then Ok x else Err BadNumber) → MatchResult read (λ x. IsOkAnd result (Post x)) (λ e. result ≡ Err e) → result ≡ (if fits then Ok (make x) else Err BadNumber)
 made_by_test true make x (Ok y) (Ok command) makes told made = ap Ok (makes y command made ∙ ap make (cc))

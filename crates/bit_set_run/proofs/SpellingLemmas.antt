@@ -9,6 +9,7 @@ use Rattle.std.proofs.lemmas.Bool.{and_parts, false≢true}
 use Rattle.std.proofs.lemmas.Fmt.{decimal_nonempty, digits_decimal, digits_value-decimal}
 use Rattle.std.proofs.lemmas.List.Elements.{All-cons, All-head, All-nil, All-tail}
 use Rattle.std.proofs.lemmas.Str.Parse.{IsNumeralModel, numerals_by_value, tells_all_ascii_digits}
+use Rattle.bit_set.specs.declared.bit_vec.Merge.TheVariants.{Union, Intersection, Difference, Symmetric}
 use Rattle.bit_set_run.specs.declared.commands.Command.{Command}
 use Rattle.bit_set_run.specs.declared.commands.Command.TheVariants as command
 use Rattle.bit_set_run.specs.declared.verbs.Verb.TheVariants.{Name, NameAndNumber, TwoNames, Extend, Rest}
@@ -17,7 +18,7 @@ use Rattle.bit_set_run.specs.declared.verbs.NameVerb.TheVariants.{Empty, Reset, 
 use Rattle.bit_set_run.specs.declared.verbs.NumberVerb.{NumberVerb}
 use Rattle.bit_set_run.specs.declared.verbs.NumberVerb.TheVariants.{Insert, Remove, Contains, Truncate}
 use Rattle.bit_set_run.specs.declared.verbs.PairVerb.{PairVerb}
-use Rattle.bit_set_run.specs.declared.verbs.PairVerb.TheVariants.{Copy}
+use Rattle.bit_set_run.specs.declared.verbs.PairVerb.TheVariants.{Copy, InPlace}
 use Rattle.bit_set_run.specs.declared.verbs.Walk.TheVariants.{Iter}
 use Rattle.bit_set_run.specs.Cuts.{Lacks}
 use Rattle.bit_set_run.specs.Reading.{all_numbers, name_of, number_of, reading}
@@ -140,4 +141,8 @@ reading-line_of (command.Count s) had = name_line Count (codes "count") s refl r
 reading-line_of (command.IsEmpty s) had = name_line IsEmpty (codes "is_empty") s refl refl had.names
 reading-line_of (command.Items s) had = name_line Items (codes "items") s refl refl had.names
 reading-line_of (command.Copy s t) had = pair_line Copy (codes "copy") s t refl refl had.names
+reading-line_of (command.InPlace Union s t) had = pair_line (InPlace Union) (codes "union_with") s t refl refl had.names
+reading-line_of (command.InPlace Intersection s t) had = pair_line (InPlace Intersection) (codes "intersect_with") s t refl refl had.names
+reading-line_of (command.InPlace Difference s t) had = pair_line (InPlace Difference) (codes "difference_with") s t refl refl had.names
+reading-line_of (command.InPlace Symmetric s t) had = pair_line (InPlace Symmetric) (codes "symmetric_difference_with") s t refl refl had.names
 reading-line_of (command.RestIter s n) had = rest_iter_line (codes "rest") (codes "iter") s n refl refl refl refl had.names had.numbers

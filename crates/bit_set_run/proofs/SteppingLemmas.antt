@@ -10,7 +10,7 @@ use Rattle.std.proofs.iter.Yields.{copies, fronts}
 use Rattle.std.specs.Iterator.{Yields, YieldsThen, SkipsThenYields}
 use Rattle.std.specs.List.{list_any}
 use Rattle.bit_set.specs.Bits.{Bits}
-use Rattle.bit_set.specs.Sets.{bound_of, elements, has, put}
+use Rattle.bit_set.specs.Sets.{bound_of, has, put}
 use Rattle.bit_set_run.specs.Kept.{kept}
 use Rattle.bit_set.specs.Walk.{Walk, Advances}
 use Rattle.bit_set_run.specs.declared.commands.Command.TheVariants.{Insert}
@@ -71,12 +71,13 @@ left_of_skipped w s u n (Some x) run =
     let long : length (run.0 ++ x ∷ []) ≡ n + 1 = omega (arith, length-append run.0 (x ∷ []), run.2) in
     sym (ap (drop (n + 1)) whole ∙ drop_at (run.0 ++ x ∷ []) u.left (n + 1) long)
 
--- a set of the array becomes one that another place holds
-pub copied_over : (sets : List Bits) (from to : ℕ) (gone set_now source : Bits) → from < length sets → (from ≡ to → ⊥) → source ≡ get_or (set sets to gone) from source → set_now.values ≡ source.values → map kept (set (set sets to gone) to set_now) ≡ set (map kept sets) to (get_or (map kept sets) from [])
-copied_over sets from to gone set_now source within apart at values =
-    let there : source ≡ get_or sets from source = at ∙ get_or-set_other sets to from gone source apart in
-    let kept_there : kept set_now ≡ get_or (map kept sets) from [] = ap elements values ∙ ap kept there ∙ sym (get_or-map kept sets from source [] within) in
-    ap (map kept) (set-set sets to gone set_now) ∙ map-set kept sets to set_now ∙ ap (λ s. set (map kept sets) to s) kept_there
+-- a set of the array becomes what f makes of it and of one at another place
+pub changed_by : (sets : List Bits) (f : List ℕ → List ℕ → List ℕ) (to from : ℕ) (gone old set_now source : Bits) → to < length sets → from < length sets → (from ≡ to → ⊥) → old ≡ get_or sets to old → source ≡ get_or (set sets to gone) from source → kept set_now ≡ f (kept old) (kept source) → map kept (set (set sets to gone) to set_now) ≡ set (map kept sets) to (f (get_or (map kept sets) to []) (get_or (map kept sets) from []))
+changed_by sets f to from gone old set_now source at within apart was is changed =
+    let there : source ≡ get_or sets from source = is ∙ get_or-set_other sets to from gone source apart in
+    let own : kept old ≡ get_or (map kept sets) to [] = ap kept was ∙ sym (get_or-map kept sets to old [] at) in
+    let other : kept source ≡ get_or (map kept sets) from [] = ap kept there ∙ sym (get_or-map kept sets from source [] within) in
+    ap (map kept) (set-set sets to gone set_now) ∙ map-set kept sets to set_now ∙ ap (λ s. set (map kept sets) to s) (changed ∙ ap (λ s. f s (kept source)) own ∙ ap (f (get_or (map kept sets) to [])) other)
 
 -- a set that is put back where it was taken
 pub put_back : (sets : List Bits) (to : ℕ) (gone set_now : Bits) → set_now ≡ get_or sets to set_now → map kept (set (set sets to gone) to set_now) ≡ map kept sets

@@ -2,11 +2,11 @@
 use Rattle.std.specs.Prelude.{◌≡◌, ◌≢◌, ℕ, ◌<◌, ◌≤◌, ◌⊎◌, false, not, ◌==◌, if◌then◌else◌, List, [], ◌∷◌, ◌++◌, length, take, drop, replicate, slice_get, slice_index_or, slice_set, Some}
 use Rattle.std.specs.List.{list_any}
 use Rattle.bit_set_run.specs.declared.commands.Command.{Command}
-use Rattle.bit_set_run.specs.declared.commands.Command.TheVariants.{Insert, Remove, Contains, Extend, Truncate, Empty, Reset, Count, IsEmpty, Items as ItemsOf, Copy, RestIter}
+use Rattle.bit_set_run.specs.declared.commands.Command.TheVariants.{Insert, Remove, Contains, Extend, Truncate, Empty, Reset, Count, IsEmpty, Items as ItemsOf, Copy, InPlace, RestIter}
 use Rattle.bit_set_run.specs.declared.commands.Reply.{Reply}
 use Rattle.bit_set_run.specs.declared.commands.Reply.TheVariants.{Truth, Done, Number, Items, Rest, Element, Same}
 use Rattle.bit_set.specs.Bounds.{greatest}
-use Rattle.bit_set.specs.Sets.{has, put, put_all, those_below, without}
+use Rattle.bit_set.specs.Sets.{has, merged_sets, put, put_all, those_below, without}
 
 -- sixteen sets, by their places
 abbrev pub Sets : Type 0
@@ -57,6 +57,9 @@ step sets (ItemsOf name) = answer_with sets (Items (set_of sets name))
 step sets (Copy from to) =
     if from == to then answer_with sets Same
     else change_to sets to (set_of sets from) Done
+step sets (InPlace merge s t) =
+    if s == t then answer_with sets Same
+    else change_to sets s (merged_sets merge (set_of sets s) (set_of sets t)) Done
 step sets (RestIter name n) = let rest = drop n (set_of sets name) in answer_with sets (Rest (length rest) rest)
 
 -- what some commands leave, and what they answer, a reply each
@@ -81,6 +84,7 @@ RefusedBy old (Extend name items) new =
     × (has (put_all (set_of old name) front) item ≡ false) × (new ≡ slice_set old name (put_all (set_of old name) front))
 RefusedBy old (ItemsOf name) new = (set_of old name ≢ []) × (new ≡ old)
 RefusedBy old (Copy from to) new = (from ≢ to) × (new ≡ old)
+RefusedBy old (InPlace merge s t) new = (s ≢ t) × (new ≡ old)
 RefusedBy old (RestIter name n) new = (drop n (set_of old name) ≢ []) × (new ≡ old)
 RefusedBy old command new = ⊥
 

@@ -1,9 +1,10 @@
 -- A line for each command.
-use Prim.Native.String.{String}
 use Rattle.std.specs.Prelude.{ℕ, ◌+◌, ◌<◌, ◌≤◌, List, [], ◌∷◌, ◌++◌, codes, decimal}
 use Rattle.std.specs.List.{All, flat_map}
 use Rattle.bit_set_run.specs.declared.commands.Command.{Command}
-use Rattle.bit_set_run.specs.declared.commands.Command.TheVariants.{Insert, Remove, Contains, Extend, Truncate, Empty, Reset, Count, IsEmpty, Items, Copy, RestIter}
+use Rattle.bit_set_run.specs.declared.commands.Command.TheVariants.{Insert, Remove, Contains, Extend, Truncate, Empty, Reset, Count, IsEmpty, Items, Copy, InPlace, RestIter}
+use Rattle.bit_set.specs.declared.bit_vec.Merge.{Merge}
+use Rattle.bit_set.specs.declared.bit_vec.Merge.TheVariants.{Union, Intersection, Difference, Symmetric}
 use Rattle.bit_set.specs.Bounds.{greatest}
 
 -- what a command's line is made of: a word, or two for a rest, then the sets that it names, by their places, and
@@ -13,22 +14,30 @@ pub record Parts : Type 0 where
   pub names : List ℕ
   pub numbers : List ℕ
 
-abbrev pub parts : String → List ℕ → List ℕ → Parts
-parts word names numbers = record { word = codes word; names = names; numbers = numbers }
+abbrev pub parts : List ℕ → List ℕ → List ℕ → Parts
+parts word names numbers = record { word = word; names = names; numbers = numbers }
+
+-- the verb of an operation in place
+abbrev pub in_place_word : Merge → List ℕ
+in_place_word Union = codes "union_with"
+in_place_word Intersection = codes "intersect_with"
+in_place_word Difference = codes "difference_with"
+in_place_word Symmetric = codes "symmetric_difference_with"
 
 abbrev pub parts_of : Command → Parts
-parts_of (Insert s n) = parts "insert" (s ∷ []) (n ∷ [])
-parts_of (Remove s n) = parts "remove" (s ∷ []) (n ∷ [])
-parts_of (Contains s n) = parts "contains" (s ∷ []) (n ∷ [])
-parts_of (Extend s ns) = parts "extend" (s ∷ []) ns
-parts_of (Truncate s n) = parts "truncate" (s ∷ []) (n ∷ [])
-parts_of (Empty s) = parts "empty" (s ∷ []) []
-parts_of (Reset s) = parts "reset" (s ∷ []) []
-parts_of (Count s) = parts "count" (s ∷ []) []
-parts_of (IsEmpty s) = parts "is_empty" (s ∷ []) []
-parts_of (Items s) = parts "items" (s ∷ []) []
-parts_of (Copy s t) = parts "copy" (s ∷ t ∷ []) []
-parts_of (RestIter s n) = parts "rest iter" (s ∷ []) (n ∷ [])
+parts_of (Insert s n) = parts (codes "insert") (s ∷ []) (n ∷ [])
+parts_of (Remove s n) = parts (codes "remove") (s ∷ []) (n ∷ [])
+parts_of (Contains s n) = parts (codes "contains") (s ∷ []) (n ∷ [])
+parts_of (Extend s ns) = parts (codes "extend") (s ∷ []) ns
+parts_of (Truncate s n) = parts (codes "truncate") (s ∷ []) (n ∷ [])
+parts_of (Empty s) = parts (codes "empty") (s ∷ []) []
+parts_of (Reset s) = parts (codes "reset") (s ∷ []) []
+parts_of (Count s) = parts (codes "count") (s ∷ []) []
+parts_of (IsEmpty s) = parts (codes "is_empty") (s ∷ []) []
+parts_of (Items s) = parts (codes "items") (s ∷ []) []
+parts_of (Copy s t) = parts (codes "copy") (s ∷ t ∷ []) []
+parts_of (InPlace merge s t) = parts (in_place_word merge) (s ∷ t ∷ []) []
+parts_of (RestIter s n) = parts (codes "rest iter") (s ∷ []) (n ∷ [])
 
 -- the places that a command names
 abbrev pub names_of : Command → List ℕ

@@ -2,6 +2,7 @@
 use Rattle.std.specs.Prelude.{ℕ, List, [], ◌∷◌, codes, Option}
 use Rattle.std.specs.Map.{lookup}
 use Rattle.std.specs.Str.{bytes_eq}
+use Rattle.bit_set.specs.declared.bit_vec.Merge.TheVariants.{Union, Intersection, Difference, Symmetric}
 use Rattle.bit_set_run.specs.declared.commands.Command.{Command}
 use Rattle.bit_set_run.specs.declared.commands.Command.TheVariants as command
 use Rattle.bit_set_run.specs.declared.verbs.Verb.{Verb}
@@ -11,7 +12,7 @@ use Rattle.bit_set_run.specs.declared.verbs.NameVerb.TheVariants.{Empty, Reset, 
 use Rattle.bit_set_run.specs.declared.verbs.NumberVerb.{NumberVerb}
 use Rattle.bit_set_run.specs.declared.verbs.NumberVerb.TheVariants.{Insert, Remove, Contains, Truncate}
 use Rattle.bit_set_run.specs.declared.verbs.PairVerb.{PairVerb}
-use Rattle.bit_set_run.specs.declared.verbs.PairVerb.TheVariants.{Copy}
+use Rattle.bit_set_run.specs.declared.verbs.PairVerb.TheVariants.{Copy, InPlace}
 use Rattle.bit_set_run.specs.declared.verbs.Walk.{Walk}
 use Rattle.bit_set_run.specs.declared.verbs.Walk.TheVariants.{Iter}
 
@@ -29,6 +30,10 @@ verbs =
     (codes "is_empty", Name IsEmpty) ∷
     (codes "items", Name Items) ∷
     (codes "copy", TwoNames Copy) ∷
+    (codes "union_with", TwoNames (InPlace Union)) ∷
+    (codes "intersect_with", TwoNames (InPlace Intersection)) ∷
+    (codes "difference_with", TwoNames (InPlace Difference)) ∷
+    (codes "symmetric_difference_with", TwoNames (InPlace Symmetric)) ∷
     (codes "rest", Rest) ∷
     []
 
@@ -64,3 +69,4 @@ number_command Truncate (s, n) = command.Truncate s n
 -- the command of a verb with two sets' names
 abbrev pub pair_command : PairVerb → ℕ × ℕ → Command
 pair_command Copy (s, t) = command.Copy s t
+pair_command (InPlace merge) (s, t) = command.InPlace merge s t

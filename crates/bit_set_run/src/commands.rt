@@ -1,4 +1,5 @@
 use crate::{Numbers, SetName};
+use bit_set::bit_vec::Merge;
 
 /// What `run` is asked to do.
 #[derive(Debug, Drop, PartialEq, Eq)]
@@ -25,6 +26,8 @@ pub enum Command {
     Items(SetName),
     /// Make the second set hold what the first does.
     Copy(SetName, SetName),
+    /// Make the first set what the two become: in either, in both, in the first alone, or in just one.
+    InPlace(Merge, SetName, SetName),
     /// What is left of a walk over a set after so many of its numbers: how many, and which.
     RestIter(SetName, usize),
 }
@@ -44,6 +47,6 @@ pub enum Reply {
     Rest(usize, Numbers),
     /// A number cannot be an element, and it is not put in.
     Element,
-    /// A set cannot be copied to itself, and nothing changed.
+    /// A set cannot be copied to itself, nor changed in place by itself, and nothing changed.
     Same,
 }

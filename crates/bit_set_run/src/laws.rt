@@ -96,6 +96,22 @@ pub fn outputs_are_as_shown()
         ("rest iter b 9", "0 {}") ∷
         ("rest iter q 1", "bad command") ∷
         []) }
+    ensures in_place { Gives (
+        ("extend a 0 1", "ok") ∷
+        ("extend b 1 5", "ok") ∷
+        ("symmetric_difference_with a b", "ok") ∷
+        ("items a", "{0, 5}") ∷
+        ("difference_with b a", "ok") ∷
+        ("items b", "{1}") ∷
+        ("union_with b a", "ok") ∷
+        ("items b", "{0, 1, 5}") ∷
+        ("intersect_with a b", "ok") ∷
+        ("items a", "{0, 5}") ∷
+        ("intersect_with b b", "refused same") ∷
+        ("union_with a", "bad command") ∷
+        ("union_with a b 1", "bad command") ∷
+        ("items b", "{0, 1, 5}") ∷
+        []) }
     ensures whole_set_edges { Gives (
         ("extend p 99999999999999999999 5 ", "bad command") ∷
         ("extend p 5  6", "bad command") ∷

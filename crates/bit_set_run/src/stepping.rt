@@ -2,13 +2,14 @@
 
 ghost use Rattle.std.specs.Prelude.{◌≡◌, ◌≢◌, ℕ, ◌<◌, ◌==◌, ◌∷◌, false, not, map, List, length, drop, [], ◌++◌, IfOk, OnOk, OnErr, slice_index_or, slice_set, if◌then◌else◌};
 ghost use Rattle.std.specs.List.{list_any};
-ghost use Rattle.bit_set.specs.Sets.{has, put, put_all};
+ghost use Rattle.bit_set.specs.Sets.{has, merged_sets, put, put_all};
 ghost use Rattle.bit_set_run.specs.Kept.{kept};
 ghost use Rattle.bit_set.specs.Bounds.{greatest};
 ghost use Rattle.bit_set_run.specs.Run.{step, elements_before_greatest, RefusedBy};
 ghost use Rattle.bit_set_run.specs.declared.commands.Reply.TheVariants.{Truth, Done, Rest, Element};
 
 use crate::{Command, Numbers, Reply};
+use bit_set::bit_vec::Merge;
 use bit_set::{BitBlock, BitSet, Iter, SetError};
 use std::alloc::{AllocError, Global};
 use std::mem;
@@ -45,6 +46,8 @@ pub(crate) fn step<B: BitBlock>(
         Command::Items(name) => Ok(Reply::Items(numbers_of(alloc, sets[name.place()].iter())?)),
         Command::Copy(from, to) if from == to => Ok(Reply::Same),
         Command::Copy(from, to) => copy(alloc, sets, from.place(), to.place()),
+        Command::InPlace(_, s, t) if s == t => Ok(Reply::Same),
+        Command::InPlace(merge, s, t) => merge_in_place(alloc, sets, *merge, s.place(), t.place()),
         Command::RestIter(name, n) => rest(alloc, sets[name.place()].iter(), *n),
     }
 }
@@ -96,6 +99,45 @@ fn copy<B: BitBlock>(
     match copied {
         Ok(()) => Ok(Reply::Done),
         Err(refusal) => Err(refusal),
+    }
+}
+
+// Makes the set at the first place what it and the one at the second become.
+fn merge_in_place<B: BitBlock>(
+    alloc: Global,
+    sets: &mut [BitSet<B>; 16],
+    merge: Merge,
+    to: usize,
+    other: usize,
+) -> Result<Reply, AllocError>
+    requires places { (to < 16) × (other < 16) }
+    requires apart { to ≡ other → ⊥ }
+    ensures reply { IfOk result (λ reply. reply ≡ Done) }
+    ensures after { OnOk result (map kept sets.new ≡ slice_set (map kept sets.old) to (merged_sets merge (slice_index_or (map kept sets.old) to []) (slice_index_or (map kept sets.old) other []))) }
+    ensures left { OnErr result (map kept sets.new ≡ map kept sets.old) }
+{
+    let mut set = mem::replace(&mut sets[to], BitSet::new_general(alloc));
+    let merged = merge_with(&mut set, merge, &sets[other]);
+    sets[to] = set;
+    match merged {
+        Ok(()) => Ok(Reply::Done),
+        Err(refusal) => Err(refusal),
+    }
+}
+
+fn merge_with<B: BitBlock>(
+    set: &mut BitSet<B>,
+    merge: Merge,
+    other: &BitSet<B>,
+) -> Result<(), AllocError>
+    ensures ok { OnOk result (kept set.new ≡ merged_sets merge (kept set.old) (kept other.now)) }
+    ensures err { OnErr result (set.new ≡ set.old) }
+{
+    match merge {
+        Merge::Union => set.union_with(other),
+        Merge::Intersection => set.intersect_with(other),
+        Merge::Difference => set.difference_with(other),
+        Merge::Symmetric => set.symmetric_difference_with(other),
     }
 }
 

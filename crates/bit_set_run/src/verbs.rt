@@ -6,6 +6,7 @@ ghost use Rattle.std.specs.Str.{bytes_eq};
 ghost use Rattle.bit_set_run.specs.Verbs.{name_command, number_command, pair_command, verb_of, walk_of};
 
 use crate::{Command, SetName};
+use bit_set::bit_vec::Merge;
 
 /// The first word of a command, by the shape of the words after it.
 #[derive(Clone, Copy)]
@@ -45,6 +46,7 @@ pub(crate) enum NumberVerb {
 #[derive(Clone, Copy)]
 pub(crate) enum PairVerb {
     Copy,
+    InPlace(Merge),
 }
 
 /// A walk, of which `rest` tells what is left.
@@ -53,7 +55,7 @@ pub(crate) enum Walk {
     Iter,
 }
 
-const VERBS: [(&[u8], Verb); 12] = [
+const VERBS: [(&[u8], Verb); 16] = [
     (b"insert", Verb::NameAndNumber(NumberVerb::Insert)),
     (b"remove", Verb::NameAndNumber(NumberVerb::Remove)),
     (b"contains", Verb::NameAndNumber(NumberVerb::Contains)),
@@ -65,6 +67,22 @@ const VERBS: [(&[u8], Verb); 12] = [
     (b"is_empty", Verb::Name(NameVerb::IsEmpty)),
     (b"items", Verb::Name(NameVerb::Items)),
     (b"copy", Verb::TwoNames(PairVerb::Copy)),
+    (
+        b"union_with",
+        Verb::TwoNames(PairVerb::InPlace(Merge::Union)),
+    ),
+    (
+        b"intersect_with",
+        Verb::TwoNames(PairVerb::InPlace(Merge::Intersection)),
+    ),
+    (
+        b"difference_with",
+        Verb::TwoNames(PairVerb::InPlace(Merge::Difference)),
+    ),
+    (
+        b"symmetric_difference_with",
+        Verb::TwoNames(PairVerb::InPlace(Merge::Symmetric)),
+    ),
     (b"rest", Verb::Rest),
 ];
 
@@ -133,6 +151,7 @@ impl PairVerb {
     {
         match self {
             PairVerb::Copy => Command::Copy(first, second),
+            PairVerb::InPlace(merge) => Command::InPlace(merge, first, second),
         }
     }
 }

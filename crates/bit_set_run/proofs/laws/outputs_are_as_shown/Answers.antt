@@ -22,6 +22,10 @@ pub returns-clause-rests : goal.returns-clause-rests
 unfolding digits
 returns-clause-rests c = refl
 
+pub returns-clause-in_place : goal.returns-clause-in_place
+unfolding digits
+returns-clause-in_place c = refl
+
 pub returns-clause-whole_set_edges : goal.returns-clause-whole_set_edges
 unfolding digits
 returns-clause-whole_set_edges c = refl
