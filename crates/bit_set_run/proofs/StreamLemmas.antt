@@ -3,7 +3,7 @@ use Rattle.std.proofs.Common.{◌≡◌, ℕ, ◌+◌, ◌<◌, ◌≤◌, List,
 use Rattle.std.proofs.KnownBytes.{Appends-kept, Appends-nil, Appends-trans, Consumes-trans}
 use Rattle.std.proofs.lemmas.List.{append-nil, take-append-drop, length-append, length-take-le, take-append-le}
 use Rattle.std.specs.Io.KnownBytes.{Consumes, Appends, Keeps}
-use Rattle.bit_set_run.specs.Streams.{limit, GaveCount, HoldsBeginning}
+use Rattle.bit_set_run.specs.Streams.{limit, GaveAtMost, GaveCount, HoldsBeginning}
 
 -- the bytes so far, and a read more
 pub record HasRead (old new : Option (List ℕ)) (input : List ℕ) (turns : ℕ) : Type 0 where
@@ -60,4 +60,15 @@ GaveCount-past old mid new input buffer turns n so_far read within room past = r
   bytes = input ++ take n buffer;
   taken = Consumes-trans old mid new input (take n buffer) so_far.taken read;
   count_is = let long : length (take n buffer) ≡ n = length-take-le n buffer within in rw (length-append, long) (omega (arith, within, room, past));
+}
+
+-- a read more, of which nothing else is known
+pub GaveAtMost-more :
+    (old mid new : Option (List ℕ)) (input buffer : List ℕ) (turns n : ℕ)
+    → HasRead old mid input turns → Consumes mid new (take n buffer) → n ≤ length buffer → length input + length buffer ≤ limit + 1
+    → GaveAtMost old new (limit + 1)
+GaveAtMost-more old mid new input buffer turns n so_far read within room = record {
+  bytes = input ++ take n buffer;
+  taken = Consumes-trans old mid new input (take n buffer) so_far.taken read;
+  few = let long : length (take n buffer) ≡ n = length-take-le n buffer within in rw (length-append, long) (omega (arith, within, room));
 }

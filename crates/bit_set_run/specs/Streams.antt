@@ -18,6 +18,12 @@ pub record GaveCount (old new : Option (List ℕ)) (count : ℕ) : Type 0 where
   pub taken : Consumes old new bytes
   pub count_is : length bytes ≡ count
 
+-- the reader gave this many bytes or fewer
+pub record GaveAtMost (old new : Option (List ℕ)) (count : ℕ) : Type 0 where
+  pub bytes : List ℕ
+  pub taken : Consumes old new bytes
+  pub few : length bytes ≤ count
+
 -- the writer holds a beginning of the text more than before
 pub record HoldsBeginning (old new : Option (List ℕ)) (text : List ℕ) : Type 0 where
   pub sent : List ℕ

@@ -164,7 +164,7 @@ pub fn strange_lines_are_bad_commands()
 {}
 
 /// The same commands on two tables with equal sets, over any two types of blocks: where memory is found, the
-/// replies are the same, and so are the sets afterwards.
+/// replies are the same, those of the commands, and so are the sets afterwards.
 pub fn replies_agree<A: BitBlock, B: BitBlock>(
     alloc: Global,
     first: &mut Table<A>,
@@ -175,6 +175,7 @@ pub fn replies_agree<A: BitBlock, B: BitBlock>(
     ensures agree { IfOk result (λ replies. replies.0.items ≡ replies.1.items) }
     ensures replies { IfOk result (λ replies. replies.0.items ≡ (run_of first.old commands.now).replies) }
     ensures sets { OnOk result (first.new ≡ second.new) }
+    ensures after { OnOk result (first.new ≡ (run_of first.old commands.now).sets) }
 {
     let mut first_replies = Vec::new(alloc);
     let mut second_replies = Vec::new(alloc);

@@ -1,5 +1,5 @@
 ghost use Rattle.std.specs.Prelude.{◌≡◌, ◌+◌, IfSome, OnOk};
-ghost use Rattle.bit_set_run.specs.Streams.{limit, GaveCount};
+ghost use Rattle.bit_set_run.specs.Streams.{limit, GaveAtMost, GaveCount};
 ghost use Rattle.bit_set_run.specs.Answered.{IsAnswered, IsCutOff};
 
 use crate::LinesFault;
@@ -24,7 +24,8 @@ pub fn run_lines<B: BitBlock, R: Read, W: Write>(
     ensures write { result ≡ Err LinesFault.Write → IfSome (R.remaining reader.old)
         (IsCutOff (R.remaining reader.new) (W.contents writer.old) (W.contents writer.new)) }
 
-    // One byte past the limit is read, and no more.
+    // One byte past the limit is read at most, and at `TooLarge` it was.
+    ensures few { GaveAtMost (R.remaining reader.old) (R.remaining reader.new) (limit + 1) }
     ensures too_large { result ≡ Err LinesFault.TooLarge → GaveCount (R.remaining reader.old) (R.remaining reader.new) (limit + 1) }
 
     // Nothing is written before the whole output is there.

@@ -28,6 +28,7 @@ pub fn run<B: BitBlock>(
 ) -> Result<(), RunFault>
     ensures replies { OnOk result (replies.new.items ≡ replies.old.items ++ (run_of table.old commands.now).replies) }
     ensures sets { OnOk result (table.new ≡ (run_of table.old commands.now).sets) }
+    ensures room { vec_capacity replies.old ≤ vec_capacity replies.new }
     ensures memory { (k : ℕ) → result ≡ Err (RunFault.Memory k)
         → StoppedAt k commands.now (vec_capacity replies.old) table.old table.new replies.old.items replies.new.items }
 {

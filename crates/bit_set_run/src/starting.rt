@@ -1,6 +1,6 @@
 ghost use Rattle.std.specs.Prelude.{◌≡◌, ℕ, ◌+◌, ◌↔◌, ◌⊎◌, false, map, string_bytes, codes, is_some, IfSome};
 ghost use Rattle.bit_set_run.specs.Exits.{takes, names_block, said_at, status_at, type_chosen, type_named, IsExit};
-ghost use Rattle.bit_set_run.specs.Streams.{limit, GaveCount};
+ghost use Rattle.bit_set_run.specs.Streams.{limit, GaveAtMost, GaveCount};
 ghost use Rattle.bit_set_run.specs.Answered.{IsAnswered, IsCutOff};
 
 use crate::{LinesFault, run_lines};
@@ -47,6 +47,7 @@ pub fn start<R: Read, W: Write>(
     ensures unread { result.text.now ≡ codes "read failed" → writer.new ≡ writer.old }
     ensures unwritten { result.text.now ≡ codes "write failed" → IfSome (R.remaining reader.old)
         (IsCutOff (R.remaining reader.new) (W.contents writer.old) (W.contents writer.new)) }
+    ensures few { GaveAtMost (R.remaining reader.old) (R.remaining reader.new) (limit + 1) }
     ensures too_large { result.status ≡ 5 → GaveCount (R.remaining reader.old) (R.remaining reader.new) (limit + 1) }
     ensures too_large_unwritten { result.status ≡ 5 → writer.new ≡ writer.old }
 {
@@ -77,6 +78,7 @@ fn answer_lines<B: BitBlock, R: Read, W: Write>(
     ensures unread { result.text.now ≡ codes "read failed" → writer.new ≡ writer.old }
     ensures unwritten { result.text.now ≡ codes "write failed" → IfSome (R.remaining reader.old)
         (IsCutOff (R.remaining reader.new) (W.contents writer.old) (W.contents writer.new)) }
+    ensures few { GaveAtMost (R.remaining reader.old) (R.remaining reader.new) (limit + 1) }
     ensures too_large { result.status ≡ 5 → GaveCount (R.remaining reader.old) (R.remaining reader.new) (limit + 1) }
     ensures too_large_unwritten { result.status ≡ 5 → writer.new ≡ writer.old }
 {

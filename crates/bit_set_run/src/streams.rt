@@ -1,6 +1,6 @@
 ghost use Rattle.std.specs.Prelude.{◌≡◌, ◌≢◌, ℕ, ◌+◌, ◌≤◌, IfOk, IfErr, OnOk, OnErr};
 ghost use Rattle.std.specs.Io.KnownBytes.{Appends};
-ghost use Rattle.bit_set_run.specs.Streams.{limit, GaveAll, GaveCount, HoldsBeginning};
+ghost use Rattle.bit_set_run.specs.Streams.{limit, GaveAll, GaveAtMost, GaveCount, HoldsBeginning};
 ghost use Rattle.bit_set_run.specs.declared.streams.LinesFault.TheVariants.{Memory};
 
 use std::alloc::{AllocError, Global};
@@ -42,6 +42,7 @@ const PIECE: usize = 8192;
 pub(crate) fn read_input<R: Read>(alloc: Global, reader: &mut R) -> Result<Vec<u8>, LinesFault>
     ensures ok { IfOk result (λ input. GaveAll (R.remaining reader.old) (R.remaining reader.new) input.items) }
     ensures too_large { result ≡ Err LinesFault.TooLarge → GaveCount (R.remaining reader.old) (R.remaining reader.new) (limit + 1) }
+    ensures few { GaveAtMost (R.remaining reader.old) (R.remaining reader.new) (limit + 1) }
     ensures not_write { result ≢ Err LinesFault.Write }
 {
     let mut input = Vec::new(alloc);
