@@ -1,5 +1,5 @@
 -- Which sets are in which, which have nothing in common, and that a set is the set of its items.
-use Rattle.std.proofs.Common.{◌≡◌, ℕ, Bool, true, false, not, ◌↔◌, cond, eqb, List, [], ◌∷◌, filter, refl, sym, ap, ◌∙◌, ⊎_elim}
+use Rattle.std.proofs.Common.{◌≡◌, ℕ, Bool, true, false, not, ◌↔◌, cond, eqb, List, [], ◌∷◌, filter, slice_get, Some, refl, sym, ap, ◌∙◌, ⊎_elim}
 use Rattle.std.proofs.Math.Bool.{or-false}
 use Rattle.std.proofs.lemmas.Bool.{true≢false, eq-eqb, eqb-true, and_parts, and_from, or_cases, or_left, or_right, not-true, not_from_false, cases_Bool}
 use Rattle.std.specs.List.{list_all}
@@ -8,7 +8,7 @@ use Rattle.std.specs.FinSet as set
 use Rattle.bit_words.specs.declared.bit_vec.merge.Merge.{Merge}
 use Rattle.bit_set.specs.Sets.{IsAscending, has, elements, put_all, intersection, difference, merged_sets, is_subset, is_disjoint}
 use Rattle.bit_set.proofs.SetLemmas.{same_members, IsAscending-elements}
-use Rattle.bit_set.proofs.SetLaws.{has-put_all, IsAscending-put_all, contains-has, finite}
+use Rattle.bit_set.proofs.SetLaws.{has-put_all, slice_get-elements, IsAscending-put_all, contains-has, finite}
 use Rattle.bit_set.proofs.AlgebraLemmas.{IsAscending-merged_sets}
 
 -- ---- a test that each member passes
@@ -77,6 +77,20 @@ is_subset-finite s t =
     same_tests (is_subset s t) (set.is_subset (finite s) (finite t))
     (λ all. set.contains-is_subset nat_cmp_total (finite s) (finite t) (λ n is. contains-has t n ∙ (is_subset-members s t).0 all n (sym (contains-has s n) ∙ is)))
     (λ all. (is_subset-members s t).1 (λ n is. sym (contains-has t n) ∙ set.is_subset-contains nat_cmp_total (finite s) (finite t) all n (contains-has s n ∙ is)))
+
+-- ---- the sets that two lists of truth values keep
+
+pub is_subset-elements : (answer : Bool) (a b : List Bool) → ((answer ≡ true) ↔ ((i : ℕ) → slice_get a i ≡ Some true → slice_get b i ≡ Some true)) → answer ≡ is_subset (elements a) (elements b)
+is_subset-elements answer a b each =
+    let members = is_subset-members (elements a) (elements b) in
+    same_tests answer (is_subset (elements a) (elements b)) (λ is. members.1 (λ n in_a. (slice_get-elements b n).1 (each.0 is n ((slice_get-elements a n).0 in_a))))
+    (λ all. each.1 (λ i at. (slice_get-elements b i).0 (members.0 all i ((slice_get-elements a i).1 at))))
+
+pub is_disjoint-elements : (answer : Bool) (a b : List Bool) → ((answer ≡ true) ↔ ((i : ℕ) → slice_get a i ≡ Some true → slice_get b i ≡ Some true → ⊥)) → answer ≡ is_disjoint (elements a) (elements b)
+is_disjoint-elements answer a b each =
+    let members = is_disjoint-members (elements a) (elements b) in
+    same_tests answer (is_disjoint (elements a) (elements b)) (λ is. members.1 (λ n in_a in_b. each.0 is n ((slice_get-elements a n).0 in_a) ((slice_get-elements b n).0 in_b)))
+    (λ all. each.1 (λ i at_a at_b. members.0 all i ((slice_get-elements a i).1 at_a) ((slice_get-elements b i).1 at_b)))
 
 -- ---- collecting
 

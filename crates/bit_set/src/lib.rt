@@ -1,6 +1,8 @@
 //! Sets of whole numbers, each kept as the true places of a bit vector.
 #![tactic(auto)]
 
+#[cfg(test)]
+mod algebra_tests;
 mod faults;
 mod hash;
 pub mod laws;

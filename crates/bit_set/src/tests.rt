@@ -6,7 +6,7 @@ use std::alloc::{AllocError, Global};
 use std::test::Fail;
 
 // The elements, as the walk gives them.
-fn items<B: BitBlock>(alloc: Global, set: &BitSet<B>) -> Result<Vec<usize>, AllocError> {
+pub(crate) fn items<B: BitBlock>(alloc: Global, set: &BitSet<B>) -> Result<Vec<usize>, AllocError> {
     let mut items = Vec::new(alloc);
     for item in set {
         items.push(item)?;
