@@ -1,4 +1,5 @@
-//! Two sets made one in place: rows with their exact answers, and each call once over three block types.
+//! Two sets made one in place, and sets in one another: rows with their exact answers, and each call once
+//! over three block types.
 use crate::bit_vec::Merge;
 use crate::tests::items;
 use crate::{BitBlock, BitSet, SetError};
@@ -122,6 +123,38 @@ fn a_symmetric_difference_has_what_just_one_has(rt: HostRuntime) -> Result<(), F
     Ok(())
 }
 
+#[test]
+fn a_subset_may_be_longer(rt: HostRuntime) -> Result<(), Fail> {
+    let alloc = rt.alloc();
+    let both = set_of::<u32>(alloc, &[100, 200])?;
+    assert!(rt; set_of(alloc, &[200])?.is_subset(&both));
+    assert!(rt; !set_of(alloc, &[200, 300])?.is_subset(&both));
+    assert!(rt; BitSet::new(alloc).is_subset(&BitSet::new(alloc)));
+    Ok(())
+}
+
+#[test]
+fn sets_with_no_common_element_are_disjoint(rt: HostRuntime) -> Result<(), Fail> {
+    let alloc = rt.alloc();
+    let set = BitSet::from_bytes(alloc, &[0b1010_0010])?;
+    assert!(rt; !set.is_disjoint(&BitSet::from_bytes(alloc, &[0b0011_0000])?));
+    assert!(rt; set.is_disjoint(&BitSet::from_bytes(alloc, &[0b0100_0000])?));
+    assert!(rt; set.is_disjoint(&BitSet::new(alloc)));
+    Ok(())
+}
+
+// Whether a set is in another that has one number more, that one in it, and whether they have nothing in
+// common.
+fn answers<B: BitBlock>(alloc: Global) -> Result<[bool; 3], SetError> {
+    let less = set_of::<B>(alloc, &[1, 160])?;
+    let more = set_of(alloc, &[1, 160, 24])?;
+    Ok([
+        less.is_subset(&more),
+        less.is_superset(&more),
+        less.is_disjoint(&more),
+    ])
+}
+
 // How many elements two sets of numbers become, by one merge after another.
 fn counts<B: BitBlock>(alloc: Global) -> Result<[usize; 4], SetError> {
     let mut set = set_of::<B>(alloc, &[1, 3, 5, 9, 11, 160, 19, 24, 200])?;
@@ -141,5 +174,8 @@ fn sets_become_one_over_each_block(rt: HostRuntime) -> Result<(), Fail> {
     assert_eq!(rt; counts::<u8>(rt.alloc())?, [10, 5, 10, 5]);
     assert_eq!(rt; counts::<u32>(rt.alloc())?, [10, 5, 10, 5]);
     assert_eq!(rt; counts::<u64>(rt.alloc())?, [10, 5, 10, 5]);
+    assert_eq!(rt; answers::<u8>(rt.alloc())?, [true, false, false]);
+    assert_eq!(rt; answers::<u32>(rt.alloc())?, [true, false, false]);
+    assert_eq!(rt; answers::<u64>(rt.alloc())?, [true, false, false]);
     Ok(())
 }

@@ -6,6 +6,7 @@ use crate::bit_vec::BitVec;
 use std::marker::Model;
 
 mod changing;
+mod comparing;
 mod making;
 mod merging;
 
