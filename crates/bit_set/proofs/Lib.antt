@@ -2,6 +2,7 @@ pub mod SetLemmas
 pub mod SetLaws
 pub mod AlgebraLemmas
 pub mod SubsetLemmas
+pub mod CollectLemmas
 pub mod ValueLemmas
 pub mod CountLemmas
 pub mod ItemLemmas

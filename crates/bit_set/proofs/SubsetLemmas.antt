@@ -1,15 +1,12 @@
--- Which sets are in which, which have nothing in common, and that a set is the set of its items.
+-- Which sets are in which, and which have nothing in common.
 use Rattle.std.proofs.Common.{◌≡◌, ℕ, Bool, true, false, not, ◌↔◌, cond, eqb, List, [], ◌∷◌, filter, slice_get, Some, refl, sym, ap, ◌∙◌, ⊎_elim}
-use Rattle.std.proofs.Math.Bool.{or-false}
 use Rattle.std.proofs.lemmas.Bool.{true≢false, eq-eqb, eqb-true, and_parts, and_from, or_cases, or_left, or_right, not-true, not_from_false, cases_Bool}
 use Rattle.std.specs.List.{list_all}
 use Rattle.std.specs.Cmp.{nat_cmp_total}
 use Rattle.std.specs.FinSet as set
-use Rattle.bit_words.specs.declared.bit_vec.merge.Merge.{Merge}
-use Rattle.bit_set.specs.Sets.{IsAscending, has, elements, put_all, intersection, difference, merged_sets, is_subset, is_disjoint}
-use Rattle.bit_set.proofs.SetLemmas.{same_members, IsAscending-elements}
-use Rattle.bit_set.proofs.SetLaws.{has-put_all, slice_get-elements, IsAscending-put_all, contains-has, finite}
-use Rattle.bit_set.proofs.AlgebraLemmas.{IsAscending-merged_sets}
+use Rattle.bit_set.specs.Sets.{IsAscending, has, elements, intersection, difference, is_subset, is_disjoint}
+use Rattle.bit_set.proofs.SetLemmas.{same_members}
+use Rattle.bit_set.proofs.SetLaws.{slice_get-elements, contains-has, finite}
 
 -- ---- a test that each member passes
 
@@ -91,12 +88,3 @@ is_disjoint-elements answer a b each =
     let members = is_disjoint-members (elements a) (elements b) in
     same_tests answer (is_disjoint (elements a) (elements b)) (λ is. members.1 (λ n in_a in_b. each.0 is n ((slice_get-elements a n).0 in_a) ((slice_get-elements b n).0 in_b)))
     (λ all. each.1 (λ i at_a at_b. members.0 all i ((slice_get-elements a i).1 at_a) ((slice_get-elements b i).1 at_b)))
-
--- ---- collecting
-
--- the items of a set, put in one by one, are that set
-pub put_all-items : (s : List ℕ) → IsAscending s → put_all [] s ≡ s
-put_all-items s up = same_members (put_all [] s) s (IsAscending-put_all [] s tt) up (λ n. has-put_all [] s n ∙ or-false (has s n))
-
-pub put_all-merged : (merge : Merge) (a b : List Bool) → put_all [] (merged_sets merge (elements a) (elements b)) ≡ merged_sets merge (elements a) (elements b)
-put_all-merged merge a b = put_all-items (merged_sets merge (elements a) (elements b)) (IsAscending-merged_sets merge (elements a) (elements b) (IsAscending-elements a))

@@ -5,13 +5,13 @@ ghost use Rattle.std.specs.FinSet as set;
 ghost use Rattle.std.specs.Ordering.{nat_cmp};
 ghost use Rattle.std.specs.Iterator.{YieldsThen, Drains};
 ghost use Rattle.bit_words.specs.Bits.{blocks_for};
-ghost use Rattle.bit_set.specs.Walk.{Walk, IsWalkedOut, IsAtStart};
+ghost use Rattle.bit_set.specs.Walk.{Walk, BoundedWalk, IsWalkedOut, IsAtStart};
 ghost use Rattle.bit_words.specs.Merges.{merged_value, merged};
 ghost use Rattle.bit_words.specs.declared.bit_vec.merge.Merge.{Merge};
 ghost use Rattle.bit_set.specs.Sets.{IsAscending, has, put, put_all, without, those_below, elements, bound_of, union, intersection, difference, symmetric_difference, merged_sets, is_subset, is_disjoint};
 
 use crate::bit_vec::Merge;
-use crate::{BitBlock, Iter};
+use crate::{BitBlock, Difference, Intersection, Iter, SymmetricDifference, Union};
 
 /// What each operation does to the members of a set.
 pub fn members_of_sets()
@@ -99,14 +99,18 @@ pub fn sets_in_one_another()
     ensures finite_sets { (s t : List ℕ) → is_subset s t ≡ set.is_subset (set.from_list {R = nat_cmp} s) (set.from_list t) }
 {}
 
-/// Where the items of a set are put into the empty set, one by one, it becomes that set. So what is
-/// collected of a walk over what two sets become is what the operation in place leaves.
-pub fn collected_sets()
+/// What `from_iter` collects of a whole walk over what two sets become is what the operation in place
+/// leaves. The items of a set, put into the empty set one by one, are that set.
+pub fn collected_walks<B: BitBlock + 'static>()
     ensures set { (s : List ℕ) → IsAscending s → put_all [] s ≡ s }
-    ensures union { (a b : List Bool) → put_all [] (union (elements a) (elements b)) ≡ union (elements a) (elements b) }
-    ensures intersection { (a b : List Bool) → put_all [] (intersection (elements a) (elements b)) ≡ intersection (elements a) (elements b) }
-    ensures difference { (a b : List Bool) → put_all [] (difference (elements a) (elements b)) ≡ difference (elements a) (elements b) }
-    ensures symmetric_difference { (a b : List Bool) → put_all [] (symmetric_difference (elements a) (elements b)) ≡ symmetric_difference (elements a) (elements b) }
+    ensures union { (a b c : List Bool) (s : Walk) (items : List ℕ) → s.left ≡ union (elements a) (elements b)
+        → Drains ⟦<Union<'static, B> as Iterator>⟧.next_gives s items → elements c ≡ put_all [] items → elements c ≡ union (elements a) (elements b) }
+    ensures intersection { (a b c : List Bool) (s : BoundedWalk) (items : List ℕ) → s.walk.left ≡ intersection (elements a) (elements b)
+        → Drains ⟦<Intersection<'static, B> as Iterator>⟧.next_gives s items → elements c ≡ put_all [] items → elements c ≡ intersection (elements a) (elements b) }
+    ensures difference { (a b c : List Bool) (s : Walk) (items : List ℕ) → s.left ≡ difference (elements a) (elements b)
+        → Drains ⟦<Difference<'static, B> as Iterator>⟧.next_gives s items → elements c ≡ put_all [] items → elements c ≡ difference (elements a) (elements b) }
+    ensures symmetric_difference { (a b c : List Bool) (s : Walk) (items : List ℕ) → s.left ≡ symmetric_difference (elements a) (elements b)
+        → Drains ⟦<SymmetricDifference<'static, B> as Iterator>⟧.next_gives s items → elements c ≡ put_all [] items → elements c ≡ symmetric_difference (elements a) (elements b) }
 {}
 
 /// What whole walks give. From any point on, the calls of `next` up to the first `None` give just the
