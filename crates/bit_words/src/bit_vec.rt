@@ -10,6 +10,8 @@ mod comparing;
 mod integers;
 mod masks;
 mod merge;
+#[cfg(test)]
+mod merge_tests;
 mod merging;
 mod steps;
 #[cfg(test)]

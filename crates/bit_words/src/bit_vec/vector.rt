@@ -9,6 +9,7 @@ mod compare;
 mod edit;
 mod making;
 mod merging;
+mod texts;
 
 pub use making::BitsError;
 
