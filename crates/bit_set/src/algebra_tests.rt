@@ -1,5 +1,8 @@
 //! Two sets made one in place, and sets in one another: rows with their exact answers, and each call once
 //! over three block types.
+ghost use Rattle.std.specs.Prelude.{◌≡◌, IfOk};
+ghost use Rattle.bit_set.specs.Sets.{elements};
+
 use crate::bit_vec::Merge;
 use crate::tests::items;
 use crate::{BitBlock, BitSet, SetError};
@@ -177,5 +180,32 @@ fn sets_become_one_over_each_block(rt: HostRuntime) -> Result<(), Fail> {
     assert_eq!(rt; answers::<u8>(rt.alloc())?, [true, false, false]);
     assert_eq!(rt; answers::<u32>(rt.alloc())?, [true, false, false]);
     assert_eq!(rt; answers::<u64>(rt.alloc())?, [true, false, false]);
+    Ok(())
+}
+
+// What the walk over a union collects, and the set that becomes the union in place: they have the same
+// elements.
+fn collect_and_unite<B: BitBlock>(
+    alloc: Global,
+    set: &mut BitSet<B>,
+    other: &BitSet<B>,
+) -> Result<BitSet<B>, SetError>
+    ensures { IfOk result (λ collected. elements collected.values ≡ elements set.new.values) }
+{
+    let collected = BitSet::from_iter(alloc, set.union(other))?;
+    set.union_with(other)?;
+    Ok(collected)
+}
+
+#[test]
+fn a_walk_collects_what_is_left_in_place(rt: HostRuntime) -> Result<(), Fail> {
+    let alloc = rt.alloc();
+    let mut set = set_of::<u32>(alloc, &[11, 1, 3])?;
+    let collected = collect_and_unite(alloc, &mut set, &set_of(alloc, &[2, 11])?)?;
+    assert_eq!(rt;
+        items(alloc, &collected)?.as_slice(),
+        [1, 2, 3, 11].as_slice()
+    );
+    assert_eq!(rt; items(alloc, &set)?.as_slice(), [1, 2, 3, 11].as_slice());
     Ok(())
 }
