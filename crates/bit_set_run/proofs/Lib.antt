@@ -8,4 +8,5 @@ pub mod SpellingLemmas
 pub mod StrangeLemmas
 pub mod StreamLemmas
 pub mod TextLemmas
+pub mod WalkingLemmas
 pub mod SteppingLemmas

@@ -19,11 +19,11 @@ use Rattle.bit_set_run.specs.declared.verbs.NumberVerb.{NumberVerb}
 use Rattle.bit_set_run.specs.declared.verbs.NumberVerb.TheVariants.{Insert}
 use Rattle.bit_set_run.specs.declared.verbs.PairVerb.{PairVerb}
 use Rattle.bit_set_run.specs.declared.verbs.PairVerb.TheVariants.{Copy}
-use Rattle.bit_set_run.specs.declared.verbs.Walk.{Walk}
-use Rattle.bit_set_run.specs.declared.verbs.Walk.TheVariants.{Iter}
+use Rattle.bit_set_run.specs.declared.verbs.SetWalk.{SetWalk}
+use Rattle.bit_set_run.specs.declared.verbs.SetWalk.TheVariants.{One, Two}
 use Rattle.bit_set_run.specs.declared.reading.BadLine.{BadLine}
 use Rattle.bit_set_run.specs.declared.reading.BadLine.TheVariants.{BadCommand, BadNumber}
-use Rattle.bit_set_run.specs.Reading.{command_of, held, name_alone, name_and_number, name_of, number_of, reading, rest_command, rest_of, two_names, within_range}
+use Rattle.bit_set_run.specs.Reading.{command_of, held, name_alone, name_and_number, name_of, names_and_number, number_of, reading, rest_command, rest_of, two_names, within_range}
 use Rattle.bit_set_run.specs.Spelling.{numbers_of}
 use Rattle.bit_set_run.specs.Verbs.{name_command, number_command, pair_command, verb_of, walk_of}
 use Rattle.bit_set.specs.Bounds.{greatest}
@@ -125,6 +125,14 @@ two_names-words first second lacks = rw (parts_at-first 32 first second lacks) (
   | inr two ↦ rw (two.words, name_of-cut second two.place two.below two.space) (nothing (name_of first))
 ])
 
+-- what comes after the first name is the second and the number
+pub names_and_number-words : (first words : List ℕ) → Lacks 32 first → names_and_number (words_of (first ++ 32 ∷ words)) ≡ option_zip (name_of first) (name_and_number (words_of words))
+names_and_number-words first words lacks = rw (parts_at-first 32 first words lacks)
+
+-- without a space there is no second name
+pub names_and_number-word : (word : List ℕ) → Lacks 32 word → names_and_number (words_of word) ≡ None
+names_and_number-word word lacks = rw (parts_at-one 32 word lacks) (sym (nothing (name_of word)))
+
 -- a name that was read
 pub named : (name : Option ℕ) (s : ℕ) → Ok s ≡ within_range (λ (s : ℕ). []) name → name ≡ Some s
 named None s is = cc
@@ -184,9 +192,10 @@ of_operands make numbers (Some x) read result same told made makes =
     rw (same x) (made_by_test (list_all (λ n. nat_le n greatest) (numbers x)) make x read result makes told made)
 
 -- `rest` and a walk alone
-rest_command-alone : (walk : Option Walk) → option_and_then (λ w. rest_command w []) walk ≡ None
+rest_command-alone : (walk : Option SetWalk) → option_and_then (λ w. rest_command w []) walk ≡ None
 rest_command-alone None = refl
-rest_command-alone (Some Iter) = refl
+rest_command-alone (Some One) = refl
+rest_command-alone (Some (Two merge)) = refl
 
 pub rest_of-alone : (word : List ℕ) → rest_of (word ∷ []) ≡ None
 rest_of-alone word = rest_command-alone (walk_of word)

@@ -9,6 +9,7 @@ use Rattle.std.proofs.lemmas.Bool.{and_parts, false≢true}
 use Rattle.std.proofs.lemmas.Fmt.{decimal_nonempty, digits_decimal, digits_value-decimal}
 use Rattle.std.proofs.lemmas.List.Elements.{All-cons, All-head, All-nil, All-tail}
 use Rattle.std.proofs.lemmas.Str.Parse.{IsNumeralModel, numerals_by_value, tells_all_ascii_digits}
+use Rattle.bit_set.specs.declared.bit_vec.Merge.{Merge}
 use Rattle.bit_set.specs.declared.bit_vec.Merge.TheVariants.{Union, Intersection, Difference, Symmetric}
 use Rattle.bit_set_run.specs.declared.commands.Command.{Command}
 use Rattle.bit_set_run.specs.declared.commands.Command.TheVariants as command
@@ -18,8 +19,8 @@ use Rattle.bit_set_run.specs.declared.verbs.NameVerb.TheVariants.{Empty, Reset, 
 use Rattle.bit_set_run.specs.declared.verbs.NumberVerb.{NumberVerb}
 use Rattle.bit_set_run.specs.declared.verbs.NumberVerb.TheVariants.{Insert, Remove, Contains, Truncate}
 use Rattle.bit_set_run.specs.declared.verbs.PairVerb.{PairVerb}
-use Rattle.bit_set_run.specs.declared.verbs.PairVerb.TheVariants.{Copy, InPlace}
-use Rattle.bit_set_run.specs.declared.verbs.Walk.TheVariants.{Iter}
+use Rattle.bit_set_run.specs.declared.verbs.PairVerb.TheVariants.{Copy, InPlace, Walk, Equal, Compare}
+use Rattle.bit_set_run.specs.declared.verbs.SetWalk.TheVariants.{One, Two}
 use Rattle.bit_set_run.specs.Cuts.{Lacks}
 use Rattle.bit_set_run.specs.Reading.{all_numbers, name_of, number_of, reading}
 use Rattle.bit_set.specs.Bounds.{greatest}
@@ -117,7 +118,7 @@ extend_line word s ns plain is below fit =
       all_fit ns fit,
     )
 
-rest_iter_line : (verb word : List ℕ) (s n : ℕ) → list_all (λ b. not (b == 32)) verb ≡ true → verb_of verb ≡ Some Rest → list_all (λ b. not (b == 32)) word ≡ true → walk_of word ≡ Some Iter → All (λ s. s < 16) (s ∷ []) → All (λ m. m ≤ greatest) (n ∷ []) → reading (verb ++ 32 ∷ (word ++ (flat_map letter (s ∷ []) ++ flat_map figures (n ∷ [])))) ≡ Ok (command.RestIter s n)
+rest_iter_line : (verb word : List ℕ) (s n : ℕ) → list_all (λ b. not (b == 32)) verb ≡ true → verb_of verb ≡ Some Rest → list_all (λ b. not (b == 32)) word ≡ true → walk_of word ≡ Some One → All (λ s. s < 16) (s ∷ []) → All (λ m. m ≤ greatest) (n ∷ []) → reading (verb ++ 32 ∷ (word ++ (flat_map letter (s ∷ []) ++ flat_map figures (n ∷ [])))) ≡ Ok (command.RestIter s n)
 rest_iter_line verb word s n one is two walk below fit =
     rw (
       parts_at-first 32 verb (word ++ (flat_map letter (s ∷ []) ++ flat_map figures (n ∷ []))) (lacks_by_test 32 verb one),
@@ -125,6 +126,19 @@ rest_iter_line verb word s n one is two walk below fit =
       words_of-line word (s ∷ []) (n ∷ []) (lacks_by_test 32 word two) below fit,
       walk,
       name_of-letter s (All-head (λ s. s < 16) s [] below),
+      number_of-decimal n (All-head (λ m. m ≤ greatest) n [] fit),
+      all_fit (n ∷ []) fit,
+    )
+
+rest_two_line : (merge : Merge) (verb word : List ℕ) (s t n : ℕ) → list_all (λ b. not (b == 32)) verb ≡ true → verb_of verb ≡ Some Rest → list_all (λ b. not (b == 32)) word ≡ true → walk_of word ≡ Some (Two merge) → All (λ s. s < 16) (s ∷ t ∷ []) → All (λ m. m ≤ greatest) (n ∷ []) → reading (verb ++ 32 ∷ (word ++ (flat_map letter (s ∷ t ∷ []) ++ flat_map figures (n ∷ [])))) ≡ Ok (command.RestWalk merge s t n)
+rest_two_line merge verb word s t n one is two walk below fit =
+    rw (
+      parts_at-first 32 verb (word ++ (flat_map letter (s ∷ t ∷ []) ++ flat_map figures (n ∷ []))) (lacks_by_test 32 verb one),
+      is,
+      words_of-line word (s ∷ t ∷ []) (n ∷ []) (lacks_by_test 32 word two) below fit,
+      walk,
+      name_of-letter s (All-head (λ s. s < 16) s (t ∷ []) below),
+      name_of-letter t (All-head (λ s. s < 16) t [] (All-tail (λ s. s < 16) s (t ∷ []) below)),
       number_of-decimal n (All-head (λ m. m ≤ greatest) n [] fit),
       all_fit (n ∷ []) fit,
     )
@@ -145,4 +159,14 @@ reading-line_of (command.InPlace Union s t) had = pair_line (InPlace Union) (cod
 reading-line_of (command.InPlace Intersection s t) had = pair_line (InPlace Intersection) (codes "intersect_with") s t refl refl had.names
 reading-line_of (command.InPlace Difference s t) had = pair_line (InPlace Difference) (codes "difference_with") s t refl refl had.names
 reading-line_of (command.InPlace Symmetric s t) had = pair_line (InPlace Symmetric) (codes "symmetric_difference_with") s t refl refl had.names
+reading-line_of (command.Walk Union s t) had = pair_line (Walk Union) (codes "union") s t refl refl had.names
+reading-line_of (command.Walk Intersection s t) had = pair_line (Walk Intersection) (codes "intersection") s t refl refl had.names
+reading-line_of (command.Walk Difference s t) had = pair_line (Walk Difference) (codes "difference") s t refl refl had.names
+reading-line_of (command.Walk Symmetric s t) had = pair_line (Walk Symmetric) (codes "symmetric_difference") s t refl refl had.names
+reading-line_of (command.Equal s t) had = pair_line Equal (codes "eq") s t refl refl had.names
+reading-line_of (command.Compare s t) had = pair_line Compare (codes "cmp") s t refl refl had.names
 reading-line_of (command.RestIter s n) had = rest_iter_line (codes "rest") (codes "iter") s n refl refl refl refl had.names had.numbers
+reading-line_of (command.RestWalk Union s t n) had = rest_two_line Union (codes "rest") (codes "union") s t n refl refl refl refl had.names had.numbers
+reading-line_of (command.RestWalk Intersection s t n) had = rest_two_line Intersection (codes "rest") (codes "intersection") s t n refl refl refl refl had.names had.numbers
+reading-line_of (command.RestWalk Difference s t n) had = rest_two_line Difference (codes "rest") (codes "difference") s t n refl refl refl refl had.names had.numbers
+reading-line_of (command.RestWalk Symmetric s t n) had = rest_two_line Symmetric (codes "rest") (codes "symmetric_difference") s t n refl refl refl refl had.names had.numbers

@@ -51,26 +51,6 @@ stands_before all items item front within is =
     ∙ ap (λ xs. xs ++ drop (length items + 1) all) (take_more all (length items) item within ∙ ap (λ xs. xs ++ get_or all (length items) item ∷ []) (sym front) ∙ ap (λ x. items ++ x ∷ []) (sym is))
     ∙ append_assoc items (item ∷ []) (drop (length items + 1) all)
 
-left_of_yields : (w : ℕ) (s t : Walk) (items : List ℕ) → Yields (Advances w) s items t → s.left ≡ items ++ t.left
-left_of_yields w s t [] run = ap (λ walk. walk.left) run
-left_of_yields w s t (x ∷ xs) run = run.1.item ∙ ap (λ ys. x ∷ ys) (left_of_yields w run.0 t xs run.2)
-
--- what is left behind some items and one more
-pub left_of_skipped : (w : ℕ) (s u : Walk) (n : ℕ) (r : Option ℕ) → SkipsThenYields (Advances w) s n r u → u.left ≡ drop (n + 1) s.left
-left_of_skipped w s u n None run =
-    let t = run.1.0 in
-    let left = left_of_yields w s t run.0 run.1.1 in
-    let ended = run.1.2.item in
-    let whole : s.left ≡ run.0 ++ [] = left ∙ ap (λ ys. run.0 ++ ys) ended.0 in
-    let short : length s.left ≤ n + 1 = omega (arith, ap length whole, length-append run.0 [], run.2) in
-    ended.1 ∙ sym (drop_all (n + 1) s.left short)
-left_of_skipped w s u n (Some x) run =
-    let t = run.1.0 in
-    let left = left_of_yields w s t run.0 run.1.1 in
-    let whole : s.left ≡ (run.0 ++ x ∷ []) ++ u.left = left ∙ ap (λ ys. run.0 ++ ys) run.1.2.item ∙ sym (append_assoc run.0 (x ∷ []) u.left) in
-    let long : length (run.0 ++ x ∷ []) ≡ n + 1 = omega (arith, length-append run.0 (x ∷ []), run.2) in
-    sym (ap (drop (n + 1)) whole ∙ drop_at (run.0 ++ x ∷ []) u.left (n + 1) long)
-
 -- a set of the array becomes what f makes of it and of one at another place
 pub changed_by : (sets : List Bits) (f : List ℕ → List ℕ → List ℕ) (to from : ℕ) (gone old set_now source : Bits) → to < length sets → from < length sets → (from ≡ to → ⊥) → old ≡ get_or sets to old → source ≡ get_or (set sets to gone) from source → kept set_now ≡ f (kept old) (kept source) → map kept (set (set sets to gone) to set_now) ≡ set (map kept sets) to (f (get_or (map kept sets) to []) (get_or (map kept sets) from []))
 changed_by sets f to from gone old set_now source at within apart was is changed =

@@ -12,9 +12,9 @@ use Rattle.std.proofs.lemmas.Bool.Decides.{eqb_tells}
 use Rattle.bit_set_run.specs.declared.reading.BadLine.TheVariants.{BadCommand}
 use Rattle.bit_set_run.specs.declared.verbs.Verb.{Verb}
 use Rattle.bit_set_run.specs.declared.verbs.Verb.TheVariants.{Name, NameAndNumber, TwoNames, Extend, Rest}
-use Rattle.bit_set_run.specs.declared.verbs.Walk.{Walk}
-use Rattle.bit_set_run.specs.declared.verbs.Walk.TheVariants.{Iter}
-use Rattle.bit_set_run.specs.Reading.{all_numbers, command_of, is_plain, name_alone, name_and_number, name_and_numbers, name_of, number_of, reading, rest_command, rest_of, spelled, two_names}
+use Rattle.bit_set_run.specs.declared.verbs.SetWalk.{SetWalk}
+use Rattle.bit_set_run.specs.declared.verbs.SetWalk.TheVariants.{One, Two}
+use Rattle.bit_set_run.specs.Reading.{all_numbers, command_of, is_plain, name_alone, name_and_number, name_and_numbers, name_of, names_and_number, number_of, reading, rest_command, rest_of, spelled, two_names}
 use Rattle.bit_set_run.specs.Verbs.{verb_of, verbs, walk_of, walks}
 use Rattle.bit_set_run.specs.Words.{words_of}
 use Rattle.bit_set_run.proofs.ReadingLemmas.{nothing}
@@ -114,6 +114,11 @@ two_names-unfit (first ∷ second ∷ []) unfit =
     (name_of-unfit first) (λ e. name_of-unfit second (one_false (is_fit second) e)) unfit
 two_names-unfit (first ∷ second ∷ more ∷ others) unfit = refl
 
+names_and_number-unfit : (words : List (List ℕ)) → list_all is_fit words ≡ false → names_and_number words ≡ None
+names_and_number-unfit [] unfit = refl
+names_and_number-unfit (name ∷ words) unfit =
+    zip_none (is_fit name) (list_all is_fit words) (name_of name) (name_and_number words) (name_of-unfit name) (name_and_number-unfit words) unfit
+
 all_numbers-unfit : (words : List (List ℕ)) → list_all is_fit words ≡ false → all_numbers words ≡ None
 all_numbers-unfit [] unfit = cc
 all_numbers-unfit (word ∷ words) unfit =
@@ -124,9 +129,10 @@ name_and_numbers-unfit [] unfit = refl
 name_and_numbers-unfit (name ∷ numbers) unfit =
     zip_none (is_fit name) (list_all is_fit numbers) (name_of name) (all_numbers numbers) (name_of-unfit name) (all_numbers-unfit numbers) unfit
 
-rest_command-unfit : (walk : Option Walk) (words : List (List ℕ)) → list_all is_fit words ≡ false → option_and_then (λ w. rest_command w words) walk ≡ None
+rest_command-unfit : (walk : Option SetWalk) (words : List (List ℕ)) → list_all is_fit words ≡ false → option_and_then (λ w. rest_command w words) walk ≡ None
 rest_command-unfit None words unfit = refl
-rest_command-unfit (Some Iter) words unfit = rw (name_and_number-unfit words unfit)
+rest_command-unfit (Some One) words unfit = rw (name_and_number-unfit words unfit)
+rest_command-unfit (Some (Two merge)) words unfit = rw (names_and_number-unfit words unfit)
 
 rest_of-unfit : (words : List (List ℕ)) → list_all is_fit words ≡ false → rest_of words ≡ None
 rest_of-unfit [] unfit = refl

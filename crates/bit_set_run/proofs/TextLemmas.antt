@@ -5,8 +5,9 @@ use Rattle.std.proofs.lemmas.List.{take_more}
 use Rattle.std.proofs.lemmas.List.Elements.{All-append, All-cons, All-nil}
 use Rattle.std.specs.Fmt.{digit_glyph, digits, digits_onto}
 use Rattle.std.specs.List.{flat_map, join_by}
+use Rattle.std.specs.declared.cmp.Ordering.TheVariants.{Less, Equal, Greater}
 use Rattle.bit_set_run.specs.declared.commands.Reply.{Reply}
-use Rattle.bit_set_run.specs.declared.commands.Reply.TheVariants.{Truth, Done, Number, Items, Rest, Element, Same}
+use Rattle.bit_set_run.specs.declared.commands.Reply.TheVariants.{Truth, Done, Number, Items, Order, Rest, Element, Same}
 use Rattle.bit_set_run.specs.declared.reading.BadLine.{BadLine}
 use Rattle.bit_set_run.specs.declared.reading.BadLine.TheVariants.{BadCommand, BadNumber}
 use Rattle.bit_set_run.specs.Cuts.{Lacks}
@@ -78,6 +79,9 @@ text_of-lacks (Truth true) = lacks_by_test 10 (codes "true") refl
 text_of-lacks (Truth false) = lacks_by_test 10 (codes "false") refl
 text_of-lacks (Number n) = decimal-lacks n
 text_of-lacks (Items ns) = items_text-lacks ns
+text_of-lacks (Order Less) = lacks_by_test 10 (codes "Less") refl
+text_of-lacks (Order Equal) = lacks_by_test 10 (codes "Equal") refl
+text_of-lacks (Order Greater) = lacks_by_test 10 (codes "Greater") refl
 text_of-lacks Done = lacks_by_test 10 (codes "ok") refl
 text_of-lacks (Rest count ns) =
     All-append (λ b. b ≢ 10) (decimal count ++ codes " ") (items_text ns)

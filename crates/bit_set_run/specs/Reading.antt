@@ -12,8 +12,8 @@ use Rattle.bit_set_run.specs.declared.reading.BadLine.{BadLine}
 use Rattle.bit_set_run.specs.declared.reading.BadLine.TheVariants.{BadCommand, BadNumber}
 use Rattle.bit_set_run.specs.declared.verbs.Verb.{Verb}
 use Rattle.bit_set_run.specs.declared.verbs.Verb.TheVariants.{Name, NameAndNumber, TwoNames, Extend, Rest}
-use Rattle.bit_set_run.specs.declared.verbs.Walk.{Walk}
-use Rattle.bit_set_run.specs.declared.verbs.Walk.TheVariants.{Iter}
+use Rattle.bit_set_run.specs.declared.verbs.SetWalk.{SetWalk}
+use Rattle.bit_set_run.specs.declared.verbs.SetWalk.TheVariants.{One, Two}
 use Rattle.bit_set.specs.Bounds.{greatest}
 use Rattle.bit_set_run.specs.Spelling.{numbers_of}
 use Rattle.bit_set_run.specs.Verbs.{name_command, number_command, pair_command, verb_of, walk_of}
@@ -49,6 +49,11 @@ two_names (first ∷ []) = None
 two_names (first ∷ second ∷ []) = option_zip (name_of first) (name_of second)
 two_names (first ∷ second ∷ more ∷ others) = None
 
+-- words that are two sets' names and a number
+abbrev pub names_and_number : List (List ℕ) → Option (ℕ × (ℕ × ℕ))
+names_and_number [] = None
+names_and_number (name ∷ words) = option_zip (name_of name) (name_and_number words)
+
 -- the numbers that words write, where each of them writes one
 abbrev pub all_numbers : List (List ℕ) → Option (List ℕ)
 all_numbers [] = Some []
@@ -60,8 +65,9 @@ name_and_numbers [] = None
 name_and_numbers (name ∷ numbers) = option_zip (name_of name) (all_numbers numbers)
 
 -- the command that a walk and the words after it spell, behind `rest`
-abbrev pub rest_command : Walk → List (List ℕ) → Option Command
-rest_command Iter words = option_map (λ (s, n). command.RestIter s n) (name_and_number words)
+abbrev pub rest_command : SetWalk → List (List ℕ) → Option Command
+rest_command One words = option_map (λ (s, n). command.RestIter s n) (name_and_number words)
+rest_command (Two merge) words = option_map (λ (s, p). command.RestWalk merge s p.0 p.1) (names_and_number words)
 
 abbrev pub rest_of : List (List ℕ) → Option Command
 rest_of [] = None

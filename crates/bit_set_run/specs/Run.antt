@@ -2,10 +2,11 @@
 use Rattle.std.specs.Prelude.{◌≡◌, ◌≢◌, ℕ, ◌<◌, ◌≤◌, ◌⊎◌, false, not, ◌==◌, if◌then◌else◌, List, [], ◌∷◌, ◌++◌, length, take, drop, replicate, slice_get, slice_index_or, slice_set, Some}
 use Rattle.std.specs.List.{list_any}
 use Rattle.bit_set_run.specs.declared.commands.Command.{Command}
-use Rattle.bit_set_run.specs.declared.commands.Command.TheVariants.{Insert, Remove, Contains, Extend, Truncate, Empty, Reset, Count, IsEmpty, Items as ItemsOf, Copy, InPlace, RestIter}
+use Rattle.bit_set_run.specs.declared.commands.Command.TheVariants.{Insert, Remove, Contains, Extend, Truncate, Empty, Reset, Count, IsEmpty, Items as ItemsOf, Copy, InPlace, Walk, Equal, Compare, RestIter, RestWalk}
 use Rattle.bit_set_run.specs.declared.commands.Reply.{Reply}
-use Rattle.bit_set_run.specs.declared.commands.Reply.TheVariants.{Truth, Done, Number, Items, Rest, Element, Same}
+use Rattle.bit_set_run.specs.declared.commands.Reply.TheVariants.{Truth, Done, Number, Items, Order, Rest, Element, Same}
 use Rattle.bit_set.specs.Bounds.{greatest}
+use Rattle.bit_set.specs.Order.{order_of_sets, same_sets}
 use Rattle.bit_set.specs.Sets.{has, merged_sets, put, put_all, those_below, without}
 
 -- sixteen sets, by their places
@@ -38,6 +39,10 @@ abbrev pub elements_before_greatest : List ℕ → List ℕ
 elements_before_greatest [] = []
 elements_before_greatest (n ∷ ns) = if n == greatest then [] else n ∷ elements_before_greatest ns
 
+-- what is left of a walk over these numbers past the first n: how many, and which
+abbrev pub rest_of : ℕ → List ℕ → Reply
+rest_of n numbers = let rest = drop n numbers in Rest (length rest) rest
+
 -- one command
 abbrev pub step : Sets → Command → Answer
 step sets (Insert name n) =
@@ -60,7 +65,11 @@ step sets (Copy from to) =
 step sets (InPlace merge s t) =
     if s == t then answer_with sets Same
     else change_to sets s (merged_sets merge (set_of sets s) (set_of sets t)) Done
-step sets (RestIter name n) = let rest = drop n (set_of sets name) in answer_with sets (Rest (length rest) rest)
+step sets (Walk merge s t) = answer_with sets (Items (merged_sets merge (set_of sets s) (set_of sets t)))
+step sets (Equal s t) = answer_with sets (Truth (same_sets (set_of sets s) (set_of sets t)))
+step sets (Compare s t) = answer_with sets (Order (order_of_sets (set_of sets s) (set_of sets t)))
+step sets (RestIter name n) = answer_with sets (rest_of n (set_of sets name))
+step sets (RestWalk merge s t n) = answer_with sets (rest_of n (merged_sets merge (set_of sets s) (set_of sets t)))
 
 -- what some commands leave, and what they answer, a reply each
 pub record Run : Type 0 where
@@ -85,7 +94,9 @@ RefusedBy old (Extend name items) new =
 RefusedBy old (ItemsOf name) new = (set_of old name ≢ []) × (new ≡ old)
 RefusedBy old (Copy from to) new = (from ≢ to) × (new ≡ old)
 RefusedBy old (InPlace merge s t) new = (s ≢ t) × (new ≡ old)
+RefusedBy old (Walk merge s t) new = (merged_sets merge (set_of old s) (set_of old t) ≢ []) × (new ≡ old)
 RefusedBy old (RestIter name n) new = (drop n (set_of old name) ≢ []) × (new ≡ old)
+RefusedBy old (RestWalk merge s t n) new = (drop n (merged_sets merge (set_of old s) (set_of old t)) ≢ []) × (new ≡ old)
 RefusedBy old command new = ⊥
 
 -- A run that stopped at command k, with room for this many replies at its start: the replies are those of the

@@ -2,7 +2,7 @@
 use Rattle.std.specs.Prelude.{ℕ, ◌+◌, ◌<◌, ◌≤◌, List, [], ◌∷◌, ◌++◌, codes, decimal}
 use Rattle.std.specs.List.{All, flat_map}
 use Rattle.bit_set_run.specs.declared.commands.Command.{Command}
-use Rattle.bit_set_run.specs.declared.commands.Command.TheVariants.{Insert, Remove, Contains, Extend, Truncate, Empty, Reset, Count, IsEmpty, Items, Copy, InPlace, RestIter}
+use Rattle.bit_set_run.specs.declared.commands.Command.TheVariants.{Insert, Remove, Contains, Extend, Truncate, Empty, Reset, Count, IsEmpty, Items, Copy, InPlace, Walk, Equal, Compare, RestIter, RestWalk}
 use Rattle.bit_set.specs.declared.bit_vec.Merge.{Merge}
 use Rattle.bit_set.specs.declared.bit_vec.Merge.TheVariants.{Union, Intersection, Difference, Symmetric}
 use Rattle.bit_set.specs.Bounds.{greatest}
@@ -24,6 +24,13 @@ in_place_word Intersection = codes "intersect_with"
 in_place_word Difference = codes "difference_with"
 in_place_word Symmetric = codes "symmetric_difference_with"
 
+-- the verb of a walk over what two sets become
+abbrev pub walk_word : Merge → List ℕ
+walk_word Union = codes "union"
+walk_word Intersection = codes "intersection"
+walk_word Difference = codes "difference"
+walk_word Symmetric = codes "symmetric_difference"
+
 abbrev pub parts_of : Command → Parts
 parts_of (Insert s n) = parts (codes "insert") (s ∷ []) (n ∷ [])
 parts_of (Remove s n) = parts (codes "remove") (s ∷ []) (n ∷ [])
@@ -37,7 +44,11 @@ parts_of (IsEmpty s) = parts (codes "is_empty") (s ∷ []) []
 parts_of (Items s) = parts (codes "items") (s ∷ []) []
 parts_of (Copy s t) = parts (codes "copy") (s ∷ t ∷ []) []
 parts_of (InPlace merge s t) = parts (in_place_word merge) (s ∷ t ∷ []) []
+parts_of (Walk merge s t) = parts (walk_word merge) (s ∷ t ∷ []) []
+parts_of (Equal s t) = parts (codes "eq") (s ∷ t ∷ []) []
+parts_of (Compare s t) = parts (codes "cmp") (s ∷ t ∷ []) []
 parts_of (RestIter s n) = parts (codes "rest iter") (s ∷ []) (n ∷ [])
+parts_of (RestWalk merge s t n) = parts (codes "rest " ++ walk_word merge) (s ∷ t ∷ []) (n ∷ [])
 
 -- the places that a command names
 abbrev pub names_of : Command → List ℕ

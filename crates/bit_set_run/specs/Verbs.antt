@@ -12,9 +12,9 @@ use Rattle.bit_set_run.specs.declared.verbs.NameVerb.TheVariants.{Empty, Reset, 
 use Rattle.bit_set_run.specs.declared.verbs.NumberVerb.{NumberVerb}
 use Rattle.bit_set_run.specs.declared.verbs.NumberVerb.TheVariants.{Insert, Remove, Contains, Truncate}
 use Rattle.bit_set_run.specs.declared.verbs.PairVerb.{PairVerb}
-use Rattle.bit_set_run.specs.declared.verbs.PairVerb.TheVariants.{Copy, InPlace}
-use Rattle.bit_set_run.specs.declared.verbs.Walk.{Walk}
-use Rattle.bit_set_run.specs.declared.verbs.Walk.TheVariants.{Iter}
+use Rattle.bit_set_run.specs.declared.verbs.PairVerb.TheVariants.{Copy, InPlace, Walk, Equal, Compare}
+use Rattle.bit_set_run.specs.declared.verbs.SetWalk.{SetWalk}
+use Rattle.bit_set_run.specs.declared.verbs.SetWalk.TheVariants.{One, Two}
 
 -- the verbs and their words
 abbrev pub verbs : List (List ℕ × Verb)
@@ -34,6 +34,12 @@ verbs =
     (codes "intersect_with", TwoNames (InPlace Intersection)) ∷
     (codes "difference_with", TwoNames (InPlace Difference)) ∷
     (codes "symmetric_difference_with", TwoNames (InPlace Symmetric)) ∷
+    (codes "union", TwoNames (Walk Union)) ∷
+    (codes "intersection", TwoNames (Walk Intersection)) ∷
+    (codes "difference", TwoNames (Walk Difference)) ∷
+    (codes "symmetric_difference", TwoNames (Walk Symmetric)) ∷
+    (codes "eq", TwoNames Equal) ∷
+    (codes "cmp", TwoNames Compare) ∷
     (codes "rest", Rest) ∷
     []
 
@@ -42,13 +48,17 @@ abbrev pub verb_of : List ℕ → Option Verb
 verb_of word = lookup (bytes_eq word) verbs
 
 -- the walks that `rest` takes, and their words
-abbrev pub walks : List (List ℕ × Walk)
+abbrev pub walks : List (List ℕ × SetWalk)
 walks =
-    (codes "iter", Iter) ∷
+    (codes "iter", One) ∷
+    (codes "union", Two Union) ∷
+    (codes "intersection", Two Intersection) ∷
+    (codes "difference", Two Difference) ∷
+    (codes "symmetric_difference", Two Symmetric) ∷
     []
 
 -- the walk that a word is
-abbrev pub walk_of : List ℕ → Option Walk
+abbrev pub walk_of : List ℕ → Option SetWalk
 walk_of word = lookup (bytes_eq word) walks
 
 -- the command of a verb with a set's name
@@ -70,3 +80,6 @@ number_command Truncate (s, n) = command.Truncate s n
 abbrev pub pair_command : PairVerb → ℕ × ℕ → Command
 pair_command Copy (s, t) = command.Copy s t
 pair_command (InPlace merge) (s, t) = command.InPlace merge s t
+pair_command (Walk merge) (s, t) = command.Walk merge s t
+pair_command Equal (s, t) = command.Equal s t
+pair_command Compare (s, t) = command.Compare s t

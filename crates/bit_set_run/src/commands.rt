@@ -1,5 +1,6 @@
 use crate::{Numbers, SetName};
 use bit_set::bit_vec::Merge;
+use std::cmp::Ordering;
 
 /// What `run` is asked to do.
 #[derive(Debug, Drop, PartialEq, Eq)]
@@ -28,8 +29,16 @@ pub enum Command {
     Copy(SetName, SetName),
     /// Make the first set what the two become: in either, in both, in the first alone, or in just one.
     InPlace(Merge, SetName, SetName),
+    /// What two sets become: in either, in both, in the first alone, or in just one.
+    Walk(Merge, SetName, SetName),
+    /// Whether two sets have the same numbers.
+    Equal(SetName, SetName),
+    /// How two sets compare, as the lists of their numbers in ascending order.
+    Compare(SetName, SetName),
     /// What is left of a walk over a set after so many of its numbers: how many, and which.
     RestIter(SetName, usize),
+    /// The same of a walk over what two sets become.
+    RestWalk(Merge, SetName, SetName, usize),
 }
 
 /// What `run` answers to a command.
@@ -41,8 +50,10 @@ pub enum Reply {
     Done,
     /// How many.
     Number(usize),
-    /// The numbers of a set, ascending.
+    /// The numbers of a set, or of what two sets become, ascending.
     Items(Numbers),
+    /// How two sets compare.
+    Order(Ordering),
     /// How many numbers are left of a walk, and which, ascending.
     Rest(usize, Numbers),
     /// A number cannot be an element, and it is not put in.

@@ -8,6 +8,7 @@ pub mod laws;
 mod lines;
 mod names;
 mod numbers;
+mod pairs;
 mod reading;
 mod running;
 mod starting;
@@ -18,6 +19,7 @@ mod table;
 mod tests;
 mod texts;
 mod verbs;
+mod walking;
 
 pub use commands::{Command, Reply};
 pub use lines::run_lines;

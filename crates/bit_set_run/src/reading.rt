@@ -3,13 +3,13 @@
 ghost use Rattle.std.specs.Prelude.{◌≡◌, ℕ, ◌+◌, ◌-◌, ◌*◌, [], ◌∷◌, IfOk, OnErr, slice_get};
 ghost use Rattle.std.specs.Char.{IsAsciiDigit};
 ghost use Rattle.std.specs.Option.{option_and_then};
-ghost use Rattle.bit_set_run.specs.Reading.{all_numbers, command_of, held, name_and_number, name_of, number_of, reading, rest_of, two_names, within_range};
+ghost use Rattle.bit_set_run.specs.Reading.{all_numbers, command_of, held, name_and_number, name_of, names_and_number, number_of, reading, rest_of, two_names, within_range};
 ghost use Rattle.bit_set_run.specs.Spelling.{numbers_of};
 ghost use Rattle.bit_set_run.specs.Verbs.{verb_of};
 ghost use Rattle.bit_set_run.specs.Words.{words_left, words_of};
 
 use crate::cutting::{first_word, split_once};
-use crate::verbs::{Verb, Walk, verb_of, walk_of};
+use crate::verbs::{SetWalk, Verb, verb_of, walk_of};
 use crate::{Command, Numbers, SetName};
 use std::alloc::{AllocError, Global};
 
@@ -67,9 +67,13 @@ fn read_rest(words: &[u8]) -> Result<Command, BadLine>
         return Err(BadLine::BadCommand);
     };
     match walk_of(walk) {
-        Some(Walk::Iter) => {
+        Some(SetWalk::One) => {
             read_name_and_number(words).map(|(name, number)| Command::RestIter(name, number))
         }
+        Some(SetWalk::Two(merge)) => read_names_and_number(words).map(|(
+            first,
+            (second, number),
+        )| Command::RestWalk(merge, first, second, number)),
         None => Err(BadLine::BadCommand),
     }
 }
@@ -115,6 +119,16 @@ fn read_two_names(words: &[u8]) -> Result<(SetName, SetName), BadLine>
         return Err(BadLine::BadCommand);
     };
     Ok((read_name(first)?, read_name(second)?))
+}
+
+// Two sets' names and a number, with spaces between them.
+fn read_names_and_number(words: &[u8]) -> Result<(SetName, (SetName, usize)), BadLine>
+    ensures { result ≡ within_range (λ p. p.1.1 ∷ []) (names_and_number (words_of words.now)) }
+{
+    let Some((name, words)) = split_once(words, b' ') else {
+        return Err(BadLine::BadCommand);
+    };
+    Ok((read_name(name)?, read_name_and_number(words)?))
 }
 
 // The numbers that the words write, one each: a word that writes none is told before a number too large.

@@ -8,9 +8,11 @@ ghost use Rattle.bit_set.specs.Bounds.{greatest};
 ghost use Rattle.bit_set_run.specs.Run.{step, elements_before_greatest, RefusedBy};
 ghost use Rattle.bit_set_run.specs.declared.commands.Reply.TheVariants.{Truth, Done, Rest, Element};
 
+use crate::pairs::{are_equal, compare, rest_of_walk, walk};
+use crate::walking::{numbers_of, rest};
 use crate::{Command, Numbers, Reply};
 use bit_set::bit_vec::Merge;
-use bit_set::{BitBlock, BitSet, Iter, SetError};
+use bit_set::{BitBlock, BitSet, SetError};
 use std::alloc::{AllocError, Global};
 use std::mem;
 
@@ -48,7 +50,11 @@ pub(crate) fn step<B: BitBlock>(
         Command::Copy(from, to) => copy(alloc, sets, from.place(), to.place()),
         Command::InPlace(_, s, t) if s == t => Ok(Reply::Same),
         Command::InPlace(merge, s, t) => merge_in_place(alloc, sets, *merge, s.place(), t.place()),
+        Command::Walk(merge, s, t) => Ok(Reply::Items(walk(alloc, sets, *merge, *s, *t)?)),
+        Command::Equal(s, t) => Ok(Reply::Truth(are_equal(sets, *s, *t))),
+        Command::Compare(s, t) => Ok(Reply::Order(compare(sets, *s, *t))),
         Command::RestIter(name, n) => rest(alloc, sets[name.place()].iter(), *n),
+        Command::RestWalk(merge, s, t, n) => rest_of_walk(alloc, sets, *merge, *s, *t, *n),
     }
 }
 
@@ -139,39 +145,4 @@ fn merge_with<B: BitBlock>(
         Merge::Difference => set.difference_with(other),
         Merge::Symmetric => set.symmetric_difference_with(other),
     }
-}
-
-// The numbers that are left of a walk. Where there are none it asks for no memory.
-fn numbers_of<B: BitBlock>(alloc: Global, walk: Iter<'_, B>) -> Result<Numbers, AllocError>
-    ensures all { IfOk result (λ numbers. numbers ≡ walk.entry.left) }
-    ensures refused { OnErr result (walk.entry.left ≢ []) }
-{
-    let mut numbers = Vec::new(alloc);
-    for number in walk {
-        numbers.push(number)?;
-    }
-    Ok(Numbers::from_vec(numbers))
-}
-
-// Takes so many numbers of a walk, or all where there are fewer.
-fn pass_over<B: BitBlock>(walk: &mut Iter<'_, B>, count: usize)
-    ensures { walk.new.left ≡ drop count walk.old.left }
-{
-    if count > 0 {
-        let _last = walk.nth(count - 1);
-    }
-}
-
-// What is left of a walk after so many of its numbers, or after all where there are fewer.
-fn rest<B: BitBlock>(
-    alloc: Global,
-    mut walk: Iter<'_, B>,
-    taken: usize,
-) -> Result<Reply, AllocError>
-    ensures reply { IfOk result (λ reply. reply ≡ Rest (length (drop taken walk.entry.left)) (drop taken walk.entry.left)) }
-    ensures refused { OnErr result (drop taken walk.entry.left ≢ []) }
-{
-    pass_over(&mut walk, taken);
-    let count = walk.clone().count();
-    Ok(Reply::Rest(count, numbers_of(alloc, walk)?))
 }

@@ -7,6 +7,7 @@ use crate::Reply;
 use crate::reading::BadLine;
 use itoa::Buffer;
 use std::alloc::AllocError;
+use std::cmp::Ordering;
 
 /// Appends the text of the reply.
 pub(crate) fn append_reply(out: &mut Vec<u8>, reply: &Reply) -> Result<(), AllocError>
@@ -18,6 +19,9 @@ pub(crate) fn append_reply(out: &mut Vec<u8>, reply: &Reply) -> Result<(), Alloc
         Reply::Done => out.extend_from_slice(b"ok"),
         Reply::Number(number) => append_decimal(out, *number),
         Reply::Items(items) => append_items(out, items.as_slice()),
+        Reply::Order(Ordering::Less) => out.extend_from_slice(b"Less"),
+        Reply::Order(Ordering::Equal) => out.extend_from_slice(b"Equal"),
+        Reply::Order(Ordering::Greater) => out.extend_from_slice(b"Greater"),
         Reply::Rest(count, items) => append_rest(out, *count, items.as_slice()),
         Reply::Same => out.extend_from_slice(b"refused same"),
         Reply::Element => out.extend_from_slice(b"refused element"),

@@ -47,15 +47,21 @@ pub(crate) enum NumberVerb {
 pub(crate) enum PairVerb {
     Copy,
     InPlace(Merge),
+    Walk(Merge),
+    Equal,
+    Compare,
 }
 
 /// A walk, of which `rest` tells what is left.
 #[derive(Clone, Copy)]
-pub(crate) enum Walk {
-    Iter,
+pub(crate) enum SetWalk {
+    /// Over one set.
+    One,
+    /// Over what two sets become.
+    Two(Merge),
 }
 
-const VERBS: [(&[u8], Verb); 16] = [
+const VERBS: [(&[u8], Verb); 22] = [
     (b"insert", Verb::NameAndNumber(NumberVerb::Insert)),
     (b"remove", Verb::NameAndNumber(NumberVerb::Remove)),
     (b"contains", Verb::NameAndNumber(NumberVerb::Contains)),
@@ -83,10 +89,31 @@ const VERBS: [(&[u8], Verb); 16] = [
         b"symmetric_difference_with",
         Verb::TwoNames(PairVerb::InPlace(Merge::Symmetric)),
     ),
+    (b"union", Verb::TwoNames(PairVerb::Walk(Merge::Union))),
+    (
+        b"intersection",
+        Verb::TwoNames(PairVerb::Walk(Merge::Intersection)),
+    ),
+    (
+        b"difference",
+        Verb::TwoNames(PairVerb::Walk(Merge::Difference)),
+    ),
+    (
+        b"symmetric_difference",
+        Verb::TwoNames(PairVerb::Walk(Merge::Symmetric)),
+    ),
+    (b"eq", Verb::TwoNames(PairVerb::Equal)),
+    (b"cmp", Verb::TwoNames(PairVerb::Compare)),
     (b"rest", Verb::Rest),
 ];
 
-const WALKS: [(&[u8], Walk); 1] = [(b"iter", Walk::Iter)];
+const WALKS: [(&[u8], SetWalk); 5] = [
+    (b"iter", SetWalk::One),
+    (b"union", SetWalk::Two(Merge::Union)),
+    (b"intersection", SetWalk::Two(Merge::Intersection)),
+    (b"difference", SetWalk::Two(Merge::Difference)),
+    (b"symmetric_difference", SetWalk::Two(Merge::Symmetric)),
+];
 
 /// The verb that the word is.
 pub(crate) fn verb_of(word: &[u8]) -> Option<Verb>
@@ -96,7 +123,7 @@ pub(crate) fn verb_of(word: &[u8]) -> Option<Verb>
 }
 
 /// The walk that the word is.
-pub(crate) fn walk_of(word: &[u8]) -> Option<Walk>
+pub(crate) fn walk_of(word: &[u8]) -> Option<SetWalk>
     ensures { result ≡ walk_of word.now }
 {
     lookup(&WALKS, word)
@@ -152,6 +179,9 @@ impl PairVerb {
         match self {
             PairVerb::Copy => Command::Copy(first, second),
             PairVerb::InPlace(merge) => Command::InPlace(merge, first, second),
+            PairVerb::Walk(merge) => Command::Walk(merge, first, second),
+            PairVerb::Equal => Command::Equal(first, second),
+            PairVerb::Compare => Command::Compare(first, second),
         }
     }
 }

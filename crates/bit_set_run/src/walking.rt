@@ -1,0 +1,129 @@
+//! Walks over numbers: all that is left of one, or what is left past some.
+
+ghost use Rattle.std.specs.Prelude.{◌≡◌, ◌≢◌, ℕ, List, [], Option, drop, length, IfOk, OnErr};
+ghost use Rattle.std.specs.Iterator.{IsFinite, YieldsFirst};
+ghost use Rattle.bit_set_run.specs.Run.{rest_of};
+
+use crate::{Numbers, Reply};
+use bit_set::{BitBlock, Difference, Intersection, Iter, SymmetricDifference, Union};
+use std::alloc::{AllocError, Global};
+
+/// A walk over numbers, which comes to an end.
+pub(crate) trait NumberWalk: Iterator<Item = usize> {
+    ghost left: { Self → List ℕ };
+
+    /// How many numbers are left, as a clone of the walk counts them.
+    fn count_left(&self) -> usize
+        ensures { result ≡ length (left self.now) };
+
+    ghost can: { (s : Self) → Self.can_next s };
+
+    ghost ends: { (s : Self) → IsFinite (Self.remaining s) };
+
+    ghost gives: { (s : Self) (r : Option ℕ) (t : Self) → Self.next_gives s r t → YieldsFirst left s r t };
+}
+
+impl<B: BitBlock> NumberWalk for Iter<'_, B> {
+    ghost left = { λ walk. walk.left };
+
+    ghost can = { λ s. tt };
+
+    ghost ends = { λ s. tt };
+
+    ghost gives = { λ s r t step. step.item };
+
+    fn count_left(&self) -> usize {
+        self.clone().count()
+    }
+}
+
+impl<B: BitBlock> NumberWalk for Union<'_, B> {
+    ghost left = { λ walk. walk.left };
+
+    ghost can = { λ s. tt };
+
+    ghost ends = { λ s. tt };
+
+    ghost gives = { λ s r t step. step.item };
+
+    fn count_left(&self) -> usize {
+        self.clone().count()
+    }
+}
+
+impl<B: BitBlock> NumberWalk for Intersection<'_, B> {
+    ghost left = { λ walk. walk.walk.left };
+
+    ghost can = { λ s. tt };
+
+    ghost ends = { λ s. tt };
+
+    ghost gives = { λ s r t step. step.walk.item };
+
+    fn count_left(&self) -> usize {
+        self.clone().count()
+    }
+}
+
+impl<B: BitBlock> NumberWalk for Difference<'_, B> {
+    ghost left = { λ walk. walk.left };
+
+    ghost can = { λ s. tt };
+
+    ghost ends = { λ s. tt };
+
+    ghost gives = { λ s r t step. step.item };
+
+    fn count_left(&self) -> usize {
+        self.clone().count()
+    }
+}
+
+impl<B: BitBlock> NumberWalk for SymmetricDifference<'_, B> {
+    ghost left = { λ walk. walk.left };
+
+    ghost can = { λ s. tt };
+
+    ghost ends = { λ s. tt };
+
+    ghost gives = { λ s r t step. step.item };
+
+    fn count_left(&self) -> usize {
+        self.clone().count()
+    }
+}
+
+// The numbers that are left of a walk. Where there are none it asks for no memory.
+pub(crate) fn numbers_of<W: NumberWalk>(alloc: Global, walk: W) -> Result<Numbers, AllocError>
+    ensures all { IfOk result (λ numbers. numbers ≡ W.left walk) }
+    ensures refused { OnErr result (W.left walk ≢ []) }
+{
+    let mut numbers = Vec::new(alloc);
+    for number in walk {
+        numbers.push(number)?;
+    }
+    Ok(Numbers::from_vec(numbers))
+}
+
+// Takes so many numbers of a walk, or all where there are fewer.
+fn pass_over<W: NumberWalk>(walk: &mut W, count: usize)
+    ensures { W.left walk.new ≡ drop count (W.left walk.old) }
+{
+    if count > 0 {
+        let _last = walk.nth(count - 1);
+    }
+}
+
+/// What is left of a walk after so many of its numbers, or after all where there are fewer.
+pub(crate) fn rest<W: NumberWalk>(
+    alloc: Global,
+    mut walk: W,
+    taken: usize,
+) -> Result<Reply, AllocError>
+    ensures reply { IfOk result (λ reply. reply ≡ rest_of taken (W.left walk)) }
+    ensures refused { OnErr result (drop taken (W.left walk) ≢ []) }
+{
+    pass_over(&mut walk, taken);
+    let count = walk.count_left();
+    Ok(Reply::Rest(count, numbers_of(alloc, walk)?))
+}
