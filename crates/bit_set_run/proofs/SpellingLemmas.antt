@@ -19,7 +19,7 @@ use Rattle.bit_set_run.specs.declared.verbs.NameVerb.TheVariants.{Empty, Reset, 
 use Rattle.bit_set_run.specs.declared.verbs.NumberVerb.{NumberVerb}
 use Rattle.bit_set_run.specs.declared.verbs.NumberVerb.TheVariants.{Insert, Remove, Contains, Truncate}
 use Rattle.bit_set_run.specs.declared.verbs.PairVerb.{PairVerb}
-use Rattle.bit_set_run.specs.declared.verbs.PairVerb.TheVariants.{Copy, InPlace, Walk, Equal, Compare}
+use Rattle.bit_set_run.specs.declared.verbs.PairVerb.TheVariants.{Copy, InPlace, Walk, Subset, Superset, Disjoint, Equal, Compare}
 use Rattle.bit_set_run.specs.declared.verbs.SetWalk.TheVariants.{One, Two}
 use Rattle.bit_set_run.specs.Cuts.{Lacks}
 use Rattle.bit_set_run.specs.Reading.{all_numbers, name_of, number_of, reading}
@@ -163,6 +163,9 @@ reading-line_of (command.Walk Union s t) had = pair_line (Walk Union) (codes "un
 reading-line_of (command.Walk Intersection s t) had = pair_line (Walk Intersection) (codes "intersection") s t refl refl had.names
 reading-line_of (command.Walk Difference s t) had = pair_line (Walk Difference) (codes "difference") s t refl refl had.names
 reading-line_of (command.Walk Symmetric s t) had = pair_line (Walk Symmetric) (codes "symmetric_difference") s t refl refl had.names
+reading-line_of (command.Subset s t) had = pair_line Subset (codes "subset") s t refl refl had.names
+reading-line_of (command.Superset s t) had = pair_line Superset (codes "superset") s t refl refl had.names
+reading-line_of (command.Disjoint s t) had = pair_line Disjoint (codes "disjoint") s t refl refl had.names
 reading-line_of (command.Equal s t) had = pair_line Equal (codes "eq") s t refl refl had.names
 reading-line_of (command.Compare s t) had = pair_line Compare (codes "cmp") s t refl refl had.names
 reading-line_of (command.RestIter s n) had = rest_iter_line (codes "rest") (codes "iter") s n refl refl refl refl had.names had.numbers

@@ -1,18 +1,17 @@
 -- What single commands rest on: items up to the greatest number, walks, and an array of sets.
-use Rattle.std.proofs.Common.{◌≡◌, ◌==◌, if◌then◌else◌, cond, not, ℕ, ◌+◌, ◌<◌, ◌≤◌, true, false, eqb, List, [], ◌∷◌, ◌++◌, length, get_or, take, drop, map, set, Option, Some, None, refl, sym, ap, ◌∙◌, arith}
+use Rattle.std.proofs.Common.{◌≡◌, ◌==◌, if◌then◌else◌, cond, not, ℕ, ◌+◌, ◌<◌, ◌≤◌, true, false, eqb, List, [], ◌∷◌, ◌++◌, length, get_or, take, drop, map, set, Some, refl, sym, ap, ◌∙◌, arith}
 use Rattle.std.proofs.lemmas.Bool.{ne_eqb}
-use Rattle.std.proofs.lemmas.List.{append_assoc, length-append, take_more, take-append-drop, drop_all, drop_at, map-id, set-set, set-get_or, map-set, get_or-map, get_or-set_other}
+use Rattle.std.proofs.lemmas.List.{append_assoc, take_more, take-append-drop, map-id, set-set, set-get_or, map-set, get_or-map, get_or-set_other}
 use Rattle.std.proofs.lemmas.Iterator.{YieldsList, YieldsList-from_slice}
 use Rattle.std.proofs.lemmas.Iterator.Consumers.{YieldsList-from_copied, YieldsList-so_far, YieldsList-turn}
 use Rattle.std.proofs.Common.{Iter}
 use Rattle.std.specs.declared.iter.Copied.{Copied}
 use Rattle.std.proofs.iter.Yields.{copies, fronts}
-use Rattle.std.specs.Iterator.{Yields, YieldsThen, SkipsThenYields}
+use Rattle.std.specs.Iterator.{YieldsThen}
 use Rattle.std.specs.List.{list_any}
 use Rattle.bit_set.specs.Bits.{Bits}
 use Rattle.bit_set.specs.Sets.{bound_of, has, put}
 use Rattle.bit_set_run.specs.Kept.{kept}
-use Rattle.bit_set.specs.Walk.{Walk, Advances}
 use Rattle.bit_set_run.specs.declared.commands.Command.TheVariants.{Insert}
 use Rattle.bit_set_run.specs.declared.commands.Reply.TheVariants.{Truth, Element}
 use Rattle.bit_set.specs.Bounds.{greatest}

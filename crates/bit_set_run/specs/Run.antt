@@ -2,12 +2,12 @@
 use Rattle.std.specs.Prelude.{◌≡◌, ◌≢◌, ℕ, ◌<◌, ◌≤◌, ◌⊎◌, false, not, ◌==◌, if◌then◌else◌, List, [], ◌∷◌, ◌++◌, length, take, drop, replicate, slice_get, slice_index_or, slice_set, Some}
 use Rattle.std.specs.List.{list_any}
 use Rattle.bit_set_run.specs.declared.commands.Command.{Command}
-use Rattle.bit_set_run.specs.declared.commands.Command.TheVariants.{Insert, Remove, Contains, Extend, Truncate, Empty, Reset, Count, IsEmpty, Items as ItemsOf, Copy, InPlace, Walk, Equal, Compare, RestIter, RestWalk}
+use Rattle.bit_set_run.specs.declared.commands.Command.TheVariants.{Insert, Remove, Contains, Extend, Truncate, Empty, Reset, Count, IsEmpty, Items as ItemsOf, Copy, InPlace, Walk, Subset, Superset, Disjoint, Equal, Compare, RestIter, RestWalk}
 use Rattle.bit_set_run.specs.declared.commands.Reply.{Reply}
 use Rattle.bit_set_run.specs.declared.commands.Reply.TheVariants.{Truth, Done, Number, Items, Order, Rest, Element, Same}
 use Rattle.bit_set.specs.Bounds.{greatest}
 use Rattle.bit_set.specs.Order.{order_of_sets, same_sets}
-use Rattle.bit_set.specs.Sets.{has, merged_sets, put, put_all, those_below, without}
+use Rattle.bit_set.specs.Sets.{has, is_disjoint, is_subset, merged_sets, put, put_all, those_below, without}
 
 -- sixteen sets, by their places
 abbrev pub Sets : Type 0
@@ -66,6 +66,9 @@ step sets (InPlace merge s t) =
     if s == t then answer_with sets Same
     else change_to sets s (merged_sets merge (set_of sets s) (set_of sets t)) Done
 step sets (Walk merge s t) = answer_with sets (Items (merged_sets merge (set_of sets s) (set_of sets t)))
+step sets (Subset s t) = answer_with sets (Truth (is_subset (set_of sets s) (set_of sets t)))
+step sets (Superset s t) = answer_with sets (Truth (is_subset (set_of sets t) (set_of sets s)))
+step sets (Disjoint s t) = answer_with sets (Truth (is_disjoint (set_of sets s) (set_of sets t)))
 step sets (Equal s t) = answer_with sets (Truth (same_sets (set_of sets s) (set_of sets t)))
 step sets (Compare s t) = answer_with sets (Order (order_of_sets (set_of sets s) (set_of sets t)))
 step sets (RestIter name n) = answer_with sets (rest_of n (set_of sets name))

@@ -2,7 +2,7 @@
 use Rattle.std.specs.Prelude.{ℕ, ◌+◌, ◌<◌, ◌≤◌, List, [], ◌∷◌, ◌++◌, codes, decimal}
 use Rattle.std.specs.List.{All, flat_map}
 use Rattle.bit_set_run.specs.declared.commands.Command.{Command}
-use Rattle.bit_set_run.specs.declared.commands.Command.TheVariants.{Insert, Remove, Contains, Extend, Truncate, Empty, Reset, Count, IsEmpty, Items, Copy, InPlace, Walk, Equal, Compare, RestIter, RestWalk}
+use Rattle.bit_set_run.specs.declared.commands.Command.TheVariants.{Insert, Remove, Contains, Extend, Truncate, Empty, Reset, Count, IsEmpty, Items, Copy, InPlace, Walk, Subset, Superset, Disjoint, Equal, Compare, RestIter, RestWalk}
 use Rattle.bit_set.specs.declared.bit_vec.Merge.{Merge}
 use Rattle.bit_set.specs.declared.bit_vec.Merge.TheVariants.{Union, Intersection, Difference, Symmetric}
 use Rattle.bit_set.specs.Bounds.{greatest}
@@ -45,6 +45,9 @@ parts_of (Items s) = parts (codes "items") (s ∷ []) []
 parts_of (Copy s t) = parts (codes "copy") (s ∷ t ∷ []) []
 parts_of (InPlace merge s t) = parts (in_place_word merge) (s ∷ t ∷ []) []
 parts_of (Walk merge s t) = parts (walk_word merge) (s ∷ t ∷ []) []
+parts_of (Subset s t) = parts (codes "subset") (s ∷ t ∷ []) []
+parts_of (Superset s t) = parts (codes "superset") (s ∷ t ∷ []) []
+parts_of (Disjoint s t) = parts (codes "disjoint") (s ∷ t ∷ []) []
 parts_of (Equal s t) = parts (codes "eq") (s ∷ t ∷ []) []
 parts_of (Compare s t) = parts (codes "cmp") (s ∷ t ∷ []) []
 parts_of (RestIter s n) = parts (codes "rest iter") (s ∷ []) (n ∷ [])

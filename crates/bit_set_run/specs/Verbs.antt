@@ -12,7 +12,7 @@ use Rattle.bit_set_run.specs.declared.verbs.NameVerb.TheVariants.{Empty, Reset, 
 use Rattle.bit_set_run.specs.declared.verbs.NumberVerb.{NumberVerb}
 use Rattle.bit_set_run.specs.declared.verbs.NumberVerb.TheVariants.{Insert, Remove, Contains, Truncate}
 use Rattle.bit_set_run.specs.declared.verbs.PairVerb.{PairVerb}
-use Rattle.bit_set_run.specs.declared.verbs.PairVerb.TheVariants.{Copy, InPlace, Walk, Equal, Compare}
+use Rattle.bit_set_run.specs.declared.verbs.PairVerb.TheVariants.{Copy, InPlace, Walk, Subset, Superset, Disjoint, Equal, Compare}
 use Rattle.bit_set_run.specs.declared.verbs.SetWalk.{SetWalk}
 use Rattle.bit_set_run.specs.declared.verbs.SetWalk.TheVariants.{One, Two}
 
@@ -38,6 +38,9 @@ verbs =
     (codes "intersection", TwoNames (Walk Intersection)) ∷
     (codes "difference", TwoNames (Walk Difference)) ∷
     (codes "symmetric_difference", TwoNames (Walk Symmetric)) ∷
+    (codes "subset", TwoNames Subset) ∷
+    (codes "superset", TwoNames Superset) ∷
+    (codes "disjoint", TwoNames Disjoint) ∷
     (codes "eq", TwoNames Equal) ∷
     (codes "cmp", TwoNames Compare) ∷
     (codes "rest", Rest) ∷
@@ -81,5 +84,8 @@ abbrev pub pair_command : PairVerb → ℕ × ℕ → Command
 pair_command Copy (s, t) = command.Copy s t
 pair_command (InPlace merge) (s, t) = command.InPlace merge s t
 pair_command (Walk merge) (s, t) = command.Walk merge s t
+pair_command Subset (s, t) = command.Subset s t
+pair_command Superset (s, t) = command.Superset s t
+pair_command Disjoint (s, t) = command.Disjoint s t
 pair_command Equal (s, t) = command.Equal s t
 pair_command Compare (s, t) = command.Compare s t

@@ -31,6 +31,12 @@ pub enum Command {
     InPlace(Merge, SetName, SetName),
     /// What two sets become: in either, in both, in the first alone, or in just one.
     Walk(Merge, SetName, SetName),
+    /// Whether each number of the first set is in the second.
+    Subset(SetName, SetName),
+    /// Whether each number of the second set is in the first.
+    Superset(SetName, SetName),
+    /// Whether no number is in both sets.
+    Disjoint(SetName, SetName),
     /// Whether two sets have the same numbers.
     Equal(SetName, SetName),
     /// How two sets compare, as the lists of their numbers in ascending order.

@@ -112,6 +112,50 @@ pub fn outputs_are_as_shown()
         ("union_with a b 1", "bad command") ∷
         ("items b", "{0, 1, 5}") ∷
         []) }
+    ensures two_sets { Gives (
+        ("extend a 1 3 5 200 500", "ok") ∷
+        ("extend b 3 200", "ok") ∷
+        ("difference a b", "{1, 5, 500}") ∷
+        ("rest difference a b 1", "2 {5, 500}") ∷
+        ("rest difference a b 9", "0 {}") ∷
+        ("rest iter b 0", "2 {3, 200}") ∷
+        ("rest union a b 3", "2 {200, 500}") ∷
+        ("union a b", "{1, 3, 5, 200, 500}") ∷
+        ("symmetric_difference b a", "{1, 5, 500}") ∷
+        ("intersection a a", "{1, 3, 5, 200, 500}") ∷
+        ("superset a b", "true") ∷
+        ("intersect_with a b", "ok") ∷
+        ("items a", "{3, 200}") ∷
+        ("eq a b", "true") ∷
+        ("cmp a b", "Equal") ∷
+        ("cmp a c", "Greater") ∷
+        ("cmp c a", "Less") ∷
+        ("subset c a", "true") ∷
+        ("disjoint a b", "false") ∷
+        ("disjoint a c", "true") ∷
+        ("subset a c", "false") ∷
+        ("eq a c", "false") ∷
+        []) }
+    ensures two_set_edges { Gives (
+        ("rest frob a b 1", "bad command") ∷
+        ("rest union a b", "bad command") ∷
+        ("rest union a", "bad command") ∷
+        ("rest union a b c 1", "bad command") ∷
+        ("rest iter a b 1", "bad command") ∷
+        ("union a", "bad command") ∷
+        ("union a b 1", "bad command") ∷
+        ("union a q", "bad command") ∷
+        ("rest union a b 99999999999999999999", "bad number") ∷
+        ("rest union a q 99999999999999999999", "bad command") ∷
+        ("insert a 0", "true") ∷
+        ("insert a 1", "true") ∷
+        ("insert b 1", "true") ∷
+        ("cmp a b", "Less") ∷
+        ("rest symmetric_difference a b 0", "1 {0}") ∷
+        ("rest intersection b a 0", "1 {1}") ∷
+        ("superset a a", "true") ∷
+        ("disjoint b b", "false") ∷
+        []) }
     ensures whole_set_edges { Gives (
         ("extend p 99999999999999999999 5 ", "bad command") ∷
         ("extend p 5  6", "bad command") ∷

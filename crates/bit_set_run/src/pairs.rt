@@ -2,7 +2,7 @@
 
 ghost use Rattle.std.specs.Prelude.{◌≡◌, ◌≢◌, [], drop, map, IfOk, OnErr};
 ghost use Rattle.bit_set.specs.Order.{order_of_sets, same_sets};
-ghost use Rattle.bit_set.specs.Sets.{merged_sets};
+ghost use Rattle.bit_set.specs.Sets.{is_disjoint, is_subset, merged_sets};
 ghost use Rattle.bit_set_run.specs.Kept.{kept};
 ghost use Rattle.bit_set_run.specs.Run.{rest_of, set_of};
 
@@ -12,6 +12,27 @@ use bit_set::bit_vec::Merge;
 use bit_set::{BitBlock, BitSet};
 use std::alloc::{AllocError, Global};
 use std::cmp::Ordering;
+
+/// Whether each number of the first set is in the second.
+pub(crate) fn is_subset<B: BitBlock>(sets: &[BitSet<B>; 16], s: SetName, t: SetName) -> bool
+    ensures { result ≡ is_subset (set_of (map kept sets.now) s) (set_of (map kept sets.now) t) }
+{
+    sets[s.place()].is_subset(&sets[t.place()])
+}
+
+/// Whether each number of the second set is in the first.
+pub(crate) fn is_superset<B: BitBlock>(sets: &[BitSet<B>; 16], s: SetName, t: SetName) -> bool
+    ensures { result ≡ is_subset (set_of (map kept sets.now) t) (set_of (map kept sets.now) s) }
+{
+    sets[s.place()].is_superset(&sets[t.place()])
+}
+
+/// Whether no number is in both sets.
+pub(crate) fn is_disjoint<B: BitBlock>(sets: &[BitSet<B>; 16], s: SetName, t: SetName) -> bool
+    ensures { result ≡ is_disjoint (set_of (map kept sets.now) s) (set_of (map kept sets.now) t) }
+{
+    sets[s.place()].is_disjoint(&sets[t.place()])
+}
 
 /// Whether the sets have the same numbers.
 pub(crate) fn are_equal<B: BitBlock>(sets: &[BitSet<B>; 16], s: SetName, t: SetName) -> bool

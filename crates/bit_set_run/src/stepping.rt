@@ -8,7 +8,7 @@ ghost use Rattle.bit_set.specs.Bounds.{greatest};
 ghost use Rattle.bit_set_run.specs.Run.{step, elements_before_greatest, RefusedBy};
 ghost use Rattle.bit_set_run.specs.declared.commands.Reply.TheVariants.{Truth, Done, Rest, Element};
 
-use crate::pairs::{are_equal, compare, rest_of_walk, walk};
+use crate::pairs::{are_equal, compare, is_disjoint, is_subset, is_superset, rest_of_walk, walk};
 use crate::walking::{numbers_of, rest};
 use crate::{Command, Numbers, Reply};
 use bit_set::bit_vec::Merge;
@@ -51,6 +51,9 @@ pub(crate) fn step<B: BitBlock>(
         Command::InPlace(_, s, t) if s == t => Ok(Reply::Same),
         Command::InPlace(merge, s, t) => merge_in_place(alloc, sets, *merge, s.place(), t.place()),
         Command::Walk(merge, s, t) => Ok(Reply::Items(walk(alloc, sets, *merge, *s, *t)?)),
+        Command::Subset(s, t) => Ok(Reply::Truth(is_subset(sets, *s, *t))),
+        Command::Superset(s, t) => Ok(Reply::Truth(is_superset(sets, *s, *t))),
+        Command::Disjoint(s, t) => Ok(Reply::Truth(is_disjoint(sets, *s, *t))),
         Command::Equal(s, t) => Ok(Reply::Truth(are_equal(sets, *s, *t))),
         Command::Compare(s, t) => Ok(Reply::Order(compare(sets, *s, *t))),
         Command::RestIter(name, n) => rest(alloc, sets[name.place()].iter(), *n),

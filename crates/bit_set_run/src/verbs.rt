@@ -48,6 +48,9 @@ pub(crate) enum PairVerb {
     Copy,
     InPlace(Merge),
     Walk(Merge),
+    Subset,
+    Superset,
+    Disjoint,
     Equal,
     Compare,
 }
@@ -61,7 +64,7 @@ pub(crate) enum SetWalk {
     Two(Merge),
 }
 
-const VERBS: [(&[u8], Verb); 22] = [
+const VERBS: [(&[u8], Verb); 25] = [
     (b"insert", Verb::NameAndNumber(NumberVerb::Insert)),
     (b"remove", Verb::NameAndNumber(NumberVerb::Remove)),
     (b"contains", Verb::NameAndNumber(NumberVerb::Contains)),
@@ -102,6 +105,9 @@ const VERBS: [(&[u8], Verb); 22] = [
         b"symmetric_difference",
         Verb::TwoNames(PairVerb::Walk(Merge::Symmetric)),
     ),
+    (b"subset", Verb::TwoNames(PairVerb::Subset)),
+    (b"superset", Verb::TwoNames(PairVerb::Superset)),
+    (b"disjoint", Verb::TwoNames(PairVerb::Disjoint)),
     (b"eq", Verb::TwoNames(PairVerb::Equal)),
     (b"cmp", Verb::TwoNames(PairVerb::Compare)),
     (b"rest", Verb::Rest),
@@ -180,6 +186,9 @@ impl PairVerb {
             PairVerb::Copy => Command::Copy(first, second),
             PairVerb::InPlace(merge) => Command::InPlace(merge, first, second),
             PairVerb::Walk(merge) => Command::Walk(merge, first, second),
+            PairVerb::Subset => Command::Subset(first, second),
+            PairVerb::Superset => Command::Superset(first, second),
+            PairVerb::Disjoint => Command::Disjoint(first, second),
             PairVerb::Equal => Command::Equal(first, second),
             PairVerb::Compare => Command::Compare(first, second),
         }

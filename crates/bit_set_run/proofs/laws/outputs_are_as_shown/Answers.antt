@@ -26,6 +26,14 @@ pub returns-clause-in_place : goal.returns-clause-in_place
 unfolding digits
 returns-clause-in_place c = refl
 
+pub returns-clause-two_sets : goal.returns-clause-two_sets
+unfolding digits
+returns-clause-two_sets c = refl
+
+pub returns-clause-two_set_edges : goal.returns-clause-two_set_edges
+unfolding digits
+returns-clause-two_set_edges c = refl
+
 pub returns-clause-whole_set_edges : goal.returns-clause-whole_set_edges
 unfolding digits
 returns-clause-whole_set_edges c = refl

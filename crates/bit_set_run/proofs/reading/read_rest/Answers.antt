@@ -1,4 +1,4 @@
-use Rattle.std.proofs.Common.{◌≡◌, [], ◌∷◌, refl, rules}
+use Rattle.std.proofs.Common.{[], ◌∷◌, refl, rules}
 use Rattle.bit_set_run.specs.declared.commands.Command.TheVariants.{RestIter, RestWalk}
 use Rattle.bit_set_run.specs.Reading.{name_and_number, names_and_number}
 use Rattle.bit_set_run.specs.Words.{words_of}
