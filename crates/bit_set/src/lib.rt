@@ -8,6 +8,8 @@ mod hash;
 pub mod laws;
 mod lowest;
 mod order;
+#[cfg(test)]
+mod order_tests;
 mod set;
 #[cfg(test)]
 mod tests;

@@ -3,7 +3,7 @@ ghost use Rattle.std.specs.Prelude.{◌≡◌, ℕ, ◌-◌, ◌≤◌, ◌^◌,
 ghost use Rattle.std.specs.Iterator.{UpTo, YieldsThen};
 ghost use Rattle.bit_set.specs.Walk.{Walk, IsAtStart};
 
-mod block24;
+pub(crate) mod block24;
 
 use crate::laws::whole_walks;
 use crate::lowest::take_lowest_one;
