@@ -13,11 +13,11 @@ use Rattle.bit_set.specs.Differences.{IsFirstDifference}
 use Rattle.bit_set.proofs.SetLemmas.{has-elements, has-elements_from, AscendsFrom-elements_from, IsAscending-elements, same_members}
 
 -- the same first number leaves it to the others
-order-cons : (p : ℕ) (s t : List ℕ) → order_of_sets (p ∷ s) (p ∷ t) ≡ order_of_sets s t
+pub order-cons : (p : ℕ) (s t : List ℕ) → order_of_sets (p ∷ s) (p ∷ t) ≡ order_of_sets s t
 order-cons p s t = ap (λ o. ordering_then o (order_of_sets s t)) (tied_itself nat_cmp_total p)
 
 -- a smaller first number comes first
-order-first : (p y : ℕ) (s t : List ℕ) → p < y → order_of_sets (p ∷ s) (y ∷ t) ≡ Less
+pub order-first : (p y : ℕ) (s t : List ℕ) → p < y → order_of_sets (p ∷ s) (y ∷ t) ≡ Less
 order-first p y s t below =
     let less : nat_cmp p y ≡ Less = (let is : ltb p y ≡ true = lt-ltb p y below in rw is refl) in
     ap (λ o. ordering_then o (order_of_sets s t)) less

@@ -1,14 +1,15 @@
 -- Where lists of blocks differ, and what of the lists of truth values that they hold.
-use Rattle.std.proofs.Common.{◌≡◌, ◌≢◌, ℕ, ◌+◌, ◌-◌, ◌*◌, ◌/◌, ◌%◌, ◌^◌, ◌<◌, ◌≤◌, Bool, true, false, not, eqb, List, get_or, length, refl, sym, ap, ◌∙◌, subst, inl, inr, arith}
+use Rattle.std.proofs.Common.{◌≡◌, ◌≢◌, ℕ, ◌+◌, ◌-◌, ◌*◌, ◌/◌, ◌%◌, ◌^◌, ◌<◌, ◌≤◌, max, Bool, true, false, not, eqb, List, get_or, length, refl, sym, ap, ◌∙◌, subst, inl, inr, arith}
 use Rattle.std.specs.Bool.{OnTrue, OnFalse}
 use Rattle.std.specs.Prelude.{Option, Some, None, MatchOption, is_some}
 use Rattle.std.specs.Int.{bit_at}
 use borrow.Author.Tests.{eqb-true, eqb-false}
 use Rattle.std.proofs.lemmas.Bool.{cases_lt, cases_eq, true≢false}
 use Rattle.std.proofs.lemmas.Nat.Bits.{bit_at-lt, bit_at-zero, bit_at_above, same_from_bits_below}
+use Rattle.std.proofs.lemmas.Nat.{pow_pos}
 use Rattle.std.proofs.Math.Nat.{div-add-mod', mod-lt, mul-le-mul_right}
 use Rattle.bit_words.specs.Bits.{blocks_of, digit_of}
-use Rattle.bit_words.specs.Digits.{IsDifferent, IsShiftedRight}
+use Rattle.bit_words.specs.Digits.{IsEither, IsDifferent, IsShiftedRight}
 use Rattle.bit_words.specs.Lowest.{IsLowest}
 use Rattle.bit_words.proofs.BitsLemmas.{blocks_of-digit, blocks_of-lt}
 use Rattle.bit_words.proofs.LowestLemmas.{lowest_found}
@@ -19,15 +20,27 @@ use Rattle.bit_set.proofs.ValueLemmas.{has-within}
 
 -- ---- the digits of one block
 
+-- an or is 0 where both sides are
+pub none_of_either : (w m n r : ℕ) → m < 2 ^ w → n < 2 ^ w → IsEither w m n r → r ≡ 0 → (m ≡ 0) × (n ≡ 0)
+none_of_either w m n r small also is none =
+    let digit : (i : ℕ) → i < w → max (bit_at m i) (bit_at n i) ≡ 0 = λ i within. sym (is.digit i within) ∙ ap (λ x. bit_at x i) none ∙ bit_at-zero i in (
+      same_from_bits_below w m 0 small (pow_pos w) (λ i within. omega (arith, digit i within, bit_at-zero i)),
+      same_from_bits_below w n 0 also (pow_pos w) (λ i within. omega (arith, digit i within, bit_at-zero i)),
+    )
+
+-- an exclusive or is 0 where both sides are one number
+pub none_of_different : (w m n r : ℕ) → m < 2 ^ w → n < 2 ^ w → IsDifferent w m n r → r ≡ 0 → m ≡ n
+none_of_different w m n r small also is none =
+    same_from_bits_below w m n small also (λ i within.
+    let digit : bit_at r i ≡ 0 = ap (λ x. bit_at x i) none ∙ bit_at-zero i in
+    omega (arith, is.digit i within, digit, bit_at-lt m i, bit_at-lt n i))
+
 -- the digits of numbers that differ do not all agree, so that their exclusive or is not 0
 pub different_some : (w m n r : ℕ) → m < 2 ^ w → n < 2 ^ w → m ≢ n → IsDifferent w m n r → 0 < r
 different_some w m n r small also unlike is =
     elim (cases_lt 0 r) [
       | inl some ↦ some
-      | inr none ↦
-          absurd (unlike (same_from_bits_below w m n small also (λ i within.
-          let digit : bit_at r i ≡ 0 = ap (λ x. bit_at x i) (let e : r ≡ 0 = omega arith in e) ∙ bit_at-zero i in
-          omega (arith, is.digit i within, digit, bit_at-lt m i, bit_at-lt n i))))
+      | inr none ↦ absurd (unlike (none_of_different w m n r small also is (omega arith)))
     ]
 
 pub lowest_unlike_is : (w m n r i : ℕ) → IsDifferent w m n r → IsLowest r i → i < w → IsLowestUnlike w m n i

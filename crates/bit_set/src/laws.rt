@@ -1,7 +1,8 @@
 //! Laws of sets of numbers, as the contracts of functions that do nothing. A set is the list of its
 //! members in strictly ascending order.
-ghost use Rattle.std.specs.Prelude.{◌≡◌, ℕ, ◌+◌, ◌-◌, ◌/◌, ◌<◌, ◌≤◌, ◌↔◌, ◌==◌, ◌&&◌, ◌||◌, max, not, nat_lt, Bool, true, IsTrue, Some, None, Option, List, [], length, slice_get};
+ghost use Rattle.std.specs.Prelude.{◌≡◌, ℕ, ◌+◌, ◌-◌, ◌/◌, ◌<◌, ◌≤◌, ◌↔◌, ◌++◌, ◌∷◌, ◌==◌, ◌&&◌, ◌||◌, max, not, nat_lt, Bool, true, IsTrue, Some, None, Option, List, [], length, slice_get};
 ghost use Rattle.std.specs.FinSet as set;
+ghost use Rattle.std.specs.Cmp.{IsEquivalence, IsTotalOrder};
 ghost use Rattle.std.specs.Ordering.{nat_cmp};
 ghost use Rattle.std.specs.Iterator.{YieldsThen, Drains};
 ghost use Rattle.bit_words.specs.Bits.{blocks_for};
@@ -9,9 +10,11 @@ ghost use Rattle.bit_set.specs.Walk.{Walk, BoundedWalk, IsWalkedOut, IsAtStart};
 ghost use Rattle.bit_words.specs.Merges.{merged_value, merged};
 ghost use Rattle.bit_words.specs.declared.bit_vec.merge.Merge.{Merge};
 ghost use Rattle.bit_set.specs.Sets.{IsAscending, has, put, put_all, without, those_below, elements, bound_of, union, intersection, difference, symmetric_difference, merged_sets, is_subset, is_disjoint};
+ghost use Rattle.bit_set.specs.Order.{same_sets, order_of_sets, fed_of_set};
 
 use crate::bit_vec::Merge;
 use crate::{BitBlock, Difference, Intersection, Iter, SymmetricDifference, Union};
+use std::cmp::Ordering;
 
 /// What each operation does to the members of a set.
 pub fn members_of_sets()
@@ -111,6 +114,21 @@ pub fn collected_walks<B: BitBlock + 'static>()
         → Drains ⟦<Difference<'static, B> as Iterator>⟧.next_gives s items → elements c ≡ put_all [] items → elements c ≡ difference (elements a) (elements b) }
     ensures symmetric_difference { (a b c : List Bool) (s : Walk) (items : List ℕ) → s.left ≡ symmetric_difference (elements a) (elements b)
         → Drains ⟦<SymmetricDifference<'static, B> as Iterator>⟧.next_gives s items → elements c ≡ put_all [] items → elements c ≡ symmetric_difference (elements a) (elements b) }
+{}
+
+/// How sets compare. Sets are the same where their lists are one list. The order is total, and answers
+/// `Equal` for the same sets alone. The first number that just one set has decides: that set is less
+/// where the other goes on past the number, and greater where the other ends. So it is not the order of
+/// subsets. The same sets feed a hasher the same.
+pub fn sets_compare()
+    ensures same { (s t : List ℕ) → IsTrue (same_sets s t) ↔ (s ≡ t) }
+    ensures equivalence { IsEquivalence same_sets }
+    ensures total { IsTotalOrder order_of_sets }
+    ensures equal { (s t : List ℕ) → (order_of_sets s t ≡ Ordering.Equal) ↔ IsTrue (same_sets s t) }
+    ensures goes_on { (front s t : List ℕ) (x y : ℕ) → x < y → order_of_sets (front ++ x ∷ s) (front ++ y ∷ t) ≡ Ordering.Less }
+    ensures ends { (front s : List ℕ) (x : ℕ) → order_of_sets front (front ++ x ∷ s) ≡ Ordering.Less }
+    ensures no_subsets_first { order_of_sets (0 ∷ 1 ∷ []) (1 ∷ []) ≡ Ordering.Less }
+    ensures fed { (s t : List ℕ) → IsTrue (same_sets s t) → fed_of_set s ≡ fed_of_set t }
 {}
 
 /// What whole walks give. From any point on, the calls of `next` up to the first `None` give just the

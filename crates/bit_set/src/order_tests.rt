@@ -19,7 +19,7 @@ struct Recorder {
 }
 
 impl Hasher for Recorder {
-    ghost write = { λ s bytes. record { calls = (s.calls + 1) % 2 ^ 64; bytes = fold (λ n b. (n * 256 + b) % 2 ^ 128) s.bytes bytes } };
+    ghost write = { λ s bytes. record { calls = (s.calls + 1) % 2 ^ 64; bytes = fold (λ n b. (n * 256 % 2 ^ 128 + b) % 2 ^ 128) s.bytes bytes } };
 
     ghost finish = { λ s. s.calls };
 
@@ -65,6 +65,27 @@ fn sets_show_their_elements(rt: HostRuntime) -> Result<(), Fail> {
     assert_eq!(rt; format!(in alloc; "{none}")?.as_str(), "{}");
     let one = set_of::<Block24>(alloc, &[18446744])?;
     assert_eq!(rt; format!(in alloc; "{one}")?.as_str(), "{18446744}");
+    Ok(())
+}
+
+#[test]
+fn sets_show_their_bit_vectors(rt: HostRuntime) -> Result<(), Fail> {
+    let alloc = rt.alloc();
+    let set = set_of::<u32>(alloc, &[1, 10, 50, 2])?;
+    assert_eq!(rt;
+        format!(in alloc; "{set:?}")?.as_str(),
+        "BitSet { bit_vec: BitVec { storage: \"01100000001000000000000000000000 0000000000000000001\", nbits: 51 } }"
+    );
+    let none = BitSet::new(alloc);
+    assert_eq!(rt;
+        format!(in alloc; "{none:?}")?.as_str(),
+        "BitSet { bit_vec: BitVec { storage: \"\", nbits: 0 } }"
+    );
+    let bytes = set_of::<u8>(alloc, &[1, 10])?;
+    assert_eq!(rt;
+        format!(in alloc; "{bytes:?}")?.as_str(),
+        "BitSet { bit_vec: BitVec { storage: \"01000000 001\", nbits: 11 } }"
+    );
     Ok(())
 }
 

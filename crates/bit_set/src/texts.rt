@@ -1,4 +1,4 @@
-//! The text of a set.
+//! The texts of a set.
 ghost use Rattle.std.specs.Prelude.{◌++◌, Some, codes, decimal};
 ghost use Rattle.std.specs.Fmt.{DisplaysOnOk};
 ghost use Rattle.std.specs.List.{flat_map};
@@ -21,6 +21,16 @@ impl<B: BitBlock> fmt::Display for BitSet<B> {
             write_rest(rest, f)?;
         }
         f.write_str("}")
+    }
+}
+
+/// `BitSet { bit_vec: .. }`, with the text of the bit vector. Takes no memory of its own, and fails only
+/// where the formatter fails.
+impl<B: BitBlock> fmt::Debug for BitSet<B> {
+    fn fmt<W: fmt::Write>(&self, f: &mut fmt::Formatter<W>) -> fmt::Result {
+        f.write_str("BitSet { bit_vec: ")?;
+        fmt::Debug::fmt(self.get_ref(), f)?;
+        f.write_str(" }")
     }
 }
 

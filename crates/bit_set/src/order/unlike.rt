@@ -1,11 +1,14 @@
 // Where lists of blocks differ. A block past the end of a list counts as 0.
-ghost use Rattle.std.specs.Prelude.{◌≡◌, ◌≢◌, ℕ, ◌<◌, ◌≤◌, ◌==◌, All, MatchOption, get_or, length, map};
+ghost use Rattle.std.specs.Prelude.{◌≡◌, ◌≢◌, ℕ, ◌+◌, ◌*◌, ◌<◌, ◌≤◌, ◌==◌, All, MatchOption, get_or, length, map};
 ghost use Rattle.std.specs.Bool.{OnTrue, OnFalse};
 ghost use Rattle.std.specs.Int.{bit_at};
 ghost use Rattle.bit_set.specs.Differences.{IsFirstUnlike, IsFirstOne, IsLowestUnlike};
 
 use crate::BitBlock;
 use crate::lowest::take_lowest_one;
+
+// How many blocks are tested at once.
+const GROUP: usize = 32;
 
 // The first index at which the blocks differ.
 pub(crate) fn first_unlike<B: BitBlock>(a: &[B], b: &[B]) -> Option<usize>
@@ -16,13 +19,59 @@ pub(crate) fn first_unlike<B: BitBlock>(a: &[B], b: &[B]) -> Option<usize>
         (IsFirstUnlike (map B.number a.now) (map B.number b.now)) }
 {
     let both = a.len().min(b.len());
-    for k in 0..both {
+    let alike = same_groups(a, b, both / GROUP) * GROUP;
+    for k in alike..both {
         if !same(block_at(a, k), block_at(b, k)) {
             return Some(k);
         }
     }
     let longer = if a.len() < b.len() { b } else { a };
     first_one(longer, both)
+}
+
+// How many groups of blocks are the same, up to the first that is not.
+fn same_groups<B: BitBlock>(a: &[B], b: &[B], groups: usize) -> usize
+    requires within { groups * 32 ≤ length a.now }
+    requires within_other { groups * 32 ≤ length b.now }
+    requires left { All B.is_block a.now }
+    requires right { All B.is_block b.now }
+    ensures within { result ≤ groups }
+    ensures same { (k : ℕ) → k < result * 32 → get_or (map B.number a.now) k 0 ≡ get_or (map B.number b.now) k 0 }
+{
+    for group in 0..groups {
+        if !is_same_group(a, b, group * GROUP) {
+            return group;
+        }
+    }
+    groups
+}
+
+// Whether the blocks of the group that begins at `start` are the same. One test for all of them.
+#[inline]
+fn is_same_group<B: BitBlock>(a: &[B], b: &[B], start: usize) -> bool
+    requires within { start + 32 ≤ length a.now }
+    requires within_other { start + 32 ≤ length b.now }
+    requires left { All B.is_block a.now }
+    requires right { All B.is_block b.now }
+    ensures { OnTrue result ((k : ℕ) → start ≤ k → k < start + 32 → get_or (map B.number a.now) k 0 ≡ get_or (map B.number b.now) k 0) }
+{
+    let mut unlike = B::zero();
+    for k in start..start + GROUP {
+        unlike = or_unlike(unlike, block_at(a, k), block_at(b, k));
+    }
+    same(unlike, B::zero())
+}
+
+// The digits of `seen`, and those in which the other two differ.
+#[inline]
+fn or_unlike<B: BitBlock>(seen: B, a: B, b: B) -> B
+    requires seen { B.is_block seen }
+    requires left { B.is_block a }
+    requires right { B.is_block b }
+    ensures of_block { B.is_block result }
+    ensures none { B.number result ≡ 0 → (B.number seen ≡ 0) × (B.number a ≡ B.number b) }
+{
+    seen | (a ^ b)
 }
 
 // The first index, from `from` on, of a block that is not 0.
