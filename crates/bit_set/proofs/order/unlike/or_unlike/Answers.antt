@@ -1,4 +1,3 @@
-use Rattle.std.proofs.Common.{sym, ◌∙◌}
 use Rattle.bit_set.proofs.UnlikeLemmas.{none_of_either, none_of_different}
 use Rattle.bit_set.proofs.order.unlike.or_unlike.Goals as goal
 
