@@ -1,0 +1,130 @@
+// Numbers that go in and out one by one.
+use crate::making::set_of;
+use bit_set::{BitBlock, BitSet, SetError};
+use std::alloc::Global;
+
+fn insert_with_room<B: BitBlock>(
+    alloc: Global,
+    len: usize,
+    numbers: &[usize],
+    turns: usize,
+) -> Result<usize, SetError> {
+    let mut new = 0usize;
+    for _ in 0..turns {
+        let mut set = BitSet::<B>::with_capacity_general(alloc, len)?;
+        for number in numbers {
+            new = new.wrapping_add(usize::from(set.insert(*number)?));
+        }
+    }
+    Ok(new)
+}
+
+#[unsafe(no_mangle)]
+pub extern "C" fn bench_insert_with_room_u32(
+    alloc: Global,
+    len: usize,
+    numbers: &[usize],
+    turns: usize,
+) -> usize {
+    insert_with_room::<u32>(alloc, len, numbers, turns).unwrap_or(usize::MAX)
+}
+
+#[unsafe(no_mangle)]
+pub extern "C" fn bench_insert_with_room_u64(
+    alloc: Global,
+    len: usize,
+    numbers: &[usize],
+    turns: usize,
+) -> usize {
+    insert_with_room::<u64>(alloc, len, numbers, turns).unwrap_or(usize::MAX)
+}
+
+fn insert_below<B: BitBlock>(
+    alloc: Global,
+    len: usize,
+    numbers: &[usize],
+    turns: usize,
+) -> Result<usize, SetError> {
+    let mut set = BitSet::<B>::with_capacity_general(alloc, len)?;
+    let mut new = 0usize;
+    for _ in 0..turns {
+        set.make_empty();
+        for number in numbers {
+            new = new.wrapping_add(usize::from(set.insert(*number)?));
+        }
+    }
+    Ok(new)
+}
+
+#[unsafe(no_mangle)]
+pub extern "C" fn bench_insert_below_u32(
+    alloc: Global,
+    len: usize,
+    numbers: &[usize],
+    turns: usize,
+) -> usize {
+    insert_below::<u32>(alloc, len, numbers, turns).unwrap_or(usize::MAX)
+}
+
+#[unsafe(no_mangle)]
+pub extern "C" fn bench_insert_below_u64(
+    alloc: Global,
+    len: usize,
+    numbers: &[usize],
+    turns: usize,
+) -> usize {
+    insert_below::<u64>(alloc, len, numbers, turns).unwrap_or(usize::MAX)
+}
+
+fn insert_in_order(alloc: Global, len: usize, turns: usize) -> Result<usize, SetError> {
+    let mut new = 0usize;
+    for _ in 0..turns {
+        let mut set = BitSet::new(alloc);
+        for number in 0..len {
+            new = new.wrapping_add(usize::from(set.insert(number)?));
+        }
+    }
+    Ok(new)
+}
+
+#[unsafe(no_mangle)]
+pub extern "C" fn bench_insert_in_order(alloc: Global, len: usize, turns: usize) -> usize {
+    insert_in_order(alloc, len, turns).unwrap_or(usize::MAX)
+}
+
+fn remove<B: BitBlock>(
+    alloc: Global,
+    members: &[usize],
+    numbers: &[usize],
+    turns: usize,
+) -> Result<usize, SetError> {
+    let full = set_of::<B>(alloc, 0, members)?;
+    let mut were = 0usize;
+    for _ in 0..turns {
+        let mut set = full.clone(alloc)?;
+        for number in numbers {
+            were = were.wrapping_add(usize::from(set.remove(*number)));
+        }
+    }
+    Ok(were)
+}
+
+#[unsafe(no_mangle)]
+pub extern "C" fn bench_remove_u32(
+    alloc: Global,
+    members: &[usize],
+    numbers: &[usize],
+    turns: usize,
+) -> usize {
+    remove::<u32>(alloc, members, numbers, turns).unwrap_or(usize::MAX)
+}
+
+#[unsafe(no_mangle)]
+pub extern "C" fn bench_remove_u64(
+    alloc: Global,
+    members: &[usize],
+    numbers: &[usize],
+    turns: usize,
+) -> usize {
+    remove::<u64>(alloc, members, numbers, turns).unwrap_or(usize::MAX)
+}

@@ -1,0 +1,250 @@
+// Two sets at once.
+ghost use Rattle.std.specs.Iterator.{IsFinite};
+
+use crate::making::set_of;
+use bit_set::bit_vec::Merge;
+use bit_set::{BitSet, SetError};
+use std::alloc::{AllocError, Global};
+use std::cmp::Ordering;
+
+fn sum_of<I: Iterator<Item = usize> + Drop>(items: I) -> usize
+    requires can { I.can_next items }
+    requires ends { IsFinite (I.remaining items) }
+{
+    let mut sum = 0usize;
+    for item in items {
+        sum = sum.wrapping_add(item);
+    }
+    sum
+}
+
+fn sum_of_merged(merge: Merge, one: &BitSet, other: &BitSet) -> usize {
+    match merge {
+        Merge::Union => sum_of(one.union(other)),
+        Merge::Intersection => sum_of(one.intersection(other)),
+        Merge::Difference => sum_of(one.difference(other)),
+        Merge::Symmetric => sum_of(one.symmetric_difference(other)),
+    }
+}
+
+fn count_of_merged(merge: Merge, one: &BitSet, other: &BitSet) -> usize {
+    match merge {
+        Merge::Union => one.union(other).count(),
+        Merge::Intersection => one.intersection(other).count(),
+        Merge::Difference => one.difference(other).count(),
+        Merge::Symmetric => one.symmetric_difference(other).count(),
+    }
+}
+
+fn merge_into(merge: Merge, one: &mut BitSet, other: &BitSet) -> Result<(), AllocError> {
+    match merge {
+        Merge::Union => one.union_with(other),
+        Merge::Intersection => one.intersect_with(other),
+        Merge::Difference => one.difference_with(other),
+        Merge::Symmetric => one.symmetric_difference_with(other),
+    }
+}
+
+// One number leaves after each turn, so that no turn can be the answer of another.
+fn walk_merged(
+    alloc: Global,
+    merge: Merge,
+    first: &[usize],
+    second: &[usize],
+    turns: usize,
+) -> Result<usize, SetError> {
+    let mut one = set_of(alloc, 0, first)?;
+    let other = set_of(alloc, 0, second)?;
+    let mut sum = 0usize;
+    for turn in 0..turns {
+        sum = sum.wrapping_add(sum_of_merged(merge, &one, &other));
+        let _was = one.remove(turn);
+    }
+    Ok(sum)
+}
+
+fn count_merged(
+    alloc: Global,
+    merge: Merge,
+    first: &[usize],
+    second: &[usize],
+    turns: usize,
+) -> Result<usize, SetError> {
+    let mut one = set_of(alloc, 0, first)?;
+    let other = set_of(alloc, 0, second)?;
+    let mut sum = 0usize;
+    for turn in 0..turns {
+        sum = sum.wrapping_add(count_of_merged(merge, &one, &other));
+        let _was = one.remove(turn);
+    }
+    Ok(sum)
+}
+
+fn merge_in_place(
+    alloc: Global,
+    merge: Merge,
+    first: &[usize],
+    second: &[usize],
+    turns: usize,
+) -> Result<usize, SetError> {
+    let mut one = set_of(alloc, 0, first)?;
+    let other = set_of(alloc, 0, second)?;
+    let mut were = 0usize;
+    for turn in 0..turns {
+        merge_into(merge, &mut one, &other)?;
+        were = were.wrapping_add(usize::from(one.remove(turn)));
+    }
+    Ok(were)
+}
+
+fn compare(alloc: Global, members: &[usize], turns: usize) -> Result<usize, SetError> {
+    let mut one = set_of::<u32>(alloc, 0, members)?;
+    let mut other = one.clone(alloc)?;
+    let mut equal = 0usize;
+    for turn in 0..turns {
+        equal = equal.wrapping_add(usize::from(one == other));
+        let _was = one.remove(turn) | other.remove(turn);
+    }
+    Ok(equal)
+}
+
+#[unsafe(no_mangle)]
+pub extern "C" fn bench_eq(alloc: Global, members: &[usize], turns: usize) -> usize {
+    compare(alloc, members, turns).unwrap_or(usize::MAX)
+}
+
+fn order(alloc: Global, members: &[usize], turns: usize) -> Result<usize, SetError> {
+    let mut one = set_of::<u32>(alloc, 0, members)?;
+    let mut other = one.clone(alloc)?;
+    let mut equal = 0usize;
+    for turn in 0..turns {
+        equal = equal.wrapping_add(usize::from(one.cmp(&other) == Ordering::Equal));
+        let _was = one.remove(turn) | other.remove(turn);
+    }
+    Ok(equal)
+}
+
+#[unsafe(no_mangle)]
+pub extern "C" fn bench_cmp(alloc: Global, members: &[usize], turns: usize) -> usize {
+    order(alloc, members, turns).unwrap_or(usize::MAX)
+}
+
+#[unsafe(no_mangle)]
+pub extern "C" fn bench_walk_union(
+    alloc: Global,
+    first: &[usize],
+    second: &[usize],
+    turns: usize,
+) -> usize {
+    walk_merged(alloc, Merge::Union, first, second, turns).unwrap_or(usize::MAX)
+}
+
+#[unsafe(no_mangle)]
+pub extern "C" fn bench_walk_intersection(
+    alloc: Global,
+    first: &[usize],
+    second: &[usize],
+    turns: usize,
+) -> usize {
+    walk_merged(alloc, Merge::Intersection, first, second, turns).unwrap_or(usize::MAX)
+}
+
+#[unsafe(no_mangle)]
+pub extern "C" fn bench_walk_difference(
+    alloc: Global,
+    first: &[usize],
+    second: &[usize],
+    turns: usize,
+) -> usize {
+    walk_merged(alloc, Merge::Difference, first, second, turns).unwrap_or(usize::MAX)
+}
+
+#[unsafe(no_mangle)]
+pub extern "C" fn bench_walk_symmetric_difference(
+    alloc: Global,
+    first: &[usize],
+    second: &[usize],
+    turns: usize,
+) -> usize {
+    walk_merged(alloc, Merge::Symmetric, first, second, turns).unwrap_or(usize::MAX)
+}
+
+#[unsafe(no_mangle)]
+pub extern "C" fn bench_count_union(
+    alloc: Global,
+    first: &[usize],
+    second: &[usize],
+    turns: usize,
+) -> usize {
+    count_merged(alloc, Merge::Union, first, second, turns).unwrap_or(usize::MAX)
+}
+
+#[unsafe(no_mangle)]
+pub extern "C" fn bench_count_intersection(
+    alloc: Global,
+    first: &[usize],
+    second: &[usize],
+    turns: usize,
+) -> usize {
+    count_merged(alloc, Merge::Intersection, first, second, turns).unwrap_or(usize::MAX)
+}
+
+#[unsafe(no_mangle)]
+pub extern "C" fn bench_count_difference(
+    alloc: Global,
+    first: &[usize],
+    second: &[usize],
+    turns: usize,
+) -> usize {
+    count_merged(alloc, Merge::Difference, first, second, turns).unwrap_or(usize::MAX)
+}
+
+#[unsafe(no_mangle)]
+pub extern "C" fn bench_count_symmetric_difference(
+    alloc: Global,
+    first: &[usize],
+    second: &[usize],
+    turns: usize,
+) -> usize {
+    count_merged(alloc, Merge::Symmetric, first, second, turns).unwrap_or(usize::MAX)
+}
+
+#[unsafe(no_mangle)]
+pub extern "C" fn bench_merge_union(
+    alloc: Global,
+    first: &[usize],
+    second: &[usize],
+    turns: usize,
+) -> usize {
+    merge_in_place(alloc, Merge::Union, first, second, turns).unwrap_or(usize::MAX)
+}
+
+#[unsafe(no_mangle)]
+pub extern "C" fn bench_merge_intersection(
+    alloc: Global,
+    first: &[usize],
+    second: &[usize],
+    turns: usize,
+) -> usize {
+    merge_in_place(alloc, Merge::Intersection, first, second, turns).unwrap_or(usize::MAX)
+}
+
+#[unsafe(no_mangle)]
+pub extern "C" fn bench_merge_difference(
+    alloc: Global,
+    first: &[usize],
+    second: &[usize],
+    turns: usize,
+) -> usize {
+    merge_in_place(alloc, Merge::Difference, first, second, turns).unwrap_or(usize::MAX)
+}
+
+#[unsafe(no_mangle)]
+pub extern "C" fn bench_merge_symmetric_difference(
+    alloc: Global,
+    first: &[usize],
+    second: &[usize],
+    turns: usize,
+) -> usize {
+    merge_in_place(alloc, Merge::Symmetric, first, second, turns).unwrap_or(usize::MAX)
+}

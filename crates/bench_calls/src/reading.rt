@@ -1,0 +1,73 @@
+// Sets that are read.
+use crate::making::set_of;
+use bit_set::{BitBlock, SetError};
+use std::alloc::Global;
+
+fn contains<B: BitBlock>(
+    alloc: Global,
+    members: &[usize],
+    numbers: &[usize],
+    turns: usize,
+) -> Result<usize, SetError> {
+    let set = set_of::<B>(alloc, 0, members)?;
+    let mut found = 0usize;
+    for _ in 0..turns {
+        for number in numbers {
+            found = found.wrapping_add(usize::from(set.contains(*number)));
+        }
+    }
+    Ok(found)
+}
+
+#[unsafe(no_mangle)]
+pub extern "C" fn bench_contains_u32(
+    alloc: Global,
+    members: &[usize],
+    numbers: &[usize],
+    turns: usize,
+) -> usize {
+    contains::<u32>(alloc, members, numbers, turns).unwrap_or(usize::MAX)
+}
+
+#[unsafe(no_mangle)]
+pub extern "C" fn bench_contains_u64(
+    alloc: Global,
+    members: &[usize],
+    numbers: &[usize],
+    turns: usize,
+) -> usize {
+    contains::<u64>(alloc, members, numbers, turns).unwrap_or(usize::MAX)
+}
+
+// One number leaves after each turn, so that no turn can be the answer of another.
+fn walk(alloc: Global, members: &[usize], turns: usize) -> Result<usize, SetError> {
+    let mut set = set_of::<u32>(alloc, 0, members)?;
+    let mut sum = 0usize;
+    for turn in 0..turns {
+        for item in &set {
+            sum = sum.wrapping_add(item);
+        }
+        let _was = set.remove(turn);
+    }
+    Ok(sum)
+}
+
+#[unsafe(no_mangle)]
+pub extern "C" fn bench_walk(alloc: Global, members: &[usize], turns: usize) -> usize {
+    walk(alloc, members, turns).unwrap_or(usize::MAX)
+}
+
+fn count(alloc: Global, members: &[usize], turns: usize) -> Result<usize, SetError> {
+    let mut set = set_of::<u32>(alloc, 0, members)?;
+    let mut sum = 0usize;
+    for turn in 0..turns {
+        sum = sum.wrapping_add(set.count());
+        let _was = set.remove(turn);
+    }
+    Ok(sum)
+}
+
+#[unsafe(no_mangle)]
+pub extern "C" fn bench_count(alloc: Global, members: &[usize], turns: usize) -> usize {
+    count(alloc, members, turns).unwrap_or(usize::MAX)
+}
