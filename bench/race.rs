@@ -41,6 +41,8 @@ mod here {
         pub fn bench_merge_intersection(first: *const usize, m: usize, second: *const usize, n: usize, turns: usize) -> usize;
         pub fn bench_merge_difference(first: *const usize, m: usize, second: *const usize, n: usize, turns: usize) -> usize;
         pub fn bench_merge_symmetric_difference(first: *const usize, m: usize, second: *const usize, n: usize, turns: usize) -> usize;
+        pub fn bench_is_disjoint(first: *const usize, m: usize, second: *const usize, n: usize, turns: usize) -> usize;
+        pub fn bench_is_subset(first: *const usize, m: usize, second: *const usize, n: usize, turns: usize) -> usize;
         pub fn bench_eq(members: *const usize, m: usize, turns: usize) -> usize;
         pub fn bench_cmp(members: *const usize, m: usize, turns: usize) -> usize;
     }
@@ -444,6 +446,41 @@ fn two_sets(table: &mut Table, density: &Density) {
     }
 }
 
+/// Tests that are true, and so read every block.
+fn tests_of_two_sets(table: &mut Table, density: &Density) {
+    let Density { label, len, members, numbers } = density;
+    let work = || Work { unit: "block", units: len.div_ceil(32), turns: 40, numbers: &[] };
+    let here = |call: here::OnPair, turns| unsafe {
+        call(members.as_ptr(), members.len(), numbers.as_ptr(), numbers.len(), turns)
+    };
+    table.row(&format!("`is_disjoint`, {label}"), work(), &[
+        &|_, turns| here(here::bench_is_disjoint, turns),
+        &|_, turns| {
+            let (mut one, other) = (set_of::<u32>(members), set_of::<u32>(numbers));
+            one.difference_with(&other);
+            total(turns, |turn| { let apart = one.is_disjoint(&other); one.remove(turn); usize::from(apart) })
+        },
+        &|_, turns| {
+            let (mut one, other) = (fixed_of(*len, members), fixed_of(*len, numbers));
+            one.difference_with(&other);
+            total(turns, |turn| { let apart = one.is_disjoint(&other); one.set(turn, false); usize::from(apart) })
+        },
+    ]);
+    table.row(&format!("`is_subset`, {label}"), work(), &[
+        &|_, turns| here(here::bench_is_subset, turns),
+        &|_, turns| {
+            let (mut one, mut other) = (set_of::<u32>(numbers), set_of::<u32>(members));
+            other.union_with(&one);
+            total(turns, |turn| { let within = one.is_subset(&other); one.remove(turn); usize::from(within) })
+        },
+        &|_, turns| {
+            let (mut one, mut other) = (fixed_of(*len, numbers), fixed_of(*len, members));
+            other.union_with(&one);
+            total(turns, |turn| { let within = one.is_subset(&other); one.set(turn, false); usize::from(within) })
+        },
+    ]);
+}
+
 fn the_rest(table: &mut Table) {
     let work = |unit, units, turns| Work { unit, units, turns, numbers: &[] };
     let len = 1 << 20;
@@ -527,6 +564,7 @@ fn main() -> ExitCode {
     let wide = Density::of("1M in 16M", 1 << 24, 1 << 20);
     whole_set(&mut table, &wide);
     two_sets(&mut table, &wide);
+    tests_of_two_sets(&mut table, &wide);
     the_rest(&mut table);
     if table.agrees { ExitCode::SUCCESS } else { ExitCode::FAILURE }
 }

@@ -97,6 +97,62 @@ fn merge_in_place(
     Ok(were)
 }
 
+// The first set without the second, which has nothing in common with it.
+fn find_apart(
+    alloc: Global,
+    first: &[usize],
+    second: &[usize],
+    turns: usize,
+) -> Result<usize, SetError> {
+    let mut one = set_of::<u32>(alloc, 0, first)?;
+    let other = set_of(alloc, 0, second)?;
+    one.difference_with(&other)?;
+    let mut found = 0usize;
+    for turn in 0..turns {
+        found = found.wrapping_add(usize::from(one.is_disjoint(&other)));
+        let _was = one.remove(turn);
+    }
+    Ok(found)
+}
+
+#[unsafe(no_mangle)]
+pub extern "C" fn bench_is_disjoint(
+    alloc: Global,
+    first: &[usize],
+    second: &[usize],
+    turns: usize,
+) -> usize {
+    find_apart(alloc, first, second, turns).unwrap_or(usize::MAX)
+}
+
+// The second set and the first with it, which has all of it.
+fn find_within(
+    alloc: Global,
+    first: &[usize],
+    second: &[usize],
+    turns: usize,
+) -> Result<usize, SetError> {
+    let mut one = set_of::<u32>(alloc, 0, second)?;
+    let mut other = set_of(alloc, 0, first)?;
+    other.union_with(&one)?;
+    let mut found = 0usize;
+    for turn in 0..turns {
+        found = found.wrapping_add(usize::from(one.is_subset(&other)));
+        let _was = one.remove(turn);
+    }
+    Ok(found)
+}
+
+#[unsafe(no_mangle)]
+pub extern "C" fn bench_is_subset(
+    alloc: Global,
+    first: &[usize],
+    second: &[usize],
+    turns: usize,
+) -> usize {
+    find_within(alloc, first, second, turns).unwrap_or(usize::MAX)
+}
+
 fn compare(alloc: Global, members: &[usize], turns: usize) -> Result<usize, SetError> {
     let mut one = set_of::<u32>(alloc, 0, members)?;
     let mut other = one.clone(alloc)?;
