@@ -15,8 +15,6 @@ mod starting;
 mod stepping;
 mod streams;
 mod table;
-#[cfg(test)]
-mod tests;
 mod texts;
 mod verbs;
 mod walking;

@@ -3,7 +3,7 @@
 mod fakes;
 mod tables;
 
-use crate::{Command, Exit, LinesFault, RunFault, SetName, run_lines, start};
+use bit_set_run::{Command, Exit, LinesFault, RunFault, SetName, run_lines, start};
 use fakes::{EndlessReader, PieceReader, PieceWriter};
 use std::alloc::Global;
 use std::io::ErrorKind;
@@ -221,9 +221,13 @@ fn leaves_a_write_that_failed(rt: HostRuntime) -> Result<(), Fail> {
 fn writes_in_pieces_and_flushes(rt: HostRuntime) -> Result<(), Fail> {
     let mut patient = writer(rt.alloc());
     patient.piece = 1;
+    let mut read = reader(RUN_A);
+    let result = run_lines::<u32, _, _>(rt.alloc(), &mut read, &mut patient);
+    assert_eq!(rt; result, Ok(()));
     assert_eq!(rt;
-        run_lines::<u32, _, _>(rt.alloc(), &mut reader(RUN_A), &mut patient),
-        Ok(())
+        read.calls,
+        RUN_A.len().div_ceil(7).saturating_add(1),
+        "none after the end"
     );
     assert_eq!(rt; patient.bytes.as_slice(), REPLIES_A);
     assert_eq!(rt; patient.flushes, 1);
@@ -259,18 +263,20 @@ fn takes_inputs_up_to_the_limit(rt: HostRuntime) -> Result<(), Fail> {
 
 #[test]
 fn says_its_faults(rt: HostRuntime) -> Result<(), Fail> {
-    for (fault, text) in [
-        (LinesFault::Read, "read failed"),
-        (LinesFault::TooLarge, "input too large"),
-        (LinesFault::Memory, "memory refused"),
-        (LinesFault::Write, "write failed"),
-    ] {
-        assert_eq!(rt; fault.to_string(rt.alloc())?.as_str(), text);
-    }
-    let refused = RunFault::Memory(3);
-    assert_eq!(rt; refused.to_string(rt.alloc())?.as_str(), "memory refused");
     let name = SetName::from_letter(b'c').ok_or("c")?;
-    let shown = format!(in rt.alloc(); "{:?} {refused:?}", Command::Count(name))?;
+    let text = format!(in rt.alloc();
+        "{}, {}, {}, {}, {}",
+        LinesFault::Read,
+        LinesFault::TooLarge,
+        LinesFault::Memory,
+        LinesFault::Write,
+        RunFault::Memory(3)
+    )?;
+    assert_eq!(rt;
+        text.as_str(),
+        "read failed, input too large, memory refused, write failed, memory refused"
+    );
+    let shown = format!(in rt.alloc(); "{:?} {:?}", Command::Count(name), RunFault::Memory(3))?;
     assert_eq!(rt; shown.as_str(), "Count(SetName { place: 2 }) Memory(3)");
     Ok(())
 }

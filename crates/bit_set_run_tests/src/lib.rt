@@ -1,0 +1,5 @@
+//! The tests of `bit_set_run`, by its public calls alone.
+#![tactic(auto)]
+
+#[cfg(test)]
+mod tests;

@@ -1,0 +1,130 @@
+//! Commands executed on a table by hand. What came of them is compared as the text that Debug shows.
+
+use bit_set_run::laws::replies_agree;
+use bit_set_run::{Command, Numbers, SetName, Table, run};
+use std::alloc::{AllocError, Global};
+use std::fmt::Write;
+use std::test::Fail;
+
+// Some numbers of their own.
+fn numbers(alloc: Global, items: &[usize]) -> Result<Numbers, AllocError> {
+    let mut copied = Vec::new(alloc);
+    copied.extend_from_slice(items)?;
+    Ok(Numbers::from_vec(copied))
+}
+
+// The name of this letter.
+fn name(letter: u8) -> Result<SetName, Fail> {
+    Ok(SetName::from_letter(letter).ok_or("no name")?)
+}
+
+// How the commands ended on sixteen empty sets, their replies, and behind them the numbers of a set.
+fn ran(alloc: Global, commands: &[Command], shown: SetName) -> Result<String, Fail> {
+    let mut table: Table<u32> = Table::new(alloc);
+    let mut replies = Vec::new(alloc);
+    let ended = run(alloc, &mut table, commands, &mut replies);
+    run(alloc, &mut table, &[Command::Items(shown)], &mut replies)?;
+    Ok(format!(in alloc; "{ended:?} {replies:?}")?)
+}
+
+#[test]
+fn runs_commands_by_hand(rt: HostRuntime) -> Result<(), Fail> {
+    assert_eq!(rt; SetName::from_letter(b'q'), None);
+    let a = name(b'a')?;
+    let commands = [
+        Command::Insert(a, 5),
+        Command::Remove(a, 6),
+        Command::Contains(a, 5),
+        Command::Count(a),
+        Command::Items(a),
+        Command::Insert(a, usize::MAX),
+        Command::Insert(a, usize::MAX - 1),
+        Command::Count(a),
+    ];
+    let text = ran(rt.alloc(), &commands, a)?;
+    assert_eq!(rt;
+        text.as_str(),
+        "Err(Memory(6)) [Truth(true), Truth(false), Truth(true), Number(1), Items(Numbers { items: [5] }), Element, Items(Numbers { items: [5] })]"
+    );
+    Ok(())
+}
+
+#[test]
+fn keeps_a_front_of_an_extend(rt: HostRuntime) -> Result<(), Fail> {
+    let a = name(b'a')?;
+    let commands = [
+        Command::Count(a),
+        Command::Extend(a, numbers(rt.alloc(), &[5, usize::MAX - 1])?),
+        Command::Count(a),
+    ];
+    let text = ran(rt.alloc(), &commands, a)?;
+    assert_eq!(rt;
+        text.as_str(),
+        "Err(Memory(1)) [Number(0), Items(Numbers { items: [5] })]"
+    );
+    Ok(())
+}
+
+// The lengths of two sets after each of the commands.
+fn lengths(alloc: Global, commands: &[Command], a: SetName, b: SetName) -> Result<String, Fail> {
+    let mut table: Table<u32> = Table::new(alloc);
+    let mut replies = Vec::new(alloc);
+    let mut text = String::new(alloc);
+    for command in commands.chunks(1) {
+        run(alloc, &mut table, command, &mut replies)?;
+        let (first, second) = (table.get(a).get_ref().len(), table.get(b).get_ref().len());
+        write!(text, "{first} {second}, ")?;
+    }
+    Ok(text)
+}
+
+#[test]
+fn sets_have_their_lengths(rt: HostRuntime) -> Result<(), Fail> {
+    let a = name(b'a')?;
+    let b = name(b'b')?;
+    let commands = [
+        Command::Count(a),
+        Command::Insert(a, 400),
+        Command::Insert(a, 3),
+        Command::Extend(a, numbers(rt.alloc(), &[7, 500])?),
+        Command::Truncate(a, 450),
+        Command::Truncate(a, 900),
+        Command::Empty(a),
+        Command::Copy(a, b),
+        Command::Reset(a),
+        Command::Copy(a, b),
+    ];
+    let text = lengths(rt.alloc(), &commands, a, b)?;
+    assert_eq!(rt;
+        text.as_str(),
+        "0 0, 401 0, 401 0, 501 0, 450 0, 450 0, 450 0, 450 450, 0 450, 0 0, "
+    );
+    Ok(())
+}
+
+// The replies of two tables of two types of blocks.
+fn agreed(alloc: Global, commands: &[Command]) -> Result<String, Fail> {
+    let mut first: Table<u8> = Table::new(alloc);
+    let mut second: Table<u64> = Table::new(alloc);
+    let replies = replies_agree(alloc, &mut first, &mut second, commands)?;
+    Ok(format!(in alloc; "{replies:?}")?)
+}
+
+#[test]
+fn two_types_of_blocks_agree(rt: HostRuntime) -> Result<(), Fail> {
+    let a = name(b'a')?;
+    let b = name(b'b')?;
+    let commands = [
+        Command::Extend(a, numbers(rt.alloc(), &[9, usize::MAX, 11])?),
+        Command::Extend(a, numbers(rt.alloc(), &[200])?),
+        Command::Copy(a, a),
+        Command::Copy(a, b),
+        Command::RestIter(b, 1),
+    ];
+    let text = agreed(rt.alloc(), &commands)?;
+    assert_eq!(rt;
+        text.as_str(),
+        "([Element, Done, Same, Done, Rest(1, Numbers { items: [200] })], [Element, Done, Same, Done, Rest(1, Numbers { items: [200] })])"
+    );
+    Ok(())
+}
