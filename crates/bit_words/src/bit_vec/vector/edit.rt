@@ -73,6 +73,26 @@ impl<B: BitBlock> BitVec<B> {
         ensures room { self.old.room ≤ self.new.room }
     {
         let len = self.len + n;
+        if !bit && block_count::<B>(len) == self.blocks.len() {
+            self.len = len;
+            return Ok(());
+        }
+        self.grow_blocks(n, bit)
+    }
+
+    // `grow` where a block is written. It is a call of its own, so that a list that grows by a value
+    // at a time, past the last block once in its width, saves no registers for what is rare.
+    #[inline(never)]
+    fn grow_blocks(&mut self, n: usize, bit: bool) -> Result<(), AllocError>
+        requires { length self.old.values + n ≤ usize.MAX }
+        ensures ok { OnOk result (self.new.values ≡ self.old.values ++ replicate n bit) }
+        ensures holds_values { OnOk result (length self.old.values + n ≤ self.new.room) }
+        ensures err { OnErr result (self.new ≡ self.old) }
+        ensures full { OnErr result (self.old.room < length self.old.values + n) }
+        ensures succeeds { length self.old.values + n ≤ self.old.room → IsOk result }
+        ensures room { self.old.room ≤ self.new.room }
+    {
+        let len = self.len + n;
         let count = block_count::<B>(len);
         self.blocks.reserve(count - self.blocks.len())?;
         append_values(&mut self.blocks, self.len, len, bit);
