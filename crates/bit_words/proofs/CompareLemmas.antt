@@ -116,10 +116,13 @@ intersection_of_blocks w ms ns count pos ends = (
 
 -- ---- lists
 
--- a true value of a list is one of its blocks
+-- a value of a list is one of its blocks
+pub value_in_view : (w n r : ℕ) (ms : List ℕ) (v : Bits) → record { values = values_of w ms n; room = r } ≡ v → IsCleanFrom w ms n → (i : ℕ) → get_or v.values i false ≡ value_at w ms i
+value_in_view w n r ms v e clean i = sym (ap (λ b. get_or b.values i false) e) ∙ get_or-values_of_clean w ms n i clean
+
 pub true_at : (w n r : ℕ) (ms : List ℕ) (v : Bits) → record { values = values_of w ms n; room = r } ≡ v → IsCleanFrom w ms n → (i : ℕ) → (slice_get v.values i ≡ Some true) ↔ (value_at w ms i ≡ true)
 true_at w n r ms v e clean i =
-    let same : get_or v.values i false ≡ value_at w ms i = sym (ap (λ b. get_or b.values i false) e) ∙ get_or-values_of_clean w ms n i clean in (
+    let same = value_in_view w n r ms v e clean i in (
       λ found. sym same ∙ get_or_from_slice_get v.values i true false found,
       λ one. slice_get_from_true v.values i (ap digit_of (same ∙ one)),
     )

@@ -11,3 +11,4 @@ pub mod ByteLemmas
 pub mod SourceLemmas
 pub mod MergeLemmas
 pub mod CompareLemmas
+pub mod RoomLemmas

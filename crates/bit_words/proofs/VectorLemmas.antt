@@ -1,5 +1,5 @@
 -- What the calls of a bit vector cite: its length, its room and its list.
-use Rattle.std.proofs.Common.{◌≡◌, ℕ, ◌+◌, ◌*◌, ◌/◌, ◌%◌, ◌^◌, ◌<◌, ◌≤◌, Bool, false, zero, suc, List, [], ◌∷◌, map, length, get_or, refl, sym, ap, ◌∙◌, arith, ⊎_elim, Some, None, slice_get, All, mul-le-mul_right, pow_pos}
+use Rattle.std.proofs.Common.{◌≡◌, ℕ, ◌+◌, ◌*◌, ◌/◌, ◌%◌, ◌^◌, ◌<◌, ◌≤◌, max, Bool, false, zero, suc, List, [], ◌∷◌, map, length, get_or, refl, sym, ap, ◌∙◌, arith, ⊎_elim, Some, None, slice_get, All, mul-le-mul_right, pow_pos}
 use Rattle.std.proofs.lemmas.Bool.{cases_lt}
 use Rattle.std.proofs.lemmas.Bool.Decides.{nat_tests}
 use Rattle.std.proofs.lemmas.List.{get_or-map, length-map}
@@ -7,8 +7,8 @@ use Rattle.std.proofs.lemmas.List.Elements.{All-tail, All-same, All-nil}
 use Rattle.std.proofs.lemmas.Nat.Bits.{bit_at-lt, bit_at-zero, same_from_bits_below}
 use Rattle.std.specs.Int.{bit_at}
 use Rattle.std.proofs.lemmas.Option.{slice_get-get_or, slice_get_past}
-use Rattle.bit_words.specs.Bits.{Bits, IsWithinRoom, blocks_for}
-use Rattle.bit_words.specs.Storage.{is_one, value_at, values_of, room_of, IsTidy}
+use Rattle.bit_words.specs.Bits.{Bits, IsWithinRoom, IsRoomOfBlocks, blocks_for, room_of}
+use Rattle.bit_words.specs.Storage.{is_one, value_at, values_of, IsTidy}
 use Rattle.bit_words.proofs.BitsLemmas.{blocks_for-enough, blocks_for-least}
 use Rattle.bit_words.proofs.StorageLemmas.{length-values_of, value_at-past, get_or-values_of, value_at-is, value_at-place}
 use Rattle.bit_words.proofs.Masks.{is_one-zero}
@@ -34,11 +34,46 @@ room_of-short w blocks n pos h =
     (λ enough. let a : n ≤ blocks * w = omega arith in let l = blocks_for-least w n blocks pos a in absurd (omega arith))
     (cases_lt (room_of w blocks) n)
 
+pub blocks_from_room : (w blocks n : ℕ) → 0 < w → n ≤ room_of w blocks → blocks_for w n ≤ blocks
+blocks_from_room w blocks n pos h = ⊎_elim (λ short. let less = room_of-short w blocks n pos short in absurd (omega arith)) (λ enough. enough) (cases_lt blocks (blocks_for w n))
+
+room_of-max : (w a b : ℕ) → room_of w (max a b) ≡ max (room_of w a) (room_of w b)
+room_of-max w a b =
+    ⊎_elim
+    (λ (less : a < b). let more = mul-le-mul_right w (let le : a ≤ b = omega arith in le) in let e : max a b ≡ b = omega arith in rw e (omega arith))
+    (λ (enough : b ≤ a). let more = mul-le-mul_right w enough in let e : max a b ≡ a = omega arith in rw e (omega arith))
+    (cases_lt a b)
+
+-- the room that is asked for exactly
+pub room_from_max : (w n m cap got count : ℕ) (ms : List ℕ) (v : Bits) → record { values = values_of w ms n; room = room_of w cap } ≡ v → count ≡ blocks_for w (n + m) → got ≡ max cap count → room_of w got ≡ max v.room (room_of w (blocks_for w (length v.values + m)))
+room_from_max w n m cap got count ms v e is most =
+    rw (length_from_view w n _ ms v e, room_from_view (room_of w cap) (values_of w ms n) v e)
+    (ap (room_of w) (most ∙ ap (max cap) is) ∙ room_of-max w cap (blocks_for w (n + m)))
+
+-- the same, of a list that is to have m values more
+pub room_for_more : (w n m cap : ℕ) (ms : List ℕ) (v : Bits) → 0 < w → record { values = values_of w ms n; room = room_of w cap } ≡ v → length v.values + m ≤ v.room → blocks_for w (n + m) ≤ cap
+room_for_more w n m cap ms v pos e h =
+    blocks_from_room w cap (n + m) pos (rw (length_from_view w n _ ms v e, room_from_view (room_of w cap) (values_of w ms n) v e) at h)
+
+pub no_room_for_more : (w n m cap : ℕ) (ms : List ℕ) (v : Bits) → 0 < w → record { values = values_of w ms n; room = room_of w cap } ≡ v → cap < blocks_for w (n + m) → v.room < length v.values + m
+no_room_for_more w n m cap ms v pos e h =
+    rw (length_from_view w n _ ms v e, room_from_view (room_of w cap) (values_of w ms n) v e) (room_of-short w cap (n + m) pos h)
+
+pub room_got : (w n m cap : ℕ) (ms : List ℕ) (v : Bits) (r : ℕ) → 0 < w → record { values = values_of w ms n; room = r } ≡ v → n + m < 2 ^ 64 → blocks_for w (n + m) ≤ cap → length v.values + m ≤ room_of w cap
+room_got w n m cap ms v r pos e fits h = rw (length_from_view w n r ms v e) (le-room_of w cap (n + m) pos fits h)
+
 pub is_within_room : {X : Type 0} (w n cap : ℕ) (f : X → ℕ) (P : X → Type 0) (xs : List X) (v : Bits) → 0 < w → IsTidy w f P xs n → length xs ≤ cap → record { values = values_of w (map f xs) n; room = room_of w cap } ≡ v → IsWithinRoom v
 is_within_room w n cap f P xs v pos tidy h e = record {
   holds_values = rw (length_from_view w n (room_of w cap) (map f xs) v e, room_from_view (room_of w cap) (values_of w (map f xs) n) v e)
       (le-room_of w cap n pos tidy.fits (let c = tidy.count in omega arith));
   fits = rw (room_from_view (room_of w cap) (values_of w (map f xs) n) v e) (omega arith);
+}
+
+pub is_room_of_blocks : {X : Type 0} (w n cap : ℕ) (f : X → ℕ) (P : X → Type 0) (xs : List X) (v : Bits) → IsTidy w f P xs n → length xs ≤ cap → record { values = values_of w (map f xs) n; room = room_of w cap } ≡ v → IsRoomOfBlocks w v
+is_room_of_blocks w n cap f P xs v tidy h e = record {
+  blocks = cap;
+  room = room_from_view (room_of w cap) (values_of w (map f xs) n) v e;
+  enough = rw (length_from_view w n (room_of w cap) (map f xs) v e) (let c = tidy.count in omega arith);
 }
 
 -- ---- one value
@@ -83,7 +118,7 @@ zero_from_all_false w n f P xs pos below tidy falses k d within =
 
 -- ---- the empty list
 
-blocks_for-none : (w : ℕ) → 0 < w → 0 ≡ blocks_for w 0
+pub blocks_for-none : (w : ℕ) → 0 < w → 0 ≡ blocks_for w 0
 blocks_for-none w pos = let l = blocks_for-least w 0 0 pos (omega arith) in omega arith
 
 pub tidy_nil : {X : Type 0} (w : ℕ) (f : X → ℕ) (P : X → Type 0) (xs : List X) → 0 < w → xs ≡ [] → IsTidy w f P xs 0

@@ -1,5 +1,5 @@
 -- A list of truth values, and the blocks that store it.
-use Rattle.std.specs.Prelude.{ℕ, ◌≤◌, ◌^◌, ◌+◌, ◌-◌, ◌*◌, ◌/◌, ◌%◌, min, Bool, true, false, List, [], ◌∷◌, map, length, take, drop, ◌==◌}
+use Rattle.std.specs.Prelude.{◌≡◌, ℕ, ◌||◌, nat_lt, nat_le, if◌then◌else◌, ◌≤◌, ◌^◌, ◌+◌, ◌-◌, ◌*◌, ◌/◌, ◌%◌, min, Bool, true, false, List, [], ◌∷◌, map, length, take, drop, ◌==◌}
 use Rattle.std.specs.Int.{bit_at}
 use Rattle.std.specs.List.{range_with_len, flat_map}
 
@@ -16,6 +16,26 @@ pub record IsWithinRoom (v : Bits) : Type 0 where
 -- how many blocks of w values a list of n has: n / w, rounded up
 abbrev pub blocks_for : ℕ → ℕ → ℕ
 blocks_for w n = n / w + min 1 (n % w)
+
+-- how many values there is room for in that many blocks of w: no more than `usize::MAX`
+abbrev pub room_of : ℕ → ℕ → ℕ
+room_of w blocks = min (blocks * w) (2 ^ 64 - 1)
+
+-- What else holds of it: the room is that of some blocks, and they are enough for the list.
+pub record IsRoomOfBlocks (w : ℕ) (v : Bits) : Type 0 where
+  pub blocks : ℕ
+  pub room : v.room ≡ room_of w blocks
+  pub enough : blocks_for w (length v.values) ≤ blocks
+
+-- one past the last index at which a list is true, 0 where there is none
+abbrev pub true_end : List Bool → ℕ
+true_end [] = 0
+true_end (b ∷ bs) = if b || nat_lt 0 (true_end bs) then true_end bs + 1 else 0
+
+-- the length of the blocks up to there, or that of the list where they are longer than a `usize` says
+abbrev pub whole_blocks : ℕ → List Bool → ℕ
+whole_blocks w values =
+    let whole = blocks_for w (true_end values) * w in if nat_le whole (2 ^ 64 - 1) then whole else length values
 
 -- the binary digit of a truth value
 abbrev pub digit_of : Bool → ℕ

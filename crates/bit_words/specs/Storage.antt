@@ -1,5 +1,5 @@
 -- How a vector of blocks holds a list of truth values. No public clause cites this.
-use Rattle.std.specs.Prelude.{◌≡◌, ℕ, ◌-◌, ◌*◌, ◌^◌, min, ◌/◌, ◌%◌, ◌<◌, ◌≤◌, Bool, false, List, map, length, get_or, ◌==◌, All}
+use Rattle.std.specs.Prelude.{◌≡◌, ℕ, ◌-◌, ◌^◌, ◌/◌, ◌%◌, ◌<◌, ◌≤◌, Bool, false, List, map, length, get_or, ◌==◌, All}
 use Rattle.std.specs.Int.{bit_at}
 use Rattle.std.specs.List.{range_with_len}
 use Rattle.bit_words.specs.Bits.{blocks_for}
@@ -25,10 +25,6 @@ pub record IsCleanFrom (w : ℕ) (ms : List ℕ) (n : ℕ) : Type 0 where
 -- value i of a list of bytes, the highest digit of each byte first
 unfoldable pub byte_value : List ℕ → ℕ → Bool
 byte_value bytes i = is_one (get_or bytes (i / 8) 0) (7 - i % 8)
-
--- how many values there is room for in that many blocks of w: no more than `usize::MAX`
-abbrev pub room_of : ℕ → ℕ → ℕ
-room_of w blocks = min (blocks * w) (2 ^ 64 - 1)
 
 -- The blocks xs hold a list of n values: each is a block value, there are as many as it takes, what no value uses is 0, and n is a `usize`.
 pub record IsTidy {X : Type 0} (w : ℕ) (number : X → ℕ) (is_block : X → Type 0) (xs : List X) (n : ℕ) : Type 0 where

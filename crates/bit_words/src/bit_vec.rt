@@ -13,6 +13,7 @@ mod merge;
 #[cfg(test)]
 mod merge_tests;
 mod merging;
+mod room;
 mod steps;
 #[cfg(test)]
 mod tests;

@@ -47,7 +47,7 @@ fn push_ones<B: BitBlock>(blocks: &mut Vec<B>, len: usize)
 
 // Keeps the first `count` blocks.
 #[inline]
-fn keep_blocks<B: BitBlock>(blocks: &mut Vec<B>, count: usize)
+pub(crate) fn keep_blocks<B: BitBlock>(blocks: &mut Vec<B>, count: usize)
     requires fewer { count ≤ vec_len blocks.old }
     requires each { All B.is_block blocks.old.items }
     ensures numbers { map B.number blocks.new.items ≡ take count (map B.number blocks.old.items) }

@@ -1,5 +1,5 @@
 ghost use Rattle.std.specs.Prelude.{◌≡◌, ◌↔◌, All, IsTrue, false, length, map, slice_get};
-ghost use Rattle.bit_words.specs.Bits.{blocks_of, IsWithinRoom};
+ghost use Rattle.bit_words.specs.Bits.{blocks_of, IsRoomOfBlocks, IsWithinRoom};
 
 use super::changes::{are_zero, value_of};
 use super::{BitBlock, Blocks};
@@ -9,6 +9,7 @@ mod compare;
 mod edit;
 mod making;
 mod merging;
+mod room;
 mod texts;
 
 pub use making::BitsError;
@@ -26,8 +27,8 @@ pub struct BitVec<B: BitBlock = u32> {
 
 impl<B: BitBlock> Model for BitVec<B> {
     ghost use Rattle.std.specs.Prelude.{map, vec_capacity};
-    ghost use Rattle.bit_words.specs.Bits.{Bits};
-    ghost use Rattle.bit_words.specs.Storage.{values_of, room_of, IsTidy};
+    ghost use Rattle.bit_words.specs.Bits.{Bits, room_of};
+    ghost use Rattle.bit_words.specs.Storage.{values_of, IsTidy};
 
     ghost Value = { Bits };
 
@@ -70,6 +71,7 @@ impl<B: BitBlock> BitVec<B> {
     pub fn capacity(&self) -> usize
         ensures value { result ≡ self.now.room }
         ensures fits { IsWithinRoom self.now }
+        ensures whole { IsRoomOfBlocks B.width self.now }
     {
         self.blocks.capacity().saturating_mul(B::bits())
     }
