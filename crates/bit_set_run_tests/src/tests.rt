@@ -37,6 +37,18 @@ const ROWS: &[(&[u8], &[u8])] = &[
         b"extend b 3 200\nrest iter b 0\nrest iter b 1\nrest iter b 9\nrest iter q 1\n",
         b"ok\n2 {3, 200}\n1 {200}\n0 {}\nbad command\n",
     ),
+    (
+        b"insert a 18446744073709551615\nunion_with a a\nfrob\ninsert a 99999999999999999999\ninsert q 1\n\ninsert a\ninsert a -1\ninsert a 007\ncopy a a\ncontains a 18446744073709551615\nextend a 9 18446744073709551615 11\nextend a\nitems a",
+        b"refused element\nrefused same\nbad command\nbad number\nbad command\nbad command\nbad command\nbad command\ntrue\nrefused same\nfalse\nrefused element\nok\n{7, 9}\n",
+    ),
+    (
+        b"extend a 1 3 5 200 500\nextend b 3 200\ndifference a b\nrest difference a b 1\nrest difference a b 9\nrest iter b 0\nrest union a b 3\nunion a b\nsymmetric_difference b a\nintersection a a\nsuperset a b\nintersect_with a b\nitems a\neq a b\ncmp a b\ncmp a c\nsubset c a\ndisjoint a b\ntruncate a 200\nitems a\nunion_with c b\nsymmetric_difference_with c a\nitems c\ndifference_with b a\nitems b\ncopy d a\nis_empty a\nempty b\nreset c\neq b c\ncount c\n",
+        b"ok\nok\n{1, 5, 500}\n2 {5, 500}\n0 {}\n2 {3, 200}\n2 {200, 500}\n{1, 3, 5, 200, 500}\n{1, 5, 500}\n{1, 3, 5, 200, 500}\ntrue\nok\n{3, 200}\ntrue\nEqual\nGreater\ntrue\nfalse\nok\n{3}\nok\nok\n{200}\nok\n{200}\nok\ntrue\nok\nok\ntrue\n0\n",
+    ),
+    (
+        b"extend a 1 3 5 200 500\nextend b 3 200\nrest frob a b 1\nrest union a b\nunion a\nunion a b 1\nrest union a b 99999999999999999999\nrest intersection a b 1\nrest symmetric_difference a b 2\nsymmetric_difference a a\ndifference b a\nintersection a b\ncmp c a\nsuperset c a\ndisjoint a c\nsubset a b\neq a b\nitems a\n",
+        b"ok\nok\nbad command\nbad command\nbad command\nbad command\nbad number\n1 {200}\n1 {500}\n{}\n{}\n{3, 200}\nLess\nfalse\ntrue\nfalse\nfalse\n{1, 3, 5, 200, 500}\n",
+    ),
     (b"", b""),
     // The last line may lack its newline.
     (
