@@ -5,7 +5,9 @@ use Rattle.std.proofs.Math.Nat.{le_of_mul-le-mul_left, mul-sub, mul_comm}
 use Rattle.std.proofs.lemmas.Nat.{div-mul-add}
 use Rattle.bit_words.specs.Bits.{blocks_for}
 use Rattle.bit_set.specs.Sets.{elements}
-use Rattle.bit_set.specs.Walk.{Walk, Advances, IsWalkedOut, IsAtStart}
+use Rattle.bit_set.specs.Walk.{Walk, Advances, AdvancesByEach, IsWalkedOut, IsWalkedOutByEach, IsAtStart, StartsOverTwo, WalksOverTwo}
+use Rattle.bit_words.specs.declared.bit_vec.merge.Merge.{Merge}
+use Rattle.bit_set.proofs.WalkLemmas.{by_each}
 
 pub walked_out : (w : ℕ) (s t : Walk) (items : List ℕ) → YieldsThen (Advances w) s items None t → IsWalkedOut s items t
 walked_out w s t [] run =
@@ -43,12 +45,55 @@ along w s t [] run = sym (ap (λ walk. walk.place + w * walk.blocks) run)
 along w s t (x ∷ xs) run = along w run.0 t xs run.2 ∙ run.1.along
 
 -- after an item the block in hand is the one that has it
-pub in_hand : (w : ℕ) (values : List Bool) (s t : Walk) (items : List ℕ) (x : ℕ) → 0 < w → IsAtStart w values s → YieldsThen (Advances w) s items (Some x) t → t.blocks ≡ blocks_for w (length values) - 1 - x / w
-in_hand w values s t items x pos start run =
-    let past = blocks_for w (length values) - 1 in
-    let whole : t.place + w * t.blocks ≡ w * past = run.2.along ∙ along w s run.0 items run.1 ∙ omega (arith, start.place, ap (λ k. w * k) start.blocks) in
+in_hand_of : (w past : ℕ) (s t : Walk) (items : List ℕ) (x : ℕ) → 0 < w → s.place ≡ 0 → s.blocks ≡ past → YieldsThen (Advances w) s items (Some x) t → t.blocks ≡ past - x / w
+in_hand_of w past s t items x pos place blocks run =
+    let whole : t.place + w * t.blocks ≡ w * past = run.2.along ∙ along w s run.0 items run.1 ∙ omega (arith, place, ap (λ k. w * k) blocks) in
     let few : t.blocks ≤ past = le_of_mul-le-mul_left (omega (arith, whole)) pos in
     let first : t.place ≡ (past - t.blocks) * w = omega (arith, whole, mul-sub w past t.blocks, mul_comm w (past - t.blocks)) in
     let number : (past - t.blocks) * w + (x - t.place) ≡ x = omega (arith, first, run.2.at.0) in
     let block : x / w ≡ past - t.blocks = ap (λ n. n / w) (sym number) ∙ div-mul-add (past - t.blocks) w (x - t.place) (omega (arith, run.2.at)) in
     omega (arith, few, block)
+
+pub in_hand : (w : ℕ) (values : List Bool) (s t : Walk) (items : List ℕ) (x : ℕ) → 0 < w → IsAtStart w values s → YieldsThen (Advances w) s items (Some x) t → t.blocks ≡ blocks_for w (length values) - 1 - x / w
+in_hand w values s t items x pos start run = in_hand_of w (blocks_for w (length values) - 1) s t items x pos start.place start.blocks run
+
+-- ---- walks over two sets
+
+module _ {S T : Type 0} (f : S → T) (steps : S → Option ℕ → S → Type 0) (same : T → Option ℕ → T → Type 0) (each : (s : S) (r : Option ℕ) (t : S) → steps s r t → same (f s) r (f t)) where
+  -- the calls on one walk, seen as those on another
+  seen : (s t : S) (items : List ℕ) → Yields steps s items t → Yields same (f s) items (f t)
+  seen s t [] run = ap f run
+  seen s t (x ∷ xs) run = (f run.0, each s (Some x) run.0 run.1, seen run.0 t xs run.2)
+
+  seen_then : (s t : S) (items : List ℕ) (r : Option ℕ) → YieldsThen steps s items r t → YieldsThen same (f s) items r (f t)
+  seen_then s t items r run = (f run.0, seen s run.0 items run.1, each run.0 r t run.2)
+
+walked_out_by_each : (w : ℕ) (s t : Walk) (items : List ℕ) → YieldsThen (AdvancesByEach w) s items None t → IsWalkedOutByEach s items t
+walked_out_by_each w s t [] run =
+    let pulls = ap (λ walk. walk.pulls) run.1 in
+    let blocks = ap (λ walk. walk.blocks) run.1 in
+    record {
+      all = sym (ap (λ walk. walk.left) run.1 ∙ run.2.item.0);
+      ended = run.2.item.1;
+      pulled = omega (arith, run.2.pulled, pulls, blocks);
+    }
+walked_out_by_each w s t (x ∷ xs) run =
+    let step = run.1.1 in
+    let rest = walked_out_by_each w run.1.0 t xs (run.0, run.1.2, run.2) in
+    record {
+      all = ap (λ ys. x ∷ ys) rest.all ∙ sym step.item;
+      ended = rest.ended;
+      pulled = omega (arith, rest.pulled, step.pulled);
+    }
+
+pub over_two : {S : Type 0} (w : ℕ) (merge : Merge) (walk : S → Walk) (next : S → Option ℕ → S → Type 0) → 0 < w → ((s : S) (r : Option ℕ) (t : S) → next s r t → AdvancesByEach w (walk s) r (walk t)) → WalksOverTwo w merge walk next
+over_two w merge walk next pos each =
+    let out = λ (s : _) (t : _) (items : List ℕ) (run : YieldsThen next s items None t). walked_out_by_each w (walk s) (walk t) items (seen_then walk next (AdvancesByEach w) each s t items None run) in
+    record {
+      rest = out;
+      whole = λ a b s t items left start run. let ended = out s t items run in (ended.all ∙ left, omega (arith, ended.pulled, start.pulls, start.blocks));
+      in_hand = λ a b s t items x start run. in_hand_of w (max (blocks_for w (length a)) (blocks_for w (length b)) - 1) (walk s) (walk t) items x pos start.place start.blocks
+          (seen_then walk next (Advances w) (λ u r v step. by_each w (walk u) (walk v) r (each u r v step)) s t items (Some x) run);
+      for_good = λ s t r ended step. none_for_good w (walk s) (walk t) r ended (by_each w (walk s) (walk t) r (each s r t step));
+      count = λ s items run. ap length (out s run.0 items run.1).all;
+    }

@@ -1,8 +1,9 @@
 -- Walks over the elements of a set, block by block.
-use Rattle.std.specs.Prelude.{◌≡◌, ℕ, ◌+◌, ◌-◌, ◌*◌, ◌^◌, ◌<◌, ◌≤◌, max, Bool, nat_lt, if◌then◌else◌, List, [], length, Option, Some, None, MatchOption}
-use Rattle.std.specs.Iterator.{YieldsFirst}
+use Rattle.std.specs.Prelude.{◌≡◌, ℕ, ◌+◌, ◌-◌, ◌*◌, ◌/◌, ◌^◌, ◌<◌, ◌≤◌, max, Bool, nat_lt, if◌then◌else◌, List, [], length, Option, Some, None, MatchOption}
+use Rattle.std.specs.Iterator.{YieldsFirst, YieldsThen, Drains}
 use Rattle.bit_words.specs.Bits.{blocks_for}
-use Rattle.bit_set.specs.Sets.{elements}
+use Rattle.bit_words.specs.declared.bit_vec.merge.Merge.{Merge}
+use Rattle.bit_set.specs.Sets.{elements, merged_sets}
 
 -- What contracts see of a walk: the elements that are left, how often it called `next` on its block
 -- source, the number that stands first in the block in hand, and how many blocks are past that block.
@@ -46,6 +47,12 @@ pub record IsWalkedOut (s : Walk) (items : List ℕ) (t : Walk) : Type 0 where
   pub ended : t.left ≡ []
   pub pulled : t.pulls ≤ s.pulls + s.blocks + 1
 
+-- The same, of a walk that pulls each block that it passes just once.
+pub record IsWalkedOutByEach (s : Walk) (items : List ℕ) (t : Walk) : Type 0 where
+  pub all : items ≡ s.left
+  pub ended : t.left ≡ []
+  pub pulled : t.pulls ≡ s.pulls + s.blocks + 1
+
 -- At the making of a walk over the elements of a list of truth values, in blocks of w. It has pulled one block, or found that there is none.
 pub record IsAtStart (w : ℕ) (values : List Bool) (s : Walk) : Type 0 where
   pub left : s.left ≡ elements values
@@ -63,6 +70,20 @@ pub record StartsOverTwo (w : ℕ) (a b : List Bool) (s : Walk) : Type 0 where
   pub blocks : s.blocks ≡ max (blocks_for w (length a)) (blocks_for w (length b)) - 1
   -- so that the elements can be counted
   pub few : length s.left < 2 ^ 64
+
+-- What whole walks over two sets give, in blocks of w. S is what contracts see of such a walk, and `walk` what that
+-- says of the walk itself.
+pub record WalksOverTwo {S : Type 0} (w : ℕ) (merge : Merge) (walk : S → Walk) (next : S → Option ℕ → S → Type 0) : Type 0 where
+  -- from any point, up to the first None
+  pub rest : (s t : S) (items : List ℕ) → YieldsThen next s items None t → IsWalkedOutByEach (walk s) items (walk t)
+  -- from the making on
+  pub whole : (a b : List Bool) (s t : S) (items : List ℕ) → (walk s).left ≡ merged_sets merge (elements a) (elements b) → StartsOverTwo w a b (walk s) → YieldsThen next s items None t
+      → (items ≡ merged_sets merge (elements a) (elements b)) × ((walk t).pulls ≡ max 1 (max (blocks_for w (length a)) (blocks_for w (length b))) + 1)
+  -- after an item x the block in hand is the one that has it
+  pub in_hand : (a b : List Bool) (s t : S) (items : List ℕ) (x : ℕ) → StartsOverTwo w a b (walk s) → YieldsThen next s items (Some x) t → (walk t).blocks ≡ max (blocks_for w (length a)) (blocks_for w (length b)) - 1 - x / w
+  pub for_good : (s t : S) (r : Option ℕ) → (walk s).left ≡ [] → next s r t → (r ≡ None) × ((walk t).left ≡ [])
+  -- however `next` is called, it is these calls
+  pub count : (s : S) (items : List ℕ) → Drains next s items → length items ≡ length (walk s).left
 
 -- the digits of the block in hand and of the blocks past it, where that fits a `usize`
 abbrev pub bound_on_rest : ℕ → ℕ → Option ℕ

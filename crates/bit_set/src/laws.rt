@@ -6,7 +6,7 @@ ghost use Rattle.std.specs.Cmp.{IsEquivalence, IsTotalOrder};
 ghost use Rattle.std.specs.Ordering.{nat_cmp};
 ghost use Rattle.std.specs.Iterator.{YieldsThen, Drains};
 ghost use Rattle.bit_words.specs.Bits.{blocks_for};
-ghost use Rattle.bit_set.specs.Walk.{Walk, BoundedWalk, IsWalkedOut, IsAtStart};
+ghost use Rattle.bit_set.specs.Walk.{Walk, BoundedWalk, IsWalkedOut, IsAtStart, WalksOverTwo};
 ghost use Rattle.bit_words.specs.Merges.{merged_value, merged};
 ghost use Rattle.bit_words.specs.declared.bit_vec.merge.Merge.{Merge};
 ghost use Rattle.bit_set.specs.Sets.{IsAscending, has, put, put_all, without, those_below, elements, bound_of, union, intersection, difference, symmetric_difference, merged_sets, is_subset, is_disjoint};
@@ -144,4 +144,14 @@ pub fn whole_walks<B: BitBlock + 'static>()
         → YieldsThen ⟦<Iter<'static, B> as Iterator>⟧.next_gives s items (Some x) t → t.blocks ≡ blocks_for B.width (length values) - 1 - x / B.width }
     ensures for_good { (s t : Walk) (r : Option ℕ) → s.left ≡ [] → ⟦<Iter<'static, B> as Iterator>⟧.next_gives s r t → (r ≡ None) × (t.left ≡ []) }
     ensures count { (s : Walk) (items : List ℕ) → Drains ⟦<Iter<'static, B> as Iterator>⟧.next_gives s items → length items ≡ length s.left }
+{}
+
+/// What whole walks over two sets give, for each of the four. As above, but the pulls are exact: from any
+/// point up to the first `None` there is just one more than there are blocks past the block in hand, and
+/// from the making on one more than the set with more blocks has, and two where both have none.
+pub fn whole_walks_over_two_sets<B: BitBlock + 'static>()
+    ensures union { WalksOverTwo B.width Merge.Union (λ walk. walk) ⟦<Union<'static, B> as Iterator>⟧.next_gives }
+    ensures intersection { WalksOverTwo B.width Merge.Intersection (λ it. it.walk) ⟦<Intersection<'static, B> as Iterator>⟧.next_gives }
+    ensures difference { WalksOverTwo B.width Merge.Difference (λ walk. walk) ⟦<Difference<'static, B> as Iterator>⟧.next_gives }
+    ensures symmetric_difference { WalksOverTwo B.width Merge.Symmetric (λ walk. walk) ⟦<SymmetricDifference<'static, B> as Iterator>⟧.next_gives }
 {}
