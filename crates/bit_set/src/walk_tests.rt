@@ -4,6 +4,7 @@ ghost use Rattle.std.specs.Iterator.{UpTo, YieldsThen};
 ghost use Rattle.bit_set.specs.Walk.{Walk, IsAtStart};
 
 pub(crate) mod block24;
+mod two_sets;
 
 use crate::laws::whole_walks;
 use crate::lowest::take_lowest_one;
