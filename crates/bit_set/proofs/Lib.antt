@@ -11,6 +11,7 @@ pub mod PlaceLemmas
 pub mod LowestStep
 pub mod WalkLemmas
 pub mod PairLemmas
+pub mod TallyLemmas
 pub mod WalkLaws
 pub mod UnlikeLemmas
 pub mod OrderLemmas

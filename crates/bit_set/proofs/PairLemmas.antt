@@ -52,7 +52,7 @@ length-intersection a b = let same = ap length (elements-merged Intersection a b
 -- ---- a pull of both
 
 -- the digits of two blocks, and what is past them
-both_digits : (merge : Merge) (m n r a w : ℕ) (xs ys : List Bool) → ((i : ℕ) → a ≤ i → i < a + w → is_one r i ≡ merged_value merge (is_one m i) (is_one n i)) → merged merge (digits_from m a w ++ xs) (digits_from n a w ++ ys) ≡ digits_from r a w ++ merged merge xs ys
+pub both_digits : (merge : Merge) (m n r a w : ℕ) (xs ys : List Bool) → ((i : ℕ) → a ≤ i → i < a + w → is_one r i ≡ merged_value merge (is_one m i) (is_one n i)) → merged merge (digits_from m a w ++ xs) (digits_from n a w ++ ys) ≡ digits_from r a w ++ merged merge xs ys
 both_digits merge m n r a zero xs ys each = refl
 both_digits merge m n r a (suc w) xs ys each =
     ap (λ b. b ∷ merged merge (digits_from m (a + 1) w ++ xs) (digits_from n (a + 1) w ++ ys)) (sym (each a (omega arith) (omega arith)))
@@ -76,7 +76,7 @@ module _ {X : Type 0} (w : ℕ) (number : X → ℕ) (merge : Merge) where
   abbrev pub both_held : List X → List X → List Bool
   both_held xs ys = merged merge (values_in w (map number xs)) (values_in w (map number ys))
 
-  same_held : (xs xs' ys ys' : List X) → xs ≡ xs' → ys ≡ ys' → both_held xs ys ≡ both_held xs' ys'
+  pub same_held : (xs xs' ys ys' : List X) → xs ≡ xs' → ys ≡ ys' → both_held xs ys ≡ both_held xs' ys'
   same_held xs xs' ys ys' first second = ap (λ zs. both_held zs ys) first ∙ ap (λ zs. both_held xs' zs) second
 
   abbrev pub both_ahead : List X → List X → ℕ → Ahead

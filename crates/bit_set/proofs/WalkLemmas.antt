@@ -118,7 +118,7 @@ IsWalkable-of w ahead values long blocks same fits = record {
 
 module _ {X : Type 0} (w : ℕ) (number : X → ℕ) where
   -- what blocks hold
-  abbrev held : List X → List Bool
+  abbrev pub held : List X → List Bool
   held xs = values_in w (map number xs)
 
   pub length-held : (xs : List X) → length (held xs) ≡ length xs * w

@@ -1,12 +1,13 @@
 // The blocks of two sets, merged.
-ghost use Rattle.std.specs.Prelude.{◌≡◌, ◌-◌, ◌<◌, ◌^◌, max, IfSome, length};
+ghost use Rattle.std.specs.Prelude.{◌≡◌, ◌-◌, ◌<◌, ◌^◌, ◌⊎◌, max, IfSome, All, [], length, map};
 ghost use Rattle.bit_words.specs.Bits.{blocks_for};
 ghost use Rattle.bit_set.specs.Sets.{elements, merged_sets};
-ghost use Rattle.bit_set.specs.Places.{IsMergedPull};
+ghost use Rattle.bit_set.specs.Places.{IsMergedPull, values_in};
+ghost use Rattle.bit_words.specs.Merges.{merged};
 ghost use Rattle.bit_set.specs.Walk.{StartsOverTwo};
 
 use super::ones::Ones;
-use super::source::BlockSource;
+use super::source::{BlockSource, ones_of};
 use crate::BitBlock;
 use crate::bit_vec::{BitVec, Blocks, Merge};
 
@@ -39,13 +40,13 @@ impl<'a, B: BitBlock> BlockSource<B> for Pairs<'a, B> {
         self.first.size_hint().0.max(self.second.size_hint().0)
     }
 
+    #[inline]
     fn count_ones(self) -> usize {
-        let mut pairs = self;
-        let mut ones = 0;
-        while let Some(block) = pairs.pull() {
-            ones += block.count_ones();
-        }
-        ones
+        let first = self.first.as_slice();
+        let second = self.second.as_slice();
+        let both = first.len().min(second.len());
+        ones_of_both(self.merge, &first[..both], &second[..both])
+            + ones_of_rest(self.merge, &first[both..], &second[both..])
     }
 
     #[inline]
@@ -71,6 +72,38 @@ fn merged_block<B: BitBlock>(merge: Merge, first: Option<B>, second: Option<B>) 
         (Some(a), None) => Some(merge.of_blocks(a, B::zero())),
         (None, Some(b)) => Some(merge.of_blocks(B::zero(), b)),
         (None, None) => None,
+    }
+}
+
+// How many ones two rows of blocks of one length have, merged.
+#[inline]
+fn ones_of_both<B: BitBlock>(merge: Merge, first: &[B], second: &[B]) -> usize
+    requires long { length first.now ≡ length second.now }
+    requires first { All B.is_block first.now }
+    requires second { All B.is_block second.now }
+    requires fits { length (elements (merged merge (values_in B.width (map B.number first.now)) (values_in B.width (map B.number second.now)))) < 2 ^ 64 }
+    ensures { result ≡ length (elements (merged merge (values_in B.width (map B.number first.now)) (values_in B.width (map B.number second.now)))) }
+{
+    let mut ones = 0;
+    for i in 0..first.len() {
+        ones += merge.of_blocks(first[i], second[i]).count_ones();
+    }
+    ones
+}
+
+// How many ones the rest of the longer row has, merged with zeros. The other one is at its end.
+#[inline]
+fn ones_of_rest<B: BitBlock>(merge: Merge, first: &[B], second: &[B]) -> usize
+    requires ended { (first.now ≡ []) ⊎ (second.now ≡ []) }
+    requires first { All B.is_block first.now }
+    requires second { All B.is_block second.now }
+    requires fits { length (elements (merged merge (values_in B.width (map B.number first.now)) (values_in B.width (map B.number second.now)))) < 2 ^ 64 }
+    ensures { result ≡ length (elements (merged merge (values_in B.width (map B.number first.now)) (values_in B.width (map B.number second.now)))) }
+{
+    match merge {
+        Merge::Union | Merge::Symmetric => ones_of(first) + ones_of(second),
+        Merge::Intersection => 0,
+        Merge::Difference => ones_of(first),
     }
 }
 

@@ -1,6 +1,6 @@
 // Where a walk has its blocks from.
-ghost use Rattle.std.specs.Prelude.{◌≡◌, ◌^◌, ◌<◌, IfSome, length};
-ghost use Rattle.bit_set.specs.Places.{Ahead, PullsBlock};
+ghost use Rattle.std.specs.Prelude.{◌≡◌, ◌^◌, ◌<◌, IfSome, All, length, map};
+ghost use Rattle.bit_set.specs.Places.{Ahead, PullsBlock, values_in};
 ghost use Rattle.bit_set.specs.Sets.{elements};
 
 use crate::BitBlock;
@@ -56,16 +56,27 @@ impl<'a, B: BitBlock> BlockSource<B> for Blocks<'a, B> {
         self.size_hint().0
     }
 
+    #[inline]
     fn count_ones(self) -> usize {
-        let mut ones = 0;
-        for block in self {
-            ones += block.count_ones();
-        }
-        ones
+        ones_of(self.as_slice())
     }
 
     #[inline]
     fn copy(&self) -> Self {
         self.clone()
     }
+}
+
+// How many ones these blocks have.
+#[inline]
+pub(crate) fn ones_of<B: BitBlock>(blocks: &[B]) -> usize
+    requires each { All B.is_block blocks.now }
+    requires fits { length (elements (values_in B.width (map B.number blocks.now))) < 2 ^ 64 }
+    ensures { result ≡ length (elements (values_in B.width (map B.number blocks.now))) }
+{
+    let mut ones = 0;
+    for block in blocks {
+        ones += block.count_ones();
+    }
+    ones
 }

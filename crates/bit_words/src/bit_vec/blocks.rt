@@ -36,6 +36,14 @@ impl<'a, B: BitBlock> Blocks<'a, B> {
         }
     }
 
+    /// The blocks that are left, in a row. Constant time.
+    #[inline]
+    pub fn as_slice(&self) -> &'a [B]
+        ensures { result.now ≡ self.now.left }
+    {
+        self.rest
+    }
+
     /// How many blocks are left. Constant time.
     #[inline]
     pub fn count(self) -> usize
