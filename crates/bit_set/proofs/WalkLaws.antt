@@ -5,7 +5,7 @@ use Rattle.std.proofs.Math.Nat.{le_of_mul-le-mul_left, mul-sub, mul_comm}
 use Rattle.std.proofs.lemmas.Nat.{div-mul-add}
 use Rattle.bit_words.specs.Bits.{blocks_for}
 use Rattle.bit_set.specs.Sets.{elements}
-use Rattle.bit_set.specs.Walk.{Walk, Advances, AdvancesByEach, IsWalkedOut, IsWalkedOutByEach, IsAtStart, StartsOverTwo, WalksOverTwo}
+use Rattle.bit_set.specs.Walk.{Walk, Advances, AdvancesByEach, IsWalkedOut, IsWalkedOutByEach, IsAtStart, WalksOverTwo}
 use Rattle.bit_words.specs.declared.bit_vec.merge.Merge.{Merge}
 use Rattle.bit_set.proofs.WalkLemmas.{by_each}
 

@@ -1,4 +1,4 @@
-use Rattle.std.proofs.Common.{◌<◌, length, sym, subst, arith}
+use Rattle.std.proofs.Common.{◌<◌, length, arith}
 use Rattle.bit_set.proofs.TallyLemmas.{rows_counted}
 use Rattle.bit_set.proofs.walk.pairs.ones_of_both.Goals as goal
 
