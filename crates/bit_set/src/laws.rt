@@ -155,3 +155,17 @@ pub fn whole_walks_over_two_sets<B: BitBlock + 'static>()
     ensures difference { WalksOverTwo B.width Merge.Difference (λ walk. walk) ⟦<Difference<'static, B> as Iterator>⟧.next_gives }
     ensures symmetric_difference { WalksOverTwo B.width Merge.Symmetric (λ walk. walk) ⟦<SymmetricDifference<'static, B> as Iterator>⟧.next_gives }
 {}
+
+/// What each of the five walks gives up to the first `None` is strictly ascending.
+pub fn whole_walks_ascend<B: BitBlock + 'static>()
+    ensures iter { (a : List Bool) (s t : Walk) (items : List ℕ) → s.left ≡ elements a
+        → YieldsThen ⟦<Iter<'static, B> as Iterator>⟧.next_gives s items None t → IsAscending items }
+    ensures union { (a b : List Bool) (s t : Walk) (items : List ℕ) → s.left ≡ union (elements a) (elements b)
+        → YieldsThen ⟦<Union<'static, B> as Iterator>⟧.next_gives s items None t → IsAscending items }
+    ensures intersection { (a b : List Bool) (s t : BoundedWalk) (items : List ℕ) → s.walk.left ≡ intersection (elements a) (elements b)
+        → YieldsThen ⟦<Intersection<'static, B> as Iterator>⟧.next_gives s items None t → IsAscending items }
+    ensures difference { (a b : List Bool) (s t : Walk) (items : List ℕ) → s.left ≡ difference (elements a) (elements b)
+        → YieldsThen ⟦<Difference<'static, B> as Iterator>⟧.next_gives s items None t → IsAscending items }
+    ensures symmetric_difference { (a b : List Bool) (s t : Walk) (items : List ℕ) → s.left ≡ symmetric_difference (elements a) (elements b)
+        → YieldsThen ⟦<SymmetricDifference<'static, B> as Iterator>⟧.next_gives s items None t → IsAscending items }
+{}
