@@ -1,5 +1,5 @@
 -- Lemmas on bits that are filled block by block, and on the last of some blocks.
-use Rattle.std.proofs.Common.{◌≡◌, ◌≢◌, ◌==◌, ◌||◌, ℕ, zero, suc, ◌+◌, ◌-◌, ◌*◌, ◌/◌, ◌%◌, ◌^◌, ◌<◌, ◌≤◌, Bool, true, false, List, [], length, get_or, set, take, replicate, All, refl, sym, ap, ◌∙◌, ⊎_elim, pow_pos, take_all, length-take, length-set, get_or-take, get_or-set_same, get_or-set_other, arith}
+use Rattle.std.proofs.Common.{◌≡◌, ◌≢◌, ◌==◌, ◌||◌, ℕ, ◌+◌, ◌-◌, ◌*◌, ◌/◌, ◌%◌, ◌^◌, ◌<◌, Bool, true, false, List, length, get_or, set, take, replicate, All, refl, sym, ap, ◌∙◌, ⊎_elim, pow_pos, length-take, length-set, get_or-take, get_or-set_same, get_or-set_other, arith}
 use Rattle.std.specs.Int.{bit_at}
 use Rattle.std.proofs.lemmas.Bool.{eqb-true, eq-eqb, cases_lt, cases_eq}
 use Rattle.std.proofs.lemmas.List.{get_or_past, get_or-replicate, length-replicate}
@@ -8,7 +8,7 @@ use Rattle.std.proofs.lemmas.Nat.{div-mul-add}
 use Rattle.std.proofs.Math.Nat.{div-add-mod', mod-lt}
 use Rattle.bit_words.specs.Bits.{blocks_for, blocks_of, digit_of}
 use Rattle.bit_words.specs.Lowest.{IsLowest, IsCleared}
-use Rattle.bit_words.specs.Storage.{is_one, value_at, values_of, IsCleanFrom}
+use Rattle.bit_words.specs.Storage.{is_one, value_at, IsCleanFrom}
 use Rattle.bit_words.proofs.BitsLemmas.{blocks_for-least, blocks_of-digit}
 use Rattle.bit_words.proofs.Masks.{is_one-zero}
 use Rattle.bit_words.proofs.StorageLemmas.{blocks-values_of, value_at-is, value_at-past, value_at-place, values_of-same}
@@ -44,19 +44,19 @@ put_lowest w place whole left rest i old new put low within cleared inside =
     let one : is_one left i ≡ true = eq-eqb (bit_at left i) 1 low.one in
     record {
       values = λ j below.
-      ⊎_elim
-      (λ here.
-      ap (λ x. get_or (set new (place + i) true) (place + x) false || is_one rest x) here
-      ∙ ap (λ b. b || is_one rest i) (get_or-set_same new (place + i) true false inside)
-      ∙ sym (or_true (get_or new (place + i) false) (is_one left i) one)
-      ∙ put.values i within
-      ∙ ap (is_one whole) (sym here))
-      (λ apart.
-      let other : place + j ≢ place + i = λ e. apart (omega (arith, e)) in
-      ap (λ b. b || is_one rest j) (get_or-set_other new (place + i) (place + j) true false other)
-      ∙ ap (λ d. get_or new (place + j) false || (d == 1)) (cleared.kept j below apart)
-      ∙ put.values j below)
-      (cases_eq j i);
+          ⊎_elim
+          (λ here.
+          ap (λ x. get_or (set new (place + i) true) (place + x) false || is_one rest x) here
+          ∙ ap (λ b. b || is_one rest i) (get_or-set_same new (place + i) true false inside)
+          ∙ sym (or_true (get_or new (place + i) false) (is_one left i) one)
+          ∙ put.values i within
+          ∙ ap (is_one whole) (sym here))
+          (λ apart.
+          let other : place + j ≢ place + i = λ e. apart (omega (arith, e)) in
+          ap (λ b. b || is_one rest j) (get_or-set_other new (place + i) (place + j) true false other)
+          ∙ ap (λ d. get_or new (place + j) false || (d == 1)) (cleared.kept j below apart)
+          ∙ put.values j below)
+          (cases_eq j i);
       others = λ k apart. get_or-set_other new (place + i) k true false (apart i within) ∙ put.others k apart;
       long = length-set new (place + i) true ∙ put.long;
     }
@@ -121,22 +121,22 @@ block_begins w n c k pos count within =
 pub clean_from : (w n : ℕ) (ms : List ℕ) → 0 < w → length ms ≡ blocks_for w n → IsClean w ms n → IsCleanFrom w ms n
 clean_from w n ms pos count clean = record {
   clean = λ i past.
-  let split : i ≡ i / w * w + i % w = sym (div-add-mod' i w) in
-  let low : i % w < w = mod-lt i pos in
-  ⊎_elim
-  (λ early.
-  let begins : (i / w + 1) * w < n = block_begins w n (length ms) (i / w + 1) pos count (omega arith) in
-  absurd (omega arith))
-  (λ late.
-  ⊎_elim
-  (λ last.
-  let at : length ms - 1 ≡ i / w = omega arith in
-  value_at-is w ms i
-  ∙ ap (λ q. is_one (get_or ms q 0) (i % w)) (sym at)
-  ∙ ap (λ d. d == 1) (clean.tail (i % w) low (omega (arith, split, ap (λ q. q * w) at))))
-  (λ beyond. value_at-past w ms i beyond)
-  (cases_lt (i / w) (length ms)))
-  (cases_lt (i / w) (length ms - 1));
+      let split : i ≡ i / w * w + i % w = sym (div-add-mod' i w) in
+      let low : i % w < w = mod-lt i pos in
+      ⊎_elim
+      (λ early.
+      let begins : (i / w + 1) * w < n = block_begins w n (length ms) (i / w + 1) pos count (omega arith) in
+      absurd (omega arith))
+      (λ late.
+      ⊎_elim
+      (λ last.
+      let at : length ms - 1 ≡ i / w = omega arith in
+      value_at-is w ms i
+      ∙ ap (λ q. is_one (get_or ms q 0) (i % w)) (sym at)
+      ∙ ap (λ d. d == 1) (clean.tail (i % w) low (omega (arith, split, ap (λ q. q * w) at))))
+      (λ beyond. value_at-past w ms i beyond)
+      (cases_lt (i / w) (length ms)))
+      (cases_lt (i / w) (length ms - 1));
 }
 
 -- a digit that is 1 stands for an index below the length

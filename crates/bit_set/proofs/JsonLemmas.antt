@@ -1,8 +1,8 @@
 -- Lemmas on the JSON form: the members of an object, the numbers of an array, and what a value spells.
-use Rattle.std.proofs.Common.{◌≡◌, ◌≢◌, ◌==◌, ◌↔◌, ℕ, ◌+◌, ◌-◌, ◌*◌, ◌/◌, ◌%◌, ◌^◌, ◌<◌, ◌≤◌, min, Bool, codes, is_some, List, [], ◌∷◌, length, map, get_or, All, Option, Some, None, IsSome, IsTrue, option_map, option_and_then, refl, sym, ap, ◌∙◌, subst, ⊎_elim, pow_pos, unwrap_or, ok_or, Result, Err, arith}
+use Rattle.std.proofs.Common.{◌≡◌, ◌≢◌, ◌==◌, ◌↔◌, ℕ, ◌+◌, ◌-◌, ◌*◌, ◌/◌, ◌%◌, ◌^◌, ◌<◌, ◌≤◌, min, Bool, false, codes, is_some, List, [], ◌∷◌, length, map, get_or, All, Option, Some, None, IsTrue, option_map, option_and_then, refl, sym, ap, ◌∙◌, subst, ⊎_elim, pow_pos, unwrap_or, ok_or, Err, arith}
 use Rattle.std.specs.Int.{bit_at}
 use Rattle.std.proofs.lemmas.Bool.{eq-eqb, eqb-true, cases_lt}
-use Rattle.std.proofs.lemmas.List.{length-map, get_or-map}
+use Rattle.std.proofs.lemmas.List.{length-map, get_or-map, ext_get_or}
 use Rattle.std.proofs.lemmas.List.Elements.{All-nil, All-cons, All-head, All-tail, All-same, All-map, All-weaker, All-from_get_or}
 use Rattle.std.proofs.lemmas.Nat.Bits.{bit_at-zero, same_from_bits_below}
 use Rattle.std.proofs.lemmas.Option.{same_Some, none-some}
@@ -15,10 +15,12 @@ use Rattle.serde_json.proofs.Views.{Entry, members_len-members_view}
 use Rattle.bit_words.specs.Bits.{blocks_for, blocks_of}
 use Rattle.bit_words.specs.Digits.{IsShiftedRight}
 use Rattle.bit_words.proofs.BitsLemmas.{blocks_of-lt, length-blocks_of}
+use Rattle.bit_set.specs.Places.{values_in}
+use Rattle.bit_set.proofs.PlaceLemmas.{values_in-blocks_of}
 use Rattle.bit_set.proofs.FilledLemmas.{blocks_of_clean}
 use Rattle.bit_set.specs.declared.json.JsonError.{JsonError}
 use Rattle.bit_set.specs.declared.json.JsonError.TheVariants.{Shape, Number, Blocks, Unclean, Memory}
-use Rattle.bit_set.specs.Json.{HasShape, HasNumbers, IsClean, IsFirstFault, Spells, members_in, number_in, numbers_in, bit_vec_in, storage_in, nbits_in}
+use Rattle.bit_set.specs.Json.{HasNumbers, IsClean, IsFirstFault, Spells, members_in, number_in, numbers_in, bit_vec_in, storage_in, nbits_in}
 use Rattle.bit_set.specs.Entries.{AreNumbers, AreParts, HasLength, IsEntry, number_of_entry, numbers_of}
 use Rattle.serde_json.specs.Find.{as_object}
 
@@ -100,19 +102,18 @@ clean_by_shift w n r ms pos part count small shifted =
     let split : n ≡ n / w * w + u = sym (div-add-mod' n w) in
     let one : min 1 u ≡ 1 = omega (arith, part) in
     let at : length ms - 1 ≡ n / w = omega (arith, count, one) in
-    let before : (length ms - 1) * w ≡ n / w * w = ap (λ q. q * w) at in
-    (
+    let before : (length ms - 1) * w ≡ n / w * w = ap (λ q. q * w) at in (
       λ none. record {
         tail = λ j within past.
-        let above : u ≤ j = omega (arith, past, before, split) in
-        let back : j - u + u ≡ j = omega arith in
-        sym (shifted.moved (j - u) (omega arith) ∙ ap (bit_at last) back) ∙ ap (λ x. bit_at x (j - u)) none ∙ bit_at-zero (j - u);
+            let above : u ≤ j = omega (arith, past, before, split) in
+            let back : j - u + u ≡ j = omega arith in
+            sym (shifted.moved (j - u) (omega arith) ∙ ap (bit_at last) back) ∙ ap (λ x. bit_at x (j - u)) none ∙ bit_at-zero (j - u);
       },
       λ clean. same_from_bits_below w r 0 small (pow_pos w) (λ i within.
-      ⊎_elim
-      (λ inside. shifted.moved i inside ∙ clean.tail (i + u) inside (omega (arith, before, split)) ∙ sym (bit_at-zero i))
-      (λ outside. shifted.zeros i within outside ∙ sym (bit_at-zero i))
-      (cases_lt (i + u) w)),
+          ⊎_elim
+          (λ inside. shifted.moved i inside ∙ clean.tail (i + u) inside (omega (arith, before, split)) ∙ sym (bit_at-zero i))
+          (λ outside. shifted.zeros i within outside ∙ sym (bit_at-zero i))
+          (cases_lt (i + u) w)),
     )
 
 -- ---- one value has one reading, and one fault at most
@@ -164,15 +165,19 @@ one_fault w d Blocks (Memory refused) h k = absurd k
 one_fault w d Unclean (Memory refused) h k = absurd k
 one_fault w d (Memory refused) b h k = absurd h
 
--- so a fault that was answered is answered just where it is the first
-pub fault_is : {X : Type 0} (w : ℕ) (d : Data) (a b : JsonError) → IsFirstFault w d a → (◌≡◌ {A = Result X JsonError} (Err a) (Err b)) ↔ IsFirstFault w d b
-fault_is w d a b h = (λ e. subst (IsFirstFault w d) (let same : a ≡ b = cc in same) h, λ k. ap Err (one_fault w d a b h k))
-
-pub no_fault_is : {X : Type 0} (w : ℕ) (d : Data) (ms : List ℕ) (n : ℕ) (r : Result X JsonError) (b : JsonError) → Spells w d ms n → (r ≡ Err b → ⊥) → (r ≡ Err b) ↔ IsFirstFault w d b
-no_fault_is w d ms n r b spelt not = (λ e. absurd (not e), λ k. absurd (spelt_has_no_fault w d ms n b spelt k))
-
 pub one_reading : (w : ℕ) (d : Data) (ms ns : List ℕ) (m n : ℕ) → Spells w d ms m → Spells w d ns n → (ms ≡ ns) × (m ≡ n)
 one_reading w d ms ns m n one other = same_numbers w d ms ns m n one.numbers other.numbers
+
+-- the blocks of a list of truth values and its length fix it
+pub values_from_blocks : (w : ℕ) (a b : List Bool) → 0 < w → blocks_of w a ≡ blocks_of w b → length a ≡ length b → a ≡ b
+values_from_blocks w a b pos same long =
+    ext_get_or false a b long (λ k within.
+    sym (values_in-blocks_of w a pos k) ∙ ap (λ ms. get_or (values_in w ms) k false) same ∙ values_in-blocks_of w b pos k)
+
+pub one_list : (w : ℕ) (d : Data) (a b : List Bool) → 0 < w → Spells w d (blocks_of w a) (length a) → Spells w d (blocks_of w b) (length b) → a ≡ b
+one_list w d a b pos one other =
+    let same = one_reading w d (blocks_of w a) (blocks_of w b) (length a) (length b) one other in
+    values_from_blocks w a b pos same.0 same.1
 
 -- ---- what is written spells what it was written of
 

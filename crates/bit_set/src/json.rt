@@ -17,7 +17,6 @@ mod growing;
 mod writing;
 
 pub use block::JsonBlock;
-
 use checking::checked;
 use growing::bits_of_entries;
 use writing::{form, numbers};

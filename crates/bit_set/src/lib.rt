@@ -6,6 +6,8 @@ mod algebra_tests;
 mod faults;
 mod hash;
 mod json;
+#[cfg(test)]
+mod json_tests;
 pub mod laws;
 mod lowest;
 mod order;

@@ -68,9 +68,7 @@ fn length_of<B: JsonBlock>(entries: &[Value], nbits: &Value) -> Option<usize>
 fn are_entries<B: JsonBlock>(entries: &[Value]) -> bool
     ensures { IsTrue result ↔ All (IsEntry B.width) entries.now }
 {
-    entries
-        .iter()
-        .all(|entry| block_in::<B>(entry).is_some())
+    entries.iter().all(|entry| block_in::<B>(entry).is_some())
 }
 
 // The block of an entry, where it is the number of one.

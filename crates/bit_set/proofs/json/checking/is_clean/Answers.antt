@@ -1,4 +1,4 @@
-use Rattle.std.proofs.Common.{◌≡◌, ◌≢◌, ◌↔◌, ◌-◌, ◌%◌, ℕ, length, get_or, unwrap_or, ap, sym, ◌∙◌, subst, arith}
+use Rattle.std.proofs.Common.{◌≡◌, ◌≢◌, ◌↔◌, ◌-◌, ◌%◌, length, get_or, ap, sym, ◌∙◌, subst}
 use Rattle.bit_words.specs.Digits.{IsShiftedRight}
 use Rattle.bit_set.specs.Json.{IsClean}
 use Rattle.bit_set.specs.Entries.{numbers_of}
@@ -23,8 +23,7 @@ returns g c =
     subst (λ m. IsShiftedRight w m (n % w) r) last (subst (λ x. IsShiftedRight w (number c.block_of-last.result) (n % x) r) width c.shift_right.ensures.of_digits) in
     let clean : (r ≡ 0) ↔ IsClean w (numbers_of vs) n =
     clean_by_shift w n r (numbers_of vs) law.width_law.positive part (counted vs ∙ c.requires.count) (law.number_law c.shift_right.result c.shift_right.ensures.of_block).0 shifted in
-    let same = law.eq_law c.shift_right.result c.zero.result c.shift_right.ensures.of_block c.zero.ensures.of_block in
-    (
+    let same = law.eq_law c.shift_right.result c.zero.result c.shift_right.ensures.of_block c.zero.ensures.of_block in (
       λ yes. clean.0 (same.0 (sym c.eq.ensures ∙ yes) ∙ c.zero.ensures.of_number),
       λ is. c.eq.ensures ∙ same.1 (clean.1 is ∙ sym c.zero.ensures.of_number),
     )

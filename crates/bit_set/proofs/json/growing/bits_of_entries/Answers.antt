@@ -1,7 +1,6 @@
-use Rattle.std.proofs.Common.{◌≡◌, ◌≢◌, ℕ, ◌+◌, ◌*◌, ◌^◌, ◌<◌, false, length, get_or, take, replicate, ap, sym, ◌∙◌, take_all, arith}
+use Rattle.std.proofs.Common.{◌≡◌, ◌+◌, ◌*◌, false, length, get_or, take, ap, sym, ◌∙◌, take_all, arith}
 use Rattle.std.specs.Int.{bit_at}
 use Rattle.std.proofs.lemmas.List.{length-replicate}
-use Rattle.bit_words.specs.Bits.{blocks_for}
 use Rattle.bit_words.specs.Storage.{is_one, value_at}
 use Rattle.bit_set.specs.Entries.{numbers_of}
 use Rattle.bit_set.proofs.JsonLemmas.{below_of_entries, counted, number_at}
@@ -43,8 +42,8 @@ loop-k-preserved g c =
     let begins : k * c.bits.result ≡ k * w = ap (λ x. k * x) c.bits.ensures in
     record {
       filled = filled_more w k (numbers_of vs) c.loop-k.bits.values new g.met.B.BitBlock.width_law.positive c.loop-k.invariant.filled
-      (λ j within. ap (λ p. get_or new (p + j) false) (sym begins) ∙ c.put_ones.ensures.values j within ∙ ap (λ m. is_one m j) number)
-      (λ i apart. c.put_ones.ensures.others i (λ j within at. apart j within (at ∙ ap (λ p. p + j) begins)));
+          (λ j within. ap (λ p. get_or new (p + j) false) (sym begins) ∙ c.put_ones.ensures.values j within ∙ ap (λ m. is_one m j) number)
+          (λ i apart. c.put_ones.ensures.others i (λ j within at. apart j within (at ∙ ap (λ p. p + j) begins)));
       long = c.put_ones.ensures.length ∙ c.loop-k.invariant.long;
     }
 

@@ -1,8 +1,6 @@
-use Rattle.std.proofs.Common.{◌≡◌, ◌+◌, ◌<◌, [], ap, sym, subst, length, arith}
-use Rattle.bit_set.specs.Places.{places}
-use Rattle.bit_set.specs.Entries.{IsPartlyPut}
+use Rattle.std.proofs.Common.{◌+◌, ◌<◌, [], ap, length, arith}
 use Rattle.bit_set.proofs.PlaceLemmas.{places-lowest}
-use Rattle.bit_set.proofs.FilledLemmas.{put_nothing, put_lowest, put_wholly, lowest_is_one}
+use Rattle.bit_set.proofs.FilledLemmas.{put_nothing, put_lowest, lowest_is_one}
 use Rattle.bit_set.proofs.json.growing.put_ones.Goals as goal
 
 pub loop-block-init : goal.loop-block-init
