@@ -21,10 +21,6 @@ or_true : (b c : Bool) → c ≡ true → (b || c) ≡ true
 or_true true c h = refl
 or_true false c h = h
 
-or_false : (b c : Bool) → c ≡ false → (b || c) ≡ b
-or_false true c h = refl
-or_false false c h = h
-
 pub put_nothing : (w place m : ℕ) (values : List Bool) → ((j : ℕ) → j < w → get_or values (place + j) false ≡ false) → IsPartlyPut w place m m values values
 put_nothing w place m values falses = record {
   values = λ j within. ap (λ b. b || is_one m j) (falses j within);
@@ -60,10 +56,6 @@ put_lowest w place whole left rest i old new put low within cleared inside =
       others = λ k apart. get_or-set_other new (place + i) k true false (apart i within) ∙ put.others k apart;
       long = length-set new (place + i) true ∙ put.long;
     }
-
-pub put_wholly : (w place whole left j : ℕ) (old new : List Bool) → IsPartlyPut w place whole left old new → left ≡ 0 → j < w → get_or new (place + j) false ≡ is_one whole j
-put_wholly w place whole left j old new put none within =
-    sym (or_false (get_or new (place + j) false) (is_one left j) (ap (λ m. is_one m j) none ∙ is_one-zero j)) ∙ put.values j within
 
 -- ---- block by block
 

@@ -1,5 +1,5 @@
 -- Lemmas on the JSON form: the members of an object, the numbers of an array, and what a value spells.
-use Rattle.std.proofs.Common.{◌≡◌, ◌≢◌, ◌==◌, ◌↔◌, ℕ, ◌+◌, ◌-◌, ◌*◌, ◌/◌, ◌%◌, ◌^◌, ◌<◌, ◌≤◌, min, Bool, false, codes, is_some, List, [], ◌∷◌, length, map, get_or, All, Option, Some, None, IsTrue, option_map, option_and_then, refl, sym, ap, ◌∙◌, subst, ⊎_elim, pow_pos, unwrap_or, ok_or, Err, arith}
+use Rattle.std.proofs.Common.{◌≡◌, ◌≢◌, ◌==◌, ◌↔◌, ℕ, ◌+◌, ◌-◌, ◌*◌, ◌/◌, ◌%◌, ◌^◌, ◌<◌, ◌≤◌, min, Bool, false, codes, is_some, List, [], ◌∷◌, length, map, get_or, All, Option, Some, None, IsTrue, option_map, option_and_then, refl, sym, ap, ◌∙◌, subst, ⊎_elim, pow_pos, unwrap_or, ok_or, Result, Err, arith}
 use Rattle.std.specs.Int.{bit_at}
 use Rattle.std.proofs.lemmas.Bool.{eq-eqb, eqb-true, cases_lt}
 use Rattle.std.proofs.lemmas.List.{length-map, get_or-map, ext_get_or}
@@ -164,6 +164,13 @@ one_fault w d Number (Memory refused) h k = absurd k
 one_fault w d Blocks (Memory refused) h k = absurd k
 one_fault w d Unclean (Memory refused) h k = absurd k
 one_fault w d (Memory refused) b h k = absurd h
+
+-- so a fault that was answered is answered just where it is the first, and none where the value spells something
+pub fault_is : {X : Type 0} (w : ℕ) (d : Data) (r : Result X JsonError) (a b : JsonError) → r ≡ Err a → IsFirstFault w d a → (r ≡ Err b) ↔ IsFirstFault w d b
+fault_is w d r a b is h = (λ e. let same : a ≡ b = cc in subst (IsFirstFault w d) same h, λ k. is ∙ ap Err (one_fault w d a b h k))
+
+pub no_fault_is : {X : Type 0} (w : ℕ) (d : Data) (ms : List ℕ) (n : ℕ) (r : Result X JsonError) (b : JsonError) → Spells w d ms n → (r ≡ Err b → ⊥) → (r ≡ Err b) ↔ IsFirstFault w d b
+no_fault_is w d ms n r b spelt other = (λ e. absurd (other e), λ k. absurd (spelt_has_no_fault w d ms n b spelt k))
 
 pub one_reading : (w : ℕ) (d : Data) (ms ns : List ℕ) (m n : ℕ) → Spells w d ms m → Spells w d ns n → (ms ≡ ns) × (m ≡ n)
 one_reading w d ms ns m n one other = same_numbers w d ms ns m n one.numbers other.numbers

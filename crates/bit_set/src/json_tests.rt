@@ -1,47 +1,51 @@
 //! The JSON form: rows with their exact answers, from texts that `serde_json` reads, and each call over
 //! each type of blocks.
 use crate::bit_vec::BitVec;
-use crate::tests::items;
 use crate::{BitSet, JsonBlock, JsonError};
 use serde_json::Value;
 use std::alloc::{AllocError, Global};
 use std::process::Abort;
 use std::test::Fail;
 
-// What a text gives.
-fn read<B: JsonBlock>(alloc: Global, text: &str) -> Result<Result<BitSet<B>, JsonError>, Fail> {
+// What a text gives: a set and its length, or a fault.
+fn answer<B: JsonBlock>(alloc: Global, text: &str) -> Result<String, Fail> {
     let value = Value::from_str(alloc, text)?;
-    Ok(BitSet::from_json(alloc, &value))
+    let answer = match BitSet::<B>::from_json(alloc, &value) {
+        Ok(set) => format!(in alloc; "{set} of {}", set.get_ref().len()),
+        Err(fault) => format!(in alloc; "{fault:?}"),
+    };
+    Ok(answer?)
 }
 
-// The text with these two members within the one.
-fn spelling(alloc: Global, storage: &str, nbits: &str) -> Result<String, AllocError> {
-    format!(in alloc; "{{\"bit_vec\": {{\"storage\": {storage}, \"nbits\": {nbits}}}}}")
-}
-
-// The text gives a set of this length with these elements.
-fn assert_reads<B: JsonBlock>(
+fn assert_answer<B: JsonBlock>(
     rt: &impl Abort,
     alloc: Global,
     text: &str,
-    len: usize,
-    numbers: &[usize],
+    wanted: &str,
 ) -> Result<(), Fail> {
-    let set = read::<B>(alloc, text)??;
-    assert_eq!(rt; set.get_ref().len(), len, "of {text}");
-    assert_eq!(rt; items(alloc, &set)?.as_slice(), numbers, "of {text}");
+    assert_eq!(rt; answer::<B>(alloc, text)?.as_str(), wanted, "of {text}");
     Ok(())
 }
 
-// The text gives this fault.
-fn assert_fails<B: JsonBlock>(
+// Each row has the texts of `storage` and `nbits`, and the answer.
+fn assert_answers<B: JsonBlock>(
     rt: &impl Abort,
     alloc: Global,
-    text: &str,
-    fault: JsonError,
+    rows: &[(&str, &str, &str)],
 ) -> Result<(), Fail> {
-    assert_eq!(rt; read::<B>(alloc, text)?.err(), Some(fault), "of {text}");
+    for row in rows {
+        let (storage, nbits, wanted) = *row;
+        let text = format!(in alloc;
+            "{{\"bit_vec\": {{\"storage\": {storage}, \"nbits\": {nbits}}}}}"
+        )?;
+        assert_answer::<B>(rt, alloc, text.as_str(), wanted)?;
+    }
     Ok(())
+}
+
+fn text_of<B: JsonBlock>(alloc: Global, set: &BitSet<B>) -> Result<String, AllocError> {
+    let value = set.to_json(alloc)?;
+    value.to_string(alloc)
 }
 
 // A set goes to text and back.
@@ -50,73 +54,41 @@ fn assert_goes_round<B: JsonBlock>(
     alloc: Global,
     set: &BitSet<B>,
 ) -> Result<(), Fail> {
-    let text = set.to_json(alloc)?.to_string(alloc)?;
-    let back = read::<B>(alloc, text.as_str())??;
+    let text = text_of(alloc, set)?;
+    let value = Value::from_str(alloc, text.as_str())?;
+    let back = BitSet::from_json(alloc, &value)?;
     assert!(rt; back == *set);
     assert_eq!(rt; back.get_ref().len(), set.get_ref().len());
     Ok(())
 }
 
-#[test]
-fn a_set_is_spelt(rt: HostRuntime) -> Result<(), Fail> {
-    let alloc = rt.alloc();
-    let set: BitSet<u32> = BitSet::from_iter(alloc, [11usize, 42, 100, 101].iter().copied())?;
-    let value = set.to_json(alloc)?;
-    assert_eq!(rt;
-        value.to_string(alloc)?.as_str(),
-        "{\"bit_vec\":{\"nbits\":102,\"storage\":[2048,1024,0,48]}}"
-    );
-    let back: BitSet<u32> = BitSet::from_json(alloc, &value)?;
-    assert!(rt; back == set);
-    assert_eq!(rt; back.get_ref().len(), 102);
-    let empty = BitSet::new(alloc).to_json(alloc)?;
-    assert_eq!(rt;
-        empty.to_string(alloc)?.as_str(),
-        "{\"bit_vec\":{\"nbits\":0,\"storage\":[]}}"
-    );
-    Ok(())
+fn some_set<B: JsonBlock>(alloc: Global) -> Result<BitSet<B>, Fail> {
+    let numbers: [usize; 7] = [0, 7, 8, 31, 63, 64, 130];
+    Ok(BitSet::from_iter(alloc, numbers.iter().copied())?)
 }
 
 #[test]
-fn a_value_is_read(rt: HostRuntime) -> Result<(), Fail> {
+fn a_set_is_spelt(rt: HostRuntime) -> Result<(), Fail> {
     let alloc = rt.alloc();
-    assert_reads::<u32>(&rt, alloc, spelling(alloc, "[8]", "4")?.as_str(), 4, &[3])?;
-    assert_reads::<u32>(&rt, alloc, spelling(alloc, "[]", "0")?.as_str(), 0, &[])?;
-    assert_reads::<u8>(
-        &rt,
-        alloc,
-        spelling(alloc, "[127]", "7")?.as_str(),
-        7,
-        &[0, 1, 2, 3, 4, 5, 6],
-    )?;
-    assert_reads::<u8>(&rt, alloc, spelling(alloc, "[0]", "1")?.as_str(), 1, &[])?;
-    assert_reads::<u16>(
-        &rt,
-        alloc,
-        spelling(alloc, "[32768, 1]", "17")?.as_str(),
-        17,
-        &[15, 16],
-    )?;
-    assert_reads::<u64>(
-        &rt,
-        alloc,
-        spelling(alloc, "[9223372036854775808]", "64")?.as_str(),
-        64,
-        &[63],
-    )?;
-    assert_reads::<usize>(
-        &rt,
-        alloc,
-        spelling(alloc, "[9223372036854775808]", "64")?.as_str(),
-        64,
-        &[63],
-    )?;
+    let numbers: [usize; 4] = [11, 42, 100, 101];
+    let set: BitSet<u32> = BitSet::from_iter(alloc, numbers.iter().copied())?;
+    let text = text_of(alloc, &set)?;
+    assert_eq!(rt;
+        text.as_str(),
+        "{\"bit_vec\":{\"nbits\":102,\"storage\":[2048,1024,0,48]}}"
+    );
+    assert_goes_round(&rt, alloc, &set)
+}
+
+#[test]
+fn the_empty_set_is_spelt(rt: HostRuntime) -> Result<(), Fail> {
+    let text = text_of(rt.alloc(), &BitSet::new(rt.alloc()))?;
+    assert_eq!(rt; text.as_str(), "{\"bit_vec\":{\"nbits\":0,\"storage\":[]}}");
     Ok(())
 }
 
 #[test]
 fn the_shape_is_asked_for(rt: HostRuntime) -> Result<(), Fail> {
-    let alloc = rt.alloc();
     for text in [
         "null",
         "[]",
@@ -134,131 +106,131 @@ fn the_shape_is_asked_for(rt: HostRuntime) -> Result<(), Fail> {
         "{\"bit_vec\": {\"blocks\": [8], \"nbits\": 4}}",
         "{\"storage\": [8], \"nbits\": 4}",
     ] {
-        assert_fails::<u32>(&rt, alloc, text, JsonError::Shape)?;
+        assert_answer::<u32>(&rt, rt.alloc(), text, "Shape")?;
     }
-    Ok(())
-}
-
-#[test]
-fn numbers_are_asked_for(rt: HostRuntime) -> Result<(), Fail> {
-    let alloc = rt.alloc();
-    for (storage, nbits) in [
-        ("[8]", "4.0"),
-        ("[-1]", "4"),
-        ("[8]", "\"4\""),
-        ("[8]", "null"),
-        ("[8]", "-4"),
-        ("[8.0]", "4"),
-        ("[1e0]", "4"),
-        ("[1]", "1e0"),
-        ("[-0]", "4"),
-        ("[\"8\"]", "4"),
-        ("[null]", "4"),
-        ("[[8]]", "4"),
-        ("[8, null]", "4"),
-        ("[4294967296]", "4"),
-        ("[]", "18446744073709551616"),
-        ("[18446744073709551616]", "64"),
-    ] {
-        assert_fails::<u32>(
-            &rt,
-            alloc,
-            spelling(alloc, storage, nbits)?.as_str(),
-            JsonError::Number,
-        )?;
-    }
-    assert_fails::<u8>(
-        &rt,
-        alloc,
-        spelling(alloc, "[256]", "4")?.as_str(),
-        JsonError::Number,
-    )?;
-    assert_fails::<u8>(
-        &rt,
-        alloc,
-        spelling(alloc, "[256, 1]", "9")?.as_str(),
-        JsonError::Number,
-    )?;
-    assert_fails::<u16>(
-        &rt,
-        alloc,
-        spelling(alloc, "[65536]", "17")?.as_str(),
-        JsonError::Number,
-    )?;
-    assert_fails::<u64>(
-        &rt,
-        alloc,
-        spelling(alloc, "[18446744073709551616]", "64")?.as_str(),
-        JsonError::Number,
-    )?;
-    Ok(())
-}
-
-#[test]
-fn blocks_are_counted_and_clean(rt: HostRuntime) -> Result<(), Fail> {
-    let alloc = rt.alloc();
-    for (storage, nbits, fault) in [
-        ("[16]", "4", JsonError::Unclean),
-        ("[8, 0]", "4", JsonError::Blocks),
-        ("[16, 0]", "4", JsonError::Blocks),
-        ("[]", "18446744073709551615", JsonError::Blocks),
-        ("[]", "1", JsonError::Blocks),
-        ("[1]", "33", JsonError::Blocks),
-        ("[0, 4294967295]", "63", JsonError::Unclean),
-    ] {
-        assert_fails::<u32>(&rt, alloc, spelling(alloc, storage, nbits)?.as_str(), fault)?;
-    }
-    assert_fails::<u8>(
-        &rt,
-        alloc,
-        spelling(alloc, "[255]", "7")?.as_str(),
-        JsonError::Unclean,
-    )?;
-    assert_fails::<u8>(
-        &rt,
-        alloc,
-        spelling(alloc, "[0]", "0")?.as_str(),
-        JsonError::Blocks,
-    )?;
-    assert_fails::<u64>(
-        &rt,
-        alloc,
-        spelling(alloc, "[18446744073709551615]", "63")?.as_str(),
-        JsonError::Unclean,
-    )?;
     Ok(())
 }
 
 // Of members of one name `serde_json` keeps the last.
 #[test]
 fn the_last_of_members_of_one_name_is_read(rt: HostRuntime) -> Result<(), Fail> {
-    let alloc = rt.alloc();
-    let inner = "{\"bit_vec\": {\"storage\": [16], \"nbits\": 4, \"storage\": [8]}}";
-    assert_reads::<u32>(&rt, alloc, inner, 4, &[3])?;
-    let outer = "{\"bit_vec\": null, \"bit_vec\": {\"storage\": [8], \"nbits\": 4}}";
-    assert_reads::<u32>(&rt, alloc, outer, 4, &[3])?;
-    let worse = "{\"bit_vec\": {\"storage\": [8], \"nbits\": 4, \"storage\": [16]}}";
-    assert_fails::<u32>(&rt, alloc, worse, JsonError::Unclean)?;
-    Ok(())
-}
-
-fn set_of<B: JsonBlock>(alloc: Global) -> Result<BitSet<B>, Fail> {
-    let mut set = BitSet::with_capacity_general(alloc, 150)?;
-    for number in [0, 7, 8, 31, 63, 64, 130] {
-        set.insert(number)?;
+    for (text, wanted) in [
+        (
+            "{\"bit_vec\": {\"storage\": [16], \"nbits\": 4, \"storage\": [8]}}",
+            "{3} of 4",
+        ),
+        (
+            "{\"bit_vec\": {\"storage\": [8], \"nbits\": 4, \"storage\": [16]}}",
+            "Unclean",
+        ),
+        (
+            "{\"bit_vec\": null, \"bit_vec\": {\"storage\": [8], \"nbits\": 4}}",
+            "{3} of 4",
+        ),
+    ] {
+        assert_answer::<u32>(&rt, rt.alloc(), text, wanted)?;
     }
-    Ok(set)
+    Ok(())
 }
 
 #[test]
-fn sets_go_round(rt: HostRuntime) -> Result<(), Fail> {
+fn blocks_of_32_bits_are_read(rt: HostRuntime) -> Result<(), Fail> {
+    assert_answers::<u32>(
+        &rt,
+        rt.alloc(),
+        &[
+            ("[8]", "4", "{3} of 4"),
+            ("[]", "0", "{} of 0"),
+            ("[16]", "4", "Unclean"),
+            ("[8, 0]", "4", "Blocks"),
+            ("[16, 0]", "4", "Blocks"),
+            ("[1]", "33", "Blocks"),
+            ("[]", "1", "Blocks"),
+            ("[]", "18446744073709551615", "Blocks"),
+            ("[0, 4294967295]", "63", "Unclean"),
+            ("[4294967296]", "4", "Number"),
+            ("[4294967296, 1]", "4", "Number"),
+        ],
+    )
+}
+
+#[test]
+fn numbers_are_asked_for(rt: HostRuntime) -> Result<(), Fail> {
+    assert_answers::<u32>(
+        &rt,
+        rt.alloc(),
+        &[
+            ("[8]", "4.0", "Number"),
+            ("[-1]", "4", "Number"),
+            ("[8]", "\"4\"", "Number"),
+            ("[8]", "null", "Number"),
+            ("[8]", "-4", "Number"),
+            ("[8.0]", "4", "Number"),
+            ("[1e0]", "4", "Number"),
+            ("[1]", "1e0", "Number"),
+            ("[-0]", "4", "Number"),
+            ("[\"8\"]", "4", "Number"),
+            ("[null]", "4", "Number"),
+            ("[[8]]", "4", "Number"),
+            ("[8, null]", "4", "Number"),
+            ("[]", "18446744073709551616", "Number"),
+            ("[18446744073709551616]", "64", "Number"),
+        ],
+    )
+}
+
+#[test]
+fn blocks_of_8_bits_are_read(rt: HostRuntime) -> Result<(), Fail> {
+    assert_answers::<u8>(
+        &rt,
+        rt.alloc(),
+        &[
+            ("[256]", "4", "Number"),
+            ("[256, 1]", "9", "Number"),
+            ("[255]", "7", "Unclean"),
+            ("[127]", "7", "{0, 1, 2, 3, 4, 5, 6} of 7"),
+            ("[0]", "0", "Blocks"),
+            ("[0]", "1", "{} of 1"),
+        ],
+    )
+}
+
+#[test]
+fn blocks_of_16_bits_are_read(rt: HostRuntime) -> Result<(), Fail> {
+    assert_answers::<u16>(
+        &rt,
+        rt.alloc(),
+        &[
+            ("[65536]", "17", "Number"),
+            ("[32768, 1]", "17", "{15, 16} of 17"),
+        ],
+    )
+}
+
+#[test]
+fn blocks_of_64_bits_are_read(rt: HostRuntime) -> Result<(), Fail> {
+    let rows = [
+        ("[9223372036854775808]", "64", "{63} of 64"),
+        ("[18446744073709551615]", "63", "Unclean"),
+        ("[18446744073709551616]", "64", "Number"),
+    ];
+    assert_answers::<u64>(&rt, rt.alloc(), &rows)?;
+    assert_answers::<usize>(&rt, rt.alloc(), &rows)
+}
+
+#[test]
+fn small_blocks_go_round(rt: HostRuntime) -> Result<(), Fail> {
     let alloc = rt.alloc();
-    assert_goes_round(&rt, alloc, &set_of::<u8>(alloc)?)?;
-    assert_goes_round(&rt, alloc, &set_of::<u16>(alloc)?)?;
-    assert_goes_round(&rt, alloc, &set_of::<u32>(alloc)?)?;
-    assert_goes_round(&rt, alloc, &set_of::<u64>(alloc)?)?;
-    assert_goes_round(&rt, alloc, &set_of::<usize>(alloc)?)?;
-    Ok(())
+    assert_goes_round(&rt, alloc, &some_set::<u8>(alloc)?)?;
+    assert_goes_round(&rt, alloc, &some_set::<u16>(alloc)?)
+}
+
+#[test]
+fn large_blocks_go_round(rt: HostRuntime) -> Result<(), Fail> {
+    let alloc = rt.alloc();
+    assert_goes_round(&rt, alloc, &some_set::<u32>(alloc)?)?;
+    assert_goes_round(&rt, alloc, &some_set::<u64>(alloc)?)?;
+    assert_goes_round(&rt, alloc, &some_set::<usize>(alloc)?)
 }
 
 #[test]
