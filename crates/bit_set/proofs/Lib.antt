@@ -15,3 +15,5 @@ pub mod TallyLemmas
 pub mod WalkLaws
 pub mod UnlikeLemmas
 pub mod OrderLemmas
+pub mod JsonLemmas
+pub mod FilledLemmas

@@ -7,4 +7,6 @@ pub mod Texts
 pub mod Order
 pub mod Differences
 pub mod Places
+pub mod Json
+pub mod Entries
 pub use Rattle.bit_words.specs.Bits

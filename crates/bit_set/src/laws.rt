@@ -5,7 +5,10 @@ ghost use Rattle.std.specs.FinSet as set;
 ghost use Rattle.std.specs.Cmp.{IsEquivalence, IsTotalOrder};
 ghost use Rattle.std.specs.Ordering.{nat_cmp};
 ghost use Rattle.std.specs.Iterator.{YieldsThen, Drains};
-ghost use Rattle.bit_words.specs.Bits.{blocks_for};
+ghost use Rattle.bit_words.specs.Bits.{blocks_for, blocks_of};
+ghost use Rattle.serde_json.specs.Data.{Data};
+ghost use Rattle.bit_set.specs.Json.{IsFirstFault, Spells};
+ghost use Rattle.bit_set.specs.declared.json.JsonError.{JsonError};
 ghost use Rattle.bit_set.specs.Walk.{Walk, BoundedWalk, IsWalkedOut, IsAtStart, WalksOverTwo};
 ghost use Rattle.bit_words.specs.Merges.{merged_value, merged};
 ghost use Rattle.bit_words.specs.declared.bit_vec.merge.Merge.{Merge};
@@ -168,4 +171,15 @@ pub fn whole_walks_ascend<B: BitBlock + 'static>()
         → YieldsThen ⟦<Difference<'static, B> as Iterator>⟧.next_gives s items None t → IsAscending items }
     ensures symmetric_difference { (a b : List Bool) (s t : Walk) (items : List ℕ) → s.left ≡ symmetric_difference (elements a) (elements b)
         → YieldsThen ⟦<SymmetricDifference<'static, B> as Iterator>⟧.next_gives s items None t → IsAscending items }
+{}
+
+/// What a value spells in JSON, in blocks of `w` bits. It has one reading: the blocks, the length, and so
+/// the list of truth values and its elements. What is written of a set and read again is that set. Where
+/// a value spells a set it has no fault, and else one at most is the first.
+pub fn values_have_one_reading()
+    ensures reading { (w : ℕ) (value : Data) (ms ns : List ℕ) (m n : ℕ) → Spells w value ms m → Spells w value ns n → (ms ≡ ns) × (m ≡ n) }
+    ensures values { (w : ℕ) (value : Data) (a b : List Bool) → 0 < w → Spells w value (blocks_of w a) (length a) → Spells w value (blocks_of w b) (length b) → a ≡ b }
+    ensures elements { (w : ℕ) (value : Data) (a b : List Bool) → 0 < w → Spells w value (blocks_of w a) (length a) → Spells w value (blocks_of w b) (length b) → elements a ≡ elements b }
+    ensures no_fault { (w : ℕ) (value : Data) (ms : List ℕ) (n : ℕ) (fault : JsonError) → Spells w value ms n → ¬ IsFirstFault w value fault }
+    ensures one_fault { (w : ℕ) (value : Data) (a b : JsonError) → IsFirstFault w value a → IsFirstFault w value b → a ≡ b }
 {}

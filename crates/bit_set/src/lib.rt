@@ -5,6 +5,9 @@
 mod algebra_tests;
 mod faults;
 mod hash;
+mod json;
+#[cfg(test)]
+mod json_tests;
 pub mod laws;
 mod lowest;
 mod order;
@@ -21,5 +24,6 @@ mod walk_tests;
 pub use bit_words::bit_vec;
 pub use bit_words::bit_vec::BitBlock;
 pub use faults::SetError;
+pub use json::{JsonBlock, JsonError};
 pub use set::BitSet;
 pub use walk::{Difference, Intersection, Iter, SymmetricDifference, Union};

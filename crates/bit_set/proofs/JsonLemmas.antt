@@ -1,0 +1,212 @@
+-- Lemmas on the JSON form: the members of an object, the numbers of an array, and what a value spells.
+use Rattle.std.proofs.Common.{◌≡◌, ◌≢◌, ◌==◌, ◌↔◌, ℕ, ◌+◌, ◌-◌, ◌*◌, ◌/◌, ◌%◌, ◌^◌, ◌<◌, ◌≤◌, min, Bool, false, codes, is_some, List, [], ◌∷◌, length, map, get_or, All, Option, Some, None, IsTrue, option_map, option_and_then, refl, sym, ap, ◌∙◌, subst, ⊎_elim, pow_pos, unwrap_or, ok_or, Result, Err, arith}
+use Rattle.std.specs.Int.{bit_at}
+use Rattle.std.proofs.lemmas.Bool.{eq-eqb, eqb-true, cases_lt}
+use Rattle.std.proofs.lemmas.List.{length-map, get_or-map, ext_get_or}
+use Rattle.std.proofs.lemmas.List.Elements.{All-nil, All-cons, All-head, All-tail, All-same, All-map, All-weaker, All-from_get_or}
+use Rattle.std.proofs.lemmas.Nat.Bits.{bit_at-zero, same_from_bits_below}
+use Rattle.std.proofs.lemmas.Option.{same_Some, none-some}
+use Rattle.std.proofs.Math.Nat.{div-add-mod', mod-lt}
+use Rattle.serde_json.specs.Data.{Data, array, member, no_members, number, object, unsigned}
+use Rattle.serde_json.specs.Events.{members_len}
+use Rattle.serde_json.specs.View.{view, items_of, items_view, members_view}
+use Rattle.serde_json.specs.declared.value.Value.{Value}
+use Rattle.serde_json.proofs.Views.{Entry, members_len-members_view}
+use Rattle.bit_words.specs.Bits.{blocks_for, blocks_of}
+use Rattle.bit_words.specs.Digits.{IsShiftedRight}
+use Rattle.bit_words.proofs.BitsLemmas.{blocks_of-lt, length-blocks_of}
+use Rattle.bit_set.specs.Places.{values_in}
+use Rattle.bit_set.proofs.PlaceLemmas.{values_in-blocks_of}
+use Rattle.bit_set.proofs.FilledLemmas.{blocks_of_clean}
+use Rattle.bit_set.specs.declared.json.JsonError.{JsonError}
+use Rattle.bit_set.specs.declared.json.JsonError.TheVariants.{Shape, Number, Blocks, Unclean, Memory}
+use Rattle.bit_set.specs.Json.{HasNumbers, IsClean, IsFirstFault, Spells, members_in, number_in, numbers_in, bit_vec_in, storage_in, nbits_in}
+use Rattle.bit_set.specs.Entries.{AreNumbers, AreParts, HasLength, IsEntry, number_of_entry, numbers_of}
+use Rattle.serde_json.specs.Find.{as_object}
+
+-- ---- the shape
+
+-- an object with some members, and a count of them
+pub members_counted : (d : Data) (es : List Entry) (n count : ℕ) → n ≡ length es → Some (members_view es) ≡ as_object d → IsTrue (n == count) ↔ (members_in d ≡ Some count)
+members_counted d es n count many is =
+    let e : members_in d ≡ Some n = ap (option_map members_len) (sym is) ∙ ap Some (members_len-members_view es ∙ sym many) in
+    (λ h. e ∙ ap Some (eqb-true n count h), λ h. eq-eqb n count (same_Some n count (sym e ∙ h)))
+
+-- ---- the numbers
+
+pub numbers_in-entries : (w : ℕ) (vs : List Value) → All (IsEntry w) vs → numbers_in (items_view vs) ≡ Some (numbers_of vs)
+numbers_in-entries w [] each = refl
+numbers_in-entries w (v ∷ vs) each =
+    let here = All-head (IsEntry w) v vs each in
+    rw (here.number, numbers_in-entries w vs (All-tail (IsEntry w) v vs each)) refl
+
+both_some : (o : Option ℕ) (p : Option (List ℕ)) (ms : List ℕ) → option_and_then (λ m. option_map (λ ns. m ∷ ns) p) o ≡ Some ms → (m : ℕ) × (ns : List ℕ) × (o ≡ Some m) × (p ≡ Some ns) × (ms ≡ m ∷ ns)
+both_some None p ms h = absurd (none-some ms h)
+both_some (Some m) None ms h = absurd (none-some ms h)
+both_some (Some m) (Some ns) ms h = (m, ns, refl, refl, sym (same_Some (m ∷ ns) ms h))
+
+-- where an array has numbers, each below 2 ^ w, they are those of its entries
+pub entries-numbers_in : (w : ℕ) (vs : List Value) (ms : List ℕ) → numbers_in (items_view vs) ≡ Some ms → All (λ m. m < 2 ^ w) ms → All (IsEntry w) vs
+entries-numbers_in w [] ms is below = All-nil (IsEntry w)
+entries-numbers_in w (v ∷ vs) ms is below =
+    let (m, ns, here, later, parts) = both_some (number_in (view v)) (numbers_in (items_view vs)) ms is in
+    let P : ℕ → Type 0 = λ m. m < 2 ^ w in
+    let each : All P (m ∷ ns) = All-same P (m ∷ ns) ms (sym parts) below in
+    let same : m ≡ number_of_entry v = sym (ap (λ o. unwrap_or o 0) here) in
+    All-cons (IsEntry w) v vs
+    (record { number = here ∙ ap Some same; below = subst P same (All-head P m ns each) })
+    (entries-numbers_in w vs ns later (All-tail P m ns each))
+
+pub below_of_entries : (w : ℕ) (vs : List Value) → All (IsEntry w) vs → All (λ m. m < 2 ^ w) (numbers_of vs)
+below_of_entries w vs each = All-map (λ m. m < 2 ^ w) number_of_entry vs (All-weaker (IsEntry w) (λ v. number_of_entry v < 2 ^ w) (λ v is. is.below) vs each)
+
+pub has_numbers : (w : ℕ) (d nbits : Data) (vs : List Value) (n : ℕ) → AreParts d (items_view vs) nbits → HasLength w vs nbits n → HasNumbers w d (numbers_of vs) n
+has_numbers w d nbits vs n parts is = record {
+  blocks = ap (option_and_then numbers_in) parts.at_storage ∙ numbers_in-entries w vs is.entries;
+  length = ap (option_and_then number_in) parts.at_nbits ∙ is.length;
+  below = below_of_entries w vs is.entries;
+}
+
+pub no_numbers : (w : ℕ) (d nbits : Data) (vs : List Value) → AreParts d (items_view vs) nbits → ((n : ℕ) → ¬ HasLength w vs nbits n) → (ms : List ℕ) (n : ℕ) → ¬ HasNumbers w d ms n
+no_numbers w d nbits vs parts none ms n is =
+    none n (record {
+      entries = entries-numbers_in w vs ms (sym (ap (option_and_then numbers_in) parts.at_storage) ∙ is.blocks) is.below;
+      length = sym (ap (option_and_then number_in) parts.at_nbits) ∙ is.length;
+    })
+
+-- what `ok_or` makes a fault of
+pub was_none : {A E : Type 0} (o : Option A) (e d : E) → Err d ≡ ok_or o e → (o ≡ None) × (d ≡ e)
+was_none None e d h = (refl, cc)
+was_none (Some x) e d h = absurd (cc)
+
+pub counted : (vs : List Value) → length (numbers_of vs) ≡ length vs
+counted vs = simp length-map
+
+-- the number of the entry at an index
+pub number_at : (vs : List Value) (k : ℕ) (v : Value) (m : ℕ) → k < length vs → v ≡ get_or vs k v → number_in (view v) ≡ Some m → m ≡ get_or (numbers_of vs) k 0
+number_at vs k v m within at is =
+    sym (ap (λ o. unwrap_or o 0) is) ∙ ap number_of_entry at ∙ sym (get_or-map number_of_entry vs k v 0 within)
+
+-- ---- the last block
+
+-- where a block is not full, there is a last one
+pub blocks_for_some : (w n c : ℕ) → n % w ≢ 0 → c ≡ blocks_for w n → c - 1 < c
+blocks_for_some w n c part count = let one : min 1 (n % w) ≡ 1 = omega (arith, part) in omega (arith, count, one)
+
+-- a last block that is not full is clean just where nothing is left of it once its used digits are shifted out
+pub clean_by_shift : (w n r : ℕ) (ms : List ℕ) → 0 < w → n % w ≢ 0 → length ms ≡ blocks_for w n → r < 2 ^ w → IsShiftedRight w (get_or ms (length ms - 1) 0) (n % w) r → (r ≡ 0) ↔ IsClean w ms n
+clean_by_shift w n r ms pos part count small shifted =
+    let u = n % w in
+    let last = get_or ms (length ms - 1) 0 in
+    let used : u < w = mod-lt n pos in
+    let split : n ≡ n / w * w + u = sym (div-add-mod' n w) in
+    let one : min 1 u ≡ 1 = omega (arith, part) in
+    let at : length ms - 1 ≡ n / w = omega (arith, count, one) in
+    let before : (length ms - 1) * w ≡ n / w * w = ap (λ q. q * w) at in (
+      λ none. record {
+        tail = λ j within past.
+            let above : u ≤ j = omega (arith, past, before, split) in
+            let back : j - u + u ≡ j = omega arith in
+            sym (shifted.moved (j - u) (omega arith) ∙ ap (bit_at last) back) ∙ ap (λ x. bit_at x (j - u)) none ∙ bit_at-zero (j - u);
+      },
+      λ clean. same_from_bits_below w r 0 small (pow_pos w) (λ i within.
+          ⊎_elim
+          (λ inside. shifted.moved i inside ∙ clean.tail (i + u) inside (omega (arith, before, split)) ∙ sym (bit_at-zero i))
+          (λ outside. shifted.zeros i within outside ∙ sym (bit_at-zero i))
+          (cases_lt (i + u) w)),
+    )
+
+-- ---- one value has one reading, and one fault at most
+
+pub same_numbers : (w : ℕ) (d : Data) (ms ns : List ℕ) (m n : ℕ) → HasNumbers w d ms m → HasNumbers w d ns n → (ms ≡ ns) × (m ≡ n)
+same_numbers w d ms ns m n one other = (same_Some ms ns (sym one.blocks ∙ other.blocks), same_Some m n (sym one.length ∙ other.length))
+
+clean_along : (w : ℕ) (ms ns : List ℕ) (n m : ℕ) → ms ≡ ns → n ≡ m → IsClean w ms n → IsClean w ns m
+clean_along w ms ns n m same equal clean = subst (λ x. IsClean w x m) same (subst (λ x. IsClean w ms x) equal clean)
+
+-- what spells something has no fault
+pub spelt_has_no_fault : (w : ℕ) (d : Data) (ms : List ℕ) (n : ℕ) (fault : JsonError) → Spells w d ms n → ¬ IsFirstFault w d fault
+spelt_has_no_fault w d ms n Shape spelt h = h spelt.shape
+spelt_has_no_fault w d ms n Number spelt h = h.1 ms n spelt.numbers
+spelt_has_no_fault w d ms n Blocks spelt (shape, (ns, m, numbers, other)) =
+    let same = same_numbers w d ns ms m n numbers spelt.numbers in
+    other (ap length same.0 ∙ spelt.count ∙ ap (blocks_for w) (sym same.1))
+spelt_has_no_fault w d ms n Unclean spelt (shape, (ns, m, numbers, count, unclean)) =
+    let same = same_numbers w d ms ns n m spelt.numbers numbers in
+    unclean (clean_along w ms ns n m same.0 same.1 spelt.clean)
+spelt_has_no_fault w d ms n (Memory refused) spelt h = h
+
+two_counts : (w : ℕ) (d : Data) (ms ns : List ℕ) (n m : ℕ) → HasNumbers w d ms n → HasNumbers w d ns m → length ms ≢ blocks_for w n → length ns ≡ blocks_for w m → ⊥
+two_counts w d ms ns n m numbers found other count =
+    let same = same_numbers w d ms ns n m numbers found in
+    other (ap length same.0 ∙ count ∙ ap (blocks_for w) (sym same.1))
+
+-- and what has a fault has no other
+pub one_fault : (w : ℕ) (d : Data) (a b : JsonError) → IsFirstFault w d a → IsFirstFault w d b → a ≡ b
+one_fault w d Shape Shape h k = refl
+one_fault w d Shape Number h k = absurd (h k.0)
+one_fault w d Shape Blocks h k = absurd (h k.0)
+one_fault w d Shape Unclean h k = absurd (h k.0)
+one_fault w d Number Shape h k = absurd (k h.0)
+one_fault w d Number Number h k = refl
+one_fault w d Number Blocks h (shape, (ms, n, numbers, other)) = absurd (h.1 ms n numbers)
+one_fault w d Number Unclean h (shape, (ms, n, numbers, count, unclean)) = absurd (h.1 ms n numbers)
+one_fault w d Blocks Shape h k = absurd (k h.0)
+one_fault w d Blocks Number (shape, (ms, n, numbers, other)) k = absurd (k.1 ms n numbers)
+one_fault w d Blocks Blocks h k = refl
+one_fault w d Blocks Unclean (shape, (ms, n, numbers, other)) (also, (ns, m, found, count, unclean)) = absurd (two_counts w d ms ns n m numbers found other count)
+one_fault w d Unclean Shape h k = absurd (k h.0)
+one_fault w d Unclean Number (shape, (ms, n, numbers, count, unclean)) k = absurd (k.1 ms n numbers)
+one_fault w d Unclean Blocks (shape, (ns, m, found, count, unclean)) (also, (ms, n, numbers, other)) = absurd (two_counts w d ms ns n m numbers found other count)
+one_fault w d Unclean Unclean h k = refl
+one_fault w d Shape (Memory refused) h k = absurd k
+one_fault w d Number (Memory refused) h k = absurd k
+one_fault w d Blocks (Memory refused) h k = absurd k
+one_fault w d Unclean (Memory refused) h k = absurd k
+one_fault w d (Memory refused) b h k = absurd h
+
+-- so a fault that was answered is answered just where it is the first, and none where the value spells something
+pub fault_is : {X : Type 0} (w : ℕ) (d : Data) (r : Result X JsonError) (a b : JsonError) → r ≡ Err a → IsFirstFault w d a → (r ≡ Err b) ↔ IsFirstFault w d b
+fault_is w d r a b is h = (λ e. let same : a ≡ b = cc in subst (IsFirstFault w d) same h, λ k. is ∙ ap Err (one_fault w d a b h k))
+
+pub no_fault_is : {X : Type 0} (w : ℕ) (d : Data) (ms : List ℕ) (n : ℕ) (r : Result X JsonError) (b : JsonError) → Spells w d ms n → (r ≡ Err b → ⊥) → (r ≡ Err b) ↔ IsFirstFault w d b
+no_fault_is w d ms n r b spelt other = (λ e. absurd (other e), λ k. absurd (spelt_has_no_fault w d ms n b spelt k))
+
+pub one_reading : (w : ℕ) (d : Data) (ms ns : List ℕ) (m n : ℕ) → Spells w d ms m → Spells w d ns n → (ms ≡ ns) × (m ≡ n)
+one_reading w d ms ns m n one other = same_numbers w d ms ns m n one.numbers other.numbers
+
+-- the blocks of a list of truth values and its length fix it
+pub values_from_blocks : (w : ℕ) (a b : List Bool) → 0 < w → blocks_of w a ≡ blocks_of w b → length a ≡ length b → a ≡ b
+values_from_blocks w a b pos same long =
+    ext_get_or false a b long (λ k within.
+    sym (values_in-blocks_of w a pos k) ∙ ap (λ ms. get_or (values_in w ms) k false) same ∙ values_in-blocks_of w b pos k)
+
+pub one_list : (w : ℕ) (d : Data) (a b : List Bool) → 0 < w → Spells w d (blocks_of w a) (length a) → Spells w d (blocks_of w b) (length b) → a ≡ b
+one_list w d a b pos one other =
+    let same = one_reading w d (blocks_of w a) (blocks_of w b) (length a) (length b) one other in
+    values_from_blocks w a b pos same.0 same.1
+
+-- ---- what is written spells what it was written of
+
+numbers_in-numbers : (ms : List ℕ) → numbers_in (items_of (map (λ m. number (unsigned m)) ms)) ≡ Some ms
+numbers_in-numbers [] = refl
+numbers_in-numbers (m ∷ ms) = ap (option_map (λ ns. m ∷ ns)) (numbers_in-numbers ms)
+
+pub written_spells : (w : ℕ) (d : Data) (vs : List Value) (ms : List ℕ) (values : List Bool) (n : ℕ) → ms ≡ blocks_of w values → n ≡ length values → AreNumbers ms vs
+    → d ≡ object (member (codes "bit_vec") (object (member (codes "nbits") (number (unsigned n)) (member (codes "storage") (array (items_view vs)) no_members))) no_members)
+    → Spells w d (blocks_of w values) (length values)
+written_spells w d vs ms values n same long are form = record {
+  shape = record {
+    one = ap members_in form;
+    two = ap (λ x. option_and_then members_in (bit_vec_in x)) form;
+    storage = ap (λ x. is_some (storage_in x)) form;
+    nbits = ap (λ x. is_some (nbits_in x)) form;
+  };
+  numbers = record {
+    blocks = ap (λ x. option_and_then numbers_in (storage_in x)) form ∙ ap (λ ds. numbers_in (items_of ds)) are ∙ numbers_in-numbers ms ∙ ap Some same;
+    length = ap (λ x. option_and_then number_in (nbits_in x)) form ∙ ap Some long;
+    below = All-from_get_or (λ m. m < 2 ^ w) (blocks_of w values) 0 (λ k within. blocks_of-lt w k values);
+  };
+  count = length-blocks_of w values;
+  clean = blocks_of_clean w values;
+}

@@ -1,0 +1,57 @@
+use Rattle.std.proofs.Common.{◌≡◌, ◌+◌, ◌*◌, false, length, get_or, take, ap, sym, ◌∙◌, take_all, arith}
+use Rattle.std.specs.Int.{bit_at}
+use Rattle.std.proofs.lemmas.List.{length-replicate}
+use Rattle.bit_words.specs.Storage.{is_one, value_at}
+use Rattle.bit_set.specs.Entries.{numbers_of}
+use Rattle.bit_set.proofs.JsonLemmas.{below_of_entries, counted, number_at}
+use Rattle.bit_set.proofs.FilledLemmas.{blocks_of_filled, clean_from, filled_more, filled_none, next_is_false, one_is_within}
+use Rattle.bit_set.proofs.json.growing.bits_of_entries.Goals as goal
+
+pub loop-k-init : goal.loop-k-init
+loop-k-init g c =
+    let is = c.in_ok-bits.ensures.values in
+    record {
+      filled = λ i. ap (λ values. get_or values i false) is ∙ filled_none g.B.BitBlock.width c.args.len i (numbers_of c.args.entries.now);
+      long = ap length is ∙ length-replicate c.args.len false;
+    }
+
+pub put_ones-requires-clause-within : goal.put_ones-requires-clause-within
+put_ones-requires-clause-within g c = λ j within one.
+    let w = g.B.BitBlock.width in
+    let vs = c.args.entries.now in
+    let k = c.loop-k.k in
+    let number = number_at vs k c.index-entries-k.result (g.B.BitBlock.number c.block_of.result) c.loop-k-test.true c.index-entries-k.is c.block_of.ensures.of_number in
+    let clean = clean_from w c.args.len (numbers_of vs) g.met.B.BitBlock.width_law.positive (counted vs ∙ c.requires.count) c.requires.clean in
+    let below = one_is_within w c.args.len k j (numbers_of vs) clean within (sym (ap (λ m. bit_at m j) number) ∙ one) in
+    let begins : k * c.bits.result ≡ k * w = ap (λ x. k * x) c.bits.ensures in
+    omega (arith, below, begins, c.loop-k.invariant.long)
+
+pub put_ones-requires-clause-falses : goal.put_ones-requires-clause-falses
+put_ones-requires-clause-falses g c = λ j within.
+    let values = c.loop-k.bits.values in
+    ap (λ x. get_or values (c.loop-k.k * x + j) false) c.bits.ensures
+    ∙ next_is_false g.B.BitBlock.width c.loop-k.k j (numbers_of c.args.entries.now) values c.loop-k.invariant.filled within
+
+pub loop-k-preserved : goal.loop-k-preserved
+loop-k-preserved g c =
+    let w = g.B.BitBlock.width in
+    let vs = c.args.entries.now in
+    let k = c.loop-k.k in
+    let new = c.put_ones.new.bits.values in
+    let number = number_at vs k c.index-entries-k.result (g.B.BitBlock.number c.block_of.result) c.loop-k-test.true c.index-entries-k.is c.block_of.ensures.of_number in
+    let begins : k * c.bits.result ≡ k * w = ap (λ x. k * x) c.bits.ensures in
+    record {
+      filled = filled_more w k (numbers_of vs) c.loop-k.bits.values new g.met.B.BitBlock.width_law.positive c.loop-k.invariant.filled
+          (λ j within. ap (λ p. get_or new (p + j) false) (sym begins) ∙ c.put_ones.ensures.values j within ∙ ap (λ m. is_one m j) number)
+          (λ i apart. c.put_ones.ensures.others i (λ j within at. apart j within (at ∙ ap (λ p. p + j) begins)));
+      long = c.put_ones.ensures.length ∙ c.loop-k.invariant.long;
+    }
+
+pub returns-clause-blocks : goal.returns-clause-blocks
+returns-clause-blocks g c =
+    let w = g.B.BitBlock.width in
+    let vs = c.args.entries.now in
+    let ms = numbers_of vs in
+    let all : take c.loop-k.k ms ≡ ms = take_all c.loop-k.k ms (omega (arith, counted vs, c.loop-k-test.false)) in
+    blocks_of_filled w c.args.len ms c.loop-k.bits.values g.met.B.BitBlock.width_law.positive c.loop-k.invariant.long (counted vs ∙ c.requires.count) (below_of_entries w vs c.requires.each) c.requires.clean
+    (λ i. c.loop-k.invariant.filled i ∙ ap (λ x. value_at w x i) all)

@@ -1,0 +1,40 @@
+use Rattle.std.proofs.Common.{◌+◌, ◌<◌, [], ap, length, arith}
+use Rattle.bit_set.proofs.PlaceLemmas.{places-lowest}
+use Rattle.bit_set.proofs.FilledLemmas.{put_nothing, put_lowest, lowest_is_one}
+use Rattle.bit_set.proofs.json.growing.put_ones.Goals as goal
+
+pub loop-block-init : goal.loop-block-init
+loop-block-init g c = record {
+  of_block = c.requires.of_block;
+  put = put_nothing g.B.BitBlock.width c.args.place (g.B.BitBlock.number c.args.block) c.args.bits.now.values c.requires.falses;
+}
+
+pub loop-block-smaller : goal.loop-block-smaller
+loop-block-smaller g c =
+    let w = g.B.BitBlock.width in
+    let number = g.B.BitBlock.number in
+    let m = number c.loop-block.block in
+    let r = number c.take_lowest_one-lowest.new.block in
+    let taken = c.take_lowest_one-lowest.ensures in
+    let one_less = ap length (places-lowest w 0 m r c.take_lowest_one-lowest.result [] taken.lowest taken.within taken.cleared) in
+    omega (arith, one_less)
+
+pub loop-block-preserved : goal.loop-block-preserved
+loop-block-preserved g c =
+    let w = g.B.BitBlock.width in
+    let number = g.B.BitBlock.number in
+    let p = c.args.place in
+    let whole = number c.args.block in
+    let m = number c.loop-block.block in
+    let r = number c.take_lowest_one-lowest.new.block in
+    let i = c.take_lowest_one-lowest.result in
+    let taken = c.take_lowest_one-lowest.ensures in
+    let put = c.loop-block.invariant.put in
+    let old = c.args.bits.now.values in
+    let new = c.loop-block.bits.values in
+    let one = lowest_is_one w p whole m i old new put taken.lowest taken.within in
+    let inside : p + i < length new = omega (arith, c.requires.within i taken.within one, put.long) in
+    record {
+      of_block = taken.of_block;
+      put = rw c.set.ensures.values (put_lowest w p whole m r i old new put taken.lowest taken.within taken.cleared inside);
+    }

@@ -1,0 +1,83 @@
+//! The JSON form of sets: an object with the one member `bit_vec`, an object with the members
+//! `storage`, the numbers of the blocks, and `nbits`, the length.
+ghost use Rattle.std.specs.Prelude.{◌≡◌, ◌↔◌, ℕ, List, [], IfOk, IsErrOf, IsOk, length, map};
+ghost use Rattle.bit_words.specs.Bits.{blocks_of};
+ghost use Rattle.serde_json.specs.View.{view};
+ghost use Rattle.bit_set.specs.Json.{IsFirstFault, Spells};
+ghost use Rattle.std.specs.declared.alloc.AllocError.{AllocError};
+
+use crate::BitSet;
+use serde_json::Value;
+use std::alloc::{AllocError, Global};
+use thiserror::Error;
+
+mod block;
+mod checking;
+mod growing;
+mod writing;
+
+pub use block::JsonBlock;
+use checking::checked;
+use growing::bits_of_entries;
+use writing::{form, numbers};
+
+/// Why a value gave no set.
+#[derive(Clone, Copy, Debug, PartialEq, Eq, Error)]
+pub enum JsonError {
+    /// A member is missing or one too many, or there is no object or no array where one must be.
+    #[error("not the form of a bit set")]
+    Shape,
+    /// `nbits` or an entry of `storage` is no number that `as_u64` gives, or the entry is no number of
+    /// a block.
+    #[error("a number out of range")]
+    Number,
+    /// The length asks for another number of blocks.
+    #[error("a wrong number of blocks")]
+    Blocks,
+    /// The last block has a 1 at a place for an index at or past the length.
+    #[error("a bit past the length")]
+    Unclean,
+    /// Memory for the set was refused.
+    #[error("memory refused")]
+    Memory(AllocError),
+}
+
+impl From<AllocError> for JsonError {
+    ghost use Rattle.bit_set.specs.declared.json.JsonError.TheVariants.{Memory};
+
+    ghost from_gives = { λ fault error. error ≡ Memory fault };
+
+    fn from(fault: AllocError) -> JsonError {
+        JsonError::Memory(fault)
+    }
+}
+
+impl<B: JsonBlock> BitSet<B> {
+    /// The value that spells the blocks and the length: an object with the one member `bit_vec`, an
+    /// object with the members `storage`, the numbers of the blocks, and `nbits`, the length. One step a
+    /// block. Fails only where memory is refused.
+    pub fn to_json(&self, alloc: Global) -> Result<Value, AllocError>
+        ensures { IfOk result (λ value. Spells B.width (view value) (blocks_of B.width self.now.values) (length self.now.values)) }
+    {
+        let bits = self.get_ref();
+        let storage = numbers(alloc, bits.storage())?;
+        form(alloc, storage, bits.len())
+    }
+
+    /// The set that a value spells. One step a block and one an element. All tests come before memory
+    /// is asked for, and the first fault in the order of [`JsonError`] is answered. `Memory` comes only
+    /// where the value spells a set, and never where that has length 0.
+    pub fn from_json(alloc: Global, value: &Value) -> Result<Self, JsonError>
+        ensures ok { IfOk result (λ set. Spells B.width (view value.now) (blocks_of B.width set.values) (length set.values)) }
+        ensures shape { IsErrOf result JsonError.Shape ↔ IsFirstFault B.width (view value.now) JsonError.Shape }
+        ensures number { IsErrOf result JsonError.Number ↔ IsFirstFault B.width (view value.now) JsonError.Number }
+        ensures blocks { IsErrOf result JsonError.Blocks ↔ IsFirstFault B.width (view value.now) JsonError.Blocks }
+        ensures unclean { IsErrOf result JsonError.Unclean ↔ IsFirstFault B.width (view value.now) JsonError.Unclean }
+        ensures memory { (refused : AllocError) → IsErrOf result (JsonError.Memory refused) → (ms : List ℕ) × (n : ℕ) × Spells B.width (view value.now) ms n }
+        ensures empty { Spells B.width (view value.now) [] 0 → IsOk result }
+    {
+        let (entries, len) = checked::<B>(value)?;
+        let bits = bits_of_entries::<B>(alloc, entries, len)?;
+        Ok(BitSet::from_bit_vec_general(bits))
+    }
+}
