@@ -14,6 +14,8 @@ mod merge;
 mod merge_tests;
 mod merging;
 mod room;
+#[cfg(test)]
+mod room_tests;
 mod steps;
 #[cfg(test)]
 mod tests;
