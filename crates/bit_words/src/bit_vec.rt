@@ -1,8 +1,6 @@
 //! Bit vectors over blocks of any lawful type.
 
 mod block;
-#[cfg(test)]
-mod block_tests;
 mod blocks;
 mod bytes;
 mod changes;
@@ -10,15 +8,9 @@ mod comparing;
 mod integers;
 mod masks;
 mod merge;
-#[cfg(test)]
-mod merge_tests;
 mod merging;
 mod room;
-#[cfg(test)]
-mod room_tests;
 mod steps;
-#[cfg(test)]
-mod tests;
 mod tidy;
 mod vector;
 mod words;

@@ -1,0 +1,213 @@
+//! Two sets made one in place, and sets in one another: rows with their exact answers, and each call once
+//! over three block types.
+ghost use Rattle.std.specs.Prelude.{◌≡◌, IfOk};
+ghost use Rattle.bit_set.specs.Sets.{elements};
+
+use crate::set_tests::items;
+use bit_set::bit_vec::Merge;
+use bit_set::laws::collected_walks;
+use bit_set::{BitBlock, BitSet, SetError};
+use std::alloc::{AllocError, Global};
+use std::process::Abort;
+use std::test::Fail;
+
+fn set_of<B: BitBlock>(alloc: Global, numbers: &[usize]) -> Result<BitSet<B>, SetError> {
+    BitSet::from_iter(alloc, numbers.iter().copied())
+}
+
+// Makes the set what it and another become.
+fn merge_in<B: BitBlock>(
+    set: &mut BitSet<B>,
+    merge: Merge,
+    other: &BitSet<B>,
+) -> Result<(), AllocError> {
+    match merge {
+        Merge::Union => set.union_with(other),
+        Merge::Intersection => set.intersect_with(other),
+        Merge::Difference => set.difference_with(other),
+        Merge::Symmetric => set.symmetric_difference_with(other),
+    }
+}
+
+// A set has these elements and this length once it is merged with another.
+fn becomes(
+    rt: &impl Abort,
+    alloc: Global,
+    merge: Merge,
+    mut set: BitSet,
+    other: &BitSet,
+    (elements, len): (&[usize], usize),
+) -> Result<(), AllocError> {
+    merge_in(&mut set, merge, other)?;
+    assert_eq!(rt; items(alloc, &set)?.as_slice(), elements);
+    assert_eq!(rt; set.get_ref().len(), len);
+    Ok(())
+}
+
+#[test]
+fn a_union_has_the_greater_length(rt: HostRuntime) -> Result<(), Fail> {
+    let alloc = rt.alloc();
+    let five = set_of(alloc, &[5])?;
+    becomes(
+        &rt,
+        alloc,
+        Merge::Union,
+        set_of(alloc, &[0])?,
+        &five,
+        (&[0, 5], 6),
+    )?;
+    let byte = BitSet::from_bytes(alloc, &[0b1000_0100])?;
+    becomes(
+        &rt,
+        alloc,
+        Merge::Union,
+        set_of(alloc, &[0])?,
+        &byte,
+        (&[0, 5], 8),
+    )?;
+    Ok(())
+}
+
+#[test]
+fn a_union_after_a_removal(rt: HostRuntime) -> Result<(), Fail> {
+    let alloc = rt.alloc();
+    let mut set = set_of(alloc, &[0, 3, 7])?;
+    assert!(rt; set.remove(7));
+    let byte = BitSet::from_bytes(alloc, &[0b1101_0000])?;
+    becomes(&rt, alloc, Merge::Union, set, &byte, (&[0, 1, 3], 8))?;
+    Ok(())
+}
+
+#[test]
+fn an_intersection_has_the_greater_length(rt: HostRuntime) -> Result<(), Fail> {
+    let alloc = rt.alloc();
+    let none = BitSet::new(alloc);
+    let byte = BitSet::from_bytes(alloc, &[0b1010_0010])?;
+    becomes(
+        &rt,
+        alloc,
+        Merge::Intersection,
+        BitSet::new(alloc),
+        &byte,
+        (&[], 8),
+    )?;
+    becomes(&rt, alloc, Merge::Intersection, byte, &none, (&[], 8))?;
+    Ok(())
+}
+
+#[test]
+fn a_difference_has_what_the_first_has(rt: HostRuntime) -> Result<(), Fail> {
+    let alloc = rt.alloc();
+    let left = BitSet::from_bytes(alloc, &[0b0110_1000])?;
+    let right = BitSet::from_bytes(alloc, &[0b1010_0000])?;
+    becomes(
+        &rt,
+        alloc,
+        Merge::Difference,
+        left.clone(alloc)?,
+        &right,
+        (&[1, 4], 8),
+    )?;
+    becomes(&rt, alloc, Merge::Difference, right, &left, (&[0], 8))?;
+    Ok(())
+}
+
+#[test]
+fn a_symmetric_difference_has_what_just_one_has(rt: HostRuntime) -> Result<(), Fail> {
+    let alloc = rt.alloc();
+    let ends = set_of(alloc, &[1, 5])?;
+    becomes(
+        &rt,
+        alloc,
+        Merge::Symmetric,
+        set_of(alloc, &[0, 1])?,
+        &ends,
+        (&[0, 5], 6),
+    )?;
+    Ok(())
+}
+
+#[test]
+fn a_subset_may_be_longer(rt: HostRuntime) -> Result<(), Fail> {
+    let alloc = rt.alloc();
+    let both = set_of::<u32>(alloc, &[100, 200])?;
+    assert!(rt; set_of(alloc, &[200])?.is_subset(&both));
+    assert!(rt; !set_of(alloc, &[200, 300])?.is_subset(&both));
+    assert!(rt; BitSet::new(alloc).is_subset(&BitSet::new(alloc)));
+    Ok(())
+}
+
+#[test]
+fn sets_with_no_common_element_are_disjoint(rt: HostRuntime) -> Result<(), Fail> {
+    let alloc = rt.alloc();
+    let set = BitSet::from_bytes(alloc, &[0b1010_0010])?;
+    assert!(rt; !set.is_disjoint(&BitSet::from_bytes(alloc, &[0b0011_0000])?));
+    assert!(rt; set.is_disjoint(&BitSet::from_bytes(alloc, &[0b0100_0000])?));
+    assert!(rt; set.is_disjoint(&BitSet::new(alloc)));
+    Ok(())
+}
+
+// Whether a set is in another that has one number more, that one in it, and whether they have nothing in
+// common.
+fn answers<B: BitBlock>(alloc: Global) -> Result<[bool; 3], SetError> {
+    let less = set_of::<B>(alloc, &[1, 160])?;
+    let more = set_of(alloc, &[1, 160, 24])?;
+    Ok([
+        less.is_subset(&more),
+        less.is_superset(&more),
+        less.is_disjoint(&more),
+    ])
+}
+
+// How many elements two sets of numbers become, by one merge after another.
+fn counts<B: BitBlock>(alloc: Global) -> Result<[usize; 4], SetError> {
+    let mut set = set_of::<B>(alloc, &[1, 3, 5, 9, 11, 160, 19, 24, 200])?;
+    let other = set_of(alloc, &[1, 5, 9, 13, 19])?;
+    set.union_with(&other)?;
+    let either = set.count();
+    set.difference_with(&other)?;
+    let first = set.count();
+    set.symmetric_difference_with(&other)?;
+    let one = set.count();
+    set.intersect_with(&other)?;
+    Ok([either, first, one, set.count()])
+}
+
+#[test]
+fn sets_become_one_over_each_block(rt: HostRuntime) -> Result<(), Fail> {
+    assert_eq!(rt; counts::<u8>(rt.alloc())?, [10, 5, 10, 5]);
+    assert_eq!(rt; counts::<u32>(rt.alloc())?, [10, 5, 10, 5]);
+    assert_eq!(rt; counts::<u64>(rt.alloc())?, [10, 5, 10, 5]);
+    assert_eq!(rt; answers::<u8>(rt.alloc())?, [true, false, false]);
+    assert_eq!(rt; answers::<u32>(rt.alloc())?, [true, false, false]);
+    assert_eq!(rt; answers::<u64>(rt.alloc())?, [true, false, false]);
+    Ok(())
+}
+
+// What the walk over a union collects, and the set that becomes the union in place: they have the same
+// elements.
+fn collect_and_unite<B: BitBlock + 'static>(
+    alloc: Global,
+    set: &mut BitSet<B>,
+    other: &BitSet<B>,
+) -> Result<BitSet<B>, SetError>
+    ensures { IfOk result (λ collected. elements collected.values ≡ elements set.new.values) }
+{
+    collected_walks::<B>();
+    let collected = BitSet::from_iter(alloc, set.union(other))?;
+    set.union_with(other)?;
+    Ok(collected)
+}
+
+#[test]
+fn a_walk_collects_what_is_left_in_place(rt: HostRuntime) -> Result<(), Fail> {
+    let alloc = rt.alloc();
+    let mut set = set_of::<u32>(alloc, &[11, 1, 3])?;
+    let collected = collect_and_unite(alloc, &mut set, &set_of(alloc, &[2, 11])?)?;
+    assert_eq!(rt;
+        items(alloc, &collected)?.as_slice(),
+        [1, 2, 3, 11].as_slice()
+    );
+    assert_eq!(rt; items(alloc, &set)?.as_slice(), [1, 2, 3, 11].as_slice());
+    Ok(())
+}

@@ -1,0 +1,255 @@
+//! The JSON form: rows with their exact answers, from texts that `serde_json` reads, and each call over
+//! each type of blocks.
+use bit_set::bit_vec::BitVec;
+use bit_set::{BitSet, JsonBlock, JsonError};
+use serde_json::Value;
+use std::alloc::{AllocError, Global};
+use std::process::Abort;
+use std::test::Fail;
+
+// What a text gives: a set and its length, or a fault.
+fn answer<B: JsonBlock>(alloc: Global, text: &str) -> Result<String, Fail> {
+    let value = Value::from_str(alloc, text)?;
+    let answer = match BitSet::<B>::from_json(alloc, &value) {
+        Ok(set) => format!(in alloc; "{set} of {}", set.get_ref().len()),
+        Err(fault) => format!(in alloc; "{fault:?}"),
+    };
+    Ok(answer?)
+}
+
+fn assert_answer<B: JsonBlock>(
+    rt: &impl Abort,
+    alloc: Global,
+    text: &str,
+    wanted: &str,
+) -> Result<(), Fail> {
+    assert_eq!(rt; answer::<B>(alloc, text)?.as_str(), wanted, "of {text}");
+    Ok(())
+}
+
+// Each row has the texts of `storage` and `nbits`, and the answer.
+fn assert_answers<B: JsonBlock>(
+    rt: &impl Abort,
+    alloc: Global,
+    rows: &[(&str, &str, &str)],
+) -> Result<(), Fail> {
+    for row in rows {
+        let (storage, nbits, wanted) = *row;
+        let text = format!(in alloc;
+            "{{\"bit_vec\": {{\"storage\": {storage}, \"nbits\": {nbits}}}}}"
+        )?;
+        assert_answer::<B>(rt, alloc, text.as_str(), wanted)?;
+    }
+    Ok(())
+}
+
+fn text_of<B: JsonBlock>(alloc: Global, set: &BitSet<B>) -> Result<String, AllocError> {
+    let value = set.to_json(alloc)?;
+    value.to_string(alloc)
+}
+
+// A set goes to text and back.
+fn assert_goes_round<B: JsonBlock>(
+    rt: &impl Abort,
+    alloc: Global,
+    set: &BitSet<B>,
+) -> Result<(), Fail> {
+    let text = text_of(alloc, set)?;
+    let value = Value::from_str(alloc, text.as_str())?;
+    let back = BitSet::from_json(alloc, &value)?;
+    assert!(rt; back == *set);
+    assert_eq!(rt; back.get_ref().len(), set.get_ref().len());
+    Ok(())
+}
+
+fn some_set<B: JsonBlock>(alloc: Global) -> Result<BitSet<B>, Fail> {
+    let numbers: [usize; 7] = [0, 7, 8, 31, 63, 64, 130];
+    Ok(BitSet::from_iter(alloc, numbers.iter().copied())?)
+}
+
+#[test]
+fn a_set_is_spelt(rt: HostRuntime) -> Result<(), Fail> {
+    let alloc = rt.alloc();
+    let numbers: [usize; 4] = [11, 42, 100, 101];
+    let set: BitSet<u32> = BitSet::from_iter(alloc, numbers.iter().copied())?;
+    let text = text_of(alloc, &set)?;
+    assert_eq!(rt;
+        text.as_str(),
+        "{\"bit_vec\":{\"nbits\":102,\"storage\":[2048,1024,0,48]}}"
+    );
+    assert_goes_round(&rt, alloc, &set)
+}
+
+#[test]
+fn the_empty_set_is_spelt(rt: HostRuntime) -> Result<(), Fail> {
+    let text = text_of(rt.alloc(), &BitSet::new(rt.alloc()))?;
+    assert_eq!(rt; text.as_str(), "{\"bit_vec\":{\"nbits\":0,\"storage\":[]}}");
+    Ok(())
+}
+
+#[test]
+fn the_shape_is_asked_for(rt: HostRuntime) -> Result<(), Fail> {
+    for text in [
+        "null",
+        "[]",
+        "{}",
+        "{\"bit_vec\": null}",
+        "{\"bit_vec\": {}}",
+        "{\"bit_set\": {\"storage\": [8], \"nbits\": 4}}",
+        "{\"bit_vec\": {\"storage\": [8], \"nbits\": 4}, \"more\": 1}",
+        "{\"bit_vec\": {\"storage\": [8], \"nbits\": 4, \"more\": 1}}",
+        "{\"bit_vec\": {\"storage\": [8], \"nbits\": \"4\", \"more\": 1}}",
+        "{\"bit_vec\": {\"storage\": {}, \"nbits\": 4}}",
+        "{\"bit_vec\": {\"storage\": 8, \"nbits\": \"4\"}}",
+        "{\"bit_vec\": {\"nbits\": 4}}",
+        "{\"bit_vec\": {\"storage\": [8]}}",
+        "{\"bit_vec\": {\"blocks\": [8], \"nbits\": 4}}",
+        "{\"storage\": [8], \"nbits\": 4}",
+    ] {
+        assert_answer::<u32>(&rt, rt.alloc(), text, "Shape")?;
+    }
+    Ok(())
+}
+
+// Of members of one name `serde_json` keeps the last.
+#[test]
+fn the_last_of_members_of_one_name_is_read(rt: HostRuntime) -> Result<(), Fail> {
+    for (text, wanted) in [
+        (
+            "{\"bit_vec\": {\"storage\": [16], \"nbits\": 4, \"storage\": [8]}}",
+            "{3} of 4",
+        ),
+        (
+            "{\"bit_vec\": {\"storage\": [8], \"nbits\": 4, \"storage\": [16]}}",
+            "Unclean",
+        ),
+        (
+            "{\"bit_vec\": null, \"bit_vec\": {\"storage\": [8], \"nbits\": 4}}",
+            "{3} of 4",
+        ),
+    ] {
+        assert_answer::<u32>(&rt, rt.alloc(), text, wanted)?;
+    }
+    Ok(())
+}
+
+#[test]
+fn blocks_of_32_bits_are_read(rt: HostRuntime) -> Result<(), Fail> {
+    assert_answers::<u32>(
+        &rt,
+        rt.alloc(),
+        &[
+            ("[8]", "4", "{3} of 4"),
+            ("[]", "0", "{} of 0"),
+            ("[16]", "4", "Unclean"),
+            ("[8, 0]", "4", "Blocks"),
+            ("[16, 0]", "4", "Blocks"),
+            ("[1]", "33", "Blocks"),
+            ("[]", "1", "Blocks"),
+            ("[]", "18446744073709551615", "Blocks"),
+            ("[0, 4294967295]", "63", "Unclean"),
+            ("[4294967296]", "4", "Number"),
+            ("[4294967296, 1]", "4", "Number"),
+        ],
+    )
+}
+
+#[test]
+fn numbers_are_asked_for(rt: HostRuntime) -> Result<(), Fail> {
+    assert_answers::<u32>(
+        &rt,
+        rt.alloc(),
+        &[
+            ("[8]", "4.0", "Number"),
+            ("[-1]", "4", "Number"),
+            ("[8]", "\"4\"", "Number"),
+            ("[8]", "null", "Number"),
+            ("[8]", "-4", "Number"),
+            ("[8.0]", "4", "Number"),
+            ("[1e0]", "4", "Number"),
+            ("[1]", "1e0", "Number"),
+            ("[-0]", "4", "Number"),
+            ("[\"8\"]", "4", "Number"),
+            ("[null]", "4", "Number"),
+            ("[[8]]", "4", "Number"),
+            ("[8, null]", "4", "Number"),
+            ("[]", "18446744073709551616", "Number"),
+            ("[18446744073709551616]", "64", "Number"),
+        ],
+    )
+}
+
+#[test]
+fn blocks_of_8_bits_are_read(rt: HostRuntime) -> Result<(), Fail> {
+    assert_answers::<u8>(
+        &rt,
+        rt.alloc(),
+        &[
+            ("[256]", "4", "Number"),
+            ("[256, 1]", "9", "Number"),
+            ("[255]", "7", "Unclean"),
+            ("[127]", "7", "{0, 1, 2, 3, 4, 5, 6} of 7"),
+            ("[0]", "0", "Blocks"),
+            ("[0]", "1", "{} of 1"),
+        ],
+    )
+}
+
+#[test]
+fn blocks_of_16_bits_are_read(rt: HostRuntime) -> Result<(), Fail> {
+    assert_answers::<u16>(
+        &rt,
+        rt.alloc(),
+        &[
+            ("[65536]", "17", "Number"),
+            ("[32768, 1]", "17", "{15, 16} of 17"),
+        ],
+    )
+}
+
+#[test]
+fn blocks_of_64_bits_are_read(rt: HostRuntime) -> Result<(), Fail> {
+    let rows = [
+        ("[9223372036854775808]", "64", "{63} of 64"),
+        ("[18446744073709551615]", "63", "Unclean"),
+        ("[18446744073709551616]", "64", "Number"),
+    ];
+    assert_answers::<u64>(&rt, rt.alloc(), &rows)?;
+    assert_answers::<usize>(&rt, rt.alloc(), &rows)
+}
+
+#[test]
+fn small_blocks_go_round(rt: HostRuntime) -> Result<(), Fail> {
+    let alloc = rt.alloc();
+    assert_goes_round(&rt, alloc, &some_set::<u8>(alloc)?)?;
+    assert_goes_round(&rt, alloc, &some_set::<u16>(alloc)?)
+}
+
+#[test]
+fn large_blocks_go_round(rt: HostRuntime) -> Result<(), Fail> {
+    let alloc = rt.alloc();
+    assert_goes_round(&rt, alloc, &some_set::<u32>(alloc)?)?;
+    assert_goes_round(&rt, alloc, &some_set::<u64>(alloc)?)?;
+    assert_goes_round(&rt, alloc, &some_set::<usize>(alloc)?)
+}
+
+#[test]
+fn a_million_elements_go_round(rt: HostRuntime) -> Result<(), Fail> {
+    let alloc = rt.alloc();
+    let set = BitSet::from_bit_vec(BitVec::from_elem(alloc, 1_000_000, true)?);
+    assert_goes_round(&rt, alloc, &set)
+}
+
+#[test]
+fn faults_have_texts(rt: HostRuntime) -> Result<(), Fail> {
+    for (fault, text) in [
+        (JsonError::Shape, "not the form of a bit set"),
+        (JsonError::Number, "a number out of range"),
+        (JsonError::Blocks, "a wrong number of blocks"),
+        (JsonError::Unclean, "a bit past the length"),
+        (JsonError::Memory(AllocError), "memory refused"),
+    ] {
+        assert_eq!(rt; format!(in rt.alloc(); "{fault}")?.as_str(), text);
+    }
+    Ok(())
+}

@@ -1,0 +1,13 @@
+//! The tests of `bit_set`, by its public calls alone.
+#![tactic(auto)]
+
+#[cfg(test)]
+mod algebra_tests;
+#[cfg(test)]
+mod json_tests;
+#[cfg(test)]
+mod order_tests;
+#[cfg(test)]
+mod set_tests;
+#[cfg(test)]
+mod walk_tests;

@@ -1,0 +1,192 @@
+//! Rows with their exact answers, each generic call once over two block types, and the texts of the
+//! faults.
+use bit_set::bit_vec::BitVec;
+use bit_set::{BitBlock, BitSet, SetError};
+use std::alloc::{AllocError, Global};
+use std::test::Fail;
+
+// The elements, as the walk gives them.
+pub(crate) fn items<B: BitBlock>(alloc: Global, set: &BitSet<B>) -> Result<Vec<usize>, AllocError> {
+    let mut items = Vec::new(alloc);
+    for item in set {
+        items.push(item)?;
+    }
+    Ok(items)
+}
+
+#[test]
+fn insert_answers_what_is_new(rt: HostRuntime) -> Result<(), Fail> {
+    let mut set = BitSet::new(rt.alloc());
+    for (value, new) in [
+        (3, true),
+        (3, false),
+        (4, true),
+        (4, false),
+        (400, true),
+        (400, false),
+    ] {
+        assert_eq!(rt; set.insert(value)?, new, "at {value}");
+    }
+    assert_eq!(rt; set.count(), 3);
+    assert_eq!(rt; set.get_ref().len(), 401);
+    assert_eq!(rt; set.get_ref().storage().len(), 13);
+    Ok(())
+}
+
+#[test]
+fn insert_past_the_length_keeps_what_lies_between_out(rt: HostRuntime) -> Result<(), Fail> {
+    let mut set = BitSet::from_bit_vec(BitVec::from_elem(rt.alloc(), 140, true)?);
+    assert!(rt; set.contains(139));
+    assert!(rt; !set.contains(140));
+    assert!(rt; set.insert(150)?);
+    for (value, has) in [(140, false), (149, false), (150, true), (151, false)] {
+        assert_eq!(rt; set.contains(value), has, "at {value}");
+    }
+    assert_eq!(rt; set.get_ref().len(), 151);
+    Ok(())
+}
+
+#[test]
+fn the_greatest_number_is_no_element(rt: HostRuntime) -> Result<(), Fail> {
+    let mut set = BitSet::new(rt.alloc());
+    assert_eq!(rt; set.insert(18446744073709551615), Err(SetError::Element));
+    assert!(rt; set.is_empty());
+    assert_eq!(rt; set.get_ref().len(), 0);
+    set.insert(5)?;
+    assert_eq!(rt; set.insert(18446744073709551615), Err(SetError::Element));
+    assert_eq!(rt; items(rt.alloc(), &set)?.as_slice(), [5].as_slice());
+    assert_eq!(rt; set.get_ref().len(), 6);
+    Ok(())
+}
+
+#[test]
+fn truncate_keeps_what_is_below(rt: HostRuntime) -> Result<(), Fail> {
+    let mut set = BitSet::from_bytes(rt.alloc(), &[0xFF; 6])?;
+    for (len, left) in [(40, 40), (32, 32), (40, 32), (8, 8), (0, 0)] {
+        set.truncate(len);
+        assert_eq!(rt; set.count(), left, "at {len}");
+        assert_eq!(rt; set.get_ref().len(), left, "at {len}");
+    }
+    Ok(())
+}
+
+fn set_of(alloc: Global, numbers: &[usize]) -> Result<BitSet, SetError> {
+    BitSet::from_iter(alloc, numbers.iter().copied())
+}
+
+#[test]
+fn items_go_in_one_by_one(rt: HostRuntime) -> Result<(), Fail> {
+    let set = set_of(rt.alloc(), &[0, 2, 2, 3])?;
+    assert_eq!(rt; items(rt.alloc(), &set)?.as_slice(), [0, 2, 3].as_slice());
+    assert_eq!(rt; set.count(), 3);
+    assert_eq!(rt; set.get_ref().len(), 4);
+    Ok(())
+}
+
+fn put_all(set: &mut BitSet, numbers: &[usize]) -> Result<(), SetError> {
+    set.extend(numbers.iter().copied())
+}
+
+#[test]
+fn items_before_a_refused_one_stay_in(rt: HostRuntime) -> Result<(), Fail> {
+    let mut set = BitSet::new(rt.alloc());
+    let answer = put_all(&mut set, &[7, 18446744073709551615, 9]);
+    assert_eq!(rt; answer, Err(SetError::Element));
+    assert_eq!(rt; items(rt.alloc(), &set)?.as_slice(), [7].as_slice());
+    Ok(())
+}
+
+#[test]
+fn sets_have_lengths(rt: HostRuntime) -> Result<(), Fail> {
+    let empty = BitSet::with_capacity(rt.alloc(), 100)?;
+    assert_eq!(rt; empty.get_ref().len(), 100);
+    assert!(rt; empty.is_empty());
+    Ok(())
+}
+
+#[test]
+fn a_clone_has_the_items_and_the_length(rt: HostRuntime) -> Result<(), Fail> {
+    let copy = set_of(rt.alloc(), &[400, 1])?.clone(rt.alloc())?;
+    assert_eq!(rt; items(rt.alloc(), &copy)?.as_slice(), [1, 400].as_slice());
+    assert_eq!(rt; copy.get_ref().len(), 401);
+    Ok(())
+}
+
+// How many elements there are as some go in and out, and the length at the end.
+fn counts<B: BitBlock>(alloc: Global) -> Result<[usize; 4], SetError> {
+    let mut set = BitSet::<B>::with_capacity_general(alloc, 20)?;
+    set.extend(20..24)?;
+    let all = set.len();
+    set.remove(22);
+    let left = set.count();
+    set.clear();
+    Ok([all, left, set.count(), set.get_ref().len()])
+}
+
+// How many elements a copy has, its length once they are out, and the length after that.
+fn copied<B: BitBlock>(alloc: Global) -> Result<[usize; 3], SetError> {
+    let bytes = BitSet::<B>::from_bytes_general(alloc, &[0b0100_1010, 0b1000_0000])?;
+    let mut copy = BitSet::<B>::new_general(alloc);
+    copy.clone_from(&bytes)?;
+    let count = copy.count();
+    copy.make_empty();
+    let len = copy.get_ref().len();
+    copy.reset();
+    Ok([count, len, copy.get_ref().len()])
+}
+
+// Whether nine ones are a set that has 8, that is not empty, and that has room for them.
+fn has_nine<B: BitBlock>(alloc: Global) -> Result<bool, AllocError> {
+    let set = BitSet::<B>::from_bit_vec_general(BitVec::from_elem_general(alloc, 9, true)?);
+    Ok(set.contains(8) && !set.is_empty() && set.capacity() >= 9)
+}
+
+// Whether one more number is new in a copy of a set of ten; and how many elements the set has, how
+// many the copy once it is cut off at 65, and the copy's length.
+fn cut<B: BitBlock>(alloc: Global) -> Result<(bool, [usize; 3]), SetError> {
+    let set = BitSet::<B>::from_iter(alloc, 60..70)?;
+    let mut copy = set.clone(alloc)?;
+    let new = copy.insert(100)?;
+    copy.truncate(65);
+    let left = items(alloc, &copy)?.len();
+    Ok((new, [set.count(), left, copy.get_ref().len()]))
+}
+
+#[test]
+fn every_call_succeeds(rt: HostRuntime) -> Result<(), Fail> {
+    assert_eq!(rt; counts::<u8>(rt.alloc())?, [4, 3, 0, 24]);
+    assert_eq!(rt; counts::<u64>(rt.alloc())?, [4, 3, 0, 24]);
+    assert_eq!(rt; copied::<u8>(rt.alloc())?, [4, 16, 0]);
+    assert_eq!(rt; copied::<u64>(rt.alloc())?, [4, 16, 0]);
+    assert!(rt; has_nine::<u8>(rt.alloc())?);
+    assert!(rt; has_nine::<u64>(rt.alloc())?);
+    assert_eq!(rt; cut::<u8>(rt.alloc())?, (true, [10, 5, 65]));
+    assert_eq!(rt; cut::<u64>(rt.alloc())?, (true, [10, 5, 65]));
+    Ok(())
+}
+
+#[test]
+fn too_much_memory_is_refused(rt: HostRuntime) -> Result<(), Fail> {
+    let alloc = rt.alloc();
+    let refused = Err(SetError::Memory(AllocError));
+    let mut set = BitSet::new(alloc);
+    set.insert(5)?;
+    assert_eq!(rt; set.insert(18446744073709551614), refused);
+    assert_eq!(rt; items(alloc, &set)?.as_slice(), [5].as_slice());
+    assert_eq!(rt; set.get_ref().len(), 6);
+    assert!(rt; BitSet::<u8>::with_capacity_general(alloc, 18446744073709551615).is_err());
+    Ok(())
+}
+
+#[test]
+fn faults_have_texts(rt: HostRuntime) -> Result<(), Fail> {
+    for (fault, text) in [
+        (SetError::Element, "the element does not fit"),
+        (SetError::Length, "too many bits"),
+        (SetError::Memory(AllocError), "memory refused"),
+    ] {
+        let said = format!(in rt.alloc(); "{fault}")?;
+        assert_eq!(rt; said.as_str(), text);
+    }
+    Ok(())
+}

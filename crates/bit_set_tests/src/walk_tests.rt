@@ -1,0 +1,141 @@
+//! The rows of the walk, and a walk at each of its points over three widths.
+ghost use Rattle.std.specs.Prelude.{◌≡◌, ℕ, ◌-◌, ◌≤◌, ◌^◌, Bool, None, List, length};
+ghost use Rattle.std.specs.Iterator.{UpTo, YieldsThen};
+ghost use Rattle.bit_set.specs.Walk.{Walk, IsAtStart};
+
+mod two_sets;
+
+use bit_set::laws::whole_walks;
+use bit_set::{BitBlock, BitSet, Iter, SetError};
+use block24::Block24;
+use std::alloc::Global;
+use std::process::Abort;
+use std::test::Fail;
+
+// A set of one element, of at least this length.
+fn set_of<B: BitBlock>(alloc: Global, len: usize, element: usize) -> Result<BitSet<B>, SetError> {
+    let mut set = BitSet::with_capacity_general(alloc, len)?;
+    set.insert(element)?;
+    Ok(set)
+}
+
+// The bounds on the rest: at the making, and after each of two calls of `next`.
+fn bounds<B: BitBlock>(set: &BitSet<B>) -> [(usize, Option<usize>); 3] {
+    let mut walk = set.iter();
+    let made = walk.size_hint();
+    let _ = walk.next();
+    let stepped = walk.size_hint();
+    let _ = walk.next();
+    [made, stepped, walk.size_hint()]
+}
+
+// A set of 401 places over `u32` has 13 blocks, and its whole walk makes 14 pulls at most.
+fn pulls_at_401_places()
+    ensures { (values : List Bool) (s t : Walk) (items : List ℕ) → length values ≡ 401 → IsAtStart 32 values s → YieldsThen ⟦<Iter<'static, u32> as Iterator>⟧.next_gives s items None t → t.pulls ≤ 14 }
+{
+    whole_walks::<u32>();
+}
+
+#[test]
+fn the_bound_falls_with_the_blocks(rt: HostRuntime) -> Result<(), Fail> {
+    pulls_at_401_places();
+    let wide = bounds(&set_of::<u32>(rt.alloc(), 0, 400)?);
+    assert_eq!(rt; wide, [(0, Some(416)), (0, Some(32)), (0, Some(32))]);
+    let narrow = bounds(&set_of::<u8>(rt.alloc(), 0, 400)?);
+    assert_eq!(rt; narrow, [(0, Some(408)), (0, Some(8)), (0, Some(8))]);
+    let roomy = bounds(&set_of::<u8>(rt.alloc(), 40, 3)?);
+    assert_eq!(rt; roomy, [(0, Some(40)), (0, Some(40)), (0, Some(8))]);
+    Ok(())
+}
+
+// What the first five calls of `next` give.
+fn firsts<B: BitBlock>(set: &BitSet<B>) -> [Option<usize>; 5] {
+    let mut walk = set.iter();
+    [
+        walk.next(),
+        walk.next(),
+        walk.next(),
+        walk.next(),
+        walk.next(),
+    ]
+}
+
+#[test]
+fn a_walk_stays_at_its_end(rt: HostRuntime) -> Result<(), Fail> {
+    let bytes = BitSet::from_bytes(rt.alloc(), &[0b0100_1010])?;
+    assert_eq!(rt; firsts(&bytes), [Some(1), Some(4), Some(6), None, None]);
+    let forty = BitSet::<u8>::from_bytes_general(rt.alloc(), &[0b0001_0100])?;
+    assert_eq!(rt; firsts(&forty), [Some(3), Some(5), None, None, None]);
+    let wide = set_of::<u32>(rt.alloc(), 0, 400)?;
+    assert_eq!(rt; firsts(&wide), [Some(400), None, None, None, None]);
+    let roomy = set_of::<u8>(rt.alloc(), 40, 3)?;
+    assert_eq!(rt; firsts(&roomy), [Some(3), None, None, None, None]);
+    Ok(())
+}
+
+#[test]
+fn an_empty_set_has_no_item(rt: HostRuntime) {
+    let set = BitSet::new(rt.alloc());
+    assert_eq!(rt; set.iter().size_hint(), (0, Some(32)));
+    assert_eq!(rt; firsts(&set), [None; 5]);
+    assert_eq!(rt; set.iter().count(), 0);
+}
+
+// What generic code counts.
+fn counted<I: Iterator<Item = usize>>(items: I) -> usize
+    requires may_call { I.can_next items }
+    requires few { UpTo (I.remaining items) (2 ^ 64 - 1) }
+{
+    items.count()
+}
+
+fn even_numbers(alloc: Global) -> Result<BitSet, SetError> {
+    BitSet::from_iter(alloc, (0..5000).map(|half| half * 2))
+}
+
+#[test]
+fn even_numbers_are_counted(rt: HostRuntime) -> Result<(), Fail> {
+    let set = even_numbers(rt.alloc())?;
+    assert_eq!(rt; set.iter().count(), 5000);
+    assert_eq!(rt; counted(set.iter()), 5000);
+    let mut walk = set.iter();
+    for half in 0..5000 {
+        assert_eq!(rt; walk.next(), Some(half * 2));
+    }
+    assert_eq!(rt; walk.next(), None);
+    Ok(())
+}
+
+// The walk gives these items first.
+fn passes<B: BitBlock>(rt: &impl Abort, walk: &mut Iter<'_, B>, items: &[usize]) {
+    for item in items {
+        assert_eq!(rt; walk.next(), Some(*item));
+    }
+}
+
+// At each point of the walk over these elements, a clone counts what is left and gives it, and the
+// walk is left there.
+fn agrees_at_each_point<B: BitBlock>(rt: &impl Abort, set: &BitSet<B>, elements: &[usize]) {
+    for point in 0..elements.len() + 1 {
+        let (passed, left) = elements.split_at(point);
+        let mut walk = set.iter();
+        passes(rt, &mut walk, passed);
+        assert_eq!(rt; walk.clone().count(), left.len(), "at {point}");
+        let mut copy = walk.clone();
+        passes(rt, &mut copy, left);
+        assert_eq!(rt; copy.next(), None);
+        assert_eq!(rt; walk.next(), left.first().copied());
+    }
+}
+
+#[test]
+fn a_walk_is_its_list_at_each_point(rt: HostRuntime) -> Result<(), Fail> {
+    let elements = [0, 1, 7, 8, 22, 23, 24, 47, 48, 63, 64, 65, 143, 400, 401];
+    let narrow = BitSet::<u8>::from_iter(rt.alloc(), elements.iter().copied())?;
+    agrees_at_each_point(&rt, &narrow, &elements);
+    let odd = BitSet::<Block24>::from_iter(rt.alloc(), elements.iter().copied())?;
+    agrees_at_each_point(&rt, &odd, &elements);
+    let wide = BitSet::<u64>::from_iter(rt.alloc(), elements.iter().copied())?;
+    agrees_at_each_point(&rt, &wide, &elements);
+    Ok(())
+}

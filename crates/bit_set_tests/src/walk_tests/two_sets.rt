@@ -1,0 +1,245 @@
+//! The rows of the walks over two sets, and each kind at each of its points over three widths.
+ghost use Rattle.std.specs.Prelude.{◌≡◌, ℕ, ◌≤◌, Bool, None, List, length};
+ghost use Rattle.std.specs.Iterator.{YieldsThen};
+ghost use Rattle.bit_set.specs.Sets.{elements, union, difference};
+ghost use Rattle.bit_set.specs.Walk.{Walk, StartsOverTwo};
+
+use bit_set::laws::whole_walks_over_two_sets;
+use bit_set::{BitBlock, BitSet, Difference, Intersection, SetError, SymmetricDifference, Union};
+use block24::Block24;
+use std::alloc::Global;
+use std::process::Abort;
+use std::test::Fail;
+
+// A walk of any kind.
+trait AnyWalk: Drop {
+    fn step(&mut self) -> Option<usize>;
+
+    fn another(&self) -> Self;
+
+    fn left(self) -> usize;
+}
+
+impl<'a, B: BitBlock> AnyWalk for Union<'a, B> {
+    fn step(&mut self) -> Option<usize> {
+        self.next()
+    }
+
+    fn another(&self) -> Self {
+        self.clone()
+    }
+
+    fn left(self) -> usize {
+        self.count()
+    }
+}
+
+impl<'a, B: BitBlock> AnyWalk for Intersection<'a, B> {
+    fn step(&mut self) -> Option<usize> {
+        self.next()
+    }
+
+    fn another(&self) -> Self {
+        self.clone()
+    }
+
+    fn left(self) -> usize {
+        self.count()
+    }
+}
+
+impl<'a, B: BitBlock> AnyWalk for Difference<'a, B> {
+    fn step(&mut self) -> Option<usize> {
+        self.next()
+    }
+
+    fn another(&self) -> Self {
+        self.clone()
+    }
+
+    fn left(self) -> usize {
+        self.count()
+    }
+}
+
+impl<'a, B: BitBlock> AnyWalk for SymmetricDifference<'a, B> {
+    fn step(&mut self) -> Option<usize> {
+        self.next()
+    }
+
+    fn another(&self) -> Self {
+        self.clone()
+    }
+
+    fn left(self) -> usize {
+        self.count()
+    }
+}
+
+// The walk gives these items, and then `None` for good.
+fn gives<W: AnyWalk>(rt: &impl Abort, walk: W, items: &[usize]) {
+    let mut walk = walk;
+    for item in items {
+        assert_eq!(rt; walk.step(), Some(*item));
+    }
+    assert_eq!(rt; walk.step(), None);
+    assert_eq!(rt; walk.step(), None);
+}
+
+// At each point of the walk a clone counts what is left, and another one gives it.
+fn agrees<W: AnyWalk>(rt: &impl Abort, walk: W, items: &[usize]) {
+    let mut walk = walk;
+    for point in 0..items.len() + 1 {
+        let (_, left) = items.split_at(point);
+        assert_eq!(rt; walk.another().left(), left.len(), "at {point}");
+        gives(rt, walk.another(), left);
+        assert_eq!(rt; walk.step(), left.first().copied());
+    }
+}
+
+fn set_of<B: BitBlock>(alloc: Global, items: &[usize]) -> Result<BitSet<B>, SetError> {
+    BitSet::from_iter(alloc, items.iter().copied())
+}
+
+#[test]
+fn an_intersection_lowers_its_bound(rt: HostRuntime) -> Result<(), Fail> {
+    let a = set_of::<u32>(rt.alloc(), &[11, 1, 3, 77, 103, 5])?;
+    let b = set_of::<u32>(rt.alloc(), &[2, 11, 77, 5, 3])?;
+    agrees(&rt, a.intersection(&b), &[3, 5, 11, 77]);
+    let mut walk = a.intersection(&b);
+    assert_eq!(rt; walk.size_hint(), (0, Some(78)));
+    assert_eq!(rt; walk.next(), Some(3));
+    assert_eq!(rt; walk.next(), Some(5));
+    assert_eq!(rt; walk.size_hint(), (0, Some(76)));
+    assert_eq!(rt; walk.clone().count(), 2);
+    gives(&rt, walk, &[11, 77]);
+    Ok(())
+}
+
+#[test]
+fn an_intersection_lowers_its_bound_at_its_end(rt: HostRuntime) -> Result<(), Fail> {
+    let a = set_of::<u32>(rt.alloc(), &[1, 3, 5, 9, 11, 160, 19, 24, 200])?;
+    let b = set_of::<u32>(rt.alloc(), &[1, 5, 9, 13, 19])?;
+    agrees(&rt, a.union(&b), &[1, 3, 5, 9, 11, 13, 19, 24, 160, 200]);
+    let mut walk = a.intersection(&b);
+    assert_eq!(rt; walk.size_hint(), (0, Some(20)));
+    for item in [1, 5, 9, 19] {
+        assert_eq!(rt; walk.next(), Some(item));
+    }
+    assert_eq!(rt; walk.size_hint(), (0, Some(16)));
+    assert_eq!(rt; walk.next(), None);
+    assert_eq!(rt; walk.size_hint(), (0, Some(15)));
+    Ok(())
+}
+
+// Sets of lengths 501 and 201 over `u32` have 16 blocks and 7: a whole walk over what is in the first
+// alone makes 17 pulls. One over what is in either of two sets of a block at most makes two.
+fn pulls_over_two_sets()
+    ensures wide { (a b : List Bool) (s t : Walk) (items : List ℕ) → length a ≡ 501 → length b ≡ 201 → s.left ≡ difference (elements a) (elements b)
+        → StartsOverTwo 32 a b s → YieldsThen ⟦<Difference<'static, u32> as Iterator>⟧.next_gives s items None t → t.pulls ≡ 17 }
+    ensures narrow { (a b : List Bool) (s t : Walk) (items : List ℕ) → length a ≤ 32 → length b ≤ 32 → s.left ≡ union (elements a) (elements b)
+        → StartsOverTwo 32 a b s → YieldsThen ⟦<Union<'static, u32> as Iterator>⟧.next_gives s items None t → t.pulls ≡ 2 }
+{
+    whole_walks_over_two_sets::<u32>();
+}
+
+#[test]
+fn what_two_sets_make(rt: HostRuntime) -> Result<(), Fail> {
+    pulls_over_two_sets();
+    let a = set_of::<u32>(rt.alloc(), &[1, 3, 5, 200, 500])?;
+    let b = set_of::<u32>(rt.alloc(), &[3, 200])?;
+    agrees(&rt, a.difference(&b), &[1, 5, 500]);
+    let a = set_of::<u32>(rt.alloc(), &[1, 3, 5, 9, 11])?;
+    let b = set_of::<u32>(rt.alloc(), &[3, 9, 14, 220])?;
+    agrees(&rt, a.symmetric_difference(&b), &[1, 5, 11, 14, 220]);
+    Ok(())
+}
+
+#[test]
+fn what_two_bytes_make(rt: HostRuntime) -> Result<(), Fail> {
+    let a = BitSet::from_bytes(rt.alloc(), &[0b0110_1000])?;
+    let b = BitSet::from_bytes(rt.alloc(), &[0b1010_0000])?;
+    agrees(&rt, a.union(&b), &[0, 1, 2, 4]);
+    agrees(&rt, a.intersection(&b), &[2]);
+    agrees(&rt, a.difference(&b), &[1, 4]);
+    agrees(&rt, b.difference(&a), &[0]);
+    agrees(&rt, a.symmetric_difference(&b), &[0, 1, 4]);
+    Ok(())
+}
+
+// What is in either set, in both, in the first alone, and in just one.
+#[derive(Drop)]
+struct Lists<'a> {
+    either: &'a [usize],
+    both: &'a [usize],
+    alone: &'a [usize],
+    one: &'a [usize],
+}
+
+// Each kind of walk over two sets gives its list.
+fn agree<B: BitBlock>(rt: &impl Abort, a: &BitSet<B>, b: &BitSet<B>, lists: &Lists<'_>) {
+    agrees(rt, a.union(b), lists.either);
+    agrees(rt, a.intersection(b), lists.both);
+    agrees(rt, a.difference(b), lists.alone);
+    agrees(rt, a.symmetric_difference(b), lists.one);
+}
+
+#[test]
+fn walks_over_sets_with_no_block(rt: HostRuntime) -> Result<(), Fail> {
+    let none = BitSet::new(rt.alloc());
+    let five = set_of::<u32>(rt.alloc(), &[5])?;
+    let empty = Lists {
+        either: &[],
+        both: &[],
+        alone: &[],
+        one: &[],
+    };
+    agree(&rt, &none, &BitSet::new(rt.alloc()), &empty);
+    let second = Lists {
+        either: &[5],
+        both: &[],
+        alone: &[],
+        one: &[5],
+    };
+    agree(&rt, &none, &five, &second);
+    let first = Lists {
+        either: &[5],
+        both: &[],
+        alone: &[5],
+        one: &[5],
+    };
+    agree(&rt, &five, &none, &first);
+    Ok(())
+}
+
+// Over two sets of a width, the longer one first, and then second.
+fn agree_at_each_point<B: BitBlock>(rt: &impl Abort, alloc: Global) -> Result<(), SetError> {
+    let longer = set_of::<B>(alloc, &[0, 1, 7, 8, 23, 24, 63, 64, 400])?;
+    let shorter = set_of::<B>(alloc, &[1, 7, 9, 24, 48, 64, 65])?;
+    let either = [0, 1, 7, 8, 9, 23, 24, 48, 63, 64, 65, 400];
+    let both = [1, 7, 24, 64];
+    let one = [0, 8, 9, 23, 48, 63, 65, 400];
+    let first = Lists {
+        either: &either,
+        both: &both,
+        alone: &[0, 8, 23, 63, 400],
+        one: &one,
+    };
+    agree(rt, &longer, &shorter, &first);
+    let second = Lists {
+        either: &either,
+        both: &both,
+        alone: &[9, 48, 65],
+        one: &one,
+    };
+    agree(rt, &shorter, &longer, &second);
+    Ok(())
+}
+
+#[test]
+fn walks_over_two_sets_are_their_lists(rt: HostRuntime) -> Result<(), Fail> {
+    agree_at_each_point::<u8>(&rt, rt.alloc())?;
+    agree_at_each_point::<Block24>(&rt, rt.alloc())?;
+    agree_at_each_point::<u64>(&rt, rt.alloc())?;
+    Ok(())
+}

@@ -1,0 +1,34 @@
+use bit_words::bit_vec::BitBlock;
+use block24::Block24;
+
+// The ones of a byte, of its complement, and of what is left of it once only its low four bits
+// have room above and the low one of those is dropped.
+fn counts<B: BitBlock>(byte: u8) -> [usize; 3] {
+    let low = B::from_byte(byte);
+    let high = low.shift_left(B::bits() - 4);
+    let dropped = high.shift_right(B::bits() - 3);
+    [low.count_ones(), (!low).count_ones(), dropped.count_ones()]
+}
+
+#[test]
+fn bits_move_within_the_width(rt: HostRuntime) {
+    assert_eq!(rt; counts::<u8>(0b0100_1011), [4, 4, 2]);
+    assert_eq!(rt; counts::<u16>(0b0100_1011), [4, 12, 2]);
+    assert_eq!(rt; counts::<Block24>(0b0100_1011), [4, 20, 2]);
+    assert_eq!(rt; counts::<u32>(0b0100_1011), [4, 28, 2]);
+    assert_eq!(rt; counts::<u64>(0b0100_1011), [4, 60, 2]);
+    assert_eq!(rt; counts::<usize>(0b0100_1011), [4, 60, 2]);
+}
+
+#[test]
+fn forty_gives_up_its_lowest_one(rt: HostRuntime) {
+    let block = 40u8;
+    let negated = !block + u8::one();
+    let low = block & negated;
+    let below = low - u8::one();
+    let rest = block & (block - u8::one());
+    assert_eq!(rt; [negated, low, below, rest], [216, 8, 7, 32]);
+    assert_eq!(rt; BitBlock::count_ones(below), 3);
+    assert_eq!(rt; low | rest, block);
+    assert_eq!(rt; block ^ rest, low);
+}

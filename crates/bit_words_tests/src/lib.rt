@@ -1,0 +1,11 @@
+//! The tests of `bit_words`, by its public calls alone.
+#![tactic(auto)]
+
+#[cfg(test)]
+mod block_tests;
+#[cfg(test)]
+mod merge_tests;
+#[cfg(test)]
+mod room_tests;
+#[cfg(test)]
+mod vector_tests;

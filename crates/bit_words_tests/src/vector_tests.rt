@@ -1,0 +1,145 @@
+use bit_words::bit_vec::{BitBlock, BitVec, BitsError, Steps};
+use block24::Block24;
+use std::alloc::{AllocError, Global};
+use std::test::Fail;
+
+#[test]
+fn bytes_begin_with_their_highest_bit(rt: HostRuntime) -> Result<(), Fail> {
+    let byte = BitVec::<u8>::from_bytes_general(rt.alloc(), &[0b0100_1010])?;
+    assert_eq!(rt; byte.storage(), [82].as_slice());
+
+    let bytes = BitVec::from_bytes(rt.alloc(), &[0b0100_1010, 0b1000_0000])?;
+    assert_eq!(rt; bytes.storage(), [338].as_slice());
+    assert_eq!(rt; bytes.len(), 16);
+    Ok(())
+}
+
+#[test]
+fn a_list_is_cut_grown_and_filled(rt: HostRuntime) -> Result<(), Fail> {
+    let mut bits = BitVec::from_elem(rt.alloc(), 140, true)?;
+    let full = 4_294_967_295;
+    assert_eq!(rt; bits.storage(), [full, full, full, full, 4095].as_slice());
+
+    bits.truncate(10);
+    assert_eq!(rt; bits.storage(), [1023].as_slice());
+
+    bits.grow(3, true)?;
+    assert_eq!(rt; bits.storage(), [8191].as_slice());
+    assert_eq!(rt; bits.len(), 13);
+
+    bits.grow(2, false)?;
+    assert_eq!(rt; bits.storage(), [8191].as_slice());
+    assert_eq!(rt; bits.len(), 15);
+    assert_eq!(rt; bits.get(14), Some(false));
+    assert_eq!(rt; bits.get(15), None);
+
+    assert!(rt; bits.replace(0, false));
+    assert!(rt; !bits.replace(0, false));
+    assert_eq!(rt; bits.storage(), [8190].as_slice());
+
+    bits.fill(true);
+    assert_eq!(rt; bits.storage(), [32767].as_slice());
+
+    let copy = bits.clone(rt.alloc())?;
+    assert_eq!(rt; copy.storage(), [32767].as_slice());
+    assert_eq!(rt; copy.len(), 15);
+    Ok(())
+}
+
+// A list of 40 values of which the last is true, made by way of each general call.
+fn last_of_forty<B: BitBlock>(alloc: Global) -> Result<BitVec<B>, BitsError> {
+    let bytes = BitVec::<B>::from_bytes_general(alloc, &[0, 0, 0, 0, 1])?;
+    let mut bits = BitVec::from_elem_general(alloc, 50, true)?;
+    bits.clone_from(&bytes)?;
+    Ok(bits.clone(alloc)?)
+}
+
+// Of five values that are true but for the first: the outer two, what is past them, and whether
+// the room holds all.
+fn grown<B: BitBlock>(alloc: Global) -> Result<([Option<bool>; 3], bool), AllocError> {
+    let mut bits = BitVec::<B>::new_general(alloc);
+    bits.grow(5, true)?;
+    bits.set(0, false);
+    let ends = [bits.get(0), bits.get(4), bits.get(5)];
+    Ok((ends, bits.capacity() >= bits.len()))
+}
+
+// How many values and blocks there are, and how many blocks a walk and its copy have left after one.
+fn sizes<B: BitBlock>(bits: &BitVec<B>) -> [usize; 4] {
+    let mut walk = bits.blocks();
+    let _first = walk.next();
+    let left = walk.clone().count();
+    [bits.len(), bits.storage().len(), walk.size_hint().0, left]
+}
+
+// Whether no value is true, of such a list, of all but its last value, and of none.
+fn nones<B: BitBlock>(bits: &mut BitVec<B>) -> [bool; 3] {
+    let whole = bits.none();
+    bits.truncate(39);
+    let cut = bits.none();
+    bits.fill(true);
+    bits.remove_all();
+    [whole, cut, bits.none()]
+}
+
+#[test]
+fn each_call_answers_at_two_widths(rt: HostRuntime) -> Result<(), Fail> {
+    let mut whole = last_of_forty::<u8>(rt.alloc())?;
+    assert_eq!(rt; sizes(&whole), [40, 5, 4, 4]);
+    assert_eq!(rt; nones(&mut whole), [false, true, true]);
+    let ends = [Some(false), Some(true), None];
+    assert_eq!(rt; grown::<u8>(rt.alloc())?, (ends, true));
+
+    let mut odd = last_of_forty::<Block24>(rt.alloc())?;
+    assert_eq!(rt; sizes(&odd), [40, 2, 1, 1]);
+    assert_eq!(rt; nones(&mut odd), [false, true, true]);
+    assert_eq!(rt; grown::<Block24>(rt.alloc())?, (ends, true));
+    Ok(())
+}
+
+#[test]
+fn a_walk_gives_each_block(rt: HostRuntime) -> Result<(), Fail> {
+    let bits = BitVec::<u8>::from_bytes_general(rt.alloc(), &[0b1000_0000, 0b0100_0000])?;
+    let mut walk = bits.blocks();
+    assert_eq!(rt; walk.size_hint(), (2, Some(2)));
+    assert_eq!(rt; walk.next(), Some(1));
+    let mut copy = walk.clone();
+    assert_eq!(rt; walk.next(), Some(2));
+    assert_eq!(rt; walk.next(), None);
+    assert_eq!(rt; copy.next(), Some(2));
+    assert_eq!(rt; copy.count(), 0);
+    Ok(())
+}
+
+#[test]
+fn a_refused_growth_changes_nothing(rt: HostRuntime) -> Result<(), Fail> {
+    let mut bits = BitVec::<u8>::from_bytes_general(rt.alloc(), &[0b1010_0000])?;
+    let capacity = bits.capacity();
+    let longest = usize::MAX - bits.len();
+    assert_eq!(rt; bits.grow(longest, true), Err(AllocError));
+    assert_eq!(rt; bits.storage(), [5].as_slice());
+    assert_eq!(rt; bits.len(), 8);
+    assert_eq!(rt; bits.capacity(), capacity);
+    Ok(())
+}
+
+#[test]
+fn nothing_needs_no_memory(rt: HostRuntime) {
+    assert!(rt; BitVec::new(rt.alloc()).none());
+    let mut steps = Steps::new();
+    steps.tick();
+    let _same = steps.clone();
+}
+
+#[test]
+fn faults_have_their_texts(rt: HostRuntime) -> Result<(), Fail> {
+    assert_eq!(rt;
+        format!(in rt.alloc(); "{}", BitsError::Length)?.as_str(),
+        "too many bits"
+    );
+    assert_eq!(rt;
+        format!(in rt.alloc(); "{}", BitsError::Memory(AllocError))?.as_str(),
+        "memory refused"
+    );
+    Ok(())
+}
