@@ -344,58 +344,34 @@ struct PairCalls {
     fixed_merge_into: fn(&mut FixedBitSet, &FixedBitSet),
 }
 
-fn pair_calls() -> [PairCalls; 4] {
-    [
+/// The calls of one name: of this library, and of both peers, which have them under the same names.
+macro_rules! pair_calls {
+    ($name:literal, $walk:ident, $count:ident, $merge:ident, $call:ident, $call_with:ident) => {
         PairCalls {
-            name: "union",
-            walk: here::bench_walk_union,
-            count: here::bench_count_union,
-            merge: here::bench_merge_union,
-            sum_of: |one, other| sum(one.union(other)),
-            count_of: |one, other| one.union(other).count(),
-            merge_into: |one, other| one.union_with(other),
-            fixed_sum_of: |one, other| sum(one.union(other)),
-            fixed_count_of: |one, other| one.union(other).count(),
-            fixed_merge_into: |one, other| one.union_with(other),
-        },
-        PairCalls {
-            name: "intersection",
-            walk: here::bench_walk_intersection,
-            count: here::bench_count_intersection,
-            merge: here::bench_merge_intersection,
-            sum_of: |one, other| sum(one.intersection(other)),
-            count_of: |one, other| one.intersection(other).count(),
-            merge_into: |one, other| one.intersect_with(other),
-            fixed_sum_of: |one, other| sum(one.intersection(other)),
-            fixed_count_of: |one, other| one.intersection(other).count(),
-            fixed_merge_into: |one, other| one.intersect_with(other),
-        },
-        PairCalls {
-            name: "difference",
-            walk: here::bench_walk_difference,
-            count: here::bench_count_difference,
-            merge: here::bench_merge_difference,
-            sum_of: |one, other| sum(one.difference(other)),
-            count_of: |one, other| one.difference(other).count(),
-            merge_into: |one, other| one.difference_with(other),
-            fixed_sum_of: |one, other| sum(one.difference(other)),
-            fixed_count_of: |one, other| one.difference(other).count(),
-            fixed_merge_into: |one, other| one.difference_with(other),
-        },
-        PairCalls {
-            name: "symmetric difference",
-            walk: here::bench_walk_symmetric_difference,
-            count: here::bench_count_symmetric_difference,
-            merge: here::bench_merge_symmetric_difference,
-            sum_of: |one, other| sum(one.symmetric_difference(other)),
-            count_of: |one, other| one.symmetric_difference(other).count(),
-            merge_into: |one, other| one.symmetric_difference_with(other),
-            fixed_sum_of: |one, other| sum(one.symmetric_difference(other)),
-            fixed_count_of: |one, other| one.symmetric_difference(other).count(),
-            fixed_merge_into: |one, other| one.symmetric_difference_with(other),
-        },
-    ]
+            name: $name,
+            walk: here::$walk,
+            count: here::$count,
+            merge: here::$merge,
+            sum_of: |one, other| sum(one.$call(other)),
+            count_of: |one, other| one.$call(other).count(),
+            merge_into: |one, other| one.$call_with(other),
+            fixed_sum_of: |one, other| sum(one.$call(other)),
+            fixed_count_of: |one, other| one.$call(other).count(),
+            fixed_merge_into: |one, other| one.$call_with(other),
+        }
+    };
 }
+
+#[rustfmt::skip]
+const PAIR_CALLS: [PairCalls; 4] = [
+    pair_calls!("union", bench_walk_union, bench_count_union, bench_merge_union, union, union_with),
+    pair_calls!("intersection", bench_walk_intersection, bench_count_intersection, bench_merge_intersection, intersection, intersect_with),
+    pair_calls!("difference", bench_walk_difference, bench_count_difference, bench_merge_difference, difference, difference_with),
+    pair_calls!(
+        "symmetric difference", bench_walk_symmetric_difference, bench_count_symmetric_difference,
+        bench_merge_symmetric_difference, symmetric_difference, symmetric_difference_with
+    ),
+];
 
 fn two_sets(table: &mut Table, density: &Density) {
     let Density { label, len, members, numbers } = density;
@@ -403,7 +379,7 @@ fn two_sets(table: &mut Table, density: &Density) {
     let work = |unit, units, turns| Work { unit, units, turns, numbers: &[] };
     let sets = || (set_of::<u32>(members), set_of::<u32>(numbers));
     let fixed_sets = || (fixed_of(*len, members), fixed_of(*len, numbers));
-    for calls in &pair_calls() {
+    for calls in &PAIR_CALLS {
         let (one, other) = sets();
         let items = (calls.count_of)(&one, &other);
         let here = |call: here::OnPair, turns| unsafe {
