@@ -4,6 +4,7 @@ pub mod AlgebraLemmas
 pub mod SubsetLemmas
 pub mod CollectLemmas
 pub mod ValueLemmas
+pub mod RoomLemmas
 pub mod CountLemmas
 pub mod ItemLemmas
 pub mod ByteLemmas

@@ -7,20 +7,16 @@ use Rattle.bit_words.specs.declared.bit_vec.merge.Merge.{Merge}
 use Rattle.bit_words.specs.declared.bit_vec.merge.Merge.TheVariants.{Intersection}
 use Rattle.bit_words.proofs.Masks.{is_one-zero}
 use Rattle.bit_words.specs.Bits.{blocks_of, blocks_for}
-use Rattle.bit_words.proofs.BitsLemmas.{blocks_for-enough, blocks_for-least}
 use Rattle.bit_words.proofs.MergeLemmas.{length-merged}
 use Rattle.std.proofs.Math.Nat.{mul-le-mul_right}
 use Rattle.std.proofs.lemmas.Bool.{cases_lt}
 use Rattle.bit_set.specs.Sets.{elements_from, elements, intersection, merged_sets}
 use Rattle.bit_set.proofs.AlgebraLemmas.{elements-merged}
+use Rattle.bit_set.proofs.RoomLemmas.{blocks_for-grows}
 use Rattle.bit_set.proofs.WalkLemmas.{length-held, length-blocks, elements-held, IsWalkable-of}
 use Rattle.bit_set.specs.Places.{digits_from, values_in, Ahead, PullsBlock, IsWalkable, IsMergedPull}
 
 -- ---- what two lists of blocks have
-
--- more values take no fewer blocks
-blocks_for-grows : (w m n : ℕ) → 0 < w → m ≤ n → blocks_for w m ≤ blocks_for w n
-blocks_for-grows w m n pos le = blocks_for-least w m (blocks_for w n) pos (omega (arith, blocks_for-enough w n pos))
 
 max_blocks : (w m n : ℕ) → 0 < w → max (blocks_for w m) (blocks_for w n) ≡ blocks_for w (max m n)
 max_blocks w m n pos =

@@ -9,4 +9,5 @@ pub mod Differences
 pub mod Places
 pub mod Json
 pub mod Entries
+pub mod Lends
 pub use Rattle.bit_words.specs.Bits

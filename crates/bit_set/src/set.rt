@@ -9,6 +9,7 @@ mod changing;
 mod comparing;
 mod making;
 mod merging;
+mod room;
 
 /// A set of whole numbers below `usize::MAX`, kept as a bit vector: a number is an element exactly
 /// where the vector is true at it.

@@ -1,0 +1,79 @@
+-- How many blocks and how much room a set takes.
+use Rattle.std.proofs.Common.{◌≡◌, ℕ, ◌+◌, ◌-◌, ◌*◌, ◌<◌, ◌≤◌, ◌↔◌, max, Bool, true, false, nat_lt, if◌then◌else◌, List, [], ◌∷◌, slice_get, Some, zero, suc, refl, ap, ◌∙◌, ⊎_elim, arith, mul-le-mul_right}
+use Rattle.std.proofs.lemmas.Bool.{cases_lt, cases_Bool}
+use Rattle.std.proofs.lemmas.Bool.Decides.{nat_tests}
+use Rattle.bit_words.specs.Bits.{blocks_for, room_of, true_end, whole_blocks}
+use Rattle.bit_words.proofs.BitsLemmas.{blocks_for-enough, blocks_for-least}
+use Rattle.bit_words.proofs.RoomLemmas.{whole_blocks-fits}
+use Rattle.bit_set.specs.Sets.{elements, elements_from, bound_of}
+use Rattle.bit_set.proofs.SetLaws.{slice_get-elements}
+use Rattle.bit_set.proofs.SubsetLemmas.{same_tests}
+use Rattle.bit_set.proofs.SetLemmas.{IsAscending-elements, same_members}
+
+-- more values take no fewer blocks
+pub blocks_for-grows : (w m n : ℕ) → 0 < w → m ≤ n → blocks_for w m ≤ blocks_for w n
+blocks_for-grows w m n pos le = blocks_for-least w m (blocks_for w n) pos (omega (arith, blocks_for-enough w n pos))
+
+-- nor less room
+pub room_of-grows : (w m n : ℕ) → 0 < w → m ≤ n → room_of w (blocks_for w m) ≤ room_of w (blocks_for w n)
+room_of-grows w m n pos le = let more = mul-le-mul_right w (blocks_for-grows w m n pos le) in omega (arith, more)
+
+-- room for a length, asked for as what is missing past the list
+pub room_for_length : (w old new long len missing : ℕ) → 0 < w → missing ≡ len - long → long ≤ old → (long + missing ≤ old → new ≡ old) → new ≡ max old (room_of w (blocks_for w (long + missing))) → new ≡ max old (room_of w (blocks_for w len))
+room_for_length w old new long len missing pos is below within exact =
+    ⊎_elim
+    (λ (less : len < long).
+    let none : long + missing ≡ long = omega arith in
+    let same : new ≡ old = within (omega arith) in
+    let room : new ≡ max old (room_of w (blocks_for w long)) = rw none at exact in
+    let grows = room_of-grows w len long pos (omega arith) in
+    omega arith)
+    (λ (reached : long ≤ len). let all : long + missing ≡ len = omega arith in rw all at exact)
+    (cases_lt len long)
+
+-- lists with the same true values keep one set
+pub elements-true_values : (bs cs : List Bool) → ((i : ℕ) → (slice_get cs i ≡ Some true) ↔ (slice_get bs i ≡ Some true)) → elements cs ≡ elements bs
+elements-true_values bs cs same =
+    same_members (elements cs) (elements bs) (IsAscending-elements cs) (IsAscending-elements bs)
+    (λ n. same_tests _ _
+    (λ is. (slice_get-elements bs n).1 ((same n).0 ((slice_get-elements cs n).0 is)))
+    (λ is. (slice_get-elements cs n).1 ((same n).1 ((slice_get-elements bs n).0 is))))
+
+-- ---- how far a list is true
+
+one_more : (place n : ℕ) → max (place + 1) (if nat_lt 0 n then place + 1 + n else 0) ≡ (if nat_lt 0 (n + 1) then place + (n + 1) else 0)
+one_more place zero = omega arith
+one_more place (suc n) =
+    let here : nat_lt 0 (suc n) ≡ true = grind (arith, nat_tests) in
+    let next : nat_lt 0 (suc n + 1) ≡ true = grind (arith, nat_tests) in
+    rw (here, next) (omega arith)
+
+one_further : (place n : ℕ) → (if nat_lt 0 n then place + 1 + n else 0) ≡ (if nat_lt 0 (if nat_lt 0 n then n + 1 else 0) then place + (if nat_lt 0 n then n + 1 else 0) else 0)
+one_further place zero = refl
+one_further place (suc n) =
+    let here : nat_lt 0 (suc n) ≡ true = grind (arith, nat_tests) in
+    let next : nat_lt 0 (suc n + 1) ≡ true = grind (arith, nat_tests) in
+    rw (here, next) (omega arith)
+
+bound-from : (place : ℕ) (bs : List Bool) → bound_of (elements_from place bs) ≡ (if nat_lt 0 (true_end bs) then place + true_end bs else 0)
+bound-from place [] = refl
+bound-from place (true ∷ bs) = ap (max (place + 1)) (bound-from (place + 1) bs) ∙ one_more place (true_end bs)
+bound-from place (false ∷ bs) = bound-from (place + 1) bs ∙ one_further place (true_end bs)
+
+-- a list is true as far as its set goes
+pub true_end-bound : (bs : List Bool) → true_end bs ≡ bound_of (elements bs)
+true_end-bound bs =
+    let bound = bound-from 0 bs in
+    ⊎_elim
+    (λ (some : nat_lt 0 (true_end bs) ≡ true). let r : bound_of (elements bs) ≡ 0 + true_end bs = rw some at bound in omega arith)
+    (λ (none : nat_lt 0 (true_end bs) ≡ false). let r : bound_of (elements bs) ≡ 0 = rw none at bound in let e : true_end bs ≡ 0 = grind (arith, nat_tests) in omega arith)
+    (cases_Bool (nat_lt 0 (true_end bs)))
+
+-- the empty set takes no blocks
+pub whole_blocks-empty : (w : ℕ) (bs : List Bool) → 0 < w → elements bs ≡ [] → whole_blocks w bs ≡ 0
+whole_blocks-empty w bs pos none =
+    let ends : true_end bs ≡ 0 = true_end-bound bs ∙ ap bound_of none in
+    let least = blocks_for-least w (true_end bs) 0 pos (omega arith) in
+    let no_blocks : blocks_for w (true_end bs) ≡ 0 = omega arith in
+    let none_long : 0 * w ≡ 0 = omega arith in
+    whole_blocks-fits w 0 bs no_blocks (omega arith) ∙ none_long

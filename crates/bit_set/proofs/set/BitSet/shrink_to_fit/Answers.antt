@@ -1,0 +1,10 @@
+use Rattle.std.proofs.Common.{ap, ◌∙◌}
+use Rattle.bit_set.specs.Sets.{elements}
+use Rattle.bit_set.proofs.RoomLemmas.{elements-true_values, whole_blocks-empty}
+use Rattle.bit_set.proofs.set.BitSet.shrink_to_fit.Goals as goal
+
+pub returns-clause-elements : goal.returns-clause-elements
+returns-clause-elements g c = ap elements c.shrink_to_fit.ensures.values ∙ elements-true_values _ _ c.cut_zero_blocks.ensures.true_values ∙ ap (λ bits. elements bits.values) c.self.view_is
+
+pub returns-clause-empty : goal.returns-clause-empty
+returns-clause-empty g c = λ none. c.shrink_to_fit.ensures.empty (c.cut_zero_blocks.ensures.len ∙ whole_blocks-empty _ c.self.inside.bits.values g.met.B.BitBlock.width_law.positive (ap (λ bits. elements bits.values) c.self.view_is ∙ none))

@@ -1,0 +1,79 @@
+// Calls that change the room, or hand out the bit vector.
+ghost use Rattle.std.specs.Prelude.{◌≡◌, ◌<◌, ◌≤◌, IsOk, OnErr, OnOk, [], length, max};
+ghost use Rattle.std.specs.Borrow.{sem};
+ghost use Rattle.bit_words.specs.Bits.{blocks_for, room_of, whole_blocks, IsWithinRoom};
+ghost use Rattle.bit_set.specs.Sets.{elements};
+ghost use Rattle.bit_set.specs.Lends.{lends_bits};
+
+use crate::bit_vec::BitVec;
+use crate::{BitBlock, BitSet};
+use std::alloc::AllocError;
+
+impl<B: BitBlock> BitSet<B> {
+    /// Makes room for elements below `len`; no element, and not the length, changes. Where the room was
+    /// missing it asks for twice the old at least, and may move the blocks. Fails only there, and then
+    /// nothing changed.
+    pub fn reserve_len(&mut self, len: usize) -> Result<(), AllocError>
+        ensures values { self.new.values ≡ self.old.values }
+        ensures ok { OnOk result (len ≤ self.new.room) }
+        ensures err { OnErr result (self.new ≡ self.old) }
+        ensures full { OnErr result (self.old.room < len) }
+        ensures succeeds { len ≤ self.old.room → IsOk result }
+        ensures within { len ≤ self.old.room → self.new.room ≡ self.old.room }
+        ensures room { self.old.room ≤ self.new.room }
+    {
+        let missing = len.saturating_sub(self.bits.len());
+        self.bits.reserve(missing)
+    }
+
+    /// Makes room for elements below `len`; no element, and not the length, changes. Where the room was
+    /// missing it asks for the blocks of `len` and no more, and may move the blocks. Fails only there,
+    /// and then nothing changed.
+    pub fn reserve_len_exact(&mut self, len: usize) -> Result<(), AllocError>
+        ensures values { self.new.values ≡ self.old.values }
+        ensures ok { OnOk result (len ≤ self.new.room) }
+        ensures err { OnErr result (self.new ≡ self.old) }
+        ensures full { OnErr result (self.old.room < len) }
+        ensures succeeds { len ≤ self.old.room → IsOk result }
+        ensures within { len ≤ self.old.room → self.new.room ≡ self.old.room }
+        ensures exact { OnOk result (self.new.room ≡ max self.old.room (room_of B.width (blocks_for B.width len))) }
+        ensures room { self.old.room ≤ self.new.room }
+    {
+        let missing = len.saturating_sub(self.bits.len());
+        self.bits.reserve_exact(missing)
+    }
+
+    /// Makes the length that of the blocks up to the one with the greatest element, so that it can
+    /// become greater too, and gives back the room that these blocks do not take; may move them. The
+    /// elements stay. Fails where room is left over since memory to move the blocks to was refused, and
+    /// then the length is the new one.
+    pub fn shrink_to_fit(&mut self) -> Result<(), AllocError>
+        ensures elements { elements self.new.values ≡ elements self.old.values }
+        ensures length { length self.new.values ≡ whole_blocks B.width self.old.values }
+        ensures ok { OnOk result (self.new.room ≡ room_of B.width (blocks_for B.width (length self.new.values))) }
+        ensures room { self.new.room ≤ self.old.room }
+        ensures fits { IsWithinRoom self.new }
+        ensures empty { elements self.old.values ≡ [] → IsOk result }
+    {
+        self.bits.cut_zero_blocks();
+        self.bits.shrink_to_fit()
+    }
+
+    /// The bit vector, to write to: what it is when the borrow ends is the set from then on. Constant
+    /// time.
+    #[inline]
+    pub fn get_mut(&mut self) -> &mut BitVec<B>
+        ensures* writes_back { sem 𝓛 (lends_bits B.row B.BitBlock self.entry result) }
+        ensures value { result.now ≡ self.old }
+    {
+        &mut self.bits
+    }
+
+    /// The bit vector that keeps the set. Constant time.
+    #[inline]
+    pub fn into_bit_vec(self) -> BitVec<B>
+        ensures { result ≡ self }
+    {
+        self.bits
+    }
+}
