@@ -18,6 +18,7 @@ impl<B: BitBlock> BitSet<B> {
         ensures ok { OnOk result (len ≤ self.new.room) }
         ensures err { OnErr result (self.new ≡ self.old) }
         ensures full { OnErr result (self.old.room < len) }
+        ensures past { OnErr result (length self.old.values < len) }
         ensures succeeds { len ≤ self.old.room → IsOk result }
         ensures within { len ≤ self.old.room → self.new.room ≡ self.old.room }
         ensures room { self.old.room ≤ self.new.room }
@@ -34,6 +35,7 @@ impl<B: BitBlock> BitSet<B> {
         ensures ok { OnOk result (len ≤ self.new.room) }
         ensures err { OnErr result (self.new ≡ self.old) }
         ensures full { OnErr result (self.old.room < len) }
+        ensures past { OnErr result (length self.old.values < len) }
         ensures succeeds { len ≤ self.old.room → IsOk result }
         ensures within { len ≤ self.old.room → self.new.room ≡ self.old.room }
         ensures exact { OnOk result (self.new.room ≡ max self.old.room (room_of B.width (blocks_for B.width len))) }
