@@ -8,6 +8,8 @@ mod json_tests;
 #[cfg(test)]
 mod order_tests;
 #[cfg(test)]
+mod room_tests;
+#[cfg(test)]
 mod set_tests;
 #[cfg(test)]
 mod walk_tests;
