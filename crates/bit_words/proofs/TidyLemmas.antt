@@ -1,9 +1,10 @@
 -- What appending, keeping and filling whole blocks does to the value at every index.
-use Rattle.std.proofs.Common.{◌≡◌, ℕ, zero, suc, ◌+◌, ◌-◌, ◌/◌, ◌%◌, ◌^◌, ◌<◌, ◌≤◌, Bool, true, false, ◌&&◌, ◌||◌, nat_lt, nat_le, List, [], ◌∷◌, ◌++◌, map, length, get_or, take, replicate, refl, sym, ap, ap₂, ◌∙◌, arith, ⊎_elim, mod-lt, get_or-take, set, ◌≢◌, get_or-set_same, get_or-set_other}
+use Rattle.std.proofs.Common.{◌≡◌, ℕ, zero, suc, ◌+◌, ◌-◌, ◌/◌, ◌%◌, ◌^◌, ◌<◌, ◌≤◌, Bool, true, false, ◌&&◌, ◌||◌, nat_lt, nat_le, List, [], ◌∷◌, ◌++◌, map, length, get_or, take, replicate, refl, sym, ap, ap₂, ◌∙◌, arith, ⊎_elim, append_assoc, mod-lt, get_or-take, set, ◌≢◌, get_or-set_same, get_or-set_other}
 use Rattle.std.proofs.Math.Bool.{or-false}
 use Rattle.std.proofs.lemmas.Bool.{cases_lt, cases_eq}
 use Rattle.std.proofs.lemmas.Bool.Decides.{nat_tests}
 use Rattle.std.proofs.lemmas.List.{get_or_append_left, get_or-append_right, get_or_past, get_or-replicate, length-replicate, length-append, map-append, take_all}
+use Rattle.std.proofs.lemmas.Grind.{replicate_next}
 use Rattle.bit_words.specs.Bits.{blocks_for}
 use Rattle.bit_words.specs.Storage.{is_one, value_at, IsCleanFrom}
 use Rattle.bit_words.proofs.Masks.{is_one-ones, is_one-zero}
@@ -48,6 +49,15 @@ resized f xs len n x e h =
 
 pub map-pushed : {X : Type 0} (f : X → ℕ) (xs ys : List X) (x : X) → ys ≡ xs ++ x ∷ [] → map f ys ≡ map f xs ++ f x ∷ []
 map-pushed f xs ys x e = ap (map f) e ∙ map-append f xs (x ∷ [])
+
+-- one copy more, after k - len of them
+pub copy_pushed : {X : Type 0} (f : X → ℕ) (xs ys zs : List X) (len k : ℕ) (x : X) → len ≤ k → map f ys ≡ map f xs ++ replicate (k - len) (f x) → zs ≡ ys ++ x ∷ [] → map f zs ≡ map f xs ++ replicate (k + 1 - len) (f x)
+copy_pushed f xs ys zs len k x h before e =
+    let one_more : k + 1 - len ≡ (k - len) + 1 = omega arith in
+    map-pushed f ys zs x e
+    ∙ ap (λ ns. ns ++ f x ∷ []) before
+    ∙ append_assoc (map f xs) (replicate (k - len) (f x)) (f x ∷ [])
+    ∙ ap (λ ns. map f xs ++ ns) (sym (replicate_next (k - len) (f x)) ∙ ap (λ n. replicate n (f x)) (sym one_more))
 
 and_true : (a : Bool) → (false || (a && true)) ≡ a
 and_true true = refl

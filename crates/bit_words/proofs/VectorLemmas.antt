@@ -1,5 +1,5 @@
 -- What the calls of a bit vector cite: its length, its room and its list.
-use Rattle.std.proofs.Common.{◌≡◌, ℕ, ◌+◌, ◌*◌, ◌/◌, ◌%◌, ◌^◌, ◌<◌, ◌≤◌, max, Bool, false, zero, suc, List, [], ◌∷◌, map, length, get_or, refl, sym, ap, ◌∙◌, arith, ⊎_elim, Some, None, slice_get, All, mul-le-mul_right, pow_pos}
+use Rattle.std.proofs.Common.{◌≡◌, ℕ, ◌+◌, ◌-◌, ◌*◌, ◌/◌, ◌%◌, ◌^◌, ◌<◌, ◌≤◌, max, Bool, false, zero, suc, List, [], ◌∷◌, map, length, get_or, refl, sym, ap, ◌∙◌, arith, ⊎_elim, Some, None, slice_get, All, mul-le-mul_right, pow_pos}
 use Rattle.std.proofs.lemmas.Bool.{cases_lt}
 use Rattle.std.proofs.lemmas.Bool.Decides.{nat_tests}
 use Rattle.std.proofs.lemmas.List.{get_or-map, length-map}
@@ -75,6 +75,16 @@ is_room_of_blocks w n cap f P xs v tidy h e = record {
   room = room_from_view (room_of w cap) (values_of w (map f xs) n) v e;
   enough = rw (length_from_view w n (room_of w cap) (map f xs) v e) (let c = tidy.count in omega arith);
 }
+
+-- the blocks that a list has cover each length up to their last value
+pub room_covers : (w n : ℕ) (v : Bits) → IsRoomOfBlocks w v → n ≤ 2 ^ 64 - 1 → n ≤ blocks_for w (length v.values) * w → n ≤ v.room
+room_covers w n v whole fits h = let more = mul-le-mul_right w whole.enough in rw whole.room (omega arith)
+
+-- the same of a length that takes no more blocks than the list has
+pub room_covers_blocks : (w n : ℕ) (v : Bits) → 0 < w → IsRoomOfBlocks w v → n ≤ 2 ^ 64 - 1 → blocks_for w n ≤ blocks_for w (length v.values) → n ≤ v.room
+room_covers_blocks w n v pos whole fits h =
+    let more = mul-le-mul_right w h in
+    room_covers w n v whole fits (omega (arith, blocks_for-enough w n pos))
 
 -- ---- one value
 

@@ -5,6 +5,7 @@ mod blocks;
 mod bytes;
 mod changes;
 mod comparing;
+mod copying;
 mod integers;
 mod masks;
 mod merge;

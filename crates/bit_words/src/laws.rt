@@ -4,7 +4,7 @@ ghost use Rattle.std.specs.Int.{bit_at};
 ghost use Rattle.std.specs.Iterator.{YieldsThen};
 ghost use Rattle.std.specs.Int.RustNames.{count_ones};
 ghost use Rattle.std.specs.List.{sum_by, count_by, range_with_len};
-ghost use Rattle.bit_words.specs.Bits.{blocks_of, values_of_bytes};
+ghost use Rattle.bit_words.specs.Bits.{blocks_for, blocks_of, values_of_bytes, Bits, IsRoomOfBlocks};
 ghost use Rattle.bit_words.specs.Source.{Source};
 ghost use Rattle.bit_words.specs.Lowest.{LowestIsFound};
 
@@ -23,6 +23,12 @@ pub fn blocks_of_values()
 pub fn values_of_each_byte()
     ensures len { (bytes : List ℕ) → length (values_of_bytes bytes) ≡ 8 * length bytes }
     ensures values { (bytes : List ℕ) (i j : ℕ) → i < length bytes → j < 8 → slice_get (values_of_bytes bytes) (8 * i + j) ≡ Some (bit_at (slice_index bytes i) (7 - j) == 1) }
+{}
+
+/// How far the blocks of a list reach: a bit vector whose room is that of whole blocks, as `capacity`
+/// says of each, takes no memory to become as long as the blocks that it has.
+pub fn room_of_whole_blocks()
+    ensures { (w n : ℕ) (v : Bits) → IsRoomOfBlocks w v → n ≤ 2 ^ 64 - 1 → n ≤ blocks_for w (length v.values) * w → n ≤ v.room }
 {}
 
 /// What a whole walk over blocks gives: the blocks that were left, each once and in order, by one

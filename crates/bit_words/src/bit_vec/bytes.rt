@@ -1,5 +1,5 @@
 // Blocks made of bytes: the highest bit of a byte is the first of eight values.
-ghost use Rattle.std.specs.Prelude.{◌≡◌, ℕ, ◌+◌, ◌*◌, ◌^◌, ◌<◌, ◌≤◌, ◌&&◌, All, map, nat_lt, length, IfOk, IsOk};
+ghost use Rattle.std.specs.Prelude.{◌≡◌, ℕ, ◌+◌, ◌*◌, ◌^◌, ◌<◌, ◌≤◌, ◌&&◌, All, map, nat_lt, length, vec_capacity, IfOk, IsOk};
 ghost use Rattle.bit_words.specs.Bits.{blocks_for};
 ghost use Rattle.bit_words.specs.Storage.{is_one, value_at, byte_value};
 
@@ -17,6 +17,7 @@ pub(crate) fn blocks_of_bytes<B: BitBlock>(
     ensures values { IfOk result (λ blocks. (i : ℕ) → value_at B.width (map B.number blocks.items) i ≡ byte_value bytes.now i) }
     ensures each { IfOk result (λ blocks. All B.is_block blocks.items) }
     ensures len { IfOk result (λ blocks. length blocks.items ≡ blocks_for B.width (8 * length bytes.now)) }
+    ensures capacity { IfOk result (λ blocks. vec_capacity blocks ≡ blocks_for B.width (8 * length bytes.now)) }
     ensures empty { length bytes.now ≡ 0 → IsOk result }
 {
     let count = block_count::<B>(8 * bytes.len());

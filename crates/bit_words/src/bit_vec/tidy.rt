@@ -7,21 +7,8 @@ use super::BitBlock;
 use super::changes::{
     block_count, block_index, fill_blocks, lower_from, place_in_block, put_block, raise_last,
 };
+use super::copying::push_copies;
 use super::words::{all_ones, ones_below};
-
-// Appends copies of `block` until there are `count` blocks. There is room for them.
-fn push_copies<B: BitBlock>(blocks: &mut Vec<B>, count: usize, block: B)
-    requires more { vec_len blocks.old ≤ count }
-    requires room { count ≤ vec_capacity blocks.old }
-    requires each { All B.is_block blocks.old.items }
-    requires of_block { B.is_block block }
-    ensures numbers { map B.number blocks.new.items ≡ map B.number blocks.old.items ++ replicate (count - vec_len blocks.old) (B.number block) }
-    ensures each { All B.is_block blocks.new.items }
-    ensures len { vec_len blocks.new ≡ count }
-    ensures capacity { vec_capacity blocks.old ≤ vec_capacity blocks.new }
-{
-    blocks.resize(count, block).unwrap();
-}
 
 // Appends blocks of ones until there are those of `len` values. There is room for them.
 fn push_ones<B: BitBlock>(blocks: &mut Vec<B>, len: usize)
@@ -32,7 +19,7 @@ fn push_ones<B: BitBlock>(blocks: &mut Vec<B>, len: usize)
     ensures added { (i : ℕ) → vec_len blocks.old ≤ i / B.width → value_at B.width (map B.number blocks.new.items) i ≡ nat_lt i len }
     ensures each { All B.is_block blocks.new.items }
     ensures len { vec_len blocks.new ≡ blocks_for B.width len }
-    ensures capacity { vec_capacity blocks.old ≤ vec_capacity blocks.new }
+    ensures capacity { vec_capacity blocks.new ≡ vec_capacity blocks.old }
 {
     let whole = block_index::<B>(len);
     if blocks.len() > whole {
@@ -66,7 +53,7 @@ pub(crate) fn append_values<B: BitBlock>(blocks: &mut Vec<B>, old: usize, len: u
     ensures kept { (i : ℕ) → i < old → value_at B.width (map B.number blocks.new.items) i ≡ value_at B.width (map B.number blocks.old.items) i }
     ensures added { (i : ℕ) → old ≤ i → i < len → value_at B.width (map B.number blocks.new.items) i ≡ bit }
     ensures tidy { IsTidy B.width B.number B.is_block blocks.new.items len }
-    ensures capacity { vec_capacity blocks.old ≤ vec_capacity blocks.new }
+    ensures capacity { vec_capacity blocks.new ≡ vec_capacity blocks.old }
 {
     if bit {
         raise_last(blocks, old, len);

@@ -4,6 +4,8 @@ ghost use Rattle.std.specs.Prelude.{◌≡◌, ◌+◌, ◌<◌, ◌≤◌, [], 
 use super::BitVec;
 use crate::bit_vec::BitBlock;
 use crate::bit_vec::changes::{block_count, replace_value};
+use crate::bit_vec::copying::take_over;
+use crate::bit_vec::room::make_room;
 use crate::bit_vec::tidy::{append_values, fill_values, keep_values};
 use std::alloc::AllocError;
 
@@ -70,6 +72,7 @@ impl<B: BitBlock> BitVec<B> {
         ensures err { OnErr result (self.new ≡ self.old) }
         ensures full { OnErr result (self.old.room < length self.old.values + n) }
         ensures succeeds { length self.old.values + n ≤ self.old.room → IsOk result }
+        ensures within { length self.old.values + n ≤ self.old.room → self.new.room ≡ self.old.room }
         ensures room { self.old.room ≤ self.new.room }
     {
         let len = self.len + n;
@@ -90,29 +93,28 @@ impl<B: BitBlock> BitVec<B> {
         ensures err { OnErr result (self.new ≡ self.old) }
         ensures full { OnErr result (self.old.room < length self.old.values + n) }
         ensures succeeds { length self.old.values + n ≤ self.old.room → IsOk result }
+        ensures within { length self.old.values + n ≤ self.old.room → self.new.room ≡ self.old.room }
         ensures room { self.old.room ≤ self.new.room }
     {
         let len = self.len + n;
-        let count = block_count::<B>(len);
-        self.blocks.reserve(count - self.blocks.len())?;
+        make_room(&mut self.blocks, block_count::<B>(len))?;
         append_values(&mut self.blocks, self.len, len, bit);
         self.len = len;
         Ok(())
     }
 
-    /// Takes over the list of `other`, in one pass over its blocks. Where the room was missing it asks
-    /// for that of `other` and may move the old blocks. Fails only there, and then nothing changed.
+    /// Takes over the list of `other`, in one pass over its blocks. Within the room it takes no memory;
+    /// where the room was missing it asks for new blocks, as many as `other` has. Fails only there, and
+    /// then nothing changed.
     pub fn clone_from(&mut self, other: &Self) -> Result<(), AllocError>
         ensures ok { OnOk result (self.new.values ≡ other.now.values) }
         ensures err { OnErr result (self.new ≡ self.old) }
         ensures full { OnErr result (self.old.room < length other.now.values) }
         ensures succeeds { length other.now.values ≤ self.old.room → IsOk result }
+        ensures within { length other.now.values ≤ self.old.room → self.new.room ≡ self.old.room }
         ensures room { self.old.room ≤ self.new.room }
     {
-        let missing = other.blocks.len().saturating_sub(self.blocks.len());
-        self.blocks.reserve_exact(missing)?;
-        self.blocks.clear();
-        self.blocks.extend_from_slice(&other.blocks).unwrap();
+        take_over(&mut self.blocks, &other.blocks)?;
         self.len = other.len;
         Ok(())
     }

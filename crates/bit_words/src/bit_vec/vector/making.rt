@@ -1,11 +1,12 @@
 // Calls that make a bit vector.
 ghost use Rattle.std.specs.Prelude.{◌≡◌, ◌*◌, ◌<◌, ◌≤◌, ◌↔◌, [], length, replicate, IfOk, IsErrOf, IsOk};
-ghost use Rattle.bit_words.specs.Bits.{values_of_bytes};
+ghost use Rattle.bit_words.specs.Bits.{blocks_for, room_of, values_of_bytes};
 ghost use Rattle.bit_words.specs.declared.bit_vec.vector.making.BitsError.TheVariants.{Memory};
 
 use super::BitVec;
 use crate::bit_vec::BitBlock;
 use crate::bit_vec::bytes::blocks_of_bytes;
+use crate::bit_vec::copying::copy_of;
 use std::alloc::{AllocError, Global};
 use thiserror::Error;
 
@@ -42,6 +43,7 @@ impl BitVec<u32> {
     pub fn from_elem(alloc: Global, n: usize, bit: bool) -> Result<Self, AllocError>
         ensures values { IfOk result (λ vector. vector.values ≡ replicate n bit) }
         ensures holds_values { IfOk result (λ vector. n ≤ vector.room) }
+        ensures room { IfOk result (λ vector. vector.room ≡ room_of 32 (blocks_for 32 n)) }
         ensures empty { n ≡ 0 → IsOk result }
     {
         BitVec::from_elem_general(alloc, n, bit)
@@ -53,6 +55,7 @@ impl BitVec<u32> {
     /// for; `Memory` only where that is refused, and never for no bytes.
     pub fn from_bytes(alloc: Global, bytes: &[u8]) -> Result<Self, BitsError>
         ensures values { IfOk result (λ vector. vector.values ≡ values_of_bytes bytes.now) }
+        ensures room { IfOk result (λ vector. vector.room ≡ room_of 32 (blocks_for 32 (8 * length bytes.now))) }
         ensures too_long { IsErrOf result BitsError.Length ↔ (usize.MAX < 8 * length bytes.now) }
         ensures empty { length bytes.now ≡ 0 → IsOk result }
     {
@@ -76,9 +79,11 @@ impl<B: BitBlock> BitVec<B> {
     pub fn from_elem_general(alloc: Global, n: usize, bit: bool) -> Result<Self, AllocError>
         ensures values { IfOk result (λ vector. vector.values ≡ replicate n bit) }
         ensures holds_values { IfOk result (λ vector. n ≤ vector.room) }
+        ensures room { IfOk result (λ vector. vector.room ≡ room_of B.width (blocks_for B.width n)) }
         ensures empty { n ≡ 0 → IsOk result }
     {
         let mut vector = BitVec::new_general(alloc);
+        vector.reserve_exact(n)?;
         vector.grow(n, bit)?;
         Ok(vector)
     }
@@ -89,6 +94,7 @@ impl<B: BitBlock> BitVec<B> {
     /// for; `Memory` only where that is refused, and never for no bytes.
     pub fn from_bytes_general(alloc: Global, bytes: &[u8]) -> Result<Self, BitsError>
         ensures values { IfOk result (λ vector. vector.values ≡ values_of_bytes bytes.now) }
+        ensures room { IfOk result (λ vector. vector.room ≡ room_of B.width (blocks_for B.width (8 * length bytes.now))) }
         ensures too_long { IsErrOf result BitsError.Length ↔ (usize.MAX < 8 * length bytes.now) }
         ensures empty { length bytes.now ≡ 0 → IsOk result }
     {
@@ -105,8 +111,10 @@ impl<B: BitBlock> BitVec<B> {
         ensures values { IfOk result (λ vector. vector.values ≡ self.now.values) }
         ensures empty { length self.now.values ≡ 0 → IsOk result }
     {
-        let mut vector = BitVec::new_general(alloc);
-        vector.clone_from(self)?;
-        Ok(vector)
+        let blocks = copy_of(alloc, &self.blocks)?;
+        Ok(BitVec {
+            blocks,
+            len: self.len,
+        })
     }
 }

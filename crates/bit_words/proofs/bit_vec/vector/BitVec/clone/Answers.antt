@@ -1,0 +1,12 @@
+use Rattle.std.proofs.Common.{◌≡◌, sym, ap, arith}
+use Rattle.std.proofs.lemmas.Bool.{true≢false}
+use Rattle.bit_words.specs.Bits.{blocks_for}
+use Rattle.bit_words.proofs.VectorLemmas.{length_from_view, blocks_for-none}
+use Rattle.bit_words.proofs.bit_vec.vector.BitVec.clone.Goals as goal
+
+pub returns-in_err-blocks-clause-empty : goal.returns-in_err-blocks-clause-empty
+returns-in_err-blocks-clause-empty g c = λ none.
+    let len : c.self.inside.len ≡ 0 = rw (length_from_view _ _ _ _ _ c.self.view_is) at none in
+    let blocks = ap (blocks_for g.B.BitBlock.width) len in
+    let zero = blocks_for-none g.B.BitBlock.width g.met.B.BitBlock.width_law.positive in
+    absurd (true≢false (sym (c.in_err-blocks.ensures.empty (omega arith))))

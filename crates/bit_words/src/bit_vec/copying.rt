@@ -1,0 +1,96 @@
+// Whole blocks that are appended, or copied from another list. The vector keeps its capacity: std says
+// so of `push_reserved` and of `copy_from_slice`, but not of `resize` and `extend_from_slice`.
+ghost use Rattle.std.specs.Prelude.{◌≡◌, ◌+◌, ◌-◌, ◌<◌, ◌≤◌, ◌++◌, All, IfOk, IsOk, OnErr, OnOk, length, map, replicate, vec_len, vec_capacity};
+
+use super::BitBlock;
+use std::alloc::{AllocError, Global};
+use std::mem::replace;
+
+// The blocks with copies of `block` after them, until there are `count`. There is room for them. The
+// loop owns the vector, so that it writes nothing but blocks: it becomes a `memset` or vector code.
+fn with_copies<B: BitBlock>(mut blocks: Vec<B>, count: usize, block: B) -> Vec<B>
+    requires more { vec_len blocks ≤ count }
+    requires room { count ≤ vec_capacity blocks }
+    requires each { All B.is_block blocks.items }
+    requires of_block { B.is_block block }
+    ensures numbers { map B.number result.items ≡ map B.number blocks.items ++ replicate (count - vec_len blocks) (B.number block) }
+    ensures each { All B.is_block result.items }
+    ensures len { vec_len result ≡ count }
+    ensures capacity { vec_capacity result ≡ vec_capacity blocks }
+{
+    for _ in blocks.len()..count {
+        blocks.push_reserved(block);
+    }
+    blocks
+}
+
+// Appends copies of `block` until there are `count` blocks. There is room for them.
+pub(crate) fn push_copies<B: BitBlock>(blocks: &mut Vec<B>, count: usize, block: B)
+    requires more { vec_len blocks.old ≤ count }
+    requires room { count ≤ vec_capacity blocks.old }
+    requires each { All B.is_block blocks.old.items }
+    requires of_block { B.is_block block }
+    ensures numbers { map B.number blocks.new.items ≡ map B.number blocks.old.items ++ replicate (count - vec_len blocks.old) (B.number block) }
+    ensures each { All B.is_block blocks.new.items }
+    ensures len { vec_len blocks.new ≡ count }
+    ensures capacity { vec_capacity blocks.new ≡ vec_capacity blocks.old }
+{
+    let alloc = *blocks.allocator();
+    let owned = replace(blocks, Vec::new(alloc));
+    *blocks = with_copies(owned, count, block);
+}
+
+// A new vector of the same blocks.
+pub(crate) fn copy_of<B: BitBlock>(alloc: Global, blocks: &[B]) -> Result<Vec<B>, AllocError>
+    ensures items { IfOk result (λ copy. copy.items ≡ blocks.now) }
+    ensures len { IfOk result (λ copy. vec_len copy ≡ length blocks.now) }
+    ensures empty { length blocks.now ≡ 0 → IsOk result }
+{
+    let mut copy = Vec::with_capacity(alloc, blocks.len())?;
+    copy.extend_from_slice(blocks)?;
+    Ok(copy)
+}
+
+// The blocks with `more` after them. There is room for them. The loop owns the vector, as above.
+fn with_blocks<B: BitBlock>(mut blocks: Vec<B>, more: &[B]) -> Vec<B>
+    requires { vec_len blocks + length more.now ≤ vec_capacity blocks }
+    ensures items { result.items ≡ blocks.items ++ more.now }
+    ensures len { vec_len result ≡ vec_len blocks + length more.now }
+    ensures capacity { vec_capacity result ≡ vec_capacity blocks }
+{
+    for block in more {
+        blocks.push_reserved(*block);
+    }
+    blocks
+}
+
+// The blocks become those of `from`. There is room for them.
+fn copy_blocks<B: BitBlock>(blocks: &mut Vec<B>, from: &[B])
+    requires { length from.now ≤ vec_capacity blocks.old }
+    ensures items { blocks.new.items ≡ from.now }
+    ensures len { vec_len blocks.new ≡ length from.now }
+    ensures capacity { vec_capacity blocks.new ≡ vec_capacity blocks.old }
+{
+    blocks.truncate(from.len());
+    let kept = blocks.len();
+    blocks.copy_from_slice(&from[..kept]);
+    let alloc = *blocks.allocator();
+    let owned = replace(blocks, Vec::new(alloc));
+    *blocks = with_blocks(owned, &from[kept..]);
+}
+
+// The blocks become those of `from`. Where room for them is missing, the vector is a new one.
+pub(crate) fn take_over<B: BitBlock>(blocks: &mut Vec<B>, from: &[B]) -> Result<(), AllocError>
+    ensures items { OnOk result (blocks.new.items ≡ from.now) }
+    ensures err { OnErr result (blocks.new ≡ blocks.old) }
+    ensures full { OnErr result (vec_capacity blocks.old < length from.now) }
+    ensures within { length from.now ≤ vec_capacity blocks.old → vec_capacity blocks.new ≡ vec_capacity blocks.old }
+    ensures capacity { vec_capacity blocks.old ≤ vec_capacity blocks.new }
+{
+    if from.len() > blocks.capacity() {
+        *blocks = copy_of(*blocks.allocator(), from)?;
+        return Ok(());
+    }
+    copy_blocks(blocks, from);
+    Ok(())
+}
