@@ -4,7 +4,9 @@
 set -uo pipefail
 unset CDPATH
 program="$(readlink -f "$1")"
-stored="$(dirname "$(dirname "$(readlink -f "${BASH_SOURCE[0]}")")")/crates/bitset"
+top="$(dirname "$(dirname "$(readlink -f "${BASH_SOURCE[0]}")")")"
+stored="$top/crates/bitset"
+examples="$top/examples"
 usage='usage: bitset [u8|u16|u32|u64|usize]'
 passed=0
 failed=0
@@ -41,6 +43,10 @@ judge 'no word' $? 0 "$stored/stdout" ''
 for word in u8 u16 u32 u64 usize; do
     stored_run "$word"
     judge "$word" $? 0 "$stored/stdout" ''
+    bitset "$word" < "$examples/sets.txt" > wrote 2> said
+    judge "most verbs under $word" $? 0 "$examples/sets.replies.txt" ''
+    echo 'reserve a 18446744073709551615' | bitset "$word" > wrote 2> said
+    judge "room that no memory has, under $word" $? 3 nothing 'memory refused'
 done
 for word in u9 U8 u8x u ''; do
     stored_run "$word"

@@ -15,9 +15,9 @@ use Rattle.bit_set_run.specs.declared.commands.Command.{Command}
 use Rattle.bit_set_run.specs.declared.commands.Command.TheVariants as command
 use Rattle.bit_set_run.specs.declared.verbs.Verb.TheVariants.{Name, NameAndNumber, TwoNames, Extend, Rest}
 use Rattle.bit_set_run.specs.declared.verbs.NameVerb.{NameVerb}
-use Rattle.bit_set_run.specs.declared.verbs.NameVerb.TheVariants.{Empty, Reset, Count, IsEmpty, Items}
+use Rattle.bit_set_run.specs.declared.verbs.NameVerb.TheVariants.{Empty, Reset, Shrink, Count, IsEmpty, Items}
 use Rattle.bit_set_run.specs.declared.verbs.NumberVerb.{NumberVerb}
-use Rattle.bit_set_run.specs.declared.verbs.NumberVerb.TheVariants.{Insert, Remove, Contains, Truncate}
+use Rattle.bit_set_run.specs.declared.verbs.NumberVerb.TheVariants.{Insert, Remove, Contains, Truncate, Reserve, ReserveExact}
 use Rattle.bit_set_run.specs.declared.verbs.PairVerb.{PairVerb}
 use Rattle.bit_set_run.specs.declared.verbs.PairVerb.TheVariants.{Copy, InPlace, Walk, Subset, Superset, Disjoint, Equal, Compare}
 use Rattle.bit_set_run.specs.declared.verbs.SetWalk.TheVariants.{One, Two}
@@ -151,6 +151,9 @@ reading-line_of (command.Extend s ns) had = extend_line (codes "extend") s ns re
 reading-line_of (command.Truncate s n) had = number_line Truncate (codes "truncate") s n refl refl had.names had.numbers
 reading-line_of (command.Empty s) had = name_line Empty (codes "empty") s refl refl had.names
 reading-line_of (command.Reset s) had = name_line Reset (codes "reset") s refl refl had.names
+reading-line_of (command.Reserve s n) had = number_line Reserve (codes "reserve") s n refl refl had.names had.numbers
+reading-line_of (command.ReserveExact s n) had = number_line ReserveExact (codes "reserve_exact") s n refl refl had.names had.numbers
+reading-line_of (command.Shrink s) had = name_line Shrink (codes "shrink") s refl refl had.names
 reading-line_of (command.Count s) had = name_line Count (codes "count") s refl refl had.names
 reading-line_of (command.IsEmpty s) had = name_line IsEmpty (codes "is_empty") s refl refl had.names
 reading-line_of (command.Items s) had = name_line Items (codes "items") s refl refl had.names

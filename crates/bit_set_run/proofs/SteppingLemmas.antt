@@ -1,5 +1,5 @@
 -- What single commands rest on: items up to the greatest number, walks, and an array of sets.
-use Rattle.std.proofs.Common.{◌≡◌, ◌==◌, if◌then◌else◌, cond, not, ℕ, ◌+◌, ◌<◌, ◌≤◌, true, false, eqb, List, [], ◌∷◌, ◌++◌, length, get_or, take, drop, map, set, Some, refl, sym, ap, ◌∙◌, arith}
+use Rattle.std.proofs.Common.{◌≡◌, ◌==◌, if◌then◌else◌, cond, not, Bool, ℕ, ◌+◌, ◌<◌, ◌≤◌, true, false, eqb, List, [], ◌∷◌, ◌++◌, length, get_or, take, drop, map, set, Some, refl, sym, ap, ◌∙◌, arith}
 use Rattle.std.proofs.lemmas.Bool.{ne_eqb}
 use Rattle.std.proofs.lemmas.List.{append_assoc, take_more, take-append-drop, map-id, set-set, set-get_or, map-set, get_or-map, get_or-set_other}
 use Rattle.std.proofs.lemmas.Iterator.{YieldsList, YieldsList-from_slice}
@@ -10,12 +10,21 @@ use Rattle.std.proofs.iter.Yields.{copies, fronts}
 use Rattle.std.specs.Iterator.{YieldsThen}
 use Rattle.std.specs.List.{list_any}
 use Rattle.bit_set.specs.Bits.{Bits}
-use Rattle.bit_set.specs.Sets.{bound_of, has, put}
+use Rattle.bit_set.specs.Sets.{bound_of, elements, elements_from, has, put}
 use Rattle.bit_set_run.specs.Kept.{kept}
 use Rattle.bit_set_run.specs.declared.commands.Command.TheVariants.{Insert}
 use Rattle.bit_set_run.specs.declared.commands.Reply.TheVariants.{Truth, Element}
 use Rattle.bit_set.specs.Bounds.{greatest}
 use Rattle.bit_set_run.specs.Run.{elements_before_greatest, step, answer_with, change_to}
+
+-- a list of truth values is longer than each of its elements
+bound_from : (place : ℕ) (bs : List Bool) → bound_of (elements_from place bs) ≤ place + length bs
+bound_from place [] = omega arith
+bound_from place (true ∷ bs) = let rest = bound_from (place + 1) bs in omega (arith, rest)
+bound_from place (false ∷ bs) = let rest = bound_from (place + 1) bs in omega (arith, rest)
+
+pub bound_of_elements : (bs : List Bool) → bound_of (elements bs) ≤ length bs
+bound_of_elements bs = let whole = bound_from 0 bs in omega (arith, whole)
 
 -- where each item is below the greatest number, none is that
 pub none_greatest : (items : List ℕ) → bound_of items ≤ greatest → list_any (λ n. eqb n greatest) items ≡ false

@@ -2,12 +2,12 @@
 use Rattle.std.specs.Prelude.{◌≡◌, ◌≢◌, ℕ, ◌<◌, ◌≤◌, ◌⊎◌, false, not, ◌==◌, if◌then◌else◌, List, [], ◌∷◌, ◌++◌, length, take, drop, replicate, slice_get, slice_index_or, slice_set, Some}
 use Rattle.std.specs.List.{list_any}
 use Rattle.bit_set_run.specs.declared.commands.Command.{Command}
-use Rattle.bit_set_run.specs.declared.commands.Command.TheVariants.{Insert, Remove, Contains, Extend, Truncate, Empty, Reset, Count, IsEmpty, Items as ItemsOf, Copy, InPlace, Walk, Subset, Superset, Disjoint, Equal, Compare, RestIter, RestWalk}
+use Rattle.bit_set_run.specs.declared.commands.Command.TheVariants.{Insert, Remove, Contains, Extend, Truncate, Empty, Reset, Reserve, ReserveExact, Shrink, Count, IsEmpty, Items as ItemsOf, Copy, InPlace, Walk, Subset, Superset, Disjoint, Equal, Compare, RestIter, RestWalk}
 use Rattle.bit_set_run.specs.declared.commands.Reply.{Reply}
 use Rattle.bit_set_run.specs.declared.commands.Reply.TheVariants.{Truth, Done, Number, Items, Order, Rest, Element, Same}
 use Rattle.bit_set.specs.Bounds.{greatest}
 use Rattle.bit_set.specs.Order.{order_of_sets, same_sets}
-use Rattle.bit_set.specs.Sets.{has, is_disjoint, is_subset, merged_sets, put, put_all, those_below, without}
+use Rattle.bit_set.specs.Sets.{bound_of, has, is_disjoint, is_subset, merged_sets, put, put_all, those_below, without}
 
 -- sixteen sets, by their places
 abbrev pub Sets : Type 0
@@ -56,6 +56,9 @@ step sets (Extend name items) =
 step sets (Truncate name n) = change_to sets name (those_below (set_of sets name) n) Done
 step sets (Empty name) = change_to sets name [] Done
 step sets (Reset name) = change_to sets name [] Done
+step sets (Reserve name n) = answer_with sets Done
+step sets (ReserveExact name n) = answer_with sets Done
+step sets (Shrink name) = answer_with sets Done
 step sets (Count name) = answer_with sets (Number (length (set_of sets name)))
 step sets (IsEmpty name) = answer_with sets (Truth (length (set_of sets name) == 0))
 step sets (ItemsOf name) = answer_with sets (Items (set_of sets name))
@@ -88,12 +91,16 @@ run_of sets (command ∷ commands) =
     record { sets = rest.sets; replies = first.reply ∷ rest.replies }
 
 -- which commands can be refused memory, and what they leave: what stood before, but that an `Extend` has put in
--- the items before the one that was refused. What is put in was not in before, and numbers are listed where there is one.
+-- the items before the one that was refused. What is put in was not in before, room is made past all numbers of the
+-- set, and numbers are listed, or moved to less room, where there is one.
 abbrev pub RefusedBy : Sets → Command → Sets → Type 0
 RefusedBy old (Insert name n) new = (n < greatest) × (has (set_of old name) n ≡ false) × (new ≡ old)
 RefusedBy old (Extend name items) new =
     (front : List ℕ) × (item : ℕ) × (back : List ℕ) × (elements_before_greatest items ≡ front ++ item ∷ back)
     × (has (put_all (set_of old name) front) item ≡ false) × (new ≡ slice_set old name (put_all (set_of old name) front))
+RefusedBy old (Reserve name n) new = (bound_of (set_of old name) < n) × (new ≡ old)
+RefusedBy old (ReserveExact name n) new = (bound_of (set_of old name) < n) × (new ≡ old)
+RefusedBy old (Shrink name) new = (set_of old name ≢ []) × (new ≡ old)
 RefusedBy old (ItemsOf name) new = (set_of old name ≢ []) × (new ≡ old)
 RefusedBy old (Copy from to) new = (from ≢ to) × (new ≡ old)
 RefusedBy old (InPlace merge s t) new = (s ≢ t) × (new ≡ old)

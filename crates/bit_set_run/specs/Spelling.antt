@@ -2,7 +2,7 @@
 use Rattle.std.specs.Prelude.{ℕ, ◌+◌, ◌<◌, ◌≤◌, List, [], ◌∷◌, ◌++◌, codes, decimal}
 use Rattle.std.specs.List.{All, flat_map}
 use Rattle.bit_set_run.specs.declared.commands.Command.{Command}
-use Rattle.bit_set_run.specs.declared.commands.Command.TheVariants.{Insert, Remove, Contains, Extend, Truncate, Empty, Reset, Count, IsEmpty, Items, Copy, InPlace, Walk, Subset, Superset, Disjoint, Equal, Compare, RestIter, RestWalk}
+use Rattle.bit_set_run.specs.declared.commands.Command.TheVariants.{Insert, Remove, Contains, Extend, Truncate, Empty, Reset, Reserve, ReserveExact, Shrink, Count, IsEmpty, Items, Copy, InPlace, Walk, Subset, Superset, Disjoint, Equal, Compare, RestIter, RestWalk}
 use Rattle.bit_set.specs.declared.bit_vec.Merge.{Merge}
 use Rattle.bit_set.specs.declared.bit_vec.Merge.TheVariants.{Union, Intersection, Difference, Symmetric}
 use Rattle.bit_set.specs.Bounds.{greatest}
@@ -39,6 +39,9 @@ parts_of (Extend s ns) = parts (codes "extend") (s ∷ []) ns
 parts_of (Truncate s n) = parts (codes "truncate") (s ∷ []) (n ∷ [])
 parts_of (Empty s) = parts (codes "empty") (s ∷ []) []
 parts_of (Reset s) = parts (codes "reset") (s ∷ []) []
+parts_of (Reserve s n) = parts (codes "reserve") (s ∷ []) (n ∷ [])
+parts_of (ReserveExact s n) = parts (codes "reserve_exact") (s ∷ []) (n ∷ [])
+parts_of (Shrink s) = parts (codes "shrink") (s ∷ []) []
 parts_of (Count s) = parts (codes "count") (s ∷ []) []
 parts_of (IsEmpty s) = parts (codes "is_empty") (s ∷ []) []
 parts_of (Items s) = parts (codes "items") (s ∷ []) []

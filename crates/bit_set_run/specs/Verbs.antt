@@ -8,9 +8,9 @@ use Rattle.bit_set_run.specs.declared.commands.Command.TheVariants as command
 use Rattle.bit_set_run.specs.declared.verbs.Verb.{Verb}
 use Rattle.bit_set_run.specs.declared.verbs.Verb.TheVariants.{Name, NameAndNumber, TwoNames, Extend, Rest}
 use Rattle.bit_set_run.specs.declared.verbs.NameVerb.{NameVerb}
-use Rattle.bit_set_run.specs.declared.verbs.NameVerb.TheVariants.{Empty, Reset, Count, IsEmpty, Items}
+use Rattle.bit_set_run.specs.declared.verbs.NameVerb.TheVariants.{Empty, Reset, Shrink, Count, IsEmpty, Items}
 use Rattle.bit_set_run.specs.declared.verbs.NumberVerb.{NumberVerb}
-use Rattle.bit_set_run.specs.declared.verbs.NumberVerb.TheVariants.{Insert, Remove, Contains, Truncate}
+use Rattle.bit_set_run.specs.declared.verbs.NumberVerb.TheVariants.{Insert, Remove, Contains, Truncate, Reserve, ReserveExact}
 use Rattle.bit_set_run.specs.declared.verbs.PairVerb.{PairVerb}
 use Rattle.bit_set_run.specs.declared.verbs.PairVerb.TheVariants.{Copy, InPlace, Walk, Subset, Superset, Disjoint, Equal, Compare}
 use Rattle.bit_set_run.specs.declared.verbs.SetWalk.{SetWalk}
@@ -26,6 +26,9 @@ verbs =
     (codes "truncate", NameAndNumber Truncate) ∷
     (codes "empty", Name Empty) ∷
     (codes "reset", Name Reset) ∷
+    (codes "reserve", NameAndNumber Reserve) ∷
+    (codes "reserve_exact", NameAndNumber ReserveExact) ∷
+    (codes "shrink", Name Shrink) ∷
     (codes "count", Name Count) ∷
     (codes "is_empty", Name IsEmpty) ∷
     (codes "items", Name Items) ∷
@@ -68,6 +71,7 @@ walk_of word = lookup (bytes_eq word) walks
 abbrev pub name_command : NameVerb → ℕ → Command
 name_command Empty s = command.Empty s
 name_command Reset s = command.Reset s
+name_command Shrink s = command.Shrink s
 name_command Count s = command.Count s
 name_command IsEmpty s = command.IsEmpty s
 name_command Items s = command.Items s
@@ -78,6 +82,8 @@ number_command Insert (s, n) = command.Insert s n
 number_command Remove (s, n) = command.Remove s n
 number_command Contains (s, n) = command.Contains s n
 number_command Truncate (s, n) = command.Truncate s n
+number_command Reserve (s, n) = command.Reserve s n
+number_command ReserveExact (s, n) = command.ReserveExact s n
 
 -- the command of a verb with two sets' names
 abbrev pub pair_command : PairVerb → ℕ × ℕ → Command

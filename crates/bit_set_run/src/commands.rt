@@ -19,6 +19,12 @@ pub enum Command {
     Empty(SetName),
     /// Take out all numbers; the set has length 0.
     Reset(SetName),
+    /// Make room, so that numbers below this one go into a set without memory.
+    Reserve(SetName, usize),
+    /// The same, and no more room than that.
+    ReserveExact(SetName, usize),
+    /// Give back the room that a set does not need for its numbers.
+    Shrink(SetName),
     /// How many numbers are in a set.
     Count(SetName),
     /// Whether no number is in a set.

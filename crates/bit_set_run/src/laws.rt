@@ -156,6 +156,22 @@ pub fn outputs_are_as_shown()
         ("superset a a", "true") ∷
         ("disjoint b b", "false") ∷
         []) }
+    ensures room { Gives (
+        ("extend a 3 200", "ok") ∷
+        ("reserve a 100", "ok") ∷
+        ("reserve_exact a 500", "ok") ∷
+        ("items a", "{3, 200}") ∷
+        ("shrink a", "ok") ∷
+        ("items a", "{3, 200}") ∷
+        ("reserve a", "bad command") ∷
+        ("reserve a 1 2", "bad command") ∷
+        ("reserve_exact q 99999999999999999999", "bad command") ∷
+        ("reserve_exact a 99999999999999999999", "bad number") ∷
+        ("shrink", "bad command") ∷
+        ("shrink a 1", "bad command") ∷
+        ("reserve_len a 1", "bad command") ∷
+        ("count a", "2") ∷
+        []) }
     ensures whole_set_edges { Gives (
         ("extend p 99999999999999999999 5 ", "bad command") ∷
         ("extend p 5  6", "bad command") ∷

@@ -2,7 +2,7 @@
 
 ghost use Rattle.std.specs.Prelude.{◌≡◌, ◌≢◌, ℕ, ◌<◌, ◌==◌, ◌∷◌, false, not, map, List, length, drop, [], ◌++◌, IfOk, OnOk, OnErr, slice_index_or, slice_set, if◌then◌else◌};
 ghost use Rattle.std.specs.List.{list_any};
-ghost use Rattle.bit_set.specs.Sets.{has, merged_sets, put, put_all};
+ghost use Rattle.bit_set.specs.Sets.{bound_of, has, merged_sets, put, put_all};
 ghost use Rattle.bit_set_run.specs.Kept.{kept};
 ghost use Rattle.bit_set.specs.Bounds.{greatest};
 ghost use Rattle.bit_set_run.specs.Run.{step, elements_before_greatest, RefusedBy};
@@ -43,6 +43,9 @@ pub(crate) fn step<B: BitBlock>(
             sets[name.place()].reset();
             Ok(Reply::Done)
         }
+        Command::Reserve(name, n) => reserve(&mut sets[name.place()], *n),
+        Command::ReserveExact(name, n) => reserve_exact(&mut sets[name.place()], *n),
+        Command::Shrink(name) => shrink(&mut sets[name.place()]),
         Command::Count(name) => Ok(Reply::Number(sets[name.place()].count())),
         Command::IsEmpty(name) => Ok(Reply::Truth(sets[name.place()].is_empty())),
         Command::Items(name) => Ok(Reply::Items(numbers_of(alloc, sets[name.place()].iter())?)),
@@ -86,6 +89,35 @@ fn extend<B: BitBlock>(set: &mut BitSet<B>, items: &Numbers) -> Result<Reply, Al
         Err(SetError::Memory(refusal)) => Err(refusal),
         Err(SetError::Length) => unreachable!(),
     }
+}
+
+#[tactic(auto, using(crate::proofs::SteppingLemmas::bound_of_elements))]
+fn reserve<B: BitBlock>(set: &mut BitSet<B>, len: usize) -> Result<Reply, AllocError>
+    ensures reply { IfOk result (λ reply. reply ≡ Done) }
+    ensures after { OnOk result (kept set.new ≡ kept set.old) }
+    ensures refused { OnErr result ((bound_of (kept set.old) < len) × (kept set.new ≡ kept set.old)) }
+{
+    set.reserve_len(len)?;
+    Ok(Reply::Done)
+}
+
+#[tactic(auto, using(crate::proofs::SteppingLemmas::bound_of_elements))]
+fn reserve_exact<B: BitBlock>(set: &mut BitSet<B>, len: usize) -> Result<Reply, AllocError>
+    ensures reply { IfOk result (λ reply. reply ≡ Done) }
+    ensures after { OnOk result (kept set.new ≡ kept set.old) }
+    ensures refused { OnErr result ((bound_of (kept set.old) < len) × (kept set.new ≡ kept set.old)) }
+{
+    set.reserve_len_exact(len)?;
+    Ok(Reply::Done)
+}
+
+fn shrink<B: BitBlock>(set: &mut BitSet<B>) -> Result<Reply, AllocError>
+    ensures reply { IfOk result (λ reply. reply ≡ Done) }
+    ensures after { OnOk result (kept set.new ≡ kept set.old) }
+    ensures refused { OnErr result ((kept set.old ≢ []) × (kept set.new ≡ kept set.old)) }
+{
+    set.shrink_to_fit()?;
+    Ok(Reply::Done)
 }
 
 // Makes the set at the second place hold what the one at the first does.

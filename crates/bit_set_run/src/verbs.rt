@@ -28,6 +28,7 @@ pub(crate) enum Verb {
 pub(crate) enum NameVerb {
     Empty,
     Reset,
+    Shrink,
     Count,
     IsEmpty,
     Items,
@@ -40,6 +41,8 @@ pub(crate) enum NumberVerb {
     Remove,
     Contains,
     Truncate,
+    Reserve,
+    ReserveExact,
 }
 
 /// A verb with two sets' names.
@@ -64,7 +67,7 @@ pub(crate) enum SetWalk {
     Two(Merge),
 }
 
-const VERBS: [(&[u8], Verb); 25] = [
+const VERBS: [(&[u8], Verb); 28] = [
     (b"insert", Verb::NameAndNumber(NumberVerb::Insert)),
     (b"remove", Verb::NameAndNumber(NumberVerb::Remove)),
     (b"contains", Verb::NameAndNumber(NumberVerb::Contains)),
@@ -72,6 +75,12 @@ const VERBS: [(&[u8], Verb); 25] = [
     (b"truncate", Verb::NameAndNumber(NumberVerb::Truncate)),
     (b"empty", Verb::Name(NameVerb::Empty)),
     (b"reset", Verb::Name(NameVerb::Reset)),
+    (b"reserve", Verb::NameAndNumber(NumberVerb::Reserve)),
+    (
+        b"reserve_exact",
+        Verb::NameAndNumber(NumberVerb::ReserveExact),
+    ),
+    (b"shrink", Verb::Name(NameVerb::Shrink)),
     (b"count", Verb::Name(NameVerb::Count)),
     (b"is_empty", Verb::Name(NameVerb::IsEmpty)),
     (b"items", Verb::Name(NameVerb::Items)),
@@ -156,6 +165,7 @@ impl NameVerb {
         match self {
             NameVerb::Empty => Command::Empty(name),
             NameVerb::Reset => Command::Reset(name),
+            NameVerb::Shrink => Command::Shrink(name),
             NameVerb::Count => Command::Count(name),
             NameVerb::IsEmpty => Command::IsEmpty(name),
             NameVerb::Items => Command::Items(name),
@@ -173,6 +183,8 @@ impl NumberVerb {
             NumberVerb::Remove => Command::Remove(name, number),
             NumberVerb::Contains => Command::Contains(name, number),
             NumberVerb::Truncate => Command::Truncate(name, number),
+            NumberVerb::Reserve => Command::Reserve(name, number),
+            NumberVerb::ReserveExact => Command::ReserveExact(name, number),
         }
     }
 }

@@ -4,6 +4,7 @@ mod fakes;
 mod tables;
 
 use bit_set_run::{Command, Exit, LinesFault, RunFault, SetName, run_lines, start};
+use block24::Block24;
 use fakes::{EndlessReader, PieceReader, PieceWriter};
 use std::alloc::Global;
 use std::io::ErrorKind;
@@ -49,6 +50,14 @@ const ROWS: &[(&[u8], &[u8])] = &[
         b"extend a 1 3 5 200 500\nextend b 3 200\nrest frob a b 1\nrest union a b\nunion a\nunion a b 1\nrest union a b 99999999999999999999\nrest intersection a b 1\nrest symmetric_difference a b 2\nsymmetric_difference a a\ndifference b a\nintersection a b\ncmp c a\nsuperset c a\ndisjoint a c\nsubset a b\neq a b\nitems a\n",
         b"ok\nok\nbad command\nbad command\nbad command\nbad command\nbad number\n1 {200}\n1 {500}\n{}\n{}\n{3, 200}\nLess\nfalse\ntrue\nfalse\nfalse\n{1, 3, 5, 200, 500}\n",
     ),
+    (
+        b"extend a 1 3 5 200 500\nextend b 3 200\ndifference a b\nrest difference a b 1\nrest difference a b 9\nrest iter b 0\nrest union a b 3\nunion a b\nsymmetric_difference b a\nintersection a a\nsuperset a b\nintersect_with a b\nitems a\neq a b\ncmp a b\ncmp a c\nsubset c a\ndisjoint a b\nreserve c 100\nshrink a\ntruncate a 200\nitems a\nunion_with c b\nsymmetric_difference_with c a\nitems c\ndifference_with b a\nitems b\ncopy d a\nis_empty a\nempty b\nreset c\neq b c\nreserve_exact c 64\ncount c\n",
+        b"ok\nok\n{1, 5, 500}\n2 {5, 500}\n0 {}\n2 {3, 200}\n2 {200, 500}\n{1, 3, 5, 200, 500}\n{1, 5, 500}\n{1, 3, 5, 200, 500}\ntrue\nok\n{3, 200}\ntrue\nEqual\nGreater\ntrue\nfalse\nok\nok\nok\n{3}\nok\nok\n{200}\nok\n{200}\nok\ntrue\nok\nok\ntrue\nok\n0\n",
+    ),
+    (
+        b"extend a 3 200\nreserve a 100\nreserve_exact a 500\nitems a\nshrink a\nitems a\nreserve a\nreserve a 1 2\nreserve_exact q 99999999999999999999\nreserve_exact a 99999999999999999999\nshrink\nshrink a 1\nshrink q\nreserve_len a 1\nitems a\n",
+        b"ok\nok\nok\n{3, 200}\nok\n{3, 200}\nbad command\nbad command\nbad command\nbad number\nbad command\nbad command\nbad command\nbad command\n{3, 200}\n",
+    ),
     (b"", b""),
     // The last line may lack its newline.
     (
@@ -85,6 +94,40 @@ fn answers_rows_under_each_word(rt: HostRuntime) -> Result<(), Fail> {
             let (exit, written) = started(rt.alloc(), &words, input);
             assert_eq!(rt; exit, done, "{word}");
             assert_eq!(rt; written.as_slice(), *output, "{word}");
+        }
+    }
+    Ok(())
+}
+
+// The rows need no program: over blocks that no word names they come out the same.
+#[test]
+fn answers_rows_over_blocks_of_24_bits(rt: HostRuntime) -> Result<(), Fail> {
+    for (input, output) in ROWS {
+        let mut reader = *input;
+        let mut writer = Vec::new(rt.alloc());
+        let result = run_lines::<Block24, _, _>(rt.alloc(), &mut reader, &mut writer);
+        assert_eq!(rt; result, Ok(()));
+        assert_eq!(rt; writer.as_slice(), *output);
+    }
+    Ok(())
+}
+
+// Room that no memory has.
+#[test]
+fn refuses_room_under_each_word(rt: HostRuntime) -> Result<(), Fail> {
+    let refused = Exit {
+        status: 3,
+        text: "memory refused",
+    };
+    for input in [
+        b"reserve a 18446744073709551615\n".as_slice(),
+        b"insert a 3\nreserve_exact a 18446744073709551615\nitems a\n",
+    ] {
+        for word in ["u8", "u16", "u32", "u64", "usize"] {
+            let words = [String::from_str(rt.alloc(), word)?];
+            let (exit, written) = started(rt.alloc(), &words, input);
+            assert_eq!(rt; exit, refused, "{word}");
+            assert!(rt; written.is_empty(), "{word}");
         }
     }
     Ok(())

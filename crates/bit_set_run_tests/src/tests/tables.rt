@@ -102,6 +102,59 @@ fn sets_have_their_lengths(rt: HostRuntime) -> Result<(), Fail> {
     Ok(())
 }
 
+// The lengths of a set after each of the commands, and how many numbers it has room for.
+fn rooms(alloc: Global, commands: &[Command], a: SetName) -> Result<String, Fail> {
+    let mut table: Table<u32> = Table::new(alloc);
+    let mut replies = Vec::new(alloc);
+    let mut text = String::new(alloc);
+    for command in commands.chunks(1) {
+        run(alloc, &mut table, command, &mut replies)?;
+        let set = table.get(a);
+        write!(text, "{} {}, ", set.get_ref().len(), set.capacity())?;
+    }
+    Ok(text)
+}
+
+// What is asked for exactly is a whole number of blocks.
+#[test]
+fn sets_have_their_room(rt: HostRuntime) -> Result<(), Fail> {
+    let a = name(b'a')?;
+    let commands = [
+        Command::Count(a),
+        Command::ReserveExact(a, 100),
+        Command::Insert(a, 3),
+        Command::Reserve(a, 5),
+        Command::Shrink(a),
+        Command::Remove(a, 3),
+        Command::Shrink(a),
+    ];
+    let text = rooms(rt.alloc(), &commands, a)?;
+    assert_eq!(rt;
+        text.as_str(),
+        "0 0, 0 128, 4 128, 4 128, 32 32, 32 32, 0 0, "
+    );
+    Ok(())
+}
+
+// A set has what it had where room is refused, and the replies end there.
+#[test]
+fn keeps_a_set_whose_room_is_refused(rt: HostRuntime) -> Result<(), Fail> {
+    let a = name(b'a')?;
+    let commands = [
+        Command::Insert(a, 5),
+        Command::Reserve(a, 64),
+        Command::Shrink(a),
+        Command::Reserve(a, usize::MAX),
+        Command::Insert(a, 6),
+    ];
+    let text = ran(rt.alloc(), &commands, a)?;
+    assert_eq!(rt;
+        text.as_str(),
+        "Err(Memory(3)) [Truth(true), Done, Done, Items(Numbers { items: [5] })]"
+    );
+    Ok(())
+}
+
 // The replies of two tables of two types of blocks.
 fn agreed(alloc: Global, commands: &[Command]) -> Result<String, Fail> {
     let mut first: Table<u8> = Table::new(alloc);

@@ -34,6 +34,10 @@ pub returns-clause-two_set_edges : goal.returns-clause-two_set_edges
 unfolding digits
 returns-clause-two_set_edges c = refl
 
+pub returns-clause-room : goal.returns-clause-room
+unfolding digits
+returns-clause-room c = refl
+
 pub returns-clause-whole_set_edges : goal.returns-clause-whole_set_edges
 unfolding digits
 returns-clause-whole_set_edges c = refl

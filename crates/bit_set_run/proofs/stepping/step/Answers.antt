@@ -49,3 +49,36 @@ pub returns-in-Reset-clause-sets : goal.returns-in-Reset-clause-sets
 returns-in-Reset-clause-sets g c =
     let sets = c.args.sets.now in
     rw c.in-Reset.is (change_is sets c.place-in-Reset.result c.in-Reset.name c.index-sets-place-in-Reset.result c.reset.new.self (λ _. []) c.place-in-Reset.ensures.place (omega (arith, c.told-sets, c.place-in-Reset.ensures.within)) (ap elements c.reset.ensures.values))
+
+pub returns-in-Reserve-clause-sets : goal.returns-in-Reserve-clause-sets
+returns-in-Reserve-clause-sets g c =
+    let sets = c.args.sets.now in
+    rw c.in-Reserve.is (on_ok_weaker c.reserve.result (λ after. no_change_is sets c.place-in-Reserve.result c.index-sets-place-in-Reserve.result c.reserve.new.set (omega (arith, c.told-sets, c.place-in-Reserve.ensures.within)) after) c.reserve.ensures.after)
+
+pub returns-in-Reserve-clause-refused : goal.returns-in-Reserve-clause-refused
+returns-in-Reserve-clause-refused g c =
+    let sets = c.args.sets.now in
+    let there = set_at sets c.place-in-Reserve.result c.in-Reserve.name c.index-sets-place-in-Reserve.result c.place-in-Reserve.ensures.place (omega (arith, c.told-sets, c.place-in-Reserve.ensures.within)) in
+    rw c.in-Reserve.is (on_err_weaker c.reserve.result (λ refused. (rw there refused.0, no_change_is sets c.place-in-Reserve.result c.index-sets-place-in-Reserve.result c.reserve.new.set (omega (arith, c.told-sets, c.place-in-Reserve.ensures.within)) refused.1)) c.reserve.ensures.refused)
+
+pub returns-in-ReserveExact-clause-sets : goal.returns-in-ReserveExact-clause-sets
+returns-in-ReserveExact-clause-sets g c =
+    let sets = c.args.sets.now in
+    rw c.in-ReserveExact.is (on_ok_weaker c.reserve_exact.result (λ after. no_change_is sets c.place-in-ReserveExact.result c.index-sets-place-in-ReserveExact.result c.reserve_exact.new.set (omega (arith, c.told-sets, c.place-in-ReserveExact.ensures.within)) after) c.reserve_exact.ensures.after)
+
+pub returns-in-ReserveExact-clause-refused : goal.returns-in-ReserveExact-clause-refused
+returns-in-ReserveExact-clause-refused g c =
+    let sets = c.args.sets.now in
+    let there = set_at sets c.place-in-ReserveExact.result c.in-ReserveExact.name c.index-sets-place-in-ReserveExact.result c.place-in-ReserveExact.ensures.place (omega (arith, c.told-sets, c.place-in-ReserveExact.ensures.within)) in
+    rw c.in-ReserveExact.is (on_err_weaker c.reserve_exact.result (λ refused. (rw there refused.0, no_change_is sets c.place-in-ReserveExact.result c.index-sets-place-in-ReserveExact.result c.reserve_exact.new.set (omega (arith, c.told-sets, c.place-in-ReserveExact.ensures.within)) refused.1)) c.reserve_exact.ensures.refused)
+
+pub returns-in-Shrink-clause-sets : goal.returns-in-Shrink-clause-sets
+returns-in-Shrink-clause-sets g c =
+    let sets = c.args.sets.now in
+    rw c.in-Shrink.is (on_ok_weaker c.shrink.result (λ after. no_change_is sets c.place-in-Shrink.result c.index-sets-place-in-Shrink.result c.shrink.new.set (omega (arith, c.told-sets, c.place-in-Shrink.ensures.within)) after) c.shrink.ensures.after)
+
+pub returns-in-Shrink-clause-refused : goal.returns-in-Shrink-clause-refused
+returns-in-Shrink-clause-refused g c =
+    let sets = c.args.sets.now in
+    let there = set_at sets c.place-in-Shrink.result c.in-Shrink.name c.index-sets-place-in-Shrink.result c.place-in-Shrink.ensures.place (omega (arith, c.told-sets, c.place-in-Shrink.ensures.within)) in
+    rw c.in-Shrink.is (on_err_weaker c.shrink.result (λ refused. (rw there refused.0, no_change_is sets c.place-in-Shrink.result c.index-sets-place-in-Shrink.result c.shrink.new.set (omega (arith, c.told-sets, c.place-in-Shrink.ensures.within)) refused.1)) c.shrink.ensures.refused)
