@@ -64,6 +64,7 @@ impl<'a, B: BitBlock> Blocks<'a, B> {
     }
 }
 
+/// Each block that is left, from the first on. A `for` takes the walk itself.
 impl<'a, B: BitBlock> Iterator for Blocks<'a, B> {
     ghost use Rattle.bit_words.specs.Source.{Pulls};
 
@@ -73,6 +74,8 @@ impl<'a, B: BitBlock> Iterator for Blocks<'a, B> {
 
     ghost remaining = { item_count (λ source. source.left) };
 
+    /// The first of the blocks that are left, or `None` where there is none; counts one pull in either
+    /// case. Constant time.
     #[inline]
     fn next(&mut self) -> Option<B> {
         self.steps.tick();
@@ -81,6 +84,7 @@ impl<'a, B: BitBlock> Iterator for Blocks<'a, B> {
         Some(*first)
     }
 
+    /// How many blocks are left, on both sides. Constant time.
     #[inline]
     fn size_hint(&self) -> (usize, Option<usize>)
         ensures exact { result ≡ (length self.now.left, Some (length self.now.left)) }

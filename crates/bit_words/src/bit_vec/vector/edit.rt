@@ -63,8 +63,8 @@ impl<B: BitBlock> BitVec<B> {
     }
 
     /// Appends `n` values `bit`; the new length must fit a `usize`. Writes each new block once, and the
-    /// old last one where it takes ones; moves the old blocks where the room was missing. Fails only
-    /// there, and then nothing changed.
+    /// old last one where it takes ones. Within the room it takes no memory; where the room was missing
+    /// it moves the old blocks. Fails only there, and then nothing changed.
     pub fn grow(&mut self, n: usize, bit: bool) -> Result<(), AllocError>
         requires { length self.old.values + n ≤ usize.MAX }
         ensures ok { OnOk result (self.new.values ≡ self.old.values ++ replicate n bit) }

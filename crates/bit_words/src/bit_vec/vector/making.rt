@@ -38,8 +38,8 @@ impl BitVec<u32> {
         BitVec::new_general(alloc)
     }
 
-    /// `n` times `bit`, over blocks of 32 bits. Writes each block once. Fails only where memory is
-    /// refused, and never for `n` 0.
+    /// `n` times `bit`, over blocks of 32 bits. Writes each block once. Asks for its blocks and no more.
+    /// Fails only where memory is refused, and never for `n` 0.
     pub fn from_elem(alloc: Global, n: usize, bit: bool) -> Result<Self, AllocError>
         ensures values { IfOk result (λ vector. vector.values ≡ replicate n bit) }
         ensures holds_values { IfOk result (λ vector. n ≤ vector.room) }
@@ -50,6 +50,7 @@ impl BitVec<u32> {
     }
 
     /// The bits of each byte in turn, from the highest down, over blocks of 32 bits. One step a byte.
+    /// Asks for its blocks and no more.
     ///
     /// `Length` comes exactly where there are more values than `usize::MAX`, and before memory is asked
     /// for; `Memory` only where that is refused, and never for no bytes.
@@ -75,7 +76,8 @@ impl<B: BitBlock> BitVec<B> {
         }
     }
 
-    /// `n` times `bit`. Writes each block once. Fails only where memory is refused, and never for `n` 0.
+    /// `n` times `bit`. Writes each block once. Asks for its blocks and no more. Fails only where memory
+    /// is refused, and never for `n` 0.
     pub fn from_elem_general(alloc: Global, n: usize, bit: bool) -> Result<Self, AllocError>
         ensures values { IfOk result (λ vector. vector.values ≡ replicate n bit) }
         ensures holds_values { IfOk result (λ vector. n ≤ vector.room) }
@@ -88,7 +90,8 @@ impl<B: BitBlock> BitVec<B> {
         Ok(vector)
     }
 
-    /// The bits of each byte in turn, from the highest down. One step a byte.
+    /// The bits of each byte in turn, from the highest down. One step a byte. Asks for its blocks and no
+    /// more.
     ///
     /// `Length` comes exactly where there are more values than `usize::MAX`, and before memory is asked
     /// for; `Memory` only where that is refused, and never for no bytes.
