@@ -1,19 +1,18 @@
 -- When the blocks of two lists merge to zeros, and what that says of the lists.
-use Rattle.std.proofs.Common.{◌≡◌, ◌≢◌, ℕ, ◌+◌, ◌*◌, ◌/◌, ◌%◌, ◌^◌, ◌<◌, ◌≤◌, ◌↔◌, Bool, true, false, List, length, map, get_or, slice_get, Some, bit_or, refl, ◌⊎◌, inl, inr, min, sym, ap, ap₂, ◌∙◌, arith, ⊎_elim, mod-lt, pow_pos}
-use Rattle.std.specs.Int.Bits.{or_zero_l}
-use Rattle.std.proofs.lemmas.Bool.{cases_lt, cases_eq, false≢true}
+use Rattle.std.proofs.Common.{◌≡◌, ◌≢◌, ℕ, zero, suc, ◌+◌, ◌*◌, ◌/◌, ◌%◌, ◌^◌, ◌<◌, ◌≤◌, ◌↔◌, ◌==◌, Bool, true, false, List, [], ◌∷◌, length, map, get_or, slice_get, Some, refl, ◌⊎◌, inl, inr, min, sym, ap, ap₂, ◌∙◌, arith, ⊎_elim, mod-lt, div-add-mod', mul-le-mul_right, pow_pos}
+use Rattle.std.proofs.lemmas.Bool.{cases_lt, eq-eqb, false≢true}
 use Rattle.std.proofs.lemmas.List.{get_or_past, length-map}
-use Rattle.std.proofs.lemmas.Nat.{le_or_l, le_or_r}
 use Rattle.std.proofs.lemmas.Nat.Bits.{bit_at-zero, same_from_bits_below}
 use Rattle.std.proofs.lemmas.Option.{get_or_from_slice_get}
 use Rattle.bit_words.specs.declared.bit_vec.merge.Merge.{Merge}
 use Rattle.bit_words.specs.declared.bit_vec.merge.Merge.TheVariants.{Intersection, Difference}
-use Rattle.bit_words.specs.Bits.{Bits, digit_of}
-use Rattle.bit_words.specs.Merges.{merged_value}
-use Rattle.bit_words.specs.Storage.{is_one, value_at, values_of, IsCleanFrom, MergesToZero, MergesToFalse}
+use Rattle.bit_words.specs.Bits.{Bits, IsFirstTrue, digit_of}
+use Rattle.bit_words.specs.Merges.{merged_value, merged}
+use Rattle.bit_words.specs.Storage.{is_one, value_at, values_of, IsCleanFrom, MergesToZero, MergesToFalse, IsFirstMerged}
 use Rattle.bit_words.proofs.BitsLemmas.{slice_get_from_true}
 use Rattle.bit_words.proofs.Masks.{is_one-zero}
-use Rattle.bit_words.proofs.StorageLemmas.{value_at-is, value_at-place, get_or-values_of_clean}
+use Rattle.bit_words.proofs.StorageLemmas.{value_at-is, value_at-place, value_at-past, get_or-values_of_clean}
+use Rattle.bit_words.proofs.MergeLemmas.{get_or-merged}
 use Rattle.bit_words.proofs.VectorLemmas.{bit_from_false}
 
 -- ---- blocks
@@ -26,38 +25,59 @@ zero_from_digits w n small falses =
 pub digit_from_zero : (n j : ℕ) → n ≡ 0 → is_one n j ≡ false
 digit_from_zero n j z = ap (λ m. is_one m j) z ∙ is_one-zero j
 
--- a number that is 0 only where both r and n are
-pub none_more : (m : Merge) (w : ℕ) (ms ns : List ℕ) (start k a b n r s : ℕ) → n < 2 ^ w → a ≡ get_or ms k 0 → b ≡ get_or ns k 0 → ((j : ℕ) → j < w → is_one n j ≡ merged_value m (is_one a j) (is_one b j)) → s ≡ bit_or r n → start ≤ k → ((r ≡ 0) ↔ MergesToZero m w ms ns start k) → ((s ≡ 0) ↔ MergesToZero m w ms ns start (k + 1))
-none_more m w ms ns start k a b n r s small first second digits or from before = (
-  λ z.
-      let none : n ≡ 0 = omega (arith, le_or_r r n) in
-      let rest = before.0 (omega (arith, le_or_l r n)) in
-      record {
-        digit = λ q j reached within place. ⊎_elim
-            (λ here.
-            ap₂ (λ x y. merged_value m (is_one x j) (is_one y j)) (ap (λ x. get_or ms x 0) here ∙ sym first) (ap (λ x. get_or ns x 0) here ∙ sym second)
-            ∙ sym (digits j place)
-            ∙ digit_from_zero n j none)
-            (λ there. rest.digit q j reached (omega arith) place)
-            (cases_eq q k);
-      },
-  λ zeros.
-      let rest = before.1 (record { digit = λ q j reached within place. zeros.digit q j reached (omega arith) place }) in
-      let none = zero_from_digits w n small (λ j place.
-      digits j place
-      ∙ ap₂ (λ x y. merged_value m (is_one x j) (is_one y j)) first second
-      ∙ zeros.digit k j from (omega arith) place) in
-      or ∙ ap₂ bit_or rest none ∙ or_zero_l 0,
-)
+-- a test against a block of zeros that answers no
+pub unlike_zero : (n z : ℕ) (b : Bool) → b ≡ (n == z) → b ≡ false → z ≡ 0 → n ≢ 0
+unlike_zero n z b is unlike naught none = false≢true (sym unlike ∙ is ∙ eq-eqb n z (none ∙ sym naught))
+
+-- block k is one of those that merge to 0, and its merge is n
+pub merge_of_zeros : (m : Merge) (w : ℕ) (ms ns : List ℕ) (count k a b n : ℕ) → n < 2 ^ w → a ≡ get_or ms k 0 → b ≡ get_or ns k 0 → ((j : ℕ) → j < w → is_one n j ≡ merged_value m (is_one a j) (is_one b j)) → k < count → MergesToZero m w ms ns count → n ≡ 0
+merge_of_zeros m w ms ns count k a b n small first second digits within zeros =
+    zero_from_digits w n small (λ j place.
+    digits j place
+    ∙ ap₂ (λ x y. merged_value m (is_one x j) (is_one y j)) first second
+    ∙ zeros.digit k j within place)
+
+-- ---- the first index at which they merge to true
+
+-- it lies past the blocks that merge to 0
+pub first_is_past : (m : Merge) (w : ℕ) (ms ns : List ℕ) (count i : ℕ) → 0 < w → MergesToZero m w ms ns count → IsFirstMerged m w ms ns i → count ≤ i / w
+first_is_past m w ms ns count i pos zeros first =
+    ⊎_elim
+    (λ within. absurd (false≢true (
+    sym (zeros.digit (i / w) (i % w) within (mod-lt i pos))
+    ∙ ap₂ (merged_value m) (sym (value_at-is w ms i)) (sym (value_at-is w ns i))
+    ∙ first.is_true)))
+    (λ past. past)
+    (cases_lt (i / w) count)
+
+index_below : (w k j i : ℕ) → j < w → k < i / w → k * w + j < i
+index_below w k j i place below = let more = mul-le-mul_right w (let le : k + 1 ≤ i / w = omega arith in le) in omega (arith, div-add-mod' i w)
+
+-- the blocks before its own merge to 0
+pub zero_before_first : (m : Merge) (w : ℕ) (ms ns : List ℕ) (count i : ℕ) → count ≤ i / w → IsFirstMerged m w ms ns i → MergesToZero m w ms ns count
+zero_before_first m w ms ns count i past first = record {
+  digit = λ k j within place.
+      ap₂ (merged_value m) (sym (value_at-place w ms k j place)) (sym (value_at-place w ns k j place))
+      ∙ first.before (k * w + j) (index_below w k j i place (omega arith));
+}
+
+-- so its block is the first whose merge n is not 0
+pub first_is_here : (m : Merge) (w : ℕ) (ms ns : List ℕ) (k a b n i : ℕ) → 0 < w → n < 2 ^ w → a ≡ get_or ms k 0 → b ≡ get_or ns k 0 → ((j : ℕ) → j < w → is_one n j ≡ merged_value m (is_one a j) (is_one b j)) → n ≢ 0 → MergesToZero m w ms ns k → IsFirstMerged m w ms ns i → i / w ≡ k
+first_is_here m w ms ns k a b n i pos small one two digits some zeros first =
+    let past = first_is_past m w ms ns k i pos zeros first in
+    ⊎_elim
+    (λ beyond. absurd (some (merge_of_zeros m w ms ns (i / w) k a b n small one two digits beyond (zero_before_first m w ms ns (i / w) i (omega arith) first))))
+    (λ within. omega arith)
+    (cases_lt k (i / w))
 
 -- ---- values
 
-pub false_from_zero : (m : Merge) (w : ℕ) (ms ns : List ℕ) (count : ℕ) → 0 < w → MergesToZero m w ms ns 0 count → ((k j : ℕ) → count ≤ k → j < w → merged_value m (is_one (get_or ms k 0) j) (is_one (get_or ns k 0) j) ≡ false) → MergesToFalse m w ms ns
-false_from_zero m w ms ns count pos zero past = record {
+pub false_from_zero : (m : Merge) (w : ℕ) (ms ns : List ℕ) (count : ℕ) → 0 < w → MergesToZero m w ms ns count → ((k j : ℕ) → count ≤ k → j < w → merged_value m (is_one (get_or ms k 0) j) (is_one (get_or ns k 0) j) ≡ false) → MergesToFalse m w ms ns
+false_from_zero m w ms ns count pos zeros past = record {
   value = λ i.
       ap₂ (merged_value m) (value_at-is w ms i) (value_at-is w ns i)
       ∙ ⊎_elim
-      (λ within. zero.digit (i / w) (i % w) (omega arith) within (mod-lt i pos))
+      (λ within. zeros.digit (i / w) (i % w) within (mod-lt i pos))
       (λ out. past (i / w) (i % w) out (mod-lt i pos))
       (cases_lt (i / w) count);
 }
@@ -88,12 +108,12 @@ intersection_past true = refl
 intersection_past false = refl
 
 -- a difference: where both have blocks, and past those
-pub difference_of_blocks : (w : ℕ) (ms ns : List ℕ) (count : ℕ) → 0 < w → ((k : ℕ) → get_or ms k 0 < 2 ^ w) → (count ≡ length ns) ⊎ (count ≡ length ms) → (MergesToZero Difference w ms ns 0 count × ((k : ℕ) → count ≤ k → get_or ms k 0 ≡ 0)) ↔ MergesToFalse Difference w ms ns
+pub difference_of_blocks : (w : ℕ) (ms ns : List ℕ) (count : ℕ) → 0 < w → ((k : ℕ) → get_or ms k 0 < 2 ^ w) → (count ≡ length ns) ⊎ (count ≡ length ms) → (MergesToZero Difference w ms ns count × ((k : ℕ) → count ≤ k → get_or ms k 0 ≡ 0)) ↔ MergesToFalse Difference w ms ns
 difference_of_blocks w ms ns count pos small ends = (
   λ zeros. false_from_zero Difference w ms ns count pos zeros.0 (λ k j past place.
       ap (λ x. merged_value Difference x (is_one (get_or ns k 0) j)) (digit_from_zero _ j (zeros.1 k past)) ∙ difference_of_false (is_one (get_or ns k 0) j)),
   λ falses. (
-    record { digit = λ k j from within place. zero_from_false Difference w ms ns falses k j place },
+    record { digit = λ k j within place. zero_from_false Difference w ms ns falses k j place },
     λ k past. ⊎_elim
         (λ other. zero_from_digits w _ (small k) (λ j place. difference_past _ (
         ap (merged_value Difference (is_one (get_or ms k 0) j)) (sym (digit_from_zero _ j (get_or_past ns k 0 (omega arith))))
@@ -104,15 +124,44 @@ difference_of_blocks w ms ns count pos small ends = (
 )
 
 -- an intersection: it is enough to look where both have blocks
-pub intersection_of_blocks : (w : ℕ) (ms ns : List ℕ) (count : ℕ) → 0 < w → (count ≡ length ns) ⊎ (count ≡ length ms) → MergesToZero Intersection w ms ns 0 count ↔ MergesToFalse Intersection w ms ns
+pub intersection_of_blocks : (w : ℕ) (ms ns : List ℕ) (count : ℕ) → 0 < w → (count ≡ length ns) ⊎ (count ≡ length ms) → MergesToZero Intersection w ms ns count ↔ MergesToFalse Intersection w ms ns
 intersection_of_blocks w ms ns count pos ends = (
   λ zeros. false_from_zero Intersection w ms ns count pos zeros (λ k j past place.
       ⊎_elim
       (λ other. ap (merged_value Intersection (is_one (get_or ms k 0) j)) (digit_from_zero _ j (get_or_past ns k 0 (omega arith))) ∙ intersection_past (is_one (get_or ms k 0) j))
       (λ own. ap (λ x. merged_value Intersection x (is_one (get_or ns k 0) j)) (digit_from_zero _ j (get_or_past ms k 0 (omega arith))))
       ends),
-  λ falses. record { digit = λ k j from within place. zero_from_false Intersection w ms ns falses k j place },
+  λ falses. record { digit = λ k j within place. zero_from_false Intersection w ms ns falses k j place },
 )
+
+-- where a difference first is true past the others, the first own block past them that is not 0
+pub first_of_rest : (w : ℕ) (ms ns : List ℕ) (count i : ℕ) → ((k : ℕ) → get_or ms k 0 < 2 ^ w) → (count ≡ length ns) ⊎ (count ≡ length ms) → IsFirstMerged Difference w ms ns i → (get_or ms (i / w) 0 ≢ 0) × ((q : ℕ) → count ≤ q → q < i / w → get_or ms q 0 ≡ 0)
+first_of_rest w ms ns count i small ends first = (
+  λ none. false≢true (
+      sym (difference_of_false (value_at w ns i))
+      ∙ ap (λ x. merged_value Difference x (value_at w ns i)) (sym (value_at-is w ms i ∙ digit_from_zero _ (i % w) none))
+      ∙ first.is_true),
+  λ q past below. ⊎_elim
+      (λ other. zero_from_digits w _ (small q) (λ j place. difference_past _ (
+      ap (merged_value Difference (is_one (get_or ms q 0) j)) (sym (digit_from_zero _ j (get_or_past ns q 0 (omega arith))))
+      ∙ ap₂ (merged_value Difference) (sym (value_at-place w ms q j place)) (sym (value_at-place w ns q j place))
+      ∙ first.before (q * w + j) (index_below w q j i place below))))
+      (λ own. get_or_past ms q 0 (omega arith))
+      ends,
+)
+
+-- where an intersection first is true, both have a block
+pub first_is_within : (w : ℕ) (ms ns : List ℕ) (count i : ℕ) → (count ≡ length ns) ⊎ (count ≡ length ms) → IsFirstMerged Intersection w ms ns i → i / w < count
+first_is_within w ms ns count i ends first =
+    ⊎_elim
+    (λ within. within)
+    (λ past. absurd (false≢true (
+    sym (⊎_elim
+    (λ other. ap (merged_value Intersection (value_at w ms i)) (value_at-past w ns i (omega arith)) ∙ intersection_past (value_at w ms i))
+    (λ own. ap (λ x. merged_value Intersection x (value_at w ns i)) (value_at-past w ms i (omega arith)))
+    ends)
+    ∙ first.is_true)))
+    (cases_lt (i / w) count)
 
 -- ---- lists
 
@@ -126,6 +175,23 @@ true_at w n r ms v e clean i =
       λ found. sym same ∙ get_or_from_slice_get v.values i true false found,
       λ one. slice_get_from_true v.values i (ap digit_of (same ∙ one)),
     )
+
+false_from_not : (bs : List Bool) (j : ℕ) → slice_get bs j ≢ Some true → get_or bs j false ≡ false
+false_from_not [] j h = refl
+false_from_not (true ∷ bs) zero h = absurd (h refl)
+false_from_not (false ∷ bs) zero h = refl
+false_from_not (b ∷ bs) (suc j) h = false_from_not bs j h
+
+merged_in_views : (m : Merge) (w n p r s : ℕ) (ms ns : List ℕ) (v u : Bits) → record { values = values_of w ms n; room = r } ≡ v → record { values = values_of w ns p; room = s } ≡ u → IsCleanFrom w ms n → IsCleanFrom w ns p → (i : ℕ) → get_or (merged m v.values u.values) i false ≡ merged_value m (value_at w ms i) (value_at w ns i)
+merged_in_views m w n p r s ms ns v u e f clean also i =
+    get_or-merged m v.values u.values i
+    ∙ ap₂ (merged_value m) (value_in_view w n r ms v e clean i) (value_in_view w p s ns u f also i)
+
+pub first_of_lists : (m : Merge) (w n p r s : ℕ) (ms ns : List ℕ) (v u : Bits) → record { values = values_of w ms n; room = r } ≡ v → record { values = values_of w ns p; room = s } ≡ u → IsCleanFrom w ms n → IsCleanFrom w ns p → (i : ℕ) → IsFirstTrue (merged m v.values u.values) i → IsFirstMerged m w ms ns i
+first_of_lists m w n p r s ms ns v u e f clean also i first = record {
+  is_true = sym (merged_in_views m w n p r s ms ns v u e f clean also i) ∙ get_or_from_slice_get (merged m v.values u.values) i true false first.is_true;
+  before = λ j less. sym (merged_in_views m w n p r s ms ns v u e f clean also j) ∙ false_from_not (merged m v.values u.values) j (first.before j less);
+}
 
 difference_true : (a b : Bool) → merged_value Difference a b ≡ false → a ≡ true → b ≡ true
 difference_true true true e f = refl

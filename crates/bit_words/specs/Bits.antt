@@ -1,5 +1,5 @@
 -- A list of truth values, and the blocks that store it.
-use Rattle.std.specs.Prelude.{◌≡◌, ℕ, ◌||◌, nat_lt, nat_le, if◌then◌else◌, ◌≤◌, ◌^◌, ◌+◌, ◌-◌, ◌*◌, ◌/◌, ◌%◌, min, Bool, true, false, List, [], ◌∷◌, map, length, take, drop, ◌==◌}
+use Rattle.std.specs.Prelude.{◌≡◌, ◌≢◌, ℕ, ◌||◌, nat_lt, nat_le, if◌then◌else◌, ◌<◌, ◌≤◌, ◌^◌, ◌+◌, ◌-◌, ◌*◌, ◌/◌, ◌%◌, min, Bool, true, false, List, [], ◌∷◌, map, length, take, drop, ◌==◌, Some, slice_get}
 use Rattle.std.specs.Int.{bit_at}
 use Rattle.std.specs.List.{range_with_len, flat_map}
 
@@ -26,6 +26,11 @@ pub record IsRoomOfBlocks (w : ℕ) (v : Bits) : Type 0 where
   pub blocks : ℕ
   pub room : v.room ≡ room_of w blocks
   pub enough : blocks_for w (length v.values) ≤ blocks
+
+-- index i is the first at which a list is true
+pub record IsFirstTrue (values : List Bool) (i : ℕ) : Type 0 where
+  pub is_true : slice_get values i ≡ Some true
+  pub before : (j : ℕ) → j < i → slice_get values j ≢ Some true
 
 -- one past the last index at which a list is true, 0 where there is none
 abbrev pub true_end : List Bool → ℕ

@@ -1,5 +1,5 @@
 -- How a vector of blocks holds a list of truth values. No public clause cites this.
-use Rattle.std.specs.Prelude.{◌≡◌, ℕ, ◌-◌, ◌^◌, ◌/◌, ◌%◌, ◌<◌, ◌≤◌, Bool, false, List, map, length, get_or, ◌==◌, All}
+use Rattle.std.specs.Prelude.{◌≡◌, ℕ, ◌-◌, ◌^◌, ◌/◌, ◌%◌, ◌<◌, ◌≤◌, Bool, true, false, List, map, length, get_or, ◌==◌, All}
 use Rattle.std.specs.Int.{bit_at}
 use Rattle.std.specs.List.{range_with_len}
 use Rattle.bit_words.specs.Bits.{blocks_for}
@@ -33,10 +33,15 @@ pub record IsTidy {X : Type 0} (w : ℕ) (number : X → ℕ) (is_block : X → 
   pub tail : IsCleanFrom w (map number xs) n
   pub fits : n < 2 ^ 64
 
--- digit by digit, blocks start up to before stop of two lists merge to 0
-pub record MergesToZero (merge : Merge) (w : ℕ) (ms ns : List ℕ) (start stop : ℕ) : Type 0 where
-  pub digit : (k j : ℕ) → start ≤ k → k < stop → j < w → merged_value merge (is_one (get_or ms k 0) j) (is_one (get_or ns k 0) j) ≡ false
+-- digit by digit, the first blocks of two lists merge to 0
+pub record MergesToZero (merge : Merge) (w : ℕ) (ms ns : List ℕ) (count : ℕ) : Type 0 where
+  pub digit : (k j : ℕ) → k < count → j < w → merged_value merge (is_one (get_or ms k 0) j) (is_one (get_or ns k 0) j) ≡ false
 
 -- at every index two lists of blocks merge to false
 pub record MergesToFalse (merge : Merge) (w : ℕ) (ms ns : List ℕ) : Type 0 where
   pub value : (i : ℕ) → merged_value merge (value_at w ms i) (value_at w ns i) ≡ false
+
+-- index i is the first at which they merge to true
+pub record IsFirstMerged (merge : Merge) (w : ℕ) (ms ns : List ℕ) (i : ℕ) : Type 0 where
+  pub is_true : merged_value merge (value_at w ms i) (value_at w ns i) ≡ true
+  pub before : (j : ℕ) → j < i → merged_value merge (value_at w ms j) (value_at w ns j) ≡ false

@@ -7,7 +7,7 @@ use crate::{BitBlock, BitSet};
 
 impl<B: BitBlock> BitSet<B> {
     /// Whether every element is one of `other`, whichever is longer. Reads each block once at most, and
-    /// stops soon after the first element that `other` lacks.
+    /// stops at the one with the first element that `other` lacks.
     #[inline]
     pub fn is_subset(&self, other: &Self) -> bool
         ensures { result ≡ is_subset (elements self.now.values) (elements other.now.values) }
@@ -23,8 +23,8 @@ impl<B: BitBlock> BitSet<B> {
         other.is_subset(self)
     }
 
-    /// Whether no element is one of `other`. Reads each block once at most, and stops soon after the
-    /// first element that both have.
+    /// Whether no element is one of `other`. Reads each block once at most, and stops at the first in
+    /// which both have a common one.
     #[inline]
     pub fn is_disjoint(&self, other: &Self) -> bool
         ensures { result ≡ is_disjoint (elements self.now.values) (elements other.now.values) }

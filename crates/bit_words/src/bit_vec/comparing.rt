@@ -1,70 +1,14 @@
 // Whether the blocks of two bit vectors merge to zeros.
-ghost use Rattle.std.specs.Prelude.{◌≡◌, ℕ, ◌+◌, ◌-◌, ◌*◌, ◌<◌, ◌≤◌, ◌↔◌, All, IsTrue, length, map, get_or, min};
+ghost use Rattle.std.specs.Prelude.{◌≡◌, ◌≢◌, ℕ, ◌+◌, ◌/◌, ◌<◌, ◌≤◌, ◌↔◌, All, IsTrue, length, map, get_or, min};
 ghost use Rattle.bit_words.specs.declared.bit_vec.merge.Merge.{Merge};
-ghost use Rattle.bit_words.specs.Storage.{MergesToFalse, MergesToZero};
+ghost use Rattle.bit_words.specs.Storage.{IsFirstMerged, MergesToFalse, MergesToZero};
 
 use super::changes::block_at;
 use super::merging::{Difference, Intersection, Operation};
-use super::words::{block_or, same};
+use super::words::same;
 use super::{BitBlock, Steps};
 
-// How many blocks are tested at once.
-const GROUP: usize = 8;
-
-// What is a 1 in the merge of any two blocks of the same place, from `start` up to before `end`.
-#[inline]
-fn ones_left<B: BitBlock, O: Operation>(
-    blocks: &[B],
-    others: &[B],
-    start: usize,
-    end: usize,
-    steps: &mut Steps,
-) -> B
-    requires forward { start ≤ end }
-    requires within { end ≤ length blocks.now }
-    requires within_others { end ≤ length others.now }
-    requires each { All B.is_block blocks.now }
-    requires others { All B.is_block others.now }
-    ensures of_block { B.is_block result }
-    ensures none { (B.number result ≡ 0) ↔ MergesToZero O.merge B.width (map B.number blocks.now) (map B.number others.now) start end }
-    ensures steps { steps.new + start ≡ steps.old + end }
-{
-    let mut ones = B::zero();
-    for k in start..end {
-        steps.tick();
-        let merged = O::of_blocks(block_at(blocks, k), block_at(others, k));
-        ones = block_or(ones, merged);
-    }
-    ones
-}
-
-// Whether the first groups of blocks merge to zeros. Stops at the first group that does not.
-fn groups_merge_to_zero<B: BitBlock, O: Operation>(
-    blocks: &[B],
-    others: &[B],
-    groups: usize,
-    steps: &mut Steps,
-) -> bool
-    requires within { groups * 8 ≤ length blocks.now }
-    requires within_others { groups * 8 ≤ length others.now }
-    requires each { All B.is_block blocks.now }
-    requires others { All B.is_block others.now }
-    ensures zero { IsTrue result ↔ MergesToZero O.merge B.width (map B.number blocks.now) (map B.number others.now) 0 (groups * 8) }
-    ensures fewest { steps.old ≤ steps.new }
-    ensures most { steps.new ≤ steps.old + groups * 8 }
-    ensures all { IsTrue result → steps.new ≡ steps.old + groups * 8 }
-{
-    for group in 0..groups {
-        let start = group * GROUP;
-        let ones = ones_left::<B, O>(blocks, others, start, start + GROUP, steps);
-        if !same(ones, B::zero()) {
-            return false;
-        }
-    }
-    true
-}
-
-// Whether the first `count` blocks merge to zeros.
+// Whether the first `count` blocks merge to zeros. Stops at the first that does not.
 fn first_merge_to_zero<B: BitBlock, O: Operation>(
     blocks: &[B],
     others: &[B],
@@ -75,19 +19,20 @@ fn first_merge_to_zero<B: BitBlock, O: Operation>(
     requires within_others { count ≤ length others.now }
     requires each { All B.is_block blocks.now }
     requires others { All B.is_block others.now }
-    ensures zero { IsTrue result ↔ MergesToZero O.merge B.width (map B.number blocks.now) (map B.number others.now) 0 count }
+    ensures zero { IsTrue result ↔ MergesToZero O.merge B.width (map B.number blocks.now) (map B.number others.now) count }
+    ensures stops { (i : ℕ) → IsFirstMerged O.merge B.width (map B.number blocks.now) (map B.number others.now) i → i / B.width < count → steps.new ≡ steps.old + i / B.width + 1 }
     ensures fewest { steps.old ≤ steps.new }
     ensures most { steps.new ≤ steps.old + count }
     ensures all { IsTrue result → steps.new ≡ steps.old + count }
 {
-    let groups = count / GROUP;
-    if !groups_merge_to_zero::<B, O>(blocks, others, groups, steps) {
-        return false;
+    for k in 0..count {
+        steps.tick();
+        let merged = O::of_blocks(block_at(blocks, k), block_at(others, k));
+        if !same(merged, B::zero()) {
+            return false;
+        }
     }
-    same(
-        ones_left::<B, O>(blocks, others, groups * GROUP, count, steps),
-        B::zero(),
-    )
+    true
 }
 
 // Whether the blocks from `start` on are zeros. Stops at the first that is not.
@@ -95,6 +40,7 @@ fn rest_is_zero<B: BitBlock>(blocks: &[B], start: usize, steps: &mut Steps) -> b
     requires within { start ≤ length blocks.now }
     requires each { All B.is_block blocks.now }
     ensures zero { IsTrue result ↔ ((k : ℕ) → start ≤ k → get_or (map B.number blocks.now) k 0 ≡ 0) }
+    ensures stops { (k : ℕ) → start ≤ k → get_or (map B.number blocks.now) k 0 ≢ 0 → ((q : ℕ) → start ≤ q → q < k → get_or (map B.number blocks.now) q 0 ≡ 0) → steps.new + start ≡ steps.old + k + 1 }
     ensures fewest { steps.old ≤ steps.new }
     ensures most { steps.new + start ≤ steps.old + length blocks.now }
     ensures all { IsTrue result → steps.new + start ≡ steps.old + length blocks.now }
@@ -113,6 +59,7 @@ pub(crate) fn difference_is_zero<B: BitBlock>(blocks: &[B], others: &[B], steps:
     requires each { All B.is_block blocks.now }
     requires others { All B.is_block others.now }
     ensures zero { IsTrue result ↔ MergesToFalse Merge.Difference B.width (map B.number blocks.now) (map B.number others.now) }
+    ensures stops { (i : ℕ) → IsFirstMerged Merge.Difference B.width (map B.number blocks.now) (map B.number others.now) i → steps.new ≡ steps.old + i / B.width + 1 }
     ensures fewest { steps.old ≤ steps.new }
     ensures most { steps.new ≤ steps.old + length blocks.now }
     ensures all { IsTrue result → steps.new ≡ steps.old + length blocks.now }
@@ -131,6 +78,7 @@ pub(crate) fn intersection_is_zero<B: BitBlock>(
     requires each { All B.is_block blocks.now }
     requires others { All B.is_block others.now }
     ensures zero { IsTrue result ↔ MergesToFalse Merge.Intersection B.width (map B.number blocks.now) (map B.number others.now) }
+    ensures stops { (i : ℕ) → IsFirstMerged Merge.Intersection B.width (map B.number blocks.now) (map B.number others.now) i → steps.new ≡ steps.old + i / B.width + 1 }
     ensures fewest { steps.old ≤ steps.new }
     ensures most { steps.new ≤ steps.old + min (length blocks.now) (length others.now) }
     ensures all { IsTrue result → steps.new ≡ steps.old + min (length blocks.now) (length others.now) }
