@@ -35,6 +35,17 @@ none_of_different w m n r small also is none =
     let digit : bit_at r i ≡ 0 = ap (λ x. bit_at x i) none ∙ bit_at-zero i in
     omega (arith, is.digit i within, digit, bit_at-lt m i, bit_at-lt n i))
 
+pub either_of_none : (w m n r : ℕ) → r < 2 ^ w → IsEither w m n r → m ≡ 0 → n ≡ 0 → r ≡ 0
+either_of_none w m n r small is first second =
+    same_from_bits_below w r 0 small (pow_pos w) (λ i within.
+    let one : bit_at m i ≡ 0 = ap (λ x. bit_at x i) first ∙ bit_at-zero i in
+    let two : bit_at n i ≡ 0 = ap (λ x. bit_at x i) second ∙ bit_at-zero i in omega (arith, is.digit i within, one, two, bit_at-zero i))
+
+pub different_of_same : (w m n r : ℕ) → r < 2 ^ w → IsDifferent w m n r → m ≡ n → r ≡ 0
+different_of_same w m n r small is same =
+    same_from_bits_below w r 0 small (pow_pos w) (λ i within.
+    let one : bit_at m i ≡ bit_at n i = ap (λ x. bit_at x i) same in omega (arith, is.digit i within, one, bit_at-zero i))
+
 -- the digits of numbers that differ do not all agree, so that their exclusive or is not 0
 pub different_some : (w m n r : ℕ) → m < 2 ^ w → n < 2 ^ w → m ≢ n → IsDifferent w m n r → 0 < r
 different_some w m n r small also unlike is =

@@ -1,5 +1,5 @@
 // Where lists of blocks differ. A block past the end of a list counts as 0.
-ghost use Rattle.std.specs.Prelude.{◌≡◌, ◌≢◌, ℕ, ◌+◌, ◌*◌, ◌<◌, ◌≤◌, ◌==◌, All, MatchOption, get_or, length, map};
+ghost use Rattle.std.specs.Prelude.{◌≡◌, ◌≢◌, ℕ, ◌+◌, ◌*◌, ◌<◌, ◌≤◌, ◌==◌, ◌↔◌, All, IsTrue, MatchOption, get_or, length, map};
 ghost use Rattle.std.specs.Bool.{OnTrue, OnFalse};
 ghost use Rattle.std.specs.Int.{bit_at};
 ghost use Rattle.bit_set.specs.Differences.{IsFirstUnlike, IsFirstOne, IsLowestUnlike};
@@ -37,6 +37,7 @@ fn same_groups<B: BitBlock>(a: &[B], b: &[B], groups: usize) -> usize
     requires right { All B.is_block b.now }
     ensures within { result ≤ groups }
     ensures same { (k : ℕ) → k < result * 32 → get_or (map B.number a.now) k 0 ≡ get_or (map B.number b.now) k 0 }
+    ensures stops { result < groups → ¬ ((k : ℕ) → result * 32 ≤ k → k < result * 32 + 32 → get_or (map B.number a.now) k 0 ≡ get_or (map B.number b.now) k 0) }
 {
     for group in 0..groups {
         if !is_same_group(a, b, group * GROUP) {
@@ -53,7 +54,7 @@ fn is_same_group<B: BitBlock>(a: &[B], b: &[B], start: usize) -> bool
     requires within_other { start + 32 ≤ length b.now }
     requires left { All B.is_block a.now }
     requires right { All B.is_block b.now }
-    ensures { OnTrue result ((k : ℕ) → start ≤ k → k < start + 32 → get_or (map B.number a.now) k 0 ≡ get_or (map B.number b.now) k 0) }
+    ensures { IsTrue result ↔ ((k : ℕ) → start ≤ k → k < start + 32 → get_or (map B.number a.now) k 0 ≡ get_or (map B.number b.now) k 0) }
 {
     let mut unlike = B::zero();
     for k in start..start + GROUP {
@@ -69,7 +70,7 @@ fn or_unlike<B: BitBlock>(seen: B, a: B, b: B) -> B
     requires left { B.is_block a }
     requires right { B.is_block b }
     ensures of_block { B.is_block result }
-    ensures none { B.number result ≡ 0 → (B.number seen ≡ 0) × (B.number a ≡ B.number b) }
+    ensures none { (B.number result ≡ 0) ↔ ((B.number seen ≡ 0) × (B.number a ≡ B.number b)) }
 {
     seen | (a ^ b)
 }
