@@ -1,11 +1,13 @@
 -- How many blocks and how much room a set takes.
-use Rattle.std.proofs.Common.{◌≡◌, ℕ, ◌+◌, ◌-◌, ◌*◌, ◌<◌, ◌≤◌, ◌↔◌, max, Bool, true, false, nat_lt, if◌then◌else◌, List, [], ◌∷◌, slice_get, Some, zero, suc, refl, ap, ◌∙◌, ⊎_elim, arith, mul-le-mul_right}
+use Rattle.std.proofs.Common.{◌≡◌, ℕ, ◌+◌, ◌-◌, ◌*◌, ◌^◌, ◌<◌, ◌≤◌, ◌↔◌, max, Bool, true, false, nat_lt, if◌then◌else◌, All, IsTrue, List, [], ◌∷◌, length, slice_get, Some, zero, suc, refl, ap, ◌∙◌, ⊎_elim, arith, mul-le-mul_right}
+use Rattle.std.proofs.lemmas.List.Elements.{All-nil, All-cons, All-head, All-tail}
 use Rattle.std.proofs.lemmas.Bool.{cases_lt, cases_Bool}
 use Rattle.std.proofs.lemmas.Bool.Decides.{nat_tests}
-use Rattle.bit_words.specs.Bits.{blocks_for, room_of, true_end, whole_blocks}
+use Rattle.bit_words.specs.Bits.{Bits, IsRoomOfBlocks, blocks_for, room_of, true_end, whole_blocks}
 use Rattle.bit_words.proofs.BitsLemmas.{blocks_for-enough, blocks_for-least}
-use Rattle.bit_words.proofs.RoomLemmas.{whole_blocks-fits}
+use Rattle.bit_words.proofs.RoomLemmas.{whole_blocks-fits, whole_blocks-past}
 use Rattle.bit_set.specs.Sets.{elements, elements_from, bound_of}
+use Rattle.bit_set.specs.Room.{Call, Run, room_wanted}
 use Rattle.bit_set.proofs.SetLaws.{slice_get-elements}
 use Rattle.bit_set.proofs.SubsetLemmas.{same_tests}
 use Rattle.bit_set.proofs.SetLemmas.{IsAscending-elements, same_members}
@@ -77,3 +79,29 @@ whole_blocks-empty w bs pos none =
     let no_blocks : blocks_for w (true_end bs) ≡ 0 = omega arith in
     let none_long : 0 * w ≡ 0 = omega arith in
     whole_blocks-fits w 0 bs no_blocks (omega arith) ∙ none_long
+
+-- what a shrunk set is as long as, by its elements
+pub whole_blocks-cut : (w : ℕ) (bs : List Bool) → blocks_for w (bound_of (elements bs)) * w < 2 ^ 64 → whole_blocks w bs ≡ blocks_for w (bound_of (elements bs)) * w
+whole_blocks-cut w bs fits = whole_blocks-fits w (blocks_for w (bound_of (elements bs))) bs (ap (blocks_for w) (true_end-bound bs)) fits
+
+pub whole_blocks-top : (w : ℕ) (bs : List Bool) → 2 ^ 64 ≤ blocks_for w (bound_of (elements bs)) * w → whole_blocks w bs ≡ length bs
+whole_blocks-top w bs past = whole_blocks-past w (blocks_for w (bound_of (elements bs))) bs (ap (blocks_for w) (true_end-bound bs)) past
+
+-- ---- runs of calls
+
+-- calls that want no more room than there is go through, and leave it
+pub runs-within : (room old new : ℕ) (calls : List (Call × Bool)) → room ≤ old → All (λ call. room_wanted call.0 ≤ room) calls → Run old calls new → All (λ call. IsTrue call.1) calls × (new ≡ old)
+runs-within room old new [] enough each run = (All-nil _, run)
+runs-within room old new (call ∷ calls) enough each run =
+    let wanted = All-head (λ (c : Call × Bool). room_wanted c.0 ≤ room) call calls each in
+    let here = run.1.within (omega (arith, wanted)) in
+    let rest = runs-within room run.0 new calls (omega (arith, here.1)) (All-tail (λ (c : Call × Bool). room_wanted c.0 ≤ room) call calls each) run.2 in
+    (All-cons (λ (c : Call × Bool). IsTrue c.1) call calls here.0 rest.0, rest.1 ∙ here.1)
+
+-- ---- room in whole blocks
+
+-- an item past the room of a set is past its blocks
+pub past_blocks : (w n room item : ℕ) (v : Bits) → 0 < w → IsRoomOfBlocks w v → n ≡ length v.values → room ≡ v.room → room ≤ item → room_of w (blocks_for w n) ≤ item
+past_blocks w n room item v pos whole long is past =
+    let enough : blocks_for w n * w ≤ whole.blocks * w = mul-le-mul_right w (rw long whole.enough) in
+    omega (arith, enough, whole.room)

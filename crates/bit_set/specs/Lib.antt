@@ -2,6 +2,7 @@ pub mod Bounds
 pub mod Sets
 pub mod Faults
 pub mod Effects
+pub mod Room
 pub mod Walk
 pub mod Texts
 pub mod Order

@@ -13,7 +13,7 @@ pub enum SetError {
     /// The bytes have more bits than a `usize` counts.
     #[error("too many bits")]
     Length,
-    /// A growth was refused.
+    /// Memory was refused, to a growth or to a new set.
     #[error("memory refused")]
     Memory(AllocError),
 }

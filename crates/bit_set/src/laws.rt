@@ -1,12 +1,13 @@
 //! Laws of sets of numbers, as the contracts of functions that do nothing. A set is the list of its
 //! members in strictly ascending order.
-ghost use Rattle.std.specs.Prelude.{◌≡◌, ℕ, ◌+◌, ◌-◌, ◌/◌, ◌<◌, ◌≤◌, ◌↔◌, ◌++◌, ◌∷◌, ◌==◌, ◌&&◌, ◌||◌, max, not, nat_lt, Bool, true, IsTrue, Some, None, Option, List, [], length, slice_get};
+ghost use Rattle.std.specs.Prelude.{◌≡◌, ℕ, ◌+◌, ◌-◌, ◌*◌, ◌/◌, ◌<◌, ◌≤◌, ◌↔◌, ◌++◌, ◌∷◌, ◌==◌, ◌&&◌, ◌||◌, max, not, nat_lt, Bool, true, All, IsTrue, Some, None, Option, List, [], length, slice_get};
 ghost use Rattle.std.specs.FinSet as set;
 ghost use Rattle.std.specs.Cmp.{IsEquivalence, IsTotalOrder};
 ghost use Rattle.std.specs.Ordering.{nat_cmp};
 ghost use Rattle.std.specs.Iterator.{YieldsThen, Drains};
-ghost use Rattle.bit_words.specs.Bits.{blocks_for, blocks_of};
+ghost use Rattle.bit_words.specs.Bits.{blocks_for, blocks_of, true_end};
 ghost use Rattle.serde_json.specs.Data.{Data};
+ghost use Rattle.bit_set.specs.Room.{Call, Run, room_wanted};
 ghost use Rattle.bit_set.specs.Json.{IsFirstFault, Spells};
 ghost use Rattle.bit_set.specs.declared.json.JsonError.{JsonError};
 ghost use Rattle.bit_set.specs.Walk.{Walk, BoundedWalk, IsWalkedOut, IsAtStart, WalksOverTwo};
@@ -171,6 +172,24 @@ pub fn whole_walks_ascend<B: BitBlock + 'static>()
         → YieldsThen ⟦<Difference<'static, B> as Iterator>⟧.next_gives s items None t → IsAscending items }
     ensures symmetric_difference { (a b : List Bool) (s t : Walk) (items : List ℕ) → s.left ≡ symmetric_difference (elements a) (elements b)
         → YieldsThen ⟦<SymmetricDifference<'static, B> as Iterator>⟧.next_gives s items None t → IsAscending items }
+{}
+
+/// Room that is there is enough. Where a set has room for `room` values, as after `reserve_len(room)`, any
+/// run of calls that want no more is never refused, and the room stays: that of insertions below `room`,
+/// of removals, of `truncate`, `make_empty` and `reset`, of reservations of at most `room`, and of
+/// `clone_from` and operations in place with sets no longer than `room`. The clause `leaves` of each call
+/// says what it does to the room.
+pub fn runs_within_room()
+    ensures each { (room old new : ℕ) (calls : List (Call × Bool)) → room ≤ old → All (λ call. room_wanted call.0 ≤ room) calls → Run old calls new → All (λ call. IsTrue call.1) calls }
+    ensures stays { (room old new : ℕ) (calls : List (Call × Bool)) → room ≤ old → All (λ call. room_wanted call.0 ≤ room) calls → Run old calls new → new ≡ old }
+{}
+
+/// How long a shrunk set is. A list of truth values is true up to the bound of its elements, and as many
+/// blocks of `w` as `blocks_for` says are enough for `n` values, and fewer are not.
+pub fn shrunk_lengths()
+    ensures ends { (values : List Bool) → true_end values ≡ bound_of (elements values) }
+    ensures enough { (w n : ℕ) → 0 < w → n ≤ blocks_for w n * w }
+    ensures least { (w n blocks : ℕ) → 0 < w → n ≤ blocks * w → blocks_for w n ≤ blocks }
 {}
 
 /// What a value spells in JSON, in blocks of `w` bits. It has one reading: the blocks, the length, and so

@@ -11,7 +11,9 @@ mod set;
 mod texts;
 mod walk;
 
+/// Bit vectors: what a set is kept in, and what can be made a set.
 pub use bit_words::bit_vec;
+/// What a type of blocks has to be.
 pub use bit_words::bit_vec::BitBlock;
 pub use faults::SetError;
 pub use json::{JsonBlock, JsonError};

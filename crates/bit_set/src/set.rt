@@ -1,4 +1,5 @@
 ghost use Rattle.std.specs.Prelude.{◌≡◌, ◌≤◌, ◌↔◌, IsTrue, [], length};
+ghost use Rattle.bit_words.specs.Bits.{IsRoomOfBlocks};
 ghost use Rattle.bit_set.specs.Sets.{elements, has};
 
 use crate::BitBlock;
@@ -66,11 +67,13 @@ impl<B: BitBlock> BitSet<B> {
         self.bits.none()
     }
 
-    /// Below which number an element goes in without memory. Constant time.
+    /// Below which number an element goes in without memory: a whole number of blocks, or `usize::MAX`.
+    /// Constant time.
     #[inline]
     pub fn capacity(&self) -> usize
         ensures value { result ≡ self.now.room }
         ensures holds_values { length self.now.values ≤ result }
+        ensures whole { IsRoomOfBlocks B.width self.now }
     {
         self.bits.capacity()
     }

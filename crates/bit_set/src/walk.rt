@@ -74,11 +74,16 @@ impl<'a, B: BitBlock> Iterator for Iter<'a, B> {
 
     ghost remaining = { item_count (λ walk. walk.left) };
 
+    /// The least element that is left, and from the end on `None` for good. Reads each block that it
+    /// passes once; constant time within a block.
     #[inline]
     fn next(&mut self) -> Option<usize> {
         self.ones.next()
     }
 
+    /// From 0 up to the bits of the block in hand and of the blocks past it, or to no bound where a
+    /// `usize` is too small for that. There is always a block in hand, one of zeros at the end and over a
+    /// set of length 0: so its bits count, of such a set too. Constant time.
     #[inline]
     fn size_hint(&self) -> (usize, Option<usize>)
         ensures exact { result ≡ (0, bound_on_rest B.width self.now.blocks) }
@@ -103,6 +108,7 @@ impl<B: BitBlock> BitSet<B> {
     }
 }
 
+/// A set by reference is the walk over its elements.
 impl<'a, B: BitBlock> IntoIterator for &'a BitSet<B> {
     type Item = usize;
 
@@ -110,6 +116,7 @@ impl<'a, B: BitBlock> IntoIterator for &'a BitSet<B> {
 
     ghost into_iter_gives = { λ set walk. IsAtStart B.width set.now.values walk };
 
+    /// [`BitSet::iter`].
     #[inline]
     fn into_iter(self) -> Iter<'a, B> {
         self.iter()

@@ -1,9 +1,11 @@
 // Calls that change a set in place.
-ghost use Rattle.std.specs.Prelude.{◌≡◌, ℕ, ◌+◌, ◌-◌, ◌<◌, ◌≤◌, ◌↔◌, max, min, not, IfOk, IfErr, OnOk, OnErr, IsOk, IsErrOf, All, List, [], ◌++◌, length, replicate, false, Some};
+ghost use Rattle.std.specs.Prelude.{◌≡◌, ℕ, ◌+◌, ◌-◌, ◌<◌, ◌≤◌, ◌↔◌, max, min, not, IfOk, IfErr, OnOk, OnErr, IsOk, is_ok, IsErrOf, All, List, [], ◌++◌, length, replicate, false, true, Some};
 ghost use Rattle.std.specs.Iterator.{Drains, HoldsAlong, IsFinite, YieldsThen};
 ghost use Rattle.bit_set.specs.Sets.{elements, has, put, those_below, without};
 ghost use Rattle.bit_set.specs.Effects.{TakesIn};
 ghost use Rattle.bit_set.specs.Faults.{IsRefusal};
+ghost use Rattle.bit_set.specs.Room.{IsPastBlocks, Leaves};
+ghost use Rattle.bit_set.specs.Room.Call.{CloneFrom, Insert, MakeEmpty, Remove, Reset, Truncate};
 
 use crate::{BitBlock, BitSet, SetError};
 use std::alloc::AllocError;
@@ -26,6 +28,9 @@ impl<B: BitBlock> BitSet<B> {
         ensures succeeds { value < self.old.room → IsOk result }
         ensures room { self.old.room ≤ self.new.room }
         ensures kept { value < length self.old.values → self.new.room ≡ self.old.room }
+        ensures within { value < self.old.room → self.new.room ≡ self.old.room }
+        ensures past_blocks { IfErr result (λ fault. IsPastBlocks fault B.width (length self.old.values) value) }
+        ensures leaves { Leaves (Insert value) self.old.room (is_ok result) self.new.room }
     {
         if value >= self.bits.len() {
             self.lengthen_past(value)?;
@@ -46,17 +51,21 @@ impl<B: BitBlock> BitSet<B> {
         ensures err { OnErr result (self.new ≡ self.old) }
         ensures succeeds { value < self.old.room → IsOk result }
         ensures room { self.old.room ≤ self.new.room }
+        ensures within { value < self.old.room → self.new.room ≡ self.old.room }
+        ensures past_blocks { IfErr result (λ fault. IsPastBlocks fault B.width (length self.old.values) value) }
     {
         let len = self.bits.len();
         if value == usize::MAX {
             return Err(SetError::Element);
         }
+        prove!(len <= self.bits.capacity());
         self.bits.grow(value - len + 1, false)?;
         Ok(())
     }
 
-    /// Puts the items in, one by one. Constant time an item, but for growths. It stops at the first
-    /// item that [`BitSet::insert`] refuses: the items before it stay in, and the rest is dropped.
+    /// Puts the items in, one by one, up to the end of the iterator: it has to end. Constant time an
+    /// item, but for growths. It stops at the first item that [`BitSet::insert`] refuses: the items
+    /// before it stay in, and the rest is dropped.
     pub fn extend<I: Iterator<Item = usize> + Drop>(&mut self, iter: I) -> Result<(), SetError>
         requires can { I.can_next iter }
         requires ends { IsFinite (I.remaining iter) }
@@ -65,9 +74,10 @@ impl<B: BitBlock> BitSet<B> {
         ensures err { IfErr result (λ fault. (items : List ℕ) × (item : ℕ) × (rest : I)
             × YieldsThen I.next_gives iter items (Some item) rest
             × TakesIn items self.old.values self.new.values × (length self.new.values ≤ item)
-            × IsRefusal fault item self.new.room) }
+            × IsRefusal fault item self.new.room × IsPastBlocks fault B.width (length self.new.values) item) }
         ensures succeeds { HoldsAlong I.next_gives iter (All (λ item. item < self.old.room)) → IsOk result }
         ensures room { self.old.room ≤ self.new.room }
+        ensures within { HoldsAlong I.next_gives iter (All (λ item. item < self.old.room)) → self.new.room ≡ self.old.room }
     {
         for item in iter {
             self.insert(item)?;
@@ -82,6 +92,7 @@ impl<B: BitBlock> BitSet<B> {
         ensures elements { elements self.new.values ≡ without (elements self.old.values) value }
         ensures length { length self.new.values ≡ length self.old.values }
         ensures room { self.new.room ≡ self.old.room }
+        ensures leaves { Leaves (Remove value) self.old.room true self.new.room }
     {
         if value >= self.bits.len() {
             return false;
@@ -94,6 +105,7 @@ impl<B: BitBlock> BitSet<B> {
         ensures elements { elements self.new.values ≡ those_below (elements self.old.values) len }
         ensures length { length self.new.values ≡ min (length self.old.values) len }
         ensures room { self.new.room ≡ self.old.room }
+        ensures leaves { Leaves (Truncate len) self.old.room true self.new.room }
     {
         self.bits.truncate(len);
     }
@@ -103,6 +115,7 @@ impl<B: BitBlock> BitSet<B> {
         ensures elements { elements self.new.values ≡ [] }
         ensures length { length self.new.values ≡ length self.old.values }
         ensures room { self.new.room ≡ self.old.room }
+        ensures leaves { Leaves MakeEmpty self.old.room true self.new.room }
     {
         self.bits.fill(false);
     }
@@ -113,6 +126,7 @@ impl<B: BitBlock> BitSet<B> {
         ensures elements { elements self.new.values ≡ [] }
         ensures length { length self.new.values ≡ length self.old.values }
         ensures room { self.new.room ≡ self.old.room }
+        ensures leaves { Leaves MakeEmpty self.old.room true self.new.room }
     {
         self.make_empty();
     }
@@ -121,6 +135,7 @@ impl<B: BitBlock> BitSet<B> {
     pub fn reset(&mut self)
         ensures values { self.new.values ≡ [] }
         ensures room { self.new.room ≡ self.old.room }
+        ensures leaves { Leaves Reset self.old.room true self.new.room }
     {
         self.bits.remove_all();
     }
@@ -133,6 +148,8 @@ impl<B: BitBlock> BitSet<B> {
         ensures full { OnErr result (self.old.room < length other.now.values) }
         ensures succeeds { length other.now.values ≤ self.old.room → IsOk result }
         ensures room { self.old.room ≤ self.new.room }
+        ensures within { length other.now.values ≤ self.old.room → self.new.room ≡ self.old.room }
+        ensures leaves { Leaves (CloneFrom (length other.now.values)) self.old.room (is_ok result) self.new.room }
     {
         self.bits.clone_from(&other.bits)
     }

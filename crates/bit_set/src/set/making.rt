@@ -2,9 +2,10 @@
 ghost use Rattle.std.specs.Prelude.{◌≡◌, ◌≢◌, ℕ, ◌+◌, ◌-◌, ◌*◌, ◌<◌, ◌≤◌, ◌↔◌, IfOk, IfErr, IsOk, IsErrOf, IsTrue, List, [], length, slice_index, Some};
 ghost use Rattle.std.specs.Int.{bit_at};
 ghost use Rattle.std.specs.Iterator.{Drains, IsFinite, YieldsThen};
-ghost use Rattle.bit_words.specs.Bits.{values_of_bytes};
+ghost use Rattle.bit_words.specs.Bits.{blocks_for, room_of, values_of_bytes};
 ghost use Rattle.bit_set.specs.Sets.{bound_of, elements, has, put_all};
 ghost use Rattle.bit_set.specs.Bounds.{greatest};
+ghost use Rattle.bit_set.specs.Room.{IsPastBlocks};
 
 use crate::bit_vec::BitVec;
 use crate::{BitBlock, BitSet, SetError};
@@ -28,6 +29,7 @@ impl<B: BitBlock> BitSet<B> {
         ensures elements { IfOk result (λ set. elements set.values ≡ []) }
         ensures length { IfOk result (λ set. length set.values ≡ len) }
         ensures room { IfOk result (λ set. len ≤ set.room) }
+        ensures exact { IfOk result (λ set. set.room ≡ room_of B.width (blocks_for B.width len)) }
         ensures empty { len ≡ 0 → IsOk result }
     {
         let bits = BitVec::from_elem_general(alloc, len, false)?;
@@ -48,6 +50,7 @@ impl<B: BitBlock> BitSet<B> {
         ensures values { IfOk result (λ set. set.values ≡ values_of_bytes bytes.now) }
         ensures elements { IfOk result (λ set. (q r : ℕ) → r < 8 → IsTrue (has (elements set.values) (8 * q + r)) ↔ (bit_at (slice_index bytes.now q) (7 - r) ≡ 1)) }
         ensures length { IfOk result (λ set. length set.values ≡ 8 * length bytes.now) }
+        ensures room { IfOk result (λ set. set.room ≡ room_of B.width (blocks_for B.width (8 * length bytes.now))) }
         ensures too_long { IsErrOf result SetError.Length ↔ (usize.MAX < 8 * length bytes.now) }
         ensures fits { IfErr result (λ fault. fault ≢ SetError.Element) }
         ensures empty { length bytes.now ≡ 0 → IsOk result }
@@ -56,9 +59,9 @@ impl<B: BitBlock> BitSet<B> {
         Ok(BitSet { bits })
     }
 
-    /// The set of the items, as long as its greatest element asks. Constant time an item, but for
-    /// growths. Fails at the first item that is `usize::MAX`, or for which memory is refused: one past
-    /// all items before it. The rest of the items is dropped.
+    /// The set of the items, as long as its greatest element asks. The iterator has to end. Constant
+    /// time an item, but for growths. Fails at the first item that is `usize::MAX`, or for which memory
+    /// is refused: one past the blocks of all items before it. The rest of the items is dropped.
     pub fn from_iter<I: Iterator<Item = usize> + Drop>(
         alloc: Global,
         iter: I,
@@ -69,7 +72,8 @@ impl<B: BitBlock> BitSet<B> {
             × (elements set.values ≡ put_all [] items) × (length set.values ≡ bound_of items)) }
         ensures err { IfErr result (λ fault. (items : List ℕ) × (item : ℕ) × (rest : I)
             × YieldsThen I.next_gives iter items (Some item) rest × (bound_of items ≤ item) × (item ≤ greatest)
-            × (fault ≢ SetError.Length) × ((fault ≡ SetError.Element) ↔ (item ≡ greatest))) }
+            × (fault ≢ SetError.Length) × ((fault ≡ SetError.Element) ↔ (item ≡ greatest))
+            × IsPastBlocks fault B.width (bound_of items) item) }
     {
         let mut set = Self::new_general(alloc);
         set.extend(iter)?;
@@ -101,6 +105,7 @@ impl BitSet<u32> {
         ensures elements { IfOk result (λ set. elements set.values ≡ []) }
         ensures length { IfOk result (λ set. length set.values ≡ len) }
         ensures room { IfOk result (λ set. len ≤ set.room) }
+        ensures exact { IfOk result (λ set. set.room ≡ room_of 32 (blocks_for 32 len)) }
         ensures empty { len ≡ 0 → IsOk result }
     {
         BitSet::with_capacity_general(alloc, len)
@@ -119,6 +124,7 @@ impl BitSet<u32> {
         ensures values { IfOk result (λ set. set.values ≡ values_of_bytes bytes.now) }
         ensures elements { IfOk result (λ set. (q r : ℕ) → r < 8 → IsTrue (has (elements set.values) (8 * q + r)) ↔ (bit_at (slice_index bytes.now q) (7 - r) ≡ 1)) }
         ensures length { IfOk result (λ set. length set.values ≡ 8 * length bytes.now) }
+        ensures room { IfOk result (λ set. set.room ≡ room_of 32 (blocks_for 32 (8 * length bytes.now))) }
         ensures too_long { IsErrOf result SetError.Length ↔ (usize.MAX < 8 * length bytes.now) }
         ensures fits { IfErr result (λ fault. fault ≢ SetError.Element) }
         ensures empty { length bytes.now ≡ 0 → IsOk result }

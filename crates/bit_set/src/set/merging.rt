@@ -1,7 +1,9 @@
 // Calls that make a set, in place, what it and another become.
-ghost use Rattle.std.specs.Prelude.{◌≡◌, ◌-◌, ◌<◌, ◌≤◌, ◌++◌, max, OnOk, OnErr, IsOk, length, replicate, false};
+ghost use Rattle.std.specs.Prelude.{◌≡◌, ◌-◌, ◌<◌, ◌≤◌, ◌++◌, max, OnOk, OnErr, IsOk, is_ok, length, replicate, false};
 ghost use Rattle.bit_words.specs.Merges.{merged};
 ghost use Rattle.bit_set.specs.Sets.{elements, union, intersection, difference, symmetric_difference, merged_sets};
+ghost use Rattle.bit_set.specs.Room.{Leaves};
+ghost use Rattle.bit_set.specs.Room.Call.{UnionWith, IntersectWith, DifferenceWith, SymmetricDifferenceWith};
 
 use crate::bit_vec::{Merge, Steps};
 use crate::{BitBlock, BitSet};
@@ -17,6 +19,7 @@ impl<B: BitBlock> BitSet<B> {
         ensures succeeds { len ≤ self.old.room → IsOk result }
         ensures room { self.old.room ≤ self.new.room }
         ensures kept { len ≤ length self.old.values → self.new.room ≡ self.old.room }
+        ensures within { len ≤ self.old.room → self.new.room ≡ self.old.room }
     {
         let old = self.bits.len();
         if len > old {
@@ -36,6 +39,7 @@ impl<B: BitBlock> BitSet<B> {
         ensures succeeds { length other.now.values ≤ self.old.room → IsOk result }
         ensures room { self.old.room ≤ self.new.room }
         ensures kept { length other.now.values ≤ length self.old.values → self.new.room ≡ self.old.room }
+        ensures within { length other.now.values ≤ self.old.room → self.new.room ≡ self.old.room }
     {
         self.lengthen(other.bits.len())?;
         self.bits
@@ -54,6 +58,8 @@ impl<B: BitBlock> BitSet<B> {
         ensures succeeds { length other.now.values ≤ self.old.room → IsOk result }
         ensures room { self.old.room ≤ self.new.room }
         ensures kept { length other.now.values ≤ length self.old.values → self.new.room ≡ self.old.room }
+        ensures within { length other.now.values ≤ self.old.room → self.new.room ≡ self.old.room }
+        ensures leaves { Leaves (UnionWith (length other.now.values)) self.old.room (is_ok result) self.new.room }
     {
         self.merge_with(other, Merge::Union)
     }
@@ -69,6 +75,8 @@ impl<B: BitBlock> BitSet<B> {
         ensures succeeds { length other.now.values ≤ self.old.room → IsOk result }
         ensures room { self.old.room ≤ self.new.room }
         ensures kept { length other.now.values ≤ length self.old.values → self.new.room ≡ self.old.room }
+        ensures within { length other.now.values ≤ self.old.room → self.new.room ≡ self.old.room }
+        ensures leaves { Leaves (IntersectWith (length other.now.values)) self.old.room (is_ok result) self.new.room }
     {
         self.merge_with(other, Merge::Intersection)
     }
@@ -84,6 +92,8 @@ impl<B: BitBlock> BitSet<B> {
         ensures succeeds { length other.now.values ≤ self.old.room → IsOk result }
         ensures room { self.old.room ≤ self.new.room }
         ensures kept { length other.now.values ≤ length self.old.values → self.new.room ≡ self.old.room }
+        ensures within { length other.now.values ≤ self.old.room → self.new.room ≡ self.old.room }
+        ensures leaves { Leaves (DifferenceWith (length other.now.values)) self.old.room (is_ok result) self.new.room }
     {
         self.merge_with(other, Merge::Difference)
     }
@@ -99,6 +109,8 @@ impl<B: BitBlock> BitSet<B> {
         ensures succeeds { length other.now.values ≤ self.old.room → IsOk result }
         ensures room { self.old.room ≤ self.new.room }
         ensures kept { length other.now.values ≤ length self.old.values → self.new.room ≡ self.old.room }
+        ensures within { length other.now.values ≤ self.old.room → self.new.room ≡ self.old.room }
+        ensures leaves { Leaves (SymmetricDifferenceWith (length other.now.values)) self.old.room (is_ok result) self.new.room }
     {
         self.merge_with(other, Merge::Symmetric)
     }

@@ -1,8 +1,10 @@
 // Calls that change the room, or hand out the bit vector.
-ghost use Rattle.std.specs.Prelude.{◌≡◌, ◌<◌, ◌≤◌, IsOk, OnErr, OnOk, [], length, max};
+ghost use Rattle.std.specs.Prelude.{◌≡◌, ◌*◌, ◌<◌, ◌≤◌, IsOk, is_ok, OnErr, OnOk, [], length, max};
 ghost use Rattle.std.specs.Borrow.{sem};
 ghost use Rattle.bit_words.specs.Bits.{blocks_for, room_of, whole_blocks, IsWithinRoom};
-ghost use Rattle.bit_set.specs.Sets.{elements};
+ghost use Rattle.bit_set.specs.Sets.{bound_of, elements};
+ghost use Rattle.bit_set.specs.Room.{Leaves};
+ghost use Rattle.bit_set.specs.Room.Call.{ReserveLen, ReserveLenExact};
 ghost use Rattle.bit_set.specs.Lends.{lends_bits};
 
 use crate::bit_vec::BitVec;
@@ -22,6 +24,7 @@ impl<B: BitBlock> BitSet<B> {
         ensures succeeds { len ≤ self.old.room → IsOk result }
         ensures within { len ≤ self.old.room → self.new.room ≡ self.old.room }
         ensures room { self.old.room ≤ self.new.room }
+        ensures leaves { Leaves (ReserveLen len) self.old.room (is_ok result) self.new.room }
     {
         let missing = len.saturating_sub(self.bits.len());
         self.bits.reserve(missing)
@@ -40,6 +43,7 @@ impl<B: BitBlock> BitSet<B> {
         ensures within { len ≤ self.old.room → self.new.room ≡ self.old.room }
         ensures exact { OnOk result (self.new.room ≡ max self.old.room (room_of B.width (blocks_for B.width len))) }
         ensures room { self.old.room ≤ self.new.room }
+        ensures leaves { Leaves (ReserveLenExact len) self.old.room (is_ok result) self.new.room }
     {
         let missing = len.saturating_sub(self.bits.len());
         self.bits.reserve_exact(missing)
@@ -52,6 +56,8 @@ impl<B: BitBlock> BitSet<B> {
     pub fn shrink_to_fit(&mut self) -> Result<(), AllocError>
         ensures elements { elements self.new.values ≡ elements self.old.values }
         ensures length { length self.new.values ≡ whole_blocks B.width self.old.values }
+        ensures cut { blocks_for B.width (bound_of (elements self.old.values)) * B.width ≤ usize.MAX → length self.new.values ≡ blocks_for B.width (bound_of (elements self.old.values)) * B.width }
+        ensures top { usize.MAX < blocks_for B.width (bound_of (elements self.old.values)) * B.width → length self.new.values ≡ length self.old.values }
         ensures ok { OnOk result (self.new.room ≡ room_of B.width (blocks_for B.width (length self.new.values))) }
         ensures room { self.new.room ≤ self.old.room }
         ensures fits { IsWithinRoom self.new }

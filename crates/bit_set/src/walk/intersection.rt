@@ -57,12 +57,16 @@ impl<'a, B: BitBlock> Iterator for Intersection<'a, B> {
 
     ghost remaining = { item_count (λ it. it.walk.left) };
 
+    /// The least element that is left, and from the end on `None` for good. Reads each block that it
+    /// passes, of both sets, once; constant time within a block.
     #[inline]
     fn next(&mut self) -> Option<usize> {
         self.bound = self.bound.saturating_sub(1);
         self.ones.next()
     }
 
+    /// From 0 up to the smaller length of the two sets, less the calls of `next`; 0 at least. So it is 0
+    /// from the start where a set has length 0. Constant time.
     #[inline]
     fn size_hint(&self) -> (usize, Option<usize>)
         ensures exact { result ≡ (0, Some self.now.bound) }

@@ -51,11 +51,15 @@ impl<'a, B: BitBlock> Iterator for Union<'a, B> {
 
     ghost remaining = { item_count (λ walk. walk.left) };
 
+    /// The least element that is left, and from the end on `None` for good. Reads each block that it
+    /// passes, of both sets, once; constant time within a block.
     #[inline]
     fn next(&mut self) -> Option<usize> {
         self.ones.next()
     }
 
+    /// From 0 up to the bits of the block in hand and of the blocks past it, as [`Iter`](crate::Iter) has
+    /// it: those of a whole block where both sets have length 0. Constant time.
     #[inline]
     fn size_hint(&self) -> (usize, Option<usize>)
         ensures exact { result ≡ (0, bound_on_rest B.width self.now.blocks) }
@@ -106,11 +110,15 @@ impl<'a, B: BitBlock> Iterator for Difference<'a, B> {
 
     ghost remaining = { item_count (λ walk. walk.left) };
 
+    /// The least element that is left, and from the end on `None` for good. Reads each block that it
+    /// passes, of both sets, once; constant time within a block.
     #[inline]
     fn next(&mut self) -> Option<usize> {
         self.ones.next()
     }
 
+    /// From 0 up to the bits of the block in hand and of the blocks past it, as [`Iter`](crate::Iter) has
+    /// it: those of a whole block where both sets have length 0. Constant time.
     #[inline]
     fn size_hint(&self) -> (usize, Option<usize>)
         ensures exact { result ≡ (0, bound_on_rest B.width self.now.blocks) }
@@ -161,11 +169,15 @@ impl<'a, B: BitBlock> Iterator for SymmetricDifference<'a, B> {
 
     ghost remaining = { item_count (λ walk. walk.left) };
 
+    /// The least element that is left, and from the end on `None` for good. Reads each block that it
+    /// passes, of both sets, once; constant time within a block.
     #[inline]
     fn next(&mut self) -> Option<usize> {
         self.ones.next()
     }
 
+    /// From 0 up to the bits of the block in hand and of the blocks past it, as [`Iter`](crate::Iter) has
+    /// it: those of a whole block where both sets have length 0. Constant time.
     #[inline]
     fn size_hint(&self) -> (usize, Option<usize>)
         ensures exact { result ≡ (0, bound_on_rest B.width self.now.blocks) }

@@ -1,4 +1,4 @@
-use Rattle.std.proofs.Common.{[], ◌∷◌, ◌++◌, ◌<◌, refl, sym, arith}
+use Rattle.std.proofs.Common.{[], ◌∷◌, ◌++◌, ◌<◌, refl, sym, ◌∙◌, arith}
 use Rattle.std.proofs.lemmas.Bool.{true≢false}
 use Rattle.std.specs.declared.option.Option.TheVariants.{Some}
 use Rattle.std.proofs.iter.Next.{Yields-more}
@@ -10,6 +10,10 @@ pub loop-item-preserved : goal.loop-item-preserved
 loop-item-preserved g c = record {
   taken = TakesIn-more c.loop-item.yielded c.in-Some.item c.args.self.now.values c.loop-item.self.values c.insert.new.self.values c.loop-item.invariant.taken c.in_ok-insert.ensures.elements c.in_ok-insert.ensures.length c.in_ok-insert.ensures.fit;
   room = omega (arith, c.loop-item.invariant.room, c.insert.ensures.room);
+  within = λ low.
+      let parts = All-pop (λ item. item < c.args.self.now.room) (c.loop-item.yielded ++ c.in-Some.item ∷ []) c.loop-item.yielded (Some c.in-Some.item) refl low in
+      let before = c.loop-item.invariant.within parts.0 in
+      c.insert.ensures.within (omega (arith, parts.1, before)) ∙ before;
 }
 
 pub returns-in_err-insert-clause-succeeds : goal.returns-in_err-insert-clause-succeeds

@@ -1,6 +1,7 @@
-use Rattle.std.proofs.Common.{ap, ◌∙◌}
+use Rattle.std.proofs.Common.{ap, length, ◌∙◌, arith}
+use Rattle.bit_words.specs.Bits.{whole_blocks}
 use Rattle.bit_set.specs.Sets.{elements}
-use Rattle.bit_set.proofs.RoomLemmas.{elements-true_values, whole_blocks-empty}
+use Rattle.bit_set.proofs.RoomLemmas.{elements-true_values, whole_blocks-cut, whole_blocks-empty, whole_blocks-top}
 use Rattle.bit_set.proofs.set.BitSet.shrink_to_fit.Goals as goal
 
 pub returns-clause-elements : goal.returns-clause-elements
@@ -8,3 +9,13 @@ returns-clause-elements g c = ap elements c.shrink_to_fit.ensures.values ∙ ele
 
 pub returns-clause-empty : goal.returns-clause-empty
 returns-clause-empty g c = λ none. c.shrink_to_fit.ensures.empty (c.cut_zero_blocks.ensures.len ∙ whole_blocks-empty _ c.self.inside.bits.values g.met.B.BitBlock.width_law.positive (ap (λ bits. elements bits.values) c.self.view_is ∙ none))
+
+pub returns-clause-cut : goal.returns-clause-cut
+returns-clause-cut g c = λ fits.
+    ap length c.shrink_to_fit.ensures.values ∙ c.cut_zero_blocks.ensures.len ∙ ap (λ bits. whole_blocks g.B.BitBlock.width bits.values) c.self.view_is
+    ∙ whole_blocks-cut g.B.BitBlock.width c.args.self.now.values (omega (arith, fits))
+
+pub returns-clause-top : goal.returns-clause-top
+returns-clause-top g c = λ past.
+    ap length c.shrink_to_fit.ensures.values ∙ c.cut_zero_blocks.ensures.len ∙ ap (λ bits. whole_blocks g.B.BitBlock.width bits.values) c.self.view_is
+    ∙ whole_blocks-top g.B.BitBlock.width c.args.self.now.values (omega (arith, past))
