@@ -1,10 +1,10 @@
 -- Where the ones of blocks are. No public clause cites this.
-use Rattle.std.specs.Prelude.{◌≡◌, ℕ, ◌+◌, ◌-◌, ◌*◌, ◌^◌, ◌<◌, ◌≤◌, Bool, List, [], ◌++◌, map, length, count_ones, All, Option, Some, None, MatchOption, IsSomeAnd}
+use Rattle.std.specs.Prelude.{◌≡◌, ℕ, ◌+◌, ◌-◌, ◌*◌, ◌^◌, ◌<◌, ◌≤◌, Bool, List, [], ◌++◌, map, length, drop, count_ones, All, Option, Some, None, MatchOption, IsSomeAnd}
 use Rattle.std.specs.List.{range_with_len, flat_map}
 use Rattle.bit_words.specs.Digits.{IsBoth}
 use Rattle.bit_words.specs.Lowest.{IsLowest, IsCleared}
 use Rattle.bit_words.specs.Storage.{is_one}
-use Rattle.bit_words.specs.Merges.{merged_value}
+use Rattle.bit_words.specs.Merges.{merged_value, merged}
 use Rattle.bit_words.specs.declared.bit_vec.merge.Merge.{Merge}
 use Rattle.bit_set.specs.Sets.{elements_from, elements}
 
@@ -50,6 +50,10 @@ IsMergedPull w number merge None None r = r ≡ None
 IsMergedPull w number merge (Some a) None r = IsSomeAnd r (λ x. IsMergedBlock w merge (number a) 0 (number x))
 IsMergedPull w number merge None (Some b) r = IsSomeAnd r (λ x. IsMergedBlock w merge 0 (number b) (number x))
 IsMergedPull w number merge (Some a) (Some b) r = IsSomeAnd r (λ x. IsMergedBlock w merge (number a) (number b) (number x))
+
+-- how many ones two rows of blocks become from one block on
+abbrev pub ones_from : {X : Type 0} → ℕ → (X → ℕ) → Merge → List X → List X → ℕ → ℕ
+ones_from w number merge xs ys i = length (elements (merged merge (values_in w (map number (drop i xs))) (values_in w (map number (drop i ys)))))
 
 -- A walk can go over the ones of all that is ahead, the first digit having place 0.
 pub record IsWalkable (w : ℕ) (ahead : Ahead) : Type 0 where

@@ -1,8 +1,8 @@
 // The blocks of two sets, merged.
-ghost use Rattle.std.specs.Prelude.{◌≡◌, ◌-◌, ◌<◌, ◌^◌, ◌⊎◌, max, IfSome, All, [], length, map};
+ghost use Rattle.std.specs.Prelude.{◌≡◌, ◌+◌, ◌-◌, ◌<◌, ◌≤◌, ◌^◌, ◌⊎◌, max, IfSome, All, [], length, map};
 ghost use Rattle.bit_words.specs.Bits.{blocks_for};
 ghost use Rattle.bit_set.specs.Sets.{elements, merged_sets};
-ghost use Rattle.bit_set.specs.Places.{IsMergedPull, values_in};
+ghost use Rattle.bit_set.specs.Places.{IsMergedPull, values_in, ones_from};
 ghost use Rattle.bit_words.specs.Merges.{merged};
 ghost use Rattle.bit_set.specs.Walk.{StartsOverTwo};
 
@@ -10,6 +10,9 @@ use super::ones::Ones;
 use super::source::{BlockSource, ones_of};
 use crate::BitBlock;
 use crate::bit_vec::{BitVec, Blocks, Merge};
+
+// How many pairs of blocks are counted at a time.
+const GROUP: usize = 8;
 
 // Two sides that are pulled as one, an ended side too.
 #[derive(Drop)]
@@ -75,7 +78,31 @@ fn merged_block<B: BitBlock>(merge: Merge, first: Option<B>, second: Option<B>) 
     }
 }
 
-// How many ones two rows of blocks of one length have, merged.
+// How many ones two rows have from one block to another, merged.
+#[inline(always)]
+fn ones_between<B: BitBlock>(
+    merge: Merge,
+    first: &[B],
+    second: &[B],
+    start: usize,
+    end: usize,
+) -> usize
+    requires forward { start ≤ end }
+    requires within { end ≤ length first.now }
+    requires within_second { end ≤ length second.now }
+    requires first { All B.is_block first.now }
+    requires second { All B.is_block second.now }
+    requires fits { ones_from B.width B.number merge first.now second.now start < 2 ^ 64 }
+    ensures { result + ones_from B.width B.number merge first.now second.now end ≡ ones_from B.width B.number merge first.now second.now start }
+{
+    let mut ones = 0;
+    for i in start..end {
+        ones += merge.of_blocks(first[i], second[i]).count_ones();
+    }
+    ones
+}
+
+// How many ones two rows of blocks of one length have, merged. The merge is chosen out here, so that no loop does it.
 #[inline]
 fn ones_of_both<B: BitBlock>(merge: Merge, first: &[B], second: &[B]) -> usize
     requires long { length first.now ≡ length second.now }
@@ -84,11 +111,30 @@ fn ones_of_both<B: BitBlock>(merge: Merge, first: &[B], second: &[B]) -> usize
     requires fits { length (elements (merged merge (values_in B.width (map B.number first.now)) (values_in B.width (map B.number second.now)))) < 2 ^ 64 }
     ensures { result ≡ length (elements (merged merge (values_in B.width (map B.number first.now)) (values_in B.width (map B.number second.now)))) }
 {
-    let mut ones = 0;
-    for i in 0..first.len() {
-        ones += merge.of_blocks(first[i], second[i]).count_ones();
+    match merge {
+        Merge::Union => ones_by_groups(Merge::Union, first, second),
+        Merge::Intersection => ones_by_groups(Merge::Intersection, first, second),
+        Merge::Difference => ones_by_groups(Merge::Difference, first, second),
+        Merge::Symmetric => ones_by_groups(Merge::Symmetric, first, second),
     }
-    ones
+}
+
+// The same, group by group. The compiler writes out the loop over a group.
+#[inline(always)]
+fn ones_by_groups<B: BitBlock>(merge: Merge, first: &[B], second: &[B]) -> usize
+    requires long { length first.now ≡ length second.now }
+    requires first { All B.is_block first.now }
+    requires second { All B.is_block second.now }
+    requires fits { length (elements (merged merge (values_in B.width (map B.number first.now)) (values_in B.width (map B.number second.now)))) < 2 ^ 64 }
+    ensures { result ≡ length (elements (merged merge (values_in B.width (map B.number first.now)) (values_in B.width (map B.number second.now)))) }
+{
+    let groups = first.len() / GROUP;
+    let mut ones = 0;
+    for group in 0..groups {
+        let start = group * GROUP;
+        ones += ones_between(merge, first, second, start, start + GROUP);
+    }
+    ones + ones_between(merge, first, second, groups * GROUP, first.len())
 }
 
 // How many ones the rest of the longer row has, merged with zeros. The other one is at its end.
