@@ -1,0 +1,62 @@
+use bit_set::bit_vec::BitsError;
+use bit_set::{JsonError, SetError};
+use bit_set_run::LinesFault;
+use std::alloc::AllocError;
+use std::io;
+
+/// Why a call did not answer.
+#[derive(Clone, Copy, Debug, PartialEq, Eq)]
+pub enum Fault {
+    /// Memory was refused.
+    Memory,
+    /// Anything else, which no call here may answer.
+    Other,
+}
+
+impl From<AllocError> for Fault {
+    fn from(_fault: AllocError) -> Self {
+        Fault::Memory
+    }
+}
+
+impl From<io::Error> for Fault {
+    fn from(_fault: io::Error) -> Self {
+        Fault::Other
+    }
+}
+
+impl From<BitsError> for Fault {
+    fn from(fault: BitsError) -> Self {
+        match fault {
+            BitsError::Memory(_) => Fault::Memory,
+            BitsError::Length => Fault::Other,
+        }
+    }
+}
+
+impl From<SetError> for Fault {
+    fn from(fault: SetError) -> Self {
+        match fault {
+            SetError::Memory(_) => Fault::Memory,
+            _ => Fault::Other,
+        }
+    }
+}
+
+impl From<JsonError> for Fault {
+    fn from(fault: JsonError) -> Self {
+        match fault {
+            JsonError::Memory(_) => Fault::Memory,
+            _ => Fault::Other,
+        }
+    }
+}
+
+impl From<LinesFault> for Fault {
+    fn from(fault: LinesFault) -> Self {
+        match fault {
+            LinesFault::Memory => Fault::Memory,
+            _ => Fault::Other,
+        }
+    }
+}

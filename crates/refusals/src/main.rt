@@ -1,0 +1,73 @@
+//! Each call that may be refused memory, and those that take none: made on a state of its own, and what then
+//! stands compared with what may. `tests/refusals.sh` runs this with one request after another refused.
+#![tactic(auto)]
+
+mod bits;
+mod faults;
+mod making;
+mod quiet;
+mod runs;
+mod sets;
+mod standing;
+mod sweep;
+
+use bit_set::JsonBlock;
+use faults::Fault;
+use std::env;
+use std::process::ExitCode;
+use sweep::Sweep;
+
+// The words after the program's name.
+fn words(rt: &HostRuntime) -> Result<Vec<String>, Fault> {
+    Ok(env::args(rt)?.skip(1).collect(rt.alloc())?)
+}
+
+// Every call over one type of blocks. Whether all went as they may.
+fn over<B: JsonBlock>(sweep: &Sweep<'_>) -> Result<bool, Fault> {
+    let sets = sets::all::<B>(sweep)?;
+    let making = making::all::<B>(sweep)?;
+    let bits = bits::all::<B>(sweep)?;
+    let runs = runs::all::<B>(sweep)?;
+    let quiet = quiet::all::<B>(sweep)?;
+    Ok(sets && making && bits && runs && quiet)
+}
+
+// Every call over the type of blocks of this name, or this one call.
+fn over_named(rt: &HostRuntime, width: &str, name: Option<&str>) -> Result<Option<bool>, Fault> {
+    Ok(Some(match width {
+        "u8" => over::<u8>(&Sweep::new(rt, "u8", name))?,
+        "u32" => over::<u32>(&Sweep::new(rt, "u32", name))?,
+        "u64" => over::<u64>(&Sweep::new(rt, "u64", name))?,
+        _ => return Ok(None),
+    }))
+}
+
+// The call that the words name, after its type of blocks, or all of them where there is no word. `None` where they
+// name none.
+fn swept(rt: &HostRuntime, words: &[String]) -> Result<Option<bool>, Fault> {
+    if let [width, name] = words {
+        return over_named(rt, width.as_str(), Some(name.as_str()));
+    }
+    if !words.is_empty() {
+        return Ok(None);
+    }
+    let mut is_right = true;
+    for width in ["u8", "u32", "u64"] {
+        is_right &= over_named(rt, width, None)?.unwrap_or(false);
+    }
+    Ok(Some(is_right))
+}
+
+// Status 0 where every call went as it may, 1 where one did not, 2 at other words, 3 where a set-up failed.
+fn main(rt: HostRuntime) -> ExitCode {
+    let outcome = match words(&rt) {
+        Ok(words) => swept(&rt, &words),
+        Err(fault) => Err(fault),
+    };
+    match outcome {
+        Ok(Some(true)) => ExitCode::SUCCESS,
+        Ok(Some(false)) => ExitCode::from(1),
+        Ok(None) => ExitCode::from(2),
+        Err(_) => ExitCode::from(3),
+    }
+}

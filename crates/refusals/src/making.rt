@@ -1,0 +1,155 @@
+// Calls that make something.
+use crate::faults::Fault;
+use crate::standing::{LENT, lent_set, text_of, works};
+use crate::sweep::Sweep;
+use bit_set::bit_vec::BitVec;
+use bit_set::{BitSet, JsonBlock};
+use serde_json::Value;
+use std::alloc::Global;
+
+#[derive(Clone, Copy)]
+enum Call {
+    WithCapacity,
+    FromBytes,
+    FromIter,
+    Clone,
+    FromJson,
+    BitsFromElem,
+    BitsFromBytes,
+    BitsClone,
+}
+
+// A call, and what it makes where it is answered.
+struct Row {
+    name: &'static str,
+    call: Call,
+    made: &'static str,
+}
+
+const ROWS: &[Row] = &[
+    Row {
+        name: "with_capacity",
+        call: Call::WithCapacity,
+        made: "{} of 5000",
+    },
+    Row {
+        name: "from_bytes",
+        call: Call::FromBytes,
+        made: "{0, 9, 90, 127} of 128",
+    },
+    Row {
+        name: "from_iter",
+        call: Call::FromIter,
+        made: "{9, 450, 5000} of 5001",
+    },
+    Row {
+        name: "clone",
+        call: Call::Clone,
+        made: LENT,
+    },
+    Row {
+        name: "from_json",
+        call: Call::FromJson,
+        made: LENT,
+    },
+    Row {
+        name: "bits_from_elem",
+        call: Call::BitsFromElem,
+        made: "{} of 5000",
+    },
+    Row {
+        name: "bits_from_bytes",
+        call: Call::BitsFromBytes,
+        made: "{0, 9, 90, 127} of 128",
+    },
+    Row {
+        name: "bits_clone",
+        call: Call::BitsClone,
+        made: LENT,
+    },
+];
+
+// Sixteen bytes with the bits 0, 9, 90 and 127, each byte counted from its highest.
+const BYTES: [u8; 16] = [0x80, 0x40, 0, 0, 0, 0, 0, 0, 0, 0, 0, 0x20, 0, 0, 0, 0x01];
+
+fn make<B: JsonBlock>(
+    alloc: Global,
+    call: Call,
+    lent: &BitSet<B>,
+    value: &Value,
+) -> Result<BitSet<B>, Fault> {
+    let items: [usize; 3] = [9, 450, 5000];
+    Ok(match call {
+        Call::WithCapacity => BitSet::with_capacity_general(alloc, 5000)?,
+        Call::FromBytes => BitSet::from_bytes_general(alloc, &BYTES)?,
+        Call::FromIter => BitSet::from_iter(alloc, items.iter().copied())?,
+        Call::Clone => lent.clone(alloc)?,
+        Call::FromJson => BitSet::from_json(alloc, value)?,
+        Call::BitsFromElem => {
+            BitSet::from_bit_vec_general(BitVec::from_elem_general(alloc, 5000, false)?)
+        }
+        Call::BitsFromBytes => {
+            BitSet::from_bit_vec_general(BitVec::from_bytes_general(alloc, &BYTES)?)
+        }
+        Call::BitsClone => BitSet::from_bit_vec_general(lent.get_ref().clone(alloc)?),
+    })
+}
+
+// What was made, as a text; `None` where memory was refused.
+fn text_made<B: JsonBlock>(
+    alloc: Global,
+    made: Result<BitSet<B>, Fault>,
+) -> Result<Option<String>, Fault> {
+    let mut set = match made {
+        Ok(set) => set,
+        Err(Fault::Memory) => return Ok(None),
+        Err(Fault::Other) => return Err(Fault::Other),
+    };
+    let text = text_of(alloc, &set)?;
+    if !works(&mut set)? {
+        return Err(Fault::Other);
+    }
+    Ok(Some(text))
+}
+
+fn tried<B: JsonBlock>(sweep: &Sweep<'_>, row: &Row) -> Result<bool, Fault> {
+    let alloc = sweep.alloc();
+    let lent = lent_set::<B>(alloc)?;
+    let value = lent.to_json(alloc)?;
+    sweep.begin(row.name, true)?;
+    let made = make(alloc, row.call, &lent, &value);
+    sweep.end(&made)?;
+    let text = text_made(alloc, made)?;
+    let now = text.as_ref().map_or(row.made, |text| text.as_str());
+    let is_right = now == row.made && text_of(alloc, &lent)?.as_str() == LENT;
+    Ok(sweep.judge(is_right, now)?)
+}
+
+// What `to_json` makes is read back.
+fn tried_to_json<B: JsonBlock>(sweep: &Sweep<'_>) -> Result<bool, Fault> {
+    let alloc = sweep.alloc();
+    let lent = lent_set::<B>(alloc)?;
+    sweep.begin("to_json", true)?;
+    let made = lent.to_json(alloc);
+    sweep.end(&made.as_ref().map_err(|fault| Fault::from(*fault)))?;
+    let now = match &made {
+        Ok(value) => text_of(alloc, &BitSet::<B>::from_json(alloc, value)?)?,
+        Err(_) => text_of(alloc, &lent)?,
+    };
+    let is_right = now.as_str() == LENT && text_of(alloc, &lent)?.as_str() == LENT;
+    Ok(sweep.judge(is_right, now.as_str())?)
+}
+
+/// Whether each of these calls goes as it may.
+pub fn all<B: JsonBlock>(sweep: &Sweep<'_>) -> Result<bool, Fault> {
+    let mut is_right = true;
+    for row in ROWS {
+        if sweep.has(row.name) {
+            is_right &= tried::<B>(sweep, row)?;
+        }
+    }
+    if sweep.has("to_json") {
+        is_right &= tried_to_json::<B>(sweep)?;
+    }
+    Ok(is_right)
+}

@@ -1,0 +1,285 @@
+// Calls that take no memory, in groups. Each group is made on two sets, and answers numbers.
+ghost use Rattle.std.specs.Prelude.{◌+◌, ◌%◌, ◌^◌, length};
+ghost use Rattle.std.specs.Iterator.{IsFinite};
+
+use crate::faults::Fault;
+use crate::standing::{LENT, Room, first_set, lent_set, text_of, works};
+use crate::sweep::Sweep;
+use bit_set::bit_vec::{BitVec, Merge, Steps};
+use bit_set::{BitBlock, BitSet};
+use bit_set_run::{Numbers, SetName, Table};
+use std::alloc::Global;
+use std::cmp::Ordering;
+use std::hash::{Hash, Hasher};
+
+// Counts the bytes that it is fed.
+#[derive(Drop)]
+struct Feed {
+    count: u64,
+}
+
+impl Hasher for Feed {
+    ghost write = { λ feed bytes. record { count = (feed.count + length bytes) % 2 ^ 64 } };
+
+    ghost finish = { λ feed. feed.count };
+
+    fn finish(&self) -> u64 {
+        self.count
+    }
+
+    fn write(&mut self, bytes: &[u8]) {
+        self.count = self.count.wrapping_add(bytes.len() as u64);
+    }
+}
+
+#[derive(Clone, Copy)]
+enum Group {
+    Empty,
+    Questions,
+    Comparisons,
+    Walks,
+    Changes,
+    Bits,
+    BitWalks,
+    BitChanges,
+}
+
+// A group and its answers, on the sets {3, 447} and {3, 7, 5000}, both of 5001 places.
+struct Row {
+    name: &'static str,
+    group: Group,
+    answers: [usize; 6],
+}
+
+const ROWS: &[Row] = &[
+    Row {
+        name: "empty_ones",
+        group: Group::Empty,
+        answers: [0, 0, 1, 0, 0, 0],
+    },
+    Row {
+        name: "questions",
+        group: Group::Questions,
+        answers: [2, 2, 1, 0, 0, 0],
+    },
+    Row {
+        name: "comparisons",
+        group: Group::Comparisons,
+        answers: [0, 1, 1, 1, 0, 16],
+    },
+    Row {
+        name: "walks",
+        group: Group::Walks,
+        answers: [450, 1, 5457, 3, 447, 5454],
+    },
+    Row {
+        name: "changes",
+        group: Group::Changes,
+        answers: [1, 1, 0, 100, 0, 0],
+    },
+    Row {
+        name: "bits",
+        group: Group::Bits,
+        answers: [5001, 1, 1, 0, 0, 0],
+    },
+    Row {
+        name: "bit_walks",
+        group: Group::BitWalks,
+        answers: [1, 1, 1, 1, 0, 0],
+    },
+    Row {
+        name: "bit_changes",
+        group: Group::BitChanges,
+        answers: [1, 1, 448, 1, 0, 0],
+    },
+];
+
+fn number(answer: bool) -> usize {
+    usize::from(answer)
+}
+
+// What is made of nothing.
+fn empty_ones<B: BitBlock>(alloc: Global) -> [usize; 6] {
+    let set = BitSet::<B>::new_general(alloc);
+    let bits = BitSet::<B>::new_general(alloc).into_bit_vec();
+    let table = Table::<B>::new(alloc);
+    let len = match SetName::from_letter(b'p') {
+        Some(name) => table.get(name).get_ref().len(),
+        None => 1,
+    };
+    let numbers = Numbers::from_vec(Vec::new(alloc));
+    [
+        set.count(),
+        bits.len(),
+        number(set.is_empty()),
+        len,
+        numbers.as_slice().len(),
+        set.capacity(),
+    ]
+}
+
+fn questions<B: BitBlock>(set: &BitSet<B>, lent: &BitSet<B>) -> [usize; 6] {
+    [
+        set.count(),
+        set.len(),
+        number(set.contains(447) && !set.is_empty() && set.capacity() >= set.get_ref().len()),
+        number(set.is_subset(lent)),
+        number(set.is_superset(lent)),
+        number(set.is_disjoint(lent)),
+    ]
+}
+
+fn comparisons<B: BitBlock>(set: &BitSet<B>, lent: &BitSet<B>) -> [usize; 6] {
+    let mut feed = Feed { count: 0 };
+    set.hash(&mut feed);
+    [
+        number(set == lent),
+        number(set == set),
+        number(set.cmp(lent) == Ordering::Greater),
+        number(set.partial_cmp(lent) == Some(Ordering::Greater)),
+        number(set < lent),
+        usize::try_from(feed.finish()).unwrap_or(0),
+    ]
+}
+
+// The sum of what a walk gives.
+fn sum<I: Iterator<Item = usize> + Drop>(items: I) -> usize
+    requires can { I.can_next items }
+    requires ends { IsFinite (I.remaining items) }
+{
+    let mut sum: usize = 0;
+    for item in items {
+        sum = sum.saturating_add(item);
+    }
+    sum
+}
+
+fn walks<B: BitBlock>(set: &BitSet<B>, lent: &BitSet<B>) -> [usize; 6] {
+    let mut walk = set.iter();
+    let whole = walk.clone();
+    let _ = walk.next();
+    [
+        sum(whole),
+        walk.count(),
+        sum(set.union(lent).clone()),
+        sum(set.intersection(lent).clone()),
+        sum(set.difference(lent).clone()),
+        sum(set.symmetric_difference(lent).clone()),
+    ]
+}
+
+fn changes<B: BitBlock>(set: &mut BitSet<B>) -> [usize; 6] {
+    set.truncate(100);
+    let count = set.count();
+    let was_in = set.remove(3);
+    let is_in = set.remove(3);
+    set.make_empty();
+    let len = set.get_ref().len();
+    set.clear();
+    let left = set.count();
+    set.reset();
+    [
+        count,
+        number(was_in),
+        number(is_in),
+        len,
+        left,
+        set.get_ref().len(),
+    ]
+}
+
+fn bits<B: BitBlock>(bits: &BitVec<B>, lent: &BitVec<B>) -> [usize; 6] {
+    [
+        bits.len(),
+        number(bits.get(447) == Some(true) && bits.get(5001) == None),
+        number(bits.capacity() >= 5001 && bits.storage().len() >= 7),
+        number(bits.none()),
+        number(bits.is_subset_of(lent, &mut Steps::new())),
+        number(bits.is_disjoint_from(lent, &mut Steps::new())),
+    ]
+}
+
+fn bit_walks<B: BitBlock>(bits: &BitVec<B>) -> [usize; 6] {
+    let blocks = bits.storage().len();
+    let mut walk = bits.blocks();
+    let whole = walk.clone();
+    let first = walk.next();
+    let rest = walk.as_slice().len();
+    [
+        number(whole.count() == blocks),
+        number(first.is_some()),
+        number(rest < blocks),
+        number(walk.size_hint() == (rest, Some(rest))),
+        0,
+        0,
+    ]
+}
+
+fn bit_changes<B: BitBlock>(set: &mut BitSet<B>, lent: &BitVec<B>) -> [usize; 6] {
+    let bits = set.get_mut();
+    let mut was_in = false;
+    if bits.len() > 447 {
+        bits.set(5, true);
+        was_in = bits.replace(447, false);
+    }
+    if lent.len() <= bits.len() {
+        bits.merge_blocks(lent, Merge::Union, &mut Steps::new());
+    }
+    let has_come = bits.get(7) == Some(true);
+    bits.truncate(448);
+    let len = bits.len();
+    bits.cut_zero_blocks();
+    let is_cut = bits.len() >= 8 && bits.len() <= 64;
+    bits.fill(true);
+    let is_none = bits.none();
+    bits.remove_all();
+    [
+        number(was_in),
+        number(has_come),
+        len,
+        number(is_cut),
+        number(is_none),
+        bits.len(),
+    ]
+}
+
+fn answers<B: BitBlock>(
+    alloc: Global,
+    group: Group,
+    set: &mut BitSet<B>,
+    lent: &BitSet<B>,
+) -> [usize; 6] {
+    match group {
+        Group::Empty => empty_ones::<B>(alloc),
+        Group::Questions => questions(set, lent),
+        Group::Comparisons => comparisons(set, lent),
+        Group::Walks => walks(set, lent),
+        Group::Changes => changes(set),
+        Group::Bits => bits(set.get_ref(), lent.get_ref()),
+        Group::BitWalks => bit_walks(set.get_ref()),
+        Group::BitChanges => bit_changes(set, lent.get_ref()),
+    }
+}
+
+fn tried<B: BitBlock>(sweep: &Sweep<'_>, row: &Row) -> Result<bool, Fault> {
+    let alloc = sweep.alloc();
+    let mut set = first_set::<B>(alloc, Room::Long)?;
+    let lent = lent_set::<B>(alloc)?;
+    sweep.begin(row.name, false)?;
+    let answers = answers(alloc, row.group, &mut set, &lent);
+    sweep.end(&Ok(()))?;
+    let now = format!(in alloc; "{answers:?}")?;
+    let is_whole = works(&mut set)? && text_of(alloc, &lent)?.as_str() == LENT;
+    Ok(sweep.judge(is_whole && answers == row.answers, now.as_str())?)
+}
+
+/// Whether each of these groups answers as it must.
+pub fn all<B: BitBlock>(sweep: &Sweep<'_>) -> Result<bool, Fault> {
+    let mut is_right = true;
+    for row in ROWS {
+        if sweep.has(row.name) {
+            is_right &= tried::<B>(sweep, row)?;
+        }
+    }
+    Ok(is_right)
+}

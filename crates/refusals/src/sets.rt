@@ -1,0 +1,247 @@
+// Calls that change a set or its room.
+use crate::faults::Fault;
+use crate::standing::{FIRST, LENT, Room, first_set, lent_set, text_of, works};
+use crate::sweep::Sweep;
+use bit_set::{BitBlock, BitSet};
+
+#[derive(Clone, Copy)]
+enum Call {
+    Insert,
+    Extend,
+    Union,
+    Intersection,
+    Difference,
+    Symmetric,
+    CloneFrom,
+    Reserve,
+    ReserveExact,
+    Shrink,
+}
+
+// A call at some room, under a name of its own, and what may stand after it: where it is answered, and where it is
+// refused, which some never are.
+struct Row {
+    name: &'static str,
+    call: Call,
+    room: Room,
+    answered: &'static str,
+    refused: &'static [&'static str],
+}
+
+const ROWS: &[Row] = &[
+    Row {
+        name: "insert",
+        call: Call::Insert,
+        room: Room::Exact,
+        answered: "{3, 447, 5000} of 5001",
+        refused: &[FIRST],
+    },
+    Row {
+        name: "insert_within",
+        call: Call::Insert,
+        room: Room::Ample,
+        answered: "{3, 447, 5000} of 5001",
+        refused: &[],
+    },
+    Row {
+        name: "extend",
+        call: Call::Extend,
+        room: Room::Exact,
+        answered: "{3, 9, 447, 450, 5000} of 5001",
+        refused: &[FIRST, "{3, 9, 447} of 448", "{3, 9, 447, 450} of 451"],
+    },
+    Row {
+        name: "extend_within",
+        call: Call::Extend,
+        room: Room::Ample,
+        answered: "{3, 9, 447, 450, 5000} of 5001",
+        refused: &[],
+    },
+    Row {
+        name: "union_with",
+        call: Call::Union,
+        room: Room::Exact,
+        answered: "{3, 7, 447, 5000} of 5001",
+        refused: &[FIRST],
+    },
+    Row {
+        name: "union_with_within",
+        call: Call::Union,
+        room: Room::Ample,
+        answered: "{3, 7, 447, 5000} of 5001",
+        refused: &[],
+    },
+    Row {
+        name: "intersect_with",
+        call: Call::Intersection,
+        room: Room::Exact,
+        answered: "{3} of 5001",
+        refused: &[FIRST],
+    },
+    Row {
+        name: "intersect_with_within",
+        call: Call::Intersection,
+        room: Room::Ample,
+        answered: "{3} of 5001",
+        refused: &[],
+    },
+    Row {
+        name: "difference_with",
+        call: Call::Difference,
+        room: Room::Exact,
+        answered: "{447} of 5001",
+        refused: &[FIRST],
+    },
+    Row {
+        name: "difference_with_within",
+        call: Call::Difference,
+        room: Room::Ample,
+        answered: "{447} of 5001",
+        refused: &[],
+    },
+    Row {
+        name: "symmetric_difference_with",
+        call: Call::Symmetric,
+        room: Room::Exact,
+        answered: "{7, 447, 5000} of 5001",
+        refused: &[FIRST],
+    },
+    Row {
+        name: "symmetric_difference_with_within",
+        call: Call::Symmetric,
+        room: Room::Ample,
+        answered: "{7, 447, 5000} of 5001",
+        refused: &[],
+    },
+    Row {
+        name: "clone_from",
+        call: Call::CloneFrom,
+        room: Room::Exact,
+        answered: LENT,
+        refused: &[FIRST],
+    },
+    Row {
+        name: "clone_from_within",
+        call: Call::CloneFrom,
+        room: Room::Ample,
+        answered: LENT,
+        refused: &[],
+    },
+    Row {
+        name: "reserve_len",
+        call: Call::Reserve,
+        room: Room::Exact,
+        answered: FIRST,
+        refused: &[FIRST],
+    },
+    Row {
+        name: "reserve_len_within",
+        call: Call::Reserve,
+        room: Room::Ample,
+        answered: FIRST,
+        refused: &[],
+    },
+    Row {
+        name: "reserve_len_exact",
+        call: Call::ReserveExact,
+        room: Room::Exact,
+        answered: FIRST,
+        refused: &[FIRST],
+    },
+    Row {
+        name: "reserve_len_exact_within",
+        call: Call::ReserveExact,
+        room: Room::Ample,
+        answered: FIRST,
+        refused: &[],
+    },
+    Row {
+        name: "shrink_to_fit",
+        call: Call::Shrink,
+        room: Room::Long,
+        answered: FIRST,
+        refused: &[FIRST],
+    },
+    Row {
+        name: "shrink_to_fit_exact",
+        call: Call::Shrink,
+        room: Room::Exact,
+        answered: FIRST,
+        refused: &[],
+    },
+];
+
+// Makes the call. Whether its answer is right, where it has one.
+fn change<B: BitBlock>(call: Call, set: &mut BitSet<B>, lent: &BitSet<B>) -> Result<bool, Fault> {
+    let items: [usize; 3] = [9, 450, 5000];
+    match call {
+        Call::Insert => return Ok(set.insert(5000)?),
+        Call::Extend => set.extend(items.iter().copied())?,
+        Call::Union => set.union_with(lent)?,
+        Call::Intersection => set.intersect_with(lent)?,
+        Call::Difference => set.difference_with(lent)?,
+        Call::Symmetric => set.symmetric_difference_with(lent)?,
+        Call::CloneFrom => set.clone_from(lent)?,
+        Call::Reserve => set.reserve_len(5001)?,
+        Call::ReserveExact => set.reserve_len_exact(5001)?,
+        Call::Shrink => set.shrink_to_fit()?,
+    }
+    Ok(true)
+}
+
+impl Row {
+    // Whether this may stand where the call ended so.
+    fn allows(&self, ended: Result<bool, Fault>, now: &str) -> bool {
+        match ended {
+            Ok(is_right) => is_right && now == self.answered,
+            Err(Fault::Memory) => self.refused.contains(&now),
+            Err(Fault::Other) => false,
+        }
+    }
+}
+
+fn tried<B: BitBlock>(sweep: &Sweep<'_>, row: &Row) -> Result<bool, Fault> {
+    let alloc = sweep.alloc();
+    let mut set = first_set::<B>(alloc, row.room)?;
+    let lent = lent_set::<B>(alloc)?;
+    sweep.begin(row.name, !row.refused.is_empty())?;
+    let ended = change(row.call, &mut set, &lent);
+    sweep.end(&ended)?;
+    let now = text_of(alloc, &set)?;
+    let is_whole = works(&mut set)? && text_of(alloc, &lent)?.as_str() == LENT;
+    Ok(sweep.judge(is_whole && row.allows(ended, now.as_str()), now.as_str())?)
+}
+
+// How many of the numbers below 100 are new to a set with room for them, each as it goes in.
+fn put_hundred<B: BitBlock>(set: &mut BitSet<B>) -> Result<usize, Fault> {
+    let mut count: usize = 0;
+    for number in 0..100 {
+        if set.insert(number)? {
+            count = count.saturating_add(1);
+        }
+    }
+    Ok(count)
+}
+
+fn tried_hundred<B: BitBlock>(sweep: &Sweep<'_>) -> Result<bool, Fault> {
+    let mut set = BitSet::<B>::new_general(sweep.alloc());
+    set.reserve_len(100)?;
+    sweep.begin("insert_hundred_within", false)?;
+    let ended = put_hundred(&mut set);
+    sweep.end(&ended)?;
+    Ok(sweep.judge(ended == Ok(100) && set.count() == 100, "not a hundred")?)
+}
+
+/// Whether each of these calls goes as it may.
+pub fn all<B: BitBlock>(sweep: &Sweep<'_>) -> Result<bool, Fault> {
+    let mut is_right = true;
+    for row in ROWS {
+        if sweep.has(row.name) {
+            is_right &= tried::<B>(sweep, row)?;
+        }
+    }
+    if sweep.has("insert_hundred_within") {
+        is_right &= tried_hundred::<B>(sweep)?;
+    }
+    Ok(is_right)
+}

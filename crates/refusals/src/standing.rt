@@ -1,0 +1,67 @@
+// Sets to begin with, and what stands after a call.
+use crate::faults::Fault;
+use bit_set::bit_vec::BitVec;
+use bit_set::{BitBlock, BitSet, SetError};
+use std::alloc::{AllocError, Global};
+
+/// What stands at first of the set that a call is made on, unless it is long.
+pub const FIRST: &str = "{3, 447} of 448";
+
+/// What stands of the set that is lent to a call.
+pub const LENT: &str = "{3, 7, 5000} of 5001";
+
+/// How much room there is at first.
+#[derive(Clone, Copy, PartialEq, Eq)]
+pub enum Room {
+    /// For the length and no more.
+    Exact,
+    /// For 5001 places.
+    Ample,
+    /// The same, and that is the length too.
+    Long,
+}
+
+/// The places 3 and 447, of 448 or 5001.
+pub fn first_bits<B: BitBlock>(alloc: Global, room: Room) -> Result<BitVec<B>, Fault> {
+    let mut bytes = [0; 56];
+    bytes[0] = 0b0001_0000;
+    bytes[55] = 0b0000_0001;
+    let mut bits = BitVec::from_bytes_general(alloc, &bytes)?;
+    if room != Room::Exact {
+        let spare = usize::MAX - bits.len();
+        bits.grow(spare.min(5001 - 448), false)?;
+    }
+    if room == Room::Ample {
+        bits.truncate(448);
+    }
+    Ok(bits)
+}
+
+/// The set of those.
+pub fn first_set<B: BitBlock>(alloc: Global, room: Room) -> Result<BitSet<B>, Fault> {
+    Ok(BitSet::from_bit_vec_general(first_bits(alloc, room)?))
+}
+
+/// A set that is longer, to be lent.
+pub fn lent_set<B: BitBlock>(alloc: Global) -> Result<BitSet<B>, SetError> {
+    let numbers: [usize; 3] = [3, 7, 5000];
+    BitSet::from_iter(alloc, numbers.iter().copied())
+}
+
+/// The elements and the length.
+pub fn text_of<B: BitBlock>(alloc: Global, set: &BitSet<B>) -> Result<String, AllocError> {
+    format!(in alloc; "{set} of {}", set.get_ref().len())
+}
+
+/// Whether the set works: its capacity is at least its length, one more number goes in and out, and a walk
+/// comes by as many as there are.
+pub fn works<B: BitBlock>(set: &mut BitSet<B>) -> Result<bool, SetError> {
+    let has_room = set.capacity() >= set.get_ref().len();
+    let is_new = set.insert(6)?;
+    let mut walked: usize = 0;
+    for _ in set.iter() {
+        walked = walked.saturating_add(1);
+    }
+    let is_whole = walked == set.count();
+    Ok(has_room && is_new && is_whole && set.remove(6) && !set.contains(6))
+}

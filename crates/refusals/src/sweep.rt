@@ -1,0 +1,57 @@
+use crate::faults::Fault;
+use std::alloc::Global;
+use std::io;
+
+/// A part of the calls, and where it is said how they go: those over one type of blocks, or just one of them.
+#[derive(Clone, Copy)]
+pub struct Sweep<'a> {
+    rt: &'a HostRuntime,
+    width: &'static str,
+    name: Option<&'a str>,
+}
+
+impl<'a> Sweep<'a> {
+    /// The call of this name, or all of them where there is none.
+    pub fn new(rt: &'a HostRuntime, width: &'static str, name: Option<&'a str>) -> Self {
+        Sweep { rt, width, name }
+    }
+
+    /// The allocator.
+    pub fn alloc(&self) -> Global {
+        self.rt.alloc()
+    }
+
+    /// Whether the call of this name is one of them.
+    pub fn has(&self, name: &str) -> bool {
+        match self.name {
+            Some(wanted) => wanted == name,
+            None => true,
+        }
+    }
+
+    /// Says which call comes next, and whether it may take memory. What is printed here is one write, and
+    /// `tests/shim.c` counts the requests for memory from it to the next.
+    pub fn begin(&self, name: &str, may_take: bool) -> io::Result<()> {
+        let how = if may_take { "" } else { " without memory" };
+        print!(self.rt; "{} {}{}: ", self.width, name, how)
+    }
+
+    /// Says how the call ended, before anything else is done.
+    pub fn end<T>(&self, ended: &Result<T, Fault>) -> io::Result<()> {
+        self.rt.print(match ended {
+            Ok(_) => "answered",
+            Err(Fault::Memory) => "refused",
+            Err(Fault::Other) => "failed",
+        })
+    }
+
+    /// Says whether that is as it may be, or else what stands; and answers it.
+    pub fn judge(&self, is_right: bool, now: &str) -> io::Result<bool> {
+        if is_right {
+            self.rt.println("")?;
+        } else {
+            println!(self.rt; ", WRONG: {now}")?;
+        }
+        Ok(is_right)
+    }
+}

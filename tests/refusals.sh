@@ -1,0 +1,186 @@
+#!/usr/bin/env bash
+# Runs the two built programs whose paths are given, `refusals` and `bitset`, with `shim.c` before the C library: each
+# call of the first with one request for memory after another refused, and the second with that too, and with one
+# read or write after another failing. The last line is 'N passed, M failed'.
+set -uo pipefail
+unset CDPATH
+refusals="$(readlink -f "$1")"
+bitset="$(readlink -f "$2")"
+here="$(dirname "$(readlink -f "${BASH_SOURCE[0]}")")"
+stored="$(dirname "$here")/crates/refusals/stdout"
+# No run asks for memory, reads or writes so often.
+most=1000
+passed=0
+failed=0
+
+finish() {
+    echo "$passed passed, $failed failed"
+    [ "$failed" -eq 0 ]
+    exit
+}
+
+fail() {
+    echo "FAILED: $1"
+    failed=$((failed + 1))
+}
+
+# In a folder of its own, where each run leaves the files `wrote`, `said` and `counts`.
+room="$(mktemp -d)"
+trap 'rm -rf "$room"' EXIT
+if ! command -v cc > /dev/null; then
+    fail 'there is no cc to make a library of tests/shim.c with'
+    finish
+fi
+if ! cc -O1 -shared -fPIC -o "$room/shim.so" "$here/shim.c"; then
+    fail 'cc makes no library of tests/shim.c'
+    finish
+fi
+for program in "$refusals" "$bitset"; do
+    if ! [ -x "$program" ]; then
+        fail "there is no program $program"
+        finish
+    fi
+done
+cd "$room" || exit 1
+: | tee nothing > wrote
+
+# Runs a program behind the shim, with these of the shim's variables before it, and keeps its status and the counts.
+shimmed() {
+    rm -f counts
+    timeout 60 env LD_PRELOAD="$room/shim.so" SHIM_COUNTS=counts "$@" > wrote 2> said
+    status=$?
+    requests=-1
+    reads=-1
+    writes=-1
+    if [ -e counts ]; then
+        read -r requests reads writes < counts
+    fi
+}
+
+# Counts the run before: whether it had this status, wrote what this file has, said this line, or nothing, and came
+# by counts of which this is so.
+judge() {
+    local name="$1" wanted="$2" text="$3" line="$4" counts="$5"
+    printf '%s' "${line:+$line$'\n'}" > line
+    if [ "$status" -ne "$wanted" ]; then
+        fail "$name: it ended with status $status, and not $wanted"
+    elif ! cmp wrote "$text"; then
+        fail "$name: it wrote something else"
+    elif ! cmp said line; then
+        fail "$name: it did not say '$line'"
+    elif ! (($counts)); then
+        fail "$name: of $requests requests, $reads reads and $writes writes it is not so that $counts"
+    else
+        passed=$((passed + 1))
+        return 0
+    fi
+    return 1
+}
+
+# One call of the program `refusals`, which judges it, with each of the call's requests refused and then one past them.
+# A call that takes no memory makes no request; any other is refused at one of them at least.
+sweep() {
+    local type="$1" call="$2" is_silent="$3" name="$1 $2" n refused=0 line
+    for ((n = 1; n <= most; n++)); do
+        shimmed SHIM_CALL=1 SHIM_REFUSE="$n" "$refusals" "$type" "$call"
+        line="$(< wrote)"
+        if [ "$status" -ne 0 ] || [ -s said ]; then
+            fail "$name: at request $n: status $status, '$line', and it said '$(< said)'"
+            return
+        elif [ "$requests" -lt "$n" ]; then
+            break
+        elif [ "${line##* }" = refused ]; then
+            refused=$((refused + 1))
+        fi
+        passed=$((passed + 1))
+    done
+    if [ "$n" -gt "$most" ] || [ "${line##* }" != answered ]; then
+        fail "$name: past its last request: '$line'"
+    elif [ "$is_silent" -eq 1 ] && [ "$requests" -ne 0 ]; then
+        fail "$name: it takes no memory, and made $requests requests"
+    elif [ "$is_silent" -eq 0 ] && [ "$refused" -eq 0 ]; then
+        fail "$name: it was never refused"
+    else
+        passed=$((passed + 1))
+    fi
+}
+
+known=0
+while read -r type call how; do
+    case "$how" in
+        answered) sweep "$type" "${call%:}" 0 ;;
+        'without memory: answered') sweep "$type" "$call" 1 ;;
+        *) fail "the stored run has a line '$type $call $how'" ;;
+    esac
+    known=$((known + 1))
+done < "$stored"
+[ "$known" -gt 0 ] || fail 'the stored run has no calls'
+shimmed "$refusals"
+judge 'the stored run' 0 "$stored" '' 'requests > 0'
+
+# The whole program, with each of its requests refused, in turn: then nothing is written.
+cat > short << 'END'
+extend a 3 447
+insert b 5000
+copy a c
+union_with a b
+symmetric_difference_with c b
+items a
+intersection a b
+rest iter a 1
+END
+"$bitset" < short > replies
+for word in u8 u32 u64; do
+    for ((n = 1; n <= most; n++)); do
+        shimmed SHIM_REFUSE="$n" "$bitset" "$word" < short
+        if [ "$requests" -lt "$n" ]; then
+            break
+        elif [ "$status" -eq 0 ]; then
+            judge "$word: request $n refused, and another made for it" 0 replies '' 'requests > n' || break
+        else
+            judge "$word: request $n refused" 3 nothing 'memory refused' 'writes == 0' || break
+        fi
+    done
+    judge "$word: no request refused" 0 replies '' 'n > 1 && requests == n - 1'
+done
+
+# Each of its reads otherwise, which are of 8192 bytes at most. One that gives no byte is the end of the input.
+for ((number = 1; number <= 500; number++)); do
+    printf '%s\n' "insert a $number" 'count a' "remove b $number" "truncate c $number"
+done > lines
+"$bitset" < lines > replies
+shimmed "$bitset" < lines
+judge 'each read and write as ever' 0 replies '' 'reads > 3 && writes > 0'
+calls="$reads"
+for ((n = 1; n <= calls; n++)); do
+    for error in EIO EINTR ENOSPC; do
+        shimmed SHIM_READ="$n:$error" "$bitset" < lines
+        judge "$error at read $n" 4 nothing 'read failed' 'reads == n && writes == 0'
+    done
+    shimmed SHIM_READ="$n:short" "$bitset" < lines
+    judge "a short read $n" 0 replies '' 'reads >= calls'
+    head -c $(((n - 1) * 8192)) lines | "$bitset" > front
+    shimmed SHIM_READ="$n:0" "$bitset" < lines
+    judge "no byte at read $n" 0 front '' 'reads == n'
+done
+shimmed SHIM_READ=0:short "$bitset" < lines
+judge 'each read short' 0 replies '' "reads == $(wc -c < lines) + 1"
+shimmed SHIM_READ=0:short "$bitset" < <(yes '')
+judge 'each read short, with no end' 5 nothing 'input too large' 'reads == 1048577 && writes == 0'
+
+# Each of its writes otherwise, which are kept to 3000 bytes here. What was written is a beginning.
+shimmed SHIM_PIECE=3000 "$bitset" < lines
+judge 'each write in pieces' 0 replies '' 'writes > 2'
+calls="$writes"
+for ((n = 1; n <= calls; n++)); do
+    head -c $(((n - 1) * 3000)) replies > front
+    for error in EIO EINTR ENOSPC 0; do
+        shimmed SHIM_PIECE=3000 SHIM_WRITE="$n:$error" "$bitset" < lines
+        judge "$error at write $n" 4 front 'write failed' 'writes == n'
+    done
+    shimmed SHIM_PIECE=3000 SHIM_WRITE="$n:short" "$bitset" < lines
+    judge "a short write $n" 0 replies '' 'writes >= calls'
+done
+shimmed SHIM_WRITE=0:short "$bitset" < lines
+judge 'each write short' 0 replies '' "writes == $(wc -c < replies)"
+finish
