@@ -128,6 +128,9 @@ symmetric_difference_with c b
 items a
 intersection a b
 rest iter a 1
+reserve a 9000
+reserve_exact b 9000
+shrink a
 END
 "$bitset" < short > replies
 for word in u8 u32 u64; do

@@ -28,7 +28,7 @@ const ROWS: &[Row] = &[
     Row {
         name: "bits_grow",
         call: Call::Grow,
-        room: Room::Exact,
+        room: Room::Short,
         answered: "{3, 447} of 5001",
         may_refuse: true,
     },
@@ -42,7 +42,7 @@ const ROWS: &[Row] = &[
     Row {
         name: "bits_reserve",
         call: Call::Reserve,
-        room: Room::Exact,
+        room: Room::Short,
         answered: FIRST,
         may_refuse: true,
     },
@@ -56,7 +56,7 @@ const ROWS: &[Row] = &[
     Row {
         name: "bits_reserve_exact",
         call: Call::ReserveExact,
-        room: Room::Exact,
+        room: Room::Short,
         answered: FIRST,
         may_refuse: true,
     },
@@ -70,7 +70,7 @@ const ROWS: &[Row] = &[
     Row {
         name: "bits_clone_from",
         call: Call::CloneFrom,
-        room: Room::Exact,
+        room: Room::Short,
         answered: LENT,
         may_refuse: true,
     },

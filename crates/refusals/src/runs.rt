@@ -17,6 +17,9 @@ const STANDING: &[&[&str]] = &[
     &["{3, 447, 5000} {5000} {3, 447}"],
     &["{3, 447, 5000} {5000} {3, 447}"],
     &["{3, 447, 5000} {5000} {3, 447}"],
+    &["{3, 447, 5000} {5000} {3, 447}"],
+    &["{3, 447, 5000} {5000} {3, 447}"],
+    &["{3, 447, 5000} {5000} {3, 447}"],
 ];
 
 // The replies to the commands.
@@ -28,6 +31,9 @@ const REPLIES: &[&str] = &[
     "Items(Numbers { items: [3, 447, 5000] })",
     "Items(Numbers { items: [5000] })",
     "Rest(2, Numbers { items: [447, 5000] })",
+    "Done",
+    "Done",
+    "Done",
 ];
 
 fn commands(alloc: Global, a: SetName, b: SetName, c: SetName) -> Result<Vec<Command>, AllocError> {
@@ -41,6 +47,9 @@ fn commands(alloc: Global, a: SetName, b: SetName, c: SetName) -> Result<Vec<Com
     commands.push(Command::Items(a))?;
     commands.push(Command::Walk(Merge::Intersection, a, b))?;
     commands.push(Command::RestIter(a, 1))?;
+    commands.push(Command::Reserve(a, 9000))?;
+    commands.push(Command::ReserveExact(b, 9000))?;
+    commands.push(Command::Shrink(a))?;
     Ok(commands)
 }
 
@@ -92,9 +101,9 @@ fn tried_run<B: BitBlock>(sweep: &Sweep<'_>, names: [SetName; 3]) -> Result<bool
 }
 
 const LINES: &[u8] =
-    b"extend a 3 447\ninsert b 5000\ncopy a c\nunion_with a b\nitems a\nintersection a b\nrest iter a 1\n";
+    b"extend a 3 447\ninsert b 5000\ncopy a c\nunion_with a b\nitems a\nintersection a b\nrest iter a 1\nreserve a 9000\nreserve_exact b 9000\nshrink a\n";
 
-const ANSWERS: &[u8] = b"ok\ntrue\nok\nok\n{3, 447, 5000}\n{5000}\n2 {447, 5000}\n";
+const ANSWERS: &[u8] = b"ok\ntrue\nok\nok\n{3, 447, 5000}\n{5000}\n2 {447, 5000}\nok\nok\nok\n";
 
 fn tried_lines<B: BitBlock>(sweep: &Sweep<'_>) -> Result<bool, Fault> {
     let alloc = sweep.alloc();

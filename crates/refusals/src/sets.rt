@@ -32,7 +32,7 @@ const ROWS: &[Row] = &[
     Row {
         name: "insert",
         call: Call::Insert,
-        room: Room::Exact,
+        room: Room::Short,
         answered: "{3, 447, 5000} of 5001",
         refused: &[FIRST],
     },
@@ -46,7 +46,7 @@ const ROWS: &[Row] = &[
     Row {
         name: "extend",
         call: Call::Extend,
-        room: Room::Exact,
+        room: Room::Short,
         answered: "{3, 9, 447, 450, 5000} of 5001",
         refused: &[FIRST, "{3, 9, 447} of 448", "{3, 9, 447, 450} of 451"],
     },
@@ -60,7 +60,7 @@ const ROWS: &[Row] = &[
     Row {
         name: "union_with",
         call: Call::Union,
-        room: Room::Exact,
+        room: Room::Short,
         answered: "{3, 7, 447, 5000} of 5001",
         refused: &[FIRST],
     },
@@ -74,7 +74,7 @@ const ROWS: &[Row] = &[
     Row {
         name: "intersect_with",
         call: Call::Intersection,
-        room: Room::Exact,
+        room: Room::Short,
         answered: "{3} of 5001",
         refused: &[FIRST],
     },
@@ -88,7 +88,7 @@ const ROWS: &[Row] = &[
     Row {
         name: "difference_with",
         call: Call::Difference,
-        room: Room::Exact,
+        room: Room::Short,
         answered: "{447} of 5001",
         refused: &[FIRST],
     },
@@ -102,7 +102,7 @@ const ROWS: &[Row] = &[
     Row {
         name: "symmetric_difference_with",
         call: Call::Symmetric,
-        room: Room::Exact,
+        room: Room::Short,
         answered: "{7, 447, 5000} of 5001",
         refused: &[FIRST],
     },
@@ -116,7 +116,7 @@ const ROWS: &[Row] = &[
     Row {
         name: "clone_from",
         call: Call::CloneFrom,
-        room: Room::Exact,
+        room: Room::Short,
         answered: LENT,
         refused: &[FIRST],
     },
@@ -130,7 +130,7 @@ const ROWS: &[Row] = &[
     Row {
         name: "reserve_len",
         call: Call::Reserve,
-        room: Room::Exact,
+        room: Room::Short,
         answered: FIRST,
         refused: &[FIRST],
     },
@@ -144,7 +144,7 @@ const ROWS: &[Row] = &[
     Row {
         name: "reserve_len_exact",
         call: Call::ReserveExact,
-        room: Room::Exact,
+        room: Room::Short,
         answered: FIRST,
         refused: &[FIRST],
     },

@@ -15,6 +15,8 @@ pub const LENT: &str = "{3, 7, 5000} of 5001";
 pub enum Room {
     /// For the length and no more.
     Exact,
+    /// For 1000 places, or one block more.
+    Short,
     /// For 5001 places.
     Ample,
     /// The same, and that is the length too.
@@ -27,11 +29,14 @@ pub fn first_bits<B: BitBlock>(alloc: Global, room: Room) -> Result<BitVec<B>, F
     bytes[0] = 0b0001_0000;
     bytes[55] = 0b0000_0001;
     let mut bits = BitVec::from_bytes_general(alloc, &bytes)?;
-    if room != Room::Exact {
-        let spare = usize::MAX - bits.len();
-        bits.grow(spare.min(5001 - 448), false)?;
-    }
-    if room == Room::Ample {
+    let more = match room {
+        Room::Exact => 0,
+        Room::Short => 1000 - 448,
+        Room::Ample | Room::Long => 5001 - 448,
+    };
+    let spare = usize::MAX - bits.len();
+    bits.grow(spare.min(more), false)?;
+    if room != Room::Long {
         bits.truncate(448);
     }
     Ok(bits)
