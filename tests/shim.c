@@ -1,7 +1,7 @@
 // Stands before the C library in a program that is run with this in LD_PRELOAD, and makes one of its calls fail.
 // What fails is said by the environment; a variable that is not set leaves all as it is:
 //
-//   SHIM_REFUSE=N          the Nth request for memory is refused
+//   SHIM_REFUSE=N          the Nth request for memory is refused, or each one where N is 0
 //   SHIM_CALL=1            only the requests between the first two writes to standard output are counted
 //   SHIM_READ=N:HOW        the Nth read of standard input goes otherwise, or each one where N is 0
 //   SHIM_WRITE=N:HOW       the same of the Nth write to standard output
@@ -29,13 +29,14 @@ struct fault {
     const char *how;
 };
 
-static long requests, reads, writes, refused_at, piece;
+static long requests, reads, writes, piece;
+static long refused_at = -1;
 static int only_call;
 static struct fault read_fault = {-1, ""}, write_fault = {-1, ""};
 
-static long number(const char *name) {
+static long number(const char *name, long otherwise) {
     const char *text = getenv(name);
-    return text ? atol(text) : 0;
+    return text ? atol(text) : otherwise;
 }
 
 static void read_settings(struct fault *fault, const char *name) {
@@ -48,9 +49,9 @@ static void read_settings(struct fault *fault, const char *name) {
 }
 
 __attribute__((constructor)) static void begin(void) {
-    refused_at = number("SHIM_REFUSE");
-    piece = number("SHIM_PIECE");
-    only_call = number("SHIM_CALL") == 1;
+    refused_at = number("SHIM_REFUSE", -1);
+    piece = number("SHIM_PIECE", 0);
+    only_call = number("SHIM_CALL", 0) == 1;
     read_settings(&read_fault, "SHIM_READ");
     read_settings(&write_fault, "SHIM_WRITE");
     requests = 0;
@@ -76,7 +77,7 @@ static int is_refused(void) {
         return 0;
     }
     requests += 1;
-    if (requests != refused_at) {
+    if (requests != refused_at && refused_at != 0) {
         return 0;
     }
     errno = ENOMEM;
