@@ -1,51 +1,60 @@
-//! What is told of two of the sets, which may be one.
+//! What is told of sets by their names: of one, or of two, which may be one.
 
 ghost use Rattle.std.specs.Prelude.{◌≡◌, ◌≢◌, [], drop, map, IfOk, OnErr};
 ghost use Rattle.bit_set.specs.Order.{order_of_sets, same_sets};
 ghost use Rattle.bit_set.specs.Sets.{is_disjoint, is_subset, merged_sets};
 ghost use Rattle.bit_set_run.specs.Kept.{kept};
 ghost use Rattle.bit_set_run.specs.Run.{rest_of, set_of};
+ghost use Rattle.bit_set_run.specs.declared.commands.Reply.TheVariants.{Items};
 
-use crate::walking::{numbers_of, rest};
-use crate::{Numbers, Reply, SetName};
+use crate::walking::{items, rest};
+use crate::{Reply, SetName};
 use bit_set::bit_vec::Merge;
 use bit_set::{BitBlock, BitSet};
 use std::alloc::{AllocError, Global};
 use std::cmp::Ordering;
 
+/// The set of this name.
+#[inline]
+pub(crate) fn named<B: BitBlock>(sets: &[BitSet<B>; 16], name: SetName) -> &BitSet<B>
+    ensures { kept result.now ≡ set_of (map kept sets.now) name }
+{
+    &sets[name.place()]
+}
+
 /// Whether each number of the first set is in the second.
 pub(crate) fn is_subset<B: BitBlock>(sets: &[BitSet<B>; 16], s: SetName, t: SetName) -> bool
     ensures { result ≡ is_subset (set_of (map kept sets.now) s) (set_of (map kept sets.now) t) }
 {
-    sets[s.place()].is_subset(&sets[t.place()])
+    named(sets, s).is_subset(named(sets, t))
 }
 
 /// Whether each number of the second set is in the first.
 pub(crate) fn is_superset<B: BitBlock>(sets: &[BitSet<B>; 16], s: SetName, t: SetName) -> bool
     ensures { result ≡ is_subset (set_of (map kept sets.now) t) (set_of (map kept sets.now) s) }
 {
-    sets[s.place()].is_superset(&sets[t.place()])
+    named(sets, s).is_superset(named(sets, t))
 }
 
 /// Whether no number is in both sets.
 pub(crate) fn is_disjoint<B: BitBlock>(sets: &[BitSet<B>; 16], s: SetName, t: SetName) -> bool
     ensures { result ≡ is_disjoint (set_of (map kept sets.now) s) (set_of (map kept sets.now) t) }
 {
-    sets[s.place()].is_disjoint(&sets[t.place()])
+    named(sets, s).is_disjoint(named(sets, t))
 }
 
 /// Whether the sets have the same numbers.
 pub(crate) fn are_equal<B: BitBlock>(sets: &[BitSet<B>; 16], s: SetName, t: SetName) -> bool
     ensures { result ≡ same_sets (set_of (map kept sets.now) s) (set_of (map kept sets.now) t) }
 {
-    sets[s.place()] == sets[t.place()]
+    *named(sets, s) == *named(sets, t)
 }
 
 /// How the sets compare.
 pub(crate) fn compare<B: BitBlock>(sets: &[BitSet<B>; 16], s: SetName, t: SetName) -> Ordering
     ensures { result ≡ order_of_sets (set_of (map kept sets.now) s) (set_of (map kept sets.now) t) }
 {
-    sets[s.place()].cmp(&sets[t.place()])
+    named(sets, s).cmp(named(sets, t))
 }
 
 /// What the sets become.
@@ -55,17 +64,17 @@ pub(crate) fn walk<B: BitBlock>(
     merge: Merge,
     s: SetName,
     t: SetName,
-) -> Result<Numbers, AllocError>
-    ensures all { IfOk result (λ numbers. numbers ≡ merged_sets merge (set_of (map kept sets.now) s) (set_of (map kept sets.now) t)) }
+) -> Result<Reply, AllocError>
+    ensures reply { IfOk result (λ reply. reply ≡ Items (merged_sets merge (set_of (map kept sets.now) s) (set_of (map kept sets.now) t))) }
     ensures refused { OnErr result (merged_sets merge (set_of (map kept sets.now) s) (set_of (map kept sets.now) t) ≢ []) }
 {
-    let first = &sets[s.place()];
-    let second = &sets[t.place()];
+    let first = named(sets, s);
+    let second = named(sets, t);
     match merge {
-        Merge::Union => numbers_of(alloc, first.union(second)),
-        Merge::Intersection => numbers_of(alloc, first.intersection(second)),
-        Merge::Difference => numbers_of(alloc, first.difference(second)),
-        Merge::Symmetric => numbers_of(alloc, first.symmetric_difference(second)),
+        Merge::Union => items(alloc, first.union(second)),
+        Merge::Intersection => items(alloc, first.intersection(second)),
+        Merge::Difference => items(alloc, first.difference(second)),
+        Merge::Symmetric => items(alloc, first.symmetric_difference(second)),
     }
 }
 
@@ -81,8 +90,8 @@ pub(crate) fn rest_of_walk<B: BitBlock>(
     ensures reply { IfOk result (λ reply. reply ≡ rest_of taken (merged_sets merge (set_of (map kept sets.now) s) (set_of (map kept sets.now) t))) }
     ensures refused { OnErr result (drop taken (merged_sets merge (set_of (map kept sets.now) s) (set_of (map kept sets.now) t)) ≢ []) }
 {
-    let first = &sets[s.place()];
-    let second = &sets[t.place()];
+    let first = named(sets, s);
+    let second = named(sets, t);
     match merge {
         Merge::Union => rest(alloc, first.union(second), taken),
         Merge::Intersection => rest(alloc, first.intersection(second), taken),

@@ -8,8 +8,10 @@ ghost use Rattle.bit_set.specs.Bounds.{greatest};
 ghost use Rattle.bit_set_run.specs.Run.{step, elements_before_greatest, RefusedBy};
 ghost use Rattle.bit_set_run.specs.declared.commands.Reply.TheVariants.{Truth, Done, Rest, Element};
 
-use crate::pairs::{are_equal, compare, is_disjoint, is_subset, is_superset, rest_of_walk, walk};
-use crate::walking::{numbers_of, rest};
+use crate::pairs::{
+    are_equal, compare, is_disjoint, is_subset, is_superset, named, rest_of_walk, walk,
+};
+use crate::walking::{items, rest};
 use crate::{Command, Numbers, Reply};
 use bit_set::bit_vec::Merge;
 use bit_set::{BitBlock, BitSet, SetError};
@@ -29,7 +31,7 @@ pub(crate) fn step<B: BitBlock>(
     match command {
         Command::Insert(name, n) => insert(&mut sets[name.place()], *n),
         Command::Remove(name, n) => Ok(Reply::Truth(sets[name.place()].remove(*n))),
-        Command::Contains(name, n) => Ok(Reply::Truth(sets[name.place()].contains(*n))),
+        Command::Contains(name, n) => Ok(Reply::Truth(named(sets, *name).contains(*n))),
         Command::Extend(name, items) => extend(&mut sets[name.place()], items),
         Command::Truncate(name, n) => {
             sets[name.place()].truncate(*n);
@@ -46,20 +48,20 @@ pub(crate) fn step<B: BitBlock>(
         Command::Reserve(name, n) => reserve(&mut sets[name.place()], *n),
         Command::ReserveExact(name, n) => reserve_exact(&mut sets[name.place()], *n),
         Command::Shrink(name) => shrink(&mut sets[name.place()]),
-        Command::Count(name) => Ok(Reply::Number(sets[name.place()].count())),
-        Command::IsEmpty(name) => Ok(Reply::Truth(sets[name.place()].is_empty())),
-        Command::Items(name) => Ok(Reply::Items(numbers_of(alloc, sets[name.place()].iter())?)),
+        Command::Count(name) => Ok(Reply::Number(named(sets, *name).count())),
+        Command::IsEmpty(name) => Ok(Reply::Truth(named(sets, *name).is_empty())),
+        Command::Items(name) => items(alloc, named(sets, *name).iter()),
         Command::Copy(from, to) if from == to => Ok(Reply::Same),
         Command::Copy(from, to) => copy(alloc, sets, from.place(), to.place()),
         Command::InPlace(_, s, t) if s == t => Ok(Reply::Same),
         Command::InPlace(merge, s, t) => merge_in_place(alloc, sets, *merge, s.place(), t.place()),
-        Command::Walk(merge, s, t) => Ok(Reply::Items(walk(alloc, sets, *merge, *s, *t)?)),
+        Command::Walk(merge, s, t) => walk(alloc, sets, *merge, *s, *t),
         Command::Subset(s, t) => Ok(Reply::Truth(is_subset(sets, *s, *t))),
         Command::Superset(s, t) => Ok(Reply::Truth(is_superset(sets, *s, *t))),
         Command::Disjoint(s, t) => Ok(Reply::Truth(is_disjoint(sets, *s, *t))),
         Command::Equal(s, t) => Ok(Reply::Truth(are_equal(sets, *s, *t))),
         Command::Compare(s, t) => Ok(Reply::Order(compare(sets, *s, *t))),
-        Command::RestIter(name, n) => rest(alloc, sets[name.place()].iter(), *n),
+        Command::RestIter(name, n) => rest(alloc, named(sets, *name).iter(), *n),
         Command::RestWalk(merge, s, t, n) => rest_of_walk(alloc, sets, *merge, *s, *t, *n),
     }
 }

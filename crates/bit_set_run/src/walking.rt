@@ -3,6 +3,7 @@
 ghost use Rattle.std.specs.Prelude.{◌≡◌, ◌≢◌, ℕ, List, [], Option, drop, length, IfOk, OnErr};
 ghost use Rattle.std.specs.Iterator.{IsFinite, YieldsFirst};
 ghost use Rattle.bit_set_run.specs.Run.{rest_of};
+ghost use Rattle.bit_set_run.specs.declared.commands.Reply.TheVariants.{Items};
 
 use crate::{Numbers, Reply};
 use bit_set::{BitBlock, Difference, Intersection, Iter, SymmetricDifference, Union};
@@ -94,7 +95,7 @@ impl<B: BitBlock> NumberWalk for SymmetricDifference<'_, B> {
 }
 
 // The numbers that are left of a walk. Where there are none it asks for no memory.
-pub(crate) fn numbers_of<W: NumberWalk>(alloc: Global, walk: W) -> Result<Numbers, AllocError>
+fn numbers_of<W: NumberWalk>(alloc: Global, walk: W) -> Result<Numbers, AllocError>
     ensures all { IfOk result (λ numbers. numbers ≡ W.left walk) }
     ensures refused { OnErr result (W.left walk ≢ []) }
 {
@@ -103,6 +104,14 @@ pub(crate) fn numbers_of<W: NumberWalk>(alloc: Global, walk: W) -> Result<Number
         numbers.push(number)?;
     }
     Ok(Numbers::from_vec(numbers))
+}
+
+/// All that is left of a walk.
+pub(crate) fn items<W: NumberWalk>(alloc: Global, walk: W) -> Result<Reply, AllocError>
+    ensures reply { IfOk result (λ reply. reply ≡ Items (W.left walk)) }
+    ensures refused { OnErr result (W.left walk ≢ []) }
+{
+    Ok(Reply::Items(numbers_of(alloc, walk)?))
 }
 
 // Takes so many numbers of a walk, or all where there are fewer.
