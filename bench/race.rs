@@ -29,6 +29,8 @@ mod here {
         pub fn bench_from_bytes(bytes: *const u8, n: usize, turns: usize) -> usize;
         pub fn bench_fill(len: usize, turns: usize) -> usize;
         pub fn bench_grow(turns: u32) -> usize;
+        pub fn bench_reserve_len(turns: usize) -> usize;
+        pub fn bench_shrink_to_fit(number: usize, turns: usize) -> usize;
         pub fn bench_walk_union(first: *const usize, m: usize, second: *const usize, n: usize, turns: usize) -> usize;
         pub fn bench_walk_intersection(first: *const usize, m: usize, second: *const usize, n: usize, turns: usize) -> usize;
         pub fn bench_walk_difference(first: *const usize, m: usize, second: *const usize, n: usize, turns: usize) -> usize;
@@ -509,6 +511,24 @@ fn the_rest(table: &mut Table) {
                 bits.grow(7, turn % 2 == 0);
             }
             bits.len()
+        },
+    ]);
+    table.row("`reserve_len` of 0, 1, 2, .. from `new`", work("call", 1, 1 << 18), &[
+        &|_, turns| unsafe { here::bench_reserve_len(turns) },
+        &|_, turns| {
+            let mut set = BitSet::new();
+            for turn in 0..turns {
+                set.reserve_len(black_box(turn));
+            }
+            set.get_ref().len()
+        },
+    ]);
+    let far = len - 1;
+    table.row("`insert` of 1M - 1 into {0}, `remove` and `shrink_to_fit`", work("block", len / 32, 40), &[
+        &|_, turns| unsafe { here::bench_shrink_to_fit(far, turns) },
+        &|_, turns| {
+            let mut set = set_of::<u32>(&[0]);
+            total(turns, |_| { set.insert(far); set.remove(far); set.shrink_to_fit(); set.get_ref().len() })
         },
     ]);
 }

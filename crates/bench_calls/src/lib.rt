@@ -8,3 +8,4 @@ mod inserting;
 mod making;
 mod pairs;
 mod reading;
+mod room;

@@ -1,5 +1,5 @@
 //! Room and length, and the bit vector in hand: rows with their exact answers.
-ghost use Rattle.std.specs.Prelude.{◌≡◌, ◌<◌, length, slice_set, true};
+ghost use Rattle.std.specs.Prelude.{◌≡◌, ◌<◌, ◌≤◌, All, IsOk, length, slice_set, true};
 
 use crate::set_tests::items;
 use bit_set::{BitBlock, BitSet, SetError};
@@ -183,5 +183,69 @@ fn no_room_past_all_memory(rt: HostRuntime) -> Result<(), Fail> {
     assert!(rt; set.reserve_len_exact(18446744073709551615).is_err());
     assert_eq!(rt; items(rt.alloc(), &set)?.as_slice(), [5].as_slice());
     assert_eq!(rt; set.get_ref().len(), 6);
+    Ok(())
+}
+
+// Once 0 is in, 1 goes in for sure: they share a block.
+fn put_one_after_zero(set: &mut BitSet) -> Result<bool, SetError>
+    requires { 0 < length set.old.values }
+    ensures { IsOk result }
+{
+    prove!(set.capacity() > 1);
+    set.insert(1)
+}
+
+#[test]
+fn a_block_that_is_there_is_enough(rt: HostRuntime) -> Result<(), Fail> {
+    let mut set = BitSet::new(rt.alloc());
+    set.insert(0)?;
+    assert!(rt; put_one_after_zero(&mut set)?);
+    let bytes = BitSet::<u8>::from_bytes_general(rt.alloc(), &[7; 5])?;
+    assert_eq!(rt; bytes.capacity(), 40);
+    Ok(())
+}
+
+// Numbers below 100 go into a set with room for 100, and none is refused.
+fn put_all_within<B: BitBlock>(set: &mut BitSet<B>, values: &[usize]) -> Result<(), SetError>
+    requires room { 100 ≤ set.old.room }
+    requires low { All (λ value. value < 100) values.now }
+    ensures ok { IsOk result }
+    ensures kept { set.new.room ≡ set.old.room }
+{
+    for &value in values {
+        set.insert(value)?;
+    }
+    Ok(())
+}
+
+// Calls that want room for no more than 100, on a set that has it: none is refused.
+fn change_within<B: BitBlock>(set: &mut BitSet<B>, other: &BitSet<B>) -> Result<(), SetError>
+    requires room { 100 ≤ set.old.room }
+    requires short { length other.now.values ≤ 100 }
+    ensures ok { IsOk result }
+    ensures kept { set.new.room ≡ set.old.room }
+{
+    set.union_with(other)?;
+    set.remove(3);
+    set.reserve_len(70)?;
+    set.truncate(80);
+    set.insert(99)?;
+    set.symmetric_difference_with(other)?;
+    set.clone_from(other)?;
+    Ok(())
+}
+
+#[test]
+fn within_its_room_a_set_is_never_refused(rt: HostRuntime) -> Result<(), Fail> {
+    let mut set = BitSet::<Block24>::new_general(rt.alloc());
+    let mut other = BitSet::with_capacity_general(rt.alloc(), 99)?;
+    other.insert(3)?;
+    other.insert(98)?;
+    set.reserve_len(100)?;
+    let room = set.capacity();
+    put_all_within(&mut set, &[99, 0, 41])?;
+    change_within(&mut set, &other)?;
+    assert_eq!(rt; items(rt.alloc(), &set)?.as_slice(), [3, 98].as_slice());
+    assert_eq!(rt; set.capacity(), room);
     Ok(())
 }
