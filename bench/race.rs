@@ -400,7 +400,7 @@ fn two_sets(table: &mut Table, density: &Density) {
             &|_, turns| peer(calls.sum_of, turns),
             &|_, turns| fixed_peer(calls.fixed_sum_of, turns),
         ]);
-        table.row(&format!("`count` of the walk of the {}, {label}", calls.name), work("block", blocks, 8), &[
+        table.row(&format!("`count` of the walk of the {}, {label}", calls.name), work("block", blocks, 40), &[
             &|_, turns| here(calls.count, turns),
             &|_, turns| peer(calls.count_of, turns),
             &|_, turns| fixed_peer(calls.fixed_count_of, turns),
