@@ -1,7 +1,8 @@
 //! One command over sixteen sets.
 
-ghost use Rattle.std.specs.Prelude.{◌≡◌, ◌≢◌, ℕ, ◌<◌, ◌==◌, ◌∷◌, false, not, map, List, length, drop, [], ◌++◌, IfOk, OnOk, OnErr, slice_index_or, slice_set, if◌then◌else◌};
+ghost use Rattle.std.specs.Prelude.{◌≡◌, ◌≢◌, ℕ, ◌<◌, ◌≤◌, ◌==◌, ◌∷◌, false, not, map, List, length, drop, [], ◌++◌, IfOk, OnOk, OnErr, slice_index_or, slice_set, if◌then◌else◌};
 ghost use Rattle.std.specs.List.{list_any};
+ghost use Rattle.bit_set.specs.Bits.{blocks_for, room_of};
 ghost use Rattle.bit_set.specs.Sets.{bound_of, has, merged_sets, put, put_all};
 ghost use Rattle.bit_set_run.specs.Kept.{kept};
 ghost use Rattle.bit_set.specs.Bounds.{greatest};
@@ -98,6 +99,7 @@ fn reserve<B: BitBlock>(set: &mut BitSet<B>, len: usize) -> Result<Reply, AllocE
     ensures reply { IfOk result (λ reply. reply ≡ Done) }
     ensures after { OnOk result (kept set.new ≡ kept set.old) }
     ensures refused { OnErr result ((bound_of (kept set.old) < len) × (kept set.new ≡ kept set.old)) }
+    ensures room { OnOk result (len ≤ set.new.room) }
 {
     set.reserve_len(len)?;
     Ok(Reply::Done)
@@ -108,6 +110,7 @@ fn reserve_exact<B: BitBlock>(set: &mut BitSet<B>, len: usize) -> Result<Reply, 
     ensures reply { IfOk result (λ reply. reply ≡ Done) }
     ensures after { OnOk result (kept set.new ≡ kept set.old) }
     ensures refused { OnErr result ((bound_of (kept set.old) < len) × (kept set.new ≡ kept set.old)) }
+    ensures room { OnOk result (len ≤ set.new.room) }
 {
     set.reserve_len_exact(len)?;
     Ok(Reply::Done)
@@ -117,6 +120,7 @@ fn shrink<B: BitBlock>(set: &mut BitSet<B>) -> Result<Reply, AllocError>
     ensures reply { IfOk result (λ reply. reply ≡ Done) }
     ensures after { OnOk result (kept set.new ≡ kept set.old) }
     ensures refused { OnErr result ((kept set.old ≢ []) × (kept set.new ≡ kept set.old)) }
+    ensures room { OnOk result (set.new.room ≡ room_of B.width (blocks_for B.width (length set.new.values))) }
 {
     set.shrink_to_fit()?;
     Ok(Reply::Done)
