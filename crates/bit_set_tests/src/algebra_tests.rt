@@ -16,7 +16,7 @@ fn set_of<B: BitBlock>(alloc: Global, numbers: &[usize]) -> Result<BitSet<B>, Se
 }
 
 // Makes the set what it and another become.
-fn merge_in<B: BitBlock>(
+pub(crate) fn merge_in<B: BitBlock>(
     set: &mut BitSet<B>,
     merge: Merge,
     other: &BitSet<B>,

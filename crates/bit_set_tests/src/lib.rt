@@ -4,6 +4,8 @@
 #[cfg(test)]
 mod algebra_tests;
 #[cfg(test)]
+mod hostile_tests;
+#[cfg(test)]
 mod json_tests;
 #[cfg(test)]
 mod order_tests;

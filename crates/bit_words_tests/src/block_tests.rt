@@ -32,3 +32,14 @@ fn forty_gives_up_its_lowest_one(rt: HostRuntime) {
     assert_eq!(rt; low | rest, block);
     assert_eq!(rt; block ^ rest, low);
 }
+
+// The highest digit of an odd block is its own complement and one, so that it is the lowest one too.
+#[test]
+fn the_highest_digit_of_an_odd_block(rt: HostRuntime) {
+    assert_eq!(rt; !Block24::zero(), Block24(16777215));
+    let block = Block24(8388608);
+    let negated = !block + Block24(1);
+    assert_eq!(rt; negated, block);
+    let below = (block & negated) - Block24(1);
+    assert_eq!(rt; BitBlock::count_ones(below), 23);
+}
