@@ -236,6 +236,9 @@ fn leaves_a_read_that_failed(rt: HostRuntime) -> Result<(), Fail> {
         ErrorKind::Other,
         ErrorKind::Interrupted,
         ErrorKind::UnexpectedEof,
+        ErrorKind::WouldBlock,
+        ErrorKind::TimedOut,
+        ErrorKind::OutOfMemory,
     ] {
         for fails_at in [0, 1, last] {
             let mut reader = reader(RUN_A);
@@ -254,7 +257,14 @@ fn leaves_a_read_that_failed(rt: HostRuntime) -> Result<(), Fail> {
 #[test]
 fn leaves_a_write_that_failed(rt: HostRuntime) -> Result<(), Fail> {
     let last = REPLIES_A.len().div_ceil(7).saturating_sub(1);
-    for kind in [Some(ErrorKind::Other), Some(ErrorKind::Interrupted), None] {
+    for kind in [
+        Some(ErrorKind::Other),
+        Some(ErrorKind::Interrupted),
+        Some(ErrorKind::WouldBlock),
+        Some(ErrorKind::StorageFull),
+        Some(ErrorKind::WriteZero),
+        None,
+    ] {
         for fails_at in [0, 1, last] {
             let mut writer = writer(rt.alloc());
             writer.fails_at = fails_at;
