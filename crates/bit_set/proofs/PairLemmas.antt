@@ -1,5 +1,8 @@
 -- Two sides of blocks that are pulled as one.
-use Rattle.std.proofs.Common.{◌≡◌, ℕ, zero, suc, ◌+◌, ◌*◌, ◌^◌, ◌<◌, ◌≤◌, max, min, Bool, true, false, List, [], ◌∷◌, ◌++◌, map, length, Option, Some, None, refl, sym, ap, ◌∙◌, subst, inl, inr, arith}
+use Rattle.std.proofs.Common.{◌≡◌, ℕ, zero, suc, ◌+◌, ◌*◌, ◌^◌, ◌<◌, ◌≤◌, max, min, Bool, true, false, List, [], ◌∷◌, ◌++◌, map, length, drop, Option, Some, None, refl, sym, ap, ◌∙◌, subst, inl, inr, arith}
+use Rattle.std.specs.Prelude.{slice_get}
+use Rattle.std.specs.Option.{unwrap_or}
+use Rattle.std.proofs.lemmas.Option.{none-some}
 use Rattle.std.specs.Iterator.{YieldsFirst}
 use Rattle.bit_words.specs.Storage.{is_one}
 use Rattle.bit_words.specs.Merges.{merged_value, merged}
@@ -14,7 +17,7 @@ use Rattle.bit_set.specs.Sets.{elements_from, elements, intersection, merged_set
 use Rattle.bit_set.proofs.AlgebraLemmas.{elements-merged}
 use Rattle.bit_set.proofs.RoomLemmas.{blocks_for-grows}
 use Rattle.bit_set.proofs.WalkLemmas.{length-held, length-blocks, elements-held, IsWalkable-of}
-use Rattle.bit_set.specs.Places.{digits_from, values_in, Ahead, PullsBlock, IsWalkable, IsMergedPull}
+use Rattle.bit_set.specs.Places.{digits_from, values_in, Ahead, PullsBlock, IsWalkable, IsMergedBlock, IsMergedPull}
 
 -- ---- what two lists of blocks have
 
@@ -115,6 +118,19 @@ module _ {X : Type 0} (w : ℕ) (number : X → ℕ) (merge : Merge) where
     blocks = let one = ap length first in let other = ap length second in omega (arith, one, other);
     counted = counted;
   }
+
+  pub same_both : (xs xs' ys ys' : List X) (pulls pulls' : ℕ) → xs' ≡ xs → ys' ≡ ys → pulls' ≡ pulls → both_ahead xs' ys' pulls' ≡ both_ahead xs ys pulls
+  same_both xs xs' ys ys' pulls pulls' first second counted = ap (λ zs. both_ahead zs ys' pulls') first ∙ ap (λ zs. both_ahead xs zs pulls') second ∙ ap (both_ahead xs ys) counted
+
+  at_first : (xs : List X) (x : X) → slice_get xs 0 ≡ Some x → xs ≡ x ∷ drop 1 xs
+  at_first [] x is = absurd (none-some x is)
+  at_first (y ∷ ys) x is = ap (λ z. z ∷ ys) (ap (λ o. unwrap_or o y) is)
+
+  -- both sides pass the first block
+  pub both_passed : (xs xs' ys ys' : List X) (pulls pulls' : ℕ) (a b r : X) → slice_get xs 0 ≡ Some a → slice_get ys 0 ≡ Some b → xs' ≡ drop 1 xs → ys' ≡ drop 1 ys → IsMergedBlock w merge (number a) (number b) (number r) → pulls' ≡ pulls + 1
+      → PullsBlock w number (both_ahead xs ys pulls) (Some r) (both_ahead xs' ys' pulls')
+  both_passed xs xs' ys ys' pulls pulls' a b r first second first_left second_left is counted =
+      both_pulled xs xs' ys ys' pulls pulls' (Some a) (Some b) (Some r) (at_first xs a first ∙ ap (λ zs. a ∷ zs) (sym first_left)) (at_first ys b second ∙ ap (λ zs. b ∷ zs) (sym second_left)) is counted
 
   -- ---- the making
 

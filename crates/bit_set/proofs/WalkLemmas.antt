@@ -1,5 +1,5 @@
 -- What a pull and a taken item do to a walk.
-use Rattle.std.proofs.Common.{◌≡◌, ℕ, ◌+◌, ◌-◌, ◌*◌, ◌^◌, ◌<◌, ◌≤◌, ◌/◌, Bool, List, [], ◌∷◌, ◌++◌, map, length, All, Option, Some, None, count_ones, sym, ap, ◌∙◌, subst, arith}
+use Rattle.std.proofs.Common.{◌≡◌, ℕ, ◌+◌, ◌-◌, ◌*◌, ◌^◌, ◌<◌, ◌≤◌, ◌/◌, Bool, List, [], ◌∷◌, ◌++◌, map, length, All, Option, Some, None, true, inl, inr, refl, count_ones, sym, ap, ◌∙◌, subst, arith}
 use Rattle.std.specs.Prelude.{IfSome}
 use Rattle.std.specs.Option.{SomeIff, unwrap_or}
 use Rattle.std.specs.Iterator.{UpTo, at_most, YieldsFirst}
@@ -10,7 +10,7 @@ use Rattle.bit_words.specs.Bits.{blocks_of, blocks_for}
 use Rattle.bit_words.specs.Lowest.{IsLowest, IsCleared}
 use Rattle.bit_words.proofs.BitsLemmas.{length-blocks_of}
 use Rattle.bit_set.specs.Sets.{elements_from, elements}
-use Rattle.bit_set.specs.Places.{digits_from, values_in, places, Ahead, PullsBlock, IsWalkable, CanWalk}
+use Rattle.bit_set.specs.Places.{digits_from, values_in, places, Ahead, PullsBlock, PullsWhere, IsWalkable, CanWalk}
 use Rattle.bit_set.specs.Walk.{Walk, Advances, AdvancesByEach}
 use Rattle.bit_set.proofs.SetLemmas.{length-elements-le}
 use Rattle.bit_set.proofs.PlaceLemmas.{places-zero, places-next, places-lowest, length-digits_from, length-values_in, length-places-le, length-elements-block, elements-blocks_of, elements-below}
@@ -67,6 +67,41 @@ taken_fits w place m r i ahead can low within cleared =
 -- no more items than digits
 pub left-most : (w place m : ℕ) (ahead : Ahead) → CanWalk w place m ahead → length (places w place m ahead.values) ≤ (1 + ahead.blocks) * w
 left-most w place m ahead can = let most = length-places-le w place m ahead.values in omega (arith, most, can.long)
+
+-- ---- a step that may be left out
+
+-- From `place` with m in hand and s ahead, to `at` with n in hand and t ahead: the same is left.
+pub record WentOn (w place at m n : ℕ) (s t : Ahead) : Type 0 where
+  pub can : CanWalk w at n t
+  pub same : places w at n t.values ≡ places w place m s.values
+  pub goes_on : s.pulls ≤ t.pulls
+  pub pulled : t.pulls + t.blocks ≡ s.pulls + s.blocks
+  pub along : at + w * t.blocks ≡ place + w * s.blocks
+
+pub went_on : {X : Type 0} (w place at m n : ℕ) (number : X → ℕ) (x : X) (count : ℕ) (wanted : Bool) (s t : Ahead) → CanWalk w place m s → (wanted ≡ true → m ≡ 0) → PullsWhere w number wanted s x count t → n ≡ m + number x → at ≡ place + count * w → WentOn w place at m n s t
+went_on w place at m n number x count wanted s t can zero (inl none) sum there =
+    let same_block : n ≡ m = omega (arith, sum, none.1) in
+    let same_place : at ≡ place = there ∙ ap (λ k. place + k * w) none.0 ∙ omega arith in
+    let stayed : WentOn w place place m m s s = record { can = can; same = refl; goes_on = omega arith; pulled = refl; along = refl } in
+    subst (WentOn w place at m n s) (sym none.2) (subst (λ k. WentOn w place at m k s s) (sym same_block) (subst (λ k. WentOn w place k m m s s) (sym same_place) stayed))
+went_on w place at m n number x count wanted s t can zero (inr one) sum there =
+    let pull = one.2 in
+    let none : m ≡ 0 = zero one.1 in
+    let next_block : n ≡ number x = omega (arith, sum, none) in
+    let next_place : at ≡ place + w = there ∙ ap (λ k. place + k * w) one.0 ∙ omega arith in
+    let went : WentOn w place (place + w) m (number x) s t = record {
+      can = CanWalk-pulled w place m number x s t can none pull;
+      same = sym (places-pulled w place m (number x) s.values t.values none pull.values);
+      goes_on = omega (arith, pull.counted);
+      pulled = omega (arith, pull.counted, pull.blocks);
+      along = pulled_along place w t.blocks s.blocks pull.blocks;
+    } in
+    subst (λ k. WentOn w place at m k s t) (sym next_block) (subst (λ k. WentOn w place k m (number x) s t) (sym next_place) went)
+
+-- the block in hand and the one that was pulled, one of which is zero
+pub sum_small : {X : Type 0} (w m : ℕ) (number : X → ℕ) (x : X) (count : ℕ) (wanted : Bool) (s t : Ahead) → m < 2 ^ w → number x < 2 ^ w → (wanted ≡ true → m ≡ 0) → PullsWhere w number wanted s x count t → m + number x < 2 ^ w
+sum_small w m number x count wanted s t small small_x zero (inl none) = omega (arith, small, none.1)
+sum_small w m number x count wanted s t small small_x zero (inr one) = let empty = zero one.1 in omega (arith, small_x, empty)
 
 -- ---- the making of a walk
 

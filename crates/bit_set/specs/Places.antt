@@ -1,5 +1,5 @@
 -- Where the ones of blocks are. No public clause cites this.
-use Rattle.std.specs.Prelude.{◌≡◌, ℕ, ◌+◌, ◌-◌, ◌*◌, ◌^◌, ◌<◌, ◌≤◌, Bool, List, [], ◌++◌, map, length, drop, count_ones, All, Option, Some, None, MatchOption, IsSomeAnd}
+use Rattle.std.specs.Prelude.{◌≡◌, ℕ, ◌+◌, ◌-◌, ◌*◌, ◌^◌, ◌<◌, ◌≤◌, ◌⊎◌, Bool, true, List, [], ◌++◌, map, length, drop, count_ones, All, Option, Some, None, MatchOption, IsSomeAnd}
 use Rattle.std.specs.List.{range_with_len, flat_map}
 use Rattle.bit_words.specs.Digits.{IsBoth}
 use Rattle.bit_words.specs.Lowest.{IsLowest, IsCleared}
@@ -39,6 +39,10 @@ pub record PullsBlock {X : Type 0} (w : ℕ) (number : X → ℕ) (s : Ahead) (r
   pub values : MatchOption r ((s.values ≡ []) × (t.values ≡ [])) (λ x. s.values ≡ digits_from (number x) 0 w ++ t.values)
   pub blocks : MatchOption r ((s.blocks ≡ 0) × (t.blocks ≡ 0)) (λ _. s.blocks ≡ t.blocks + 1)
   pub counted : t.pulls ≡ s.pulls + 1
+
+-- a pull that may be left out: nothing and zero for a block, or, where it was wanted, the first block r
+abbrev pub PullsWhere : {X : Type 0} → ℕ → (X → ℕ) → Bool → Ahead → X → ℕ → Ahead → Type 0
+PullsWhere w number wanted s r count t = ((count ≡ 0) × (number r ≡ 0) × (t ≡ s)) ⊎ ((count ≡ 1) × (wanted ≡ true) × PullsBlock w number s (Some r) t)
 
 -- of w digits, r has what those of m and n become
 pub record IsMergedBlock (w : ℕ) (merge : Merge) (m n r : ℕ) : Type 0 where

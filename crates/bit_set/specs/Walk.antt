@@ -31,6 +31,13 @@ pub record AdvancesByEach (w : ℕ) (s : Walk) (r : Option ℕ) (t : Walk) : Typ
   pub along : t.place + w * t.blocks ≡ s.place + w * s.blocks
   pub at : MatchOption r (t.blocks ≡ 0) (λ x. (t.place ≤ x) × (x < t.place + w))
 
+-- A walk went on to the next block or stayed, and what is left stayed.
+pub record GoesOn (w : ℕ) (s t : Walk) : Type 0 where
+  pub left : t.left ≡ s.left
+  pub goes_on : s.pulls ≤ t.pulls
+  pub pulled : t.pulls + t.blocks ≡ s.pulls + s.blocks
+  pub along : t.place + w * t.blocks ≡ s.place + w * s.blocks
+
 -- What contracts see of a walk that keeps a bound on the elements left.
 pub record BoundedWalk : Type 0 where
   pub walk : Walk

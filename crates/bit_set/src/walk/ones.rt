@@ -3,7 +3,7 @@ ghost use Rattle.std.specs.Prelude.{◌≡◌, ◌+◌, ◌-◌, ◌<◌, ◌^�
 ghost use Rattle.std.specs.Iterator.{UpTo, item_count};
 ghost use Rattle.bit_set.specs.Sets.{elements};
 ghost use Rattle.bit_set.specs.Places.{IsWalkable};
-ghost use Rattle.bit_set.specs.Walk.{AdvancesByEach, bound_on_rest};
+ghost use Rattle.bit_set.specs.Walk.{AdvancesByEach, GoesOn, bound_on_rest};
 
 use super::source::BlockSource;
 use crate::BitBlock;
@@ -53,15 +53,28 @@ impl<S: BlockSource<B>, B: BitBlock> Ones<S, B> {
     }
 
     // The place of the next one.
-    #[inline]
+    #[inline(always)]
     pub(crate) fn next(&mut self) -> Option<usize>
         ensures { AdvancesByEach B.width self.old result self.new }
     {
+        self.go_on();
         while self.block == B::zero() {
             self.block = self.source.pull()?;
             self.place += B::bits();
         }
         Some(self.place + take_lowest_one(&mut self.block))
+    }
+
+    // Goes on to the next block where the one in hand is used up and the source can tell without a branch. How many
+    // ones a block has is random, so that the processor would foresee the branch badly.
+    #[inline(always)]
+    fn go_on(&mut self)
+        ensures { GoesOn B.width self.old self.new }
+    {
+        let used_up = self.block == B::zero();
+        let (block, pulled) = self.source.pull_where(used_up);
+        self.block = self.block + block;
+        self.place += pulled * B::bits();
     }
 
     // At least none are left, and at most the digits of the block in hand and of those past it.

@@ -20,6 +20,8 @@ pub(crate) struct Pairs<'a, B: BitBlock> {
     first: Blocks<'a, B>,
     second: Blocks<'a, B>,
     merge: Merge,
+    // Whether blocks have few ones, as far as is known. It changes no answer.
+    sparse: bool,
 }
 
 impl<'a, B: BitBlock> BlockSource<B> for Pairs<'a, B> {
@@ -36,6 +38,25 @@ impl<'a, B: BitBlock> BlockSource<B> for Pairs<'a, B> {
         let first = self.first.next();
         let second = self.second.next();
         merged_block(self.merge, first, second)
+    }
+
+    // Where a side has ended, or blocks have many ones, a branch costs less.
+    #[inline(always)]
+    fn pull_where(&mut self, wanted: bool) -> (B, usize) {
+        if !self.sparse {
+            return (B::zero(), 0);
+        }
+        let first = self.first.as_slice().first();
+        let second = self.second.as_slice().first();
+        let (Some(a), Some(b)) = (first, second) else {
+            return (B::zero(), 0);
+        };
+        let merged = self.merge.of_blocks(*a, *b);
+        let block = if wanted { merged } else { B::zero() };
+        let count = usize::from(wanted);
+        self.first.pass(count);
+        self.second.pass(count);
+        (block, count)
     }
 
     #[inline]
@@ -58,6 +79,7 @@ impl<'a, B: BitBlock> BlockSource<B> for Pairs<'a, B> {
             first: self.first.clone(),
             second: self.second.clone(),
             merge: self.merge,
+            sparse: self.sparse,
         }
     }
 }
@@ -153,6 +175,18 @@ fn ones_of_rest<B: BitBlock>(merge: Merge, first: &[B], second: &[B]) -> usize
     }
 }
 
+// Whether few digits of the blocks in the middle are ones, merged.
+#[inline]
+fn is_sparse<B: BitBlock>(merge: Merge, first: &BitVec<B>, second: &BitVec<B>) -> bool {
+    let first = first.blocks().as_slice();
+    let second = second.blocks().as_slice();
+    let middle = first.len().min(second.len()) / 2;
+    match (first.get(middle), second.get(middle)) {
+        (Some(a), Some(b)) => merge.of_blocks(*a, *b).count_ones() <= B::bits() / 4,
+        _ => false,
+    }
+}
+
 // The walk over what two bit vectors become.
 #[inline]
 pub(crate) fn ones_of_two<'a, B: BitBlock>(
@@ -167,5 +201,6 @@ pub(crate) fn ones_of_two<'a, B: BitBlock>(
         first: first.blocks(),
         second: second.blocks(),
         merge,
+        sparse: is_sparse(merge, first, second),
     })
 }

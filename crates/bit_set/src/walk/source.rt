@@ -1,6 +1,6 @@
 // Where a walk has its blocks from.
 ghost use Rattle.std.specs.Prelude.{◌≡◌, ◌^◌, ◌<◌, IfSome, All, length, map};
-ghost use Rattle.bit_set.specs.Places.{Ahead, PullsBlock, values_in};
+ghost use Rattle.bit_set.specs.Places.{Ahead, PullsBlock, PullsWhere, values_in};
 ghost use Rattle.bit_set.specs.Sets.{elements};
 
 use crate::BitBlock;
@@ -21,6 +21,14 @@ pub(crate) trait BlockSource<B: BitBlock>: Drop {
         requires { is_sound self.old }
         ensures steps { PullsBlock B.width B.number (ahead self.old) result (ahead self.new) }
         ensures given { IfSome result B.is_block }
+        ensures sound { is_sound self.new };
+
+    // The next block, pulled, and 1, where it is wanted and the source can tell without a branch. Else zero and 0, and
+    // nothing is pulled.
+    fn pull_where(&mut self, wanted: bool) -> (B, usize)
+        requires { is_sound self.old }
+        ensures steps { PullsWhere B.width B.number wanted (ahead self.old) result.0 result.1 (ahead self.new) }
+        ensures of_block { B.is_block result.0 }
         ensures sound { is_sound self.new };
 
     // How many blocks are ahead.
@@ -49,6 +57,12 @@ impl<'a, B: BitBlock> BlockSource<B> for Blocks<'a, B> {
     #[inline]
     fn pull(&mut self) -> Option<B> {
         self.next()
+    }
+
+    // A block of one set seldom has so few ones that a branch costs more.
+    #[inline(always)]
+    fn pull_where(&mut self, _wanted: bool) -> (B, usize) {
+        (B::zero(), 0)
     }
 
     #[inline]

@@ -1,4 +1,4 @@
-ghost use Rattle.std.specs.Prelude.{◌≡◌, IfSome, Some, length};
+ghost use Rattle.std.specs.Prelude.{◌≡◌, ◌+◌, ◌≤◌, IfSome, Some, drop, length};
 ghost use Rattle.std.specs.Iterator.{UpTo, item_count};
 ghost use Rattle.std.specs.Iterator.SizeHint.{IsWithinCount};
 
@@ -11,16 +11,21 @@ use std::marker::Model;
 /// one that found the end included.
 #[derive(Drop)]
 pub struct Blocks<'a, B: BitBlock> {
-    rest: &'a [B],
+    blocks: &'a [B],
+    // How many of them it is past.
+    at: usize,
     steps: Steps,
 }
 
 impl<'a, B: BitBlock> Model for Blocks<'a, B> {
+    ghost use Rattle.std.specs.Prelude.{◌≤◌, drop, length};
     ghost use Rattle.bit_words.specs.Source.{Source};
 
     ghost Value = { Source B };
 
-    ghost view = { λ it. record { left = it.rest.now; pulls = it.steps } };
+    ghost view = { λ it. record { left = drop it.at it.blocks.now; pulls = it.steps } };
+
+    ghost invariant = { λ it. it.at ≤ length it.blocks.now };
 }
 
 impl<'a, B: BitBlock> Blocks<'a, B> {
@@ -31,7 +36,8 @@ impl<'a, B: BitBlock> Blocks<'a, B> {
         ensures pulls { result.pulls ≡ 0 }
     {
         Blocks {
-            rest: blocks,
+            blocks,
+            at: 0,
             steps: Steps::new(),
         }
     }
@@ -41,7 +47,22 @@ impl<'a, B: BitBlock> Blocks<'a, B> {
     pub fn as_slice(&self) -> &'a [B]
         ensures { result.now ≡ self.now.left }
     {
-        self.rest
+        self.blocks.split_at(self.at).1
+    }
+
+    /// Pulls the first block where `count` is 1, and nothing where it is 0. No branch tells the two
+    /// apart, for a caller whose counts the processor could not foresee. Constant time.
+    #[inline]
+    pub fn pass(&mut self, count: usize)
+        requires one { count ≤ 1 }
+        requires there { count ≤ length self.old.left }
+        ensures left { self.new.left ≡ drop count self.old.left }
+        ensures pulls { self.new.pulls ≡ self.old.pulls + count }
+    {
+        if count == 1 {
+            self.steps.tick();
+        }
+        self.at += count;
     }
 
     /// How many blocks are left. Constant time.
@@ -49,7 +70,7 @@ impl<'a, B: BitBlock> Blocks<'a, B> {
     pub fn count(self) -> usize
         ensures { result ≡ length self.entry.left }
     {
-        self.rest.len()
+        self.blocks.len() - self.at
     }
 
     /// A walk from the same place, whose count goes on from this one's. Constant time.
@@ -58,7 +79,8 @@ impl<'a, B: BitBlock> Blocks<'a, B> {
         ensures { result ≡ self.now }
     {
         Blocks {
-            rest: self.rest,
+            blocks: self.blocks,
+            at: self.at,
             steps: self.steps.clone(),
         }
     }
@@ -79,9 +101,9 @@ impl<'a, B: BitBlock> Iterator for Blocks<'a, B> {
     #[inline]
     fn next(&mut self) -> Option<B> {
         self.steps.tick();
-        let (first, rest) = self.rest.split_first()?;
-        self.rest = rest;
-        Some(*first)
+        let block = *self.blocks.get(self.at)?;
+        self.at += 1;
+        Some(block)
     }
 
     /// How many blocks are left, on both sides. Constant time.
@@ -91,6 +113,7 @@ impl<'a, B: BitBlock> Iterator for Blocks<'a, B> {
         ensures lower { IsWithinCount result.0 (item_count (λ source. source.left) self.now) }
         ensures upper { IfSome result.1 (UpTo (item_count (λ source. source.left) self.now)) }
     {
-        (self.rest.len(), Some(self.rest.len()))
+        let left = self.blocks.len() - self.at;
+        (left, Some(left))
     }
 }
