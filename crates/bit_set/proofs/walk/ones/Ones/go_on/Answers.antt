@@ -1,4 +1,4 @@
-use Rattle.std.proofs.Common.{◌≡◌, ◌+◌, ◌*◌, ◌<◌, ◌^◌, true, sym, ap, ◌∙◌, arith}
+use Rattle.std.proofs.Common.{◌≡◌, ◌+◌, ◌*◌, true, sym, ap, ◌∙◌}
 use Rattle.bit_set.proofs.WalkLemmas.{went_on, sum_small}
 use Rattle.bit_set.proofs.walk.ones.Ones.go_on.Goals as goal
 
