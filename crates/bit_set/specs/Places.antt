@@ -1,6 +1,8 @@
 -- Where the ones of blocks are. No public clause cites this.
-use Rattle.std.specs.Prelude.{◌≡◌, ℕ, ◌+◌, ◌-◌, ◌*◌, ◌^◌, ◌<◌, ◌⊎◌, Bool, true, List, [], ◌++◌, map, length, drop, All, Option, Some, None, MatchOption, IsSomeAnd}
+use Rattle.std.specs.Prelude.{◌≡◌, ℕ, ◌+◌, ◌-◌, ◌*◌, ◌^◌, ◌<◌, ◌≤◌, ◌⊎◌, Bool, true, List, [], ◌++◌, map, length, drop, count_ones, All, Option, Some, None, MatchOption, IsSomeAnd}
 use Rattle.std.specs.List.{range_with_len, flat_map}
+use Rattle.bit_words.specs.Digits.{IsBoth}
+use Rattle.bit_words.specs.Lowest.{IsLowest, IsCleared}
 use Rattle.bit_words.specs.Storage.{is_one}
 use Rattle.bit_words.specs.Merges.{merged_value, merged}
 use Rattle.bit_words.specs.declared.bit_vec.merge.Merge.{Merge}
@@ -17,6 +19,13 @@ values_in w ms = flat_map (λ m. digits_from m 0 w) ms
 -- the places of the ones of a block m of w digits and of the true values past it, the first digit having place `place`
 unfoldable pub places : ℕ → ℕ → ℕ → List Bool → List ℕ
 places w place m values = elements_from place (digits_from m 0 w ++ values)
+
+-- Of w digits, l is the lowest 1 of m alone: the number o below it counts its place, and clearing goes by that place.
+pub record IsAlone (w m l : ℕ) : Type 0 where
+  pub some : 1 ≤ l
+  pub within : (o : ℕ) → o + 1 ≡ l → count_ones o < w
+  pub lowest : (o : ℕ) → o + 1 ≡ l → IsLowest m (count_ones o)
+  pub cleared : (o r : ℕ) → o + 1 ≡ l → IsBoth w m (m - 1) r → IsCleared w m (count_ones o) r
 
 -- What lies ahead in a source of blocks: the values of the blocks that are not yet pulled, how many these are, and
 -- how often the source was pulled.

@@ -5,6 +5,7 @@ mod faults;
 mod hash;
 mod json;
 pub mod laws;
+mod lowest;
 mod order;
 mod set;
 mod texts;

@@ -39,13 +39,16 @@ impl<B: BitBlock> BitSet<B> {
         self.bits.get(value).unwrap_or(false)
     }
 
-    /// How many elements there are. Adds up the ones of each block, and passes over as many blocks as a
-    /// block has bits at once where they are all zero.
-    #[inline]
+    /// How many elements there are. Adds up the ones of each block.
     pub fn count(&self) -> usize
         ensures { result ≡ length (elements self.now.values) }
     {
-        self.bits.count_ones()
+        let mut ones = 0;
+        let blocks = self.bits.storage();
+        for block in blocks {
+            ones += block.count_ones();
+        }
+        ones
     }
 
     /// How many elements there are: the older name of [`BitSet::count`].

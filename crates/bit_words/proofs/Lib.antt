@@ -1,7 +1,6 @@
 pub mod Words
 pub mod BitsLemmas
 pub mod LowestLemmas
-pub mod LowestStep
 pub mod OnesLemmas
 pub mod StorageLemmas
 pub mod Masks
@@ -13,6 +12,3 @@ pub mod SourceLemmas
 pub mod MergeLemmas
 pub mod CompareLemmas
 pub mod RoomLemmas
-pub mod SummaryLemmas
-pub mod NonzeroLemmas
-pub mod CountLemmas

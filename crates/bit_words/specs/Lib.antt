@@ -5,7 +5,4 @@ pub mod Storage
 pub mod Steps
 pub mod Lowest
 pub mod Source
-pub mod Summary
-pub mod Marks
-pub mod Nonzero
 pub mod Merges

@@ -1,11 +1,8 @@
-ghost use Rattle.std.specs.Prelude.{◌≡◌, ◌-◌, ◌↔◌, All, IsTrue, false, length, map, slice_get};
-ghost use Rattle.std.specs.List.{count_by};
-ghost use Rattle.bit_words.specs.Bits.{blocks_for, blocks_of, IsRoomOfBlocks, IsWithinRoom};
-ghost use Rattle.bit_words.specs.Nonzero.{first_and_nonzero};
+ghost use Rattle.std.specs.Prelude.{◌≡◌, ◌↔◌, All, IsTrue, false, length, map, slice_get};
+ghost use Rattle.bit_words.specs.Bits.{blocks_of, IsRoomOfBlocks, IsWithinRoom};
 
 use super::changes::{are_zero, value_of};
-use super::counting::ones_by_summary;
-use super::{BitBlock, Blocks, Nonzero};
+use super::{BitBlock, Blocks};
 use std::marker::Model;
 
 mod compare;
@@ -25,22 +22,19 @@ pub use making::BitsError;
 #[derive(Drop)]
 pub struct BitVec<B: BitBlock = u32> {
     blocks: Vec<B>,
-    // Which of the blocks are not 0.
-    summary: Vec<B>,
     len: usize,
 }
 
 impl<B: BitBlock> Model for BitVec<B> {
     ghost use Rattle.std.specs.Prelude.{map, vec_capacity};
     ghost use Rattle.bit_words.specs.Bits.{Bits, room_of};
-    ghost use Rattle.bit_words.specs.Storage.{values_of};
-    ghost use Rattle.bit_words.specs.Summary.{shared_room, IsStored};
+    ghost use Rattle.bit_words.specs.Storage.{values_of, IsTidy};
 
     ghost Value = { Bits };
 
-    ghost view = { λ v. record { values = values_of B.width (map B.number v.blocks.items) v.len; room = room_of B.width (shared_room B.width (vec_capacity v.blocks) (vec_capacity v.summary)) } };
+    ghost view = { λ v. record { values = values_of B.width (map B.number v.blocks.items) v.len; room = room_of B.width (vec_capacity v.blocks) } };
 
-    ghost invariant = { λ v. IsStored B.width B.number B.is_block v.blocks.items v.summary.items v.len };
+    ghost invariant = { λ v. IsTidy B.width B.number B.is_block v.blocks.items v.len };
 }
 
 impl<B: BitBlock> BitVec<B> {
@@ -64,20 +58,11 @@ impl<B: BitBlock> BitVec<B> {
         Some(value_of(&self.blocks, i))
     }
 
-    /// Whether no value is true. Reads the summary alone: one block of it for as many blocks as a block
-    /// has bits.
+    /// Whether no value is true. Reads each block once at most.
     pub fn none(&self) -> bool
         ensures { IsTrue result ↔ All (λ bit. bit ≡ false) self.now.values }
     {
-        are_zero(&self.summary)
-    }
-
-    /// How many values are true. Adds up the ones of each block, and passes over as many blocks as a
-    /// block has bits at once where they are all zero.
-    pub fn count_ones(&self) -> usize
-        ensures { result ≡ count_by (λ value. value) self.now.values }
-    {
-        ones_by_summary(&self.blocks, &self.summary)
+        are_zero(&self.blocks)
     }
 
     /// The greatest length for which no memory is missing. Each block that there is room for counts
@@ -88,9 +73,7 @@ impl<B: BitBlock> BitVec<B> {
         ensures fits { IsWithinRoom self.now }
         ensures whole { IsRoomOfBlocks B.width self.now }
     {
-        let summarized = self.summary.capacity().saturating_mul(B::bits());
-        let count = self.blocks.capacity().min(summarized);
-        count.saturating_mul(B::bits())
+        self.blocks.capacity().saturating_mul(B::bits())
     }
 
     /// The blocks in which the list is kept. Constant time.
@@ -112,20 +95,5 @@ impl<B: BitBlock> BitVec<B> {
         ensures fits { IsWithinRoom self.now }
     {
         Blocks::over(self.storage())
-    }
-
-    /// A walk over the blocks that are not zero, each with its index; the first block comes in any case.
-    /// Constant time, and takes no memory.
-    #[inline]
-    pub fn nonzero(&self) -> Nonzero<'_, B>
-        ensures blocks { map B.number result.blocks ≡ blocks_of B.width self.now.values }
-        ensures each { All B.is_block result.blocks }
-        ensures left { result.left ≡ first_and_nonzero B.number result.blocks }
-        ensures pulls { result.pulls ≡ 0 }
-        ensures summary_pulls { result.summary_pulls ≡ 1 }
-        ensures summary_left { result.summary_left ≡ blocks_for B.width (blocks_for B.width (length self.now.values)) - 1 }
-        ensures fits { IsWithinRoom self.now }
-    {
-        Nonzero::over(&self.blocks, &self.summary)
     }
 }

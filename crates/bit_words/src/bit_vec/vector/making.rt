@@ -7,7 +7,6 @@ use super::BitVec;
 use crate::bit_vec::BitBlock;
 use crate::bit_vec::bytes::blocks_of_bytes;
 use crate::bit_vec::copying::copy_of;
-use crate::bit_vec::summary::summary_of;
 use std::alloc::{AllocError, Global};
 use thiserror::Error;
 
@@ -73,7 +72,6 @@ impl<B: BitBlock> BitVec<B> {
     {
         BitVec {
             blocks: Vec::new(alloc),
-            summary: Vec::new(alloc),
             len: 0,
         }
     }
@@ -107,12 +105,7 @@ impl<B: BitBlock> BitVec<B> {
             return Err(BitsError::Length);
         };
         let blocks = blocks_of_bytes(alloc, bytes)?;
-        let summary = summary_of(alloc, &blocks)?;
-        Ok(BitVec {
-            blocks,
-            summary,
-            len,
-        })
+        Ok(BitVec { blocks, len })
     }
 
     /// A bit vector of the same list. Copies each block once. Fails only where memory is refused, and
@@ -122,10 +115,8 @@ impl<B: BitBlock> BitVec<B> {
         ensures empty { length self.now.values ≡ 0 → IsOk result }
     {
         let blocks = copy_of(alloc, &self.blocks)?;
-        let summary = copy_of(alloc, &self.summary)?;
         Ok(BitVec {
             blocks,
-            summary,
             len: self.len,
         })
     }

@@ -5,8 +5,7 @@ ghost use Rattle.bit_words.specs.Bits.{blocks_for, room_of, whole_blocks, IsWith
 use super::BitVec;
 use crate::bit_vec::BitBlock;
 use crate::bit_vec::changes::block_count;
-use crate::bit_vec::room::{make_exact_shared_room, make_shared_room, used_by_summary};
-use crate::bit_vec::summary::cut_summary;
+use crate::bit_vec::room::{make_exact_room, make_room, used_blocks};
 use crate::bit_vec::tidy::keep_blocks;
 use std::alloc::AllocError;
 
@@ -24,8 +23,7 @@ impl<B: BitBlock> BitVec<B> {
         ensures within { length self.old.values + n ≤ self.old.room → self.new.room ≡ self.old.room }
         ensures room { self.old.room ≤ self.new.room }
     {
-        let count = block_count::<B>(self.len + n);
-        make_shared_room(&mut self.blocks, &mut self.summary, count, false)
+        make_room(&mut self.blocks, block_count::<B>(self.len + n))
     }
 
     /// Makes room for `n` values more than there are; so many must fit a `usize`. Where the room was
@@ -42,8 +40,7 @@ impl<B: BitBlock> BitVec<B> {
         ensures exact { OnOk result (self.new.room ≡ max self.old.room (room_of B.width (blocks_for B.width (length self.old.values + n)))) }
         ensures room { self.old.room ≤ self.new.room }
     {
-        let count = block_count::<B>(self.len + n);
-        make_exact_shared_room(&mut self.blocks, &mut self.summary, count)
+        make_exact_room(&mut self.blocks, block_count::<B>(self.len + n))
     }
 
     /// Gives back the room that the blocks of the list do not take; may move them. Fails where room is
@@ -56,10 +53,7 @@ impl<B: BitBlock> BitVec<B> {
         ensures empty { length self.old.values ≡ 0 → IsOk result }
     {
         self.blocks.shrink_to_fit();
-        self.summary.shrink_to_fit();
-        if self.blocks.capacity() > self.blocks.len()
-            || self.summary.capacity() > self.summary.len()
-        {
+        if self.blocks.capacity() > self.blocks.len() {
             return Err(AllocError);
         }
         Ok(())
@@ -73,13 +67,11 @@ impl<B: BitBlock> BitVec<B> {
         ensures len { length self.new.values ≡ whole_blocks B.width self.old.values }
         ensures room { self.new.room ≡ self.old.room }
     {
-        let count = used_by_summary(&self.blocks, &self.summary);
+        let count = used_blocks(&self.blocks);
         let Some(len) = count.checked_mul(B::bits()) else {
             return;
         };
-        let old = self.blocks.len();
         keep_blocks(&mut self.blocks, count);
-        cut_summary(&mut self.summary, &self.blocks, old);
         self.len = len;
     }
 }
