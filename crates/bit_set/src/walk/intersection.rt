@@ -11,7 +11,7 @@ use crate::bit_vec::Merge;
 use crate::{BitBlock, BitSet};
 use std::marker::Model;
 
-/// What is in both of two sets, in ascending order, each once. Looks at each block of both sets once.
+/// What is in both of two sets, in ascending order, each once. Pulls each block of both sets once.
 /// It keeps a bound on the elements that are left.
 #[derive(Drop)]
 pub struct Intersection<'a, B: BitBlock> {
@@ -57,7 +57,7 @@ impl<'a, B: BitBlock> Iterator for Intersection<'a, B> {
 
     ghost remaining = { item_count (λ it. it.walk.left) };
 
-    /// The least element that is left, and from the end on `None` for good. Reads each block that it
+    /// The least element that is left, and from the end on `None` for good. Pulls each block that it
     /// passes, of both sets, once; constant time within a block.
     #[inline]
     fn next(&mut self) -> Option<usize> {

@@ -11,7 +11,7 @@ use crate::bit_vec::Merge;
 use crate::{BitBlock, BitSet};
 use std::marker::Model;
 
-/// What is in either of two sets, in ascending order, each once. Looks at each block of both sets once.
+/// What is in either of two sets, in ascending order, each once. Pulls each block of both sets once.
 #[derive(Drop)]
 pub struct Union<'a, B: BitBlock> {
     ones: Ones<Pairs<'a, B>, B>,
@@ -51,7 +51,7 @@ impl<'a, B: BitBlock> Iterator for Union<'a, B> {
 
     ghost remaining = { item_count (λ walk. walk.left) };
 
-    /// The least element that is left, and from the end on `None` for good. Reads each block that it
+    /// The least element that is left, and from the end on `None` for good. Pulls each block that it
     /// passes, of both sets, once; constant time within a block.
     #[inline]
     fn next(&mut self) -> Option<usize> {
@@ -70,7 +70,7 @@ impl<'a, B: BitBlock> Iterator for Union<'a, B> {
     }
 }
 
-/// What is in the first of two sets alone, in ascending order, each once. Looks at each block of both sets once.
+/// What is in the first of two sets alone, in ascending order, each once. Pulls each block of both sets once.
 #[derive(Drop)]
 pub struct Difference<'a, B: BitBlock> {
     ones: Ones<Pairs<'a, B>, B>,
@@ -110,7 +110,7 @@ impl<'a, B: BitBlock> Iterator for Difference<'a, B> {
 
     ghost remaining = { item_count (λ walk. walk.left) };
 
-    /// The least element that is left, and from the end on `None` for good. Reads each block that it
+    /// The least element that is left, and from the end on `None` for good. Pulls each block that it
     /// passes, of both sets, once; constant time within a block.
     #[inline]
     fn next(&mut self) -> Option<usize> {
@@ -129,7 +129,7 @@ impl<'a, B: BitBlock> Iterator for Difference<'a, B> {
     }
 }
 
-/// What is in just one of two sets, in ascending order, each once. Looks at each block of both sets once.
+/// What is in just one of two sets, in ascending order, each once. Pulls each block of both sets once.
 #[derive(Drop)]
 pub struct SymmetricDifference<'a, B: BitBlock> {
     ones: Ones<Pairs<'a, B>, B>,
@@ -169,7 +169,7 @@ impl<'a, B: BitBlock> Iterator for SymmetricDifference<'a, B> {
 
     ghost remaining = { item_count (λ walk. walk.left) };
 
-    /// The least element that is left, and from the end on `None` for good. Reads each block that it
+    /// The least element that is left, and from the end on `None` for good. Pulls each block that it
     /// passes, of both sets, once; constant time within a block.
     #[inline]
     fn next(&mut self) -> Option<usize> {
