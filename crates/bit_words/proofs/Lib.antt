@@ -12,3 +12,4 @@ pub mod SourceLemmas
 pub mod MergeLemmas
 pub mod CompareLemmas
 pub mod RoomLemmas
+pub mod SummaryLemmas

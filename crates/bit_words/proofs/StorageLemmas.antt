@@ -57,7 +57,7 @@ values_of-same w ms n bs e h =
 
 -- ---- the blocks are those of the list
 
-digit_of-is_one : (d : ℕ) → d < 2 → digit_of (d == 1) ≡ d
+pub digit_of-is_one : (d : ℕ) → d < 2 → digit_of (d == 1) ≡ d
 digit_of-is_one zero h = refl
 digit_of-is_one (suc zero) h = refl
 digit_of-is_one (suc (suc d)) h = absurd (omega arith)

@@ -6,3 +6,4 @@ pub mod Steps
 pub mod Lowest
 pub mod Source
 pub mod Merges
+pub mod Summary

@@ -12,6 +12,7 @@ mod merge;
 mod merging;
 mod room;
 mod steps;
+mod summary;
 mod tidy;
 mod vector;
 mod words;

@@ -22,19 +22,22 @@ pub use making::BitsError;
 #[derive(Drop)]
 pub struct BitVec<B: BitBlock = u32> {
     blocks: Vec<B>,
+    // Which of the blocks are not 0.
+    summary: Vec<B>,
     len: usize,
 }
 
 impl<B: BitBlock> Model for BitVec<B> {
     ghost use Rattle.std.specs.Prelude.{map, vec_capacity};
     ghost use Rattle.bit_words.specs.Bits.{Bits, room_of};
-    ghost use Rattle.bit_words.specs.Storage.{values_of, IsTidy};
+    ghost use Rattle.bit_words.specs.Storage.{values_of};
+    ghost use Rattle.bit_words.specs.Summary.{shared_room, IsStored};
 
     ghost Value = { Bits };
 
-    ghost view = { λ v. record { values = values_of B.width (map B.number v.blocks.items) v.len; room = room_of B.width (vec_capacity v.blocks) } };
+    ghost view = { λ v. record { values = values_of B.width (map B.number v.blocks.items) v.len; room = room_of B.width (shared_room B.width (vec_capacity v.blocks) (vec_capacity v.summary)) } };
 
-    ghost invariant = { λ v. IsTidy B.width B.number B.is_block v.blocks.items v.len };
+    ghost invariant = { λ v. IsStored B.width B.number B.is_block v.blocks.items v.summary.items v.len };
 }
 
 impl<B: BitBlock> BitVec<B> {
@@ -73,7 +76,9 @@ impl<B: BitBlock> BitVec<B> {
         ensures fits { IsWithinRoom self.now }
         ensures whole { IsRoomOfBlocks B.width self.now }
     {
-        self.blocks.capacity().saturating_mul(B::bits())
+        let summarized = self.summary.capacity().saturating_mul(B::bits());
+        let count = self.blocks.capacity().min(summarized);
+        count.saturating_mul(B::bits())
     }
 
     /// The blocks in which the list is kept. Constant time.

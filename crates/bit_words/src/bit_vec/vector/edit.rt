@@ -3,9 +3,10 @@ ghost use Rattle.std.specs.Prelude.{◌≡◌, ◌+◌, ◌<◌, ◌≤◌, [], 
 
 use super::BitVec;
 use crate::bit_vec::BitBlock;
-use crate::bit_vec::changes::{block_count, replace_value};
+use crate::bit_vec::changes::{block_at, block_count, block_index, replace_value};
 use crate::bit_vec::copying::take_over;
-use crate::bit_vec::room::make_room;
+use crate::bit_vec::room::make_shared_room;
+use crate::bit_vec::summary::{append_to_summary, cut_summary, note_change};
 use crate::bit_vec::tidy::{append_values, fill_values, keep_values};
 use std::alloc::AllocError;
 
@@ -21,7 +22,8 @@ impl<B: BitBlock> BitVec<B> {
     }
 
     /// Makes the value at `i` be `bit`, where `i` is below [`len`](Self::len), and answers what it was.
-    /// Constant time: one read and one write of one block.
+    /// Constant time: one read and one write of one block, and of one of the summary where the block
+    /// becomes 0 or stops being it.
     #[inline]
     pub fn replace(&mut self, i: usize, bit: bool) -> bool
         requires { i < length self.old.values }
@@ -29,7 +31,12 @@ impl<B: BitBlock> BitVec<B> {
         ensures values { self.new.values ≡ slice_set self.old.values i bit }
         ensures room { self.new.room ≡ self.old.room }
     {
-        replace_value(&mut self.blocks, i, bit)
+        let k = block_index::<B>(i);
+        let before = block_at(&self.blocks, k);
+        let was = replace_value(&mut self.blocks, i, bit);
+        let after = block_at(&self.blocks, k);
+        note_change(&mut self.summary, k, before, after);
+        was
     }
 
     /// Makes every value be `bit`. Writes each block once.
@@ -38,6 +45,7 @@ impl<B: BitBlock> BitVec<B> {
         ensures room { self.new.room ≡ self.old.room }
     {
         fill_values(&mut self.blocks, self.len, bit);
+        fill_values(&mut self.summary, self.blocks.len(), bit);
     }
 
     /// Keeps the first `n` values; nothing where there are no more. Writes one block at most.
@@ -48,7 +56,9 @@ impl<B: BitBlock> BitVec<B> {
         if n >= self.len {
             return;
         }
+        let count = self.blocks.len();
         keep_values(&mut self.blocks, self.len, n);
+        cut_summary(&mut self.summary, &self.blocks, count);
         self.len = n;
     }
 
@@ -59,6 +69,7 @@ impl<B: BitBlock> BitVec<B> {
         ensures room { self.new.room ≡ self.old.room }
     {
         self.blocks.clear();
+        self.summary.clear();
         self.len = 0;
     }
 
@@ -97,8 +108,11 @@ impl<B: BitBlock> BitVec<B> {
         ensures room { self.old.room ≤ self.new.room }
     {
         let len = self.len + n;
-        make_room(&mut self.blocks, block_count::<B>(len))?;
+        let count = block_count::<B>(len);
+        make_shared_room(&mut self.blocks, &mut self.summary, count, false)?;
+        let old = self.blocks.len();
         append_values(&mut self.blocks, self.len, len, bit);
+        append_to_summary(&mut self.summary, &self.blocks, old, bit);
         self.len = len;
         Ok(())
     }
@@ -114,7 +128,12 @@ impl<B: BitBlock> BitVec<B> {
         ensures within { length other.now.values ≤ self.old.room → self.new.room ≡ self.old.room }
         ensures room { self.old.room ≤ self.new.room }
     {
-        take_over(&mut self.blocks, &other.blocks)?;
+        take_over(
+            &mut self.blocks,
+            &mut self.summary,
+            &other.blocks,
+            &other.summary,
+        )?;
         self.len = other.len;
         Ok(())
     }

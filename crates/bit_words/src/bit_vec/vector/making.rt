@@ -7,6 +7,7 @@ use super::BitVec;
 use crate::bit_vec::BitBlock;
 use crate::bit_vec::bytes::blocks_of_bytes;
 use crate::bit_vec::copying::copy_of;
+use crate::bit_vec::summary::summary_of;
 use std::alloc::{AllocError, Global};
 use thiserror::Error;
 
@@ -72,6 +73,7 @@ impl<B: BitBlock> BitVec<B> {
     {
         BitVec {
             blocks: Vec::new(alloc),
+            summary: Vec::new(alloc),
             len: 0,
         }
     }
@@ -105,7 +107,12 @@ impl<B: BitBlock> BitVec<B> {
             return Err(BitsError::Length);
         };
         let blocks = blocks_of_bytes(alloc, bytes)?;
-        Ok(BitVec { blocks, len })
+        let summary = summary_of(alloc, &blocks)?;
+        Ok(BitVec {
+            blocks,
+            summary,
+            len,
+        })
     }
 
     /// A bit vector of the same list. Copies each block once. Fails only where memory is refused, and
@@ -115,8 +122,10 @@ impl<B: BitBlock> BitVec<B> {
         ensures empty { length self.now.values ≡ 0 → IsOk result }
     {
         let blocks = copy_of(alloc, &self.blocks)?;
+        let summary = copy_of(alloc, &self.summary)?;
         Ok(BitVec {
             blocks,
+            summary,
             len: self.len,
         })
     }

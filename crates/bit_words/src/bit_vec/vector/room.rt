@@ -5,7 +5,8 @@ ghost use Rattle.bit_words.specs.Bits.{blocks_for, room_of, whole_blocks, IsWith
 use super::BitVec;
 use crate::bit_vec::BitBlock;
 use crate::bit_vec::changes::block_count;
-use crate::bit_vec::room::{make_exact_room, make_room, used_blocks};
+use crate::bit_vec::room::{make_exact_shared_room, make_shared_room, used_blocks};
+use crate::bit_vec::summary::cut_summary;
 use crate::bit_vec::tidy::keep_blocks;
 use std::alloc::AllocError;
 
@@ -23,7 +24,8 @@ impl<B: BitBlock> BitVec<B> {
         ensures within { length self.old.values + n ≤ self.old.room → self.new.room ≡ self.old.room }
         ensures room { self.old.room ≤ self.new.room }
     {
-        make_room(&mut self.blocks, block_count::<B>(self.len + n))
+        let count = block_count::<B>(self.len + n);
+        make_shared_room(&mut self.blocks, &mut self.summary, count, false)
     }
 
     /// Makes room for `n` values more than there are; so many must fit a `usize`. Where the room was
@@ -40,7 +42,8 @@ impl<B: BitBlock> BitVec<B> {
         ensures exact { OnOk result (self.new.room ≡ max self.old.room (room_of B.width (blocks_for B.width (length self.old.values + n)))) }
         ensures room { self.old.room ≤ self.new.room }
     {
-        make_exact_room(&mut self.blocks, block_count::<B>(self.len + n))
+        let count = block_count::<B>(self.len + n);
+        make_exact_shared_room(&mut self.blocks, &mut self.summary, count)
     }
 
     /// Gives back the room that the blocks of the list do not take; may move them. Fails where room is
@@ -53,7 +56,10 @@ impl<B: BitBlock> BitVec<B> {
         ensures empty { length self.old.values ≡ 0 → IsOk result }
     {
         self.blocks.shrink_to_fit();
-        if self.blocks.capacity() > self.blocks.len() {
+        self.summary.shrink_to_fit();
+        if self.blocks.capacity() > self.blocks.len()
+            || self.summary.capacity() > self.summary.len()
+        {
             return Err(AllocError);
         }
         Ok(())
@@ -71,7 +77,9 @@ impl<B: BitBlock> BitVec<B> {
         let Some(len) = count.checked_mul(B::bits()) else {
             return;
         };
+        let old = self.blocks.len();
         keep_blocks(&mut self.blocks, count);
+        cut_summary(&mut self.summary, &self.blocks, old);
         self.len = len;
     }
 }

@@ -1,10 +1,11 @@
 use Rattle.std.proofs.Common.{arith}
+use Rattle.bit_words.proofs.SummaryLemmas.{stored_within}
 use Rattle.bit_words.proofs.VectorLemmas.{is_within_room, is_room_of_blocks}
 use Rattle.bit_words.proofs.bit_vec.vector.BitVec.capacity.Goals as goal
 
 pub returns-clause-fits : goal.returns-clause-fits
 returns-clause-fits g c =
-    is_within_room _ _ _ _ _ _ _ g.met.B.BitBlock.width_law.positive c.self.invariant (omega arith) c.self.view_is
+    is_within_room _ _ _ _ _ _ _ g.met.B.BitBlock.width_law.positive c.self.invariant.tidy (stored_within _ _ _ _ _ _ _ _ g.met.B.BitBlock.width_law.positive c.self.invariant (omega arith) (omega arith)) c.self.view_is
 
 pub returns-clause-whole : goal.returns-clause-whole
-returns-clause-whole g c = is_room_of_blocks _ _ _ _ _ _ _ c.self.invariant (omega arith) c.self.view_is
+returns-clause-whole g c = is_room_of_blocks _ _ _ _ _ _ _ c.self.invariant.tidy (stored_within _ _ _ _ _ _ _ _ g.met.B.BitBlock.width_law.positive c.self.invariant (omega arith) (omega arith)) c.self.view_is

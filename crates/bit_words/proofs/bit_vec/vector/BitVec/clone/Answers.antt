@@ -1,4 +1,4 @@
-use Rattle.std.proofs.Common.{◌≡◌, sym, ap, arith}
+use Rattle.std.proofs.Common.{◌≡◌, ◌∙◌, length, sym, ap, arith}
 use Rattle.std.proofs.lemmas.Bool.{true≢false}
 use Rattle.bit_words.specs.Bits.{blocks_for}
 use Rattle.bit_words.proofs.VectorLemmas.{length_from_view, blocks_for-none}
@@ -10,3 +10,12 @@ returns-in_err-blocks-clause-empty g c = λ none.
     let blocks = ap (blocks_for g.B.BitBlock.width) len in
     let zero = blocks_for-none g.B.BitBlock.width g.met.B.BitBlock.width_law.positive in
     absurd (true≢false (sym (c.in_err-blocks.ensures.empty (omega arith))))
+
+pub returns-in_err-summary-clause-empty : goal.returns-in_err-summary-clause-empty
+returns-in_err-summary-clause-empty g c = λ none.
+    let w = g.B.BitBlock.width in
+    let len : c.self.inside.len ≡ 0 = rw (length_from_view _ _ _ _ _ c.self.view_is) at none in
+    let zero = blocks_for-none w g.met.B.BitBlock.width_law.positive in
+    let blocks : length c.self.inside.blocks.items ≡ 0 = c.self.invariant.tidy.count ∙ ap (blocks_for w) len ∙ sym zero in
+    let sums : length c.self.inside.summary.items ≡ 0 = c.self.invariant.summary.tidy.count ∙ ap (blocks_for w) blocks ∙ sym zero in
+    absurd (true≢false (sym (c.in_err-summary.ensures.empty (omega arith))))

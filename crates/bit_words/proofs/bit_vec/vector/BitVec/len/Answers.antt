@@ -1,4 +1,5 @@
 use Rattle.std.proofs.Common.{sym, arith}
+use Rattle.bit_words.proofs.SummaryLemmas.{stored_within}
 use Rattle.bit_words.proofs.VectorLemmas.{length_from_view, is_within_room}
 use Rattle.bit_words.proofs.bit_vec.vector.BitVec.len.Goals as goal
 
@@ -7,4 +8,4 @@ returns-clause-value g c = sym (length_from_view _ _ _ _ _ c.self.view_is)
 
 pub returns-clause-fits : goal.returns-clause-fits
 returns-clause-fits g c =
-    is_within_room _ _ _ _ _ _ _ g.met.B.BitBlock.width_law.positive c.self.invariant (omega arith) c.self.view_is
+    is_within_room _ _ _ _ _ _ _ g.met.B.BitBlock.width_law.positive c.self.invariant.tidy (stored_within _ _ _ _ _ _ _ _ g.met.B.BitBlock.width_law.positive c.self.invariant (omega arith) (omega arith)) c.self.view_is

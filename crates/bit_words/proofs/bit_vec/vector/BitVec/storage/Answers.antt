@@ -2,6 +2,7 @@ use Rattle.std.proofs.Common.{◌≡◌, map, length, arith}
 use Rattle.std.proofs.lemmas.List.{length-map}
 use Rattle.bit_words.specs.Bits.{blocks_for}
 use Rattle.bit_words.proofs.StorageLemmas.{blocks-values_of}
+use Rattle.bit_words.proofs.SummaryLemmas.{stored_within}
 use Rattle.bit_words.proofs.VectorLemmas.{numbers_below, is_within_room}
 use Rattle.bit_words.proofs.bit_vec.vector.BitVec.storage.Goals as goal
 
@@ -10,10 +11,10 @@ returns-clause-numbers g c =
     let w = g.B.BitBlock.width in
     let f = g.B.BitBlock.number in
     let xs = c.self.inside.blocks.items in
-    let count : length (map f xs) ≡ blocks_for w c.self.inside.len = rw length-map c.self.invariant.count in
-    let below = numbers_below w f g.B.BitBlock.is_block xs (λ x is. (g.met.B.BitBlock.number_law x is).0) c.self.invariant.each in
-    rw (c.deref.ensures.value, ← c.self.view_is) (blocks-values_of w (map f xs) c.self.inside.len g.met.B.BitBlock.width_law.positive count below c.self.invariant.tail)
+    let count : length (map f xs) ≡ blocks_for w c.self.inside.len = rw length-map c.self.invariant.tidy.count in
+    let below = numbers_below w f g.B.BitBlock.is_block xs (λ x is. (g.met.B.BitBlock.number_law x is).0) c.self.invariant.tidy.each in
+    rw (c.deref.ensures.value, ← c.self.view_is) (blocks-values_of w (map f xs) c.self.inside.len g.met.B.BitBlock.width_law.positive count below c.self.invariant.tidy.tail)
 
 pub returns-clause-fits : goal.returns-clause-fits
 returns-clause-fits g c =
-    is_within_room _ _ _ _ _ _ _ g.met.B.BitBlock.width_law.positive c.self.invariant (omega arith) c.self.view_is
+    is_within_room _ _ _ _ _ _ _ g.met.B.BitBlock.width_law.positive c.self.invariant.tidy (stored_within _ _ _ _ _ _ _ _ g.met.B.BitBlock.width_law.positive c.self.invariant (omega arith) (omega arith)) c.self.view_is

@@ -1,0 +1,255 @@
+-- What the summary says of the blocks, and how it follows their changes.
+use Rattle.std.proofs.Common.{◌≡◌, ◌≢◌, ℕ, ◌+◌, ◌-◌, ◌*◌, ◌/◌, ◌%◌, ◌^◌, ◌<◌, ◌≤◌, Bool, true, false, not, ◌&&◌, ◌||◌, ◌==◌, nat_lt, List, [], map, length, get_or, set, All, refl, sym, ap, ap₂, subst, ◌∙◌, arith, ⊎_elim, mod-lt, div-add-mod', get_or-set_same, get_or-set_other, mul-le-mul_right}
+use Rattle.std.proofs.Math.Bool.{or-false}
+use Rattle.std.proofs.lemmas.Bool.{cases_lt, cases_eq, true≢false, false≢true}
+use Rattle.std.proofs.lemmas.Bool.Decides.{nat_tests}
+use Rattle.std.proofs.lemmas.List.{get_or_past, length-map}
+use Rattle.std.proofs.lemmas.Nat.{div-mul-add}
+use Rattle.std.proofs.lemmas.Nat.Bits.{bit_at-lt, same_from_bits_below}
+use Rattle.bit_words.specs.Bits.{blocks_for, digit_of}
+use Rattle.bit_words.specs.Digits.{IsEither, IsShiftedLeft}
+use Rattle.bit_words.specs.Storage.{is_one, value_at, IsTidy}
+use Rattle.bit_words.specs.Summary.{is_used, shared_room, IsSummary, IsStored}
+use Rattle.bit_words.proofs.BitsLemmas.{blocks_for-below, blocks_for-enough, blocks_for-least}
+use Rattle.bit_words.proofs.CompareLemmas.{zero_from_digits, digit_from_zero}
+use Rattle.bit_words.proofs.Masks.{is_one-either}
+use Rattle.bit_words.proofs.RoomLemmas.{shared_enough}
+use Rattle.bit_words.proofs.StorageLemmas.{digit_of-is_one, value_at-is, value_at-past, value_at-place}
+use Rattle.bit_words.proofs.VectorLemmas.{numbers_below, tidy_nil}
+
+-- ---- whether a block is 0
+
+used_from_zero : (n : ℕ) → n ≡ 0 → not (n == 0) ≡ false
+used_from_zero n z = ap (λ m. not (m == 0)) z
+
+zero_from_unused : (n : ℕ) → not (n == 0) ≡ false → n ≡ 0
+zero_from_unused n h = grind (arith, nat_tests)
+
+-- past the blocks none is
+pub used_past : (ms : List ℕ) (k : ℕ) → length ms ≤ k → is_used ms k ≡ false
+used_past ms k past = used_from_zero _ (get_or_past ms k 0 past)
+
+-- a block with a 1 is not 0
+pub used_from_true : (w : ℕ) (ms : List ℕ) (k j : ℕ) → j < w → value_at w ms (k * w + j) ≡ true → is_used ms k ≡ true
+used_from_true w ms k j place one = used_or_not (is_used ms k) refl
+  where
+    used_or_not : (b : Bool) → is_used ms k ≡ b → b ≡ true
+    used_or_not true e = refl
+    used_or_not false e = absurd (false≢true (sym (digit_from_zero _ j (zero_from_unused _ e)) ∙ sym (value_at-place w ms k j place) ∙ one))
+
+-- one with no 1 is
+pub unused_from_false : (w : ℕ) (ms : List ℕ) (k : ℕ) → get_or ms k 0 < 2 ^ w → ((j : ℕ) → j < w → value_at w ms (k * w + j) ≡ false) → is_used ms k ≡ false
+unused_from_false w ms k small falses =
+    used_from_zero _ (zero_from_digits w _ small (λ j place. sym (value_at-place w ms k j place) ∙ falses j place))
+
+-- and a block that is 0 has none
+pub false_from_unused : (w : ℕ) (ms : List ℕ) (k j : ℕ) → j < w → is_used ms k ≡ false → value_at w ms (k * w + j) ≡ false
+false_from_unused w ms k j place none = value_at-place w ms k j place ∙ digit_from_zero _ j (zero_from_unused _ none)
+
+same_digit : (m n j : ℕ) → is_one m j ≡ is_one n j → m / 2 ^ j % 2 ≡ n / 2 ^ j % 2
+same_digit m n j e = sym (digit_of-is_one _ (bit_at-lt m j)) ∙ ap digit_of e ∙ digit_of-is_one _ (bit_at-lt n j)
+
+-- blocks of the same values are the same
+pub same_block : (w : ℕ) (ms ns : List ℕ) (k : ℕ) → get_or ms k 0 < 2 ^ w → get_or ns k 0 < 2 ^ w → ((j : ℕ) → j < w → value_at w ms (k * w + j) ≡ value_at w ns (k * w + j)) → get_or ms k 0 ≡ get_or ns k 0
+same_block w ms ns k small also same =
+    same_from_bits_below w _ _ small also (λ j place. same_digit _ _ j (sym (value_at-place w ms k j place) ∙ same j place ∙ value_at-place w ns k j place))
+
+pub same_use : (w : ℕ) (ms ns : List ℕ) (k : ℕ) → get_or ms k 0 < 2 ^ w → get_or ns k 0 < 2 ^ w → ((j : ℕ) → j < w → value_at w ms (k * w + j) ≡ value_at w ns (k * w + j)) → is_used ms k ≡ is_used ns k
+same_use w ms ns k small also same = ap (λ m. not (m == 0)) (same_block w ms ns k small also same)
+
+-- a union is 0 where both are
+or_false_left : (a b : Bool) → (a || b) ≡ false → a ≡ false
+or_false_left true b e = e
+or_false_left false b e = refl
+
+or_false_right : (a b : Bool) → (a || b) ≡ false → b ≡ false
+or_false_right true b e = absurd (true≢false e)
+or_false_right false b e = e
+
+pub used_union : (w : ℕ) (ms os ns : List ℕ) (k : ℕ) → get_or ms k 0 < 2 ^ w → get_or os k 0 < 2 ^ w → get_or ns k 0 < 2 ^ w → ((i : ℕ) → value_at w ns i ≡ (value_at w ms i || value_at w os i)) → is_used ns k ≡ (is_used ms k || is_used os k)
+used_union w ms os ns k small also merged each = union (is_used ns k) (is_used ms k) (is_used os k) refl refl refl
+  where
+    union : (c a b : Bool) → is_used ns k ≡ c → is_used ms k ≡ a → is_used os k ≡ b → c ≡ (a || b)
+    union false a b none e f =
+        let falses : (j : ℕ) → j < w → (value_at w ms (k * w + j) || value_at w os (k * w + j)) ≡ false = λ j place. sym (each (k * w + j)) ∙ false_from_unused w ns k j place none in
+        let first = unused_from_false w ms k small (λ j place. or_false_left _ _ (falses j place)) in
+        let second = unused_from_false w os k also (λ j place. or_false_right _ _ (falses j place)) in
+        sym (ap₂ (λ x y. x || y) (sym e ∙ first) (sym f ∙ second))
+    union true true b some e f = refl
+    union true false true some e f = refl
+    union true false false some e f =
+        let none = unused_from_false w ns k merged (λ j place. each (k * w + j) ∙ ap₂ (λ x y. x || y) (false_from_unused w ms k j place e) (false_from_unused w os k j place f)) in
+        absurd (true≢false (sym some ∙ none))
+
+-- ---- a summary from its digits
+
+-- it is enough to look where there are blocks
+pub is_summary : {X : Type 0} (w : ℕ) (f : X → ℕ) (P : X → Type 0) (xs sums : List X) → IsTidy w f P sums (length xs) → ((k : ℕ) → k < length xs → value_at w (map f sums) k ≡ is_used (map f xs) k) → IsSummary w f P xs sums
+is_summary w f P xs sums tidy each = record {
+  tidy = tidy;
+  digit = λ k. ⊎_elim
+      (λ within. each k within)
+      (λ past. tidy.tail.clean k past ∙ sym (used_past (map f xs) k (rw length-map past)))
+      (cases_lt k (length xs));
+}
+
+-- all digits at once
+pub summary_of_digits : {X : Type 0} (w : ℕ) (f : X → ℕ) (P : X → Type 0) (xs sums : List X) → All P sums → length sums ≡ blocks_for w (length xs) → length xs < 2 ^ 64 → ((k : ℕ) → value_at w (map f sums) k ≡ is_used (map f xs) k) → IsSummary w f P xs sums
+summary_of_digits w f P xs sums each count fits digits = record {
+  tidy = record {
+    each = each;
+    count = count;
+    tail = record { clean = λ i past. digits i ∙ used_past (map f xs) i (rw length-map past) };
+    fits = fits;
+  };
+  digit = digits;
+}
+
+-- where all were right but one, and that one is written
+pub summary_noted : {X : Type 0} (w : ℕ) (f : X → ℕ) (P : X → Type 0) (xs sums noted : List X) (p : ℕ) → p < length xs → IsTidy w f P sums (length xs) → ((k : ℕ) → k < length xs → k ≢ p → value_at w (map f sums) k ≡ is_used (map f xs) k) → value_at w (map f noted) p ≡ is_used (map f xs) p → ((j : ℕ) → j ≢ p → value_at w (map f noted) j ≡ value_at w (map f sums) j) → All P noted → length noted ≡ length sums → IsSummary w f P xs noted
+summary_noted w f P xs sums noted p inside tidy right same others each len =
+    is_summary w f P xs noted
+    (record {
+      each = each;
+      count = len ∙ tidy.count;
+      tail = record { clean = λ i past. others i (λ e. omega arith) ∙ tidy.tail.clean i past };
+      fits = tidy.fits;
+    })
+    (λ k within.
+    ⊎_elim
+    (λ here. ap (value_at w (map f noted)) here ∙ same ∙ sym (ap (is_used (map f xs)) here))
+    (λ there. others k there ∙ right k within there)
+    (cases_eq k p))
+
+-- ---- made anew
+
+pub digit_added : (w k m n : ℕ) (used : ℕ → Bool) → ((q : ℕ) → q < w → is_one m q ≡ (nat_lt q k && used q)) → is_one n k ≡ used k → ((q : ℕ) → q < w → q ≢ k → is_one n q ≡ is_one m q) → (q : ℕ) → q < w → is_one n q ≡ (nat_lt q (k + 1) && used q)
+digit_added w k m n used before here others q within =
+    ⊎_elim
+    (λ e.
+    let reached : nat_lt q (k + 1) ≡ true = grind (arith, nat_tests) in
+    ap (is_one n) e ∙ here ∙ sym (ap used e) ∙ sym (ap (λ t. t && used q) reached))
+    (λ ne.
+    let same : nat_lt q k ≡ nat_lt q (k + 1) = grind (arith, nat_tests) in
+    others q within ne ∙ before q within ∙ ap (λ t. t && used q) same)
+    (cases_eq q k)
+
+-- a group of digits moved to its place
+pub group_added : (w k c start from m p s r : ℕ) (ms : List ℕ) → from ≡ start + k → ((j : ℕ) → j < w → is_one m j ≡ (nat_lt j k && is_used ms (start + j))) → ((j : ℕ) → j < w → is_one p j ≡ (nat_lt j c && is_used ms (from + j))) → IsShiftedLeft w p k s → IsEither w m s r → (j : ℕ) → j < w → is_one r j ≡ (nat_lt j (k + c) && is_used ms (start + j))
+group_added w k c start from m p s r ms e before group moved either j within =
+    is_one-either w m s r j either within
+    ∙ ⊎_elim
+    (λ low.
+    let first : nat_lt j k ≡ true = grind (arith, nat_tests) in
+    let both : nat_lt j (k + c) ≡ true = grind (arith, nat_tests) in
+    ap₂ (λ x y. x || y) (before j within ∙ ap (λ t. t && is_used ms (start + j)) first) (ap (λ d. d == 1) (moved.zeros j low))
+    ∙ or-false (is_used ms (start + j))
+    ∙ sym (ap (λ t. t && is_used ms (start + j)) both))
+    (λ high.
+    let past : nat_lt j k ≡ false = grind (arith, nat_tests) in
+    let back : j - k + k ≡ j = omega arith in
+    let same : nat_lt (j - k) c ≡ nat_lt j (k + c) = grind (arith, nat_tests) in
+    let place : from + (j - k) ≡ start + j = omega arith in
+    let digit : is_one s j ≡ is_one p (j - k) = subst (λ x. is_one s x ≡ is_one p (j - k)) back (ap (λ d. d == 1) (moved.moved (j - k) (omega arith))) in
+    ap₂ (λ x y. x || y) (before j within ∙ ap (λ t. t && is_used ms (start + j)) past) (digit ∙ group (j - k) (omega arith) ∙ ap₂ (λ t x. t && is_used ms x) same place))
+    (cases_lt j k)
+
+-- past the blocks a digit is 0 by itself
+pub digit_of_use : (ms : List ℕ) (start count j : ℕ) → (count ≤ j → length ms ≤ start + j) → (nat_lt j count && is_used ms (start + j)) ≡ is_used ms (start + j)
+digit_of_use ms start count j past =
+    ⊎_elim
+    (λ below. let test : nat_lt j count ≡ true = grind (arith, nat_tests) in ap (λ t. t && is_used ms (start + j)) test)
+    (λ beyond. let test : nat_lt j count ≡ false = grind (arith, nat_tests) in ap (λ t. t && is_used ms (start + j)) test ∙ sym (used_past ms (start + j) (past beyond)))
+    (cases_lt j count)
+
+-- the digits of one more block of the summary
+pub summary_put : (w : ℕ) (ms ss ns : List ℕ) (k n : ℕ) → k < length ss → ns ≡ set ss k n → ((j : ℕ) → j < w → is_one n j ≡ is_used ms (k * w + j)) → ((q j : ℕ) → q < k → j < w → is_one (get_or ss q 0) j ≡ is_used ms (q * w + j)) → (q j : ℕ) → q < k + 1 → j < w → is_one (get_or ns q 0) j ≡ is_used ms (q * w + j)
+summary_put w ms ss ns k n within e digits before q j below place =
+    ⊎_elim
+    (λ here. ap (λ xs. is_one (get_or xs q 0) j) e ∙ ap (λ x. is_one (get_or (set ss k n) x 0) j) here ∙ ap (λ m. is_one m j) (get_or-set_same ss k n 0 within) ∙ digits j place ∙ ap (λ x. is_used ms (x * w + j)) (sym here))
+    (λ there. ap (λ xs. is_one (get_or xs q 0) j) e ∙ ap (λ m. is_one m j) (get_or-set_other ss k q n 0 there) ∙ before q j (omega arith) place)
+    (cases_eq q k)
+
+-- all of them
+pub digits_of_summary : (w : ℕ) (ms ss : List ℕ) → 0 < w → length ss ≡ blocks_for w (length ms) → ((q j : ℕ) → q < length ss → j < w → is_one (get_or ss q 0) j ≡ is_used ms (q * w + j)) → (k : ℕ) → value_at w ss k ≡ is_used ms k
+digits_of_summary w ms ss pos count each k =
+    ⊎_elim
+    (λ within. value_at-is w ss k ∙ each (k / w) (k % w) within (mod-lt k pos) ∙ ap (is_used ms) (div-add-mod' k w))
+    (λ past. value_at-past w ss k past ∙ sym (used_past ms k (blocks_for-below w (length ms) k pos (omega arith))))
+    (cases_lt (k / w) (length ss))
+
+-- ---- kept with the list
+
+pub stored_nil : {X : Type 0} (w : ℕ) (f : X → ℕ) (P : X → Type 0) (xs sums : List X) → 0 < w → xs ≡ [] → sums ≡ [] → IsStored w f P xs sums 0
+stored_nil w f P xs sums pos e s = record {
+  tidy = tidy_nil w f P xs pos e;
+  summary = record {
+    tidy = rw e (tidy_nil w f P sums pos s);
+    digit = λ k.
+        value_at-past w (map f sums) k (rw (length-map, ap length s) (omega arith))
+        ∙ sym (used_past (map f xs) k (rw (length-map, ap length e) (omega arith)));
+  };
+}
+
+-- there is room for the blocks that there are
+pub stored_within : {X : Type 0} (w n blocks sums : ℕ) (f : X → ℕ) (P : X → Type 0) (xs ss : List X) → 0 < w → IsStored w f P xs ss n → length xs ≤ blocks → length ss ≤ sums → length xs ≤ shared_room w blocks sums
+stored_within w n blocks sums f P xs ss pos stored first second =
+    shared_enough w blocks sums (length xs) pos first (let count = stored.summary.tidy.count in omega arith)
+
+-- a block before the last that values reach
+whole_before : (w n k : ℕ) → 0 < w → k < blocks_for w n → k * w < n
+whole_before w n k pos h =
+    ⊎_elim
+    (λ (below : k * w < n). below)
+    (λ (past : n ≤ k * w). let l = blocks_for-least w n k pos past in absurd (omega arith))
+    (cases_lt (k * w) n)
+
+in_block : (w k j : ℕ) → j < w → k * w + j < (k + 1) * w
+in_block w k j h = omega arith
+
+pub kept_use : (w n k : ℕ) (ms ns : List ℕ) → 0 < w → get_or ms k 0 < 2 ^ w → get_or ns k 0 < 2 ^ w → ((i : ℕ) → i < n → value_at w ns i ≡ value_at w ms i) → k + 1 < blocks_for w n → is_used ms k ≡ is_used ns k
+kept_use w n k ms ns pos small also kept before =
+    let whole = whole_before w n (k + 1) pos before in
+    same_use w ms ns k small also (λ j place. let inside = in_block w k j place in sym (kept (k * w + j) (omega arith)))
+
+-- a block whose values are all the same
+pub use_of_values : (w n k : ℕ) (ms : List ℕ) (bit : Bool) → 0 < w → get_or ms k 0 < 2 ^ w → k < blocks_for w n → ((i : ℕ) → k * w ≤ i → i < n → value_at w ms i ≡ bit) → ((i : ℕ) → n ≤ i → value_at w ms i ≡ false) → is_used ms k ≡ bit
+use_of_values w n k ms true pos small inside each clean =
+    let start = whole_before w n k pos inside in
+    used_from_true w ms k 0 pos (each (k * w + 0) (omega arith) (omega arith))
+use_of_values w n k ms false pos small inside each clean =
+    unused_from_false w ms k small (λ j place.
+    ⊎_elim
+    (λ within. each (k * w + j) (omega arith) within)
+    (λ past. clean (k * w + j) past)
+    (cases_lt (k * w + j) n))
+
+-- the new blocks of a longer list
+pub use_of_added : (w old n k : ℕ) (ms : List ℕ) (bit : Bool) → 0 < w → get_or ms k 0 < 2 ^ w → blocks_for w old ≤ k → k < blocks_for w n → ((i : ℕ) → old ≤ i → i < n → value_at w ms i ≡ bit) → ((i : ℕ) → n ≤ i → value_at w ms i ≡ false) → is_used ms k ≡ bit
+use_of_added w old n k ms bit pos small from inside added clean =
+    let enough = blocks_for-enough w old pos in
+    let more = mul-le-mul_right w from in
+    use_of_values w n k ms bit pos small inside (λ i reached within. added i (omega arith) within) clean
+
+pub filled_summary : {X : Type 0} (w n : ℕ) (f : X → ℕ) (P : X → Type 0) (xs sums : List X) (bit : Bool) → 0 < w → ((x : X) → P x → f x < 2 ^ w) → IsTidy w f P xs n → ((i : ℕ) → i < n → value_at w (map f xs) i ≡ bit) → IsTidy w f P sums (length xs) → ((k : ℕ) → k < length xs → value_at w (map f sums) k ≡ bit) → IsSummary w f P xs sums
+filled_summary w n f P xs sums bit pos below tidy filled sums_tidy sums_filled =
+    is_summary w f P xs sums sums_tidy (λ k within.
+    sums_filled k within
+    ∙ sym (use_of_values w n k (map f xs) bit pos (numbers_below w f P xs below tidy.each k) (let count = tidy.count in omega arith) (λ i from inside. filled i inside) tidy.tail.clean))
+
+-- one block written
+pub changed_summary : {X : Type 0} (w k : ℕ) (f : X → ℕ) (P : X → Type 0) (xs ys sums noted : List X) → 0 < w → ((x : X) → P x → f x < 2 ^ w) → All P xs → All P ys → length ys ≡ length xs → k < length xs → IsSummary w f P xs sums → ((i : ℕ) → i / w ≢ k → value_at w (map f ys) i ≡ value_at w (map f xs) i) → value_at w (map f noted) k ≡ is_used (map f ys) k → ((j : ℕ) → j ≢ k → value_at w (map f noted) j ≡ value_at w (map f sums) j) → All P noted → length noted ≡ length sums → IsSummary w f P ys noted
+changed_summary w k f P xs ys sums noted pos below each_x each_y len inside summary values same others each noted_len =
+    summary_noted w f P ys sums noted k (omega arith)
+    (rw len summary.tidy)
+    (λ q within other.
+    summary.digit q
+    ∙ same_use w (map f xs) (map f ys) q (numbers_below w f P xs below each_x q) (numbers_below w f P ys below each_y q) (λ j place.
+    let there : (q * w + j) / w ≢ k = λ e. other (sym (div-mul-add q w j place) ∙ e) in
+    sym (values (q * w + j) there)))
+    same others each noted_len
+
+pub union_use : {X : Type 0} (w k : ℕ) (f : X → ℕ) (P : X → Type 0) (xs os ys xsums osums : List X) → ((x : X) → P x → f x < 2 ^ w) → All P xs → All P os → All P ys → IsSummary w f P xs xsums → IsSummary w f P os osums → ((i : ℕ) → value_at w (map f ys) i ≡ (value_at w (map f xs) i || value_at w (map f os) i)) → is_used (map f ys) k ≡ (value_at w (map f xsums) k || value_at w (map f osums) k)
+union_use w k f P xs os ys xsums osums below each_x each_o each_y first second each =
+    used_union w (map f xs) (map f os) (map f ys) k (numbers_below w f P xs below each_x k) (numbers_below w f P os below each_o k) (numbers_below w f P ys below each_y k) each
+    ∙ sym (ap₂ (λ a b. a || b) (first.digit k) (second.digit k))

@@ -1,0 +1,12 @@
+use Rattle.std.proofs.Common.{◌≡◌, ℕ, ◌+◌, ◌*◌, ◌<◌, All, map, get_or, vec_len, vec_capacity}
+use Rattle.bit_words.specs.Storage.{is_one}
+use Rattle.bit_words.specs.Summary.{is_used}
+use Rattle.bit_words.proofs.bit_vec.summary.summarize.Given as goal
+
+abbrev pub invariant-loop-q : goal.invariant-loop-q
+invariant-loop-q g l = record {
+  done : (q j : ℕ) → q < l.q → j < g.B.BitBlock.width → is_one (get_or (map g.B.BitBlock.number l.sums.items) q 0) j ≡ is_used (map g.B.BitBlock.number l.blocks) (q * g.B.BitBlock.width + j);
+  each : All g.B.BitBlock.is_block l.sums.items;
+  len : vec_len l.sums ≡ vec_len l.fn.sums;
+  capacity : vec_capacity l.sums ≡ vec_capacity l.fn.sums;
+}

@@ -1,0 +1,207 @@
+// The summary of a vector of blocks: a list of truth values, one for each block, that tells which
+// are not 0. It is kept in blocks as well, and so changed by what changes those.
+ghost use Rattle.std.specs.Prelude.{◌≡◌, ◌≢◌, ℕ, ◌+◌, ◌*◌, ◌/◌, ◌^◌, ◌<◌, ◌≤◌, ◌==◌, ◌&&◌, ◌||◌, All, IfOk, IsOk, not, nat_lt, length, map, vec_len, vec_capacity};
+ghost use Rattle.bit_words.specs.Bits.{blocks_for};
+ghost use Rattle.bit_words.specs.Storage.{is_one, value_at, IsTidy};
+ghost use Rattle.bit_words.specs.Summary.{is_used, IsSummary};
+ghost use Rattle.bit_words.specs.declared.bit_vec.merge.Merge.{Merge};
+
+use super::changes::{block_at, block_count, put_block, replace_value};
+use super::copying::push_copies;
+use super::masks::with_digit;
+use super::merging::merge_values;
+use super::tidy::{append_values, keep_values};
+use super::words::{block_or, same, shift_left};
+use super::{BitBlock, Merge, Steps};
+use std::alloc::{AllocError, Global};
+
+// How many blocks are looked at at once.
+const GROUP: usize = 8;
+
+// Whether a block is not 0.
+#[inline]
+fn is_nonzero<B: BitBlock>(block: B) -> bool
+    requires { B.is_block block }
+    ensures { result ≡ not (B.number block == 0) }
+{
+    !same(block, B::zero())
+}
+
+// The summary learns of block `k`, whatever it said of it.
+#[inline]
+fn note_block<B: BitBlock>(sums: &mut Vec<B>, blocks: &[B], k: usize)
+    requires in_bounds { k < length blocks.now }
+    requires in_sums { k / B.width < vec_len sums.old }
+    requires each { All B.is_block sums.old.items }
+    requires blocks { All B.is_block blocks.now }
+    ensures same { value_at B.width (map B.number sums.new.items) k ≡ is_used (map B.number blocks.now) k }
+    ensures others { (j : ℕ) → j ≢ k → value_at B.width (map B.number sums.new.items) j ≡ value_at B.width (map B.number sums.old.items) j }
+    ensures each { All B.is_block sums.new.items }
+    ensures len { vec_len sums.new ≡ vec_len sums.old }
+    ensures capacity { vec_capacity sums.new ≡ vec_capacity sums.old }
+{
+    let _was = replace_value(sums, k, is_nonzero(block_at(blocks, k)));
+}
+
+// The summary learns that block `k` was `before` and is `after`. It is not touched where both or
+// neither are 0.
+#[inline]
+pub(crate) fn note_change<B: BitBlock>(sums: &mut Vec<B>, k: usize, before: B, after: B)
+    requires in_sums { k / B.width < vec_len sums.old }
+    requires each { All B.is_block sums.old.items }
+    requires of_before { B.is_block before }
+    requires of_after { B.is_block after }
+    requires was { value_at B.width (map B.number sums.old.items) k ≡ not (B.number before == 0) }
+    ensures same { value_at B.width (map B.number sums.new.items) k ≡ not (B.number after == 0) }
+    ensures others { (j : ℕ) → j ≢ k → value_at B.width (map B.number sums.new.items) j ≡ value_at B.width (map B.number sums.old.items) j }
+    ensures each { All B.is_block sums.new.items }
+    ensures len { vec_len sums.new ≡ vec_len sums.old }
+    ensures capacity { vec_capacity sums.new ≡ vec_capacity sums.old }
+{
+    let used = is_nonzero(after);
+    if is_nonzero(before) != used {
+        let _was = replace_value(sums, k, used);
+    }
+}
+
+// Which of the `count` blocks from `start` on are not 0, the first of them at the lowest digit.
+#[inline]
+fn used_digits<B: BitBlock>(blocks: &[B], start: usize, count: usize) -> B
+    requires in_bounds { start + count ≤ length blocks.now }
+    requires within { count ≤ B.width }
+    requires each { All B.is_block blocks.now }
+    ensures of_block { B.is_block result }
+    ensures digits { (j : ℕ) → j < B.width → is_one (B.number result) j ≡ (nat_lt j count && is_used (map B.number blocks.now) (start + j)) }
+{
+    let mut digits = B::zero();
+    for j in 0..count {
+        digits = with_digit(digits, j, is_nonzero(block_at(blocks, start + j)));
+    }
+    digits
+}
+
+// The same of the first groups of blocks from `start` on. The compiler makes vector code of a group,
+// whose count it knows.
+#[inline]
+fn digits_of_groups<B: BitBlock>(blocks: &[B], start: usize, groups: usize) -> B
+    requires in_bounds { start + groups * 8 ≤ length blocks.now }
+    requires within { groups * 8 ≤ B.width }
+    requires each { All B.is_block blocks.now }
+    ensures of_block { B.is_block result }
+    ensures digits { (j : ℕ) → j < B.width → is_one (B.number result) j ≡ (nat_lt j (groups * 8) && is_used (map B.number blocks.now) (start + j)) }
+{
+    let mut digits = B::zero();
+    for group in 0..groups {
+        let place = group * GROUP;
+        let more = used_digits(blocks, start + place, GROUP);
+        digits = block_or(digits, shift_left(more, place));
+    }
+    digits
+}
+
+// Block `q` of the summary.
+#[inline]
+fn summary_block<B: BitBlock>(blocks: &[B], q: usize) -> B
+    requires in_bounds { q * B.width ≤ length blocks.now }
+    requires each { All B.is_block blocks.now }
+    ensures of_block { B.is_block result }
+    ensures digits { (j : ℕ) → j < B.width → is_one (B.number result) j ≡ is_used (map B.number blocks.now) (q * B.width + j) }
+{
+    let start = q * B::bits();
+    let count = (blocks.len() - start).min(B::bits());
+    let groups = count / GROUP;
+    let digits = digits_of_groups(blocks, start, groups);
+    let place = groups * GROUP;
+    if place == count {
+        return digits;
+    }
+    let rest = used_digits(blocks, start + place, count - place);
+    block_or(digits, shift_left(rest, place))
+}
+
+// Makes the summary anew, over one that has as many blocks as it takes.
+fn summarize<B: BitBlock>(sums: &mut Vec<B>, blocks: &[B])
+    requires count { vec_len sums.old ≡ blocks_for B.width (length blocks.now) }
+    requires each { All B.is_block sums.old.items }
+    requires blocks { All B.is_block blocks.now }
+    requires fits { length blocks.now < 2 ^ 64 }
+    ensures summary { IsSummary B.width B.number B.is_block blocks.now sums.new.items }
+    ensures capacity { vec_capacity sums.new ≡ vec_capacity sums.old }
+{
+    for q in 0..sums.len() {
+        put_block(sums, q, summary_block(blocks, q));
+    }
+}
+
+// A summary of its own for the blocks. Fails only where memory is refused, and never for none.
+pub(crate) fn summary_of<B: BitBlock>(alloc: Global, blocks: &[B]) -> Result<Vec<B>, AllocError>
+    requires blocks { All B.is_block blocks.now }
+    requires fits { length blocks.now < 2 ^ 64 }
+    ensures summary { IfOk result (λ sums. IsSummary B.width B.number B.is_block blocks.now sums.items) }
+    ensures room { IfOk result (λ sums. vec_capacity sums ≡ blocks_for B.width (length blocks.now)) }
+    ensures empty { length blocks.now ≡ 0 → IsOk result }
+{
+    let count = block_count::<B>(blocks.len());
+    let mut sums = Vec::with_capacity(alloc, count)?;
+    push_copies(&mut sums, count, B::zero());
+    summarize(&mut sums, blocks);
+    Ok(sums)
+}
+
+// The summary of `old` blocks, the last of which may have changed, becomes that of the longer list:
+// each of the new ones is 0, or none of them is. There is room for it.
+pub(crate) fn append_to_summary<B: BitBlock>(sums: &mut Vec<B>, blocks: &[B], old: usize, bit: bool)
+    requires tidy { IsTidy B.width B.number B.is_block sums.old.items old }
+    requires blocks { All B.is_block blocks.now }
+    requires longer { old ≤ length blocks.now }
+    requires room { blocks_for B.width (length blocks.now) ≤ vec_capacity sums.old }
+    requires before { (k : ℕ) → k + 1 < old → value_at B.width (map B.number sums.old.items) k ≡ is_used (map B.number blocks.now) k }
+    requires after { (k : ℕ) → old ≤ k → k < length blocks.now → is_used (map B.number blocks.now) k ≡ bit }
+    ensures summary { IsSummary B.width B.number B.is_block blocks.now sums.new.items }
+    ensures capacity { vec_capacity sums.new ≡ vec_capacity sums.old }
+{
+    append_values(sums, old, blocks.len(), bit);
+    if old != 0 {
+        note_block(sums, blocks, old - 1);
+    }
+}
+
+// The summary of `old` blocks becomes that of the first of them that are left, the last of which may
+// have changed.
+pub(crate) fn cut_summary<B: BitBlock>(sums: &mut Vec<B>, blocks: &[B], old: usize)
+    requires tidy { IsTidy B.width B.number B.is_block sums.old.items old }
+    requires blocks { All B.is_block blocks.now }
+    requires shorter { length blocks.now ≤ old }
+    requires before { (k : ℕ) → k + 1 < length blocks.now → value_at B.width (map B.number sums.old.items) k ≡ is_used (map B.number blocks.now) k }
+    ensures summary { IsSummary B.width B.number B.is_block blocks.now sums.new.items }
+    ensures capacity { vec_capacity sums.new ≡ vec_capacity sums.old }
+{
+    keep_values(sums, old, blocks.len());
+    if blocks.len() != 0 {
+        note_block(sums, blocks, blocks.len() - 1);
+    }
+}
+
+// The summary becomes that of the blocks that a merge gave: of a union it is the union of the
+// summaries, and otherwise it is made anew.
+pub(crate) fn merge_summary<B: BitBlock>(
+    sums: &mut Vec<B>,
+    others: &[B],
+    blocks: &[B],
+    merge: Merge,
+)
+    requires count { vec_len sums.old ≡ blocks_for B.width (length blocks.now) }
+    requires fewer { length others.now ≤ vec_len sums.old }
+    requires each { All B.is_block sums.old.items }
+    requires others { All B.is_block others.now }
+    requires blocks { All B.is_block blocks.now }
+    requires of_union { merge ≡ Merge.Union → (k : ℕ) → is_used (map B.number blocks.now) k ≡ (value_at B.width (map B.number sums.old.items) k || value_at B.width (map B.number others.now) k) }
+    requires fits { length blocks.now < 2 ^ 64 }
+    ensures summary { IsSummary B.width B.number B.is_block blocks.now sums.new.items }
+    ensures capacity { vec_capacity sums.new ≡ vec_capacity sums.old }
+{
+    match merge {
+        Merge::Union => merge_values(sums, others, merge, &mut Steps::new()),
+        Merge::Intersection | Merge::Difference | Merge::Symmetric => summarize(sums, blocks),
+    }
+}
