@@ -5,11 +5,9 @@ pub mod SubsetLemmas
 pub mod CollectLemmas
 pub mod ValueLemmas
 pub mod RoomLemmas
-pub mod CountLemmas
 pub mod ItemLemmas
 pub mod ByteLemmas
 pub mod PlaceLemmas
-pub mod LowestStep
 pub mod WalkLemmas
 pub mod PairLemmas
 pub mod TallyLemmas

@@ -20,13 +20,6 @@ values_in w ms = flat_map (λ m. digits_from m 0 w) ms
 unfoldable pub places : ℕ → ℕ → ℕ → List Bool → List ℕ
 places w place m values = elements_from place (digits_from m 0 w ++ values)
 
--- Of w digits, l is the lowest 1 of m alone: the number o below it counts its place, and clearing goes by that place.
-pub record IsAlone (w m l : ℕ) : Type 0 where
-  pub some : 1 ≤ l
-  pub within : (o : ℕ) → o + 1 ≡ l → count_ones o < w
-  pub lowest : (o : ℕ) → o + 1 ≡ l → IsLowest m (count_ones o)
-  pub cleared : (o r : ℕ) → o + 1 ≡ l → IsBoth w m (m - 1) r → IsCleared w m (count_ones o) r
-
 -- What lies ahead in a source of blocks: the values of the blocks that are not yet pulled, how many these are, and
 -- how often the source was pulled.
 pub record Ahead : Type 0 where

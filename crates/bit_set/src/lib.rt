@@ -5,7 +5,6 @@ mod faults;
 mod hash;
 mod json;
 pub mod laws;
-mod lowest;
 mod order;
 mod set;
 mod texts;

@@ -39,16 +39,13 @@ impl<B: BitBlock> BitSet<B> {
         self.bits.get(value).unwrap_or(false)
     }
 
-    /// How many elements there are. Adds up the ones of each block.
+    /// How many elements there are. Adds up the ones of each block, and passes over as many blocks as a
+    /// block has bits at once where they are all zero.
+    #[inline]
     pub fn count(&self) -> usize
         ensures { result ≡ length (elements self.now.values) }
     {
-        let mut ones = 0;
-        let blocks = self.bits.storage();
-        for block in blocks {
-            ones += block.count_ones();
-        }
-        ones
+        self.bits.count_ones()
     }
 
     /// How many elements there are: the older name of [`BitSet::count`].

@@ -1,6 +1,7 @@
 pub mod Words
 pub mod BitsLemmas
 pub mod LowestLemmas
+pub mod LowestStep
 pub mod OnesLemmas
 pub mod StorageLemmas
 pub mod Masks
@@ -13,3 +14,5 @@ pub mod MergeLemmas
 pub mod CompareLemmas
 pub mod RoomLemmas
 pub mod SummaryLemmas
+pub mod NonzeroLemmas
+pub mod CountLemmas

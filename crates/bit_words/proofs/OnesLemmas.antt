@@ -27,7 +27,7 @@ ones-number_of (b ∷ bs) =
     ones_step b (number_of bs) ∙ ap (λ n. cond b 1 0 + n) (ones-number_of bs) ∙ sym (sum_by-cons (λ value. cond value 1 0) b bs)
 
 -- a front is a shorter front and what follows it
-take_split : (a b : ℕ) (values : List Bool) → take (a + b) values ≡ take a values ++ take b (drop a values)
+pub take_split : {X : Type 0} (a b : ℕ) (values : List X) → take (a + b) values ≡ take a values ++ take b (drop a values)
 take_split a b values =
     sym (take-append-drop a (take (a + b) values))
     ∙ ap (λ x. x ++ drop a (take (a + b) values)) (take-take a (a + b) values (omega arith))

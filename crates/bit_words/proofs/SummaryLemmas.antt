@@ -19,10 +19,10 @@ use Rattle.bit_words.proofs.VectorLemmas.{numbers_below, tidy_nil}
 
 -- ---- whether a block is 0
 
-used_from_zero : (n : ℕ) → n ≡ 0 → not (n == 0) ≡ false
+pub used_from_zero : (n : ℕ) → n ≡ 0 → not (n == 0) ≡ false
 used_from_zero n z = ap (λ m. not (m == 0)) z
 
-zero_from_unused : (n : ℕ) → not (n == 0) ≡ false → n ≡ 0
+pub zero_from_unused : (n : ℕ) → not (n == 0) ≡ false → n ≡ 0
 zero_from_unused n h = grind (arith, nat_tests)
 
 -- past the blocks none is

@@ -5,5 +5,7 @@ pub mod Storage
 pub mod Steps
 pub mod Lowest
 pub mod Source
-pub mod Merges
 pub mod Summary
+pub mod Marks
+pub mod Nonzero
+pub mod Merges

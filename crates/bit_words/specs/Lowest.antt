@@ -1,5 +1,5 @@
 -- The lowest 1 among the binary digits of a number.
-use Rattle.std.specs.Prelude.{◌≡◌, ◌≢◌, ℕ, ◌+◌, ◌-◌, ◌^◌, ◌<◌, count_ones}
+use Rattle.std.specs.Prelude.{◌≡◌, ◌≢◌, ℕ, ◌+◌, ◌-◌, ◌^◌, ◌<◌, ◌≤◌, count_ones}
 use Rattle.std.specs.Int.{bit_at}
 use Rattle.bit_words.specs.Digits.{IsBoth, IsComplement}
 
@@ -26,3 +26,10 @@ pub record LowestIsFound (w m i : ℕ) : Type 0 where
   pub counted : count_ones (2 ^ i - 1) ≡ i
   -- `m & (m - 1)`
   pub rest : (r : ℕ) → IsBoth w m (m - 1) r → IsCleared w m i r
+
+-- Of w digits, l is the lowest 1 of m alone: the number o below it counts its place, and clearing goes by that place.
+pub record IsAlone (w m l : ℕ) : Type 0 where
+  pub some : 1 ≤ l
+  pub within : (o : ℕ) → o + 1 ≡ l → count_ones o < w
+  pub lowest : (o : ℕ) → o + 1 ≡ l → IsLowest m (count_ones o)
+  pub cleared : (o r : ℕ) → o + 1 ≡ l → IsBoth w m (m - 1) r → IsCleared w m (count_ones o) r

@@ -6,6 +6,8 @@ mod block_tests;
 #[cfg(test)]
 mod merge_tests;
 #[cfg(test)]
+mod nonzero_tests;
+#[cfg(test)]
 mod room_tests;
 #[cfg(test)]
 mod vector_tests;

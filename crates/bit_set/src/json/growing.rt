@@ -10,7 +10,7 @@ use super::JsonBlock;
 use super::checking::block_of;
 use crate::BitBlock;
 use crate::bit_vec::BitVec;
-use crate::lowest::take_lowest_one;
+use crate::bit_vec::take_lowest_one;
 use serde_json::Value;
 use std::alloc::{AllocError, Global};
 

@@ -5,7 +5,7 @@ ghost use Rattle.std.specs.Int.{bit_at};
 ghost use Rattle.bit_set.specs.Differences.{IsFirstUnlike, IsFirstOne, IsLowestUnlike};
 
 use crate::BitBlock;
-use crate::lowest::take_lowest_one;
+use crate::bit_vec::take_lowest_one;
 
 // How many blocks are tested at once.
 const GROUP: usize = 32;

@@ -7,7 +7,7 @@ ghost use Rattle.bit_set.specs.Walk.{AdvancesByEach, GoesOn, bound_on_rest};
 
 use super::source::BlockSource;
 use crate::BitBlock;
-use crate::lowest::take_lowest_one;
+use crate::bit_vec::take_lowest_one;
 use std::marker::Model;
 
 // The places of the ones of the blocks of a source, in ascending order.

@@ -1,7 +1,7 @@
 // Room for blocks, and the blocks that a list can do without.
 ghost use Rattle.std.specs.Prelude.{◌≡◌, ◌≢◌, ℕ, ◌-◌, ◌<◌, ◌≤◌, All, false, IsOk, IsTrue, OnErr, OnOk, get_or, length, map, max, vec_len, vec_capacity};
 ghost use Rattle.bit_words.specs.Bits.{blocks_for};
-ghost use Rattle.bit_words.specs.Summary.{shared_room};
+ghost use Rattle.bit_words.specs.Summary.{IsSummary, shared_room};
 
 use super::BitBlock;
 use super::changes::{block_at, block_count};
@@ -103,8 +103,21 @@ pub(crate) fn make_exact_shared_room<B: BitBlock>(
     make_shared_room(blocks, sums, count, true)
 }
 
-// How many blocks there are up to the last that is not 0.
-pub(crate) fn used_blocks<B: BitBlock>(blocks: &[B]) -> usize
+// How many blocks there are up to the last that is not 0. The summary tells among which to look.
+pub(crate) fn used_by_summary<B: BitBlock>(blocks: &[B], summary: &[B]) -> usize
+    requires each { All B.is_block blocks.now }
+    requires summary { IsSummary B.width B.number B.is_block blocks.now summary.now }
+    ensures within { result ≤ length blocks.now }
+    ensures zeros { (k : ℕ) → result ≤ k → get_or (map B.number blocks.now) k 0 ≡ 0 }
+    ensures last { 0 < result → get_or (map B.number blocks.now) (result - 1) 0 ≢ 0 }
+{
+    let rows = used_blocks(summary);
+    let end = rows.saturating_mul(B::bits()).min(blocks.len());
+    used_blocks(&blocks[..end])
+}
+
+// The same, where nothing is known of them: reads them from the last on.
+fn used_blocks<B: BitBlock>(blocks: &[B]) -> usize
     requires { All B.is_block blocks.now }
     ensures within { result ≤ length blocks.now }
     ensures zeros { (k : ℕ) → result ≤ k → get_or (map B.number blocks.now) k 0 ≡ 0 }

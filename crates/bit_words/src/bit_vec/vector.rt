@@ -1,8 +1,11 @@
-ghost use Rattle.std.specs.Prelude.{◌≡◌, ◌↔◌, All, IsTrue, false, length, map, slice_get};
-ghost use Rattle.bit_words.specs.Bits.{blocks_of, IsRoomOfBlocks, IsWithinRoom};
+ghost use Rattle.std.specs.Prelude.{◌≡◌, ◌-◌, ◌↔◌, All, IsTrue, false, length, map, slice_get};
+ghost use Rattle.std.specs.List.{count_by};
+ghost use Rattle.bit_words.specs.Bits.{blocks_for, blocks_of, IsRoomOfBlocks, IsWithinRoom};
+ghost use Rattle.bit_words.specs.Nonzero.{first_and_nonzero};
 
 use super::changes::{are_zero, value_of};
-use super::{BitBlock, Blocks};
+use super::counting::ones_by_summary;
+use super::{BitBlock, Blocks, Nonzero};
 use std::marker::Model;
 
 mod compare;
@@ -61,11 +64,20 @@ impl<B: BitBlock> BitVec<B> {
         Some(value_of(&self.blocks, i))
     }
 
-    /// Whether no value is true. Reads each block once at most.
+    /// Whether no value is true. Reads the summary alone: one block of it for as many blocks as a block
+    /// has bits.
     pub fn none(&self) -> bool
         ensures { IsTrue result ↔ All (λ bit. bit ≡ false) self.now.values }
     {
-        are_zero(&self.blocks)
+        are_zero(&self.summary)
+    }
+
+    /// How many values are true. Adds up the ones of each block, and passes over as many blocks as a
+    /// block has bits at once where they are all zero.
+    pub fn count_ones(&self) -> usize
+        ensures { result ≡ count_by (λ value. value) self.now.values }
+    {
+        ones_by_summary(&self.blocks, &self.summary)
     }
 
     /// The greatest length for which no memory is missing. Each block that there is room for counts
@@ -100,5 +112,20 @@ impl<B: BitBlock> BitVec<B> {
         ensures fits { IsWithinRoom self.now }
     {
         Blocks::over(self.storage())
+    }
+
+    /// A walk over the blocks that are not zero, each with its index; the first block comes in any case.
+    /// Constant time, and takes no memory.
+    #[inline]
+    pub fn nonzero(&self) -> Nonzero<'_, B>
+        ensures blocks { map B.number result.blocks ≡ blocks_of B.width self.now.values }
+        ensures each { All B.is_block result.blocks }
+        ensures left { result.left ≡ first_and_nonzero B.number result.blocks }
+        ensures pulls { result.pulls ≡ 0 }
+        ensures summary_pulls { result.summary_pulls ≡ 1 }
+        ensures summary_left { result.summary_left ≡ blocks_for B.width (blocks_for B.width (length self.now.values)) - 1 }
+        ensures fits { IsWithinRoom self.now }
+    {
+        Nonzero::over(&self.blocks, &self.summary)
     }
 }

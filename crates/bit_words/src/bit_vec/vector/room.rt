@@ -5,7 +5,7 @@ ghost use Rattle.bit_words.specs.Bits.{blocks_for, room_of, whole_blocks, IsWith
 use super::BitVec;
 use crate::bit_vec::BitBlock;
 use crate::bit_vec::changes::block_count;
-use crate::bit_vec::room::{make_exact_shared_room, make_shared_room, used_blocks};
+use crate::bit_vec::room::{make_exact_shared_room, make_shared_room, used_by_summary};
 use crate::bit_vec::summary::cut_summary;
 use crate::bit_vec::tidy::keep_blocks;
 use std::alloc::AllocError;
@@ -73,7 +73,7 @@ impl<B: BitBlock> BitVec<B> {
         ensures len { length self.new.values ≡ whole_blocks B.width self.old.values }
         ensures room { self.new.room ≡ self.old.room }
     {
-        let count = used_blocks(&self.blocks);
+        let count = used_by_summary(&self.blocks, &self.summary);
         let Some(len) = count.checked_mul(B::bits()) else {
             return;
         };

@@ -12,33 +12,33 @@ pub returns-in_default-clause-len : goal.returns-in_default-clause-len
 returns-in_default-clause-len g c =
     let f = g.B.BitBlock.number in
     let w = g.B.BitBlock.width in
-    let used = used_blocks-true_end w (map f c.self.inside.blocks.items) c.used_blocks-count.result c.args.self.now.values g.met.B.BitBlock.width_law.positive (numbers_below w f _ _ (λ x is. (g.met.B.BitBlock.number_law x is).0) c.self.invariant.tidy.each) (value_in_view _ _ _ _ _ c.self.view_is c.self.invariant.tidy.tail) (rw c.deref.ensures.value at c.used_blocks-count.ensures.zeros) (rw c.deref.ensures.value at c.used_blocks-count.ensures.last) in
+    let used = used_blocks-true_end w (map f c.self.inside.blocks.items) c.used_by_summary-count.result c.args.self.now.values g.met.B.BitBlock.width_law.positive (numbers_below w f _ _ (λ x is. (g.met.B.BitBlock.number_law x is).0) c.self.invariant.tidy.each) (value_in_view _ _ _ _ _ c.self.view_is c.self.invariant.tidy.tail) (rw c.deref.ensures.value at c.used_by_summary-count.ensures.zeros) (rw c.deref.ensures.value at c.used_by_summary-count.ensures.last) in
     let over = rw c.bits.ensures at c.in_default.ensures in
-    let past : 2 ^ 64 ≤ c.used_blocks-count.result * w = ⊎_elim (λ fits. absurd (over fits)) (λ (out : 2 ^ 64 ≤ c.used_blocks-count.result * w). out) (cases_lt (c.used_blocks-count.result * w) (2 ^ 64)) in
-    sym (whole_blocks-past w c.used_blocks-count.result c.args.self.now.values used past)
+    let past : 2 ^ 64 ≤ c.used_by_summary-count.result * w = ⊎_elim (λ fits. absurd (over fits)) (λ (out : 2 ^ 64 ≤ c.used_by_summary-count.result * w). out) (cases_lt (c.used_by_summary-count.result * w) (2 ^ 64)) in
+    sym (whole_blocks-past w c.used_by_summary-count.result c.args.self.now.values used past)
 
 pub invariant_of-self : goal.invariant_of-self
 invariant_of-self g c =
     let f = g.B.BitBlock.number in
     let w = g.B.BitBlock.width in
-    let len : c.in-Some.len ≡ c.used_blocks-count.result * w = rw c.bits.ensures at c.in-Some.ensures.1 in
-    let blocks = ap (blocks_for w) len ∙ blocks_for-whole w c.used_blocks-count.result g.met.B.BitBlock.width_law.positive in
+    let len : c.in-Some.len ≡ c.used_by_summary-count.result * w = rw c.bits.ensures at c.in-Some.ensures.1 in
+    let blocks = ap (blocks_for w) len ∙ blocks_for-whole w c.used_by_summary-count.result g.met.B.BitBlock.width_law.positive in
     record {
       tidy = record {
         each = c.keep_blocks.ensures.each;
         count = omega arith;
-        tail = clean_cut w c.used_blocks-count.result (map f c.self.inside.blocks.items) _ c.in-Some.len g.met.B.BitBlock.width_law.positive len c.keep_blocks.ensures.numbers;
+        tail = clean_cut w c.used_by_summary-count.result (map f c.self.inside.blocks.items) _ c.in-Some.len g.met.B.BitBlock.width_law.positive len c.keep_blocks.ensures.numbers;
         fits = omega (arith, c.in-Some.ensures);
       };
-      summary = rw c.deref-2.ensures.value at c.cut_summary.ensures.summary;
+      summary = rw c.deref-3.ensures.value at c.cut_summary.ensures.summary;
     }
 
 pub cut_summary-requires-clause-before : goal.cut_summary-requires-clause-before
 cut_summary-requires-clause-before g c = λ k.
     let f = g.B.BitBlock.number in
-    let count = c.used_blocks-count.result in
+    let count = c.used_by_summary-count.result in
     let ms = map f c.self.inside.blocks.items in
-    rw c.deref-2.ensures.value (λ before.
+    rw c.deref-3.ensures.value (λ before.
     c.self.invariant.summary.digit k
     ∙ ap (λ m. not (m == 0)) (sym (ap (λ xs. get_or xs k 0) c.keep_blocks.ensures.numbers ∙ get_or-take count ms k 0 (omega (arith, before, c.keep_blocks.ensures.len)))))
 
@@ -49,9 +49,9 @@ returns-clause-true_values g c = λ i.
     let ms = map f c.self.inside.blocks.items in
     let ns = map f c.keep_blocks.new.blocks.items in
     let n = c.in-Some.len in
-    let len : n ≡ c.used_blocks-count.result * w = rw c.bits.ensures at c.in-Some.ensures.1 in
-    let clean = clean_cut w c.used_blocks-count.result ms ns n g.met.B.BitBlock.width_law.positive len c.keep_blocks.ensures.numbers in
-    let same = value_at-cut w c.used_blocks-count.result ms ns c.keep_blocks.ensures.numbers (rw c.deref.ensures.value at c.used_blocks-count.ensures.zeros) i in
+    let len : n ≡ c.used_by_summary-count.result * w = rw c.bits.ensures at c.in-Some.ensures.1 in
+    let clean = clean_cut w c.used_by_summary-count.result ms ns n g.met.B.BitBlock.width_law.positive len c.keep_blocks.ensures.numbers in
+    let same = value_at-cut w c.used_by_summary-count.result ms ns c.keep_blocks.ensures.numbers (rw c.deref.ensures.value at c.used_by_summary-count.ensures.zeros) i in
     let new = true_at w n 0 ns (record { values = values_of w ns n; room = 0 }) refl clean i in
     let old = true_at _ _ _ _ _ c.self.view_is c.self.invariant.tidy.tail i in
     (λ one. old.1 (sym same ∙ new.0 one), λ one. new.1 (same ∙ old.0 one))
@@ -60,7 +60,7 @@ pub returns-clause-len : goal.returns-clause-len
 returns-clause-len g c =
     let f = g.B.BitBlock.number in
     let w = g.B.BitBlock.width in
-    let used = used_blocks-true_end w (map f c.self.inside.blocks.items) c.used_blocks-count.result c.args.self.now.values g.met.B.BitBlock.width_law.positive (numbers_below w f _ _ (λ x is. (g.met.B.BitBlock.number_law x is).0) c.self.invariant.tidy.each) (value_in_view _ _ _ _ _ c.self.view_is c.self.invariant.tidy.tail) (rw c.deref.ensures.value at c.used_blocks-count.ensures.zeros) (rw c.deref.ensures.value at c.used_blocks-count.ensures.last) in
-    let len : c.in-Some.len ≡ c.used_blocks-count.result * w = rw c.bits.ensures at c.in-Some.ensures.1 in
-    let fits : c.used_blocks-count.result * w < 2 ^ 64 = rw c.bits.ensures at c.in-Some.ensures.0 in
-    length-values_of w _ c.in-Some.len ∙ len ∙ sym (whole_blocks-fits w c.used_blocks-count.result c.args.self.now.values used fits)
+    let used = used_blocks-true_end w (map f c.self.inside.blocks.items) c.used_by_summary-count.result c.args.self.now.values g.met.B.BitBlock.width_law.positive (numbers_below w f _ _ (λ x is. (g.met.B.BitBlock.number_law x is).0) c.self.invariant.tidy.each) (value_in_view _ _ _ _ _ c.self.view_is c.self.invariant.tidy.tail) (rw c.deref.ensures.value at c.used_by_summary-count.ensures.zeros) (rw c.deref.ensures.value at c.used_by_summary-count.ensures.last) in
+    let len : c.in-Some.len ≡ c.used_by_summary-count.result * w = rw c.bits.ensures at c.in-Some.ensures.1 in
+    let fits : c.used_by_summary-count.result * w < 2 ^ 64 = rw c.bits.ensures at c.in-Some.ensures.0 in
+    length-values_of w _ c.in-Some.len ∙ len ∙ sym (whole_blocks-fits w c.used_by_summary-count.result c.args.self.now.values used fits)

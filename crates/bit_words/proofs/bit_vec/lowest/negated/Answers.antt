@@ -1,6 +1,6 @@
 use Rattle.std.proofs.Common.{arith}
-use Rattle.bit_set.proofs.LowestStep.{negated_fits, negated_is}
-use Rattle.bit_set.proofs.lowest.negated.Goals as goal
+use Rattle.bit_words.proofs.LowestStep.{negated_fits, negated_is}
+use Rattle.bit_words.proofs.bit_vec.lowest.negated.Goals as goal
 
 pub add-requires : goal.add-requires
 add-requires g c =

@@ -1,5 +1,5 @@
-use Rattle.bit_set.proofs.LowestStep.{alone}
-use Rattle.bit_set.proofs.lowest.lowest_alone.Goals as goal
+use Rattle.bit_words.proofs.LowestStep.{alone}
+use Rattle.bit_words.proofs.bit_vec.lowest.lowest_alone.Goals as goal
 
 pub returns-clause-alone : goal.returns-clause-alone
 returns-clause-alone g c =

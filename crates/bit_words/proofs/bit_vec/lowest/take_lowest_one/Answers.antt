@@ -1,7 +1,7 @@
 use Rattle.std.proofs.Common.{◌-◌, ◌≡◌, ◌≤◌, arith, sym, subst}
 use Rattle.bit_words.specs.Digits.{IsBoth}
 use Rattle.bit_words.specs.Lowest.{IsCleared}
-use Rattle.bit_set.proofs.lowest.take_lowest_one.Goals as goal
+use Rattle.bit_words.proofs.bit_vec.lowest.take_lowest_one.Goals as goal
 
 pub returns-clause-cleared : goal.returns-clause-cleared
 returns-clause-cleared g c =

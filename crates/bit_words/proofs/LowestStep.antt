@@ -1,8 +1,7 @@
 -- The steps that take the lowest 1 off a block, at the numbers of the blocks.
 use Rattle.std.proofs.Common.{◌≡◌, ℕ, ◌+◌, ◌-◌, ◌^◌, ◌<◌, count_ones, sym, ap, ◌∙◌, subst, arith}
 use Rattle.bit_words.specs.Digits.{IsBoth, IsComplement}
-use Rattle.bit_words.specs.Lowest.{IsLowest, IsCleared}
-use Rattle.bit_set.specs.Places.{IsAlone}
+use Rattle.bit_words.specs.Lowest.{IsLowest, IsCleared, IsAlone}
 use Rattle.bit_words.proofs.LowestLemmas.{lowest_found}
 use Rattle.std.proofs.lemmas.Nat.{pow_pos}
 

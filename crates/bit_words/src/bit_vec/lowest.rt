@@ -1,13 +1,13 @@
 // The lowest 1 of a block, by a not, an addition, two masks, two subtractions and a count of ones.
 ghost use Rattle.std.specs.Prelude.{◌≡◌, ◌-◌, ◌^◌, ◌<◌};
-ghost use Rattle.bit_words.specs.Lowest.{IsLowest, IsCleared};
-ghost use Rattle.bit_set.specs.Places.{IsAlone};
+ghost use Rattle.bit_words.specs.Lowest.{IsLowest, IsCleared, IsAlone};
 
-use crate::BitBlock;
+use super::BitBlock;
 
-// Takes the lowest 1 off a block, and gives its place.
+/// Takes the lowest 1 off a block that is not zero, and gives its place. Constant time: all walks find
+/// their items by this step.
 #[inline]
-pub(crate) fn take_lowest_one<B: BitBlock>(block: &mut B) -> usize
+pub fn take_lowest_one<B: BitBlock>(block: &mut B) -> usize
     requires of_block { B.is_block block.old }
     requires not_zero { 0 < B.number block.old }
     ensures within { result < B.width }

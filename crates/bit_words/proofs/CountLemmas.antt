@@ -1,0 +1,63 @@
+-- How many ones blocks have, by a summary of them.
+use Rattle.std.proofs.Common.{◌≡◌, ℕ, suc, ◌+◌, ◌*◌, ◌<◌, ◌≤◌, Bool, false, List, [], ◌∷◌, map, length, take, drop, get_or, get_or-take, get_or-drop, length-take, count_ones, refl, sym, ap, ◌∙◌, ⊎_elim, arith}
+use Rattle.std.proofs.lemmas.Bool.{cases_lt, not-false, eqb-true}
+use Rattle.std.proofs.lemmas.List.{take-map, drop-map, get_or_past, length-map}
+use Rattle.std.proofs.lemmas.List.Sums.{sum_by-append, sum_by-cons}
+use Rattle.bit_words.specs.Storage.{is_one, value_at}
+use Rattle.std.specs.List.{sum_by, count_by}
+use Rattle.bit_words.specs.Bits.{blocks_of}
+use Rattle.bit_words.specs.Nonzero.{ones_in}
+use Rattle.bit_words.specs.Summary.{is_used}
+use Rattle.bit_words.proofs.LowestLemmas.{ones_zero}
+use Rattle.bit_words.proofs.OnesLemmas.{take_split, blocks_ones}
+use Rattle.bit_words.proofs.Masks.{is_one-zero}
+use Rattle.bit_words.proofs.StorageLemmas.{value_at-place}
+
+module _ {X : Type 0} (number : X → ℕ) where
+  -- those of some blocks, and of the next ones
+  pub ones_in-more : (i n : ℕ) (xs : List X) → ones_in number (take (i + n) xs) ≡ ones_in number (take i xs) + ones_in number (take n (drop i xs))
+  ones_in-more i n xs =
+      ap (ones_in number) (take_split i n xs) ∙ sum_by-append (λ x. count_ones (number x)) (take i xs) (take n (drop i xs))
+
+  pub ones_in-none : (xs : List X) → ((j : ℕ) → get_or (map number xs) j 0 ≡ 0) → ones_in number xs ≡ 0
+  ones_in-none [] zeros = refl
+  ones_in-none (x ∷ xs) zeros =
+      let rest = ones_in-none xs (λ j. zeros (suc j)) in
+      let here : count_ones (number x) ≡ 0 = ap count_ones (zeros 0) ∙ ones_zero in
+      sum_by-cons (λ y. count_ones (number y)) x xs ∙ omega (arith, rest, here)
+
+  -- one row of blocks more
+  pub row_counted : (w i ones : ℕ) (xs front : List X) → ones ≡ ones_in number (take (i * w) xs) → front ≡ take w (drop (i * w) xs) → ones + ones_in number front ≡ ones_in number (take ((i + 1) * w) xs)
+  row_counted w i ones xs front counted is =
+      let more = ones_in-more (i * w) w xs in
+      let next : ones_in number (take (i * w + w) xs) ≡ ones_in number (take ((i + 1) * w) xs) = ap (λ n. ones_in number (take n xs)) (let e : i * w + w ≡ (i + 1) * w = omega arith in e) in
+      let here = ap (ones_in number) is in
+      omega (arith, more, next, here, counted)
+
+  -- a row of blocks of which the summary has no digit
+  pub row_none : (w i : ℕ) (xs sums : List X) → ((k : ℕ) → value_at w (map number sums) k ≡ is_used (map number xs) k) → get_or (map number sums) i 0 ≡ 0 → ones_in number (take w (drop (i * w) xs)) ≡ 0
+  row_none w i xs sums digit none = ones_in-none (take w (drop (i * w) xs)) (λ j.
+      ⊎_elim
+      (λ within.
+      let unused : is_used (map number xs) (i * w + j) ≡ false =
+          sym (digit (i * w + j)) ∙ value_at-place w (map number sums) i j within ∙ ap (λ m. is_one m j) none ∙ is_one-zero j in
+      read j ∙ get_or-take w (map number (drop (i * w) xs)) j 0 within
+      ∙ ap (λ ms. get_or ms j 0) (sym (drop-map number (i * w) xs)) ∙ get_or-drop (i * w) (map number xs) j 0
+      ∙ eqb-true _ 0 (not-false _ unused))
+      (λ past. get_or_past (map number (take w (drop (i * w) xs))) j 0 (short j past))
+      (cases_lt j w))
+    where
+      read : (j : ℕ) → get_or (map number (take w (drop (i * w) xs))) j 0 ≡ get_or (take w (map number (drop (i * w) xs))) j 0
+      read j = ap (λ ms. get_or ms j 0) (sym (take-map number w (drop (i * w) xs)))
+      short : (j : ℕ) → w ≤ j → length (map number (take w (drop (i * w) xs))) ≤ j
+      short j past = let most = length-take w (drop (i * w) xs) in rw length-map (omega (arith, most))
+
+  -- those of the numbers of the blocks
+  pub ones_in-numbers : (xs : List X) → ones_in number xs ≡ sum_by count_ones (map number xs)
+  ones_in-numbers [] = refl
+  ones_in-numbers (x ∷ xs) =
+      sum_by-cons (λ y. count_ones (number y)) x xs ∙ ap (λ n. count_ones (number x) + n) (ones_in-numbers xs) ∙ sym (sum_by-cons count_ones (number x) (map number xs))
+
+  -- in the blocks of a list, its true values
+  pub ones_in-values : (w : ℕ) (xs : List X) (values : List Bool) → 0 < w → map number xs ≡ blocks_of w values → ones_in number xs ≡ count_by (λ value. value) values
+  ones_in-values w xs values pos is = ones_in-numbers xs ∙ ap (sum_by count_ones) is ∙ blocks_ones w values pos

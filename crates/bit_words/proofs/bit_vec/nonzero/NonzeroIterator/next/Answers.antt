@@ -1,0 +1,89 @@
+use Rattle.std.proofs.Common.{◌≡◌, ◌+◌, ◌<◌, ◌∷◌, length, get_or, All, sym, ap, ◌∙◌, subst, arith, rules}
+use Rattle.std.proofs.lemmas.List.Elements.{All-head, All-tail}
+use Rattle.std.proofs.lemmas.Option.{get_or_from_slice_get}
+use Rattle.bit_words.specs.Marks.{marked_from}
+use Rattle.bit_words.proofs.NonzeroLemmas.{left-taken, IsMarked-taken, left-pulled, IsMarked-pulled, left-ended}
+use Rattle.bit_words.proofs.bit_vec.nonzero.NonzeroIterator.next.Goals as goal
+
+pub returns-in_err-self-inside-clause-steps : goal.returns-in_err-self-inside-clause-steps
+returns-in_err-self-inside-clause-steps g c =
+    let w = g.B.BitBlock.width in
+    let number = g.B.BitBlock.number in
+    let it = c.loop-self.self-inside in
+    let before = c.loop-self.invariant in
+    let pull = c.in_err-self-inside.ensures.steps in
+    let used_up : number it.marks ≡ 0 = (g.met.B.BitBlock.eq_law it.marks c.zero.result before.walk.in_hand c.zero.ensures.of_block).0 (sym c.eq.ensures ∙ c.loop-self-test.true) ∙ c.zero.ensures.of_number in
+    let ended = left-ended w number g.B.BitBlock.is_block it.place it.marks it.blocks.now it.summary.left before.walk used_up pull.item.0 in
+    let none = ap length pull.item.0 in
+    let none_left = ap length pull.item.1 in
+    rw c.from_residual.ensures (record {
+      item = (sym before.same ∙ ended, ended);
+      same = before.kept;
+      counted = before.counted;
+      goes_on = omega (arith, before.goes_on, pull.counted);
+      summary = (omega (arith, before.pulled, pull.counted, none), none_left);
+    })
+
+pub loop-self-preserved : goal.loop-self-preserved
+loop-self-preserved g c =
+    let w = g.B.BitBlock.width in
+    let number = g.B.BitBlock.number in
+    let is_block = g.B.BitBlock.is_block in
+    let it = c.loop-self.self-inside in
+    let xs = it.blocks.now in
+    let before = c.loop-self.invariant in
+    let pull = c.in_ok-self-inside.ensures.steps in
+    let next = c.in_ok-self-inside.field-0 in
+    let rest = c.next.new.self.left in
+    let pos = g.met.B.BitBlock.width_law.positive in
+    let sums = subst (All is_block) pull.item before.walk.sums_each in
+    let fewer = ap length pull.item in
+    let used_up : number it.marks ≡ 0 = (g.met.B.BitBlock.eq_law it.marks c.zero.result before.walk.in_hand c.zero.ensures.of_block).0 (sym c.eq.ensures ∙ c.loop-self-test.true) ∙ c.zero.ensures.of_number in
+    rw c.bits.ensures (record {
+      walk = IsMarked-pulled w number is_block it.place it.marks next xs it.summary.left rest pos before.walk pull.item (All-head is_block next rest sums) (All-tail is_block next rest sums);
+      same = sym (left-pulled w number is_block it.place it.marks next xs it.summary.left rest pos before.walk used_up pull.item) ∙ before.same;
+      kept = before.kept;
+      counted = before.counted;
+      pulled = omega (arith, before.pulled, pull.counted, fewer);
+      goes_on = omega (arith, before.goes_on, pull.counted);
+    })
+
+pub at-requires : goal.at-requires
+at-requires g c =
+    let it = c.loop-self.self-inside in
+    let taken = c.take_lowest_one.ensures in
+    (left-taken g.B.BitBlock.width g.B.BitBlock.number g.B.BitBlock.is_block it.place c.take_lowest_one.result (g.B.BitBlock.number c.take_lowest_one.new.block) it.marks it.marks it.blocks.now it.summary.left c.loop-self.invariant.walk taken.lowest taken.within taken.cleared).0
+
+pub invariant_of-self-2 : goal.invariant_of-self-2
+invariant_of-self-2 g c =
+    let it = c.loop-self.self-inside in
+    let taken = c.take_lowest_one.ensures in
+    IsMarked-taken g.B.BitBlock.width g.B.BitBlock.number g.B.BitBlock.is_block it.place c.take_lowest_one.result it.marks c.take_lowest_one.new.block it.blocks.now it.summary.left c.loop-self.invariant.walk taken.of_block taken.cleared
+
+pub returns-clause-steps : goal.returns-clause-steps
+returns-clause-steps g c =
+    let it = c.loop-self.self-inside in
+    let xs = it.blocks.now in
+    let k = it.place + c.take_lowest_one.result in
+    let before = c.loop-self.invariant in
+    let taken = c.take_lowest_one.ensures in
+    let rest = marked_from g.B.BitBlock.width g.B.BitBlock.number it.place (g.B.BitBlock.number c.take_lowest_one.new.block) xs in
+    record {
+      item =
+          sym before.same
+          ∙ (left-taken g.B.BitBlock.width g.B.BitBlock.number g.B.BitBlock.is_block it.place c.take_lowest_one.result (g.B.BitBlock.number c.take_lowest_one.new.block) it.marks c.at.result xs it.summary.left before.walk taken.lowest taken.within taken.cleared).1
+          ∙ ap (λ x. (k, x) ∷ rest) (get_or_from_slice_get xs k c.at.result c.at.result c.at.ensures);
+      same = before.kept;
+      counted = before.counted;
+      goes_on = before.goes_on;
+      summary = before.pulled;
+    }
+
+pub returns-clause-goes : goal.returns-clause-goes
+returns-clause-goes g c =
+    let it = c.loop-self.self-inside in
+    let before = c.loop-self.invariant in
+    let taken = c.take_lowest_one.ensures in
+    let fewer = ap length before.same in
+    let one_less = ap length (left-taken g.B.BitBlock.width g.B.BitBlock.number g.B.BitBlock.is_block it.place c.take_lowest_one.result (g.B.BitBlock.number c.take_lowest_one.new.block) it.marks c.at.result it.blocks.now it.summary.left before.walk taken.lowest taken.within taken.cleared).1 in
+    record { on = λ _. (tt, tt, omega (arith, fewer, one_less)); keeps = tt; rests = λ _. tt }

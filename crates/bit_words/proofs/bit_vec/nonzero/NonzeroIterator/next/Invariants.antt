@@ -1,0 +1,21 @@
+use Rattle.std.proofs.Common.{◌≡◌, ◌+◌, ◌≤◌, length}
+use Rattle.bit_words.specs.Marks.{IsMarked, marked_from}
+use Rattle.bit_words.proofs.bit_vec.nonzero.NonzeroIterator.next.Given as goal
+
+-- the same is left, and what was pulled came out of the summary
+abbrev pub invariant-loop-self : goal.invariant-loop-self
+invariant-loop-self g l =
+    let w = g.B.BitBlock.width in
+    let number = g.B.BitBlock.number in
+    let it = l.self-inside in
+    record {
+      walk : IsMarked w number g.B.BitBlock.is_block it.place it.marks it.blocks.now it.summary.left;
+      same : marked_from w number it.place (number it.marks) it.blocks.now ≡ l.fn.self.left;
+      kept : it.blocks.now ≡ l.fn.self.blocks;
+      counted : it.steps ≡ l.fn.self.pulls + 1;
+      pulled : it.summary.pulls + length it.summary.left ≡ l.fn.self.summary_pulls + l.fn.self.summary_left;
+      goes_on : l.fn.self.summary_pulls ≤ it.summary.pulls;
+    }
+
+abbrev pub decreases-loop-self : goal.decreases-loop-self
+decreases-loop-self g l = length l.self-inside.summary.left

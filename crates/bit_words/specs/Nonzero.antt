@@ -1,0 +1,39 @@
+-- A walk over the blocks that are not 0, each with its index.
+use Rattle.std.specs.Prelude.{◌≡◌, ℕ, ◌+◌, ◌==◌, ◌≤◌, if◌then◌else◌, List, [], ◌∷◌, Option, MatchOption}
+use Rattle.std.specs.Int.RustNames.{count_ones}
+use Rattle.std.specs.Iterator.{YieldsFirst}
+use Rattle.std.specs.List.{sum_by}
+
+-- What contracts see of such a walk: all blocks that it goes over; those that are left, each with its
+-- index; how often it was pulled; how often it pulled a block of the summary, and how many of these it
+-- has not pulled yet.
+pub record Nonzeros (X : Type 0) : Type 0 where
+  pub blocks : List X
+  pub left : List (ℕ × X)
+  pub pulls : ℕ
+  pub summary_pulls : ℕ
+  pub summary_left : ℕ
+
+-- A call of `next` that gave r: the first of what was left, and one more pull, at the end too. Each block
+-- of the summary is pulled once at most, and once more where the end was found.
+pub record PullsNonzero {X : Type 0} (s : Nonzeros X) (r : Option (ℕ × X)) (t : Nonzeros X) : Type 0 where
+  pub item : YieldsFirst (λ walk. walk.left) s r t
+  pub same : t.blocks ≡ s.blocks
+  pub counted : t.pulls ≡ s.pulls + 1
+  pub goes_on : s.summary_pulls ≤ t.summary_pulls
+  pub summary : MatchOption r ((t.summary_pulls ≡ s.summary_pulls + s.summary_left + 1) × (t.summary_left ≡ 0)) (λ _. t.summary_pulls + t.summary_left ≡ s.summary_pulls + s.summary_left)
+
+-- the blocks that are not 0, each with its index, where the first has index k
+abbrev pub nonzero_from : {X : Type 0} → (X → ℕ) → ℕ → List X → List (ℕ × X)
+nonzero_from number k [] = []
+nonzero_from number k (x ∷ xs) =
+    if number x == 0 then nonzero_from number (k + 1) xs else (k, x) ∷ nonzero_from number (k + 1) xs
+
+-- those past the first block, and the first in any case
+abbrev pub first_and_nonzero : {X : Type 0} → (X → ℕ) → List X → List (ℕ × X)
+first_and_nonzero number [] = []
+first_and_nonzero number (x ∷ xs) = (0, x) ∷ nonzero_from number 1 xs
+
+-- how many binary digits of blocks are 1
+abbrev pub ones_in : {X : Type 0} → (X → ℕ) → List X → ℕ
+ones_in number xs = sum_by (λ x. count_ones (number x)) xs

@@ -1,0 +1,130 @@
+ghost use Rattle.std.specs.Prelude.{◌≡◌, ◌-◌, ◌<◌, ◌^◌, All, Some, length, slice_get};
+ghost use Rattle.std.specs.Iterator.{item_count};
+ghost use Rattle.bit_words.specs.Bits.{blocks_for};
+ghost use Rattle.bit_words.specs.Digits.{IsEither};
+ghost use Rattle.bit_words.specs.Nonzero.{first_and_nonzero};
+ghost use Rattle.bit_words.specs.Summary.{IsSummary};
+
+use super::lowest::take_lowest_one;
+use super::words::block_or;
+use super::{BitBlock, Blocks, Steps};
+use std::marker::Model;
+
+/// A walk over the blocks of a bit vector that are not zero, each with its index, in ascending order. The
+/// first block comes in any case, zero or not. It finds them by the summary, and so passes over as many
+/// zero blocks at once as a block has bits.
+///
+/// Contracts see all its blocks, those that are left, `pulls`, how many calls of `next` there were, and how many
+/// times a block of the summary was pulled.
+#[derive(Drop)]
+pub struct Nonzero<'a, B: BitBlock> {
+    blocks: &'a [B],
+    summary: Blocks<'a, B>,
+    // What is left of the summary's block in hand.
+    marks: B,
+    // The index of the block that its lowest digit stands for.
+    place: usize,
+    steps: Steps,
+}
+
+impl<'a, B: BitBlock> Model for Nonzero<'a, B> {
+    ghost use Rattle.std.specs.Prelude.{length, map};
+    ghost use Rattle.bit_words.specs.Nonzero.{Nonzeros};
+    ghost use Rattle.bit_words.specs.Marks.{IsMarked, marked_from};
+
+    ghost Value = { Nonzeros B };
+
+    ghost view = { λ it. record { blocks = it.blocks.now; left = marked_from B.width B.number it.place (B.number it.marks) it.blocks.now; pulls = it.steps; summary_pulls = it.summary.pulls; summary_left = length it.summary.left } };
+
+    ghost invariant = { λ it. IsMarked B.width B.number B.is_block it.place it.marks it.blocks.now it.summary.left };
+}
+
+impl<'a, B: BitBlock> Nonzero<'a, B> {
+    // The walk over these blocks, which have this summary.
+    #[inline]
+    pub(crate) fn over(blocks: &'a [B], summary: &'a [B]) -> Self
+        requires each { All B.is_block blocks.now }
+        requires fits { length blocks.now < 2 ^ 64 }
+        requires summary { IsSummary B.width B.number B.is_block blocks.now summary.now }
+        ensures blocks { result.blocks ≡ blocks.now }
+        ensures left { result.left ≡ first_and_nonzero B.number blocks.now }
+        ensures pulls { result.pulls ≡ 0 }
+        ensures summary_pulls { result.summary_pulls ≡ 1 }
+        ensures summary_left { result.summary_left ≡ length summary.now - 1 }
+    {
+        let mut summary = Blocks::over(summary);
+        let marks = match summary.next() {
+            Some(first) => with_first_marked(first),
+            None => B::zero(),
+        };
+        Nonzero {
+            blocks,
+            summary,
+            marks,
+            place: 0,
+            steps: Steps::new(),
+        }
+    }
+
+    /// All the blocks that it goes over, in a row. Constant time.
+    #[inline]
+    pub fn as_slice(&self) -> &'a [B]
+        ensures { result.now ≡ self.now.blocks }
+    {
+        self.blocks
+    }
+
+    /// A walk from the same place, whose counts go on from this one's. Constant time.
+    #[inline]
+    pub fn clone(&self) -> Self
+        ensures { result ≡ self.now }
+    {
+        Nonzero {
+            blocks: self.blocks,
+            summary: self.summary.clone(),
+            marks: self.marks,
+            place: self.place,
+            steps: self.steps.clone(),
+        }
+    }
+}
+
+impl<'a, B: BitBlock> Iterator for Nonzero<'a, B> {
+    ghost use Rattle.bit_words.specs.Nonzero.{PullsNonzero};
+
+    type Item = (usize, B);
+
+    ghost next_gives = { PullsNonzero };
+
+    ghost remaining = { item_count (λ walk. walk.left) };
+
+    /// The next block that is not zero, or the first block, with its index.
+    #[inline]
+    fn next(&mut self) -> Option<(usize, B)> {
+        self.steps.tick();
+        while self.marks == B::zero() {
+            self.marks = self.summary.next()?;
+            self.place += B::bits();
+        }
+        let k = self.place + take_lowest_one(&mut self.marks);
+        Some((k, at(self.blocks, k)))
+    }
+}
+
+// The marks of a row of blocks, and that of the first in any case.
+#[inline]
+fn with_first_marked<B: BitBlock>(marks: B) -> B
+    requires { B.is_block marks }
+    ensures of_block { B.is_block result }
+    ensures of_digits { IsEither B.width (B.number marks) 1 (B.number result) }
+{
+    block_or(marks, B::one())
+}
+
+#[inline]
+fn at<B: BitBlock>(blocks: &[B], k: usize) -> B
+    requires { k < length blocks.now }
+    ensures { slice_get blocks.now k ≡ Some result }
+{
+    blocks[k]
+}
