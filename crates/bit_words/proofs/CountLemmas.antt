@@ -40,7 +40,7 @@ module _ {X : Type 0} (number : X → ℕ) where
       ⊎_elim
       (λ within.
       let unused : is_used (map number xs) (i * w + j) ≡ false =
-          sym (digit (i * w + j)) ∙ value_at-place w (map number sums) i j within ∙ ap (λ m. is_one m j) none ∙ is_one-zero j in
+      sym (digit (i * w + j)) ∙ value_at-place w (map number sums) i j within ∙ ap (λ m. is_one m j) none ∙ is_one-zero j in
       read j ∙ get_or-take w (map number (drop (i * w) xs)) j 0 within
       ∙ ap (λ ms. get_or ms j 0) (sym (drop-map number (i * w) xs)) ∙ get_or-drop (i * w) (map number xs) j 0
       ∙ eqb-true _ 0 (not-false _ unused))
@@ -49,6 +49,7 @@ module _ {X : Type 0} (number : X → ℕ) where
     where
       read : (j : ℕ) → get_or (map number (take w (drop (i * w) xs))) j 0 ≡ get_or (take w (map number (drop (i * w) xs))) j 0
       read j = ap (λ ms. get_or ms j 0) (sym (take-map number w (drop (i * w) xs)))
+
       short : (j : ℕ) → w ≤ j → length (map number (take w (drop (i * w) xs))) ≤ j
       short j past = let most = length-take w (drop (i * w) xs) in rw length-map (omega (arith, most))
 

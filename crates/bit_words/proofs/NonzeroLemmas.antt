@@ -1,5 +1,5 @@
 -- The walk over the blocks that are not 0, by the marks of a summary.
-use Rattle.std.proofs.Common.{◌≡◌, ℕ, zero, suc, ◌+◌, ◌-◌, ◌*◌, ◌/◌, ◌%◌, ◌^◌, ◌<◌, ◌≤◌, Bool, true, false, not, ◌||◌, nat_lt, if◌then◌else◌, ◌↔◌, ◌==◌, eqb, List, [], ◌∷◌, min, map, drop, take, length, get_or, get_or-take, mul-le-mul_right, All, refl, sym, ap, ◌∙◌, subst, arith, ⊎_elim, mod-lt, div-add-mod'}
+use Rattle.std.proofs.Common.{◌≡◌, ℕ, zero, suc, ◌+◌, ◌-◌, ◌*◌, ◌/◌, ◌%◌, ◌^◌, ◌<◌, ◌≤◌, Bool, true, false, not, ◌||◌, nat_lt, if◌then◌else◌, ◌↔◌, ◌==◌, eqb, List, [], ◌∷◌, min, map, drop, take, length, get_or, get_or-take, mul-le-mul_right, All, refl, sym, ap, ◌∙◌, arith, ⊎_elim, mod-lt, div-add-mod'}
 use Rattle.std.proofs.lemmas.Bool.{cases_lt, cases_eq, eq-eqb, true≢false}
 use Rattle.std.proofs.lemmas.Bool.Decides.{nat_tests}
 use Rattle.std.proofs.Math.Seq.{drop-drop}
@@ -114,30 +114,31 @@ module _ {X : Type 0} (w : ℕ) (number : X → ℕ) (is_block : X → Type 0) w
       let inside : place + i < length xs = is.inside i within one in
       let here : f (place + i) ≡ true = marked-within w place m ms (place + i) (omega arith) ∙ ap (is_one m) (let e : place + i - place ≡ i = omega arith in e) ∙ one in
       let before : (j : ℕ) → place ≤ j → j < place + i → f j ≡ false = λ j from to.
-          marked-within w place m ms j (omega arith) ∙ is_one-none m (j - place) (low.zeros (j - place) (omega arith)) in
+      marked-within w place m ms j (omega arith) ∙ is_one-none m (j - place) (low.zeros (j - place) (omega arith)) in
       let none : (j : ℕ) → place ≤ j → j < place + (i + 1) → g j ≡ false = λ j from to.
-          marked-within w place r ms j (omega arith)
-          ∙ ⊎_elim
-          (λ below. is_one-none r (j - place) (cleared.kept (j - place) (omega arith) (λ e. omega (arith, e)) ∙ low.zeros (j - place) below))
-          (λ at. ap (is_one r) (let e : j - place ≡ i = omega arith in e) ∙ is_one-none r i cleared.cleared)
-          (cases_lt (j - place) i) in
+      marked-within w place r ms j (omega arith)
+      ∙ ⊎_elim
+      (λ below. is_one-none r (j - place) (cleared.kept (j - place) (omega arith) (λ e. omega (arith, e)) ∙ low.zeros (j - place) below))
+      (λ at. ap (is_one r) (let e : j - place ≡ i = omega arith in e) ∙ is_one-none r i cleared.cleared)
+      (cases_lt (j - place) i) in
       let after : (j : ℕ) → place + i + 1 ≤ j → f j ≡ g j = λ j from.
-          ⊎_elim
-          (λ in_hand.
-          marked-within w place m ms j in_hand
-          ∙ ap (λ b. b == 1) (sym (cleared.kept (j - place) (omega arith) (λ e. omega (arith, e))))
-          ∙ sym (marked-within w place r ms j in_hand))
-          (λ past. marked-past w place m ms j past ∙ sym (marked-past w place r ms j past))
-          (cases_lt j (place + w)) in
-      (inside,
+      ⊎_elim
+      (λ in_hand.
+      marked-within w place m ms j in_hand
+      ∙ ap (λ b. b == 1) (sym (cleared.kept (j - place) (omega arith) (λ e. omega (arith, e))))
+      ∙ sym (marked-within w place r ms j in_hand))
+      (λ past. marked-past w place m ms j past ∙ sym (marked-past w place r ms j past))
+      (cases_lt j (place + w)) in (
+        inside,
         pick-pass f place i (drop place xs) before
-        ∙ ap (pick f (place + i)) (drop-drop i place xs)
-        ∙ pick-first f (place + i) xs d inside here
-        ∙ ap (λ ys. (place + i, get_or xs (place + i) d) ∷ ys)
-        (pick-same f g (place + i + 1) (drop (place + i + 1) xs) after
-        ∙ ap (λ n. pick g n (drop n xs)) (let e : place + i + 1 ≡ place + (i + 1) = omega arith in e)
-        ∙ ap (pick g (place + (i + 1))) (sym (drop-drop (i + 1) place xs))
-        ∙ sym (pick-pass g place (i + 1) (drop place xs) none)))
+            ∙ ap (pick f (place + i)) (drop-drop i place xs)
+            ∙ pick-first f (place + i) xs d inside here
+            ∙ ap (λ ys. (place + i, get_or xs (place + i) d) ∷ ys)
+            (pick-same f g (place + i + 1) (drop (place + i + 1) xs) after
+            ∙ ap (λ n. pick g n (drop n xs)) (let e : place + i + 1 ≡ place + (i + 1) = omega arith in e)
+            ∙ ap (pick g (place + (i + 1))) (sym (drop-drop (i + 1) place xs))
+            ∙ sym (pick-pass g place (i + 1) (drop place xs) none)),
+      )
 
   pub IsMarked-taken : (place i : ℕ) (marks rest : X) (xs sums : List X) → IsMarked w number is_block place marks xs sums → is_block rest → IsCleared w (number marks) i (number rest) → IsMarked w number is_block place rest xs sums
   IsMarked-taken place i marks rest xs sums is block cleared = record {
@@ -165,20 +166,20 @@ module _ {X : Type 0} (w : ℕ) (number : X → ℕ) (is_block : X → Type 0) w
       let f = is_marked w place m ms in
       let g = is_marked w (place + w) (number next) ms in
       let none : (j : ℕ) → place ≤ j → j < place + w → f j ≡ false = λ j from to.
-          marked-within w place m ms j to ∙ ap (λ n. is_one n (j - place)) used_up ∙ is_one-zero (j - place) in
+      marked-within w place m ms j to ∙ ap (λ n. is_one n (j - place)) used_up ∙ is_one-zero (j - place) in
       let after : (j : ℕ) → place + w ≤ j → f j ≡ g j = λ j from.
-          marked-past w place m ms j from
-          ∙ ⊎_elim
-          (λ in_hand.
-          let e : place + w + (j - (place + w)) ≡ j = omega arith in
-          sym (
-          marked-within w (place + w) (number next) ms j in_hand
-          ∙ sym (value_at-first w (number next) (map number rest) (j - (place + w)) (omega arith))
-          ∙ ap (λ ys. value_at w (map number ys) (j - (place + w))) (sym more)
-          ∙ is.digit (j - (place + w))
-          ∙ ap (λ k. is_used ms k) e))
-          (λ past. sym (marked-past w (place + w) (number next) ms j past))
-          (cases_lt j (place + w + w)) in
+      marked-past w place m ms j from
+      ∙ ⊎_elim
+      (λ in_hand.
+      let e : place + w + (j - (place + w)) ≡ j = omega arith in
+      sym (
+      marked-within w (place + w) (number next) ms j in_hand
+      ∙ sym (value_at-first w (number next) (map number rest) (j - (place + w)) (omega arith))
+      ∙ ap (λ ys. value_at w (map number ys) (j - (place + w))) (sym more)
+      ∙ is.digit (j - (place + w))
+      ∙ ap (λ k. is_used ms k) e))
+      (λ past. sym (marked-past w (place + w) (number next) ms j past))
+      (cases_lt j (place + w + w)) in
       pick-pass f place w (drop place xs) none
       ∙ ap (pick f (place + w)) (drop-drop w place xs)
       ∙ pick-same f g (place + w) (drop (place + w) xs) after
@@ -189,7 +190,7 @@ module _ {X : Type 0} (w : ℕ) (number : X → ℕ) (is_block : X → Type 0) w
       let some : 0 < length sums = rw more (omega arith) in
       let few = is.few some in
       let digit : (k : ℕ) → value_at w (number next ∷ map number rest) k ≡ is_used (map number xs) (place + w + k) = λ k.
-          ap (λ ys. value_at w (map number ys) k) (sym more) ∙ is.digit k in
+      ap (λ ys. value_at w (map number ys) k) (sym more) ∙ is.digit k in
       record {
         each = is.each;
         in_hand = block;
@@ -210,7 +211,7 @@ module _ {X : Type 0} (w : ℕ) (number : X → ℕ) (is_block : X → Type 0) w
       let m = number marks in
       let f = is_marked w place m (map number xs) in
       let none : (j : ℕ) → place ≤ j → j < place + w → f j ≡ false = λ j from to.
-          marked-within w place m (map number xs) j to ∙ ap (λ n. is_one n (j - place)) used_up ∙ is_one-zero (j - place) in
+      marked-within w place m (map number xs) j to ∙ ap (λ n. is_one n (j - place)) used_up ∙ is_one-zero (j - place) in
       let count : length sums * w ≡ 0 = ap (λ ys. length ys * w) none_left ∙ omega arith in
       pick-pass f place w (drop place xs) none
       ∙ ap (pick f (place + w)) (drop-drop w place xs ∙ drop_all (place + w) xs (omega (arith, is.enough, count)))
@@ -281,21 +282,21 @@ module _ {X : Type 0} (w : ℕ) (number : X → ℕ) (is_block : X → Type 0) w
       let ms = map number (x ∷ xs) in
       let f = is_marked w 0 m ms in
       let here : f 0 ≡ true =
-          marked-within w 0 m ms 0 (omega arith)
-          ∙ begun_marks marks first (x ∷ xs) sums rest pos is more either 0 pos
-          ∙ ap (λ b. is_used ms 0 || b) unit_lowest
-          ∙ or-true (is_used ms 0) in
+      marked-within w 0 m ms 0 (omega arith)
+      ∙ begun_marks marks first (x ∷ xs) sums rest pos is more either 0 pos
+      ∙ ap (λ b. is_used ms 0 || b) unit_lowest
+      ∙ or-true (is_used ms 0) in
       let tell : (j : ℕ) → f (1 + j) ≡ is_used (map number xs) j = λ j.
-          ⊎_elim
-          (λ within.
-          marked-within w 0 m ms (1 + j) within
-          ∙ ap (is_one m) (let e : 1 + j - 0 ≡ 1 + j = omega arith in e)
-          ∙ begun_marks marks first (x ∷ xs) sums rest pos is more either (1 + j) (omega (arith, within))
-          ∙ ap (λ b. is_used ms (1 + j) || b) (ap (is_one 1) (let e : 1 + j ≡ suc j = omega arith in e) ∙ unit_above j)
-          ∙ or-false (is_used ms (1 + j)))
-          (λ past. marked-past w 0 m ms (1 + j) past)
-          (cases_lt (1 + j) (0 + w))
-          ∙ ap (is_used ms) (let e : 1 + j ≡ suc j = omega arith in e) in
+      ⊎_elim
+      (λ within.
+      marked-within w 0 m ms (1 + j) within
+      ∙ ap (is_one m) (let e : 1 + j - 0 ≡ 1 + j = omega arith in e)
+      ∙ begun_marks marks first (x ∷ xs) sums rest pos is more either (1 + j) (omega (arith, within))
+      ∙ ap (λ b. is_used ms (1 + j) || b) (ap (is_one 1) (let e : 1 + j ≡ suc j = omega arith in e) ∙ unit_above j)
+      ∙ or-false (is_used ms (1 + j)))
+      (λ past. marked-past w 0 m ms (1 + j) past)
+      (cases_lt (1 + j) (0 + w))
+      ∙ ap (is_used ms) (let e : 1 + j ≡ suc j = omega arith in e) in
       ap (λ b. if b then (0, x) ∷ pick f 1 xs else pick f 1 xs) here
       ∙ ap (λ ys. (0, x) ∷ ys) (pick-nonzero number f 1 xs tell)
 
@@ -347,7 +348,7 @@ module _ {X : Type 0} (w : ℕ) (number : X → ℕ) (is_block : X → Type 0) w
   zero_by_summary below xs sums is = (
     λ none. all_zero xs (λ k. zero_from_row xs sums is k (zero_at sums none (k / w))),
     λ none. all_zero sums (λ q. zero_from_digits w (get_or (map number sums) q 0) (numbers_below w number is_block sums below is.tidy.each q) (λ j within.
-    sym (value_at-place w (map number sums) q j within) ∙ is.digit (q * w + j) ∙ used_from_zero (get_or (map number xs) (q * w + j) 0) (zero_at xs none (q * w + j)))),
+        sym (value_at-place w (map number sums) q j within) ∙ is.digit (q * w + j) ∙ used_from_zero (get_or (map number xs) (q * w + j) 0) (zero_at xs none (q * w + j)))),
   )
 
   -- ---- up to where there are blocks that are not 0
@@ -364,10 +365,10 @@ module _ {X : Type 0} (w : ℕ) (number : X → ℕ) (is_block : X → Type 0) w
       let whole = div-add-mod' k w in
       let rest = mod-lt k pos in
       let row : rows ≤ k / w =
-          ⊎_elim
-          (λ below. absurd (let under = mul-le-mul_right w (let e : k / w + 1 ≤ rows = omega arith in e) in omega (arith, under, from, whole, rest)))
-          (λ not_below. not_below)
-          (cases_lt (k / w) rows) in
+      ⊎_elim
+      (λ below. absurd (let under = mul-le-mul_right w (let e : k / w + 1 ≤ rows = omega arith in e) in omega (arith, under, from, whole, rest)))
+      (λ not_below. not_below)
+      (cases_lt (k / w) rows) in
       zero_from_row xs sums is k (none (k / w) row))
       (λ outside. get_or_past (map number xs) k 0 (rw length-map outside))
       (cases_lt k (length xs))

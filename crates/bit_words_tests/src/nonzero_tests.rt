@@ -5,13 +5,22 @@ use std::alloc::{AllocError, Global};
 use std::process::Abort;
 use std::test::Fail;
 
+// Makes the value at a place be this, where there is one.
+fn put<B: BitBlock>(bits: &mut BitVec<B>, place: usize, bit: bool) {
+    if place < bits.len() {
+        bits.set(place, bit);
+    }
+}
+
 // A list of so many values, of which these are true.
-fn list_of<B: BitBlock>(alloc: Global, len: usize, trues: &[usize]) -> Result<BitVec<B>, AllocError> {
+fn list_of<B: BitBlock>(
+    alloc: Global,
+    len: usize,
+    trues: &[usize],
+) -> Result<BitVec<B>, AllocError> {
     let mut bits = BitVec::from_elem_general(alloc, len, false)?;
     for place in trues {
-        if *place < bits.len() {
-            bits.set(*place, true);
-        }
+        put(&mut bits, *place, true);
     }
     Ok(bits)
 }
@@ -39,22 +48,32 @@ fn the_first_block_and_those_that_are_not_zero_come(rt: HostRuntime) -> Result<(
     Ok(())
 }
 
-// Blocks at both ends of the summary's blocks: that many are passed over, and each is found.
-fn ends_are_found<B: BitBlock>(rt: &impl Abort, alloc: Global) -> Result<(), AllocError> {
-    let row = B::bits() * B::bits();
-    let bits = list_of::<B>(alloc, 4 * row, &[row - 1, 3 * row, 4 * row - 1])?;
-    let found = [Some(0), Some(B::bits() - 1), Some(3 * B::bits()), Some(4 * B::bits() - 1)];
-    assert_eq!(rt; indices(&bits), found);
-    assert_eq!(rt; bits.count_ones(), 3);
+// The first and the last blocks that a block of the summary tells of: all that lie between are passed
+// over, and each of these is found.
+fn ends_are_found<B: BitBlock>(
+    rt: &impl Abort,
+    alloc: Global,
+    (len, trues): (usize, &[usize]),
+    found: [usize; 4],
+) -> Result<(), AllocError> {
+    let bits = list_of::<B>(alloc, len, trues)?;
+    assert_eq!(rt; indices(&bits), found.map(Some));
+    assert_eq!(rt; bits.count_ones(), trues.len());
     assert!(rt; !bits.none());
     Ok(())
 }
 
 #[test]
 fn zero_blocks_are_passed_over(rt: HostRuntime) -> Result<(), Fail> {
-    ends_are_found::<u8>(&rt, rt.alloc())?;
-    ends_are_found::<Block24>(&rt, rt.alloc())?;
-    ends_are_found::<u64>(&rt, rt.alloc())?;
+    let alloc = rt.alloc();
+    ends_are_found::<u8>(&rt, alloc, (256, &[63, 192, 255]), [0, 7, 24, 31])?;
+    ends_are_found::<Block24>(&rt, alloc, (2304, &[575, 1728, 2303]), [0, 23, 72, 95])?;
+    ends_are_found::<u64>(
+        &rt,
+        alloc,
+        (16384, &[4095, 12288, 16383]),
+        [0, 63, 192, 255],
+    )?;
     Ok(())
 }
 
@@ -77,10 +96,10 @@ fn a_walk_goes_on_from_its_clone(rt: HostRuntime) -> Result<(), Fail> {
 #[test]
 fn a_removed_value_leaves_the_summary(rt: HostRuntime) -> Result<(), Fail> {
     let mut bits = list_of::<u32>(rt.alloc(), 401, &[0, 400])?;
-    bits.set(400, false);
+    put(&mut bits, 400, false);
     assert_eq!(rt; indices(&bits), [Some(0), None, None, None]);
     assert!(rt; !bits.none());
-    bits.set(0, false);
+    put(&mut bits, 0, false);
     assert!(rt; bits.none());
     assert_eq!(rt; bits.count_ones(), 0);
     bits.cut_zero_blocks();

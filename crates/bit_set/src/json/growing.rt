@@ -9,8 +9,7 @@ ghost use Rattle.bit_set.specs.Entries.{IsEntry, numbers_of};
 use super::JsonBlock;
 use super::checking::block_of;
 use crate::BitBlock;
-use crate::bit_vec::BitVec;
-use crate::bit_vec::take_lowest_one;
+use crate::bit_vec::{BitVec, take_lowest_one};
 use serde_json::Value;
 use std::alloc::{AllocError, Global};
 

@@ -1,6 +1,5 @@
 use Rattle.std.proofs.Common.{◌≡◌, ◌*◌, take, drop}
 use Rattle.bit_words.specs.Nonzero.{ones_in}
-use Rattle.bit_words.proofs.CountLemmas.{ones_in-more}
 use Rattle.bit_words.proofs.bit_vec.counting.ones_by_summary.Given as goal
 
 -- a summary's block for each row of blocks that was counted

@@ -1,4 +1,4 @@
-use Rattle.std.proofs.Common.{◌≡◌, ◌*◌, ◌^◌, ◌-◌, min, take, length, length-take, sym, ap, ◌∙◌, ⊎_elim, arith}
+use Rattle.std.proofs.Common.{◌≡◌, ◌*◌, ◌^◌, ◌-◌, min, length, length-take, sym, ap, ◌∙◌, ⊎_elim, arith}
 use Rattle.std.proofs.lemmas.Bool.{cases_lt}
 use Rattle.bit_words.proofs.NonzeroLemmas.{front_read, zero_past_rows}
 use Rattle.bit_words.proofs.bit_vec.room.used_by_summary.Goals as goal
@@ -11,7 +11,7 @@ returns-clause-zeros g c = λ k past.
     let xs = c.args.blocks.now in
     let end = c.min-end.result in
     let at : end ≡ min (min (c.used_blocks-rows.result * w) (2 ^ 64 - 1)) (length xs) =
-        c.min-end.ensures ∙ ap (λ n. min n (length xs)) (c.saturating_mul.ensures ∙ ap (λ n. min (c.used_blocks-rows.result * n) (2 ^ 64 - 1)) c.bits.ensures) in
+    c.min-end.ensures ∙ ap (λ n. min n (length xs)) (c.saturating_mul.ensures ∙ ap (λ n. min (c.used_blocks-rows.result * n) (2 ^ 64 - 1)) c.bits.ensures) in
     ⊎_elim
     (λ within. sym (front_read w number is_block xs end k within) ∙ c.used_blocks.ensures.zeros k past)
     (λ outside. zero_past_rows w number is_block xs c.args.summary.now c.used_blocks-rows.result end k g.met.B.BitBlock.width_law.positive c.requires.summary c.used_blocks-rows.ensures.zeros at outside)
