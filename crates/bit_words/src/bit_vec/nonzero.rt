@@ -1,4 +1,4 @@
-ghost use Rattle.std.specs.Prelude.{◌≡◌, ◌-◌, ◌<◌, ◌^◌, All, Some, length, slice_get};
+ghost use Rattle.std.specs.Prelude.{◌≡◌, ◌-◌, ◌<◌, ◌^◌, min, All, Some, length, slice_get};
 ghost use Rattle.std.specs.Iterator.{item_count};
 ghost use Rattle.bit_words.specs.Bits.{blocks_for};
 ghost use Rattle.bit_words.specs.Digits.{IsEither};
@@ -49,17 +49,18 @@ impl<'a, B: BitBlock> Nonzero<'a, B> {
         ensures blocks { result.blocks ≡ blocks.now }
         ensures left { result.left ≡ first_and_nonzero B.number blocks.now }
         ensures pulls { result.pulls ≡ 0 }
-        ensures summary_pulls { result.summary_pulls ≡ 1 }
+        ensures summary_pulls { result.summary_pulls ≡ min 1 (length summary.now) }
         ensures summary_left { result.summary_left ≡ length summary.now - 1 }
     {
-        let mut summary = Blocks::over(summary);
-        let marks = match summary.next() {
-            Some(first) => with_first_marked(first),
+        let marks = match summary.first() {
+            Some(first) => with_first_marked(*first),
             None => B::zero(),
         };
+        let mut rest = Blocks::over(summary);
+        rest.pass(summary.len().min(1));
         Nonzero {
             blocks,
-            summary,
+            summary: rest,
             marks,
             place: 0,
             steps: Steps::new(),

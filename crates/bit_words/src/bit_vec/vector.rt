@@ -1,4 +1,4 @@
-ghost use Rattle.std.specs.Prelude.{◌≡◌, ◌-◌, ◌↔◌, All, IsTrue, false, length, map, slice_get};
+ghost use Rattle.std.specs.Prelude.{◌≡◌, ◌-◌, ◌↔◌, All, IsTrue, false, length, map, min, slice_get};
 ghost use Rattle.std.specs.List.{count_by};
 ghost use Rattle.bit_words.specs.Bits.{blocks_for, blocks_of, IsRoomOfBlocks, IsWithinRoom};
 ghost use Rattle.bit_words.specs.Nonzero.{first_and_nonzero};
@@ -122,7 +122,7 @@ impl<B: BitBlock> BitVec<B> {
         ensures each { All B.is_block result.blocks }
         ensures left { result.left ≡ first_and_nonzero B.number result.blocks }
         ensures pulls { result.pulls ≡ 0 }
-        ensures summary_pulls { result.summary_pulls ≡ 1 }
+        ensures summary_pulls { result.summary_pulls ≡ min 1 (blocks_for B.width (blocks_for B.width (length self.now.values))) }
         ensures summary_left { result.summary_left ≡ blocks_for B.width (blocks_for B.width (length self.now.values)) - 1 }
         ensures fits { IsWithinRoom self.now }
     {

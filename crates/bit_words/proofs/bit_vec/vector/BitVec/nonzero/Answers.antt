@@ -1,4 +1,4 @@
-use Rattle.std.proofs.Common.{◌≡◌, ◌-◌, map, length, sym, ap, ◌∙◌, arith}
+use Rattle.std.proofs.Common.{◌≡◌, ◌-◌, map, length, min, sym, ap, ◌∙◌, arith}
 use Rattle.std.proofs.lemmas.List.{length-map}
 use Rattle.bit_words.specs.Bits.{blocks_for}
 use Rattle.bit_words.proofs.StorageLemmas.{blocks-values_of}
@@ -17,6 +17,13 @@ returns-clause-blocks g c =
     let count : length (map f xs) ≡ blocks_for w c.self.inside.len = rw length-map c.self.invariant.tidy.count in
     let below = numbers_below w f g.B.BitBlock.is_block xs (λ x is. (g.met.B.BitBlock.number_law x is).0) c.self.invariant.tidy.each in
     rw (c.over.ensures.blocks, c.deref.ensures.value, ← c.self.view_is) (blocks-values_of w (map f xs) c.self.inside.len g.met.B.BitBlock.width_law.positive count below c.self.invariant.tidy.tail)
+
+pub returns-clause-summary_pulls : goal.returns-clause-summary_pulls
+returns-clause-summary_pulls g c =
+    let w = g.B.BitBlock.width in
+    let sums : length c.deref-2.result.now ≡ blocks_for w (length c.self.inside.blocks.items) = rw c.deref-2.ensures.value c.self.invariant.summary.tidy.count in
+    let blocks = ap (blocks_for w) (c.self.invariant.tidy.count ∙ ap (blocks_for w) (sym (length_from_view _ _ _ _ _ c.self.view_is))) in
+    c.over.ensures.summary_pulls ∙ ap (min 1) (sums ∙ blocks)
 
 pub returns-clause-summary_left : goal.returns-clause-summary_left
 returns-clause-summary_left g c =
