@@ -1,9 +1,10 @@
 -- The walk over the blocks that are not 0, by the marks of a summary.
-use Rattle.std.proofs.Common.{◌≡◌, ℕ, zero, suc, ◌+◌, ◌-◌, ◌*◌, ◌/◌, ◌%◌, ◌^◌, ◌<◌, ◌≤◌, Bool, true, false, not, ◌||◌, nat_lt, if◌then◌else◌, ◌↔◌, ◌==◌, eqb, List, [], ◌∷◌, min, map, drop, take, length, get_or, get_or-take, mul-le-mul_right, All, refl, sym, ap, ◌∙◌, arith, ⊎_elim, mod-lt, div-add-mod'}
+use Rattle.std.proofs.Common.{◌≡◌, ◌≢◌, ℕ, zero, suc, ◌+◌, ◌-◌, ◌*◌, ◌/◌, ◌%◌, ◌^◌, ◌<◌, ◌≤◌, Bool, true, false, not, ◌||◌, nat_lt, if◌then◌else◌, ◌↔◌, ◌==◌, eqb, List, [], ◌∷◌, min, map, drop, take, length, get_or, get_or-take, get_or-drop, count_ones, mul-le-mul_right, All, refl, sym, ap, ◌∙◌, arith, ⊎_elim, mod-lt, div-add-mod'}
 use Rattle.std.proofs.lemmas.Bool.{cases_lt, cases_eq, eq-eqb, true≢false}
 use Rattle.std.proofs.lemmas.Bool.Decides.{nat_tests}
 use Rattle.std.proofs.Math.Seq.{drop-drop}
-use Rattle.std.proofs.lemmas.List.{drop_more, drop_all, get_or_past, length-map, take-map}
+use Rattle.std.proofs.lemmas.List.{drop_more, drop_all, drop-map, drop-take, get_or_past, length-map, take-map}
+use Rattle.std.proofs.lemmas.List.Sums.{sum_by-cons, sum_by-take-drop}
 use Rattle.std.specs.Int.{bit_at}
 use Rattle.std.proofs.Math.Bool.{or-false, or-true}
 use Rattle.std.proofs.lemmas.Nat.Bits.{bit_at-suc, bit_at-zero, bit_at_lowest}
@@ -13,7 +14,8 @@ use Rattle.bit_words.specs.Lowest.{IsLowest, IsCleared}
 use Rattle.bit_words.specs.Storage.{is_one, value_at}
 use Rattle.bit_words.specs.Summary.{is_used, IsSummary}
 use Rattle.bit_words.specs.Marks.{IsMarked, pick, is_marked, marked_from}
-use Rattle.bit_words.specs.Nonzero.{nonzero_from, first_and_nonzero}
+use Rattle.bit_words.specs.Nonzero.{nonzero_from, first_and_nonzero, ones_in, ones_left}
+use Rattle.bit_words.proofs.LowestLemmas.{ones_zero}
 use Rattle.bit_words.proofs.Masks.{is_one-zero, is_one-either}
 use Rattle.std.proofs.lemmas.List.Elements.{All-nil, All-cons, All-head, All-tail}
 use Rattle.bit_words.proofs.BitsLemmas.{blocks_for-enough, blocks_for-least}
@@ -100,6 +102,10 @@ nonzero_inside number k xs some =
     absurd (true≢false (sym some ∙ ap (λ m. not (m == 0)) none)))
     (cases_lt k (length xs))
 
+-- what lies past the first blocks
+dropped : {X : Type 0} (number : X → ℕ) (n j : ℕ) (xs : List X) → get_or (map number (drop n xs)) j 0 ≡ get_or (map number xs) (n + j) 0
+dropped number n j xs = ap (λ ms. get_or ms j 0) (sym (drop-map number n xs)) ∙ get_or-drop n (map number xs) j 0
+
 module _ {X : Type 0} (w : ℕ) (number : X → ℕ) (is_block : X → Type 0) where
   -- ---- the lowest mark is taken
 
@@ -140,17 +146,31 @@ module _ {X : Type 0} (w : ℕ) (number : X → ℕ) (is_block : X → Type 0) w
             ∙ sym (pick-pass g place (i + 1) (drop place xs) none)),
       )
 
-  pub IsMarked-taken : (place i : ℕ) (marks rest : X) (xs sums : List X) → IsMarked w number is_block place marks xs sums → is_block rest → IsCleared w (number marks) i (number rest) → IsMarked w number is_block place rest xs sums
-  IsMarked-taken place i marks rest xs sums is block cleared = record {
+  pub IsMarked-taken : (place i : ℕ) (marks rest : X) (xs sums : List X) → IsMarked w number is_block place marks xs sums → is_block rest → IsLowest (number marks) i → IsCleared w (number marks) i (number rest) → IsMarked w number is_block place rest xs sums
+  IsMarked-taken place i marks rest xs sums is block low cleared = record {
     each = is.each;
     in_hand = block;
     sums_each = is.sums_each;
     fits = is.fits;
+    within = is.within;
     inside = λ j within one.
         ⊎_elim
         (λ at. absurd (true≢false (sym one ∙ ap (is_one (number rest)) at ∙ is_one-none (number rest) i cleared.cleared)))
         (λ other. is.inside j within (ap (λ b. b == 1) (sym (cleared.kept j within other)) ∙ one))
         (cases_eq j i);
+    exact = λ a j after within one.
+        let kept : (k : ℕ) → k < w → k ≢ i → is_one (number rest) k ≡ is_one (number marks) k = λ k below other. ap (λ b. b == 1) (cleared.kept k below other) in
+        let past : i < a =
+        ⊎_elim
+        (λ below. absurd (true≢false (sym one ∙ kept a (omega arith) (λ e. omega (arith, e)) ∙ is_one-none (number marks) a (low.zeros a below))))
+        (λ not_below.
+        ⊎_elim
+        (λ at. absurd (true≢false (sym one ∙ ap (is_one (number rest)) at ∙ is_one-none (number rest) i cleared.cleared)))
+        (λ other. omega (arith, other))
+        (cases_eq a i))
+        (cases_lt a i) in
+        kept j within (λ e. omega (arith, e))
+        ∙ is.exact a j after within (sym (kept a (omega arith) (λ e. omega (arith, e))) ∙ one);
     enough = is.enough;
     few = is.few;
     digit = is.digit;
@@ -196,8 +216,10 @@ module _ {X : Type 0} (w : ℕ) (number : X → ℕ) (is_block : X → Type 0) w
         in_hand = block;
         sums_each = blocks;
         fits = is.fits;
+        within = omega (arith, few, count);
         inside = λ j within one.
             nonzero_inside number (place + w + j) xs (sym (digit j) ∙ value_at-first w (number next) (map number rest) j within ∙ one);
+        exact = λ i j after within one. sym (value_at-first w (number next) (map number rest) j within) ∙ digit j;
         enough = omega (arith, is.enough, count);
         few = λ more_left. omega (arith, few, count);
         digit = λ k.
@@ -251,7 +273,9 @@ module _ {X : Type 0} (w : ℕ) (number : X → ℕ) (is_block : X → Type 0) w
         in_hand = block;
         sums_each = blocks;
         fits = fits;
+        within = omega arith;
         inside = λ j within raised. let e = begun_inside j within raised in omega (arith, e);
+        exact = λ i j after within raised. begun_digit j within (omega (arith, after)) ∙ ap (is_used (map number xs)) (let e : j ≡ 0 + j = omega arith in e);
         enough = omega (arith, enough, whole, product);
         few = λ some.
             ⊎_elim
@@ -265,14 +289,16 @@ module _ {X : Type 0} (w : ℕ) (number : X → ℕ) (is_block : X → Type 0) w
             ∙ ap (is_used (map number xs)) (let e : w + k ≡ 0 + w + k = omega arith in e);
       }
     where
+      begun_digit : (j : ℕ) → j < w → 0 < j → is_one (number marks) j ≡ is_used (map number xs) j
+      begun_digit zero within above = absurd (omega (arith, above))
+      begun_digit (suc j) within above =
+          begun_marks marks first xs sums rest pos is more either (suc j) within
+          ∙ ap (λ b. is_used (map number xs) (suc j) || b) (unit_above j)
+          ∙ or-false (is_used (map number xs) (suc j))
+
       begun_inside : (j : ℕ) → j < w → is_one (number marks) j ≡ true → j < length xs
       begun_inside zero within raised = some_blocks first xs sums rest pos is more
-      begun_inside (suc j) within raised =
-          nonzero_inside number (suc j) xs (
-          sym (or-false (is_used (map number xs) (suc j)))
-          ∙ ap (λ b. is_used (map number xs) (suc j) || b) (sym (unit_above j))
-          ∙ sym (begun_marks marks first xs sums rest pos is more either (suc j) within)
-          ∙ raised)
+      begun_inside (suc j) within raised = nonzero_inside number (suc j) xs (sym (begun_digit (suc j) within (omega arith)) ∙ raised)
 
   pub left-begun : (marks first : X) (xs sums rest : List X) → 0 < w → IsSummary w number is_block xs sums → sums ≡ first ∷ rest → IsEither w (number first) 1 (number marks)
       → marked_from w number 0 (number marks) xs ≡ first_and_nonzero number xs
@@ -310,7 +336,9 @@ module _ {X : Type 0} (w : ℕ) (number : X → ℕ) (is_block : X → Type 0) w
         in_hand = block;
         sums_each = is.tidy.each;
         fits = fits;
+        within = omega arith;
         inside = λ j within one. absurd (true≢false (sym one ∙ ap (λ n. is_one n j) zero_there ∙ is_one-zero j));
+        exact = λ i j after within one. absurd (true≢false (sym one ∙ ap (λ n. is_one n i) zero_there ∙ is_one-zero i));
         enough = omega (arith, enough, whole);
         few = λ some. absurd (omega (arith, count));
         digit = λ k.
@@ -326,6 +354,120 @@ module _ {X : Type 0} (w : ℕ) (number : X → ℕ) (is_block : X → Type 0) w
       let enough = blocks_for-enough w (length (x ∷ xs)) pos in
       let whole : blocks_for w (length (x ∷ xs)) * w ≡ 0 = ap (λ k. k * w) (sym is.tidy.count ∙ count) ∙ omega arith in
       absurd (omega (arith, enough, whole))
+
+-- ---- the ones of what is left
+
+module _ {X : Type 0} (w : ℕ) (number : X → ℕ) (is_block : X → Type 0) where
+  -- where every block that is not picked is 0
+  ones_picked : (f : ℕ → Bool) (k : ℕ) (xs : List X) → ((j : ℕ) → f (k + j) ≡ false → get_or (map number xs) j 0 ≡ 0) → ones_left number (pick f k xs) ≡ ones_in number xs
+  ones_picked f k [] zeros = refl
+  ones_picked f k (x ∷ xs) zeros =
+      picked (ones_picked f (k + 1) xs (λ j none. zeros (suc j) (ap f (let e : k + suc j ≡ k + 1 + j = omega arith in e) ∙ none))) (f k) refl
+    where
+      picked : ones_left number (pick f (k + 1) xs) ≡ ones_in number xs → (b : Bool) → f k ≡ b → ones_left number (if f k then (k, x) ∷ pick f (k + 1) xs else pick f (k + 1) xs) ≡ ones_in number (x ∷ xs)
+      picked rest true e =
+          ap (λ b. ones_left number (if b then (k, x) ∷ pick f (k + 1) xs else pick f (k + 1) xs)) e
+          ∙ sum_by-cons (λ entry. count_ones (number entry.1)) (k, x) (pick f (k + 1) xs)
+          ∙ ap (λ n. count_ones (number x) + n) rest
+          ∙ sym (sum_by-cons (λ y. count_ones (number y)) x xs)
+      picked rest false e =
+          let none : count_ones (number x) ≡ 0 = ap count_ones (zeros 0 (ap f (let e : k + 0 ≡ k = omega arith in e) ∙ e)) ∙ ones_zero in
+          ap (λ b. ones_left number (if b then (k, x) ∷ pick f (k + 1) xs else pick f (k + 1) xs)) e
+          ∙ rest
+          ∙ (let e : ones_in number xs ≡ count_ones (number x) + ones_in number xs = omega (arith, none) in e)
+          ∙ sym (sum_by-cons (λ y. count_ones (number y)) x xs)
+
+  -- fewer where some blocks are left out
+  fewer_picked : (f : ℕ → Bool) (k n : ℕ) (xs : List X) → ones_left number (pick f (k + n) (drop n xs)) ≤ ones_left number (pick f k xs)
+  fewer_picked f k zero xs = let same = ap (λ j. ones_left number (pick f j xs)) (let e : k + zero ≡ k = omega arith in e) in omega (arith, same)
+  fewer_picked f k (suc n) [] = omega arith
+  fewer_picked f k (suc n) (x ∷ xs) =
+      let same = ap (λ j. ones_left number (pick f j (drop n xs))) (let e : k + suc n ≡ k + 1 + n = omega arith in e) in
+      let rest = fewer_picked f (k + 1) n xs in
+      let more = without (f k) (pick f (k + 1) xs) in
+      omega (arith, same, rest, more)
+    where
+      without : (b : Bool) (ys : List (ℕ × X)) → ones_left number ys ≤ ones_left number (if b then (k, x) ∷ ys else ys)
+      without true ys = let more = sum_by-cons (λ entry. count_ones (number entry.1)) (k, x) ys in omega (arith, more)
+      without false ys = omega arith
+
+  -- from the lowest mark on, where there is one
+  pub left-ones : (place i : ℕ) (marks : X) (xs sums : List X) → IsMarked w number is_block place marks xs sums → IsLowest (number marks) i → i < w
+      → ones_left number (marked_from w number place (number marks) xs) ≡ ones_in number (drop (place + i) xs)
+  left-ones place i marks xs sums is low within =
+      let m = number marks in
+      let ms = map number xs in
+      let f = is_marked w place m ms in
+      let one : is_one m i ≡ true = is_one-one m i low.one in
+      let before : (j : ℕ) → place ≤ j → j < place + i → f j ≡ false = λ j from to.
+      marked-within w place m ms j (omega arith) ∙ is_one-none m (j - place) (low.zeros (j - place) (omega arith)) in
+      let tell : (j : ℕ) → f (place + i + suc j) ≡ is_used ms (place + i + suc j) = λ j.
+      ⊎_elim
+      (λ in_hand.
+      let e : place + i + suc j - place ≡ i + suc j = omega arith in
+      marked-within w place m ms (place + i + suc j) in_hand
+      ∙ ap (is_one m) e
+      ∙ is.exact i (i + suc j) (omega arith) (omega (arith, in_hand)) one
+      ∙ ap (is_used ms) (let e : place + (i + suc j) ≡ place + i + suc j = omega arith in e))
+      (λ past. marked-past w place m ms (place + i + suc j) past)
+      (cases_lt (place + i + suc j) (place + w)) in
+      let here : f (place + i) ≡ true = marked-within w place m ms (place + i) (omega arith) ∙ ap (is_one m) (let e : place + i - place ≡ i = omega arith in e) ∙ one in
+      ap (ones_left number) (pick-pass f place i (drop place xs) before ∙ ap (pick f (place + i)) (drop-drop i place xs))
+      ∙ ones_picked f (place + i) (drop (place + i) xs) (zeros f here tell)
+    where
+      zeros : (f : ℕ → Bool) → f (place + i) ≡ true → ((j : ℕ) → f (place + i + suc j) ≡ is_used (map number xs) (place + i + suc j))
+          → (j : ℕ) → f (place + i + j) ≡ false → get_or (map number (drop (place + i) xs)) j 0 ≡ 0
+      zeros f here tell zero none = absurd (true≢false (sym here ∙ ap f (let e : place + i ≡ place + i + 0 = omega arith in e) ∙ none))
+      zeros f here tell (suc j) none = dropped number (place + i) (suc j) xs ∙ zero_from_unused (get_or (map number xs) (place + i + suc j) 0) (sym (tell j) ∙ none)
+
+  -- past the block of the summary in hand
+  ones_past : (place m : ℕ) (xs : List X) → ones_left number (pick (is_marked w place m (map number xs)) (place + w) (drop w (drop place xs))) ≡ ones_in number (drop w (drop place xs))
+  ones_past place m xs =
+      let ms = map number xs in
+      ones_picked (is_marked w place m ms) (place + w) (drop w (drop place xs)) (λ j unmarked.
+      ap (λ ys. get_or (map number ys) j 0) (drop-drop w place xs)
+      ∙ dropped number (place + w) j xs
+      ∙ zero_from_unused (get_or ms (place + w + j) 0) (sym (marked-past w place m ms (place + w + j) (omega arith)) ∙ unmarked))
+
+  -- these are all where it has no mark
+  pub left-ones_past : (place : ℕ) (marks : X) (xs : List X) → number marks ≡ 0
+      → ones_left number (marked_from w number place (number marks) xs) ≡ ones_in number (drop w (drop place xs))
+  left-ones_past place marks xs used_up =
+      let m = number marks in
+      let ms = map number xs in
+      let f = is_marked w place m ms in
+      let none : (j : ℕ) → place ≤ j → j < place + w → f j ≡ false = λ j from to.
+      marked-within w place m ms j to ∙ ap (λ n. is_one n (j - place)) used_up ∙ is_one-zero (j - place) in
+      ap (ones_left number) (pick-pass f place w (drop place xs) none) ∙ ones_past place m xs
+
+  -- and they are never more
+  pub left-ones_rest : (place m : ℕ) (xs : List X) → ones_in number (drop w (drop place xs)) ≤ ones_left number (marked_from w number place m xs)
+  left-ones_rest place m xs =
+      let fewer = fewer_picked (is_marked w place m (map number xs)) place w (drop place xs) in
+      omega (arith, fewer, ones_past place m xs)
+
+  -- those of the blocks of the row in hand, and of the ones past it
+  pub left-ones_split : (place i : ℕ) (marks : X) (xs sums : List X) → IsMarked w number is_block place marks xs sums → IsLowest (number marks) i → i < w
+      → ones_in number (drop w (drop place xs)) + ones_in number (drop i (take w (drop place xs))) ≡ ones_left number (marked_from w number place (number marks) xs)
+  left-ones_split place i marks xs sums is low within =
+      let ys = drop place xs in
+      let zs = drop i ys in
+      let whole = sum_by-take-drop (λ x. count_ones (number x)) zs (w - i) in
+      let e : i + (w - i) ≡ w = omega arith in
+      let row : ones_in number (drop i (take w ys)) ≡ ones_in number (take (w - i) zs) =
+      ap (λ n. ones_in number (drop i (take n ys))) (sym e) ∙ ap (ones_in number) (drop-take i (w - i) ys) in
+      let rest : ones_in number (drop w ys) ≡ ones_in number (drop (w - i) zs) =
+      ap (λ n. ones_in number (drop n ys)) (sym e) ∙ ap (ones_in number) (sym (drop-drop (w - i) i ys)) in
+      let left : ones_left number (marked_from w number place (number marks) xs) ≡ ones_in number zs =
+      left-ones place i marks xs sums is low within ∙ ap (ones_in number) (sym (drop-drop i place xs)) in
+      omega (arith, whole, row, rest, left)
+
+  -- what the blocks of the summary that are left tell
+  pub tells_rest : (place : ℕ) (marks : X) (xs sums : List X) → IsMarked w number is_block place marks xs sums → (k : ℕ) → value_at w (map number sums) k ≡ is_used (map number (drop w (drop place xs))) k
+  tells_rest place marks xs sums is k =
+      is.digit k
+      ∙ ap (λ m. not (m == 0)) (sym (dropped number (place + w) k xs))
+      ∙ ap (λ ys. is_used (map number ys) k) (sym (drop-drop w place xs))
 
 -- ---- all blocks are 0 where all of the summary are
 

@@ -37,3 +37,7 @@ first_and_nonzero number (x ∷ xs) = (0, x) ∷ nonzero_from number 1 xs
 -- how many binary digits of blocks are 1
 abbrev pub ones_in : {X : Type 0} → (X → ℕ) → List X → ℕ
 ones_in number xs = sum_by (λ x. count_ones (number x)) xs
+
+-- how many binary digits are 1 of blocks that are left, each of which comes with its index
+abbrev pub ones_left : {X : Type 0} → (X → ℕ) → List (ℕ × X) → ℕ
+ones_left number left = sum_by (λ entry. count_ones (number entry.1)) left

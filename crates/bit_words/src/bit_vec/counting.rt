@@ -58,7 +58,7 @@ fn ones_where<B: BitBlock>(marks: B, blocks: &[B]) -> usize
 
 // As many blocks as one has bits, or all where there are fewer, and the others.
 #[inline]
-fn first_blocks<B: BitBlock>(blocks: &[B]) -> (&[B], &[B])
+pub(crate) fn first_blocks<B: BitBlock>(blocks: &[B]) -> (&[B], &[B])
     ensures first { result.0.now ≡ take B.width blocks.now }
     ensures rest { result.1.now ≡ drop B.width blocks.now }
 {

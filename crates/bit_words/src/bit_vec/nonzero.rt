@@ -2,9 +2,10 @@ ghost use Rattle.std.specs.Prelude.{◌≡◌, ◌-◌, ◌<◌, ◌^◌, min, A
 ghost use Rattle.std.specs.Iterator.{item_count};
 ghost use Rattle.bit_words.specs.Bits.{blocks_for};
 ghost use Rattle.bit_words.specs.Digits.{IsEither};
-ghost use Rattle.bit_words.specs.Nonzero.{first_and_nonzero};
+ghost use Rattle.bit_words.specs.Nonzero.{first_and_nonzero, ones_left};
 ghost use Rattle.bit_words.specs.Summary.{IsSummary};
 
+use super::counting::{first_blocks, ones_by_summary, ones_of};
 use super::lowest::take_lowest_one;
 use super::words::block_or;
 use super::{BitBlock, Blocks, Steps};
@@ -87,6 +88,22 @@ impl<'a, B: BitBlock> Nonzero<'a, B> {
             place: self.place,
             steps: self.steps.clone(),
         }
+    }
+
+    /// How many ones the blocks that are left have. Adds up those of each, and passes over as many blocks
+    /// at once as a block has bits where they are all zero.
+    pub fn count_ones(self) -> usize
+        requires fits { ones_left B.number self.left < 2 ^ 64 }
+        ensures { result ≡ ones_left B.number self.entry.left }
+    {
+        let (row, rest) = first_blocks(self.blocks.split_at(self.place).1);
+        let ones = ones_by_summary(rest, self.summary.as_slice());
+        let mut marks = self.marks;
+        if marks == B::zero() {
+            return ones;
+        }
+        // From its lowest digit on the block in hand tells of each block that is not zero.
+        ones + ones_of(row.split_at(take_lowest_one(&mut marks)).1)
     }
 }
 

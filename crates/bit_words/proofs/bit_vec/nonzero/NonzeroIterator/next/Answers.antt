@@ -58,7 +58,7 @@ pub invariant_of-self-2 : goal.invariant_of-self-2
 invariant_of-self-2 g c =
     let it = c.loop-self.self-inside in
     let taken = c.take_lowest_one.ensures in
-    IsMarked-taken g.B.BitBlock.width g.B.BitBlock.number g.B.BitBlock.is_block it.place c.take_lowest_one.result it.marks c.take_lowest_one.new.block it.blocks.now it.summary.left c.loop-self.invariant.walk taken.of_block taken.cleared
+    IsMarked-taken g.B.BitBlock.width g.B.BitBlock.number g.B.BitBlock.is_block it.place c.take_lowest_one.result it.marks c.take_lowest_one.new.block it.blocks.now it.summary.left c.loop-self.invariant.walk taken.of_block taken.lowest taken.cleared
 
 pub returns-clause-steps : goal.returns-clause-steps
 returns-clause-steps g c =
