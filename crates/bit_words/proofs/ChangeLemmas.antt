@@ -11,7 +11,7 @@ use Rattle.bit_words.proofs.StorageLemmas.{value_at-is, value_at-past, value_at-
 same_place : (w i j : ℕ) → i / w ≡ j / w → i % w ≡ j % w → i ≡ j
 same_place w i j e f = let p = ap (λ q. q * w) e in omega (arith, div-add-mod' i w, div-add-mod' j w)
 
-nat_le-places : (w i j : ℕ) → j / w ≡ i / w → nat_le i j ≡ nat_le (i % w) (j % w)
+pub nat_le-places : (w i j : ℕ) → j / w ≡ i / w → nat_le i j ≡ nat_le (i % w) (j % w)
 nat_le-places w i j e = let p = ap (λ q. q * w) e in let a = div-add-mod' i w in let b = div-add-mod' j w in grind (arith, nat_tests)
 
 pub nat_lt-places : (w i j : ℕ) → i / w ≡ j / w → nat_lt i j ≡ nat_lt (i % w) (j % w)

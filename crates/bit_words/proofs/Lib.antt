@@ -14,5 +14,6 @@ pub mod MergeLemmas
 pub mod CompareLemmas
 pub mod RoomLemmas
 pub mod SummaryLemmas
+pub mod TailLemmas
 pub mod NonzeroLemmas
 pub mod CountLemmas

@@ -16,6 +16,7 @@ mod nonzero;
 mod room;
 mod steps;
 mod summary;
+mod tails;
 mod tidy;
 mod vector;
 mod words;

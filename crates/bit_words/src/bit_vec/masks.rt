@@ -82,3 +82,15 @@ pub(crate) fn cut_from<B: BitBlock>(block: B, place: usize) -> B
 {
     block_and(block, ones_below(place))
 }
+
+// The digits below `place` become 0.
+#[inline]
+#[tactic(auto, using(crate::proofs::Masks::masks))]
+pub(crate) fn cut_below<B: BitBlock>(block: B, place: usize) -> B
+    requires of_block { B.is_block block }
+    requires within { place < B.width }
+    ensures of_block { B.is_block result }
+    ensures digits { (j : ℕ) → j < B.width → is_one (B.number result) j ≡ (nat_le place j && is_one (B.number block) j) }
+{
+    block_and(block, ones_from(place))
+}

@@ -29,7 +29,7 @@ fn is_nonzero<B: BitBlock>(block: B) -> bool
 
 // The summary learns of block `k`, whatever it said of it.
 #[inline]
-fn note_block<B: BitBlock>(sums: &mut Vec<B>, blocks: &[B], k: usize)
+pub(crate) fn note_block<B: BitBlock>(sums: &mut Vec<B>, blocks: &[B], k: usize)
     requires in_bounds { k < length blocks.now }
     requires in_sums { k / B.width < vec_len sums.old }
     requires each { All B.is_block sums.old.items }

@@ -1,13 +1,15 @@
 // Calls that make a bit vector.
-ghost use Rattle.std.specs.Prelude.{◌≡◌, ◌*◌, ◌<◌, ◌≤◌, ◌↔◌, [], length, replicate, IfOk, IsErrOf, IsOk};
+ghost use Rattle.std.specs.Prelude.{◌≡◌, ◌*◌, ◌<◌, ◌≤◌, ◌↔◌, ◌++◌, [], drop, false, length, replicate, IfOk, IsErrOf, IsOk};
 ghost use Rattle.bit_words.specs.Bits.{blocks_for, room_of, values_of_bytes};
 ghost use Rattle.bit_words.specs.declared.bit_vec.vector.making.BitsError.TheVariants.{Memory};
 
 use super::BitVec;
 use crate::bit_vec::BitBlock;
 use crate::bit_vec::bytes::blocks_of_bytes;
+use crate::bit_vec::changes::block_index;
 use crate::bit_vec::copying::copy_of;
 use crate::bit_vec::summary::summary_of;
+use crate::bit_vec::tails::{copy_summary_from, copy_values_from};
 use std::alloc::{AllocError, Global};
 use thiserror::Error;
 
@@ -123,6 +125,21 @@ impl<B: BitBlock> BitVec<B> {
     {
         let blocks = copy_of(alloc, &self.blocks)?;
         let summary = copy_of(alloc, &self.summary)?;
+        Ok(BitVec {
+            blocks,
+            summary,
+            len: self.len,
+        })
+    }
+    /// A bit vector of the same length and the same values from `at` on, which is below the length; those
+    /// before it are false. Writes each block once, those before that of `at` as zeros. Fails only where
+    /// memory is refused.
+    pub fn clone_tail(&self, alloc: Global, at: usize) -> Result<Self, AllocError>
+        requires { at < length self.now.values }
+        ensures { IfOk result (λ vector. vector.values ≡ replicate at false ++ drop at self.now.values) }
+    {
+        let blocks = copy_values_from(alloc, &self.blocks, at)?;
+        let summary = copy_summary_from(alloc, &self.summary, &blocks, block_index::<B>(at))?;
         Ok(BitVec {
             blocks,
             summary,
