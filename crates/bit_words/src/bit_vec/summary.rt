@@ -1,12 +1,12 @@
 // The summary of a vector of blocks: a list of truth values, one for each block, that tells which
 // are not 0. It is kept in blocks as well, and so changed by what changes those.
-ghost use Rattle.std.specs.Prelude.{◌≡◌, ◌≢◌, ℕ, ◌+◌, ◌*◌, ◌/◌, ◌^◌, ◌<◌, ◌≤◌, ◌==◌, ◌&&◌, ◌||◌, All, IfOk, IsOk, not, nat_lt, length, map, vec_len, vec_capacity};
+ghost use Rattle.std.specs.Prelude.{◌≡◌, ◌≢◌, ℕ, ◌+◌, ◌*◌, ◌/◌, ◌^◌, ◌<◌, ◌≤◌, ◌==◌, ◌&&◌, ◌||◌, All, IfOk, IsOk, get_or, not, nat_lt, length, map, true, vec_len, vec_capacity};
 ghost use Rattle.bit_words.specs.Bits.{blocks_for};
 ghost use Rattle.bit_words.specs.Storage.{is_one, value_at, IsTidy};
 ghost use Rattle.bit_words.specs.Summary.{is_used, IsSummary};
 ghost use Rattle.bit_words.specs.declared.bit_vec.merge.Merge.{Merge};
 
-use super::changes::{block_at, block_count, put_block, replace_value};
+use super::changes::{block_at, block_count, put_block, replace_value, write_value};
 use super::copying::push_copies;
 use super::masks::with_digit;
 use super::merging::merge_values;
@@ -43,25 +43,24 @@ pub(crate) fn note_block<B: BitBlock>(sums: &mut Vec<B>, blocks: &[B], k: usize)
     let _was = replace_value(sums, k, is_nonzero(block_at(blocks, k)));
 }
 
-// The summary learns that block `k` was `before` and is `after`. It is not touched where both or
-// neither are 0.
+// The summary learns that block `k`, in which a digit became `bit`, is now `block`. `row` is the block
+// of the summary that tells of it. No branch depends on the block: in a sparse set it would be random.
 #[inline]
-pub(crate) fn note_change<B: BitBlock>(sums: &mut Vec<B>, k: usize, before: B, after: B)
+pub(crate) fn note_change<B: BitBlock>(sums: &mut Vec<B>, row: B, k: usize, block: B, bit: bool)
     requires in_sums { k / B.width < vec_len sums.old }
     requires each { All B.is_block sums.old.items }
-    requires of_before { B.is_block before }
-    requires of_after { B.is_block after }
-    requires was { value_at B.width (map B.number sums.old.items) k ≡ not (B.number before == 0) }
-    ensures same { value_at B.width (map B.number sums.new.items) k ≡ not (B.number after == 0) }
+    requires of_row { B.is_block row }
+    requires read { B.number row ≡ get_or (map B.number sums.old.items) (k / B.width) 0 }
+    requires of_block { B.is_block block }
+    requires raised { bit ≡ true → not (B.number block == 0) ≡ true }
+    ensures same { value_at B.width (map B.number sums.new.items) k ≡ not (B.number block == 0) }
     ensures others { (j : ℕ) → j ≢ k → value_at B.width (map B.number sums.new.items) j ≡ value_at B.width (map B.number sums.old.items) j }
     ensures each { All B.is_block sums.new.items }
     ensures len { vec_len sums.new ≡ vec_len sums.old }
     ensures capacity { vec_capacity sums.new ≡ vec_capacity sums.old }
 {
-    let used = is_nonzero(after);
-    if is_nonzero(before) != used {
-        let _was = replace_value(sums, k, used);
-    }
+    let used = bit || is_nonzero(block);
+    write_value(sums, k, row, used);
 }
 
 // Which of the `count` blocks from `start` on are not 0, the first of them at the lowest digit.

@@ -22,8 +22,7 @@ impl<B: BitBlock> BitVec<B> {
     }
 
     /// Makes the value at `i` be `bit`, where `i` is below [`len`](Self::len), and answers what it was.
-    /// Constant time: one read and one write of one block, and of one of the summary where the block
-    /// becomes 0 or stops being it.
+    /// Constant time: one read and one write of one block and of one of the summary, whatever they hold.
     #[inline]
     pub fn replace(&mut self, i: usize, bit: bool) -> bool
         requires { i < length self.old.values }
@@ -32,10 +31,11 @@ impl<B: BitBlock> BitVec<B> {
         ensures room { self.new.room ≡ self.old.room }
     {
         let k = block_index::<B>(i);
-        let before = block_at(&self.blocks, k);
+        // Read before the block is written: a read after it must wait for the write, which may be to it.
+        let row = block_at(&self.summary, block_index::<B>(k));
         let was = replace_value(&mut self.blocks, i, bit);
-        let after = block_at(&self.blocks, k);
-        note_change(&mut self.summary, k, before, after);
+        let block = block_at(&self.blocks, k);
+        note_change(&mut self.summary, row, k, block, bit);
         was
     }
 
