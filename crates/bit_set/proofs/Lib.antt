@@ -1,6 +1,7 @@
 pub mod SetLemmas
 pub mod SetLaws
 pub mod AlgebraLemmas
+pub mod SplitLemmas
 pub mod SubsetLemmas
 pub mod CollectLemmas
 pub mod ValueLemmas

@@ -129,9 +129,9 @@ finite-put_all s items =
     or_flip false true = refl
     or_flip false false = refl
 
-pub finite-those_below : (s : List ℕ) (n : ℕ) → finite (those_below s n) ≡ set.retain (finite s) (λ m. ltb m n)
-finite-those_below s n =
-    same_finite (those_below s n) _ (λ m. has-those_below s n m ∙ and_flip (ltb m n) (has s m) ∙ sym (set.contains-retain (finite s) (λ x. ltb x n) m (λ x e. ap (λ y. ltb y n) (sym (eqb-true m x (sym (unsigned_tied m x) ∙ ap is_eq e)))) ∙ ap (λ b. b && ltb m n) (contains-has s m)))
+pub finite-filter : (p : ℕ → Bool) (s : List ℕ) → finite (filter p s) ≡ set.retain (finite s) p
+finite-filter p s =
+    same_finite (filter p s) _ (λ m. has-filter p s m ∙ and_flip (p m) (has s m) ∙ sym (set.contains-retain (finite s) p m (λ x e. ap p (sym (eqb-true m x (sym (unsigned_tied m x) ∙ ap is_eq e)))) ∙ ap (λ b. b && p m) (contains-has s m)))
   where
     and_flip : (a b : Bool) → (a && b) ≡ (b && a)
     and_flip true true = refl

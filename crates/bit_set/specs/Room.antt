@@ -18,6 +18,7 @@ pub data Call : Type 0 where
   IntersectWith : (other : ℕ) → Call
   DifferenceWith : (other : ℕ) → Call
   SymmetricDifferenceWith : (other : ℕ) → Call
+  Append : (other : ℕ) → Call
 
 -- for how long a set the call wants room
 abbrev pub room_wanted : Call → ℕ
@@ -33,6 +34,7 @@ room_wanted (UnionWith other) = other
 room_wanted (IntersectWith other) = other
 room_wanted (DifferenceWith other) = other
 room_wanted (SymmetricDifferenceWith other) = other
+room_wanted (Append other) = other
 
 -- The call found room for `old` and left room for `new`, and it succeeded or was refused. Where the room that it wants was
 -- there it succeeded, and the room stayed. Nowhere did the room fall.

@@ -1,5 +1,5 @@
 -- Sets of whole numbers, each as the list of its members in ascending order.
-use Rattle.std.specs.Prelude.{ℕ, ◌+◌, ◌≤◌, max, Bool, false, not, ◌||◌, ◌==◌, nat_lt, if◌then◌else◌, List, [], ◌∷◌, filter}
+use Rattle.std.specs.Prelude.{ℕ, ◌+◌, ◌≤◌, max, Bool, false, not, ◌||◌, ◌==◌, nat_lt, nat_le, if◌then◌else◌, List, [], ◌∷◌, filter}
 use Rattle.std.specs.List.{list_all}
 use Rattle.bit_words.specs.declared.bit_vec.merge.Merge.{Merge}
 use Rattle.bit_words.specs.declared.bit_vec.merge.Merge.TheVariants.{Union, Intersection, Difference, Symmetric}
@@ -39,6 +39,10 @@ elements bs = elements_from 0 bs
 -- those of the set that are below n
 abbrev pub those_below : List ℕ → ℕ → List ℕ
 those_below xs n = filter (λ x. nat_lt x n) xs
+
+-- the others of the set: those that are n or above
+abbrev pub those_from : List ℕ → ℕ → List ℕ
+those_from xs n = filter (λ x. nat_le n x) xs
 
 -- the set with each of some items, put in one by one
 abbrev pub put_all : List ℕ → List ℕ → List ℕ

@@ -1,6 +1,6 @@
 //! Laws of sets of numbers, as the contracts of functions that do nothing. A set is the list of its
 //! members in strictly ascending order.
-ghost use Rattle.std.specs.Prelude.{◌≡◌, ℕ, ◌+◌, ◌-◌, ◌*◌, ◌/◌, ◌<◌, ◌≤◌, ◌↔◌, ◌++◌, ◌∷◌, ◌==◌, ◌&&◌, ◌||◌, max, not, nat_lt, Bool, true, All, IsTrue, Some, None, Option, List, [], length, slice_get};
+ghost use Rattle.std.specs.Prelude.{◌≡◌, ℕ, ◌+◌, ◌-◌, ◌*◌, ◌/◌, ◌<◌, ◌≤◌, ◌↔◌, ◌++◌, ◌∷◌, ◌==◌, ◌&&◌, ◌||◌, max, min, not, nat_lt, nat_le, if◌then◌else◌, Bool, true, All, IsTrue, Some, None, Option, List, [], length, slice_get};
 ghost use Rattle.std.specs.FinSet as set;
 ghost use Rattle.std.specs.Cmp.{IsEquivalence, IsTotalOrder};
 ghost use Rattle.std.specs.Ordering.{nat_cmp};
@@ -13,7 +13,7 @@ ghost use Rattle.bit_set.specs.declared.json.JsonError.{JsonError};
 ghost use Rattle.bit_set.specs.Walk.{Walk, BoundedWalk, IsWalkedOut, IsAtStart, WalksOverTwo};
 ghost use Rattle.bit_words.specs.Merges.{merged_value, merged};
 ghost use Rattle.bit_words.specs.declared.bit_vec.merge.Merge.{Merge};
-ghost use Rattle.bit_set.specs.Sets.{IsAscending, has, put, put_all, without, those_below, elements, bound_of, union, intersection, difference, symmetric_difference, merged_sets, is_subset, is_disjoint};
+ghost use Rattle.bit_set.specs.Sets.{IsAscending, has, put, put_all, without, those_below, those_from, elements, bound_of, union, intersection, difference, symmetric_difference, merged_sets, is_subset, is_disjoint};
 ghost use Rattle.bit_set.specs.Order.{same_sets, order_of_sets, fed_of_set};
 
 use crate::bit_vec::Merge;
@@ -25,6 +25,7 @@ pub fn members_of_sets()
     ensures put { (s : List ℕ) (n m : ℕ) → has (put s n) m ≡ (n == m || has s m) }
     ensures without { (s : List ℕ) (n m : ℕ) → has (without s n) m ≡ (not (n == m) && has s m) }
     ensures those_below { (s : List ℕ) (n m : ℕ) → has (those_below s n) m ≡ (nat_lt m n && has s m) }
+    ensures those_from { (s : List ℕ) (n m : ℕ) → has (those_from s n) m ≡ (nat_le n m && has s m) }
     ensures put_all { (s items : List ℕ) (m : ℕ) → has (put_all s items) m ≡ (has items m || has s m) }
     ensures elements { (values : List Bool) (m : ℕ) → IsTrue (has (elements values) m) ↔ (slice_get values m ≡ Some true) }
 {}
@@ -34,6 +35,7 @@ pub fn sets_ascend()
     ensures put { (s : List ℕ) (n : ℕ) → IsAscending s → IsAscending (put s n) }
     ensures without { (s : List ℕ) (n : ℕ) → IsAscending s → IsAscending (without s n) }
     ensures those_below { (s : List ℕ) (n : ℕ) → IsAscending s → IsAscending (those_below s n) }
+    ensures those_from { (s : List ℕ) (n : ℕ) → IsAscending s → IsAscending (those_from s n) }
     ensures put_all { (s items : List ℕ) → IsAscending s → IsAscending (put_all s items) }
     ensures elements { (values : List Bool) → IsAscending (elements values) }
 {}
@@ -53,6 +55,7 @@ pub fn sets_are_finite_sets()
     ensures insert { (s : List ℕ) (n : ℕ) → set.from_list {R = nat_cmp} (put s n) ≡ set.insert (set.from_list s) n }
     ensures remove { (s : List ℕ) (n : ℕ) → set.from_list {R = nat_cmp} (without s n) ≡ set.remove (set.from_list s) n }
     ensures retain { (s : List ℕ) (n : ℕ) → set.from_list {R = nat_cmp} (those_below s n) ≡ set.retain (set.from_list s) (λ m. nat_lt m n) }
+    ensures retain_from { (s : List ℕ) (n : ℕ) → set.from_list {R = nat_cmp} (those_from s n) ≡ set.retain (set.from_list s) (λ m. nat_le n m) }
     ensures union { (s items : List ℕ) → set.from_list {R = nat_cmp} (put_all s items) ≡ set.union (set.from_list s) (set.from_list items) }
     ensures len { (s : List ℕ) → IsAscending s → set.len (set.from_list {R = nat_cmp} s) ≡ length s }
 {}
@@ -104,6 +107,19 @@ pub fn sets_in_one_another()
     ensures no_intersection { (s t : List ℕ) → IsTrue (is_disjoint s t) ↔ (intersection s t ≡ []) }
     ensures both_ways { (s t : List ℕ) → IsAscending s → IsAscending t → (IsTrue (is_subset s t) × IsTrue (is_subset t s)) ↔ (s ≡ t) }
     ensures finite_sets { (s t : List ℕ) → is_subset s t ≡ set.is_subset (set.from_list {R = nat_cmp} s) (set.from_list t) }
+{}
+
+/// What a set in two parts is, as `split_off` parts one: its members below a number, and the others. The
+/// two have nothing in common, each of the first is below each of the second, and together they are the
+/// set. So `append` of the part that was handed out leaves the list of truth values as it was before:
+/// the old elements, and the old length.
+pub fn parted_sets()
+    ensures joined { (s : List ℕ) (at : ℕ) → IsAscending s → union (those_below s at) (those_from s at) ≡ s }
+    ensures disjoint { (s : List ℕ) (at : ℕ) → IsTrue (is_disjoint (those_below s at) (those_from s at)) }
+    ensures below { (s : List ℕ) (at m n : ℕ) → IsTrue (has (those_below s at) m) → IsTrue (has (those_from s at) n) → m < n }
+    ensures rejoined { (old first part new : List Bool) (at : ℕ) → elements first ≡ those_below (elements old) at → length first ≡ min (length old) at
+        → elements part ≡ those_from (elements old) at → length part ≡ (if nat_lt at (length old) then length old else 0)
+        → elements new ≡ union (elements first) (elements part) → length new ≡ max (length first) (length part) → new ≡ old }
 {}
 
 /// What `from_iter` collects of a whole walk over what two sets become is what the operation in place
@@ -177,8 +193,8 @@ pub fn whole_walks_ascend<B: BitBlock + 'static>()
 /// Room that is there is enough. Where a set has room for `room` values, as after `reserve_len(room)`, any
 /// run of calls that want no more is never refused, and the room stays: that of insertions below `room`,
 /// of removals, of `truncate`, `make_empty` and `reset`, of reservations of at most `room`, and of
-/// `clone_from` and operations in place with sets no longer than `room`. The clause `leaves` of each call
-/// says what it does to the room.
+/// `clone_from`, `append` and operations in place with sets no longer than `room`. The clause `leaves` of
+/// each call says what it does to the room.
 pub fn runs_within_room()
     ensures each { (room old new : ℕ) (calls : List (Call × Bool)) → room ≤ old → All (λ call. room_wanted call.0 ≤ room) calls → Run old calls new → All (λ call. IsTrue call.1) calls }
     ensures stays { (room old new : ℕ) (calls : List (Call × Bool)) → room ≤ old → All (λ call. room_wanted call.0 ≤ room) calls → Run old calls new → new ≡ old }

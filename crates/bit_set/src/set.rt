@@ -11,6 +11,7 @@ mod comparing;
 mod making;
 mod merging;
 mod room;
+mod splitting;
 
 /// A set of whole numbers below `usize::MAX`, kept as a bit vector: a number is an element exactly
 /// where the vector is true at it.

@@ -1,0 +1,115 @@
+-- A set in two parts: those below a number, and the others.
+use Rattle.std.proofs.Common.{◌≡◌, ℕ, ◌-◌, ◌+◌, ◌<◌, ◌≤◌, max, min, Bool, true, false, ◌||◌, ◌&&◌, ltb, if◌then◌else◌, nat_lt, nat_le, List, [], ◌++◌, length, get_or, drop, replicate, refl, sym, ap, ap₂, ◌∙◌, inl, inr, arith, IsTrue}
+use Rattle.std.proofs.lemmas.Bool.{and_parts, cases_lt, true≢false}
+use Rattle.std.proofs.lemmas.Bool.Decides.{nat_tests}
+use Rattle.std.proofs.lemmas.List.{get_or-drop, get_or-replicate, get_or_append_left, get_or-append_right, length-replicate, get_or_past}
+use Rattle.bit_set.specs.Sets.{IsAscending, has, elements, those_below, those_from, union, is_disjoint}
+use Rattle.bit_set.proofs.AlgebraLemmas.{has-union}
+use Rattle.bit_set.proofs.SetLemmas.{IsAscending-elements, has-elements, elements-by_members, same_members}
+use Rattle.bit_set.proofs.SetLaws.{AscendsFrom-filter, IsAscending-put_all, IsAscending-those_below, has-filter, has-those_below, same_values}
+use Rattle.bit_set.proofs.SubsetLemmas.{is_disjoint-members}
+
+pub has-those_from : (s : List ℕ) (n m : ℕ) → has (those_from s n) m ≡ (nat_le n m && has s m)
+has-those_from s n m = has-filter (λ x. nat_le n x) s m
+
+pub IsAscending-those_from : (s : List ℕ) (n : ℕ) → IsAscending s → IsAscending (those_from s n)
+IsAscending-those_from s n up = AscendsFrom-filter 0 (λ x. nat_le n x) s up
+
+-- ---- the part of a list that stands on a bit vector
+
+get_or-tail : (bs : List Bool) (n k : ℕ) → get_or (replicate n false ++ drop n bs) k false ≡ (nat_le n k && get_or bs k false)
+get_or-tail bs n k =
+    elim (cases_lt k n) [
+      | inl before ↦
+          let test : nat_le n k ≡ false = grind (arith, nat_tests) in
+          get_or_append_left (replicate n false) (drop n bs) false k (rw length-replicate before)
+          ∙ get_or-replicate n k false false before
+          ∙ ap (λ t. t && get_or bs k false) (sym test)
+      | inr from ↦
+          let test : nat_le n k ≡ true = grind (arith, nat_tests) in
+          let index : n + (k - n) ≡ k = omega arith in
+          get_or-append_right (replicate n false) (drop n bs) n k false (length-replicate n false) from
+          ∙ get_or-drop n bs (k - n) false
+          ∙ ap (λ q. get_or bs q false) index
+          ∙ ap (λ t. t && get_or bs k false) (sym test)
+    ]
+
+pub elements-tail : (bs : List Bool) (n : ℕ) → elements (replicate n false ++ drop n bs) ≡ those_from (elements bs) n
+elements-tail bs n =
+    elements-by_members _ (those_from (elements bs) n) (IsAscending-those_from (elements bs) n (IsAscending-elements bs))
+    (λ k. get_or-tail bs n k ∙ ap (λ b. nat_le n k && b) (sym (has-elements bs k)) ∙ sym (has-those_from (elements bs) n k))
+
+-- a number below which all of the set is, and one below which none is
+pub all_below : (bs : List Bool) (n : ℕ) → length bs ≤ n → elements bs ≡ those_below (elements bs) n
+all_below bs n past =
+    elements-by_members bs (those_below (elements bs) n) (IsAscending-those_below (elements bs) n (IsAscending-elements bs))
+    (λ k. elim (cases_lt k n) [
+      | inl below ↦ let test : ltb k n ≡ true = grind (arith, nat_tests) in sym (has-those_below (elements bs) n k ∙ ap (λ t. t && has (elements bs) k) test ∙ has-elements bs k)
+      | inr above ↦ let test : ltb k n ≡ false = grind (arith, nat_tests) in get_or_past bs k false (omega arith) ∙ sym (has-those_below (elements bs) n k ∙ ap (λ t. t && has (elements bs) k) test)
+    ])
+
+pub none_from : (bs : List Bool) (n : ℕ) → length bs ≤ n → [] ≡ those_from (elements bs) n
+none_from bs n past =
+    same_members [] (those_from (elements bs) n) tt (IsAscending-those_from (elements bs) n (IsAscending-elements bs))
+    (λ k. elim (cases_lt k n) [
+      | inl below ↦ let test : nat_le n k ≡ false = grind (arith, nat_tests) in sym (has-those_from (elements bs) n k ∙ ap (λ t. t && has (elements bs) k) test)
+      | inr above ↦ let test : nat_le n k ≡ true = grind (arith, nat_tests) in sym (has-those_from (elements bs) n k ∙ ap (λ t. t && has (elements bs) k) test ∙ has-elements bs k ∙ get_or_past bs k false (omega arith))
+    ])
+
+-- all are at or above 0
+pub none_below : (s : List ℕ) → IsAscending s → [] ≡ those_below s 0
+none_below s up =
+    same_members [] (those_below s 0) tt (IsAscending-those_below s 0 up)
+    (λ k. let test : ltb k 0 ≡ false = grind (arith, nat_tests) in sym (has-those_below s 0 k ∙ ap (λ t. t && has s k) test))
+
+pub all_from : (s : List ℕ) → IsAscending s → s ≡ those_from s 0
+all_from s up =
+    same_members s (those_from s 0) up (IsAscending-those_from s 0 up)
+    (λ k. let test : nat_le 0 k ≡ true = grind (arith, nat_tests) in sym (has-those_from s 0 k ∙ ap (λ t. t && has s k) test))
+
+-- ---- the two parts
+
+in_either : (a b c : Bool) → (a || b) ≡ true → ((a && c) || (b && c)) ≡ c
+in_either true true true e = refl
+in_either true true false e = refl
+in_either true false true e = refl
+in_either true false false e = refl
+in_either false true c e = refl
+in_either false false c e = absurd (true≢false (sym e))
+
+pub joined : (s : List ℕ) (at : ℕ) → IsAscending s → union (those_below s at) (those_from s at) ≡ s
+joined s at up =
+    same_members _ s (IsAscending-put_all (those_below s at) (those_from s at) (IsAscending-those_below s at up)) up
+    (λ k.
+    has-union (those_below s at) (those_from s at) k
+    ∙ ap₂ (λ a b. a || b) (has-those_below s at k) (has-those_from s at k)
+    ∙ in_either (ltb k at) (nat_le at k) (has s k) (grind (arith, nat_tests)))
+
+pub apart : (s : List ℕ) (at m n : ℕ) → IsTrue (has (those_below s at) m) → IsTrue (has (those_from s at) n) → m < n
+apart s at m n low high =
+    let below : m < at = is_below (and_parts (ltb m at) (has s m) (sym (has-those_below s at m) ∙ low)).0 in
+    let above : at ≤ n = is_above (and_parts (nat_le at n) (has s n) (sym (has-those_from s at n) ∙ high)).0 in
+    omega (arith, below, above)
+  where
+    is_below : ltb m at ≡ true → m < at
+    is_below test = grind (arith, nat_tests)
+
+    is_above : nat_le at n ≡ true → at ≤ n
+    is_above test = grind (arith, nat_tests)
+
+pub disjoint : (s : List ℕ) (at : ℕ) → IsTrue (is_disjoint (those_below s at) (those_from s at))
+disjoint s at = (is_disjoint-members (those_below s at) (those_from s at)).1 (λ n low high. let l = apart s at n n low high in absurd (omega arith))
+
+-- the list is as it was once what was handed out is put in again
+pub rejoined : (a b c d : List Bool) (at : ℕ) → elements b ≡ those_below (elements a) at → length b ≡ min (length a) at → elements c ≡ those_from (elements a) at → length c ≡ (if nat_lt at (length a) then length a else 0) → elements d ≡ union (elements b) (elements c) → length d ≡ max (length b) (length c) → d ≡ a
+rejoined a b c d at first first_length second second_length both both_length =
+    same_values d a
+    (both ∙ ap₂ union first second ∙ joined (elements a) at (IsAscending-elements a))
+    (both_length ∙ ap₂ max first_length second_length ∙ whole (length a) at)
+  where
+    whole : (n at : ℕ) → max (min n at) (if nat_lt at n then n else 0) ≡ n
+    whole n at =
+        elim (cases_lt at n) [
+          | inl inside ↦ let test : nat_lt at n ≡ true = grind (arith, nat_tests) in rw test (omega arith)
+          | inr past ↦ let test : nat_lt at n ≡ false = grind (arith, nat_tests) in rw test (omega arith)
+        ]

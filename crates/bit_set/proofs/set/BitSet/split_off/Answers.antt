@@ -1,0 +1,34 @@
+use Rattle.std.proofs.Common.{◌≡◌, ◌≤◌, length, arith}
+use Rattle.bit_set.specs.Sets.{elements}
+use Rattle.bit_set.proofs.SetLemmas.{IsAscending-elements}
+use Rattle.bit_set.proofs.SplitLemmas.{all_below, all_from, elements-tail, none_below, none_from}
+use Rattle.bit_set.proofs.ValueLemmas.{elements-take}
+use Rattle.bit_set.proofs.set.BitSet.split_off.Goals as goal
+
+pub returns-then-at-eq0-clause-elements : goal.returns-then-at-eq0-clause-elements
+returns-then-at-eq0-clause-elements g c =
+    let values = c.args.self.now.values in
+    let start : c.args.at ≡ 0 = omega arith in
+    rw (start, c.replace.ensures.after, c.new_general.ensures.values) (none_below (elements values) (IsAscending-elements values))
+
+pub returns-then-at-eq0-clause-part : goal.returns-then-at-eq0-clause-part
+returns-then-at-eq0-clause-part g c =
+    let values = c.args.self.now.values in
+    let start : c.args.at ≡ 0 = omega arith in
+    rw (start, c.replace.ensures.value) (all_from (elements values) (IsAscending-elements values))
+
+pub returns-then-at-len-clause-elements : goal.returns-then-at-len-clause-elements
+returns-then-at-len-clause-elements g c =
+    let end : length c.args.self.now.values ≤ c.args.at = rw (← c.self.view_is) (omega arith) in
+    all_below c.args.self.now.values c.args.at end
+
+pub returns-then-at-len-clause-part : goal.returns-then-at-len-clause-part
+returns-then-at-len-clause-part g c =
+    let end : length c.args.self.now.values ≤ c.args.at = rw (← c.self.view_is) (omega arith) in
+    rw c.new_general-then-at-len.ensures.values (none_from c.args.self.now.values c.args.at end)
+
+pub returns-clause-elements : goal.returns-clause-elements
+returns-clause-elements g c = rw (c.truncate.ensures.values, ← c.self.view_is) (elements-take c.self.inside.bits.values c.args.at)
+
+pub returns-clause-part : goal.returns-clause-part
+returns-clause-part g c = rw (c.in_ok-bits.ensures, ← c.self.view_is) (elements-tail c.self.inside.bits.values c.args.at)

@@ -1,0 +1,66 @@
+// Calls that move elements from one set to another.
+ghost use Rattle.std.specs.Prelude.{◌≡◌, ◌<◌, ◌≤◌, if◌then◌else◌, nat_lt, max, min, IfOk, OnOk, OnErr, IsOk, is_ok, [], length};
+ghost use Rattle.bit_set.specs.Sets.{elements, those_below, those_from, union};
+ghost use Rattle.bit_set.specs.Room.{Leaves};
+ghost use Rattle.bit_set.specs.Room.Call.{Append};
+
+use crate::{BitBlock, BitSet};
+use std::alloc::{AllocError, Global};
+use std::mem::replace;
+
+impl<B: BitBlock> BitSet<B> {
+    /// Moves what is in `other` into the set. The length becomes the greater of both; `other` is empty
+    /// then, and keeps its length and room. One pass over the blocks of the set, and one over those of
+    /// `other`. Fails only where the length of `other` passes the room and a growth is refused; then
+    /// nothing changed in either.
+    pub fn append(&mut self, other: &mut Self) -> Result<(), AllocError>
+        ensures elements { OnOk result (elements self.new.values ≡ union (elements self.old.values) (elements other.old.values)) }
+        ensures length { OnOk result (length self.new.values ≡ max (length self.old.values) (length other.old.values)) }
+        ensures emptied { OnOk result (elements other.new.values ≡ []) }
+        ensures other_length { length other.new.values ≡ length other.old.values }
+        ensures other_room { other.new.room ≡ other.old.room }
+        ensures err { OnErr result (self.new ≡ self.old) }
+        ensures err_other { OnErr result (other.new ≡ other.old) }
+        ensures full { OnErr result (self.old.room < length other.old.values) }
+        ensures succeeds { length other.old.values ≤ self.old.room → IsOk result }
+        ensures room { self.old.room ≤ self.new.room }
+        ensures kept { length other.old.values ≤ length self.old.values → self.new.room ≡ self.old.room }
+        ensures within { length other.old.values ≤ self.old.room → self.new.room ≡ self.old.room }
+        ensures leaves { Leaves (Append (length other.old.values)) self.old.room (is_ok result) self.new.room }
+    {
+        self.union_with(other)?;
+        other.make_empty();
+        Ok(())
+    }
+
+    /// Parts the set at `at`: the elements below it stay, and the others are handed out. The set that is
+    /// handed out keeps the length, and the length of this one becomes `at`. Copies the blocks from that
+    /// of `at` on, each once, and writes a zero for each before it.
+    ///
+    /// Where `at` is at or past the length nothing changes, and an empty set of length 0 is handed out.
+    /// Where it is 0 all is handed out, the room too, and an empty set of length 0 stays. Both take no
+    /// memory, and constant time. Fails only between them where memory is refused; then nothing changed.
+    pub fn split_off(&mut self, alloc: Global, at: usize) -> Result<Self, AllocError>
+        ensures elements { OnOk result (elements self.new.values ≡ those_below (elements self.old.values) at) }
+        ensures length { OnOk result (length self.new.values ≡ min (length self.old.values) at) }
+        ensures part { IfOk result (λ part. elements part.values ≡ those_from (elements self.old.values) at) }
+        ensures part_length { IfOk result (λ part. length part.values ≡ (if nat_lt at (length self.old.values) then length self.old.values else 0)) }
+        ensures whole { at ≡ 0 → IfOk result (λ part. part ≡ self.old) }
+        ensures err { OnErr result (self.new ≡ self.old) }
+        ensures inside { OnErr result ((0 < at) × (at < length self.old.values)) }
+        ensures start { at ≡ 0 → IsOk result }
+        ensures end { length self.old.values ≤ at → IsOk result }
+        ensures room { 0 < at → self.new.room ≡ self.old.room }
+        ensures given { at ≡ 0 → self.new.room ≡ 0 }
+    {
+        if at == 0 {
+            return Ok(replace(self, Self::new_general(alloc)));
+        }
+        if at >= self.bits.len() {
+            return Ok(Self::new_general(alloc));
+        }
+        let bits = self.bits.clone_tail(alloc, at)?;
+        self.bits.truncate(at);
+        Ok(BitSet { bits })
+    }
+}
