@@ -7,7 +7,7 @@ program="$(readlink -f "$1")"
 top="$(dirname "$(dirname "$(readlink -f "${BASH_SOURCE[0]}")")")"
 stored="$top/crates/bitset"
 examples="$top/examples"
-usage='usage: bitset [u8|u16|u32|u64|usize]'
+usage='usage: bitset [u8|u16|u32|u64|usize|u128]'
 passed=0
 failed=0
 
@@ -40,7 +40,7 @@ stored_run() { bitset "$@" < "$stored/stdin" > wrote 2> said; }
 
 stored_run
 judge 'no word' $? 0 "$stored/stdout" ''
-for word in u8 u16 u32 u64 usize; do
+for word in u8 u16 u32 u64 usize u128; do
     stored_run "$word"
     judge "$word" $? 0 "$stored/stdout" ''
     bitset "$word" < "$examples/sets.txt" > wrote 2> said
@@ -54,6 +54,8 @@ for word in u9 U8 u8x u ''; do
 done
 stored_run u8 u8
 judge 'two words' $? 2 nothing "$usage"
+stored_run u128 u8
+judge 'two words, both known' $? 2 nothing "$usage"
 stored_run u9 u8
 judge 'two words, the second known' $? 2 nothing "$usage"
 stored_run $'\xff'

@@ -2,14 +2,14 @@
 use Rattle.std.specs.Prelude.{ℕ, Bool, true, false, ◌||◌, if◌then◌else◌, List, [], ◌∷◌, codes, Option, None, Some, Result, Ok, Err}
 use Rattle.std.specs.Str.{bytes_eq}
 use Rattle.bit_set_run.specs.declared.starting.BlockType.{BlockType}
-use Rattle.bit_set_run.specs.declared.starting.BlockType.TheVariants.{U8, U16, U32, U64, Usize}
+use Rattle.bit_set_run.specs.declared.starting.BlockType.TheVariants.{U8, U16, U32, U64, Usize, U128}
 use Rattle.bit_set_run.specs.declared.streams.LinesFault.{LinesFault}
 use Rattle.bit_set_run.specs.declared.streams.LinesFault.TheVariants.{Read, TooLarge, Memory, Write}
 
 -- whether a word names a block type
 abbrev pub names_block : List ℕ → Bool
 names_block word =
-    bytes_eq word (codes "u8") || bytes_eq word (codes "u16") || bytes_eq word (codes "u32") || bytes_eq word (codes "u64") || bytes_eq word (codes "usize")
+    bytes_eq word (codes "u8") || bytes_eq word (codes "u16") || bytes_eq word (codes "u32") || bytes_eq word (codes "u64") || bytes_eq word (codes "usize") || bytes_eq word (codes "u128")
 
 -- whether the program takes these words: none, or the name of a block type
 abbrev pub takes : List (List ℕ) → Bool
@@ -20,7 +20,7 @@ takes (word ∷ more ∷ words) = false
 -- the statuses, and what is said at each
 pub data IsExit : ℕ → List ℕ → Type 0 where
   done : IsExit 0 []
-  misused : IsExit 2 (codes "usage: bitset [u8|u16|u32|u64|usize]")
+  misused : IsExit 2 (codes "usage: bitset [u8|u16|u32|u64|usize|u128]")
   refused : IsExit 3 (codes "memory refused")
   unread : IsExit 4 (codes "read failed")
   unwritten : IsExit 4 (codes "write failed")
@@ -34,6 +34,7 @@ type_named word =
     else if bytes_eq word (codes "u32") then Some U32
     else if bytes_eq word (codes "u64") then Some U64
     else if bytes_eq word (codes "usize") then Some Usize
+    else if bytes_eq word (codes "u128") then Some U128
     else None
 
 -- The block type that the words choose. No public clause cites this.

@@ -54,13 +54,14 @@ pub fn start<R: Read, W: Write>(
     match block_type(words) {
         None => Exit {
             status: 2,
-            text: "usage: bitset [u8|u16|u32|u64|usize]",
+            text: "usage: bitset [u8|u16|u32|u64|usize|u128]",
         },
         Some(BlockType::U8) => answer_lines::<u8, R, W>(alloc, reader, writer),
         Some(BlockType::U16) => answer_lines::<u16, R, W>(alloc, reader, writer),
         Some(BlockType::U32) => answer_lines::<u32, R, W>(alloc, reader, writer),
         Some(BlockType::U64) => answer_lines::<u64, R, W>(alloc, reader, writer),
         Some(BlockType::Usize) => answer_lines::<usize, R, W>(alloc, reader, writer),
+        Some(BlockType::U128) => answer_lines::<u128, R, W>(alloc, reader, writer),
     }
 }
 
@@ -122,6 +123,7 @@ enum BlockType {
     U32,
     U64,
     Usize,
+    U128,
 }
 
 // The type that the words choose, `u32` where there is no word; `None` where they are not the program's.
@@ -147,6 +149,7 @@ fn named_type(word: &str) -> Option<BlockType>
         "u32" => Some(BlockType::U32),
         "u64" => Some(BlockType::U64),
         "usize" => Some(BlockType::Usize),
+        "u128" => Some(BlockType::U128),
         _ => None,
     }
 }

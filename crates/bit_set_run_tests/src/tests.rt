@@ -89,7 +89,7 @@ fn answers_rows_under_each_word(rt: HostRuntime) -> Result<(), Fail> {
         let (exit, written) = started(rt.alloc(), &[], input);
         assert_eq!(rt; exit, done);
         assert_eq!(rt; written.as_slice(), *output);
-        for word in ["u8", "u16", "u32", "u64", "usize"] {
+        for word in ["u8", "u16", "u32", "u64", "usize", "u128"] {
             let words = [String::from_str(rt.alloc(), word)?];
             let (exit, written) = started(rt.alloc(), &words, input);
             assert_eq!(rt; exit, done, "{word}");
@@ -123,7 +123,7 @@ fn refuses_room_under_each_word(rt: HostRuntime) -> Result<(), Fail> {
         b"reserve a 18446744073709551615\n".as_slice(),
         b"insert a 3\nreserve_exact a 18446744073709551615\nitems a\n",
     ] {
-        for word in ["u8", "u16", "u32", "u64", "usize"] {
+        for word in ["u8", "u16", "u32", "u64", "usize", "u128"] {
             let words = [String::from_str(rt.alloc(), word)?];
             let (exit, written) = started(rt.alloc(), &words, input);
             assert_eq!(rt; exit, refused, "{word}");
@@ -138,7 +138,13 @@ fn refuses_other_words(rt: HostRuntime) -> Result<(), Fail> {
     let wrong = String::from_str(rt.alloc(), "u9")?;
     let first = String::from_str(rt.alloc(), "u8")?;
     let second = String::from_str(rt.alloc(), "u8")?;
-    for words in [[wrong].as_slice(), [first, second].as_slice()] {
+    let widest = String::from_str(rt.alloc(), "u128")?;
+    let third = String::from_str(rt.alloc(), "u8")?;
+    for words in [
+        [wrong].as_slice(),
+        [first, second].as_slice(),
+        [widest, third].as_slice(),
+    ] {
         let mut reader = reader(RUN_A);
         let mut writer = writer(rt.alloc());
         let exit = start(rt.alloc(), words, &mut reader, &mut writer);
@@ -146,7 +152,7 @@ fn refuses_other_words(rt: HostRuntime) -> Result<(), Fail> {
             exit,
             Exit {
                 status: 2,
-                text: "usage: bitset [u8|u16|u32|u64|usize]"
+                text: "usage: bitset [u8|u16|u32|u64|usize|u128]"
             }
         );
         assert_eq!(rt; (reader.calls, writer.calls, writer.flushes), (0, 0, 0));

@@ -1,4 +1,4 @@
-// The unsigned integers of the machine as blocks: a value is its own number.
+// The unsigned integers as blocks: a value is its own number.
 ghost use Rattle.std.specs.Prelude.{◌^◌, ◌<◌, refl};
 ghost use Rattle.std.proofs.Common.{lit<};
 ghost use Rattle.bit_words.specs.DigitLaws.{both, either, different, complement, added, subtracted, compared};
@@ -319,6 +319,85 @@ impl BitBlock for u64 {
     ghost can_subtract = { λ _ _ _ _ below. below };
 
     ghost sub_law = { subtracted 64 };
+}
+
+impl BitBlock for u128 {
+    ghost width = { 128 };
+
+    ghost number = { λ a. a };
+
+    ghost block = { λ m. m };
+
+    ghost is_block = { λ a. a < 2 ^ 128 };
+
+    #[inline]
+    fn bits() -> usize {
+        u128::BITS as usize
+    }
+
+    #[inline]
+    fn zero() -> u128 {
+        0
+    }
+
+    #[inline]
+    fn one() -> u128 {
+        1
+    }
+
+    #[inline]
+    fn count_ones(self) -> usize {
+        u128::count_ones(self) as usize
+    }
+
+    #[inline]
+    fn from_byte(byte: u8) -> u128 {
+        byte as u128
+    }
+
+    #[inline]
+    #[tactic(auto, using(crate::specs::DigitLaws::shifted_left))]
+    fn shift_left(self, distance: usize) -> u128 {
+        self << distance as u128
+    }
+
+    #[inline]
+    #[tactic(auto, using(crate::specs::DigitLaws::shifted_right))]
+    fn shift_right(self, distance: usize) -> u128 {
+        self >> distance as u128
+    }
+
+    ghost width_law = { record { positive = lit< tt; whole_bytes = refl; fits = lit< tt } };
+
+    ghost number_law = { λ a is. (is, refl) };
+
+    ghost block_law = { λ m fits. (fits, refl) };
+
+    ghost eq_law = { compared 128 };
+
+    ghost can_and = { λ _ _ _ _. tt };
+
+    ghost and_law = { both 128 };
+
+    ghost can_or = { λ _ _ _ _. tt };
+
+    ghost or_law = { either 128 };
+
+    ghost can_xor = { λ _ _ _ _. tt };
+
+    ghost xor_law = { different 128 };
+
+    ghost can_complement = { λ _ _. tt };
+
+    ghost not_law = { complement 128 };
+
+    ghost can_sum = { λ _ _ _ _ fits. fits };
+
+    ghost add_law = { added 128 };
+
+    ghost can_subtract = { λ _ _ _ _ below. below };
+
+    ghost sub_law = { subtracted 128 };
 }
 
 impl BitBlock for usize {
