@@ -64,7 +64,8 @@ fn lists_of_unequal_lengths_merge(rt: HostRuntime) -> Result<(), Fail> {
     check_merges::<u8>(&rt, rt.alloc())?;
     check_merges::<Block24>(&rt, rt.alloc())?;
     check_merges::<u32>(&rt, rt.alloc())?;
-    check_merges::<u64>(&rt, rt.alloc())
+    check_merges::<u64>(&rt, rt.alloc())?;
+    check_merges::<u128>(&rt, rt.alloc())
 }
 
 #[test]
@@ -113,7 +114,8 @@ fn lists_are_within_one_another_or_apart(rt: HostRuntime) -> Result<(), Fail> {
     check_relations::<u8>(&rt, rt.alloc())?;
     check_relations::<Block24>(&rt, rt.alloc())?;
     check_relations::<u32>(&rt, rt.alloc())?;
-    check_relations::<u64>(&rt, rt.alloc())
+    check_relations::<u64>(&rt, rt.alloc())?;
+    check_relations::<u128>(&rt, rt.alloc())
 }
 
 #[test]

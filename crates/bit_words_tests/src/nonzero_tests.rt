@@ -74,6 +74,12 @@ fn zero_blocks_are_passed_over(rt: HostRuntime) -> Result<(), Fail> {
         (16384, &[4095, 12288, 16383]),
         [0, 63, 192, 255],
     )?;
+    ends_are_found::<u128>(
+        &rt,
+        alloc,
+        (65536, &[16383, 49152, 65535]),
+        [0, 127, 384, 511],
+    )?;
     Ok(())
 }
 

@@ -50,7 +50,8 @@ fn zero_blocks_are_cut_and_room_is_given_back(rt: HostRuntime) -> Result<(), Fai
     check_shrink::<u8>(&rt, rt.alloc(), 48)?;
     check_shrink::<Block24>(&rt, rt.alloc(), 48)?;
     check_shrink::<u32>(&rt, rt.alloc(), 64)?;
-    check_shrink::<u64>(&rt, rt.alloc(), 64)
+    check_shrink::<u64>(&rt, rt.alloc(), 64)?;
+    check_shrink::<u128>(&rt, rt.alloc(), 128)
 }
 
 #[test]

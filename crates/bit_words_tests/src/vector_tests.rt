@@ -15,6 +15,25 @@ fn bytes_begin_with_their_highest_bit(rt: HostRuntime) -> Result<(), Fail> {
 }
 
 #[test]
+fn a_list_fills_wide_blocks(rt: HostRuntime) -> Result<(), Fail> {
+    let mut bits = BitVec::<u128>::from_elem_general(rt.alloc(), 140, true)?;
+    let full = 340282366920938463463374607431768211455;
+    assert_eq!(rt; bits.storage(), [full, 4095].as_slice());
+    bits.truncate(65);
+    assert_eq!(rt; bits.storage(), [36893488147419103231].as_slice());
+    bits.grow(64, false)?;
+    bits.grow(1, true)?;
+    assert_eq!(rt; bits.storage(), [36893488147419103231, 2].as_slice());
+    assert_eq!(rt; bits.len(), 130);
+
+    let bytes = [0, 0, 0, 0, 0, 0, 0, 1, 0b1000_0000, 0, 0, 0, 0, 0, 0, 1, 1];
+    let bits = BitVec::<u128>::from_bytes_general(rt.alloc(), &bytes)?;
+    let ends = 170141183460469231759357419826448433152;
+    assert_eq!(rt; bits.storage(), [ends, 128].as_slice());
+    Ok(())
+}
+
+#[test]
 fn a_list_is_cut_grown_and_filled(rt: HostRuntime) -> Result<(), Fail> {
     let mut bits = BitVec::from_elem(rt.alloc(), 140, true)?;
     let full = 4_294_967_295;
@@ -83,7 +102,7 @@ fn nones<B: BitBlock>(bits: &mut BitVec<B>) -> [bool; 3] {
 }
 
 #[test]
-fn each_call_answers_at_two_widths(rt: HostRuntime) -> Result<(), Fail> {
+fn each_call_answers_at_three_widths(rt: HostRuntime) -> Result<(), Fail> {
     let mut whole = last_of_forty::<u8>(rt.alloc())?;
     assert_eq!(rt; sizes(&whole), [40, 5, 4, 4]);
     assert_eq!(rt; nones(&mut whole), [false, true, true]);
@@ -94,6 +113,11 @@ fn each_call_answers_at_two_widths(rt: HostRuntime) -> Result<(), Fail> {
     assert_eq!(rt; sizes(&odd), [40, 2, 1, 1]);
     assert_eq!(rt; nones(&mut odd), [false, true, true]);
     assert_eq!(rt; grown::<Block24>(rt.alloc())?, (ends, true));
+
+    let mut wide = last_of_forty::<u128>(rt.alloc())?;
+    assert_eq!(rt; sizes(&wide), [40, 1, 0, 0]);
+    assert_eq!(rt; nones(&mut wide), [false, true, true]);
+    assert_eq!(rt; grown::<u128>(rt.alloc())?, (ends, true));
     Ok(())
 }
 
