@@ -1,11 +1,12 @@
 -- What a merge of blocks does to the value at every index, and what the merge of two lists is there.
-use Rattle.std.proofs.Common.{◌≡◌, ℕ, zero, suc, ◌/◌, ◌%◌, ◌<◌, ◌≤◌, max, Bool, false, List, [], ◌∷◌, length, get_or, set, refl, sym, ap, ap₂, ◌∙◌, arith, mod-lt}
+use Rattle.std.proofs.Common.{◌≡◌, ℕ, zero, suc, ◌+◌, ◌/◌, ◌%◌, ◌<◌, ◌≤◌, max, Bool, false, List, [], ◌∷◌, length, get_or, set, refl, sym, ap, ap₂, ◌∙◌, arith, mod-lt, ⊎_elim, get_or-set_same, get_or-set_other}
+use Rattle.std.proofs.lemmas.Bool.{cases_lt}
+use Rattle.std.proofs.lemmas.List.{get_or_past}
 use Rattle.bit_words.specs.declared.bit_vec.merge.Merge.{Merge}
 use Rattle.bit_words.specs.declared.bit_vec.merge.Merge.TheVariants.{Union, Intersection, Difference, Symmetric}
 use Rattle.bit_words.specs.Merges.{merged_value, merged}
-use Rattle.bit_words.specs.Storage.{is_one, value_at, values_of, IsCleanFrom}
-use Rattle.bit_words.proofs.StorageLemmas.{length-values_of, values_of-same, get_or-values_of_clean, value_at-past}
-use Rattle.bit_words.proofs.ChangeLemmas.{written_same, read_at}
+use Rattle.bit_words.specs.Storage.{is_one, value_at, values_of, IsCleanFrom, IsMergedBetween}
+use Rattle.bit_words.proofs.StorageLemmas.{length-values_of, values_of-same, get_or-values_of_clean, value_at-is, value_at-past}
 
 -- ---- two lists
 
@@ -42,16 +43,48 @@ merged_clean m w ms os ns len short shorter clean also each = record {
   clean = λ i past. each i ∙ ap₂ (merged_value m) (clean.clean i past) (also.clean i (omega arith)) ∙ merged_value-none m;
 }
 
--- ---- one block written
+-- ---- blocks that are merged some at a time
 
--- the value at an index in the block that was written
-pub merged_here : (m : Merge) (w : ℕ) (ms rs ns : List ℕ) (k a b n i : ℕ) (v : Bool) → 0 < w → k < length rs → ns ≡ set rs k n → a ≡ get_or rs k 0 → ((j : ℕ) → j < w → is_one n j ≡ merged_value m (is_one a j) (is_one b j)) → i / w ≡ k → value_at w rs i ≡ value_at w ms i → is_one b (i % w) ≡ v → value_at w ns i ≡ merged_value m (value_at w ms i) v
-merged_here m w ms rs ns k a b n i v pos within e read digits here same other =
-    written_same w rs ns k n i e within here
-    ∙ digits (i % w) (mod-lt i pos)
-    ∙ ap₂ (merged_value m) (sym (read_at w rs k a i read here) ∙ same) other
+pub merged_none : (m : Merge) (w start end : ℕ) (ms os : List ℕ) → end ≤ start → IsMergedBetween m w start end ms os ms
+merged_none m w start end ms os le = record { digit = λ k j from below place. absurd (omega arith); before = λ k h. refl; after = λ k h. refl }
 
--- past the blocks both are false
-pub merged_past : (m : Merge) (w : ℕ) (ms ns : List ℕ) (i : ℕ) → length ms ≤ i / w → length ns ≤ i / w → value_at w ns i ≡ merged_value m (value_at w ms i) false
-merged_past m w ms ns i past also =
-    value_at-past w ns i also ∙ sym (ap (λ a. merged_value m a false) (value_at-past w ms i past) ∙ merged_value-none m)
+-- some more of them
+pub merged_more : (m : Merge) (w a b c p q : ℕ) (ms os ns ps : List ℕ) → a ≤ b → b ≤ c → p ≡ b → q ≡ c → IsMergedBetween m w a b ms os ns → IsMergedBetween m w p q ns os ps → IsMergedBetween m w a c ms os ps
+merged_more m w a b c p q ms os ns ps le also from to first second = record {
+  digit = λ k j reached below place. ⊎_elim
+      (λ early. ap (λ n. is_one n j) (second.before k (omega arith)) ∙ first.digit k j reached early place)
+      (λ late. second.digit k j (omega arith) (omega arith) place ∙ ap (λ n. merged_value m (is_one n j) (is_one (get_or os k 0) j)) (first.after k late))
+      (cases_lt k b);
+  before = λ k h. second.before k (omega arith) ∙ first.before k h;
+  after = λ k h. second.after k (omega arith) ∙ first.after k (omega arith);
+}
+
+-- one of them
+pub merged_put : (m : Merge) (w k a b n : ℕ) (ms os ns : List ℕ) → k < length ms → ns ≡ set ms k n → a ≡ get_or ms k 0 → b ≡ get_or os k 0 → ((j : ℕ) → j < w → is_one n j ≡ merged_value m (is_one a j) (is_one b j)) → IsMergedBetween m w k (k + 1) ms os ns
+merged_put m w k a b n ms os ns within e read other digits = record {
+  digit = λ q j from below place.
+      let here : q ≡ k = omega arith in
+      ap (λ xs. is_one (get_or xs q 0) j) e
+      ∙ ap (λ x. is_one (get_or (set ms k n) x 0) j) here
+      ∙ ap (λ x. is_one x j) (get_or-set_same ms k n 0 within)
+      ∙ digits j place
+      ∙ ap₂ (λ x y. merged_value m (is_one x j) (is_one y j)) (read ∙ ap (λ x. get_or ms x 0) (sym here)) (other ∙ ap (λ x. get_or os x 0) (sym here));
+  before = λ q h. ap (λ xs. get_or xs q 0) e ∙ get_or-set_other ms k q n 0 (λ here. omega arith);
+  after = λ q h. ap (λ xs. get_or xs q 0) e ∙ get_or-set_other ms k q n 0 (λ here. omega arith);
+}
+
+-- past the end of the second list, a merge with it is one with none
+pub merged_with_none : (m : Merge) (w start end : ℕ) (ms os ns : List ℕ) → length os ≤ start → IsMergedBetween m w start end ms [] ns → IsMergedBetween m w start end ms os ns
+merged_with_none m w start end ms os ns short is = record {
+  digit = λ k j from below place. is.digit k j from below place ∙ ap (λ x. merged_value m (is_one (get_or ms k 0) j) (is_one x j)) (get_or_past [] k 0 (omega arith) ∙ sym (get_or_past os k 0 (omega arith)));
+  before = is.before;
+  after = is.after;
+}
+
+-- the value at each index, once all of them are merged
+pub merged_values : (m : Merge) (w : ℕ) (ms os ns : List ℕ) → 0 < w → length ns ≡ length ms → length os ≤ length ms → IsMergedBetween m w 0 (length ms) ms os ns → (i : ℕ) → value_at w ns i ≡ merged_value m (value_at w ms i) (value_at w os i)
+merged_values m w ms os ns pos len short is i =
+    ⊎_elim
+    (λ within. value_at-is w ns i ∙ is.digit (i / w) (i % w) (omega arith) within (mod-lt i pos) ∙ sym (ap₂ (merged_value m) (value_at-is w ms i) (value_at-is w os i)))
+    (λ past. value_at-past w ns i (omega arith) ∙ sym (ap₂ (merged_value m) (value_at-past w ms i past) (value_at-past w os i (omega arith)) ∙ merged_value-none m))
+    (cases_lt (i / w) (length ms))

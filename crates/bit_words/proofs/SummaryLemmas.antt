@@ -8,11 +8,15 @@ use Rattle.std.proofs.lemmas.Nat.{div-mul-add}
 use Rattle.std.proofs.lemmas.Nat.Bits.{bit_at-lt, same_from_bits_below}
 use Rattle.bit_words.specs.Bits.{blocks_for, digit_of}
 use Rattle.bit_words.specs.Digits.{IsEither, IsShiftedLeft}
-use Rattle.bit_words.specs.Storage.{is_one, value_at, IsTidy}
+use Rattle.bit_words.specs.declared.bit_vec.merge.Merge.{Merge}
+use Rattle.bit_words.specs.declared.bit_vec.merge.Merge.TheVariants.{Union, Intersection, Difference, Symmetric}
+use Rattle.bit_words.specs.Merges.{merged_value}
+use Rattle.bit_words.specs.Storage.{is_one, value_at, IsTidy, IsMergedBetween}
 use Rattle.bit_words.specs.Summary.{is_used, shared_room, IsSummary, IsStored}
 use Rattle.bit_words.proofs.BitsLemmas.{blocks_for-below, blocks_for-enough, blocks_for-least}
 use Rattle.bit_words.proofs.CompareLemmas.{zero_from_digits, digit_from_zero}
-use Rattle.bit_words.proofs.Masks.{is_one-either}
+use Rattle.bit_words.proofs.Masks.{is_one-either, is_one-zero}
+use Rattle.bit_words.proofs.MergeLemmas.{merged_value-none}
 use Rattle.bit_words.proofs.RoomLemmas.{shared_enough}
 use Rattle.bit_words.proofs.StorageLemmas.{digit_of-is_one, value_at-is, value_at-past, value_at-place}
 use Rattle.bit_words.proofs.VectorLemmas.{numbers_below, tidy_nil}
@@ -177,6 +181,79 @@ digits_of_summary w ms ss pos count each k =
     (λ within. value_at-is w ss k ∙ each (k / w) (k % w) within (mod-lt k pos) ∙ ap (is_used ms) (div-add-mod' k w))
     (λ past. value_at-past w ss k past ∙ sym (used_past ms k (blocks_for-below w (length ms) k pos (omega arith))))
     (cases_lt (k / w) (length ss))
+
+-- ---- made while blocks are merged
+
+pub used_none : (w m start : ℕ) (ms : List ℕ) → m ≡ 0 → (q : ℕ) → q < w → is_one m q ≡ (nat_lt q 0 && is_used ms (start + q))
+used_none w m start ms z q place =
+    let none : nat_lt q 0 ≡ false = grind (arith, nat_tests) in
+    ap (λ n. is_one n q) z ∙ is_one-zero q ∙ sym (ap (λ t. t && is_used ms (start + q)) none)
+
+pub not_yet : (j : ℕ) (used : Bool) → (nat_lt j j && used) ≡ false
+not_yet j used = let none : nat_lt j j ≡ false = grind (arith, nat_tests) in ap (λ t. t && used) none
+
+-- digits stay right where a block past theirs is written
+pub used_kept : (w start k m : ℕ) (ms ns : List ℕ) → ((q : ℕ) → q < start + k → get_or ns q 0 ≡ get_or ms q 0) → ((j : ℕ) → j < w → is_one m j ≡ (nat_lt j k && is_used ms (start + j))) → (j : ℕ) → j < w → is_one m j ≡ (nat_lt j k && is_used ns (start + j))
+used_kept w start k m ms ns kept digits j place =
+    ⊎_elim
+    (λ below. digits j place ∙ ap (λ n. nat_lt j k && not (n == 0)) (sym (kept (start + j) (omega arith))))
+    (λ past. let test : nat_lt j k ≡ false = grind (arith, nat_tests) in digits j place ∙ ap (λ t. t && is_used ms (start + j)) test ∙ sym (ap (λ t. t && is_used ns (start + j)) test))
+    (cases_lt j k)
+
+-- all digits of a block
+pub used_whole : (w n start j : ℕ) (ms : List ℕ) → n ≡ w → j < w → (nat_lt j n && is_used ms (start + j)) ≡ is_used ms (start + j)
+used_whole w n start j ms e place = let test : nat_lt j n ≡ true = grind (arith, nat_tests) in ap (λ t. t && is_used ms (start + j)) test
+
+-- a value merged with none
+kept_by_difference : (a : Bool) → merged_value Difference a false ≡ a
+kept_by_difference true = refl
+kept_by_difference false = refl
+
+kept_by_symmetric : (a : Bool) → merged_value Symmetric a false ≡ a
+kept_by_symmetric true = refl
+kept_by_symmetric false = refl
+
+both_none : (a : Bool) → (a && false) ≡ false
+both_none true = refl
+both_none false = refl
+
+stays : (m : Merge) (w a b : ℕ) → ((x : Bool) → merged_value m x false ≡ x) → a < 2 ^ w → b < 2 ^ w → ((j : ℕ) → j < w → is_one b j ≡ merged_value m (is_one a j) false) → not (b == 0) ≡ merged_value m (not (a == 0)) false
+stays m w a b same small also digits =
+    ap (λ n. not (n == 0)) (same_from_bits_below w b a also small (λ j place. same_digit b a j (digits j place ∙ same (is_one a j))))
+    ∙ sym (same (not (a == 0)))
+
+-- whether a block that was merged with none is 0
+used_alone : (m : Merge) (w a b : ℕ) → a < 2 ^ w → b < 2 ^ w → ((j : ℕ) → j < w → is_one b j ≡ merged_value m (is_one a j) false) → not (b == 0) ≡ merged_value m (not (a == 0)) false
+used_alone Union w a b small also digits = stays Union w a b or-false small also digits
+used_alone Intersection w a b small also digits =
+    used_from_zero b (zero_from_digits w b also (λ j place. digits j place ∙ both_none (is_one a j))) ∙ sym (both_none (not (a == 0)))
+used_alone Difference w a b small also digits = stays Difference w a b kept_by_difference small also digits
+used_alone Symmetric w a b small also digits = stays Symmetric w a b kept_by_symmetric small also digits
+
+pub use_past_others : (m : Merge) (w k : ℕ) (ms os ns : List ℕ) → length ns ≡ length ms → length os ≤ k → IsMergedBetween m w 0 (length ms) ms os ns → get_or ms k 0 < 2 ^ w → get_or ns k 0 < 2 ^ w → is_used ns k ≡ merged_value m (is_used ms k) false
+use_past_others m w k ms os ns len past is small also =
+    ⊎_elim
+    (λ within. used_alone m w _ _ small also (λ j place.
+    is.digit k j (omega arith) within place
+    ∙ ap (merged_value m (is_one (get_or ms k 0) j)) (ap (λ n. is_one n j) (get_or_past os k 0 past) ∙ is_one-zero j)))
+    (λ outside. used_past ns k (omega arith) ∙ sym (ap (λ b. merged_value m b false) (used_past ms k outside) ∙ merged_value-none m))
+    (cases_lt k (length ms))
+
+-- one block of the summary was made anew, and those past it were merged with none
+pub rest_noted : (m : Merge) (w start n : ℕ) (ms ss ps ns : List ℕ) → start < length ss → ps ≡ set ss start n → ((j : ℕ) → j < w → is_one n j ≡ is_used ms (start * w + j)) → IsMergedBetween m w (start + 1) (length ss) ps [] ns → ((k : ℕ) → (start + 1) * w ≤ k → is_used ms k ≡ merged_value m (value_at w ss k) false) → (q j : ℕ) → start ≤ q → q < length ss → j < w → is_one (get_or ns q 0) j ≡ is_used ms (q * w + j)
+rest_noted m w start n ms ss ps ns within e digits merged rest q j from below place =
+    ⊎_elim
+    (λ here.
+    ap (λ x. is_one x j) (merged.before q (omega arith) ∙ ap (λ xs. get_or xs q 0) e ∙ ap (λ x. get_or (set ss start n) x 0) here ∙ get_or-set_same ss start n 0 within)
+    ∙ digits j place
+    ∙ ap (λ x. is_used ms (x * w + j)) (sym here))
+    (λ there.
+    let later = mul-le-mul_right w (let l : start + 1 ≤ q = omega arith in l) in
+    let old : get_or ps q 0 ≡ get_or ss q 0 = ap (λ xs. get_or xs q 0) e ∙ get_or-set_other ss start q n 0 there in
+    merged.digit q j (omega arith) below place
+    ∙ ap₂ (merged_value m) (ap (λ x. is_one x j) old ∙ sym (value_at-place w ss q j place)) (ap (λ x. is_one x j) (get_or_past [] q 0 (omega arith)) ∙ is_one-zero j)
+    ∙ sym (rest (q * w + j) (omega (arith, later))))
+    (cases_eq q start)
 
 -- ---- kept with the list
 

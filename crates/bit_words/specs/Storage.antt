@@ -45,3 +45,9 @@ pub record MergesToFalse (merge : Merge) (w : ℕ) (ms ns : List ℕ) : Type 0 w
 pub record IsFirstMerged (merge : Merge) (w : ℕ) (ms ns : List ℕ) (i : ℕ) : Type 0 where
   pub is_true : merged_value merge (value_at w ms i) (value_at w ns i) ≡ true
   pub before : (j : ℕ) → j < i → merged_value merge (value_at w ms j) (value_at w ns j) ≡ false
+
+-- digit by digit, the blocks from start to before end are what those of two lists merge to; the others are those of the first list
+pub record IsMergedBetween (merge : Merge) (w start end : ℕ) (ms os ns : List ℕ) : Type 0 where
+  pub digit : (k j : ℕ) → start ≤ k → k < end → j < w → is_one (get_or ns k 0) j ≡ merged_value merge (is_one (get_or ms k 0) j) (is_one (get_or os k 0) j)
+  pub before : (k : ℕ) → k < start → get_or ns k 0 ≡ get_or ms k 0
+  pub after : (k : ℕ) → end ≤ k → get_or ns k 0 ≡ get_or ms k 0

@@ -1,5 +1,5 @@
 // A block with some of its digits written. Each clause is by digit, as the test that it is 1.
-ghost use Rattle.std.specs.Prelude.{◌≡◌, ◌≢◌, ℕ, ◌<◌, ◌&&◌, ◌||◌, nat_lt, nat_le};
+ghost use Rattle.std.specs.Prelude.{◌≡◌, ◌≢◌, ℕ, ◌<◌, ◌&&◌, ◌||◌, false, nat_lt, nat_le};
 ghost use Rattle.bit_words.specs.Storage.{is_one};
 
 use super::BitBlock;
@@ -20,6 +20,23 @@ pub(crate) fn with_digit<B: BitBlock>(block: B, place: usize, bit: bool) -> B
         block_or(block, mask)
     } else {
         block_and(block, block_not(mask))
+    }
+}
+
+// The digit at `place`, which is 0, becomes `bit`: a loop of these becomes vector code.
+#[inline]
+pub(crate) fn with_one_if<B: BitBlock>(block: B, place: usize, bit: bool) -> B
+    requires of_block { B.is_block block }
+    requires within { place < B.width }
+    requires clear { is_one (B.number block) place ≡ false }
+    ensures of_block { B.is_block result }
+    ensures same { is_one (B.number result) place ≡ bit }
+    ensures others { (j : ℕ) → j < B.width → j ≢ place → is_one (B.number result) j ≡ is_one (B.number block) j }
+{
+    if bit {
+        with_digit(block, place, true)
+    } else {
+        block
     }
 }
 

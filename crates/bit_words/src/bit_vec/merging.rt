@@ -1,7 +1,7 @@
-// Merges of the blocks of two bit vectors, each told by the digits of every block.
-ghost use Rattle.std.specs.Prelude.{◌≡◌, ℕ, ◌+◌, ◌/◌, ◌<◌, ◌≤◌, ◌==◌, All, false, length, map, vec_len, vec_capacity};
+// Merges of the blocks of two lists, each told by the digits of every block.
+ghost use Rattle.std.specs.Prelude.{◌≡◌, ℕ, ◌+◌, ◌<◌, ◌≤◌, ◌==◌, [], All, get_or, length, map, vec_len, vec_capacity};
 ghost use Rattle.std.specs.Int.{bit_at};
-ghost use Rattle.bit_words.specs.Storage.{value_at};
+ghost use Rattle.bit_words.specs.Storage.{IsMergedBetween};
 ghost use Rattle.bit_words.specs.Merges.{merged_value};
 ghost use Rattle.bit_words.specs.declared.bit_vec.merge.Merge.{Merge};
 
@@ -63,32 +63,65 @@ impl Operation for Symmetric {
     }
 }
 
-// Each of the first blocks becomes its merge with the other of its place, and those past them stay.
-fn merge_first<B: BitBlock, O: Operation>(blocks: &mut Vec<B>, others: &[B], steps: &mut Steps)
-    requires fewer { length others.now ≤ vec_len blocks.old }
+// Block `k` becomes its merge with the other of its place, and is the answer.
+#[inline]
+pub(crate) fn merge_block<B: BitBlock, O: Operation>(
+    blocks: &mut Vec<B>,
+    others: &[B],
+    k: usize,
+    steps: &mut Steps,
+) -> B
+    requires in_bounds { k < vec_len blocks.old }
+    requires in_others { k < length others.now }
     requires each { All B.is_block blocks.old.items }
     requires others { All B.is_block others.now }
-    ensures first { (i : ℕ) → i / B.width < length others.now → value_at B.width (map B.number blocks.new.items) i ≡ merged_value O.merge (value_at B.width (map B.number blocks.old.items) i) (value_at B.width (map B.number others.now) i) }
-    ensures rest { (i : ℕ) → length others.now ≤ i / B.width → value_at B.width (map B.number blocks.new.items) i ≡ value_at B.width (map B.number blocks.old.items) i }
+    ensures merged { IsMergedBetween O.merge B.width k (k + 1) (map B.number blocks.old.items) (map B.number others.now) (map B.number blocks.new.items) }
+    ensures of_block { B.is_block result }
+    ensures of_number { B.number result ≡ get_or (map B.number blocks.new.items) k 0 }
     ensures each { All B.is_block blocks.new.items }
     ensures len { vec_len blocks.new ≡ vec_len blocks.old }
     ensures capacity { vec_capacity blocks.new ≡ vec_capacity blocks.old }
-    ensures steps { steps.new ≡ steps.old + length others.now }
+    ensures steps { steps.new ≡ steps.old + 1 }
 {
-    for k in 0..others.len() {
-        steps.tick();
-        let merged = O::of_blocks(block_at(blocks, k), block_at(others, k));
-        put_block(blocks, k, merged);
+    steps.tick();
+    let merged = O::of_blocks(block_at(blocks, k), block_at(others, k));
+    put_block(blocks, k, merged);
+    merged
+}
+
+// Each of the blocks from `start` on, as far as there are others, becomes its merge with the other of
+// its place.
+fn merge_first<B: BitBlock, O: Operation>(
+    blocks: &mut Vec<B>,
+    others: &[B],
+    start: usize,
+    steps: &mut Steps,
+)
+    requires fewer { length others.now ≤ vec_len blocks.old }
+    requires from { start ≤ length others.now }
+    requires each { All B.is_block blocks.old.items }
+    requires others { All B.is_block others.now }
+    ensures merged { IsMergedBetween O.merge B.width start (length others.now) (map B.number blocks.old.items) (map B.number others.now) (map B.number blocks.new.items) }
+    ensures each { All B.is_block blocks.new.items }
+    ensures len { vec_len blocks.new ≡ vec_len blocks.old }
+    ensures capacity { vec_capacity blocks.new ≡ vec_capacity blocks.old }
+    ensures steps { steps.new + start ≡ steps.old + length others.now }
+{
+    for k in start..others.len() {
+        let _merged = merge_block::<B, O>(blocks, others, k, steps);
     }
 }
 
 // Each of the blocks from `start` on becomes its merge with a block of zeros, and those before them stay.
 // Only an intersection changes them: otherwise the compiler takes out the loop.
-fn merge_rest<B: BitBlock, O: Operation>(blocks: &mut Vec<B>, start: usize, steps: &mut Steps)
+pub(crate) fn merge_rest<B: BitBlock, O: Operation>(
+    blocks: &mut Vec<B>,
+    start: usize,
+    steps: &mut Steps,
+)
     requires within { start ≤ vec_len blocks.old }
     requires each { All B.is_block blocks.old.items }
-    ensures first { (i : ℕ) → i / B.width < start → value_at B.width (map B.number blocks.new.items) i ≡ value_at B.width (map B.number blocks.old.items) i }
-    ensures rest { (i : ℕ) → start ≤ i / B.width → value_at B.width (map B.number blocks.new.items) i ≡ merged_value O.merge (value_at B.width (map B.number blocks.old.items) i) false }
+    ensures merged { IsMergedBetween O.merge B.width start (vec_len blocks.old) (map B.number blocks.old.items) [] (map B.number blocks.new.items) }
     ensures each { All B.is_block blocks.new.items }
     ensures len { vec_len blocks.new ≡ vec_len blocks.old }
     ensures capacity { vec_capacity blocks.new ≡ vec_capacity blocks.old }
@@ -102,41 +135,24 @@ fn merge_rest<B: BitBlock, O: Operation>(blocks: &mut Vec<B>, start: usize, step
     }
 }
 
-// Each block becomes its merge with the other of its place, or with zeros where there is none.
-fn merge_each<B: BitBlock, O: Operation>(blocks: &mut Vec<B>, others: &[B], steps: &mut Steps)
-    requires fewer { length others.now ≤ vec_len blocks.old }
-    requires each { All B.is_block blocks.old.items }
-    requires others { All B.is_block others.now }
-    ensures values { (i : ℕ) → value_at B.width (map B.number blocks.new.items) i ≡ merged_value O.merge (value_at B.width (map B.number blocks.old.items) i) (value_at B.width (map B.number others.now) i) }
-    ensures each { All B.is_block blocks.new.items }
-    ensures len { vec_len blocks.new ≡ vec_len blocks.old }
-    ensures capacity { vec_capacity blocks.new ≡ vec_capacity blocks.old }
-    ensures steps { steps.new ≡ steps.old + vec_len blocks.old }
-{
-    merge_first::<B, O>(blocks, others, steps);
-    merge_rest::<B, O>(blocks, others.len(), steps);
-}
-
-// The same, by the merge that is named.
-pub(crate) fn merge_values<B: BitBlock>(
+// Each of the blocks from `start` on becomes its merge with the other of its place, or with zeros where
+// there is none.
+pub(crate) fn merge_each<B: BitBlock, O: Operation>(
     blocks: &mut Vec<B>,
     others: &[B],
-    merge: Merge,
+    start: usize,
     steps: &mut Steps,
 )
     requires fewer { length others.now ≤ vec_len blocks.old }
+    requires from { start ≤ length others.now }
     requires each { All B.is_block blocks.old.items }
     requires others { All B.is_block others.now }
-    ensures values { (i : ℕ) → value_at B.width (map B.number blocks.new.items) i ≡ merged_value merge (value_at B.width (map B.number blocks.old.items) i) (value_at B.width (map B.number others.now) i) }
+    ensures merged { IsMergedBetween O.merge B.width start (vec_len blocks.old) (map B.number blocks.old.items) (map B.number others.now) (map B.number blocks.new.items) }
     ensures each { All B.is_block blocks.new.items }
     ensures len { vec_len blocks.new ≡ vec_len blocks.old }
     ensures capacity { vec_capacity blocks.new ≡ vec_capacity blocks.old }
-    ensures steps { steps.new ≡ steps.old + vec_len blocks.old }
+    ensures steps { steps.new + start ≡ steps.old + vec_len blocks.old }
 {
-    match merge {
-        Merge::Union => merge_each::<B, Union>(blocks, others, steps),
-        Merge::Intersection => merge_each::<B, Intersection>(blocks, others, steps),
-        Merge::Difference => merge_each::<B, Difference>(blocks, others, steps),
-        Merge::Symmetric => merge_each::<B, Symmetric>(blocks, others, steps),
-    }
+    merge_first::<B, O>(blocks, others, start, steps);
+    merge_rest::<B, O>(blocks, others.len(), steps);
 }

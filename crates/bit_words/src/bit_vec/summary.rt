@@ -4,16 +4,18 @@ ghost use Rattle.std.specs.Prelude.{◌≡◌, ◌≢◌, ℕ, ◌+◌, ◌*◌,
 ghost use Rattle.bit_words.specs.Bits.{blocks_for};
 ghost use Rattle.bit_words.specs.Storage.{is_one, value_at, IsTidy};
 ghost use Rattle.bit_words.specs.Summary.{is_used, IsSummary};
-ghost use Rattle.bit_words.specs.declared.bit_vec.merge.Merge.{Merge};
 
+use super::BitBlock;
 use super::changes::{block_at, block_count, put_block, replace_value, write_value};
 use super::copying::push_copies;
 use super::masks::with_digit;
-use super::merging::merge_values;
 use super::tidy::{append_values, keep_values};
 use super::words::{block_or, same, shift_left};
-use super::{BitBlock, Merge, Steps};
 use std::alloc::{AllocError, Global};
+
+mod merging;
+
+pub(crate) use merging::merge_stored;
 
 // How many blocks are looked at at once.
 const GROUP: usize = 8;
@@ -178,29 +180,5 @@ pub(crate) fn cut_summary<B: BitBlock>(sums: &mut Vec<B>, blocks: &[B], old: usi
     keep_values(sums, old, blocks.len());
     if blocks.len() != 0 {
         note_block(sums, blocks, blocks.len() - 1);
-    }
-}
-
-// The summary becomes that of the blocks that a merge gave: of a union it is the union of the
-// summaries, and otherwise it is made anew.
-pub(crate) fn merge_summary<B: BitBlock>(
-    sums: &mut Vec<B>,
-    others: &[B],
-    blocks: &[B],
-    merge: Merge,
-)
-    requires count { vec_len sums.old ≡ blocks_for B.width (length blocks.now) }
-    requires fewer { length others.now ≤ vec_len sums.old }
-    requires each { All B.is_block sums.old.items }
-    requires others { All B.is_block others.now }
-    requires blocks { All B.is_block blocks.now }
-    requires of_union { merge ≡ Merge.Union → (k : ℕ) → is_used (map B.number blocks.now) k ≡ (value_at B.width (map B.number sums.old.items) k || value_at B.width (map B.number others.now) k) }
-    requires fits { length blocks.now < 2 ^ 64 }
-    ensures summary { IsSummary B.width B.number B.is_block blocks.now sums.new.items }
-    ensures capacity { vec_capacity sums.new ≡ vec_capacity sums.old }
-{
-    match merge {
-        Merge::Union => merge_values(sums, others, merge, &mut Steps::new()),
-        Merge::Intersection | Merge::Difference | Merge::Symmetric => summarize(sums, blocks),
     }
 }

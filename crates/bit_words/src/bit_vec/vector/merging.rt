@@ -4,8 +4,7 @@ ghost use Rattle.bit_words.specs.Bits.{blocks_for};
 ghost use Rattle.bit_words.specs.Merges.{merged};
 
 use super::BitVec;
-use crate::bit_vec::merging::merge_values;
-use crate::bit_vec::summary::merge_summary;
+use crate::bit_vec::summary::merge_stored;
 use crate::bit_vec::{BitBlock, Merge, Steps};
 
 impl<B: BitBlock> BitVec<B> {
@@ -17,7 +16,13 @@ impl<B: BitBlock> BitVec<B> {
         ensures room { self.new.room ≡ self.old.room }
         ensures steps { steps.new ≡ steps.old + blocks_for B.width (length self.old.values) }
     {
-        merge_values(&mut self.blocks, &other.blocks, merge, steps);
-        merge_summary(&mut self.summary, &other.summary, &self.blocks, merge);
+        merge_stored(
+            &mut self.blocks,
+            &mut self.summary,
+            &other.blocks,
+            &other.summary,
+            merge,
+            steps,
+        );
     }
 }

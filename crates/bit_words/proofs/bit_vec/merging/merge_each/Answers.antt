@@ -1,23 +1,10 @@
-use Rattle.std.proofs.Common.{◌≡◌, ◌/◌, ◌∙◌, ap, sym, map, length, arith, false, ⊎_elim}
-use Rattle.std.proofs.lemmas.Bool.{cases_lt}
+use Rattle.std.proofs.Common.{length, map, refl, vec_len, arith}
 use Rattle.std.proofs.lemmas.List.{length-map}
-use Rattle.bit_words.specs.Merges.{merged_value}
-use Rattle.bit_words.specs.Storage.{value_at}
-use Rattle.bit_words.proofs.StorageLemmas.{value_at-past}
+use Rattle.bit_words.proofs.MergeLemmas.{merged_more, merged_with_none}
 use Rattle.bit_words.proofs.bit_vec.merging.merge_each.Goals as goal
 
-pub returns-clause-values : goal.returns-clause-values
-returns-clause-values g c = λ i.
-    let w = g.B.BitBlock.width in
-    let f = g.B.BitBlock.number in
-    let m = g.O.Operation.merge in
-    let ms = map f c.args.blocks.now.items in
-    let os = map f c.args.others.now in
-    ⊎_elim
-    (λ first. c.merge_rest.ensures.first i (omega arith) ∙ c.merge_first.ensures.first i first)
-    (λ rest.
-    let none : value_at w os i ≡ false = value_at-past w os i (rw length-map rest) in
-    c.merge_rest.ensures.rest i (omega arith)
-    ∙ ap (λ a. merged_value m a false) (c.merge_first.ensures.rest i rest)
-    ∙ ap (merged_value m (value_at w ms i)) (sym none))
-    (cases_lt (i / w) (length c.args.others.now))
+pub returns-clause-merged : goal.returns-clause-merged
+returns-clause-merged g c =
+    let others = map g.B.BitBlock.number c.args.others.now in
+    let rest = merged_with_none _ _ (length c.args.others.now) _ _ others _ (rw length-map (omega arith)) c.merge_rest.ensures.merged in
+    merged_more _ _ c.args.start (length c.args.others.now) (vec_len c.args.blocks.now) (length c.args.others.now) (vec_len c.merge_first.new.blocks) _ _ _ _ (omega arith) (omega arith) refl (omega arith) c.merge_first.ensures.merged rest

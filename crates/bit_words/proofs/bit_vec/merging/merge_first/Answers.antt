@@ -1,27 +1,28 @@
-use Rattle.std.proofs.Common.{◌≡◌, get_or, ◌<◌, ◌/◌, ◌∙◌, sym, map, length, arith, ⊎_elim}
-use Rattle.std.proofs.lemmas.Bool.{cases_eq}
-use Rattle.std.proofs.lemmas.List.{length-map}
-use Rattle.bit_words.proofs.ChangeLemmas.{written_other, read_at}
-use Rattle.bit_words.proofs.MergeLemmas.{merged_here}
+use Rattle.std.proofs.Common.{◌≡◌, ◌+◌, length, refl, arith}
+use Rattle.bit_words.proofs.MergeLemmas.{merged_none, merged_more}
 use Rattle.bit_words.proofs.bit_vec.merging.merge_first.Goals as goal
+
+pub loop-k-init : goal.loop-k-init
+loop-k-init g c = record {
+  merged = merged_none _ _ _ _ _ _ (omega arith);
+  each = c.requires.each;
+  len = omega arith;
+  capacity = omega arith;
+  steps = omega arith;
+}
 
 pub loop-k-preserved : goal.loop-k-preserved
 loop-k-preserved g c =
-    let w = g.B.BitBlock.width in
-    let f = g.B.BitBlock.number in
-    let rs = map f c.loop-k.blocks.items in
-    let k = c.loop-k.k in
-    let within : k < length rs = rw length-map (omega arith) in
-    let written = c.put_block.ensures.numbers in
-    let read : f c.block_at.result ≡ get_or rs k 0 = rw c.deref.ensures.value at c.block_at.ensures.of_number in
+    let reached = c.loop-k.auto.k in
     record {
-      first = λ i before. ⊎_elim
-          (λ here. merged_here _ w _ rs _ k _ _ _ i _ g.met.B.BitBlock.width_law.positive within written read c.of_blocks-merged.ensures.digits here (c.loop-k.invariant.rest i (omega arith)) (sym (read_at w _ k _ i c.block_at-in-loop-k.ensures.of_number here)))
-          (λ there. written_other w rs _ k _ i written there ∙ c.loop-k.invariant.first i (omega arith))
-          (cases_eq (i / w) k);
-      rest = λ i past. written_other w rs _ k _ i written (λ here. omega arith) ∙ c.loop-k.invariant.rest i (omega arith);
-      each = c.put_block.ensures.each;
+      merged = merged_more _ _ c.args.start c.loop-k.k (c.loop-k.k + 1) _ _ _ _ _ _ (omega arith) (omega arith) refl refl c.loop-k.invariant.merged c.merge_block-merged.ensures.merged;
+      each = c.merge_block-merged.ensures.each;
       len = omega arith;
       capacity = omega arith;
       steps = omega arith;
     }
+
+pub returns-clause-merged : goal.returns-clause-merged
+returns-clause-merged g c =
+    let end : c.loop-k.k ≡ length c.args.others.now = omega arith in
+    rw end at c.loop-k.invariant.merged

@@ -1,38 +1,36 @@
-use Rattle.std.proofs.Common.{◌≡◌, get_or, ◌<◌, ◌/◌, ◌%◌, ◌∙◌, ap, map, length, arith, ⊎_elim}
-use Rattle.std.proofs.lemmas.Bool.{cases_lt, cases_eq}
-use Rattle.std.proofs.lemmas.List.{length-map}
-use Rattle.bit_words.specs.Storage.{is_one}
-use Rattle.bit_words.proofs.Masks.{is_one-zero}
-use Rattle.bit_words.proofs.ChangeLemmas.{written_other}
-use Rattle.bit_words.proofs.MergeLemmas.{merged_here, merged_past}
+use Rattle.std.proofs.Common.{◌≡◌, ◌+◌, ◌<◌, [], get_or, map, vec_len, length, refl, sym, ◌∙◌, arith}
+use Rattle.std.proofs.lemmas.List.{get_or_past, length-map}
+use Rattle.bit_words.proofs.MergeLemmas.{merged_none, merged_more, merged_put}
 use Rattle.bit_words.proofs.bit_vec.merging.merge_rest.Goals as goal
+
+pub loop-k-init : goal.loop-k-init
+loop-k-init g c = record {
+  merged = merged_none _ _ _ _ _ _ (omega arith);
+  each = c.requires.each;
+  len = omega arith;
+  capacity = omega arith;
+  steps = omega arith;
+}
 
 pub loop-k-preserved : goal.loop-k-preserved
 loop-k-preserved g c =
-    let w = g.B.BitBlock.width in
     let f = g.B.BitBlock.number in
-    let rs = map f c.loop-k.blocks.items in
+    let ms = map f c.loop-k.blocks.items in
     let k = c.loop-k.k in
-    let within : k < length rs = rw length-map (omega arith) in
-    let written = c.put_block.ensures.numbers in
-    let read : f c.block_at.result ≡ get_or rs k 0 = rw c.deref.ensures.value at c.block_at.ensures.of_number in
+    let within : k < length ms = rw length-map (omega arith) in
+    let read : f c.block_at.result ≡ get_or ms k 0 = rw c.deref.ensures.value at c.block_at.ensures.of_number in
+    let none : f c.zero-zero.result ≡ get_or [] k 0 = c.zero-zero.ensures.of_number ∙ sym (get_or_past [] k 0 (omega arith)) in
     let reached = c.loop-k.auto.k in
+    let one = merged_put _ g.B.BitBlock.width k _ _ _ ms [] _ within c.put_block.ensures.numbers read none c.of_blocks-merged.ensures.digits in
     record {
-      merged = λ i from before. ⊎_elim
-          (λ here. merged_here _ w _ rs _ k _ _ _ i _ g.met.B.BitBlock.width_law.positive within written read c.of_blocks-merged.ensures.digits here (c.loop-k.invariant.rest i (omega arith)) (ap (λ n. is_one n (i % w)) c.zero-zero.ensures.of_number ∙ is_one-zero (i % w)))
-          (λ there. written_other w rs _ k _ i written there ∙ c.loop-k.invariant.merged i from (omega arith))
-          (cases_eq (i / w) k);
-      first = λ i below. written_other w rs _ k _ i written (λ here. omega arith) ∙ c.loop-k.invariant.first i below;
-      rest = λ i past. written_other w rs _ k _ i written (λ here. omega arith) ∙ c.loop-k.invariant.rest i (omega arith);
+      merged = merged_more _ _ c.args.start k (k + 1) _ _ _ _ _ _ (omega arith) (omega arith) refl refl c.loop-k.invariant.merged one;
       each = c.put_block.ensures.each;
       len = omega arith;
       capacity = omega arith;
       steps = omega arith;
     }
 
-pub returns-clause-rest : goal.returns-clause-rest
-returns-clause-rest g c = λ i from.
-    ⊎_elim
-    (λ below. c.loop-k.invariant.merged i from below)
-    (λ past. merged_past _ _ (map g.B.BitBlock.number c.args.blocks.now.items) _ i (rw length-map (omega (arith, past))) (rw length-map (omega (arith, past))))
-    (cases_lt (i / g.B.BitBlock.width) c.loop-k.k)
+pub returns-clause-merged : goal.returns-clause-merged
+returns-clause-merged g c =
+    let end : c.loop-k.k ≡ vec_len c.args.blocks.now = omega arith in
+    rw end at c.loop-k.invariant.merged
