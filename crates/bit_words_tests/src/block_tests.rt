@@ -1,4 +1,4 @@
-use bit_words::bit_vec::BitBlock;
+use bit_words::bit_vec::{BitBlock, take_lowest_one};
 use block24::Block24;
 
 // The ones of a byte, of its complement, and of what is left of it once only its low four bits
@@ -59,4 +59,7 @@ fn the_highest_digit_of_an_odd_block(rt: HostRuntime) {
     assert_eq!(rt; negated, block);
     let below = (block & negated) - Block24(1);
     assert_eq!(rt; BitBlock::count_ones(below), 23);
+    let mut rest = block;
+    assert_eq!(rt; take_lowest_one(&mut rest), 23);
+    assert_eq!(rt; rest, Block24(0));
 }

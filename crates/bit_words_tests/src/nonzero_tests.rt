@@ -1,7 +1,8 @@
 //! The walk over the blocks that are not zero, and what goes by the summary: at the ends of its blocks.
-use bit_words::bit_vec::{BitBlock, BitVec};
+use bit_words::bit_vec::{BitBlock, BitVec, Nonzero};
 use block24::Block24;
-use std::alloc::{AllocError, Global};
+use std::alloc::{AllocError, AllocFailed, Global};
+use std::fmt::Debug;
 use std::process::Abort;
 use std::test::Fail;
 
@@ -111,4 +112,71 @@ fn a_removed_value_leaves_the_summary(rt: HostRuntime) -> Result<(), Fail> {
     bits.cut_zero_blocks();
     assert_eq!(rt; bits.len(), 0);
     Ok(())
+}
+
+// The blocks that a walk is to give, each with its index: the first, and those that are not zero.
+fn entries<B: BitBlock>(
+    alloc: Global,
+    bits: &BitVec<B>,
+) -> Result<Vec<(usize, B)>, AllocFailed<(usize, B)>> {
+    let mut entries = Vec::new(alloc);
+    for (k, block) in bits.storage().iter().enumerate() {
+        if k == 0 || *block != B::zero() {
+            entries.push((k, *block))?;
+        }
+    }
+    Ok(entries)
+}
+
+// The walk gives these blocks, and then none for good.
+fn gives<B: BitBlock + Debug>(rt: &impl Abort, mut walk: Nonzero<'_, B>, entries: &[(usize, B)]) {
+    for entry in entries {
+        assert_eq!(rt; walk.next(), Some(*entry));
+    }
+    assert_eq!(rt; walk.next(), None);
+    assert_eq!(rt; walk.next(), None);
+}
+
+// At each point of the walk a clone gives what is left.
+fn agrees_at_each_point<B: BitBlock + Debug>(
+    rt: &impl Abort,
+    alloc: Global,
+    bits: &BitVec<B>,
+) -> Result<(), Fail> {
+    let entries = entries(alloc, bits)?;
+    let mut walk = bits.nonzero();
+    for point in 0..entries.len() + 1 {
+        let (_, left) = entries.split_at(point);
+        gives(rt, walk.clone(), left);
+        assert_eq!(rt; walk.next(), left.first().copied());
+    }
+    Ok(())
+}
+
+// Lists of three blocks of the summary, which are true within so many of them: at their ends, and with a zero
+// block 0.
+fn agree_over_summaries<B: BitBlock + Debug>(
+    rt: &impl Abort,
+    alloc: Global,
+    trues: &[&[usize]],
+    len: usize,
+) -> Result<(), Fail> {
+    for places in trues {
+        let bits = list_of::<B>(alloc, len, places)?;
+        agrees_at_each_point(rt, alloc, &bits)?;
+        assert_eq!(rt; bits.count_ones(), places.len());
+        assert_eq!(rt; bits.none(), places.is_empty());
+    }
+    Ok(())
+}
+
+#[test]
+fn a_walk_is_its_list_at_each_point(rt: HostRuntime) -> Result<(), Fail> {
+    let alloc = rt.alloc();
+    let narrow: [&[usize]; 6] = [&[], &[0], &[63], &[67], &[0, 127], &[63, 64, 191]];
+    agree_over_summaries::<u8>(&rt, alloc, &narrow, 192)?;
+    let odd: [&[usize]; 6] = [&[], &[0], &[575], &[579], &[0, 1151], &[575, 576, 1727]];
+    agree_over_summaries::<Block24>(&rt, alloc, &odd, 1728)?;
+    let wide: [&[usize]; 6] = [&[], &[0], &[4095], &[4099], &[0, 8191], &[4095, 4096, 12287]];
+    agree_over_summaries::<u64>(&rt, alloc, &wide, 12288)
 }

@@ -1,6 +1,7 @@
 use bit_words::bit_vec::{BitBlock, BitVec, BitsError, Steps};
 use block24::Block24;
 use std::alloc::{AllocError, Global};
+use std::process::Abort;
 use std::test::Fail;
 
 #[test]
@@ -135,15 +136,46 @@ fn a_walk_gives_each_block(rt: HostRuntime) -> Result<(), Fail> {
     Ok(())
 }
 
-#[test]
-fn a_refused_growth_changes_nothing(rt: HostRuntime) -> Result<(), Fail> {
-    let mut bits = BitVec::<u8>::from_bytes_general(rt.alloc(), &[0b1010_0000])?;
+// How a list is refused so many values, by each call that takes memory for them.
+fn refusals<B: BitBlock>(bits: &mut BitVec<B>, len: usize) -> [Result<(), AllocError>; 4] {
+    let more = len.saturating_sub(bits.len());
+    let ones = bits.grow(more, true);
+    let more = len.saturating_sub(bits.len());
+    let zeros = bits.grow(more, false);
+    let more = len.saturating_sub(bits.len());
+    let room = bits.reserve(more);
+    let more = len.saturating_sub(bits.len());
+    [ones, zeros, room, bits.reserve_exact(more)]
+}
+
+// Each call that takes a number, at one for which there is no memory.
+fn check_greatest<B: BitBlock>(
+    rt: &impl Abort,
+    alloc: Global,
+    number: usize,
+) -> Result<(), Fail> {
+    let mut bits = BitVec::<B>::from_bytes_general(alloc, &[0b1010_0000])?;
     let capacity = bits.capacity();
-    let longest = usize::MAX - bits.len();
-    assert_eq!(rt; bits.grow(longest, true), Err(AllocError));
-    assert_eq!(rt; bits.storage(), [5].as_slice());
+    assert_eq!(rt; refusals(&mut bits, number), [Err(AllocError); 4]);
+    assert!(rt; BitVec::<B>::from_elem_general(alloc, number, true).is_err());
+    assert!(rt; BitVec::<B>::from_elem_general(alloc, number, false).is_err());
+    assert_eq!(rt; bits.get(number), None);
+    bits.truncate(number);
+    let firsts = [bits.get(0), bits.get(1), bits.get(2), bits.get(7)];
+    assert_eq!(rt; firsts, [Some(true), Some(false), Some(true), Some(false)]);
     assert_eq!(rt; bits.len(), 8);
+    assert_eq!(rt; bits.count_ones(), 2);
     assert_eq!(rt; bits.capacity(), capacity);
+    Ok(())
+}
+
+#[test]
+fn the_greatest_numbers_change_nothing(rt: HostRuntime) -> Result<(), Fail> {
+    for number in [18446744073709551615, 18446744073709551614] {
+        check_greatest::<u8>(&rt, rt.alloc(), number)?;
+        check_greatest::<Block24>(&rt, rt.alloc(), number)?;
+        check_greatest::<u64>(&rt, rt.alloc(), number)?;
+    }
     Ok(())
 }
 
