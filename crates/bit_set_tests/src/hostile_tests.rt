@@ -1,11 +1,13 @@
 //! Sets of one element and other lengths, numbers at the end of their range, odd blocks and sets of millions of
 //! places: rows with their exact answers.
 use crate::algebra_tests::merge_in;
+use crate::order_tests::feed;
 use crate::set_tests::items;
 use bit_set::bit_vec::Merge;
 use bit_set::{BitBlock, BitSet, SetError};
 use block24::Block24;
 use std::alloc::{AllocError, AllocFailed, Global};
+use std::cmp::Ordering;
 use std::process::Abort;
 use std::test::Fail;
 
@@ -65,6 +67,9 @@ fn assert_walks_agree(
     assert_eq!(rt; counts(&a, &b), [1, 1, 1, 0, 0], "at {one} and {two}");
     assert_eq!(rt; firsts(&a, &b), [Some(3), Some(3), Some(3), None, None]);
     assert!(rt; a.is_subset(&b) && a.is_superset(&b) && !a.is_disjoint(&b));
+    assert!(rt; a == b && a.cmp(&b) == Ordering::Equal);
+    assert_eq!(rt; feed(&a), feed(&b));
+    assert_eq!(rt; format!(in alloc; "{a}")?.as_str(), "{3}");
     Ok(())
 }
 
@@ -121,13 +126,19 @@ fn no_set_is_made_of_the_greatest_numbers(rt: HostRuntime) {
 fn the_greatest_numbers_change_nothing(rt: HostRuntime) -> Result<(), Fail> {
     let mut set = BitSet::new(rt.alloc());
     set.insert(5)?;
-    for number in [GREATEST, GREATEST - 1] {
+    for (number, fault) in [
+        (GREATEST, SetError::Element),
+        (GREATEST - 1, SetError::Memory(AllocError)),
+    ] {
         assert!(rt; !set.contains(number));
         assert!(rt; !set.remove(number));
         set.truncate(number);
-        assert!(rt; set.reserve_len(number).is_err());
-        assert!(rt; set.reserve_len_exact(number).is_err());
-        assert!(rt; set.extend([number].iter().copied()).is_err());
+        assert_eq!(rt; set.insert(number), Err(fault));
+        assert_eq!(rt; set.extend([number].iter().copied()), Err(fault));
+        assert_eq!(rt; set.reserve_len(number), Err(AllocError));
+        assert_eq!(rt; set.reserve_len_exact(number), Err(AllocError));
+        assert!(rt; BitSet::with_capacity(rt.alloc(), number).is_err());
+        assert!(rt; BitSet::<Block24>::with_capacity_general(rt.alloc(), number).is_err());
     }
     assert_eq!(rt; items(rt.alloc(), &set)?.as_slice(), [5].as_slice());
     assert_eq!(rt; set.get_ref().len(), 6);

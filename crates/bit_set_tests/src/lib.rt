@@ -14,4 +14,6 @@ mod room_tests;
 #[cfg(test)]
 mod set_tests;
 #[cfg(test)]
+mod sparse_tests;
+#[cfg(test)]
 mod walk_tests;

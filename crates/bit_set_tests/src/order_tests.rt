@@ -36,7 +36,7 @@ impl Hasher for Recorder {
 }
 
 // How many writes a set feeds, and their bytes.
-fn feed<B: BitBlock>(set: &BitSet<B>) -> (u64, u128) {
+pub(crate) fn feed<B: BitBlock>(set: &BitSet<B>) -> (u64, u128) {
     let mut recorder = Recorder { calls: 0, bytes: 0 };
     set.hash(&mut recorder);
     (recorder.calls, recorder.bytes)

@@ -13,14 +13,18 @@ use std::process::Abort;
 use std::test::Fail;
 
 // A set of one element, of at least this length.
-fn set_of<B: BitBlock>(alloc: Global, len: usize, element: usize) -> Result<BitSet<B>, SetError> {
+pub(crate) fn set_of<B: BitBlock>(
+    alloc: Global,
+    len: usize,
+    element: usize,
+) -> Result<BitSet<B>, SetError> {
     let mut set = BitSet::with_capacity_general(alloc, len)?;
     set.insert(element)?;
     Ok(set)
 }
 
 // The bounds on the rest: at the making, and after each of two calls of `next`.
-fn bounds<B: BitBlock>(set: &BitSet<B>) -> [(usize, Option<usize>); 3] {
+pub(crate) fn bounds<B: BitBlock>(set: &BitSet<B>) -> [(usize, Option<usize>); 3] {
     let mut walk = set.iter();
     let made = walk.size_hint();
     let _ = walk.next();
@@ -115,7 +119,11 @@ fn passes<B: BitBlock>(rt: &impl Abort, walk: &mut Iter<'_, B>, items: &[usize])
 
 // At each point of the walk over these elements, a clone counts what is left and gives it, and the
 // walk is left there.
-fn agrees_at_each_point<B: BitBlock>(rt: &impl Abort, set: &BitSet<B>, elements: &[usize]) {
+pub(crate) fn agrees_at_each_point<B: BitBlock>(
+    rt: &impl Abort,
+    set: &BitSet<B>,
+    elements: &[usize],
+) {
     for point in 0..elements.len() + 1 {
         let (passed, left) = elements.split_at(point);
         let mut walk = set.iter();

@@ -177,6 +177,13 @@ fn a_walk_is_its_list_at_each_point(rt: HostRuntime) -> Result<(), Fail> {
     agree_over_summaries::<u8>(&rt, alloc, &narrow, 192)?;
     let odd: [&[usize]; 6] = [&[], &[0], &[575], &[579], &[0, 1151], &[575, 576, 1727]];
     agree_over_summaries::<Block24>(&rt, alloc, &odd, 1728)?;
-    let wide: [&[usize]; 6] = [&[], &[0], &[4095], &[4099], &[0, 8191], &[4095, 4096, 12287]];
+    let wide: [&[usize]; 6] = [
+        &[],
+        &[0],
+        &[4095],
+        &[4099],
+        &[0, 8191],
+        &[4095, 4096, 12287],
+    ];
     agree_over_summaries::<u64>(&rt, alloc, &wide, 12288)
 }

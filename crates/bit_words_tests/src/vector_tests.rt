@@ -149,11 +149,7 @@ fn refusals<B: BitBlock>(bits: &mut BitVec<B>, len: usize) -> [Result<(), AllocE
 }
 
 // Each call that takes a number, at one for which there is no memory.
-fn check_greatest<B: BitBlock>(
-    rt: &impl Abort,
-    alloc: Global,
-    number: usize,
-) -> Result<(), Fail> {
+fn check_greatest<B: BitBlock>(rt: &impl Abort, alloc: Global, number: usize) -> Result<(), Fail> {
     let mut bits = BitVec::<B>::from_bytes_general(alloc, &[0b1010_0000])?;
     let capacity = bits.capacity();
     assert_eq!(rt; refusals(&mut bits, number), [Err(AllocError); 4]);

@@ -1,0 +1,73 @@
+//! Sets whose elements lie far apart: the rows of the walk, and a walk at each of its points over three widths.
+use crate::walk_tests::{agrees_at_each_point, bounds, set_of};
+use bit_set::{BitBlock, BitSet};
+use block24::Block24;
+use std::alloc::Global;
+use std::process::Abort;
+use std::test::Fail;
+
+#[test]
+fn the_bound_falls_over_zero_blocks(rt: HostRuntime) -> Result<(), Fail> {
+    let mut far = set_of::<u32>(rt.alloc(), 0, 0)?;
+    far.insert(100000)?;
+    assert_eq!(rt; far.get_ref().storage().len(), 3126);
+    assert_eq!(rt;
+        bounds(&far),
+        [(0, Some(100032)), (0, Some(100032)), (0, Some(32))]
+    );
+    let empty = BitSet::with_capacity(rt.alloc(), 100)?;
+    assert_eq!(rt;
+        bounds(&empty),
+        [(0, Some(128)), (0, Some(32)), (0, Some(32))]
+    );
+    assert_eq!(rt; empty.iter().next(), None);
+    Ok(())
+}
+
+#[test]
+fn a_removed_element_leaves_nothing(rt: HostRuntime) -> Result<(), Fail> {
+    let mut set = set_of::<u32>(rt.alloc(), 0, 400)?;
+    assert!(rt; !set.is_empty());
+    set.remove(400);
+    assert!(rt; set.is_empty());
+    assert_eq!(rt; set.iter().next(), None);
+    set.shrink_to_fit()?;
+    assert_eq!(rt; set.get_ref().len(), 0);
+    Ok(())
+}
+
+// Sets whose elements are in the reach of none, one, two and three blocks of a summary, which is so many places
+// each: at its ends, and past a block 0 that is zero.
+fn agree<B: BitBlock>(rt: &impl Abort, alloc: Global, rows: &[&[usize]]) -> Result<(), Fail> {
+    for elements in rows {
+        let set = BitSet::<B>::from_iter(alloc, elements.iter().copied())?;
+        assert_eq!(rt; set.count(), elements.len());
+        assert_eq!(rt; set.is_empty(), elements.is_empty());
+        agrees_at_each_point(rt, &set, elements);
+    }
+    Ok(())
+}
+
+#[test]
+fn sparse_walks_are_their_lists_at_each_point(rt: HostRuntime) -> Result<(), Fail> {
+    let narrow: [&[usize]; 6] = [&[], &[0], &[63], &[67], &[0, 127], &[63, 64, 130, 191]];
+    agree::<u8>(&rt, rt.alloc(), &narrow)?;
+    let odd: [&[usize]; 6] = [
+        &[],
+        &[0],
+        &[575],
+        &[579],
+        &[0, 1151],
+        &[575, 576, 1200, 1727],
+    ];
+    agree::<Block24>(&rt, rt.alloc(), &odd)?;
+    let wide: [&[usize]; 6] = [
+        &[],
+        &[0],
+        &[4095],
+        &[4099],
+        &[0, 8191],
+        &[4095, 4096, 8200, 12287],
+    ];
+    agree::<u64>(&rt, rt.alloc(), &wide)
+}
