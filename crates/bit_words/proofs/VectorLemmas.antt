@@ -80,12 +80,6 @@ is_room_of_blocks w n cap f P xs v tidy h e = record {
 pub room_covers : (w n : ℕ) (v : Bits) → IsRoomOfBlocks w v → n ≤ 2 ^ 64 - 1 → n ≤ blocks_for w (length v.values) * w → n ≤ v.room
 room_covers w n v whole fits h = let more = mul-le-mul_right w whole.enough in rw whole.room (omega arith)
 
--- the same of a length that takes no more blocks than the list has
-pub room_covers_blocks : (w n : ℕ) (v : Bits) → 0 < w → IsRoomOfBlocks w v → n ≤ 2 ^ 64 - 1 → blocks_for w n ≤ blocks_for w (length v.values) → n ≤ v.room
-room_covers_blocks w n v pos whole fits h =
-    let more = mul-le-mul_right w h in
-    room_covers w n v whole fits (omega (arith, blocks_for-enough w n pos))
-
 -- ---- one value
 
 pub slice_get-values_of_past : (w : ℕ) (ms : List ℕ) (n i : ℕ) → n ≤ i → slice_get (values_of w ms n) i ≡ None

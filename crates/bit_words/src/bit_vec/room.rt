@@ -43,9 +43,11 @@ pub(crate) fn have_room<B: BitBlock>(blocks: &Vec<B>, sums: &Vec<B>, count: usiz
     count <= blocks.capacity() && block_count::<B>(count) <= sums.capacity()
 }
 
-// Makes room for `count` blocks and their summary. What has more room of the two grows first: then a
-// refusal of the other leaves the room that they share.
-pub(crate) fn make_shared_room<B: BitBlock>(
+// Makes room for `count` blocks and their summary where it may be missing. What has more room of the two
+// grows first: then a refusal of the other leaves the room that they share.
+#[cold]
+#[inline(never)]
+fn grow_shared_room<B: BitBlock>(
     blocks: &mut Vec<B>,
     sums: &mut Vec<B>,
     count: usize,
@@ -72,6 +74,33 @@ pub(crate) fn make_shared_room<B: BitBlock>(
         make_room(blocks, count, exact)?;
         make_room(sums, needed, exact)
     }
+}
+
+// Makes room for `count` blocks and their summary. Where it is there, that costs two comparisons.
+#[inline]
+pub(crate) fn make_shared_room<B: BitBlock>(
+    blocks: &mut Vec<B>,
+    sums: &mut Vec<B>,
+    count: usize,
+    exact: bool,
+) -> Result<(), AllocError>
+    ensures items { blocks.new.items ≡ blocks.old.items }
+    ensures sums { sums.new.items ≡ sums.old.items }
+    ensures len { vec_len blocks.new ≡ vec_len blocks.old }
+    ensures sums_len { vec_len sums.new ≡ vec_len sums.old }
+    ensures ok { OnOk result (count ≤ shared_room B.width (vec_capacity blocks.new) (vec_capacity sums.new)) }
+    ensures exact { IsTrue exact → OnOk result (vec_capacity blocks.new ≡ max (vec_capacity blocks.old) count) }
+    ensures exact_sums { IsTrue exact → OnOk result (vec_capacity sums.new ≡ max (vec_capacity sums.old) (blocks_for B.width count)) }
+    ensures err { OnErr result (shared_room B.width (vec_capacity blocks.new) (vec_capacity sums.new) ≡ shared_room B.width (vec_capacity blocks.old) (vec_capacity sums.old)) }
+    ensures full { OnErr result (shared_room B.width (vec_capacity blocks.old) (vec_capacity sums.old) < count) }
+    ensures succeeds { count ≤ shared_room B.width (vec_capacity blocks.old) (vec_capacity sums.old) → IsOk result }
+    ensures capacity { shared_room B.width (vec_capacity blocks.old) (vec_capacity sums.old) ≤ shared_room B.width (vec_capacity blocks.new) (vec_capacity sums.new) }
+    ensures within { count ≤ shared_room B.width (vec_capacity blocks.old) (vec_capacity sums.old) → shared_room B.width (vec_capacity blocks.new) (vec_capacity sums.new) ≡ shared_room B.width (vec_capacity blocks.old) (vec_capacity sums.old) }
+{
+    if have_room(blocks, sums, count) {
+        return Ok(());
+    }
+    grow_shared_room(blocks, sums, count, exact)
 }
 
 // Makes room for `count` blocks and their summary, and for no more. Where the blocks had room for

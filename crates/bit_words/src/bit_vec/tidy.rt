@@ -55,6 +55,9 @@ pub(crate) fn append_values<B: BitBlock>(blocks: &mut Vec<B>, old: usize, len: u
     ensures tidy { IsTidy B.width B.number B.is_block blocks.new.items len }
     ensures capacity { vec_capacity blocks.new ≡ vec_capacity blocks.old }
 {
+    if old == len {
+        return;
+    }
     if bit {
         raise_last(blocks, old, len);
         push_ones(blocks, len);

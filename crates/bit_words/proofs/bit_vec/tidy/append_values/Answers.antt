@@ -8,6 +8,9 @@ pub push_ones-requires-clause-more : goal.push_ones-requires-clause-more
 push_ones-requires-clause-more g c =
     let le = blocks_for-le g.B.BitBlock.width c.args.old c.args.len g.met.B.BitBlock.width_law.positive c.requires.longer in omega arith
 
+pub returns-then-old-len-clause-tidy : goal.returns-then-old-len-clause-tidy
+returns-then-old-len-clause-tidy g c = rw (← c.if-old-len.true) c.requires.tidy
+
 pub returns-then-bit-clause-kept : goal.returns-then-bit-clause-kept
 returns-then-bit-clause-kept g c =
     let count : vec_len c.args.blocks.now ≡ blocks_for g.B.BitBlock.width c.args.old = omega arith in

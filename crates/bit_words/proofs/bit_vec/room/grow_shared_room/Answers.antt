@@ -3,7 +3,7 @@ use Rattle.std.proofs.lemmas.Result.{on_ok_weaker, on_err_weaker}
 use Rattle.bit_words.specs.Bits.{blocks_for}
 use Rattle.bit_words.specs.Summary.{shared_room}
 use Rattle.bit_words.proofs.RoomLemmas.{shared_enough, shared_by_blocks, shared_by_sums, shared_short_sums, from_shared}
-use Rattle.bit_words.proofs.bit_vec.room.make_shared_room.Goals as goal
+use Rattle.bit_words.proofs.bit_vec.room.grow_shared_room.Goals as goal
 
 -- ---- the summary first
 
