@@ -4,7 +4,7 @@ use Rattle.std.proofs.Math.Bool.{or-false}
 use Rattle.std.specs.Iterator.{YieldsFirst, YieldsThen, Drains}
 use Rattle.bit_words.specs.declared.bit_vec.merge.Merge.{Merge}
 use Rattle.bit_set.specs.Sets.{IsAscending, has, elements, put_all, merged_sets}
-use Rattle.bit_set.specs.Walk.{Walk, BoundedWalk, AdvancesByEach, AdvancesWithBound}
+use Rattle.bit_set.specs.Walk.{TwoSetWalk, BoundedWalk, AdvancesByEach, AdvancesWithBound}
 use Rattle.bit_set.proofs.SetLemmas.{same_members, IsAscending-elements}
 use Rattle.bit_set.proofs.SetLaws.{has-put_all, IsAscending-put_all}
 use Rattle.bit_set.proofs.AlgebraLemmas.{IsAscending-merged_sets}
@@ -25,7 +25,7 @@ collected left steps first merge a b c s items over run puts =
     ∙ ap (λ xs. put_all [] xs) (all_left left steps first s run.0 items run.1 ∙ over)
     ∙ put_all-items (merged_sets merge (elements a) (elements b)) (IsAscending-merged_sets merge (elements a) (elements b) (IsAscending-elements a))
 
-pub collected_by_each : (w : ℕ) (merge : Merge) (a b c : List Bool) (s : Walk) (items : List ℕ) → s.left ≡ merged_sets merge (elements a) (elements b) → Drains (AdvancesByEach w) s items → elements c ≡ put_all [] items → elements c ≡ merged_sets merge (elements a) (elements b)
+pub collected_by_each : (w : ℕ) (merge : Merge) (a b c : List Bool) (s : TwoSetWalk) (items : List ℕ) → s.left ≡ merged_sets merge (elements a) (elements b) → Drains (AdvancesByEach w) s items → elements c ≡ put_all [] items → elements c ≡ merged_sets merge (elements a) (elements b)
 collected_by_each w merge a b c s items = collected (λ walk. walk.left) (AdvancesByEach w) (λ s t r step. step.item) merge a b c s items
 
 pub collected_with_bound : (w : ℕ) (merge : Merge) (a b c : List Bool) (s : BoundedWalk) (items : List ℕ) → s.walk.left ≡ merged_sets merge (elements a) (elements b) → Drains (AdvancesWithBound w) s items → elements c ≡ put_all [] items → elements c ≡ merged_sets merge (elements a) (elements b)

@@ -12,7 +12,9 @@ pub mod PlaceLemmas
 pub mod WalkLemmas
 pub mod PairLemmas
 pub mod TallyLemmas
+pub mod SparseLemmas
 pub mod WalkLaws
+pub mod SparseLaws
 pub mod UnlikeLemmas
 pub mod OrderLemmas
 pub mod JsonLemmas

@@ -11,14 +11,8 @@ use Rattle.bit_words.specs.Lowest.{IsLowest, IsCleared}
 use Rattle.bit_words.proofs.BitsLemmas.{length-blocks_of}
 use Rattle.bit_set.specs.Sets.{elements_from, elements}
 use Rattle.bit_set.specs.Places.{digits_from, values_in, places, Ahead, PullsBlock, PullsWhere, IsWalkable, CanWalk}
-use Rattle.bit_set.specs.Walk.{Walk, Advances, AdvancesByEach}
 use Rattle.bit_set.proofs.SetLemmas.{length-elements-le}
 use Rattle.bit_set.proofs.PlaceLemmas.{places-zero, places-next, places-lowest, length-digits_from, length-values_in, length-places-le, length-elements-block, elements-blocks_of, elements-below}
-
--- a walk that passes each block just once pulls it once at most
-pub by_each : (w : ℕ) (s t : Walk) (r : Option ℕ) → AdvancesByEach w s r t → Advances w s r t
-by_each w s t None step = record { item = step.item; goes_on = step.goes_on; pulled = omega (arith, step.pulled); along = step.along; at = step.at }
-by_each w s t (Some x) step = record { item = step.item; goes_on = step.goes_on; pulled = omega (arith, step.pulled); along = step.along; at = step.at }
 
 -- a pull takes one block on
 pub pulled_along : (place w m n : ℕ) → n ≡ m + 1 → place + w + w * m ≡ place + w * n

@@ -1,7 +1,8 @@
 -- Where the ones of blocks are. No public clause cites this.
-use Rattle.std.specs.Prelude.{◌≡◌, ℕ, ◌+◌, ◌-◌, ◌*◌, ◌^◌, ◌<◌, ◌⊎◌, Bool, true, List, [], ◌++◌, map, length, drop, All, Option, Some, None, MatchOption, IsSomeAnd}
+use Rattle.std.specs.Prelude.{◌≡◌, ℕ, ◌+◌, ◌-◌, ◌*◌, ◌/◌, ◌^◌, ◌<◌, ◌≤◌, ◌⊎◌, Bool, true, List, [], ◌++◌, map, length, drop, All, Option, Some, None, MatchOption, IsSomeAnd}
 use Rattle.std.specs.List.{range_with_len, flat_map}
 use Rattle.bit_words.specs.Storage.{is_one}
+use Rattle.bit_words.specs.Nonzero.{Nonzeros, nonzero_from}
 use Rattle.bit_words.specs.Merges.{merged_value, merged}
 use Rattle.bit_words.specs.declared.bit_vec.merge.Merge.{Merge}
 use Rattle.bit_set.specs.Sets.{elements_from, elements}
@@ -71,3 +72,17 @@ pub record IsWalk (is_block is_sound : Type 0) (w place m : ℕ) (ahead : Ahead)
   pub in_hand : is_block
   pub sound : is_sound
   pub can : CanWalk w place m ahead
+
+-- Of all these blocks, what lies past the one whose first digit has place `place`.
+abbrev pub past_block : {X : Type 0} → ℕ → (X → ℕ) → ℕ → List X → ℕ → Ahead
+past_block w number place xs pulls =
+    let past = drop (place / w + 1) xs in record { values = values_in w (map number past); blocks = length past; pulls = pulls }
+
+-- The fields of a walk that goes by the blocks that are not 0: those past the one in hand are all that it has to pull.
+pub record IsSparseWalk {X : Type 0} (w : ℕ) (number : X → ℕ) (is_block : X → Type 0) (place : ℕ) (block : X) (it : Nonzeros X) : Type 0 where
+  pub in_hand : is_block block
+  pub each : All is_block it.blocks
+  pub left : it.left ≡ nonzero_from number (place / w + 1) (drop (place / w + 1) it.blocks)
+  pub whole : place ≡ place / w * w
+  pub inside : place / w ≤ length it.blocks - 1
+  pub can : CanWalk w place (number block) (past_block w number place it.blocks it.pulls)

@@ -1,17 +1,26 @@
 -- Walks over the elements of a set, block by block.
-use Rattle.std.specs.Prelude.{◌≡◌, ℕ, ◌+◌, ◌-◌, ◌*◌, ◌/◌, ◌^◌, ◌<◌, ◌≤◌, max, Bool, nat_lt, if◌then◌else◌, List, [], length, Option, Some, None, MatchOption}
+use Rattle.std.specs.Prelude.{◌≡◌, ℕ, ◌+◌, ◌-◌, ◌*◌, ◌/◌, ◌^◌, ◌<◌, ◌≤◌, ◌==◌, max, Bool, nat_lt, if◌then◌else◌, List, [], ◌∷◌, length, Option, Some, None, MatchOption}
 use Rattle.std.specs.Iterator.{YieldsFirst, YieldsThen, Drains}
 use Rattle.bit_words.specs.Bits.{blocks_for}
 use Rattle.bit_words.specs.declared.bit_vec.merge.Merge.{Merge}
 use Rattle.bit_set.specs.Sets.{elements, merged_sets}
 
--- What contracts see of a walk: the elements that are left, how often it called `next` on its block
--- source, the number that stands first in the block in hand, and how many blocks are past that block.
+-- What contracts see of a walk over a set: the elements that are left, how often it called `next` on its block
+-- source, the number that stands first in the block in hand, and how many blocks are past that block; how often a
+-- block of the summary was pulled, and how many of these are left.
 pub record Walk : Type 0 where
   pub left : List ℕ
   pub pulls : ℕ
   pub place : ℕ
   pub blocks : ℕ
+  pub summary_pulls : ℕ
+  pub summary_left : ℕ
+
+-- The item x was found in the block in hand with no pull, or else by one, in a block past it.
+pub record FindsBlock (w : ℕ) (s : Walk) (x : ℕ) (t : Walk) : Type 0 where
+  pub onward : s.place / w ≤ x / w
+  pub place : t.place ≡ x / w * w
+  pub pulls : t.pulls ≡ s.pulls + (if s.place / w == x / w then 0 else 1)
 
 -- A call of `next` on s gave r and left t, over blocks of w: the first of what was left, or None at the
 -- end, which stays. It pulled each block that it passed once at most, and once more where it found the
@@ -22,9 +31,25 @@ pub record Advances (w : ℕ) (s : Walk) (r : Option ℕ) (t : Walk) : Type 0 wh
   pub pulled : MatchOption r (t.pulls ≤ s.pulls + s.blocks + 1) (λ _. t.pulls + t.blocks ≤ s.pulls + s.blocks)
   pub along : t.place + w * t.blocks ≡ s.place + w * s.blocks
   pub at : MatchOption r (t.blocks ≡ 0) (λ x. (t.place ≤ x) × (x < t.place + w))
+  pub sparse : MatchOption r (t.pulls ≡ s.pulls + 1) (λ x. FindsBlock w s x t)
+  pub summary : MatchOption r ((t.summary_pulls ≡ s.summary_pulls + s.summary_left + 1) × (t.summary_left ≡ 0)) (λ _. t.summary_pulls + t.summary_left ≡ s.summary_pulls + s.summary_left)
 
--- The same, of a walk that pulls each block that it passes just once, and once more where it finds the end.
-pub record AdvancesByEach (w : ℕ) (s : Walk) (r : Option ℕ) (t : Walk) : Type 0 where
+-- the blocks of w past block k that have one of the numbers, which ascend: each once, in order
+abbrev pub blocks_past : ℕ → ℕ → List ℕ → List ℕ
+blocks_past w k [] = []
+blocks_past w k (x ∷ xs) = if nat_lt k (x / w) then x / w ∷ blocks_past w (x / w) xs else blocks_past w k xs
+
+-- What contracts see of a walk over two sets: the elements that are left, how often it pulled both, the number that
+-- stands first in the block in hand, and how many blocks are past that block in the set that has more.
+pub record TwoSetWalk : Type 0 where
+  pub left : List ℕ
+  pub pulls : ℕ
+  pub place : ℕ
+  pub blocks : ℕ
+
+-- A call of `next` on such a walk, which pulls each block that it passes just once, and once more where it finds the
+-- end.
+pub record AdvancesByEach (w : ℕ) (s : TwoSetWalk) (r : Option ℕ) (t : TwoSetWalk) : Type 0 where
   pub item : YieldsFirst (λ walk. walk.left) s r t
   pub goes_on : s.pulls ≤ t.pulls
   pub pulled : MatchOption r (t.pulls ≡ s.pulls + s.blocks + 1) (λ _. t.pulls + t.blocks ≡ s.pulls + s.blocks)
@@ -32,7 +57,7 @@ pub record AdvancesByEach (w : ℕ) (s : Walk) (r : Option ℕ) (t : Walk) : Typ
   pub at : MatchOption r (t.blocks ≡ 0) (λ x. (t.place ≤ x) × (x < t.place + w))
 
 -- A walk went on to the next block or stayed, and what is left stayed.
-pub record GoesOn (w : ℕ) (s t : Walk) : Type 0 where
+pub record GoesOn (w : ℕ) (s t : TwoSetWalk) : Type 0 where
   pub left : t.left ≡ s.left
   pub goes_on : s.pulls ≤ t.pulls
   pub pulled : t.pulls + t.blocks ≡ s.pulls + s.blocks
@@ -40,7 +65,7 @@ pub record GoesOn (w : ℕ) (s t : Walk) : Type 0 where
 
 -- What contracts see of a walk that keeps a bound on the elements left.
 pub record BoundedWalk : Type 0 where
-  pub walk : Walk
+  pub walk : TwoSetWalk
   pub bound : ℕ
 
 -- A call of `next` on such a walk, which lowers its bound by one until it is 0, at the end too.
@@ -54,8 +79,8 @@ pub record IsWalkedOut (s : Walk) (items : List ℕ) (t : Walk) : Type 0 where
   pub ended : t.left ≡ []
   pub pulled : t.pulls ≤ s.pulls + s.blocks + 1
 
--- The same, of a walk that pulls each block that it passes just once.
-pub record IsWalkedOutByEach (s : Walk) (items : List ℕ) (t : Walk) : Type 0 where
+-- The same, of a walk over two sets, which pulls each block that it passes just once.
+pub record IsWalkedOutByEach (s : TwoSetWalk) (items : List ℕ) (t : TwoSetWalk) : Type 0 where
   pub all : items ≡ s.left
   pub ended : t.left ≡ []
   pub pulled : t.pulls ≡ s.pulls + s.blocks + 1
@@ -66,12 +91,13 @@ pub record IsAtStart (w : ℕ) (values : List Bool) (s : Walk) : Type 0 where
   pub pulls : s.pulls ≡ 1
   pub place : s.place ≡ 0
   pub blocks : s.blocks ≡ blocks_for w (length values) - 1
+  pub summary : s.summary_pulls + s.summary_left ≡ max 1 (blocks_for w (blocks_for w (length values)))
   -- so that the elements can be counted
   pub few : length s.left < 2 ^ 64
 
 -- At the making of a walk over what two lists of truth values become, in blocks of w. It has pulled both once, and
 -- has as many blocks to go as the longer one.
-pub record StartsOverTwo (w : ℕ) (a b : List Bool) (s : Walk) : Type 0 where
+pub record StartsOverTwo (w : ℕ) (a b : List Bool) (s : TwoSetWalk) : Type 0 where
   pub pulls : s.pulls ≡ 1
   pub place : s.place ≡ 0
   pub blocks : s.blocks ≡ max (blocks_for w (length a)) (blocks_for w (length b)) - 1
@@ -80,7 +106,7 @@ pub record StartsOverTwo (w : ℕ) (a b : List Bool) (s : Walk) : Type 0 where
 
 -- What whole walks over two sets give, in blocks of w. S is what contracts see of such a walk, and `walk` what that
 -- says of the walk itself.
-pub record WalksOverTwo {S : Type 0} (w : ℕ) (merge : Merge) (walk : S → Walk) (next : S → Option ℕ → S → Type 0) : Type 0 where
+pub record WalksOverTwo {S : Type 0} (w : ℕ) (merge : Merge) (walk : S → TwoSetWalk) (next : S → Option ℕ → S → Type 0) : Type 0 where
   -- from any point, up to the first None
   pub rest : (s t : S) (items : List ℕ) → YieldsThen next s items None t → IsWalkedOutByEach (walk s) items (walk t)
   -- from the making on

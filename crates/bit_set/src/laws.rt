@@ -1,6 +1,6 @@
 //! Laws of sets of numbers, as the contracts of functions that do nothing. A set is the list of its
 //! members in strictly ascending order.
-ghost use Rattle.std.specs.Prelude.{◌≡◌, ℕ, ◌+◌, ◌-◌, ◌*◌, ◌/◌, ◌<◌, ◌≤◌, ◌↔◌, ◌++◌, ◌∷◌, ◌==◌, ◌&&◌, ◌||◌, max, min, not, nat_lt, nat_le, if◌then◌else◌, Bool, true, All, IsTrue, Some, None, Option, List, [], length, slice_get};
+ghost use Rattle.std.specs.Prelude.{◌≡◌, ℕ, ◌+◌, ◌-◌, ◌*◌, ◌/◌, ◌<◌, ◌≤◌, ◌↔◌, ◌++◌, ◌∷◌, ◌==◌, ◌&&◌, ◌||◌, max, min, not, nat_lt, nat_le, if◌then◌else◌, Bool, true, All, IsTrue, Some, None, Option, List, [], length, map, slice_get};
 ghost use Rattle.std.specs.FinSet as set;
 ghost use Rattle.std.specs.Cmp.{IsEquivalence, IsTotalOrder};
 ghost use Rattle.std.specs.Ordering.{nat_cmp};
@@ -10,7 +10,7 @@ ghost use Rattle.serde_json.specs.Data.{Data};
 ghost use Rattle.bit_set.specs.Room.{Call, Run, room_wanted};
 ghost use Rattle.bit_set.specs.Json.{IsFirstFault, Spells};
 ghost use Rattle.bit_set.specs.declared.json.JsonError.{JsonError};
-ghost use Rattle.bit_set.specs.Walk.{Walk, BoundedWalk, IsWalkedOut, IsAtStart, WalksOverTwo};
+ghost use Rattle.bit_set.specs.Walk.{Walk, TwoSetWalk, BoundedWalk, IsWalkedOut, IsAtStart, WalksOverTwo, blocks_past};
 ghost use Rattle.bit_words.specs.Merges.{merged_value, merged};
 ghost use Rattle.bit_words.specs.declared.bit_vec.merge.Merge.{Merge};
 ghost use Rattle.bit_set.specs.Sets.{IsAscending, has, put, put_all, without, those_below, those_from, elements, bound_of, union, intersection, difference, symmetric_difference, merged_sets, is_subset, is_disjoint};
@@ -126,13 +126,13 @@ pub fn parted_sets()
 /// leaves. The items of a set, put into the empty set one by one, are that set.
 pub fn collected_walks<B: BitBlock + 'static>()
     ensures set { (s : List ℕ) → IsAscending s → put_all [] s ≡ s }
-    ensures union { (a b c : List Bool) (s : Walk) (items : List ℕ) → s.left ≡ union (elements a) (elements b)
+    ensures union { (a b c : List Bool) (s : TwoSetWalk) (items : List ℕ) → s.left ≡ union (elements a) (elements b)
         → Drains ⟦<Union<'static, B> as Iterator>⟧.next_gives s items → elements c ≡ put_all [] items → elements c ≡ union (elements a) (elements b) }
     ensures intersection { (a b c : List Bool) (s : BoundedWalk) (items : List ℕ) → s.walk.left ≡ intersection (elements a) (elements b)
         → Drains ⟦<Intersection<'static, B> as Iterator>⟧.next_gives s items → elements c ≡ put_all [] items → elements c ≡ intersection (elements a) (elements b) }
-    ensures difference { (a b c : List Bool) (s : Walk) (items : List ℕ) → s.left ≡ difference (elements a) (elements b)
+    ensures difference { (a b c : List Bool) (s : TwoSetWalk) (items : List ℕ) → s.left ≡ difference (elements a) (elements b)
         → Drains ⟦<Difference<'static, B> as Iterator>⟧.next_gives s items → elements c ≡ put_all [] items → elements c ≡ difference (elements a) (elements b) }
-    ensures symmetric_difference { (a b c : List Bool) (s : Walk) (items : List ℕ) → s.left ≡ symmetric_difference (elements a) (elements b)
+    ensures symmetric_difference { (a b c : List Bool) (s : TwoSetWalk) (items : List ℕ) → s.left ≡ symmetric_difference (elements a) (elements b)
         → Drains ⟦<SymmetricDifference<'static, B> as Iterator>⟧.next_gives s items → elements c ≡ put_all [] items → elements c ≡ symmetric_difference (elements a) (elements b) }
 {}
 
@@ -166,6 +166,19 @@ pub fn whole_walks<B: BitBlock + 'static>()
     ensures count { (s : Walk) (items : List ℕ) → Drains ⟦<Iter<'static, B> as Iterator>⟧.next_gives s items → length items ≡ length s.left }
 {}
 
+/// How often whole walks over a set pull. From any point up to the first `None` there is just one pull more
+/// than there are nonzero blocks past the block in hand; from the making on, when block 0 is in hand, zero
+/// or not, there are two more. The blocks of the summary are pulled once each, and once more at the end.
+/// The nonzero blocks past block `k` are the blocks past it that an element which is left lies in, each once
+/// and in ascending order.
+pub fn sparse_walks<B: BitBlock + 'static>()
+    ensures rest { (s t : Walk) (items : List ℕ) → YieldsThen ⟦<Iter<'static, B> as Iterator>⟧.next_gives s items None t → t.pulls ≡ s.pulls + length (blocks_past B.width (s.place / B.width) s.left) + 1 }
+    ensures whole { (values : List Bool) (s t : Walk) (items : List ℕ) → IsAtStart B.width values s → YieldsThen ⟦<Iter<'static, B> as Iterator>⟧.next_gives s items None t → t.pulls ≡ length (blocks_past B.width 0 (elements values)) + 2 }
+    ensures summary { (values : List Bool) (s t : Walk) (items : List ℕ) → IsAtStart B.width values s → YieldsThen ⟦<Iter<'static, B> as Iterator>⟧.next_gives s items None t → t.summary_pulls ≡ max 1 (blocks_for B.width (blocks_for B.width (length values))) + 1 }
+    ensures members { (k q : ℕ) (numbers : List ℕ) → IsAscending numbers → has (blocks_past B.width k numbers) q ≡ (nat_lt k q && has (map (λ n. n / B.width) numbers) q) }
+    ensures ascend { (k : ℕ) (numbers : List ℕ) → IsAscending (blocks_past B.width k numbers) }
+{}
+
 /// What whole walks over two sets give, for each of the four. As above, but the pulls are exact: from any
 /// point up to the first `None` there is just one more than there are blocks past the block in hand, and
 /// from the making on one more than the set with more blocks has, and two where both have none.
@@ -180,13 +193,13 @@ pub fn whole_walks_over_two_sets<B: BitBlock + 'static>()
 pub fn whole_walks_ascend<B: BitBlock + 'static>()
     ensures iter { (a : List Bool) (s t : Walk) (items : List ℕ) → s.left ≡ elements a
         → YieldsThen ⟦<Iter<'static, B> as Iterator>⟧.next_gives s items None t → IsAscending items }
-    ensures union { (a b : List Bool) (s t : Walk) (items : List ℕ) → s.left ≡ union (elements a) (elements b)
+    ensures union { (a b : List Bool) (s t : TwoSetWalk) (items : List ℕ) → s.left ≡ union (elements a) (elements b)
         → YieldsThen ⟦<Union<'static, B> as Iterator>⟧.next_gives s items None t → IsAscending items }
     ensures intersection { (a b : List Bool) (s t : BoundedWalk) (items : List ℕ) → s.walk.left ≡ intersection (elements a) (elements b)
         → YieldsThen ⟦<Intersection<'static, B> as Iterator>⟧.next_gives s items None t → IsAscending items }
-    ensures difference { (a b : List Bool) (s t : Walk) (items : List ℕ) → s.left ≡ difference (elements a) (elements b)
+    ensures difference { (a b : List Bool) (s t : TwoSetWalk) (items : List ℕ) → s.left ≡ difference (elements a) (elements b)
         → YieldsThen ⟦<Difference<'static, B> as Iterator>⟧.next_gives s items None t → IsAscending items }
-    ensures symmetric_difference { (a b : List Bool) (s t : Walk) (items : List ℕ) → s.left ≡ symmetric_difference (elements a) (elements b)
+    ensures symmetric_difference { (a b : List Bool) (s t : TwoSetWalk) (items : List ℕ) → s.left ≡ symmetric_difference (elements a) (elements b)
         → YieldsThen ⟦<SymmetricDifference<'static, B> as Iterator>⟧.next_gives s items None t → IsAscending items }
 {}
 

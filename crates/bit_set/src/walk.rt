@@ -1,14 +1,13 @@
 //! The walks over a set's elements, and over what two sets make.
-ghost use Rattle.std.specs.Prelude.{◌≡◌, ◌-◌, ◌<◌, ◌^◌, IfSome, length};
+ghost use Rattle.std.specs.Prelude.{◌≡◌, ◌+◌, ◌-◌, ◌<◌, ◌^◌, max, IfSome, length};
 ghost use Rattle.std.specs.Iterator.{UpTo, item_count};
 ghost use Rattle.std.specs.Iterator.SizeHint.{IsWithinCount};
 ghost use Rattle.bit_words.specs.Bits.{blocks_for};
 ghost use Rattle.bit_set.specs.Sets.{elements};
 ghost use Rattle.bit_set.specs.Walk.{Advances, IsAtStart, bound_on_rest};
 
-use crate::bit_vec::{BitVec, Blocks};
+use crate::bit_vec::{BitVec, Nonzero, take_lowest_one};
 use crate::{BitBlock, BitSet};
-use ones::Ones;
 use std::marker::Model;
 
 mod intersection;
@@ -20,40 +19,52 @@ mod two_sets;
 pub use intersection::Intersection;
 pub use two_sets::{Difference, SymmetricDifference, Union};
 
-/// The elements of a set in ascending order, each once. Looks at each block of the set once at most.
+/// The elements of a set in ascending order, each once. Looks at no block of the set that is zero, but at
+/// the first.
 #[derive(Drop)]
 pub struct Iter<'a, B: BitBlock> {
-    ones: Ones<Blocks<'a, B>, B>,
+    nonzero: Nonzero<'a, B>,
+    // What is left of the block in hand.
+    block: B,
+    // The place of its lowest digit.
+    place: usize,
 }
 
 impl<'a, B: BitBlock> Model for Iter<'a, B> {
     ghost use Rattle.bit_set.specs.Walk.{Walk};
+    ghost use Rattle.bit_set.specs.Places.{places, past_block, IsSparseWalk};
 
     ghost Value = { Walk };
 
-    ghost view = { λ it. it.ones };
+    ghost view = { λ it. let past = past_block B.width B.number it.place it.nonzero.blocks it.nonzero.pulls in record { left = places B.width it.place (B.number it.block) past.values; pulls = it.nonzero.pulls; place = it.place; blocks = past.blocks; summary_pulls = it.nonzero.summary_pulls; summary_left = it.nonzero.summary_left } };
+
+    ghost invariant = { λ it. IsSparseWalk B.width B.number B.is_block it.place it.block it.nonzero };
 }
 
 impl<'a, B: BitBlock> Iter<'a, B> {
     // The walk over all places of a bit vector at which it is true.
     #[inline]
     pub(crate) fn over(bits: &'a BitVec<B>) -> Self
-        ensures left { result.left ≡ elements bits.now.values }
-        ensures pulls { result.pulls ≡ 1 }
-        ensures place { result.place ≡ 0 }
-        ensures blocks { result.blocks ≡ blocks_for B.width (length bits.now.values) - 1 }
-        ensures fits { length result.left < 2 ^ 64 }
+        ensures { IsAtStart B.width bits.now.values result }
     {
+        let mut nonzero = bits.nonzero();
+        let block = match nonzero.next() {
+            Some(first) => first.1,
+            None => B::zero(),
+        };
         Iter {
-            ones: Ones::over(bits.blocks()),
+            nonzero,
+            block,
+            place: 0,
         }
     }
 
-    /// How many elements are left. Adds up the ones of each block that is left.
+    /// How many elements are left. Adds up the ones of the blocks that are left, and passes over as many as a
+    /// block has bits at once where they are all zero.
     pub fn count(self) -> usize
         ensures { result ≡ length self.entry.left }
     {
-        self.ones.count()
+        self.block.count_ones() + self.nonzero.count_ones()
     }
 
     /// Another walk over what is left. It counts its pulls on from this one's. Constant time.
@@ -62,7 +73,9 @@ impl<'a, B: BitBlock> Iter<'a, B> {
         ensures { result ≡ self.now }
     {
         Iter {
-            ones: self.ones.clone(),
+            nonzero: self.nonzero.clone(),
+            block: self.block,
+            place: self.place,
         }
     }
 }
@@ -74,11 +87,19 @@ impl<'a, B: BitBlock> Iterator for Iter<'a, B> {
 
     ghost remaining = { item_count (λ walk. walk.left) };
 
-    /// The least element that is left, and from the end on `None` for good. Reads each block that it
-    /// passes once; constant time within a block.
+    /// The least element that is left, and from the end on `None` for good. Goes on to the next block that
+    /// is not zero by the summary; constant time within a block.
     #[inline]
     fn next(&mut self) -> Option<usize> {
-        self.ones.next()
+        if self.block == B::zero() {
+            let Some(found) = self.nonzero.next() else {
+                self.place = self.nonzero.as_slice().len().saturating_sub(1) * B::bits();
+                return None;
+            };
+            self.block = found.1;
+            self.place = found.0 * B::bits();
+        }
+        Some(self.place + take_lowest_one(&mut self.block))
     }
 
     /// From 0 up to the bits of the block in hand and of the blocks past it, or to no bound where a
@@ -90,7 +111,9 @@ impl<'a, B: BitBlock> Iterator for Iter<'a, B> {
         ensures lower { IsWithinCount result.0 (item_count (λ walk. walk.left) self.now) }
         ensures upper { IfSome result.1 (UpTo (item_count (λ walk. walk.left) self.now)) }
     {
-        (0, self.ones.bound())
+        let passed = self.place / B::bits() + 1;
+        let past = self.nonzero.as_slice().len().saturating_sub(passed);
+        (0, (1 + past).checked_mul(B::bits()))
     }
 }
 
@@ -102,6 +125,7 @@ impl<B: BitBlock> BitSet<B> {
         ensures pulls { result.pulls ≡ 1 }
         ensures place { result.place ≡ 0 }
         ensures blocks { result.blocks ≡ blocks_for B.width (length self.now.values) - 1 }
+        ensures summary { result.summary_pulls + result.summary_left ≡ max 1 (blocks_for B.width (blocks_for B.width (length self.now.values))) }
         ensures fits { length result.left < 2 ^ 64 }
     {
         Iter::over(self.get_ref())

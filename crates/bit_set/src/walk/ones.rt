@@ -21,10 +21,10 @@ pub(crate) struct Ones<S: BlockSource<B>, B: BitBlock> {
 }
 
 impl<S: BlockSource<B>, B: BitBlock> Model for Ones<S, B> {
-    ghost use Rattle.bit_set.specs.Walk.{Walk};
+    ghost use Rattle.bit_set.specs.Walk.{TwoSetWalk};
     ghost use Rattle.bit_set.specs.Places.{places, IsWalk};
 
-    ghost Value = { Walk };
+    ghost Value = { TwoSetWalk };
 
     ghost view = { λ it. let ahead = S.ahead it.source in record { left = places B.width it.place (B.number it.block) ahead.values; pulls = ahead.pulls; place = it.place; blocks = ahead.blocks } };
 

@@ -4,7 +4,6 @@ ghost use Rattle.bit_set.specs.Places.{Ahead, PullsBlock, PullsWhere, values_in}
 ghost use Rattle.bit_set.specs.Sets.{elements};
 
 use crate::BitBlock;
-use crate::bit_vec::Blocks;
 
 // Blocks in a row, pulled one by one.
 pub(crate) trait BlockSource<B: BitBlock>: Drop {
@@ -44,41 +43,6 @@ pub(crate) trait BlockSource<B: BitBlock>: Drop {
     // The same blocks from the same place on, the pulls going on.
     fn copy(&self) -> Self
         ensures { result ≡ self.now };
-}
-
-impl<'a, B: BitBlock> BlockSource<B> for Blocks<'a, B> {
-    ghost use Rattle.std.specs.Prelude.{map, length, All};
-    ghost use Rattle.bit_set.specs.Places.{values_in};
-
-    ghost ahead = { λ blocks. record { values = values_in B.width (map B.number blocks.left); blocks = length blocks.left; pulls = blocks.pulls } };
-
-    ghost is_sound = { λ blocks. All B.is_block blocks.left };
-
-    #[inline]
-    fn pull(&mut self) -> Option<B> {
-        self.next()
-    }
-
-    // A block of one set seldom has so few ones that a branch costs more.
-    #[inline(always)]
-    fn pull_where(&mut self, _wanted: bool) -> (B, usize) {
-        (B::zero(), 0)
-    }
-
-    #[inline]
-    fn blocks_left(&self) -> usize {
-        self.size_hint().0
-    }
-
-    #[inline]
-    fn count_ones(self) -> usize {
-        ones_of(self.as_slice())
-    }
-
-    #[inline]
-    fn copy(&self) -> Self {
-        self.clone()
-    }
 }
 
 // How many ones these blocks have.

@@ -18,9 +18,9 @@ pub struct Union<'a, B: BitBlock> {
 }
 
 impl<'a, B: BitBlock> Model for Union<'a, B> {
-    ghost use Rattle.bit_set.specs.Walk.{Walk};
+    ghost use Rattle.bit_set.specs.Walk.{TwoSetWalk};
 
-    ghost Value = { Walk };
+    ghost Value = { TwoSetWalk };
 
     ghost view = { λ it. it.ones };
 }
@@ -77,9 +77,9 @@ pub struct Difference<'a, B: BitBlock> {
 }
 
 impl<'a, B: BitBlock> Model for Difference<'a, B> {
-    ghost use Rattle.bit_set.specs.Walk.{Walk};
+    ghost use Rattle.bit_set.specs.Walk.{TwoSetWalk};
 
-    ghost Value = { Walk };
+    ghost Value = { TwoSetWalk };
 
     ghost view = { λ it. it.ones };
 }
@@ -136,9 +136,9 @@ pub struct SymmetricDifference<'a, B: BitBlock> {
 }
 
 impl<'a, B: BitBlock> Model for SymmetricDifference<'a, B> {
-    ghost use Rattle.bit_set.specs.Walk.{Walk};
+    ghost use Rattle.bit_set.specs.Walk.{TwoSetWalk};
 
-    ghost Value = { Walk };
+    ghost Value = { TwoSetWalk };
 
     ghost view = { λ it. it.ones };
 }

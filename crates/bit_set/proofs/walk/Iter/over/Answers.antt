@@ -1,17 +1,40 @@
-use Rattle.std.proofs.Common.{◌<◌, ◌-◌, ◌^◌, length, ap, ◌∙◌, arith}
-use Rattle.bit_set.proofs.WalkLemmas.{IsWalkable-held, elements-held, length-blocks}
+use Rattle.std.proofs.Common.{arith}
+use Rattle.bit_set.proofs.SparseLemmas.{seen, IsFresh, Begins, begins_with, begins_empty}
+use Rattle.bit_set.proofs.walk.Iter.over.Goals.{in-Some, in-None}
 use Rattle.bit_set.proofs.walk.Iter.over.Goals as goal
 
-pub over-requires-clause-can : goal.over-requires-clause-can
-over-requires-clause-can g c =
-    let blocks = c.blocks-2.ensures in
-    let fits : length c.args.bits.now.values < 2 ^ 64 = omega (arith, blocks.fits.holds_values, blocks.fits.fits) in
-    IsWalkable-held g.B.BitBlock.width g.B.BitBlock.number c.blocks-2.result.left c.args.bits.now.values c.blocks-2.result.pulls g.met.B.BitBlock.width_law.positive blocks.numbers fits
+pub invariant_of-result : goal.invariant_of-result
+invariant_of-result g c =
+    let w = g.B.BitBlock.width in
+    let number = g.B.BitBlock.number in
+    let is_block = g.B.BitBlock.is_block in
+    let pos = g.met.B.BitBlock.width_law.positive in
+    let values = c.args.bits.now.values in
+    let s = c.nonzero-nonzero.result in
+    let t = c.next.new.self in
+    let fresh = c.nonzero-nonzero.ensures in
+    let is : IsFresh w number is_block values s = record { numbers = fresh.blocks; each = fresh.each; left = fresh.left; pulls = fresh.pulls; summary_pulls = fresh.summary_pulls; summary_left = fresh.summary_left; fits = omega (arith, fresh.fits.holds_values, fresh.fits.fits) } in
+    let begun : Begins w number is_block values c.match-next.block t (seen w number is_block 0 c.match-next.block t) =
+    elim c.match-next.branch [
+      | in-Some at ↦ rw at.block-is (begins_with w number is_block pos values at.in-Some.first.0 at.in-Some.first.1 s t is at.in-Some.ensures.steps)
+      | in-None at ↦ rw at.block-is (begins_empty w number is_block pos values at.zero-block.result s t is at.in-None.ensures.steps at.zero-block.ensures.of_block at.zero-block.ensures.of_number)
+    ] in
+    begun.walk
 
-pub returns-clause-left : goal.returns-clause-left
-returns-clause-left g c =
-    c.over.ensures.left ∙ elements-held g.B.BitBlock.width g.B.BitBlock.number c.blocks-2.result.left c.args.bits.now.values g.met.B.BitBlock.width_law.positive c.blocks-2.ensures.numbers
-
-pub returns-clause-blocks : goal.returns-clause-blocks
-returns-clause-blocks g c =
-    c.over.ensures.blocks ∙ ap (λ n. n - 1) (length-blocks g.B.BitBlock.width g.B.BitBlock.number c.blocks-2.result.left c.args.bits.now.values c.blocks-2.ensures.numbers)
+pub returns : goal.returns
+returns g c =
+    let w = g.B.BitBlock.width in
+    let number = g.B.BitBlock.number in
+    let is_block = g.B.BitBlock.is_block in
+    let pos = g.met.B.BitBlock.width_law.positive in
+    let values = c.args.bits.now.values in
+    let s = c.nonzero-nonzero.result in
+    let t = c.next.new.self in
+    let fresh = c.nonzero-nonzero.ensures in
+    let is : IsFresh w number is_block values s = record { numbers = fresh.blocks; each = fresh.each; left = fresh.left; pulls = fresh.pulls; summary_pulls = fresh.summary_pulls; summary_left = fresh.summary_left; fits = omega (arith, fresh.fits.holds_values, fresh.fits.fits) } in
+    let begun : Begins w number is_block values c.match-next.block t (seen w number is_block 0 c.match-next.block t) =
+    elim c.match-next.branch [
+      | in-Some at ↦ rw at.block-is (begins_with w number is_block pos values at.in-Some.first.0 at.in-Some.first.1 s t is at.in-Some.ensures.steps)
+      | in-None at ↦ rw at.block-is (begins_empty w number is_block pos values at.zero-block.result s t is at.in-None.ensures.steps at.zero-block.ensures.of_block at.zero-block.ensures.of_number)
+    ] in
+    begun.start
