@@ -45,6 +45,8 @@ for word in u8 u16 u32 u64 usize u128; do
     judge "$word" $? 0 "$stored/stdout" ''
     bitset "$word" < "$examples/sets.txt" > wrote 2> said
     judge "most verbs under $word" $? 0 "$examples/sets.replies.txt" ''
+    bitset "$word" < "$examples/parts.txt" > wrote 2> said
+    judge "append and split_off under $word" $? 0 "$examples/parts.replies.txt" ''
     echo 'reserve a 18446744073709551615' | bitset "$word" > wrote 2> said
     judge "room that no memory has, under $word" $? 3 nothing 'memory refused'
 done

@@ -12,7 +12,7 @@ use Rattle.std.specs.Option.{option_and_then, option_map, option_zip}
 use Rattle.bit_set_run.specs.Cuts.{Lacks}
 use Rattle.bit_set_run.specs.declared.commands.Command.{Command}
 use Rattle.bit_set_run.specs.declared.verbs.Verb.{Verb}
-use Rattle.bit_set_run.specs.declared.verbs.Verb.TheVariants.{Name, NameAndNumber, TwoNames, Extend, Rest}
+use Rattle.bit_set_run.specs.declared.verbs.Verb.TheVariants.{Name, NameAndNumber, TwoNames, Extend, SplitOff, Rest}
 use Rattle.bit_set_run.specs.declared.verbs.NameVerb.{NameVerb}
 use Rattle.bit_set_run.specs.declared.verbs.NameVerb.TheVariants.{Empty}
 use Rattle.bit_set_run.specs.declared.verbs.NumberVerb.{NumberVerb}
@@ -23,7 +23,7 @@ use Rattle.bit_set_run.specs.declared.verbs.SetWalk.{SetWalk}
 use Rattle.bit_set_run.specs.declared.verbs.SetWalk.TheVariants.{One, Two}
 use Rattle.bit_set_run.specs.declared.reading.BadLine.{BadLine}
 use Rattle.bit_set_run.specs.declared.reading.BadLine.TheVariants.{BadCommand, BadNumber}
-use Rattle.bit_set_run.specs.Reading.{command_of, held, name_alone, name_and_number, name_of, names_and_number, number_of, reading, rest_command, rest_of, two_names, within_range}
+use Rattle.bit_set_run.specs.Reading.{command_of, held, name_alone, name_and_number, name_of, names_and_number, names_around_number, number_and_name, number_of, reading, rest_command, rest_of, two_names, within_range}
 use Rattle.bit_set_run.specs.Spelling.{numbers_of}
 use Rattle.bit_set_run.specs.Verbs.{name_command, number_command, pair_command, verb_of, walk_of}
 use Rattle.bit_set.specs.Bounds.{greatest}
@@ -129,9 +129,23 @@ two_names-words first second lacks = rw (parts_at-first 32 first second lacks) (
 pub names_and_number-words : (first words : List ℕ) → Lacks 32 first → names_and_number (words_of (first ++ 32 ∷ words)) ≡ option_zip (name_of first) (name_and_number (words_of words))
 names_and_number-words first words lacks = rw (parts_at-first 32 first words lacks)
 
+-- the text after the first space is the name
+pub number_and_name-words : (number name : List ℕ) → Lacks 32 number → number_and_name (words_of (number ++ 32 ∷ name)) ≡ option_zip (name_of name) (number_of number)
+number_and_name-words number name lacks = rw (parts_at-first 32 number name lacks) (elim (one_word name) [
+  | inl alone ↦ rw alone
+  | inr two ↦ rw (two.words, name_of-cut name two.place two.below two.space)
+])
+
+-- what comes after the first name is the number and the second
+pub names_around_number-words : (first words : List ℕ) → Lacks 32 first → names_around_number (words_of (first ++ 32 ∷ words)) ≡ option_zip (name_of first) (number_and_name (words_of words))
+names_around_number-words first words lacks = rw (parts_at-first 32 first words lacks)
+
 -- without a space there is no second name
 pub names_and_number-word : (word : List ℕ) → Lacks 32 word → names_and_number (words_of word) ≡ None
 names_and_number-word word lacks = rw (parts_at-one 32 word lacks) (sym (nothing (name_of word)))
+
+pub names_around_number-word : (word : List ℕ) → Lacks 32 word → names_around_number (words_of word) ≡ None
+names_around_number-word word lacks = rw (parts_at-one 32 word lacks) (sym (nothing (name_of word)))
 
 -- a name that was read
 pub named : (name : Option ℕ) (s : ℕ) → Ok s ≡ within_range (λ (s : ℕ). []) name → name ≡ Some s
@@ -206,6 +220,7 @@ alone (Some (Name verb)) = refl
 alone (Some (NameAndNumber verb)) = refl
 alone (Some (TwoNames verb)) = refl
 alone (Some Extend) = refl
+alone (Some SplitOff) = refl
 alone (Some Rest) = refl
 
 -- a line without a space spells nothing, since each verb wants a name

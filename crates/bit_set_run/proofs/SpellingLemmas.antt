@@ -13,13 +13,13 @@ use Rattle.bit_set.specs.declared.bit_vec.Merge.{Merge}
 use Rattle.bit_set.specs.declared.bit_vec.Merge.TheVariants.{Union, Intersection, Difference, Symmetric}
 use Rattle.bit_set_run.specs.declared.commands.Command.{Command}
 use Rattle.bit_set_run.specs.declared.commands.Command.TheVariants as command
-use Rattle.bit_set_run.specs.declared.verbs.Verb.TheVariants.{Name, NameAndNumber, TwoNames, Extend, Rest}
+use Rattle.bit_set_run.specs.declared.verbs.Verb.TheVariants.{Name, NameAndNumber, TwoNames, Extend, SplitOff, Rest}
 use Rattle.bit_set_run.specs.declared.verbs.NameVerb.{NameVerb}
 use Rattle.bit_set_run.specs.declared.verbs.NameVerb.TheVariants.{Empty, Reset, Shrink, Count, IsEmpty, Items}
 use Rattle.bit_set_run.specs.declared.verbs.NumberVerb.{NumberVerb}
 use Rattle.bit_set_run.specs.declared.verbs.NumberVerb.TheVariants.{Insert, Remove, Contains, Truncate, Reserve, ReserveExact}
 use Rattle.bit_set_run.specs.declared.verbs.PairVerb.{PairVerb}
-use Rattle.bit_set_run.specs.declared.verbs.PairVerb.TheVariants.{Copy, InPlace, Walk, Subset, Superset, Disjoint, Equal, Compare}
+use Rattle.bit_set_run.specs.declared.verbs.PairVerb.TheVariants.{Copy, InPlace, Append, Walk, Subset, Superset, Disjoint, Equal, Compare}
 use Rattle.bit_set_run.specs.declared.verbs.SetWalk.TheVariants.{One, Two}
 use Rattle.bit_set_run.specs.Cuts.{Lacks}
 use Rattle.bit_set_run.specs.Reading.{all_numbers, name_of, number_of, reading}
@@ -143,6 +143,20 @@ rest_two_line merge verb word s t n one is two walk below fit =
       all_fit (n ∷ []) fit,
     )
 
+split_off_line : (word : List ℕ) (s n t : ℕ) → list_all (λ b. not (b == 32)) word ≡ true → verb_of word ≡ Some SplitOff → All (λ s. s < 16) (s ∷ t ∷ []) → All (λ m. m ≤ greatest) (n ∷ []) → reading (word ++ (letter s ++ (figures n ++ letter t))) ≡ Ok (command.SplitOff s n t)
+split_off_line word s n t plain is below fit =
+    let last : t < 16 = All-head (λ s. s < 16) t [] (All-tail (λ s. s < 16) s (t ∷ []) below) in
+    rw (
+      parts_at-first 32 word ((s + 97) ∷ (figures n ++ letter t)) (lacks_by_test 32 word plain),
+      parts_at-first 32 ((s + 97) ∷ []) (decimal n ++ letter t) (one_byte (s + 97) (λ e. absurd (omega arith))),
+      words_of-line (decimal n) (t ∷ []) [] (decimal_lacks n (All-head (λ m. m ≤ greatest) n [] fit)) (All-tail (λ s. s < 16) s (t ∷ []) below) (All-nil (λ m. m ≤ greatest)),
+      is,
+      name_of-letter s (All-head (λ s. s < 16) s (t ∷ []) below),
+      name_of-letter t last,
+      number_of-decimal n (All-head (λ m. m ≤ greatest) n [] fit),
+      all_fit (n ∷ []) fit,
+    )
+
 pub reading-line_of : (c : Command) → CanBeHad c → reading (line_of c) ≡ Ok c
 reading-line_of (command.Insert s n) had = number_line Insert (codes "insert") s n refl refl had.names had.numbers
 reading-line_of (command.Remove s n) had = number_line Remove (codes "remove") s n refl refl had.names had.numbers
@@ -162,6 +176,8 @@ reading-line_of (command.InPlace Union s t) had = pair_line (InPlace Union) (cod
 reading-line_of (command.InPlace Intersection s t) had = pair_line (InPlace Intersection) (codes "intersect_with") s t refl refl had.names
 reading-line_of (command.InPlace Difference s t) had = pair_line (InPlace Difference) (codes "difference_with") s t refl refl had.names
 reading-line_of (command.InPlace Symmetric s t) had = pair_line (InPlace Symmetric) (codes "symmetric_difference_with") s t refl refl had.names
+reading-line_of (command.Append s t) had = pair_line Append (codes "append") s t refl refl had.names
+reading-line_of (command.SplitOff s n t) had = split_off_line (codes "split_off") s n t refl refl had.names had.numbers
 reading-line_of (command.Walk Union s t) had = pair_line (Walk Union) (codes "union") s t refl refl had.names
 reading-line_of (command.Walk Intersection s t) had = pair_line (Walk Intersection) (codes "intersection") s t refl refl had.names
 reading-line_of (command.Walk Difference s t) had = pair_line (Walk Difference) (codes "difference") s t refl refl had.names

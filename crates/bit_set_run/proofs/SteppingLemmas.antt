@@ -1,7 +1,7 @@
 -- What single commands rest on: items up to the greatest number, walks, and an array of sets.
 use Rattle.std.proofs.Common.{◌≡◌, ◌==◌, if◌then◌else◌, cond, not, Bool, ℕ, ◌+◌, ◌<◌, ◌≤◌, true, false, eqb, List, [], ◌∷◌, ◌++◌, length, get_or, take, drop, map, set, Some, refl, sym, ap, ◌∙◌, arith}
 use Rattle.std.proofs.lemmas.Bool.{ne_eqb}
-use Rattle.std.proofs.lemmas.List.{append_assoc, take_more, take-append-drop, map-id, set-set, set-get_or, map-set, get_or-map, get_or-set_other}
+use Rattle.std.proofs.lemmas.List.{append_assoc, take_more, take-append-drop, map-id, set-set, set-get_or, map-set, get_or-map, get_or-set_other, set_comm}
 use Rattle.std.proofs.lemmas.Iterator.{YieldsList, YieldsList-from_slice}
 use Rattle.std.proofs.lemmas.Iterator.Consumers.{YieldsList-from_copied, YieldsList-so_far, YieldsList-turn}
 use Rattle.std.proofs.Common.{Iter}
@@ -10,7 +10,7 @@ use Rattle.std.proofs.iter.Yields.{copies, fronts}
 use Rattle.std.specs.Iterator.{YieldsThen}
 use Rattle.std.specs.List.{list_any}
 use Rattle.bit_set.specs.Bits.{Bits}
-use Rattle.bit_set.specs.Sets.{bound_of, elements, elements_from, has, put}
+use Rattle.bit_set.specs.Sets.{bound_of, elements, elements_from, has, put, union}
 use Rattle.bit_set_run.specs.Kept.{kept}
 use Rattle.bit_set_run.specs.declared.commands.Command.TheVariants.{Insert}
 use Rattle.bit_set_run.specs.declared.commands.Reply.TheVariants.{Truth, Element}
@@ -66,6 +66,36 @@ changed_by sets f to from gone old set_now source at within apart was is changed
     let own : kept old ≡ get_or (map kept sets) to [] = ap kept was ∙ sym (get_or-map kept sets to old [] at) in
     let other : kept source ≡ get_or (map kept sets) from [] = ap kept there ∙ sym (get_or-map kept sets from source [] within) in
     ap (map kept) (set-set sets to gone set_now) ∙ map-set kept sets to set_now ∙ ap (λ s. set (map kept sets) to s) (changed ∙ ap (λ s. f s (kept source)) own ∙ ap (f (get_or (map kept sets) to [])) other)
+
+-- two sets of the array become these
+pub two_are : (sets : List Bits) (s t : ℕ) (first second : Bits) (first_is second_is : List ℕ) → kept first ≡ first_is → kept second ≡ second_is → map kept (set (set sets s first) t second) ≡ set (set (map kept sets) s first_is) t second_is
+two_are sets s t first second first_is second_is one two =
+    map-set kept (set sets s first) t second
+    ∙ ap (λ l. set l t (kept second)) (map-set kept sets s first ∙ ap (λ x. set (map kept sets) s x) one)
+    ∙ ap (λ x. set (set (map kept sets) s first_is) t x) two
+
+-- a set of the array is changed while another was taken out, and that one is put back
+put_back_beside : (sets : List Bits) (to from : ℕ) (gone set_now other_now : Bits) → (to ≡ from → ⊥) → set (set (set sets from gone) to set_now) from other_now ≡ set (set sets to set_now) from other_now
+put_back_beside sets to from gone set_now other_now apart =
+    ap (λ l. set l from other_now) (set_comm sets from to gone set_now (λ e. apart (sym e))) ∙ set-set (set sets to set_now) from gone other_now
+
+-- it takes in what the other has, and that one is put back with nothing
+pub appended_to : (sets : List Bits) (to from : ℕ) (gone old set_now source other_now : Bits) → to < length sets → from < length sets → (to ≡ from → ⊥) → old ≡ get_or (set sets from gone) to old → source ≡ get_or sets from source → kept set_now ≡ union (kept old) (kept source) → kept other_now ≡ [] → map kept (set (set (set sets from gone) to set_now) from other_now) ≡ set (set (map kept sets) to (union (get_or (map kept sets) to []) (get_or (map kept sets) from []))) from []
+appended_to sets to from gone old set_now source other_now at within apart was is joined emptied =
+    let there : old ≡ get_or sets to old = was ∙ get_or-set_other sets from to gone old apart in
+    let own : kept old ≡ get_or (map kept sets) to [] = ap kept there ∙ sym (get_or-map kept sets to old [] at) in
+    let other : kept source ≡ get_or (map kept sets) from [] = ap kept is ∙ sym (get_or-map kept sets from source [] within) in
+    ap (map kept) (put_back_beside sets to from gone set_now other_now apart)
+    ∙ two_are sets to from set_now other_now (union (get_or (map kept sets) to []) (get_or (map kept sets) from [])) []
+    (joined ∙ ap (λ s. union s (kept source)) own ∙ ap (union (get_or (map kept sets) to [])) other) emptied
+
+-- both are as they were
+pub put_back_both : (sets : List Bits) (to from : ℕ) (gone set_now other_now : Bits) → (to ≡ from → ⊥) → set_now ≡ get_or (set sets from gone) to set_now → other_now ≡ get_or sets from other_now → map kept (set (set (set sets from gone) to set_now) from other_now) ≡ map kept sets
+put_back_both sets to from gone set_now other_now apart was is =
+    let there : set_now ≡ get_or sets to set_now = was ∙ get_or-set_other sets from to gone set_now apart in
+    let one : set sets to set_now ≡ sets = ap (λ s. set sets to s) there ∙ set-get_or sets to set_now in
+    let two : set sets from other_now ≡ sets = ap (λ s. set sets from s) is ∙ set-get_or sets from other_now in
+    ap (map kept) (put_back_beside sets to from gone set_now other_now apart ∙ ap (λ l. set l from other_now) one ∙ two)
 
 -- a set that is put back where it was taken
 pub put_back : (sets : List Bits) (to : ℕ) (gone set_now : Bits) → set_now ≡ get_or sets to set_now → map kept (set (set sets to gone) to set_now) ≡ map kept sets

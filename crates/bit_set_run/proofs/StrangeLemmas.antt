@@ -11,10 +11,10 @@ use Rattle.std.proofs.lemmas.Bool.{and_parts, and_right}
 use Rattle.std.proofs.lemmas.Bool.Decides.{eqb_tells}
 use Rattle.bit_set_run.specs.declared.reading.BadLine.TheVariants.{BadCommand}
 use Rattle.bit_set_run.specs.declared.verbs.Verb.{Verb}
-use Rattle.bit_set_run.specs.declared.verbs.Verb.TheVariants.{Name, NameAndNumber, TwoNames, Extend, Rest}
+use Rattle.bit_set_run.specs.declared.verbs.Verb.TheVariants.{Name, NameAndNumber, TwoNames, Extend, SplitOff, Rest}
 use Rattle.bit_set_run.specs.declared.verbs.SetWalk.{SetWalk}
 use Rattle.bit_set_run.specs.declared.verbs.SetWalk.TheVariants.{One, Two}
-use Rattle.bit_set_run.specs.Reading.{all_numbers, command_of, is_plain, name_alone, name_and_number, name_and_numbers, name_of, names_and_number, number_of, reading, rest_command, rest_of, spelled, two_names}
+use Rattle.bit_set_run.specs.Reading.{all_numbers, command_of, is_plain, name_alone, name_and_number, name_and_numbers, name_of, names_and_number, names_around_number, number_and_name, number_of, reading, rest_command, rest_of, spelled, two_names}
 use Rattle.bit_set_run.specs.Verbs.{verb_of, verbs, walk_of, walks}
 use Rattle.bit_set_run.specs.Words.{words_of}
 use Rattle.bit_set_run.proofs.ReadingLemmas.{nothing}
@@ -31,6 +31,12 @@ fit_is_plain (b ∷ bs) strange = strange
 one_false : (a : Bool) → (a && true) ≡ false → a ≡ false
 one_false true e = e
 one_false false e = refl
+
+swap_false : (a b : Bool) → (a && (b && true)) ≡ false → (b && a) ≡ false
+swap_false true true e = e
+swap_false true false e = refl
+swap_false false true e = refl
+swap_false false false e = refl
 
 middle_false : (a b c d : Bool) → (((a || b) || c) || d) ≡ false → b ≡ false
 middle_false true b c d e = cc
@@ -119,6 +125,19 @@ names_and_number-unfit [] unfit = refl
 names_and_number-unfit (name ∷ words) unfit =
     zip_none (is_fit name) (list_all is_fit words) (name_of name) (name_and_number words) (name_of-unfit name) (name_and_number-unfit words) unfit
 
+number_and_name-unfit : (words : List (List ℕ)) → list_all is_fit words ≡ false → number_and_name words ≡ None
+number_and_name-unfit [] unfit = refl
+number_and_name-unfit (number ∷ []) unfit = refl
+number_and_name-unfit (number ∷ name ∷ []) unfit =
+    zip_none (is_fit name) (is_fit number) (name_of name) (number_of number)
+    (name_of-unfit name) (number_of-unfit number) (swap_false (is_fit number) (is_fit name) unfit)
+number_and_name-unfit (number ∷ name ∷ more ∷ others) unfit = refl
+
+names_around_number-unfit : (words : List (List ℕ)) → list_all is_fit words ≡ false → names_around_number words ≡ None
+names_around_number-unfit [] unfit = refl
+names_around_number-unfit (name ∷ words) unfit =
+    zip_none (is_fit name) (list_all is_fit words) (name_of name) (number_and_name words) (name_of-unfit name) (number_and_name-unfit words) unfit
+
 all_numbers-unfit : (words : List (List ℕ)) → list_all is_fit words ≡ false → all_numbers words ≡ None
 all_numbers-unfit [] unfit = cc
 all_numbers-unfit (word ∷ words) unfit =
@@ -146,6 +165,7 @@ command_of-unfit (Name verb) words unfit = rw (name_alone-unfit words unfit)
 command_of-unfit (NameAndNumber verb) words unfit = rw (name_and_number-unfit words unfit)
 command_of-unfit (TwoNames verb) words unfit = rw (two_names-unfit words unfit)
 command_of-unfit Extend words unfit = rw (name_and_numbers-unfit words unfit)
+command_of-unfit SplitOff words unfit = rw (names_around_number-unfit words unfit)
 command_of-unfit Rest words unfit = rest_of-unfit words unfit
 
 arguments_unfit : (v : Option Verb) (words : List (List ℕ)) → list_all is_fit words ≡ false → option_and_then (λ w. command_of w words) v ≡ None

@@ -11,7 +11,7 @@ use Rattle.bit_set_run.specs.declared.commands.Command.TheVariants as command
 use Rattle.bit_set_run.specs.declared.reading.BadLine.{BadLine}
 use Rattle.bit_set_run.specs.declared.reading.BadLine.TheVariants.{BadCommand, BadNumber}
 use Rattle.bit_set_run.specs.declared.verbs.Verb.{Verb}
-use Rattle.bit_set_run.specs.declared.verbs.Verb.TheVariants.{Name, NameAndNumber, TwoNames, Extend, Rest}
+use Rattle.bit_set_run.specs.declared.verbs.Verb.TheVariants.{Name, NameAndNumber, TwoNames, Extend, SplitOff, Rest}
 use Rattle.bit_set_run.specs.declared.verbs.SetWalk.{SetWalk}
 use Rattle.bit_set_run.specs.declared.verbs.SetWalk.TheVariants.{One, Two}
 use Rattle.bit_set.specs.Bounds.{greatest}
@@ -54,6 +54,18 @@ abbrev pub names_and_number : List (List ℕ) → Option (ℕ × (ℕ × ℕ))
 names_and_number [] = None
 names_and_number (name ∷ words) = option_zip (name_of name) (name_and_number words)
 
+-- words that are a number and a set's name: the name and the number
+abbrev pub number_and_name : List (List ℕ) → Option (ℕ × ℕ)
+number_and_name [] = None
+number_and_name (number ∷ []) = None
+number_and_name (number ∷ name ∷ []) = option_zip (name_of name) (number_of number)
+number_and_name (number ∷ name ∷ more ∷ others) = None
+
+-- words that are two sets' names with a number between them: the names and the number
+abbrev pub names_around_number : List (List ℕ) → Option (ℕ × (ℕ × ℕ))
+names_around_number [] = None
+names_around_number (name ∷ words) = option_zip (name_of name) (number_and_name words)
+
 -- the numbers that words write, where each of them writes one
 abbrev pub all_numbers : List (List ℕ) → Option (List ℕ)
 all_numbers [] = Some []
@@ -79,6 +91,7 @@ command_of (Name verb) words = option_map (name_command verb) (name_alone words)
 command_of (NameAndNumber verb) words = option_map (number_command verb) (name_and_number words)
 command_of (TwoNames verb) words = option_map (pair_command verb) (two_names words)
 command_of Extend words = option_map (λ (s, ns). command.Extend s ns) (name_and_numbers words)
+command_of SplitOff words = option_map (λ (s, p). command.SplitOff s p.1 p.0) (names_around_number words)
 command_of Rest words = rest_of words
 
 -- the command that some words spell, the first of them its verb

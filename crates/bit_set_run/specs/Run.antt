@@ -2,12 +2,12 @@
 use Rattle.std.specs.Prelude.{◌≡◌, ◌≢◌, ℕ, ◌<◌, ◌≤◌, ◌⊎◌, false, not, ◌==◌, if◌then◌else◌, List, [], ◌∷◌, ◌++◌, length, take, drop, replicate, slice_get, slice_index_or, slice_set, Some}
 use Rattle.std.specs.List.{list_any}
 use Rattle.bit_set_run.specs.declared.commands.Command.{Command}
-use Rattle.bit_set_run.specs.declared.commands.Command.TheVariants.{Insert, Remove, Contains, Extend, Truncate, Empty, Reset, Reserve, ReserveExact, Shrink, Count, IsEmpty, Items as ItemsOf, Copy, InPlace, Walk, Subset, Superset, Disjoint, Equal, Compare, RestIter, RestWalk}
+use Rattle.bit_set_run.specs.declared.commands.Command.TheVariants.{Insert, Remove, Contains, Extend, Truncate, Empty, Reset, Reserve, ReserveExact, Shrink, Count, IsEmpty, Items as ItemsOf, Copy, InPlace, Append, SplitOff, Walk, Subset, Superset, Disjoint, Equal, Compare, RestIter, RestWalk}
 use Rattle.bit_set_run.specs.declared.commands.Reply.{Reply}
 use Rattle.bit_set_run.specs.declared.commands.Reply.TheVariants.{Truth, Done, Number, Items, Order, Rest, Element, Same}
 use Rattle.bit_set.specs.Bounds.{greatest}
 use Rattle.bit_set.specs.Order.{order_of_sets, same_sets}
-use Rattle.bit_set.specs.Sets.{bound_of, has, is_disjoint, is_subset, merged_sets, put, put_all, those_below, without}
+use Rattle.bit_set.specs.Sets.{bound_of, has, is_disjoint, is_subset, merged_sets, put, put_all, those_below, those_from, union, without}
 
 -- sixteen sets, by their places
 abbrev pub Sets : Type 0
@@ -33,6 +33,10 @@ answer_with sets reply = record { sets = sets; reply = reply }
 -- the set of a name becomes this one, and this is the reply
 abbrev pub change_to : Sets → ℕ → List ℕ → Reply → Answer
 change_to sets name set reply = record { sets = slice_set sets name set; reply = reply }
+
+-- two sets become these, and it is done
+abbrev pub change_two : Sets → ℕ → List ℕ → ℕ → List ℕ → Answer
+change_two sets s first t second = change_to (slice_set sets s first) t second Done
 
 -- the items before the first that no set can have
 abbrev pub elements_before_greatest : List ℕ → List ℕ
@@ -68,6 +72,12 @@ step sets (Copy from to) =
 step sets (InPlace merge s t) =
     if s == t then answer_with sets Same
     else change_to sets s (merged_sets merge (set_of sets s) (set_of sets t)) Done
+step sets (Append s t) =
+    if s == t then answer_with sets Same
+    else change_two sets s (union (set_of sets s) (set_of sets t)) t []
+step sets (SplitOff s n t) =
+    if s == t then answer_with sets Same
+    else change_two sets s (those_below (set_of sets s) n) t (those_from (set_of sets s) n)
 step sets (Walk merge s t) = answer_with sets (Items (merged_sets merge (set_of sets s) (set_of sets t)))
 step sets (Subset s t) = answer_with sets (Truth (is_subset (set_of sets s) (set_of sets t)))
 step sets (Superset s t) = answer_with sets (Truth (is_subset (set_of sets t) (set_of sets s)))
@@ -92,7 +102,7 @@ run_of sets (command ∷ commands) =
 
 -- which commands can be refused memory, and what they leave: what stood before, but that an `Extend` has put in
 -- the items before the one that was refused. What is put in was not in before, room is made past all numbers of the
--- set, and numbers are listed, or moved to less room, where there is one.
+-- set, and numbers are listed, or moved to less room, where there is one. All numbers are split off without memory.
 abbrev pub RefusedBy : Sets → Command → Sets → Type 0
 RefusedBy old (Insert name n) new = (n < greatest) × (has (set_of old name) n ≡ false) × (new ≡ old)
 RefusedBy old (Extend name items) new =
@@ -104,6 +114,8 @@ RefusedBy old (Shrink name) new = (set_of old name ≢ []) × (new ≡ old)
 RefusedBy old (ItemsOf name) new = (set_of old name ≢ []) × (new ≡ old)
 RefusedBy old (Copy from to) new = (from ≢ to) × (new ≡ old)
 RefusedBy old (InPlace merge s t) new = (s ≢ t) × (new ≡ old)
+RefusedBy old (Append s t) new = (s ≢ t) × (new ≡ old)
+RefusedBy old (SplitOff s n t) new = (s ≢ t) × (0 < n) × (new ≡ old)
 RefusedBy old (Walk merge s t) new = (merged_sets merge (set_of old s) (set_of old t) ≢ []) × (new ≡ old)
 RefusedBy old (RestIter name n) new = (drop n (set_of old name) ≢ []) × (new ≡ old)
 RefusedBy old (RestWalk merge s t n) new = (drop n (merged_sets merge (set_of old s) (set_of old t)) ≢ []) × (new ≡ old)

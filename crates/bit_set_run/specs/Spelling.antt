@@ -2,7 +2,7 @@
 use Rattle.std.specs.Prelude.{ℕ, ◌+◌, ◌<◌, ◌≤◌, List, [], ◌∷◌, ◌++◌, codes, decimal}
 use Rattle.std.specs.List.{All, flat_map}
 use Rattle.bit_set_run.specs.declared.commands.Command.{Command}
-use Rattle.bit_set_run.specs.declared.commands.Command.TheVariants.{Insert, Remove, Contains, Extend, Truncate, Empty, Reset, Reserve, ReserveExact, Shrink, Count, IsEmpty, Items, Copy, InPlace, Walk, Subset, Superset, Disjoint, Equal, Compare, RestIter, RestWalk}
+use Rattle.bit_set_run.specs.declared.commands.Command.TheVariants.{Insert, Remove, Contains, Extend, Truncate, Empty, Reset, Reserve, ReserveExact, Shrink, Count, IsEmpty, Items, Copy, InPlace, Append, SplitOff, Walk, Subset, Superset, Disjoint, Equal, Compare, RestIter, RestWalk}
 use Rattle.bit_set.specs.declared.bit_vec.Merge.{Merge}
 use Rattle.bit_set.specs.declared.bit_vec.Merge.TheVariants.{Union, Intersection, Difference, Symmetric}
 use Rattle.bit_set.specs.Bounds.{greatest}
@@ -47,6 +47,8 @@ parts_of (IsEmpty s) = parts (codes "is_empty") (s ∷ []) []
 parts_of (Items s) = parts (codes "items") (s ∷ []) []
 parts_of (Copy s t) = parts (codes "copy") (s ∷ t ∷ []) []
 parts_of (InPlace merge s t) = parts (in_place_word merge) (s ∷ t ∷ []) []
+parts_of (Append s t) = parts (codes "append") (s ∷ t ∷ []) []
+parts_of (SplitOff s n t) = parts (codes "split_off") (s ∷ t ∷ []) (n ∷ [])
 parts_of (Walk merge s t) = parts (walk_word merge) (s ∷ t ∷ []) []
 parts_of (Subset s t) = parts (codes "subset") (s ∷ t ∷ []) []
 parts_of (Superset s t) = parts (codes "superset") (s ∷ t ∷ []) []
@@ -72,8 +74,10 @@ letter place = 32 ∷ (place + 97) ∷ []
 abbrev pub figures : ℕ → List ℕ
 figures n = 32 ∷ decimal n
 
--- the line that spells a command
+-- the line that spells a command: the numbers stand behind the names, but for that of `split_off`, which stands
+-- between them
 abbrev pub line_of : Command → List ℕ
+line_of (SplitOff s n t) = codes "split_off" ++ (letter s ++ (figures n ++ letter t))
 line_of command = (parts_of command).word ++ (flat_map letter (names_of command) ++ flat_map figures (numbers_of command))
 
 -- a command as a program can have it: each name is one of the sixteen, and no number is too large

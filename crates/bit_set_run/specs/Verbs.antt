@@ -6,13 +6,13 @@ use Rattle.bit_set.specs.declared.bit_vec.Merge.TheVariants.{Union, Intersection
 use Rattle.bit_set_run.specs.declared.commands.Command.{Command}
 use Rattle.bit_set_run.specs.declared.commands.Command.TheVariants as command
 use Rattle.bit_set_run.specs.declared.verbs.Verb.{Verb}
-use Rattle.bit_set_run.specs.declared.verbs.Verb.TheVariants.{Name, NameAndNumber, TwoNames, Extend, Rest}
+use Rattle.bit_set_run.specs.declared.verbs.Verb.TheVariants.{Name, NameAndNumber, TwoNames, Extend, SplitOff, Rest}
 use Rattle.bit_set_run.specs.declared.verbs.NameVerb.{NameVerb}
 use Rattle.bit_set_run.specs.declared.verbs.NameVerb.TheVariants.{Empty, Reset, Shrink, Count, IsEmpty, Items}
 use Rattle.bit_set_run.specs.declared.verbs.NumberVerb.{NumberVerb}
 use Rattle.bit_set_run.specs.declared.verbs.NumberVerb.TheVariants.{Insert, Remove, Contains, Truncate, Reserve, ReserveExact}
 use Rattle.bit_set_run.specs.declared.verbs.PairVerb.{PairVerb}
-use Rattle.bit_set_run.specs.declared.verbs.PairVerb.TheVariants.{Copy, InPlace, Walk, Subset, Superset, Disjoint, Equal, Compare}
+use Rattle.bit_set_run.specs.declared.verbs.PairVerb.TheVariants.{Copy, InPlace, Append, Walk, Subset, Superset, Disjoint, Equal, Compare}
 use Rattle.bit_set_run.specs.declared.verbs.SetWalk.{SetWalk}
 use Rattle.bit_set_run.specs.declared.verbs.SetWalk.TheVariants.{One, Two}
 
@@ -37,6 +37,8 @@ verbs =
     (codes "intersect_with", TwoNames (InPlace Intersection)) ∷
     (codes "difference_with", TwoNames (InPlace Difference)) ∷
     (codes "symmetric_difference_with", TwoNames (InPlace Symmetric)) ∷
+    (codes "append", TwoNames Append) ∷
+    (codes "split_off", SplitOff) ∷
     (codes "union", TwoNames (Walk Union)) ∷
     (codes "intersection", TwoNames (Walk Intersection)) ∷
     (codes "difference", TwoNames (Walk Difference)) ∷
@@ -89,6 +91,7 @@ number_command ReserveExact (s, n) = command.ReserveExact s n
 abbrev pub pair_command : PairVerb → ℕ × ℕ → Command
 pair_command Copy (s, t) = command.Copy s t
 pair_command (InPlace merge) (s, t) = command.InPlace merge s t
+pair_command Append (s, t) = command.Append s t
 pair_command (Walk merge) (s, t) = command.Walk merge s t
 pair_command Subset (s, t) = command.Subset s t
 pair_command Superset (s, t) = command.Superset s t

@@ -35,6 +35,10 @@ pub enum Command {
     Copy(SetName, SetName),
     /// Make the first set what the two become: in either, in both, in the first alone, or in just one.
     InPlace(Merge, SetName, SetName),
+    /// Put the numbers of the second set into the first, and take them out of the second.
+    Append(SetName, SetName),
+    /// Move the numbers that are not below this one from the first set to the second, in the place of what that held.
+    SplitOff(SetName, usize, SetName),
     /// What two sets become: in either, in both, in the first alone, or in just one.
     Walk(Merge, SetName, SetName),
     /// Whether each number of the first set is in the second.
@@ -70,6 +74,7 @@ pub enum Reply {
     Rest(usize, Numbers),
     /// A number cannot be an element, and it is not put in.
     Element,
-    /// A set cannot be copied to itself, nor changed in place by itself, and nothing changed.
+    /// A set cannot be copied or appended to itself, changed in place by itself or split off to itself, and
+    /// nothing changed.
     Same,
 }

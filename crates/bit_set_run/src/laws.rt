@@ -112,6 +112,45 @@ pub fn outputs_are_as_shown()
         ("union_with a b 1", "bad command") ∷
         ("items b", "{0, 1, 5}") ∷
         []) }
+    ensures parts { Gives (
+        ("extend a 2 6", "ok") ∷
+        ("extend b 1 3 6", "ok") ∷
+        ("append a b", "ok") ∷
+        ("items a", "{1, 2, 3, 6}") ∷
+        ("items b", "{}") ∷
+        ("split_off a 3 c", "ok") ∷
+        ("items a", "{1, 2}") ∷
+        ("items c", "{3, 6}") ∷
+        ("split_off a 0 c", "ok") ∷
+        ("items a", "{}") ∷
+        ("items c", "{1, 2}") ∷
+        ("split_off c 50 d", "ok") ∷
+        ("items d", "{}") ∷
+        ("append c c", "refused same") ∷
+        ("split_off c 1 c", "refused same") ∷
+        ("items c", "{1, 2}") ∷
+        []) }
+    ensures part_edges { Gives (
+        ("extend a 4 9", "ok") ∷
+        ("append a", "bad command") ∷
+        ("append a b c", "bad command") ∷
+        ("append a 1", "bad command") ∷
+        ("append a q", "bad command") ∷
+        ("split_off a 5", "bad command") ∷
+        ("split_off a b 5", "bad command") ∷
+        ("split_off a 5 b c", "bad command") ∷
+        ("split_off a 5 b ", "bad command") ∷
+        ("split_off q 5 b", "bad command") ∷
+        ("split_off a 99999999999999999999 q", "bad command") ∷
+        ("split_off a 99999999999999999999 b", "bad number") ∷
+        ("split_off a 99999999999999999999 a", "bad number") ∷
+        ("splitoff a 5 b", "bad command") ∷
+        ("items a", "{4, 9}") ∷
+        ("split_off a 18446744073709551615 b", "ok") ∷
+        ("split_off a 009 b", "ok") ∷
+        ("items a", "{4}") ∷
+        ("items b", "{9}") ∷
+        []) }
     ensures two_sets { Gives (
         ("extend a 1 3 5 200 500", "ok") ∷
         ("extend b 3 200", "ok") ∷

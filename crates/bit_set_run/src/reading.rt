@@ -3,7 +3,7 @@
 ghost use Rattle.std.specs.Prelude.{◌≡◌, ℕ, ◌+◌, ◌-◌, ◌*◌, [], ◌∷◌, IfOk, OnErr, slice_get};
 ghost use Rattle.std.specs.Char.{IsAsciiDigit};
 ghost use Rattle.std.specs.Option.{option_and_then};
-ghost use Rattle.bit_set_run.specs.Reading.{all_numbers, command_of, held, name_and_number, name_of, names_and_number, number_of, reading, rest_of, two_names, within_range};
+ghost use Rattle.bit_set_run.specs.Reading.{all_numbers, command_of, held, name_and_number, name_of, names_and_number, names_around_number, number_and_name, number_of, reading, rest_of, two_names, within_range};
 ghost use Rattle.bit_set_run.specs.Spelling.{numbers_of};
 ghost use Rattle.bit_set_run.specs.Verbs.{verb_of};
 ghost use Rattle.bit_set_run.specs.Words.{words_left, words_of};
@@ -55,6 +55,10 @@ fn read_command(
             Ok(read_two_names(words).map(|(first, second)| verb.command(first, second)))
         }
         Verb::Extend => read_extend(alloc, words),
+        Verb::SplitOff => Ok(read_names_around_number(words).map(|(
+            first,
+            (second, number),
+        )| Command::SplitOff(first, number, second))),
         Verb::Rest => Ok(read_rest(words)),
     }
 }
@@ -129,6 +133,26 @@ fn read_names_and_number(words: &[u8]) -> Result<(SetName, (SetName, usize)), Ba
         return Err(BadLine::BadCommand);
     };
     Ok((read_name(name)?, read_name_and_number(words)?))
+}
+
+// A number, a space and a set's name: the name and the number.
+fn read_number_and_name(words: &[u8]) -> Result<(SetName, usize), BadLine>
+    ensures { result ≡ within_range (λ p. p.1 ∷ []) (number_and_name (words_of words.now)) }
+{
+    let Some((number, name)) = split_once(words, b' ') else {
+        return Err(BadLine::BadCommand);
+    };
+    Ok((read_name(name)?, read_number(number)?))
+}
+
+// Two sets' names with a number between them, and spaces: the names and the number.
+fn read_names_around_number(words: &[u8]) -> Result<(SetName, (SetName, usize)), BadLine>
+    ensures { result ≡ within_range (λ p. p.1.1 ∷ []) (names_around_number (words_of words.now)) }
+{
+    let Some((name, words)) = split_once(words, b' ') else {
+        return Err(BadLine::BadCommand);
+    };
+    Ok((read_name(name)?, read_number_and_name(words)?))
 }
 
 // The numbers that the words write, one each: a word that writes none is told before a number too large.

@@ -19,8 +19,9 @@ pub enum RunFault {
 /// At [`RunFault::Memory`] the commands before the one named have been executed and have their replies.
 /// It and those after it have changed nothing, but that an [`Command::Extend`] has put in the items before
 /// the one that was refused. A reply's room is reserved before its command runs: where there is room for
-/// the replies, only an insert, an extend, a copy, an operation in place, room past all numbers of a set,
-/// and `Items`, a walk, a rest and a shrink that have a number to show or to keep can be refused memory.
+/// the replies, only an insert, an extend, a copy, an operation in place, an append, a split off at a number
+/// above 0, room past all numbers of a set, and `Items`, a walk, a rest and a shrink that have a number to show
+/// or to keep can be refused memory.
 pub fn run<B: BitBlock>(
     alloc: Global,
     table: &mut Table<B>,

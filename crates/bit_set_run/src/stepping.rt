@@ -3,7 +3,7 @@
 ghost use Rattle.std.specs.Prelude.{◌≡◌, ◌≢◌, ℕ, ◌<◌, ◌≤◌, ◌==◌, ◌∷◌, false, not, map, List, length, drop, [], ◌++◌, IfOk, OnOk, OnErr, slice_index_or, slice_set, if◌then◌else◌};
 ghost use Rattle.std.specs.List.{list_any};
 ghost use Rattle.bit_set.specs.Bits.{blocks_for, room_of};
-ghost use Rattle.bit_set.specs.Sets.{bound_of, has, merged_sets, put, put_all};
+ghost use Rattle.bit_set.specs.Sets.{bound_of, has, merged_sets, put, put_all, those_below, those_from, union};
 ghost use Rattle.bit_set_run.specs.Kept.{kept};
 ghost use Rattle.bit_set.specs.Bounds.{greatest};
 ghost use Rattle.bit_set_run.specs.Run.{step, elements_before_greatest, RefusedBy};
@@ -56,6 +56,10 @@ pub(crate) fn step<B: BitBlock>(
         Command::Copy(from, to) => copy(alloc, sets, from.place(), to.place()),
         Command::InPlace(_, s, t) if s == t => Ok(Reply::Same),
         Command::InPlace(merge, s, t) => merge_in_place(alloc, sets, *merge, s.place(), t.place()),
+        Command::Append(s, t) if s == t => Ok(Reply::Same),
+        Command::Append(s, t) => append(alloc, sets, s.place(), t.place()),
+        Command::SplitOff(s, _, t) if s == t => Ok(Reply::Same),
+        Command::SplitOff(s, n, t) => split_off(alloc, sets, s.place(), *n, t.place()),
         Command::Walk(merge, s, t) => walk(alloc, sets, *merge, *s, *t),
         Command::Subset(s, t) => Ok(Reply::Truth(is_subset(sets, *s, *t))),
         Command::Superset(s, t) => Ok(Reply::Truth(is_superset(sets, *s, *t))),
@@ -186,4 +190,45 @@ fn merge_with<B: BitBlock>(
         Merge::Difference => set.difference_with(other),
         Merge::Symmetric => set.symmetric_difference_with(other),
     }
+}
+
+// Puts the numbers of the set at the second place into the one at the first, and takes them out of it.
+fn append<B: BitBlock>(
+    alloc: Global,
+    sets: &mut [BitSet<B>; 16],
+    to: usize,
+    from: usize,
+) -> Result<Reply, AllocError>
+    requires places { (to < 16) × (from < 16) }
+    requires apart { to ≡ from → ⊥ }
+    ensures reply { IfOk result (λ reply. reply ≡ Done) }
+    ensures after { OnOk result (map kept sets.new ≡ slice_set (slice_set (map kept sets.old) to (union (slice_index_or (map kept sets.old) to []) (slice_index_or (map kept sets.old) from []))) from []) }
+    ensures left { OnErr result (map kept sets.new ≡ map kept sets.old) }
+{
+    let mut other = mem::replace(&mut sets[from], BitSet::new_general(alloc));
+    let appended = sets[to].append(&mut other);
+    sets[from] = other;
+    match appended {
+        Ok(()) => Ok(Reply::Done),
+        Err(refusal) => Err(refusal),
+    }
+}
+
+// Moves the numbers that are not below `at` from the set at the first place to the one at the second, in the place
+// of what that held.
+fn split_off<B: BitBlock>(
+    alloc: Global,
+    sets: &mut [BitSet<B>; 16],
+    from: usize,
+    at: usize,
+    to: usize,
+) -> Result<Reply, AllocError>
+    requires places { (from < 16) × (to < 16) }
+    ensures reply { IfOk result (λ reply. reply ≡ Done) }
+    ensures after { OnOk result (map kept sets.new ≡ slice_set (slice_set (map kept sets.old) from (those_below (slice_index_or (map kept sets.old) from []) at)) to (those_from (slice_index_or (map kept sets.old) from []) at)) }
+    ensures refused { OnErr result ((0 < at) × (map kept sets.new ≡ map kept sets.old)) }
+{
+    let part = sets[from].split_off(alloc, at)?;
+    sets[to] = part;
+    Ok(Reply::Done)
 }

@@ -19,6 +19,8 @@ pub(crate) enum Verb {
     TwoNames(PairVerb),
     /// A set's name and any number of numbers.
     Extend,
+    /// A set's name, a number and a second set's name.
+    SplitOff,
     /// A walk and its own words.
     Rest,
 }
@@ -50,6 +52,7 @@ pub(crate) enum NumberVerb {
 pub(crate) enum PairVerb {
     Copy,
     InPlace(Merge),
+    Append,
     Walk(Merge),
     Subset,
     Superset,
@@ -67,7 +70,7 @@ pub(crate) enum SetWalk {
     Two(Merge),
 }
 
-const VERBS: [(&[u8], Verb); 28] = [
+const VERBS: [(&[u8], Verb); 30] = [
     (b"insert", Verb::NameAndNumber(NumberVerb::Insert)),
     (b"remove", Verb::NameAndNumber(NumberVerb::Remove)),
     (b"contains", Verb::NameAndNumber(NumberVerb::Contains)),
@@ -101,6 +104,8 @@ const VERBS: [(&[u8], Verb); 28] = [
         b"symmetric_difference_with",
         Verb::TwoNames(PairVerb::InPlace(Merge::Symmetric)),
     ),
+    (b"append", Verb::TwoNames(PairVerb::Append)),
+    (b"split_off", Verb::SplitOff),
     (b"union", Verb::TwoNames(PairVerb::Walk(Merge::Union))),
     (
         b"intersection",
@@ -197,6 +202,7 @@ impl PairVerb {
         match self {
             PairVerb::Copy => Command::Copy(first, second),
             PairVerb::InPlace(merge) => Command::InPlace(merge, first, second),
+            PairVerb::Append => Command::Append(first, second),
             PairVerb::Walk(merge) => Command::Walk(merge, first, second),
             PairVerb::Subset => Command::Subset(first, second),
             PairVerb::Superset => Command::Superset(first, second),

@@ -26,6 +26,14 @@ pub returns-clause-in_place : goal.returns-clause-in_place
 unfolding digits
 returns-clause-in_place c = refl
 
+pub returns-clause-parts : goal.returns-clause-parts
+unfolding digits
+returns-clause-parts c = refl
+
+pub returns-clause-part_edges : goal.returns-clause-part_edges
+unfolding digits
+returns-clause-part_edges c = refl
+
 pub returns-clause-two_sets : goal.returns-clause-two_sets
 unfolding digits
 returns-clause-two_sets c = refl

@@ -1,5 +1,6 @@
-use Rattle.std.proofs.Common.{[], ◌∷◌, rules}
-use Rattle.bit_set_run.specs.Reading.{name_and_number, name_of, two_names}
+use Rattle.std.proofs.Common.{[], ◌∷◌, refl, rules}
+use Rattle.bit_set_run.specs.declared.commands.Command.TheVariants as command
+use Rattle.bit_set_run.specs.Reading.{name_and_number, name_of, names_around_number, two_names}
 use Rattle.bit_set_run.specs.Verbs.{name_command, number_command, pair_command}
 use Rattle.bit_set_run.specs.Words.{words_of}
 use Rattle.bit_set_run.proofs.ReadingLemmas.{name_alone_words, numbers-name_command, numbers-number_command, numbers-pair_command, of_operands}
@@ -18,4 +19,9 @@ returns-in-NameAndNumber-clause-read c =
 pub returns-in-TwoNames-clause-read : goal.returns-in-TwoNames-clause-read
 returns-in-TwoNames-clause-read c =
     rw c.in-TwoNames.is
-    (of_operands (pair_command c.in-TwoNames.verb) (λ _. []) (two_names (words_of c.args.words.now)) c.read_two_names.result c.map-in-TwoNames.result (numbers-pair_command c.in-TwoNames.verb) c.read_two_names.ensures c.map-in-TwoNames.ensures.cases (λ x command made. search rules))
+    (of_operands (pair_command c.in-TwoNames.verb) (λ _. []) (two_names (words_of c.args.words.now)) c.read_two_names.result c.map-in-TwoNames.result (numbers-pair_command c.in-TwoNames.verb) c.read_two_names.ensures c.map-in-TwoNames.ensures.cases (λ x command made. cc))
+
+pub returns-in-SplitOff-clause-read : goal.returns-in-SplitOff-clause-read
+returns-in-SplitOff-clause-read c =
+    rw c.in-SplitOff.is
+    (of_operands (λ (s, p). command.SplitOff s p.1 p.0) (λ p. p.1.1 ∷ []) (names_around_number (words_of c.args.words.now)) c.read_names_around_number.result c.map-in-SplitOff.result (λ p. refl) c.read_names_around_number.ensures c.map-in-SplitOff.ensures.cases (λ x command made. search rules))
