@@ -11,7 +11,7 @@ use std::alloc::{AllocError, Global};
 use std::process::Abort;
 use std::test::Fail;
 
-fn set_of<B: BitBlock>(alloc: Global, numbers: &[usize]) -> Result<BitSet<B>, SetError> {
+pub(crate) fn set_of<B: BitBlock>(alloc: Global, numbers: &[usize]) -> Result<BitSet<B>, SetError> {
     BitSet::from_iter(alloc, numbers.iter().copied())
 }
 

@@ -16,4 +16,6 @@ mod set_tests;
 #[cfg(test)]
 mod sparse_tests;
 #[cfg(test)]
+mod split_tests;
+#[cfg(test)]
 mod walk_tests;

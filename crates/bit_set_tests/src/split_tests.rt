@@ -1,0 +1,125 @@
+//! Sets that are parted at a number and put together again: rows with their exact answers, over four block
+//! types.
+ghost use Rattle.std.specs.Prelude.{◌≡◌, OnOk};
+
+use crate::algebra_tests::set_of;
+use crate::set_tests::items;
+use bit_set::laws::parted_sets;
+use bit_set::{BitBlock, BitSet, SetError};
+use block24::Block24;
+use std::alloc::{AllocError, Global};
+use std::process::Abort;
+use std::test::Fail;
+
+// 21 numbers below 48.
+const BYTES: [u8; 6] = [
+    0b1010_0000,
+    0b0001_0010,
+    0b1001_0010,
+    0b0011_0011,
+    0b0110_1011,
+    0b1010_1101,
+];
+
+// The counts and the lengths of the two parts of the set of these bytes.
+fn parts<B: BitBlock>(alloc: Global, at: usize) -> Result<[usize; 4], SetError> {
+    let mut set = BitSet::<B>::from_bytes_general(alloc, &BYTES)?;
+    let part = set.split_off(alloc, at)?;
+    Ok([
+        set.count(),
+        part.count(),
+        set.get_ref().len(),
+        part.get_ref().len(),
+    ])
+}
+
+fn check_parts<B: BitBlock>(rt: &impl Abort, alloc: Global) -> Result<(), SetError> {
+    for (at, wanted) in [
+        (0, [0, 21, 0, 48]),
+        (1, [1, 20, 1, 48]),
+        (34, [12, 9, 34, 48]),
+        (47, [20, 1, 47, 48]),
+        (48, [21, 0, 48, 0]),
+        (50, [21, 0, 48, 0]),
+        (usize::MAX, [21, 0, 48, 0]),
+    ] {
+        assert_eq!(rt; parts::<B>(alloc, at)?, wanted, "at {at}");
+    }
+    let mut set = BitSet::<B>::from_bytes_general(alloc, &BYTES)?;
+    let part = set.split_off(alloc, 34)?;
+    assert_eq!(rt;
+        items(alloc, &part)?.as_slice(),
+        [34, 36, 38, 39, 40, 42, 44, 45, 47].as_slice()
+    );
+    Ok(())
+}
+
+#[test]
+fn a_set_is_parted_at_a_number(rt: HostRuntime) -> Result<(), Fail> {
+    check_parts::<u8>(&rt, rt.alloc())?;
+    check_parts::<Block24>(&rt, rt.alloc())?;
+    check_parts::<u32>(&rt, rt.alloc())?;
+    check_parts::<u64>(&rt, rt.alloc())?;
+    Ok(())
+}
+
+fn check_append<B: BitBlock>(rt: &impl Abort, alloc: Global) -> Result<(), SetError> {
+    let mut set = set_of::<B>(alloc, &[2, 6])?;
+    let mut other = set_of::<B>(alloc, &[1, 3, 6])?;
+    set.append(&mut other)?;
+    assert_eq!(rt; items(alloc, &set)?.as_slice(), [1, 2, 3, 6].as_slice());
+    assert!(rt; set == BitSet::from_bytes_general(alloc, &[0b0111_0010])?);
+    assert!(rt; other.is_empty());
+    assert_eq!(rt; other.get_ref().len(), 7);
+    Ok(())
+}
+
+#[test]
+fn append_empties_the_other(rt: HostRuntime) -> Result<(), Fail> {
+    check_append::<u8>(&rt, rt.alloc())?;
+    check_append::<Block24>(&rt, rt.alloc())?;
+    check_append::<u32>(&rt, rt.alloc())?;
+    check_append::<u64>(&rt, rt.alloc())?;
+    Ok(())
+}
+
+// Parts a set at a number and puts it together again. Once it is done, the set is as it was.
+fn split_and_join<B: BitBlock>(
+    alloc: Global,
+    set: &mut BitSet<B>,
+    at: usize,
+) -> Result<BitSet<B>, AllocError>
+    ensures { OnOk result (set.new.values ≡ set.old.values) }
+{
+    parted_sets();
+    let mut part = set.split_off(alloc, at)?;
+    set.append(&mut part)?;
+    Ok(part)
+}
+
+fn check_parted<B: BitBlock>(rt: &impl Abort, alloc: Global) -> Result<(), SetError> {
+    let mut set = set_of::<B>(alloc, &[1, 2, 3, 6])?;
+    let mut part = set.split_off(alloc, 3)?;
+    assert!(rt; set == BitSet::from_bytes_general(alloc, &[0b0110_0000])?);
+    assert!(rt; part == BitSet::from_bytes_general(alloc, &[0b0001_0010])?);
+    assert_eq!(rt; [set.get_ref().len(), part.get_ref().len()], [3, 7]);
+    set.append(&mut part)?;
+    assert_eq!(rt; items(alloc, &set)?.as_slice(), [1, 2, 3, 6].as_slice());
+    assert_eq!(rt; [set.get_ref().len(), part.get_ref().len()], [7, 7]);
+    assert!(rt; part.capacity() >= 7);
+    let whole = split_and_join(alloc, &mut set, 0)?;
+    assert_eq!(rt;
+        [set.count(), whole.count(), whole.get_ref().len()],
+        [4, 0, 7]
+    );
+    Ok(())
+}
+
+#[test]
+fn a_parted_set_is_put_together_again(rt: HostRuntime) -> Result<(), Fail> {
+    check_parted::<u8>(&rt, rt.alloc())?;
+    check_parted::<Block24>(&rt, rt.alloc())?;
+    check_parted::<u32>(&rt, rt.alloc())?;
+    check_parted::<u64>(&rt, rt.alloc())?;
+    Ok(())
+}
