@@ -14,6 +14,7 @@ use crate::bit_vec::merging::{
 };
 use crate::bit_vec::words::{block_or, shift_left};
 use crate::bit_vec::{BitBlock, Merge, Steps};
+use std::mem::replace;
 
 // How many blocks are merged at once, where a block of the summary tells of so many or of some times that.
 const GROUP: usize = 32;
@@ -213,7 +214,7 @@ fn merge_union<B: BitBlock>(
 }
 
 // The same of the merge that is named. Only a union needs the others' summary.
-pub(crate) fn merge_stored<B: BitBlock>(
+fn merge_owned<B: BitBlock>(
     blocks: &mut Vec<B>,
     sums: &mut Vec<B>,
     others: &[B],
@@ -240,4 +241,42 @@ pub(crate) fn merge_stored<B: BitBlock>(
         Merge::Difference => merge_noted::<B, Difference>(blocks, sums, others, steps),
         Merge::Symmetric => merge_noted::<B, Symmetric>(blocks, sums, others, steps),
     }
+}
+
+// The same for vectors that are not lent on: their addresses are in registers while blocks are written,
+// so that the loops become vector code.
+pub(crate) fn merge_stored<B: BitBlock>(
+    blocks: &mut Vec<B>,
+    sums: &mut Vec<B>,
+    others: &[B],
+    other_sums: &[B],
+    merge: Merge,
+    steps: &mut Steps,
+)
+    requires fewer { length others.now ≤ vec_len blocks.old }
+    requires each { All B.is_block blocks.old.items }
+    requires others { All B.is_block others.now }
+    requires summary { IsSummary B.width B.number B.is_block blocks.old.items sums.old.items }
+    requires other_summary { IsSummary B.width B.number B.is_block others.now other_sums.now }
+    ensures merged { IsMergedBetween merge B.width 0 (vec_len blocks.old) (map B.number blocks.old.items) (map B.number others.now) (map B.number blocks.new.items) }
+    ensures summary { IsSummary B.width B.number B.is_block blocks.new.items sums.new.items }
+    ensures each { All B.is_block blocks.new.items }
+    ensures len { vec_len blocks.new ≡ vec_len blocks.old }
+    ensures capacity { vec_capacity blocks.new ≡ vec_capacity blocks.old }
+    ensures sums_capacity { vec_capacity sums.new ≡ vec_capacity sums.old }
+    ensures steps { steps.new ≡ steps.old + vec_len blocks.old }
+{
+    let alloc = *blocks.allocator();
+    let mut own_blocks = replace(blocks, Vec::new(alloc));
+    let mut own_sums = replace(sums, Vec::new(alloc));
+    merge_owned(
+        &mut own_blocks,
+        &mut own_sums,
+        others,
+        other_sums,
+        merge,
+        steps,
+    );
+    *blocks = own_blocks;
+    *sums = own_sums;
 }
