@@ -1,5 +1,8 @@
 //! Times the same work by this repository's library and by the Rust crates `bit-set` and `fixedbitset`, and prints a
-//! table. Ends with status 1 where two sides give different answers.
+//! table, and then a table of this library's times over three types of blocks. Ends with status 1 where two sides give
+//! different answers.
+mod widths;
+
 use bit_set::BitSet;
 use bit_vec::{BitBlock, BitVec};
 use fixedbitset::FixedBitSet;
@@ -88,9 +91,14 @@ impl Table {
         Table { agrees: true }
     }
 
-    /// Runs the sides one after another, again and again, and prints the least time of each, in nanoseconds, and
-    /// this library's over the other's.
-    fn row(&mut self, name: &str, work: Work, sides: &[Side]) {
+    fn of_widths() -> Table {
+        println!("| Work | Per | `u32` | `u64` | `u128` |");
+        println!("|---|---|---|---|---|");
+        Table { agrees: true }
+    }
+
+    /// Runs the sides one after another, again and again. The least time of each, in nanoseconds.
+    fn times(&mut self, work: &Work, sides: &[Side]) -> Vec<f64> {
         let empty_turns = if work.numbers.is_empty() { 0 } else { work.turns };
         let mut least = vec![[f64::MAX; 2]; sides.len()];
         let mut answers = vec![0; sides.len()];
@@ -105,8 +113,17 @@ impl Table {
                 least[side][1] = least[side][1].min(end - middle);
             }
         }
+        if answers.iter().any(|answer| *answer != answers[0]) {
+            println!("the sides of the next row give different answers: {answers:?}");
+            self.agrees = false;
+        }
         let all_units = (work.units * work.turns) as f64;
-        let times: Vec<f64> = least.iter().map(|[empty, full]| (full - empty) * 1e9 / all_units).collect();
+        least.iter().map(|[empty, full]| (full - empty) * 1e9 / all_units).collect()
+    }
+
+    /// Prints the time of each side, and this library's over the other's.
+    fn row(&mut self, name: &str, work: Work, sides: &[Side]) {
+        let times = self.times(&work, sides);
         print!("| {name} | {} | {:.2} |", work.unit, times[0]);
         for side in 1..3 {
             match times.get(side) {
@@ -115,10 +132,16 @@ impl Table {
             }
         }
         println!();
-        if answers.iter().any(|answer| *answer != answers[0]) {
-            println!("the sides give different answers: {answers:?}");
-            self.agrees = false;
+    }
+
+    /// Prints the time of each side alone.
+    fn row_of_times(&mut self, name: &str, work: Work, sides: &[Side]) {
+        let times = self.times(&work, sides);
+        print!("| {name} | {} |", work.unit);
+        for time in times {
+            print!(" {time:.2} |");
         }
+        println!();
     }
 }
 
@@ -562,5 +585,7 @@ fn main() -> ExitCode {
     two_sets(&mut table, &wide);
     tests_of_two_sets(&mut table, &wide);
     the_rest(&mut table);
-    if table.agrees { ExitCode::SUCCESS } else { ExitCode::FAILURE }
+    println!();
+    let widths_agree = widths::race(&densities[1], &densities[0]);
+    if table.agrees && widths_agree { ExitCode::SUCCESS } else { ExitCode::FAILURE }
 }

@@ -39,7 +39,7 @@ pub extern "C" fn bench_insert_with_room_u64(
     insert_with_room::<u64>(alloc, len, numbers, turns).unwrap_or(usize::MAX)
 }
 
-fn insert_below<B: BitBlock>(
+pub(crate) fn insert_below<B: BitBlock>(
     alloc: Global,
     len: usize,
     numbers: &[usize],
@@ -76,10 +76,14 @@ pub extern "C" fn bench_insert_below_u64(
     insert_below::<u64>(alloc, len, numbers, turns).unwrap_or(usize::MAX)
 }
 
-fn insert_in_order(alloc: Global, len: usize, turns: usize) -> Result<usize, SetError> {
+pub(crate) fn insert_in_order<B: BitBlock>(
+    alloc: Global,
+    len: usize,
+    turns: usize,
+) -> Result<usize, SetError> {
     let mut new = 0usize;
     for _ in 0..turns {
-        let mut set = BitSet::new(alloc);
+        let mut set = BitSet::<B>::new_general(alloc);
         for number in 0..len {
             new = new.wrapping_add(usize::from(set.insert(number)?));
         }
@@ -89,10 +93,10 @@ fn insert_in_order(alloc: Global, len: usize, turns: usize) -> Result<usize, Set
 
 #[unsafe(no_mangle)]
 pub extern "C" fn bench_insert_in_order(alloc: Global, len: usize, turns: usize) -> usize {
-    insert_in_order(alloc, len, turns).unwrap_or(usize::MAX)
+    insert_in_order::<u32>(alloc, len, turns).unwrap_or(usize::MAX)
 }
 
-fn remove<B: BitBlock>(
+pub(crate) fn remove<B: BitBlock>(
     alloc: Global,
     members: &[usize],
     numbers: &[usize],

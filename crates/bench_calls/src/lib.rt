@@ -9,3 +9,4 @@ mod making;
 mod pairs;
 mod reading;
 mod room;
+mod widths;

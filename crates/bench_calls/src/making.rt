@@ -15,8 +15,12 @@ pub(crate) fn set_of<B: BitBlock>(
     Ok(set)
 }
 
-fn copies(alloc: Global, numbers: &[usize], turns: usize) -> Result<usize, SetError> {
-    let set = set_of::<u32>(alloc, 0, numbers)?;
+pub(crate) fn copies<B: BitBlock>(
+    alloc: Global,
+    numbers: &[usize],
+    turns: usize,
+) -> Result<usize, SetError> {
+    let set = set_of::<B>(alloc, 0, numbers)?;
     let mut found = 0usize;
     for turn in 0..turns {
         let copy = set.clone(alloc)?;
@@ -27,7 +31,7 @@ fn copies(alloc: Global, numbers: &[usize], turns: usize) -> Result<usize, SetEr
 
 #[unsafe(no_mangle)]
 pub extern "C" fn bench_clone(alloc: Global, numbers: &[usize], turns: usize) -> usize {
-    copies(alloc, numbers, turns).unwrap_or(usize::MAX)
+    copies::<u32>(alloc, numbers, turns).unwrap_or(usize::MAX)
 }
 
 fn sets_of_bytes(alloc: Global, bytes: &[u8], turns: usize) -> Result<usize, SetError> {

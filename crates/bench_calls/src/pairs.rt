@@ -3,7 +3,7 @@ ghost use Rattle.std.specs.Iterator.{IsFinite};
 
 use crate::making::set_of;
 use bit_set::bit_vec::Merge;
-use bit_set::{BitSet, SetError};
+use bit_set::{BitBlock, BitSet, SetError};
 use std::alloc::{AllocError, Global};
 use std::cmp::Ordering;
 
@@ -18,7 +18,7 @@ fn sum_of<I: Iterator<Item = usize> + Drop>(items: I) -> usize
     sum
 }
 
-fn sum_of_merged(merge: Merge, one: &BitSet, other: &BitSet) -> usize {
+fn sum_of_merged<B: BitBlock>(merge: Merge, one: &BitSet<B>, other: &BitSet<B>) -> usize {
     match merge {
         Merge::Union => sum_of(one.union(other)),
         Merge::Intersection => sum_of(one.intersection(other)),
@@ -27,7 +27,7 @@ fn sum_of_merged(merge: Merge, one: &BitSet, other: &BitSet) -> usize {
     }
 }
 
-fn count_of_merged(merge: Merge, one: &BitSet, other: &BitSet) -> usize {
+fn count_of_merged<B: BitBlock>(merge: Merge, one: &BitSet<B>, other: &BitSet<B>) -> usize {
     match merge {
         Merge::Union => one.union(other).count(),
         Merge::Intersection => one.intersection(other).count(),
@@ -36,7 +36,11 @@ fn count_of_merged(merge: Merge, one: &BitSet, other: &BitSet) -> usize {
     }
 }
 
-fn merge_into(merge: Merge, one: &mut BitSet, other: &BitSet) -> Result<(), AllocError> {
+fn merge_into<B: BitBlock>(
+    merge: Merge,
+    one: &mut BitSet<B>,
+    other: &BitSet<B>,
+) -> Result<(), AllocError> {
     match merge {
         Merge::Union => one.union_with(other),
         Merge::Intersection => one.intersect_with(other),
@@ -46,15 +50,15 @@ fn merge_into(merge: Merge, one: &mut BitSet, other: &BitSet) -> Result<(), Allo
 }
 
 // One number leaves after each turn, so that no turn can be the answer of another.
-fn walk_merged(
+pub(crate) fn walk_merged<B: BitBlock>(
     alloc: Global,
     merge: Merge,
     first: &[usize],
     second: &[usize],
     turns: usize,
 ) -> Result<usize, SetError> {
-    let mut one = set_of(alloc, 0, first)?;
-    let other = set_of(alloc, 0, second)?;
+    let mut one = set_of::<B>(alloc, 0, first)?;
+    let other = set_of::<B>(alloc, 0, second)?;
     let mut sum = 0usize;
     for turn in 0..turns {
         sum = sum.wrapping_add(sum_of_merged(merge, &one, &other));
@@ -63,15 +67,15 @@ fn walk_merged(
     Ok(sum)
 }
 
-fn count_merged(
+pub(crate) fn count_merged<B: BitBlock>(
     alloc: Global,
     merge: Merge,
     first: &[usize],
     second: &[usize],
     turns: usize,
 ) -> Result<usize, SetError> {
-    let mut one = set_of(alloc, 0, first)?;
-    let other = set_of(alloc, 0, second)?;
+    let mut one = set_of::<B>(alloc, 0, first)?;
+    let other = set_of::<B>(alloc, 0, second)?;
     let mut sum = 0usize;
     for turn in 0..turns {
         sum = sum.wrapping_add(count_of_merged(merge, &one, &other));
@@ -80,15 +84,15 @@ fn count_merged(
     Ok(sum)
 }
 
-fn merge_in_place(
+pub(crate) fn merge_in_place<B: BitBlock>(
     alloc: Global,
     merge: Merge,
     first: &[usize],
     second: &[usize],
     turns: usize,
 ) -> Result<usize, SetError> {
-    let mut one = set_of(alloc, 0, first)?;
-    let other = set_of(alloc, 0, second)?;
+    let mut one = set_of::<B>(alloc, 0, first)?;
+    let other = set_of::<B>(alloc, 0, second)?;
     let mut were = 0usize;
     for turn in 0..turns {
         merge_into(merge, &mut one, &other)?;
@@ -153,8 +157,12 @@ pub extern "C" fn bench_is_subset(
     find_within(alloc, first, second, turns).unwrap_or(usize::MAX)
 }
 
-fn compare(alloc: Global, members: &[usize], turns: usize) -> Result<usize, SetError> {
-    let mut one = set_of::<u32>(alloc, 0, members)?;
+pub(crate) fn compare<B: BitBlock>(
+    alloc: Global,
+    members: &[usize],
+    turns: usize,
+) -> Result<usize, SetError> {
+    let mut one = set_of::<B>(alloc, 0, members)?;
     let mut other = one.clone(alloc)?;
     let mut equal = 0usize;
     for turn in 0..turns {
@@ -166,7 +174,7 @@ fn compare(alloc: Global, members: &[usize], turns: usize) -> Result<usize, SetE
 
 #[unsafe(no_mangle)]
 pub extern "C" fn bench_eq(alloc: Global, members: &[usize], turns: usize) -> usize {
-    compare(alloc, members, turns).unwrap_or(usize::MAX)
+    compare::<u32>(alloc, members, turns).unwrap_or(usize::MAX)
 }
 
 fn order(alloc: Global, members: &[usize], turns: usize) -> Result<usize, SetError> {
@@ -192,7 +200,7 @@ pub extern "C" fn bench_walk_union(
     second: &[usize],
     turns: usize,
 ) -> usize {
-    walk_merged(alloc, Merge::Union, first, second, turns).unwrap_or(usize::MAX)
+    walk_merged::<u32>(alloc, Merge::Union, first, second, turns).unwrap_or(usize::MAX)
 }
 
 #[unsafe(no_mangle)]
@@ -202,7 +210,7 @@ pub extern "C" fn bench_walk_intersection(
     second: &[usize],
     turns: usize,
 ) -> usize {
-    walk_merged(alloc, Merge::Intersection, first, second, turns).unwrap_or(usize::MAX)
+    walk_merged::<u32>(alloc, Merge::Intersection, first, second, turns).unwrap_or(usize::MAX)
 }
 
 #[unsafe(no_mangle)]
@@ -212,7 +220,7 @@ pub extern "C" fn bench_walk_difference(
     second: &[usize],
     turns: usize,
 ) -> usize {
-    walk_merged(alloc, Merge::Difference, first, second, turns).unwrap_or(usize::MAX)
+    walk_merged::<u32>(alloc, Merge::Difference, first, second, turns).unwrap_or(usize::MAX)
 }
 
 #[unsafe(no_mangle)]
@@ -222,7 +230,7 @@ pub extern "C" fn bench_walk_symmetric_difference(
     second: &[usize],
     turns: usize,
 ) -> usize {
-    walk_merged(alloc, Merge::Symmetric, first, second, turns).unwrap_or(usize::MAX)
+    walk_merged::<u32>(alloc, Merge::Symmetric, first, second, turns).unwrap_or(usize::MAX)
 }
 
 #[unsafe(no_mangle)]
@@ -232,7 +240,7 @@ pub extern "C" fn bench_count_union(
     second: &[usize],
     turns: usize,
 ) -> usize {
-    count_merged(alloc, Merge::Union, first, second, turns).unwrap_or(usize::MAX)
+    count_merged::<u32>(alloc, Merge::Union, first, second, turns).unwrap_or(usize::MAX)
 }
 
 #[unsafe(no_mangle)]
@@ -242,7 +250,7 @@ pub extern "C" fn bench_count_intersection(
     second: &[usize],
     turns: usize,
 ) -> usize {
-    count_merged(alloc, Merge::Intersection, first, second, turns).unwrap_or(usize::MAX)
+    count_merged::<u32>(alloc, Merge::Intersection, first, second, turns).unwrap_or(usize::MAX)
 }
 
 #[unsafe(no_mangle)]
@@ -252,7 +260,7 @@ pub extern "C" fn bench_count_difference(
     second: &[usize],
     turns: usize,
 ) -> usize {
-    count_merged(alloc, Merge::Difference, first, second, turns).unwrap_or(usize::MAX)
+    count_merged::<u32>(alloc, Merge::Difference, first, second, turns).unwrap_or(usize::MAX)
 }
 
 #[unsafe(no_mangle)]
@@ -262,7 +270,7 @@ pub extern "C" fn bench_count_symmetric_difference(
     second: &[usize],
     turns: usize,
 ) -> usize {
-    count_merged(alloc, Merge::Symmetric, first, second, turns).unwrap_or(usize::MAX)
+    count_merged::<u32>(alloc, Merge::Symmetric, first, second, turns).unwrap_or(usize::MAX)
 }
 
 #[unsafe(no_mangle)]
@@ -272,7 +280,7 @@ pub extern "C" fn bench_merge_union(
     second: &[usize],
     turns: usize,
 ) -> usize {
-    merge_in_place(alloc, Merge::Union, first, second, turns).unwrap_or(usize::MAX)
+    merge_in_place::<u32>(alloc, Merge::Union, first, second, turns).unwrap_or(usize::MAX)
 }
 
 #[unsafe(no_mangle)]
@@ -282,7 +290,7 @@ pub extern "C" fn bench_merge_intersection(
     second: &[usize],
     turns: usize,
 ) -> usize {
-    merge_in_place(alloc, Merge::Intersection, first, second, turns).unwrap_or(usize::MAX)
+    merge_in_place::<u32>(alloc, Merge::Intersection, first, second, turns).unwrap_or(usize::MAX)
 }
 
 #[unsafe(no_mangle)]
@@ -292,7 +300,7 @@ pub extern "C" fn bench_merge_difference(
     second: &[usize],
     turns: usize,
 ) -> usize {
-    merge_in_place(alloc, Merge::Difference, first, second, turns).unwrap_or(usize::MAX)
+    merge_in_place::<u32>(alloc, Merge::Difference, first, second, turns).unwrap_or(usize::MAX)
 }
 
 #[unsafe(no_mangle)]
@@ -302,5 +310,5 @@ pub extern "C" fn bench_merge_symmetric_difference(
     second: &[usize],
     turns: usize,
 ) -> usize {
-    merge_in_place(alloc, Merge::Symmetric, first, second, turns).unwrap_or(usize::MAX)
+    merge_in_place::<u32>(alloc, Merge::Symmetric, first, second, turns).unwrap_or(usize::MAX)
 }

@@ -3,7 +3,7 @@ use crate::making::set_of;
 use bit_set::{BitBlock, SetError};
 use std::alloc::Global;
 
-fn contains<B: BitBlock>(
+pub(crate) fn contains<B: BitBlock>(
     alloc: Global,
     members: &[usize],
     numbers: &[usize],
@@ -40,8 +40,12 @@ pub extern "C" fn bench_contains_u64(
 }
 
 // One number leaves after each turn, so that no turn can be the answer of another.
-fn walk(alloc: Global, members: &[usize], turns: usize) -> Result<usize, SetError> {
-    let mut set = set_of::<u32>(alloc, 0, members)?;
+pub(crate) fn walk<B: BitBlock>(
+    alloc: Global,
+    members: &[usize],
+    turns: usize,
+) -> Result<usize, SetError> {
+    let mut set = set_of::<B>(alloc, 0, members)?;
     let mut sum = 0usize;
     for turn in 0..turns {
         for item in &set {
@@ -54,11 +58,15 @@ fn walk(alloc: Global, members: &[usize], turns: usize) -> Result<usize, SetErro
 
 #[unsafe(no_mangle)]
 pub extern "C" fn bench_walk(alloc: Global, members: &[usize], turns: usize) -> usize {
-    walk(alloc, members, turns).unwrap_or(usize::MAX)
+    walk::<u32>(alloc, members, turns).unwrap_or(usize::MAX)
 }
 
-fn count(alloc: Global, members: &[usize], turns: usize) -> Result<usize, SetError> {
-    let mut set = set_of::<u32>(alloc, 0, members)?;
+pub(crate) fn count<B: BitBlock>(
+    alloc: Global,
+    members: &[usize],
+    turns: usize,
+) -> Result<usize, SetError> {
+    let mut set = set_of::<B>(alloc, 0, members)?;
     let mut sum = 0usize;
     for turn in 0..turns {
         sum = sum.wrapping_add(set.count());
@@ -69,5 +77,5 @@ fn count(alloc: Global, members: &[usize], turns: usize) -> Result<usize, SetErr
 
 #[unsafe(no_mangle)]
 pub extern "C" fn bench_count(alloc: Global, members: &[usize], turns: usize) -> usize {
-    count(alloc, members, turns).unwrap_or(usize::MAX)
+    count::<u32>(alloc, members, turns).unwrap_or(usize::MAX)
 }

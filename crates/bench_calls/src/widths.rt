@@ -1,0 +1,184 @@
+// The same work over blocks of 32, 64 and 128 bits: `bits` says which.
+use crate::inserting::{insert_below, insert_in_order, remove};
+use crate::making::copies;
+use crate::pairs::{compare, count_merged, merge_in_place, walk_merged};
+use crate::reading::{contains, count, walk};
+use bit_set::bit_vec::Merge;
+use bit_set::{BitBlock, BitSet, SetError};
+use std::alloc::Global;
+
+// The call at the type of blocks that has so many bits.
+macro_rules! at_width {
+    ($bits:expr, $call:ident($($argument:expr),*)) => {
+        match $bits {
+            32 => $call::<u32>($($argument),*),
+            64 => $call::<u64>($($argument),*),
+            _ => $call::<u128>($($argument),*),
+        }
+        .unwrap_or(usize::MAX)
+    };
+}
+
+// A set of eight of the numbers after another, each made, walked over and dropped.
+fn small_sets<B: BitBlock>(
+    alloc: Global,
+    numbers: &[usize],
+    turns: usize,
+) -> Result<usize, SetError> {
+    let mut sum = 0usize;
+    for _ in 0..turns {
+        for eight in numbers.chunks(8) {
+            let set = BitSet::<B>::from_iter(alloc, eight.iter().copied())?;
+            for item in &set {
+                sum = sum.wrapping_add(item);
+            }
+        }
+    }
+    Ok(sum)
+}
+
+#[unsafe(no_mangle)]
+pub extern "C" fn bench_insert_in_order_at_width(
+    alloc: Global,
+    bits: usize,
+    len: usize,
+    turns: usize,
+) -> usize {
+    at_width!(bits, insert_in_order(alloc, len, turns))
+}
+
+#[unsafe(no_mangle)]
+pub extern "C" fn bench_insert_below_at_width(
+    alloc: Global,
+    bits: usize,
+    len: usize,
+    numbers: &[usize],
+    turns: usize,
+) -> usize {
+    at_width!(bits, insert_below(alloc, len, numbers, turns))
+}
+
+#[unsafe(no_mangle)]
+pub extern "C" fn bench_remove_at_width(
+    alloc: Global,
+    bits: usize,
+    members: &[usize],
+    numbers: &[usize],
+    turns: usize,
+) -> usize {
+    at_width!(bits, remove(alloc, members, numbers, turns))
+}
+
+#[unsafe(no_mangle)]
+pub extern "C" fn bench_contains_at_width(
+    alloc: Global,
+    bits: usize,
+    members: &[usize],
+    numbers: &[usize],
+    turns: usize,
+) -> usize {
+    at_width!(bits, contains(alloc, members, numbers, turns))
+}
+
+#[unsafe(no_mangle)]
+pub extern "C" fn bench_walk_at_width(
+    alloc: Global,
+    bits: usize,
+    members: &[usize],
+    turns: usize,
+) -> usize {
+    at_width!(bits, walk(alloc, members, turns))
+}
+
+#[unsafe(no_mangle)]
+pub extern "C" fn bench_count_at_width(
+    alloc: Global,
+    bits: usize,
+    members: &[usize],
+    turns: usize,
+) -> usize {
+    at_width!(bits, count(alloc, members, turns))
+}
+
+#[unsafe(no_mangle)]
+pub extern "C" fn bench_clone_at_width(
+    alloc: Global,
+    bits: usize,
+    members: &[usize],
+    turns: usize,
+) -> usize {
+    at_width!(bits, copies(alloc, members, turns))
+}
+
+#[unsafe(no_mangle)]
+pub extern "C" fn bench_eq_at_width(
+    alloc: Global,
+    bits: usize,
+    members: &[usize],
+    turns: usize,
+) -> usize {
+    at_width!(bits, compare(alloc, members, turns))
+}
+
+#[unsafe(no_mangle)]
+pub extern "C" fn bench_small_sets_at_width(
+    alloc: Global,
+    bits: usize,
+    members: &[usize],
+    turns: usize,
+) -> usize {
+    at_width!(bits, small_sets(alloc, members, turns))
+}
+
+#[unsafe(no_mangle)]
+pub extern "C" fn bench_walk_union_at_width(
+    alloc: Global,
+    bits: usize,
+    first: &[usize],
+    second: &[usize],
+    turns: usize,
+) -> usize {
+    at_width!(bits, walk_merged(alloc, Merge::Union, first, second, turns))
+}
+
+#[unsafe(no_mangle)]
+pub extern "C" fn bench_count_union_at_width(
+    alloc: Global,
+    bits: usize,
+    first: &[usize],
+    second: &[usize],
+    turns: usize,
+) -> usize {
+    at_width!(
+        bits,
+        count_merged(alloc, Merge::Union, first, second, turns)
+    )
+}
+
+#[unsafe(no_mangle)]
+pub extern "C" fn bench_merge_union_at_width(
+    alloc: Global,
+    bits: usize,
+    first: &[usize],
+    second: &[usize],
+    turns: usize,
+) -> usize {
+    at_width!(
+        bits,
+        merge_in_place(alloc, Merge::Union, first, second, turns)
+    )
+}
+
+#[unsafe(no_mangle)]
+pub extern "C" fn bench_merge_intersection_at_width(
+    alloc: Global,
+    bits: usize,
+    first: &[usize],
+    second: &[usize],
+    turns: usize,
+) -> usize {
+    at_width!(
+        bits,
+        merge_in_place(alloc, Merge::Intersection, first, second, turns)
+    )
+}
