@@ -1,0 +1,62 @@
+#!/usr/bin/env bash
+# Tries each edit of `misuse/` on a copy of the crates' sources: the compiler must refuse it, for the one reason that
+# the edit names. Edits that the prover refuses stand with the crates, in their must-fail/; these do not come so far.
+# An edit has the lines 'crate:', 'file:', 'old:' and 'new:', of which the old text stands once in the file, and
+# 'says:', how each error that is said begins. The last line is 'N passed, M failed'.
+set -uo pipefail
+unset CDPATH
+here="$(dirname "$(readlink -f "${BASH_SOURCE[0]}")")"
+passed=0
+failed=0
+room="$(mktemp -d)"
+trap 'rm -rf "$room"' EXIT
+
+fail() {
+    echo "FAILED: $1"
+    failed=$((failed + 1))
+}
+
+# What the edit's line of this name has.
+line_of() { sed -n "s/^$2: //p" "$1"; }
+
+# Writes the edited text over the file, where the old text stands in it once.
+apply() {
+    local file="$1" old="$2" new="$3" text rest
+    text="$(cat "$file" && echo .)" || return 1
+    text="${text%.}"
+    rest="${text#*"$old"}"
+    if [ "$rest" = "$text" ] || [[ "$rest" = *"$old"* ]]; then
+        return 1
+    fi
+    printf '%s' "${text%%"$old"*}$new$rest" > "$file"
+}
+
+try_edit() {
+    local edit="$1" name crate file says said status errors other
+    name="$(basename "$edit")"
+    crate="$room/crates/$(line_of "$edit" crate)"
+    file="$(line_of "$edit" file)"
+    says="$(line_of "$edit" says)"
+    (cd "$here/.." && tar cf - --exclude=out crates.txt crates) | tar xf - -C "$room"
+    if ! apply "$crate/$file" "$(line_of "$edit" old)" "$(line_of "$edit" new)"; then
+        fail "$name: its old text is not in $file, or more than once"
+        return
+    fi
+    said="$(cd "$crate" && rt try --test < /dev/null 2>&1)"
+    status=$?
+    errors="$(grep ': error' <<< "$said")"
+    other="$(sed "s/^\S*: //" <<< "$errors" | grep -vF -- "$says")"
+    if [ "$status" -ne 1 ] || [ -z "$errors" ]; then
+        fail "$name: it is not refused by the compiler, but ends with status $status"
+    elif [ -n "$other" ]; then
+        fail "$name: it is refused for another reason: $other"
+    else
+        passed=$((passed + 1))
+    fi
+}
+
+for edit in "$here"/misuse/*.edit; do
+    try_edit "$edit"
+done
+echo "$passed passed, $failed failed"
+[ "$failed" -eq 0 ]
