@@ -58,6 +58,14 @@ const ROWS: &[(&[u8], &[u8])] = &[
         b"extend a 3 200\nreserve a 100\nreserve_exact a 500\nitems a\nshrink a\nitems a\nreserve a\nreserve a 1 2\nreserve_exact q 99999999999999999999\nreserve_exact a 99999999999999999999\nshrink\nshrink a 1\nshrink q\nreserve_len a 1\nitems a\n",
         b"ok\nok\nok\n{3, 200}\nok\n{3, 200}\nbad command\nbad command\nbad command\nbad number\nbad command\nbad command\nbad command\nbad command\n{3, 200}\n",
     ),
+    (
+        b"extend a 2 6\nextend b 1 3 6\nappend a b\nitems a\nitems b\nsplit_off a 3 c\nitems a\nitems c\nsplit_off a 0 c\nitems a\nitems c\nsplit_off c 50 d\nitems d\nappend c c\nsplit_off c 1 c\n",
+        b"ok\nok\nok\n{1, 2, 3, 6}\n{}\nok\n{1, 2}\n{3, 6}\nok\n{}\n{1, 2}\nok\n{}\nrefused same\nrefused same\n",
+    ),
+    (
+        b"extend a 4 9 300\nappend a\nappend a b c\nappend a 1\nsplit_off a 5\nsplit_off a b 5\nsplit_off a 5 b c\nsplit_off a 99999999999999999999 q\nsplit_off a 99999999999999999999 b\nsplit_off a 18446744073709551615 b\nsplit_off a 009 b\nitems a\nitems b\nappend b a\nappend b a\nitems b\ncount a\n",
+        b"ok\nbad command\nbad command\nbad command\nbad command\nbad command\nbad command\nbad command\nbad number\nok\nok\n{4}\n{9, 300}\nok\nok\n{4, 9, 300}\n0\n",
+    ),
     (b"", b""),
     // The last line may lack its newline.
     (

@@ -102,6 +102,30 @@ fn sets_have_their_lengths(rt: HostRuntime) -> Result<(), Fail> {
     Ok(())
 }
 
+// What is appended keeps its length, and what is split off has that of the set that it comes from, but an end of
+// no numbers has none.
+#[test]
+fn parts_have_their_lengths(rt: HostRuntime) -> Result<(), Fail> {
+    let a = name(b'a')?;
+    let b = name(b'b')?;
+    let commands = [
+        Command::Extend(a, numbers(rt.alloc(), &[2, 6])?),
+        Command::Extend(b, numbers(rt.alloc(), &[1, 3, 40])?),
+        Command::Append(a, b),
+        Command::SplitOff(a, 3, b),
+        Command::Append(b, a),
+        Command::SplitOff(b, 50, a),
+        Command::SplitOff(b, 0, a),
+        Command::SplitOff(a, 0, a),
+    ];
+    let text = lengths(rt.alloc(), &commands, a, b)?;
+    assert_eq!(rt;
+        text.as_str(),
+        "7 0, 7 41, 41 41, 3 41, 3 41, 0 41, 41 0, 41 0, "
+    );
+    Ok(())
+}
+
 // The lengths of a set after each of the commands, and how many numbers it has room for.
 fn rooms(alloc: Global, commands: &[Command], a: SetName) -> Result<String, Fail> {
     let mut table: Table<u32> = Table::new(alloc);
@@ -173,11 +197,14 @@ fn two_types_of_blocks_agree(rt: HostRuntime) -> Result<(), Fail> {
         Command::Copy(a, a),
         Command::Copy(a, b),
         Command::RestIter(b, 1),
+        Command::SplitOff(b, 10, a),
+        Command::Append(a, b),
+        Command::Items(a),
     ];
     let text = agreed(rt.alloc(), &commands)?;
     assert_eq!(rt;
         text.as_str(),
-        "([Element, Done, Same, Done, Rest(1, Numbers { items: [200] })], [Element, Done, Same, Done, Rest(1, Numbers { items: [200] })])"
+        "([Element, Done, Same, Done, Rest(1, Numbers { items: [200] }), Done, Done, Items(Numbers { items: [9, 200] })], [Element, Done, Same, Done, Rest(1, Numbers { items: [200] }), Done, Done, Items(Numbers { items: [9, 200] })])"
     );
     Ok(())
 }
