@@ -1,13 +1,31 @@
 //! Sets whose elements lie far apart: the rows of the walk, and a walk at each of its points over three widths.
+ghost use Rattle.std.specs.Prelude.{◌≡◌, ℕ, Bool, None, List, [], ◌∷◌, length};
+ghost use Rattle.std.specs.Iterator.{YieldsThen};
+ghost use Rattle.bit_set.specs.Sets.{elements};
+ghost use Rattle.bit_set.specs.Walk.{Walk, IsAtStart};
+
 use crate::walk_tests::{agrees_at_each_point, bounds, set_of};
-use bit_set::{BitBlock, BitSet};
+use bit_set::laws::sparse_walks;
+use bit_set::{BitBlock, BitSet, Iter};
 use block24::Block24;
 use std::alloc::Global;
 use std::process::Abort;
 use std::test::Fail;
 
+// Over `u32` the whole walk of {400} pulls two blocks and once more at the end, that of {0, 100000} too, and that of a
+// set without an element the first block alone. The summary of 3126 blocks, in 98, is pulled once each and once more.
+fn pulls_of_sparse_sets()
+    ensures one { (values : List Bool) (s t : Walk) (items : List ℕ) → elements values ≡ 400 ∷ [] → IsAtStart 32 values s → YieldsThen ⟦<Iter<'static, u32> as Iterator>⟧.next_gives s items None t → t.pulls ≡ 3 }
+    ensures two { (values : List Bool) (s t : Walk) (items : List ℕ) → elements values ≡ 0 ∷ 100000 ∷ [] → IsAtStart 32 values s → YieldsThen ⟦<Iter<'static, u32> as Iterator>⟧.next_gives s items None t → t.pulls ≡ 3 }
+    ensures none { (values : List Bool) (s t : Walk) (items : List ℕ) → elements values ≡ [] → IsAtStart 32 values s → YieldsThen ⟦<Iter<'static, u32> as Iterator>⟧.next_gives s items None t → t.pulls ≡ 2 }
+    ensures summary { (values : List Bool) (s t : Walk) (items : List ℕ) → length values ≡ 100001 → IsAtStart 32 values s → YieldsThen ⟦<Iter<'static, u32> as Iterator>⟧.next_gives s items None t → t.summary_pulls ≡ 99 }
+{
+    sparse_walks::<u32>();
+}
+
 #[test]
 fn the_bound_falls_over_zero_blocks(rt: HostRuntime) -> Result<(), Fail> {
+    pulls_of_sparse_sets();
     let mut far = set_of::<u32>(rt.alloc(), 0, 0)?;
     far.insert(100000)?;
     assert_eq!(rt; far.get_ref().storage().len(), 3126);
