@@ -31,7 +31,7 @@ impl<B: BitBlock> BitVec<B> {
         ensures room { self.new.room ≡ self.old.room }
     {
         let k = block_index::<B>(i);
-        // Read before the block is written: a read after it must wait for the write, which may be to it.
+        // Read before the block is written, so that a bit of it is set in a register and not in memory.
         let row = block_at(&self.summary, block_index::<B>(k));
         let was = replace_value(&mut self.blocks, i, bit);
         let block = block_at(&self.blocks, k);
