@@ -15,6 +15,8 @@ mod here {
     pub type OnNumbers = unsafe extern "C" fn(len: usize, *const usize, usize, turns: usize) -> usize;
     pub type OnMembers = unsafe extern "C" fn(*const usize, usize, *const usize, usize, turns: usize) -> usize;
     pub type OnPair = OnMembers;
+    pub type OnWhole = unsafe extern "C" fn(*const usize, usize, turns: usize) -> usize;
+    pub type OnFar = unsafe extern "C" fn(number: usize, shrinks: usize, turns: usize) -> usize;
 
     unsafe extern "C" {
         pub fn bench_insert_with_room_u32(len: usize, numbers: *const usize, n: usize, turns: usize) -> usize;
@@ -27,13 +29,19 @@ mod here {
         pub fn bench_contains_u32(members: *const usize, m: usize, numbers: *const usize, n: usize, turns: usize) -> usize;
         pub fn bench_contains_u64(members: *const usize, m: usize, numbers: *const usize, n: usize, turns: usize) -> usize;
         pub fn bench_walk(members: *const usize, m: usize, turns: usize) -> usize;
+        pub fn bench_walk_u64(members: *const usize, m: usize, turns: usize) -> usize;
         pub fn bench_count(members: *const usize, m: usize, turns: usize) -> usize;
+        pub fn bench_count_u64(members: *const usize, m: usize, turns: usize) -> usize;
+        pub fn bench_is_empty_u32(members: *const usize, m: usize, turns: usize) -> usize;
+        pub fn bench_is_empty_u64(members: *const usize, m: usize, turns: usize) -> usize;
         pub fn bench_clone(members: *const usize, m: usize, turns: usize) -> usize;
         pub fn bench_from_bytes(bytes: *const u8, n: usize, turns: usize) -> usize;
         pub fn bench_fill(len: usize, turns: usize) -> usize;
         pub fn bench_grow(turns: u32) -> usize;
         pub fn bench_reserve_len(turns: usize) -> usize;
         pub fn bench_shrink_to_fit(number: usize, turns: usize) -> usize;
+        pub fn bench_shrink_emptied_u32(number: usize, shrinks: usize, turns: usize) -> usize;
+        pub fn bench_shrink_emptied_u64(number: usize, shrinks: usize, turns: usize) -> usize;
         pub fn bench_walk_union(first: *const usize, m: usize, second: *const usize, n: usize, turns: usize) -> usize;
         pub fn bench_walk_intersection(first: *const usize, m: usize, second: *const usize, n: usize, turns: usize) -> usize;
         pub fn bench_walk_difference(first: *const usize, m: usize, second: *const usize, n: usize, turns: usize) -> usize;
@@ -482,6 +490,65 @@ fn tests_of_two_sets(table: &mut Table, density: &Density) {
     ]);
 }
 
+/// This library's side of the calls on a set whose elements lie far apart, over blocks of one type.
+struct SparseCalls {
+    blocks: &'static str,
+    walk: here::OnWhole,
+    count: here::OnWhole,
+    is_empty: here::OnWhole,
+    shrink_emptied: here::OnFar,
+}
+
+fn sparse_set<B: BitBlock>(table: &mut Table, calls: &SparseCalls) {
+    let far = [0, 1 << 26];
+    let emptied = || { let mut set = set_of::<B>(&far); remove_all(&mut set, &far); set };
+    let name = |call: &str| format!("{call}, `{}`", calls.blocks);
+    let work = || Work { unit: "call", units: 1, turns: 100, numbers: &[] };
+    table.row(&name("walk of {0, 64M}"), work(), &[
+        &|_, turns| unsafe { (calls.walk)(far.as_ptr(), far.len(), turns) },
+        &|_, turns| {
+            let mut set = set_of::<B>(&far);
+            total(turns, |turn| { let total = sum(set.iter()); set.remove(turn); total })
+        },
+        &|_, turns| {
+            let mut set = fixed_of(far[1] + 1, &far);
+            total(turns, |turn| { let total = sum(set.ones()); set.set(turn, false); total })
+        },
+    ]);
+    table.row(&name("`count` of {0, 64M}"), work(), &[
+        &|_, turns| unsafe { (calls.count)(far.as_ptr(), far.len(), turns) },
+        &|_, turns| {
+            let mut set = set_of::<B>(&far);
+            total(turns, |turn| { let count = set.len(); set.remove(turn); count })
+        },
+        &|_, turns| {
+            let mut set = fixed_of(far[1] + 1, &far);
+            total(turns, |turn| { let count = set.count_ones(..); set.set(turn, false); count })
+        },
+    ]);
+    table.row(&name("`is_empty` of {0, 64M} once both are removed"), work(), &[
+        &|_, turns| unsafe { (calls.is_empty)(far.as_ptr(), far.len(), turns) },
+        &|_, turns| {
+            let mut set = emptied();
+            total(turns, |turn| { let none = set.is_empty(); set.remove(turn); usize::from(none) })
+        },
+    ]);
+    // The time of the turns that give no room back is left out.
+    let shrinking = Work { unit: "call", units: 1, turns: 10, numbers: &[1] };
+    table.row(&name("`shrink_to_fit` of {0, 64M} once both are removed"), shrinking, &[
+        &|xs, turns| unsafe { (calls.shrink_emptied)(far[1], xs.len(), turns) },
+        &|xs, turns| {
+            total(turns, |_| {
+                let mut set = black_box(emptied());
+                if !xs.is_empty() {
+                    set.shrink_to_fit();
+                }
+                set.get_ref().len()
+            })
+        },
+    ]);
+}
+
 fn the_rest(table: &mut Table) {
     let work = |unit, units, turns| Work { unit, units, turns, numbers: &[] };
     let len = 1 << 20;
@@ -490,18 +557,6 @@ fn the_rest(table: &mut Table) {
         &|_, turns| {
             let in_order = |_| { let mut set = BitSet::new(); (0..len).filter(|x| set.insert(*x)).count() };
             total(turns, in_order)
-        },
-    ]);
-    let far = [0, 1 << 26];
-    table.row("walk of {0, 64M}", work("walk", 1, 4), &[
-        &|_, turns| unsafe { here::bench_walk(far.as_ptr(), far.len(), turns) },
-        &|_, turns| {
-            let mut set = set_of::<u32>(&far);
-            total(turns, |turn| { let total = sum(set.iter()); set.remove(turn); total })
-        },
-        &|_, turns| {
-            let mut set = fixed_of(far[1] + 1, &far);
-            total(turns, |turn| { let total = sum(set.ones()); set.set(turn, false); total })
         },
     ]);
     let bytes = vec![0b0101_1010; 1 << 20];
@@ -584,6 +639,20 @@ fn main() -> ExitCode {
     whole_set(&mut table, &wide);
     two_sets(&mut table, &wide);
     tests_of_two_sets(&mut table, &wide);
+    sparse_set::<u32>(&mut table, &SparseCalls {
+        blocks: "u32",
+        walk: here::bench_walk,
+        count: here::bench_count,
+        is_empty: here::bench_is_empty_u32,
+        shrink_emptied: here::bench_shrink_emptied_u32,
+    });
+    sparse_set::<u64>(&mut table, &SparseCalls {
+        blocks: "u64",
+        walk: here::bench_walk_u64,
+        count: here::bench_count_u64,
+        is_empty: here::bench_is_empty_u64,
+        shrink_emptied: here::bench_shrink_emptied_u64,
+    });
     the_rest(&mut table);
     println!();
     let widths_agree = widths::race(&densities[1], &densities[0]);

@@ -61,6 +61,11 @@ pub extern "C" fn bench_walk(alloc: Global, members: &[usize], turns: usize) -> 
     walk::<u32>(alloc, members, turns).unwrap_or(usize::MAX)
 }
 
+#[unsafe(no_mangle)]
+pub extern "C" fn bench_walk_u64(alloc: Global, members: &[usize], turns: usize) -> usize {
+    walk::<u64>(alloc, members, turns).unwrap_or(usize::MAX)
+}
+
 pub(crate) fn count<B: BitBlock>(
     alloc: Global,
     members: &[usize],
@@ -78,4 +83,37 @@ pub(crate) fn count<B: BitBlock>(
 #[unsafe(no_mangle)]
 pub extern "C" fn bench_count(alloc: Global, members: &[usize], turns: usize) -> usize {
     count::<u32>(alloc, members, turns).unwrap_or(usize::MAX)
+}
+
+#[unsafe(no_mangle)]
+pub extern "C" fn bench_count_u64(alloc: Global, members: &[usize], turns: usize) -> usize {
+    count::<u64>(alloc, members, turns).unwrap_or(usize::MAX)
+}
+
+// Asks a set whether it is empty that has these numbers no more.
+fn is_empty<B: BitBlock>(
+    alloc: Global,
+    members: &[usize],
+    turns: usize,
+) -> Result<usize, SetError> {
+    let mut set = set_of::<B>(alloc, 0, members)?;
+    for number in members {
+        let _was = set.remove(*number);
+    }
+    let mut found = 0usize;
+    for turn in 0..turns {
+        found = found.wrapping_add(usize::from(set.is_empty()));
+        let _was = set.remove(turn);
+    }
+    Ok(found)
+}
+
+#[unsafe(no_mangle)]
+pub extern "C" fn bench_is_empty_u32(alloc: Global, members: &[usize], turns: usize) -> usize {
+    is_empty::<u32>(alloc, members, turns).unwrap_or(usize::MAX)
+}
+
+#[unsafe(no_mangle)]
+pub extern "C" fn bench_is_empty_u64(alloc: Global, members: &[usize], turns: usize) -> usize {
+    is_empty::<u64>(alloc, members, turns).unwrap_or(usize::MAX)
 }

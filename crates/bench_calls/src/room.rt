@@ -1,5 +1,6 @@
 // Room that is asked for, and room that is given back.
-use bit_set::{BitSet, SetError};
+use crate::making::set_of;
+use bit_set::{BitBlock, BitSet, SetError};
 use std::alloc::{AllocError, Global};
 
 // Each turn asks for room for one number more.
@@ -33,4 +34,44 @@ fn shrink(alloc: Global, number: usize, turns: usize) -> Result<usize, SetError>
 #[unsafe(no_mangle)]
 pub extern "C" fn bench_shrink_to_fit(alloc: Global, number: usize, turns: usize) -> usize {
     shrink(alloc, number, turns).unwrap_or(usize::MAX)
+}
+
+// Each turn makes a set that 0 and a number have left again. Its room is given back, but where `shrinks` is 0.
+fn shrink_emptied<B: BitBlock>(
+    alloc: Global,
+    number: usize,
+    shrinks: usize,
+    turns: usize,
+) -> Result<usize, SetError> {
+    let mut lengths = 0usize;
+    for _turn in 0..turns {
+        let mut set = set_of::<B>(alloc, 0, &[0, number])?;
+        let _first = set.remove(0);
+        let _second = set.remove(number);
+        if shrinks != 0 {
+            set.shrink_to_fit()?;
+        }
+        lengths = lengths.wrapping_add(set.get_ref().len());
+    }
+    Ok(lengths)
+}
+
+#[unsafe(no_mangle)]
+pub extern "C" fn bench_shrink_emptied_u32(
+    alloc: Global,
+    number: usize,
+    shrinks: usize,
+    turns: usize,
+) -> usize {
+    shrink_emptied::<u32>(alloc, number, shrinks, turns).unwrap_or(usize::MAX)
+}
+
+#[unsafe(no_mangle)]
+pub extern "C" fn bench_shrink_emptied_u64(
+    alloc: Global,
+    number: usize,
+    shrinks: usize,
+    turns: usize,
+) -> usize {
+    shrink_emptied::<u64>(alloc, number, shrinks, turns).unwrap_or(usize::MAX)
 }
