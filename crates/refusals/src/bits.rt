@@ -1,18 +1,24 @@
 // Calls that change a bit vector or its room.
 use crate::faults::Fault;
-use crate::standing::{FIRST, LENT, Room, first_bits, lent_set, text_of, works};
+use crate::standing::{Room, first_bits, lent_set, works};
 use crate::sweep::Sweep;
 use bit_set::bit_vec::BitVec;
 use bit_set::{BitBlock, BitSet};
+use std::alloc::{AllocError, Global};
 
 #[derive(Clone, Copy)]
 enum Call {
-    Grow,
+    Grow(bool),
     Reserve,
     ReserveExact,
     CloneFrom,
     Shrink,
 }
+
+// What stands at first of the list that a call is made on, and of the list that is lent to it.
+const FIRST: &str = "{3, 447} of 448, and 0 past them";
+
+const LENT: &str = "{3, 7} of 5001, and 1 past them";
 
 // A call at some room, under a name of its own; what stands where it is answered; and whether it may be refused,
 // with all as it was.
@@ -27,16 +33,30 @@ struct Row {
 const ROWS: &[Row] = &[
     Row {
         name: "bits_grow",
-        call: Call::Grow,
+        call: Call::Grow(false),
         room: Room::Short,
-        answered: "{3, 447} of 5001",
+        answered: "{3, 447} of 5001, and 0 past them",
         may_refuse: true,
     },
     Row {
         name: "bits_grow_within",
-        call: Call::Grow,
+        call: Call::Grow(false),
         room: Room::Ample,
-        answered: "{3, 447} of 5001",
+        answered: "{3, 447} of 5001, and 0 past them",
+        may_refuse: false,
+    },
+    Row {
+        name: "bits_grow_true",
+        call: Call::Grow(true),
+        room: Room::Short,
+        answered: "{3, 447} of 5001, and 4553 past them",
+        may_refuse: true,
+    },
+    Row {
+        name: "bits_grow_true_within",
+        call: Call::Grow(true),
+        room: Room::Ample,
+        answered: "{3, 447} of 5001, and 4553 past them",
         may_refuse: false,
     },
     Row {
@@ -100,13 +120,21 @@ const ROWS: &[Row] = &[
 fn change<B: BitBlock>(call: Call, bits: &mut BitVec<B>, lent: &BitVec<B>) -> Result<(), Fault> {
     let more = (usize::MAX - bits.len()).min(5001 - 448);
     match call {
-        Call::Grow => bits.grow(more, false)?,
+        Call::Grow(bit) => bits.grow(more, bit)?,
         Call::Reserve => bits.reserve(more)?,
         Call::ReserveExact => bits.reserve_exact(more)?,
         Call::CloneFrom => bits.clone_from(lent)?,
         Call::Shrink => bits.shrink_to_fit()?,
     }
     Ok(())
+}
+
+// The true values below 448, the length, and how many true values come past those.
+fn text_of<B: BitBlock>(alloc: Global, bits: &BitVec<B>) -> Result<String, AllocError> {
+    let mut front = BitSet::from_bit_vec_general(bits.clone(alloc)?);
+    front.truncate(448);
+    let past = bits.count_ones().saturating_sub(front.count());
+    format!(in alloc; "{front} of {}, and {past} past them", bits.len())
 }
 
 impl Row {
@@ -127,9 +155,9 @@ fn tried<B: BitBlock>(sweep: &Sweep<'_>, row: &Row) -> Result<bool, Fault> {
     sweep.begin(row.name, row.may_refuse)?;
     let ended = change(row.call, &mut bits, lent.get_ref());
     sweep.end(&ended)?;
+    let now = text_of(alloc, &bits)?;
     let mut set = BitSet::from_bit_vec_general(bits);
-    let now = text_of(alloc, &set)?;
-    let is_whole = works(&mut set)? && text_of(alloc, &lent)?.as_str() == LENT;
+    let is_whole = works(&mut set)? && text_of(alloc, lent.get_ref())?.as_str() == LENT;
     Ok(sweep.judge(is_whole && row.allows(ended, now.as_str()), now.as_str())?)
 }
 

@@ -41,6 +41,7 @@ enum Group {
     Changes,
     Bits,
     BitWalks,
+    NonzeroWalks,
     BitChanges,
 }
 
@@ -86,6 +87,11 @@ const ROWS: &[Row] = &[
         name: "bit_walks",
         group: Group::BitWalks,
         answers: [1, 1, 1, 1, 0, 0],
+    },
+    Row {
+        name: "nonzero_walks",
+        group: Group::NonzeroWalks,
+        answers: [2, 1, 1, 2, 0, 0],
     },
     Row {
         name: "bit_changes",
@@ -215,6 +221,24 @@ fn bit_walks<B: BitBlock>(bits: &BitVec<B>) -> [usize; 6] {
     ]
 }
 
+fn nonzero_walks<B: BitBlock>(bits: &BitVec<B>) -> [usize; 6] {
+    let mut walk = bits.nonzero();
+    let first = walk.next();
+    let mut left: usize = 0;
+    for _ in walk.clone() {
+        left = left.saturating_add(1);
+    }
+    let blocks = walk.as_slice().len();
+    [
+        bits.count_ones(),
+        number(first.is_some()),
+        number(blocks == bits.storage().len()),
+        left.saturating_add(1),
+        0,
+        0,
+    ]
+}
+
 fn bit_changes<B: BitBlock>(set: &mut BitSet<B>, lent: &BitVec<B>) -> [usize; 6] {
     let bits = set.get_mut();
     let mut was_in = false;
@@ -257,6 +281,7 @@ fn answers<B: BitBlock>(
         Group::Changes => changes(set),
         Group::Bits => bits(set.get_ref(), lent.get_ref()),
         Group::BitWalks => bit_walks(set.get_ref()),
+        Group::NonzeroWalks => nonzero_walks(set.get_ref()),
         Group::BitChanges => bit_changes(set, lent.get_ref()),
     }
 }

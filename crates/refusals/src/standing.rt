@@ -58,15 +58,42 @@ pub fn text_of<B: BitBlock>(alloc: Global, set: &BitSet<B>) -> Result<String, Al
     format!(in alloc; "{set} of {}", set.get_ref().len())
 }
 
-/// Whether the set works: its capacity is at least its length, one more number goes in and out, and a walk
-/// comes by as many as there are.
+// Whether a walk over the blocks that are not zero gives just these, and the first.
+fn gives_nonzero_blocks<B: BitBlock>(bits: &BitVec<B>) -> bool {
+    let mut walk = bits.nonzero();
+    let mut is_right = true;
+    for (k, block) in bits.storage().iter().enumerate() {
+        if k == 0 || *block != B::zero() {
+            is_right &= match walk.next() {
+                Some((place, given)) => place == k && given == *block,
+                None => false,
+            };
+        }
+    }
+    is_right && walk.next().is_none()
+}
+
+/// Whether what goes by the summary agrees with the values one by one: the walk over the blocks that are not zero,
+/// the number of true values, and whether there is one.
+pub fn agrees<B: BitBlock>(bits: &BitVec<B>) -> bool {
+    let mut ones: usize = 0;
+    for i in 0..bits.len() {
+        if bits.get(i) == Some(true) {
+            ones = ones.saturating_add(1);
+        }
+    }
+    bits.count_ones() == ones && bits.none() == (ones == 0) && gives_nonzero_blocks(bits)
+}
+
+/// Whether the set works: its capacity is at least its length, its summary agrees with its values, one more number
+/// goes in and out, and a walk comes by as many as there are.
 pub fn works<B: BitBlock>(set: &mut BitSet<B>) -> Result<bool, SetError> {
-    let has_room = set.capacity() >= set.get_ref().len();
+    let has_room = set.capacity() >= set.get_ref().len() && agrees(set.get_ref());
     let is_new = set.insert(6)?;
     let mut walked: usize = 0;
     for _ in set.iter() {
         walked = walked.saturating_add(1);
     }
-    let is_whole = walked == set.count();
-    Ok(has_room && is_new && is_whole && set.remove(6) && !set.contains(6))
+    let is_whole = walked == set.count() && agrees(set.get_ref());
+    Ok(has_room && is_new && is_whole && set.remove(6) && !set.contains(6) && agrees(set.get_ref()))
 }
