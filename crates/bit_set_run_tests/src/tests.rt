@@ -66,6 +66,11 @@ const ROWS: &[(&[u8], &[u8])] = &[
         b"extend a 4 9 300\nappend a\nappend a b c\nappend a 1\nsplit_off a 5\nsplit_off a b 5\nsplit_off a 5 b c\nsplit_off a 99999999999999999999 q\nsplit_off a 99999999999999999999 b\nsplit_off a 18446744073709551615 b\nsplit_off a 009 b\nitems a\nitems b\nappend b a\nappend b a\nitems b\ncount a\n",
         b"ok\nbad command\nbad command\nbad command\nbad command\nbad command\nbad command\nbad command\nbad number\nok\nok\n{4}\n{9, 300}\nok\nok\n{4, 9, 300}\n0\n",
     ),
+    // The greatest numbers, at each verb that takes one and needs no memory for it.
+    (
+        b"insert a 5\ncontains a 18446744073709551614\nremove a 18446744073709551614\nremove a 18446744073709551615\ntruncate a 18446744073709551614\ntruncate a 18446744073709551615\nextend a 18446744073709551615\nextend a 7 18446744073709551615 9\nrest iter a 18446744073709551614\nrest iter a 18446744073709551615\nrest union a b 18446744073709551615\nrest intersection a b 18446744073709551615\nrest difference a b 18446744073709551615\nrest symmetric_difference a b 18446744073709551615\nremove a 18446744073709551616\nrest iter a 18446744073709551616\ntruncate a 18446744073709551616\nitems a\n",
+        b"true\nfalse\nfalse\nfalse\nok\nok\nrefused element\nrefused element\n0 {}\n0 {}\n0 {}\n0 {}\n0 {}\n0 {}\nbad number\nbad number\nbad number\n{5, 7}\n",
+    ),
     (b"", b""),
     // The last line may lack its newline.
     (
@@ -130,6 +135,8 @@ fn refuses_room_under_each_word(rt: HostRuntime) -> Result<(), Fail> {
     for input in [
         b"reserve a 18446744073709551615\n".as_slice(),
         b"insert a 3\nreserve_exact a 18446744073709551615\nitems a\n",
+        b"reserve a 18446744073709551614\n",
+        b"reserve_exact a 18446744073709551614\n",
     ] {
         for word in ["u8", "u16", "u32", "u64", "usize", "u128"] {
             let words = [String::from_str(rt.alloc(), word)?];
