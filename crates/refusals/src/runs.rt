@@ -17,6 +17,8 @@ const STANDING: &[&[&str]] = &[
     &["{3, 447, 5000} {5000} {3, 447}"],
     &["{3, 447, 5000} {5000} {3, 447}"],
     &["{3, 447, 5000} {5000} {3, 447}"],
+    &["{3, 447, 5000} {} {3, 447, 5000}"],
+    &["{3, 447, 5000} {5000} {3, 447}"],
     &["{3, 447, 5000} {5000} {3, 447}"],
     &["{3, 447, 5000} {5000} {3, 447}"],
     &["{3, 447, 5000} {5000} {3, 447}"],
@@ -34,6 +36,8 @@ const REPLIES: &[&str] = &[
     "Done",
     "Done",
     "Done",
+    "Done",
+    "Done",
 ];
 
 fn commands(alloc: Global, a: SetName, b: SetName, c: SetName) -> Result<Vec<Command>, AllocError> {
@@ -47,6 +51,8 @@ fn commands(alloc: Global, a: SetName, b: SetName, c: SetName) -> Result<Vec<Com
     commands.push(Command::Items(a))?;
     commands.push(Command::Walk(Merge::Intersection, a, b))?;
     commands.push(Command::RestIter(a, 1))?;
+    commands.push(Command::Append(c, b))?;
+    commands.push(Command::SplitOff(c, 448, b))?;
     commands.push(Command::Reserve(a, 9000))?;
     commands.push(Command::ReserveExact(b, 9000))?;
     commands.push(Command::Shrink(a))?;
@@ -101,9 +107,10 @@ fn tried_run<B: BitBlock>(sweep: &Sweep<'_>, names: [SetName; 3]) -> Result<bool
 }
 
 const LINES: &[u8] =
-    b"extend a 3 447\ninsert b 5000\ncopy a c\nunion_with a b\nitems a\nintersection a b\nrest iter a 1\nreserve a 9000\nreserve_exact b 9000\nshrink a\n";
+    b"extend a 3 447\ninsert b 5000\ncopy a c\nunion_with a b\nitems a\nintersection a b\nrest iter a 1\nappend c b\nsplit_off c 448 b\nreserve a 9000\nreserve_exact b 9000\nshrink a\n";
 
-const ANSWERS: &[u8] = b"ok\ntrue\nok\nok\n{3, 447, 5000}\n{5000}\n2 {447, 5000}\nok\nok\nok\n";
+const ANSWERS: &[u8] =
+    b"ok\ntrue\nok\nok\n{3, 447, 5000}\n{5000}\n2 {447, 5000}\nok\nok\nok\nok\nok\n";
 
 fn tried_lines<B: BitBlock>(sweep: &Sweep<'_>) -> Result<bool, Fault> {
     let alloc = sweep.alloc();
