@@ -10,4 +10,6 @@ mod nonzero_tests;
 #[cfg(test)]
 mod room_tests;
 #[cfg(test)]
+mod tail_tests;
+#[cfg(test)]
 mod vector_tests;
