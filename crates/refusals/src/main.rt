@@ -8,6 +8,7 @@ mod making;
 mod quiet;
 mod runs;
 mod sets;
+mod splits;
 mod standing;
 mod sweep;
 
@@ -25,11 +26,12 @@ fn words(rt: &HostRuntime) -> Result<Vec<String>, Fault> {
 // Every call over one type of blocks. Whether all went as they may.
 fn over<B: JsonBlock>(sweep: &Sweep<'_>) -> Result<bool, Fault> {
     let sets = sets::all::<B>(sweep)?;
+    let splits = splits::all::<B>(sweep)?;
     let making = making::all::<B>(sweep)?;
     let bits = bits::all::<B>(sweep)?;
     let runs = runs::all::<B>(sweep)?;
     let quiet = quiet::all::<B>(sweep)?;
-    Ok(sets && making && bits && runs && quiet)
+    Ok(sets && splits && making && bits && runs && quiet)
 }
 
 // Every call over the type of blocks of this name, or this one call.

@@ -17,6 +17,7 @@ enum Call {
     BitsFromElem,
     BitsFromBytes,
     BitsClone,
+    BitsCloneTail,
 }
 
 // A call, and what it makes where it is answered.
@@ -67,10 +68,23 @@ const ROWS: &[Row] = &[
         call: Call::BitsClone,
         made: LENT,
     },
+    Row {
+        name: "bits_clone_tail",
+        call: Call::BitsCloneTail,
+        made: "{7, 5000} of 5001",
+    },
 ];
 
 // Sixteen bytes with the bits 0, 9, 90 and 127, each byte counted from its highest.
 const BYTES: [u8; 16] = [0x80, 0x40, 0, 0, 0, 0, 0, 0, 0, 0, 0, 0x20, 0, 0, 0, 0x01];
+
+// The tail from 4 on.
+fn tail_of<B: JsonBlock>(alloc: Global, bits: &BitVec<B>) -> Result<BitVec<B>, Fault> {
+    if bits.len() <= 4 {
+        return Err(Fault::Other);
+    }
+    Ok(bits.clone_tail(alloc, 4)?)
+}
 
 fn make<B: JsonBlock>(
     alloc: Global,
@@ -92,6 +106,7 @@ fn make<B: JsonBlock>(
             BitSet::from_bit_vec_general(BitVec::from_bytes_general(alloc, &BYTES)?)
         }
         Call::BitsClone => BitSet::from_bit_vec_general(lent.get_ref().clone(alloc)?),
+        Call::BitsCloneTail => BitSet::from_bit_vec_general(tail_of(alloc, lent.get_ref())?),
     })
 }
 
