@@ -1,5 +1,5 @@
 -- How many ones blocks have, by a summary of them.
-use Rattle.std.proofs.Common.{◌≡◌, ℕ, suc, ◌+◌, ◌*◌, ◌<◌, ◌≤◌, Bool, false, List, [], ◌∷◌, map, length, take, drop, get_or, get_or-take, get_or-drop, length-take, count_ones, refl, sym, ap, ◌∙◌, ⊎_elim, arith}
+use Rattle.std.proofs.Common.{◌≡◌, ℕ, zero, suc, ◌+◌, ◌*◌, ◌<◌, ◌≤◌, Bool, false, List, [], ◌∷◌, map, length, take, drop, get_or, get_or-take, get_or-drop, length-take, count_ones, refl, sym, ap, ◌∙◌, ⊎_elim, arith}
 use Rattle.std.proofs.lemmas.Bool.{cases_lt, not-false, eqb-true}
 use Rattle.std.proofs.lemmas.List.{take-map, drop-map, get_or_past, length-map}
 use Rattle.std.proofs.lemmas.List.Sums.{sum_by-append, sum_by-cons}
@@ -26,12 +26,12 @@ module _ {X : Type 0} (number : X → ℕ) where
       let here : count_ones (number x) ≡ 0 = ap count_ones (zeros 0) ∙ ones_zero in
       sum_by-cons (λ y. count_ones (number y)) x xs ∙ omega (arith, rest, here)
 
-  -- one row of blocks more
-  pub row_counted : (w i ones : ℕ) (xs front : List X) → ones ≡ ones_in number (take (i * w) xs) → front ≡ take w (drop (i * w) xs) → ones + ones_in number front ≡ ones_in number (take ((i + 1) * w) xs)
-  row_counted w i ones xs front counted is =
-      let more = ones_in-more (i * w) w xs in
-      let next : ones_in number (take (i * w + w) xs) ≡ ones_in number (take ((i + 1) * w) xs) = ap (λ n. ones_in number (take n xs)) (let e : i * w + w ≡ (i + 1) * w = omega arith in e) in
-      let here = ap (ones_in number) is in
+  -- some rows of blocks more
+  pub rows_counted : (w i n ones : ℕ) (xs back front : List X) → ones ≡ ones_in number (take (i * w) xs) → front ≡ take (n * w) back → back ≡ drop (i * w) xs → ones + ones_in number front ≡ ones_in number (take ((i + n) * w) xs)
+  rows_counted w i n ones xs back front counted is from =
+      let more = ones_in-more (i * w) (n * w) xs in
+      let next : ones_in number (take (i * w + n * w) xs) ≡ ones_in number (take ((i + n) * w) xs) = ap (λ m. ones_in number (take m xs)) (let e : i * w + n * w ≡ (i + n) * w = omega arith in e) in
+      let here = ap (ones_in number) is ∙ ap (λ ys. ones_in number (take (n * w) ys)) from in
       omega (arith, more, next, here, counted)
 
   -- a row of blocks of which the summary has no digit
@@ -52,6 +52,19 @@ module _ {X : Type 0} (number : X → ℕ) where
 
       short : (j : ℕ) → w ≤ j → length (map number (take w (drop (i * w) xs))) ≤ j
       short j past = let most = length-take w (drop (i * w) xs) in rw length-map (omega (arith, most))
+
+  -- rows of blocks of which the summary has no digit
+  pub rows_none : (w i n : ℕ) (xs sums : List X) → ((k : ℕ) → value_at w (map number sums) k ≡ is_used (map number xs) k) → ((j : ℕ) → j < n → get_or (map number sums) (i + j) 0 ≡ 0)
+      → ones_in number (take (i * w) xs) ≡ ones_in number (take ((i + n) * w) xs)
+  rows_none w i zero xs sums digit none = ap (λ m. ones_in number (take (m * w) xs)) (let e : i ≡ i + 0 = omega arith in e)
+  rows_none w i (suc n) xs sums digit none =
+      let before = rows_none w i n xs sums digit (λ j within. none j (omega (arith, within))) in
+      let back = drop ((i + n) * w) xs in
+      let front : take w back ≡ take (1 * w) back = ap (λ m. take m back) (let e : w ≡ 1 * w = omega arith in e) in
+      let more = rows_counted w (i + n) 1 (ones_in number (take (i * w) xs)) xs back (take w back) before front refl in
+      let here = row_none w (i + n) xs sums digit (none n (omega arith)) in
+      let last : ones_in number (take ((i + n + 1) * w) xs) ≡ ones_in number (take ((i + suc n) * w) xs) = ap (λ m. ones_in number (take (m * w) xs)) (let e : i + n + 1 ≡ i + suc n = omega arith in e) in
+      omega (arith, more, here, last)
 
   -- those of the numbers of the blocks
   pub ones_in-numbers : (xs : List X) → ones_in number xs ≡ sum_by count_ones (map number xs)

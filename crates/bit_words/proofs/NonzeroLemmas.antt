@@ -1,5 +1,5 @@
 -- The walk over the blocks that are not 0, by the marks of a summary.
-use Rattle.std.proofs.Common.{◌≡◌, ◌≢◌, ℕ, zero, suc, ◌+◌, ◌-◌, ◌*◌, ◌/◌, ◌%◌, ◌^◌, ◌<◌, ◌≤◌, Bool, true, false, not, ◌||◌, nat_lt, if◌then◌else◌, ◌↔◌, ◌==◌, eqb, List, [], ◌∷◌, min, map, drop, take, length, get_or, get_or-take, get_or-drop, count_ones, mul-le-mul_right, All, refl, sym, ap, ◌∙◌, arith, ⊎_elim, mod-lt, div-add-mod'}
+use Rattle.std.proofs.Common.{◌≡◌, ◌≢◌, ℕ, zero, suc, ◌+◌, ◌-◌, ◌*◌, ◌/◌, ◌%◌, ◌^◌, ◌<◌, ◌≤◌, Bool, true, false, not, ◌||◌, nat_lt, if◌then◌else◌, ◌↔◌, ◌==◌, eqb, List, [], ◌∷◌, min, map, drop, take, length, get_or, get_or-take, get_or-drop, count_ones, mul-le-mul_right, All, refl, sym, ap, subst, ◌∙◌, arith, ⊎_elim, mod-lt, div-add-mod'}
 use Rattle.std.proofs.lemmas.Bool.{cases_lt, cases_eq, eq-eqb, true≢false}
 use Rattle.std.proofs.lemmas.Bool.Decides.{nat_tests}
 use Rattle.std.proofs.Math.Seq.{drop-drop}
@@ -227,6 +227,43 @@ module _ {X : Type 0} (w : ℕ) (number : X → ℕ) (is_block : X → Type 0) w
             ∙ digit (w + k)
             ∙ ap (λ j. is_used (map number xs) j) (let e : place + w + (w + k) ≡ place + w + w + k = omega arith in e);
       }
+
+  -- other marks of the same number
+  IsMarked-same : (place : ℕ) (a b : X) (xs sums : List X) → IsMarked w number is_block place a xs sums → number a ≡ number b → is_block b → IsMarked w number is_block place b xs sums
+  IsMarked-same place a b xs sums is same block = record {
+    each = is.each;
+    in_hand = block;
+    sums_each = is.sums_each;
+    fits = is.fits;
+    within = is.within;
+    inside = λ j within one. is.inside j within (ap (λ m. is_one m j) same ∙ one);
+    exact = λ i j after within one. ap (λ m. is_one m j) (sym same) ∙ is.exact i j after within (ap (λ m. is_one m i) same ∙ one);
+    enough = is.enough;
+    few = is.few;
+    digit = is.digit;
+  }
+
+  -- ---- blocks of the summary that are 0 are passed
+
+  pub passed : (n place : ℕ) (marks : X) (xs sums : List X) → 0 < w → IsMarked w number is_block place marks xs sums → number marks ≡ 0 → n ≤ length sums → ((k : ℕ) → k < n → get_or (map number sums) k 0 ≡ 0)
+      → IsMarked w number is_block (place + n * w) marks xs (drop n sums) × (marked_from w number place (number marks) xs ≡ marked_from w number (place + n * w) (number marks) xs)
+  passed zero place marks xs sums pos is none there zeros =
+      let e : place ≡ place + 0 * w = omega arith in
+      (subst (λ p. IsMarked w number is_block p marks xs sums) e is, ap (λ p. marked_from w number p (number marks) xs) e)
+  passed (suc n) place marks xs [] pos is none there zeros = absurd (omega (arith, there))
+  passed (suc n) place marks xs (next ∷ rest) pos is none there zeros =
+      let zero_next : number next ≡ 0 = zeros 0 (omega arith) in
+      let pulled = IsMarked-pulled place marks next xs (next ∷ rest) rest pos is refl (All-head is_block next rest is.sums_each) (All-tail is_block next rest is.sums_each) in
+      let here = IsMarked-same (place + w) next marks xs rest pulled (zero_next ∙ sym none) is.in_hand in
+      let (after, same) = passed n (place + w) marks xs rest pos here none (omega (arith, there)) (λ k within. zeros (suc k) (omega (arith, within))) in
+      let e : place + w + n * w ≡ place + suc n * w = omega arith in
+      (
+        subst (λ p. IsMarked w number is_block p marks xs (drop n rest)) e after,
+        left-pulled place marks next xs (next ∷ rest) rest pos is none refl
+        ∙ ap (λ m. marked_from w number (place + w) m xs) (zero_next ∙ sym none)
+        ∙ same
+        ∙ ap (λ p. marked_from w number p (number marks) xs) e,
+      )
 
   pub left-ended : (place : ℕ) (marks : X) (xs sums : List X) → IsMarked w number is_block place marks xs sums → number marks ≡ 0 → sums ≡ [] → marked_from w number place (number marks) xs ≡ []
   left-ended place marks xs sums is used_up none_left =
@@ -472,11 +509,11 @@ module _ {X : Type 0} (w : ℕ) (number : X → ℕ) (is_block : X → Type 0) w
 -- ---- all blocks are 0 where all of the summary are
 
 module _ {X : Type 0} (w : ℕ) (number : X → ℕ) (is_block : X → Type 0) where
-  all_zero : (xs : List X) → ((k : ℕ) → get_or (map number xs) k 0 ≡ 0) → All (λ x. number x ≡ 0) xs
+  pub all_zero : (xs : List X) → ((k : ℕ) → get_or (map number xs) k 0 ≡ 0) → All (λ x. number x ≡ 0) xs
   all_zero [] zeros = All-nil (λ x. number x ≡ 0)
   all_zero (x ∷ xs) zeros = All-cons (λ y. number y ≡ 0) x xs (zeros 0) (all_zero xs (λ k. zeros (suc k)))
 
-  zero_at : (xs : List X) → All (λ x. number x ≡ 0) xs → (k : ℕ) → get_or (map number xs) k 0 ≡ 0
+  pub zero_at : (xs : List X) → All (λ x. number x ≡ 0) xs → (k : ℕ) → get_or (map number xs) k 0 ≡ 0
   zero_at [] all k = refl
   zero_at (x ∷ xs) all zero = All-head (λ y. number y ≡ 0) x xs all
   zero_at (x ∷ xs) all (suc k) = zero_at xs (All-tail (λ y. number y ≡ 0) x xs all) k

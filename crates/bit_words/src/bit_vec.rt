@@ -20,6 +20,7 @@ mod tails;
 mod tidy;
 mod vector;
 mod words;
+mod zeros;
 
 pub use block::BitBlock;
 pub use blocks::Blocks;

@@ -1,7 +1,8 @@
-ghost use Rattle.std.specs.Prelude.{◌≡◌, ◌+◌, ◌≤◌, IfSome, Some, drop, length};
+ghost use Rattle.std.specs.Prelude.{◌≡◌, ℕ, ◌+◌, ◌<◌, ◌≤◌, All, IfSome, Some, drop, get_or, length, map};
 ghost use Rattle.std.specs.Iterator.{UpTo, item_count};
 ghost use Rattle.std.specs.Iterator.SizeHint.{IsWithinCount};
 
+use super::zeros::zeros_before;
 use super::{BitBlock, Steps};
 use std::marker::Model;
 
@@ -63,6 +64,22 @@ impl<'a, B: BitBlock> Blocks<'a, B> {
             self.steps.tick();
         }
         self.at += count;
+    }
+
+    // Pulls the blocks before the first that is not 0. The answer is how many they are.
+    #[inline]
+    pub(crate) fn pass_zeros(&mut self) -> usize
+        requires each { All B.is_block self.old.left }
+        ensures there { result ≤ length self.old.left }
+        ensures zeros { (k : ℕ) → k < result → get_or (map B.number self.old.left) k 0 ≡ 0 }
+        ensures left { self.new.left ≡ drop result self.old.left }
+        ensures fewer { length self.new.left + result ≡ length self.old.left }
+        ensures pulls { self.new.pulls ≡ self.old.pulls + result }
+    {
+        let zeros = zeros_before(self.as_slice());
+        self.steps.pass(zeros);
+        self.at += zeros;
+        zeros
     }
 
     /// How many blocks are left. Constant time.

@@ -6,7 +6,7 @@ ghost use Rattle.bit_words.specs.Storage.{value_at};
 
 use super::BitBlock;
 use super::masks::{cut_from, with_digit, with_ones_between, with_ones_from};
-use super::words::{has_one_at, same};
+use super::words::has_one_at;
 
 // How many blocks a list of `len` values has.
 #[inline]
@@ -155,18 +155,4 @@ pub(crate) fn fill_blocks<B: BitBlock>(blocks: &mut Vec<B>, count: usize, block:
     for k in 0..count {
         put_block(blocks, k, block);
     }
-}
-
-// Whether every block is 0.
-pub(crate) fn are_zero<B: BitBlock>(blocks: &[B]) -> bool
-    requires { All B.is_block blocks.now }
-    ensures { IsTrue result ↔ All (λ block. B.number block ≡ 0) blocks.now }
-{
-    let zero = B::zero();
-    for block in blocks {
-        if !same(*block, zero) {
-            return false;
-        }
-    }
-    true
 }

@@ -121,6 +121,7 @@ impl<'a, B: BitBlock> Iterator for Nonzero<'a, B> {
     fn next(&mut self) -> Option<(usize, B)> {
         self.steps.tick();
         while self.marks == B::zero() {
+            self.place += self.summary.pass_zeros() * B::bits();
             self.marks = self.summary.next()?;
             self.place += B::bits();
         }

@@ -4,8 +4,8 @@ ghost use Rattle.bit_words.specs.Bits.{blocks_for};
 ghost use Rattle.bit_words.specs.Summary.{IsSummary, shared_room};
 
 use super::BitBlock;
-use super::changes::{block_at, block_count};
-use super::words::same;
+use super::changes::block_count;
+use super::zeros::used_blocks;
 use std::alloc::AllocError;
 
 // Makes room for `count` blocks, and for no more where that is asked. Takes no memory where it is
@@ -143,19 +143,4 @@ pub(crate) fn used_by_summary<B: BitBlock>(blocks: &[B], summary: &[B]) -> usize
     let rows = used_blocks(summary);
     let end = rows.saturating_mul(B::bits()).min(blocks.len());
     used_blocks(&blocks[..end])
-}
-
-// The same, where nothing is known of them: reads them from the last on.
-fn used_blocks<B: BitBlock>(blocks: &[B]) -> usize
-    requires { All B.is_block blocks.now }
-    ensures within { result ≤ length blocks.now }
-    ensures zeros { (k : ℕ) → result ≤ k → get_or (map B.number blocks.now) k 0 ≡ 0 }
-    ensures last { 0 < result → get_or (map B.number blocks.now) (result - 1) 0 ≢ 0 }
-{
-    for k in (0..blocks.len()).rev() {
-        if !same(block_at(blocks, k), B::zero()) {
-            return k + 1;
-        }
-    }
-    0
 }

@@ -47,6 +47,16 @@ impl Steps {
         self.link = Snapshot::of(&Link::More(Snapshot::of(&self.link)));
     }
 
+    // So many steps more.
+    #[inline]
+    pub(crate) fn pass(&mut self, count: usize)
+        ensures { self.new ≡ self.old + count }
+    {
+        for _ in 0..count {
+            self.tick();
+        }
+    }
+
     /// The same count, which goes on by itself.
     #[inline]
     pub fn clone(&self) -> Self

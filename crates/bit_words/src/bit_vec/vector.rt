@@ -3,8 +3,9 @@ ghost use Rattle.std.specs.List.{count_by};
 ghost use Rattle.bit_words.specs.Bits.{blocks_for, blocks_of, IsRoomOfBlocks, IsWithinRoom};
 ghost use Rattle.bit_words.specs.Nonzero.{first_and_nonzero};
 
-use super::changes::{are_zero, value_of};
+use super::changes::value_of;
 use super::counting::ones_by_summary;
+use super::zeros::are_zero;
 use super::{BitBlock, Blocks, Nonzero};
 use std::marker::Model;
 

@@ -1,8 +1,8 @@
-use Rattle.std.proofs.Common.{◌≡◌, ◌+◌, ◌∷◌, length, All, sym, ap, ◌∙◌, subst, arith}
+use Rattle.std.proofs.Common.{◌≡◌, ◌+◌, ◌*◌, ◌∷◌, drop, length, All, sym, ap, ◌∙◌, subst, arith}
 use Rattle.std.proofs.lemmas.List.Elements.{All-head, All-tail}
 use Rattle.std.proofs.lemmas.Option.{get_or_from_slice_get}
-use Rattle.bit_words.specs.Marks.{marked_from}
-use Rattle.bit_words.proofs.NonzeroLemmas.{left-taken, IsMarked-taken, left-pulled, IsMarked-pulled, left-ended}
+use Rattle.bit_words.specs.Marks.{IsMarked, marked_from}
+use Rattle.bit_words.proofs.NonzeroLemmas.{passed, left-taken, IsMarked-taken, left-pulled, IsMarked-pulled, left-ended}
 use Rattle.bit_words.proofs.bit_vec.nonzero.NonzeroIterator.next.Goals as goal
 
 pub returns-in_err-self-inside-clause-steps : goal.returns-in_err-self-inside-clause-steps
@@ -11,18 +11,34 @@ returns-in_err-self-inside-clause-steps g c =
     let number = g.B.BitBlock.number in
     let it = c.loop-self.self-inside in
     let before = c.loop-self.invariant in
+    let zeros = c.pass_zeros.ensures in
     let pull = c.in_err-self-inside.ensures.steps in
     let used_up : number it.marks ≡ 0 = (g.met.B.BitBlock.eq_law it.marks c.zero.result before.walk.in_hand c.zero.ensures.of_block).0 (sym c.eq.ensures ∙ c.loop-self-test.true) ∙ c.zero.ensures.of_number in
-    let ended = left-ended w number g.B.BitBlock.is_block it.place it.marks it.blocks.now it.summary.left before.walk used_up pull.item.0 in
+    let (walk, same) = passed w number g.B.BitBlock.is_block c.pass_zeros.result it.place it.marks it.blocks.now it.summary.left g.met.B.BitBlock.width_law.positive before.walk used_up zeros.there zeros.zeros in
+    let none_left = sym zeros.left ∙ pull.item.0 in
+    let ended = left-ended w number g.B.BitBlock.is_block (it.place + c.pass_zeros.result * w) it.marks it.blocks.now (drop c.pass_zeros.result it.summary.left) walk used_up none_left in
     let none = ap length pull.item.0 in
-    let none_left = ap length pull.item.1 in
-    rw c.from_residual.ensures (record {
-      item = (sym before.same ∙ ended, ended);
+    let none_after = ap length pull.item.1 in
+    rw (c.from_residual.ensures, c.bits.ensures) (record {
+      item = (sym before.same ∙ same ∙ ended, ended);
       same = before.kept;
       counted = before.counted;
-      goes_on = omega (arith, before.goes_on, pull.counted);
-      summary = (omega (arith, before.pulled, pull.counted, none), none_left);
+      goes_on = omega (arith, before.goes_on, pull.counted, zeros.pulls);
+      summary = (omega (arith, before.pulled, pull.counted, zeros.pulls, zeros.fewer, none), none_after);
     })
+
+pub invariant_of-self : goal.invariant_of-self
+invariant_of-self g c =
+    let w = g.B.BitBlock.width in
+    let number = g.B.BitBlock.number in
+    let is_block = g.B.BitBlock.is_block in
+    let it = c.loop-self.self-inside in
+    let before = c.loop-self.invariant in
+    let zeros = c.pass_zeros.ensures in
+    let pull = c.in_err-self-inside.ensures.steps in
+    let used_up : number it.marks ≡ 0 = (g.met.B.BitBlock.eq_law it.marks c.zero.result before.walk.in_hand c.zero.ensures.of_block).0 (sym c.eq.ensures ∙ c.loop-self-test.true) ∙ c.zero.ensures.of_number in
+    let (walk, same) = passed w number is_block c.pass_zeros.result it.place it.marks it.blocks.now it.summary.left g.met.B.BitBlock.width_law.positive before.walk used_up zeros.there zeros.zeros in
+    rw c.bits.ensures (subst (IsMarked w number is_block (it.place + c.pass_zeros.result * w) it.marks it.blocks.now) (sym zeros.left ∙ pull.item.0 ∙ sym pull.item.1) walk)
 
 pub loop-self-preserved : goal.loop-self-preserved
 loop-self-preserved g c =
@@ -32,20 +48,25 @@ loop-self-preserved g c =
     let it = c.loop-self.self-inside in
     let xs = it.blocks.now in
     let before = c.loop-self.invariant in
+    let zeros = c.pass_zeros.ensures in
     let pull = c.in_ok-self-inside.ensures.steps in
     let next = c.in_ok-self-inside.field-0 in
     let rest = c.next.new.self.left in
     let pos = g.met.B.BitBlock.width_law.positive in
-    let sums = subst (All is_block) pull.item before.walk.sums_each in
-    let fewer = ap length pull.item in
+    let place = it.place + c.pass_zeros.result * w in
+    let sums = drop c.pass_zeros.result it.summary.left in
     let used_up : number it.marks ≡ 0 = (g.met.B.BitBlock.eq_law it.marks c.zero.result before.walk.in_hand c.zero.ensures.of_block).0 (sym c.eq.ensures ∙ c.loop-self-test.true) ∙ c.zero.ensures.of_number in
-    rw c.bits.ensures (record {
-      walk = IsMarked-pulled w number is_block it.place it.marks next xs it.summary.left rest pos before.walk pull.item (All-head is_block next rest sums) (All-tail is_block next rest sums);
-      same = sym (left-pulled w number is_block it.place it.marks next xs it.summary.left rest pos before.walk used_up pull.item) ∙ before.same;
+    let (walk, same) = passed w number is_block c.pass_zeros.result it.place it.marks xs it.summary.left pos before.walk used_up zeros.there zeros.zeros in
+    let item : sums ≡ next ∷ rest = sym zeros.left ∙ pull.item in
+    let each = subst (All is_block) item walk.sums_each in
+    let fewer = ap length pull.item in
+    rw (c.bits.ensures, c.bits-in-loop-self.ensures) (record {
+      walk = IsMarked-pulled w number is_block place it.marks next xs sums rest pos walk item (All-head is_block next rest each) (All-tail is_block next rest each);
+      same = sym (same ∙ left-pulled w number is_block place it.marks next xs sums rest pos walk used_up item) ∙ before.same;
       kept = before.kept;
       counted = before.counted;
-      pulled = omega (arith, before.pulled, pull.counted, fewer);
-      goes_on = omega (arith, before.goes_on, pull.counted);
+      pulled = omega (arith, before.pulled, pull.counted, zeros.pulls, zeros.fewer, fewer);
+      goes_on = omega (arith, before.goes_on, pull.counted, zeros.pulls);
     })
 
 pub at-requires : goal.at-requires
