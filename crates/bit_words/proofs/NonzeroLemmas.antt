@@ -256,13 +256,12 @@ module _ {X : Type 0} (w : ℕ) (number : X → ℕ) (is_block : X → Type 0) w
       let pulled = IsMarked-pulled place marks next xs (next ∷ rest) rest pos is refl (All-head is_block next rest is.sums_each) (All-tail is_block next rest is.sums_each) in
       let here = IsMarked-same (place + w) next marks xs rest pulled (zero_next ∙ sym none) is.in_hand in
       let (after, same) = passed n (place + w) marks xs rest pos here none (omega (arith, there)) (λ k within. zeros (suc k) (omega (arith, within))) in
-      let e : place + w + n * w ≡ place + suc n * w = omega arith in
-      (
+      let e : place + w + n * w ≡ place + suc n * w = omega arith in (
         subst (λ p. IsMarked w number is_block p marks xs (drop n rest)) e after,
         left-pulled place marks next xs (next ∷ rest) rest pos is none refl
-        ∙ ap (λ m. marked_from w number (place + w) m xs) (zero_next ∙ sym none)
-        ∙ same
-        ∙ ap (λ p. marked_from w number p (number marks) xs) e,
+            ∙ ap (λ m. marked_from w number (place + w) m xs) (zero_next ∙ sym none)
+            ∙ same
+            ∙ ap (λ p. marked_from w number p (number marks) xs) e,
       )
 
   pub left-ended : (place : ℕ) (marks : X) (xs sums : List X) → IsMarked w number is_block place marks xs sums → number marks ≡ 0 → sums ≡ [] → marked_from w number place (number marks) xs ≡ []

@@ -45,7 +45,7 @@ loop-row-preserved g c =
           ap (λ ones. c.loop-row.ones + ones) c.ones_of-ones.ensures
           ∙ rows_counted number w i n c.loop-row.ones xs back front c.loop-row.invariant.counted c.first_rows-in-loop-row.ensures.first c.first_rows.ensures.rest
           ∙ rows_none number w (i + n) c.zeros_before-row.result xs sums c.requires.digit (λ j within.
-            sym (get_or-drop (i + n) (map number sums) j 0)
-            ∙ ap (λ ms. get_or ms j 0) (drop-map number (i + n) sums ∙ ap (map number) (sym past))
-            ∙ c.zeros_before-row.ensures.zeros j within);
+          sym (get_or-drop (i + n) (map number sums) j 0)
+          ∙ ap (λ ms. get_or ms j 0) (drop-map number (i + n) sums ∙ ap (map number) (sym past))
+          ∙ c.zeros_before-row.ensures.zeros j within);
     }
