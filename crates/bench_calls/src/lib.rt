@@ -9,5 +9,4 @@ mod making;
 mod pairs;
 mod reading;
 mod room;
-mod splits;
 mod widths;
