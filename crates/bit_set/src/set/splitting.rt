@@ -52,6 +52,7 @@ impl<B: BitBlock> BitSet<B> {
         ensures end { length self.old.values ≤ at → IsOk result }
         ensures room { 0 < at → self.new.room ≡ self.old.room }
         ensures given { at ≡ 0 → self.new.room ≡ 0 }
+        ensures nothing { 0 < at → length self.old.values ≤ at → IfOk result (λ part. part.room ≡ 0) }
     {
         if at == 0 {
             return Ok(replace(self, Self::new_general(alloc)));
