@@ -78,7 +78,8 @@ judge() {
 }
 
 # One call of the program `refusals`, which judges it: with all of the call's requests refused, and then with one after
-# another, and one past them. A call that takes no memory makes no request; any other is refused where all are.
+# another, and one past them. A call that takes no memory makes no request; any other is refused where all are. One of
+# a bit vector makes two at least, so that either of its two growths is refused alone.
 sweep() {
     local type="$1" call="$2" ending="$3" name="$1 $2" n line
     for ((n = 0; n <= most; n++)); do
@@ -99,6 +100,8 @@ sweep() {
         fail "$name: past its last request: '$line'"
     elif [ "$ending" = answered ] && [ "$requests" -ne 0 ]; then
         fail "$name: it takes no memory, and made $requests requests"
+    elif [[ "$ending" = refused && "$call" = bits_* && "$requests" -lt 2 ]]; then
+        fail "$name: the blocks and their summary did not both ask for memory"
     else
         passed=$((passed + 1))
     fi
