@@ -178,9 +178,11 @@ fn sets_become_one_over_each_block(rt: HostRuntime) -> Result<(), Fail> {
     assert_eq!(rt; counts::<u8>(rt.alloc())?, [10, 5, 10, 5]);
     assert_eq!(rt; counts::<u32>(rt.alloc())?, [10, 5, 10, 5]);
     assert_eq!(rt; counts::<u64>(rt.alloc())?, [10, 5, 10, 5]);
+    assert_eq!(rt; counts::<u128>(rt.alloc())?, [10, 5, 10, 5]);
     assert_eq!(rt; answers::<u8>(rt.alloc())?, [true, false, false]);
     assert_eq!(rt; answers::<u32>(rt.alloc())?, [true, false, false]);
     assert_eq!(rt; answers::<u64>(rt.alloc())?, [true, false, false]);
+    assert_eq!(rt; answers::<u128>(rt.alloc())?, [true, false, false]);
     Ok(())
 }
 

@@ -57,6 +57,7 @@ fn each_element_is_fed_once(rt: HostRuntime) -> Result<(), Fail> {
     assert_eq!(rt; feed_of::<u8>(rt.alloc(), &[1, 10])?, fed);
     assert_eq!(rt; feed_of::<u64>(rt.alloc(), &[10, 1])?, fed);
     assert_eq!(rt; feed_of::<Block24>(rt.alloc(), &[1, 10])?, fed);
+    assert_eq!(rt; feed_of::<u128>(rt.alloc(), &[10, 1])?, fed);
     Ok(())
 }
 

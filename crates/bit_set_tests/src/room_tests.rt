@@ -28,6 +28,7 @@ fn a_shrunk_set_is_as_long_as_its_blocks(rt: HostRuntime) -> Result<(), Fail> {
     assert_eq!(rt; lengths::<u32>(alloc, &[40])?, [41, 64]);
     assert_eq!(rt; lengths::<u8>(alloc, &[40])?, [41, 48]);
     assert_eq!(rt; lengths::<Block24>(alloc, &[40])?, [41, 48]);
+    assert_eq!(rt; lengths::<u128>(alloc, &[3])?, [4, 128]);
     assert_eq!(rt; lengths::<u32>(alloc, &[3, 98, 259])?, [260, 288]);
     Ok(())
 }
@@ -66,6 +67,7 @@ fn filled<B: BitBlock>(alloc: Global) -> Result<usize, SetError> {
 fn a_fill_fills_whole_blocks(rt: HostRuntime) -> Result<(), Fail> {
     assert_eq!(rt; filled::<u8>(rt.alloc())?, 8);
     assert_eq!(rt; filled::<u64>(rt.alloc())?, 64);
+    assert_eq!(rt; filled::<u128>(rt.alloc())?, 128);
     Ok(())
 }
 

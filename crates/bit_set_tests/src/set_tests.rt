@@ -156,12 +156,16 @@ fn cut<B: BitBlock>(alloc: Global) -> Result<(bool, [usize; 3]), SetError> {
 fn every_call_succeeds(rt: HostRuntime) -> Result<(), Fail> {
     assert_eq!(rt; counts::<u8>(rt.alloc())?, [4, 3, 0, 24]);
     assert_eq!(rt; counts::<u64>(rt.alloc())?, [4, 3, 0, 24]);
+    assert_eq!(rt; counts::<u128>(rt.alloc())?, [4, 3, 0, 24]);
     assert_eq!(rt; copied::<u8>(rt.alloc())?, [4, 16, 0]);
     assert_eq!(rt; copied::<u64>(rt.alloc())?, [4, 16, 0]);
+    assert_eq!(rt; copied::<u128>(rt.alloc())?, [4, 16, 0]);
     assert!(rt; has_nine::<u8>(rt.alloc())?);
     assert!(rt; has_nine::<u64>(rt.alloc())?);
+    assert!(rt; has_nine::<u128>(rt.alloc())?);
     assert_eq!(rt; cut::<u8>(rt.alloc())?, (true, [10, 5, 65]));
     assert_eq!(rt; cut::<u64>(rt.alloc())?, (true, [10, 5, 65]));
+    assert_eq!(rt; cut::<u128>(rt.alloc())?, (true, [10, 5, 65]));
     Ok(())
 }
 

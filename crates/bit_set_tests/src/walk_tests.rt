@@ -1,4 +1,4 @@
-//! The rows of the walk, and a walk at each of its points over three widths.
+//! The rows of the walk, and a walk at each of its points over four widths.
 ghost use Rattle.std.specs.Prelude.{◌≡◌, ℕ, ◌-◌, ◌≤◌, ◌^◌, Bool, None, List, length};
 ghost use Rattle.std.specs.Iterator.{UpTo, YieldsThen};
 ghost use Rattle.bit_set.specs.Walk.{Walk, IsAtStart};
@@ -47,6 +47,10 @@ fn the_bound_falls_with_the_blocks(rt: HostRuntime) -> Result<(), Fail> {
     assert_eq!(rt; wide, [(0, Some(416)), (0, Some(32)), (0, Some(32))]);
     let narrow = bounds(&set_of::<u8>(rt.alloc(), 0, 400)?);
     assert_eq!(rt; narrow, [(0, Some(408)), (0, Some(8)), (0, Some(8))]);
+    let four_blocks = set_of::<u128>(rt.alloc(), 0, 400)?;
+    assert_eq!(rt; four_blocks.get_ref().storage().len(), 4);
+    let widest = bounds(&four_blocks);
+    assert_eq!(rt; widest, [(0, Some(512)), (0, Some(128)), (0, Some(128))]);
     let roomy = bounds(&set_of::<u8>(rt.alloc(), 40, 3)?);
     assert_eq!(rt; roomy, [(0, Some(40)), (0, Some(40)), (0, Some(8))]);
     Ok(())
@@ -72,6 +76,8 @@ fn a_walk_stays_at_its_end(rt: HostRuntime) -> Result<(), Fail> {
     assert_eq!(rt; firsts(&forty), [Some(3), Some(5), None, None, None]);
     let wide = set_of::<u32>(rt.alloc(), 0, 400)?;
     assert_eq!(rt; firsts(&wide), [Some(400), None, None, None, None]);
+    let widest = BitSet::<u128>::from_iter(rt.alloc(), [128, 127].iter().copied())?;
+    assert_eq!(rt; firsts(&widest), [Some(127), Some(128), None, None, None]);
     let roomy = set_of::<u8>(rt.alloc(), 40, 3)?;
     assert_eq!(rt; firsts(&roomy), [Some(3), None, None, None, None]);
     Ok(())
@@ -138,12 +144,16 @@ pub(crate) fn agrees_at_each_point<B: BitBlock>(
 
 #[test]
 fn a_walk_is_its_list_at_each_point(rt: HostRuntime) -> Result<(), Fail> {
-    let elements = [0, 1, 7, 8, 22, 23, 24, 47, 48, 63, 64, 65, 143, 400, 401];
+    let elements = [
+        0, 1, 7, 8, 22, 23, 24, 47, 48, 63, 64, 65, 127, 128, 143, 400, 401,
+    ];
     let narrow = BitSet::<u8>::from_iter(rt.alloc(), elements.iter().copied())?;
     agrees_at_each_point(&rt, &narrow, &elements);
     let odd = BitSet::<Block24>::from_iter(rt.alloc(), elements.iter().copied())?;
     agrees_at_each_point(&rt, &odd, &elements);
     let wide = BitSet::<u64>::from_iter(rt.alloc(), elements.iter().copied())?;
     agrees_at_each_point(&rt, &wide, &elements);
+    let widest = BitSet::<u128>::from_iter(rt.alloc(), elements.iter().copied())?;
+    agrees_at_each_point(&rt, &widest, &elements);
     Ok(())
 }

@@ -241,5 +241,6 @@ fn walks_over_two_sets_are_their_lists(rt: HostRuntime) -> Result<(), Fail> {
     agree_at_each_point::<u8>(&rt, rt.alloc())?;
     agree_at_each_point::<Block24>(&rt, rt.alloc())?;
     agree_at_each_point::<u64>(&rt, rt.alloc())?;
+    agree_at_each_point::<u128>(&rt, rt.alloc())?;
     Ok(())
 }
