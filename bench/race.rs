@@ -54,6 +54,8 @@ mod here {
         pub fn bench_merge_intersection(first: *const usize, m: usize, second: *const usize, n: usize, turns: usize) -> usize;
         pub fn bench_merge_difference(first: *const usize, m: usize, second: *const usize, n: usize, turns: usize) -> usize;
         pub fn bench_merge_symmetric_difference(first: *const usize, m: usize, second: *const usize, n: usize, turns: usize) -> usize;
+        pub fn bench_append(first: *const usize, m: usize, second: *const usize, n: usize, turns: usize) -> usize;
+        pub fn bench_split_off(members: *const usize, m: usize, turns: usize) -> usize;
         pub fn bench_is_disjoint(first: *const usize, m: usize, second: *const usize, n: usize, turns: usize) -> usize;
         pub fn bench_is_subset(first: *const usize, m: usize, second: *const usize, n: usize, turns: usize) -> usize;
         pub fn bench_eq(members: *const usize, m: usize, turns: usize) -> usize;
@@ -455,6 +457,41 @@ fn two_sets(table: &mut Table, density: &Density) {
     }
 }
 
+/// Elements that move from one set to another. No peer has these calls: there a walk is drained into the other set.
+fn moves(table: &mut Table, density: &Density) {
+    let Density { label, len, members, numbers } = density;
+    let work = || Work { unit: "block", units: len.div_ceil(32), turns: 4, numbers: &[] };
+    table.row(&format!("`append` of a copy, {label}"), work(), &[
+        &|_, turns| unsafe { here::bench_append(members.as_ptr(), members.len(), numbers.as_ptr(), numbers.len(), turns) },
+        &|_, turns| {
+            let (mut one, second) = (set_of::<u32>(members), set_of::<u32>(numbers));
+            let mut other = BitSet::default();
+            total(turns, |turn| {
+                other.clone_from(&second);
+                one.extend(other.iter());
+                other.make_empty();
+                usize::from(one.remove(turn))
+            })
+        },
+    ]);
+    table.row(&format!("`split_off` in the middle, and `append` of the part, {label}"), work(), &[
+        &|_, turns| unsafe { here::bench_split_off(members.as_ptr(), members.len(), turns) },
+        &|_, turns| {
+            let mut set = set_of::<u32>(members);
+            let middle = set.get_ref().len() / 2;
+            total(turns, |turn| {
+                let mut part = BitSet::<u32>::default();
+                part.extend(set.iter().filter(|number| *number >= middle));
+                set.truncate(middle);
+                let found = part.contains(middle + turn);
+                set.extend(part.iter());
+                part.make_empty();
+                usize::from(found)
+            })
+        },
+    ]);
+}
+
 /// Tests that are true, and so read every block.
 fn tests_of_two_sets(table: &mut Table, density: &Density) {
     let Density { label, len, members, numbers } = density;
@@ -638,6 +675,8 @@ fn main() -> ExitCode {
     let wide = Density::of("1M in 16M", 1 << 24, 1 << 20);
     whole_set(&mut table, &wide);
     two_sets(&mut table, &wide);
+    moves(&mut table, &densities[0]);
+    moves(&mut table, &wide);
     tests_of_two_sets(&mut table, &wide);
     sparse_set::<u32>(&mut table, &SparseCalls {
         blocks: "u32",

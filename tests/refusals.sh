@@ -79,7 +79,8 @@ judge() {
 
 # One call of the program `refusals`, which judges it: with all of the call's requests refused, and then with one after
 # another, and one past them. A call that takes no memory makes no request; any other is refused where all are. One of
-# a bit vector makes two at least, so that either of its two growths is refused alone.
+# a bit vector makes two at least, so that either of its two growths is refused alone; over u128 one block of the
+# summary tells of more places than there are, so that the summary need not grow.
 sweep() {
     local type="$1" call="$2" ending="$3" name="$1 $2" n line
     for ((n = 0; n <= most; n++)); do
@@ -100,7 +101,7 @@ sweep() {
         fail "$name: past its last request: '$line'"
     elif [ "$ending" = answered ] && [ "$requests" -ne 0 ]; then
         fail "$name: it takes no memory, and made $requests requests"
-    elif [[ "$ending" = refused && "$call" = bits_* && "$requests" -lt 2 ]]; then
+    elif [[ "$ending" = refused && "$call" = bits_* && "$type" != u128 && "$requests" -lt 2 ]]; then
         fail "$name: the blocks and their summary did not both ask for memory"
     else
         passed=$((passed + 1))
@@ -135,7 +136,7 @@ reserve_exact b 9000
 shrink a
 END
 "$bitset" < short > replies
-for word in u8 u32 u64; do
+for word in u8 u32 u64 u128; do
     for ((n = 1; n <= most; n++)); do
         shimmed SHIM_REFUSE="$n" "$bitset" "$word" < short
         if [ "$requests" -lt "$n" ]; then

@@ -9,4 +9,5 @@ mod making;
 mod pairs;
 mod reading;
 mod room;
+mod splits;
 mod widths;

@@ -4,14 +4,16 @@
 
 mod bits;
 mod faults;
+mod json;
 mod making;
 mod quiet;
 mod runs;
 mod sets;
+mod splits;
 mod standing;
 mod sweep;
 
-use bit_set::JsonBlock;
+use bit_set::{BitBlock, JsonBlock};
 use faults::Fault;
 use std::env;
 use std::process::ExitCode;
@@ -22,22 +24,31 @@ fn words(rt: &HostRuntime) -> Result<Vec<String>, Fault> {
     Ok(env::args(rt)?.skip(1).collect(rt.alloc())?)
 }
 
-// Every call over one type of blocks. Whether all went as they may.
-fn over<B: JsonBlock>(sweep: &Sweep<'_>) -> Result<bool, Fault> {
+// Every call that each type of blocks has, over one of them. Whether all went as they may.
+fn over<B: BitBlock>(sweep: &Sweep<'_>) -> Result<bool, Fault> {
     let sets = sets::all::<B>(sweep)?;
+    let splits = splits::all::<B>(sweep)?;
     let making = making::all::<B>(sweep)?;
     let bits = bits::all::<B>(sweep)?;
     let runs = runs::all::<B>(sweep)?;
     let quiet = quiet::all::<B>(sweep)?;
-    Ok(sets && making && bits && runs && quiet)
+    Ok(sets && splits && making && bits && runs && quiet)
+}
+
+// Those and the calls of the JSON form.
+fn over_with_json<B: JsonBlock>(sweep: &Sweep<'_>) -> Result<bool, Fault> {
+    let calls = over::<B>(sweep)?;
+    let json = json::all::<B>(sweep)?;
+    Ok(calls && json)
 }
 
 // Every call over the type of blocks of this name, or this one call.
 fn over_named(rt: &HostRuntime, width: &str, name: Option<&str>) -> Result<Option<bool>, Fault> {
     Ok(Some(match width {
-        "u8" => over::<u8>(&Sweep::new(rt, "u8", name))?,
-        "u32" => over::<u32>(&Sweep::new(rt, "u32", name))?,
-        "u64" => over::<u64>(&Sweep::new(rt, "u64", name))?,
+        "u8" => over_with_json::<u8>(&Sweep::new(rt, "u8", name))?,
+        "u32" => over_with_json::<u32>(&Sweep::new(rt, "u32", name))?,
+        "u64" => over_with_json::<u64>(&Sweep::new(rt, "u64", name))?,
+        "u128" => over::<u128>(&Sweep::new(rt, "u128", name))?,
         _ => return Ok(None),
     }))
 }
@@ -52,7 +63,7 @@ fn swept(rt: &HostRuntime, words: &[String]) -> Result<Option<bool>, Fault> {
         return Ok(None);
     }
     let mut is_right = true;
-    for width in ["u8", "u32", "u64"] {
+    for width in ["u8", "u32", "u64", "u128"] {
         is_right &= over_named(rt, width, None)?.unwrap_or(false);
     }
     Ok(Some(is_right))

@@ -3,8 +3,7 @@ use crate::faults::Fault;
 use crate::standing::{LENT, lent_set, text_of, works};
 use crate::sweep::Sweep;
 use bit_set::bit_vec::BitVec;
-use bit_set::{BitSet, JsonBlock};
-use serde_json::Value;
+use bit_set::{BitBlock, BitSet};
 use std::alloc::Global;
 
 #[derive(Clone, Copy)]
@@ -13,10 +12,10 @@ enum Call {
     FromBytes,
     FromIter,
     Clone,
-    FromJson,
     BitsFromElem,
     BitsFromBytes,
     BitsClone,
+    BitsCloneTail,
 }
 
 // A call, and what it makes where it is answered.
@@ -48,11 +47,6 @@ const ROWS: &[Row] = &[
         made: LENT,
     },
     Row {
-        name: "from_json",
-        call: Call::FromJson,
-        made: LENT,
-    },
-    Row {
         name: "bits_from_elem",
         call: Call::BitsFromElem,
         made: "{} of 5000",
@@ -67,24 +61,31 @@ const ROWS: &[Row] = &[
         call: Call::BitsClone,
         made: LENT,
     },
+    Row {
+        name: "bits_clone_tail",
+        call: Call::BitsCloneTail,
+        made: "{7, 5000} of 5001",
+    },
 ];
 
 // Sixteen bytes with the bits 0, 9, 90 and 127, each byte counted from its highest.
 const BYTES: [u8; 16] = [0x80, 0x40, 0, 0, 0, 0, 0, 0, 0, 0, 0, 0x20, 0, 0, 0, 0x01];
 
-fn make<B: JsonBlock>(
-    alloc: Global,
-    call: Call,
-    lent: &BitSet<B>,
-    value: &Value,
-) -> Result<BitSet<B>, Fault> {
+// The tail from 4 on.
+fn tail_of<B: BitBlock>(alloc: Global, bits: &BitVec<B>) -> Result<BitVec<B>, Fault> {
+    if bits.len() <= 4 {
+        return Err(Fault::Other);
+    }
+    Ok(bits.clone_tail(alloc, 4)?)
+}
+
+fn make<B: BitBlock>(alloc: Global, call: Call, lent: &BitSet<B>) -> Result<BitSet<B>, Fault> {
     let items: [usize; 3] = [9, 450, 5000];
     Ok(match call {
         Call::WithCapacity => BitSet::with_capacity_general(alloc, 5000)?,
         Call::FromBytes => BitSet::from_bytes_general(alloc, &BYTES)?,
         Call::FromIter => BitSet::from_iter(alloc, items.iter().copied())?,
         Call::Clone => lent.clone(alloc)?,
-        Call::FromJson => BitSet::from_json(alloc, value)?,
         Call::BitsFromElem => {
             BitSet::from_bit_vec_general(BitVec::from_elem_general(alloc, 5000, false)?)
         }
@@ -92,11 +93,12 @@ fn make<B: JsonBlock>(
             BitSet::from_bit_vec_general(BitVec::from_bytes_general(alloc, &BYTES)?)
         }
         Call::BitsClone => BitSet::from_bit_vec_general(lent.get_ref().clone(alloc)?),
+        Call::BitsCloneTail => BitSet::from_bit_vec_general(tail_of(alloc, lent.get_ref())?),
     })
 }
 
-// What was made, as a text; `None` where memory was refused.
-fn text_made<B: JsonBlock>(
+/// What was made, as a text; `None` where memory was refused.
+pub fn text_made<B: BitBlock>(
     alloc: Global,
     made: Result<BitSet<B>, Fault>,
 ) -> Result<Option<String>, Fault> {
@@ -112,12 +114,11 @@ fn text_made<B: JsonBlock>(
     Ok(Some(text))
 }
 
-fn tried<B: JsonBlock>(sweep: &Sweep<'_>, row: &Row) -> Result<bool, Fault> {
+fn tried<B: BitBlock>(sweep: &Sweep<'_>, row: &Row) -> Result<bool, Fault> {
     let alloc = sweep.alloc();
     let lent = lent_set::<B>(alloc)?;
-    let value = lent.to_json(alloc)?;
     sweep.begin(row.name, true)?;
-    let made = make(alloc, row.call, &lent, &value);
+    let made = make(alloc, row.call, &lent);
     sweep.end(&made)?;
     let text = text_made(alloc, made)?;
     let now = text.as_ref().map_or(row.made, |text| text.as_str());
@@ -125,31 +126,13 @@ fn tried<B: JsonBlock>(sweep: &Sweep<'_>, row: &Row) -> Result<bool, Fault> {
     Ok(sweep.judge(is_right, now)?)
 }
 
-// What `to_json` makes is read back.
-fn tried_to_json<B: JsonBlock>(sweep: &Sweep<'_>) -> Result<bool, Fault> {
-    let alloc = sweep.alloc();
-    let lent = lent_set::<B>(alloc)?;
-    sweep.begin("to_json", true)?;
-    let made = lent.to_json(alloc);
-    sweep.end(&made.as_ref().map_err(|fault| Fault::from(*fault)))?;
-    let now = match &made {
-        Ok(value) => text_of(alloc, &BitSet::<B>::from_json(alloc, value)?)?,
-        Err(_) => text_of(alloc, &lent)?,
-    };
-    let is_right = now.as_str() == LENT && text_of(alloc, &lent)?.as_str() == LENT;
-    Ok(sweep.judge(is_right, now.as_str())?)
-}
-
 /// Whether each of these calls goes as it may.
-pub fn all<B: JsonBlock>(sweep: &Sweep<'_>) -> Result<bool, Fault> {
+pub fn all<B: BitBlock>(sweep: &Sweep<'_>) -> Result<bool, Fault> {
     let mut is_right = true;
     for row in ROWS {
         if sweep.has(row.name) {
             is_right &= tried::<B>(sweep, row)?;
         }
-    }
-    if sweep.has("to_json") {
-        is_right &= tried_to_json::<B>(sweep)?;
     }
     Ok(is_right)
 }

@@ -253,7 +253,7 @@ fn bit_changes<B: BitBlock>(set: &mut BitSet<B>, lent: &BitVec<B>) -> [usize; 6]
     bits.truncate(448);
     let len = bits.len();
     bits.cut_zero_blocks();
-    let is_cut = bits.len() >= 8 && bits.len() <= 64;
+    let is_cut = bits.len() == B::bits();
     bits.fill(true);
     let is_none = bits.none();
     bits.remove_all();

@@ -184,9 +184,18 @@ fn change<B: BitBlock>(call: Call, set: &mut BitSet<B>, lent: &BitSet<B>) -> Res
         Call::CloneFrom => set.clone_from(lent)?,
         Call::Reserve => set.reserve_len(5001)?,
         Call::ReserveExact => set.reserve_len_exact(5001)?,
-        Call::Shrink => set.shrink_to_fit()?,
+        Call::Shrink => shrink(set)?,
     }
     Ok(true)
+}
+
+// Shrinks the set, and cuts what its last block has past the length that it began with.
+fn shrink<B: BitBlock>(set: &mut BitSet<B>) -> Result<(), Fault> {
+    let ended = set.shrink_to_fit();
+    if set.get_ref().len() < B::bits().saturating_add(448) {
+        set.truncate(448);
+    }
+    Ok(ended?)
 }
 
 impl Row {

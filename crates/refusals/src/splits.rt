@@ -1,0 +1,118 @@
+// Calls that move elements from one set to another.
+use crate::faults::Fault;
+use crate::standing::{FIRST, LENT, Room, first_set, lent_set, text_of, works};
+use crate::sweep::Sweep;
+use bit_set::{BitBlock, BitSet};
+use std::alloc::Global;
+
+#[derive(Clone, Copy)]
+enum Call {
+    Append,
+    SplitOff(usize),
+}
+
+// A call at some room, under a name of its own, whether it may be refused, and what the set and the other one are
+// where it is answered.
+struct Row {
+    name: &'static str,
+    call: Call,
+    room: Room,
+    may_take: bool,
+    answered: [&'static str; 2],
+}
+
+const ROWS: &[Row] = &[
+    Row {
+        name: "append",
+        call: Call::Append,
+        room: Room::Short,
+        may_take: true,
+        answered: ["{3, 7, 447, 5000} of 5001", "{} of 5001"],
+    },
+    Row {
+        name: "append_within",
+        call: Call::Append,
+        room: Room::Ample,
+        may_take: false,
+        answered: ["{3, 7, 447, 5000} of 5001", "{} of 5001"],
+    },
+    Row {
+        name: "split_off",
+        call: Call::SplitOff(3),
+        room: Room::Short,
+        may_take: true,
+        answered: ["{} of 3", FIRST],
+    },
+    Row {
+        name: "split_off_last",
+        call: Call::SplitOff(447),
+        room: Room::Short,
+        may_take: true,
+        answered: ["{3} of 447", "{447} of 448"],
+    },
+    Row {
+        name: "split_off_at_0",
+        call: Call::SplitOff(0),
+        room: Room::Short,
+        may_take: false,
+        answered: ["{} of 0", FIRST],
+    },
+    Row {
+        name: "split_off_at_the_length",
+        call: Call::SplitOff(448),
+        room: Room::Short,
+        may_take: false,
+        answered: [FIRST, "{} of 0"],
+    },
+];
+
+// Makes the call. The other set is the one that is appended, or becomes the one that is handed out.
+fn exchange<B: BitBlock>(
+    alloc: Global,
+    call: Call,
+    set: &mut BitSet<B>,
+    other: &mut BitSet<B>,
+) -> Result<(), Fault> {
+    match call {
+        Call::Append => set.append(other)?,
+        Call::SplitOff(at) => *other = set.split_off(alloc, at)?,
+    }
+    Ok(())
+}
+
+impl Row {
+    // What the two sets may be where the call ended so.
+    fn allowed(&self, ended: Result<(), Fault>) -> Option<[&'static str; 2]> {
+        match ended {
+            Ok(()) => Some(self.answered),
+            Err(Fault::Memory) if self.may_take => Some([FIRST, LENT]),
+            Err(_) => None,
+        }
+    }
+}
+
+fn tried<B: BitBlock>(sweep: &Sweep<'_>, row: &Row) -> Result<bool, Fault> {
+    let alloc = sweep.alloc();
+    let mut set = first_set::<B>(alloc, row.room)?;
+    let mut other = lent_set::<B>(alloc)?;
+    sweep.begin(row.name, row.may_take)?;
+    let ended = exchange(alloc, row.call, &mut set, &mut other);
+    sweep.end(&ended)?;
+    let set_now = text_of(alloc, &set)?;
+    let other_now = text_of(alloc, &other)?;
+    let is_whole = works(&mut set)? && works(&mut other)?;
+    let is_right = row.allowed(ended) == Some([set_now.as_str(), other_now.as_str()]);
+    let now = format!(in alloc; "{set_now} and {other_now}")?;
+    Ok(sweep.judge(is_whole && is_right, now.as_str())?)
+}
+
+/// Whether each of these calls goes as it may.
+pub fn all<B: BitBlock>(sweep: &Sweep<'_>) -> Result<bool, Fault> {
+    let mut is_right = true;
+    for row in ROWS {
+        if sweep.has(row.name) {
+            is_right &= tried::<B>(sweep, row)?;
+        }
+    }
+    Ok(is_right)
+}
