@@ -131,6 +131,7 @@ impl<B: BitBlock> BitVec<B> {
             len: self.len,
         })
     }
+
     /// A bit vector of the same length and the same values from `at` on, which is below the length; those
     /// before it are false. Writes each block once, those before that of `at` as zeros. Fails only where
     /// memory is refused.

@@ -5,7 +5,9 @@ ghost use Rattle.bit_words.specs.Bits.{blocks_for, room_of, whole_blocks, IsWith
 use super::BitVec;
 use crate::bit_vec::BitBlock;
 use crate::bit_vec::changes::block_count;
-use crate::bit_vec::room::{make_exact_shared_room, make_shared_room, used_by_summary};
+use crate::bit_vec::room::{
+    make_exact_shared_room, make_shared_room, shrink_shared_room, used_by_summary,
+};
 use crate::bit_vec::summary::cut_summary;
 use crate::bit_vec::tidy::keep_blocks;
 use std::alloc::AllocError;
@@ -55,14 +57,7 @@ impl<B: BitBlock> BitVec<B> {
         ensures fits { IsWithinRoom self.new }
         ensures empty { length self.old.values ≡ 0 → IsOk result }
     {
-        self.blocks.shrink_to_fit();
-        self.summary.shrink_to_fit();
-        if self.blocks.capacity() > self.blocks.len()
-            || self.summary.capacity() > self.summary.len()
-        {
-            return Err(AllocError);
-        }
-        Ok(())
+        shrink_shared_room(&mut self.blocks, &mut self.summary)
     }
 
     /// Makes the list as long as its blocks up to the last that is not 0: the true values stay, and so
