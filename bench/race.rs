@@ -37,7 +37,7 @@ mod here {
         pub fn bench_clone(members: *const usize, m: usize, turns: usize) -> usize;
         pub fn bench_from_bytes(bytes: *const u8, n: usize, turns: usize) -> usize;
         pub fn bench_fill(len: usize, turns: usize) -> usize;
-        pub fn bench_grow(turns: u32) -> usize;
+        pub fn bench_grow(values: u8, turns: u32) -> usize;
         pub fn bench_reserve_len(turns: usize) -> usize;
         pub fn bench_shrink_to_fit(number: usize, turns: usize) -> usize;
         pub fn bench_shrink_emptied_u32(number: usize, shrinks: usize, turns: usize) -> usize;
@@ -618,16 +618,18 @@ fn the_rest(table: &mut Table) {
             })
         },
     ]);
-    table.row("`grow` by 7 values, ones and zeros in turn", work("call", 1, 1 << 18), &[
-        &|_, turns| unsafe { here::bench_grow(turns as u32) },
-        &|_, turns| {
-            let mut bits = BitVec::new();
-            for turn in 0..turns {
-                bits.grow(7, turn % 2 == 0);
-            }
-            bits.len()
-        },
-    ]);
+    for (name, values) in [("7 values", 7u8), ("a block of 32 values", 32)] {
+        table.row(&format!("`grow` by {name}, ones and zeros in turn"), work("call", 1, 1 << 18), &[
+            &|_, turns| unsafe { here::bench_grow(values, turns as u32) },
+            &|_, turns| {
+                let mut bits = BitVec::new();
+                for turn in 0..turns {
+                    bits.grow(usize::from(values), turn % 2 == 0);
+                }
+                bits.len()
+            },
+        ]);
+    }
     table.row("`reserve_len` of 0, 1, 2, .. from `new`", work("call", 1, 1 << 18), &[
         &|_, turns| unsafe { here::bench_reserve_len(turns) },
         &|_, turns| {

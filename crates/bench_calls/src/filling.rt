@@ -17,16 +17,16 @@ pub extern "C" fn bench_fill(alloc: Global, len: usize, turns: usize) -> usize {
     fill(alloc, len, turns).unwrap_or(usize::MAX)
 }
 
-// Each turn appends seven values, ones and zeros in turn.
-fn grow(alloc: Global, turns: u32) -> Result<usize, AllocError> {
+// Each turn appends so many values, ones and zeros in turn.
+fn grow(alloc: Global, values: u8, turns: u32) -> Result<usize, AllocError> {
     let mut bits = BitVec::new(alloc);
     for turn in 0..turns {
-        bits.grow(7, turn % 2 == 0)?;
+        bits.grow(usize::from(values), turn % 2 == 0)?;
     }
     Ok(bits.len())
 }
 
 #[unsafe(no_mangle)]
-pub extern "C" fn bench_grow(alloc: Global, turns: u32) -> usize {
-    grow(alloc, turns).unwrap_or(usize::MAX)
+pub extern "C" fn bench_grow(alloc: Global, values: u8, turns: u32) -> usize {
+    grow(alloc, values, turns).unwrap_or(usize::MAX)
 }

@@ -57,7 +57,8 @@ impl<B: BitBlock> BitSet<B> {
         self.count()
     }
 
-    /// Whether there is no element. Reads each block once at most.
+    /// Whether there is no element. Reads no block of the set: of as many blocks as a block has bits it
+    /// asks at once whether they are all zero.
     #[inline]
     pub fn is_empty(&self) -> bool
         ensures { IsTrue result ↔ (elements self.now.values ≡ []) }

@@ -3,7 +3,6 @@
 ghost use Rattle.std.specs.Prelude.{◌≡◌, IfOk};
 ghost use Rattle.bit_set.specs.Sets.{elements};
 
-use crate::set_tests::items;
 use bit_set::bit_vec::Merge;
 use bit_set::laws::collected_walks;
 use bit_set::{BitBlock, BitSet, SetError};
@@ -39,7 +38,7 @@ fn becomes(
     (elements, len): (&[usize], usize),
 ) -> Result<(), AllocError> {
     merge_in(&mut set, merge, other)?;
-    assert_eq!(rt; items(alloc, &set)?.as_slice(), elements);
+    assert!(rt; set.iter().eq(elements.iter().copied()));
     assert_eq!(rt; set.get_ref().len(), len);
     Ok(())
 }
@@ -173,16 +172,18 @@ fn counts<B: BitBlock>(alloc: Global) -> Result<[usize; 4], SetError> {
     Ok([either, first, one, set.count()])
 }
 
+fn become_one<B: BitBlock>(rt: &impl Abort, alloc: Global) -> Result<(), SetError> {
+    assert_eq!(rt; counts::<B>(alloc)?, [10, 5, 10, 5]);
+    assert_eq!(rt; answers::<B>(alloc)?, [true, false, false]);
+    Ok(())
+}
+
 #[test]
 fn sets_become_one_over_each_block(rt: HostRuntime) -> Result<(), Fail> {
-    assert_eq!(rt; counts::<u8>(rt.alloc())?, [10, 5, 10, 5]);
-    assert_eq!(rt; counts::<u32>(rt.alloc())?, [10, 5, 10, 5]);
-    assert_eq!(rt; counts::<u64>(rt.alloc())?, [10, 5, 10, 5]);
-    assert_eq!(rt; counts::<u128>(rt.alloc())?, [10, 5, 10, 5]);
-    assert_eq!(rt; answers::<u8>(rt.alloc())?, [true, false, false]);
-    assert_eq!(rt; answers::<u32>(rt.alloc())?, [true, false, false]);
-    assert_eq!(rt; answers::<u64>(rt.alloc())?, [true, false, false]);
-    assert_eq!(rt; answers::<u128>(rt.alloc())?, [true, false, false]);
+    become_one::<u8>(&rt, rt.alloc())?;
+    become_one::<u32>(&rt, rt.alloc())?;
+    become_one::<u64>(&rt, rt.alloc())?;
+    become_one::<u128>(&rt, rt.alloc())?;
     Ok(())
 }
 
@@ -206,10 +207,7 @@ fn a_walk_collects_what_is_left_in_place(rt: HostRuntime) -> Result<(), Fail> {
     let alloc = rt.alloc();
     let mut set = set_of::<u32>(alloc, &[11, 1, 3])?;
     let collected = collect_and_unite(alloc, &mut set, &set_of(alloc, &[2, 11])?)?;
-    assert_eq!(rt;
-        items(alloc, &collected)?.as_slice(),
-        [1, 2, 3, 11].as_slice()
-    );
-    assert_eq!(rt; items(alloc, &set)?.as_slice(), [1, 2, 3, 11].as_slice());
+    assert!(rt; collected.iter().eq([1, 2, 3, 11]));
+    assert!(rt; set.iter().eq([1, 2, 3, 11]));
     Ok(())
 }

@@ -2,7 +2,6 @@
 //! places: rows with their exact answers.
 use crate::algebra_tests::merge_in;
 use crate::order_tests::feed;
-use crate::set_tests::items;
 use bit_set::bit_vec::Merge;
 use bit_set::{BitBlock, BitSet, SetError};
 use block24::Block24;
@@ -122,34 +121,39 @@ fn no_set_is_made_of_the_greatest_numbers(rt: HostRuntime) {
     assert_eq!(rt; fault_of(alloc, 5), None);
 }
 
+// Each call with a number that no set has, and that is no element or asks for more memory than there is.
+fn try_each_call(rt: &impl Abort, set: &mut BitSet, number: usize, fault: SetError) {
+    assert!(rt; !set.contains(number) && !set.remove(number));
+    set.truncate(number);
+    assert_eq!(rt; set.insert(number), Err(fault));
+    assert_eq!(rt; set.extend([number].iter().copied()), Err(fault));
+    assert!(rt; set.reserve_len(number).is_err() && set.reserve_len_exact(number).is_err());
+}
+
 #[test]
 fn the_greatest_numbers_change_nothing(rt: HostRuntime) -> Result<(), Fail> {
     let mut set = BitSet::new(rt.alloc());
     set.insert(5)?;
-    for (number, fault) in [
-        (GREATEST, SetError::Element),
-        (GREATEST - 1, SetError::Memory(AllocError)),
-    ] {
-        assert!(rt; !set.contains(number));
-        assert!(rt; !set.remove(number));
-        set.truncate(number);
-        assert_eq!(rt; set.insert(number), Err(fault));
-        assert_eq!(rt; set.extend([number].iter().copied()), Err(fault));
-        assert_eq!(rt; set.reserve_len(number), Err(AllocError));
-        assert_eq!(rt; set.reserve_len_exact(number), Err(AllocError));
+    try_each_call(&rt, &mut set, GREATEST, SetError::Element);
+    try_each_call(&rt, &mut set, GREATEST - 1, SetError::Memory(AllocError));
+    assert!(rt; set.iter().eq([5]));
+    assert_eq!(rt; set.get_ref().len(), 6);
+    Ok(())
+}
+
+#[test]
+fn no_set_has_room_for_the_greatest_numbers(rt: HostRuntime) {
+    for number in [GREATEST, GREATEST - 1] {
         assert!(rt; BitSet::with_capacity(rt.alloc(), number).is_err());
         assert!(rt; BitSet::<Block24>::with_capacity_general(rt.alloc(), number).is_err());
     }
-    assert_eq!(rt; items(rt.alloc(), &set)?.as_slice(), [5].as_slice());
-    assert_eq!(rt; set.get_ref().len(), 6);
-    Ok(())
 }
 
 #[test]
 fn bytes_fill_odd_blocks(rt: HostRuntime) -> Result<(), Fail> {
     let bytes = [0b1000_0000, 0, 0b0000_0001, 0b1000_0000];
     let set = BitSet::<Block24>::from_bytes_general(rt.alloc(), &bytes)?;
-    assert_eq!(rt; items(rt.alloc(), &set)?.as_slice(), [0, 23, 24].as_slice());
+    assert!(rt; set.iter().eq([0, 23, 24]));
     let blocks = [Block24(8388609), Block24(1)];
     assert_eq!(rt; set.get_ref().storage(), blocks.as_slice());
     assert_eq!(rt; set.get_ref().len(), 32);

@@ -1,4 +1,4 @@
-//! The tests of `bit_set`, by its public calls alone.
+//! The tests of `bit_set`, by its public calls alone: those of whole sets.
 #![tactic(auto)]
 
 #[cfg(test)]
@@ -6,16 +6,6 @@ mod algebra_tests;
 #[cfg(test)]
 mod hostile_tests;
 #[cfg(test)]
-mod json_tests;
-#[cfg(test)]
 mod order_tests;
 #[cfg(test)]
-mod room_tests;
-#[cfg(test)]
 mod set_tests;
-#[cfg(test)]
-mod sparse_tests;
-#[cfg(test)]
-mod split_tests;
-#[cfg(test)]
-mod walk_tests;

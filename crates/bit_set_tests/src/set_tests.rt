@@ -3,16 +3,8 @@
 use bit_set::bit_vec::BitVec;
 use bit_set::{BitBlock, BitSet, SetError};
 use std::alloc::{AllocError, Global};
+use std::process::Abort;
 use std::test::Fail;
-
-// The elements, as the walk gives them.
-pub(crate) fn items<B: BitBlock>(alloc: Global, set: &BitSet<B>) -> Result<Vec<usize>, AllocError> {
-    let mut items = Vec::new(alloc);
-    for item in set {
-        items.push(item)?;
-    }
-    Ok(items)
-}
 
 #[test]
 fn insert_answers_what_is_new(rt: HostRuntime) -> Result<(), Fail> {
@@ -54,7 +46,7 @@ fn the_greatest_number_is_no_element(rt: HostRuntime) -> Result<(), Fail> {
     assert_eq!(rt; set.get_ref().len(), 0);
     set.insert(5)?;
     assert_eq!(rt; set.insert(18446744073709551615), Err(SetError::Element));
-    assert_eq!(rt; items(rt.alloc(), &set)?.as_slice(), [5].as_slice());
+    assert!(rt; set.iter().eq([5]));
     assert_eq!(rt; set.get_ref().len(), 6);
     Ok(())
 }
@@ -77,7 +69,7 @@ fn set_of(alloc: Global, numbers: &[usize]) -> Result<BitSet, SetError> {
 #[test]
 fn items_go_in_one_by_one(rt: HostRuntime) -> Result<(), Fail> {
     let set = set_of(rt.alloc(), &[0, 2, 2, 3])?;
-    assert_eq!(rt; items(rt.alloc(), &set)?.as_slice(), [0, 2, 3].as_slice());
+    assert!(rt; set.iter().eq([0, 2, 3]));
     assert_eq!(rt; set.count(), 3);
     assert_eq!(rt; set.get_ref().len(), 4);
     Ok(())
@@ -92,7 +84,7 @@ fn items_before_a_refused_one_stay_in(rt: HostRuntime) -> Result<(), Fail> {
     let mut set = BitSet::new(rt.alloc());
     let answer = put_all(&mut set, &[7, 18446744073709551615, 9]);
     assert_eq!(rt; answer, Err(SetError::Element));
-    assert_eq!(rt; items(rt.alloc(), &set)?.as_slice(), [7].as_slice());
+    assert!(rt; set.iter().eq([7]));
     Ok(())
 }
 
@@ -107,7 +99,7 @@ fn sets_have_lengths(rt: HostRuntime) -> Result<(), Fail> {
 #[test]
 fn a_clone_has_the_items_and_the_length(rt: HostRuntime) -> Result<(), Fail> {
     let copy = set_of(rt.alloc(), &[400, 1])?.clone(rt.alloc())?;
-    assert_eq!(rt; items(rt.alloc(), &copy)?.as_slice(), [1, 400].as_slice());
+    assert!(rt; copy.iter().eq([1, 400]));
     assert_eq!(rt; copy.get_ref().len(), 401);
     Ok(())
 }
@@ -148,24 +140,22 @@ fn cut<B: BitBlock>(alloc: Global) -> Result<(bool, [usize; 3]), SetError> {
     let mut copy = set.clone(alloc)?;
     let new = copy.insert(100)?;
     copy.truncate(65);
-    let left = items(alloc, &copy)?.len();
-    Ok((new, [set.count(), left, copy.get_ref().len()]))
+    Ok((new, [set.count(), copy.count(), copy.get_ref().len()]))
+}
+
+fn each_succeeds<B: BitBlock>(rt: &impl Abort, alloc: Global) -> Result<(), SetError> {
+    assert_eq!(rt; counts::<B>(alloc)?, [4, 3, 0, 24]);
+    assert_eq!(rt; copied::<B>(alloc)?, [4, 16, 0]);
+    assert!(rt; has_nine::<B>(alloc)?);
+    assert_eq!(rt; cut::<B>(alloc)?, (true, [10, 5, 65]));
+    Ok(())
 }
 
 #[test]
 fn every_call_succeeds(rt: HostRuntime) -> Result<(), Fail> {
-    assert_eq!(rt; counts::<u8>(rt.alloc())?, [4, 3, 0, 24]);
-    assert_eq!(rt; counts::<u64>(rt.alloc())?, [4, 3, 0, 24]);
-    assert_eq!(rt; counts::<u128>(rt.alloc())?, [4, 3, 0, 24]);
-    assert_eq!(rt; copied::<u8>(rt.alloc())?, [4, 16, 0]);
-    assert_eq!(rt; copied::<u64>(rt.alloc())?, [4, 16, 0]);
-    assert_eq!(rt; copied::<u128>(rt.alloc())?, [4, 16, 0]);
-    assert!(rt; has_nine::<u8>(rt.alloc())?);
-    assert!(rt; has_nine::<u64>(rt.alloc())?);
-    assert!(rt; has_nine::<u128>(rt.alloc())?);
-    assert_eq!(rt; cut::<u8>(rt.alloc())?, (true, [10, 5, 65]));
-    assert_eq!(rt; cut::<u64>(rt.alloc())?, (true, [10, 5, 65]));
-    assert_eq!(rt; cut::<u128>(rt.alloc())?, (true, [10, 5, 65]));
+    each_succeeds::<u8>(&rt, rt.alloc())?;
+    each_succeeds::<u64>(&rt, rt.alloc())?;
+    each_succeeds::<u128>(&rt, rt.alloc())?;
     Ok(())
 }
 
@@ -176,7 +166,7 @@ fn too_much_memory_is_refused(rt: HostRuntime) -> Result<(), Fail> {
     let mut set = BitSet::new(alloc);
     set.insert(5)?;
     assert_eq!(rt; set.insert(18446744073709551614), refused);
-    assert_eq!(rt; items(alloc, &set)?.as_slice(), [5].as_slice());
+    assert!(rt; set.iter().eq([5]));
     assert_eq!(rt; set.get_ref().len(), 6);
     assert!(rt; BitSet::<u8>::with_capacity_general(alloc, 18446744073709551615).is_err());
     Ok(())

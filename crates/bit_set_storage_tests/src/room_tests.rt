@@ -1,14 +1,13 @@
 //! Room and length, and the bit vector in hand: rows with their exact answers.
 ghost use Rattle.std.specs.Prelude.{◌≡◌, ◌<◌, ◌≤◌, All, IsOk, length, slice_set, true};
 
-use crate::set_tests::items;
 use bit_set::{BitBlock, BitSet, SetError};
 use block24::Block24;
 use std::alloc::{AllocError, Global};
 use std::process::Abort;
 use std::test::Fail;
 
-fn set_of<B: BitBlock>(alloc: Global, numbers: &[usize]) -> Result<BitSet<B>, SetError> {
+pub(crate) fn set_of<B: BitBlock>(alloc: Global, numbers: &[usize]) -> Result<BitSet<B>, SetError> {
     BitSet::from_iter(alloc, numbers.iter().copied())
 }
 
@@ -85,7 +84,7 @@ fn what_is_written_is_the_set(rt: HostRuntime) -> Result<(), Fail> {
     set.insert(0)?;
     set.insert(3)?;
     raise_at_one(&mut set);
-    assert_eq!(rt; items(rt.alloc(), &set)?.as_slice(), [0, 1, 3].as_slice());
+    assert!(rt; set.iter().eq([0, 1, 3]));
     Ok(())
 }
 
@@ -115,7 +114,7 @@ fn a_new_set_has_no_room(rt: HostRuntime) -> Result<(), Fail> {
     set.insert(3)?;
     assert!(rt; set.capacity() > 0);
     set.shrink_to_fit()?;
-    assert_eq!(rt; items(rt.alloc(), &set)?.as_slice(), [3].as_slice());
+    assert!(rt; set.iter().eq([3]));
     assert!(rt; set.capacity() > 0);
     Ok(())
 }
@@ -140,13 +139,13 @@ fn shrunk_twice(rt: &impl Abort, alloc: Global) -> Result<BitSet, SetError> {
 fn room_is_given_back(rt: HostRuntime) -> Result<(), Fail> {
     let alloc = rt.alloc();
     let mut set = shrunk_twice(&rt, alloc)?;
-    assert_eq!(rt; items(alloc, &set)?.as_slice(), [3, 98].as_slice());
+    assert!(rt; set.iter().eq([3, 98]));
     let room = set.capacity();
     set.make_empty();
     assert_eq!(rt; set.count(), 0);
     assert_eq!(rt; set.capacity(), room);
     set.insert(512)?;
-    assert_eq!(rt; items(alloc, &set)?.as_slice(), [512].as_slice());
+    assert!(rt; set.iter().eq([512]));
     set.remove(512);
     set.shrink_to_fit()?;
     assert!(rt; set.is_empty());
@@ -183,7 +182,7 @@ fn no_room_past_all_memory(rt: HostRuntime) -> Result<(), Fail> {
     let mut set = set_of::<u32>(rt.alloc(), &[5])?;
     assert!(rt; set.reserve_len(18446744073709551615).is_err());
     assert!(rt; set.reserve_len_exact(18446744073709551615).is_err());
-    assert_eq!(rt; items(rt.alloc(), &set)?.as_slice(), [5].as_slice());
+    assert!(rt; set.iter().eq([5]));
     assert_eq!(rt; set.get_ref().len(), 6);
     Ok(())
 }
@@ -247,7 +246,7 @@ fn within_its_room_a_set_is_never_refused(rt: HostRuntime) -> Result<(), Fail> {
     let room = set.capacity();
     put_all_within(&mut set, &[99, 0, 41])?;
     change_within(&mut set, &other)?;
-    assert_eq!(rt; items(rt.alloc(), &set)?.as_slice(), [3, 98].as_slice());
+    assert!(rt; set.iter().eq([3, 98]));
     assert_eq!(rt; set.capacity(), room);
     Ok(())
 }

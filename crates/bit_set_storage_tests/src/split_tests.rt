@@ -2,8 +2,7 @@
 //! types.
 ghost use Rattle.std.specs.Prelude.{◌≡◌, OnOk};
 
-use crate::algebra_tests::set_of;
-use crate::set_tests::items;
+use crate::room_tests::set_of;
 use bit_set::laws::parted_sets;
 use bit_set::{BitBlock, BitSet, SetError};
 use block24::Block24;
@@ -45,13 +44,18 @@ fn check_parts<B: BitBlock>(rt: &impl Abort, alloc: Global) -> Result<(), SetErr
     ] {
         assert_eq!(rt; parts::<B>(alloc, at)?, wanted, "at {at}");
     }
-    let mut set = BitSet::<B>::from_bytes_general(alloc, &BYTES)?;
-    let part = set.split_off(alloc, 34)?;
-    assert_eq!(rt;
-        items(alloc, &part)?.as_slice(),
-        [34, 36, 38, 39, 40, 42, 44, 45, 47].as_slice()
-    );
     Ok(())
+}
+
+// Whether the upper part of the set of these bytes has just these elements.
+fn has_upper_part<B: BitBlock>(
+    alloc: Global,
+    at: usize,
+    upper: &[usize],
+) -> Result<bool, SetError> {
+    let mut set = BitSet::<B>::from_bytes_general(alloc, &BYTES)?;
+    let part = set.split_off(alloc, at)?;
+    Ok(part.iter().eq(upper.iter().copied()))
 }
 
 #[test]
@@ -63,12 +67,26 @@ fn a_set_is_parted_at_a_number(rt: HostRuntime) -> Result<(), Fail> {
     Ok(())
 }
 
+#[test]
+fn the_upper_part_is_handed_out(rt: HostRuntime) -> Result<(), Fail> {
+    let upper = [34, 36, 38, 39, 40, 42, 44, 45, 47];
+    assert!(rt; has_upper_part::<u8>(rt.alloc(), 34, &upper)?);
+    assert!(rt; has_upper_part::<Block24>(rt.alloc(), 34, &upper)?);
+    assert!(rt; has_upper_part::<u32>(rt.alloc(), 34, &upper)?);
+    assert!(rt; has_upper_part::<u64>(rt.alloc(), 34, &upper)?);
+    Ok(())
+}
+
+// Whether a set is that of a byte.
+fn equals_byte<B: BitBlock>(alloc: Global, set: &BitSet<B>, byte: u8) -> Result<bool, SetError> {
+    Ok(*set == BitSet::from_bytes_general(alloc, &[byte])?)
+}
+
 fn check_append<B: BitBlock>(rt: &impl Abort, alloc: Global) -> Result<(), SetError> {
     let mut set = set_of::<B>(alloc, &[2, 6])?;
     let mut other = set_of::<B>(alloc, &[1, 3, 6])?;
     set.append(&mut other)?;
-    assert_eq!(rt; items(alloc, &set)?.as_slice(), [1, 2, 3, 6].as_slice());
-    assert!(rt; set == BitSet::from_bytes_general(alloc, &[0b0111_0010])?);
+    assert!(rt; set.iter().eq([1, 2, 3, 6]) && equals_byte(alloc, &set, 0b0111_0010)?);
     assert!(rt; other.is_empty());
     assert_eq!(rt; other.get_ref().len(), 7);
     Ok(())
@@ -100,18 +118,28 @@ fn split_and_join<B: BitBlock>(
 fn check_parted<B: BitBlock>(rt: &impl Abort, alloc: Global) -> Result<(), SetError> {
     let mut set = set_of::<B>(alloc, &[1, 2, 3, 6])?;
     let mut part = set.split_off(alloc, 3)?;
-    assert!(rt; set == BitSet::from_bytes_general(alloc, &[0b0110_0000])?);
-    assert!(rt; part == BitSet::from_bytes_general(alloc, &[0b0001_0010])?);
+    assert!(rt; set.iter().eq([1, 2]) && equals_byte(alloc, &set, 0b0110_0000)?);
+    assert!(rt; part.iter().eq([3, 6]) && equals_byte(alloc, &part, 0b0001_0010)?);
     assert_eq!(rt; [set.get_ref().len(), part.get_ref().len()], [3, 7]);
     set.append(&mut part)?;
-    assert_eq!(rt; items(alloc, &set)?.as_slice(), [1, 2, 3, 6].as_slice());
+    assert!(rt; set.iter().eq([1, 2, 3, 6]));
     assert_eq!(rt; [set.get_ref().len(), part.get_ref().len()], [7, 7]);
     assert!(rt; part.capacity() >= 7);
-    let whole = split_and_join(alloc, &mut set, 0)?;
-    assert_eq!(rt;
-        [set.count(), whole.count(), whole.get_ref().len()],
-        [4, 0, 7]
-    );
+    Ok(())
+}
+
+// How many elements {1, 2, 3, 6} has once it is parted at 0 and put together again, how many its part, and the length of
+// that.
+fn joined_at_0<B: BitBlock>(alloc: Global) -> Result<[usize; 3], SetError> {
+    let mut set = set_of::<B>(alloc, &[1, 2, 3, 6])?;
+    let part = split_and_join(alloc, &mut set, 0)?;
+    Ok([set.count(), part.count(), part.get_ref().len()])
+}
+
+#[test]
+fn a_set_that_was_handed_out_whole_comes_back(rt: HostRuntime) -> Result<(), Fail> {
+    assert_eq!(rt; joined_at_0::<u8>(rt.alloc())?, [4, 0, 7]);
+    assert_eq!(rt; joined_at_0::<u64>(rt.alloc())?, [4, 0, 7]);
     Ok(())
 }
 

@@ -1,0 +1,10 @@
+//! The tests of `bit_set`, by its public calls alone: those of what a set is kept in, of sets in parts and of the JSON
+//! form.
+#![tactic(auto)]
+
+#[cfg(test)]
+mod json_tests;
+#[cfg(test)]
+mod room_tests;
+#[cfg(test)]
+mod split_tests;
