@@ -1,6 +1,6 @@
 // Calls that move elements from one set to another.
 use crate::faults::Fault;
-use crate::standing::{FIRST, LENT, Room, first_set, lent_set, text_of, works};
+use crate::standing::{Room, first_set, lent_set, text_of, works};
 use crate::sweep::Sweep;
 use bit_set::{BitBlock, BitSet};
 use std::alloc::Global;
@@ -11,6 +11,9 @@ enum Call {
     SplitOff(usize),
 }
 
+// What both sets are before a call, and after one that was refused.
+const REFUSED: &str = "{3, 447} of 448 and {3, 7, 5000} of 5001";
+
 // A call at some room, under a name of its own, whether it may be refused, and what the set and the other one are
 // where it is answered.
 struct Row {
@@ -18,7 +21,7 @@ struct Row {
     call: Call,
     room: Room,
     may_take: bool,
-    answered: [&'static str; 2],
+    answered: &'static str,
 }
 
 const ROWS: &[Row] = &[
@@ -27,42 +30,42 @@ const ROWS: &[Row] = &[
         call: Call::Append,
         room: Room::Short,
         may_take: true,
-        answered: ["{3, 7, 447, 5000} of 5001", "{} of 5001"],
+        answered: "{3, 7, 447, 5000} of 5001 and {} of 5001",
     },
     Row {
         name: "append_within",
         call: Call::Append,
         room: Room::Ample,
         may_take: false,
-        answered: ["{3, 7, 447, 5000} of 5001", "{} of 5001"],
+        answered: "{3, 7, 447, 5000} of 5001 and {} of 5001",
     },
     Row {
         name: "split_off",
         call: Call::SplitOff(3),
         room: Room::Short,
         may_take: true,
-        answered: ["{} of 3", FIRST],
+        answered: "{} of 3 and {3, 447} of 448",
     },
     Row {
         name: "split_off_last",
         call: Call::SplitOff(447),
         room: Room::Short,
         may_take: true,
-        answered: ["{3} of 447", "{447} of 448"],
+        answered: "{3} of 447 and {447} of 448",
     },
     Row {
         name: "split_off_at_0",
         call: Call::SplitOff(0),
         room: Room::Short,
         may_take: false,
-        answered: ["{} of 0", FIRST],
+        answered: "{} of 0 and {3, 447} of 448",
     },
     Row {
         name: "split_off_at_the_length",
         call: Call::SplitOff(448),
         room: Room::Short,
         may_take: false,
-        answered: [FIRST, "{} of 0"],
+        answered: "{3, 447} of 448 and {} of 0",
     },
 ];
 
@@ -82,10 +85,10 @@ fn exchange<B: BitBlock>(
 
 impl Row {
     // What the two sets may be where the call ended so.
-    fn allowed(&self, ended: Result<(), Fault>) -> Option<[&'static str; 2]> {
+    fn allowed(&self, ended: Result<(), Fault>) -> Option<&'static str> {
         match ended {
             Ok(()) => Some(self.answered),
-            Err(Fault::Memory) if self.may_take => Some([FIRST, LENT]),
+            Err(Fault::Memory) if self.may_take => Some(REFUSED),
             Err(_) => None,
         }
     }
@@ -101,8 +104,8 @@ fn tried<B: BitBlock>(sweep: &Sweep<'_>, row: &Row) -> Result<bool, Fault> {
     let set_now = text_of(alloc, &set)?;
     let other_now = text_of(alloc, &other)?;
     let is_whole = works(&mut set)? && works(&mut other)?;
-    let is_right = row.allowed(ended) == Some([set_now.as_str(), other_now.as_str()]);
     let now = format!(in alloc; "{set_now} and {other_now}")?;
+    let is_right = row.allowed(ended) == Some(now.as_str());
     Ok(sweep.judge(is_whole && is_right, now.as_str())?)
 }
 
