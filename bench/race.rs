@@ -469,7 +469,7 @@ fn moves(table: &mut Table, density: &Density) {
             total(turns, |turn| {
                 other.clone_from(&second);
                 one.extend(other.iter());
-                other.make_empty();
+                other.clear();
                 usize::from(one.remove(turn))
             })
         },
@@ -482,10 +482,12 @@ fn moves(table: &mut Table, density: &Density) {
             total(turns, |turn| {
                 let mut part = BitSet::<u32>::default();
                 part.extend(set.iter().filter(|number| *number >= middle));
-                set.truncate(middle);
+                let mut bits = std::mem::take(&mut set).into_bit_vec();
+                bits.truncate(middle);
+                set = BitSet::from_bit_vec(bits);
                 let found = part.contains(middle + turn);
                 set.extend(part.iter());
-                part.make_empty();
+                part.clear();
                 usize::from(found)
             })
         },
@@ -580,7 +582,7 @@ fn sparse_set<B: BitBlock>(table: &mut Table, calls: &SparseCalls) {
                 if !xs.is_empty() {
                     set.shrink_to_fit();
                 }
-                set.get_ref().len()
+                usize::from(!set.contains(far[1]))
             })
         },
     ]);

@@ -43,7 +43,7 @@ fn shrink_emptied<B: BitBlock>(
     shrinks: usize,
     turns: usize,
 ) -> Result<usize, SetError> {
-    let mut lengths = 0usize;
+    let mut gone = 0usize;
     for _turn in 0..turns {
         let mut set = set_of::<B>(alloc, 0, &[0, number])?;
         let _first = set.remove(0);
@@ -51,9 +51,9 @@ fn shrink_emptied<B: BitBlock>(
         if shrinks != 0 {
             set.shrink_to_fit()?;
         }
-        lengths = lengths.wrapping_add(set.get_ref().len());
+        gone = gone.wrapping_add(usize::from(!set.contains(number)));
     }
-    Ok(lengths)
+    Ok(gone)
 }
 
 #[unsafe(no_mangle)]
