@@ -289,6 +289,14 @@ kept_use w n k ms ns pos small also kept before =
     let whole = whole_before w n (k + 1) pos before in
     same_use w ms ns k small also (λ j place. let inside = in_block w k j place in sym (kept (k * w + j) (omega arith)))
 
+-- a list that goes on with false values is at each index what it was
+pub kept_with_zeros : (w n m i : ℕ) (bit : Bool) (ms ns : List ℕ) → bit ≡ false → ((i : ℕ) → i < n → value_at w ns i ≡ value_at w ms i) → ((i : ℕ) → n ≤ i → value_at w ms i ≡ false) → ((i : ℕ) → n ≤ i → i < m → value_at w ns i ≡ bit) → ((i : ℕ) → m ≤ i → value_at w ns i ≡ false) → value_at w ns i ≡ value_at w ms i
+kept_with_zeros w n m i bit ms ns none kept clean added after =
+    ⊎_elim
+    (λ first. kept i first)
+    (λ past. ⊎_elim (λ inside. added i past inside ∙ none) (λ beyond. after i beyond) (cases_lt i m) ∙ sym (clean i past))
+    (cases_lt i n)
+
 -- a block whose values are all the same
 pub use_of_values : (w n k : ℕ) (ms : List ℕ) (bit : Bool) → 0 < w → get_or ms k 0 < 2 ^ w → k < blocks_for w n → ((i : ℕ) → k * w ≤ i → i < n → value_at w ms i ≡ bit) → ((i : ℕ) → n ≤ i → value_at w ms i ≡ false) → is_used ms k ≡ bit
 use_of_values w n k ms true pos small inside each clean =

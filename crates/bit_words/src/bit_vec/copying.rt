@@ -38,6 +38,9 @@ pub(crate) fn push_copies<B: BitBlock>(blocks: &mut Vec<B>, count: usize, block:
     ensures len { vec_len blocks.new ≡ count }
     ensures capacity { vec_capacity blocks.new ≡ vec_capacity blocks.old }
 {
+    if blocks.len() == count {
+        return;
+    }
     let alloc = *blocks.allocator();
     let owned = replace(blocks, Vec::new(alloc));
     *blocks = with_copies(owned, count, block);

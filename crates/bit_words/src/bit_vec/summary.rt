@@ -1,6 +1,6 @@
 // The summary of a vector of blocks: a list of truth values, one for each block, that tells which
 // are not 0. It is kept in blocks as well, and so changed by what changes those.
-ghost use Rattle.std.specs.Prelude.{◌≡◌, ◌≢◌, ℕ, ◌+◌, ◌*◌, ◌/◌, ◌^◌, ◌<◌, ◌≤◌, ◌==◌, ◌&&◌, ◌||◌, All, IfOk, IsOk, get_or, not, nat_lt, length, map, true, vec_len, vec_capacity};
+ghost use Rattle.std.specs.Prelude.{◌≡◌, ◌≢◌, ℕ, ◌+◌, ◌*◌, ◌/◌, ◌^◌, ◌<◌, ◌≤◌, ◌==◌, ◌&&◌, ◌||◌, All, IfOk, IsOk, get_or, not, nat_lt, length, map, false, true, vec_len, vec_capacity};
 ghost use Rattle.bit_words.specs.Bits.{blocks_for};
 ghost use Rattle.bit_words.specs.Storage.{is_one, value_at, IsTidy};
 ghost use Rattle.bit_words.specs.Summary.{is_used, IsSummary};
@@ -149,20 +149,22 @@ pub(crate) fn summary_of<B: BitBlock>(alloc: Global, blocks: &[B]) -> Result<Vec
     Ok(sums)
 }
 
-// The summary of `old` blocks, the last of which may have changed, becomes that of the longer list:
-// each of the new ones is 0, or none of them is. There is room for it.
+// The summary of `old` blocks becomes that of the longer list: each of the new ones is 0, or none of
+// them is, and then the last of the old ones may have changed. There is room for it.
+#[inline]
 pub(crate) fn append_to_summary<B: BitBlock>(sums: &mut Vec<B>, blocks: &[B], old: usize, bit: bool)
     requires tidy { IsTidy B.width B.number B.is_block sums.old.items old }
     requires blocks { All B.is_block blocks.now }
     requires longer { old ≤ length blocks.now }
     requires room { blocks_for B.width (length blocks.now) ≤ vec_capacity sums.old }
     requires before { (k : ℕ) → k + 1 < old → value_at B.width (map B.number sums.old.items) k ≡ is_used (map B.number blocks.now) k }
+    requires last { bit ≡ false → (k : ℕ) → k < old → value_at B.width (map B.number sums.old.items) k ≡ is_used (map B.number blocks.now) k }
     requires after { (k : ℕ) → old ≤ k → k < length blocks.now → is_used (map B.number blocks.now) k ≡ bit }
     ensures summary { IsSummary B.width B.number B.is_block blocks.now sums.new.items }
     ensures capacity { vec_capacity sums.new ≡ vec_capacity sums.old }
 {
     append_values(sums, old, blocks.len(), bit);
-    if old != 0 {
+    if bit && old != 0 {
         note_block(sums, blocks, old - 1);
     }
 }

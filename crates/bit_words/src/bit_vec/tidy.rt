@@ -45,7 +45,9 @@ pub(crate) fn keep_blocks<B: BitBlock>(blocks: &mut Vec<B>, count: usize)
     blocks.truncate(count);
 }
 
-// Appends `bit` to a list of `old` values until there are `len`. There is room for the blocks.
+// Appends `bit` to a list of `old` values until there are `len`. There is room for the blocks. A list
+// grows by this twice, in its blocks and in their summary: two calls cost as much as what they do.
+#[inline(always)]
 pub(crate) fn append_values<B: BitBlock>(blocks: &mut Vec<B>, old: usize, len: usize, bit: bool)
     requires tidy { IsTidy B.width B.number B.is_block blocks.old.items old }
     requires longer { old ≤ len }

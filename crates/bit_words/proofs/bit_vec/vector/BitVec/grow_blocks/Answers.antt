@@ -1,10 +1,10 @@
-use Rattle.std.proofs.Common.{◌≡◌, ◌<◌, ◌+◌, ◌++◌, ◌∙◌, ◌^◌, length, map, vec_capacity, replicate, sym, ap, ap₂, arith, rules}
+use Rattle.std.proofs.Common.{◌≡◌, ◌<◌, ◌+◌, ◌*◌, ◌++◌, ◌∙◌, ◌^◌, length, map, vec_capacity, replicate, sym, ap, ap₂, arith, rules}
 use Rattle.std.proofs.lemmas.Result.{err_from_is_err_and}
 use Rattle.bit_words.specs.Bits.{room_of}
 use Rattle.bit_words.specs.Summary.{shared_room}
 use Rattle.bit_words.proofs.RoomLemmas.{room_le, sums_for_shared}
 use Rattle.bit_words.proofs.StorageLemmas.{values_of-append}
-use Rattle.bit_words.proofs.SummaryLemmas.{kept_use, use_of_added}
+use Rattle.bit_words.proofs.SummaryLemmas.{kept_use, kept_with_zeros, same_use, use_of_added}
 use Rattle.bit_words.proofs.TidyLemmas.{blocks_for-le}
 use Rattle.bit_words.proofs.VectorLemmas.{le-room_of, length_from_view, room_from_view, room_for_more, room_of-short, numbers_below}
 use Rattle.bit_words.proofs.bit_vec.vector.BitVec.grow_blocks.Goals.{After-from_residual}
@@ -50,6 +50,16 @@ append_to_summary-requires-clause-before g c = λ k before.
     rw (c.deref.ensures.value, c.make_shared_room.ensures.sums) (
     c.self.invariant.summary.digit k
     ∙ kept_use w c.self.inside.len k (map f c.self.inside.blocks.items) (map f c.append_values.new.blocks.items) g.met.B.BitBlock.width_law.positive (numbers_below w f _ _ (λ x is. (g.met.B.BitBlock.number_law x is).0) c.self.invariant.tidy.each k) (numbers_below w f _ _ (λ x is. (g.met.B.BitBlock.number_law x is).0) c.append_values.ensures.tidy.each k) kept (omega arith))
+
+pub append_to_summary-requires-clause-last : goal.append_to_summary-requires-clause-last
+append_to_summary-requires-clause-last g c = λ none k _.
+    let w = g.B.BitBlock.width in
+    let f = g.B.BitBlock.number in
+    let kept = rw c.make_shared_room.ensures.items at c.append_values.ensures.kept in
+    rw (c.deref.ensures.value, c.make_shared_room.ensures.sums) (
+    c.self.invariant.summary.digit k
+    ∙ same_use w (map f c.self.inside.blocks.items) (map f c.append_values.new.blocks.items) k (numbers_below w f _ _ (λ x is. (g.met.B.BitBlock.number_law x is).0) c.self.invariant.tidy.each k) (numbers_below w f _ _ (λ x is. (g.met.B.BitBlock.number_law x is).0) c.append_values.ensures.tidy.each k)
+    (λ j _. sym (kept_with_zeros w c.self.inside.len (c.self.inside.len + c.args.n) (k * w + j) c.args.bit (map f c.self.inside.blocks.items) (map f c.append_values.new.blocks.items) none kept c.self.invariant.tidy.tail.clean c.append_values.ensures.added c.append_values.ensures.tidy.tail.clean)))
 
 pub append_to_summary-requires-clause-after : goal.append_to_summary-requires-clause-after
 append_to_summary-requires-clause-after g c = λ k from.
