@@ -145,6 +145,7 @@ pub(crate) fn shrink_shared_room<B: BitBlock>(
     ensures capacity { vec_capacity blocks.new ≤ vec_capacity blocks.old }
     ensures sums_capacity { vec_capacity sums.new ≤ vec_capacity sums.old }
     ensures empty { length blocks.old.items ≡ 0 → length sums.old.items ≡ 0 → IsOk result }
+    ensures no_more { vec_capacity blocks.old ≡ length blocks.old.items → vec_capacity sums.old ≡ length sums.old.items → IsOk result }
 {
     blocks.shrink_to_fit();
     sums.shrink_to_fit();
