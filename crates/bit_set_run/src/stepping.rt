@@ -147,10 +147,8 @@ fn copy<B: BitBlock>(
     let mut set = mem::replace(&mut sets[to], BitSet::new_general(alloc));
     let copied = set.clone_from(&sets[from]);
     sets[to] = set;
-    match copied {
-        Ok(()) => Ok(Reply::Done),
-        Err(refusal) => Err(refusal),
-    }
+    copied?;
+    Ok(Reply::Done)
 }
 
 // Makes the set at the first place what it and the one at the second become.
@@ -170,10 +168,8 @@ fn merge_in_place<B: BitBlock>(
     let mut set = mem::replace(&mut sets[to], BitSet::new_general(alloc));
     let merged = merge_with(&mut set, merge, &sets[other]);
     sets[to] = set;
-    match merged {
-        Ok(()) => Ok(Reply::Done),
-        Err(refusal) => Err(refusal),
-    }
+    merged?;
+    Ok(Reply::Done)
 }
 
 fn merge_with<B: BitBlock>(
@@ -208,10 +204,8 @@ fn append<B: BitBlock>(
     let mut other = mem::replace(&mut sets[from], BitSet::new_general(alloc));
     let appended = sets[to].append(&mut other);
     sets[from] = other;
-    match appended {
-        Ok(()) => Ok(Reply::Done),
-        Err(refusal) => Err(refusal),
-    }
+    appended?;
+    Ok(Reply::Done)
 }
 
 // Moves the numbers that are not below `at` from the set at the first place to the one at the second, in the place

@@ -1,19 +1,21 @@
 use Rattle.std.proofs.Common.{◌≡◌, sym, ap, ◌∙◌, arith}
+use Rattle.std.proofs.lemmas.Result.{err_from_is_err_and}
 use Rattle.bit_set.specs.Sets.{union}
 use Rattle.bit_set_run.specs.Kept.{kept}
 use Rattle.bit_set_run.proofs.SteppingLemmas.{appended_to, put_back_both}
 use Rattle.bit_set_run.proofs.stepping.append.Goals as goal
 
-pub returns-in-Ok-clause-after : goal.returns-in-Ok-clause-after
-returns-in-Ok-clause-after g c =
+pub returns-clause-after : goal.returns-clause-after
+returns-clause-after g c =
     let taken : c.replace-other.result ≡ c.index-sets-from.result = cc (c.replace-other.ensures.value) in
     appended_to c.args.sets.now c.args.to c.args.from c.replace-other.new.dest c.index-sets-to.result c.append-appended.new.self c.index-sets-from.result c.append-appended.new.other (omega (arith, c.told-sets)) (omega (arith, c.told-sets)) c.requires.apart c.index-sets-to.is c.index-sets-from.is
-    (c.in-Ok.ensures.elements ∙ ap (λ s. union (kept s) (kept c.replace-other.result)) (sym c.index-sets-to.is) ∙ ap (λ s. union (kept c.index-sets-to.result) (kept s)) taken) c.in-Ok.ensures.emptied
+    (c.in_ok-appended.ensures.elements ∙ ap (λ s. union (kept s) (kept c.replace-other.result)) (sym c.index-sets-to.is) ∙ ap (λ s. union (kept c.index-sets-to.result) (kept s)) taken) c.in_ok-appended.ensures.emptied
 
-pub returns-in-Err-clause-left : goal.returns-in-Err-clause-left
-returns-in-Err-clause-left g c =
+pub returns-in_err-appended-clause-left : goal.returns-in_err-appended-clause-left
+returns-in_err-appended-clause-left g c =
     let sets = c.args.sets.now in
-    let first : c.append-appended.new.self ≡ c.index-sets-to.result = cc (c.in-Err.ensures.err) in
-    let second : c.append-appended.new.other ≡ c.index-sets-from.result = cc (c.in-Err.ensures.err_other, c.replace-other.ensures.value) in
-    put_back_both sets c.args.to c.args.from c.replace-other.new.dest c.append-appended.new.self c.append-appended.new.other c.requires.apart
-    (rw first c.index-sets-to.is) (rw second c.index-sets-from.is)
+    let first : c.append-appended.new.self ≡ c.index-sets-to.result = cc (c.in_err-appended.ensures.err) in
+    let second : c.append-appended.new.other ≡ c.index-sets-from.result = cc (c.in_err-appended.ensures.err_other, c.replace-other.ensures.value) in
+    let p = err_from_is_err_and c.from_residual.result c.from_residual.ensures.1 in
+    rw p.1 (put_back_both sets c.args.to c.args.from c.replace-other.new.dest c.append-appended.new.self c.append-appended.new.other c.requires.apart
+    (rw first c.index-sets-to.is) (rw second c.index-sets-from.is))

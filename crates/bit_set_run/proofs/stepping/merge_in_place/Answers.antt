@@ -1,18 +1,20 @@
 use Rattle.std.proofs.Common.{◌≡◌, get_or, sym, ap, ◌∙◌, arith}
+use Rattle.std.proofs.lemmas.Result.{err_from_is_err_and}
 use Rattle.bit_set.specs.Sets.{merged_sets}
 use Rattle.bit_set_run.specs.Kept.{kept}
 use Rattle.bit_set_run.proofs.SteppingLemmas.{changed_by, put_back}
 use Rattle.bit_set_run.proofs.stepping.merge_in_place.Goals as goal
 
-pub returns-in-Ok-clause-after : goal.returns-in-Ok-clause-after
-returns-in-Ok-clause-after g c =
+pub returns-clause-after : goal.returns-clause-after
+returns-clause-after g c =
     let become = merged_sets c.args.merge in
     let was : c.replace-set.result ≡ c.index-sets-to.result = cc (c.replace-set.ensures.value) in
     changed_by c.args.sets.now become c.args.to c.args.other c.replace-set.new.dest c.index-sets-to.result c.merge_with-merged.new.set c.index-sets-other.result (omega (arith, c.told-sets)) (omega (arith, c.told-sets)) (λ e. c.requires.apart (sym e)) c.index-sets-to.is c.index-sets-other.is
-    (c.in-Ok.ensures.ok ∙ ap (λ s. become (kept c.replace-set.result) (kept s)) (sym c.index-sets-other.is) ∙ ap (λ s. become (kept s) (kept c.index-sets-other.result)) was)
+    (c.in_ok-merged.ensures.ok ∙ ap (λ s. become (kept c.replace-set.result) (kept s)) (sym c.index-sets-other.is) ∙ ap (λ s. become (kept s) (kept c.index-sets-other.result)) was)
 
-pub returns-in-Err-clause-left : goal.returns-in-Err-clause-left
-returns-in-Err-clause-left g c =
+pub returns-in_err-merged-clause-left : goal.returns-in_err-merged-clause-left
+returns-in_err-merged-clause-left g c =
     let sets = c.args.sets.now in
-    let kept_whole : c.merge_with-merged.new.set ≡ c.index-sets-to.result = cc (c.in-Err.ensures.err) in
-    put_back sets c.args.to c.replace-set.new.dest c.merge_with-merged.new.set (kept_whole ∙ c.index-sets-to.is ∙ ap (λ d. get_or sets c.args.to d) (sym kept_whole))
+    let kept_whole : c.merge_with-merged.new.set ≡ c.index-sets-to.result = cc (c.in_err-merged.ensures.err) in
+    let p = err_from_is_err_and c.from_residual.result c.from_residual.ensures.1 in
+    rw p.1 (put_back sets c.args.to c.replace-set.new.dest c.merge_with-merged.new.set (kept_whole ∙ c.index-sets-to.is ∙ ap (λ d. get_or sets c.args.to d) (sym kept_whole)))
