@@ -1,7 +1,7 @@
 //! The JSON form of sets: an object with the one member `bit_vec`, an object with the members
 //! `storage`, the numbers of the blocks, and `nbits`, the length.
 ghost use Rattle.std.specs.Prelude.{◌≡◌, ◌↔◌, ℕ, List, [], IfOk, IsErrOf, IsOk, length, map};
-ghost use Rattle.bit_words.specs.Bits.{blocks_of};
+ghost use Rattle.bit_words.specs.Bits.{blocks_for, blocks_of, room_of};
 ghost use Rattle.serde_json.specs.View.{view};
 ghost use Rattle.bit_set.specs.Json.{IsFirstFault, Spells};
 ghost use Rattle.std.specs.declared.alloc.AllocError.{AllocError};
@@ -64,11 +64,12 @@ impl<B: JsonBlock> BitSet<B> {
         form(alloc, storage, bits.len())
     }
 
-    /// The set that a value spells. One step a block and one an element. All tests come before memory
-    /// is asked for, and the first fault in the order of [`JsonError`] is answered. `Memory` comes only
+    /// The set that a value spells. One step a block and one an element. Asks for its blocks and no more.
+    /// All tests come before memory is asked for, and the first fault in the order of [`JsonError`] is answered. `Memory` comes only
     /// where the value spells a set, and never where that has length 0.
     pub fn from_json(alloc: Global, value: &Value) -> Result<Self, JsonError>
         ensures ok { IfOk result (λ set. Spells B.width (view value.now) (blocks_of B.width set.values) (length set.values)) }
+        ensures room { IfOk result (λ set. set.room ≡ room_of B.width (blocks_for B.width (length set.values))) }
         ensures shape { IsErrOf result JsonError.Shape ↔ IsFirstFault B.width (view value.now) JsonError.Shape }
         ensures number { IsErrOf result JsonError.Number ↔ IsFirstFault B.width (view value.now) JsonError.Number }
         ensures blocks { IsErrOf result JsonError.Blocks ↔ IsFirstFault B.width (view value.now) JsonError.Blocks }

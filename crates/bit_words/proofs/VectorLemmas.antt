@@ -37,7 +37,7 @@ room_of-short w blocks n pos h =
 pub blocks_from_room : (w blocks n : ℕ) → 0 < w → n ≤ room_of w blocks → blocks_for w n ≤ blocks
 blocks_from_room w blocks n pos h = ⊎_elim (λ short. let less = room_of-short w blocks n pos short in absurd (omega arith)) (λ enough. enough) (cases_lt blocks (blocks_for w n))
 
-room_of-max : (w a b : ℕ) → room_of w (max a b) ≡ max (room_of w a) (room_of w b)
+pub room_of-max : (w a b : ℕ) → room_of w (max a b) ≡ max (room_of w a) (room_of w b)
 room_of-max w a b =
     ⊎_elim
     (λ (less : a < b). let more = mul-le-mul_right w (let le : a ≤ b = omega arith in le) in let e : max a b ≡ b = omega arith in rw e (omega arith))

@@ -1,7 +1,7 @@
 // Making of the bits that were read.
 ghost use Rattle.std.specs.Prelude.{◌≡◌, ◌≢◌, ◌+◌, ◌^◌, ◌<◌, ℕ, All, IfOk, IsOk, false, get_or, length};
 ghost use Rattle.std.specs.Int.{bit_at};
-ghost use Rattle.bit_words.specs.Bits.{blocks_for, blocks_of};
+ghost use Rattle.bit_words.specs.Bits.{blocks_for, blocks_of, room_of};
 ghost use Rattle.bit_words.specs.Storage.{is_one};
 ghost use Rattle.bit_set.specs.Json.{IsClean};
 ghost use Rattle.bit_set.specs.Entries.{IsEntry, numbers_of};
@@ -24,6 +24,7 @@ pub(super) fn bits_of_entries<B: JsonBlock>(
     requires clean { IsClean B.width (numbers_of entries.now) len }
     ensures blocks { IfOk result (λ bits. blocks_of B.width bits.values ≡ numbers_of entries.now) }
     ensures length { IfOk result (λ bits. length bits.values ≡ len) }
+    ensures room { IfOk result (λ bits. bits.room ≡ room_of B.width (blocks_for B.width len)) }
     ensures empty { len ≡ 0 → IsOk result }
 {
     let mut bits = BitVec::from_elem_general(alloc, len, false)?;
@@ -42,6 +43,7 @@ fn put_ones<B: BitBlock>(bits: &mut BitVec<B>, place: usize, mut block: B)
     ensures values { (j : ℕ) → j < B.width → get_or bits.new.values (place + j) false ≡ is_one (B.number block) j }
     ensures others { (i : ℕ) → ((j : ℕ) → j < B.width → i ≢ place + j) → get_or bits.new.values i false ≡ get_or bits.old.values i false }
     ensures length { length bits.new.values ≡ length bits.old.values }
+    ensures room { bits.new.room ≡ bits.old.room }
 {
     while block != B::zero() {
         let lowest = take_lowest_one(&mut block);

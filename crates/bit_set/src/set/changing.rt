@@ -1,6 +1,7 @@
 // Calls that change a set in place.
 ghost use Rattle.std.specs.Prelude.{◌≡◌, ℕ, ◌+◌, ◌-◌, ◌<◌, ◌≤◌, ◌↔◌, max, min, not, IfOk, IfErr, OnOk, OnErr, IsOk, is_ok, IsErrOf, All, List, [], ◌++◌, length, replicate, false, true, Some};
 ghost use Rattle.std.specs.Iterator.{Drains, HoldsAlong, IsFinite, YieldsThen};
+ghost use Rattle.bit_words.specs.Bits.{blocks_for, room_of};
 ghost use Rattle.bit_set.specs.Sets.{elements, has, put, those_below, without};
 ghost use Rattle.bit_set.specs.Effects.{TakesIn};
 ghost use Rattle.bit_set.specs.Faults.{IsRefusal};
@@ -140,13 +141,14 @@ impl<B: BitBlock> BitSet<B> {
         self.bits.remove_all();
     }
 
-    /// Becomes equal to `other`, in one pass over its blocks. Fails only where its length passes the
-    /// room and a growth is refused; then nothing changed.
+    /// Becomes equal to `other`, in one pass over its blocks. Where the room was missing it asks for the
+    /// blocks of `other` and no more. Fails only there, and then nothing changed.
     pub fn clone_from(&mut self, other: &Self) -> Result<(), AllocError>
         ensures ok { OnOk result (self.new.values ≡ other.now.values) }
         ensures err { OnErr result (self.new ≡ self.old) }
         ensures full { OnErr result (self.old.room < length other.now.values) }
         ensures succeeds { length other.now.values ≤ self.old.room → IsOk result }
+        ensures exact { OnOk result (self.new.room ≡ max self.old.room (room_of B.width (blocks_for B.width (length other.now.values)))) }
         ensures room { self.old.room ≤ self.new.room }
         ensures within { length other.now.values ≤ self.old.room → self.new.room ≡ self.old.room }
         ensures leaves { Leaves (CloneFrom (length other.now.values)) self.old.room (is_ok result) self.new.room }

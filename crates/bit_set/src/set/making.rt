@@ -80,9 +80,11 @@ impl<B: BitBlock> BitSet<B> {
         Ok(set)
     }
 
-    /// A set of its own over the same list. Copies each block once; fails only where memory is refused.
+    /// A set of its own over the same list. Copies each block once. Asks for its blocks and no more;
+    /// fails only where memory is refused.
     pub fn clone(&self, alloc: Global) -> Result<Self, AllocError>
         ensures values { IfOk result (λ set. set.values ≡ self.now.values) }
+        ensures room { IfOk result (λ set. set.room ≡ room_of B.width (blocks_for B.width (length self.now.values))) }
         ensures empty { length self.now.values ≡ 0 → IsOk result }
     {
         let bits = self.bits.clone(alloc)?;

@@ -1,5 +1,6 @@
 // Calls that move elements from one set to another.
 ghost use Rattle.std.specs.Prelude.{◌≡◌, ◌<◌, ◌≤◌, if◌then◌else◌, nat_lt, max, min, IfOk, OnOk, OnErr, IsOk, is_ok, [], length};
+ghost use Rattle.bit_words.specs.Bits.{blocks_for, room_of};
 ghost use Rattle.bit_set.specs.Sets.{elements, those_below, those_from, union};
 ghost use Rattle.bit_set.specs.Room.{Leaves};
 ghost use Rattle.bit_set.specs.Room.Call.{Append};
@@ -35,7 +36,7 @@ impl<B: BitBlock> BitSet<B> {
 
     /// Parts the set at `at`: the elements below it stay, and the others are handed out. The set that is
     /// handed out keeps the length, and the length of this one becomes `at`. Copies the blocks from that
-    /// of `at` on, each once, and writes a zero for each before it.
+    /// of `at` on, each once, and writes a zero for each before it. Asks for these blocks and no more.
     ///
     /// Where `at` is at or past the length nothing changes, and an empty set of length 0 is handed out.
     /// Where it is 0 all is handed out, the room too, and an empty set of length 0 stays. Both take no
@@ -52,6 +53,7 @@ impl<B: BitBlock> BitSet<B> {
         ensures end { length self.old.values ≤ at → IsOk result }
         ensures room { 0 < at → self.new.room ≡ self.old.room }
         ensures given { at ≡ 0 → self.new.room ≡ 0 }
+        ensures exact { 0 < at → at < length self.old.values → IfOk result (λ part. part.room ≡ room_of B.width (blocks_for B.width (length self.old.values))) }
         ensures nothing { 0 < at → length self.old.values ≤ at → IfOk result (λ part. part.room ≡ 0) }
     {
         if at == 0 {

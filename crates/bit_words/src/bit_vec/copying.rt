@@ -1,6 +1,6 @@
 // Whole blocks that are appended, or copied from another list. The vector keeps its capacity: std says
 // so of `push_reserved` and of `copy_from_slice`, but not of `resize` and `extend_from_slice`.
-ghost use Rattle.std.specs.Prelude.{◌≡◌, ◌+◌, ◌-◌, ◌<◌, ◌≤◌, ◌++◌, All, IfOk, IsOk, OnErr, OnOk, length, map, replicate, vec_len, vec_capacity};
+ghost use Rattle.std.specs.Prelude.{◌≡◌, ◌+◌, ◌-◌, ◌<◌, ◌≤◌, ◌++◌, All, IfOk, IsOk, OnErr, OnOk, length, map, max, replicate, vec_len, vec_capacity};
 ghost use Rattle.bit_words.specs.Bits.{blocks_for};
 ghost use Rattle.bit_words.specs.Summary.{shared_room};
 
@@ -46,17 +46,6 @@ pub(crate) fn push_copies<B: BitBlock>(blocks: &mut Vec<B>, count: usize, block:
     *blocks = with_copies(owned, count, block);
 }
 
-// A new vector of the same blocks.
-pub(crate) fn copy_of<B: BitBlock>(alloc: Global, blocks: &[B]) -> Result<Vec<B>, AllocError>
-    ensures items { IfOk result (λ copy. copy.items ≡ blocks.now) }
-    ensures len { IfOk result (λ copy. vec_len copy ≡ length blocks.now) }
-    ensures empty { length blocks.now ≡ 0 → IsOk result }
-{
-    let mut copy = Vec::with_capacity(alloc, blocks.len())?;
-    copy.extend_from_slice(blocks)?;
-    Ok(copy)
-}
-
 // The blocks with `more` after them. There is room for them. The loop owns the vector, as above.
 fn with_blocks<B: BitBlock>(mut blocks: Vec<B>, more: &[B]) -> Vec<B>
     requires { vec_len blocks + length more.now ≤ vec_capacity blocks }
@@ -68,6 +57,36 @@ fn with_blocks<B: BitBlock>(mut blocks: Vec<B>, more: &[B]) -> Vec<B>
         blocks.push_reserved(*block);
     }
     blocks
+}
+
+// The blocks with `more` after them, which take all the room that is left. A `memcpy`, which a loop is not.
+// That it keeps the capacity is so, but std does not say it: so it is tested.
+pub(crate) fn filled_with<B: BitBlock>(mut blocks: Vec<B>, more: &[B]) -> Result<Vec<B>, AllocError>
+    requires { vec_len blocks + length more.now ≡ vec_capacity blocks }
+    ensures items { IfOk result (λ filled. filled.items ≡ blocks.items ++ more.now) }
+    ensures len { IfOk result (λ filled. vec_len filled ≡ vec_capacity blocks) }
+    ensures capacity { IfOk result (λ filled. vec_capacity filled ≡ vec_capacity blocks) }
+    ensures full { length more.now ≡ 0 → IsOk result }
+{
+    if more.is_empty() {
+        return Ok(blocks);
+    }
+    let room = blocks.capacity();
+    blocks.extend_from_slice(more)?;
+    if blocks.capacity() > room {
+        return Err(AllocError);
+    }
+    Ok(blocks)
+}
+
+// A new vector of the same blocks, with room for no more.
+pub(crate) fn copy_of<B: BitBlock>(alloc: Global, blocks: &[B]) -> Result<Vec<B>, AllocError>
+    ensures items { IfOk result (λ copy. copy.items ≡ blocks.now) }
+    ensures len { IfOk result (λ copy. vec_len copy ≡ length blocks.now) }
+    ensures room { IfOk result (λ copy. vec_capacity copy ≡ length blocks.now) }
+    ensures empty { length blocks.now ≡ 0 → IsOk result }
+{
+    filled_with(Vec::with_capacity(alloc, blocks.len())?, blocks)
 }
 
 // The blocks become those of `from`. There is room for them.
@@ -96,6 +115,7 @@ pub(crate) fn take_over<B: BitBlock>(
     requires count { length from_sums.now ≡ blocks_for B.width (length from.now) }
     ensures items { OnOk result (blocks.new.items ≡ from.now) }
     ensures sums { OnOk result (sums.new.items ≡ from_sums.now) }
+    ensures exact { OnOk result (shared_room B.width (vec_capacity blocks.new) (vec_capacity sums.new) ≡ max (shared_room B.width (vec_capacity blocks.old) (vec_capacity sums.old)) (length from.now)) }
     ensures err { OnErr result (blocks.new ≡ blocks.old) }
     ensures err_sums { OnErr result (sums.new ≡ sums.old) }
     ensures full { OnErr result (shared_room B.width (vec_capacity blocks.old) (vec_capacity sums.old) < length from.now) }

@@ -1,12 +1,12 @@
 // A copy of the tail of a list, from an index on, in its own places: the values before it are false.
-ghost use Rattle.std.specs.Prelude.{◌≡◌, ℕ, ◌<◌, ◌≤◌, ◌++◌, ◌&&◌, All, IfOk, drop, false, length, map, nat_le, replicate, vec_len};
+ghost use Rattle.std.specs.Prelude.{◌≡◌, ℕ, ◌<◌, ◌≤◌, ◌++◌, ◌&&◌, All, IfOk, drop, false, length, map, nat_le, replicate, vec_len, vec_capacity};
 ghost use Rattle.bit_words.specs.Bits.{blocks_for};
 ghost use Rattle.bit_words.specs.Storage.{value_at, IsTidy};
 ghost use Rattle.bit_words.specs.Summary.{is_used, IsSummary};
 
 use super::BitBlock;
 use super::changes::{block_at, block_index, place_in_block, put_block};
-use super::copying::push_copies;
+use super::copying::{filled_with, push_copies};
 use super::masks::cut_below;
 use super::summary::note_block;
 use std::alloc::{AllocError, Global};
@@ -18,11 +18,11 @@ fn copy_past<B: BitBlock>(alloc: Global, blocks: &[B], count: usize) -> Result<V
     ensures numbers { IfOk result (λ copy. map B.number copy.items ≡ replicate count 0 ++ drop count (map B.number blocks.now)) }
     ensures each { IfOk result (λ copy. All B.is_block copy.items) }
     ensures len { IfOk result (λ copy. vec_len copy ≡ length blocks.now) }
+    ensures room { IfOk result (λ copy. vec_capacity copy ≡ length blocks.now) }
 {
     let mut copy = Vec::with_capacity(alloc, blocks.len())?;
     push_copies(&mut copy, count, B::zero());
-    copy.extend_from_slice(&blocks[count..])?;
-    Ok(copy)
+    filled_with(copy, &blocks[count..])
 }
 
 // A new vector of as many blocks, of the same values, but for those before `at`, which are false.
@@ -36,6 +36,7 @@ pub(crate) fn copy_values_from<B: BitBlock>(
     ensures values { IfOk result (λ copy. (i : ℕ) → value_at B.width (map B.number copy.items) i ≡ (nat_le at i && value_at B.width (map B.number blocks.now) i)) }
     ensures each { IfOk result (λ copy. All B.is_block copy.items) }
     ensures len { IfOk result (λ copy. vec_len copy ≡ length blocks.now) }
+    ensures room { IfOk result (λ copy. vec_capacity copy ≡ length blocks.now) }
 {
     let k = block_index::<B>(at);
     let mut copy = copy_past(alloc, blocks, k)?;
@@ -60,7 +61,8 @@ pub(crate) fn copy_summary_from<B: BitBlock>(
     requires within { k < length blocks.now }
     requires before { (q : ℕ) → q < k → is_used (map B.number blocks.now) q ≡ false }
     requires after { (q : ℕ) → k < q → value_at B.width (map B.number sums.now) q ≡ is_used (map B.number blocks.now) q }
-    ensures { IfOk result (λ copy. IsSummary B.width B.number B.is_block blocks.now copy.items) }
+    ensures summary { IfOk result (λ copy. IsSummary B.width B.number B.is_block blocks.now copy.items) }
+    ensures room { IfOk result (λ copy. vec_capacity copy ≡ length sums.now) }
 {
     let mut copy = copy_values_from(alloc, sums, k)?;
     note_block(&mut copy, blocks, k);

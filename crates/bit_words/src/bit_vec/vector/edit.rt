@@ -1,5 +1,6 @@
 // Calls that change the list in place.
-ghost use Rattle.std.specs.Prelude.{◌≡◌, ◌+◌, ◌<◌, ◌≤◌, [], ◌++◌, length, replicate, slice_get, slice_set, take, Some, IsOk, OnErr, OnOk};
+ghost use Rattle.std.specs.Prelude.{◌≡◌, ◌+◌, ◌<◌, ◌≤◌, [], ◌++◌, length, max, replicate, slice_get, slice_set, take, Some, IsOk, OnErr, OnOk};
+ghost use Rattle.bit_words.specs.Bits.{blocks_for, room_of};
 
 use super::BitVec;
 use crate::bit_vec::BitBlock;
@@ -126,6 +127,7 @@ impl<B: BitBlock> BitVec<B> {
         ensures full { OnErr result (self.old.room < length other.now.values) }
         ensures succeeds { length other.now.values ≤ self.old.room → IsOk result }
         ensures within { length other.now.values ≤ self.old.room → self.new.room ≡ self.old.room }
+        ensures exact { OnOk result (self.new.room ≡ max self.old.room (room_of B.width (blocks_for B.width (length other.now.values)))) }
         ensures room { self.old.room ≤ self.new.room }
     {
         take_over(

@@ -117,10 +117,11 @@ impl<B: BitBlock> BitVec<B> {
         })
     }
 
-    /// A bit vector of the same list. Copies each block once. Fails only where memory is refused, and
-    /// never for an empty list.
+    /// A bit vector of the same list. Copies each block once. Asks for its blocks and no more. Fails only
+    /// where memory is refused, and never for an empty list.
     pub fn clone(&self, alloc: Global) -> Result<Self, AllocError>
         ensures values { IfOk result (λ vector. vector.values ≡ self.now.values) }
+        ensures room { IfOk result (λ vector. vector.room ≡ room_of B.width (blocks_for B.width (length self.now.values))) }
         ensures empty { length self.now.values ≡ 0 → IsOk result }
     {
         let blocks = copy_of(alloc, &self.blocks)?;
@@ -133,11 +134,12 @@ impl<B: BitBlock> BitVec<B> {
     }
 
     /// A bit vector of the same length and the same values from `at` on, which is below the length; those
-    /// before it are false. Writes each block once, those before that of `at` as zeros. Fails only where
-    /// memory is refused.
+    /// before it are false. Writes each block once, those before that of `at` as zeros. Asks for its blocks
+    /// and no more. Fails only where memory is refused.
     pub fn clone_tail(&self, alloc: Global, at: usize) -> Result<Self, AllocError>
         requires { at < length self.now.values }
-        ensures { IfOk result (λ vector. vector.values ≡ replicate at false ++ drop at self.now.values) }
+        ensures room { IfOk result (λ vector. vector.room ≡ room_of B.width (blocks_for B.width (length self.now.values))) }
+        ensures values { IfOk result (λ vector. vector.values ≡ replicate at false ++ drop at self.now.values) }
     {
         let blocks = copy_values_from(alloc, &self.blocks, at)?;
         let summary = copy_summary_from(alloc, &self.summary, &blocks, block_index::<B>(at))?;

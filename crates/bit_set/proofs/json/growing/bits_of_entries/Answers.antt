@@ -13,6 +13,7 @@ loop-k-init g c =
     record {
       filled = λ i. ap (λ values. get_or values i false) is ∙ filled_none g.B.BitBlock.width c.args.len i (numbers_of c.args.entries.now);
       long = ap length is ∙ length-replicate c.args.len false;
+      room = c.in_ok-bits.ensures.room;
     }
 
 pub put_ones-requires-clause-within : goal.put_ones-requires-clause-within
@@ -45,6 +46,7 @@ loop-k-preserved g c =
           (λ j within. ap (λ p. get_or new (p + j) false) (sym begins) ∙ c.put_ones.ensures.values j within ∙ ap (λ m. is_one m j) number)
           (λ i apart. c.put_ones.ensures.others i (λ j within at. apart j within (at ∙ ap (λ p. p + j) begins)));
       long = c.put_ones.ensures.length ∙ c.loop-k.invariant.long;
+      room = c.put_ones.ensures.room ∙ c.loop-k.invariant.room;
     }
 
 pub returns-clause-blocks : goal.returns-clause-blocks

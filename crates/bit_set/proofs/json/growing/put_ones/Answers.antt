@@ -1,4 +1,4 @@
-use Rattle.std.proofs.Common.{◌+◌, ◌<◌, [], ap, length, arith}
+use Rattle.std.proofs.Common.{◌+◌, ◌∙◌, ◌<◌, [], ap, length, refl, arith}
 use Rattle.bit_set.proofs.PlaceLemmas.{places-lowest}
 use Rattle.bit_set.proofs.FilledLemmas.{put_nothing, put_lowest, lowest_is_one}
 use Rattle.bit_set.proofs.json.growing.put_ones.Goals as goal
@@ -7,6 +7,7 @@ pub loop-block-init : goal.loop-block-init
 loop-block-init g c = record {
   of_block = c.requires.of_block;
   put = put_nothing g.B.BitBlock.width c.args.place (g.B.BitBlock.number c.args.block) c.args.bits.now.values c.requires.falses;
+  room = refl;
 }
 
 pub loop-block-smaller : goal.loop-block-smaller
@@ -37,4 +38,5 @@ loop-block-preserved g c =
     record {
       of_block = taken.of_block;
       put = rw c.set.ensures.values (put_lowest w p whole m r i old new put taken.lowest taken.within taken.cleared inside);
+      room = c.set.ensures.room ∙ c.loop-block.invariant.room;
     }

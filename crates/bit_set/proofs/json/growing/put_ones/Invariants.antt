@@ -1,4 +1,4 @@
-use Rattle.std.proofs.Common.{[], length}
+use Rattle.std.proofs.Common.{◌≡◌, [], length}
 use Rattle.bit_set.specs.Entries.{IsPartlyPut}
 use Rattle.bit_set.specs.Places.{places}
 use Rattle.bit_set.proofs.json.growing.put_ones.Given as goal
@@ -10,6 +10,7 @@ invariant-loop-block g l =
     record {
       of_block : g.B.BitBlock.is_block l.block;
       put : IsPartlyPut g.B.BitBlock.width l.place (number l.fn.block) (number l.block) l.fn.bits.values l.bits.values;
+      room : l.bits.room ≡ l.fn.bits.room;
     }
 
 abbrev pub decreases-loop-block : goal.decreases-loop-block

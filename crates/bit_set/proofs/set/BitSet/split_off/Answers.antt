@@ -31,4 +31,4 @@ pub returns-clause-elements : goal.returns-clause-elements
 returns-clause-elements g c = rw (c.truncate.ensures.values, ← c.self.view_is) (elements-take c.self.inside.bits.values c.args.at)
 
 pub returns-clause-part : goal.returns-clause-part
-returns-clause-part g c = rw (c.in_ok-bits.ensures, ← c.self.view_is) (elements-tail c.self.inside.bits.values c.args.at)
+returns-clause-part g c = rw (c.in_ok-bits.ensures.values, ← c.self.view_is) (elements-tail c.self.inside.bits.values c.args.at)

@@ -15,8 +15,8 @@ note_block-requires-clause-in_sums g c =
     let within = blocks_for-above g.B.BitBlock.width (length c.args.blocks.now) c.args.k g.met.B.BitBlock.width_law.positive (omega arith) in
     omega (arith, within, c.requires.tidy.count, c.in_ok-copy.ensures.len)
 
-pub returns : goal.returns
-returns g c =
+pub returns-clause-summary : goal.returns-clause-summary
+returns-clause-summary g c =
     let w = g.B.BitBlock.width in
     let f = g.B.BitBlock.number in
     summary_noted w f _ c.args.blocks.now c.in_ok-copy.copy.items _ c.args.k (omega arith)

@@ -1,6 +1,7 @@
-use Rattle.std.proofs.Common.{◌≡◌, ◌∙◌, length, sym, ap, arith}
+use Rattle.std.proofs.Common.{◌≡◌, ◌∙◌, length, vec_capacity, sym, ap, arith}
 use Rattle.std.proofs.lemmas.Bool.{true≢false}
-use Rattle.bit_words.specs.Bits.{blocks_for}
+use Rattle.bit_words.specs.Bits.{blocks_for, room_of}
+use Rattle.bit_words.proofs.RoomLemmas.{shared_whole}
 use Rattle.bit_words.proofs.VectorLemmas.{length_from_view, blocks_for-none}
 use Rattle.bit_words.proofs.bit_vec.vector.BitVec.clone.Goals as goal
 
@@ -19,3 +20,10 @@ returns-in_err-summary-clause-empty g c = λ none.
     let blocks : length c.self.inside.blocks.items ≡ 0 = c.self.invariant.tidy.count ∙ ap (blocks_for w) len ∙ sym zero in
     let sums : length c.self.inside.summary.items ≡ 0 = c.self.invariant.summary.tidy.count ∙ ap (blocks_for w) blocks ∙ sym zero in
     absurd (true≢false (sym (c.in_err-summary.ensures.empty (omega arith))))
+
+pub returns-clause-room : goal.returns-clause-room
+returns-clause-room g c =
+    let w = g.B.BitBlock.width in
+    let blocks : vec_capacity c.in_ok-blocks.blocks ≡ length c.self.inside.blocks.items = omega (arith, c.in_ok-blocks.ensures.room, c.deref.ensures.len) in
+    let sums : vec_capacity c.in_ok-summary.summary ≡ blocks_for w (length c.self.inside.blocks.items) = omega (arith, c.in_ok-summary.ensures.room, c.deref-2.ensures.len, c.self.invariant.summary.tidy.count) in
+    rw (length_from_view _ _ _ _ _ c.self.view_is) (ap (room_of w) (shared_whole w _ _ _ g.met.B.BitBlock.width_law.positive blocks sums ∙ c.self.invariant.tidy.count))

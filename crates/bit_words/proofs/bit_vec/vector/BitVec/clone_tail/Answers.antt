@@ -1,5 +1,7 @@
-use Rattle.std.proofs.Common.{◌≡◌, ◌<◌, ◌∙◌, ◌++◌, false, drop, length, map, replicate, ap, arith}
+use Rattle.std.proofs.Common.{◌≡◌, ◌<◌, ◌∙◌, ◌++◌, false, drop, length, map, replicate, vec_capacity, ap, arith}
+use Rattle.bit_words.specs.Bits.{blocks_for, room_of}
 use Rattle.bit_words.proofs.BitsLemmas.{blocks_for-above}
+use Rattle.bit_words.proofs.RoomLemmas.{shared_whole}
 use Rattle.bit_words.proofs.TailLemmas.{tail_kept, tail_tidy, tail_unused, values_of-tail}
 use Rattle.bit_words.proofs.TidyLemmas.{blocks_for-le}
 use Rattle.bit_words.proofs.VectorLemmas.{length_from_view, numbers_below}
@@ -45,11 +47,18 @@ copy_summary_from-requires-clause-after g c = λ q after.
 pub invariant_of-result : goal.invariant_of-result
 invariant_of-result g c = record {
   tidy = tail_tidy g.B.BitBlock.width _ c.args.at g.B.BitBlock.number _ c.self.inside.blocks.items _ c.self.invariant.tidy c.in_ok-blocks.ensures.each (omega (arith, c.in_ok-blocks.ensures.len, c.deref.ensures.len)) (rw c.deref.ensures.value at c.in_ok-blocks.ensures.values);
-  summary = rw c.deref-3.ensures.value at c.in_ok-summary.ensures;
+  summary = rw c.deref-3.ensures.value at c.in_ok-summary.ensures.summary;
 }
 
-pub returns : goal.returns
-returns g c =
+pub returns-clause-values : goal.returns-clause-values
+returns-clause-values g c =
     let at : c.args.at < c.self.inside.len = rw (length_from_view _ _ _ _ _ c.self.view_is) at c.requires in
     values_of-tail g.B.BitBlock.width (map g.B.BitBlock.number c.self.inside.blocks.items) _ c.self.inside.len c.args.at (omega arith) (rw c.deref.ensures.value at c.in_ok-blocks.ensures.values)
     ∙ ap (λ v. replicate c.args.at false ++ drop c.args.at v.values) c.self.view_is
+
+pub returns-clause-room : goal.returns-clause-room
+returns-clause-room g c =
+    let w = g.B.BitBlock.width in
+    let blocks : vec_capacity c.in_ok-blocks.blocks ≡ length c.self.inside.blocks.items = omega (arith, c.in_ok-blocks.ensures.room, c.deref.ensures.len) in
+    let sums : vec_capacity c.in_ok-summary.summary ≡ blocks_for w (length c.self.inside.blocks.items) = omega (arith, c.in_ok-summary.ensures.room, c.deref-2.ensures.len, c.self.invariant.summary.tidy.count) in
+    rw (length_from_view _ _ _ _ _ c.self.view_is) (ap (room_of w) (shared_whole w _ _ _ g.met.B.BitBlock.width_law.positive blocks sums ∙ c.self.invariant.tidy.count))
