@@ -138,8 +138,8 @@ impl<B: BitBlock> BitVec<B> {
     /// and no more. Fails only where memory is refused.
     pub fn clone_tail(&self, alloc: Global, at: usize) -> Result<Self, AllocError>
         requires { at < length self.now.values }
-        ensures room { IfOk result (λ vector. vector.room ≡ room_of B.width (blocks_for B.width (length self.now.values))) }
         ensures values { IfOk result (λ vector. vector.values ≡ replicate at false ++ drop at self.now.values) }
+        ensures room { IfOk result (λ vector. vector.room ≡ room_of B.width (blocks_for B.width (length self.now.values))) }
     {
         let blocks = copy_values_from(alloc, &self.blocks, at)?;
         let summary = copy_summary_from(alloc, &self.summary, &blocks, block_index::<B>(at))?;
