@@ -38,12 +38,16 @@ pub(crate) fn push_copies<B: BitBlock>(blocks: &mut Vec<B>, count: usize, block:
     ensures len { vec_len blocks.new ≡ count }
     ensures capacity { vec_capacity blocks.new ≡ vec_capacity blocks.old }
 {
-    if blocks.len() == count {
-        return;
+    match count - blocks.len() {
+        0 => {}
+        // As often as not where a list grows step by step, and not worth a `memset`.
+        1 => blocks.push_reserved(block),
+        _ => {
+            let alloc = *blocks.allocator();
+            let owned = replace(blocks, Vec::new(alloc));
+            *blocks = with_copies(owned, count, block);
+        }
     }
-    let alloc = *blocks.allocator();
-    let owned = replace(blocks, Vec::new(alloc));
-    *blocks = with_copies(owned, count, block);
 }
 
 // The blocks with `more` after them. There is room for them. The loop owns the vector, as above.
