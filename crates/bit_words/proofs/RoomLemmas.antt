@@ -121,9 +121,6 @@ shared_short_sums w blocks sums count pos short = let less = short_of_sums w cou
 
 pub ruleset shared_tests = (shared_enough, shared_short_blocks, shared_short_sums)
 
-pub from_shared : (w blocks sums count : ℕ) → 0 < w → count ≤ shared_room w blocks sums → (count ≤ blocks) × (blocks_for w count ≤ sums)
-from_shared w blocks sums count pos h = (omega arith, sums_for_shared w count sums pos (omega arith))
-
 pub shared_le : (w blocks sums more_blocks more_sums : ℕ) → blocks ≤ more_blocks → sums ≤ more_sums → shared_room w blocks sums ≤ shared_room w more_blocks more_sums
 shared_le w blocks sums more_blocks more_sums first second = let more = mul-le-mul_right w second in omega arith
 

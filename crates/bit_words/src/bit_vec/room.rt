@@ -43,8 +43,8 @@ pub(crate) fn have_room<B: BitBlock>(blocks: &Vec<B>, sums: &Vec<B>, count: usiz
     count <= blocks.capacity() && block_count::<B>(count) <= sums.capacity()
 }
 
-// Makes room for `count` blocks and their summary where it may be missing. What has more room of the two
-// grows first: then a refusal of the other leaves the room that they share.
+// Makes room for `count` blocks and their summary where it is missing. What has more room of the two grows
+// first: then a refusal of the other leaves the room that they share.
 #[cold]
 #[inline(never)]
 fn grow_shared_room<B: BitBlock>(
@@ -53,6 +53,7 @@ fn grow_shared_room<B: BitBlock>(
     count: usize,
     exact: bool,
 ) -> Result<(), AllocError>
+    requires { shared_room B.width (vec_capacity blocks.old) (vec_capacity sums.old) < count }
     ensures items { blocks.new.items ≡ blocks.old.items }
     ensures sums { sums.new.items ≡ sums.old.items }
     ensures len { vec_len blocks.new ≡ vec_len blocks.old }
@@ -61,10 +62,7 @@ fn grow_shared_room<B: BitBlock>(
     ensures exact { IsTrue exact → OnOk result (vec_capacity blocks.new ≡ max (vec_capacity blocks.old) count) }
     ensures exact_sums { IsTrue exact → OnOk result (vec_capacity sums.new ≡ max (vec_capacity sums.old) (blocks_for B.width count)) }
     ensures err { OnErr result (shared_room B.width (vec_capacity blocks.new) (vec_capacity sums.new) ≡ shared_room B.width (vec_capacity blocks.old) (vec_capacity sums.old)) }
-    ensures full { OnErr result (shared_room B.width (vec_capacity blocks.old) (vec_capacity sums.old) < count) }
-    ensures succeeds { count ≤ shared_room B.width (vec_capacity blocks.old) (vec_capacity sums.old) → IsOk result }
     ensures capacity { shared_room B.width (vec_capacity blocks.old) (vec_capacity sums.old) ≤ shared_room B.width (vec_capacity blocks.new) (vec_capacity sums.new) }
-    ensures within { count ≤ shared_room B.width (vec_capacity blocks.old) (vec_capacity sums.old) → shared_room B.width (vec_capacity blocks.new) (vec_capacity sums.new) ≡ shared_room B.width (vec_capacity blocks.old) (vec_capacity sums.old) }
 {
     let needed = block_count::<B>(count);
     if block_count::<B>(blocks.capacity()) <= sums.capacity() {

@@ -1,8 +1,8 @@
-use Rattle.std.proofs.Common.{◌≡◌, ◌<◌, ◌≤◌, ◌∙◌, refl, ap, vec_capacity, arith}
+use Rattle.std.proofs.Common.{◌≡◌, ◌<◌, ◌≤◌, ◌∙◌, ap, vec_capacity, arith}
 use Rattle.std.proofs.lemmas.Result.{on_ok_weaker, on_err_weaker}
 use Rattle.bit_words.specs.Bits.{blocks_for}
 use Rattle.bit_words.specs.Summary.{shared_room}
-use Rattle.bit_words.proofs.RoomLemmas.{shared_enough, shared_by_blocks, shared_by_sums, shared_short_sums, from_shared}
+use Rattle.bit_words.proofs.RoomLemmas.{shared_enough, shared_by_blocks, shared_by_sums}
 use Rattle.bit_words.proofs.bit_vec.room.grow_shared_room.Goals as goal
 
 -- ---- the summary first
@@ -20,14 +20,6 @@ returns-in_ok-make_room-clause-err g c =
     ap (λ n. shared_room w n (vec_capacity c.make_room.new.blocks)) same
     ∙ shared_by_blocks w _ _ _ g.met.B.BitBlock.width_law.positive covered c.make_room.ensures.capacity) c.make_room-then-block_count-capacity.ensures.err
 
-pub returns-in_ok-make_room-clause-within : goal.returns-in_ok-make_room-clause-within
-returns-in_ok-make_room-clause-within g c = λ within.
-    let w = g.B.BitBlock.width in
-    let both = from_shared w _ _ _ g.met.B.BitBlock.width_law.positive within in
-    let blocks = c.make_room-then-block_count-capacity.ensures.within both.0 in
-    let sums = c.make_room.ensures.within (omega (arith, both.1)) in
-    rw (blocks, sums) refl
-
 -- ---- the blocks first
 
 pub returns-in_ok-make_room-2-clause-ok : goal.returns-in_ok-make_room-2-clause-ok
@@ -42,19 +34,3 @@ returns-in_ok-make_room-2-clause-err g c =
     on_err_weaker _ (λ (same : vec_capacity c.make_room-else-block_count-capacity-2.new.blocks ≡ vec_capacity c.args.sums.now).
     ap (shared_room w (vec_capacity c.make_room-else-block_count-capacity.new.blocks)) same
     ∙ shared_by_sums w _ _ _ g.met.B.BitBlock.width_law.positive short c.make_room-else-block_count-capacity.ensures.capacity) c.make_room-else-block_count-capacity-2.ensures.err
-
-pub returns-in_ok-make_room-2-clause-full : goal.returns-in_ok-make_room-2-clause-full
-returns-in_ok-make_room-2-clause-full g c =
-    on_err_weaker _ (λ (short : vec_capacity c.args.sums.now < blocks_for g.B.BitBlock.width c.args.count). shared_short_sums _ _ _ _ g.met.B.BitBlock.width_law.positive short) (rw c.block_count-needed.ensures at c.make_room-else-block_count-capacity-2.ensures.full)
-
-pub returns-in_ok-make_room-2-clause-succeeds : goal.returns-in_ok-make_room-2-clause-succeeds
-returns-in_ok-make_room-2-clause-succeeds g c = λ within.
-    let both = from_shared g.B.BitBlock.width _ _ _ g.met.B.BitBlock.width_law.positive within in
-    c.make_room-else-block_count-capacity-2.ensures.succeeds (omega (arith, both.1))
-
-pub returns-in_ok-make_room-2-clause-within : goal.returns-in_ok-make_room-2-clause-within
-returns-in_ok-make_room-2-clause-within g c = λ within.
-    let both = from_shared g.B.BitBlock.width _ _ _ g.met.B.BitBlock.width_law.positive within in
-    let blocks = c.make_room-else-block_count-capacity.ensures.within both.0 in
-    let sums = c.make_room-else-block_count-capacity-2.ensures.within (omega (arith, both.1)) in
-    rw (blocks, sums) refl
