@@ -56,6 +56,8 @@ impl<B: JsonBlock> BitSet<B> {
     /// The value that spells the blocks and the length: an object with the one member `bit_vec`, an
     /// object with the members `storage`, the numbers of the blocks, and `nbits`, the length. One step a
     /// block. Fails only where memory is refused.
+    ///
+    /// The set {0, 2}, of length 3, gives `{"bit_vec": {"storage": [5], "nbits": 3}}`.
     pub fn to_json(&self, alloc: Global) -> Result<Value, AllocError>
         ensures { IfOk result (λ value. Spells B.width (view value) (blocks_of B.width self.now.values) (length self.now.values)) }
     {

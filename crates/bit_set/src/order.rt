@@ -47,6 +47,11 @@ impl<B: BitBlock> PartialOrd for BitSet<B> {
 
 /// The order of the lists of elements, from the first that differs. It is not the order of subsets.
 /// Compares the blocks up to the first that differs, and looks for one element past it.
+///
+/// ```
+/// // {0, 1} comes before {1}: 0 is the first number that just one of them has.
+/// assert!(zero_and_one < one);
+/// ```
 impl<B: BitBlock> Ord for BitSet<B> {
     ghost cmp = { λ s t. order_of_sets (elements s.values) (elements t.values) };
 

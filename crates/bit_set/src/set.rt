@@ -18,6 +18,14 @@ mod splitting;
 ///
 /// Contracts see the bit vector, as its list of truth values and its room. The elements of the list
 /// and its length fix it.
+///
+/// ```
+/// let mut set = BitSet::new(alloc);
+/// assert!(set.insert(3)?);
+/// set.extend([1, 4, 1].into_iter())?;
+/// assert!(set.remove(4));
+/// assert!(set.iter().eq([1, 3]));
+/// ```
 #[derive(Drop)]
 pub struct BitSet<B: BitBlock = u32> {
     bits: BitVec<B>,

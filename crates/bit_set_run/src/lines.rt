@@ -14,6 +14,8 @@ use std::io::{Read, Write};
 /// The whole output is made before any of it is written, and the writer is flushed behind it. At most 1,048,577 reads
 /// are made. At [`LinesFault::Read`], [`LinesFault::TooLarge`] and [`LinesFault::Memory`] nothing was written; at
 /// [`LinesFault::Write`] a beginning of the output may have been. No failed read or write is tried again.
+///
+/// The lines `insert a 3` and `items a` are answered by `true` and `{3}`.
 pub fn run_lines<B: BitBlock, R: Read, W: Write>(
     alloc: Global,
     reader: &mut R,

@@ -46,6 +46,11 @@ impl<B: BitBlock> BitSet<B> {
 
     /// The set of the bits that are 1, those of each byte counted from the highest. One step a byte.
     /// Fails at [`SetError::Length`] before it asks for memory, or where memory is refused.
+    ///
+    /// ```
+    /// let set = BitSet::from_bytes(alloc, &[0b0100_1010])?;
+    /// assert!(set.iter().eq([1, 4, 6]));
+    /// ```
     pub fn from_bytes_general(alloc: Global, bytes: &[u8]) -> Result<Self, SetError>
         ensures values { IfOk result (λ set. set.values ≡ values_of_bytes bytes.now) }
         ensures elements { IfOk result (λ set. (q r : ℕ) → r < 8 → IsTrue (has (elements set.values) (8 * q + r)) ↔ (bit_at (slice_index bytes.now q) (7 - r) ≡ 1)) }

@@ -15,6 +15,11 @@ impl<B: BitBlock> BitSet<B> {
     /// Makes room for elements below `len`; no element, and not the length, changes. Where the room was
     /// missing it asks for twice the old at least, and may move the blocks. Fails only there, and then
     /// nothing changed.
+    ///
+    /// ```
+    /// set.reserve_len(100)?;
+    /// // From here on no insertion below 100 is refused.
+    /// ```
     pub fn reserve_len(&mut self, len: usize) -> Result<(), AllocError>
         ensures values { self.new.values ≡ self.old.values }
         ensures ok { OnOk result (len ≤ self.new.room) }
@@ -53,6 +58,13 @@ impl<B: BitBlock> BitSet<B> {
     /// become greater too, and gives back the room that these blocks do not take; may move them. The
     /// elements stay. Fails where room is left over since memory to move the blocks to was refused, and
     /// then the length is the new one.
+    ///
+    /// ```
+    /// // The set is {3, 400}, over blocks of 32 bits.
+    /// set.remove(400);
+    /// set.shrink_to_fit()?;
+    /// assert_eq!(set.capacity(), 32);
+    /// ```
     pub fn shrink_to_fit(&mut self) -> Result<(), AllocError>
         ensures elements { elements self.new.values ≡ elements self.old.values }
         ensures length { length self.new.values ≡ whole_blocks B.width self.old.values }

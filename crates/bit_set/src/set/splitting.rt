@@ -14,6 +14,13 @@ impl<B: BitBlock> BitSet<B> {
     /// then, and keeps its length and room. One pass over the blocks of the set, and one over those of
     /// `other`. Fails only where the length of `other` passes the room and a growth is refused; then
     /// nothing changed in either.
+    ///
+    /// ```
+    /// // The sets are {2, 6} and {1, 3, 6}.
+    /// set.append(&mut other)?;
+    /// assert!(set.iter().eq([1, 2, 3, 6]));
+    /// assert!(other.is_empty());
+    /// ```
     pub fn append(&mut self, other: &mut Self) -> Result<(), AllocError>
         ensures elements { OnOk result (elements self.new.values ≡ union (elements self.old.values) (elements other.old.values)) }
         ensures length { OnOk result (length self.new.values ≡ max (length self.old.values) (length other.old.values)) }
@@ -41,6 +48,13 @@ impl<B: BitBlock> BitSet<B> {
     /// Where `at` is at or past the length nothing changes, and an empty set of length 0 is handed out.
     /// Where it is 0 all is handed out, the room too, and an empty set of length 0 stays. Both take no
     /// memory, and constant time. Fails only between them where memory is refused; then nothing changed.
+    ///
+    /// ```
+    /// // The set is {1, 2, 3, 6}.
+    /// let part = set.split_off(alloc, 3)?;
+    /// assert!(set.iter().eq([1, 2]));
+    /// assert!(part.iter().eq([3, 6]));
+    /// ```
     pub fn split_off(&mut self, alloc: Global, at: usize) -> Result<Self, AllocError>
         ensures elements { OnOk result (elements self.new.values ≡ those_below (elements self.old.values) at) }
         ensures length { OnOk result (length self.new.values ≡ min (length self.old.values) at) }

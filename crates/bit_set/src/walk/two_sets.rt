@@ -212,6 +212,11 @@ impl<B: BitBlock> BitSet<B> {
     }
 
     /// A walk over what is in just one of this set and the other one, in ascending order. Constant time.
+    ///
+    /// ```
+    /// // The sets are {1, 2} and {2, 3}.
+    /// assert!(set.symmetric_difference(&other).eq([1, 3]));
+    /// ```
     #[inline]
     pub fn symmetric_difference<'a>(&'a self, other: &'a Self) -> SymmetricDifference<'a, B>
         ensures left { result.left ≡ symmetric_difference (elements self.now.values) (elements other.now.values) }

@@ -6,6 +6,12 @@ use super::BitBlock;
 
 /// Takes the lowest 1 off a block that is not zero, and gives its place. Constant time: all walks find
 /// their items by this step.
+///
+/// ```
+/// let mut block = 0b0110u8;
+/// assert_eq!(take_lowest_one(&mut block), 1);
+/// assert_eq!(block, 0b0100);
+/// ```
 #[inline]
 pub fn take_lowest_one<B: BitBlock>(block: &mut B) -> usize
     requires of_block { B.is_block block.old }

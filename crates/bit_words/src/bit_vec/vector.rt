@@ -23,6 +23,13 @@ pub use making::BitsError;
 /// Contracts see the list, as `values`, and `room`, the length up to which it grows without memory.
 /// Value `i` is bit `i % B::bits()` of block `i / B::bits()`; bits of the last block past the
 /// length are 0.
+///
+/// ```
+/// let mut bits = BitVec::from_elem(alloc, 3, false)?;
+/// bits.set(1, true);
+/// bits.grow(2, true)?;
+/// assert!(bits.storage() == [0b11010]);
+/// ```
 #[derive(Drop)]
 pub struct BitVec<B: BitBlock = u32> {
     blocks: Vec<B>,
@@ -117,6 +124,11 @@ impl<B: BitBlock> BitVec<B> {
 
     /// A walk over the blocks that are not zero, each with its index; the first block comes in any case.
     /// Constant time, and takes no memory.
+    ///
+    /// ```
+    /// // Of 100 values, over blocks of 32 bits, those at 70 and 71 are true.
+    /// assert!(bits.nonzero().eq([(0, 0), (2, 0b1100_0000)]));
+    /// ```
     #[inline]
     pub fn nonzero(&self) -> Nonzero<'_, B>
         ensures blocks { map B.number result.blocks ≡ blocks_of B.width self.now.values }
