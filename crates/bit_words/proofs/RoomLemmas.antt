@@ -2,13 +2,14 @@
 use Rattle.std.proofs.Common.{◌≡◌, ◌≢◌, ℕ, zero, suc, ◌+◌, ◌-◌, ◌*◌, ◌/◌, ◌%◌, ◌^◌, ◌<◌, ◌≤◌, min, max, Bool, true, false, ◌||◌, nat_lt, nat_le, if◌then◌else◌, List, [], ◌∷◌, length, get_or, take, refl, sym, ap, ◌∙◌, arith, ⊎_elim, length-take, le_of_mul-le-mul_right, div-lt_iff_lt-mul, mul-le-mul_right}
 use Rattle.std.proofs.lemmas.Bool.{cases_lt, true≢false}
 use Rattle.std.proofs.lemmas.Bool.Decides.{nat_tests}
-use Rattle.bit_words.specs.Bits.{blocks_for, room_of, true_end, whole_blocks}
-use Rattle.bit_words.specs.Storage.{value_at, IsCleanFrom}
+use Rattle.bit_words.specs.Bits.{Bits, blocks_for, room_of, true_end, whole_blocks}
+use Rattle.bit_words.specs.Storage.{value_at, values_of, IsCleanFrom}
 use Rattle.bit_words.specs.Summary.{shared_room}
 use Rattle.bit_words.proofs.BitsLemmas.{blocks_for-enough, blocks_for-least}
 use Rattle.bit_words.proofs.CompareLemmas.{zero_from_digits, digit_from_zero}
 use Rattle.bit_words.proofs.StorageLemmas.{value_at-is, value_at-past, value_at-place}
 use Rattle.bit_words.proofs.TidyLemmas.{value_at-take}
+use Rattle.bit_words.proofs.VectorLemmas.{length_from_view}
 
 -- ---- how far a list is true
 
@@ -159,3 +160,8 @@ pub shared_whole : (w count blocks sums : ℕ) → 0 < w → blocks ≡ count �
 shared_whole w count blocks sums pos first second =
     let enough = blocks_for-enough w count pos in
     rw (first, second) (omega arith)
+
+-- the room of a copy, which is that of the blocks and of their summary
+pub room_of_copy : (w n r count blocks sums : ℕ) (ms : List ℕ) (v : Bits) → 0 < w → record { values = values_of w ms n; room = r } ≡ v → count ≡ blocks_for w n → blocks ≡ count → sums ≡ blocks_for w count → room_of w (shared_room w blocks sums) ≡ room_of w (blocks_for w (length v.values))
+room_of_copy w n r count blocks sums ms v pos e is first second =
+    rw (length_from_view w n r ms v e) (ap (room_of w) (shared_whole w count blocks sums pos first second ∙ is))

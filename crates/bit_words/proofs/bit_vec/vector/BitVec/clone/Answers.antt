@@ -1,7 +1,7 @@
-use Rattle.std.proofs.Common.{◌≡◌, ◌∙◌, length, vec_capacity, sym, ap, arith}
+use Rattle.std.proofs.Common.{◌≡◌, ◌∙◌, length, sym, ap, arith}
 use Rattle.std.proofs.lemmas.Bool.{true≢false}
-use Rattle.bit_words.specs.Bits.{blocks_for, room_of}
-use Rattle.bit_words.proofs.RoomLemmas.{shared_whole}
+use Rattle.bit_words.specs.Bits.{blocks_for}
+use Rattle.bit_words.proofs.RoomLemmas.{room_of_copy}
 use Rattle.bit_words.proofs.VectorLemmas.{length_from_view, blocks_for-none}
 use Rattle.bit_words.proofs.bit_vec.vector.BitVec.clone.Goals as goal
 
@@ -23,7 +23,6 @@ returns-in_err-summary-clause-empty g c = λ none.
 
 pub returns-clause-room : goal.returns-clause-room
 returns-clause-room g c =
-    let w = g.B.BitBlock.width in
-    let blocks : vec_capacity c.in_ok-blocks.blocks ≡ length c.self.inside.blocks.items = omega (arith, c.in_ok-blocks.ensures.room, c.deref.ensures.len) in
-    let sums : vec_capacity c.in_ok-summary.summary ≡ blocks_for w (length c.self.inside.blocks.items) = omega (arith, c.in_ok-summary.ensures.room, c.deref-2.ensures.len, c.self.invariant.summary.tidy.count) in
-    rw (length_from_view _ _ _ _ _ c.self.view_is) (ap (room_of w) (shared_whole w _ _ _ g.met.B.BitBlock.width_law.positive blocks sums ∙ c.self.invariant.tidy.count))
+    room_of_copy g.B.BitBlock.width _ _ (length c.self.inside.blocks.items) _ _ _ _ g.met.B.BitBlock.width_law.positive c.self.view_is c.self.invariant.tidy.count
+    (omega (arith, c.in_ok-blocks.ensures.room, c.deref.ensures.len))
+    (omega (arith, c.in_ok-summary.ensures.room, c.deref-2.ensures.len, c.self.invariant.summary.tidy.count))

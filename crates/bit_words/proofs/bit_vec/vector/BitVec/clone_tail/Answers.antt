@@ -1,7 +1,6 @@
-use Rattle.std.proofs.Common.{◌≡◌, ◌<◌, ◌∙◌, ◌++◌, false, drop, length, map, replicate, vec_capacity, ap, arith}
-use Rattle.bit_words.specs.Bits.{blocks_for, room_of}
+use Rattle.std.proofs.Common.{◌≡◌, ◌<◌, ◌∙◌, ◌++◌, false, drop, length, map, replicate, ap, arith}
 use Rattle.bit_words.proofs.BitsLemmas.{blocks_for-above}
-use Rattle.bit_words.proofs.RoomLemmas.{shared_whole}
+use Rattle.bit_words.proofs.RoomLemmas.{room_of_copy}
 use Rattle.bit_words.proofs.TailLemmas.{tail_kept, tail_tidy, tail_unused, values_of-tail}
 use Rattle.bit_words.proofs.TidyLemmas.{blocks_for-le}
 use Rattle.bit_words.proofs.VectorLemmas.{length_from_view, numbers_below}
@@ -58,7 +57,6 @@ returns-clause-values g c =
 
 pub returns-clause-room : goal.returns-clause-room
 returns-clause-room g c =
-    let w = g.B.BitBlock.width in
-    let blocks : vec_capacity c.in_ok-blocks.blocks ≡ length c.self.inside.blocks.items = omega (arith, c.in_ok-blocks.ensures.room, c.deref.ensures.len) in
-    let sums : vec_capacity c.in_ok-summary.summary ≡ blocks_for w (length c.self.inside.blocks.items) = omega (arith, c.in_ok-summary.ensures.room, c.deref-2.ensures.len, c.self.invariant.summary.tidy.count) in
-    rw (length_from_view _ _ _ _ _ c.self.view_is) (ap (room_of w) (shared_whole w _ _ _ g.met.B.BitBlock.width_law.positive blocks sums ∙ c.self.invariant.tidy.count))
+    room_of_copy g.B.BitBlock.width _ _ (length c.self.inside.blocks.items) _ _ _ _ g.met.B.BitBlock.width_law.positive c.self.view_is c.self.invariant.tidy.count
+    (omega (arith, c.in_ok-blocks.ensures.room, c.deref.ensures.len))
+    (omega (arith, c.in_ok-summary.ensures.room, c.deref-2.ensures.len, c.self.invariant.summary.tidy.count))
