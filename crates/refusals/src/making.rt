@@ -1,4 +1,5 @@
 // Calls that make something.
+use crate::asks::Ask;
 use crate::faults::Fault;
 use crate::standing::{LENT, lent_set, text_of, works};
 use crate::sweep::Sweep;
@@ -18,10 +19,11 @@ enum Call {
     BitsCloneTail,
 }
 
-// A call, and what it makes where it is answered.
+// A call, the memory that it may ask for, and what it makes where it is answered.
 struct Row {
     name: &'static str,
     call: Call,
+    asks: &'static [Ask],
     made: &'static str,
 }
 
@@ -29,41 +31,49 @@ const ROWS: &[Row] = &[
     Row {
         name: "with_capacity",
         call: Call::WithCapacity,
+        asks: &[Ask::Exact(5000)],
         made: "{} of 5000",
     },
     Row {
         name: "from_bytes",
         call: Call::FromBytes,
+        asks: &[Ask::Exact(128)],
         made: "{0, 9, 90, 127} of 128",
     },
     Row {
         name: "from_iter",
         call: Call::FromIter,
+        asks: &[Ask::Grown(10), Ask::Grown(451), Ask::Grown(5001)],
         made: "{9, 450, 5000} of 5001",
     },
     Row {
         name: "clone",
         call: Call::Clone,
+        asks: &[Ask::Exact(5001)],
         made: LENT,
     },
     Row {
         name: "bits_from_elem",
         call: Call::BitsFromElem,
+        asks: &[Ask::Exact(5000)],
         made: "{} of 5000",
     },
     Row {
         name: "bits_from_bytes",
         call: Call::BitsFromBytes,
+        asks: &[Ask::Exact(128)],
         made: "{0, 9, 90, 127} of 128",
     },
     Row {
         name: "bits_clone",
         call: Call::BitsClone,
+        asks: &[Ask::Exact(5001)],
         made: LENT,
     },
     Row {
         name: "bits_clone_tail",
         call: Call::BitsCloneTail,
+        asks: &[Ask::Exact(5001)],
         made: "{7, 5000} of 5001",
     },
 ];
@@ -117,7 +127,7 @@ pub fn text_made<B: BitBlock>(
 fn tried<B: BitBlock>(sweep: &Sweep<'_>, row: &Row) -> Result<bool, Fault> {
     let alloc = sweep.alloc();
     let lent = lent_set::<B>(alloc)?;
-    sweep.begin(row.name, true)?;
+    sweep.begin(row.name, row.asks)?;
     let made = make(alloc, row.call, &lent);
     sweep.end(&made)?;
     let text = text_made(alloc, made)?;
