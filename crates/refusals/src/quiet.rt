@@ -154,7 +154,7 @@ fn empty_ones<B: BitBlock>(alloc: Global) -> [usize; 6] {
     [
         set.count(),
         bits.len(),
-        number(set.is_empty()),
+        number(set.is_empty() && BitSet::new(alloc).is_empty()),
         len,
         numbers.as_slice().len(),
         set.capacity(),
