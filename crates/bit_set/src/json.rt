@@ -1,6 +1,6 @@
 //! The JSON form of sets: an object with the one member `bit_vec`, an object with the members
 //! `storage`, the numbers of the blocks, and `nbits`, the length.
-ghost use Rattle.std.specs.Prelude.{◌≡◌, ◌↔◌, ℕ, List, [], IfOk, IsErrOf, IsOk, length, map};
+ghost use Rattle.std.specs.Prelude.{◌≡◌, ◌↔◌, ℕ, List, [], alloc_error, IfOk, IsErrOf, IsOk, length, map};
 ghost use Rattle.bit_words.specs.Bits.{blocks_for, blocks_of, room_of};
 ghost use Rattle.serde_json.specs.View.{view};
 ghost use Rattle.bit_set.specs.Json.{IsFirstFault, Spells};
@@ -8,7 +8,7 @@ ghost use Rattle.std.specs.declared.alloc.AllocError.{AllocError};
 
 use crate::BitSet;
 use serde_json::Value;
-use std::alloc::{AllocError, Global};
+use std::alloc::{AllocError, AllocFailed, Global};
 use thiserror::Error;
 
 mod block;
@@ -49,6 +49,17 @@ impl From<AllocError> for JsonError {
 
     fn from(fault: AllocError) -> JsonError {
         JsonError::Memory(fault)
+    }
+}
+
+// So that `?` serves a push to a `Vec` as well.
+impl<T: Drop> From<AllocFailed<T>> for JsonError {
+    ghost use Rattle.bit_set.specs.declared.json.JsonError.TheVariants.{Memory};
+
+    ghost from_gives = { λ _ error. error ≡ Memory alloc_error };
+
+    fn from(_fault: AllocFailed<T>) -> JsonError {
+        JsonError::Memory(AllocError)
     }
 }
 

@@ -56,8 +56,8 @@ impl<B: BitBlock> BitSet<B> {
 
     /// Makes the length that of the blocks up to the one with the greatest element, so that it can
     /// become greater too, and gives back the room that these blocks do not take; may move them. The
-    /// elements stay. Fails where room is left over since memory to move the blocks to was refused, and
-    /// then the length is the new one.
+    /// elements stay. Fails just where the capacity is still greater than that of these blocks, since
+    /// memory to move to was refused; the length is the new one then too.
     ///
     /// ```
     /// // The set is {3, 400}, over blocks of 32 bits.
@@ -71,6 +71,7 @@ impl<B: BitBlock> BitSet<B> {
         ensures cut { blocks_for B.width (bound_of (elements self.old.values)) * B.width ≤ usize.MAX → length self.new.values ≡ blocks_for B.width (bound_of (elements self.old.values)) * B.width }
         ensures top { usize.MAX < blocks_for B.width (bound_of (elements self.old.values)) * B.width → length self.new.values ≡ length self.old.values }
         ensures ok { OnOk result (self.new.room ≡ room_of B.width (blocks_for B.width (length self.new.values))) }
+        ensures err { OnErr result (room_of B.width (blocks_for B.width (length self.new.values)) < self.new.room) }
         ensures room { self.new.room ≤ self.old.room }
         ensures fits { IsWithinRoom self.new }
         ensures empty { elements self.old.values ≡ [] → IsOk result }

@@ -130,27 +130,19 @@ pub(crate) fn make_exact_shared_room<B: BitBlock>(
     make_shared_room(blocks, sums, count, true)
 }
 
-// Gives back the room that the blocks and their summary do not take. A refusal of one does not keep the other.
-pub(crate) fn shrink_shared_room<B: BitBlock>(
-    blocks: &mut Vec<B>,
-    sums: &mut Vec<B>,
-) -> Result<(), AllocError>
+// Gives back what the blocks and their summary do not take, as far as memory to move them to is there. A refusal
+// of one does not keep the other.
+pub(crate) fn shrink_shared_room<B: BitBlock>(blocks: &mut Vec<B>, sums: &mut Vec<B>)
     ensures items { blocks.new.items ≡ blocks.old.items }
     ensures sums { sums.new.items ≡ sums.old.items }
-    ensures ok { OnOk result ((vec_capacity blocks.new ≡ length blocks.old.items) × (vec_capacity sums.new ≡ length sums.old.items)) }
     ensures holds { length blocks.old.items ≤ vec_capacity blocks.new }
     ensures holds_sums { length sums.old.items ≤ vec_capacity sums.new }
     ensures capacity { vec_capacity blocks.new ≤ vec_capacity blocks.old }
     ensures sums_capacity { vec_capacity sums.new ≤ vec_capacity sums.old }
-    ensures empty { length blocks.old.items ≡ 0 → length sums.old.items ≡ 0 → IsOk result }
-    ensures no_more { vec_capacity blocks.old ≡ length blocks.old.items → vec_capacity sums.old ≡ length sums.old.items → IsOk result }
+    ensures empty { length blocks.old.items ≡ 0 → vec_capacity blocks.new ≡ 0 }
 {
     blocks.shrink_to_fit();
     sums.shrink_to_fit();
-    if blocks.capacity() > blocks.len() || sums.capacity() > sums.len() {
-        return Err(AllocError);
-    }
-    Ok(())
 }
 
 // How many blocks there are up to the last that is not 0. The summary tells among which to look.

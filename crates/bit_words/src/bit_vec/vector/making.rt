@@ -1,5 +1,5 @@
 // Calls that make a bit vector.
-ghost use Rattle.std.specs.Prelude.{◌≡◌, ◌*◌, ◌<◌, ◌≤◌, ◌↔◌, ◌++◌, [], drop, false, length, replicate, IfOk, IsErrOf, IsOk};
+ghost use Rattle.std.specs.Prelude.{◌≡◌, ◌*◌, ◌<◌, ◌≤◌, ◌↔◌, ◌++◌, [], alloc_error, drop, false, length, replicate, IfOk, IsErrOf, IsOk};
 ghost use Rattle.bit_words.specs.Bits.{blocks_for, room_of, values_of_bytes};
 ghost use Rattle.bit_words.specs.declared.bit_vec.vector.making.BitsError.TheVariants.{Memory};
 
@@ -10,7 +10,7 @@ use crate::bit_vec::changes::block_index;
 use crate::bit_vec::copying::copy_of;
 use crate::bit_vec::summary::summary_of;
 use crate::bit_vec::tails::{copy_summary_from, copy_values_from};
-use std::alloc::{AllocError, Global};
+use std::alloc::{AllocError, AllocFailed, Global};
 use thiserror::Error;
 
 /// Why bytes could not be made a bit vector.
@@ -29,6 +29,15 @@ impl From<AllocError> for BitsError {
 
     fn from(fault: AllocError) -> BitsError {
         BitsError::Memory(fault)
+    }
+}
+
+// So that `?` serves a push to a `Vec` as well.
+impl<T: Drop> From<AllocFailed<T>> for BitsError {
+    ghost from_gives = { λ _ e. e ≡ Memory alloc_error };
+
+    fn from(_fault: AllocFailed<T>) -> BitsError {
+        BitsError::Memory(AllocError)
     }
 }
 

@@ -48,16 +48,22 @@ impl<B: BitBlock> BitVec<B> {
         make_exact_shared_room(&mut self.blocks, &mut self.summary, count)
     }
 
-    /// Gives back the room that the blocks of the list do not take; may move them. Fails where room is
-    /// left over since memory to move them to was refused, and then the list is as it was.
+    /// Gives back the room that the blocks of the list do not take; may move them. Fails just where the
+    /// capacity is still greater than that of these blocks, since memory to move to was refused; the list
+    /// is as it was.
     pub fn shrink_to_fit(&mut self) -> Result<(), AllocError>
         ensures values { self.new.values ≡ self.old.values }
         ensures ok { OnOk result (self.new.room ≡ room_of B.width (blocks_for B.width (length self.old.values))) }
+        ensures err { OnErr result (room_of B.width (blocks_for B.width (length self.old.values)) < self.new.room) }
         ensures room { self.new.room ≤ self.old.room }
         ensures fits { IsWithinRoom self.new }
         ensures empty { length self.old.values ≡ 0 → IsOk result }
     {
-        shrink_shared_room(&mut self.blocks, &mut self.summary)
+        shrink_shared_room(&mut self.blocks, &mut self.summary);
+        if self.capacity() > self.blocks.len().saturating_mul(B::bits()) {
+            return Err(AllocError);
+        }
+        Ok(())
     }
 
     /// Makes the list as long as its blocks up to the last that is not 0: the true values stay, and so
