@@ -5,6 +5,8 @@ ghost use Rattle.bit_words.specs.Bits.{blocks_for, room_of};
 ghost use Rattle.bit_set.specs.Sets.{elements, has, put, those_below, without};
 ghost use Rattle.bit_set.specs.Effects.{TakesIn};
 ghost use Rattle.bit_set.specs.Faults.{IsRefusal};
+ghost use Rattle.bit_set.specs.Calls.{Change, Changes, finished, inserted};
+ghost use Rattle.bit_set.specs.Calls.Outcome.{Done, Returned};
 ghost use Rattle.bit_set.specs.Room.{IsPastBlocks, Leaves};
 ghost use Rattle.bit_set.specs.Room.Call.{CloneFrom, Insert, MakeEmpty, Remove, Reset, Truncate};
 
@@ -32,6 +34,7 @@ impl<B: BitBlock> BitSet<B> {
         ensures within { value < self.old.room → self.new.room ≡ self.old.room }
         ensures past_blocks { IfErr result (λ fault. IsPastBlocks fault B.width (length self.old.values) value) }
         ensures leaves { Leaves (Insert value) self.old.room (is_ok result) self.new.room }
+        ensures changes { Changes (Change.Insert value) self.old.values (inserted result) self.new.values }
     {
         if value >= self.bits.len() {
             self.lengthen_past(value)?;
@@ -79,6 +82,7 @@ impl<B: BitBlock> BitSet<B> {
         ensures succeeds { HoldsAlong I.next_gives iter (All (λ item. item < self.old.room)) → IsOk result }
         ensures room { self.old.room ≤ self.new.room }
         ensures within { HoldsAlong I.next_gives iter (All (λ item. item < self.old.room)) → self.new.room ≡ self.old.room }
+        ensures fits { length self.new.values ≤ self.old.room → self.new.room ≡ self.old.room }
     {
         for item in iter {
             self.insert(item)?;
@@ -94,6 +98,7 @@ impl<B: BitBlock> BitSet<B> {
         ensures length { length self.new.values ≡ length self.old.values }
         ensures room { self.new.room ≡ self.old.room }
         ensures leaves { Leaves (Remove value) self.old.room true self.new.room }
+        ensures changes { Changes (Change.Remove value) self.old.values (Returned result) self.new.values }
     {
         if value >= self.bits.len() {
             return false;
@@ -107,6 +112,7 @@ impl<B: BitBlock> BitSet<B> {
         ensures length { length self.new.values ≡ min (length self.old.values) len }
         ensures room { self.new.room ≡ self.old.room }
         ensures leaves { Leaves (Truncate len) self.old.room true self.new.room }
+        ensures changes { Changes (Change.Truncate len) self.old.values Done self.new.values }
     {
         self.bits.truncate(len);
     }
@@ -117,6 +123,7 @@ impl<B: BitBlock> BitSet<B> {
         ensures length { length self.new.values ≡ length self.old.values }
         ensures room { self.new.room ≡ self.old.room }
         ensures leaves { Leaves MakeEmpty self.old.room true self.new.room }
+        ensures changes { Changes Change.MakeEmpty self.old.values Done self.new.values }
     {
         self.bits.fill(false);
     }
@@ -128,6 +135,7 @@ impl<B: BitBlock> BitSet<B> {
         ensures length { length self.new.values ≡ length self.old.values }
         ensures room { self.new.room ≡ self.old.room }
         ensures leaves { Leaves MakeEmpty self.old.room true self.new.room }
+        ensures changes { Changes Change.MakeEmpty self.old.values Done self.new.values }
     {
         self.make_empty();
     }
@@ -137,6 +145,7 @@ impl<B: BitBlock> BitSet<B> {
         ensures values { self.new.values ≡ [] }
         ensures room { self.new.room ≡ self.old.room }
         ensures leaves { Leaves Reset self.old.room true self.new.room }
+        ensures changes { Changes Change.Reset self.old.values Done self.new.values }
     {
         self.bits.remove_all();
     }
@@ -152,6 +161,8 @@ impl<B: BitBlock> BitSet<B> {
         ensures room { self.old.room ≤ self.new.room }
         ensures within { length other.now.values ≤ self.old.room → self.new.room ≡ self.old.room }
         ensures leaves { Leaves (CloneFrom (length other.now.values)) self.old.room (is_ok result) self.new.room }
+        ensures changes { Changes (Change.CloneFrom (elements other.now.values))
+            self.old.values (finished result) self.new.values }
     {
         self.bits.clone_from(&other.bits)
     }

@@ -2,6 +2,7 @@
 ghost use Rattle.std.specs.Prelude.{◌≡◌, ◌-◌, ◌<◌, ◌≤◌, ◌++◌, max, OnOk, OnErr, IsOk, is_ok, length, replicate, false};
 ghost use Rattle.bit_words.specs.Merges.{merged};
 ghost use Rattle.bit_set.specs.Sets.{elements, union, intersection, difference, symmetric_difference, merged_sets};
+ghost use Rattle.bit_set.specs.Calls.{Change, Changes, finished};
 ghost use Rattle.bit_set.specs.Room.{Leaves};
 ghost use Rattle.bit_set.specs.Room.Call.{UnionWith, IntersectWith, DifferenceWith, SymmetricDifferenceWith};
 
@@ -60,6 +61,8 @@ impl<B: BitBlock> BitSet<B> {
         ensures kept { length other.now.values ≤ length self.old.values → self.new.room ≡ self.old.room }
         ensures within { length other.now.values ≤ self.old.room → self.new.room ≡ self.old.room }
         ensures leaves { Leaves (UnionWith (length other.now.values)) self.old.room (is_ok result) self.new.room }
+        ensures changes { Changes (Change.UnionWith (elements other.now.values))
+            self.old.values (finished result) self.new.values }
     {
         self.merge_with(other, Merge::Union)
     }
@@ -77,6 +80,8 @@ impl<B: BitBlock> BitSet<B> {
         ensures kept { length other.now.values ≤ length self.old.values → self.new.room ≡ self.old.room }
         ensures within { length other.now.values ≤ self.old.room → self.new.room ≡ self.old.room }
         ensures leaves { Leaves (IntersectWith (length other.now.values)) self.old.room (is_ok result) self.new.room }
+        ensures changes { Changes (Change.IntersectWith (elements other.now.values))
+            self.old.values (finished result) self.new.values }
     {
         self.merge_with(other, Merge::Intersection)
     }
@@ -94,6 +99,8 @@ impl<B: BitBlock> BitSet<B> {
         ensures kept { length other.now.values ≤ length self.old.values → self.new.room ≡ self.old.room }
         ensures within { length other.now.values ≤ self.old.room → self.new.room ≡ self.old.room }
         ensures leaves { Leaves (DifferenceWith (length other.now.values)) self.old.room (is_ok result) self.new.room }
+        ensures changes { Changes (Change.DifferenceWith (elements other.now.values))
+            self.old.values (finished result) self.new.values }
     {
         self.merge_with(other, Merge::Difference)
     }
@@ -111,6 +118,8 @@ impl<B: BitBlock> BitSet<B> {
         ensures kept { length other.now.values ≤ length self.old.values → self.new.room ≡ self.old.room }
         ensures within { length other.now.values ≤ self.old.room → self.new.room ≡ self.old.room }
         ensures leaves { Leaves (SymmetricDifferenceWith (length other.now.values)) self.old.room (is_ok result) self.new.room }
+        ensures changes { Changes (Change.SymmetricDifferenceWith (elements other.now.values))
+            self.old.values (finished result) self.new.values }
     {
         self.merge_with(other, Merge::Symmetric)
     }

@@ -3,6 +3,7 @@ ghost use Rattle.std.specs.Prelude.{◌≡◌, ◌*◌, ◌<◌, ◌≤◌, IsOk
 ghost use Rattle.std.specs.Borrow.{sem};
 ghost use Rattle.bit_words.specs.Bits.{blocks_for, room_of, whole_blocks, IsWithinRoom};
 ghost use Rattle.bit_set.specs.Sets.{bound_of, elements};
+ghost use Rattle.bit_set.specs.Calls.{Change, Changes, finished};
 ghost use Rattle.bit_set.specs.Room.{Leaves};
 ghost use Rattle.bit_set.specs.Room.Call.{ReserveLen, ReserveLenExact};
 ghost use Rattle.bit_set.specs.Lends.{lends_bits};
@@ -30,6 +31,7 @@ impl<B: BitBlock> BitSet<B> {
         ensures within { len ≤ self.old.room → self.new.room ≡ self.old.room }
         ensures room { self.old.room ≤ self.new.room }
         ensures leaves { Leaves (ReserveLen len) self.old.room (is_ok result) self.new.room }
+        ensures changes { Changes (Change.ReserveLen len) self.old.values (finished result) self.new.values }
     {
         let missing = len.saturating_sub(self.bits.len());
         self.bits.reserve(missing)
@@ -49,6 +51,7 @@ impl<B: BitBlock> BitSet<B> {
         ensures exact { OnOk result (self.new.room ≡ max self.old.room (room_of B.width (blocks_for B.width len))) }
         ensures room { self.old.room ≤ self.new.room }
         ensures leaves { Leaves (ReserveLenExact len) self.old.room (is_ok result) self.new.room }
+        ensures changes { Changes (Change.ReserveLenExact len) self.old.values (finished result) self.new.values }
     {
         let missing = len.saturating_sub(self.bits.len());
         self.bits.reserve_exact(missing)
@@ -75,6 +78,7 @@ impl<B: BitBlock> BitSet<B> {
         ensures room { self.new.room ≤ self.old.room }
         ensures fits { IsWithinRoom self.new }
         ensures empty { elements self.old.values ≡ [] → IsOk result }
+        ensures changes { Changes Change.ShrinkToFit self.old.values (finished result) self.new.values }
     {
         self.bits.cut_zero_blocks();
         self.bits.shrink_to_fit()

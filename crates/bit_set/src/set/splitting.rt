@@ -2,6 +2,7 @@
 ghost use Rattle.std.specs.Prelude.{◌≡◌, ◌<◌, ◌≤◌, if◌then◌else◌, nat_lt, max, min, IfOk, OnOk, OnErr, IsOk, is_ok, [], length};
 ghost use Rattle.bit_words.specs.Bits.{blocks_for, room_of};
 ghost use Rattle.bit_set.specs.Sets.{elements, those_below, those_from, union};
+ghost use Rattle.bit_set.specs.Calls.{Change, Changes, finished};
 ghost use Rattle.bit_set.specs.Room.{Leaves};
 ghost use Rattle.bit_set.specs.Room.Call.{Append};
 
@@ -35,6 +36,8 @@ impl<B: BitBlock> BitSet<B> {
         ensures kept { length other.old.values ≤ length self.old.values → self.new.room ≡ self.old.room }
         ensures within { length other.old.values ≤ self.old.room → self.new.room ≡ self.old.room }
         ensures leaves { Leaves (Append (length other.old.values)) self.old.room (is_ok result) self.new.room }
+        ensures changes { Changes (Change.Append (elements other.old.values))
+            self.old.values (finished result) self.new.values }
     {
         self.union_with(other)?;
         other.make_empty();
@@ -69,6 +72,7 @@ impl<B: BitBlock> BitSet<B> {
         ensures given { at ≡ 0 → self.new.room ≡ 0 }
         ensures exact { 0 < at → at < length self.old.values → IfOk result (λ part. part.room ≡ room_of B.width (blocks_for B.width (length self.old.values))) }
         ensures nothing { 0 < at → length self.old.values ≤ at → IfOk result (λ part. part.room ≡ 0) }
+        ensures changes { Changes (Change.SplitOff at) self.old.values (finished result) self.new.values }
     {
         if at == 0 {
             return Ok(replace(self, Self::new_general(alloc)));
