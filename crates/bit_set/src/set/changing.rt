@@ -82,7 +82,7 @@ impl<B: BitBlock> BitSet<B> {
         ensures succeeds { HoldsAlong I.next_gives iter (All (λ item. item < self.old.room)) → IsOk result }
         ensures room { self.old.room ≤ self.new.room }
         ensures within { HoldsAlong I.next_gives iter (All (λ item. item < self.old.room)) → self.new.room ≡ self.old.room }
-        ensures fits { length self.new.values ≤ self.old.room → self.new.room ≡ self.old.room }
+        ensures kept { length self.new.values ≤ self.old.room → self.new.room ≡ self.old.room }
     {
         for item in iter {
             self.insert(item)?;
