@@ -1,5 +1,5 @@
-pub mod Answered
 pub mod Cuts
+pub mod Ended
 pub mod Exits
 pub mod Kept
 pub mod Lines
