@@ -1,3 +1,4 @@
+pub mod Capacities
 pub mod Cuts
 pub mod Ended
 pub mod Exits
