@@ -77,9 +77,9 @@ impl<B: JsonBlock> BitSet<B> {
         form(alloc, storage, bits.len())
     }
 
-    /// The set that a value spells. One step a block and one an element. Asks for its blocks and no more.
-    /// All tests come before memory is asked for, and the first fault in the order of [`JsonError`] is
-    /// answered. `Memory` comes only where the value spells a set, and never where that has length 0.
+    /// The set that a value spells. One step a block and one an element. The capacity is that of its blocks.
+    /// The tests come first, and the first fault in the order of [`JsonError`] is returned. `Memory` comes
+    /// only where the value spells a set, and never where that has length 0.
     pub fn from_json(alloc: Global, value: &Value) -> Result<Self, JsonError>
         ensures ok { IfOk result (λ set. Spells B.width (view value.now) (blocks_of B.width set.values) (length set.values)) }
         ensures room { IfOk result (λ set. set.room ≡ room_of B.width (blocks_for B.width (length set.values))) }

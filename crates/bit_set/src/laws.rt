@@ -1,5 +1,5 @@
-//! Laws of sets of numbers, as the contracts of functions that do nothing. A set is the list of its
-//! members in strictly ascending order.
+//! Laws of sets of numbers, as the contracts of functions that do nothing; one of them is in a body too,
+//! which proves it and does nothing else. A set is the list of its members in strictly ascending order.
 ghost use Rattle.std.specs.Prelude.{◌≡◌, ◌≢◌, ℕ, ◌+◌, ◌-◌, ◌*◌, ◌/◌, ◌<◌, ◌≤◌, ◌↔◌, ◌++◌, ◌∷◌, ◌==◌, ◌&&◌, ◌||◌, max, min, not, nat_lt, nat_le, if◌then◌else◌, Bool, true, All, IsTrue, Some, None, Option, List, [], length, map, slice_get};
 ghost use Rattle.std.specs.FinSet as set;
 ghost use Rattle.std.specs.Cmp.{IsEquivalence, IsTotalOrder};

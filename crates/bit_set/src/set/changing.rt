@@ -15,8 +15,8 @@ use std::alloc::AllocError;
 
 impl<B: BitBlock> BitSet<B> {
     /// Puts `value` in, and answers whether it is new. Constant time, but for a growth at or past
-    /// the length. Fails at `usize::MAX`, and where a growth past the room is refused; then nothing
-    /// changed.
+    /// the length. Fails at `usize::MAX`, and where a growth past the room is refused; elements, length
+    /// and capacity then stay.
     #[inline]
     pub fn insert(&mut self, value: usize) -> Result<bool, SetError>
         ensures answer { IfOk result (λ new. new ≡ not (has (elements self.old.values) value)) }
@@ -150,8 +150,8 @@ impl<B: BitBlock> BitSet<B> {
         self.bits.remove_all();
     }
 
-    /// Becomes equal to `other`, in one pass over its blocks. Where the room was missing it asks for the
-    /// blocks of `other` and no more. Fails only there, and then nothing changed.
+    /// Becomes equal to `other`, in one pass over its blocks. Where the room was missing the capacity
+    /// becomes that of the blocks of `other`. Fails only there, and then nothing changed.
     pub fn clone_from(&mut self, other: &Self) -> Result<(), AllocError>
         ensures ok { OnOk result (self.new.values ≡ other.now.values) }
         ensures err { OnErr result (self.new ≡ self.old) }

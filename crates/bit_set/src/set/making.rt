@@ -87,8 +87,8 @@ impl<B: BitBlock> BitSet<B> {
         Ok(set)
     }
 
-    /// A set of its own over the same list. Copies each block once. Asks for its blocks and no more;
-    /// fails only where memory is refused.
+    /// A set of its own over the same list. Copies each block once. Its capacity is that of its blocks.
+    /// Fails only where no memory is found.
     pub fn clone(&self, alloc: Global) -> Result<Self, AllocError>
         ensures values { IfOk result (λ set. set.values ≡ self.now.values) }
         ensures room { IfOk result (λ set. set.room ≡ room_of B.width (blocks_for B.width (length self.now.values))) }

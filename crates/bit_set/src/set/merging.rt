@@ -49,8 +49,8 @@ impl<B: BitBlock> BitSet<B> {
     }
 
     /// Puts in what is in `other`. The length becomes the greater of both. One pass over the blocks.
-    /// Fails only where the length of `other` passes the room and a growth is refused; then nothing
-    /// changed.
+    /// Fails only where the length of `other` passes the capacity and no memory is found; elements, length
+    /// and capacity then stay.
     pub fn union_with(&mut self, other: &Self) -> Result<(), AllocError>
         ensures elements { OnOk result (elements self.new.values ≡ union (elements self.old.values) (elements other.now.values)) }
         ensures length { OnOk result (length self.new.values ≡ max (length self.old.values) (length other.now.values)) }
@@ -68,8 +68,8 @@ impl<B: BitBlock> BitSet<B> {
     }
 
     /// Keeps what is in `other` too. The length becomes the greater of both. One pass over the blocks.
-    /// Fails only where the length of `other` passes the room and a growth is refused; then nothing
-    /// changed.
+    /// Fails only where the length of `other` passes the capacity and no memory is found; elements, length
+    /// and capacity then stay.
     pub fn intersect_with(&mut self, other: &Self) -> Result<(), AllocError>
         ensures elements { OnOk result (elements self.new.values ≡ intersection (elements self.old.values) (elements other.now.values)) }
         ensures length { OnOk result (length self.new.values ≡ max (length self.old.values) (length other.now.values)) }
@@ -87,8 +87,8 @@ impl<B: BitBlock> BitSet<B> {
     }
 
     /// Takes out what is in `other`. The length becomes the greater of both. One pass over the blocks.
-    /// Fails only where the length of `other` passes the room and a growth is refused; then nothing
-    /// changed.
+    /// Fails only where the length of `other` passes the capacity and no memory is found; elements, length
+    /// and capacity then stay.
     pub fn difference_with(&mut self, other: &Self) -> Result<(), AllocError>
         ensures elements { OnOk result (elements self.new.values ≡ difference (elements self.old.values) (elements other.now.values)) }
         ensures length { OnOk result (length self.new.values ≡ max (length self.old.values) (length other.now.values)) }
@@ -107,7 +107,7 @@ impl<B: BitBlock> BitSet<B> {
 
     /// Takes out what is in `other` too, and puts in the rest of it: what is in just one stays. The
     /// length becomes the greater of both. One pass over the blocks. Fails only where the length of
-    /// `other` passes the room and a growth is refused; then nothing changed.
+    /// `other` passes the capacity and no memory is found; elements, length and capacity then stay.
     pub fn symmetric_difference_with(&mut self, other: &Self) -> Result<(), AllocError>
         ensures elements { OnOk result (elements self.new.values ≡ symmetric_difference (elements self.old.values) (elements other.now.values)) }
         ensures length { OnOk result (length self.new.values ≡ max (length self.old.values) (length other.now.values)) }

@@ -14,8 +14,8 @@ use std::alloc::AllocError;
 
 impl<B: BitBlock> BitSet<B> {
     /// Makes room for elements below `len`; no element, and not the length, changes. Where the room was
-    /// missing it asks for twice the old at least, and may move the blocks. Fails only there, and then
-    /// nothing changed.
+    /// missing it asks for twice the old at least, and may move the blocks. Fails only there, and the
+    /// capacity then stays.
     ///
     /// ```
     /// set.reserve_len(100)?;
@@ -38,8 +38,8 @@ impl<B: BitBlock> BitSet<B> {
     }
 
     /// Makes room for elements below `len`; no element, and not the length, changes. Where the room was
-    /// missing it asks for the blocks of `len` and no more, and may move the blocks. Fails only there,
-    /// and then nothing changed.
+    /// missing the capacity becomes that of the blocks of `len`; this may move the blocks. Fails only
+    /// there, and the capacity then stays.
     pub fn reserve_len_exact(&mut self, len: usize) -> Result<(), AllocError>
         ensures values { self.new.values ≡ self.old.values }
         ensures ok { OnOk result (len ≤ self.new.room) }

@@ -13,8 +13,8 @@ use std::mem::replace;
 impl<B: BitBlock> BitSet<B> {
     /// Moves what is in `other` into the set. The length becomes the greater of both; `other` is empty
     /// then, and keeps its length and room. One pass over the blocks of the set, and one over those of
-    /// `other`. Fails only where the length of `other` passes the room and a growth is refused; then
-    /// nothing changed in either.
+    /// `other`. Fails only where the length of `other` passes the capacity and no memory is found;
+    /// elements, lengths and capacities of both then stay.
     ///
     /// ```
     /// // The sets are {2, 6} and {1, 3, 6}.
@@ -46,7 +46,7 @@ impl<B: BitBlock> BitSet<B> {
 
     /// Parts the set at `at`: the elements below it stay, and the others are handed out. The set that is
     /// handed out keeps the length, and the length of this one becomes `at`. Copies the blocks from that
-    /// of `at` on, each once, and writes a zero for each before it. Asks for these blocks and no more.
+    /// of `at` on, each once, and writes a zero for each before it; the capacity is that of these blocks.
     ///
     /// Where `at` is at or past the length nothing changes, and an empty set of length 0 is handed out.
     /// Where it is 0 all is handed out, the room too, and an empty set of length 0 stays. Both take no
