@@ -139,19 +139,10 @@ pub grows_along : (set_read other_read set_at other_at after : Bits) → set_rea
 grows_along set_read other_read set_at other_at after set_is other_is grown =
     subst (λ s. GrowsTo (length other_at.values) s after) set_is (subst (λ s. GrowsTo (length s.values) set_read after) other_is grown)
 
--- a set is changed where it stands
-pub changed_at : (sets : List Bits) (place name : ℕ) (set_read set_now : Bits) (Change : Bits → Bits → Type 0) → place ≡ name → place < length sets → set_read ≡ get_or sets place set_read → Change set_read set_now → Becomes sets name Change (set sets place set_now)
-changed_at sets place name set_read set_now Change at within is changed =
-    (set_now, ap (λ p. set sets p set_now) at, subst (λ p. Change (bits_at sets p) set_now) at (subst (λ s. Change s set_now) (read_at sets place set_read within is) changed))
-
 -- a set is taken out, changed and put back
 pub changed_outside : (sets : List Bits) (place : ℕ) (gone set_read set_now : Bits) (Change : Bits → Bits → Type 0) → place < length sets → set_read ≡ get_or sets place set_read → Change set_read set_now → Becomes sets place Change (set (set sets place gone) place set_now)
 changed_outside sets place gone set_read set_now Change within is changed =
     (set_now, set-set sets place gone set_now, subst (λ s. Change s set_now) (read_at sets place set_read within is) changed)
-
--- a set that did not change is written back where it stands
-pub same_at : (sets : List Bits) (place : ℕ) (set_read set_now : Bits) → set_read ≡ get_or sets place set_read → set_now ≡ set_read → set sets place set_now ≡ sets
-same_at sets place set_read set_now is same = ap (λ s. set sets place s) (same ∙ is) ∙ set-get_or sets place set_read
 
 -- the items that a copied slice gave before one more
 pub copied_before : (s u : Copied (Iter ℕ)) (all items : List ℕ) (item : ℕ) → s.iter.rest.now ≡ all → YieldsThen (copies fronts) s items (Some item) u → all ≡ items ++ item ∷ drop (length items + 1) all

@@ -28,12 +28,6 @@ HasSent-more old mid new text rest n so_far write = record {
   written = Appends-trans old mid new so_far.sent (take n rest) so_far.written write;
 }
 
--- with no rest, all was sent
-pub Appends-all : (old mid new : Option (List ℕ)) (text : List ℕ) → HasSent old mid text [] → Keeps mid new → Appends old new text
-Appends-all old mid new text so_far kept =
-    let whole : text ≡ so_far.sent = so_far.parts ∙ append-nil so_far.sent in
-    rw whole (Appends-kept old mid new so_far.sent so_far.written kept)
-
 pub HasRead-more :
     (old mid new : Option (List ℕ)) (input buffer behind : List ℕ) (turns n : ℕ)
     → HasRead old mid input turns → Consumes mid new (take n buffer) → n ≤ length buffer → 0 < n → length input + n ≤ limit

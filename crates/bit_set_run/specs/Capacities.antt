@@ -1,4 +1,4 @@
--- What a command does to the capacities of sixteen sets over blocks of w, seen as bit vectors. No public clause cites this.
+-- What a command does to the capacities of sixteen sets over blocks of w bits. No public clause cites this.
 use Rattle.std.specs.Prelude.{◌≡◌, ◌≢◌, ℕ, ◌+◌, ◌<◌, ◌≤◌, ◌==◌, Bool, true, false, List, [], length, max, slice_index_or, slice_set}
 use Rattle.std.specs.List.{All}
 use Rattle.bit_set.specs.Bits.{Bits, blocks_for, room_of, whole_blocks}
@@ -17,7 +17,8 @@ Becomes old place Change new = (after : Bits) × (new ≡ slice_set old place af
 -- the same of two sets
 abbrev pub BecomeTwo : List Bits → ℕ → (Bits → Bits → Type 0) → ℕ → (Bits → Bits → Type 0) → List Bits → Type 0
 BecomeTwo old s First t Second new =
-    (first second : Bits) × (new ≡ slice_set (slice_set old s first) t second) × First (bits_at old s) first × Second (bits_at old t) second
+    (first second : Bits) × (new ≡ slice_set (slice_set old s first) t second)
+    × First (bits_at old s) first × Second (bits_at old t) second
 
 -- the capacity stays
 abbrev pub SameCapacity : Bits → Bits → Type 0

@@ -20,7 +20,9 @@ pub record IsCutOff (remaining remaining_after contents contents_after : Option 
 
 -- How it ended: what the reader gave, and what was done to the writer. They are seen as the bytes that the reader has
 -- left and those that the writer holds, as far as they tell them.
-abbrev pub HasEnded : {W : Type 0} → Result Unit LinesFault → (remaining remaining_after : Option (List ℕ)) → (contents : W → Option (List ℕ)) → (writer writer_after : W) → Type 0
+abbrev pub HasEnded :
+    {W : Type 0} → Result Unit LinesFault → (remaining remaining_after : Option (List ℕ))
+    → (contents : W → Option (List ℕ)) → (writer writer_after : W) → Type 0
 HasEnded (Ok nothing) remaining remaining_after contents writer writer_after =
     IsAnswered remaining remaining_after (contents writer) (contents writer_after)
 HasEnded (Err Read) remaining remaining_after contents writer writer_after =

@@ -151,7 +151,8 @@ fn copy<B: BitBlock>(
     requires apart { from ≡ to → ⊥ }
     ensures reply { IfOk result (λ reply. reply ≡ Done) }
     ensures after { OnOk result (map kept sets.new ≡ slice_set (map kept sets.old) to (slice_index_or (map kept sets.old) from [])) }
-    ensures grown { OnOk result (Becomes sets.old to (GrowsExactlyTo B.width (length (bits_at sets.old from).values)) sets.new) }
+    ensures grown { OnOk result (Becomes sets.old
+        to (GrowsExactlyTo B.width (length (bits_at sets.old from).values)) sets.new) }
     ensures left { OnErr result (sets.new ≡ sets.old) }
 {
     // The set is taken out of its place, so that another of the array can be read beside it. It takes no memory.
@@ -212,7 +213,8 @@ fn append<B: BitBlock>(
     requires apart { to ≡ from → ⊥ }
     ensures reply { IfOk result (λ reply. reply ≡ Done) }
     ensures after { OnOk result (map kept sets.new ≡ slice_set (slice_set (map kept sets.old) to (union (slice_index_or (map kept sets.old) to []) (slice_index_or (map kept sets.old) from []))) from []) }
-    ensures grown { OnOk result (BecomeTwo sets.old to (GrowsTo (length (bits_at sets.old from).values)) from SameCapacity sets.new) }
+    ensures grown { OnOk result (BecomeTwo sets.old
+        to (GrowsTo (length (bits_at sets.old from).values)) from SameCapacity sets.new) }
     ensures left { OnErr result (sets.new ≡ sets.old) }
 {
     let mut other = mem::replace(&mut sets[from], BitSet::new_general(alloc));
@@ -235,7 +237,8 @@ fn split_off<B: BitBlock>(
     ensures reply { IfOk result (λ reply. reply ≡ Done) }
     ensures after { OnOk result (map kept sets.new ≡ slice_set (slice_set (map kept sets.old) from (those_below (slice_index_or (map kept sets.old) from []) at)) to (those_from (slice_index_or (map kept sets.old) from []) at)) }
     ensures refused { OnErr result ((0 < at) × (sets.new ≡ sets.old)) }
-    ensures rooms { OnOk result (BecomeTwo sets.old from (IsFront at) to (λ _ part. IsPart B.width at (bits_at sets.old from) part) sets.new) }
+    ensures parts { OnOk result (BecomeTwo sets.old
+        from (IsFront at) to (λ _ part. IsPart B.width at (bits_at sets.old from) part) sets.new) }
 {
     let part = sets[from].split_off(alloc, at)?;
     sets[to] = part;
