@@ -1,10 +1,9 @@
 -- Reads and writes one after another, at a reader and a writer that tell their bytes.
-use Rattle.std.proofs.Common.{◌≡◌, ◌≢◌, ℕ, ◌+◌, ◌<◌, ◌≤◌, ◌⊎◌, inl, inr, List, [], ◌∷◌, ◌++◌, length, take, drop, Option, Result, Ok, Err, IsErr, refl, sym, ap, ◌∙◌, append_assoc, arith}
-use Rattle.std.proofs.KnownBytes.{Appends-kept, Appends-nil, Appends-trans, Consumes-kept, Consumes-trans}
-use Rattle.std.proofs.lemmas.List.{append-nil, take-append-drop, length-append, length-take-le, take-append-le}
-use Rattle.std.specs.Io.KnownBytes.{Consumes, Appends, Keeps}
-use Rattle.std.specs.declared.io.Error.{Error}
-use Rattle.bit_set_run.specs.Streams.{limit, GaveCount, GaveSome, GaveUntil, HoldsBeginning}
+use Rattle.std.proofs.Common.{◌≡◌, ℕ, ◌+◌, ◌<◌, ◌≤◌, List, [], ◌++◌, length, take, drop, Option, refl, sym, ap, ◌∙◌, append_assoc, arith}
+use Rattle.std.proofs.KnownBytes.{Appends-nil, Appends-trans, Consumes-trans}
+use Rattle.std.proofs.lemmas.List.{take-append-drop, length-append, length-take-le, take-append-le}
+use Rattle.std.specs.Io.KnownBytes.{Consumes, Appends}
+use Rattle.bit_set_run.specs.Streams.{limit, GaveCount, GaveSome}
 
 -- the bytes so far, and a read more
 pub record HasRead (old new : Option (List ℕ)) (input : List ℕ) (turns : ℕ) : Type 0 where
@@ -50,17 +49,6 @@ GaveCount-past old mid new input buffer turns n so_far read within room past = r
   bytes = input ++ take n buffer;
   taken = Consumes-trans old mid new input (take n buffer) so_far.taken read;
   count_is = let long : length (take n buffer) ≡ n = length-take-le n buffer within in rw (length-append, long) (omega (arith, within, room, past));
-}
-
--- a read that failed
-pub GaveUntil-failed :
-    (old mid new : Option (List ℕ)) (input : List ℕ) (turns : ℕ) (error : Error)
-    → HasRead old mid input turns → Keeps mid new → GaveUntil old new limit
-GaveUntil-failed old mid new input turns error so_far kept = record {
-  bytes = input;
-  taken = Consumes-kept old mid new input so_far.taken kept;
-  few = so_far.small;
-  error = error;
 }
 
 -- what was read after one turn at least

@@ -1,5 +1,5 @@
 -- What a command does to the capacities of sixteen sets over blocks of w bits. No public clause cites this.
-use Rattle.std.specs.Prelude.{◌≡◌, ◌≢◌, ℕ, ◌+◌, ◌<◌, ◌≤◌, ◌==◌, Bool, true, false, List, [], length, max, slice_index_or, slice_set}
+use Rattle.std.specs.Prelude.{◌≡◌, ℕ, ◌+◌, ◌<◌, ◌≤◌, ◌==◌, Bool, true, false, List, [], length, max, slice_index_or, slice_set}
 use Rattle.std.specs.List.{All}
 use Rattle.bit_set.specs.Bits.{Bits, blocks_for, room_of, whole_blocks}
 use Rattle.bit_set.specs.Bounds.{greatest}
