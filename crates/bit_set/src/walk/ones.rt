@@ -18,6 +18,8 @@ pub(crate) struct Ones<S: BlockSource<B>, B: BitBlock> {
     block: B,
     // The place of its lowest digit.
     place: usize,
+    // Whether blocks have few ones, as far as the walk has seen them. It changes no answer.
+    sparse: bool,
 }
 
 impl<S: BlockSource<B>, B: BitBlock> Model for Ones<S, B> {
@@ -49,6 +51,7 @@ impl<S: BlockSource<B>, B: BitBlock> Ones<S, B> {
             source,
             block,
             place: 0,
+            sparse: has_few_ones(block),
         }
     }
 
@@ -57,24 +60,28 @@ impl<S: BlockSource<B>, B: BitBlock> Ones<S, B> {
     pub(crate) fn next(&mut self) -> Option<usize>
         ensures { AdvancesByEach B.width self.old result self.new }
     {
-        self.go_on();
+        if self.sparse {
+            self.advance_branchless();
+        }
         while self.block == B::zero() {
             self.block = self.source.pull()?;
             self.place += B::bits();
+            self.sparse = has_few_ones(self.block);
         }
         Some(self.place + take_lowest_one(&mut self.block))
     }
 
-    // Goes on to the next block where the one in hand is used up and the source can tell without a branch. How many
-    // ones a block has is random, so that the processor would foresee the branch badly.
+    // Goes on to the next block where the one in hand is used up and the source has it without a branch. How many ones
+    // a block has is random, so that a processor would predict the branch badly.
     #[inline(always)]
-    fn go_on(&mut self)
+    fn advance_branchless(&mut self)
         ensures { GoesOn B.width self.old self.new }
     {
         let used_up = self.block == B::zero();
-        let (block, pulled) = self.source.pull_where(used_up);
+        let (block, pulled) = self.source.pull_if(used_up);
         self.block = self.block + block;
         self.place += pulled * B::bits();
+        self.sparse = has_few_ones(self.block);
     }
 
     // At least none are left, and at most the digits of the block in hand and of those past it.
@@ -104,6 +111,15 @@ impl<S: BlockSource<B>, B: BitBlock> Ones<S, B> {
             source: self.source.copy(),
             block: self.block,
             place: self.place,
+            sparse: self.sparse,
         }
     }
+}
+
+// Whether a quarter of a block's digits at most are ones.
+#[inline]
+fn has_few_ones<B: BitBlock>(block: B) -> bool
+    requires { B.is_block block }
+{
+    block.count_ones() <= B::bits() / 4
 }

@@ -1,7 +1,7 @@
-ghost use Rattle.std.specs.Prelude.{◌≡◌, ℕ, ◌+◌, ◌<◌, ◌≤◌, All, IfSome, IsSomeAnd, Some, drop, false, get_or, length, map, true};
+ghost use Rattle.std.specs.Prelude.{◌≡◌, ℕ, ◌+◌, ◌<◌, ◌≤◌, All, IfSome, Some, drop, get_or, length, map};
 ghost use Rattle.std.specs.Iterator.{UpTo, item_count};
 ghost use Rattle.std.specs.Iterator.SizeHint.{IsWithinCount};
-ghost use Rattle.bit_words.specs.Source.{Pulls};
+ghost use Rattle.bit_words.specs.Source.{PullsIf};
 
 use super::zeros::zeros_before;
 use super::{BitBlock, Steps};
@@ -56,9 +56,7 @@ impl<'a, B: BitBlock> Blocks<'a, B> {
     /// the two apart, for a caller whose wishes a processor predicts badly. Constant time.
     #[inline]
     pub fn next_if(&mut self, wanted: bool) -> Option<B>
-        ensures wanted { wanted ≡ true → Pulls self.old result self.new }
-        ensures zero { wanted ≡ false → IsSomeAnd result (λ block. (B.is_block block) × (B.number block ≡ 0)) }
-        ensures same { wanted ≡ false → self.new ≡ self.old }
+        ensures { PullsIf B.is_block B.number wanted self.old result self.new }
     {
         if wanted {
             self.steps.tick();
