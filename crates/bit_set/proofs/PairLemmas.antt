@@ -142,9 +142,9 @@ module _ {X : Type 0} (w : ℕ) (number : X → ℕ) (merge : Merge) where
   zeros_merged : (m n r : ℕ) → m ≡ 0 → n ≡ 0 → r < 2 ^ w → IsMergedBlock w merge m n r → r ≡ 0
   zeros_merged m n r first second small is =
       same_from_bits_below w r 0 small (pow_pos w) (λ i within.
-        let none = is.digit i within ∙ ap (λ k. merged_value merge (is_one k i) (is_one n i)) first ∙ ap (λ k. merged_value merge (is_one 0 i) (is_one k i)) second
-            ∙ ap (λ b. merged_value merge b (is_one 0 i)) (is_one-zero i) ∙ ap (merged_value merge false) (is_one-zero i) ∙ merged_value-none merge in
-        omega (arith, eqb-false (bit_at r i) 1 none, bit_at-lt r i, bit_at-zero i))
+      let none = is.digit i within ∙ ap (λ k. merged_value merge (is_one k i) (is_one n i)) first ∙ ap (λ k. merged_value merge (is_one 0 i) (is_one k i)) second
+      ∙ ap (λ b. merged_value merge b (is_one 0 i)) (is_one-zero i) ∙ ap (merged_value merge false) (is_one-zero i) ∙ merged_value-none merge in
+      omega (arith, eqb-false (bit_at r i) 1 none, bit_at-lt r i, bit_at-zero i))
 
   -- both sides go on, or neither does
   pub both_pulled_if : (is_block : X → Type 0) (wanted : Bool) (s s' t t' : Source X) (o p : Option X) (a b r : X) → o ≡ Some a → p ≡ Some b → PullsIf is_block number wanted s o s' → PullsIf is_block number wanted t p t' → number r < 2 ^ w

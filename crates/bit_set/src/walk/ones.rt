@@ -10,6 +10,9 @@ use crate::BitBlock;
 use crate::bit_vec::take_lowest_one;
 use std::marker::Model;
 
+// Up to so many ones a block, the branch that leaves a block costs more than steps without one.
+const FEW: usize = 4;
+
 // The places of the ones of the blocks of a source, in ascending order.
 #[derive(Drop)]
 pub(crate) struct Ones<S: BlockSource<B>, B: BitBlock> {
@@ -18,7 +21,7 @@ pub(crate) struct Ones<S: BlockSource<B>, B: BitBlock> {
     block: B,
     // The place of its lowest digit.
     place: usize,
-    // Whether blocks have few ones, as far as the walk has seen them. It changes no answer.
+    // Whether the first block had few ones, but some: then the others are taken to have few, too. It changes no answer.
     sparse: bool,
 }
 
@@ -47,11 +50,12 @@ impl<S: BlockSource<B>, B: BitBlock> Ones<S, B> {
     {
         let mut source = source;
         let block = source.pull().unwrap_or(B::zero());
+        let ones = block.count_ones();
         Ones {
             source,
             block,
             place: 0,
-            sparse: has_few_ones(block),
+            sparse: 0 < ones && ones <= FEW,
         }
     }
 
@@ -66,13 +70,12 @@ impl<S: BlockSource<B>, B: BitBlock> Ones<S, B> {
         while self.block == B::zero() {
             self.block = self.source.pull()?;
             self.place += B::bits();
-            self.sparse = has_few_ones(self.block);
         }
         Some(self.place + take_lowest_one(&mut self.block))
     }
 
     // Goes on to the next block where the one in hand is used up and the source has it without a branch. How many ones
-    // a block has is random, so that a processor would predict the branch badly.
+    // a block has is random, so that a processor predicts the branch badly.
     #[inline(always)]
     fn advance_branchless(&mut self)
         ensures { GoesOn B.width self.old self.new }
@@ -81,7 +84,6 @@ impl<S: BlockSource<B>, B: BitBlock> Ones<S, B> {
         let (block, pulled) = self.source.pull_if(used_up);
         self.block = self.block + block;
         self.place += pulled * B::bits();
-        self.sparse = has_few_ones(self.block);
     }
 
     // At least none are left, and at most the digits of the block in hand and of those past it.
@@ -114,12 +116,4 @@ impl<S: BlockSource<B>, B: BitBlock> Ones<S, B> {
             sparse: self.sparse,
         }
     }
-}
-
-// Whether a quarter of a block's digits at most are ones.
-#[inline]
-fn has_few_ones<B: BitBlock>(block: B) -> bool
-    requires { B.is_block block }
-{
-    block.count_ones() <= B::bits() / 4
 }

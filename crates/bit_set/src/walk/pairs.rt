@@ -38,7 +38,8 @@ impl<'a, B: BitBlock> BlockSource<B> for Pairs<'a, B> {
         merged_block(self.merge, first, second)
     }
 
-    // Where a side has no block left a branch tells what to do: that is not at each item.
+    // Once a side has ended, `pull` alone goes on: a pull that finds the end of both is then counted once. That test is
+    // a branch too, but one that is predicted.
     #[inline(always)]
     fn pull_if(&mut self, wanted: bool) -> (B, usize) {
         if self.first.size_hint().0 == 0 || self.second.size_hint().0 == 0 {

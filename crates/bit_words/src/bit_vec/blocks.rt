@@ -61,11 +61,13 @@ impl<'a, B: BitBlock> Blocks<'a, B> {
         if wanted {
             self.steps.tick();
         }
-        let Some(next) = self.blocks.get(self.at) else {
+        let Some(next) = self.as_slice().first() else {
             return (!wanted).then_some(B::zero());
         };
+        // Read in any case, so that what depends on the wish is a conditional move.
+        let block = *next;
         self.at += usize::from(wanted);
-        Some(if wanted { *next } else { B::zero() })
+        Some(if wanted { block } else { B::zero() })
     }
 
     // Pulls the blocks before the first that is not 0. The answer is how many they are.
