@@ -165,17 +165,24 @@ ok
 ok
 END
 for word in u8 u32 u64 u128; do
+    shimmed "$bitset" "$word" < short
+    judge "$word: no request refused" 0 replies '' 'requests > 1 && writes > 0' || continue
+    # The last of them is for the smaller summary of the set that is shrunk. Where it is refused the capacity is that of
+    # the blocks already, so the shrink has done what it is for.
+    all="$requests"
     for ((n = 1; n <= most; n++)); do
         shimmed SHIM_REFUSE="$n" "$bitset" "$word" < short
         if [ "$requests" -lt "$n" ]; then
             break
+        elif [ "$n" -eq "$all" ]; then
+            judge "$word: the last request refused" 0 replies '' 'requests == n && writes > 0' || break
         elif [ "$status" -eq 0 ]; then
             judge "$word: request $n refused, and another made for it" 0 replies '' 'requests > n' || break
         else
             judge "$word: request $n refused" 3 nothing 'memory refused' 'writes == 0' || break
         fi
     done
-    judge "$word: no request refused" 0 replies '' 'n > 1 && requests == n - 1 && writes > 0'
+    judge "$word: past the last request" 0 replies '' 'n > 1 && requests == n - 1 && writes > 0'
 done
 
 # Each word has its own type of blocks: room for 8,000,000 numbers is a million bytes of blocks, and a bit for each of
