@@ -6,13 +6,14 @@ use Rattle.std.proofs.lemmas.Nat.Bits.{bit_at-zero, same_from_bits_below}
 use Rattle.std.proofs.lemmas.Option.{get_or_from_slice_get}
 use Rattle.bit_words.specs.declared.bit_vec.merge.Merge.{Merge}
 use Rattle.bit_words.specs.declared.bit_vec.merge.Merge.TheVariants.{Intersection, Difference}
-use Rattle.bit_words.specs.Bits.{Bits, IsFirstTrue, digit_of}
+use Rattle.bit_words.specs.Bits.{IsFirstTrue, blocks_of, digit_of}
 use Rattle.bit_words.specs.Merges.{merged_value, merged}
-use Rattle.bit_words.specs.Storage.{is_one, value_at, values_of, IsCleanFrom, MergesToZero, MergesToFalse, IsFirstMerged}
+use Rattle.bit_words.specs.Storage.{is_one, value_at, MergesToZero, MergesToFalse, IsFirstMerged}
 use Rattle.bit_words.proofs.BitsLemmas.{slice_get_from_true}
 use Rattle.bit_words.proofs.Masks.{is_one-zero}
-use Rattle.bit_words.proofs.StorageLemmas.{value_at-is, value_at-place, value_at-past, get_or-values_of_clean}
+use Rattle.bit_words.proofs.StorageLemmas.{value_at-is, value_at-place, value_at-past}
 use Rattle.bit_words.proofs.MergeLemmas.{get_or-merged}
+use Rattle.bit_words.proofs.PackedLemmas.{value_at-blocks_of}
 use Rattle.bit_words.proofs.VectorLemmas.{bit_from_false}
 
 -- ---- blocks
@@ -166,14 +167,14 @@ first_is_within w ms ns count i ends first =
 -- ---- lists
 
 -- a value of a list is one of its blocks
-pub value_in_view : (w n r : ℕ) (ms : List ℕ) (v : Bits) → record { values = values_of w ms n; room = r } ≡ v → IsCleanFrom w ms n → (i : ℕ) → get_or v.values i false ≡ value_at w ms i
-value_in_view w n r ms v e clean i = sym (ap (λ b. get_or b.values i false) e) ∙ get_or-values_of_clean w ms n i clean
+pub value_in_view : (w : ℕ) (ms : List ℕ) (vs : List Bool) → 0 < w → ms ≡ blocks_of w vs → (i : ℕ) → get_or vs i false ≡ value_at w ms i
+value_in_view w ms vs pos e i = sym (ap (λ ns. value_at w ns i) e ∙ value_at-blocks_of w vs i pos)
 
-pub true_at : (w n r : ℕ) (ms : List ℕ) (v : Bits) → record { values = values_of w ms n; room = r } ≡ v → IsCleanFrom w ms n → (i : ℕ) → (slice_get v.values i ≡ Some true) ↔ (value_at w ms i ≡ true)
-true_at w n r ms v e clean i =
-    let same = value_in_view w n r ms v e clean i in (
-      λ found. sym same ∙ get_or_from_slice_get v.values i true false found,
-      λ one. slice_get_from_true v.values i (ap digit_of (same ∙ one)),
+pub true_at : (w : ℕ) (ms : List ℕ) (vs : List Bool) → 0 < w → ms ≡ blocks_of w vs → (i : ℕ) → (slice_get vs i ≡ Some true) ↔ (value_at w ms i ≡ true)
+true_at w ms vs pos e i =
+    let same = value_in_view w ms vs pos e i in (
+      λ found. sym same ∙ get_or_from_slice_get vs i true false found,
+      λ one. slice_get_from_true vs i (ap digit_of (same ∙ one)),
     )
 
 false_from_not : (bs : List Bool) (j : ℕ) → slice_get bs j ≢ Some true → get_or bs j false ≡ false
@@ -182,15 +183,15 @@ false_from_not (true ∷ bs) zero h = absurd (h refl)
 false_from_not (false ∷ bs) zero h = refl
 false_from_not (b ∷ bs) (suc j) h = false_from_not bs j h
 
-merged_in_views : (m : Merge) (w n p r s : ℕ) (ms ns : List ℕ) (v u : Bits) → record { values = values_of w ms n; room = r } ≡ v → record { values = values_of w ns p; room = s } ≡ u → IsCleanFrom w ms n → IsCleanFrom w ns p → (i : ℕ) → get_or (merged m v.values u.values) i false ≡ merged_value m (value_at w ms i) (value_at w ns i)
-merged_in_views m w n p r s ms ns v u e f clean also i =
-    get_or-merged m v.values u.values i
-    ∙ ap₂ (merged_value m) (value_in_view w n r ms v e clean i) (value_in_view w p s ns u f also i)
+merged_in_views : (m : Merge) (w : ℕ) (ms ns : List ℕ) (vs us : List Bool) → 0 < w → ms ≡ blocks_of w vs → ns ≡ blocks_of w us → (i : ℕ) → get_or (merged m vs us) i false ≡ merged_value m (value_at w ms i) (value_at w ns i)
+merged_in_views m w ms ns vs us pos e f i =
+    get_or-merged m vs us i
+    ∙ ap₂ (merged_value m) (value_in_view w ms vs pos e i) (value_in_view w ns us pos f i)
 
-pub first_of_lists : (m : Merge) (w n p r s : ℕ) (ms ns : List ℕ) (v u : Bits) → record { values = values_of w ms n; room = r } ≡ v → record { values = values_of w ns p; room = s } ≡ u → IsCleanFrom w ms n → IsCleanFrom w ns p → (i : ℕ) → IsFirstTrue (merged m v.values u.values) i → IsFirstMerged m w ms ns i
-first_of_lists m w n p r s ms ns v u e f clean also i first = record {
-  is_true = sym (merged_in_views m w n p r s ms ns v u e f clean also i) ∙ get_or_from_slice_get (merged m v.values u.values) i true false first.is_true;
-  before = λ j less. sym (merged_in_views m w n p r s ms ns v u e f clean also j) ∙ false_from_not (merged m v.values u.values) j (first.before j less);
+pub first_of_lists : (m : Merge) (w : ℕ) (ms ns : List ℕ) (vs us : List Bool) → 0 < w → ms ≡ blocks_of w vs → ns ≡ blocks_of w us → (i : ℕ) → IsFirstTrue (merged m vs us) i → IsFirstMerged m w ms ns i
+first_of_lists m w ms ns vs us pos e f i first = record {
+  is_true = sym (merged_in_views m w ms ns vs us pos e f i) ∙ get_or_from_slice_get (merged m vs us) i true false first.is_true;
+  before = λ j less. sym (merged_in_views m w ms ns vs us pos e f j) ∙ false_from_not (merged m vs us) j (first.before j less);
 }
 
 difference_true : (a b : Bool) → merged_value Difference a b ≡ false → a ≡ true → b ≡ true
@@ -212,14 +213,14 @@ intersection_false true true f = absurd (f refl refl)
 intersection_false true false f = refl
 intersection_false false b f = refl
 
-pub subset_lists : (w n p r s : ℕ) (ms ns : List ℕ) (v u : Bits) → record { values = values_of w ms n; room = r } ≡ v → record { values = values_of w ns p; room = s } ≡ u → IsCleanFrom w ms n → IsCleanFrom w ns p → MergesToFalse Difference w ms ns ↔ ((i : ℕ) → slice_get v.values i ≡ Some true → slice_get u.values i ≡ Some true)
-subset_lists w n p r s ms ns v u e f clean also = (
-  λ falses i first. (true_at w p s ns u f also i).1 (difference_true _ _ (falses.value i) ((true_at w n r ms v e clean i).0 first)),
-  λ each. record { value = λ i. difference_false _ _ (λ first. (true_at w p s ns u f also i).0 (each i ((true_at w n r ms v e clean i).1 first))) },
+pub subset_lists : (w : ℕ) (ms ns : List ℕ) (vs us : List Bool) → 0 < w → ms ≡ blocks_of w vs → ns ≡ blocks_of w us → MergesToFalse Difference w ms ns ↔ ((i : ℕ) → slice_get vs i ≡ Some true → slice_get us i ≡ Some true)
+subset_lists w ms ns vs us pos e f = (
+  λ falses i first. (true_at w ns us pos f i).1 (difference_true _ _ (falses.value i) ((true_at w ms vs pos e i).0 first)),
+  λ each. record { value = λ i. difference_false _ _ (λ first. (true_at w ns us pos f i).0 (each i ((true_at w ms vs pos e i).1 first))) },
 )
 
-pub disjoint_lists : (w n p r s : ℕ) (ms ns : List ℕ) (v u : Bits) → record { values = values_of w ms n; room = r } ≡ v → record { values = values_of w ns p; room = s } ≡ u → IsCleanFrom w ms n → IsCleanFrom w ns p → MergesToFalse Intersection w ms ns ↔ ((i : ℕ) → slice_get v.values i ≡ Some true → slice_get u.values i ≢ Some true)
-disjoint_lists w n p r s ms ns v u e f clean also = (
-  λ falses i first second. intersection_not _ _ (falses.value i) ((true_at w n r ms v e clean i).0 first) ((true_at w p s ns u f also i).0 second),
-  λ each. record { value = λ i. intersection_false _ _ (λ first second. each i ((true_at w n r ms v e clean i).1 first) ((true_at w p s ns u f also i).1 second)) },
+pub disjoint_lists : (w : ℕ) (ms ns : List ℕ) (vs us : List Bool) → 0 < w → ms ≡ blocks_of w vs → ns ≡ blocks_of w us → MergesToFalse Intersection w ms ns ↔ ((i : ℕ) → slice_get vs i ≡ Some true → slice_get us i ≢ Some true)
+disjoint_lists w ms ns vs us pos e f = (
+  λ falses i first second. intersection_not _ _ (falses.value i) ((true_at w ms vs pos e i).0 first) ((true_at w ns us pos f i).0 second),
+  λ each. record { value = λ i. intersection_false _ _ (λ first second. each i ((true_at w ms vs pos e i).1 first) ((true_at w ns us pos f i).1 second)) },
 )

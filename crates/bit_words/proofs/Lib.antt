@@ -10,6 +10,7 @@ pub mod VectorLemmas
 pub mod TidyLemmas
 pub mod ByteLemmas
 pub mod SourceLemmas
+pub mod PackedLemmas
 pub mod MergeLemmas
 pub mod CompareLemmas
 pub mod RoomLemmas
@@ -17,3 +18,4 @@ pub mod SummaryLemmas
 pub mod TailLemmas
 pub mod NonzeroLemmas
 pub mod CountLemmas
+pub mod StoredLemmas

@@ -1,12 +1,16 @@
 -- What a merge of blocks does to the value at every index, and what the merge of two lists is there.
-use Rattle.std.proofs.Common.{◌≡◌, ℕ, zero, suc, ◌+◌, ◌/◌, ◌%◌, ◌<◌, ◌≤◌, max, Bool, false, List, [], ◌∷◌, length, get_or, set, refl, sym, ap, ap₂, ◌∙◌, arith, mod-lt, ⊎_elim, get_or-set_same, get_or-set_other}
+use Rattle.std.proofs.Common.{◌≡◌, ℕ, zero, suc, ◌+◌, ◌*◌, ◌/◌, ◌%◌, ◌<◌, ◌≤◌, max, Bool, false, List, [], ◌∷◌, All, map, length, get_or, set, refl, sym, ap, ap₂, ◌∙◌, arith, mod-lt, ⊎_elim, get_or-set_same, get_or-set_other}
 use Rattle.std.proofs.lemmas.Bool.{cases_lt}
-use Rattle.std.proofs.lemmas.List.{get_or_past}
+use Rattle.std.proofs.lemmas.List.{ext_get_or, get_or_past}
 use Rattle.bit_words.specs.declared.bit_vec.merge.Merge.{Merge}
 use Rattle.bit_words.specs.declared.bit_vec.merge.Merge.TheVariants.{Union, Intersection, Difference, Symmetric}
 use Rattle.bit_words.specs.Merges.{merged_value, merged}
-use Rattle.bit_words.specs.Storage.{is_one, value_at, values_of, IsCleanFrom, IsMergedBetween}
-use Rattle.bit_words.proofs.StorageLemmas.{length-values_of, values_of-same, get_or-values_of_clean, value_at-is, value_at-past}
+use Rattle.bit_words.specs.Storage.{is_one, value_at, values_of, IsCleanFrom, IsMergedBetween, IsOther}
+use Rattle.bit_words.specs.Bits.{blocks_for, blocks_of}
+use Rattle.bit_words.proofs.BitsLemmas.{length-blocks_of}
+use Rattle.bit_words.proofs.PackedLemmas.{tail_of_block, value_at-blocks_of}
+use Rattle.bit_words.proofs.TidyLemmas.{blocks_for-le}
+use Rattle.bit_words.proofs.StorageLemmas.{value_at-place, length-values_of, values_of-same, get_or-values_of_clean, value_at-is, value_at-past}
 
 -- ---- two lists
 
@@ -30,18 +34,6 @@ get_or-merged m [] (y ∷ ys) zero = refl
 get_or-merged m [] (y ∷ ys) (suc i) = get_or-merged m [] ys i
 get_or-merged m (x ∷ xs) (y ∷ ys) zero = refl
 get_or-merged m (x ∷ xs) (y ∷ ys) (suc i) = get_or-merged m xs ys i
-
-pub merged_lists : (m : Merge) (w : ℕ) (ms os ns : List ℕ) (len short : ℕ) → short ≤ len → IsCleanFrom w ms len → IsCleanFrom w os short → ((i : ℕ) → value_at w ns i ≡ merged_value m (value_at w ms i) (value_at w os i)) → values_of w ns len ≡ merged m (values_of w ms len) (values_of w os short)
-merged_lists m w ms os ns len short shorter clean also each =
-    values_of-same w ns len _ (omega (arith, length-merged m (values_of w ms len) (values_of w os short), length-values_of w ms len, length-values_of w os short)) (λ i below.
-    each i
-    ∙ ap₂ (merged_value m) (sym (get_or-values_of_clean w ms len i clean)) (sym (get_or-values_of_clean w os short i also))
-    ∙ sym (get_or-merged m (values_of w ms len) (values_of w os short) i))
-
-pub merged_clean : (m : Merge) (w : ℕ) (ms os ns : List ℕ) (len short : ℕ) → short ≤ len → IsCleanFrom w ms len → IsCleanFrom w os short → ((i : ℕ) → value_at w ns i ≡ merged_value m (value_at w ms i) (value_at w os i)) → IsCleanFrom w ns len
-merged_clean m w ms os ns len short shorter clean also each = record {
-  clean = λ i past. each i ∙ ap₂ (merged_value m) (clean.clean i past) (also.clean i (omega arith)) ∙ merged_value-none m;
-}
 
 -- ---- blocks that are merged some at a time
 
@@ -88,3 +80,39 @@ merged_values m w ms os ns pos len short is i =
     (λ within. value_at-is w ns i ∙ is.digit (i / w) (i % w) (omega arith) within (mod-lt i pos) ∙ sym (ap₂ (merged_value m) (value_at-is w ms i) (value_at-is w os i)))
     (λ past. value_at-past w ns i (omega arith) ∙ sym (ap₂ (merged_value m) (value_at-past w ms i past) (value_at-past w os i (omega arith)) ∙ merged_value-none m))
     (cases_lt (i / w) (length ms))
+
+-- ---- what no value uses
+
+-- past a list's end a block of it merges to zeros
+pub merged_tail : (m : Merge) (w k : ℕ) (os : List ℕ) (vs : List Bool) (a b n : ℕ) → a ≡ get_or (blocks_of w vs) k 0 → b ≡ get_or os k 0 → IsCleanFrom w os (length vs) → ((j : ℕ) → j < w → is_one n j ≡ merged_value m (is_one a j) (is_one b j)) → (j : ℕ) → j < w → length vs ≤ k * w + j → is_one n j ≡ false
+merged_tail m w k os vs a b n read other clean digits j inside past =
+    digits j inside
+    ∙ ap₂ (merged_value m) (tail_of_block w vs k a j inside read past) (ap (λ x. is_one x j) other ∙ sym (value_at-place w os k j inside) ∙ clean.clean (k * w + j) past)
+    ∙ merged_value-none m
+
+pub clean_none : (w n : ℕ) → IsCleanFrom w [] n
+clean_none w n = record { clean = λ i past. value_at-past w [] i (omega arith) }
+
+-- ---- lists by their blocks
+
+-- the blocks of a list that is not longer
+pub is_other : {X : Type 0} (w : ℕ) (f : X → ℕ) (P : X → Type 0) (os : List X) (vs : List Bool) (n : ℕ) → 0 < w → map f os ≡ blocks_of w vs → All P os → length os ≡ blocks_for w (length vs) → length vs ≤ n → IsOther w f P os n
+is_other w f P os vs n pos is each count shorter = record {
+  each = each;
+  fewer = let le = blocks_for-le w (length vs) n pos shorter in omega arith;
+  tail = record { clean = λ i past. ap (λ ms. value_at w ms i) is ∙ value_at-blocks_of w vs i pos ∙ get_or_past vs i false (omega arith) };
+}
+
+-- what two lists become, once all their blocks are merged
+pub merged_from_blocks : (m : Merge) (w : ℕ) (us vs ns : List Bool) (os : List ℕ) → 0 < w → length ns ≡ length us → length vs ≤ length us → os ≡ blocks_of w vs → IsMergedBetween m w 0 (blocks_for w (length us)) (blocks_of w us) os (blocks_of w ns) → ns ≡ merged m us vs
+merged_from_blocks m w us vs ns os pos len shorter is merged_blocks =
+    let le = blocks_for-le w (length vs) (length us) pos shorter in
+    let total : length (blocks_of w us) ≡ blocks_for w (length us) = length-blocks_of w us in
+    let same : length (blocks_of w ns) ≡ length (blocks_of w us) = length-blocks_of w ns ∙ ap (blocks_for w) len ∙ sym total in
+    let short : length os ≤ length (blocks_of w us) = rw (is, length-blocks_of, length-blocks_of) le in
+    let each = merged_values m w (blocks_of w us) os (blocks_of w ns) pos same short (rw (← total) at merged_blocks) in
+    ext_get_or false ns (merged m us vs) (omega (arith, length-merged m us vs)) (λ i _.
+    sym (value_at-blocks_of w ns i pos)
+    ∙ each i
+    ∙ ap₂ (merged_value m) (value_at-blocks_of w us i pos) (ap (λ ms. value_at w ms i) is ∙ value_at-blocks_of w vs i pos)
+    ∙ sym (get_or-merged m us vs i))

@@ -12,7 +12,7 @@ use Rattle.bit_words.specs.Bits.{blocks_for}
 use Rattle.bit_words.specs.Digits.{IsEither}
 use Rattle.bit_words.specs.Lowest.{IsLowest, IsCleared}
 use Rattle.bit_words.specs.Storage.{is_one, value_at}
-use Rattle.bit_words.specs.Summary.{is_used, IsSummary}
+use Rattle.bit_words.specs.Summary.{is_used, IsBlockSummary}
 use Rattle.bit_words.specs.Marks.{IsMarked, pick, is_marked, marked_from}
 use Rattle.bit_words.specs.Nonzero.{nonzero_from, first_and_nonzero, ones_in, ones_left}
 use Rattle.bit_words.proofs.LowestLemmas.{ones_zero}
@@ -277,7 +277,7 @@ module _ {X : Type 0} (w : ℕ) (number : X → ℕ) (is_block : X → Type 0) w
   -- ---- the making
 
   -- the block of the summary that is first in hand, with its lowest digit made 1
-  begun_marks : (marks first : X) (xs sums rest : List X) → 0 < w → IsSummary w number is_block xs sums → sums ≡ first ∷ rest → IsEither w (number first) 1 (number marks)
+  begun_marks : (marks first : X) (xs sums rest : List X) → 0 < w → IsBlockSummary w number is_block xs sums → sums ≡ first ∷ rest → IsEither w (number first) 1 (number marks)
       → (j : ℕ) → j < w → is_one (number marks) j ≡ (is_used (map number xs) j || is_one 1 j)
   begun_marks marks first xs sums rest pos is more either j within =
       is_one-either w (number first) 1 (number marks) j either within
@@ -292,12 +292,12 @@ module _ {X : Type 0} (w : ℕ) (number : X → ℕ) (is_block : X → Type 0) w
   unit_above : (j : ℕ) → is_one 1 (suc j) ≡ false
   unit_above j = is_one-none 1 (suc j) (bit_at-suc 1 j ∙ bit_at-zero j)
 
-  some_blocks : (first : X) (xs sums rest : List X) → 0 < w → IsSummary w number is_block xs sums → sums ≡ first ∷ rest → 0 < length xs
+  some_blocks : (first : X) (xs sums rest : List X) → 0 < w → IsBlockSummary w number is_block xs sums → sums ≡ first ∷ rest → 0 < length xs
   some_blocks first xs sums rest pos is more =
       let count : length sums ≡ 1 + length rest = ap length more ∙ omega arith in
       ⊎_elim (λ some. some) (λ none. absurd (let least = blocks_for-least w (length xs) 0 pos (omega (arith, none)) in omega (arith, least, is.tidy.count, count))) (cases_lt 0 (length xs))
 
-  pub IsMarked-begun : (marks first : X) (xs sums rest : List X) → 0 < w → All is_block xs → length xs < 2 ^ 64 → IsSummary w number is_block xs sums → sums ≡ first ∷ rest → is_block marks → All is_block rest → IsEither w (number first) 1 (number marks)
+  pub IsMarked-begun : (marks first : X) (xs sums rest : List X) → 0 < w → All is_block xs → length xs < 2 ^ 64 → IsBlockSummary w number is_block xs sums → sums ≡ first ∷ rest → is_block marks → All is_block rest → IsEither w (number first) 1 (number marks)
       → IsMarked w number is_block 0 marks xs rest
   IsMarked-begun marks first xs sums rest pos each fits is more block blocks either =
       let count : length sums ≡ 1 + length rest = ap length more ∙ omega arith in
@@ -336,7 +336,7 @@ module _ {X : Type 0} (w : ℕ) (number : X → ℕ) (is_block : X → Type 0) w
       begun_inside zero within raised = some_blocks first xs sums rest pos is more
       begun_inside (suc j) within raised = nonzero_inside number (suc j) xs (sym (begun_digit (suc j) within (omega arith)) ∙ raised)
 
-  pub left-begun : (marks first : X) (xs sums rest : List X) → 0 < w → IsSummary w number is_block xs sums → sums ≡ first ∷ rest → IsEither w (number first) 1 (number marks)
+  pub left-begun : (marks first : X) (xs sums rest : List X) → 0 < w → IsBlockSummary w number is_block xs sums → sums ≡ first ∷ rest → IsEither w (number first) 1 (number marks)
       → marked_from w number 0 (number marks) xs ≡ first_and_nonzero number xs
   left-begun marks first [] sums rest pos is more either = refl
   left-begun marks first (x ∷ xs) sums rest pos is more either =
@@ -362,7 +362,7 @@ module _ {X : Type 0} (w : ℕ) (number : X → ℕ) (is_block : X → Type 0) w
       ap (λ b. if b then (0, x) ∷ pick f 1 xs else pick f 1 xs) here
       ∙ ap (λ ys. (0, x) ∷ ys) (pick-nonzero number f 1 xs tell)
 
-  pub IsMarked-none : (marks : X) (xs sums : List X) → 0 < w → All is_block xs → length xs < 2 ^ 64 → IsSummary w number is_block xs sums → sums ≡ [] → is_block marks → number marks ≡ 0 → IsMarked w number is_block 0 marks xs sums
+  pub IsMarked-none : (marks : X) (xs sums : List X) → 0 < w → All is_block xs → length xs < 2 ^ 64 → IsBlockSummary w number is_block xs sums → sums ≡ [] → is_block marks → number marks ≡ 0 → IsMarked w number is_block 0 marks xs sums
   IsMarked-none marks xs sums pos each fits is none block zero_there =
       let count : length sums ≡ 0 = ap length none in
       let enough = blocks_for-enough w (length xs) pos in
@@ -383,7 +383,7 @@ module _ {X : Type 0} (w : ℕ) (number : X → ℕ) (is_block : X → Type 0) w
             ∙ sym (ap (λ m. not (m == 0)) (get_or_past (map number xs) (0 + w + k) 0 (rw length-map (omega (arith, enough, whole)))));
       }
 
-  pub left-none : (m : ℕ) (xs sums : List X) → 0 < w → IsSummary w number is_block xs sums → sums ≡ [] → marked_from w number 0 m xs ≡ first_and_nonzero number xs
+  pub left-none : (m : ℕ) (xs sums : List X) → 0 < w → IsBlockSummary w number is_block xs sums → sums ≡ [] → marked_from w number 0 m xs ≡ first_and_nonzero number xs
   left-none m [] sums pos is none = refl
   left-none m (x ∷ xs) sums pos is none =
       let count : length sums ≡ 0 = ap length none in
@@ -518,11 +518,11 @@ module _ {X : Type 0} (w : ℕ) (number : X → ℕ) (is_block : X → Type 0) w
   zero_at (x ∷ xs) all (suc k) = zero_at xs (All-tail (λ y. number y ≡ 0) x xs all) k
 
   -- a summary's block that is 0 has no block that is not
-  pub zero_from_row : (xs sums : List X) → IsSummary w number is_block xs sums → (k : ℕ) → get_or (map number sums) (k / w) 0 ≡ 0 → get_or (map number xs) k 0 ≡ 0
+  pub zero_from_row : (xs sums : List X) → IsBlockSummary w number is_block xs sums → (k : ℕ) → get_or (map number sums) (k / w) 0 ≡ 0 → get_or (map number xs) k 0 ≡ 0
   zero_from_row xs sums is k none =
       zero_from_unused (get_or (map number xs) k 0) (sym (is.digit k) ∙ value_at-is w (map number sums) k ∙ ap (λ m. is_one m (k % w)) none ∙ is_one-zero (k % w))
 
-  pub zero_by_summary : ((x : X) → is_block x → number x < 2 ^ w) → (xs sums : List X) → IsSummary w number is_block xs sums → All (λ x. number x ≡ 0) sums ↔ All (λ x. number x ≡ 0) xs
+  pub zero_by_summary : ((x : X) → is_block x → number x < 2 ^ w) → (xs sums : List X) → IsBlockSummary w number is_block xs sums → All (λ x. number x ≡ 0) sums ↔ All (λ x. number x ≡ 0) xs
   zero_by_summary below xs sums is = (
     λ none. all_zero xs (λ k. zero_from_row xs sums is k (zero_at sums none (k / w))),
     λ none. all_zero sums (λ q. zero_from_digits w (get_or (map number sums) q 0) (numbers_below w number is_block sums below is.tidy.each q) (λ j within.
@@ -535,7 +535,7 @@ module _ {X : Type 0} (w : ℕ) (number : X → ℕ) (is_block : X → Type 0) w
   front_read xs end k within = ap (λ ms. get_or ms k 0) (sym (take-map number end xs)) ∙ get_or-take end (map number xs) k 0 within
 
   -- past the rows of which the summary has a digit
-  pub zero_past_rows : (xs sums : List X) (rows end k : ℕ) → 0 < w → IsSummary w number is_block xs sums → ((q : ℕ) → rows ≤ q → get_or (map number sums) q 0 ≡ 0) → end ≡ min (min (rows * w) (2 ^ 64 - 1)) (length xs) → end ≤ k → get_or (map number xs) k 0 ≡ 0
+  pub zero_past_rows : (xs sums : List X) (rows end k : ℕ) → 0 < w → IsBlockSummary w number is_block xs sums → ((q : ℕ) → rows ≤ q → get_or (map number sums) q 0 ≡ 0) → end ≡ min (min (rows * w) (2 ^ 64 - 1)) (length xs) → end ≤ k → get_or (map number xs) k 0 ≡ 0
   zero_past_rows xs sums rows end k pos is none at past =
       ⊎_elim
       (λ inside.

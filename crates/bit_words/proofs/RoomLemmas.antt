@@ -2,14 +2,13 @@
 use Rattle.std.proofs.Common.{◌≡◌, ◌≢◌, ℕ, zero, suc, ◌+◌, ◌-◌, ◌*◌, ◌/◌, ◌%◌, ◌^◌, ◌<◌, ◌≤◌, min, max, Bool, true, false, ◌||◌, nat_lt, nat_le, if◌then◌else◌, List, [], ◌∷◌, length, get_or, take, refl, sym, ap, ◌∙◌, arith, ⊎_elim, length-take, le_of_mul-le-mul_right, div-lt_iff_lt-mul, mul-le-mul_right}
 use Rattle.std.proofs.lemmas.Bool.{cases_lt, true≢false}
 use Rattle.std.proofs.lemmas.Bool.Decides.{nat_tests}
-use Rattle.bit_words.specs.Bits.{Bits, blocks_for, room_of, true_end, whole_blocks}
-use Rattle.bit_words.specs.Storage.{value_at, values_of, IsCleanFrom}
+use Rattle.bit_words.specs.Bits.{blocks_for, room_of, true_end, whole_blocks}
+use Rattle.bit_words.specs.Storage.{value_at, IsCleanFrom}
 use Rattle.bit_words.specs.Summary.{shared_room}
 use Rattle.bit_words.proofs.BitsLemmas.{blocks_for-enough, blocks_for-least}
 use Rattle.bit_words.proofs.CompareLemmas.{zero_from_digits, digit_from_zero}
 use Rattle.bit_words.proofs.StorageLemmas.{value_at-is, value_at-past, value_at-place}
 use Rattle.bit_words.proofs.TidyLemmas.{value_at-take}
-use Rattle.bit_words.proofs.VectorLemmas.{length_from_view}
 
 -- ---- how far a list is true
 
@@ -54,11 +53,15 @@ block_past w c i pos past =
     (λ (reached : c ≤ i / w). reached)
     (cases_lt (i / w) c)
 
+-- past the blocks that are not 0 every value is false
+pub false_past : (w count : ℕ) (ms : List ℕ) → 0 < w → ((k : ℕ) → count ≤ k → get_or ms k 0 ≡ 0) → (i : ℕ) → count * w ≤ i → value_at w ms i ≡ false
+false_past w count ms pos zeros i past = value_at-is w ms i ∙ digit_from_zero _ (i % w) (zeros (i / w) (block_past w count i pos past))
+
 -- the last block that is not 0 holds the last true value
 pub used_blocks-true_end : (w : ℕ) (ms : List ℕ) (count : ℕ) (xs : List Bool) → 0 < w → ((k : ℕ) → get_or ms k 0 < 2 ^ w) → ((i : ℕ) → get_or xs i false ≡ value_at w ms i) → ((k : ℕ) → count ≤ k → get_or ms k 0 ≡ 0) → (0 < count → get_or ms (count - 1) 0 ≢ 0) → blocks_for w (true_end xs) ≡ count
 used_blocks-true_end w ms count xs pos small same zeros last =
     let low = blocks_for-least w (true_end xs) count pos (true_end-least xs (count * w) (λ i past.
-    same i ∙ value_at-is w ms i ∙ digit_from_zero _ (i % w) (zeros (i / w) (block_past w count i pos past)))) in
+    same i ∙ false_past w count ms pos zeros i past)) in
     ⊎_elim
     (λ (less : blocks_for w (true_end xs) < count).
     let enough = blocks_for-enough w (true_end xs) pos in
@@ -79,14 +82,6 @@ whole_blocks-past w c xs e h =
     ap (λ n. if nat_le (n * w) (2 ^ 64 - 1) then n * w else length xs) e ∙ ap (λ t. if t then c * w else length xs) test
 
 -- ---- what stays when the blocks past them go
-
-pub value_at-cut : (w c : ℕ) (ms ns : List ℕ) → ns ≡ take c ms → ((k : ℕ) → c ≤ k → get_or ms k 0 ≡ 0) → (i : ℕ) → value_at w ns i ≡ value_at w ms i
-value_at-cut w c ms ns e zeros i =
-    ap (λ xs. value_at w xs i) e
-    ∙ ⊎_elim
-    (λ within. value_at-take w c ms i within)
-    (λ past. value_at-past w (take c ms) i (omega (arith, length-take c ms)) ∙ sym (value_at-is w ms i ∙ digit_from_zero _ (i % w) (zeros (i / w) past)))
-    (cases_lt (i / w) c)
 
 pub clean_cut : (w c : ℕ) (ms ns : List ℕ) (len : ℕ) → 0 < w → len ≡ c * w → ns ≡ take c ms → IsCleanFrom w ns len
 clean_cut w c ms ns len pos e is = record {
@@ -122,9 +117,6 @@ shared_short_sums w blocks sums count pos short = let less = short_of_sums w cou
 
 pub ruleset shared_tests = (shared_enough, shared_short_blocks, shared_short_sums)
 
-pub shared_le : (w blocks sums more_blocks more_sums : ℕ) → blocks ≤ more_blocks → sums ≤ more_sums → shared_room w blocks sums ≤ shared_room w more_blocks more_sums
-shared_le w blocks sums more_blocks more_sums first second = let more = mul-le-mul_right w second in omega arith
-
 -- what has less room of the two tells
 pub shared_by_blocks : (w blocks sums more : ℕ) → 0 < w → blocks_for w blocks ≤ sums → sums ≤ more → shared_room w blocks more ≡ shared_room w blocks sums
 shared_by_blocks w blocks sums more pos enough le =
@@ -135,23 +127,6 @@ shared_by_blocks w blocks sums more pos enough le =
 pub shared_by_sums : (w blocks sums more : ℕ) → 0 < w → sums < blocks_for w blocks → blocks ≤ more → shared_room w more sums ≡ shared_room w blocks sums
 shared_by_sums w blocks sums more pos short le = let less = short_of_sums w blocks sums pos short in omega arith
 
--- room made for count and no more
-pub shared_exact : (w blocks sums count got got_sums : ℕ) → 0 < w → blocks_for w count ≤ sums → got ≡ max blocks count → got_sums ≡ max sums (blocks_for w count) → shared_room w got got_sums ≡ max (shared_room w blocks sums) count
-shared_exact w blocks sums count got got_sums pos enough first second =
-    let covered = shared_for_sums w count sums pos enough in
-    let same : got_sums ≡ sums = omega arith in
-    rw same (omega arith)
-
-pub shared_trimmed : (w blocks sums count trimmed : ℕ) → 0 < w → sums < blocks_for w count → min count blocks ≤ trimmed → trimmed ≤ blocks → shared_room w trimmed sums ≡ shared_room w blocks sums
-shared_trimmed w blocks sums count trimmed pos short low high = let less = short_of_sums w count sums pos short in omega arith
-
-pub shared_exact_trimmed : (w blocks sums count trimmed got got_sums : ℕ) → 0 < w → sums < blocks_for w count → trimmed ≤ count → got ≡ max trimmed count → got_sums ≡ max sums (blocks_for w count) → shared_room w got got_sums ≡ max (shared_room w blocks sums) count
-shared_exact_trimmed w blocks sums count trimmed got got_sums pos short low first second =
-    let less = short_of_sums w count sums pos short in
-    let enough = blocks_for-enough w count pos in
-    let same : got_sums ≡ blocks_for w count = omega arith in
-    rw same (omega arith)
-
 pub room_le : (w a b : ℕ) → a ≤ b → room_of w a ≤ room_of w b
 room_le w a b h = let more = mul-le-mul_right w h in omega arith
 
@@ -160,8 +135,3 @@ pub shared_whole : (w count blocks sums : ℕ) → 0 < w → blocks ≡ count �
 shared_whole w count blocks sums pos first second =
     let enough = blocks_for-enough w count pos in
     rw (first, second) (omega arith)
-
--- the room of a copy, which is that of the blocks and of their summary
-pub room_of_copy : (w n r count blocks sums : ℕ) (ms : List ℕ) (v : Bits) → 0 < w → record { values = values_of w ms n; room = r } ≡ v → count ≡ blocks_for w n → blocks ≡ count → sums ≡ blocks_for w count → room_of w (shared_room w blocks sums) ≡ room_of w (blocks_for w (length v.values))
-room_of_copy w n r count blocks sums ms v pos e is first second =
-    rw (length_from_view w n r ms v e) (ap (room_of w) (shared_whole w count blocks sums pos first second ∙ is))

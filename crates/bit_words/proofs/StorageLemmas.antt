@@ -80,14 +80,6 @@ values_of-take w ms ms' n m le h =
     values_of-same w ms' n _ (omega (arith, length-take n (values_of w ms m), length-values_of w ms m)) (λ i below.
     h i below ∙ sym (get_or-take n (values_of w ms m) i false below ∙ get_or-values_of w ms m i false (omega arith)))
 
-pub values_of-set : (w : ℕ) (ms ms' : List ℕ) (n i : ℕ) (b : Bool) → i < n → value_at w ms' i ≡ b → ((k : ℕ) → k ≢ i → value_at w ms' k ≡ value_at w ms k) → values_of w ms' n ≡ set (values_of w ms n) i b
-values_of-set w ms ms' n i b le same others =
-    values_of-same w ms' n _ (length-set (values_of w ms n) i b ∙ length-values_of w ms n) (λ k below.
-    ⊎_elim
-    (λ e. ap (value_at w ms') e ∙ same ∙ sym (ap (λ x. get_or (set (values_of w ms n) i b) x false) e ∙ get_or-set_same (values_of w ms n) i b false (rw length-values_of le)))
-    (λ ne. others k ne ∙ sym (get_or-set_other (values_of w ms n) i k b false ne ∙ get_or-values_of w ms n k false below))
-    (cases_eq k i))
-
 pub values_of-replicate : (w : ℕ) (ms : List ℕ) (n : ℕ) (b : Bool) → ((i : ℕ) → i < n → value_at w ms i ≡ b) → values_of w ms n ≡ replicate n b
 values_of-replicate w ms n b h =
     values_of-same w ms n _ (length-replicate n b) (λ i below. h i below ∙ sym (get_or-replicate n i b false below))

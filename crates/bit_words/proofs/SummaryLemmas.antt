@@ -3,23 +3,23 @@ use Rattle.std.proofs.Common.{◌≡◌, ◌≢◌, ℕ, ◌+◌, ◌-◌, ◌*�
 use Rattle.std.proofs.Math.Bool.{or-false}
 use Rattle.std.proofs.lemmas.Bool.{cases_lt, cases_eq, true≢false, false≢true}
 use Rattle.std.proofs.lemmas.Bool.Decides.{nat_tests}
-use Rattle.std.proofs.lemmas.List.{get_or_past, length-map}
+use Rattle.std.proofs.lemmas.List.{get_or_past}
 use Rattle.std.proofs.lemmas.Nat.{div-mul-add}
 use Rattle.std.proofs.lemmas.Nat.Bits.{bit_at-lt, same_from_bits_below}
-use Rattle.bit_words.specs.Bits.{blocks_for, digit_of}
+use Rattle.bit_words.specs.Bits.{blocks_for, blocks_of, digit_of}
 use Rattle.bit_words.specs.Digits.{IsEither, IsShiftedLeft}
 use Rattle.bit_words.specs.declared.bit_vec.merge.Merge.{Merge}
 use Rattle.bit_words.specs.declared.bit_vec.merge.Merge.TheVariants.{Union, Intersection, Difference, Symmetric}
-use Rattle.bit_words.specs.Merges.{merged_value}
-use Rattle.bit_words.specs.Storage.{is_one, value_at, IsTidy, IsMergedBetween}
-use Rattle.bit_words.specs.Summary.{is_used, shared_room, IsSummary, IsStored}
-use Rattle.bit_words.proofs.BitsLemmas.{blocks_for-below, blocks_for-enough, blocks_for-least}
+use Rattle.bit_words.specs.Merges.{merged, merged_value}
+use Rattle.bit_words.specs.Storage.{is_one, value_at, IsMergedBetween}
+use Rattle.bit_words.specs.Summary.{is_used, IsSummary}
+use Rattle.bit_words.proofs.BitsLemmas.{blocks_for-below, blocks_for-enough, blocks_for-least, blocks_of-lt, length-blocks_of}
 use Rattle.bit_words.proofs.CompareLemmas.{zero_from_digits, digit_from_zero}
 use Rattle.bit_words.proofs.Masks.{is_one-either, is_one-zero}
-use Rattle.bit_words.proofs.MergeLemmas.{merged_value-none}
-use Rattle.bit_words.proofs.RoomLemmas.{shared_enough}
+use Rattle.bit_words.proofs.MergeLemmas.{get_or-merged, length-merged, merged_value-none}
+use Rattle.bit_words.proofs.PackedLemmas.{value_at-blocks_of}
+use Rattle.bit_words.proofs.TidyLemmas.{blocks_for-le}
 use Rattle.bit_words.proofs.StorageLemmas.{digit_of-is_one, value_at-is, value_at-past, value_at-place}
-use Rattle.bit_words.proofs.VectorLemmas.{numbers_below, tidy_nil}
 
 -- ---- whether a block is 0
 
@@ -85,45 +85,24 @@ used_union w ms os ns k small also merged each = union (is_used ns k) (is_used m
         let none = unused_from_false w ns k merged (λ j place. each (k * w + j) ∙ ap₂ (λ x y. x || y) (false_from_unused w ms k j place e) (false_from_unused w os k j place f)) in
         absurd (true≢false (sym some ∙ none))
 
--- ---- a summary from its digits
+-- ---- a block of the summary
 
--- it is enough to look where there are blocks
-pub is_summary : {X : Type 0} (w : ℕ) (f : X → ℕ) (P : X → Type 0) (xs sums : List X) → IsTidy w f P sums (length xs) → ((k : ℕ) → k < length xs → value_at w (map f sums) k ≡ is_used (map f xs) k) → IsSummary w f P xs sums
-is_summary w f P xs sums tidy each = record {
-  tidy = tidy;
-  digit = λ k. ⊎_elim
-      (λ within. each k within)
-      (λ past. tidy.tail.clean k past ∙ sym (used_past (map f xs) k (rw length-map past)))
-      (cases_lt k (length xs));
-}
-
--- all digits at once
-pub summary_of_digits : {X : Type 0} (w : ℕ) (f : X → ℕ) (P : X → Type 0) (xs sums : List X) → All P sums → length sums ≡ blocks_for w (length xs) → length xs < 2 ^ 64 → ((k : ℕ) → value_at w (map f sums) k ≡ is_used (map f xs) k) → IsSummary w f P xs sums
-summary_of_digits w f P xs sums each count fits digits = record {
-  tidy = record {
-    each = each;
-    count = count;
-    tail = record { clean = λ i past. digits i ∙ used_past (map f xs) i (rw length-map past) };
-    fits = fits;
-  };
-  digit = digits;
-}
-
--- where all were right but one, and that one is written
-pub summary_noted : {X : Type 0} (w : ℕ) (f : X → ℕ) (P : X → Type 0) (xs sums noted : List X) (p : ℕ) → p < length xs → IsTidy w f P sums (length xs) → ((k : ℕ) → k < length xs → k ≢ p → value_at w (map f sums) k ≡ is_used (map f xs) k) → value_at w (map f noted) p ≡ is_used (map f xs) p → ((j : ℕ) → j ≢ p → value_at w (map f noted) j ≡ value_at w (map f sums) j) → All P noted → length noted ≡ length sums → IsSummary w f P xs noted
-summary_noted w f P xs sums noted p inside tidy right same others each len =
-    is_summary w f P xs noted
-    (record {
-      each = each;
-      count = len ∙ tidy.count;
-      tail = record { clean = λ i past. others i (λ e. omega arith) ∙ tidy.tail.clean i past };
-      fits = tidy.fits;
-    })
-    (λ k within.
+-- a row that stands for blocks of another list, which is not longer, is one of the summary
+pub row_inside : (w q rows others blocks len : ℕ) → 0 < w → q < rows → rows * w ≤ others → others ≤ blocks → len ≡ blocks → q < blocks_for w len
+row_inside w q rows others blocks len pos below inside fewer e =
     ⊎_elim
-    (λ here. ap (value_at w (map f noted)) here ∙ same ∙ sym (ap (is_used (map f xs)) here))
-    (λ there. others k there ∙ right k within there)
-    (cases_eq k p))
+    (λ within. within)
+    (λ (short : blocks_for w len ≤ q).
+    let covered = blocks_for-enough w len pos in
+    let more = mul-le-mul_right w short in
+    let first : q + 1 ≤ rows = omega arith in
+    let le = mul-le-mul_right w first in
+    absurd (omega arith))
+    (cases_lt q (blocks_for w len))
+
+-- past the blocks it has no 1
+pub row_tail : (w q n : ℕ) (ms : List ℕ) (digit : ℕ → Bool) → length ms ≤ n → ((j : ℕ) → j < w → digit j ≡ is_used ms (q * w + j)) → (j : ℕ) → j < w → n ≤ q * w + j → digit j ≡ false
+row_tail w q n ms digit few digits j place past = digits j place ∙ used_past ms (q * w + j) (omega arith)
 
 -- ---- made anew
 
@@ -200,10 +179,6 @@ used_kept w start k m ms ns kept digits j place =
     (λ past. let test : nat_lt j k ≡ false = grind (arith, nat_tests) in digits j place ∙ ap (λ t. t && is_used ms (start + j)) test ∙ sym (ap (λ t. t && is_used ns (start + j)) test))
     (cases_lt j k)
 
--- all digits of a block
-pub used_whole : (w n start j : ℕ) (ms : List ℕ) → n ≡ w → j < w → (nat_lt j n && is_used ms (start + j)) ≡ is_used ms (start + j)
-used_whole w n start j ms e place = let test : nat_lt j n ≡ true = grind (arith, nat_tests) in ap (λ t. t && is_used ms (start + j)) test
-
 -- a value merged with none
 kept_by_difference : (a : Bool) → merged_value Difference a false ≡ a
 kept_by_difference true = refl
@@ -257,45 +232,13 @@ rest_noted m w start n ms ss ps ns within e digits merged rest q j from below pl
 
 -- ---- kept with the list
 
-pub stored_nil : {X : Type 0} (w : ℕ) (f : X → ℕ) (P : X → Type 0) (xs sums : List X) → 0 < w → xs ≡ [] → sums ≡ [] → IsStored w f P xs sums 0
-stored_nil w f P xs sums pos e s = record {
-  tidy = tidy_nil w f P xs pos e;
-  summary = record {
-    tidy = rw e (tidy_nil w f P sums pos s);
-    digit = λ k.
-        value_at-past w (map f sums) k (rw (length-map, ap length s) (omega arith))
-        ∙ sym (used_past (map f xs) k (rw (length-map, ap length e) (omega arith)));
-  };
-}
-
--- there is room for the blocks that there are
-pub stored_within : {X : Type 0} (w n blocks sums : ℕ) (f : X → ℕ) (P : X → Type 0) (xs ss : List X) → 0 < w → IsStored w f P xs ss n → length xs ≤ blocks → length ss ≤ sums → length xs ≤ shared_room w blocks sums
-stored_within w n blocks sums f P xs ss pos stored first second =
-    shared_enough w blocks sums (length xs) pos first (let count = stored.summary.tidy.count in omega arith)
-
 -- a block before the last that values reach
-whole_before : (w n k : ℕ) → 0 < w → k < blocks_for w n → k * w < n
+pub whole_before : (w n k : ℕ) → 0 < w → k < blocks_for w n → k * w < n
 whole_before w n k pos h =
     ⊎_elim
     (λ (below : k * w < n). below)
     (λ (past : n ≤ k * w). let l = blocks_for-least w n k pos past in absurd (omega arith))
     (cases_lt (k * w) n)
-
-in_block : (w k j : ℕ) → j < w → k * w + j < (k + 1) * w
-in_block w k j h = omega arith
-
-pub kept_use : (w n k : ℕ) (ms ns : List ℕ) → 0 < w → get_or ms k 0 < 2 ^ w → get_or ns k 0 < 2 ^ w → ((i : ℕ) → i < n → value_at w ns i ≡ value_at w ms i) → k + 1 < blocks_for w n → is_used ms k ≡ is_used ns k
-kept_use w n k ms ns pos small also kept before =
-    let whole = whole_before w n (k + 1) pos before in
-    same_use w ms ns k small also (λ j place. let inside = in_block w k j place in sym (kept (k * w + j) (omega arith)))
-
--- a list that goes on with false values is at each index what it was
-pub kept_with_zeros : (w n m i : ℕ) (bit : Bool) (ms ns : List ℕ) → bit ≡ false → ((i : ℕ) → i < n → value_at w ns i ≡ value_at w ms i) → ((i : ℕ) → n ≤ i → value_at w ms i ≡ false) → ((i : ℕ) → n ≤ i → i < m → value_at w ns i ≡ bit) → ((i : ℕ) → m ≤ i → value_at w ns i ≡ false) → value_at w ns i ≡ value_at w ms i
-kept_with_zeros w n m i bit ms ns none kept clean added after =
-    ⊎_elim
-    (λ first. kept i first)
-    (λ past. ⊎_elim (λ inside. added i past inside ∙ none) (λ beyond. after i beyond) (cases_lt i m) ∙ sym (clean i past))
-    (cases_lt i n)
 
 -- a block whose values are all the same
 pub use_of_values : (w n k : ℕ) (ms : List ℕ) (bit : Bool) → 0 < w → get_or ms k 0 < 2 ^ w → k < blocks_for w n → ((i : ℕ) → k * w ≤ i → i < n → value_at w ms i ≡ bit) → ((i : ℕ) → n ≤ i → value_at w ms i ≡ false) → is_used ms k ≡ bit
@@ -309,32 +252,45 @@ use_of_values w n k ms false pos small inside each clean =
     (λ past. clean (k * w + j) past)
     (cases_lt (k * w + j) n))
 
--- the new blocks of a longer list
-pub use_of_added : (w old n k : ℕ) (ms : List ℕ) (bit : Bool) → 0 < w → get_or ms k 0 < 2 ^ w → blocks_for w old ≤ k → k < blocks_for w n → ((i : ℕ) → old ≤ i → i < n → value_at w ms i ≡ bit) → ((i : ℕ) → n ≤ i → value_at w ms i ≡ false) → is_used ms k ≡ bit
-use_of_added w old n k ms bit pos small from inside added clean =
-    let enough = blocks_for-enough w old pos in
-    let more = mul-le-mul_right w from in
-    use_of_values w n k ms bit pos small inside (λ i reached within. added i (omega arith) within) clean
+-- ---- the summary of a list
 
-pub filled_summary : {X : Type 0} (w n : ℕ) (f : X → ℕ) (P : X → Type 0) (xs sums : List X) (bit : Bool) → 0 < w → ((x : X) → P x → f x < 2 ^ w) → IsTidy w f P xs n → ((i : ℕ) → i < n → value_at w (map f xs) i ≡ bit) → IsTidy w f P sums (length xs) → ((k : ℕ) → k < length xs → value_at w (map f sums) k ≡ bit) → IsSummary w f P xs sums
-filled_summary w n f P xs sums bit pos below tidy filled sums_tidy sums_filled =
-    is_summary w f P xs sums sums_tidy (λ k within.
-    sums_filled k within
-    ∙ sym (use_of_values w n k (map f xs) bit pos (numbers_below w f P xs below tidy.each k) (let count = tidy.count in omega arith) (λ i from inside. filled i inside) tidy.tail.clean))
+-- whether a block is 0 goes by the values that it holds
+pub same_use_in : (w k : ℕ) (us vs : List Bool) → 0 < w → ((j : ℕ) → j < w → get_or us (k * w + j) false ≡ get_or vs (k * w + j) false) → is_used (blocks_of w us) k ≡ is_used (blocks_of w vs) k
+same_use_in w k us vs pos same =
+    same_use w (blocks_of w us) (blocks_of w vs) k (blocks_of-lt w k us) (blocks_of-lt w k vs) (λ j place. value_at-blocks_of w us (k * w + j) pos ∙ same j place ∙ sym (value_at-blocks_of w vs (k * w + j) pos))
 
--- one block written
-pub changed_summary : {X : Type 0} (w k : ℕ) (f : X → ℕ) (P : X → Type 0) (xs ys sums noted : List X) → 0 < w → ((x : X) → P x → f x < 2 ^ w) → All P xs → All P ys → length ys ≡ length xs → k < length xs → IsSummary w f P xs sums → ((i : ℕ) → i / w ≢ k → value_at w (map f ys) i ≡ value_at w (map f xs) i) → value_at w (map f noted) k ≡ is_used (map f ys) k → ((j : ℕ) → j ≢ k → value_at w (map f noted) j ≡ value_at w (map f sums) j) → All P noted → length noted ≡ length sums → IsSummary w f P ys noted
-changed_summary w k f P xs ys sums noted pos below each_x each_y len inside summary values same others each noted_len =
-    summary_noted w f P ys sums noted k (omega arith)
-    (rw len summary.tidy)
-    (λ q within other.
-    summary.digit q
-    ∙ same_use w (map f xs) (map f ys) q (numbers_below w f P xs below each_x q) (numbers_below w f P ys below each_y q) (λ j place.
-    let there : (q * w + j) / w ≢ k = λ e. other (sym (div-mul-add q w j place) ∙ e) in
-    sym (values (q * w + j) there)))
-    same others each noted_len
+-- it is enough to look where there are blocks
+pub summary_below : (w : ℕ) (vs ss : List Bool) → length ss ≡ blocks_for w (length vs) → ((k : ℕ) → k < length ss → get_or ss k false ≡ is_used (blocks_of w vs) k) → IsSummary w vs ss
+summary_below w vs ss len each = record {
+  len = len;
+  digit = λ k. ⊎_elim
+      (λ within. each k within)
+      (λ past. get_or_past ss k false past ∙ sym (used_past (blocks_of w vs) k (rw length-blocks_of (omega arith))))
+      (cases_lt k (length ss));
+}
 
-pub union_use : {X : Type 0} (w k : ℕ) (f : X → ℕ) (P : X → Type 0) (xs os ys xsums osums : List X) → ((x : X) → P x → f x < 2 ^ w) → All P xs → All P os → All P ys → IsSummary w f P xs xsums → IsSummary w f P os osums → ((i : ℕ) → value_at w (map f ys) i ≡ (value_at w (map f xs) i || value_at w (map f os) i)) → is_used (map f ys) k ≡ (value_at w (map f xsums) k || value_at w (map f osums) k)
-union_use w k f P xs os ys xsums osums below each_x each_o each_y first second each =
-    used_union w (map f xs) (map f os) (map f ys) k (numbers_below w f P xs below each_x k) (numbers_below w f P os below each_o k) (numbers_below w f P ys below each_y k) each
-    ∙ sym (ap₂ (λ a b. a || b) (first.digit k) (second.digit k))
+-- all digits at once
+pub summary_from_rows : (w : ℕ) (vs ss : List Bool) → 0 < w → length ss ≡ blocks_for w (length vs) → ((q j : ℕ) → q < blocks_for w (length ss) → j < w → is_one (get_or (blocks_of w ss) q 0) j ≡ is_used (blocks_of w vs) (q * w + j)) → IsSummary w vs ss
+summary_from_rows w vs ss pos len each = record {
+  len = len;
+  digit = λ k.
+      sym (value_at-blocks_of w ss k pos)
+      ∙ digits_of_summary w (blocks_of w vs) (blocks_of w ss) pos (length-blocks_of w ss ∙ ap (blocks_for w) (len ∙ sym (length-blocks_of w vs))) (λ q j below. each q j (rw length-blocks_of at below)) k;
+}
+
+pub summary_union : (w : ℕ) (us vs ns ss ts rs : List Bool) → 0 < w → IsSummary w us ss → IsSummary w vs ts → length vs ≤ length us → ns ≡ merged Union us vs → rs ≡ merged Union ss ts → IsSummary w ns rs
+summary_union w us vs ns ss ts rs pos first second shorter is summary_is = record {
+  len =
+      let le = blocks_for-le w (length vs) (length us) pos shorter in
+      let total : length ns ≡ length us = ap length is ∙ omega (arith, length-merged Union us vs) in
+      ap length summary_is ∙ length-merged Union ss ts ∙ omega (arith, first.len, second.len, ap (blocks_for w) total);
+  digit = λ k.
+      ap (λ xs. get_or xs k false) summary_is
+      ∙ get_or-merged Union ss ts k
+      ∙ ap₂ (λ a b. a || b) (first.digit k) (second.digit k)
+      ∙ sym (used_union w (blocks_of w us) (blocks_of w vs) (blocks_of w ns) k (blocks_of-lt w k us) (blocks_of-lt w k vs) (blocks_of-lt w k ns) (λ i.
+      value_at-blocks_of w ns i pos
+      ∙ ap (λ xs. get_or xs i false) is
+      ∙ get_or-merged Union us vs i
+      ∙ sym (ap₂ (λ a b. a || b) (value_at-blocks_of w us i pos) (value_at-blocks_of w vs i pos))));
+}

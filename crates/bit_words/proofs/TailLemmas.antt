@@ -147,15 +147,3 @@ tail_kept w at q ms ns pos small also values after =
     let above = block_above w q at j pos after in
     let test : nat_le at (q * w + j) ≡ true = grind (arith, nat_tests) in
     sym (values (q * w + j) ∙ ap (λ t. t && value_at w ms (q * w + j)) test))
-
--- what a copy of a summary's tail says of the blocks
-pub tail_use : (w k q : ℕ) (ms ss cs : List ℕ) → ((i : ℕ) → value_at w cs i ≡ (nat_le k i && value_at w ss i)) → ((p : ℕ) → p < k → is_used ms p ≡ false) → ((p : ℕ) → k < p → value_at w ss p ≡ is_used ms p) → q ≢ k → value_at w cs q ≡ is_used ms q
-tail_use w k q ms ss cs values before after other =
-    ⊎_elim
-    (λ below.
-    let test : nat_le k q ≡ false = grind (arith, nat_tests) in
-    values q ∙ ap (λ t. t && value_at w ss q) test ∙ sym (before q below))
-    (λ from.
-    let test : nat_le k q ≡ true = grind (arith, nat_tests) in
-    values q ∙ ap (λ t. t && value_at w ss q) test ∙ after q (omega arith))
-    (cases_lt q k)

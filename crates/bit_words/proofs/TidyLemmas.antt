@@ -38,15 +38,6 @@ value_at-append_zeros w ms m n i e past =
 ones_true : (w n i : ℕ) → 0 < w → n ≡ 2 ^ w - 1 → is_one n (i % w) ≡ true
 ones_true w n i pos e = let l = mod-lt i pos in is_one-ones n w (i % w) e ∙ grind (arith, nat_tests)
 
-pub map-replicate : {X : Type 0} (f : X → ℕ) (n : ℕ) (x : X) → map f (replicate n x) ≡ replicate n (f x)
-map-replicate f zero x = refl
-map-replicate f (suc n) x = ap (λ ys. f x ∷ ys) (map-replicate f n x)
-
-pub resized : {X : Type 0} (f : X → ℕ) (xs : List X) (len n : ℕ) (x : X) → len ≡ length xs → len ≤ n → map f (take n xs ++ replicate (n - len) x) ≡ map f xs ++ replicate (n - len) (f x)
-resized f xs len n x e h =
-    map-append f (take n xs) (replicate (n - len) x)
-    ∙ ap₂ (λ a b. map f a ++ b) (take_all n xs (omega arith)) (map-replicate f (n - len) x)
-
 pub map-pushed : {X : Type 0} (f : X → ℕ) (xs ys : List X) (x : X) → ys ≡ xs ++ x ∷ [] → map f ys ≡ map f xs ++ f x ∷ []
 map-pushed f xs ys x e = ap (map f) e ∙ map-append f xs (x ∷ [])
 

@@ -15,14 +15,11 @@ use Rattle.bit_words.proofs.Masks.{is_one-zero}
 
 -- ---- the length and the room
 
-pub length_from_view : (w n r : ℕ) (ms : List ℕ) (v : Bits) → record { values = values_of w ms n; room = r } ≡ v → length v.values ≡ n
-length_from_view w n r ms v e = sym (ap (λ b. length b.values) e) ∙ length-values_of w ms n
+pub length_from_view : (r : ℕ) (bs : List Bool) (v : Bits) → record { values = bs; room = r } ≡ v → length v.values ≡ length bs
+length_from_view r bs v e = sym (ap (λ b. length b.values) e)
 
 pub room_from_view : (r : ℕ) (bs : List Bool) (v : Bits) → record { values = bs; room = r } ≡ v → v.room ≡ r
 room_from_view r bs v e = sym (ap (λ b. b.room) e)
-
-pub no_longer_from_views : (w n m r s : ℕ) (ms os : List ℕ) (v u : Bits) → record { values = values_of w ms n; room = r } ≡ v → record { values = values_of w os m; room = s } ≡ u → length u.values ≤ length v.values → m ≤ n
-no_longer_from_views w n m r s ms os v u e f h = omega (arith, length_from_view w n r ms v e, length_from_view w m s os u f)
 
 pub le-room_of : (w blocks n : ℕ) → 0 < w → n < 2 ^ 64 → blocks_for w n ≤ blocks → n ≤ room_of w blocks
 le-room_of w blocks n pos fits h = let a = mul-le-mul_right w h in omega (arith, blocks_for-enough w n pos)
@@ -45,35 +42,24 @@ room_of-max w a b =
     (cases_lt a b)
 
 -- the room that is asked for exactly
-pub room_from_max : (w n m cap got count : ℕ) (ms : List ℕ) (v : Bits) → record { values = values_of w ms n; room = room_of w cap } ≡ v → count ≡ blocks_for w (n + m) → got ≡ max cap count → room_of w got ≡ max v.room (room_of w (blocks_for w (length v.values + m)))
-room_from_max w n m cap got count ms v e is most =
-    rw (length_from_view w n _ ms v e, room_from_view (room_of w cap) (values_of w ms n) v e)
-    (ap (room_of w) (most ∙ ap (max cap) is) ∙ room_of-max w cap (blocks_for w (n + m)))
+pub room_from_max : (w m cap got count : ℕ) (bs : List Bool) (v : Bits) → record { values = bs; room = room_of w cap } ≡ v → count ≡ blocks_for w (length bs + m) → got ≡ max cap count → room_of w got ≡ max v.room (room_of w (blocks_for w (length v.values + m)))
+room_from_max w m cap got count bs v e is most =
+    rw (length_from_view (room_of w cap) bs v e, room_from_view (room_of w cap) bs v e)
+    (ap (room_of w) (most ∙ ap (max cap) is) ∙ room_of-max w cap (blocks_for w (length bs + m)))
 
 -- the same, of a list that is to have m values more
-pub room_for_more : (w n m cap : ℕ) (ms : List ℕ) (v : Bits) → 0 < w → record { values = values_of w ms n; room = room_of w cap } ≡ v → length v.values + m ≤ v.room → blocks_for w (n + m) ≤ cap
-room_for_more w n m cap ms v pos e h =
-    blocks_from_room w cap (n + m) pos (rw (length_from_view w n _ ms v e, room_from_view (room_of w cap) (values_of w ms n) v e) at h)
+pub room_for_more : (w m cap : ℕ) (bs : List Bool) (v : Bits) → 0 < w → record { values = bs; room = room_of w cap } ≡ v → length v.values + m ≤ v.room → blocks_for w (length bs + m) ≤ cap
+room_for_more w m cap bs v pos e h =
+    blocks_from_room w cap (length bs + m) pos (rw (length_from_view (room_of w cap) bs v e, room_from_view (room_of w cap) bs v e) at h)
 
-pub no_room_for_more : (w n m cap : ℕ) (ms : List ℕ) (v : Bits) → 0 < w → record { values = values_of w ms n; room = room_of w cap } ≡ v → cap < blocks_for w (n + m) → v.room < length v.values + m
-no_room_for_more w n m cap ms v pos e h =
-    rw (length_from_view w n _ ms v e, room_from_view (room_of w cap) (values_of w ms n) v e) (room_of-short w cap (n + m) pos h)
+pub no_room_for_more : (w m cap : ℕ) (bs : List Bool) (v : Bits) → 0 < w → record { values = bs; room = room_of w cap } ≡ v → cap < blocks_for w (length bs + m) → v.room < length v.values + m
+no_room_for_more w m cap bs v pos e h =
+    rw (length_from_view (room_of w cap) bs v e, room_from_view (room_of w cap) bs v e) (room_of-short w cap (length bs + m) pos h)
 
-pub room_got : (w n m cap : ℕ) (ms : List ℕ) (v : Bits) (r : ℕ) → 0 < w → record { values = values_of w ms n; room = r } ≡ v → n + m < 2 ^ 64 → blocks_for w (n + m) ≤ cap → length v.values + m ≤ room_of w cap
-room_got w n m cap ms v r pos e fits h = rw (length_from_view w n r ms v e) (le-room_of w cap (n + m) pos fits h)
-
-pub is_within_room : {X : Type 0} (w n cap : ℕ) (f : X → ℕ) (P : X → Type 0) (xs : List X) (v : Bits) → 0 < w → IsTidy w f P xs n → length xs ≤ cap → record { values = values_of w (map f xs) n; room = room_of w cap } ≡ v → IsWithinRoom v
-is_within_room w n cap f P xs v pos tidy h e = record {
-  holds_values = rw (length_from_view w n (room_of w cap) (map f xs) v e, room_from_view (room_of w cap) (values_of w (map f xs) n) v e)
-      (le-room_of w cap n pos tidy.fits (let c = tidy.count in omega arith));
-  fits = rw (room_from_view (room_of w cap) (values_of w (map f xs) n) v e) (omega arith);
-}
-
-pub is_room_of_blocks : {X : Type 0} (w n cap : ℕ) (f : X → ℕ) (P : X → Type 0) (xs : List X) (v : Bits) → IsTidy w f P xs n → length xs ≤ cap → record { values = values_of w (map f xs) n; room = room_of w cap } ≡ v → IsRoomOfBlocks w v
-is_room_of_blocks w n cap f P xs v tidy h e = record {
-  blocks = cap;
-  room = room_from_view (room_of w cap) (values_of w (map f xs) n) v e;
-  enough = rw (length_from_view w n (room_of w cap) (map f xs) v e) (let c = tidy.count in omega arith);
+pub is_within_room : (w cap : ℕ) (bs : List Bool) (v : Bits) → 0 < w → length bs < 2 ^ 64 → blocks_for w (length bs) ≤ cap → record { values = bs; room = room_of w cap } ≡ v → IsWithinRoom v
+is_within_room w cap bs v pos fits h e = record {
+  holds_values = rw (length_from_view (room_of w cap) bs v e, room_from_view (room_of w cap) bs v e) (le-room_of w cap (length bs) pos fits h);
+  fits = rw (room_from_view (room_of w cap) bs v e) (omega arith);
 }
 
 -- the blocks that a list has cover each length up to their last value
@@ -81,12 +67,6 @@ pub room_covers : (w n : ℕ) (v : Bits) → IsRoomOfBlocks w v → n ≤ 2 ^ 64
 room_covers w n v whole fits h = let more = mul-le-mul_right w whole.enough in rw whole.room (omega arith)
 
 -- ---- one value
-
-pub slice_get-values_of_past : (w : ℕ) (ms : List ℕ) (n i : ℕ) → n ≤ i → slice_get (values_of w ms n) i ≡ None
-slice_get-values_of_past w ms n i h = slice_get_past (values_of w ms n) i (rw length-values_of h)
-
-pub slice_get-values_of : (w : ℕ) (ms : List ℕ) (n i : ℕ) → i < n → slice_get (values_of w ms n) i ≡ Some (value_at w ms i)
-slice_get-values_of w ms n i h = slice_get-get_or (values_of w ms n) i false (rw length-values_of h) ∙ ap Some (get_or-values_of w ms n i false h)
 
 -- ---- all the blocks
 

@@ -9,3 +9,4 @@ pub mod Summary
 pub mod Marks
 pub mod Nonzero
 pub mod Merges
+pub mod Packed

@@ -51,3 +51,9 @@ pub record IsMergedBetween (merge : Merge) (w start end : ℕ) (ms os ns : List 
   pub digit : (k j : ℕ) → start ≤ k → k < end → j < w → is_one (get_or ns k 0) j ≡ merged_value merge (is_one (get_or ms k 0) j) (is_one (get_or os k 0) j)
   pub before : (k : ℕ) → k < start → get_or ns k 0 ≡ get_or ms k 0
   pub after : (k : ℕ) → end ≤ k → get_or ns k 0 ≡ get_or ms k 0
+
+-- The blocks of another list, to be merged with one of n values: it is no longer.
+pub record IsOther {X : Type 0} (w : ℕ) (number : X → ℕ) (is_block : X → Type 0) (os : List X) (n : ℕ) : Type 0 where
+  pub each : All is_block os
+  pub fewer : length os ≤ blocks_for w n
+  pub tail : IsCleanFrom w (map number os) n

@@ -55,50 +55,6 @@ pub(crate) fn put_block<B: BitBlock>(blocks: &mut Vec<B>, k: usize, block: B)
     blocks[k] = block;
 }
 
-#[inline]
-pub(crate) fn value_of<B: BitBlock>(blocks: &[B], i: usize) -> bool
-    requires in_bounds { i / B.width < length blocks.now }
-    requires each { All B.is_block blocks.now }
-    ensures { result ≡ value_at B.width (map B.number blocks.now) i }
-{
-    let block = block_at(blocks, block_index::<B>(i));
-    has_one_at(block, place_in_block::<B>(i))
-}
-
-// The value at `i` becomes `bit`, where `block` is the block that it is in.
-#[inline]
-pub(crate) fn write_value<B: BitBlock>(blocks: &mut Vec<B>, i: usize, block: B, bit: bool)
-    requires in_bounds { i / B.width < vec_len blocks.old }
-    requires each { All B.is_block blocks.old.items }
-    requires of_block { B.is_block block }
-    requires read { B.number block ≡ get_or (map B.number blocks.old.items) (i / B.width) 0 }
-    ensures same { value_at B.width (map B.number blocks.new.items) i ≡ bit }
-    ensures others { (j : ℕ) → j ≢ i → value_at B.width (map B.number blocks.new.items) j ≡ value_at B.width (map B.number blocks.old.items) j }
-    ensures each { All B.is_block blocks.new.items }
-    ensures len { vec_len blocks.new ≡ vec_len blocks.old }
-    ensures capacity { vec_capacity blocks.new ≡ vec_capacity blocks.old }
-{
-    let place = place_in_block::<B>(i);
-    put_block(blocks, block_index::<B>(i), with_digit(block, place, bit));
-}
-
-// The value at `i` becomes `bit`, and what it was is the answer.
-#[inline]
-pub(crate) fn replace_value<B: BitBlock>(blocks: &mut Vec<B>, i: usize, bit: bool) -> bool
-    requires in_bounds { i / B.width < vec_len blocks.old }
-    requires each { All B.is_block blocks.old.items }
-    ensures was { result ≡ value_at B.width (map B.number blocks.old.items) i }
-    ensures same { value_at B.width (map B.number blocks.new.items) i ≡ bit }
-    ensures others { (j : ℕ) → j ≢ i → value_at B.width (map B.number blocks.new.items) j ≡ value_at B.width (map B.number blocks.old.items) j }
-    ensures each { All B.is_block blocks.new.items }
-    ensures len { vec_len blocks.new ≡ vec_len blocks.old }
-    ensures capacity { vec_capacity blocks.new ≡ vec_capacity blocks.old }
-{
-    let block = block_at(blocks, block_index::<B>(i));
-    write_value(blocks, i, block, bit);
-    has_one_at(block, place_in_block::<B>(i))
-}
-
 // The values from `len` on, up to `end`, become true in the last block; none where it is full.
 pub(crate) fn raise_last<B: BitBlock>(blocks: &mut Vec<B>, len: usize, end: usize)
     requires count { vec_len blocks.old ≡ blocks_for B.width len }

@@ -1,11 +1,8 @@
 // Whole blocks that are appended, or copied from another list. The vector keeps its capacity: std says
 // so of `push_reserved` and of `copy_from_slice`, but not of `resize` and `extend_from_slice`.
 ghost use Rattle.std.specs.Prelude.{◌≡◌, ◌+◌, ◌-◌, ◌<◌, ◌≤◌, ◌++◌, All, IfOk, IsOk, OnErr, OnOk, length, map, max, replicate, vec_len, vec_capacity};
-ghost use Rattle.bit_words.specs.Bits.{blocks_for};
-ghost use Rattle.bit_words.specs.Summary.{shared_room};
 
 use super::BitBlock;
-use super::room::have_room;
 use std::alloc::{AllocError, Global};
 use std::mem::replace;
 
@@ -94,7 +91,7 @@ pub(crate) fn copy_of<B: BitBlock>(alloc: Global, blocks: &[B]) -> Result<Vec<B>
 }
 
 // The blocks become those of `from`. There is room for them.
-fn copy_blocks<B: BitBlock>(blocks: &mut Vec<B>, from: &[B])
+pub(crate) fn copy_blocks<B: BitBlock>(blocks: &mut Vec<B>, from: &[B])
     requires { length from.now ≤ vec_capacity blocks.old }
     ensures items { blocks.new.items ≡ from.now }
     ensures len { vec_len blocks.new ≡ length from.now }
@@ -106,35 +103,4 @@ fn copy_blocks<B: BitBlock>(blocks: &mut Vec<B>, from: &[B])
     let alloc = *blocks.allocator();
     let owned = replace(blocks, Vec::new(alloc));
     *blocks = with_blocks(owned, &from[kept..]);
-}
-
-// The blocks become those of `from`, and so does their summary. Where room for either is missing, both
-// are new vectors.
-pub(crate) fn take_over<B: BitBlock>(
-    blocks: &mut Vec<B>,
-    sums: &mut Vec<B>,
-    from: &[B],
-    from_sums: &[B],
-) -> Result<(), AllocError>
-    requires count { length from_sums.now ≡ blocks_for B.width (length from.now) }
-    ensures items { OnOk result (blocks.new.items ≡ from.now) }
-    ensures sums { OnOk result (sums.new.items ≡ from_sums.now) }
-    ensures exact { OnOk result (shared_room B.width (vec_capacity blocks.new) (vec_capacity sums.new) ≡ max (shared_room B.width (vec_capacity blocks.old) (vec_capacity sums.old)) (length from.now)) }
-    ensures err { OnErr result (blocks.new ≡ blocks.old) }
-    ensures err_sums { OnErr result (sums.new ≡ sums.old) }
-    ensures full { OnErr result (shared_room B.width (vec_capacity blocks.old) (vec_capacity sums.old) < length from.now) }
-    ensures within { length from.now ≤ shared_room B.width (vec_capacity blocks.old) (vec_capacity sums.old) → shared_room B.width (vec_capacity blocks.new) (vec_capacity sums.new) ≡ shared_room B.width (vec_capacity blocks.old) (vec_capacity sums.old) }
-    ensures capacity { shared_room B.width (vec_capacity blocks.old) (vec_capacity sums.old) ≤ shared_room B.width (vec_capacity blocks.new) (vec_capacity sums.new) }
-{
-    if have_room(blocks, sums, from.len()) {
-        copy_blocks(blocks, from);
-        copy_blocks(sums, from_sums);
-        return Ok(());
-    }
-    let alloc = *blocks.allocator();
-    let new_blocks = copy_of(alloc, from)?;
-    let new_sums = copy_of(alloc, from_sums)?;
-    *blocks = new_blocks;
-    *sums = new_sums;
-    Ok(())
 }

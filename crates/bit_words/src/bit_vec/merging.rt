@@ -1,11 +1,13 @@
-// Merges of the blocks of two lists, each told by the digits of every block.
-ghost use Rattle.std.specs.Prelude.{◌≡◌, ℕ, ◌+◌, ◌<◌, ◌≤◌, ◌==◌, [], All, get_or, length, map, vec_len, vec_capacity};
+// Merges of a packed list with the blocks of another, each by the digits of every block.
+ghost use Rattle.std.specs.Prelude.{◌≡◌, ℕ, ◌+◌, ◌<◌, ◌≤◌, ◌==◌, [], All, get_or, length, map};
 ghost use Rattle.std.specs.Int.{bit_at};
-ghost use Rattle.bit_words.specs.Storage.{IsMergedBetween};
-ghost use Rattle.bit_words.specs.Merges.{merged_value};
+ghost use Rattle.bit_words.specs.Bits.{blocks_for, blocks_of};
+ghost use Rattle.bit_words.specs.Storage.{IsMergedBetween, IsOther};
+ghost use Rattle.bit_words.specs.Merges.{merged, merged_value};
 ghost use Rattle.bit_words.specs.declared.bit_vec.merge.Merge.{Merge};
 
-use super::changes::{block_at, put_block};
+use super::changes::block_at;
+use super::packed::Packed;
 use super::{BitBlock, Merge, Steps};
 
 // One of the four merges, by a type: a loop over blocks is then built once for each, with no choice inside.
@@ -63,96 +65,99 @@ impl Operation for Symmetric {
     }
 }
 
-// Block `k` becomes its merge with the other of its place, and is the answer.
+// Block `k` becomes its merge with the other of its place. Returns it.
 #[inline]
 pub(crate) fn merge_block<B: BitBlock, O: Operation>(
-    blocks: &mut Vec<B>,
+    bits: &mut Packed<B>,
     others: &[B],
     k: usize,
     steps: &mut Steps,
 ) -> B
-    requires in_bounds { k < vec_len blocks.old }
+    requires other { IsOther B.width B.number B.is_block others.now (length bits.old.values) }
     requires in_others { k < length others.now }
-    requires each { All B.is_block blocks.old.items }
-    requires others { All B.is_block others.now }
-    ensures merged { IsMergedBetween O.merge B.width k (k + 1) (map B.number blocks.old.items) (map B.number others.now) (map B.number blocks.new.items) }
+    ensures merged { IsMergedBetween O.merge B.width k (k + 1) (blocks_of B.width bits.old.values) (map B.number others.now) (blocks_of B.width bits.new.values) }
     ensures of_block { B.is_block result }
-    ensures of_number { B.number result ≡ get_or (map B.number blocks.new.items) k 0 }
-    ensures each { All B.is_block blocks.new.items }
-    ensures len { vec_len blocks.new ≡ vec_len blocks.old }
-    ensures capacity { vec_capacity blocks.new ≡ vec_capacity blocks.old }
+    ensures of_number { B.number result ≡ get_or (blocks_of B.width bits.new.values) k 0 }
+    ensures len { length bits.new.values ≡ length bits.old.values }
+    ensures capacity { bits.new.capacity ≡ bits.old.capacity }
     ensures steps { steps.new ≡ steps.old + 1 }
 {
     steps.tick();
-    let merged = O::of_blocks(block_at(blocks, k), block_at(others, k));
-    put_block(blocks, k, merged);
+    let merged = O::of_blocks(bits.block(k), block_at(others, k));
+    bits.put_block(k, merged);
     merged
 }
 
 // Each of the blocks from `start` on, as far as there are others, becomes its merge with the other of
 // its place.
 fn merge_first<B: BitBlock, O: Operation>(
-    blocks: &mut Vec<B>,
+    bits: &mut Packed<B>,
     others: &[B],
     start: usize,
     steps: &mut Steps,
 )
-    requires fewer { length others.now ≤ vec_len blocks.old }
+    requires other { IsOther B.width B.number B.is_block others.now (length bits.old.values) }
     requires from { start ≤ length others.now }
-    requires each { All B.is_block blocks.old.items }
-    requires others { All B.is_block others.now }
-    ensures merged { IsMergedBetween O.merge B.width start (length others.now) (map B.number blocks.old.items) (map B.number others.now) (map B.number blocks.new.items) }
-    ensures each { All B.is_block blocks.new.items }
-    ensures len { vec_len blocks.new ≡ vec_len blocks.old }
-    ensures capacity { vec_capacity blocks.new ≡ vec_capacity blocks.old }
+    ensures merged { IsMergedBetween O.merge B.width start (length others.now) (blocks_of B.width bits.old.values) (map B.number others.now) (blocks_of B.width bits.new.values) }
+    ensures len { length bits.new.values ≡ length bits.old.values }
+    ensures capacity { bits.new.capacity ≡ bits.old.capacity }
     ensures steps { steps.new + start ≡ steps.old + length others.now }
 {
     for k in start..others.len() {
-        let _merged = merge_block::<B, O>(blocks, others, k, steps);
+        let _merged = merge_block::<B, O>(bits, others, k, steps);
     }
 }
 
 // Each of the blocks from `start` on becomes its merge with a block of zeros, and those before them stay.
 // Only an intersection changes them: otherwise the compiler takes out the loop.
 pub(crate) fn merge_rest<B: BitBlock, O: Operation>(
-    blocks: &mut Vec<B>,
+    bits: &mut Packed<B>,
     start: usize,
     steps: &mut Steps,
 )
-    requires within { start ≤ vec_len blocks.old }
-    requires each { All B.is_block blocks.old.items }
-    ensures merged { IsMergedBetween O.merge B.width start (vec_len blocks.old) (map B.number blocks.old.items) [] (map B.number blocks.new.items) }
-    ensures each { All B.is_block blocks.new.items }
-    ensures len { vec_len blocks.new ≡ vec_len blocks.old }
-    ensures capacity { vec_capacity blocks.new ≡ vec_capacity blocks.old }
-    ensures steps { steps.new + start ≡ steps.old + vec_len blocks.old }
+    requires { start ≤ blocks_for B.width (length bits.old.values) }
+    ensures merged { IsMergedBetween O.merge B.width start (blocks_for B.width (length bits.old.values)) (blocks_of B.width bits.old.values) [] (blocks_of B.width bits.new.values) }
+    ensures len { length bits.new.values ≡ length bits.old.values }
+    ensures capacity { bits.new.capacity ≡ bits.old.capacity }
+    ensures steps { steps.new + start ≡ steps.old + blocks_for B.width (length bits.old.values) }
 {
     let zero = B::zero();
-    for k in start..blocks.len() {
+    for k in start..bits.blocks().len() {
         steps.tick();
-        let merged = O::of_blocks(block_at(blocks, k), zero);
-        put_block(blocks, k, merged);
+        let merged = O::of_blocks(bits.block(k), zero);
+        bits.put_block(k, merged);
     }
 }
 
 // Each of the blocks from `start` on becomes its merge with the other of its place, or with zeros where
 // there is none.
 pub(crate) fn merge_each<B: BitBlock, O: Operation>(
-    blocks: &mut Vec<B>,
+    bits: &mut Packed<B>,
     others: &[B],
     start: usize,
     steps: &mut Steps,
 )
-    requires fewer { length others.now ≤ vec_len blocks.old }
+    requires other { IsOther B.width B.number B.is_block others.now (length bits.old.values) }
     requires from { start ≤ length others.now }
-    requires each { All B.is_block blocks.old.items }
-    requires others { All B.is_block others.now }
-    ensures merged { IsMergedBetween O.merge B.width start (vec_len blocks.old) (map B.number blocks.old.items) (map B.number others.now) (map B.number blocks.new.items) }
-    ensures each { All B.is_block blocks.new.items }
-    ensures len { vec_len blocks.new ≡ vec_len blocks.old }
-    ensures capacity { vec_capacity blocks.new ≡ vec_capacity blocks.old }
-    ensures steps { steps.new + start ≡ steps.old + vec_len blocks.old }
+    ensures merged { IsMergedBetween O.merge B.width start (blocks_for B.width (length bits.old.values)) (blocks_of B.width bits.old.values) (map B.number others.now) (blocks_of B.width bits.new.values) }
+    ensures len { length bits.new.values ≡ length bits.old.values }
+    ensures capacity { bits.new.capacity ≡ bits.old.capacity }
+    ensures steps { steps.new + start ≡ steps.old + blocks_for B.width (length bits.old.values) }
 {
-    merge_first::<B, O>(blocks, others, start, steps);
-    merge_rest::<B, O>(blocks, others.len(), steps);
+    merge_first::<B, O>(bits, others, start, steps);
+    merge_rest::<B, O>(bits, others.len(), steps);
+}
+
+// Each value becomes its merge with that of `other`, which is not longer, and is false past its end.
+pub(crate) fn merge_all<B: BitBlock, O: Operation>(
+    bits: &mut Packed<B>,
+    other: &Packed<B>,
+    steps: &mut Steps,
+)
+    requires { length other.now.values ≤ length bits.old.values }
+    ensures values { bits.new.values ≡ merged O.merge bits.old.values other.now.values }
+    ensures capacity { bits.new.capacity ≡ bits.old.capacity }
+    ensures steps { steps.new ≡ steps.old + blocks_for B.width (length bits.old.values) }
+{
+    merge_each::<B, O>(bits, other.blocks(), 0, steps);
 }

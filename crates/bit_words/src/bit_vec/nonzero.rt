@@ -3,7 +3,7 @@ ghost use Rattle.std.specs.Iterator.{item_count};
 ghost use Rattle.bit_words.specs.Bits.{blocks_for};
 ghost use Rattle.bit_words.specs.Digits.{IsEither};
 ghost use Rattle.bit_words.specs.Nonzero.{first_and_nonzero, ones_left};
-ghost use Rattle.bit_words.specs.Summary.{IsSummary};
+ghost use Rattle.bit_words.specs.Summary.{IsBlockSummary};
 
 use super::counting::{first_blocks, ones_by_summary, ones_of};
 use super::lowest::take_lowest_one;
@@ -46,7 +46,7 @@ impl<'a, B: BitBlock> Nonzero<'a, B> {
     pub(crate) fn over(blocks: &'a [B], summary: &'a [B]) -> Self
         requires each { All B.is_block blocks.now }
         requires fits { length blocks.now < 2 ^ 64 }
-        requires summary { IsSummary B.width B.number B.is_block blocks.now summary.now }
+        requires summary { IsBlockSummary B.width B.number B.is_block blocks.now summary.now }
         ensures blocks { result.blocks ≡ blocks.now }
         ensures left { result.left ≡ first_and_nonzero B.number blocks.now }
         ensures pulls { result.pulls ≡ 0 }

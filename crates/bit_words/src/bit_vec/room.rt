@@ -1,46 +1,22 @@
 // Room for blocks, and the blocks that a list can do without.
 ghost use Rattle.std.specs.Prelude.{◌≡◌, ◌≢◌, ℕ, ◌-◌, ◌<◌, ◌≤◌, All, false, IsOk, IsTrue, OnErr, OnOk, get_or, length, map, max, vec_len, vec_capacity};
 ghost use Rattle.bit_words.specs.Bits.{blocks_for};
-ghost use Rattle.bit_words.specs.Summary.{IsSummary, shared_room};
+ghost use Rattle.bit_words.specs.Summary.{IsBlockSummary, shared_room};
 
 use super::BitBlock;
 use super::changes::block_count;
+use super::packed::Packed;
 use super::zeros::used_blocks;
 use std::alloc::AllocError;
-
-// Makes room for `count` blocks, and for no more where that is asked. Takes no memory where it is
-// there.
-#[inline]
-fn make_room<B: BitBlock>(blocks: &mut Vec<B>, count: usize, exact: bool) -> Result<(), AllocError>
-    ensures items { blocks.new.items ≡ blocks.old.items }
-    ensures len { vec_len blocks.new ≡ vec_len blocks.old }
-    ensures ok { OnOk result (count ≤ vec_capacity blocks.new) }
-    ensures exact { IsTrue exact → OnOk result (vec_capacity blocks.new ≡ max (vec_capacity blocks.old) count) }
-    ensures err { OnErr result (vec_capacity blocks.new ≡ vec_capacity blocks.old) }
-    ensures full { OnErr result (vec_capacity blocks.old < count) }
-    ensures succeeds { count ≤ vec_capacity blocks.old → IsOk result }
-    ensures capacity { vec_capacity blocks.old ≤ vec_capacity blocks.new }
-    ensures within { count ≤ vec_capacity blocks.old → vec_capacity blocks.new ≡ vec_capacity blocks.old }
-{
-    if count <= blocks.capacity() {
-        return Ok(());
-    }
-    let missing = count - blocks.len();
-    if exact {
-        blocks.reserve_exact(missing)
-    } else {
-        blocks.reserve(missing)
-    }
-}
 
 // Whether there is room for `count` blocks and their summary.
 #[inline]
 #[tactic(auto, using(crate::proofs::RoomLemmas::shared_tests))]
-pub(crate) fn have_room<B: BitBlock>(blocks: &Vec<B>, sums: &Vec<B>, count: usize) -> bool
-    ensures yes { IsTrue result → count ≤ shared_room B.width (vec_capacity blocks.now) (vec_capacity sums.now) }
-    ensures no { result ≡ false → shared_room B.width (vec_capacity blocks.now) (vec_capacity sums.now) < count }
+pub(crate) fn have_room<B: BitBlock>(bits: &Packed<B>, summary: &Packed<B>, count: usize) -> bool
+    ensures yes { IsTrue result → count ≤ shared_room B.width bits.now.capacity summary.now.capacity }
+    ensures no { result ≡ false → shared_room B.width bits.now.capacity summary.now.capacity < count }
 {
-    count <= blocks.capacity() && block_count::<B>(count) <= sums.capacity()
+    count <= bits.capacity() && block_count::<B>(count) <= summary.capacity()
 }
 
 // Makes room for `count` blocks and their summary where it is missing. What has more room of the two grows
@@ -48,115 +24,86 @@ pub(crate) fn have_room<B: BitBlock>(blocks: &Vec<B>, sums: &Vec<B>, count: usiz
 #[cold]
 #[inline(never)]
 fn grow_shared_room<B: BitBlock>(
-    blocks: &mut Vec<B>,
-    sums: &mut Vec<B>,
+    bits: &mut Packed<B>,
+    summary: &mut Packed<B>,
     count: usize,
     exact: bool,
 ) -> Result<(), AllocError>
-    requires { shared_room B.width (vec_capacity blocks.old) (vec_capacity sums.old) < count }
-    ensures items { blocks.new.items ≡ blocks.old.items }
-    ensures sums { sums.new.items ≡ sums.old.items }
-    ensures len { vec_len blocks.new ≡ vec_len blocks.old }
-    ensures sums_len { vec_len sums.new ≡ vec_len sums.old }
-    ensures ok { OnOk result (count ≤ shared_room B.width (vec_capacity blocks.new) (vec_capacity sums.new)) }
-    ensures exact { IsTrue exact → OnOk result (vec_capacity blocks.new ≡ max (vec_capacity blocks.old) count) }
-    ensures exact_sums { IsTrue exact → OnOk result (vec_capacity sums.new ≡ max (vec_capacity sums.old) (blocks_for B.width count)) }
-    ensures err { OnErr result (shared_room B.width (vec_capacity blocks.new) (vec_capacity sums.new) ≡ shared_room B.width (vec_capacity blocks.old) (vec_capacity sums.old)) }
-    ensures capacity { shared_room B.width (vec_capacity blocks.old) (vec_capacity sums.old) ≤ shared_room B.width (vec_capacity blocks.new) (vec_capacity sums.new) }
+    requires { shared_room B.width bits.old.capacity summary.old.capacity < count }
+    ensures values { bits.new.values ≡ bits.old.values }
+    ensures summary { summary.new.values ≡ summary.old.values }
+    ensures ok { OnOk result (count ≤ shared_room B.width bits.new.capacity summary.new.capacity) }
+    ensures exact { IsTrue exact → OnOk result (bits.new.capacity ≡ max bits.old.capacity count) }
+    ensures exact_summary { IsTrue exact → OnOk result (summary.new.capacity ≡ max summary.old.capacity (blocks_for B.width count)) }
+    ensures err { OnErr result (shared_room B.width bits.new.capacity summary.new.capacity ≡ shared_room B.width bits.old.capacity summary.old.capacity) }
+    ensures capacity { shared_room B.width bits.old.capacity summary.old.capacity ≤ shared_room B.width bits.new.capacity summary.new.capacity }
 {
     let needed = block_count::<B>(count);
-    if block_count::<B>(blocks.capacity()) <= sums.capacity() {
-        make_room(sums, needed, exact)?;
-        make_room(blocks, count, exact)
+    if block_count::<B>(bits.capacity()) <= summary.capacity() {
+        summary.reserve_blocks(needed, exact)?;
+        bits.reserve_blocks(count, exact)
     } else {
-        make_room(blocks, count, exact)?;
-        make_room(sums, needed, exact)
+        bits.reserve_blocks(count, exact)?;
+        summary.reserve_blocks(needed, exact)
     }
 }
 
 // Makes room for `count` blocks and their summary. Where it is there, that costs two comparisons.
 #[inline]
 pub(crate) fn make_shared_room<B: BitBlock>(
-    blocks: &mut Vec<B>,
-    sums: &mut Vec<B>,
+    bits: &mut Packed<B>,
+    summary: &mut Packed<B>,
     count: usize,
     exact: bool,
 ) -> Result<(), AllocError>
-    ensures items { blocks.new.items ≡ blocks.old.items }
-    ensures sums { sums.new.items ≡ sums.old.items }
-    ensures len { vec_len blocks.new ≡ vec_len blocks.old }
-    ensures sums_len { vec_len sums.new ≡ vec_len sums.old }
-    ensures ok { OnOk result (count ≤ shared_room B.width (vec_capacity blocks.new) (vec_capacity sums.new)) }
-    ensures exact { IsTrue exact → OnOk result (vec_capacity blocks.new ≡ max (vec_capacity blocks.old) count) }
-    ensures exact_sums { IsTrue exact → OnOk result (vec_capacity sums.new ≡ max (vec_capacity sums.old) (blocks_for B.width count)) }
-    ensures err { OnErr result (shared_room B.width (vec_capacity blocks.new) (vec_capacity sums.new) ≡ shared_room B.width (vec_capacity blocks.old) (vec_capacity sums.old)) }
-    ensures full { OnErr result (shared_room B.width (vec_capacity blocks.old) (vec_capacity sums.old) < count) }
-    ensures succeeds { count ≤ shared_room B.width (vec_capacity blocks.old) (vec_capacity sums.old) → IsOk result }
-    ensures capacity { shared_room B.width (vec_capacity blocks.old) (vec_capacity sums.old) ≤ shared_room B.width (vec_capacity blocks.new) (vec_capacity sums.new) }
-    ensures within { count ≤ shared_room B.width (vec_capacity blocks.old) (vec_capacity sums.old) → shared_room B.width (vec_capacity blocks.new) (vec_capacity sums.new) ≡ shared_room B.width (vec_capacity blocks.old) (vec_capacity sums.old) }
+    ensures values { bits.new.values ≡ bits.old.values }
+    ensures summary { summary.new.values ≡ summary.old.values }
+    ensures ok { OnOk result (count ≤ shared_room B.width bits.new.capacity summary.new.capacity) }
+    ensures exact { IsTrue exact → OnOk result (bits.new.capacity ≡ max bits.old.capacity count) }
+    ensures exact_summary { IsTrue exact → OnOk result (summary.new.capacity ≡ max summary.old.capacity (blocks_for B.width count)) }
+    ensures err { OnErr result (shared_room B.width bits.new.capacity summary.new.capacity ≡ shared_room B.width bits.old.capacity summary.old.capacity) }
+    ensures full { OnErr result (shared_room B.width bits.old.capacity summary.old.capacity < count) }
+    ensures succeeds { count ≤ shared_room B.width bits.old.capacity summary.old.capacity → IsOk result }
+    ensures capacity { shared_room B.width bits.old.capacity summary.old.capacity ≤ shared_room B.width bits.new.capacity summary.new.capacity }
+    ensures within { count ≤ shared_room B.width bits.old.capacity summary.old.capacity → shared_room B.width bits.new.capacity summary.new.capacity ≡ shared_room B.width bits.old.capacity summary.old.capacity }
 {
-    if have_room(blocks, sums, count) {
+    if have_room(bits, summary, count) {
         return Ok(());
     }
-    grow_shared_room(blocks, sums, count, exact)
+    grow_shared_room(bits, summary, count, exact)
 }
 
 // Makes room for `count` blocks and their summary, and for no more. Where the blocks had room for
 // more and their summary had not, they give the rest back first.
 pub(crate) fn make_exact_shared_room<B: BitBlock>(
-    blocks: &mut Vec<B>,
-    sums: &mut Vec<B>,
+    bits: &mut Packed<B>,
+    summary: &mut Packed<B>,
     count: usize,
 ) -> Result<(), AllocError>
-    requires longer { vec_len blocks.old ≤ count }
-    ensures items { blocks.new.items ≡ blocks.old.items }
-    ensures sums { sums.new.items ≡ sums.old.items }
-    ensures len { vec_len blocks.new ≡ vec_len blocks.old }
-    ensures sums_len { vec_len sums.new ≡ vec_len sums.old }
-    ensures ok { OnOk result (shared_room B.width (vec_capacity blocks.new) (vec_capacity sums.new) ≡ max (shared_room B.width (vec_capacity blocks.old) (vec_capacity sums.old)) count) }
-    ensures err { OnErr result (shared_room B.width (vec_capacity blocks.new) (vec_capacity sums.new) ≡ shared_room B.width (vec_capacity blocks.old) (vec_capacity sums.old)) }
-    ensures full { OnErr result (shared_room B.width (vec_capacity blocks.old) (vec_capacity sums.old) < count) }
-    ensures succeeds { count ≤ shared_room B.width (vec_capacity blocks.old) (vec_capacity sums.old) → IsOk result }
-    ensures capacity { shared_room B.width (vec_capacity blocks.old) (vec_capacity sums.old) ≤ shared_room B.width (vec_capacity blocks.new) (vec_capacity sums.new) }
-    ensures within { count ≤ shared_room B.width (vec_capacity blocks.old) (vec_capacity sums.old) → shared_room B.width (vec_capacity blocks.new) (vec_capacity sums.new) ≡ shared_room B.width (vec_capacity blocks.old) (vec_capacity sums.old) }
+    requires longer { blocks_for B.width (length bits.old.values) ≤ count }
+    ensures values { bits.new.values ≡ bits.old.values }
+    ensures summary { summary.new.values ≡ summary.old.values }
+    ensures ok { OnOk result (shared_room B.width bits.new.capacity summary.new.capacity ≡ max (shared_room B.width bits.old.capacity summary.old.capacity) count) }
+    ensures err { OnErr result (shared_room B.width bits.new.capacity summary.new.capacity ≡ shared_room B.width bits.old.capacity summary.old.capacity) }
+    ensures full { OnErr result (shared_room B.width bits.old.capacity summary.old.capacity < count) }
+    ensures succeeds { count ≤ shared_room B.width bits.old.capacity summary.old.capacity → IsOk result }
+    ensures capacity { shared_room B.width bits.old.capacity summary.old.capacity ≤ shared_room B.width bits.new.capacity summary.new.capacity }
+    ensures within { count ≤ shared_room B.width bits.old.capacity summary.old.capacity → shared_room B.width bits.new.capacity summary.new.capacity ≡ shared_room B.width bits.old.capacity summary.old.capacity }
 {
-    if block_count::<B>(count) <= sums.capacity() {
-        return make_shared_room(blocks, sums, count, true);
+    if block_count::<B>(count) <= summary.capacity() {
+        return make_shared_room(bits, summary, count, true);
     }
-    blocks.shrink_to(count);
-    if count < blocks.capacity() {
+    bits.shrink_to_blocks(count);
+    if count < bits.capacity() {
         return Err(AllocError);
     }
-    make_shared_room(blocks, sums, count, true)
-}
-
-// Gives back the room that the blocks and their summary do not take. A refusal of one does not keep the other.
-pub(crate) fn shrink_shared_room<B: BitBlock>(
-    blocks: &mut Vec<B>,
-    sums: &mut Vec<B>,
-) -> Result<(), AllocError>
-    ensures items { blocks.new.items ≡ blocks.old.items }
-    ensures sums { sums.new.items ≡ sums.old.items }
-    ensures ok { OnOk result ((vec_capacity blocks.new ≡ length blocks.old.items) × (vec_capacity sums.new ≡ length sums.old.items)) }
-    ensures holds { length blocks.old.items ≤ vec_capacity blocks.new }
-    ensures holds_sums { length sums.old.items ≤ vec_capacity sums.new }
-    ensures capacity { vec_capacity blocks.new ≤ vec_capacity blocks.old }
-    ensures sums_capacity { vec_capacity sums.new ≤ vec_capacity sums.old }
-    ensures empty { length blocks.old.items ≡ 0 → length sums.old.items ≡ 0 → IsOk result }
-    ensures no_more { vec_capacity blocks.old ≡ length blocks.old.items → vec_capacity sums.old ≡ length sums.old.items → IsOk result }
-{
-    blocks.shrink_to_fit();
-    sums.shrink_to_fit();
-    if blocks.capacity() > blocks.len() || sums.capacity() > sums.len() {
-        return Err(AllocError);
-    }
-    Ok(())
+    make_shared_room(bits, summary, count, true)
 }
 
 // How many blocks there are up to the last that is not 0. The summary tells among which to look.
 pub(crate) fn used_by_summary<B: BitBlock>(blocks: &[B], summary: &[B]) -> usize
     requires each { All B.is_block blocks.now }
-    requires summary { IsSummary B.width B.number B.is_block blocks.now summary.now }
+    requires summary { IsBlockSummary B.width B.number B.is_block blocks.now summary.now }
     ensures within { result ≤ length blocks.now }
     ensures zeros { (k : ℕ) → result ≤ k → get_or (map B.number blocks.now) k 0 ≡ 0 }
     ensures last { 0 < result → get_or (map B.number blocks.now) (result - 1) 0 ≢ 0 }

@@ -1,21 +1,20 @@
 // The summary of a vector of blocks: a list of truth values, one for each block, that tells which
 // are not 0. It is kept in blocks as well, and so changed by what changes those.
-ghost use Rattle.std.specs.Prelude.{◌≡◌, ◌≢◌, ℕ, ◌+◌, ◌*◌, ◌/◌, ◌^◌, ◌<◌, ◌≤◌, ◌==◌, ◌&&◌, ◌||◌, All, IfOk, IsOk, get_or, not, nat_lt, length, map, false, true, vec_len, vec_capacity};
-ghost use Rattle.bit_words.specs.Bits.{blocks_for};
-ghost use Rattle.bit_words.specs.Storage.{is_one, value_at, IsTidy};
-ghost use Rattle.bit_words.specs.Summary.{is_used, IsSummary};
+ghost use Rattle.std.specs.Prelude.{◌≡◌, ℕ, ◌+◌, ◌*◌, ◌^◌, ◌<◌, ◌≤◌, ◌==◌, ◌&&◌, ◌++◌, All, IfOk, IsOk, not, nat_lt, true, length, map, replicate, slice_set};
+ghost use Rattle.bit_words.specs.Bits.{blocks_for, blocks_of};
+ghost use Rattle.bit_words.specs.Storage.{is_one};
+ghost use Rattle.bit_words.specs.Summary.{is_used, shared_room, IsSummary};
 
 use super::BitBlock;
-use super::changes::{block_at, block_count, put_block, replace_value, write_value};
-use super::copying::push_copies;
+use super::changes::{block_at, block_count};
 use super::masks::with_digit;
-use super::tidy::{append_values, keep_values};
+use super::packed::Packed;
 use super::words::{block_or, same, shift_left};
 use std::alloc::{AllocError, Global};
 
 mod merging;
 
-pub(crate) use merging::merge_stored;
+pub(crate) use merging::merge_by;
 
 // How many blocks are looked at at once.
 const GROUP: usize = 8;
@@ -29,40 +28,52 @@ fn is_nonzero<B: BitBlock>(block: B) -> bool
     !same(block, B::zero())
 }
 
-// The summary learns of block `k`, whatever it said of it.
+// Whether a block is not 0 in which a bit became `bit`. No branch depends on the block: in a sparse set it
+// would be random.
 #[inline]
-pub(crate) fn note_block<B: BitBlock>(sums: &mut Vec<B>, blocks: &[B], k: usize)
-    requires in_bounds { k < length blocks.now }
-    requires in_sums { k / B.width < vec_len sums.old }
-    requires each { All B.is_block sums.old.items }
-    requires blocks { All B.is_block blocks.now }
-    ensures same { value_at B.width (map B.number sums.new.items) k ≡ is_used (map B.number blocks.now) k }
-    ensures others { (j : ℕ) → j ≢ k → value_at B.width (map B.number sums.new.items) j ≡ value_at B.width (map B.number sums.old.items) j }
-    ensures each { All B.is_block sums.new.items }
-    ensures len { vec_len sums.new ≡ vec_len sums.old }
-    ensures capacity { vec_capacity sums.new ≡ vec_capacity sums.old }
-{
-    let _was = replace_value(sums, k, is_nonzero(block_at(blocks, k)));
-}
-
-// The summary learns that block `k`, in which a digit became `bit`, is now `block`. `row` is the block
-// of the summary that tells of it. No branch depends on the block: in a sparse set it would be random.
-#[inline]
-pub(crate) fn note_change<B: BitBlock>(sums: &mut Vec<B>, row: B, k: usize, block: B, bit: bool)
-    requires in_sums { k / B.width < vec_len sums.old }
-    requires each { All B.is_block sums.old.items }
-    requires of_row { B.is_block row }
-    requires read { B.number row ≡ get_or (map B.number sums.old.items) (k / B.width) 0 }
+pub(crate) fn is_nonzero_after<B: BitBlock>(block: B, bit: bool) -> bool
     requires of_block { B.is_block block }
     requires raised { bit ≡ true → not (B.number block == 0) ≡ true }
-    ensures same { value_at B.width (map B.number sums.new.items) k ≡ not (B.number block == 0) }
-    ensures others { (j : ℕ) → j ≢ k → value_at B.width (map B.number sums.new.items) j ≡ value_at B.width (map B.number sums.old.items) j }
-    ensures each { All B.is_block sums.new.items }
-    ensures len { vec_len sums.new ≡ vec_len sums.old }
-    ensures capacity { vec_capacity sums.new ≡ vec_capacity sums.old }
+    ensures { result ≡ not (B.number block == 0) }
 {
-    let used = bit || is_nonzero(block);
-    write_value(sums, k, row, used);
+    bit || is_nonzero(block)
+}
+
+// Makes the summary right of block `k`, whatever it said of it.
+#[inline]
+pub(crate) fn update_summary<B: BitBlock>(summary: &mut Packed<B>, bits: &Packed<B>, k: usize)
+    requires in_blocks { k < blocks_for B.width (length bits.now.values) }
+    requires in_summary { k < length summary.old.values }
+    ensures values { summary.new.values ≡ slice_set summary.old.values k (is_used (blocks_of B.width bits.now.values) k) }
+    ensures capacity { summary.new.capacity ≡ summary.old.capacity }
+{
+    let _was = summary.replace(k, is_nonzero(bits.block(k)));
+}
+
+// Appends `n` values `bit` to the list, and to its summary what they make of it. There is capacity for
+// both.
+#[inline]
+pub(crate) fn append_summarized<B: BitBlock>(
+    bits: &mut Packed<B>,
+    summary: &mut Packed<B>,
+    n: usize,
+    bit: bool,
+)
+    requires summary { IsSummary B.width bits.old.values summary.old.values }
+    requires fits { length bits.old.values + n < 2 ^ 64 }
+    requires capacity { blocks_for B.width (length bits.old.values + n) ≤ shared_room B.width bits.old.capacity summary.old.capacity }
+    ensures values { bits.new.values ≡ bits.old.values ++ replicate n bit }
+    ensures summary { IsSummary B.width bits.new.values summary.new.values }
+    ensures capacity { bits.new.capacity ≡ bits.old.capacity }
+    ensures summary_capacity { summary.new.capacity ≡ summary.old.capacity }
+{
+    let old = bits.blocks().len();
+    bits.append(n, bit);
+    summary.append(bits.blocks().len() - old, bit);
+    // Each new block is 0, or none is; the old last one took ones.
+    if bit && old != 0 {
+        update_summary(summary, bits, old - 1);
+    }
 }
 
 // Which of the `count` blocks from `start` on are not 0, the first of them at the lowest digit.
@@ -120,67 +131,31 @@ fn summary_block<B: BitBlock>(blocks: &[B], q: usize) -> B
     block_or(digits, shift_left(rest, place))
 }
 
-// Makes the summary anew, over one that has as many blocks as it takes.
-fn summarize<B: BitBlock>(sums: &mut Vec<B>, blocks: &[B])
-    requires count { vec_len sums.old ≡ blocks_for B.width (length blocks.now) }
-    requires each { All B.is_block sums.old.items }
-    requires blocks { All B.is_block blocks.now }
-    requires fits { length blocks.now < 2 ^ 64 }
-    ensures summary { IsSummary B.width B.number B.is_block blocks.now sums.new.items }
-    ensures capacity { vec_capacity sums.new ≡ vec_capacity sums.old }
+// Makes the summary anew, over one that is as long.
+fn summarize<B: BitBlock>(summary: &mut Packed<B>, bits: &Packed<B>)
+    requires { length summary.old.values ≡ blocks_for B.width (length bits.now.values) }
+    ensures summary { IsSummary B.width bits.now.values summary.new.values }
+    ensures capacity { summary.new.capacity ≡ summary.old.capacity }
 {
-    for q in 0..sums.len() {
-        put_block(sums, q, summary_block(blocks, q));
+    let blocks = bits.blocks();
+    for q in 0..summary.blocks().len() {
+        summary.put_block(q, summary_block(blocks, q));
     }
 }
 
-// A summary of its own for the blocks. Fails only where memory is refused, and never for none.
-pub(crate) fn summary_of<B: BitBlock>(alloc: Global, blocks: &[B]) -> Result<Vec<B>, AllocError>
-    requires blocks { All B.is_block blocks.now }
-    requires fits { length blocks.now < 2 ^ 64 }
-    ensures summary { IfOk result (λ sums. IsSummary B.width B.number B.is_block blocks.now sums.items) }
-    ensures room { IfOk result (λ sums. vec_capacity sums ≡ blocks_for B.width (length blocks.now)) }
-    ensures empty { length blocks.now ≡ 0 → IsOk result }
+// A summary of its own for the list. Fails only where memory is refused, and never for an empty list.
+pub(crate) fn summary_of<B: BitBlock>(
+    alloc: Global,
+    bits: &Packed<B>,
+) -> Result<Packed<B>, AllocError>
+    ensures summary { IfOk result (λ summary. IsSummary B.width bits.now.values summary.values) }
+    ensures capacity { IfOk result (λ summary. summary.capacity ≡ blocks_for B.width (blocks_for B.width (length bits.now.values))) }
+    ensures empty { length bits.now.values ≡ 0 → IsOk result }
 {
-    let count = block_count::<B>(blocks.len());
-    let mut sums = Vec::with_capacity(alloc, count)?;
-    push_copies(&mut sums, count, B::zero());
-    summarize(&mut sums, blocks);
-    Ok(sums)
-}
-
-// The summary of `old` blocks becomes that of the longer list: each of the new ones is 0, or none of
-// them is, and then the last of the old ones may have changed. There is room for it.
-#[inline]
-pub(crate) fn append_to_summary<B: BitBlock>(sums: &mut Vec<B>, blocks: &[B], old: usize, bit: bool)
-    requires tidy { IsTidy B.width B.number B.is_block sums.old.items old }
-    requires blocks { All B.is_block blocks.now }
-    requires longer { old ≤ length blocks.now }
-    requires room { blocks_for B.width (length blocks.now) ≤ vec_capacity sums.old }
-    requires before { (k : ℕ) → k + 1 < old → value_at B.width (map B.number sums.old.items) k ≡ is_used (map B.number blocks.now) k }
-    requires last { bit ≡ false → (k : ℕ) → k < old → value_at B.width (map B.number sums.old.items) k ≡ is_used (map B.number blocks.now) k }
-    requires after { (k : ℕ) → old ≤ k → k < length blocks.now → is_used (map B.number blocks.now) k ≡ bit }
-    ensures summary { IsSummary B.width B.number B.is_block blocks.now sums.new.items }
-    ensures capacity { vec_capacity sums.new ≡ vec_capacity sums.old }
-{
-    append_values(sums, old, blocks.len(), bit);
-    if bit && old != 0 {
-        note_block(sums, blocks, old - 1);
-    }
-}
-
-// The summary of `old` blocks becomes that of the first of them that are left, the last of which may
-// have changed.
-pub(crate) fn cut_summary<B: BitBlock>(sums: &mut Vec<B>, blocks: &[B], old: usize)
-    requires tidy { IsTidy B.width B.number B.is_block sums.old.items old }
-    requires blocks { All B.is_block blocks.now }
-    requires shorter { length blocks.now ≤ old }
-    requires before { (k : ℕ) → k + 1 < length blocks.now → value_at B.width (map B.number sums.old.items) k ≡ is_used (map B.number blocks.now) k }
-    ensures summary { IsSummary B.width B.number B.is_block blocks.now sums.new.items }
-    ensures capacity { vec_capacity sums.new ≡ vec_capacity sums.old }
-{
-    keep_values(sums, old, blocks.len());
-    if blocks.len() != 0 {
-        note_block(sums, blocks, blocks.len() - 1);
-    }
+    let count = bits.blocks().len();
+    let mut summary = Packed::new(alloc);
+    summary.reserve_blocks(block_count::<B>(count), true)?;
+    summary.append(count, false);
+    summarize(&mut summary, bits);
+    Ok(summary)
 }

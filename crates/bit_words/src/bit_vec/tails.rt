@@ -1,14 +1,12 @@
 // A copy of the tail of a list, from an index on, in its own places: the values before it are false.
-ghost use Rattle.std.specs.Prelude.{◌≡◌, ℕ, ◌<◌, ◌≤◌, ◌++◌, ◌&&◌, All, IfOk, drop, false, length, map, nat_le, replicate, vec_len, vec_capacity};
+ghost use Rattle.std.specs.Prelude.{◌≡◌, ℕ, ◌≤◌, ◌++◌, ◌&&◌, All, IfOk, drop, length, map, nat_le, replicate, vec_len, vec_capacity};
 ghost use Rattle.bit_words.specs.Bits.{blocks_for};
-ghost use Rattle.bit_words.specs.Storage.{value_at, IsTidy};
-ghost use Rattle.bit_words.specs.Summary.{is_used, IsSummary};
+ghost use Rattle.bit_words.specs.Storage.{value_at};
 
 use super::BitBlock;
 use super::changes::{block_at, block_index, place_in_block, put_block};
 use super::copying::{filled_with, push_copies};
 use super::masks::cut_below;
-use super::summary::note_block;
 use std::alloc::{AllocError, Global};
 
 // A new vector of the same blocks, but for the first `count`, which are 0.
@@ -46,25 +44,5 @@ pub(crate) fn copy_values_from<B: BitBlock>(
     }
     let block = cut_below(block_at(blocks, k), place);
     put_block(&mut copy, k, block);
-    Ok(copy)
-}
-
-// The summary of `blocks`, of which those before block `k` are 0, from one that is right of those past it.
-pub(crate) fn copy_summary_from<B: BitBlock>(
-    alloc: Global,
-    sums: &[B],
-    blocks: &[B],
-    k: usize,
-) -> Result<Vec<B>, AllocError>
-    requires tidy { IsTidy B.width B.number B.is_block sums.now (length blocks.now) }
-    requires blocks { All B.is_block blocks.now }
-    requires within { k < length blocks.now }
-    requires before { (q : ℕ) → q < k → is_used (map B.number blocks.now) q ≡ false }
-    requires after { (q : ℕ) → k < q → value_at B.width (map B.number sums.now) q ≡ is_used (map B.number blocks.now) q }
-    ensures summary { IfOk result (λ copy. IsSummary B.width B.number B.is_block blocks.now copy.items) }
-    ensures room { IfOk result (λ copy. vec_capacity copy ≡ length sums.now) }
-{
-    let mut copy = copy_values_from(alloc, sums, k)?;
-    note_block(&mut copy, blocks, k);
     Ok(copy)
 }

@@ -11,7 +11,7 @@ use super::copying::push_copies;
 use super::words::{all_ones, ones_below};
 
 // Appends blocks of ones until there are those of `len` values. There is room for them.
-fn push_ones<B: BitBlock>(blocks: &mut Vec<B>, len: usize)
+pub(crate) fn push_ones<B: BitBlock>(blocks: &mut Vec<B>, len: usize)
     requires more { vec_len blocks.old ≤ blocks_for B.width len }
     requires room { blocks_for B.width len ≤ vec_capacity blocks.old }
     requires each { All B.is_block blocks.old.items }
@@ -45,43 +45,8 @@ pub(crate) fn keep_blocks<B: BitBlock>(blocks: &mut Vec<B>, count: usize)
     blocks.truncate(count);
 }
 
-// Appends `bit` to a list of `old` values until there are `len`. There is room for the blocks. A list
-// grows by this twice, in its blocks and in their summary: two calls cost as much as what they do.
-#[inline(always)]
-pub(crate) fn append_values<B: BitBlock>(blocks: &mut Vec<B>, old: usize, len: usize, bit: bool)
-    requires tidy { IsTidy B.width B.number B.is_block blocks.old.items old }
-    requires longer { old ≤ len }
-    requires room { blocks_for B.width len ≤ vec_capacity blocks.old }
-    ensures kept { (i : ℕ) → i < old → value_at B.width (map B.number blocks.new.items) i ≡ value_at B.width (map B.number blocks.old.items) i }
-    ensures added { (i : ℕ) → old ≤ i → i < len → value_at B.width (map B.number blocks.new.items) i ≡ bit }
-    ensures tidy { IsTidy B.width B.number B.is_block blocks.new.items len }
-    ensures capacity { vec_capacity blocks.new ≡ vec_capacity blocks.old }
-{
-    if old == len {
-        return;
-    }
-    if bit {
-        raise_last(blocks, old, len);
-        push_ones(blocks, len);
-    } else {
-        push_copies(blocks, block_count::<B>(len), B::zero());
-    }
-}
-
-// Keeps the first `len` of a list of `old` values.
-pub(crate) fn keep_values<B: BitBlock>(blocks: &mut Vec<B>, old: usize, len: usize)
-    requires tidy { IsTidy B.width B.number B.is_block blocks.old.items old }
-    requires shorter { len ≤ old }
-    ensures kept { (i : ℕ) → i < len → value_at B.width (map B.number blocks.new.items) i ≡ value_at B.width (map B.number blocks.old.items) i }
-    ensures tidy { IsTidy B.width B.number B.is_block blocks.new.items len }
-    ensures capacity { vec_capacity blocks.new ≡ vec_capacity blocks.old }
-{
-    keep_blocks(blocks, block_count::<B>(len));
-    lower_from(blocks, len);
-}
-
 // Makes each of `len` values true.
-fn fill_ones<B: BitBlock>(blocks: &mut Vec<B>, len: usize)
+pub(crate) fn fill_ones<B: BitBlock>(blocks: &mut Vec<B>, len: usize)
     requires count { vec_len blocks.old ≡ blocks_for B.width len }
     requires each { All B.is_block blocks.old.items }
     ensures values { (i : ℕ) → value_at B.width (map B.number blocks.new.items) i ≡ nat_lt i len }
@@ -98,7 +63,7 @@ fn fill_ones<B: BitBlock>(blocks: &mut Vec<B>, len: usize)
 }
 
 // Makes every value false.
-fn fill_zeros<B: BitBlock>(blocks: &mut Vec<B>)
+pub(crate) fn fill_zeros<B: BitBlock>(blocks: &mut Vec<B>)
     requires { All B.is_block blocks.old.items }
     ensures values { (i : ℕ) → value_at B.width (map B.number blocks.new.items) i ≡ false }
     ensures each { All B.is_block blocks.new.items }
@@ -106,18 +71,4 @@ fn fill_zeros<B: BitBlock>(blocks: &mut Vec<B>)
     ensures capacity { vec_capacity blocks.new ≡ vec_capacity blocks.old }
 {
     fill_blocks(blocks, blocks.len(), B::zero());
-}
-
-// Makes each of `len` values be `bit`.
-pub(crate) fn fill_values<B: BitBlock>(blocks: &mut Vec<B>, len: usize, bit: bool)
-    requires tidy { IsTidy B.width B.number B.is_block blocks.old.items len }
-    ensures filled { (i : ℕ) → i < len → value_at B.width (map B.number blocks.new.items) i ≡ bit }
-    ensures tidy { IsTidy B.width B.number B.is_block blocks.new.items len }
-    ensures capacity { vec_capacity blocks.new ≡ vec_capacity blocks.old }
-{
-    if bit {
-        fill_ones(blocks, len);
-    } else {
-        fill_zeros(blocks);
-    }
 }

@@ -3,9 +3,8 @@ ghost use Rattle.std.specs.List.{count_by};
 ghost use Rattle.bit_words.specs.Bits.{blocks_for, blocks_of, IsRoomOfBlocks, IsWithinRoom};
 ghost use Rattle.bit_words.specs.Nonzero.{first_and_nonzero};
 
-use super::changes::value_of;
 use super::counting::ones_by_summary;
-use super::zeros::are_zero;
+use super::packed::Packed;
 use super::{BitBlock, Blocks, Nonzero};
 use std::marker::Model;
 
@@ -32,23 +31,20 @@ pub use making::BitsError;
 /// ```
 #[derive(Drop)]
 pub struct BitVec<B: BitBlock = u32> {
-    blocks: Vec<B>,
-    // Which of the blocks are not 0.
-    summary: Vec<B>,
-    len: usize,
+    bits: Packed<B>,
+    // Which blocks of the bits are not 0.
+    summary: Packed<B>,
 }
 
 impl<B: BitBlock> Model for BitVec<B> {
-    ghost use Rattle.std.specs.Prelude.{map, vec_capacity};
     ghost use Rattle.bit_words.specs.Bits.{Bits, room_of};
-    ghost use Rattle.bit_words.specs.Storage.{values_of};
     ghost use Rattle.bit_words.specs.Summary.{shared_room, IsStored};
 
     ghost Value = { Bits };
 
-    ghost view = { λ v. record { values = values_of B.width (map B.number v.blocks.items) v.len; room = room_of B.width (shared_room B.width (vec_capacity v.blocks) (vec_capacity v.summary)) } };
+    ghost view = { λ v. record { values = v.bits.values; room = room_of B.width (shared_room B.width v.bits.capacity v.summary.capacity) } };
 
-    ghost invariant = { λ v. IsStored B.width B.number B.is_block v.blocks.items v.summary.items v.len };
+    ghost invariant = { λ v. IsStored B.width v.bits v.summary };
 }
 
 impl<B: BitBlock> BitVec<B> {
@@ -58,7 +54,7 @@ impl<B: BitBlock> BitVec<B> {
         ensures value { result ≡ length self.now.values }
         ensures fits { IsWithinRoom self.now }
     {
-        self.len
+        self.bits.len()
     }
 
     /// The value at `i`, or `None` at or past the length. Constant time.
@@ -66,10 +62,10 @@ impl<B: BitBlock> BitVec<B> {
     pub fn get(&self, i: usize) -> Option<bool>
         ensures { result ≡ slice_get self.now.values i }
     {
-        if i >= self.len {
+        if i >= self.bits.len() {
             return None;
         }
-        Some(value_of(&self.blocks, i))
+        Some(self.bits.get(i))
     }
 
     /// Whether no value is true. Reads the summary alone: one block of it for as many blocks as a block
@@ -77,7 +73,7 @@ impl<B: BitBlock> BitVec<B> {
     pub fn none(&self) -> bool
         ensures { IsTrue result ↔ All (λ bit. bit ≡ false) self.now.values }
     {
-        are_zero(&self.summary)
+        self.summary.none()
     }
 
     /// How many values are true. Adds up the ones of each block, and passes over as many blocks as a
@@ -85,7 +81,7 @@ impl<B: BitBlock> BitVec<B> {
     pub fn count_ones(&self) -> usize
         ensures { result ≡ count_by (λ value. value) self.now.values }
     {
-        ones_by_summary(&self.blocks, &self.summary)
+        ones_by_summary(self.bits.blocks(), self.summary.blocks())
     }
 
     /// The greatest length for which no memory is missing. Each block that there is room for counts
@@ -97,7 +93,7 @@ impl<B: BitBlock> BitVec<B> {
         ensures whole { IsRoomOfBlocks B.width self.now }
     {
         let summarized = self.summary.capacity().saturating_mul(B::bits());
-        let count = self.blocks.capacity().min(summarized);
+        let count = self.bits.capacity().min(summarized);
         count.saturating_mul(B::bits())
     }
 
@@ -108,7 +104,7 @@ impl<B: BitBlock> BitVec<B> {
         ensures each { All B.is_block result.now }
         ensures fits { IsWithinRoom self.now }
     {
-        &self.blocks
+        self.bits.blocks()
     }
 
     /// A walk over these blocks. Constant time.
@@ -139,6 +135,6 @@ impl<B: BitBlock> BitVec<B> {
         ensures summary_left { result.summary_left ≡ blocks_for B.width (blocks_for B.width (length self.now.values)) - 1 }
         ensures fits { IsWithinRoom self.now }
     {
-        Nonzero::over(&self.blocks, &self.summary)
+        Nonzero::over(self.bits.blocks(), self.summary.blocks())
     }
 }

@@ -1,20 +1,22 @@
-// Merges of the blocks of two lists that have summaries: of a union it is the union of the summaries, and
-// of the others each block of it is made while the blocks that it tells of are merged.
-ghost use Rattle.std.specs.Prelude.{◌≡◌, ℕ, ◌+◌, ◌*◌, ◌/◌, ◌<◌, ◌≤◌, ◌&&◌, All, false, get_or, nat_lt, length, map, vec_len, vec_capacity};
-ghost use Rattle.bit_words.specs.Storage.{is_one, value_at, IsMergedBetween};
+// Merges of two lists that have summaries. The summary of a union is the union of the summaries. After the other
+// three merges each block of it is made while the blocks that it tells of are merged.
+ghost use Rattle.std.specs.Prelude.{◌≡◌, ℕ, ◌+◌, ◌*◌, ◌<◌, ◌≤◌, ◌&&◌, false, get_or, nat_lt, length, map};
+ghost use Rattle.bit_words.specs.Bits.{blocks_for, blocks_of};
+ghost use Rattle.bit_words.specs.Storage.{is_one, IsMergedBetween, IsOther};
 ghost use Rattle.bit_words.specs.Summary.{is_used, IsSummary};
-ghost use Rattle.bit_words.specs.Merges.{merged_value};
+ghost use Rattle.bit_words.specs.Merges.{merged, merged_value};
 ghost use Rattle.bit_words.specs.declared.bit_vec.merge.Merge.{Merge};
 
 use super::{is_nonzero, summary_block};
-use crate::bit_vec::changes::{block_index, put_block};
+use crate::bit_vec::changes::block_index;
 use crate::bit_vec::masks::with_one_if;
 use crate::bit_vec::merging::{
-    Difference, Intersection, Operation, Symmetric, Union, merge_block, merge_each, merge_rest,
+    Difference, Intersection, Operation, Symmetric, Union, merge_all, merge_block, merge_each,
+    merge_rest,
 };
+use crate::bit_vec::packed::Packed;
 use crate::bit_vec::words::{block_or, shift_left};
 use crate::bit_vec::{BitBlock, Merge, Steps};
-use std::mem::replace;
 
 // How many blocks are merged at once, where a block of the summary tells of so many or of some times that.
 const GROUP: usize = 32;
@@ -24,28 +26,25 @@ const GROUP: usize = 32;
 // this where it knows the count.
 #[inline]
 fn merge_group<B: BitBlock, O: Operation>(
-    blocks: &mut Vec<B>,
+    bits: &mut Packed<B>,
     others: &[B],
     start: usize,
     count: usize,
     steps: &mut Steps,
 ) -> B
-    requires fewer { length others.now ≤ vec_len blocks.old }
+    requires other { IsOther B.width B.number B.is_block others.now (length bits.old.values) }
     requires in_others { start + count ≤ length others.now }
     requires within { count ≤ B.width }
-    requires each { All B.is_block blocks.old.items }
-    requires others { All B.is_block others.now }
-    ensures merged { IsMergedBetween O.merge B.width start (start + count) (map B.number blocks.old.items) (map B.number others.now) (map B.number blocks.new.items) }
+    ensures merged { IsMergedBetween O.merge B.width start (start + count) (blocks_of B.width bits.old.values) (map B.number others.now) (blocks_of B.width bits.new.values) }
     ensures of_block { B.is_block result }
-    ensures digits { (j : ℕ) → j < B.width → is_one (B.number result) j ≡ (nat_lt j count && is_used (map B.number blocks.new.items) (start + j)) }
-    ensures each { All B.is_block blocks.new.items }
-    ensures len { vec_len blocks.new ≡ vec_len blocks.old }
-    ensures capacity { vec_capacity blocks.new ≡ vec_capacity blocks.old }
+    ensures digits { (j : ℕ) → j < B.width → is_one (B.number result) j ≡ (nat_lt j count && is_used (blocks_of B.width bits.new.values) (start + j)) }
+    ensures len { length bits.new.values ≡ length bits.old.values }
+    ensures capacity { bits.new.capacity ≡ bits.old.capacity }
     ensures steps { steps.new ≡ steps.old + count }
 {
     let mut digits = B::zero();
     for j in 0..count {
-        let merged = merge_block::<B, O>(blocks, others, start + j, steps);
+        let merged = merge_block::<B, O>(bits, others, start + j, steps);
         digits = with_one_if(digits, j, is_nonzero(merged));
     }
     digits
@@ -54,29 +53,26 @@ fn merge_group<B: BitBlock, O: Operation>(
 // The same of the first groups of blocks from `start` on.
 #[inline]
 fn merge_groups<B: BitBlock, O: Operation>(
-    blocks: &mut Vec<B>,
+    bits: &mut Packed<B>,
     others: &[B],
     start: usize,
     groups: usize,
     steps: &mut Steps,
 ) -> B
-    requires fewer { length others.now ≤ vec_len blocks.old }
+    requires other { IsOther B.width B.number B.is_block others.now (length bits.old.values) }
     requires in_others { start + groups * 32 ≤ length others.now }
     requires within { groups * 32 ≤ B.width }
-    requires each { All B.is_block blocks.old.items }
-    requires others { All B.is_block others.now }
-    ensures merged { IsMergedBetween O.merge B.width start (start + groups * 32) (map B.number blocks.old.items) (map B.number others.now) (map B.number blocks.new.items) }
+    ensures merged { IsMergedBetween O.merge B.width start (start + groups * 32) (blocks_of B.width bits.old.values) (map B.number others.now) (blocks_of B.width bits.new.values) }
     ensures of_block { B.is_block result }
-    ensures digits { (j : ℕ) → j < B.width → is_one (B.number result) j ≡ (nat_lt j (groups * 32) && is_used (map B.number blocks.new.items) (start + j)) }
-    ensures each { All B.is_block blocks.new.items }
-    ensures len { vec_len blocks.new ≡ vec_len blocks.old }
-    ensures capacity { vec_capacity blocks.new ≡ vec_capacity blocks.old }
+    ensures digits { (j : ℕ) → j < B.width → is_one (B.number result) j ≡ (nat_lt j (groups * 32) && is_used (blocks_of B.width bits.new.values) (start + j)) }
+    ensures len { length bits.new.values ≡ length bits.old.values }
+    ensures capacity { bits.new.capacity ≡ bits.old.capacity }
     ensures steps { steps.new ≡ steps.old + groups * 32 }
 {
     let mut digits = B::zero();
     for group in 0..groups {
         let place = group * GROUP;
-        let more = merge_group::<B, O>(blocks, others, start + place, GROUP, steps);
+        let more = merge_group::<B, O>(bits, others, start + place, GROUP, steps);
         digits = block_or(digits, shift_left(more, place));
     }
     digits
@@ -86,197 +82,141 @@ fn merge_groups<B: BitBlock, O: Operation>(
 // The answer is what that block is then.
 #[inline]
 fn merge_row<B: BitBlock, O: Operation>(
-    blocks: &mut Vec<B>,
+    bits: &mut Packed<B>,
     others: &[B],
     q: usize,
     steps: &mut Steps,
 ) -> B
-    requires fewer { length others.now ≤ vec_len blocks.old }
+    requires other { IsOther B.width B.number B.is_block others.now (length bits.old.values) }
     requires in_others { (q + 1) * B.width ≤ length others.now }
-    requires each { All B.is_block blocks.old.items }
-    requires others { All B.is_block others.now }
-    ensures merged { IsMergedBetween O.merge B.width (q * B.width) ((q + 1) * B.width) (map B.number blocks.old.items) (map B.number others.now) (map B.number blocks.new.items) }
+    ensures merged { IsMergedBetween O.merge B.width (q * B.width) ((q + 1) * B.width) (blocks_of B.width bits.old.values) (map B.number others.now) (blocks_of B.width bits.new.values) }
     ensures of_block { B.is_block result }
-    ensures digits { (j : ℕ) → j < B.width → is_one (B.number result) j ≡ is_used (map B.number blocks.new.items) (q * B.width + j) }
-    ensures each { All B.is_block blocks.new.items }
-    ensures len { vec_len blocks.new ≡ vec_len blocks.old }
-    ensures capacity { vec_capacity blocks.new ≡ vec_capacity blocks.old }
+    ensures digits { (j : ℕ) → j < B.width → is_one (B.number result) j ≡ is_used (blocks_of B.width bits.new.values) (q * B.width + j) }
+    ensures len { length bits.new.values ≡ length bits.old.values }
+    ensures capacity { bits.new.capacity ≡ bits.old.capacity }
     ensures steps { steps.new ≡ steps.old + B.width }
 {
     let width = B::bits();
     let start = q * width;
     if width % GROUP == 0 {
-        merge_groups::<B, O>(blocks, others, start, width / GROUP, steps)
+        merge_groups::<B, O>(bits, others, start, width / GROUP, steps)
     } else {
-        merge_group::<B, O>(blocks, others, start, width, steps)
+        merge_group::<B, O>(bits, others, start, width, steps)
     }
 }
 
 // The same for the first `rows` blocks of the summary, which are written.
 fn merge_rows<B: BitBlock, O: Operation>(
-    blocks: &mut Vec<B>,
-    sums: &mut Vec<B>,
+    bits: &mut Packed<B>,
+    summary: &mut Packed<B>,
     others: &[B],
     rows: usize,
     steps: &mut Steps,
 )
-    requires fewer { length others.now ≤ vec_len blocks.old }
+    requires other { IsOther B.width B.number B.is_block others.now (length bits.old.values) }
     requires in_others { rows * B.width ≤ length others.now }
-    requires in_sums { rows ≤ vec_len sums.old }
-    requires each { All B.is_block blocks.old.items }
-    requires each_sum { All B.is_block sums.old.items }
-    requires others { All B.is_block others.now }
-    ensures merged { IsMergedBetween O.merge B.width 0 (rows * B.width) (map B.number blocks.old.items) (map B.number others.now) (map B.number blocks.new.items) }
-    ensures digits { (q j : ℕ) → q < rows → j < B.width → is_one (get_or (map B.number sums.new.items) q 0) j ≡ is_used (map B.number blocks.new.items) (q * B.width + j) }
-    ensures past { (q : ℕ) → rows ≤ q → get_or (map B.number sums.new.items) q 0 ≡ get_or (map B.number sums.old.items) q 0 }
-    ensures each { All B.is_block blocks.new.items }
-    ensures each_sum { All B.is_block sums.new.items }
-    ensures len { vec_len blocks.new ≡ vec_len blocks.old }
-    ensures sums_len { vec_len sums.new ≡ vec_len sums.old }
-    ensures capacity { vec_capacity blocks.new ≡ vec_capacity blocks.old }
-    ensures sums_capacity { vec_capacity sums.new ≡ vec_capacity sums.old }
+    requires count { length summary.old.values ≡ blocks_for B.width (length bits.old.values) }
+    ensures merged { IsMergedBetween O.merge B.width 0 (rows * B.width) (blocks_of B.width bits.old.values) (map B.number others.now) (blocks_of B.width bits.new.values) }
+    ensures digits { (q j : ℕ) → q < rows → j < B.width → is_one (get_or (blocks_of B.width summary.new.values) q 0) j ≡ is_used (blocks_of B.width bits.new.values) (q * B.width + j) }
+    ensures past { (q : ℕ) → rows ≤ q → get_or (blocks_of B.width summary.new.values) q 0 ≡ get_or (blocks_of B.width summary.old.values) q 0 }
+    ensures len { length bits.new.values ≡ length bits.old.values }
+    ensures summary_len { length summary.new.values ≡ length summary.old.values }
+    ensures capacity { bits.new.capacity ≡ bits.old.capacity }
+    ensures summary_capacity { summary.new.capacity ≡ summary.old.capacity }
     ensures steps { steps.new ≡ steps.old + rows * B.width }
 {
     for q in 0..rows {
-        let digits = merge_row::<B, O>(blocks, others, q, steps);
-        put_block(sums, q, digits);
+        let digits = merge_row::<B, O>(bits, others, q, steps);
+        summary.put_block(q, digits);
     }
 }
 
-// From block `start` on the summary learns of the blocks, where those past the ones of which that block
-// tells were merged with none.
-fn note_rest<B: BitBlock, O: Operation>(sums: &mut Vec<B>, blocks: &[B], start: usize)
-    requires in_bounds { start * B.width ≤ length blocks.now }
-    requires each { All B.is_block sums.old.items }
-    requires blocks { All B.is_block blocks.now }
-    requires rest { (k : ℕ) → (start + 1) * B.width ≤ k → is_used (map B.number blocks.now) k ≡ merged_value O.merge (value_at B.width (map B.number sums.old.items) k) false }
-    ensures before { (q : ℕ) → q < start → get_or (map B.number sums.new.items) q 0 ≡ get_or (map B.number sums.old.items) q 0 }
-    ensures digits { (q j : ℕ) → start ≤ q → q < vec_len sums.old → j < B.width → is_one (get_or (map B.number sums.new.items) q 0) j ≡ is_used (map B.number blocks.now) (q * B.width + j) }
-    ensures each { All B.is_block sums.new.items }
-    ensures len { vec_len sums.new ≡ vec_len sums.old }
-    ensures capacity { vec_capacity sums.new ≡ vec_capacity sums.old }
+// Makes the summary right from its block `start` on, where the blocks past those of which it tells were
+// merged with none.
+fn update_summary_rest<B: BitBlock, O: Operation>(
+    summary: &mut Packed<B>,
+    bits: &Packed<B>,
+    start: usize,
+)
+    requires in_bounds { start * B.width ≤ blocks_for B.width (length bits.now.values) }
+    requires count { length summary.old.values ≡ blocks_for B.width (length bits.now.values) }
+    requires rest { (k : ℕ) → (start + 1) * B.width ≤ k → is_used (blocks_of B.width bits.now.values) k ≡ merged_value O.merge (get_or summary.old.values k false) false }
+    ensures before { (q : ℕ) → q < start → get_or (blocks_of B.width summary.new.values) q 0 ≡ get_or (blocks_of B.width summary.old.values) q 0 }
+    ensures digits { (q j : ℕ) → start ≤ q → q < blocks_for B.width (length summary.old.values) → j < B.width → is_one (get_or (blocks_of B.width summary.new.values) q 0) j ≡ is_used (blocks_of B.width bits.now.values) (q * B.width + j) }
+    ensures len { length summary.new.values ≡ length summary.old.values }
+    ensures capacity { summary.new.capacity ≡ summary.old.capacity }
 {
-    if start < sums.len() {
-        put_block(sums, start, summary_block(blocks, start));
-        merge_rest::<B, O>(sums, start + 1, &mut Steps::new());
+    if start < summary.blocks().len() {
+        summary.put_block(start, summary_block(bits.blocks(), start));
+        merge_rest::<B, O>(summary, start + 1, &mut Steps::new());
     }
 }
 
-// Each block becomes its merge with the other of its place, or with zeros where there is none, and the
-// summary is that of what they become.
-fn merge_noted<B: BitBlock, O: Operation>(
-    blocks: &mut Vec<B>,
-    sums: &mut Vec<B>,
-    others: &[B],
+// Each value becomes its merge with that of `other`, and the summary is that of what they become.
+fn merge_summarized<B: BitBlock, O: Operation>(
+    bits: &mut Packed<B>,
+    summary: &mut Packed<B>,
+    other: &Packed<B>,
     steps: &mut Steps,
 )
-    requires fewer { length others.now ≤ vec_len blocks.old }
-    requires each { All B.is_block blocks.old.items }
-    requires others { All B.is_block others.now }
-    requires summary { IsSummary B.width B.number B.is_block blocks.old.items sums.old.items }
-    ensures merged { IsMergedBetween O.merge B.width 0 (vec_len blocks.old) (map B.number blocks.old.items) (map B.number others.now) (map B.number blocks.new.items) }
-    ensures summary { IsSummary B.width B.number B.is_block blocks.new.items sums.new.items }
-    ensures each { All B.is_block blocks.new.items }
-    ensures len { vec_len blocks.new ≡ vec_len blocks.old }
-    ensures capacity { vec_capacity blocks.new ≡ vec_capacity blocks.old }
-    ensures sums_capacity { vec_capacity sums.new ≡ vec_capacity sums.old }
-    ensures steps { steps.new ≡ steps.old + vec_len blocks.old }
+    requires shorter { length other.now.values ≤ length bits.old.values }
+    requires summary { IsSummary B.width bits.old.values summary.old.values }
+    ensures values { bits.new.values ≡ merged O.merge bits.old.values other.now.values }
+    ensures summary { IsSummary B.width bits.new.values summary.new.values }
+    ensures capacity { bits.new.capacity ≡ bits.old.capacity }
+    ensures summary_capacity { summary.new.capacity ≡ summary.old.capacity }
+    ensures steps { steps.new ≡ steps.old + blocks_for B.width (length bits.old.values) }
 {
+    let others = other.blocks();
     let rows = block_index::<B>(others.len());
-    merge_rows::<B, O>(blocks, sums, others, rows, steps);
-    merge_each::<B, O>(blocks, others, rows * B::bits(), steps);
-    note_rest::<B, O>(sums, blocks, rows);
+    merge_rows::<B, O>(bits, summary, others, rows, steps);
+    merge_each::<B, O>(bits, others, rows * B::bits(), steps);
+    update_summary_rest::<B, O>(summary, bits, rows);
 }
 
-// The same of a union, where the others' summary is given.
+// The same of a union, where the summary of the other list is given.
 fn merge_union<B: BitBlock>(
-    blocks: &mut Vec<B>,
-    sums: &mut Vec<B>,
-    others: &[B],
-    other_sums: &[B],
+    bits: &mut Packed<B>,
+    summary: &mut Packed<B>,
+    other: &Packed<B>,
+    other_summary: &Packed<B>,
     steps: &mut Steps,
 )
-    requires fewer { length others.now ≤ vec_len blocks.old }
-    requires each { All B.is_block blocks.old.items }
-    requires others { All B.is_block others.now }
-    requires summary { IsSummary B.width B.number B.is_block blocks.old.items sums.old.items }
-    requires other_summary { IsSummary B.width B.number B.is_block others.now other_sums.now }
-    ensures merged { IsMergedBetween Merge.Union B.width 0 (vec_len blocks.old) (map B.number blocks.old.items) (map B.number others.now) (map B.number blocks.new.items) }
-    ensures summary { IsSummary B.width B.number B.is_block blocks.new.items sums.new.items }
-    ensures each { All B.is_block blocks.new.items }
-    ensures len { vec_len blocks.new ≡ vec_len blocks.old }
-    ensures capacity { vec_capacity blocks.new ≡ vec_capacity blocks.old }
-    ensures sums_capacity { vec_capacity sums.new ≡ vec_capacity sums.old }
-    ensures steps { steps.new ≡ steps.old + vec_len blocks.old }
+    requires shorter { length other.now.values ≤ length bits.old.values }
+    requires summary { IsSummary B.width bits.old.values summary.old.values }
+    requires other_summary { IsSummary B.width other.now.values other_summary.now.values }
+    ensures values { bits.new.values ≡ merged Merge.Union bits.old.values other.now.values }
+    ensures summary { IsSummary B.width bits.new.values summary.new.values }
+    ensures capacity { bits.new.capacity ≡ bits.old.capacity }
+    ensures summary_capacity { summary.new.capacity ≡ summary.old.capacity }
+    ensures steps { steps.new ≡ steps.old + blocks_for B.width (length bits.old.values) }
 {
-    merge_each::<B, Union>(blocks, others, 0, steps);
-    merge_each::<B, Union>(sums, other_sums, 0, &mut Steps::new());
+    merge_all::<B, Union>(bits, other, steps);
+    merge_all::<B, Union>(summary, other_summary, &mut Steps::new());
 }
 
-// The same of the merge that is named. Only a union needs the others' summary.
-fn merge_owned<B: BitBlock>(
-    blocks: &mut Vec<B>,
-    sums: &mut Vec<B>,
-    others: &[B],
-    other_sums: &[B],
+// The same of the merge that is named.
+pub(crate) fn merge_by<B: BitBlock>(
+    bits: &mut Packed<B>,
+    summary: &mut Packed<B>,
+    other: &Packed<B>,
+    other_summary: &Packed<B>,
     merge: Merge,
     steps: &mut Steps,
 )
-    requires fewer { length others.now ≤ vec_len blocks.old }
-    requires each { All B.is_block blocks.old.items }
-    requires others { All B.is_block others.now }
-    requires summary { IsSummary B.width B.number B.is_block blocks.old.items sums.old.items }
-    requires other_summary { IsSummary B.width B.number B.is_block others.now other_sums.now }
-    ensures merged { IsMergedBetween merge B.width 0 (vec_len blocks.old) (map B.number blocks.old.items) (map B.number others.now) (map B.number blocks.new.items) }
-    ensures summary { IsSummary B.width B.number B.is_block blocks.new.items sums.new.items }
-    ensures each { All B.is_block blocks.new.items }
-    ensures len { vec_len blocks.new ≡ vec_len blocks.old }
-    ensures capacity { vec_capacity blocks.new ≡ vec_capacity blocks.old }
-    ensures sums_capacity { vec_capacity sums.new ≡ vec_capacity sums.old }
-    ensures steps { steps.new ≡ steps.old + vec_len blocks.old }
+    requires shorter { length other.now.values ≤ length bits.old.values }
+    requires summary { IsSummary B.width bits.old.values summary.old.values }
+    requires other_summary { IsSummary B.width other.now.values other_summary.now.values }
+    ensures values { bits.new.values ≡ merged merge bits.old.values other.now.values }
+    ensures summary { IsSummary B.width bits.new.values summary.new.values }
+    ensures capacity { bits.new.capacity ≡ bits.old.capacity }
+    ensures summary_capacity { summary.new.capacity ≡ summary.old.capacity }
+    ensures steps { steps.new ≡ steps.old + blocks_for B.width (length bits.old.values) }
 {
     match merge {
-        Merge::Union => merge_union(blocks, sums, others, other_sums, steps),
-        Merge::Intersection => merge_noted::<B, Intersection>(blocks, sums, others, steps),
-        Merge::Difference => merge_noted::<B, Difference>(blocks, sums, others, steps),
-        Merge::Symmetric => merge_noted::<B, Symmetric>(blocks, sums, others, steps),
+        Merge::Union => merge_union(bits, summary, other, other_summary, steps),
+        Merge::Intersection => merge_summarized::<B, Intersection>(bits, summary, other, steps),
+        Merge::Difference => merge_summarized::<B, Difference>(bits, summary, other, steps),
+        Merge::Symmetric => merge_summarized::<B, Symmetric>(bits, summary, other, steps),
     }
-}
-
-// The same for vectors that are not lent on: their addresses are in registers while blocks are written,
-// so that the loops become vector code.
-pub(crate) fn merge_stored<B: BitBlock>(
-    blocks: &mut Vec<B>,
-    sums: &mut Vec<B>,
-    others: &[B],
-    other_sums: &[B],
-    merge: Merge,
-    steps: &mut Steps,
-)
-    requires fewer { length others.now ≤ vec_len blocks.old }
-    requires each { All B.is_block blocks.old.items }
-    requires others { All B.is_block others.now }
-    requires summary { IsSummary B.width B.number B.is_block blocks.old.items sums.old.items }
-    requires other_summary { IsSummary B.width B.number B.is_block others.now other_sums.now }
-    ensures merged { IsMergedBetween merge B.width 0 (vec_len blocks.old) (map B.number blocks.old.items) (map B.number others.now) (map B.number blocks.new.items) }
-    ensures summary { IsSummary B.width B.number B.is_block blocks.new.items sums.new.items }
-    ensures each { All B.is_block blocks.new.items }
-    ensures len { vec_len blocks.new ≡ vec_len blocks.old }
-    ensures capacity { vec_capacity blocks.new ≡ vec_capacity blocks.old }
-    ensures sums_capacity { vec_capacity sums.new ≡ vec_capacity sums.old }
-    ensures steps { steps.new ≡ steps.old + vec_len blocks.old }
-{
-    let alloc = *blocks.allocator();
-    let mut own_blocks = replace(blocks, Vec::new(alloc));
-    let mut own_sums = replace(sums, Vec::new(alloc));
-    merge_owned(
-        &mut own_blocks,
-        &mut own_sums,
-        others,
-        other_sums,
-        merge,
-        steps,
-    );
-    *blocks = own_blocks;
-    *sums = own_sums;
 }

@@ -19,7 +19,7 @@ impl<B: BitBlock> BitVec<B> {
         ensures most { steps.new ≤ steps.old + blocks_for B.width (length self.now.values) }
         ensures all { IsTrue result → steps.new ≡ steps.old + blocks_for B.width (length self.now.values) }
     {
-        difference_is_zero(&self.blocks, &other.blocks, steps)
+        difference_is_zero(self.bits.blocks(), other.bits.blocks(), steps)
     }
 
     /// Whether no index is true in both lists. One step for each block that is read, of those that both
@@ -31,6 +31,6 @@ impl<B: BitBlock> BitVec<B> {
         ensures most { steps.new ≤ steps.old + min (blocks_for B.width (length self.now.values)) (blocks_for B.width (length other.now.values)) }
         ensures all { IsTrue result → steps.new ≡ steps.old + min (blocks_for B.width (length self.now.values)) (blocks_for B.width (length other.now.values)) }
     {
-        intersection_is_zero(&self.blocks, &other.blocks, steps)
+        intersection_is_zero(self.bits.blocks(), other.bits.blocks(), steps)
     }
 }

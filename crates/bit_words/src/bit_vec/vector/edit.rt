@@ -4,11 +4,9 @@ ghost use Rattle.bit_words.specs.Bits.{blocks_for, room_of};
 
 use super::BitVec;
 use crate::bit_vec::BitBlock;
-use crate::bit_vec::changes::{block_at, block_count, block_index, replace_value};
-use crate::bit_vec::copying::take_over;
-use crate::bit_vec::room::make_shared_room;
-use crate::bit_vec::summary::{append_to_summary, cut_summary, note_change};
-use crate::bit_vec::tidy::{append_values, fill_values, keep_values};
+use crate::bit_vec::changes::{block_count, block_index};
+use crate::bit_vec::room::{have_room, make_shared_room};
+use crate::bit_vec::summary::{append_summarized, is_nonzero_after, update_summary};
 use std::alloc::AllocError;
 
 impl<B: BitBlock> BitVec<B> {
@@ -33,10 +31,10 @@ impl<B: BitBlock> BitVec<B> {
     {
         let k = block_index::<B>(i);
         // Read before the block is written, so that a bit of it is set in a register and not in memory.
-        let row = block_at(&self.summary, block_index::<B>(k));
-        let was = replace_value(&mut self.blocks, i, bit);
-        let block = block_at(&self.blocks, k);
-        note_change(&mut self.summary, row, k, block, bit);
+        let row = self.summary.block(block_index::<B>(k));
+        let was = self.bits.replace(i, bit);
+        let used = is_nonzero_after(self.bits.block(k), bit);
+        self.summary.set_in(row, k, used);
         was
     }
 
@@ -45,8 +43,8 @@ impl<B: BitBlock> BitVec<B> {
         ensures values { self.new.values ≡ replicate (length self.old.values) bit }
         ensures room { self.new.room ≡ self.old.room }
     {
-        fill_values(&mut self.blocks, self.len, bit);
-        fill_values(&mut self.summary, self.blocks.len(), bit);
+        self.bits.fill(bit);
+        self.summary.fill(bit);
     }
 
     /// Keeps the first `n` values; nothing where there are no more. Writes one block at most.
@@ -54,13 +52,15 @@ impl<B: BitBlock> BitVec<B> {
         ensures values { self.new.values ≡ take n self.old.values }
         ensures room { self.new.room ≡ self.old.room }
     {
-        if n >= self.len {
+        if n >= self.bits.len() {
             return;
         }
-        let count = self.blocks.len();
-        keep_values(&mut self.blocks, self.len, n);
-        cut_summary(&mut self.summary, &self.blocks, count);
-        self.len = n;
+        let count = block_count::<B>(n);
+        self.bits.truncate(n);
+        self.summary.truncate(count);
+        if count != 0 {
+            update_summary(&mut self.summary, &self.bits, count - 1);
+        }
     }
 
     /// Makes the list empty. Constant time.
@@ -69,9 +69,8 @@ impl<B: BitBlock> BitVec<B> {
         ensures values { self.new.values ≡ [] }
         ensures room { self.new.room ≡ self.old.room }
     {
-        self.blocks.clear();
+        self.bits.clear();
         self.summary.clear();
-        self.len = 0;
     }
 
     /// Appends `n` values `bit`; the new length must fit a `usize`. Writes each new block once, and the
@@ -87,9 +86,8 @@ impl<B: BitBlock> BitVec<B> {
         ensures within { length self.old.values + n ≤ self.old.room → self.new.room ≡ self.old.room }
         ensures room { self.old.room ≤ self.new.room }
     {
-        let len = self.len + n;
-        if !bit && block_count::<B>(len) == self.blocks.len() {
-            self.len = len;
+        if !bit && block_count::<B>(self.bits.len() + n) == self.bits.blocks().len() {
+            self.bits.lengthen(n);
             return Ok(());
         }
         self.grow_blocks(n, bit)
@@ -108,13 +106,9 @@ impl<B: BitBlock> BitVec<B> {
         ensures within { length self.old.values + n ≤ self.old.room → self.new.room ≡ self.old.room }
         ensures room { self.old.room ≤ self.new.room }
     {
-        let len = self.len + n;
-        let count = block_count::<B>(len);
-        make_shared_room(&mut self.blocks, &mut self.summary, count, false)?;
-        let old = self.blocks.len();
-        append_values(&mut self.blocks, self.len, len, bit);
-        append_to_summary(&mut self.summary, &self.blocks, old, bit);
-        self.len = len;
+        let count = block_count::<B>(self.bits.len() + n);
+        make_shared_room(&mut self.bits, &mut self.summary, count, false)?;
+        append_summarized(&mut self.bits, &mut self.summary, n, bit);
         Ok(())
     }
 
@@ -130,13 +124,14 @@ impl<B: BitBlock> BitVec<B> {
         ensures exact { OnOk result (self.new.room ≡ max self.old.room (room_of B.width (blocks_for B.width (length other.now.values)))) }
         ensures room { self.old.room ≤ self.new.room }
     {
-        take_over(
-            &mut self.blocks,
-            &mut self.summary,
-            &other.blocks,
-            &other.summary,
-        )?;
-        self.len = other.len;
+        let count = other.bits.blocks().len();
+        if have_room(&self.bits, &self.summary, count) {
+            self.bits.copy_from(&other.bits);
+            self.summary.copy_from(&other.summary);
+            return Ok(());
+        }
+        let alloc = self.bits.allocator();
+        *self = other.clone(alloc)?;
         Ok(())
     }
 }

@@ -1,16 +1,14 @@
 // Calls that make a bit vector.
-ghost use Rattle.std.specs.Prelude.{◌≡◌, ◌*◌, ◌<◌, ◌≤◌, ◌↔◌, ◌++◌, [], drop, false, length, replicate, IfOk, IsErrOf, IsOk};
+ghost use Rattle.std.specs.Prelude.{◌≡◌, ◌*◌, ◌<◌, ◌≤◌, ◌↔◌, ◌++◌, [], alloc_error, drop, false, length, replicate, IfOk, IsErrOf, IsOk};
 ghost use Rattle.bit_words.specs.Bits.{blocks_for, room_of, values_of_bytes};
 ghost use Rattle.bit_words.specs.declared.bit_vec.vector.making.BitsError.TheVariants.{Memory};
 
 use super::BitVec;
 use crate::bit_vec::BitBlock;
-use crate::bit_vec::bytes::blocks_of_bytes;
 use crate::bit_vec::changes::block_index;
-use crate::bit_vec::copying::copy_of;
-use crate::bit_vec::summary::summary_of;
-use crate::bit_vec::tails::{copy_summary_from, copy_values_from};
-use std::alloc::{AllocError, Global};
+use crate::bit_vec::packed::Packed;
+use crate::bit_vec::summary::{summary_of, update_summary};
+use std::alloc::{AllocError, AllocFailed, Global};
 use thiserror::Error;
 
 /// Why bytes could not be made a bit vector.
@@ -29,6 +27,15 @@ impl From<AllocError> for BitsError {
 
     fn from(fault: AllocError) -> BitsError {
         BitsError::Memory(fault)
+    }
+}
+
+// So that `?` serves a push to a `Vec` as well.
+impl<T: Drop> From<AllocFailed<T>> for BitsError {
+    ghost from_gives = { λ _ e. e ≡ Memory alloc_error };
+
+    fn from(_fault: AllocFailed<T>) -> BitsError {
+        BitsError::Memory(AllocError)
     }
 }
 
@@ -74,9 +81,8 @@ impl<B: BitBlock> BitVec<B> {
         ensures room { result.room ≡ 0 }
     {
         BitVec {
-            blocks: Vec::new(alloc),
-            summary: Vec::new(alloc),
-            len: 0,
+            bits: Packed::new(alloc),
+            summary: Packed::new(alloc),
         }
     }
 
@@ -105,16 +111,12 @@ impl<B: BitBlock> BitVec<B> {
         ensures too_long { IsErrOf result BitsError.Length ↔ (usize.MAX < 8 * length bytes.now) }
         ensures empty { length bytes.now ≡ 0 → IsOk result }
     {
-        let Some(len) = bytes.len().checked_mul(8) else {
+        if bytes.len().checked_mul(8).is_none() {
             return Err(BitsError::Length);
-        };
-        let blocks = blocks_of_bytes(alloc, bytes)?;
-        let summary = summary_of(alloc, &blocks)?;
-        Ok(BitVec {
-            blocks,
-            summary,
-            len,
-        })
+        }
+        let bits = Packed::from_bytes(alloc, bytes)?;
+        let summary = summary_of(alloc, &bits)?;
+        Ok(BitVec { bits, summary })
     }
 
     /// A bit vector of the same list. Copies each block once. Asks for its blocks and no more. Fails only
@@ -124,13 +126,9 @@ impl<B: BitBlock> BitVec<B> {
         ensures room { IfOk result (λ vector. vector.room ≡ room_of B.width (blocks_for B.width (length self.now.values))) }
         ensures empty { length self.now.values ≡ 0 → IsOk result }
     {
-        let blocks = copy_of(alloc, &self.blocks)?;
-        let summary = copy_of(alloc, &self.summary)?;
-        Ok(BitVec {
-            blocks,
-            summary,
-            len: self.len,
-        })
+        let bits = self.bits.copy(alloc)?;
+        let summary = self.summary.copy(alloc)?;
+        Ok(BitVec { bits, summary })
     }
 
     /// A bit vector of the same length and the same values from `at` on, which is below the length; those
@@ -141,12 +139,10 @@ impl<B: BitBlock> BitVec<B> {
         ensures values { IfOk result (λ vector. vector.values ≡ replicate at false ++ drop at self.now.values) }
         ensures room { IfOk result (λ vector. vector.room ≡ room_of B.width (blocks_for B.width (length self.now.values))) }
     {
-        let blocks = copy_values_from(alloc, &self.blocks, at)?;
-        let summary = copy_summary_from(alloc, &self.summary, &blocks, block_index::<B>(at))?;
-        Ok(BitVec {
-            blocks,
-            summary,
-            len: self.len,
-        })
+        let bits = self.bits.copy_tail(alloc, at)?;
+        let k = block_index::<B>(at);
+        let mut summary = self.summary.copy_tail(alloc, k)?;
+        update_summary(&mut summary, &bits, k);
+        Ok(BitVec { bits, summary })
     }
 }

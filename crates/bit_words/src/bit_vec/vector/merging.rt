@@ -4,8 +4,10 @@ ghost use Rattle.bit_words.specs.Bits.{blocks_for};
 ghost use Rattle.bit_words.specs.Merges.{merged};
 
 use super::BitVec;
-use crate::bit_vec::summary::merge_stored;
+use crate::bit_vec::packed::Packed;
+use crate::bit_vec::summary::merge_by;
 use crate::bit_vec::{BitBlock, Merge, Steps};
+use std::mem::replace;
 
 impl<B: BitBlock> BitVec<B> {
     /// Each value becomes its merge with that of `other`, which is false past its end. The other must
@@ -16,13 +18,20 @@ impl<B: BitBlock> BitVec<B> {
         ensures room { self.new.room ≡ self.old.room }
         ensures steps { steps.new ≡ steps.old + blocks_for B.width (length self.old.values) }
     {
-        merge_stored(
-            &mut self.blocks,
-            &mut self.summary,
-            &other.blocks,
+        let alloc = self.bits.allocator();
+        // Owned while blocks are written, so that their addresses are in registers and the loops become
+        // vector code.
+        let mut bits = replace(&mut self.bits, Packed::new(alloc));
+        let mut summary = replace(&mut self.summary, Packed::new(alloc));
+        merge_by(
+            &mut bits,
+            &mut summary,
+            &other.bits,
             &other.summary,
             merge,
             steps,
         );
+        self.bits = bits;
+        self.summary = summary;
     }
 }

@@ -5,11 +5,7 @@ ghost use Rattle.bit_words.specs.Bits.{blocks_for, room_of, whole_blocks, IsWith
 use super::BitVec;
 use crate::bit_vec::BitBlock;
 use crate::bit_vec::changes::block_count;
-use crate::bit_vec::room::{
-    make_exact_shared_room, make_shared_room, shrink_shared_room, used_by_summary,
-};
-use crate::bit_vec::summary::cut_summary;
-use crate::bit_vec::tidy::keep_blocks;
+use crate::bit_vec::room::{make_exact_shared_room, make_shared_room, used_by_summary};
 use std::alloc::AllocError;
 
 impl<B: BitBlock> BitVec<B> {
@@ -26,8 +22,8 @@ impl<B: BitBlock> BitVec<B> {
         ensures within { length self.old.values + n ≤ self.old.room → self.new.room ≡ self.old.room }
         ensures room { self.old.room ≤ self.new.room }
     {
-        let count = block_count::<B>(self.len + n);
-        make_shared_room(&mut self.blocks, &mut self.summary, count, false)
+        let count = block_count::<B>(self.bits.len() + n);
+        make_shared_room(&mut self.bits, &mut self.summary, count, false)
     }
 
     /// Makes room for `n` values more than there are; so many must fit a `usize`. Where the room was
@@ -44,20 +40,27 @@ impl<B: BitBlock> BitVec<B> {
         ensures exact { OnOk result (self.new.room ≡ max self.old.room (room_of B.width (blocks_for B.width (length self.old.values + n)))) }
         ensures room { self.old.room ≤ self.new.room }
     {
-        let count = block_count::<B>(self.len + n);
-        make_exact_shared_room(&mut self.blocks, &mut self.summary, count)
+        let count = block_count::<B>(self.bits.len() + n);
+        make_exact_shared_room(&mut self.bits, &mut self.summary, count)
     }
 
-    /// Gives back the room that the blocks of the list do not take; may move them. Fails where room is
-    /// left over since memory to move them to was refused, and then the list is as it was.
+    /// Gives back the room that the blocks of the list do not take; may move them. Fails just where the
+    /// capacity is still greater than that of these blocks, since memory to move to was refused; the list
+    /// is as it was.
     pub fn shrink_to_fit(&mut self) -> Result<(), AllocError>
         ensures values { self.new.values ≡ self.old.values }
         ensures ok { OnOk result (self.new.room ≡ room_of B.width (blocks_for B.width (length self.old.values))) }
+        ensures err { OnErr result (room_of B.width (blocks_for B.width (length self.old.values)) < self.new.room) }
         ensures room { self.new.room ≤ self.old.room }
         ensures fits { IsWithinRoom self.new }
         ensures empty { length self.old.values ≡ 0 → IsOk result }
     {
-        shrink_shared_room(&mut self.blocks, &mut self.summary)
+        self.bits.shrink_to_fit();
+        self.summary.shrink_to_fit();
+        if self.capacity() > self.bits.blocks().len().saturating_mul(B::bits()) {
+            return Err(AllocError);
+        }
+        Ok(())
     }
 
     /// Makes the list as long as its blocks up to the last that is not 0: the true values stay, and so
@@ -68,13 +71,11 @@ impl<B: BitBlock> BitVec<B> {
         ensures len { length self.new.values ≡ whole_blocks B.width self.old.values }
         ensures room { self.new.room ≡ self.old.room }
     {
-        let count = used_by_summary(&self.blocks, &self.summary);
-        let Some(len) = count.checked_mul(B::bits()) else {
+        let count = used_by_summary(self.bits.blocks(), self.summary.blocks());
+        if count.checked_mul(B::bits()).is_none() {
             return;
-        };
-        let old = self.blocks.len();
-        keep_blocks(&mut self.blocks, count);
-        cut_summary(&mut self.summary, &self.blocks, old);
-        self.len = len;
+        }
+        self.bits.truncate_to_blocks(count);
+        self.summary.truncate(count);
     }
 }

@@ -10,13 +10,13 @@ use std::fmt;
 impl<B: BitBlock> fmt::Debug for BitVec<B> {
     fn fmt<W: fmt::Write>(&self, f: &mut fmt::Formatter<W>) -> fmt::Result {
         f.write_str("BitVec { storage: \"")?;
-        for i in 0..self.len {
+        for i in 0..self.bits.len() {
             if i != 0 && place_in_block::<B>(i) == 0 {
                 f.write_str(" ")?;
             }
             let digit = if self.get(i) == Some(true) { "1" } else { "0" };
             f.write_str(digit)?;
         }
-        write!(f, "\", nbits: {} }}", self.len)
+        write!(f, "\", nbits: {} }}", self.bits.len())
     }
 }

@@ -1,24 +1,25 @@
-use Rattle.std.proofs.Common.{◌≡◌, ◌+◌, length, refl, arith}
+use Rattle.std.proofs.Common.{◌≡◌, ◌+◌, ◌∙◌, length, refl, arith}
 use Rattle.bit_words.proofs.MergeLemmas.{merged_none, merged_more}
 use Rattle.bit_words.proofs.bit_vec.merging.merge_first.Goals as goal
 
 pub loop-k-init : goal.loop-k-init
 loop-k-init g c = record {
   merged = merged_none _ _ _ _ _ _ (omega arith);
-  each = c.requires.each;
-  len = omega arith;
-  capacity = omega arith;
-  steps = omega arith;
+  len = refl;
+  capacity = refl;
+  steps = refl;
 }
+
+pub merge_block-merged-requires-clause-other : goal.merge_block-merged-requires-clause-other
+merge_block-merged-requires-clause-other g c = rw c.loop-k.invariant.len c.requires.other
 
 pub loop-k-preserved : goal.loop-k-preserved
 loop-k-preserved g c =
     let reached = c.loop-k.auto.k in
     record {
       merged = merged_more _ _ c.args.start c.loop-k.k (c.loop-k.k + 1) _ _ _ _ _ _ (omega arith) (omega arith) refl refl c.loop-k.invariant.merged c.merge_block-merged.ensures.merged;
-      each = c.merge_block-merged.ensures.each;
-      len = omega arith;
-      capacity = omega arith;
+      len = c.merge_block-merged.ensures.len ∙ c.loop-k.invariant.len;
+      capacity = c.merge_block-merged.ensures.capacity ∙ c.loop-k.invariant.capacity;
       steps = omega arith;
     }
 

@@ -1,12 +1,12 @@
-use Rattle.std.proofs.Common.{◌≡◌, ◌+◌, All, map, vec_len, vec_capacity}
+use Rattle.std.proofs.Common.{◌≡◌, ◌+◌, map, length}
+use Rattle.bit_words.specs.Bits.{blocks_of}
 use Rattle.bit_words.specs.Storage.{IsMergedBetween}
 use Rattle.bit_words.proofs.bit_vec.merging.merge_first.Given as goal
 
 abbrev pub invariant-loop-k : goal.invariant-loop-k
 invariant-loop-k g l = record {
-  merged : IsMergedBetween g.O.Operation.merge g.B.BitBlock.width l.start l.k (map g.B.BitBlock.number l.fn.blocks.items) (map g.B.BitBlock.number l.others) (map g.B.BitBlock.number l.blocks.items);
-  each : All g.B.BitBlock.is_block l.blocks.items;
-  len : vec_len l.blocks ≡ vec_len l.fn.blocks;
-  capacity : vec_capacity l.blocks ≡ vec_capacity l.fn.blocks;
+  merged : IsMergedBetween g.O.Operation.merge g.B.BitBlock.width l.start l.k (blocks_of g.B.BitBlock.width l.fn.bits.values) (map g.B.BitBlock.number l.others) (blocks_of g.B.BitBlock.width l.bits.values);
+  len : length l.bits.values ≡ length l.fn.bits.values;
+  capacity : l.bits.capacity ≡ l.fn.bits.capacity;
   steps : l.steps + l.start ≡ l.fn.steps + l.k;
 }

@@ -1,28 +1,27 @@
-use Rattle.std.proofs.Common.{◌≡◌, ◌<◌, map, length, arith}
-use Rattle.std.proofs.lemmas.List.{length-map}
-use Rattle.bit_words.specs.Bits.{blocks_for}
-use Rattle.bit_words.proofs.SummaryLemmas.{summary_put, summary_of_digits, digits_of_summary}
+use Rattle.std.proofs.Common.{◌<◌, ◌∙◌, length, arith}
+use Rattle.bit_words.specs.Bits.{blocks_of}
+use Rattle.bit_words.specs.Storage.{is_one}
+use Rattle.bit_words.proofs.BitsLemmas.{length-blocks_of}
+use Rattle.bit_words.proofs.SummaryLemmas.{row_tail, summary_put, summary_from_rows}
 use Rattle.bit_words.proofs.bit_vec.summary.summarize.Goals as goal
+
+pub put_block-requires-clause-tail : goal.put_block-requires-clause-tail
+put_block-requires-clause-tail g c =
+    let w = g.B.BitBlock.width in
+    row_tail w c.loop-q.q (length c.loop-q.summary.values) (blocks_of w c.args.bits.now.values) (is_one (g.B.BitBlock.number c.summary_block.result)) (rw (length-blocks_of, c.loop-q.invariant.len, c.requires) (omega arith)) (rw c.blocks-blocks.ensures.numbers at c.summary_block.ensures.digits)
 
 pub loop-q-preserved : goal.loop-q-preserved
 loop-q-preserved g c =
-    let f = g.B.BitBlock.number in
-    let ms = map f c.args.blocks.now in
-    let ss = map f c.loop-q.sums.items in
-    let within : c.loop-q.q < length ss = rw length-map (omega arith) in
+    let w = g.B.BitBlock.width in
+    let ss = blocks_of w c.loop-q.summary.values in
+    let within : c.loop-q.q < length ss = rw (length-blocks_of, c.loop-q.invariant.len) (omega arith) in
     record {
-      done = summary_put g.B.BitBlock.width ms ss _ c.loop-q.q _ within c.put_block.ensures.numbers c.summary_block.ensures.digits c.loop-q.invariant.done;
-      each = c.put_block.ensures.each;
-      len = omega arith;
-      capacity = omega arith;
+      done = summary_put w (blocks_of w c.args.bits.now.values) ss _ c.loop-q.q _ within c.put_block.ensures.numbers (rw c.blocks-blocks.ensures.numbers at c.summary_block.ensures.digits) c.loop-q.invariant.done;
+      len = c.put_block.ensures.len ∙ c.loop-q.invariant.len;
+      capacity = c.put_block.ensures.capacity ∙ c.loop-q.invariant.capacity;
     }
 
 pub returns-clause-summary : goal.returns-clause-summary
 returns-clause-summary g c =
-    let w = g.B.BitBlock.width in
-    let f = g.B.BitBlock.number in
-    let ms = map f c.args.blocks.now in
-    let ss = map f c.loop-q.sums.items in
-    let count : length ss ≡ blocks_for w (length ms) = rw (length-map, length-map) (omega arith) in
-    summary_of_digits w f _ c.args.blocks.now c.loop-q.sums.items c.loop-q.invariant.each (omega arith) c.requires.fits
-    (digits_of_summary w ms ss g.met.B.BitBlock.width_law.positive count (λ q j below place. let inside : q < length c.loop-q.sums.items = rw length-map at below in c.loop-q.invariant.done q j (omega arith) place))
+    summary_from_rows g.B.BitBlock.width _ _ g.met.B.BitBlock.width_law.positive (c.loop-q.invariant.len ∙ c.requires) (λ q j below place.
+    c.loop-q.invariant.done q j (omega (arith, rw c.loop-q.invariant.len at below)) place)

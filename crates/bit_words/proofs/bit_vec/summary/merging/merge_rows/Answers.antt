@@ -1,9 +1,10 @@
-use Rattle.std.proofs.Common.{◌≡◌, ◌≢◌, ℕ, ◌+◌, ◌*◌, ◌<◌, ◌≤◌, ◌∙◌, ◌==◌, not, refl, sym, ap, get_or, map, length, arith, get_or-set_other, mul-le-mul_right}
-use Rattle.std.proofs.lemmas.List.{length-map}
+use Rattle.std.proofs.Common.{◌≡◌, ◌≢◌, ℕ, ◌+◌, ◌*◌, ◌<◌, ◌≤◌, ◌∙◌, ◌==◌, not, refl, sym, ap, get_or, length, arith, get_or-set_other, mul-le-mul_right}
+use Rattle.bit_words.specs.Bits.{blocks_for, blocks_of}
 use Rattle.bit_words.specs.Storage.{is_one}
 use Rattle.bit_words.specs.Summary.{is_used}
+use Rattle.bit_words.proofs.BitsLemmas.{length-blocks_of}
 use Rattle.bit_words.proofs.MergeLemmas.{merged_none, merged_more}
-use Rattle.bit_words.proofs.SummaryLemmas.{summary_put}
+use Rattle.bit_words.proofs.SummaryLemmas.{row_inside, row_tail, summary_put}
 use Rattle.bit_words.proofs.bit_vec.summary.merging.merge_rows.Goals as goal
 
 pub loop-q-init : goal.loop-q-init
@@ -11,14 +12,15 @@ loop-q-init g c = record {
   merged = merged_none _ _ _ _ _ _ (omega arith);
   done = λ p j below place. absurd (omega arith);
   past = λ p from. refl;
-  each = c.requires.each;
-  each_sum = c.requires.each_sum;
-  len = omega arith;
-  sums_len = omega arith;
-  capacity = omega arith;
-  sums_capacity = omega arith;
+  len = refl;
+  summary_len = refl;
+  capacity = refl;
+  summary_capacity = refl;
   steps = omega arith;
 }
+
+pub merge_row-digits-requires-clause-other : goal.merge_row-digits-requires-clause-other
+merge_row-digits-requires-clause-other g c = rw c.loop-q.invariant.len c.requires.other
 
 pub merge_row-digits-requires-clause-in_others : goal.merge_row-digits-requires-clause-in_others
 merge_row-digits-requires-clause-in_others g c =
@@ -26,14 +28,23 @@ merge_row-digits-requires-clause-in_others g c =
     let le = mul-le-mul_right g.B.BitBlock.width below in
     omega (arith, le, c.requires.in_others)
 
+pub put_block-requires-clause-in_bounds : goal.put_block-requires-clause-in_bounds
+put_block-requires-clause-in_bounds g c =
+    row_inside g.B.BitBlock.width c.loop-q.q c.args.rows _ _ _ g.met.B.BitBlock.width_law.positive (omega arith) c.requires.in_others c.requires.other.fewer (c.loop-q.invariant.summary_len ∙ c.requires.count)
+
+pub put_block-requires-clause-tail : goal.put_block-requires-clause-tail
+put_block-requires-clause-tail g c =
+    let w = g.B.BitBlock.width in
+    let len : length c.merge_row-digits.new.bits.values ≡ length c.args.bits.now.values = c.merge_row-digits.ensures.len ∙ c.loop-q.invariant.len in
+    row_tail w c.loop-q.q (length c.loop-q.summary.values) (blocks_of w c.merge_row-digits.new.bits.values) (is_one (g.B.BitBlock.number c.merge_row-digits.result)) (rw (length-blocks_of, len, c.loop-q.invariant.summary_len, c.requires.count) (omega arith)) c.merge_row-digits.ensures.digits
+
 pub loop-q-preserved : goal.loop-q-preserved
 loop-q-preserved g c =
     let w = g.B.BitBlock.width in
-    let f = g.B.BitBlock.number in
     let q = c.loop-q.q in
-    let ns = map f c.merge_row-digits.new.blocks.items in
-    let ss = map f c.loop-q.sums.items in
-    let within : q < length ss = rw length-map (omega arith) in
+    let ns = blocks_of w c.merge_row-digits.new.bits.values in
+    let ss = blocks_of w c.loop-q.summary.values in
+    let within : q < length ss = rw length-blocks_of (row_inside w q c.args.rows _ _ _ g.met.B.BitBlock.width_law.positive (omega arith) c.requires.in_others c.requires.other.fewer (c.loop-q.invariant.summary_len ∙ c.requires.count)) in
     let row = c.merge_row-digits.ensures.merged in
     let put = c.put_block.ensures.numbers in
     let done : (p j : ℕ) → p < q → j < w → is_one (get_or ss p 0) j ≡ is_used ns (p * w + j) = λ p j below place.
@@ -44,12 +55,10 @@ loop-q-preserved g c =
       merged = merged_more _ w 0 (q * w) ((q + 1) * w) (q * w) ((q + 1) * w) _ _ _ _ (omega arith) (omega arith) refl refl c.loop-q.invariant.merged row;
       done = summary_put w ns ss _ q _ within put c.merge_row-digits.ensures.digits done;
       past = λ p from. let other : p ≢ q = omega arith in ap (λ xs. get_or xs p 0) put ∙ get_or-set_other ss q p _ 0 other ∙ c.loop-q.invariant.past p (omega arith);
-      each = c.merge_row-digits.ensures.each;
-      each_sum = c.put_block.ensures.each;
-      len = omega arith;
-      sums_len = omega arith;
-      capacity = omega arith;
-      sums_capacity = omega arith;
+      len = c.merge_row-digits.ensures.len ∙ c.loop-q.invariant.len;
+      summary_len = c.put_block.ensures.len ∙ c.loop-q.invariant.summary_len;
+      capacity = c.merge_row-digits.ensures.capacity ∙ c.loop-q.invariant.capacity;
+      summary_capacity = c.put_block.ensures.capacity ∙ c.loop-q.invariant.summary_capacity;
       steps = omega arith;
     }
 

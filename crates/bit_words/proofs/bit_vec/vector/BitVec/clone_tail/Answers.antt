@@ -1,62 +1,33 @@
-use Rattle.std.proofs.Common.{◌≡◌, ◌<◌, ◌∙◌, ◌++◌, false, drop, length, map, replicate, ap, arith}
+use Rattle.std.proofs.Common.{◌≡◌, ◌<◌, ◌∙◌, length, ap, sym, refl, arith}
+use Rattle.bit_words.specs.Bits.{blocks_for}
+use Rattle.bit_words.specs.Summary.{shared_room}
 use Rattle.bit_words.proofs.BitsLemmas.{blocks_for-above}
-use Rattle.bit_words.proofs.RoomLemmas.{room_of_copy}
-use Rattle.bit_words.proofs.TailLemmas.{tail_kept, tail_tidy, tail_unused, values_of-tail}
-use Rattle.bit_words.proofs.TidyLemmas.{blocks_for-le}
-use Rattle.bit_words.proofs.VectorLemmas.{length_from_view, numbers_below}
+use Rattle.bit_words.proofs.RoomLemmas.{shared_whole}
+use Rattle.bit_words.proofs.StoredLemmas.{in_summary, length-tail, summary_of_tail}
 use Rattle.bit_words.proofs.bit_vec.vector.BitVec.clone_tail.Goals as goal
 
-pub copy_values_from-requires-clause-within : goal.copy_values_from-requires-clause-within
-copy_values_from-requires-clause-within g c =
-    let at : c.args.at < c.self.inside.len = rw (length_from_view _ _ _ _ _ c.self.view_is) at c.requires in
-    let le = blocks_for-le g.B.BitBlock.width c.args.at c.self.inside.len g.met.B.BitBlock.width_law.positive (omega arith) in
-    rw c.deref.ensures.value (omega (arith, le, c.self.invariant.tidy.count))
+pub update_summary-requires-clause-in_blocks : goal.update_summary-requires-clause-in_blocks
+update_summary-requires-clause-in_blocks g c =
+    let within : c.args.at < length c.self.inside.bits.values = rw (ap (λ v. length v.values) c.self.view_is) c.requires in
+    let len = ap length c.in_ok-bits.ensures.values ∙ length-tail c.self.inside.bits.values c.args.at (omega arith) in
+    rw (len, c.block_index-k.ensures) (blocks_for-above g.B.BitBlock.width _ c.args.at g.met.B.BitBlock.width_law.positive within)
 
-pub copy_summary_from-requires-clause-tidy : goal.copy_summary_from-requires-clause-tidy
-copy_summary_from-requires-clause-tidy g c =
-    let len : length c.in_ok-blocks.blocks.items ≡ length c.self.inside.blocks.items = omega (arith, c.in_ok-blocks.ensures.len, c.deref.ensures.len) in
-    rw (c.deref-2.ensures.value, c.deref-3.ensures.value, len) c.self.invariant.summary.tidy
-
-pub copy_summary_from-requires-clause-within : goal.copy_summary_from-requires-clause-within
-copy_summary_from-requires-clause-within g c =
-    let at : c.args.at < c.self.inside.len = rw (length_from_view _ _ _ _ _ c.self.view_is) at c.requires in
-    let above = blocks_for-above g.B.BitBlock.width c.self.inside.len c.args.at g.met.B.BitBlock.width_law.positive at in
-    omega (arith, above, c.block_index.ensures, c.self.invariant.tidy.count, c.in_ok-blocks.ensures.len, c.deref-3.ensures.len, c.deref.ensures.len)
-
-pub copy_summary_from-requires-clause-before : goal.copy_summary_from-requires-clause-before
-copy_summary_from-requires-clause-before g c = λ q before.
-    let w = g.B.BitBlock.width in
-    let f = g.B.BitBlock.number in
-    rw c.deref-3.ensures.value
-    (tail_unused w c.args.at q _ (map f c.in_ok-blocks.blocks.items)
-    (numbers_below w f _ _ (λ x is. (g.met.B.BitBlock.number_law x is).0) c.in_ok-blocks.ensures.each q)
-    c.in_ok-blocks.ensures.values (omega (arith, before, c.block_index.ensures)))
-
-pub copy_summary_from-requires-clause-after : goal.copy_summary_from-requires-clause-after
-copy_summary_from-requires-clause-after g c = λ q after.
-    let w = g.B.BitBlock.width in
-    let f = g.B.BitBlock.number in
-    rw (c.deref-2.ensures.value, c.deref-3.ensures.value)
-    (c.self.invariant.summary.digit q
-    ∙ tail_kept w c.args.at q (map f c.self.inside.blocks.items) (map f c.in_ok-blocks.blocks.items) g.met.B.BitBlock.width_law.positive
-    (numbers_below w f _ _ (λ x is. (g.met.B.BitBlock.number_law x is).0) c.self.invariant.tidy.each q)
-    (numbers_below w f _ _ (λ x is. (g.met.B.BitBlock.number_law x is).0) c.in_ok-blocks.ensures.each q)
-    (rw c.deref.ensures.value at c.in_ok-blocks.ensures.values) (omega (arith, after, c.block_index.ensures)))
+pub update_summary-requires-clause-in_summary : goal.update_summary-requires-clause-in_summary
+update_summary-requires-clause-in_summary g c =
+    let within : c.args.at < length c.self.inside.bits.values = rw (ap (λ v. length v.values) c.self.view_is) c.requires in
+    let inside : c.block_index-k.result < length c.self.inside.summary.values = rw c.block_index-k.ensures (in_summary g.B.BitBlock.width c.args.at _ _ g.met.B.BitBlock.width_law.positive c.self.invariant.summary within) in
+    let len = ap length c.in_ok-summary.ensures.values ∙ length-tail c.self.inside.summary.values c.block_index-k.result (omega arith) in
+    rw len inside
 
 pub invariant_of-result : goal.invariant_of-result
-invariant_of-result g c = record {
-  tidy = tail_tidy g.B.BitBlock.width _ c.args.at g.B.BitBlock.number _ c.self.inside.blocks.items _ c.self.invariant.tidy c.in_ok-blocks.ensures.each (omega (arith, c.in_ok-blocks.ensures.len, c.deref.ensures.len)) (rw c.deref.ensures.value at c.in_ok-blocks.ensures.values);
-  summary = rw c.deref-3.ensures.value at c.in_ok-summary.ensures.summary;
-}
-
-pub returns-clause-values : goal.returns-clause-values
-returns-clause-values g c =
-    let at : c.args.at < c.self.inside.len = rw (length_from_view _ _ _ _ _ c.self.view_is) at c.requires in
-    values_of-tail g.B.BitBlock.width (map g.B.BitBlock.number c.self.inside.blocks.items) _ c.self.inside.len c.args.at (omega arith) (rw c.deref.ensures.value at c.in_ok-blocks.ensures.values)
-    ∙ ap (λ v. replicate c.args.at false ++ drop c.args.at v.values) c.self.view_is
-
-pub returns-clause-room : goal.returns-clause-room
-returns-clause-room g c =
-    room_of_copy g.B.BitBlock.width _ _ (length c.self.inside.blocks.items) _ _ _ _ g.met.B.BitBlock.width_law.positive c.self.view_is c.self.invariant.tidy.count
-    (omega (arith, c.in_ok-blocks.ensures.room, c.deref.ensures.len))
-    (omega (arith, c.in_ok-summary.ensures.room, c.deref-2.ensures.len, c.self.invariant.summary.tidy.count))
+invariant_of-result g c =
+    let w = g.B.BitBlock.width in
+    let pos = g.met.B.BitBlock.width_law.positive in
+    let within : c.args.at < length c.self.inside.bits.values = rw (ap (λ v. length v.values) c.self.view_is) c.requires in
+    let len : length c.in_ok-bits.bits.values ≡ length c.self.inside.bits.values = ap length c.in_ok-bits.ensures.values ∙ length-tail c.self.inside.bits.values c.args.at (omega arith) in
+    let shared = shared_whole w (blocks_for w (length c.self.inside.bits.values)) c.in_ok-bits.bits.capacity c.update_summary.new.summary.capacity pos c.in_ok-bits.ensures.capacity (c.update_summary.ensures.capacity ∙ c.in_ok-summary.ensures.capacity ∙ ap (blocks_for w) c.self.invariant.summary.len) in
+    record {
+      summary = rw (c.update_summary.ensures.values, c.in_ok-summary.ensures.values) (summary_of_tail w c.args.at c.block_index-k.result c.in_ok-bits.bits.values _ _ _ pos c.self.invariant.summary within c.block_index-k.ensures c.in_ok-bits.ensures.values refl);
+      fits = rw len c.self.invariant.fits;
+      capacity = rw len (omega (arith, shared));
+    }

@@ -1,30 +1,21 @@
-use Rattle.std.proofs.Common.{◌≡◌, map, length, ◌∙◌, arith}
-use Rattle.std.proofs.lemmas.List.{length-map}
+use Rattle.std.proofs.Common.{◌≡◌, ◌∙◌, ap, arith}
+use Rattle.std.specs.List.{count_by}
 use Rattle.std.proofs.lemmas.List.Sums.{count_by-le-length}
-use Rattle.bit_words.specs.Bits.{blocks_for}
-use Rattle.bit_words.specs.Storage.{values_of}
 use Rattle.bit_words.proofs.CountLemmas.{ones_in-values}
-use Rattle.bit_words.proofs.StorageLemmas.{blocks-values_of, length-values_of}
-use Rattle.bit_words.proofs.VectorLemmas.{numbers_below}
+use Rattle.bit_words.proofs.StoredLemmas.{digit_of_blocks}
 use Rattle.bit_words.proofs.bit_vec.vector.BitVec.count_ones.Goals as goal
+
+pub ones_by_summary-requires-clause-digit : goal.ones_by_summary-requires-clause-digit
+ones_by_summary-requires-clause-digit g c =
+    digit_of_blocks _ _ _ _ _ g.met.B.BitBlock.width_law.positive c.self.invariant.summary c.blocks-2.ensures.numbers c.blocks-3.ensures.numbers
 
 pub ones_by_summary-requires-clause-fits : goal.ones_by_summary-requires-clause-fits
 ones_by_summary-requires-clause-fits g c =
-    let w = g.B.BitBlock.width in
-    let f = g.B.BitBlock.number in
-    let len = c.self.inside.len in
-    let xs = c.self.inside.blocks.items in
-    let count : length (map f xs) ≡ blocks_for w len = rw length-map c.self.invariant.tidy.count in
-    let below = numbers_below w f g.B.BitBlock.is_block xs (λ x is. (g.met.B.BitBlock.number_law x is).0) c.self.invariant.tidy.each in
-    let ones = ones_in-values f w xs (values_of w (map f xs) len) g.met.B.BitBlock.width_law.positive (blocks-values_of w (map f xs) len g.met.B.BitBlock.width_law.positive count below c.self.invariant.tidy.tail) in
-    rw c.deref.ensures.value (omega (arith, ones, count_by-le-length (λ value. value) (values_of w (map f xs) len), length-values_of w (map f xs) len, c.self.invariant.tidy.fits))
+    let ones = ones_in-values g.B.BitBlock.number g.B.BitBlock.width c.blocks-2.result.now c.self.inside.bits.values g.met.B.BitBlock.width_law.positive c.blocks-2.ensures.numbers in
+    omega (arith, ones, count_by-le-length (λ value. value) c.self.inside.bits.values, c.self.invariant.fits)
 
 pub returns : goal.returns
 returns g c =
-    let w = g.B.BitBlock.width in
-    let f = g.B.BitBlock.number in
-    let len = c.self.inside.len in
-    let xs = c.self.inside.blocks.items in
-    let count : length (map f xs) ≡ blocks_for w len = rw length-map c.self.invariant.tidy.count in
-    let below = numbers_below w f g.B.BitBlock.is_block xs (λ x is. (g.met.B.BitBlock.number_law x is).0) c.self.invariant.tidy.each in
-    rw (← c.self.view_is) (rw c.deref.ensures.value at c.ones_by_summary.ensures ∙ ones_in-values f w xs (values_of w (map f xs) len) g.met.B.BitBlock.width_law.positive (blocks-values_of w (map f xs) len g.met.B.BitBlock.width_law.positive count below c.self.invariant.tidy.tail))
+    c.ones_by_summary.ensures
+    ∙ ones_in-values g.B.BitBlock.number g.B.BitBlock.width c.blocks-2.result.now c.self.inside.bits.values g.met.B.BitBlock.width_law.positive c.blocks-2.ensures.numbers
+    ∙ ap (λ v. count_by (λ value. value) v.values) c.self.view_is

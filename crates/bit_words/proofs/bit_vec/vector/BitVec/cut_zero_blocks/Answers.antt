@@ -1,66 +1,59 @@
-use Rattle.std.proofs.Common.{◌≡◌, ◌*◌, ◌^◌, ◌<◌, ◌≤◌, ◌==◌, ◌∙◌, not, map, get_or, get_or-take, sym, ap, refl, arith, ⊎_elim}
+use Rattle.std.proofs.Common.{◌≡◌, ℕ, ◌*◌, ◌^◌, ◌<◌, ◌≤◌, ◌∙◌, Bool, List, length, map, get_or, false, sym, ap, arith, rules, ⊎_elim}
 use Rattle.std.proofs.lemmas.Bool.{cases_lt}
 use Rattle.bit_words.specs.Bits.{blocks_for}
-use Rattle.bit_words.specs.Storage.{values_of}
-use Rattle.bit_words.proofs.CompareLemmas.{true_at, value_in_view}
-use Rattle.bit_words.proofs.RoomLemmas.{used_blocks-true_end, whole_blocks-fits, whole_blocks-past, value_at-cut, clean_cut, blocks_for-whole}
-use Rattle.bit_words.proofs.StorageLemmas.{length-values_of}
-use Rattle.bit_words.proofs.VectorLemmas.{numbers_below}
+use Rattle.bit_words.specs.Storage.{value_at}
+use Rattle.bit_words.proofs.BitsLemmas.{blocks_of-lt}
+use Rattle.bit_words.proofs.PackedLemmas.{value_at-blocks_of}
+use Rattle.bit_words.proofs.RoomLemmas.{blocks_for-whole, false_past, used_blocks-true_end, whole_blocks-fits, whole_blocks-past}
+use Rattle.bit_words.proofs.StoredLemmas.{block_summary, summary_cut, true_values_cut}
 use Rattle.bit_words.proofs.bit_vec.vector.BitVec.cut_zero_blocks.Goals as goal
 
-pub returns-in_default-clause-len : goal.returns-in_default-clause-len
-returns-in_default-clause-len g c =
-    let f = g.B.BitBlock.number in
+pub used_by_summary-count-requires-clause-summary : goal.used_by_summary-count-requires-clause-summary
+used_by_summary-count-requires-clause-summary g c =
+    block_summary _ _ _ _ _ _ _ g.met.B.BitBlock.width_law.positive c.self.invariant.summary (let fits : length c.blocks-2.result.now < 2 ^ 64 = omega arith in fits) c.blocks-2.ensures.numbers c.blocks-2.ensures.len c.blocks-3.ensures.numbers c.blocks-3.ensures.each c.blocks-3.ensures.len
+
+pub returns-then-is_none-clause-len : goal.returns-then-is_none-clause-len
+returns-then-is_none-clause-len g c =
     let w = g.B.BitBlock.width in
-    let used = used_blocks-true_end w (map f c.self.inside.blocks.items) c.used_by_summary-count.result c.args.self.now.values g.met.B.BitBlock.width_law.positive (numbers_below w f _ _ (λ x is. (g.met.B.BitBlock.number_law x is).0) c.self.invariant.tidy.each) (value_in_view _ _ _ _ _ c.self.view_is c.self.invariant.tidy.tail) (rw c.deref.ensures.value at c.used_by_summary-count.ensures.zeros) (rw c.deref.ensures.value at c.used_by_summary-count.ensures.last) in
-    let over = rw c.bits.ensures at c.in_default.ensures in
-    let past : 2 ^ 64 ≤ c.used_by_summary-count.result * w = ⊎_elim (λ fits. absurd (over fits)) (λ (out : 2 ^ 64 ≤ c.used_by_summary-count.result * w). out) (cases_lt (c.used_by_summary-count.result * w) (2 ^ 64)) in
-    sym (whole_blocks-past w c.used_by_summary-count.result c.args.self.now.values used past)
+    let count = c.used_by_summary-count.result in
+    let numbers = c.blocks-2.ensures.numbers in
+    let ms = map g.B.BitBlock.number c.blocks-2.result.now in
+    let small : (k : ℕ) → get_or ms k 0 < 2 ^ w = λ k. rw numbers (blocks_of-lt w k c.self.inside.bits.values) in
+    let same : (i : ℕ) → get_or c.args.self.now.values i false ≡ value_at w ms i = λ i. sym (ap (λ ns. value_at w ns i) numbers ∙ value_at-blocks_of w c.self.inside.bits.values i g.met.B.BitBlock.width_law.positive ∙ ap (λ v. get_or v.values i false) c.self.view_is) in
+    let used = used_blocks-true_end w ms count c.args.self.now.values g.met.B.BitBlock.width_law.positive small same c.used_by_summary-count.ensures.zeros c.used_by_summary-count.ensures.last in
+    let past : 2 ^ 64 ≤ count * c.bits.result = ⊎_elim (λ (fits : count * c.bits.result < 2 ^ 64). absurd (search rules)) (λ (out : 2 ^ 64 ≤ count * c.bits.result). out) (cases_lt (count * c.bits.result) (2 ^ 64)) in
+    sym (whole_blocks-past w count c.args.self.now.values used (rw c.bits.ensures at past))
 
 pub invariant_of-self : goal.invariant_of-self
 invariant_of-self g c =
-    let f = g.B.BitBlock.number in
     let w = g.B.BitBlock.width in
-    let len : c.in-Some.len ≡ c.used_by_summary-count.result * w = rw c.bits.ensures at c.in-Some.ensures.1 in
-    let blocks = ap (blocks_for w) len ∙ blocks_for-whole w c.used_by_summary-count.result g.met.B.BitBlock.width_law.positive in
-    record {
-      tidy = record {
-        each = c.keep_blocks.ensures.each;
-        count = omega arith;
-        tail = clean_cut w c.used_by_summary-count.result (map f c.self.inside.blocks.items) _ c.in-Some.len g.met.B.BitBlock.width_law.positive len c.keep_blocks.ensures.numbers;
-        fits = omega (arith, c.in-Some.ensures);
-      };
-      summary = rw c.deref-3.ensures.value at c.cut_summary.ensures.summary;
-    }
-
-pub cut_summary-requires-clause-before : goal.cut_summary-requires-clause-before
-cut_summary-requires-clause-before g c = λ k.
-    let f = g.B.BitBlock.number in
     let count = c.used_by_summary-count.result in
-    let ms = map f c.self.inside.blocks.items in
-    rw c.deref-3.ensures.value (λ before.
-    c.self.invariant.summary.digit k
-    ∙ ap (λ m. not (m == 0)) (sym (ap (λ xs. get_or xs k 0) c.keep_blocks.ensures.numbers ∙ get_or-take count ms k 0 (omega (arith, before, c.keep_blocks.ensures.len)))))
-
-pub returns-clause-true_values : goal.returns-clause-true_values
-returns-clause-true_values g c = λ i.
-    let f = g.B.BitBlock.number in
-    let w = g.B.BitBlock.width in
-    let ms = map f c.self.inside.blocks.items in
-    let ns = map f c.keep_blocks.new.blocks.items in
-    let n = c.in-Some.len in
-    let len : n ≡ c.used_by_summary-count.result * w = rw c.bits.ensures at c.in-Some.ensures.1 in
-    let clean = clean_cut w c.used_by_summary-count.result ms ns n g.met.B.BitBlock.width_law.positive len c.keep_blocks.ensures.numbers in
-    let same = value_at-cut w c.used_by_summary-count.result ms ns c.keep_blocks.ensures.numbers (rw c.deref.ensures.value at c.used_by_summary-count.ensures.zeros) i in
-    let new = true_at w n 0 ns (record { values = values_of w ns n; room = 0 }) refl clean i in
-    let old = true_at _ _ _ _ _ c.self.view_is c.self.invariant.tidy.tail i in
-    (λ one. old.1 (sym same ∙ new.0 one), λ one. new.1 (same ∙ old.0 one))
+    let len : length c.truncate_to_blocks.new.self.values ≡ count * w = c.truncate_to_blocks.ensures.len in
+    let whole = blocks_for-whole w count g.met.B.BitBlock.width_law.positive in
+    record {
+      summary = rw c.truncate.ensures.values (summary_cut w count _ _ _ g.met.B.BitBlock.width_law.positive c.self.invariant.summary len (omega (arith, c.used_by_summary-count.ensures.within, c.blocks-2.ensures.len)) c.truncate_to_blocks.ensures.values);
+      fits = rw len (let fits : count * c.bits.result < 2 ^ 64 = search rules in rw c.bits.ensures at fits);
+      capacity = rw (len, whole, c.truncate_to_blocks.ensures.capacity, c.truncate.ensures.capacity) (omega (arith, c.used_by_summary-count.ensures.within, c.blocks-2.ensures.len, c.self.invariant.capacity));
+    }
 
 pub returns-clause-len : goal.returns-clause-len
 returns-clause-len g c =
-    let f = g.B.BitBlock.number in
     let w = g.B.BitBlock.width in
-    let used = used_blocks-true_end w (map f c.self.inside.blocks.items) c.used_by_summary-count.result c.args.self.now.values g.met.B.BitBlock.width_law.positive (numbers_below w f _ _ (λ x is. (g.met.B.BitBlock.number_law x is).0) c.self.invariant.tidy.each) (value_in_view _ _ _ _ _ c.self.view_is c.self.invariant.tidy.tail) (rw c.deref.ensures.value at c.used_by_summary-count.ensures.zeros) (rw c.deref.ensures.value at c.used_by_summary-count.ensures.last) in
-    let len : c.in-Some.len ≡ c.used_by_summary-count.result * w = rw c.bits.ensures at c.in-Some.ensures.1 in
-    let fits : c.used_by_summary-count.result * w < 2 ^ 64 = rw c.bits.ensures at c.in-Some.ensures.0 in
-    length-values_of w _ c.in-Some.len ∙ len ∙ sym (whole_blocks-fits w c.used_by_summary-count.result c.args.self.now.values used fits)
+    let count = c.used_by_summary-count.result in
+    let numbers = c.blocks-2.ensures.numbers in
+    let ms = map g.B.BitBlock.number c.blocks-2.result.now in
+    let small : (k : ℕ) → get_or ms k 0 < 2 ^ w = λ k. rw numbers (blocks_of-lt w k c.self.inside.bits.values) in
+    let same : (i : ℕ) → get_or c.args.self.now.values i false ≡ value_at w ms i = λ i. sym (ap (λ ns. value_at w ns i) numbers ∙ value_at-blocks_of w c.self.inside.bits.values i g.met.B.BitBlock.width_law.positive ∙ ap (λ v. get_or v.values i false) c.self.view_is) in
+    let used = used_blocks-true_end w ms count c.args.self.now.values g.met.B.BitBlock.width_law.positive small same c.used_by_summary-count.ensures.zeros c.used_by_summary-count.ensures.last in
+    let fits : count * c.bits.result < 2 ^ 64 = search rules in
+    c.truncate_to_blocks.ensures.len ∙ sym (whole_blocks-fits w count c.args.self.now.values used (rw c.bits.ensures at fits))
+
+pub returns-clause-true_values : goal.returns-clause-true_values
+returns-clause-true_values g c =
+    let w = g.B.BitBlock.width in
+    let count = c.used_by_summary-count.result in
+    let pos = g.met.B.BitBlock.width_law.positive in
+    rw (← c.self.view_is) (true_values_cut w count _ _ c.truncate_to_blocks.ensures.len c.truncate_to_blocks.ensures.values (λ i past.
+    sym (value_at-blocks_of w c.self.inside.bits.values i pos)
+    ∙ ap (λ ms. value_at w ms i) (sym c.blocks-2.ensures.numbers)
+    ∙ false_past w count _ pos c.used_by_summary-count.ensures.zeros i past))

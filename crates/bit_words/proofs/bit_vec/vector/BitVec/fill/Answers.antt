@@ -1,20 +1,13 @@
-use Rattle.std.proofs.Common.{◌∙◌, sym, ap, replicate, ◌≡◌, length, vec_len, arith}
-use Rattle.bit_words.proofs.StorageLemmas.{values_of-replicate}
-use Rattle.bit_words.proofs.SummaryLemmas.{filled_summary}
-use Rattle.bit_words.proofs.VectorLemmas.{length_from_view}
+use Rattle.std.proofs.Common.{◌≡◌, ◌∙◌, length, ap}
+use Rattle.std.proofs.lemmas.List.{length-replicate}
+use Rattle.bit_words.proofs.StoredLemmas.{summary_filled}
 use Rattle.bit_words.proofs.bit_vec.vector.BitVec.fill.Goals as goal
-
-pub returns-clause-values : goal.returns-clause-values
-returns-clause-values g c =
-    values_of-replicate _ _ _ _ c.fill_values.ensures.filled
-    ∙ ap (λ n. replicate n c.args.bit) (sym (length_from_view _ _ _ _ _ c.self.view_is))
 
 pub invariant_of-self : goal.invariant_of-self
 invariant_of-self g c =
-    let count : length c.fill_values.new.blocks.items ≡ vec_len c.fill_values.new.blocks = omega arith in
+    let len : length c.fill.new.self.values ≡ length c.self.inside.bits.values = ap length c.fill.ensures.values ∙ length-replicate (length c.self.inside.bits.values) c.args.bit in
     record {
-      tidy = c.fill_values.ensures.tidy;
-      summary =
-          filled_summary g.B.BitBlock.width _ g.B.BitBlock.number g.B.BitBlock.is_block c.fill_values.new.blocks.items c.fill_values-2.new.blocks.items c.args.bit g.met.B.BitBlock.width_law.positive (λ x is. (g.met.B.BitBlock.number_law x is).0) c.fill_values.ensures.tidy c.fill_values.ensures.filled
-          (rw (c.len.ensures, ← count) at c.fill_values-2.ensures.tidy) (λ k within. c.fill_values-2.ensures.filled k (omega arith));
+      summary = rw (c.fill.ensures.values, c.fill-2.ensures.values) (summary_filled g.B.BitBlock.width _ _ c.args.bit g.met.B.BitBlock.width_law.positive c.self.invariant.summary.len);
+      fits = rw len c.self.invariant.fits;
+      capacity = rw (len, c.fill.ensures.capacity, c.fill-2.ensures.capacity) c.self.invariant.capacity;
     }

@@ -1,37 +1,16 @@
-use Rattle.std.proofs.Common.{◌<◌, ◌+◌, ◌^◌, vec_capacity, ◌++◌, replicate, refl, sym, ap, ◌∙◌, arith, rules}
-use Rattle.bit_words.specs.Summary.{shared_room}
-use Rattle.bit_words.proofs.StorageLemmas.{values_of-append}
-use Rattle.bit_words.proofs.SummaryLemmas.{stored_within}
-use Rattle.bit_words.proofs.VectorLemmas.{le-room_of, length_from_view}
+use Rattle.std.proofs.Common.{◌≡◌, ◌+◌, ◌∙◌, length, ap, sym, arith}
+use Rattle.bit_words.specs.Bits.{blocks_for}
+use Rattle.bit_words.proofs.StoredLemmas.{length-appended, summary_lengthened}
 use Rattle.bit_words.proofs.bit_vec.vector.BitVec.grow.Goals as goal
-
-pub overflow_add-len : goal.overflow_add-len
-overflow_add-len g c = let len = length_from_view _ _ _ _ _ c.self.view_is in
-    let small : c.self.inside.len + c.args.n < 2 ^ 64 = omega arith in
-    search rules
 
 pub invariant_of-self : goal.invariant_of-self
 invariant_of-self g c =
-    let len = length_from_view _ _ _ _ _ c.self.view_is in
-    record {
-      tidy = record {
-        each = c.self.invariant.tidy.each;
-        count = omega arith;
-        tail = record { clean = λ i past. c.self.invariant.tidy.tail.clean i (omega arith) };
-        fits = omega (arith, len);
-      };
-      summary = c.self.invariant.summary;
-    }
-
-pub returns-then-block_count-len-clause-ok : goal.returns-then-block_count-len-clause-ok
-returns-then-block_count-len-clause-ok g c =
-    values_of-append _ _ _ _ _ c.args.bit (λ i _. refl) (λ i past _. c.self.invariant.tidy.tail.clean i past ∙ sym c.if-not-bit.true)
-    ∙ ap (λ v. v.values ++ replicate c.args.n c.args.bit) c.self.view_is
-
-pub returns-then-block_count-len-clause-holds_values : goal.returns-then-block_count-len-clause-holds_values
-returns-then-block_count-len-clause-holds_values g c =
-    let len = length_from_view _ _ _ _ _ c.self.view_is in
     let w = g.B.BitBlock.width in
-    let inside = stored_within w _ (vec_capacity c.self.inside.blocks) (vec_capacity c.self.inside.summary) _ _ _ _ g.met.B.BitBlock.width_law.positive c.self.invariant (omega arith) (omega arith) in
-    let enough = le-room_of w (shared_room w (vec_capacity c.self.inside.blocks) (vec_capacity c.self.inside.summary)) (c.self.inside.len + c.args.n) g.met.B.BitBlock.width_law.positive (omega arith) (omega (arith, inside)) in
-    omega (arith, len, enough)
+    let len : length c.lengthen.new.self.values ≡ length c.self.inside.bits.values + c.args.n = ap length c.lengthen.ensures.values ∙ length-appended c.self.inside.bits.values c.args.n _ in
+    let same : blocks_for w (length c.self.inside.bits.values + c.args.n) ≡ blocks_for w (length c.self.inside.bits.values) =
+    ap (λ m. blocks_for w (m + c.args.n)) (sym c.len.ensures.value) ∙ sym c.block_count.ensures ∙ c.if-block_count-blocks.true ∙ c.blocks-then-not-bit.ensures.len in
+    record {
+      summary = rw c.lengthen.ensures.values (summary_lengthened w c.args.n _ _ g.met.B.BitBlock.width_law.positive c.self.invariant.summary same);
+      fits = rw len (let total = ap (λ v. length v.values) c.self.view_is in omega arith);
+      capacity = rw (len, same, c.lengthen.ensures.capacity) c.self.invariant.capacity;
+    }

@@ -1,27 +1,16 @@
-use Rattle.std.proofs.Common.{◌≡◌, ◌<◌, ◌+◌, ◌*◌, ◌++◌, ◌∙◌, ◌^◌, length, map, vec_capacity, replicate, sym, ap, ap₂, arith, rules}
+use Rattle.std.proofs.Common.{◌<◌, ◌+◌, ◌∙◌, length, sym, ap, arith}
 use Rattle.std.proofs.lemmas.Result.{err_from_is_err_and}
-use Rattle.bit_words.specs.Bits.{room_of}
+use Rattle.bit_words.specs.Bits.{blocks_for, room_of}
 use Rattle.bit_words.specs.Summary.{shared_room}
-use Rattle.bit_words.proofs.RoomLemmas.{room_le, sums_for_shared}
-use Rattle.bit_words.proofs.StorageLemmas.{values_of-append}
-use Rattle.bit_words.proofs.SummaryLemmas.{kept_use, kept_with_zeros, same_use, use_of_added}
-use Rattle.bit_words.proofs.TidyLemmas.{blocks_for-le}
-use Rattle.bit_words.proofs.VectorLemmas.{le-room_of, length_from_view, room_from_view, room_for_more, room_of-short, numbers_below}
+use Rattle.bit_words.proofs.RoomLemmas.{room_le}
+use Rattle.bit_words.proofs.VectorLemmas.{le-room_of, length_from_view, no_room_for_more, room_for_more, room_from_view}
 use Rattle.bit_words.proofs.bit_vec.vector.BitVec.grow_blocks.Goals.{After-from_residual}
 use Rattle.bit_words.proofs.bit_vec.vector.BitVec.grow_blocks.Goals as goal
-
-pub overflow_add-len : goal.overflow_add-len
-overflow_add-len g c = let len = length_from_view _ _ _ _ _ c.self.view_is in
-    let small : c.self.inside.len + c.args.n < 2 ^ 64 = omega arith in
-    search rules
 
 -- where there is no room for the blocks of the longer list, the list has none for the values
 refused : (g : _) (c : After-from_residual g) → c.args.self.now.room < length c.args.self.now.values + c.args.n
 refused g c =
-    let w = g.B.BitBlock.width in
-    let room = shared_room w (vec_capacity c.self.inside.blocks) (vec_capacity c.self.inside.summary) in
-    let short = room_of-short w room (c.self.inside.len + c.args.n) g.met.B.BitBlock.width_law.positive (omega (arith, c.in_err-make_shared_room.ensures.full)) in
-    rw (room_from_view _ _ _ c.self.view_is, length_from_view _ _ _ _ _ c.self.view_is) short
+    no_room_for_more _ _ _ _ _ g.met.B.BitBlock.width_law.positive c.self.view_is (rw (c.block_count-count.ensures, c.len.ensures.value) at c.in_err-make_shared_room.ensures.full)
 
 pub returns-in_err-make_shared_room-clause-full : goal.returns-in_err-make_shared_room-clause-full
 returns-in_err-make_shared_room-clause-full g c =
@@ -30,68 +19,26 @@ returns-in_err-make_shared_room-clause-full g c =
 pub returns-in_err-make_shared_room-clause-succeeds : goal.returns-in_err-make_shared_room-clause-succeeds
 returns-in_err-make_shared_room-clause-succeeds g c = λ enough. let short = refused g c in absurd (omega arith)
 
-pub append_to_summary-requires-clause-longer : goal.append_to_summary-requires-clause-longer
-append_to_summary-requires-clause-longer g c =
-    let le = blocks_for-le g.B.BitBlock.width c.self.inside.len (c.self.inside.len + c.args.n) g.met.B.BitBlock.width_law.positive (omega arith) in
-    rw c.deref.ensures.value (omega (arith, c.append_values.ensures.tidy.count))
-
-pub append_to_summary-requires-clause-room : goal.append_to_summary-requires-clause-room
-append_to_summary-requires-clause-room g c =
-    let w = g.B.BitBlock.width in
-    let count : length c.append_values.new.blocks.items ≡ c.block_count-count.result = omega (arith, c.append_values.ensures.tidy.count) in
-    let enough = sums_for_shared w c.block_count-count.result (vec_capacity c.make_shared_room.new.sums) g.met.B.BitBlock.width_law.positive (omega (arith, c.in_ok-make_shared_room.ensures.ok)) in
-    rw (c.deref.ensures.value, count) enough
-
-pub append_to_summary-requires-clause-before : goal.append_to_summary-requires-clause-before
-append_to_summary-requires-clause-before g c = λ k before.
-    let w = g.B.BitBlock.width in
-    let f = g.B.BitBlock.number in
-    let kept = rw c.make_shared_room.ensures.items at c.append_values.ensures.kept in
-    rw (c.deref.ensures.value, c.make_shared_room.ensures.sums) (
-    c.self.invariant.summary.digit k
-    ∙ kept_use w c.self.inside.len k (map f c.self.inside.blocks.items) (map f c.append_values.new.blocks.items) g.met.B.BitBlock.width_law.positive (numbers_below w f _ _ (λ x is. (g.met.B.BitBlock.number_law x is).0) c.self.invariant.tidy.each k) (numbers_below w f _ _ (λ x is. (g.met.B.BitBlock.number_law x is).0) c.append_values.ensures.tidy.each k) kept (omega arith))
-
-pub append_to_summary-requires-clause-last : goal.append_to_summary-requires-clause-last
-append_to_summary-requires-clause-last g c = λ none k _.
-    let w = g.B.BitBlock.width in
-    let f = g.B.BitBlock.number in
-    let kept = rw c.make_shared_room.ensures.items at c.append_values.ensures.kept in
-    rw (c.deref.ensures.value, c.make_shared_room.ensures.sums) (
-    c.self.invariant.summary.digit k
-    ∙ same_use w (map f c.self.inside.blocks.items) (map f c.append_values.new.blocks.items) k (numbers_below w f _ _ (λ x is. (g.met.B.BitBlock.number_law x is).0) c.self.invariant.tidy.each k) (numbers_below w f _ _ (λ x is. (g.met.B.BitBlock.number_law x is).0) c.append_values.ensures.tidy.each k)
-    (λ j _. sym (kept_with_zeros w c.self.inside.len (c.self.inside.len + c.args.n) (k * w + j) c.args.bit (map f c.self.inside.blocks.items) (map f c.append_values.new.blocks.items) none kept c.self.invariant.tidy.tail.clean c.append_values.ensures.added c.append_values.ensures.tidy.tail.clean)))
-
-pub append_to_summary-requires-clause-after : goal.append_to_summary-requires-clause-after
-append_to_summary-requires-clause-after g c = λ k from.
-    let w = g.B.BitBlock.width in
-    let f = g.B.BitBlock.number in
-    rw c.deref.ensures.value (λ inside.
-    use_of_added w c.self.inside.len (c.self.inside.len + c.args.n) k (map f c.append_values.new.blocks.items) _ g.met.B.BitBlock.width_law.positive
-    (numbers_below w f _ _ (λ x is. (g.met.B.BitBlock.number_law x is).0) c.append_values.ensures.tidy.each k) (omega arith) (omega (arith, inside, c.append_values.ensures.tidy.count)) c.append_values.ensures.added c.append_values.ensures.tidy.tail.clean)
-
-pub returns-clause-ok : goal.returns-clause-ok
-returns-clause-ok g c =
-    values_of-append _ _ _ _ _ _ (rw c.make_shared_room.ensures.items at c.append_values.ensures.kept) c.append_values.ensures.added
-    ∙ ap (λ v. v.values ++ replicate c.args.n c.args.bit) c.self.view_is
+pub invariant_of-self : goal.invariant_of-self
+invariant_of-self g c = record {
+  summary = rw (c.make_shared_room.ensures.values, c.make_shared_room.ensures.summary) c.self.invariant.summary;
+  fits = rw c.make_shared_room.ensures.values c.self.invariant.fits;
+  capacity = rw c.make_shared_room.ensures.values (omega (arith, c.self.invariant.capacity, c.make_shared_room.ensures.capacity));
+}
 
 pub returns-clause-holds_values : goal.returns-clause-holds_values
 returns-clause-holds_values g c =
     let w = g.B.BitBlock.width in
-    let len = length_from_view _ _ _ _ _ c.self.view_is in
-    let room = shared_room w (vec_capacity c.append_values.new.blocks) (vec_capacity c.append_to_summary.new.sums) in
-    let kept : shared_room w (vec_capacity c.append_values.new.blocks) (vec_capacity c.append_to_summary.new.sums) ≡ shared_room w (vec_capacity c.make_shared_room.new.blocks) (vec_capacity c.make_shared_room.new.sums) = ap₂ (shared_room w) c.append_values.ensures.capacity c.append_to_summary.ensures.capacity in
-    let enough = le-room_of w room (c.self.inside.len + c.args.n) g.met.B.BitBlock.width_law.positive (omega arith) (omega (arith, kept, c.in_ok-make_shared_room.ensures.ok)) in
-    omega (arith, len, enough)
-
-pub returns-clause-room : goal.returns-clause-room
-returns-clause-room g c =
-    let w = g.B.BitBlock.width in
-    let kept : shared_room w (vec_capacity c.append_values.new.blocks) (vec_capacity c.append_to_summary.new.sums) ≡ shared_room w (vec_capacity c.make_shared_room.new.blocks) (vec_capacity c.make_shared_room.new.sums) = ap₂ (shared_room w) c.append_values.ensures.capacity c.append_to_summary.ensures.capacity in
-    rw (room_from_view _ _ _ c.self.view_is) (room_le w _ _ (omega (arith, kept, c.make_shared_room.ensures.capacity)))
+    let room = shared_room w c.make_shared_room.new.bits.capacity c.make_shared_room.new.summary.capacity in
+    let count = c.block_count-count.ensures ∙ ap (λ n. blocks_for w (n + c.args.n)) (c.len.ensures.value ∙ sym (length_from_view _ _ _ c.self.view_is)) in
+    rw (c.append_summarized.ensures.capacity, c.append_summarized.ensures.summary_capacity) (le-room_of w room _ g.met.B.BitBlock.width_law.positive (omega arith) (omega (arith, count, c.in_ok-make_shared_room.ensures.ok)))
 
 pub returns-clause-within : goal.returns-clause-within
 returns-clause-within g c = λ within.
-    let w = g.B.BitBlock.width in
-    let kept : shared_room w (vec_capacity c.append_values.new.blocks) (vec_capacity c.append_to_summary.new.sums) ≡ shared_room w (vec_capacity c.make_shared_room.new.blocks) (vec_capacity c.make_shared_room.new.sums) = ap₂ (shared_room w) c.append_values.ensures.capacity c.append_to_summary.ensures.capacity in
-    let enough = room_for_more _ _ _ _ _ _ g.met.B.BitBlock.width_law.positive c.self.view_is within in
-    ap (room_of w) (kept ∙ c.make_shared_room.ensures.within (omega arith)) ∙ sym (room_from_view _ _ _ c.self.view_is)
+    let enough = room_for_more _ _ _ _ _ g.met.B.BitBlock.width_law.positive c.self.view_is within in
+    rw (c.append_summarized.ensures.capacity, c.append_summarized.ensures.summary_capacity)
+    (ap (room_of g.B.BitBlock.width) (c.make_shared_room.ensures.within (rw (c.block_count-count.ensures, c.len.ensures.value) enough)) ∙ sym (room_from_view _ _ _ c.self.view_is))
+
+pub returns-clause-room : goal.returns-clause-room
+returns-clause-room g c =
+    rw (c.append_summarized.ensures.capacity, c.append_summarized.ensures.summary_capacity, room_from_view _ _ _ c.self.view_is) (room_le g.B.BitBlock.width _ _ c.make_shared_room.ensures.capacity)

@@ -1,24 +1,15 @@
-use Rattle.std.proofs.Common.{◌↔◌, IsTrue, map, arith}
-use Rattle.bit_words.specs.declared.bit_vec.merge.Merge.TheVariants.{Intersection}
-use Rattle.bit_words.specs.Storage.{MergesToFalse}
-use Rattle.bit_words.proofs.CompareLemmas.{disjoint_lists, first_of_lists}
-use Rattle.bit_words.proofs.VectorLemmas.{length_from_view}
+use Rattle.std.proofs.Common.{◌∙◌, ap}
+use Rattle.bit_words.specs.Bits.{blocks_of}
+use Rattle.bit_words.proofs.CompareLemmas.{first_of_lists, disjoint_lists}
 use Rattle.bit_words.proofs.bit_vec.vector.BitVec.is_disjoint_from.Goals as goal
 
 pub returns-clause-disjoint : goal.returns-clause-disjoint
 returns-clause-disjoint g c =
-    let f = g.B.BitBlock.number in
-    let zero : IsTrue c.intersection_is_zero.result ↔ MergesToFalse Intersection g.B.BitBlock.width (map f c.self.inside.blocks.items) (map f c.other.inside.blocks.items) = rw (c.deref.ensures.value, c.deref-2.ensures.value) at c.intersection_is_zero.ensures.zero in
-    let both = disjoint_lists _ _ _ _ _ _ _ _ _ c.self.view_is c.other.view_is c.self.invariant.tidy.tail c.other.invariant.tidy.tail in
-    (λ yes. both.0 (zero.0 yes), λ each. zero.1 (both.1 each))
+    let w = g.B.BitBlock.width in
+    let both = disjoint_lists w _ _ _ _ g.met.B.BitBlock.width_law.positive (c.blocks-2.ensures.numbers ∙ ap (λ v. blocks_of w v.values) c.self.view_is) (c.blocks-3.ensures.numbers ∙ ap (λ v. blocks_of w v.values) c.other.view_is) in
+    (λ yes. both.0 (c.intersection_is_zero.ensures.zero.0 yes), λ each. c.intersection_is_zero.ensures.zero.1 (both.1 each))
 
 pub returns-clause-stops : goal.returns-clause-stops
 returns-clause-stops g c = λ i first.
-    let stop = rw (c.deref.ensures.value, c.deref-2.ensures.value) at c.intersection_is_zero.ensures.stops i in
-    stop (first_of_lists _ _ _ _ _ _ _ _ _ _ c.self.view_is c.other.view_is c.self.invariant.tidy.tail c.other.invariant.tidy.tail i first)
-
-pub returns-clause-most : goal.returns-clause-most
-returns-clause-most g c = rw (length_from_view _ _ _ _ _ c.self.view_is, length_from_view _ _ _ _ _ c.other.view_is) (omega arith)
-
-pub returns-clause-all : goal.returns-clause-all
-returns-clause-all g c = λ yes. let exact = c.intersection_is_zero.ensures.all yes in rw (length_from_view _ _ _ _ _ c.self.view_is, length_from_view _ _ _ _ _ c.other.view_is) (omega arith)
+    let w = g.B.BitBlock.width in
+    c.intersection_is_zero.ensures.stops i (first_of_lists _ w _ _ _ _ g.met.B.BitBlock.width_law.positive (c.blocks-2.ensures.numbers ∙ ap (λ v. blocks_of w v.values) c.self.view_is) (c.blocks-3.ensures.numbers ∙ ap (λ v. blocks_of w v.values) c.other.view_is) i first)

@@ -1,59 +1,15 @@
-use Rattle.std.proofs.Common.{◌≡◌, ◌≤◌, ◌∙◌, ap₂, map, length, vec_len, arith}
-use Rattle.std.proofs.lemmas.List.{length-map}
-use Rattle.bit_words.specs.Merges.{merged}
-use Rattle.bit_words.proofs.TidyLemmas.{blocks_for-le}
-use Rattle.bit_words.proofs.MergeLemmas.{merged_lists, merged_clean, merged_values}
-use Rattle.bit_words.proofs.VectorLemmas.{length_from_view, no_longer_from_views}
+use Rattle.std.proofs.Common.{◌≡◌, ◌≤◌, ◌∙◌, max, length, ap, arith}
+use Rattle.bit_words.proofs.MergeLemmas.{length-merged}
 use Rattle.bit_words.proofs.bit_vec.vector.BitVec.merge_blocks.Goals as goal
-
-pub merge_stored-requires-clause-fewer : goal.merge_stored-requires-clause-fewer
-merge_stored-requires-clause-fewer g c =
-    let le = blocks_for-le g.B.BitBlock.width c.other.inside.len c.self.inside.len g.met.B.BitBlock.width_law.positive (no_longer_from_views _ _ _ _ _ _ _ _ _ c.self.view_is c.other.view_is c.requires) in
-    rw c.deref.ensures.value (omega (arith, le, c.self.invariant.tidy.count, c.other.invariant.tidy.count))
-
-pub merge_stored-requires-clause-other_summary : goal.merge_stored-requires-clause-other_summary
-merge_stored-requires-clause-other_summary g c = rw (c.deref.ensures.value, c.deref-2.ensures.value) c.other.invariant.summary
 
 pub invariant_of-self : goal.invariant_of-self
 invariant_of-self g c =
-    let w = g.B.BitBlock.width in
-    let f = g.B.BitBlock.number in
-    let pos = g.met.B.BitBlock.width_law.positive in
-    let xs = c.self.inside.blocks.items in
-    let os = c.other.inside.blocks.items in
-    let ys = c.merge_stored.new.blocks.items in
-    let shorter = no_longer_from_views _ _ _ _ _ _ _ _ _ c.self.view_is c.other.view_is c.requires in
-    let le = blocks_for-le w c.other.inside.len c.self.inside.len pos shorter in
-    let len : length (map f ys) ≡ length (map f xs) = rw (length-map, length-map) (omega arith) in
-    let short : length (map f os) ≤ length (map f xs) = rw (length-map, length-map) (omega (arith, le, c.self.invariant.tidy.count, c.other.invariant.tidy.count)) in
-    let end : vec_len c.self.inside.blocks ≡ length (map f xs) = rw length-map (omega arith) in
-    let each = merged_values c.args.merge w (map f xs) (map f os) (map f ys) pos len short (rw (c.deref.ensures.value, end) at c.merge_stored.ensures.merged) in
+    let shorter : length c.other.inside.bits.values ≤ length c.self.inside.bits.values = rw (ap (λ v. length v.values) c.self.view_is, ap (λ v. length v.values) c.other.view_is) c.requires in
+    let bits = ap (λ p. p.capacity) c.replace-bits.ensures.value in
+    let summary = ap (λ p. p.capacity) c.replace-summary.ensures.value in
+    let len : length c.merge_by.new.bits.values ≡ length c.self.inside.bits.values = omega (arith, ap length c.merge_by.ensures.values, length-merged c.args.merge c.replace-bits.result.values c.other.inside.bits.values, ap (λ p. length p.values) c.replace-bits.ensures.value) in
     record {
-      tidy = record {
-        each = c.merge_stored.ensures.each;
-        count = omega (arith, c.self.invariant.tidy.count);
-        tail = merged_clean _ _ _ _ _ _ _ shorter c.self.invariant.tidy.tail c.other.invariant.tidy.tail each;
-        fits = c.self.invariant.tidy.fits;
-      };
-      summary = c.merge_stored.ensures.summary;
+      summary = c.merge_by.ensures.summary;
+      fits = rw len c.self.invariant.fits;
+      capacity = rw (len, c.merge_by.ensures.capacity, c.merge_by.ensures.summary_capacity, bits, summary) c.self.invariant.capacity;
     }
-
-pub returns-clause-values : goal.returns-clause-values
-returns-clause-values g c =
-    let w = g.B.BitBlock.width in
-    let f = g.B.BitBlock.number in
-    let pos = g.met.B.BitBlock.width_law.positive in
-    let xs = c.self.inside.blocks.items in
-    let os = c.other.inside.blocks.items in
-    let ys = c.merge_stored.new.blocks.items in
-    let shorter = no_longer_from_views _ _ _ _ _ _ _ _ _ c.self.view_is c.other.view_is c.requires in
-    let le = blocks_for-le w c.other.inside.len c.self.inside.len pos shorter in
-    let len : length (map f ys) ≡ length (map f xs) = rw (length-map, length-map) (omega arith) in
-    let short : length (map f os) ≤ length (map f xs) = rw (length-map, length-map) (omega (arith, le, c.self.invariant.tidy.count, c.other.invariant.tidy.count)) in
-    let end : vec_len c.self.inside.blocks ≡ length (map f xs) = rw length-map (omega arith) in
-    let each = merged_values c.args.merge w (map f xs) (map f os) (map f ys) pos len short (rw (c.deref.ensures.value, end) at c.merge_stored.ensures.merged) in
-    merged_lists _ _ _ _ _ _ _ shorter c.self.invariant.tidy.tail c.other.invariant.tidy.tail each
-    ∙ ap₂ (λ v u. merged c.args.merge v.values u.values) c.self.view_is c.other.view_is
-
-pub returns-clause-steps : goal.returns-clause-steps
-returns-clause-steps g c = rw (length_from_view _ _ _ _ _ c.self.view_is) (omega (arith, c.self.invariant.tidy.count))

@@ -1,31 +1,27 @@
-use Rattle.std.proofs.Common.{◌+◌, ◌^◌, ◌<◌, ◌≤◌, ◌∙◌, vec_capacity, sym, ap, arith, rules}
+use Rattle.std.proofs.Common.{◌+◌, ◌≤◌, ◌∙◌, sym, ap, length, arith}
 use Rattle.std.proofs.lemmas.Result.{on_ok_weaker, on_err_weaker}
 use Rattle.bit_words.specs.Bits.{blocks_for, room_of}
 use Rattle.bit_words.specs.Summary.{shared_room}
-use Rattle.bit_words.proofs.VectorLemmas.{length_from_view, room_from_view, room_for_more, no_room_for_more, room_got}
+use Rattle.bit_words.proofs.VectorLemmas.{le-room_of, length_from_view, no_room_for_more, room_for_more, room_from_view}
 use Rattle.bit_words.proofs.bit_vec.vector.BitVec.reserve.Goals as goal
-
-pub overflow_add-self-inside : goal.overflow_add-self-inside
-overflow_add-self-inside g c =
-    let len = length_from_view _ _ _ _ _ c.self.view_is in
-    let small : c.self.inside.len + c.args.n < 2 ^ 64 = omega arith in
-    search rules
 
 pub returns-clause-ok : goal.returns-clause-ok
 returns-clause-ok g c =
-    let len = length_from_view _ _ _ _ _ c.self.view_is in
-    on_ok_weaker _ (λ (enough : blocks_for g.B.BitBlock.width (c.self.inside.len + c.args.n) ≤ shared_room g.B.BitBlock.width (vec_capacity c.make_shared_room.new.blocks) (vec_capacity c.make_shared_room.new.sums)). room_got _ _ _ _ _ _ _ g.met.B.BitBlock.width_law.positive c.self.view_is (omega arith) enough) (rw c.block_count-count.ensures at c.make_shared_room.ensures.ok)
+    let w = g.B.BitBlock.width in
+    let room = shared_room w c.make_shared_room.new.bits.capacity c.make_shared_room.new.summary.capacity in
+    let count = c.block_count-count.ensures ∙ ap (λ n. blocks_for w (n + c.args.n)) (c.len.ensures.value ∙ sym (length_from_view _ _ _ c.self.view_is)) in
+    on_ok_weaker _ (λ (enough : c.block_count-count.result ≤ room). le-room_of w room _ g.met.B.BitBlock.width_law.positive (omega arith) (omega arith)) c.make_shared_room.ensures.ok
 
 pub returns-clause-full : goal.returns-clause-full
 returns-clause-full g c =
-    on_err_weaker _ (no_room_for_more _ _ _ _ _ _ g.met.B.BitBlock.width_law.positive c.self.view_is) (rw c.block_count-count.ensures at c.make_shared_room.ensures.full)
+    on_err_weaker _ (no_room_for_more _ _ _ _ _ g.met.B.BitBlock.width_law.positive c.self.view_is) (rw (c.block_count-count.ensures, c.len.ensures.value) at c.make_shared_room.ensures.full)
 
 pub returns-clause-succeeds : goal.returns-clause-succeeds
 returns-clause-succeeds g c = λ within.
-    let enough = room_for_more _ _ _ _ _ _ g.met.B.BitBlock.width_law.positive c.self.view_is within in
-    c.make_shared_room.ensures.succeeds (omega arith)
+    let enough = room_for_more _ _ _ _ _ g.met.B.BitBlock.width_law.positive c.self.view_is within in
+    c.make_shared_room.ensures.succeeds (rw (c.block_count-count.ensures, c.len.ensures.value) enough)
 
 pub returns-clause-within : goal.returns-clause-within
 returns-clause-within g c = λ within.
-    let enough = room_for_more _ _ _ _ _ _ g.met.B.BitBlock.width_law.positive c.self.view_is within in
-    ap (room_of g.B.BitBlock.width) (c.make_shared_room.ensures.within (omega arith)) ∙ sym (room_from_view _ _ _ c.self.view_is)
+    let enough = room_for_more _ _ _ _ _ g.met.B.BitBlock.width_law.positive c.self.view_is within in
+    ap (room_of g.B.BitBlock.width) (c.make_shared_room.ensures.within (rw (c.block_count-count.ensures, c.len.ensures.value) enough)) ∙ sym (room_from_view _ _ _ c.self.view_is)

@@ -1,27 +1,32 @@
-use Rattle.std.proofs.Common.{◌∙◌, sym, ap, map, take, take_all, arith}
-use Rattle.bit_words.proofs.StorageLemmas.{values_of-take}
-use Rattle.bit_words.proofs.SummaryLemmas.{kept_use}
+use Rattle.std.proofs.Common.{◌≡◌, ◌≤◌, ◌<◌, ◌^◌, take, length, ap, length-take, refl, arith}
+use Rattle.bit_words.specs.Bits.{blocks_for}
+use Rattle.bit_words.specs.Summary.{shared_room}
+use Rattle.bit_words.proofs.StoredLemmas.{summary_emptied, summary_truncated}
 use Rattle.bit_words.proofs.TidyLemmas.{blocks_for-le}
-use Rattle.bit_words.proofs.VectorLemmas.{length_from_view, numbers_below}
 use Rattle.bit_words.proofs.bit_vec.vector.BitVec.truncate.Goals as goal
 
-pub returns-then-n-self-clause-values : goal.returns-then-n-self-clause-values
-returns-then-n-self-clause-values g c =
-    sym (take_all c.args.n c.args.self.now.values (rw (length_from_view _ _ _ _ _ c.self.view_is) (omega arith)))
-
-pub returns-clause-values : goal.returns-clause-values
-returns-clause-values g c =
-    values_of-take _ _ _ _ _ (omega arith) c.keep_values.ensures.kept ∙ ap (λ v. take c.args.n v.values) c.self.view_is
-
-pub cut_summary-requires-clause-shorter : goal.cut_summary-requires-clause-shorter
-cut_summary-requires-clause-shorter g c =
-    let le = blocks_for-le g.B.BitBlock.width c.args.n c.self.inside.len g.met.B.BitBlock.width_law.positive (omega arith) in
-    rw c.deref.ensures.value (omega (arith, le, c.keep_values.ensures.tidy.count))
-
-pub cut_summary-requires-clause-before : goal.cut_summary-requires-clause-before
-cut_summary-requires-clause-before g c = λ k.
+pub invariant_of-self : goal.invariant_of-self
+invariant_of-self g c =
     let w = g.B.BitBlock.width in
-    let f = g.B.BitBlock.number in
-    rw c.deref.ensures.value (λ before.
-    c.self.invariant.summary.digit k
-    ∙ kept_use w c.args.n k (map f c.self.inside.blocks.items) (map f c.keep_values.new.blocks.items) g.met.B.BitBlock.width_law.positive (numbers_below w f _ _ (λ x is. (g.met.B.BitBlock.number_law x is).0) c.self.invariant.tidy.each k) (numbers_below w f _ _ (λ x is. (g.met.B.BitBlock.number_law x is).0) c.keep_values.ensures.tidy.each k) c.keep_values.ensures.kept (omega (arith, before, c.keep_values.ensures.tidy.count)))
+    let pos = g.met.B.BitBlock.width_law.positive in
+    let shorter : c.args.n ≤ length c.self.inside.bits.values = omega arith in
+    let le = blocks_for-le w c.args.n (length c.self.inside.bits.values) pos shorter in
+    let len : length c.truncate.new.self.values ≡ c.args.n = omega (arith, ap length c.truncate.ensures.values, length-take c.args.n c.self.inside.bits.values) in
+    record {
+      summary = rw (c.update_summary.ensures.values, c.truncate-2.ensures.values, c.truncate.ensures.values) (summary_truncated w c.args.n c.block_count-count.result _ _ _ pos c.self.invariant.summary shorter c.block_count-count.ensures (omega arith) refl);
+      fits = rw len (omega (arith, c.self.invariant.fits));
+      capacity = rw (len, c.truncate.ensures.capacity, c.update_summary.ensures.capacity, c.truncate-2.ensures.capacity) (omega (arith, le, c.self.invariant.capacity));
+    }
+
+pub invariant_of-self-else-count-ne0 : goal.invariant_of-self-else-count-ne0
+invariant_of-self-else-count-ne0 g c =
+    let w = g.B.BitBlock.width in
+    let pos = g.met.B.BitBlock.width_law.positive in
+    let shorter : c.args.n ≤ length c.self.inside.bits.values = omega arith in
+    let le = blocks_for-le w c.args.n (length c.self.inside.bits.values) pos shorter in
+    let len : length c.truncate.new.self.values ≡ c.args.n = omega (arith, ap length c.truncate.ensures.values, length-take c.args.n c.self.inside.bits.values) in
+    record {
+      summary = rw (c.truncate-2.ensures.values, c.truncate.ensures.values) (summary_emptied w c.args.n c.block_count-count.result _ _ pos c.block_count-count.ensures c.if-count-ne0.false);
+      fits = rw len (omega (arith, c.self.invariant.fits));
+      capacity = rw (len, c.truncate.ensures.capacity, c.truncate-2.ensures.capacity) (omega (arith, le, c.self.invariant.capacity));
+    }
