@@ -1,8 +1,8 @@
 #!/usr/bin/env bash
 # Tries each edit of `misuse/` on a copy of the crates' sources: the compiler must refuse it, for the one reason that
 # the edit names. Edits that the prover refuses stand with the crates, in their must-fail/; these do not come so far.
-# An edit has the lines 'crate:', 'file:', 'old:' and 'new:', of which the old text stands once in the file, and
-# 'says:', how each error that is said begins. The last line is 'N passed, M failed'.
+# An edit has one line each of 'crate:', 'file:', 'old:' and 'new:', of which the old text stands once in the file, and
+# of 'says:', with which each error that is said begins, behind its place. The last line is 'N passed, M failed'.
 set -uo pipefail
 unset CDPATH
 here="$(dirname "$(readlink -f "${BASH_SOURCE[0]}")")"
@@ -32,8 +32,14 @@ apply() {
 }
 
 try_edit() {
-    local edit="$1" name crate file says said status errors other
+    local edit="$1" name key crate file says said status errors other
     name="$(basename "$edit")"
+    for key in crate file old new says; do
+        if [ "$(grep -c "^$key: ." "$edit")" -ne 1 ]; then
+            fail "$name: it has no line '$key:', or more than one"
+            return
+        fi
+    done
     crate="$room/crates/$(line_of "$edit" crate)"
     file="$(line_of "$edit" file)"
     says="$(line_of "$edit" says)"
@@ -45,7 +51,7 @@ try_edit() {
     said="$(cd "$crate" && rt try --test < /dev/null 2>&1)"
     status=$?
     errors="$(grep ': error' <<< "$said")"
-    other="$(sed "s/^\S*: //" <<< "$errors" | grep -vF -- "$says")"
+    other="$(sed 's/^\S*: //' <<< "$errors" | says="$says" awk 'index($0, ENVIRON["says"]) != 1')"
     if [ "$status" -ne 1 ] || [ -z "$errors" ]; then
         fail "$name: it is not refused by the compiler, but ends with status $status"
     elif [ -n "$other" ]; then

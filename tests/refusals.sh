@@ -1,9 +1,14 @@
 #!/usr/bin/env bash
 # Runs the two built programs whose paths are given, `refusals` and `bitset`, with `shim.c` before the C library: each
-# call of the first with one request for memory after another refused, and the second with that too, and with one
-# read or write after another failing. The last line is 'N passed, M failed'.
+# call of the first with one request for memory after another refused, and held to the requests and bytes that its line
+# allows; and the second with that too, and with one read or write after another failing. What `bitset` must write is
+# said here, and not taken from it. The last line is 'N passed, M failed'.
 set -uo pipefail
 unset CDPATH
+if [ $# -ne 2 ]; then
+    echo 'usage: tests/refusals.sh REFUSALS BITSET' >&2
+    exit 2
+fi
 refusals="$(readlink -f "$1")"
 bitset="$(readlink -f "$2")"
 here="$(dirname "$(readlink -f "${BASH_SOURCE[0]}")")"
@@ -44,7 +49,8 @@ done
 cd "$room" || exit 1
 : | tee nothing > wrote
 
-# Runs a program behind the shim, with these of the shim's variables before it, and keeps its status and the counts.
+# Runs a program behind the shim, with these of the shim's variables before it, and keeps its status, the counts, and
+# the bytes of each request.
 shimmed() {
     rm -f counts
     timeout 60 env LD_PRELOAD="$room/shim.so" SHIM_COUNTS=counts "$@" > wrote 2> said
@@ -52,8 +58,11 @@ shimmed() {
     requests=-1
     reads=-1
     writes=-1
+    bytes=-1
+    sizes=()
     if [ -e counts ]; then
-        read -r requests reads writes < counts
+        read -r requests reads writes bytes < counts
+        mapfile -s 1 -t sizes < counts
     fi
 }
 
@@ -69,7 +78,7 @@ judge() {
     elif ! cmp said line; then
         fail "$name: it did not say '$line'"
     elif ! (($counts)); then
-        fail "$name: of $requests requests, $reads reads and $writes writes it is not so that $counts"
+        fail "$name: of $requests requests for $bytes bytes, $reads reads and $writes writes it is not so that $counts"
     else
         passed=$((passed + 1))
         return 0
@@ -78,11 +87,13 @@ judge() {
 }
 
 # One call of the program `refusals`, which judges it: with all of the call's requests refused, and then with one after
-# another, and one past them. A call that takes no memory makes no request; any other is refused where all are. One of
-# a bit vector makes two at least, so that either of its two growths is refused alone; over u128 one block of the
-# summary tells of more places than there are, so that the summary need not grow.
+# another, and one past them. A call that takes no memory makes no request; any other is refused where all are. Past
+# its last request none was refused, and then it made no more than its line allows; one that is refused may be made
+# once more, with less. One of a bit vector makes two at least, so that either of its two growths is refused alone;
+# over u128 one block of the summary tells of more places than there are, so that the summary need not grow.
 sweep() {
-    local type="$1" call="$2" ending="$3" name="$1 $2" n line
+    local type="$1" call="$2" most_requests="$3" most_bytes="$4" name="$1 $2" ending=refused n line
+    [ "$most_requests" -gt 0 ] || ending=answered
     for ((n = 0; n <= most; n++)); do
         shimmed SHIM_CALL=1 SHIM_REFUSE="$n" "$refusals" "$type" "$call"
         line="$(< wrote)"
@@ -92,6 +103,9 @@ sweep() {
         elif [ "$n" -eq 0 ] && [ "${line##* }" != "$ending" ]; then
             fail "$name: with all requests refused: '$line'"
             return
+        elif ((requests < 0 || requests > 2 * most_requests || bytes > 2 * most_bytes)); then
+            fail "$name: at request $n it made $requests requests for $bytes bytes: ${sizes[*]}"
+            return
         elif [ "$requests" -lt "$n" ]; then
             break
         fi
@@ -99,8 +113,8 @@ sweep() {
     done
     if [ "$n" -gt "$most" ] || [ "${line##* }" != answered ]; then
         fail "$name: past its last request: '$line'"
-    elif [ "$ending" = answered ] && [ "$requests" -ne 0 ]; then
-        fail "$name: it takes no memory, and made $requests requests"
+    elif ((requests > most_requests || bytes > most_bytes)); then
+        fail "$name: it made $requests requests for $bytes bytes: ${sizes[*]}"
     elif [[ "$ending" = refused && "$call" = bits_* && "$type" != u128 && "$requests" -lt 2 ]]; then
         fail "$name: the blocks and their summary did not both ask for memory"
     else
@@ -110,11 +124,13 @@ sweep() {
 
 known=0
 while read -r type call how; do
-    case "$how" in
-        answered) sweep "$type" "${call%:}" refused ;;
-        'without memory: answered') sweep "$type" "$call" answered ;;
-        *) fail "the stored run has a line '$type $call $how'" ;;
-    esac
+    if [ "$how" = 'without memory: answered' ]; then
+        sweep "$type" "$call" 0 0
+    elif [[ "$how" =~ ^'requests<='([1-9][0-9]*)' bytes<='([0-9]+)': answered'$ ]]; then
+        sweep "$type" "$call" "${BASH_REMATCH[1]}" "${BASH_REMATCH[2]}"
+    else
+        fail "the stored run has a line '$type $call $how'"
+    fi
     known=$((known + 1))
 done < "$stored"
 [ "$known" -gt 0 ] || fail 'the stored run has no calls'
@@ -135,7 +151,19 @@ reserve a 9000
 reserve_exact b 9000
 shrink a
 END
-"$bitset" < short > replies
+cat > replies << 'END'
+ok
+true
+ok
+ok
+ok
+{3, 447, 5000}
+{5000}
+2 {447, 5000}
+ok
+ok
+ok
+END
 for word in u8 u32 u64 u128; do
     for ((n = 1; n <= most; n++)); do
         shimmed SHIM_REFUSE="$n" "$bitset" "$word" < short
@@ -150,11 +178,59 @@ for word in u8 u32 u64 u128; do
     judge "$word: no request refused" 0 replies '' 'n > 1 && requests == n - 1 && writes > 0'
 done
 
+# Each word has its own type of blocks: room for 8,000,000 numbers is a million bytes of blocks, and a bit for each of
+# these blocks, in blocks of the same type. Nothing else is so large. `u64` and `usize` have blocks of one size. With no
+# word it is `u32`.
+echo ok > replies
+while read -r word summary; do
+    words=("$word")
+    [ "$word" != none ] || words=()
+    shimmed "$bitset" "${words[@]}" <<< 'reserve a 8000000'
+    judge "$word: room for 8,000,000 numbers" 0 replies '' 'requests > 0' || continue
+    large="$(printf '%s\n' "${sizes[@]}" | awk '$1 > 4096' | sort -n | tr '\n' ' ')"
+    if [ "$large" = "$summary 1000000 " ]; then
+        passed=$((passed + 1))
+    else
+        fail "$word: room for 8,000,000 numbers: its large requests have these bytes: $large"
+    fi
+done << 'END'
+none 31252
+u8 125000
+u16 62500
+u32 31252
+u64 15632
+usize 15632
+u128 7824
+END
+
+# A line that needs no memory takes none: a thousand ask for no more than one, but for the input of 13,000 bytes and the
+# output of 6,000. Each of these doubles, the first from a read of 8,192 bytes, and the second from 8 bytes.
+echo 'contains a 1' > contains
+echo false > replies
+shimmed "$bitset" < contains
+judge 'a line that needs no memory' 0 replies '' 'requests > 0'
+no_more="requests <= $requests + 1 + 10 && bytes <= $bytes + 4 * 13000 + 4 * 6000"
+yes 'contains a 1' | head -n 1000 > contains
+yes false | head -n 1000 > replies
+shimmed "$bitset" < contains
+judge 'a thousand lines that need no memory' 0 replies '' "requests > 0 && $no_more"
+
+# What the four commands of the lines below reply, of which the last may be cut short.
+replies_to() {
+    awk '
+        /^insert a [0-9]+$/ { print(($3 in kept) ? "false" : "true"); kept[$3]; next }
+        $0 == "count a" { count = 0; for (number in kept) count++; print count; next }
+        /^remove b [0-9]+$/ { print "false"; next }
+        /^truncate c [0-9]+$/ { print "ok"; next }
+        { print "bad command" }
+    '
+}
+
 # Each of its reads otherwise, which are of 8192 bytes at most. One that gives no byte is the end of the input.
 for ((number = 1; number <= 500; number++)); do
     printf '%s\n' "insert a $number" 'count a' "remove b $number" "truncate c $number"
 done > lines
-"$bitset" < lines > replies
+replies_to < lines > replies
 shimmed "$bitset" < lines
 judge 'each read and write as ever' 0 replies '' 'reads > 3 && writes > 0'
 calls="$reads"
@@ -165,7 +241,7 @@ for ((n = 1; n <= calls; n++)); do
     done
     shimmed SHIM_READ="$n:short" "$bitset" < lines
     judge "a short read $n" 0 replies '' 'reads >= calls'
-    head -c $(((n - 1) * 8192)) lines | "$bitset" > front
+    head -c $(((n - 1) * 8192)) lines | replies_to > front
     shimmed SHIM_READ="$n:0" "$bitset" < lines
     judge "no byte at read $n" 0 front '' 'reads == n'
 done

@@ -6,12 +6,14 @@
 //   SHIM_READ=N:HOW        the Nth read of standard input goes otherwise, or each one where N is 0
 //   SHIM_WRITE=N:HOW       the same of the Nth write to standard output
 //   SHIM_PIECE=N           no read and no write moves more than N bytes
-//   SHIM_COUNTS=FILE       at the end the file has how many requests, reads and writes were counted
+//   SHIM_COUNTS=FILE       at the end the file has a line with how many requests, reads and writes were counted and
+//                          how many bytes the requests asked for, and then a line for each request with its bytes
 //
 // HOW is EIO, EINTR or ENOSPC, the number of an error; 0, which moves no byte; or short, which moves one.
 #define _GNU_SOURCE
 #include <errno.h>
 #include <fcntl.h>
+#include <stdarg.h>
 #include <stdio.h>
 #include <stdlib.h>
 #include <string.h>
@@ -29,7 +31,11 @@ struct fault {
     const char *how;
 };
 
-static long requests, reads, writes, piece;
+// The bytes of the first requests. Past these only the sum is kept.
+#define KEPT 4096
+
+static long requests, reads, writes, bytes, piece;
+static size_t sizes[KEPT];
 static long refused_at = -1;
 static int only_call;
 static struct fault read_fault = {-1, ""}, write_fault = {-1, ""};
@@ -57,26 +63,44 @@ __attribute__((constructor)) static void begin(void) {
     requests = 0;
 }
 
+// Writes a text of no more than 100 bytes to the file, by no call that is counted.
+static void put(int file, const char *format, ...) {
+    char text[100];
+    va_list values;
+    va_start(values, format);
+    int length = vsnprintf(text, sizeof text, format, values);
+    va_end(values);
+    if (syscall(SYS_write, file, text, length) != length) {
+        _exit(99);
+    }
+}
+
 __attribute__((destructor)) static void end(void) {
     const char *path = getenv("SHIM_COUNTS");
-    char text[80];
     if (!path) {
         return;
     }
-    int length = snprintf(text, sizeof text, "%ld %ld %ld\n", requests, reads, writes);
     int file = open(path, O_WRONLY | O_CREAT | O_TRUNC, 0600);
-    if (file < 0 || syscall(SYS_write, file, text, length) != length) {
+    if (file < 0) {
         _exit(99);
+    }
+    put(file, "%ld %ld %ld %ld\n", requests, reads, writes, bytes);
+    for (long n = 0; n < requests && n < KEPT; n++) {
+        put(file, "%zu\n", sizes[n]);
     }
     close(file);
 }
 
-// Counts a request for memory, and whether it is the one to be refused.
-static int is_refused(void) {
+// Counts a request for so many bytes of memory, and whether it is the one to be refused.
+static int is_refused(size_t size) {
     if (only_call && writes != 1) {
         return 0;
     }
+    if (requests < KEPT) {
+        sizes[requests] = size;
+    }
     requests += 1;
+    bytes += size;
     if (requests != refused_at && refused_at != 0) {
         return 0;
     }
@@ -84,13 +108,14 @@ static int is_refused(void) {
     return 1;
 }
 
-void *malloc(size_t size) { return is_refused() ? NULL : __libc_malloc(size); }
+void *malloc(size_t size) { return is_refused(size) ? NULL : __libc_malloc(size); }
 
-void *calloc(size_t count, size_t size) { return is_refused() ? NULL : __libc_calloc(count, size); }
+void *calloc(size_t count, size_t size) { return is_refused(count * size) ? NULL : __libc_calloc(count, size); }
 
-void *realloc(void *old, size_t size) { return is_refused() ? NULL : __libc_realloc(old, size); }
+// It asks for the whole of the new size.
+void *realloc(void *old, size_t size) { return is_refused(size) ? NULL : __libc_realloc(old, size); }
 
-void *memalign(size_t alignment, size_t size) { return is_refused() ? NULL : __libc_memalign(alignment, size); }
+void *memalign(size_t alignment, size_t size) { return is_refused(size) ? NULL : __libc_memalign(alignment, size); }
 
 void *aligned_alloc(size_t alignment, size_t size) { return memalign(alignment, size); }
 

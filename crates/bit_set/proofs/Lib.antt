@@ -19,3 +19,5 @@ pub mod UnlikeLemmas
 pub mod OrderLemmas
 pub mod JsonLemmas
 pub mod FilledLemmas
+pub mod CallLemmas
+pub mod AgreementLaws

@@ -1,8 +1,12 @@
 -- Two sides of blocks that are pulled as one.
-use Rattle.std.proofs.Common.{◌≡◌, ℕ, zero, suc, ◌+◌, ◌*◌, ◌^◌, ◌<◌, ◌≤◌, max, min, Bool, true, false, List, [], ◌∷◌, ◌++◌, map, length, drop, Option, Some, None, refl, sym, ap, ◌∙◌, subst, inl, inr, arith}
-use Rattle.std.specs.Prelude.{slice_get}
-use Rattle.std.specs.Option.{unwrap_or}
-use Rattle.std.proofs.lemmas.Option.{none-some}
+use Rattle.std.proofs.Common.{◌≡◌, ℕ, zero, suc, ◌+◌, ◌*◌, ◌^◌, ◌<◌, ◌≤◌, max, min, Bool, true, false, List, [], ◌∷◌, ◌++◌, map, length, All, Option, Some, None, refl, sym, ap, ◌∙◌, subst, inl, inr, arith}
+use mir.Val.{bool_byte}
+use Rattle.std.specs.Prelude.{IfSome, IsSomeAnd}
+use Rattle.std.specs.Int.{bit_at}
+use Rattle.std.proofs.lemmas.Bool.{eqb-false}
+use Rattle.std.proofs.lemmas.Nat.{pow_pos}
+use Rattle.std.proofs.lemmas.Nat.Bits.{bit_at-lt, bit_at-zero, same_from_bits_below}
+use Rattle.bit_words.specs.Source.{Source, PullsIf}
 use Rattle.std.specs.Iterator.{YieldsFirst}
 use Rattle.bit_words.specs.Storage.{is_one}
 use Rattle.bit_words.specs.Merges.{merged_value, merged}
@@ -10,14 +14,14 @@ use Rattle.bit_words.specs.declared.bit_vec.merge.Merge.{Merge}
 use Rattle.bit_words.specs.declared.bit_vec.merge.Merge.TheVariants.{Intersection}
 use Rattle.bit_words.proofs.Masks.{is_one-zero}
 use Rattle.bit_words.specs.Bits.{blocks_of, blocks_for}
-use Rattle.bit_words.proofs.MergeLemmas.{length-merged}
+use Rattle.bit_words.proofs.MergeLemmas.{length-merged, merged_value-none}
 use Rattle.std.proofs.Math.Nat.{mul-le-mul_right}
 use Rattle.std.proofs.lemmas.Bool.{cases_lt}
 use Rattle.bit_set.specs.Sets.{elements_from, elements, intersection, merged_sets}
 use Rattle.bit_set.proofs.AlgebraLemmas.{elements-merged}
 use Rattle.bit_set.proofs.RoomLemmas.{blocks_for-grows}
-use Rattle.bit_set.proofs.WalkLemmas.{length-held, length-blocks, elements-held, IsWalkable-of}
-use Rattle.bit_set.specs.Places.{digits_from, values_in, Ahead, PullsBlock, IsWalkable, IsMergedBlock, IsMergedPull}
+use Rattle.bit_set.proofs.WalkLemmas.{length-held, length-blocks, elements-held, IsWalkable-of, All-pulled}
+use Rattle.bit_set.specs.Places.{digits_from, values_in, Ahead, PullsBlock, PullsBlockIf, IsWalkable, IsMergedBlock, IsMergedPull}
 
 -- ---- what two lists of blocks have
 
@@ -70,6 +74,19 @@ second_digits merge n r a (suc w) ys each =
     ap (λ b. b ∷ merged merge [] (digits_from n (a + 1) w ++ ys)) (sym (each a (omega arith) (omega arith)))
     ∙ ap (λ bs. is_one r a ∷ bs) (second_digits merge n r (a + 1) w ys (λ i low high. each i (omega arith) (omega arith)))
 
+zeros_given : {X : Type 0} (number : X → ℕ) (P : X → Type 0) (r : Option X) → IsSomeAnd r (λ x. P x × (number x ≡ 0)) → IfSome r P
+zeros_given number P None given = absurd given
+zeros_given number P (Some x) given = given.0
+
+-- a call of `next_if` gives a block, and leaves such
+pub All-next_if : {X : Type 0} (number : X → ℕ) (is_block : X → Type 0) (wanted : Bool) (s t : Source X) (r : Option X) → All is_block s.left → PullsIf is_block number wanted s r t → IfSome r is_block × All is_block t.left
+All-next_if number is_block true s t r each next = All-pulled is_block s.left t.left r each (next.pulled refl).item
+All-next_if number is_block false s t r each next = (zeros_given number is_block r (next.zeros refl), subst (λ u. All is_block u.left) (sym (next.same refl)) each)
+
+pub same_pulls_if : {X : Type 0} (number : X → ℕ) (is_block : X → Type 0) (wanted : Bool) (s s' t t' : Source X) (o p : Option X) → PullsIf is_block number wanted s o s' → PullsIf is_block number wanted t p t' → t.pulls ≡ s.pulls → t'.pulls ≡ s'.pulls
+same_pulls_if number is_block true s s' t t' o p next other same = omega (arith, (next.pulled refl).counted, (other.pulled refl).counted, same)
+same_pulls_if number is_block false s s' t t' o p next other same = ap (λ u. u.pulls) (other.same refl) ∙ same ∙ sym (ap (λ u. u.pulls) (next.same refl))
+
 module _ {X : Type 0} (w : ℕ) (number : X → ℕ) (merge : Merge) where
   -- what two lists of blocks hold, merged
   abbrev pub both_held : List X → List X → List Bool
@@ -119,18 +136,31 @@ module _ {X : Type 0} (w : ℕ) (number : X → ℕ) (merge : Merge) where
     counted = counted;
   }
 
-  pub same_both : (xs xs' ys ys' : List X) (pulls pulls' : ℕ) → xs' ≡ xs → ys' ≡ ys → pulls' ≡ pulls → both_ahead xs' ys' pulls' ≡ both_ahead xs ys pulls
+  same_both : (xs xs' ys ys' : List X) (pulls pulls' : ℕ) → xs' ≡ xs → ys' ≡ ys → pulls' ≡ pulls → both_ahead xs' ys' pulls' ≡ both_ahead xs ys pulls
   same_both xs xs' ys ys' pulls pulls' first second counted = ap (λ zs. both_ahead zs ys' pulls') first ∙ ap (λ zs. both_ahead xs zs pulls') second ∙ ap (both_ahead xs ys) counted
 
-  at_first : (xs : List X) (x : X) → slice_get xs 0 ≡ Some x → xs ≡ x ∷ drop 1 xs
-  at_first [] x is = absurd (none-some x is)
-  at_first (y ∷ ys) x is = ap (λ z. z ∷ ys) (ap (λ o. unwrap_or o y) is)
+  zeros_merged : (m n r : ℕ) → m ≡ 0 → n ≡ 0 → r < 2 ^ w → IsMergedBlock w merge m n r → r ≡ 0
+  zeros_merged m n r first second small is =
+      same_from_bits_below w r 0 small (pow_pos w) (λ i within.
+      let none = is.digit i within ∙ ap (λ k. merged_value merge (is_one k i) (is_one n i)) first ∙ ap (λ k. merged_value merge (is_one 0 i) (is_one k i)) second
+      ∙ ap (λ b. merged_value merge b (is_one 0 i)) (is_one-zero i) ∙ ap (merged_value merge false) (is_one-zero i) ∙ merged_value-none merge in
+      omega (arith, eqb-false (bit_at r i) 1 none, bit_at-lt r i, bit_at-zero i))
 
-  -- both sides pass the first block
-  pub both_passed : (xs xs' ys ys' : List X) (pulls pulls' : ℕ) (a b r : X) → slice_get xs 0 ≡ Some a → slice_get ys 0 ≡ Some b → xs' ≡ drop 1 xs → ys' ≡ drop 1 ys → IsMergedBlock w merge (number a) (number b) (number r) → pulls' ≡ pulls + 1
-      → PullsBlock w number (both_ahead xs ys pulls) (Some r) (both_ahead xs' ys' pulls')
-  both_passed xs xs' ys ys' pulls pulls' a b r first second first_left second_left is counted =
-      both_pulled xs xs' ys ys' pulls pulls' (Some a) (Some b) (Some r) (at_first xs a first ∙ ap (λ zs. a ∷ zs) (sym first_left)) (at_first ys b second ∙ ap (λ zs. b ∷ zs) (sym second_left)) is counted
+  -- both sides go on, or neither does
+  pub both_pulled_if : (is_block : X → Type 0) (wanted : Bool) (s s' t t' : Source X) (o p : Option X) (a b r : X) → o ≡ Some a → p ≡ Some b → PullsIf is_block number wanted s o s' → PullsIf is_block number wanted t p t' → number r < 2 ^ w
+      → IsMergedBlock w merge (number a) (number b) (number r) → PullsBlockIf w number wanted (both_ahead s.left t.left s.pulls) r (bool_byte wanted) (both_ahead s'.left t'.left s'.pulls)
+  both_pulled_if is_block true s s' t t' o p a b r first second next other small is =
+      let one = subst (λ q. YieldsFirst (λ u. u.left) s q s') first (next.pulled refl).item in
+      let two = subst (λ q. YieldsFirst (λ u. u.left) t q t') second (other.pulled refl).item in
+      inr (refl, refl, both_pulled s.left s'.left t.left t'.left s.pulls s'.pulls (Some a) (Some b) (Some r) one two is (next.pulled refl).counted)
+  both_pulled_if is_block false s s' t t' o p a b r first second next other small is =
+      let one = subst (λ q. IsSomeAnd q (λ x. is_block x × (number x ≡ 0))) first (next.zeros refl) in
+      let two = subst (λ q. IsSomeAnd q (λ x. is_block x × (number x ≡ 0))) second (other.zeros refl) in
+      inl (
+        refl,
+        zeros_merged (number a) (number b) (number r) one.1 two.1 small is,
+        same_both s.left s'.left t.left t'.left s.pulls s'.pulls (ap (λ u. u.left) (next.same refl)) (ap (λ u. u.left) (other.same refl)) (ap (λ u. u.pulls) (next.same refl)),
+      )
 
   -- ---- the making
 

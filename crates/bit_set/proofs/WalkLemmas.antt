@@ -10,7 +10,7 @@ use Rattle.bit_words.specs.Bits.{blocks_of, blocks_for}
 use Rattle.bit_words.specs.Lowest.{IsLowest, IsCleared}
 use Rattle.bit_words.proofs.BitsLemmas.{length-blocks_of}
 use Rattle.bit_set.specs.Sets.{elements_from, elements}
-use Rattle.bit_set.specs.Places.{digits_from, values_in, places, Ahead, PullsBlock, PullsWhere, IsWalkable, CanWalk}
+use Rattle.bit_set.specs.Places.{digits_from, values_in, places, Ahead, PullsBlock, PullsBlockIf, IsWalkable, CanWalk}
 use Rattle.bit_set.proofs.SetLemmas.{length-elements-le}
 use Rattle.bit_set.proofs.PlaceLemmas.{places-zero, places-next, places-lowest, length-digits_from, length-values_in, length-places-le, length-elements-block, elements-blocks_of, elements-below}
 
@@ -72,7 +72,7 @@ pub record WentOn (w place at m n : ℕ) (s t : Ahead) : Type 0 where
   pub pulled : t.pulls + t.blocks ≡ s.pulls + s.blocks
   pub along : at + w * t.blocks ≡ place + w * s.blocks
 
-pub went_on : {X : Type 0} (w place at m n : ℕ) (number : X → ℕ) (x : X) (count : ℕ) (wanted : Bool) (s t : Ahead) → CanWalk w place m s → (wanted ≡ true → m ≡ 0) → PullsWhere w number wanted s x count t → n ≡ m + number x → at ≡ place + count * w → WentOn w place at m n s t
+pub went_on : {X : Type 0} (w place at m n : ℕ) (number : X → ℕ) (x : X) (count : ℕ) (wanted : Bool) (s t : Ahead) → CanWalk w place m s → (wanted ≡ true → m ≡ 0) → PullsBlockIf w number wanted s x count t → n ≡ m + number x → at ≡ place + count * w → WentOn w place at m n s t
 went_on w place at m n number x count wanted s t can zero (inl none) sum there =
     let same_block : n ≡ m = omega (arith, sum, none.1) in
     let same_place : at ≡ place = there ∙ ap (λ k. place + k * w) none.0 ∙ omega arith in
@@ -93,7 +93,7 @@ went_on w place at m n number x count wanted s t can zero (inr one) sum there =
     subst (λ k. WentOn w place at m k s t) (sym next_block) (subst (λ k. WentOn w place k m (number x) s t) (sym next_place) went)
 
 -- the block in hand and the one that was pulled, one of which is zero
-pub sum_small : {X : Type 0} (w m : ℕ) (number : X → ℕ) (x : X) (count : ℕ) (wanted : Bool) (s t : Ahead) → m < 2 ^ w → number x < 2 ^ w → (wanted ≡ true → m ≡ 0) → PullsWhere w number wanted s x count t → m + number x < 2 ^ w
+pub sum_small : {X : Type 0} (w m : ℕ) (number : X → ℕ) (x : X) (count : ℕ) (wanted : Bool) (s t : Ahead) → m < 2 ^ w → number x < 2 ^ w → (wanted ≡ true → m ≡ 0) → PullsBlockIf w number wanted s x count t → m + number x < 2 ^ w
 sum_small w m number x count wanted s t small small_x zero (inl none) = omega (arith, small, none.1)
 sum_small w m number x count wanted s t small small_x zero (inr one) = let empty = zero one.1 in omega (arith, small_x, empty)
 

@@ -2,8 +2,10 @@ pub mod Bounds
 pub mod Sets
 pub mod Faults
 pub mod Effects
+pub mod Calls
 pub mod Room
 pub mod Walk
+pub mod Agreement
 pub mod Texts
 pub mod Order
 pub mod Differences

@@ -33,8 +33,8 @@ pub record PullsBlock {X : Type 0} (w : ℕ) (number : X → ℕ) (s : Ahead) (r
   pub counted : t.pulls ≡ s.pulls + 1
 
 -- a pull that may be left out: nothing and zero for a block, or, where it was wanted, the first block r
-abbrev pub PullsWhere : {X : Type 0} → ℕ → (X → ℕ) → Bool → Ahead → X → ℕ → Ahead → Type 0
-PullsWhere w number wanted s r count t = ((count ≡ 0) × (number r ≡ 0) × (t ≡ s)) ⊎ ((count ≡ 1) × (wanted ≡ true) × PullsBlock w number s (Some r) t)
+abbrev pub PullsBlockIf : {X : Type 0} → ℕ → (X → ℕ) → Bool → Ahead → X → ℕ → Ahead → Type 0
+PullsBlockIf w number wanted s r count t = ((count ≡ 0) × (number r ≡ 0) × (t ≡ s)) ⊎ ((count ≡ 1) × (wanted ≡ true) × PullsBlock w number s (Some r) t)
 
 -- of w digits, r has what those of m and n become
 pub record IsMergedBlock (w : ℕ) (merge : Merge) (m n r : ℕ) : Type 0 where

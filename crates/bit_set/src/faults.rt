@@ -1,7 +1,7 @@
-ghost use Rattle.std.specs.Prelude.{◌≡◌};
+ghost use Rattle.std.specs.Prelude.{◌≡◌, alloc_error};
 
 use crate::bit_vec::BitsError;
-use std::alloc::AllocError;
+use std::alloc::{AllocError, AllocFailed};
 use thiserror::Error;
 
 /// Why a set did not take something in.
@@ -25,6 +25,17 @@ impl From<AllocError> for SetError {
 
     fn from(fault: AllocError) -> SetError {
         SetError::Memory(fault)
+    }
+}
+
+// So that `?` serves a push to a `Vec` as well.
+impl<T: Drop> From<AllocFailed<T>> for SetError {
+    ghost use Rattle.bit_set.specs.declared.faults.SetError.TheVariants.{Memory};
+
+    ghost from_gives = { λ _ error. error ≡ Memory alloc_error };
+
+    fn from(_fault: AllocFailed<T>) -> SetError {
+        SetError::Memory(AllocError)
     }
 }
 

@@ -1,6 +1,6 @@
 //! The JSON form of sets: an object with the one member `bit_vec`, an object with the members
 //! `storage`, the numbers of the blocks, and `nbits`, the length.
-ghost use Rattle.std.specs.Prelude.{◌≡◌, ◌↔◌, ℕ, List, [], IfOk, IsErrOf, IsOk, length, map};
+ghost use Rattle.std.specs.Prelude.{◌≡◌, ◌↔◌, ℕ, List, [], alloc_error, IfOk, IsErrOf, IsOk, length, map};
 ghost use Rattle.bit_words.specs.Bits.{blocks_for, blocks_of, room_of};
 ghost use Rattle.serde_json.specs.View.{view};
 ghost use Rattle.bit_set.specs.Json.{IsFirstFault, Spells};
@@ -8,7 +8,7 @@ ghost use Rattle.std.specs.declared.alloc.AllocError.{AllocError};
 
 use crate::BitSet;
 use serde_json::Value;
-use std::alloc::{AllocError, Global};
+use std::alloc::{AllocError, AllocFailed, Global};
 use thiserror::Error;
 
 mod block;
@@ -52,6 +52,17 @@ impl From<AllocError> for JsonError {
     }
 }
 
+// So that `?` serves a push to a `Vec` as well.
+impl<T: Drop> From<AllocFailed<T>> for JsonError {
+    ghost use Rattle.bit_set.specs.declared.json.JsonError.TheVariants.{Memory};
+
+    ghost from_gives = { λ _ error. error ≡ Memory alloc_error };
+
+    fn from(_fault: AllocFailed<T>) -> JsonError {
+        JsonError::Memory(AllocError)
+    }
+}
+
 impl<B: JsonBlock> BitSet<B> {
     /// The value that spells the blocks and the length: an object with the one member `bit_vec`, an
     /// object with the members `storage`, the numbers of the blocks, and `nbits`, the length. One step a
@@ -66,9 +77,9 @@ impl<B: JsonBlock> BitSet<B> {
         form(alloc, storage, bits.len())
     }
 
-    /// The set that a value spells. One step a block and one an element. Asks for its blocks and no more.
-    /// All tests come before memory is asked for, and the first fault in the order of [`JsonError`] is
-    /// answered. `Memory` comes only where the value spells a set, and never where that has length 0.
+    /// The set that a value spells. One step a block and one an element. The capacity is that of its blocks.
+    /// The tests come first, and the first fault in the order of [`JsonError`] is returned. `Memory` comes
+    /// only where the value spells a set, and never where that has length 0.
     pub fn from_json(alloc: Global, value: &Value) -> Result<Self, JsonError>
         ensures ok { IfOk result (λ set. Spells B.width (view value.now) (blocks_of B.width set.values) (length set.values)) }
         ensures room { IfOk result (λ set. set.room ≡ room_of B.width (blocks_for B.width (length set.values))) }

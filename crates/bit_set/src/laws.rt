@@ -1,24 +1,30 @@
-//! Laws of sets of numbers, as the contracts of functions that do nothing. A set is the list of its
-//! members in strictly ascending order.
-ghost use Rattle.std.specs.Prelude.{◌≡◌, ℕ, ◌+◌, ◌-◌, ◌*◌, ◌/◌, ◌<◌, ◌≤◌, ◌↔◌, ◌++◌, ◌∷◌, ◌==◌, ◌&&◌, ◌||◌, max, min, not, nat_lt, nat_le, if◌then◌else◌, Bool, true, All, IsTrue, Some, None, Option, List, [], length, map, slice_get};
+//! Laws of sets of numbers, as the contracts of functions that do nothing; one of them is in a body too,
+//! which proves it and does nothing else. A set is the list of its members in strictly ascending order.
+ghost use Rattle.std.specs.Prelude.{◌≡◌, ◌≢◌, ℕ, ◌+◌, ◌-◌, ◌*◌, ◌/◌, ◌<◌, ◌≤◌, ◌↔◌, ◌++◌, ◌∷◌, ◌==◌, ◌&&◌, ◌||◌, max, min, not, nat_lt, nat_le, if◌then◌else◌, Bool, true, All, IsTrue, Some, None, Option, List, [], length, map, slice_get};
 ghost use Rattle.std.specs.FinSet as set;
 ghost use Rattle.std.specs.Cmp.{IsEquivalence, IsTotalOrder};
 ghost use Rattle.std.specs.Ordering.{nat_cmp};
 ghost use Rattle.std.specs.Iterator.{YieldsThen, Drains};
 ghost use Rattle.bit_words.specs.Bits.{blocks_for, blocks_of, true_end};
 ghost use Rattle.serde_json.specs.Data.{Data};
+ghost use Rattle.bit_set.specs.Agreement.{WalksAgree};
+ghost use Rattle.bit_set.specs.Calls.{Change, Changes, Event, Happens, outcomes, set_after};
+ghost use Rattle.bit_set.specs.Calls.Outcome.{Done, NoMemory};
+ghost use Rattle.bit_set.specs.Effects.{TakesIn};
 ghost use Rattle.bit_set.specs.Room.{Call, Run, room_wanted};
 ghost use Rattle.bit_set.specs.Json.{IsFirstFault, Spells};
 ghost use Rattle.bit_set.specs.declared.json.JsonError.{JsonError};
-ghost use Rattle.bit_set.specs.Walk.{Walk, TwoSetWalk, BoundedWalk, IsWalkedOut, IsAtStart, WalksOverTwo, blocks_past};
+ghost use Rattle.bit_set.specs.Walk.{Walk, TwoSetWalk, BoundedWalk, IsWalkedOut, IsAtStart, StartsOverTwo, WalksOverTwo, blocks_past};
 ghost use Rattle.bit_words.specs.Merges.{merged_value, merged};
 ghost use Rattle.bit_words.specs.declared.bit_vec.merge.Merge.{Merge};
 ghost use Rattle.bit_set.specs.Sets.{IsAscending, has, put, put_all, without, those_below, those_from, elements, bound_of, union, intersection, difference, symmetric_difference, merged_sets, is_subset, is_disjoint};
 ghost use Rattle.bit_set.specs.Order.{same_sets, order_of_sets, fed_of_set};
 
 use crate::bit_vec::Merge;
-use crate::{BitBlock, Difference, Intersection, Iter, SymmetricDifference, Union};
+use crate::{BitBlock, BitSet, Difference, Intersection, Iter, SymmetricDifference, Union};
 use std::cmp::Ordering;
+use std::fmt::Display;
+use std::hash::Hash;
 
 /// What each operation does to the members of a set.
 pub fn members_of_sets()
@@ -230,4 +236,89 @@ pub fn values_have_one_reading()
     ensures elements { (w : ℕ) (value : Data) (a b : List Bool) → 0 < w → Spells w value (blocks_of w a) (length a) → Spells w value (blocks_of w b) (length b) → elements a ≡ elements b }
     ensures no_fault { (w : ℕ) (value : Data) (ms : List ℕ) (n : ℕ) (fault : JsonError) → Spells w value ms n → ¬ IsFirstFault w value fault }
     ensures one_fault { (w : ℕ) (value : Data) (a b : JsonError) → IsFirstFault w value a → IsFirstFault w value b → a ≡ b }
+{}
+
+/// What calls make of a set, one after another, where each finds memory. The elements are those of set
+/// algebra, and so is how each call returns: no block, length or capacity decides. So two sets of the same
+/// elements, over any two block types, have the same elements after the same calls, which return the same.
+/// The clause `changes` of each call says what it does; `extend` is given the items that went in, those of
+/// its `TakesIn`.
+pub fn calls_are_set_algebra()
+    ensures elements { (old new : List Bool) (events : List Event) → All (λ e. e.outcome ≢ NoMemory) events
+        → Happens old events new → elements new ≡ set_after (elements old) (map (λ e. e.call) events) }
+    ensures outcomes { (old new : List Bool) (events : List Event) → All (λ e. e.outcome ≢ NoMemory) events
+        → Happens old events new
+        → map (λ e. e.outcome) events ≡ outcomes (elements old) (map (λ e. e.call) events) }
+    ensures agree { (a b new_a new_b : List Bool) (events others : List Event) → elements a ≡ elements b
+        → map (λ e. e.call) events ≡ map (λ e. e.call) others
+        → All (λ e. e.outcome ≢ NoMemory) events → All (λ e. e.outcome ≢ NoMemory) others
+        → Happens a events new_a → Happens b others new_b
+        → (elements new_a ≡ elements new_b) × (map (λ e. e.outcome) events ≡ map (λ e. e.outcome) others) }
+    ensures extend { (items : List ℕ) (old new : List Bool) → TakesIn items old new
+        → Changes (Change.Extend items) old Done new }
+{}
+
+/// No test sees blocks, lengths or capacities. Over any two block types, where `a` has the elements of `b`
+/// and `s` those of `t`, each test returns of `a` and `s` what it returns of `b` and `t`, as the body proves;
+/// a hasher is fed the same, and Display writes the same.
+pub fn tests_agree<A: BitBlock, B: BitBlock>(
+    a: &BitSet<A>,
+    s: &BitSet<A>,
+    b: &BitSet<B>,
+    t: &BitSet<B>,
+    value: usize,
+)
+    requires first { elements a.now.values ≡ elements b.now.values }
+    requires second { elements s.now.values ≡ elements t.now.values }
+    ensures feed { ⟦<BitSet<A> as Hash>⟧.hash_input a.now ≡ ⟦<BitSet<B> as Hash>⟧.hash_input b.now }
+    ensures text { ⟦<BitSet<A> as Display>⟧.output a.now ≡ ⟦<BitSet<B> as Display>⟧.output b.now }
+{
+    prove!(a.contains(value) == b.contains(value));
+    prove!(a.count() == b.count());
+    prove!(a.len() == b.len());
+    prove!(a.is_empty() == b.is_empty());
+    prove!(a.is_subset(s) == b.is_subset(t));
+    prove!(a.is_superset(s) == b.is_superset(t));
+    prove!(a.is_disjoint(s) == b.is_disjoint(t));
+    prove!((a == s) == (b == t));
+    prove!(a.cmp(s) == b.cmp(t));
+    prove!(a.partial_cmp(s) == b.partial_cmp(t));
+}
+
+/// No walk gives away blocks, lengths or capacities by its items. Over any two block types, two walks of a
+/// kind that have the same elements left give the same from there on, step by step and up to the first
+/// `None`. They have so where they were made of sets of the same elements, after as many items, and where
+/// one is a `clone`; and `count` is the number of elements left.
+pub fn walks_agree<A: BitBlock + 'static, B: BitBlock + 'static>()
+    ensures iter { WalksAgree (λ walk. walk.left) ⟦<Iter<'static, A> as Iterator>⟧.next_gives
+        (λ walk. walk.left) ⟦<Iter<'static, B> as Iterator>⟧.next_gives }
+    ensures union { WalksAgree (λ walk. walk.left) ⟦<Union<'static, A> as Iterator>⟧.next_gives
+        (λ walk. walk.left) ⟦<Union<'static, B> as Iterator>⟧.next_gives }
+    ensures intersection { WalksAgree (λ it. it.walk.left) ⟦<Intersection<'static, A> as Iterator>⟧.next_gives
+        (λ it. it.walk.left) ⟦<Intersection<'static, B> as Iterator>⟧.next_gives }
+    ensures difference { WalksAgree (λ walk. walk.left) ⟦<Difference<'static, A> as Iterator>⟧.next_gives
+        (λ walk. walk.left) ⟦<Difference<'static, B> as Iterator>⟧.next_gives }
+    ensures symmetric_difference { WalksAgree
+        (λ walk. walk.left) ⟦<SymmetricDifference<'static, A> as Iterator>⟧.next_gives
+        (λ walk. walk.left) ⟦<SymmetricDifference<'static, B> as Iterator>⟧.next_gives }
+{}
+
+/// How often a full walk pulls, from its making up to its first `None`: at most two more than there are
+/// blocks, over two sets of the one that has more.
+pub fn full_walks<B: BitBlock + 'static>()
+    ensures iter { (a : List Bool) (s t : Walk) (items : List ℕ) → IsAtStart B.width a s
+        → YieldsThen ⟦<Iter<'static, B> as Iterator>⟧.next_gives s items None t
+        → t.pulls ≤ blocks_for B.width (length a) + 2 }
+    ensures union { (a b : List Bool) (s t : TwoSetWalk) (items : List ℕ) → StartsOverTwo B.width a b s
+        → YieldsThen ⟦<Union<'static, B> as Iterator>⟧.next_gives s items None t
+        → t.pulls ≤ max (blocks_for B.width (length a)) (blocks_for B.width (length b)) + 2 }
+    ensures intersection { (a b : List Bool) (s t : BoundedWalk) (items : List ℕ) → StartsOverTwo B.width a b s.walk
+        → YieldsThen ⟦<Intersection<'static, B> as Iterator>⟧.next_gives s items None t
+        → t.walk.pulls ≤ max (blocks_for B.width (length a)) (blocks_for B.width (length b)) + 2 }
+    ensures difference { (a b : List Bool) (s t : TwoSetWalk) (items : List ℕ) → StartsOverTwo B.width a b s
+        → YieldsThen ⟦<Difference<'static, B> as Iterator>⟧.next_gives s items None t
+        → t.pulls ≤ max (blocks_for B.width (length a)) (blocks_for B.width (length b)) + 2 }
+    ensures symmetric_difference { (a b : List Bool) (s t : TwoSetWalk) (items : List ℕ)
+        → StartsOverTwo B.width a b s → YieldsThen ⟦<SymmetricDifference<'static, B> as Iterator>⟧.next_gives s items None t
+        → t.pulls ≤ max (blocks_for B.width (length a)) (blocks_for B.width (length b)) + 2 }
 {}

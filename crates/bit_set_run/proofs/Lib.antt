@@ -1,5 +1,4 @@
 pub mod CutLemmas
-pub mod ExitLemmas
 pub mod LineLemmas
 pub mod OutputLemmas
 pub mod ReadingLemmas

@@ -1,16 +1,18 @@
 -- What single commands rest on: items up to the greatest number, walks, and an array of sets.
-use Rattle.std.proofs.Common.{◌≡◌, ◌==◌, if◌then◌else◌, cond, not, Bool, ℕ, ◌+◌, ◌<◌, ◌≤◌, true, false, eqb, List, [], ◌∷◌, ◌++◌, length, get_or, take, drop, map, set, Some, refl, sym, ap, ◌∙◌, arith}
+use Rattle.std.proofs.Common.{◌≡◌, ◌==◌, if◌then◌else◌, cond, not, Bool, ℕ, ◌+◌, ◌<◌, ◌≤◌, true, false, eqb, List, [], ◌∷◌, ◌++◌, length, get_or, take, drop, map, set, Some, refl, sym, subst, ap, ◌∙◌, arith}
 use Rattle.std.proofs.lemmas.Bool.{ne_eqb}
-use Rattle.std.proofs.lemmas.List.{append_assoc, take_more, take-append-drop, map-id, set-set, set-get_or, map-set, get_or-map, get_or-set_other, set_comm}
+use Rattle.std.proofs.lemmas.List.{append_assoc, take_more, take-append-drop, map-id, set-set, set-get_or, map-set, get_or-map, get_or-set_other, get_or_default, set_comm}
+use Rattle.std.proofs.lemmas.List.Elements.{All-take}
 use Rattle.std.proofs.lemmas.Iterator.{YieldsList, YieldsList-from_slice}
 use Rattle.std.proofs.lemmas.Iterator.Consumers.{YieldsList-from_copied, YieldsList-so_far, YieldsList-turn}
 use Rattle.std.proofs.Common.{Iter}
 use Rattle.std.specs.declared.iter.Copied.{Copied}
 use Rattle.std.proofs.iter.Yields.{copies, fronts}
-use Rattle.std.specs.Iterator.{YieldsThen}
-use Rattle.std.specs.List.{list_any}
+use Rattle.std.specs.Iterator.{HoldsAlong, YieldsThen}
+use Rattle.std.specs.List.{All, list_any}
 use Rattle.bit_set.specs.Bits.{Bits}
 use Rattle.bit_set.specs.Sets.{bound_of, elements, elements_from, has, put, union}
+use Rattle.bit_set_run.specs.Capacities.{bits_at, Becomes, GrowsTo}
 use Rattle.bit_set_run.specs.Kept.{kept}
 use Rattle.bit_set_run.specs.declared.commands.Command.TheVariants.{Insert}
 use Rattle.bit_set_run.specs.declared.commands.Reply.TheVariants.{Truth, Element}
@@ -75,7 +77,7 @@ two_are sets s t first second first_is second_is one two =
     ∙ ap (λ x. set (set (map kept sets) s first_is) t x) two
 
 -- a set of the array is changed while another was taken out, and that one is put back
-put_back_beside : (sets : List Bits) (to from : ℕ) (gone set_now other_now : Bits) → (to ≡ from → ⊥) → set (set (set sets from gone) to set_now) from other_now ≡ set (set sets to set_now) from other_now
+pub put_back_beside : (sets : List Bits) (to from : ℕ) (gone set_now other_now : Bits) → (to ≡ from → ⊥) → set (set (set sets from gone) to set_now) from other_now ≡ set (set sets to set_now) from other_now
 put_back_beside sets to from gone set_now other_now apart =
     ap (λ l. set l from other_now) (set_comm sets from to gone set_now (λ e. apart (sym e))) ∙ set-set (set sets to set_now) from gone other_now
 
@@ -90,17 +92,16 @@ appended_to sets to from gone old set_now source other_now at within apart was i
     (joined ∙ ap (λ s. union s (kept source)) own ∙ ap (union (get_or (map kept sets) to [])) other) emptied
 
 -- both are as they were
-pub put_back_both : (sets : List Bits) (to from : ℕ) (gone set_now other_now : Bits) → (to ≡ from → ⊥) → set_now ≡ get_or (set sets from gone) to set_now → other_now ≡ get_or sets from other_now → map kept (set (set (set sets from gone) to set_now) from other_now) ≡ map kept sets
+pub put_back_both : (sets : List Bits) (to from : ℕ) (gone set_now other_now : Bits) → (to ≡ from → ⊥) → set_now ≡ get_or (set sets from gone) to set_now → other_now ≡ get_or sets from other_now → set (set (set sets from gone) to set_now) from other_now ≡ sets
 put_back_both sets to from gone set_now other_now apart was is =
     let there : set_now ≡ get_or sets to set_now = was ∙ get_or-set_other sets from to gone set_now apart in
     let one : set sets to set_now ≡ sets = ap (λ s. set sets to s) there ∙ set-get_or sets to set_now in
     let two : set sets from other_now ≡ sets = ap (λ s. set sets from s) is ∙ set-get_or sets from other_now in
-    ap (map kept) (put_back_beside sets to from gone set_now other_now apart ∙ ap (λ l. set l from other_now) one ∙ two)
+    put_back_beside sets to from gone set_now other_now apart ∙ ap (λ l. set l from other_now) one ∙ two
 
 -- a set that is put back where it was taken
-pub put_back : (sets : List Bits) (to : ℕ) (gone set_now : Bits) → set_now ≡ get_or sets to set_now → map kept (set (set sets to gone) to set_now) ≡ map kept sets
-put_back sets to gone set_now at =
-    ap (map kept) (set-set sets to gone set_now ∙ ap (λ s. set sets to s) at ∙ set-get_or sets to set_now)
+pub put_back : (sets : List Bits) (to : ℕ) (gone set_now : Bits) → set_now ≡ get_or sets to set_now → set (set sets to gone) to set_now ≡ sets
+put_back sets to gone set_now at = set-set sets to gone set_now ∙ ap (λ s. set sets to s) at ∙ set-get_or sets to set_now
 
 -- the set of a name is the one at its place
 pub set_at : (sets : List Bits) (place name : ℕ) (d : Bits) → place ≡ name → place < length sets → get_or (map kept sets) name [] ≡ kept (get_or sets place d)
@@ -124,6 +125,25 @@ sets-insert sets name n =
       | false ↦ refl
     ]
 
+-- what was read at a place is the set there
+pub read_at : (sets : List Bits) (place : ℕ) (set_read : Bits) → place < length sets → set_read ≡ get_or sets place set_read → set_read ≡ bits_at sets place
+read_at sets place set_read within is = is ∙ get_or_default sets place set_read record { values = []; room = 0 } within
+
+-- the same where another set was taken out
+pub read_beside : (sets : List Bits) (place gone_from : ℕ) (gone set_read : Bits) → place < length sets → (place ≡ gone_from → ⊥) → set_read ≡ get_or (set sets gone_from gone) place set_read → set_read ≡ bits_at sets place
+read_beside sets place gone_from gone set_read within apart is =
+    read_at sets place set_read within (is ∙ get_or-set_other sets gone_from place gone set_read apart)
+
+-- a set grows to the length of another, both read at their places
+pub grows_along : (set_read other_read set_at other_at after : Bits) → set_read ≡ set_at → other_read ≡ other_at → GrowsTo (length other_read.values) set_read after → GrowsTo (length other_at.values) set_at after
+grows_along set_read other_read set_at other_at after set_is other_is grown =
+    subst (λ s. GrowsTo (length other_at.values) s after) set_is (subst (λ s. GrowsTo (length s.values) set_read after) other_is grown)
+
+-- a set is taken out, changed and put back
+pub changed_outside : (sets : List Bits) (place : ℕ) (gone set_read set_now : Bits) (Change : Bits → Bits → Type 0) → place < length sets → set_read ≡ get_or sets place set_read → Change set_read set_now → Becomes sets place Change (set (set sets place gone) place set_now)
+changed_outside sets place gone set_read set_now Change within is changed =
+    (set_now, set-set sets place gone set_now, subst (λ s. Change s set_now) (read_at sets place set_read within is) changed)
+
 -- the items that a copied slice gave before one more
 pub copied_before : (s u : Copied (Iter ℕ)) (all items : List ℕ) (item : ℕ) → s.iter.rest.now ≡ all → YieldsThen (copies fronts) s items (Some item) u → all ≡ items ++ item ∷ drop (length items + 1) all
 copied_before s u all items item shown run =
@@ -132,3 +152,10 @@ copied_before s u all items item shown run =
     let so_far = YieldsList-so_far yields items run.0 run.1 in
     let turn = YieldsList-turn yields items run.0 run.1 (Some item) u item refl run.2 in
     stands_before all items item (sym (map-id items) ∙ so_far) turn.0 turn.1
+
+-- what holds of each item of a slice holds of those that copies of it gave
+pub copied_along : (s : Copied (Iter ℕ)) (all : List ℕ) (P : ℕ → Type 0) → s.iter.rest.now ≡ all → All P all → HoldsAlong (copies fronts) s (All P)
+copied_along s all P shown each = λ items t run.
+    let yields : YieldsList (copies fronts) (λ x. x) s all = YieldsList-from_copied {s = s} (YieldsList-from_slice all shown) in
+    let so_far = YieldsList-so_far yields items t run in
+    subst (All P) (sym (sym (map-id items) ∙ so_far)) (All-take P (length items) all each)

@@ -1,9 +1,9 @@
 -- Reads and writes one after another, at a reader and a writer that tell their bytes.
 use Rattle.std.proofs.Common.{◌≡◌, ℕ, ◌+◌, ◌<◌, ◌≤◌, List, [], ◌++◌, length, take, drop, Option, refl, sym, ap, ◌∙◌, append_assoc, arith}
-use Rattle.std.proofs.KnownBytes.{Appends-kept, Appends-nil, Appends-trans, Consumes-trans}
-use Rattle.std.proofs.lemmas.List.{append-nil, take-append-drop, length-append, length-take-le, take-append-le}
-use Rattle.std.specs.Io.KnownBytes.{Consumes, Appends, Keeps}
-use Rattle.bit_set_run.specs.Streams.{limit, GaveAtMost, GaveCount, HoldsBeginning}
+use Rattle.std.proofs.KnownBytes.{Appends-nil, Appends-trans, Consumes-trans}
+use Rattle.std.proofs.lemmas.List.{take-append-drop, length-append, length-take-le, take-append-le}
+use Rattle.std.specs.Io.KnownBytes.{Consumes, Appends}
+use Rattle.bit_set_run.specs.Streams.{limit, GaveCount, GaveSome}
 
 -- the bytes so far, and a read more
 pub record HasRead (old new : Option (List ℕ)) (input : List ℕ) (turns : ℕ) : Type 0 where
@@ -26,17 +26,6 @@ HasSent-more old mid new text rest n so_far write = record {
   parts = so_far.parts ∙ ap (λ t. so_far.sent ++ t) (sym (take-append-drop n rest)) ∙ sym (append_assoc so_far.sent (take n rest) (drop n rest));
   written = Appends-trans old mid new so_far.sent (take n rest) so_far.written write;
 }
-
--- what was sent before a write that failed is a beginning
-pub HoldsBeginning-failed : (old mid new : Option (List ℕ)) (text rest : List ℕ) → HasSent old mid text rest → Keeps mid new → HoldsBeginning old new text
-HoldsBeginning-failed old mid new text rest so_far kept =
-    record { sent = so_far.sent; unsent = rest; parts = so_far.parts; written = Appends-kept old mid new so_far.sent so_far.written kept }
-
--- with no rest, all was sent
-pub Appends-all : (old mid new : Option (List ℕ)) (text : List ℕ) → HasSent old mid text [] → Keeps mid new → Appends old new text
-Appends-all old mid new text so_far kept =
-    let whole : text ≡ so_far.sent = so_far.parts ∙ append-nil so_far.sent in
-    rw whole (Appends-kept old mid new so_far.sent so_far.written kept)
 
 pub HasRead-more :
     (old mid new : Option (List ℕ)) (input buffer behind : List ℕ) (turns n : ℕ)
@@ -62,13 +51,7 @@ GaveCount-past old mid new input buffer turns n so_far read within room past = r
   count_is = let long : length (take n buffer) ≡ n = length-take-le n buffer within in rw (length-append, long) (omega (arith, within, room, past));
 }
 
--- a read more, of which nothing else is known
-pub GaveAtMost-more :
-    (old mid new : Option (List ℕ)) (input buffer : List ℕ) (turns n : ℕ)
-    → HasRead old mid input turns → Consumes mid new (take n buffer) → n ≤ length buffer → length input + length buffer ≤ limit + 1
-    → GaveAtMost old new (limit + 1)
-GaveAtMost-more old mid new input buffer turns n so_far read within room = record {
-  bytes = input ++ take n buffer;
-  taken = Consumes-trans old mid new input (take n buffer) so_far.taken read;
-  few = let long : length (take n buffer) ≡ n = length-take-le n buffer within in rw (length-append, long) (omega (arith, within, room));
-}
+-- what was read after one turn at least
+pub GaveSome-read : (old new : Option (List ℕ)) (input : List ℕ) (turns : ℕ) → HasRead old new input (turns + 1) → GaveSome old new limit
+GaveSome-read old new input turns so_far =
+    record { bytes = input; taken = so_far.taken; some = omega (arith, so_far.turn); few = so_far.small }

@@ -17,14 +17,24 @@ takes [] = true
 takes (word ∷ []) = names_block word
 takes (word ∷ more ∷ words) = false
 
--- the statuses, and what is said at each
-pub data IsExit : ℕ → List ℕ → Type 0 where
-  done : IsExit 0 []
-  misused : IsExit 2 (codes "usage: bitset [u8|u16|u32|u64|usize|u128]")
-  refused : IsExit 3 (codes "memory refused")
-  unread : IsExit 4 (codes "read failed")
-  unwritten : IsExit 4 (codes "write failed")
-  too_large : IsExit 5 (codes "input too large")
+-- what is said of other words, at status 2
+abbrev pub usage : List ℕ
+usage = codes "usage: bitset [u8|u16|u32|u64|usize|u128]"
+
+-- the status at each outcome of answering lines, and what is said there
+abbrev pub status_at : {X : Type 0} → Result X LinesFault → ℕ
+status_at (Ok x) = 0
+status_at (Err Memory) = 3
+status_at (Err Read) = 4
+status_at (Err Write) = 4
+status_at (Err TooLarge) = 5
+
+abbrev pub said_at : {X : Type 0} → Result X LinesFault → List ℕ
+said_at (Ok x) = []
+said_at (Err Memory) = codes "memory refused"
+said_at (Err Read) = codes "read failed"
+said_at (Err Write) = codes "write failed"
+said_at (Err TooLarge) = codes "input too large"
 
 -- The block type that a word names. No public clause cites this.
 abbrev pub type_named : List ℕ → Option BlockType
@@ -42,18 +52,3 @@ abbrev pub type_chosen : List (List ℕ) → Option BlockType
 type_chosen [] = Some U32
 type_chosen (word ∷ []) = type_named word
 type_chosen (word ∷ more ∷ words) = None
-
--- The status at an end of the lines, and what is said there. No public clause cites these.
-abbrev pub status_at : {X : Type 0} → Result X LinesFault → ℕ
-status_at (Ok nothing) = 0
-status_at (Err Memory) = 3
-status_at (Err Read) = 4
-status_at (Err Write) = 4
-status_at (Err TooLarge) = 5
-
-abbrev pub said_at : {X : Type 0} → Result X LinesFault → List ℕ
-said_at (Ok nothing) = []
-said_at (Err Memory) = codes "memory refused"
-said_at (Err Read) = codes "read failed"
-said_at (Err Write) = codes "write failed"
-said_at (Err TooLarge) = codes "input too large"

@@ -1,5 +1,6 @@
-pub mod Answered
+pub mod Capacities
 pub mod Cuts
+pub mod Ended
 pub mod Exits
 pub mod Kept
 pub mod Lines

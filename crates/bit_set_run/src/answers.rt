@@ -1,6 +1,6 @@
 //! An input answered, a line at a time.
 
-ghost use Rattle.std.specs.Prelude.{◌≡◌, [], ◌∷◌, ◌++◌, IfOk, OnOk};
+ghost use Rattle.std.specs.Prelude.{◌≡◌, ◌≢◌, [], ◌∷◌, ◌++◌, IfOk, OnOk, OnErr};
 ghost use Rattle.bit_set_run.specs.Output.{answer_to, output, sets_after};
 ghost use Rattle.bit_set_run.specs.Reading.{reading};
 
@@ -11,9 +11,10 @@ use crate::{Reply, Table, run};
 use bit_set::BitBlock;
 use std::alloc::{AllocError, Global};
 
-/// What the program writes for the input: for each of its lines a text and a newline.
+/// What the program writes for the input: for each of its lines a text and a newline. An empty input takes no memory.
 pub(crate) fn output<B: BitBlock>(alloc: Global, input: &[u8]) -> Result<Vec<u8>, AllocError>
-    ensures { IfOk result (λ text. text.items ≡ output input.now) }
+    ensures text { IfOk result (λ text. text.items ≡ output input.now) }
+    ensures refused { OnErr result (input.now ≢ []) }
 {
     let mut table = Table::<B>::new(alloc);
     let mut replies = Vec::new(alloc);

@@ -1,6 +1,4 @@
-ghost use Rattle.std.specs.Prelude.{◌≡◌, ◌+◌, IfSome, OnOk};
-ghost use Rattle.bit_set_run.specs.Streams.{limit, GaveAtMost, GaveCount};
-ghost use Rattle.bit_set_run.specs.Answered.{IsAnswered, IsCutOff};
+ghost use Rattle.bit_set_run.specs.Ended.{HasEnded};
 
 use crate::LinesFault;
 use crate::answers::output;
@@ -21,19 +19,7 @@ pub fn run_lines<B: BitBlock, R: Read, W: Write>(
     reader: &mut R,
     writer: &mut W,
 ) -> Result<(), LinesFault>
-    ensures answered { OnOk result (IfSome (R.remaining reader.old)
-        (IsAnswered (R.remaining reader.new) (W.contents writer.old) (W.contents writer.new))) }
-    ensures write { result ≡ Err LinesFault.Write → IfSome (R.remaining reader.old)
-        (IsCutOff (R.remaining reader.new) (W.contents writer.old) (W.contents writer.new)) }
-
-    // One byte past the limit is read at most, and at `TooLarge` it was.
-    ensures few { GaveAtMost (R.remaining reader.old) (R.remaining reader.new) (limit + 1) }
-    ensures too_large { result ≡ Err LinesFault.TooLarge → GaveCount (R.remaining reader.old) (R.remaining reader.new) (limit + 1) }
-
-    // Nothing is written before the whole output is there.
-    ensures read_unwritten { result ≡ Err LinesFault.Read → writer.new ≡ writer.old }
-    ensures too_large_unwritten { result ≡ Err LinesFault.TooLarge → writer.new ≡ writer.old }
-    ensures memory_unwritten { result ≡ Err LinesFault.Memory → writer.new ≡ writer.old }
+    ensures { HasEnded result (R.remaining reader.old) (R.remaining reader.new) W.contents writer.old writer.new }
 {
     let input = read_input(alloc, reader)?;
     let text = output::<B>(alloc, input.as_slice())?;

@@ -1,17 +1,38 @@
 ghost use Rattle.std.specs.Prelude.{◌≡◌, ℕ, ◌≤◌, ◌⊎◌, List, ◌++◌, [], ◌∷◌, IfOk, OnOk, OnErr, vec_len, vec_capacity};
+ghost use Rattle.bit_set.specs.Bounds.{greatest};
+ghost use Rattle.bit_set_run.specs.declared.running.RunFault.TheVariants.{Memory};
 ghost use Rattle.bit_set_run.specs.Run.{step, run_of, RefusedBy, StoppedAt};
 
 use crate::{Command, Reply, Table};
 use bit_set::BitBlock;
-use std::alloc::{AllocError, Global};
+use std::alloc::{AllocError, AllocFailed, Global};
 use thiserror::Error;
 
 /// Why a run of commands stopped.
 #[derive(Clone, Copy, Debug, PartialEq, Eq, Error)]
 pub enum RunFault {
     /// Memory was refused at the command of this place, counted from 0. Those before it were executed and answered.
+    ///
+    /// `?` makes an [`AllocError`] or an [`AllocFailed`] of another call `usize::MAX`, the place of no command: [`run`]
+    /// never returns it.
     #[error("memory refused")]
     Memory(usize),
+}
+
+impl From<AllocError> for RunFault {
+    ghost from_gives = { λ _ fault. fault ≡ Memory greatest };
+
+    fn from(_refusal: AllocError) -> Self {
+        RunFault::Memory(usize::MAX)
+    }
+}
+
+impl<T: Drop> From<AllocFailed<T>> for RunFault {
+    ghost from_gives = { λ _ fault. fault ≡ Memory greatest };
+
+    fn from(_refusal: AllocFailed<T>) -> Self {
+        RunFault::Memory(usize::MAX)
+    }
 }
 
 /// Executes the commands on the table, one after another, and appends a reply for each.

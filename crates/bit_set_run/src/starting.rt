@@ -1,10 +1,9 @@
-ghost use Rattle.std.specs.Prelude.{◌≡◌, ℕ, ◌+◌, ◌↔◌, ◌⊎◌, false, map, string_bytes, codes, is_some, IfSome};
-ghost use Rattle.bit_set_run.specs.Exits.{takes, names_block, said_at, status_at, type_chosen, type_named, IsExit};
-ghost use Rattle.bit_set_run.specs.Streams.{limit, GaveAtMost, GaveCount};
-ghost use Rattle.bit_set_run.specs.Answered.{IsAnswered, IsCutOff};
+ghost use Rattle.std.specs.Prelude.{◌≡◌, ◌↔◌, IsTrue, false, map, string_bytes, is_some, Result};
+ghost use Rattle.bit_set_run.specs.Ended.{HasEnded};
+ghost use Rattle.bit_set_run.specs.Exits.{takes, names_block, said_at, status_at, type_chosen, type_named, usage};
+ghost use Rattle.bit_set_run.specs.declared.streams.LinesFault.{LinesFault};
 
 use crate::{LinesFault, run_lines};
-use bit_set::BitBlock;
 use std::alloc::Global;
 use std::io::{Read, Write};
 
@@ -33,57 +32,43 @@ pub fn start<R: Read, W: Write>(
     reader: &mut R,
     writer: &mut W,
 ) -> Exit
-    ensures exit { IsExit result.status result.text.now }
-
     // The words are looked at first, and nothing else is done where they are not the program's.
     ensures misused { (result.status ≡ 2) ↔ (takes (map string_bytes words.now) ≡ false) }
+    ensures misused_text { result.status ≡ 2 → result.text.now ≡ usage }
     ensures misused_unread { result.status ≡ 2 → reader.new ≡ reader.old }
     ensures misused_unwritten { result.status ≡ 2 → writer.new ≡ writer.old }
 
-    // Otherwise the status says how the lines went.
-    ensures answered { result.status ≡ 0 → IfSome (R.remaining reader.old)
-        (IsAnswered (R.remaining reader.new) (W.contents writer.old) (W.contents writer.new)) }
-    ensures refused { result.status ≡ 3 → writer.new ≡ writer.old }
-    ensures unread { result.text.now ≡ codes "read failed" → writer.new ≡ writer.old }
-    ensures unwritten { result.text.now ≡ codes "write failed" → IfSome (R.remaining reader.old)
-        (IsCutOff (R.remaining reader.new) (W.contents writer.old) (W.contents writer.new)) }
-    ensures few { GaveAtMost (R.remaining reader.old) (R.remaining reader.new) (limit + 1) }
-    ensures too_large { result.status ≡ 5 → GaveCount (R.remaining reader.old) (R.remaining reader.new) (limit + 1) }
-    ensures too_large_unwritten { result.status ≡ 5 → writer.new ≡ writer.old }
+    // Otherwise the lines were answered, and the exit is that of how this ended.
+    ensures ended { IsTrue (takes (map string_bytes words.now)) → (outcome : Result Unit LinesFault)
+        × (result.status ≡ status_at outcome) × (result.text.now ≡ said_at outcome)
+        × HasEnded outcome (R.remaining reader.old) (R.remaining reader.new) W.contents writer.old writer.new }
 {
     match block_type(words) {
         None => Exit {
             status: 2,
             text: "usage: bitset [u8|u16|u32|u64|usize|u128]",
         },
-        Some(BlockType::U8) => answer_lines::<u8, R, W>(alloc, reader, writer),
-        Some(BlockType::U16) => answer_lines::<u16, R, W>(alloc, reader, writer),
-        Some(BlockType::U32) => answer_lines::<u32, R, W>(alloc, reader, writer),
-        Some(BlockType::U64) => answer_lines::<u64, R, W>(alloc, reader, writer),
-        Some(BlockType::Usize) => answer_lines::<usize, R, W>(alloc, reader, writer),
-        Some(BlockType::U128) => answer_lines::<u128, R, W>(alloc, reader, writer),
+        Some(block_type) => exit_of(answer_lines(alloc, block_type, reader, writer)),
     }
 }
 
-// The lines of the reader answered over this type of blocks, as an exit.
-fn answer_lines<B: BitBlock, R: Read, W: Write>(
+// The lines of the reader answered over this type of blocks.
+fn answer_lines<R: Read, W: Write>(
     alloc: Global,
+    block_type: BlockType,
     reader: &mut R,
     writer: &mut W,
-) -> Exit
-    ensures exit { IsExit result.status result.text.now }
-    ensures used { (result.status ≡ 2) → ⊥ }
-    ensures answered { result.status ≡ 0 → IfSome (R.remaining reader.old)
-        (IsAnswered (R.remaining reader.new) (W.contents writer.old) (W.contents writer.new)) }
-    ensures refused { result.status ≡ 3 → writer.new ≡ writer.old }
-    ensures unread { result.text.now ≡ codes "read failed" → writer.new ≡ writer.old }
-    ensures unwritten { result.text.now ≡ codes "write failed" → IfSome (R.remaining reader.old)
-        (IsCutOff (R.remaining reader.new) (W.contents writer.old) (W.contents writer.new)) }
-    ensures few { GaveAtMost (R.remaining reader.old) (R.remaining reader.new) (limit + 1) }
-    ensures too_large { result.status ≡ 5 → GaveCount (R.remaining reader.old) (R.remaining reader.new) (limit + 1) }
-    ensures too_large_unwritten { result.status ≡ 5 → writer.new ≡ writer.old }
+) -> Result<(), LinesFault>
+    ensures { HasEnded result (R.remaining reader.old) (R.remaining reader.new) W.contents writer.old writer.new }
 {
-    exit_of(run_lines::<B, R, W>(alloc, reader, writer))
+    match block_type {
+        BlockType::U8 => run_lines::<u8, R, W>(alloc, reader, writer),
+        BlockType::U16 => run_lines::<u16, R, W>(alloc, reader, writer),
+        BlockType::U32 => run_lines::<u32, R, W>(alloc, reader, writer),
+        BlockType::U64 => run_lines::<u64, R, W>(alloc, reader, writer),
+        BlockType::Usize => run_lines::<usize, R, W>(alloc, reader, writer),
+        BlockType::U128 => run_lines::<u128, R, W>(alloc, reader, writer),
+    }
 }
 
 // The exit at this end of the lines.

@@ -1,9 +1,9 @@
 //! One command over sixteen sets.
 
-ghost use Rattle.std.specs.Prelude.{◌≡◌, ◌≢◌, ℕ, ◌<◌, ◌≤◌, ◌==◌, ◌∷◌, false, not, map, List, length, drop, [], ◌++◌, IfOk, OnOk, OnErr, slice_index_or, slice_set, if◌then◌else◌};
+ghost use Rattle.std.specs.Prelude.{◌≡◌, ◌≢◌, ℕ, ◌+◌, ◌<◌, ◌≤◌, ◌==◌, ◌∷◌, false, not, map, List, length, drop, [], ◌++◌, IfOk, OnOk, OnErr, slice_index_or, slice_set, if◌then◌else◌};
 ghost use Rattle.std.specs.List.{list_any};
-ghost use Rattle.bit_set.specs.Bits.{blocks_for, room_of};
 ghost use Rattle.bit_set.specs.Sets.{bound_of, has, merged_sets, put, put_all, those_below, those_from, union};
+ghost use Rattle.bit_set_run.specs.Capacities.{bits_at, Becomes, BecomeTwo, ChangesCapacities, GrowsExactlyTo, GrowsPast, GrowsTo, IsFront, IsPart, KeepsCapacities, SameCapacity, Shrinks};
 ghost use Rattle.bit_set_run.specs.Kept.{kept};
 ghost use Rattle.bit_set.specs.Bounds.{greatest};
 ghost use Rattle.bit_set_run.specs.Run.{step, elements_before_greatest, RefusedBy};
@@ -28,6 +28,10 @@ pub(crate) fn step<B: BitBlock>(
     ensures reply { IfOk result (λ reply. reply ≡ (step (map kept sets.old) command.now).reply) }
     ensures sets { OnOk result (map kept sets.new ≡ (step (map kept sets.old) command.now).sets) }
     ensures refused { OnErr result (RefusedBy (map kept sets.old) command.now (map kept sets.new)) }
+
+    // A table's contract sees no capacities, so these two are of this function alone.
+    ensures capacities { OnOk result (ChangesCapacities B.width sets.old command.now sets.new) }
+    ensures capacities_left { OnErr result (KeepsCapacities sets.old command.now sets.new) }
 {
     match command {
         Command::Insert(name, n) => insert(&mut sets[name.place()], *n),
@@ -74,7 +78,9 @@ pub(crate) fn step<B: BitBlock>(
 fn insert<B: BitBlock>(set: &mut BitSet<B>, n: usize) -> Result<Reply, AllocError>
     ensures reply { IfOk result (λ reply. reply ≡ (if n == greatest then Element else Truth (not (has (kept set.old) n)))) }
     ensures after { OnOk result (kept set.new ≡ (if n == greatest then kept set.old else put (kept set.old) n)) }
-    ensures refused { OnErr result ((n < greatest) × (has (kept set.old) n ≡ false) × (kept set.new ≡ kept set.old)) }
+    ensures refused { OnErr result ((n < greatest) × (has (kept set.old) n ≡ false) × (set.new ≡ set.old)) }
+    ensures grown { OnOk result (GrowsTo (n + 1) set.old set.new) }
+    ensures unfit { n ≡ greatest → set.new ≡ set.old }
 {
     match set.insert(n) {
         Ok(new) => Ok(Reply::Truth(new)),
@@ -89,6 +95,8 @@ fn extend<B: BitBlock>(set: &mut BitSet<B>, items: &Numbers) -> Result<Reply, Al
     ensures refused { OnErr result ((front : List ℕ) × (item : ℕ) × (back : List ℕ)
         × (elements_before_greatest items.now ≡ front ++ item ∷ back)
         × (has (put_all (kept set.old) front) item ≡ false) × (kept set.new ≡ put_all (kept set.old) front)) }
+    ensures grown { OnOk result (GrowsPast items.now set.old set.new) }
+    ensures room { set.old.room ≤ set.new.room }
 {
     match set.extend(items.as_slice().iter().copied()) {
         Ok(()) => Ok(Reply::Done),
@@ -102,8 +110,9 @@ fn extend<B: BitBlock>(set: &mut BitSet<B>, items: &Numbers) -> Result<Reply, Al
 fn reserve<B: BitBlock>(set: &mut BitSet<B>, len: usize) -> Result<Reply, AllocError>
     ensures reply { IfOk result (λ reply. reply ≡ Done) }
     ensures after { OnOk result (kept set.new ≡ kept set.old) }
-    ensures refused { OnErr result ((bound_of (kept set.old) < len) × (kept set.new ≡ kept set.old)) }
+    ensures refused { OnErr result ((bound_of (kept set.old) < len) × (set.new ≡ set.old)) }
     ensures room { OnOk result (len ≤ set.new.room) }
+    ensures grown { OnOk result (GrowsTo len set.old set.new) }
 {
     set.reserve_len(len)?;
     Ok(Reply::Done)
@@ -113,8 +122,8 @@ fn reserve<B: BitBlock>(set: &mut BitSet<B>, len: usize) -> Result<Reply, AllocE
 fn reserve_exact<B: BitBlock>(set: &mut BitSet<B>, len: usize) -> Result<Reply, AllocError>
     ensures reply { IfOk result (λ reply. reply ≡ Done) }
     ensures after { OnOk result (kept set.new ≡ kept set.old) }
-    ensures refused { OnErr result ((bound_of (kept set.old) < len) × (kept set.new ≡ kept set.old)) }
-    ensures room { OnOk result (len ≤ set.new.room) }
+    ensures refused { OnErr result ((bound_of (kept set.old) < len) × (set.new ≡ set.old)) }
+    ensures grown { OnOk result (GrowsExactlyTo B.width len set.old set.new) }
 {
     set.reserve_len_exact(len)?;
     Ok(Reply::Done)
@@ -124,7 +133,8 @@ fn shrink<B: BitBlock>(set: &mut BitSet<B>) -> Result<Reply, AllocError>
     ensures reply { IfOk result (λ reply. reply ≡ Done) }
     ensures after { OnOk result (kept set.new ≡ kept set.old) }
     ensures refused { OnErr result ((kept set.old ≢ []) × (kept set.new ≡ kept set.old)) }
-    ensures room { OnOk result (set.new.room ≡ room_of B.width (blocks_for B.width (length set.new.values))) }
+    ensures fitted { OnOk result (Shrinks B.width set.old set.new) }
+    ensures room { set.new.room ≤ set.old.room }
 {
     set.shrink_to_fit()?;
     Ok(Reply::Done)
@@ -141,7 +151,9 @@ fn copy<B: BitBlock>(
     requires apart { from ≡ to → ⊥ }
     ensures reply { IfOk result (λ reply. reply ≡ Done) }
     ensures after { OnOk result (map kept sets.new ≡ slice_set (map kept sets.old) to (slice_index_or (map kept sets.old) from [])) }
-    ensures left { OnErr result (map kept sets.new ≡ map kept sets.old) }
+    ensures grown { OnOk result (Becomes sets.old
+        to (GrowsExactlyTo B.width (length (bits_at sets.old from).values)) sets.new) }
+    ensures left { OnErr result (sets.new ≡ sets.old) }
 {
     // The set is taken out of its place, so that another of the array can be read beside it. It takes no memory.
     let mut set = mem::replace(&mut sets[to], BitSet::new_general(alloc));
@@ -163,7 +175,8 @@ fn merge_in_place<B: BitBlock>(
     requires apart { to ≡ other → ⊥ }
     ensures reply { IfOk result (λ reply. reply ≡ Done) }
     ensures after { OnOk result (map kept sets.new ≡ slice_set (map kept sets.old) to (merged_sets merge (slice_index_or (map kept sets.old) to []) (slice_index_or (map kept sets.old) other []))) }
-    ensures left { OnErr result (map kept sets.new ≡ map kept sets.old) }
+    ensures grown { OnOk result (Becomes sets.old to (GrowsTo (length (bits_at sets.old other).values)) sets.new) }
+    ensures left { OnErr result (sets.new ≡ sets.old) }
 {
     let mut set = mem::replace(&mut sets[to], BitSet::new_general(alloc));
     let merged = merge_with(&mut set, merge, &sets[other]);
@@ -178,6 +191,7 @@ fn merge_with<B: BitBlock>(
     other: &BitSet<B>,
 ) -> Result<(), AllocError>
     ensures ok { OnOk result (kept set.new ≡ merged_sets merge (kept set.old) (kept other.now)) }
+    ensures grown { OnOk result (GrowsTo (length other.now.values) set.old set.new) }
     ensures err { OnErr result (set.new ≡ set.old) }
 {
     match merge {
@@ -199,7 +213,9 @@ fn append<B: BitBlock>(
     requires apart { to ≡ from → ⊥ }
     ensures reply { IfOk result (λ reply. reply ≡ Done) }
     ensures after { OnOk result (map kept sets.new ≡ slice_set (slice_set (map kept sets.old) to (union (slice_index_or (map kept sets.old) to []) (slice_index_or (map kept sets.old) from []))) from []) }
-    ensures left { OnErr result (map kept sets.new ≡ map kept sets.old) }
+    ensures grown { OnOk result (BecomeTwo sets.old
+        to (GrowsTo (length (bits_at sets.old from).values)) from SameCapacity sets.new) }
+    ensures left { OnErr result (sets.new ≡ sets.old) }
 {
     let mut other = mem::replace(&mut sets[from], BitSet::new_general(alloc));
     let appended = sets[to].append(&mut other);
@@ -220,7 +236,9 @@ fn split_off<B: BitBlock>(
     requires places { (from < 16) × (to < 16) }
     ensures reply { IfOk result (λ reply. reply ≡ Done) }
     ensures after { OnOk result (map kept sets.new ≡ slice_set (slice_set (map kept sets.old) from (those_below (slice_index_or (map kept sets.old) from []) at)) to (those_from (slice_index_or (map kept sets.old) from []) at)) }
-    ensures refused { OnErr result ((0 < at) × (map kept sets.new ≡ map kept sets.old)) }
+    ensures refused { OnErr result ((0 < at) × (sets.new ≡ sets.old)) }
+    ensures parts { OnOk result (BecomeTwo sets.old
+        from (IsFront at) to (λ _ part. IsPart B.width at (bits_at sets.old from) part) sets.new) }
 {
     let part = sets[from].split_off(alloc, at)?;
     sets[to] = part;

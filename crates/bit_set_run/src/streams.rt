@@ -1,9 +1,9 @@
-ghost use Rattle.std.specs.Prelude.{◌≡◌, ◌≢◌, ℕ, ◌+◌, ◌≤◌, IfOk, IfErr, OnOk, OnErr};
+ghost use Rattle.std.specs.Prelude.{◌≡◌, ◌≢◌, ℕ, ◌+◌, IfOk, IfErr, OnOk, OnErr};
 ghost use Rattle.std.specs.Io.KnownBytes.{Appends};
-ghost use Rattle.bit_set_run.specs.Streams.{limit, GaveAll, GaveAtMost, GaveCount, HoldsBeginning};
+ghost use Rattle.bit_set_run.specs.Streams.{limit, GaveAll, GaveCount, GaveSome, GaveUntil, HoldsBeginning};
 ghost use Rattle.bit_set_run.specs.declared.streams.LinesFault.TheVariants.{Memory};
 
-use std::alloc::{AllocError, Global};
+use std::alloc::{AllocError, AllocFailed, Global};
 use std::io::{Read, Write};
 use thiserror::Error;
 
@@ -32,6 +32,14 @@ impl From<AllocError> for LinesFault {
     }
 }
 
+impl<T: Drop> From<AllocFailed<T>> for LinesFault {
+    ghost from_gives = { λ _ fault. fault ≡ Memory };
+
+    fn from(_refusal: AllocFailed<T>) -> Self {
+        LinesFault::Memory
+    }
+}
+
 // How many bytes an input may have.
 const LIMIT: usize = 1_048_576;
 
@@ -41,8 +49,10 @@ const PIECE: usize = 8192;
 // Reads to the end. A read that goes on brings a byte, so at most one read more is made than an input has bytes.
 pub(crate) fn read_input<R: Read>(alloc: Global, reader: &mut R) -> Result<Vec<u8>, LinesFault>
     ensures ok { IfOk result (λ input. GaveAll (R.remaining reader.old) (R.remaining reader.new) input.items) }
-    ensures too_large { result ≡ Err LinesFault.TooLarge → GaveCount (R.remaining reader.old) (R.remaining reader.new) (limit + 1) }
-    ensures few { GaveAtMost (R.remaining reader.old) (R.remaining reader.new) (limit + 1) }
+    ensures read { result ≡ Err LinesFault.Read → GaveUntil (R.remaining reader.old) (R.remaining reader.new) limit }
+    ensures too_large { result ≡ Err LinesFault.TooLarge
+        → GaveCount (R.remaining reader.old) (R.remaining reader.new) (limit + 1) }
+    ensures memory { result ≡ Err LinesFault.Memory → GaveSome (R.remaining reader.old) (R.remaining reader.new) limit }
     ensures not_write { result ≢ Err LinesFault.Write }
 {
     let mut input = Vec::new(alloc);

@@ -3,17 +3,17 @@
 mod fakes;
 mod tables;
 
-use bit_set_run::{Command, Exit, LinesFault, RunFault, SetName, run_lines, start};
+use bit_set_run::{Command, Exit, LinesFault, RunFault, SetName, Table, run, run_lines, start};
 use block24::Block24;
 use fakes::{EndlessReader, PieceReader, PieceWriter};
-use std::alloc::Global;
+use std::alloc::{AllocError, AllocFailed, Global};
 use std::io::ErrorKind;
 use std::test::Fail;
 
-const RUN_A: &[u8] =
+const ELEMENT_COMMANDS: &[u8] =
     b"insert a 3\ninsert a 3\ninsert a 400\ncontains a 3\nremove a 3\ncontains a 3\ncount a\nitems a\nitems b\n";
 
-const REPLIES_A: &[u8] = b"true\nfalse\ntrue\ntrue\ntrue\nfalse\n1\n{400}\n{}\n";
+const ELEMENT_REPLIES: &[u8] = b"true\nfalse\ntrue\ntrue\ntrue\nfalse\n1\n{400}\n{}\n";
 
 // Inputs, and their outputs.
 const ROWS: &[(&[u8], &[u8])] = &[
@@ -21,7 +21,7 @@ const ROWS: &[(&[u8], &[u8])] = &[
         b"insert a 3\ninsert a 3\ninsert a 400\nremove a 3\ncount a\nitems a\n",
         b"true\nfalse\ntrue\ntrue\n1\n{400}\n",
     ),
-    (RUN_A, REPLIES_A),
+    (ELEMENT_COMMANDS, ELEMENT_REPLIES),
     (
         b"insert a 18446744073709551615\ncontains a 18446744073709551615\nfrob\nfrob 99999999999999999999\ninsert a 99999999999999999999\n",
         b"refused element\nfalse\nbad command\nbad command\nbad number\n",
@@ -160,7 +160,7 @@ fn refuses_other_words(rt: HostRuntime) -> Result<(), Fail> {
         [first, second].as_slice(),
         [widest, third].as_slice(),
     ] {
-        let mut reader = reader(RUN_A);
+        let mut reader = reader(ELEMENT_COMMANDS);
         let mut writer = writer(rt.alloc());
         let exit = start(rt.alloc(), words, &mut reader, &mut writer);
         assert_eq!(rt;
@@ -190,7 +190,7 @@ fn says_how_it_ends(rt: HostRuntime) -> Result<(), Fail> {
         }
     );
 
-    let mut broken = reader(RUN_A);
+    let mut broken = reader(ELEMENT_COMMANDS);
     broken.fails_at = 0;
     let exit = start(rt.alloc(), &[], &mut broken, &mut bytes);
     assert_eq!(rt;
@@ -215,7 +215,7 @@ fn says_how_it_ends(rt: HostRuntime) -> Result<(), Fail> {
 
     let mut closed = writer(rt.alloc());
     closed.fails_at = 0;
-    let exit = start(rt.alloc(), &[], &mut reader(RUN_A), &mut closed);
+    let exit = start(rt.alloc(), &[], &mut reader(ELEMENT_COMMANDS), &mut closed);
     assert_eq!(rt;
         exit,
         Exit {
@@ -252,7 +252,7 @@ fn writer(alloc: Global) -> PieceWriter {
 
 #[test]
 fn leaves_a_read_that_failed(rt: HostRuntime) -> Result<(), Fail> {
-    let last = RUN_A.len().div_ceil(7);
+    let last = ELEMENT_COMMANDS.len().div_ceil(7);
     for kind in [
         ErrorKind::Other,
         ErrorKind::Interrupted,
@@ -262,7 +262,7 @@ fn leaves_a_read_that_failed(rt: HostRuntime) -> Result<(), Fail> {
         ErrorKind::OutOfMemory,
     ] {
         for fails_at in [0, 1, last] {
-            let mut reader = reader(RUN_A);
+            let mut reader = reader(ELEMENT_COMMANDS);
             reader.fails_at = fails_at;
             reader.kind = kind;
             let mut writer = writer(rt.alloc());
@@ -277,7 +277,7 @@ fn leaves_a_read_that_failed(rt: HostRuntime) -> Result<(), Fail> {
 
 #[test]
 fn leaves_a_write_that_failed(rt: HostRuntime) -> Result<(), Fail> {
-    let last = REPLIES_A.len().div_ceil(7).saturating_sub(1);
+    let last = ELEMENT_REPLIES.len().div_ceil(7).saturating_sub(1);
     for kind in [
         Some(ErrorKind::Other),
         Some(ErrorKind::Interrupted),
@@ -290,13 +290,19 @@ fn leaves_a_write_that_failed(rt: HostRuntime) -> Result<(), Fail> {
             let mut writer = writer(rt.alloc());
             writer.fails_at = fails_at;
             writer.kind = kind;
-            let result = run_lines::<u32, _, _>(rt.alloc(), &mut reader(RUN_A), &mut writer);
+            let result = run_lines::<u32, _, _>(
+                rt.alloc(),
+                &mut reader(ELEMENT_COMMANDS),
+                &mut writer,
+            );
             assert_eq!(rt; result, Err(LinesFault::Write));
             assert_eq!(rt; writer.calls.saturating_sub(1), fails_at, "not tried again");
             assert_eq!(rt; writer.flushes, 0);
             assert_eq!(rt;
                 writer.bytes.as_slice(),
-                REPLIES_A.get(..fails_at.saturating_mul(7)).unwrap_or(b"?")
+                ELEMENT_REPLIES
+                    .get(..fails_at.saturating_mul(7))
+                    .unwrap_or(b"?")
             );
         }
     }
@@ -307,34 +313,54 @@ fn leaves_a_write_that_failed(rt: HostRuntime) -> Result<(), Fail> {
 fn writes_in_pieces_and_flushes(rt: HostRuntime) -> Result<(), Fail> {
     let mut patient = writer(rt.alloc());
     patient.piece = 1;
-    let mut read = reader(RUN_A);
+    let mut read = reader(ELEMENT_COMMANDS);
     let result = run_lines::<u32, _, _>(rt.alloc(), &mut read, &mut patient);
     assert_eq!(rt; result, Ok(()));
     assert_eq!(rt;
         read.calls,
-        RUN_A.len().div_ceil(7).saturating_add(1),
+        ELEMENT_COMMANDS.len().div_ceil(7).saturating_add(1),
         "none after the end"
     );
-    assert_eq!(rt; patient.bytes.as_slice(), REPLIES_A);
+    assert_eq!(rt; patient.bytes.as_slice(), ELEMENT_REPLIES);
     assert_eq!(rt; patient.flushes, 1);
+
+    // An empty output is flushed too.
+    let mut idle = writer(rt.alloc());
+    let result = run_lines::<u32, _, _>(rt.alloc(), &mut reader(b""), &mut idle);
+    assert_eq!(rt; result, Ok(()));
+    assert_eq!(rt; (idle.calls, idle.flushes), (0, 1));
 
     let mut unflushed = writer(rt.alloc());
     unflushed.flush_fails = true;
-    let result = run_lines::<u32, _, _>(rt.alloc(), &mut reader(RUN_A), &mut unflushed);
+    let result = run_lines::<u32, _, _>(rt.alloc(), &mut reader(ELEMENT_COMMANDS), &mut unflushed);
     assert_eq!(rt; result, Err(LinesFault::Write));
-    assert_eq!(rt; unflushed.bytes.as_slice(), REPLIES_A);
+    assert_eq!(rt; unflushed.bytes.as_slice(), ELEMENT_REPLIES);
     assert_eq!(rt; unflushed.flushes, 1);
     Ok(())
 }
 
+// Some bytes, in lines of 64 that spell no command.
+fn long_lines(alloc: Global, count: usize) -> Result<Vec<u8>, AllocError> {
+    let mut input = vec![in alloc; b'x'; count]?;
+    for line in input.chunks_mut(64) {
+        if let Some(last) = line.last_mut() {
+            *last = b'\n';
+        }
+    }
+    Ok(input)
+}
+
 #[test]
 fn takes_inputs_up_to_the_limit(rt: HostRuntime) -> Result<(), Fail> {
-    let mut input = vec![in rt.alloc(); b'\n'; 1_048_576]?;
+    let mut input = long_lines(rt.alloc(), 1_048_576)?;
     let (exit, output) = started(rt.alloc(), &[], &input);
     assert_eq!(rt; exit.status, 0);
-    assert_eq!(rt; output.len(), 12_582_912);
-    for line in output.chunks(12) {
-        assert_eq!(rt; line, b"bad command\n".as_slice());
+    assert_eq!(rt; output.len(), 196_608);
+    for lines in output.chunks(48) {
+        assert_eq!(rt;
+            lines,
+            b"bad command\nbad command\nbad command\nbad command\n".as_slice()
+        );
     }
 
     input.push(b'\n')?;
@@ -343,7 +369,59 @@ fn takes_inputs_up_to_the_limit(rt: HostRuntime) -> Result<(), Fail> {
     let mut writer = writer(rt.alloc());
     let result = run_lines::<u32, _, _>(rt.alloc(), &mut reader, &mut writer);
     assert_eq!(rt; result, Err(LinesFault::TooLarge));
-    assert_eq!(rt; writer.calls, 0);
+    assert_eq!(rt; (writer.calls, writer.flushes), (0, 0));
+
+    let (exit, output) = started(rt.alloc(), &[], &input);
+    assert_eq!(rt;
+        exit,
+        Exit {
+            status: 5,
+            text: "input too large"
+        }
+    );
+    assert!(rt; output.is_empty());
+    Ok(())
+}
+
+// Runs a command, and keeps its name in a vector: both calls come to the same fault by `?`.
+fn kept_name(alloc: Global, name: SetName) -> Result<Vec<SetName>, RunFault> {
+    let mut table = Table::<u32>::new(alloc);
+    let mut replies = Vec::new(alloc);
+    run(alloc, &mut table, &[Command::Count(name)], &mut replies)?;
+    let mut names = Vec::new(alloc);
+    names.reserve(1)?;
+    names.push(name)?;
+    Ok(names)
+}
+
+// Answers lines, and puts a word behind their output.
+fn output_and_word(alloc: Global, mut lines: &[u8]) -> Result<Vec<u8>, LinesFault> {
+    let mut output = Vec::new(alloc);
+    run_lines::<u32, _, _>(alloc, &mut lines, &mut output)?;
+    output.push(b'.')?;
+    Ok(output)
+}
+
+// A run never comes to the place `usize::MAX`: there is no such command.
+#[test]
+fn allocation_errors_become_faults(rt: HostRuntime) -> Result<(), Fail> {
+    assert_eq!(rt;
+        RunFault::from(AllocFailed { value: 3u8 }),
+        RunFault::Memory(usize::MAX)
+    );
+    assert_eq!(rt; RunFault::from(AllocError), RunFault::Memory(usize::MAX));
+    assert_eq!(rt;
+        LinesFault::from(AllocFailed { value: 3u8 }),
+        LinesFault::Memory
+    );
+    assert_eq!(rt; LinesFault::from(AllocError), LinesFault::Memory);
+
+    let name = SetName::from_letter(b'c').ok_or("c")?;
+    assert_eq!(rt; kept_name(rt.alloc(), name)?.as_slice(), [name].as_slice());
+    assert_eq!(rt;
+        output_and_word(rt.alloc(), b"count a")?.as_slice(),
+        b"0\n.".as_slice()
+    );
     Ok(())
 }
 

@@ -253,3 +253,25 @@ fn faults_have_texts(rt: HostRuntime) -> Result<(), Fail> {
     }
     Ok(())
 }
+
+// Reads a set and puts its length at the end of a list: one `?` serves both.
+fn keep_length(
+    alloc: Global,
+    lengths: &mut Vec<usize>,
+    value: &Value,
+) -> Result<BitSet, JsonError> {
+    let set = BitSet::from_json(alloc, value)?;
+    lengths.push(set.get_ref().len())?;
+    Ok(set)
+}
+
+#[test]
+fn a_set_is_read_and_a_list_grows_in_one_function(rt: HostRuntime) -> Result<(), Fail> {
+    let alloc = rt.alloc();
+    let value = Value::from_str(alloc, "{\"bit_vec\": {\"storage\": [5], \"nbits\": 3}}")?;
+    let mut lengths = Vec::new(alloc);
+    let set = keep_length(alloc, &mut lengths, &value)?;
+    assert!(rt; set.iter().eq([0, 2]));
+    assert_eq!(rt; lengths.as_slice(), [3].as_slice());
+    Ok(())
+}

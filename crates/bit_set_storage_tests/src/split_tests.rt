@@ -1,5 +1,5 @@
-//! Sets that are parted at a number and put together again: rows with their exact answers, over four block
-//! types.
+//! Sets that are parted at a number and put together again: rows with their exact answers, over each
+//! type of blocks and over 24 bits.
 ghost use Rattle.std.specs.Prelude.{◌≡◌, OnOk};
 
 use crate::room_tests::set_of;
@@ -61,9 +61,12 @@ fn has_upper_part<B: BitBlock>(
 #[test]
 fn a_set_is_parted_at_a_number(rt: HostRuntime) -> Result<(), Fail> {
     check_parts::<u8>(&rt, rt.alloc())?;
+    check_parts::<u16>(&rt, rt.alloc())?;
     check_parts::<Block24>(&rt, rt.alloc())?;
     check_parts::<u32>(&rt, rt.alloc())?;
     check_parts::<u64>(&rt, rt.alloc())?;
+    check_parts::<usize>(&rt, rt.alloc())?;
+    check_parts::<u128>(&rt, rt.alloc())?;
     Ok(())
 }
 
@@ -71,9 +74,12 @@ fn a_set_is_parted_at_a_number(rt: HostRuntime) -> Result<(), Fail> {
 fn the_upper_part_is_handed_out(rt: HostRuntime) -> Result<(), Fail> {
     let upper = [34, 36, 38, 39, 40, 42, 44, 45, 47];
     assert!(rt; has_upper_part::<u8>(rt.alloc(), 34, &upper)?);
+    assert!(rt; has_upper_part::<u16>(rt.alloc(), 34, &upper)?);
     assert!(rt; has_upper_part::<Block24>(rt.alloc(), 34, &upper)?);
     assert!(rt; has_upper_part::<u32>(rt.alloc(), 34, &upper)?);
     assert!(rt; has_upper_part::<u64>(rt.alloc(), 34, &upper)?);
+    assert!(rt; has_upper_part::<usize>(rt.alloc(), 34, &upper)?);
+    assert!(rt; has_upper_part::<u128>(rt.alloc(), 34, &upper)?);
     Ok(())
 }
 
@@ -95,9 +101,12 @@ fn check_append<B: BitBlock>(rt: &impl Abort, alloc: Global) -> Result<(), SetEr
 #[test]
 fn append_empties_the_other(rt: HostRuntime) -> Result<(), Fail> {
     check_append::<u8>(&rt, rt.alloc())?;
+    check_append::<u16>(&rt, rt.alloc())?;
     check_append::<Block24>(&rt, rt.alloc())?;
     check_append::<u32>(&rt, rt.alloc())?;
     check_append::<u64>(&rt, rt.alloc())?;
+    check_append::<usize>(&rt, rt.alloc())?;
+    check_append::<u128>(&rt, rt.alloc())?;
     Ok(())
 }
 
@@ -139,15 +148,23 @@ fn joined_at_0<B: BitBlock>(alloc: Global) -> Result<[usize; 3], SetError> {
 #[test]
 fn a_set_that_was_handed_out_whole_comes_back(rt: HostRuntime) -> Result<(), Fail> {
     assert_eq!(rt; joined_at_0::<u8>(rt.alloc())?, [4, 0, 7]);
+    assert_eq!(rt; joined_at_0::<u16>(rt.alloc())?, [4, 0, 7]);
+    assert_eq!(rt; joined_at_0::<Block24>(rt.alloc())?, [4, 0, 7]);
+    assert_eq!(rt; joined_at_0::<u32>(rt.alloc())?, [4, 0, 7]);
     assert_eq!(rt; joined_at_0::<u64>(rt.alloc())?, [4, 0, 7]);
+    assert_eq!(rt; joined_at_0::<usize>(rt.alloc())?, [4, 0, 7]);
+    assert_eq!(rt; joined_at_0::<u128>(rt.alloc())?, [4, 0, 7]);
     Ok(())
 }
 
 #[test]
 fn a_parted_set_is_put_together_again(rt: HostRuntime) -> Result<(), Fail> {
     check_parted::<u8>(&rt, rt.alloc())?;
+    check_parted::<u16>(&rt, rt.alloc())?;
     check_parted::<Block24>(&rt, rt.alloc())?;
     check_parted::<u32>(&rt, rt.alloc())?;
     check_parted::<u64>(&rt, rt.alloc())?;
+    check_parted::<usize>(&rt, rt.alloc())?;
+    check_parted::<u128>(&rt, rt.alloc())?;
     Ok(())
 }

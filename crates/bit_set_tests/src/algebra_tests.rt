@@ -43,6 +43,18 @@ fn becomes(
     Ok(())
 }
 
+// Whether a set that is merged with another is equal to that of a byte.
+fn is_bytes(
+    alloc: Global,
+    merge: Merge,
+    mut set: BitSet,
+    other: &BitSet,
+    byte: u8,
+) -> Result<bool, SetError> {
+    merge_in(&mut set, merge, other)?;
+    Ok(set == BitSet::from_bytes(alloc, &[byte])?)
+}
+
 #[test]
 fn a_union_has_the_greater_length(rt: HostRuntime) -> Result<(), Fail> {
     let alloc = rt.alloc();
@@ -107,7 +119,24 @@ fn a_difference_has_what_the_first_has(rt: HostRuntime) -> Result<(), Fail> {
         &right,
         (&[1, 4], 8),
     )?;
-    becomes(&rt, alloc, Merge::Difference, right, &left, (&[0], 8))?;
+    becomes(
+        &rt,
+        alloc,
+        Merge::Difference,
+        right.clone(alloc)?,
+        &left,
+        (&[0], 8),
+    )?;
+    assert!(rt;
+        is_bytes(
+            alloc,
+            Merge::Difference,
+            left.clone(alloc)?,
+            &right,
+            0b0100_1000
+        )?
+    );
+    assert!(rt; is_bytes(alloc, Merge::Difference, right, &left, 0b1000_0000)?);
     Ok(())
 }
 
@@ -123,6 +152,8 @@ fn a_symmetric_difference_has_what_just_one_has(rt: HostRuntime) -> Result<(), F
         &ends,
         (&[0, 5], 6),
     )?;
+    let both = set_of(alloc, &[0, 1])?;
+    assert!(rt; is_bytes(alloc, Merge::Symmetric, both, &ends, 0b1000_0100)?);
     Ok(())
 }
 

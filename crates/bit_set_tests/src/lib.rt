@@ -2,6 +2,8 @@
 #![tactic(auto)]
 
 #[cfg(test)]
+mod agreement_tests;
+#[cfg(test)]
 mod algebra_tests;
 #[cfg(test)]
 mod hostile_tests;

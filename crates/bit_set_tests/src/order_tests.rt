@@ -137,6 +137,25 @@ fn a_text_fails_where_the_formatter_does(rt: HostRuntime) -> Result<(), Fail> {
     Ok(())
 }
 
+#[test]
+fn a_debug_text_fails_where_the_formatter_does(rt: HostRuntime) -> Result<(), Fail> {
+    let set = set_of::<u8>(rt.alloc(), &[3, 12])?;
+    let mut out = Fails { taken: 100 };
+    assert!(rt; fmt::Write::write_fmt(&mut out, format_args!("{set:?}")).is_ok());
+    let calls = 100usize.saturating_sub(out.taken);
+    assert!(rt; calls > 0);
+    for taken in 0..calls {
+        let mut out = Fails { taken };
+        assert!(rt;
+            fmt::Write::write_fmt(&mut out, format_args!("{set:?}")).is_err(),
+            "at {taken}"
+        );
+    }
+    let mut out = Fails { taken: calls };
+    assert!(rt; fmt::Write::write_fmt(&mut out, format_args!("{set:?}")).is_ok());
+    Ok(())
+}
+
 // The order of two sets, seen from each.
 fn orders<B: BitBlock>(
     alloc: Global,
@@ -187,6 +206,13 @@ fn bytes_compare_as_their_sets(rt: HostRuntime) -> Result<(), Fail> {
     assert_eq!(rt; bytes_compare(rt.alloc(), &[], &[0b1010_0010])?, less);
     let equal = (true, Ordering::Equal, Some(Ordering::Equal));
     assert_eq!(rt; bytes_compare(rt.alloc(), &[0], &[])?, equal);
+    let set = BitSet::from_bytes(rt.alloc(), &[0b1010_0010])?;
+    let none = BitSet::new(rt.alloc());
+    assert!(rt; set != none);
+    assert_eq!(rt;
+        (set.cmp(&none), none.cmp(&set)),
+        (Ordering::Greater, Ordering::Less)
+    );
     Ok(())
 }
 

@@ -1,5 +1,7 @@
 //! Rows with their exact answers, each generic call once over two block types, and the texts of the
 //! faults.
+ghost use Rattle.std.specs.Prelude.{IsErrOf};
+
 use bit_set::bit_vec::BitVec;
 use bit_set::{BitBlock, BitSet, SetError};
 use std::alloc::{AllocError, Global};
@@ -77,6 +79,33 @@ fn items_go_in_one_by_one(rt: HostRuntime) -> Result<(), Fail> {
 
 fn put_all(set: &mut BitSet, numbers: &[usize]) -> Result<(), SetError> {
     set.extend(numbers.iter().copied())
+}
+
+#[test]
+fn no_items_need_no_memory(rt: HostRuntime) -> Result<(), Fail> {
+    let set = set_of(rt.alloc(), &[])?;
+    assert_eq!(rt; (set.get_ref().len(), set.capacity()), (0, 0));
+    Ok(())
+}
+
+// Puts a number into a set and at the end of a list: one `?` serves both.
+fn put_in_both(set: &mut BitSet, list: &mut Vec<usize>, value: usize) -> Result<(), SetError>
+    ensures unfit { IsErrOf result SetError.Length → ⊥ }
+{
+    set.insert(value)?;
+    list.push(value)?;
+    Ok(())
+}
+
+#[test]
+fn a_set_and_a_list_grow_in_one_function(rt: HostRuntime) -> Result<(), Fail> {
+    let mut set = BitSet::new(rt.alloc());
+    let mut list = Vec::new(rt.alloc());
+    put_in_both(&mut set, &mut list, 7)?;
+    put_in_both(&mut set, &mut list, 3)?;
+    assert!(rt; set.iter().eq([3, 7]));
+    assert_eq!(rt; list.as_slice(), [7, 3].as_slice());
+    Ok(())
 }
 
 #[test]

@@ -1,6 +1,7 @@
 //! Sets whose elements lie far apart: the rows of the walk, and a walk at each of its points over three widths.
 ghost use Rattle.std.specs.Prelude.{◌≡◌, ℕ, Bool, None, List, [], ◌∷◌, length};
 ghost use Rattle.std.specs.Iterator.{YieldsThen};
+ghost use Rattle.bit_words.specs.Bits.{blocks_for};
 ghost use Rattle.bit_set.specs.Sets.{elements};
 ghost use Rattle.bit_set.specs.Walk.{Walk, IsAtStart};
 
@@ -19,6 +20,7 @@ fn pulls_of_sparse_sets()
     ensures two { (values : List Bool) (s t : Walk) (items : List ℕ) → elements values ≡ 0 ∷ 100000 ∷ [] → IsAtStart 32 values s → YieldsThen ⟦<Iter<'static, u32> as Iterator>⟧.next_gives s items None t → t.pulls ≡ 3 }
     ensures none { (values : List Bool) (s t : Walk) (items : List ℕ) → elements values ≡ [] → IsAtStart 32 values s → YieldsThen ⟦<Iter<'static, u32> as Iterator>⟧.next_gives s items None t → t.pulls ≡ 2 }
     ensures summary { (values : List Bool) (s t : Walk) (items : List ℕ) → length values ≡ 100001 → IsAtStart 32 values s → YieldsThen ⟦<Iter<'static, u32> as Iterator>⟧.next_gives s items None t → t.summary_pulls ≡ 99 }
+    ensures blocks { (blocks_for 32 100001 ≡ 3126) × (blocks_for 32 3126 ≡ 98) }
 {
     sparse_walks::<u32>();
 }
@@ -29,6 +31,7 @@ fn the_bound_falls_over_zero_blocks(rt: HostRuntime) -> Result<(), Fail> {
     let mut far = set_of::<u32>(rt.alloc(), 0, 0)?;
     far.insert(100000)?;
     assert_eq!(rt; far.get_ref().storage().len(), 3126);
+    assert_eq!(rt; far.get_ref().blocks().count(), 3126);
     assert_eq!(rt;
         bounds(&far),
         [(0, Some(100032)), (0, Some(100032)), (0, Some(32))]

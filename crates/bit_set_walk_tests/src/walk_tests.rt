@@ -45,7 +45,10 @@ fn the_bound_falls_with_the_blocks(rt: HostRuntime) -> Result<(), Fail> {
     pulls_at_401_places();
     let wide = bounds(&set_of::<u32>(rt.alloc(), 0, 400)?);
     assert_eq!(rt; wide, [(0, Some(416)), (0, Some(32)), (0, Some(32))]);
-    let narrow = bounds(&set_of::<u8>(rt.alloc(), 0, 400)?);
+    let many_blocks = set_of::<u8>(rt.alloc(), 0, 400)?;
+    assert_eq!(rt; many_blocks.get_ref().storage().len(), 51);
+    assert_eq!(rt; many_blocks.get_ref().blocks().count(), 51);
+    let narrow = bounds(&many_blocks);
     assert_eq!(rt; narrow, [(0, Some(408)), (0, Some(8)), (0, Some(8))]);
     let four_blocks = set_of::<u128>(rt.alloc(), 0, 400)?;
     assert_eq!(rt; four_blocks.get_ref().storage().len(), 4);

@@ -4,6 +4,8 @@
 #[cfg(test)]
 mod block_tests;
 #[cfg(test)]
+mod blocks_tests;
+#[cfg(test)]
 mod merge_tests;
 #[cfg(test)]
 mod nonzero_tests;

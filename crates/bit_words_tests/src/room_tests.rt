@@ -55,6 +55,17 @@ fn zero_blocks_are_cut_and_room_is_given_back(rt: HostRuntime) -> Result<(), Fai
 }
 
 #[test]
+fn a_shrunk_list_has_the_room_of_its_blocks(rt: HostRuntime) -> Result<(), Fail> {
+    let mut bits = BitVec::<u8>::new_general(rt.alloc());
+    bits.reserve(100)?;
+    bits.grow(72, true)?;
+    assert!(rt; bits.capacity() >= 100);
+    bits.shrink_to_fit()?;
+    assert_eq!(rt; (bits.len(), bits.capacity()), (72, 72));
+    Ok(())
+}
+
+#[test]
 fn a_cut_can_lengthen(rt: HostRuntime) -> Result<(), Fail> {
     let mut bits = one_true::<u32>(rt.alloc(), 41, 40)?;
     bits.cut_zero_blocks();

@@ -1,6 +1,7 @@
 use bit_words::bit_vec::{BitBlock, BitVec, BitsError, Steps};
 use block24::Block24;
 use std::alloc::{AllocError, Global};
+use std::fmt;
 use std::process::Abort;
 use std::test::Fail;
 
@@ -53,8 +54,10 @@ fn a_list_is_cut_grown_and_filled(rt: HostRuntime) -> Result<(), Fail> {
     assert_eq!(rt; bits.get(14), Some(false));
     assert_eq!(rt; bits.get(15), None);
 
+    bits.set(0, false);
+    assert_eq!(rt; bits.storage(), [8190].as_slice());
+    assert!(rt; !bits.replace(0, true));
     assert!(rt; bits.replace(0, false));
-    assert!(rt; !bits.replace(0, false));
     assert_eq!(rt; bits.storage(), [8190].as_slice());
 
     bits.fill(true);
@@ -181,6 +184,62 @@ fn nothing_needs_no_memory(rt: HostRuntime) {
     let mut steps = Steps::new();
     steps.tick();
     let _same = steps.clone();
+}
+
+// Takes some calls, and fails from then on.
+#[derive(Drop)]
+struct Fails {
+    taken: usize,
+}
+
+impl fmt::Write for Fails {
+    fn write_str(&mut self, _s: &str) -> fmt::Result {
+        if self.taken == 0 {
+            return Err(fmt::Error);
+        }
+        self.taken -= 1;
+        Ok(())
+    }
+}
+
+#[test]
+fn a_text_fails_where_the_formatter_does(rt: HostRuntime) -> Result<(), Fail> {
+    let bits = BitVec::<u8>::from_elem_general(rt.alloc(), 10, true)?;
+    let text = format!(in rt.alloc(); "{bits:?}")?;
+    assert_eq!(rt;
+        text.as_str(),
+        "BitVec { storage: \"11111111 11\", nbits: 10 }"
+    );
+    let mut out = Fails { taken: 100 };
+    assert!(rt; fmt::Write::write_fmt(&mut out, format_args!("{bits:?}")).is_ok());
+    let calls = 100usize.saturating_sub(out.taken);
+    assert!(rt; calls > 0);
+    for taken in 0..calls {
+        let mut out = Fails { taken };
+        assert!(rt;
+            fmt::Write::write_fmt(&mut out, format_args!("{bits:?}")).is_err(),
+            "at {taken}"
+        );
+    }
+    let mut out = Fails { taken: calls };
+    assert!(rt; fmt::Write::write_fmt(&mut out, format_args!("{bits:?}")).is_ok());
+    Ok(())
+}
+
+// Makes a vector of bytes and puts one byte at the end of a list: one `?` serves both.
+fn keep_byte(alloc: Global, list: &mut Vec<u8>, byte: u8) -> Result<BitVec, BitsError> {
+    let bits = BitVec::from_bytes(alloc, &[byte])?;
+    list.push(byte)?;
+    Ok(bits)
+}
+
+#[test]
+fn a_vector_and_a_list_are_made_in_one_function(rt: HostRuntime) -> Result<(), Fail> {
+    let mut list = Vec::new(rt.alloc());
+    let bits = keep_byte(rt.alloc(), &mut list, 0b1010_0000)?;
+    assert_eq!(rt; bits.storage(), [5].as_slice());
+    assert_eq!(rt; list.as_slice(), [0b1010_0000].as_slice());
+    Ok(())
 }
 
 #[test]

@@ -1,4 +1,5 @@
 // Calls that change a bit vector or its room.
+use crate::asks::Ask;
 use crate::faults::Fault;
 use crate::standing::{Room, first_bits, lent_set, works};
 use crate::sweep::Sweep;
@@ -20,14 +21,14 @@ const FIRST: &str = "{3, 447} of 448, and 0 past them";
 
 const LENT: &str = "{3, 7} of 5001, and 1 past them";
 
-// A call at some room, under a name of its own; what stands where it is answered; and whether it may be refused,
-// with all as it was.
+// A call at some room, under a name of its own; the memory that it may ask for; and what stands where it is answered.
+// Where it is refused all is as it was.
 struct Row {
     name: &'static str,
     call: Call,
     room: Room,
+    asks: &'static [Ask],
     answered: &'static str,
-    may_refuse: bool,
 }
 
 const ROWS: &[Row] = &[
@@ -35,85 +36,85 @@ const ROWS: &[Row] = &[
         name: "bits_grow",
         call: Call::Grow(false),
         room: Room::Short,
+        asks: &[Ask::Grown(5001)],
         answered: "{3, 447} of 5001, and 0 past them",
-        may_refuse: true,
     },
     Row {
         name: "bits_grow_within",
         call: Call::Grow(false),
         room: Room::Ample,
+        asks: &[],
         answered: "{3, 447} of 5001, and 0 past them",
-        may_refuse: false,
     },
     Row {
         name: "bits_grow_true",
         call: Call::Grow(true),
         room: Room::Short,
+        asks: &[Ask::Grown(5001)],
         answered: "{3, 447} of 5001, and 4553 past them",
-        may_refuse: true,
     },
     Row {
         name: "bits_grow_true_within",
         call: Call::Grow(true),
         room: Room::Ample,
+        asks: &[],
         answered: "{3, 447} of 5001, and 4553 past them",
-        may_refuse: false,
     },
     Row {
         name: "bits_reserve",
         call: Call::Reserve,
         room: Room::Short,
+        asks: &[Ask::Grown(5001)],
         answered: FIRST,
-        may_refuse: true,
     },
     Row {
         name: "bits_reserve_within",
         call: Call::Reserve,
         room: Room::Ample,
+        asks: &[],
         answered: FIRST,
-        may_refuse: false,
     },
     Row {
         name: "bits_reserve_exact",
         call: Call::ReserveExact,
         room: Room::Short,
+        asks: &[Ask::Exact(5001)],
         answered: FIRST,
-        may_refuse: true,
     },
     Row {
         name: "bits_reserve_exact_within",
         call: Call::ReserveExact,
         room: Room::Ample,
+        asks: &[],
         answered: FIRST,
-        may_refuse: false,
     },
     Row {
         name: "bits_clone_from",
         call: Call::CloneFrom,
         room: Room::Short,
+        asks: &[Ask::Exact(5001)],
         answered: LENT,
-        may_refuse: true,
     },
     Row {
         name: "bits_clone_from_within",
         call: Call::CloneFrom,
         room: Room::Ample,
+        asks: &[],
         answered: LENT,
-        may_refuse: false,
     },
     Row {
         name: "bits_shrink_to_fit",
         call: Call::Shrink,
         room: Room::Ample,
+        asks: &[Ask::Exact(448)],
         answered: FIRST,
-        may_refuse: true,
     },
     Row {
         name: "bits_shrink_to_fit_exact",
         call: Call::Shrink,
         room: Room::Exact,
+        asks: &[],
         answered: FIRST,
-        may_refuse: false,
     },
 ];
 
@@ -142,7 +143,7 @@ impl Row {
     fn allows(&self, ended: Result<(), Fault>, now: &str) -> bool {
         match ended {
             Ok(()) => now == self.answered,
-            Err(Fault::Memory) => self.may_refuse && now == FIRST,
+            Err(Fault::Memory) => !self.asks.is_empty() && now == FIRST,
             Err(Fault::Other) => false,
         }
     }
@@ -152,7 +153,7 @@ fn tried<B: BitBlock>(sweep: &Sweep<'_>, row: &Row) -> Result<bool, Fault> {
     let alloc = sweep.alloc();
     let mut bits = first_bits::<B>(alloc, row.room)?;
     let lent = lent_set::<B>(alloc)?;
-    sweep.begin(row.name, row.may_refuse)?;
+    sweep.begin(row.name, row.asks)?;
     let ended = change(row.call, &mut bits, lent.get_ref());
     sweep.end(&ended)?;
     let now = text_of(alloc, &bits)?;

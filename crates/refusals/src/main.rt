@@ -2,6 +2,7 @@
 //! stands compared with what may. `tests/refusals.sh` runs this with one request after another refused.
 #![tactic(auto)]
 
+mod asks;
 mod bits;
 mod faults;
 mod json;
@@ -12,6 +13,7 @@ mod sets;
 mod splits;
 mod standing;
 mod sweep;
+mod texts;
 
 use bit_set::{BitBlock, JsonBlock};
 use faults::Fault;
@@ -42,13 +44,20 @@ fn over_with_json<B: JsonBlock>(sweep: &Sweep<'_>) -> Result<bool, Fault> {
     Ok(calls && json)
 }
 
+// Those and the calls that are over blocks of 32 bits alone.
+fn over_plain(sweep: &Sweep<'_>) -> Result<bool, Fault> {
+    let calls = over_with_json::<u32>(sweep)?;
+    let plain = making::all_plain(sweep)?;
+    Ok(calls && plain)
+}
+
 // Every call over the type of blocks of this name, or this one call.
 fn over_named(rt: &HostRuntime, width: &str, name: Option<&str>) -> Result<Option<bool>, Fault> {
     Ok(Some(match width {
-        "u8" => over_with_json::<u8>(&Sweep::new(rt, "u8", name))?,
-        "u32" => over_with_json::<u32>(&Sweep::new(rt, "u32", name))?,
-        "u64" => over_with_json::<u64>(&Sweep::new(rt, "u64", name))?,
-        "u128" => over::<u128>(&Sweep::new(rt, "u128", name))?,
+        "u8" => over_with_json::<u8>(&Sweep::new(rt, "u8", 8, name))?,
+        "u32" => over_plain(&Sweep::new(rt, "u32", 32, name))?,
+        "u64" => over_with_json::<u64>(&Sweep::new(rt, "u64", 64, name))?,
+        "u128" => over::<u128>(&Sweep::new(rt, "u128", 128, name))?,
         _ => return Ok(None),
     }))
 }

@@ -1,4 +1,5 @@
 // Calls that make something.
+use crate::asks::Ask;
 use crate::faults::Fault;
 use crate::standing::{LENT, lent_set, text_of, works};
 use crate::sweep::Sweep;
@@ -18,10 +19,11 @@ enum Call {
     BitsCloneTail,
 }
 
-// A call, and what it makes where it is answered.
+// A call, the memory that it may ask for, and what it makes where it is answered.
 struct Row {
     name: &'static str,
     call: Call,
+    asks: &'static [Ask],
     made: &'static str,
 }
 
@@ -29,42 +31,78 @@ const ROWS: &[Row] = &[
     Row {
         name: "with_capacity",
         call: Call::WithCapacity,
+        asks: &[Ask::Exact(5000)],
         made: "{} of 5000",
     },
     Row {
         name: "from_bytes",
         call: Call::FromBytes,
+        asks: &[Ask::Exact(128)],
         made: "{0, 9, 90, 127} of 128",
     },
     Row {
         name: "from_iter",
         call: Call::FromIter,
+        asks: &[Ask::Grown(10), Ask::Grown(451), Ask::Grown(5001)],
         made: "{9, 450, 5000} of 5001",
     },
     Row {
         name: "clone",
         call: Call::Clone,
+        asks: &[Ask::Exact(5001)],
         made: LENT,
     },
     Row {
         name: "bits_from_elem",
         call: Call::BitsFromElem,
+        asks: &[Ask::Exact(5000)],
         made: "{} of 5000",
     },
     Row {
         name: "bits_from_bytes",
         call: Call::BitsFromBytes,
+        asks: &[Ask::Exact(128)],
         made: "{0, 9, 90, 127} of 128",
     },
     Row {
         name: "bits_clone",
         call: Call::BitsClone,
+        asks: &[Ask::Exact(5001)],
         made: LENT,
     },
     Row {
         name: "bits_clone_tail",
         call: Call::BitsCloneTail,
+        asks: &[Ask::Exact(5001)],
         made: "{7, 5000} of 5001",
+    },
+];
+
+// The calls that are over blocks of 32 bits alone.
+const PLAIN_ROWS: &[Row] = &[
+    Row {
+        name: "plain_with_capacity",
+        call: Call::WithCapacity,
+        asks: &[Ask::Exact(5000)],
+        made: "{} of 5000",
+    },
+    Row {
+        name: "plain_from_bytes",
+        call: Call::FromBytes,
+        asks: &[Ask::Exact(128)],
+        made: "{0, 9, 90, 127} of 128",
+    },
+    Row {
+        name: "plain_bits_from_elem",
+        call: Call::BitsFromElem,
+        asks: &[Ask::Exact(5000)],
+        made: "{} of 5000",
+    },
+    Row {
+        name: "plain_bits_from_bytes",
+        call: Call::BitsFromBytes,
+        asks: &[Ask::Exact(128)],
+        made: "{0, 9, 90, 127} of 128",
     },
 ];
 
@@ -97,6 +135,16 @@ fn make<B: BitBlock>(alloc: Global, call: Call, lent: &BitSet<B>) -> Result<BitS
     })
 }
 
+fn make_plain(alloc: Global, call: Call) -> Result<BitSet<u32>, Fault> {
+    Ok(match call {
+        Call::WithCapacity => BitSet::with_capacity(alloc, 5000)?,
+        Call::FromBytes => BitSet::from_bytes(alloc, &BYTES)?,
+        Call::BitsFromElem => BitSet::from_bit_vec(BitVec::from_elem(alloc, 5000, false)?),
+        Call::BitsFromBytes => BitSet::from_bit_vec(BitVec::from_bytes(alloc, &BYTES)?),
+        _ => return Err(Fault::Other),
+    })
+}
+
 /// What was made, as a text; `None` where memory was refused.
 pub fn text_made<B: BitBlock>(
     alloc: Global,
@@ -114,16 +162,25 @@ pub fn text_made<B: BitBlock>(
     Ok(Some(text))
 }
 
+// Whether it made what it may.
+fn judged<B: BitBlock>(
+    sweep: &Sweep<'_>,
+    row: &Row,
+    made: Result<BitSet<B>, Fault>,
+) -> Result<bool, Fault> {
+    sweep.end(&made)?;
+    let text = text_made(sweep.alloc(), made)?;
+    let now = text.as_ref().map_or(row.made, |text| text.as_str());
+    Ok(sweep.judge(now == row.made, now)?)
+}
+
 fn tried<B: BitBlock>(sweep: &Sweep<'_>, row: &Row) -> Result<bool, Fault> {
     let alloc = sweep.alloc();
     let lent = lent_set::<B>(alloc)?;
-    sweep.begin(row.name, true)?;
+    sweep.begin(row.name, row.asks)?;
     let made = make(alloc, row.call, &lent);
-    sweep.end(&made)?;
-    let text = text_made(alloc, made)?;
-    let now = text.as_ref().map_or(row.made, |text| text.as_str());
-    let is_right = now == row.made && text_of(alloc, &lent)?.as_str() == LENT;
-    Ok(sweep.judge(is_right, now)?)
+    let is_right = judged(sweep, row, made)?;
+    Ok(is_right && text_of(alloc, &lent)?.as_str() == LENT)
 }
 
 /// Whether each of these calls goes as it may.
@@ -132,6 +189,19 @@ pub fn all<B: BitBlock>(sweep: &Sweep<'_>) -> Result<bool, Fault> {
     for row in ROWS {
         if sweep.has(row.name) {
             is_right &= tried::<B>(sweep, row)?;
+        }
+    }
+    Ok(is_right)
+}
+
+/// The same of the calls over blocks of 32 bits alone.
+pub fn all_plain(sweep: &Sweep<'_>) -> Result<bool, Fault> {
+    let mut is_right = true;
+    for row in PLAIN_ROWS {
+        if sweep.has(row.name) {
+            sweep.begin(row.name, row.asks)?;
+            let made = make_plain(sweep.alloc(), row.call);
+            is_right &= judged(sweep, row, made)?;
         }
     }
     Ok(is_right)

@@ -1,16 +1,18 @@
-// Calls that take no memory, in groups. Each group is made on two sets, and answers numbers.
+// Calls that take no memory, in groups. Each group is made on what is given to it, and answers numbers.
 ghost use Rattle.std.specs.Prelude.{◌+◌, ◌%◌, ◌^◌, length};
 ghost use Rattle.std.specs.Iterator.{IsFinite};
 
 use crate::faults::Fault;
 use crate::standing::{LENT, Room, first_set, lent_set, text_of, works};
 use crate::sweep::Sweep;
+use crate::texts;
 use bit_set::bit_vec::{BitVec, Merge, Steps};
 use bit_set::{BitBlock, BitSet};
 use bit_set_run::{Numbers, SetName, Table};
 use std::alloc::Global;
 use std::cmp::Ordering;
 use std::hash::{Hash, Hasher};
+use std::mem;
 
 // Counts the bytes that it is fed.
 #[derive(Drop)]
@@ -38,6 +40,10 @@ enum Group {
     Questions,
     Comparisons,
     Walks,
+    Hints,
+    Counts,
+    Moves,
+    Texts,
     Changes,
     Bits,
     BitWalks,
@@ -45,7 +51,18 @@ enum Group {
     BitChanges,
 }
 
-// A group and its answers, on the sets {3, 447} and {3, 7, 5000}, both of 5001 places.
+// What a group is made on: the sets {3, 447} and {3, 7, 5000}, both of 5001 places, ten values over blocks of 32 bits,
+// and two lists of numbers.
+#[derive(Drop)]
+struct Given<B: BitBlock> {
+    set: BitSet<B>,
+    lent: BitSet<B>,
+    plain: BitVec<u32>,
+    numbers: Numbers,
+    others: Numbers,
+}
+
+// A group and its answers.
 struct Row {
     name: &'static str,
     group: Group,
@@ -72,6 +89,26 @@ const ROWS: &[Row] = &[
         name: "walks",
         group: Group::Walks,
         answers: [450, 1, 5457, 3, 447, 5454],
+    },
+    Row {
+        name: "hints",
+        group: Group::Hints,
+        answers: [1, 1, 5001, 1, 1, 0],
+    },
+    Row {
+        name: "counts",
+        group: Group::Counts,
+        answers: [4, 1, 1, 3, 450, 0],
+    },
+    Row {
+        name: "moves",
+        group: Group::Moves,
+        answers: [2, 5001, 10, 10, 1, 0],
+    },
+    Row {
+        name: "texts",
+        group: Group::Texts,
+        answers: [1, 1, 1, 0, 0, 0],
     },
     Row {
         name: "changes",
@@ -117,7 +154,7 @@ fn empty_ones<B: BitBlock>(alloc: Global) -> [usize; 6] {
     [
         set.count(),
         bits.len(),
-        number(set.is_empty()),
+        number(set.is_empty() && BitSet::new(alloc).is_empty()),
         len,
         numbers.as_slice().len(),
         set.capacity(),
@@ -172,6 +209,57 @@ fn walks<B: BitBlock>(set: &BitSet<B>, lent: &BitSet<B>) -> [usize; 6] {
         sum(set.difference(lent).clone()),
         sum(set.symmetric_difference(lent).clone()),
     ]
+}
+
+// Whether a walk over 5001 places says that it has numbers from none up to those of their whole blocks.
+fn is_hint<B: BitBlock>(hint: (usize, Option<usize>)) -> bool {
+    let blocks = 5001_usize.div_ceil(B::bits());
+    hint == (0, blocks.checked_mul(B::bits()))
+}
+
+fn hints<B: BitBlock>(set: &BitSet<B>, lent: &BitSet<B>) -> [usize; 6] {
+    [
+        number(is_hint::<B>(set.iter().size_hint())),
+        number(is_hint::<B>(set.union(lent).size_hint())),
+        set.intersection(lent).size_hint().1.unwrap_or(0),
+        number(is_hint::<B>(set.difference(lent).size_hint())),
+        number(is_hint::<B>(set.symmetric_difference(lent).size_hint())),
+        0,
+    ]
+}
+
+fn counts<B: BitBlock>(set: &BitSet<B>, lent: &BitSet<B>) -> [usize; 6] {
+    [
+        set.union(lent).count(),
+        set.intersection(lent).count(),
+        set.difference(lent).count(),
+        set.symmetric_difference(lent).count(),
+        sum(set.into_iter()),
+        0,
+    ]
+}
+
+// Bit vectors that become sets, and lists that are compared.
+fn moves<B: BitBlock>(alloc: Global, given: &mut Given<B>) -> [usize; 6] {
+    let set = mem::replace(&mut given.set, BitSet::new_general(alloc));
+    given.set = BitSet::from_bit_vec_general(set.into_bit_vec());
+    let plain = mem::replace(&mut given.plain, BitVec::new(alloc));
+    let whole = BitSet::from_bit_vec(plain);
+    let count = whole.count();
+    given.plain = whole.into_bit_vec();
+    [
+        given.set.count(),
+        given.set.get_ref().len(),
+        count,
+        given.plain.len(),
+        number(given.numbers == given.numbers && given.numbers != given.others),
+        0,
+    ]
+}
+
+fn shown<B: BitBlock>(set: &mut BitSet<B>) -> [usize; 6] {
+    set.truncate(448);
+    texts::of_set(set)
 }
 
 fn changes<B: BitBlock>(set: &mut BitSet<B>) -> [usize; 6] {
@@ -267,17 +355,17 @@ fn bit_changes<B: BitBlock>(set: &mut BitSet<B>, lent: &BitVec<B>) -> [usize; 6]
     ]
 }
 
-fn answers<B: BitBlock>(
-    alloc: Global,
-    group: Group,
-    set: &mut BitSet<B>,
-    lent: &BitSet<B>,
-) -> [usize; 6] {
+fn answers<B: BitBlock>(alloc: Global, group: Group, given: &mut Given<B>) -> [usize; 6] {
+    let (set, lent) = (&mut given.set, &given.lent);
     match group {
         Group::Empty => empty_ones::<B>(alloc),
         Group::Questions => questions(set, lent),
         Group::Comparisons => comparisons(set, lent),
         Group::Walks => walks(set, lent),
+        Group::Hints => hints(set, lent),
+        Group::Counts => counts(set, lent),
+        Group::Moves => moves(alloc, given),
+        Group::Texts => shown(set),
         Group::Changes => changes(set),
         Group::Bits => bits(set.get_ref(), lent.get_ref()),
         Group::BitWalks => bit_walks(set.get_ref()),
@@ -286,15 +374,28 @@ fn answers<B: BitBlock>(
     }
 }
 
+fn prepared<B: BitBlock>(alloc: Global) -> Result<Given<B>, Fault> {
+    let mut numbers = Vec::new(alloc);
+    numbers.extend_from_slice(&[3, 447])?;
+    let mut others = Vec::new(alloc);
+    others.extend_from_slice(&[3, 448])?;
+    Ok(Given {
+        set: first_set::<B>(alloc, Room::Long)?,
+        lent: lent_set::<B>(alloc)?,
+        plain: BitVec::from_elem(alloc, 10, true)?,
+        numbers: Numbers::from_vec(numbers),
+        others: Numbers::from_vec(others),
+    })
+}
+
 fn tried<B: BitBlock>(sweep: &Sweep<'_>, row: &Row) -> Result<bool, Fault> {
     let alloc = sweep.alloc();
-    let mut set = first_set::<B>(alloc, Room::Long)?;
-    let lent = lent_set::<B>(alloc)?;
-    sweep.begin(row.name, false)?;
-    let answers = answers(alloc, row.group, &mut set, &lent);
+    let mut given = prepared::<B>(alloc)?;
+    sweep.begin(row.name, &[])?;
+    let answers = answers(alloc, row.group, &mut given);
     sweep.end(&Ok(()))?;
     let now = format!(in alloc; "{answers:?}")?;
-    let is_whole = works(&mut set)? && text_of(alloc, &lent)?.as_str() == LENT;
+    let is_whole = works(&mut given.set)? && text_of(alloc, &given.lent)?.as_str() == LENT;
     Ok(sweep.judge(is_whole && answers == row.answers, now.as_str())?)
 }
 

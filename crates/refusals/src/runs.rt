@@ -1,4 +1,5 @@
 // Runs of commands, and of lines.
+use crate::asks::Ask;
 use crate::faults::Fault;
 use crate::sweep::Sweep;
 use bit_set::bit_vec::Merge;
@@ -22,6 +23,31 @@ const STANDING: &[&[&str]] = &[
     &["{3, 447, 5000} {5000} {3, 447}"],
     &["{3, 447, 5000} {5000} {3, 447}"],
     &["{3, 447, 5000} {5000} {3, 447}"],
+];
+
+// The memory that the commands may ask for, one after another: the sets, the numbers in three of the replies, and the
+// vector of the replies, which doubles twice.
+const ASKS: &[Ask] = &[
+    Ask::Grown(4),
+    Ask::Grown(448),
+    Ask::Grown(5001),
+    Ask::Exact(448),
+    Ask::Grown(5001),
+    Ask::Other(3, 3 * 32),
+    Ask::Grown(5001),
+    Ask::Exact(5001),
+    Ask::Grown(9000),
+    Ask::Exact(9000),
+    Ask::Exact(5001),
+    Ask::Other(3, (4 + 8 + 16) * 64),
+];
+
+// What the lines may ask for past that: the input, the two numbers of a line, and the output, which doubles from 8
+// bytes on.
+const LINES_ASKS: &[Ask] = &[
+    Ask::Other(1, 2 * 170),
+    Ask::Other(1, 32),
+    Ask::Other(5, 8 + 16 + 32 + 64 + 128),
 ];
 
 // The replies to the commands.
@@ -93,7 +119,7 @@ fn tried_run<B: BitBlock>(sweep: &Sweep<'_>, names: [SetName; 3]) -> Result<bool
     let commands = commands(alloc, a, b, c)?;
     let mut table: Table<B> = Table::new(alloc);
     let mut replies = Vec::new(alloc);
-    sweep.begin("run", true)?;
+    sweep.begin("run", ASKS)?;
     let ended = run(alloc, &mut table, &commands, &mut replies);
     sweep.end(&ended.map_err(|_| Fault::Memory))?;
     let place = match ended {
@@ -117,7 +143,10 @@ fn tried_lines<B: BitBlock>(sweep: &Sweep<'_>) -> Result<bool, Fault> {
     let mut reader = LINES;
     // It takes the whole output without memory.
     let mut written: Vec<u8> = Vec::with_capacity(alloc, ANSWERS.len())?;
-    sweep.begin("run_lines", true)?;
+    let mut asks = Vec::new(alloc);
+    asks.extend_from_slice(ASKS)?;
+    asks.extend_from_slice(LINES_ASKS)?;
+    sweep.begin("run_lines", asks.as_slice())?;
     let ended = run_lines::<B, _, _>(alloc, &mut reader, &mut written);
     let ended = ended.map_err(Fault::from);
     sweep.end(&ended)?;
@@ -130,16 +159,40 @@ fn tried_lines<B: BitBlock>(sweep: &Sweep<'_>) -> Result<bool, Fault> {
     Ok(sweep.judge(is_right, now.as_str())?)
 }
 
-/// Whether both go as they may.
+fn thousand(alloc: Global, name: SetName) -> Result<Vec<Command>, AllocError> {
+    let mut commands = Vec::with_capacity(alloc, 1000)?;
+    for n in 0..1000 {
+        commands.push(Command::Contains(name, n))?;
+    }
+    Ok(commands)
+}
+
+// A thousand commands that need no memory, with room for their replies.
+fn tried_thousand<B: BitBlock>(sweep: &Sweep<'_>, name: SetName) -> Result<bool, Fault> {
+    let alloc = sweep.alloc();
+    let commands = thousand(alloc, name)?;
+    let mut table: Table<B> = Table::new(alloc);
+    let mut replies = Vec::with_capacity(alloc, 1000)?;
+    sweep.begin("run_thousand_within", &[])?;
+    let ended = run(alloc, &mut table, &commands, &mut replies);
+    sweep.end(&ended.map_err(|_| Fault::Memory))?;
+    let is_right = ended.is_ok() && replies.len() == 1000;
+    Ok(sweep.judge(is_right, "another number of replies")?)
+}
+
+/// Whether each goes as it may.
 pub fn all<B: BitBlock>(sweep: &Sweep<'_>) -> Result<bool, Fault> {
     let mut is_right = true;
-    let (a, b, c) = (b'a', b'b', b'c');
-    if sweep.has("run")
-        && let Some(a) = SetName::from_letter(a)
-        && let Some(b) = SetName::from_letter(b)
-        && let Some(c) = SetName::from_letter(c)
+    if let Some(a) = SetName::from_letter(b'a')
+        && let Some(b) = SetName::from_letter(b'b')
+        && let Some(c) = SetName::from_letter(b'c')
     {
-        is_right &= tried_run::<B>(sweep, [a, b, c])?;
+        if sweep.has("run") {
+            is_right &= tried_run::<B>(sweep, [a, b, c])?;
+        }
+        if sweep.has("run_thousand_within") {
+            is_right &= tried_thousand::<B>(sweep, a)?;
+        }
     }
     if sweep.has("run_lines") {
         is_right &= tried_lines::<B>(sweep)?;

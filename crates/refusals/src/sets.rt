@@ -1,4 +1,5 @@
 // Calls that change a set or its room.
+use crate::asks::Ask;
 use crate::faults::Fault;
 use crate::standing::{FIRST, LENT, Room, first_set, lent_set, text_of, works};
 use crate::sweep::Sweep;
@@ -7,6 +8,7 @@ use bit_set::{BitBlock, BitSet};
 #[derive(Clone, Copy)]
 enum Call {
     Insert,
+    InsertNext,
     Extend,
     Union,
     Intersection,
@@ -18,14 +20,15 @@ enum Call {
     Shrink,
 }
 
-// A call at some room, under a name of its own, and what may stand after it: where it is answered, and where it is
-// refused, which some never are.
+// A call at some room, under a name of its own; the memory that it may ask for; and what it leaves, where it is
+// answered, and where it is refused. A shrink leaves whole blocks.
 struct Row {
     name: &'static str,
     call: Call,
     room: Room,
+    asks: &'static [Ask],
     answered: &'static str,
-    refused: &'static [&'static str],
+    refused: &'static str,
 }
 
 const ROWS: &[Row] = &[
@@ -33,141 +36,169 @@ const ROWS: &[Row] = &[
         name: "insert",
         call: Call::Insert,
         room: Room::Short,
+        asks: &[Ask::Grown(5001)],
         answered: "{3, 447, 5000} of 5001",
-        refused: &[FIRST],
+        refused: FIRST,
     },
     Row {
         name: "insert_within",
         call: Call::Insert,
         room: Room::Ample,
+        asks: &[],
         answered: "{3, 447, 5000} of 5001",
-        refused: &[],
+        refused: "",
+    },
+    Row {
+        name: "insert_next",
+        call: Call::InsertNext,
+        room: Room::Short,
+        asks: &[Ask::Grown(1101)],
+        answered: "{3, 447, 1100} of 1101",
+        refused: FIRST,
     },
     Row {
         name: "extend",
         call: Call::Extend,
         room: Room::Short,
+        asks: &[Ask::Grown(5001)],
         answered: "{3, 9, 447, 450, 5000} of 5001",
-        refused: &[FIRST, "{3, 9, 447} of 448", "{3, 9, 447, 450} of 451"],
+        refused: "{3, 9, 447, 450} of 451",
     },
     Row {
         name: "extend_within",
         call: Call::Extend,
         room: Room::Ample,
+        asks: &[],
         answered: "{3, 9, 447, 450, 5000} of 5001",
-        refused: &[],
+        refused: "",
     },
     Row {
         name: "union_with",
         call: Call::Union,
         room: Room::Short,
+        asks: &[Ask::Grown(5001)],
         answered: "{3, 7, 447, 5000} of 5001",
-        refused: &[FIRST],
+        refused: FIRST,
     },
     Row {
         name: "union_with_within",
         call: Call::Union,
         room: Room::Ample,
+        asks: &[],
         answered: "{3, 7, 447, 5000} of 5001",
-        refused: &[],
+        refused: "",
     },
     Row {
         name: "intersect_with",
         call: Call::Intersection,
         room: Room::Short,
+        asks: &[Ask::Grown(5001)],
         answered: "{3} of 5001",
-        refused: &[FIRST],
+        refused: FIRST,
     },
     Row {
         name: "intersect_with_within",
         call: Call::Intersection,
         room: Room::Ample,
+        asks: &[],
         answered: "{3} of 5001",
-        refused: &[],
+        refused: "",
     },
     Row {
         name: "difference_with",
         call: Call::Difference,
         room: Room::Short,
+        asks: &[Ask::Grown(5001)],
         answered: "{447} of 5001",
-        refused: &[FIRST],
+        refused: FIRST,
     },
     Row {
         name: "difference_with_within",
         call: Call::Difference,
         room: Room::Ample,
+        asks: &[],
         answered: "{447} of 5001",
-        refused: &[],
+        refused: "",
     },
     Row {
         name: "symmetric_difference_with",
         call: Call::Symmetric,
         room: Room::Short,
+        asks: &[Ask::Grown(5001)],
         answered: "{7, 447, 5000} of 5001",
-        refused: &[FIRST],
+        refused: FIRST,
     },
     Row {
         name: "symmetric_difference_with_within",
         call: Call::Symmetric,
         room: Room::Ample,
+        asks: &[],
         answered: "{7, 447, 5000} of 5001",
-        refused: &[],
+        refused: "",
     },
     Row {
         name: "clone_from",
         call: Call::CloneFrom,
         room: Room::Short,
+        asks: &[Ask::Exact(5001)],
         answered: LENT,
-        refused: &[FIRST],
+        refused: FIRST,
     },
     Row {
         name: "clone_from_within",
         call: Call::CloneFrom,
         room: Room::Ample,
+        asks: &[],
         answered: LENT,
-        refused: &[],
+        refused: "",
     },
     Row {
         name: "reserve_len",
         call: Call::Reserve,
         room: Room::Short,
+        asks: &[Ask::Grown(5001)],
         answered: FIRST,
-        refused: &[FIRST],
+        refused: FIRST,
     },
     Row {
         name: "reserve_len_within",
         call: Call::Reserve,
         room: Room::Ample,
+        asks: &[],
         answered: FIRST,
-        refused: &[],
+        refused: "",
     },
     Row {
         name: "reserve_len_exact",
         call: Call::ReserveExact,
         room: Room::Short,
+        asks: &[Ask::Exact(5001)],
         answered: FIRST,
-        refused: &[FIRST],
+        refused: FIRST,
     },
     Row {
         name: "reserve_len_exact_within",
         call: Call::ReserveExact,
         room: Room::Ample,
+        asks: &[],
         answered: FIRST,
-        refused: &[],
+        refused: "",
     },
     Row {
         name: "shrink_to_fit",
         call: Call::Shrink,
         room: Room::Long,
+        asks: &[Ask::Exact(448)],
         answered: FIRST,
-        refused: &[FIRST],
+        refused: FIRST,
     },
     Row {
         name: "shrink_to_fit_exact",
         call: Call::Shrink,
         room: Room::Exact,
+        asks: &[],
         answered: FIRST,
-        refused: &[],
+        refused: "",
     },
 ];
 
@@ -176,6 +207,7 @@ fn change<B: BitBlock>(call: Call, set: &mut BitSet<B>, lent: &BitSet<B>) -> Res
     let items: [usize; 3] = [9, 450, 5000];
     match call {
         Call::Insert => return Ok(set.insert(5000)?),
+        Call::InsertNext => return Ok(set.insert(1100)?),
         Call::Extend => set.extend(items.iter().copied())?,
         Call::Union => set.union_with(lent)?,
         Call::Intersection => set.intersect_with(lent)?,
@@ -184,27 +216,31 @@ fn change<B: BitBlock>(call: Call, set: &mut BitSet<B>, lent: &BitSet<B>) -> Res
         Call::CloneFrom => set.clone_from(lent)?,
         Call::Reserve => set.reserve_len(5001)?,
         Call::ReserveExact => set.reserve_len_exact(5001)?,
-        Call::Shrink => shrink(set)?,
+        Call::Shrink => set.shrink_to_fit()?,
     }
     Ok(true)
 }
 
-// Shrinks the set, and cuts what its last block has past the length that it began with.
-fn shrink<B: BitBlock>(set: &mut BitSet<B>) -> Result<(), Fault> {
-    let ended = set.shrink_to_fit();
-    if set.get_ref().len() < B::bits().saturating_add(448) {
-        set.truncate(448);
+// What the first set is in whole blocks of so many bits.
+fn in_whole_blocks(width: usize) -> &'static str {
+    if width == 128 {
+        "{3, 447} of 512"
+    } else {
+        FIRST
     }
-    Ok(ended?)
 }
 
 impl Row {
-    // Whether this may stand where the call ended so.
-    fn allows(&self, ended: Result<bool, Fault>, now: &str) -> bool {
-        match ended {
-            Ok(is_right) => is_right && now == self.answered,
-            Err(Fault::Memory) => self.refused.contains(&now),
-            Err(Fault::Other) => false,
+    // Whether this may stand where the call ended so, over blocks of so many bits.
+    fn allows(&self, width: usize, ended: Result<bool, Fault>, now: &str) -> bool {
+        let left = match ended {
+            Ok(true) => self.answered,
+            Err(Fault::Memory) if !self.asks.is_empty() => self.refused,
+            _ => return false,
+        };
+        match self.call {
+            Call::Shrink => now == in_whole_blocks(width),
+            _ => now == left,
         }
     }
 }
@@ -213,12 +249,13 @@ fn tried<B: BitBlock>(sweep: &Sweep<'_>, row: &Row) -> Result<bool, Fault> {
     let alloc = sweep.alloc();
     let mut set = first_set::<B>(alloc, row.room)?;
     let lent = lent_set::<B>(alloc)?;
-    sweep.begin(row.name, !row.refused.is_empty())?;
+    sweep.begin(row.name, row.asks)?;
     let ended = change(row.call, &mut set, &lent);
     sweep.end(&ended)?;
     let now = text_of(alloc, &set)?;
     let is_whole = works(&mut set)? && text_of(alloc, &lent)?.as_str() == LENT;
-    Ok(sweep.judge(is_whole && row.allows(ended, now.as_str()), now.as_str())?)
+    let is_right = row.allows(sweep.width(), ended, now.as_str());
+    Ok(sweep.judge(is_whole && is_right, now.as_str())?)
 }
 
 // How many of the numbers below 100 are new to a set with room for them, each as it goes in.
@@ -235,7 +272,7 @@ fn put_hundred<B: BitBlock>(set: &mut BitSet<B>) -> Result<usize, Fault> {
 fn tried_hundred<B: BitBlock>(sweep: &Sweep<'_>) -> Result<bool, Fault> {
     let mut set = BitSet::<B>::new_general(sweep.alloc());
     set.reserve_len(100)?;
-    sweep.begin("insert_hundred_within", false)?;
+    sweep.begin("insert_hundred_within", &[])?;
     let ended = put_hundred(&mut set);
     sweep.end(&ended)?;
     Ok(sweep.judge(ended == Ok(100) && set.count() == 100, "not a hundred")?)

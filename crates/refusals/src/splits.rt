@@ -1,4 +1,5 @@
 // Calls that move elements from one set to another.
+use crate::asks::Ask;
 use crate::faults::Fault;
 use crate::standing::{Room, first_set, lent_set, text_of, works};
 use crate::sweep::Sweep;
@@ -14,13 +15,13 @@ enum Call {
 // What both sets are before a call, and after one that was refused.
 const REFUSED: &str = "{3, 447} of 448 and {3, 7, 5000} of 5001";
 
-// A call at some room, under a name of its own, whether it may be refused, and what the set and the other one are
-// where it is answered.
+// A call at some room, under a name of its own, the memory that it may ask for, and what the set and the other one
+// are where it is answered.
 struct Row {
     name: &'static str,
     call: Call,
     room: Room,
-    may_take: bool,
+    asks: &'static [Ask],
     answered: &'static str,
 }
 
@@ -29,42 +30,42 @@ const ROWS: &[Row] = &[
         name: "append",
         call: Call::Append,
         room: Room::Short,
-        may_take: true,
+        asks: &[Ask::Grown(5001)],
         answered: "{3, 7, 447, 5000} of 5001 and {} of 5001",
     },
     Row {
         name: "append_within",
         call: Call::Append,
         room: Room::Ample,
-        may_take: false,
+        asks: &[],
         answered: "{3, 7, 447, 5000} of 5001 and {} of 5001",
     },
     Row {
         name: "split_off",
         call: Call::SplitOff(3),
         room: Room::Short,
-        may_take: true,
+        asks: &[Ask::Exact(448)],
         answered: "{} of 3 and {3, 447} of 448",
     },
     Row {
         name: "split_off_last",
         call: Call::SplitOff(447),
         room: Room::Short,
-        may_take: true,
+        asks: &[Ask::Exact(448)],
         answered: "{3} of 447 and {447} of 448",
     },
     Row {
         name: "split_off_at_0",
         call: Call::SplitOff(0),
         room: Room::Short,
-        may_take: false,
+        asks: &[],
         answered: "{} of 0 and {3, 447} of 448",
     },
     Row {
         name: "split_off_at_the_length",
         call: Call::SplitOff(448),
         room: Room::Short,
-        may_take: false,
+        asks: &[],
         answered: "{3, 447} of 448 and {} of 0",
     },
 ];
@@ -88,7 +89,7 @@ impl Row {
     fn allowed(&self, ended: Result<(), Fault>) -> Option<&'static str> {
         match ended {
             Ok(()) => Some(self.answered),
-            Err(Fault::Memory) if self.may_take => Some(REFUSED),
+            Err(Fault::Memory) if !self.asks.is_empty() => Some(REFUSED),
             Err(_) => None,
         }
     }
@@ -98,7 +99,7 @@ fn tried<B: BitBlock>(sweep: &Sweep<'_>, row: &Row) -> Result<bool, Fault> {
     let alloc = sweep.alloc();
     let mut set = first_set::<B>(alloc, row.room)?;
     let mut other = lent_set::<B>(alloc)?;
-    sweep.begin(row.name, row.may_take)?;
+    sweep.begin(row.name, row.asks)?;
     let ended = exchange(alloc, row.call, &mut set, &mut other);
     sweep.end(&ended)?;
     let set_now = text_of(alloc, &set)?;

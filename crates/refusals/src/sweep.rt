@@ -1,3 +1,4 @@
+use crate::asks::{Ask, bound_of};
 use crate::faults::Fault;
 use std::alloc::Global;
 use std::io;
@@ -6,19 +7,35 @@ use std::io;
 #[derive(Clone, Copy)]
 pub struct Sweep<'a> {
     rt: &'a HostRuntime,
-    width: &'static str,
+    block: &'static str,
+    width: usize,
     name: Option<&'a str>,
 }
 
 impl<'a> Sweep<'a> {
-    /// The call of this name, or all of them where there is none.
-    pub fn new(rt: &'a HostRuntime, width: &'static str, name: Option<&'a str>) -> Self {
-        Sweep { rt, width, name }
+    /// The call of this name, or all of them where there is none, over blocks of this type, which have `width` bits.
+    pub fn new(
+        rt: &'a HostRuntime,
+        block: &'static str,
+        width: usize,
+        name: Option<&'a str>,
+    ) -> Self {
+        Sweep {
+            rt,
+            block,
+            width,
+            name,
+        }
     }
 
     /// The allocator.
     pub fn alloc(&self) -> Global {
         self.rt.alloc()
+    }
+
+    /// How many bits a block has.
+    pub fn width(&self) -> usize {
+        self.width
     }
 
     /// Whether the call of this name is one of them.
@@ -29,11 +46,18 @@ impl<'a> Sweep<'a> {
         }
     }
 
-    /// Says which call comes next, and whether it may take memory. What is printed here is one write, and
+    /// Says which call comes next, and how much memory it may ask for. What is printed here is one write, and
     /// `tests/shim.c` counts the requests for memory from it to the next.
-    pub fn begin(&self, name: &str, may_take: bool) -> io::Result<()> {
-        let how = if may_take { "" } else { " without memory" };
-        print!(self.rt; "{} {}{}: ", self.width, name, how)
+    pub fn begin(&self, name: &str, asks: &[Ask]) -> io::Result<()> {
+        let block = self.block;
+        if asks.is_empty() {
+            return print!(self.rt; "{block} {name} without memory: ");
+        }
+        let bound = bound_of(asks, self.width);
+        print!(self.rt;
+            "{block} {name} requests<={} bytes<={}: ",
+            bound.requests, bound.bytes
+        )
     }
 
     /// Says how the call ended, before anything else is done.

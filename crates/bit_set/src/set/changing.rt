@@ -5,6 +5,8 @@ ghost use Rattle.bit_words.specs.Bits.{blocks_for, room_of};
 ghost use Rattle.bit_set.specs.Sets.{elements, has, put, those_below, without};
 ghost use Rattle.bit_set.specs.Effects.{TakesIn};
 ghost use Rattle.bit_set.specs.Faults.{IsRefusal};
+ghost use Rattle.bit_set.specs.Calls.{Change, Changes, finished, inserted};
+ghost use Rattle.bit_set.specs.Calls.Outcome.{Done, Returned};
 ghost use Rattle.bit_set.specs.Room.{IsPastBlocks, Leaves};
 ghost use Rattle.bit_set.specs.Room.Call.{CloneFrom, Insert, MakeEmpty, Remove, Reset, Truncate};
 
@@ -13,8 +15,8 @@ use std::alloc::AllocError;
 
 impl<B: BitBlock> BitSet<B> {
     /// Puts `value` in, and answers whether it is new. Constant time, but for a growth at or past
-    /// the length. Fails at `usize::MAX`, and where a growth past the room is refused; then nothing
-    /// changed.
+    /// the length. Fails at `usize::MAX`, and where a growth past the room is refused; elements, length
+    /// and capacity then stay.
     #[inline]
     pub fn insert(&mut self, value: usize) -> Result<bool, SetError>
         ensures answer { IfOk result (λ new. new ≡ not (has (elements self.old.values) value)) }
@@ -32,6 +34,7 @@ impl<B: BitBlock> BitSet<B> {
         ensures within { value < self.old.room → self.new.room ≡ self.old.room }
         ensures past_blocks { IfErr result (λ fault. IsPastBlocks fault B.width (length self.old.values) value) }
         ensures leaves { Leaves (Insert value) self.old.room (is_ok result) self.new.room }
+        ensures changes { Changes (Change.Insert value) self.old.values (inserted result) self.new.values }
     {
         if value >= self.bits.len() {
             self.lengthen_past(value)?;
@@ -79,6 +82,7 @@ impl<B: BitBlock> BitSet<B> {
         ensures succeeds { HoldsAlong I.next_gives iter (All (λ item. item < self.old.room)) → IsOk result }
         ensures room { self.old.room ≤ self.new.room }
         ensures within { HoldsAlong I.next_gives iter (All (λ item. item < self.old.room)) → self.new.room ≡ self.old.room }
+        ensures kept { length self.new.values ≤ self.old.room → self.new.room ≡ self.old.room }
     {
         for item in iter {
             self.insert(item)?;
@@ -94,6 +98,7 @@ impl<B: BitBlock> BitSet<B> {
         ensures length { length self.new.values ≡ length self.old.values }
         ensures room { self.new.room ≡ self.old.room }
         ensures leaves { Leaves (Remove value) self.old.room true self.new.room }
+        ensures changes { Changes (Change.Remove value) self.old.values (Returned result) self.new.values }
     {
         if value >= self.bits.len() {
             return false;
@@ -107,6 +112,7 @@ impl<B: BitBlock> BitSet<B> {
         ensures length { length self.new.values ≡ min (length self.old.values) len }
         ensures room { self.new.room ≡ self.old.room }
         ensures leaves { Leaves (Truncate len) self.old.room true self.new.room }
+        ensures changes { Changes (Change.Truncate len) self.old.values Done self.new.values }
     {
         self.bits.truncate(len);
     }
@@ -117,6 +123,7 @@ impl<B: BitBlock> BitSet<B> {
         ensures length { length self.new.values ≡ length self.old.values }
         ensures room { self.new.room ≡ self.old.room }
         ensures leaves { Leaves MakeEmpty self.old.room true self.new.room }
+        ensures changes { Changes Change.MakeEmpty self.old.values Done self.new.values }
     {
         self.bits.fill(false);
     }
@@ -128,6 +135,7 @@ impl<B: BitBlock> BitSet<B> {
         ensures length { length self.new.values ≡ length self.old.values }
         ensures room { self.new.room ≡ self.old.room }
         ensures leaves { Leaves MakeEmpty self.old.room true self.new.room }
+        ensures changes { Changes Change.MakeEmpty self.old.values Done self.new.values }
     {
         self.make_empty();
     }
@@ -137,12 +145,13 @@ impl<B: BitBlock> BitSet<B> {
         ensures values { self.new.values ≡ [] }
         ensures room { self.new.room ≡ self.old.room }
         ensures leaves { Leaves Reset self.old.room true self.new.room }
+        ensures changes { Changes Change.Reset self.old.values Done self.new.values }
     {
         self.bits.remove_all();
     }
 
-    /// Becomes equal to `other`, in one pass over its blocks. Where the room was missing it asks for the
-    /// blocks of `other` and no more. Fails only there, and then nothing changed.
+    /// Becomes equal to `other`, in one pass over its blocks. Where the room was missing the capacity
+    /// becomes that of the blocks of `other`. Fails only there, and then nothing changed.
     pub fn clone_from(&mut self, other: &Self) -> Result<(), AllocError>
         ensures ok { OnOk result (self.new.values ≡ other.now.values) }
         ensures err { OnErr result (self.new ≡ self.old) }
@@ -152,6 +161,8 @@ impl<B: BitBlock> BitSet<B> {
         ensures room { self.old.room ≤ self.new.room }
         ensures within { length other.now.values ≤ self.old.room → self.new.room ≡ self.old.room }
         ensures leaves { Leaves (CloneFrom (length other.now.values)) self.old.room (is_ok result) self.new.room }
+        ensures changes { Changes (Change.CloneFrom (elements other.now.values))
+            self.old.values (finished result) self.new.values }
     {
         self.bits.clone_from(&other.bits)
     }

@@ -64,9 +64,10 @@ impl<B: BitBlock> BitSet<B> {
         Ok(BitSet { bits })
     }
 
-    /// The set of the items, as long as its greatest element asks. The iterator has to end. Constant
-    /// time an item, but for growths. Fails at the first item that is `usize::MAX`, or for which memory
-    /// is refused: one past the blocks of all items before it. The rest of the items is dropped.
+    /// The set of the items, as long as its greatest element asks; of no items its capacity is 0. The
+    /// iterator has to end. Constant time an item, but for growths. Fails at the first item that is
+    /// `usize::MAX`, or for which memory is refused: one past the blocks of all items before it. The rest
+    /// of the items is dropped.
     pub fn from_iter<I: Iterator<Item = usize> + Drop>(
         alloc: Global,
         iter: I,
@@ -79,14 +80,15 @@ impl<B: BitBlock> BitSet<B> {
             × YieldsThen I.next_gives iter items (Some item) rest × (bound_of items ≤ item) × (item ≤ greatest)
             × (fault ≢ SetError.Length) × ((fault ≡ SetError.Element) ↔ (item ≡ greatest))
             × IsPastBlocks fault B.width (bound_of items) item) }
+        ensures room { IfOk result (λ set. length set.values ≡ 0 → set.room ≡ 0) }
     {
         let mut set = Self::new_general(alloc);
         set.extend(iter)?;
         Ok(set)
     }
 
-    /// A set of its own over the same list. Copies each block once. Asks for its blocks and no more;
-    /// fails only where memory is refused.
+    /// A set of its own over the same list. Copies each block once. Its capacity is that of its blocks.
+    /// Fails only where no memory is found.
     pub fn clone(&self, alloc: Global) -> Result<Self, AllocError>
         ensures values { IfOk result (λ set. set.values ≡ self.now.values) }
         ensures room { IfOk result (λ set. set.room ≡ room_of B.width (blocks_for B.width (length self.now.values))) }

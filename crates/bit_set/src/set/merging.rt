@@ -2,6 +2,7 @@
 ghost use Rattle.std.specs.Prelude.{◌≡◌, ◌-◌, ◌<◌, ◌≤◌, ◌++◌, max, OnOk, OnErr, IsOk, is_ok, length, replicate, false};
 ghost use Rattle.bit_words.specs.Merges.{merged};
 ghost use Rattle.bit_set.specs.Sets.{elements, union, intersection, difference, symmetric_difference, merged_sets};
+ghost use Rattle.bit_set.specs.Calls.{Change, Changes, finished};
 ghost use Rattle.bit_set.specs.Room.{Leaves};
 ghost use Rattle.bit_set.specs.Room.Call.{UnionWith, IntersectWith, DifferenceWith, SymmetricDifferenceWith};
 
@@ -48,8 +49,8 @@ impl<B: BitBlock> BitSet<B> {
     }
 
     /// Puts in what is in `other`. The length becomes the greater of both. One pass over the blocks.
-    /// Fails only where the length of `other` passes the room and a growth is refused; then nothing
-    /// changed.
+    /// Fails only where the length of `other` passes the capacity and no memory is found; elements, length
+    /// and capacity then stay.
     pub fn union_with(&mut self, other: &Self) -> Result<(), AllocError>
         ensures elements { OnOk result (elements self.new.values ≡ union (elements self.old.values) (elements other.now.values)) }
         ensures length { OnOk result (length self.new.values ≡ max (length self.old.values) (length other.now.values)) }
@@ -60,13 +61,15 @@ impl<B: BitBlock> BitSet<B> {
         ensures kept { length other.now.values ≤ length self.old.values → self.new.room ≡ self.old.room }
         ensures within { length other.now.values ≤ self.old.room → self.new.room ≡ self.old.room }
         ensures leaves { Leaves (UnionWith (length other.now.values)) self.old.room (is_ok result) self.new.room }
+        ensures changes { Changes (Change.UnionWith (elements other.now.values))
+            self.old.values (finished result) self.new.values }
     {
         self.merge_with(other, Merge::Union)
     }
 
     /// Keeps what is in `other` too. The length becomes the greater of both. One pass over the blocks.
-    /// Fails only where the length of `other` passes the room and a growth is refused; then nothing
-    /// changed.
+    /// Fails only where the length of `other` passes the capacity and no memory is found; elements, length
+    /// and capacity then stay.
     pub fn intersect_with(&mut self, other: &Self) -> Result<(), AllocError>
         ensures elements { OnOk result (elements self.new.values ≡ intersection (elements self.old.values) (elements other.now.values)) }
         ensures length { OnOk result (length self.new.values ≡ max (length self.old.values) (length other.now.values)) }
@@ -77,13 +80,15 @@ impl<B: BitBlock> BitSet<B> {
         ensures kept { length other.now.values ≤ length self.old.values → self.new.room ≡ self.old.room }
         ensures within { length other.now.values ≤ self.old.room → self.new.room ≡ self.old.room }
         ensures leaves { Leaves (IntersectWith (length other.now.values)) self.old.room (is_ok result) self.new.room }
+        ensures changes { Changes (Change.IntersectWith (elements other.now.values))
+            self.old.values (finished result) self.new.values }
     {
         self.merge_with(other, Merge::Intersection)
     }
 
     /// Takes out what is in `other`. The length becomes the greater of both. One pass over the blocks.
-    /// Fails only where the length of `other` passes the room and a growth is refused; then nothing
-    /// changed.
+    /// Fails only where the length of `other` passes the capacity and no memory is found; elements, length
+    /// and capacity then stay.
     pub fn difference_with(&mut self, other: &Self) -> Result<(), AllocError>
         ensures elements { OnOk result (elements self.new.values ≡ difference (elements self.old.values) (elements other.now.values)) }
         ensures length { OnOk result (length self.new.values ≡ max (length self.old.values) (length other.now.values)) }
@@ -94,13 +99,15 @@ impl<B: BitBlock> BitSet<B> {
         ensures kept { length other.now.values ≤ length self.old.values → self.new.room ≡ self.old.room }
         ensures within { length other.now.values ≤ self.old.room → self.new.room ≡ self.old.room }
         ensures leaves { Leaves (DifferenceWith (length other.now.values)) self.old.room (is_ok result) self.new.room }
+        ensures changes { Changes (Change.DifferenceWith (elements other.now.values))
+            self.old.values (finished result) self.new.values }
     {
         self.merge_with(other, Merge::Difference)
     }
 
     /// Takes out what is in `other` too, and puts in the rest of it: what is in just one stays. The
     /// length becomes the greater of both. One pass over the blocks. Fails only where the length of
-    /// `other` passes the room and a growth is refused; then nothing changed.
+    /// `other` passes the capacity and no memory is found; elements, length and capacity then stay.
     pub fn symmetric_difference_with(&mut self, other: &Self) -> Result<(), AllocError>
         ensures elements { OnOk result (elements self.new.values ≡ symmetric_difference (elements self.old.values) (elements other.now.values)) }
         ensures length { OnOk result (length self.new.values ≡ max (length self.old.values) (length other.now.values)) }
@@ -111,6 +118,8 @@ impl<B: BitBlock> BitSet<B> {
         ensures kept { length other.now.values ≤ length self.old.values → self.new.room ≡ self.old.room }
         ensures within { length other.now.values ≤ self.old.room → self.new.room ≡ self.old.room }
         ensures leaves { Leaves (SymmetricDifferenceWith (length other.now.values)) self.old.room (is_ok result) self.new.room }
+        ensures changes { Changes (Change.SymmetricDifferenceWith (elements other.now.values))
+            self.old.values (finished result) self.new.values }
     {
         self.merge_with(other, Merge::Symmetric)
     }

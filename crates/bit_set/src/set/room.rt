@@ -3,6 +3,7 @@ ghost use Rattle.std.specs.Prelude.{◌≡◌, ◌*◌, ◌<◌, ◌≤◌, IsOk
 ghost use Rattle.std.specs.Borrow.{sem};
 ghost use Rattle.bit_words.specs.Bits.{blocks_for, room_of, whole_blocks, IsWithinRoom};
 ghost use Rattle.bit_set.specs.Sets.{bound_of, elements};
+ghost use Rattle.bit_set.specs.Calls.{Change, Changes, finished};
 ghost use Rattle.bit_set.specs.Room.{Leaves};
 ghost use Rattle.bit_set.specs.Room.Call.{ReserveLen, ReserveLenExact};
 ghost use Rattle.bit_set.specs.Lends.{lends_bits};
@@ -13,8 +14,8 @@ use std::alloc::AllocError;
 
 impl<B: BitBlock> BitSet<B> {
     /// Makes room for elements below `len`; no element, and not the length, changes. Where the room was
-    /// missing it asks for twice the old at least, and may move the blocks. Fails only there, and then
-    /// nothing changed.
+    /// missing it asks for twice the old at least, and may move the blocks. Fails only there, and the
+    /// capacity then stays.
     ///
     /// ```
     /// set.reserve_len(100)?;
@@ -30,14 +31,15 @@ impl<B: BitBlock> BitSet<B> {
         ensures within { len ≤ self.old.room → self.new.room ≡ self.old.room }
         ensures room { self.old.room ≤ self.new.room }
         ensures leaves { Leaves (ReserveLen len) self.old.room (is_ok result) self.new.room }
+        ensures changes { Changes (Change.ReserveLen len) self.old.values (finished result) self.new.values }
     {
         let missing = len.saturating_sub(self.bits.len());
         self.bits.reserve(missing)
     }
 
     /// Makes room for elements below `len`; no element, and not the length, changes. Where the room was
-    /// missing it asks for the blocks of `len` and no more, and may move the blocks. Fails only there,
-    /// and then nothing changed.
+    /// missing the capacity becomes that of the blocks of `len`; this may move the blocks. Fails only
+    /// there, and the capacity then stays.
     pub fn reserve_len_exact(&mut self, len: usize) -> Result<(), AllocError>
         ensures values { self.new.values ≡ self.old.values }
         ensures ok { OnOk result (len ≤ self.new.room) }
@@ -49,6 +51,7 @@ impl<B: BitBlock> BitSet<B> {
         ensures exact { OnOk result (self.new.room ≡ max self.old.room (room_of B.width (blocks_for B.width len))) }
         ensures room { self.old.room ≤ self.new.room }
         ensures leaves { Leaves (ReserveLenExact len) self.old.room (is_ok result) self.new.room }
+        ensures changes { Changes (Change.ReserveLenExact len) self.old.values (finished result) self.new.values }
     {
         let missing = len.saturating_sub(self.bits.len());
         self.bits.reserve_exact(missing)
@@ -56,8 +59,8 @@ impl<B: BitBlock> BitSet<B> {
 
     /// Makes the length that of the blocks up to the one with the greatest element, so that it can
     /// become greater too, and gives back the room that these blocks do not take; may move them. The
-    /// elements stay. Fails where room is left over since memory to move the blocks to was refused, and
-    /// then the length is the new one.
+    /// elements stay. Fails just where the capacity is still greater than that of these blocks, since
+    /// memory to move to was refused; the length is the new one then too.
     ///
     /// ```
     /// // The set is {3, 400}, over blocks of 32 bits.
@@ -71,9 +74,11 @@ impl<B: BitBlock> BitSet<B> {
         ensures cut { blocks_for B.width (bound_of (elements self.old.values)) * B.width ≤ usize.MAX → length self.new.values ≡ blocks_for B.width (bound_of (elements self.old.values)) * B.width }
         ensures top { usize.MAX < blocks_for B.width (bound_of (elements self.old.values)) * B.width → length self.new.values ≡ length self.old.values }
         ensures ok { OnOk result (self.new.room ≡ room_of B.width (blocks_for B.width (length self.new.values))) }
+        ensures err { OnErr result (room_of B.width (blocks_for B.width (length self.new.values)) < self.new.room) }
         ensures room { self.new.room ≤ self.old.room }
         ensures fits { IsWithinRoom self.new }
         ensures empty { elements self.old.values ≡ [] → IsOk result }
+        ensures changes { Changes Change.ShrinkToFit self.old.values (finished result) self.new.values }
     {
         self.bits.cut_zero_blocks();
         self.bits.shrink_to_fit()

@@ -2,6 +2,7 @@
 ghost use Rattle.std.specs.Prelude.{◌≡◌, ◌<◌, ◌≤◌, if◌then◌else◌, nat_lt, max, min, IfOk, OnOk, OnErr, IsOk, is_ok, [], length};
 ghost use Rattle.bit_words.specs.Bits.{blocks_for, room_of};
 ghost use Rattle.bit_set.specs.Sets.{elements, those_below, those_from, union};
+ghost use Rattle.bit_set.specs.Calls.{Change, Changes, finished};
 ghost use Rattle.bit_set.specs.Room.{Leaves};
 ghost use Rattle.bit_set.specs.Room.Call.{Append};
 
@@ -12,8 +13,8 @@ use std::mem::replace;
 impl<B: BitBlock> BitSet<B> {
     /// Moves what is in `other` into the set. The length becomes the greater of both; `other` is empty
     /// then, and keeps its length and room. One pass over the blocks of the set, and one over those of
-    /// `other`. Fails only where the length of `other` passes the room and a growth is refused; then
-    /// nothing changed in either.
+    /// `other`. Fails only where the length of `other` passes the capacity and no memory is found;
+    /// elements, lengths and capacities of both then stay.
     ///
     /// ```
     /// // The sets are {2, 6} and {1, 3, 6}.
@@ -35,6 +36,8 @@ impl<B: BitBlock> BitSet<B> {
         ensures kept { length other.old.values ≤ length self.old.values → self.new.room ≡ self.old.room }
         ensures within { length other.old.values ≤ self.old.room → self.new.room ≡ self.old.room }
         ensures leaves { Leaves (Append (length other.old.values)) self.old.room (is_ok result) self.new.room }
+        ensures changes { Changes (Change.Append (elements other.old.values))
+            self.old.values (finished result) self.new.values }
     {
         self.union_with(other)?;
         other.make_empty();
@@ -43,7 +46,7 @@ impl<B: BitBlock> BitSet<B> {
 
     /// Parts the set at `at`: the elements below it stay, and the others are handed out. The set that is
     /// handed out keeps the length, and the length of this one becomes `at`. Copies the blocks from that
-    /// of `at` on, each once, and writes a zero for each before it. Asks for these blocks and no more.
+    /// of `at` on, each once, and writes a zero for each before it; the capacity is that of these blocks.
     ///
     /// Where `at` is at or past the length nothing changes, and an empty set of length 0 is handed out.
     /// Where it is 0 all is handed out, the room too, and an empty set of length 0 stays. Both take no
@@ -69,6 +72,7 @@ impl<B: BitBlock> BitSet<B> {
         ensures given { at ≡ 0 → self.new.room ≡ 0 }
         ensures exact { 0 < at → at < length self.old.values → IfOk result (λ part. part.room ≡ room_of B.width (blocks_for B.width (length self.old.values))) }
         ensures nothing { 0 < at → length self.old.values ≤ at → IfOk result (λ part. part.room ≡ 0) }
+        ensures changes { Changes (Change.SplitOff at) self.old.values (finished result) self.new.values }
     {
         if at == 0 {
             return Ok(replace(self, Self::new_general(alloc)));

@@ -10,6 +10,9 @@ use crate::BitBlock;
 use crate::bit_vec::take_lowest_one;
 use std::marker::Model;
 
+// Up to so many ones a block, the branch that leaves a block costs more than steps without one.
+const FEW: usize = 4;
+
 // The places of the ones of the blocks of a source, in ascending order.
 #[derive(Drop)]
 pub(crate) struct Ones<S: BlockSource<B>, B: BitBlock> {
@@ -18,6 +21,8 @@ pub(crate) struct Ones<S: BlockSource<B>, B: BitBlock> {
     block: B,
     // The place of its lowest digit.
     place: usize,
+    // Whether the first block had few ones, but some: then the others are taken to have few, too. It changes no answer.
+    sparse: bool,
 }
 
 impl<S: BlockSource<B>, B: BitBlock> Model for Ones<S, B> {
@@ -45,10 +50,12 @@ impl<S: BlockSource<B>, B: BitBlock> Ones<S, B> {
     {
         let mut source = source;
         let block = source.pull().unwrap_or(B::zero());
+        let ones = block.count_ones();
         Ones {
             source,
             block,
             place: 0,
+            sparse: 0 < ones && ones <= FEW,
         }
     }
 
@@ -57,7 +64,9 @@ impl<S: BlockSource<B>, B: BitBlock> Ones<S, B> {
     pub(crate) fn next(&mut self) -> Option<usize>
         ensures { AdvancesByEach B.width self.old result self.new }
     {
-        self.go_on();
+        if self.sparse {
+            self.advance_branchless();
+        }
         while self.block == B::zero() {
             self.block = self.source.pull()?;
             self.place += B::bits();
@@ -65,14 +74,14 @@ impl<S: BlockSource<B>, B: BitBlock> Ones<S, B> {
         Some(self.place + take_lowest_one(&mut self.block))
     }
 
-    // Goes on to the next block where the one in hand is used up and the source can tell without a branch. How many
-    // ones a block has is random, so that the processor would foresee the branch badly.
+    // Goes on to the next block where the one in hand is used up and the source has it without a branch. How many ones
+    // a block has is random, so that a processor predicts the branch badly.
     #[inline(always)]
-    fn go_on(&mut self)
+    fn advance_branchless(&mut self)
         ensures { GoesOn B.width self.old self.new }
     {
         let used_up = self.block == B::zero();
-        let (block, pulled) = self.source.pull_where(used_up);
+        let (block, pulled) = self.source.pull_if(used_up);
         self.block = self.block + block;
         self.place += pulled * B::bits();
     }
@@ -104,6 +113,7 @@ impl<S: BlockSource<B>, B: BitBlock> Ones<S, B> {
             source: self.source.copy(),
             block: self.block,
             place: self.place,
+            sparse: self.sparse,
         }
     }
 }

@@ -20,8 +20,6 @@ pub(crate) struct Pairs<'a, B: BitBlock> {
     first: Blocks<'a, B>,
     second: Blocks<'a, B>,
     merge: Merge,
-    // Whether blocks have few ones, as far as is known. It changes no answer.
-    sparse: bool,
 }
 
 impl<'a, B: BitBlock> BlockSource<B> for Pairs<'a, B> {
@@ -40,23 +38,17 @@ impl<'a, B: BitBlock> BlockSource<B> for Pairs<'a, B> {
         merged_block(self.merge, first, second)
     }
 
-    // Where a side has ended, or blocks have many ones, a branch costs less.
+    // Once a side has ended, `pull` alone goes on: a pull that finds the end of both is then counted once. That test is
+    // a branch too, but one that is predicted.
     #[inline(always)]
-    fn pull_where(&mut self, wanted: bool) -> (B, usize) {
-        if !self.sparse {
+    fn pull_if(&mut self, wanted: bool) -> (B, usize) {
+        if self.first.size_hint().0 == 0 || self.second.size_hint().0 == 0 {
             return (B::zero(), 0);
         }
-        let first = self.first.as_slice().first();
-        let second = self.second.as_slice().first();
-        let (Some(a), Some(b)) = (first, second) else {
-            return (B::zero(), 0);
-        };
-        let merged = self.merge.of_blocks(*a, *b);
-        let block = if wanted { merged } else { B::zero() };
-        let count = usize::from(wanted);
-        self.first.pass(count);
-        self.second.pass(count);
-        (block, count)
+        match (self.first.next_if(wanted), self.second.next_if(wanted)) {
+            (Some(a), Some(b)) => (self.merge.of_blocks(a, b), usize::from(wanted)),
+            _ => (B::zero(), 0),
+        }
     }
 
     #[inline]
@@ -79,7 +71,6 @@ impl<'a, B: BitBlock> BlockSource<B> for Pairs<'a, B> {
             first: self.first.clone(),
             second: self.second.clone(),
             merge: self.merge,
-            sparse: self.sparse,
         }
     }
 }
@@ -175,18 +166,6 @@ fn ones_of_rest<B: BitBlock>(merge: Merge, first: &[B], second: &[B]) -> usize
     }
 }
 
-// Whether few digits of the blocks in the middle are ones, merged.
-#[inline]
-fn is_sparse<B: BitBlock>(merge: Merge, first: &BitVec<B>, second: &BitVec<B>) -> bool {
-    let first = first.blocks().as_slice();
-    let second = second.blocks().as_slice();
-    let middle = first.len().min(second.len()) / 2;
-    match (first.get(middle), second.get(middle)) {
-        (Some(a), Some(b)) => merge.of_blocks(*a, *b).count_ones() <= B::bits() / 4,
-        _ => false,
-    }
-}
-
 // The walk over what two bit vectors become.
 #[inline]
 pub(crate) fn ones_of_two<'a, B: BitBlock>(
@@ -201,6 +180,5 @@ pub(crate) fn ones_of_two<'a, B: BitBlock>(
         first: first.blocks(),
         second: second.blocks(),
         merge,
-        sparse: is_sparse(merge, first, second),
     })
 }

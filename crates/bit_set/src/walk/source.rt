@@ -1,6 +1,6 @@
 // Where a walk has its blocks from.
 ghost use Rattle.std.specs.Prelude.{◌≡◌, ◌^◌, ◌<◌, IfSome, All, length, map};
-ghost use Rattle.bit_set.specs.Places.{Ahead, PullsBlock, PullsWhere, values_in};
+ghost use Rattle.bit_set.specs.Places.{Ahead, PullsBlock, PullsBlockIf, values_in};
 ghost use Rattle.bit_set.specs.Sets.{elements};
 
 use crate::BitBlock;
@@ -22,11 +22,11 @@ pub(crate) trait BlockSource<B: BitBlock>: Drop {
         ensures given { IfSome result B.is_block }
         ensures sound { is_sound self.new };
 
-    // The next block, pulled, and 1, where it is wanted and the source can tell without a branch. Else zero and 0, and
+    // The next block, pulled, and 1, where it is wanted and the source has it without a branch. Else zeros and 0, and
     // nothing is pulled.
-    fn pull_where(&mut self, wanted: bool) -> (B, usize)
+    fn pull_if(&mut self, wanted: bool) -> (B, usize)
         requires { is_sound self.old }
-        ensures steps { PullsWhere B.width B.number wanted (ahead self.old) result.0 result.1 (ahead self.new) }
+        ensures steps { PullsBlockIf B.width B.number wanted (ahead self.old) result.0 result.1 (ahead self.new) }
         ensures of_block { B.is_block result.0 }
         ensures sound { is_sound self.new };
 

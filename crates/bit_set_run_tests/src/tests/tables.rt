@@ -1,5 +1,6 @@
 //! Commands executed on a table by hand. What came of them is compared as the text that Debug shows.
 
+use bit_set::bit_vec::Merge;
 use bit_set_run::laws::replies_agree;
 use bit_set_run::{Command, Numbers, SetName, Table, run};
 use std::alloc::{AllocError, Global};
@@ -156,6 +157,118 @@ fn sets_have_their_room(rt: HostRuntime) -> Result<(), Fail> {
     assert_eq!(rt;
         text.as_str(),
         "0 0, 0 128, 4 128, 4 128, 32 32, 32 32, 0 0, "
+    );
+    Ok(())
+}
+
+// How many numbers two sets have room for after each of the commands.
+fn capacities(alloc: Global, commands: &[Command], a: SetName, b: SetName) -> Result<String, Fail> {
+    let mut table: Table<u32> = Table::new(alloc);
+    let mut replies = Vec::new(alloc);
+    let mut text = String::new(alloc);
+    for command in commands.chunks(1) {
+        run(alloc, &mut table, command, &mut replies)?;
+        let (first, second) = (table.get(a).capacity(), table.get(b).capacity());
+        write!(text, "{first} {second}, ")?;
+    }
+    Ok(text)
+}
+
+// The 900 numbers below 900, the greatest first, so that the first takes 29 blocks of 32 and the others none.
+fn below_900(alloc: Global) -> Result<Numbers, AllocError> {
+    Ok(Numbers::from_vec((0..900).rev().collect(alloc)?))
+}
+
+// A set without capacity gets the blocks that it is asked for, 32 for 1,000. Where it has some, `Reserve` at least
+// doubles it, as a vector does, and `ReserveExact` makes no more than these blocks.
+#[test]
+fn sets_grow_as_they_are_asked(rt: HostRuntime) -> Result<(), Fail> {
+    let a = name(b'a')?;
+    let b = name(b'b')?;
+    let empty = [Command::Reserve(a, 1000), Command::ReserveExact(b, 1000)];
+    let text = capacities(rt.alloc(), &empty, a, b)?;
+    assert_eq!(rt; text.as_str(), "1024 0, 1024 1024, ");
+
+    let full = [
+        Command::Extend(a, below_900(rt.alloc())?),
+        Command::Extend(b, below_900(rt.alloc())?),
+        Command::Reserve(a, 1000),
+        Command::ReserveExact(b, 1000),
+        Command::Shrink(a),
+        Command::Shrink(b),
+    ];
+    let text = capacities(rt.alloc(), &full, a, b)?;
+    assert_eq!(rt;
+        text.as_str(),
+        "928 0, 928 928, 1856 928, 1856 1024, 928 1024, 928 928, "
+    );
+    Ok(())
+}
+
+// Within the capacity each command leaves it as it is.
+#[test]
+fn sets_keep_their_capacity(rt: HostRuntime) -> Result<(), Fail> {
+    let a = name(b'a')?;
+    let b = name(b'b')?;
+    let commands = [
+        Command::ReserveExact(a, 500),
+        Command::Extend(b, numbers(rt.alloc(), &[40, 1, 3])?),
+        Command::Insert(a, 511),
+        Command::Remove(a, 511),
+        Command::Contains(a, 3),
+        Command::Extend(a, numbers(rt.alloc(), &[7, 500])?),
+        Command::Truncate(a, 450),
+        Command::Reserve(a, 512),
+        Command::ReserveExact(a, 64),
+        Command::Count(a),
+        Command::IsEmpty(a),
+        Command::Items(a),
+        Command::InPlace(Merge::Union, a, b),
+        Command::InPlace(Merge::Intersection, a, b),
+        Command::InPlace(Merge::Difference, a, b),
+        Command::InPlace(Merge::Symmetric, a, b),
+        Command::Walk(Merge::Union, a, b),
+        Command::Subset(a, b),
+        Command::Superset(a, b),
+        Command::Disjoint(a, b),
+        Command::Equal(a, b),
+        Command::Compare(a, b),
+        Command::RestIter(a, 1),
+        Command::RestWalk(Merge::Union, a, b, 1),
+        Command::Copy(b, a),
+        Command::Append(a, b),
+        Command::Empty(a),
+        Command::Reset(a),
+    ];
+    let text = capacities(rt.alloc(), &commands, a, b)?;
+    let kept = "512 128, ".repeat(rt.alloc(), 27)?;
+    let expected = format!(in rt.alloc(); "512 0, {kept}")?;
+    assert_eq!(rt; text.as_str(), expected.as_str());
+    Ok(())
+}
+
+// A copy and what is split off have the blocks of their length. Nothing that is copied or split off at the length has
+// any, and all that is split off has those that were there.
+#[test]
+fn parts_have_their_capacity(rt: HostRuntime) -> Result<(), Fail> {
+    let a = name(b'a')?;
+    let b = name(b'b')?;
+    let commands = [
+        Command::ReserveExact(a, 500),
+        Command::Extend(a, numbers(rt.alloc(), &[40, 1, 3])?),
+        Command::Copy(a, b),
+        Command::Reset(b),
+        Command::Shrink(b),
+        Command::SplitOff(a, 3, b),
+        Command::SplitOff(a, 0, b),
+        Command::Copy(a, b),
+        Command::SplitOff(b, 0, a),
+        Command::SplitOff(a, 5, b),
+    ];
+    let text = capacities(rt.alloc(), &commands, a, b)?;
+    assert_eq!(rt;
+        text.as_str(),
+        "512 0, 512 0, 512 64, 512 64, 512 0, 512 64, 0 512, 0 512, 512 0, 512 0, "
     );
     Ok(())
 }

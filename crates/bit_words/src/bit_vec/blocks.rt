@@ -1,6 +1,7 @@
 ghost use Rattle.std.specs.Prelude.{◌≡◌, ℕ, ◌+◌, ◌<◌, ◌≤◌, All, IfSome, Some, drop, get_or, length, map};
 ghost use Rattle.std.specs.Iterator.{UpTo, item_count};
 ghost use Rattle.std.specs.Iterator.SizeHint.{IsWithinCount};
+ghost use Rattle.bit_words.specs.Source.{PullsIf};
 
 use super::zeros::zeros_before;
 use super::{BitBlock, Steps};
@@ -8,8 +9,8 @@ use std::marker::Model;
 
 /// A walk over the blocks of a bit vector, from the first to the last.
 ///
-/// Contracts see the blocks that are left, and `pulls`, how many calls of `next` there were, the
-/// one that found the end included.
+/// Contracts see the blocks that are left, and `pulls`. A pull is a call of `next`, or of `next_if` where
+/// the block is wanted; the one that found the end counts too.
 #[derive(Drop)]
 pub struct Blocks<'a, B: BitBlock> {
     blocks: &'a [B],
@@ -51,19 +52,22 @@ impl<'a, B: BitBlock> Blocks<'a, B> {
         self.blocks.split_at(self.at).1
     }
 
-    /// Pulls the first block where `count` is 1, and nothing where it is 0. No branch tells the two
-    /// apart, for a caller whose counts the processor could not foresee. Constant time.
+    /// A call of `next` where the block is wanted, and else a block of zeros and no pull. No branch tells
+    /// the two apart, for a caller whose wishes a processor predicts badly. Constant time.
     #[inline]
-    pub fn pass(&mut self, count: usize)
-        requires one { count ≤ 1 }
-        requires there { count ≤ length self.old.left }
-        ensures left { self.new.left ≡ drop count self.old.left }
-        ensures pulls { self.new.pulls ≡ self.old.pulls + count }
+    pub fn next_if(&mut self, wanted: bool) -> Option<B>
+        ensures { PullsIf B.is_block B.number wanted self.old result self.new }
     {
-        if count == 1 {
+        if wanted {
             self.steps.tick();
         }
-        self.at += count;
+        let Some(next) = self.as_slice().first() else {
+            return (!wanted).then_some(B::zero());
+        };
+        // Read in any case, so that what depends on the wish is a conditional move.
+        let block = *next;
+        self.at += usize::from(wanted);
+        Some(if wanted { block } else { B::zero() })
     }
 
     // Pulls the blocks before the first that is not 0. The answer is how many they are.

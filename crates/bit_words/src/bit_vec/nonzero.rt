@@ -53,12 +53,16 @@ impl<'a, B: BitBlock> Nonzero<'a, B> {
         ensures summary_pulls { result.summary_pulls ≡ min 1 (length summary.now) }
         ensures summary_left { result.summary_left ≡ length summary.now - 1 }
     {
-        let marks = match summary.first() {
-            Some(first) => with_first_marked(*first),
+        let mut rest = Blocks::over(summary);
+        let first = if summary.is_empty() {
+            None
+        } else {
+            rest.next()
+        };
+        let marks = match first {
+            Some(first) => with_first_marked(first),
             None => B::zero(),
         };
-        let mut rest = Blocks::over(summary);
-        rest.pass(summary.len().min(1));
         Nonzero {
             blocks,
             summary: rest,

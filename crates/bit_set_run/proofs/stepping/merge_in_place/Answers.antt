@@ -1,8 +1,9 @@
-use Rattle.std.proofs.Common.{◌≡◌, get_or, sym, ap, ◌∙◌, arith}
+use Rattle.std.proofs.Common.{◌≡◌, get_or, length, sym, ap, ◌∙◌, arith}
 use Rattle.std.proofs.lemmas.Result.{err_from_is_err_and}
 use Rattle.bit_set.specs.Sets.{merged_sets}
+use Rattle.bit_set_run.specs.Capacities.{bits_at, GrowsTo}
 use Rattle.bit_set_run.specs.Kept.{kept}
-use Rattle.bit_set_run.proofs.SteppingLemmas.{changed_by, put_back}
+use Rattle.bit_set_run.proofs.SteppingLemmas.{changed_by, changed_outside, grows_along, put_back, read_beside}
 use Rattle.bit_set_run.proofs.stepping.merge_in_place.Goals as goal
 
 pub returns-clause-after : goal.returns-clause-after
@@ -18,3 +19,11 @@ returns-in_err-merged-clause-left g c =
     let kept_whole : c.merge_with-merged.new.set ≡ c.index-sets-to.result = cc (c.in_err-merged.ensures.err) in
     let p = err_from_is_err_and c.from_residual.result c.from_residual.ensures.1 in
     rw p.1 (put_back sets c.args.to c.replace-set.new.dest c.merge_with-merged.new.set (kept_whole ∙ c.index-sets-to.is ∙ ap (λ d. get_or sets c.args.to d) (sym kept_whole)))
+
+pub returns-clause-grown : goal.returns-clause-grown
+returns-clause-grown g c =
+    let sets = c.args.sets.now in
+    let was : c.replace-set.result ≡ c.index-sets-to.result = cc (c.replace-set.ensures.value) in
+    let source = sym c.index-sets-other.is ∙ read_beside sets c.args.other c.args.to c.replace-set.new.dest c.index-sets-other.result (omega (arith, c.told-sets)) (λ e. c.requires.apart (sym e)) c.index-sets-other.is in
+    changed_outside sets c.args.to c.replace-set.new.dest c.index-sets-to.result c.merge_with-merged.new.set (GrowsTo (length (bits_at sets c.args.other).values)) (omega (arith, c.told-sets)) c.index-sets-to.is
+    (grows_along _ _ _ _ c.merge_with-merged.new.set was source c.in_ok-merged.ensures.grown)

@@ -75,7 +75,8 @@ impl<B: BitBlock> BitVec<B> {
 
     /// Appends `n` values `bit`; the new length must fit a `usize`. Writes each new block once, and the
     /// old last one where it takes ones. Within the room it takes no memory; where the room was missing
-    /// it moves the old blocks. Fails only there, and then nothing changed.
+    /// it moves the old blocks. Fails only there; the list and the capacity then stay, though part of the
+    /// memory may be kept.
     pub fn grow(&mut self, n: usize, bit: bool) -> Result<(), AllocError>
         requires { length self.old.values + n ≤ usize.MAX }
         ensures ok { OnOk result (self.new.values ≡ self.old.values ++ replicate n bit) }
@@ -113,8 +114,8 @@ impl<B: BitBlock> BitVec<B> {
     }
 
     /// Takes over the list of `other`, in one pass over its blocks. Within the room it takes no memory;
-    /// where the room was missing it asks for new blocks, as many as `other` has. Fails only there, and
-    /// then nothing changed.
+    /// where the room was missing it takes new blocks, and the capacity becomes that of the blocks of
+    /// `other`. Fails only there, and then nothing changed.
     pub fn clone_from(&mut self, other: &Self) -> Result<(), AllocError>
         ensures ok { OnOk result (self.new.values ≡ other.now.values) }
         ensures err { OnErr result (self.new ≡ self.old) }

@@ -48,7 +48,7 @@ impl BitVec<u32> {
         BitVec::new_general(alloc)
     }
 
-    /// `n` times `bit`, over blocks of 32 bits. Writes each block once. Asks for its blocks and no more.
+    /// `n` times `bit`, over blocks of 32 bits. Writes each block once. The capacity is that of its blocks.
     /// Fails only where memory is refused, and never for `n` 0.
     pub fn from_elem(alloc: Global, n: usize, bit: bool) -> Result<Self, AllocError>
         ensures values { IfOk result (λ vector. vector.values ≡ replicate n bit) }
@@ -60,7 +60,7 @@ impl BitVec<u32> {
     }
 
     /// The bits of each byte in turn, from the highest down, over blocks of 32 bits. One step a byte.
-    /// Asks for its blocks and no more.
+    /// The capacity is that of its blocks.
     ///
     /// `Length` comes exactly where there are more values than `usize::MAX`, and before memory is asked
     /// for; `Memory` only where that is refused, and never for no bytes.
@@ -86,7 +86,7 @@ impl<B: BitBlock> BitVec<B> {
         }
     }
 
-    /// `n` times `bit`. Writes each block once. Asks for its blocks and no more. Fails only where memory
+    /// `n` times `bit`. Writes each block once. The capacity is that of its blocks. Fails only where memory
     /// is refused, and never for `n` 0.
     pub fn from_elem_general(alloc: Global, n: usize, bit: bool) -> Result<Self, AllocError>
         ensures values { IfOk result (λ vector. vector.values ≡ replicate n bit) }
@@ -100,8 +100,8 @@ impl<B: BitBlock> BitVec<B> {
         Ok(vector)
     }
 
-    /// The bits of each byte in turn, from the highest down. One step a byte. Asks for its blocks and no
-    /// more.
+    /// The bits of each byte in turn, from the highest down. One step a byte. The capacity is that of its
+    /// blocks.
     ///
     /// `Length` comes exactly where there are more values than `usize::MAX`, and before memory is asked
     /// for; `Memory` only where that is refused, and never for no bytes.
@@ -119,7 +119,7 @@ impl<B: BitBlock> BitVec<B> {
         Ok(BitVec { bits, summary })
     }
 
-    /// A bit vector of the same list. Copies each block once. Asks for its blocks and no more. Fails only
+    /// A bit vector of the same list. Copies each block once. Its capacity is that of its blocks. Fails only
     /// where memory is refused, and never for an empty list.
     pub fn clone(&self, alloc: Global) -> Result<Self, AllocError>
         ensures values { IfOk result (λ vector. vector.values ≡ self.now.values) }
@@ -132,8 +132,8 @@ impl<B: BitBlock> BitVec<B> {
     }
 
     /// A bit vector of the same length and the same values from `at` on, which is below the length; those
-    /// before it are false. Writes each block once, those before that of `at` as zeros. Asks for its blocks
-    /// and no more. Fails only where memory is refused.
+    /// before it are false. Writes each block once, those before that of `at` as zeros. Its capacity is that
+    /// of its blocks. Fails only where memory is refused.
     pub fn clone_tail(&self, alloc: Global, at: usize) -> Result<Self, AllocError>
         requires { at < length self.now.values }
         ensures values { IfOk result (λ vector. vector.values ≡ replicate at false ++ drop at self.now.values) }

@@ -10,8 +10,8 @@ use std::alloc::AllocError;
 
 impl<B: BitBlock> BitVec<B> {
     /// Makes room for `n` values more than there are; so many must fit a `usize`. Where the room was
-    /// missing it asks for twice the old at least, and may move the blocks. Fails only there, and then
-    /// nothing changed.
+    /// missing it asks for twice the old at least, and may move the blocks. Fails only there; the list and
+    /// the capacity then stay, though part of the memory may be kept.
     pub fn reserve(&mut self, n: usize) -> Result<(), AllocError>
         requires { length self.old.values + n ≤ usize.MAX }
         ensures values { self.new.values ≡ self.old.values }
@@ -27,8 +27,8 @@ impl<B: BitBlock> BitVec<B> {
     }
 
     /// Makes room for `n` values more than there are; so many must fit a `usize`. Where the room was
-    /// missing it asks for the blocks that they take and no more, and may move the blocks. Fails only
-    /// there, and then nothing changed.
+    /// missing the capacity becomes that of the blocks that they take; this may move the blocks. Fails only
+    /// there; the list and the capacity then stay, though part of the memory may be kept.
     pub fn reserve_exact(&mut self, n: usize) -> Result<(), AllocError>
         requires { length self.old.values + n ≤ usize.MAX }
         ensures values { self.new.values ≡ self.old.values }
@@ -65,7 +65,7 @@ impl<B: BitBlock> BitVec<B> {
 
     /// Makes the list as long as its blocks up to the last that is not 0: the true values stay, and so
     /// the list can become longer by false values. Nothing where it would be longer than `usize::MAX`.
-    /// Reads each block once at most, and takes no memory.
+    /// Looks for that block by the summary, among as many blocks as a block has bits. Takes no memory.
     pub fn cut_zero_blocks(&mut self)
         ensures true_values { (i : ℕ) → (slice_get self.new.values i ≡ Some true) ↔ (slice_get self.old.values i ≡ Some true) }
         ensures len { length self.new.values ≡ whole_blocks B.width self.old.values }

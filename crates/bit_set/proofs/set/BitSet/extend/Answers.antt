@@ -14,6 +14,9 @@ loop-item-preserved g c = record {
       let parts = All-pop (λ item. item < c.args.self.now.room) (c.loop-item.yielded ++ c.in-Some.item ∷ []) c.loop-item.yielded (Some c.in-Some.item) refl low in
       let before = c.loop-item.invariant.within parts.0 in
       c.insert.ensures.within (omega (arith, parts.1, before)) ∙ before;
+  kept = λ short.
+      let before = c.loop-item.invariant.kept (omega (arith, short, c.in_ok-insert.ensures.length)) in
+      c.insert.ensures.within (omega (arith, short, before, c.in_ok-insert.ensures.length)) ∙ before;
 }
 
 pub returns-in_err-insert-clause-succeeds : goal.returns-in_err-insert-clause-succeeds

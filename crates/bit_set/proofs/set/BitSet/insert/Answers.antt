@@ -1,6 +1,8 @@
 use Rattle.std.proofs.Common.{◌≡◌, ◌+◌, ◌-◌, ◌<◌, ◌++◌, length, replicate, not, false, ap, ◌∙◌, refl, arith, length-append}
 use Rattle.std.proofs.lemmas.List.{length-replicate}
 use Rattle.bit_set.proofs.ValueLemmas.{has-grown, has-read, elements-grown, elements-raised}
+use Rattle.bit_set.specs.Bounds.{greatest}
+use Rattle.bit_set.proofs.CallLemmas.{changes_inserted}
 use Rattle.bit_set.proofs.set.BitSet.insert.Goals as goal
 use Rattle.bit_set.proofs.set.BitSet.insert.Goals.{then-value-len+in_ok-lengthen_past, else-value-len}
 
@@ -26,3 +28,11 @@ returns-clause-elements g c =
           let same : length c.self.inside.bits.values ≡ length values = ap (λ bits. length bits.values) c.self.view_is in
           rw (c.self-2.view_is, w.self-is) (elements-raised values value (omega arith))
     ])
+
+pub returns-clause-changes : goal.returns-clause-changes
+returns-clause-changes g c =
+    let fits : c.args.value < greatest = elim c.if-value-len.branch [
+      | then-value-len+in_ok-lengthen_past w ↦ omega (arith, w.in_ok-lengthen_past.ensures.fit)
+      | else-value-len w ↦ omega (arith, c.len.ensures.fits.holds_values, c.len.ensures.fits.fits)
+    ] in
+    changes_inserted c.args.value _ c.args.self.now.values c.replace.new.self.values fits (returns-clause-answer g c) (returns-clause-elements g c)

@@ -1,6 +1,9 @@
-use Rattle.std.proofs.Common.{length}
+use Rattle.std.proofs.Common.{length, refl}
 use Rattle.bit_set.proofs.ValueLemmas.{elements-all_false}
 use Rattle.bit_set.proofs.set.BitSet.make_empty.Goals as goal
 
 pub returns-clause-elements : goal.returns-clause-elements
 returns-clause-elements g c = rw c.fill.ensures.values (elements-all_false (length c.self.inside.bits.values))
+
+pub returns-clause-changes : goal.returns-clause-changes
+returns-clause-changes g c = (returns-clause-elements g c, refl)

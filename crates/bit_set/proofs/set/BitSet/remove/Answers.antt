@@ -1,7 +1,8 @@
-use Rattle.std.proofs.Common.{sym, arith}
+use Rattle.std.proofs.Common.{sym, ap, arith}
 use Rattle.bit_set.specs.Sets.{elements}
 use Rattle.bit_set.proofs.SetLemmas.{IsAscending-elements, without_absent}
 use Rattle.bit_set.proofs.ValueLemmas.{elements-lowered, has-past, has-read}
+use Rattle.bit_set.specs.Calls.Outcome.{Returned}
 use Rattle.bit_set.proofs.set.BitSet.remove.Goals as goal
 
 pub returns-then-value-len-clause-answer : goal.returns-then-value-len-clause-answer
@@ -17,3 +18,9 @@ returns-clause-answer g c = rw (← c.self.view_is) (has-read c.self.inside.bits
 
 pub returns-clause-elements : goal.returns-clause-elements
 returns-clause-elements g c = rw (c.replace.ensures.values, ← c.self.view_is) (elements-lowered c.self.inside.bits.values c.args.value)
+
+pub returns-then-value-len-clause-changes : goal.returns-then-value-len-clause-changes
+returns-then-value-len-clause-changes g c = (returns-then-value-len-clause-elements g c, ap Returned (returns-then-value-len-clause-answer g c))
+
+pub returns-clause-changes : goal.returns-clause-changes
+returns-clause-changes g c = (returns-clause-elements g c, ap Returned (returns-clause-answer g c))

@@ -2,6 +2,7 @@ use Rattle.std.proofs.Common.{ap, length, ◌∙◌, arith}
 use Rattle.bit_words.specs.Bits.{whole_blocks}
 use Rattle.bit_set.specs.Sets.{elements}
 use Rattle.bit_set.proofs.RoomLemmas.{elements-true_values, whole_blocks-cut, whole_blocks-empty, whole_blocks-top}
+use Rattle.bit_set.proofs.CallLemmas.{changes_shrunk}
 use Rattle.bit_set.proofs.set.BitSet.shrink_to_fit.Goals as goal
 
 pub returns-clause-elements : goal.returns-clause-elements
@@ -19,3 +20,6 @@ pub returns-clause-top : goal.returns-clause-top
 returns-clause-top g c = λ past.
     ap length c.shrink_to_fit.ensures.values ∙ c.cut_zero_blocks.ensures.len ∙ ap (λ bits. whole_blocks g.B.BitBlock.width bits.values) c.self.view_is
     ∙ whole_blocks-top g.B.BitBlock.width c.args.self.now.values (omega (arith, past))
+
+pub returns-clause-changes : goal.returns-clause-changes
+returns-clause-changes g c = changes_shrunk c.shrink_to_fit.result c.args.self.now.values c.shrink_to_fit.new.self.values (returns-clause-elements g c)

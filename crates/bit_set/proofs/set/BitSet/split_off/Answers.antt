@@ -1,4 +1,4 @@
-use Rattle.std.proofs.Common.{◌≡◌, ◌≤◌, length, arith}
+use Rattle.std.proofs.Common.{◌≡◌, ◌≤◌, length, refl, arith}
 use Rattle.bit_set.specs.Sets.{elements}
 use Rattle.bit_set.proofs.SetLemmas.{IsAscending-elements}
 use Rattle.bit_set.proofs.SplitLemmas.{all_below, all_from, elements-tail, none_below, none_from}
@@ -32,3 +32,12 @@ returns-clause-elements g c = rw (c.truncate.ensures.values, ← c.self.view_is)
 
 pub returns-clause-part : goal.returns-clause-part
 returns-clause-part g c = rw (c.in_ok-bits.ensures.values, ← c.self.view_is) (elements-tail c.self.inside.bits.values c.args.at)
+
+pub returns-then-at-eq0-clause-changes : goal.returns-then-at-eq0-clause-changes
+returns-then-at-eq0-clause-changes g c = (returns-then-at-eq0-clause-elements g c, refl)
+
+pub returns-then-at-len-clause-changes : goal.returns-then-at-len-clause-changes
+returns-then-at-len-clause-changes g c = (returns-then-at-len-clause-elements g c, refl)
+
+pub returns-clause-changes : goal.returns-clause-changes
+returns-clause-changes g c = (returns-clause-elements g c, refl)

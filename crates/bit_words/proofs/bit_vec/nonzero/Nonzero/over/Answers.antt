@@ -1,25 +1,30 @@
-use Rattle.std.proofs.Common.{◌≡◌, ◌∷◌, [], List, Some, None, drop, length, min, sym, ap, ◌∙◌, refl, subst, All, slice_get, ℕ, arith}
-use Rattle.std.specs.Option.{unwrap_or, option_copied}
-use Rattle.std.proofs.lemmas.List.{drop_all}
+use Rattle.std.proofs.Common.{◌≡◌, ◌∷◌, [], List, Option, None, sym, ap, ◌∙◌, refl, subst, All}
+use Rattle.std.specs.Iterator.{YieldsFirst}
+use Rattle.std.proofs.lemmas.List.{nil_from_length}
 use Rattle.std.proofs.lemmas.List.Elements.{All-tail}
+use Rattle.std.proofs.lemmas.Bool.{eqb-true}
 use Rattle.bit_words.specs.Marks.{IsMarked}
 use Rattle.bit_words.proofs.NonzeroLemmas.{IsMarked-begun, left-begun, IsMarked-none, left-none}
-use Rattle.bit_words.proofs.bit_vec.nonzero.Nonzero.over.Goals.{in-Some, in-None}
+use Rattle.bit_words.proofs.bit_vec.nonzero.Nonzero.over.Goals.{After-new, then-is_empty, else-is_empty, in-Some, in-None}
+use Rattle.bit_words.proofs.bit_vec.nonzero.Nonzero.over.Given.{Over}
 use Rattle.bit_words.proofs.bit_vec.nonzero.Nonzero.over.Goals as goal
 
--- a first block, and what `pass` leaves of the others
-with_first : {X : Type 0} (xs : List X) (first : X) → slice_get xs 0 ≡ Some first → xs ≡ first ∷ drop (min (length xs) 1) xs
-with_first [] first is = absurd (let e = is in cc)
-with_first (x ∷ xs) first is =
-    ap (λ r. unwrap_or r x ∷ xs) is
-    ∙ ap (λ n. first ∷ drop n (x ∷ xs)) (let e : 1 ≡ min (length (x ∷ xs)) 1 = omega arith in e)
+same_pull : {X : Type 0} (xs xs' ys ys' : List X) (r r' : Option X) → xs ≡ xs' → ys ≡ ys' → r ≡ r' → YieldsFirst (λ zs. zs) xs r ys → YieldsFirst (λ zs. zs) xs' r' ys'
+same_pull xs xs' ys ys' r r' old new item pull =
+    subst (λ zs. YieldsFirst (λ us. us) zs r' ys') old (subst (λ zs. YieldsFirst (λ us. us) xs r' zs) new (subst (λ o. YieldsFirst (λ us. us) xs o ys) item pull))
 
-with_none : {X : Type 0} (xs : List X) → slice_get xs 0 ≡ None → xs ≡ []
-with_none [] is = refl
-with_none (x ∷ xs) is = absurd (let e = is in cc)
-
-no_more : {X : Type 0} (n : ℕ) → drop {A = X} n [] ≡ []
-no_more n = drop_all n [] (omega arith)
+-- the first block of the summary, and those past it
+pulled : (g : Over) (c : After-new g) → YieldsFirst (λ zs. zs) c.args.summary.now c.if-is_empty.first c.if-is_empty.rest.left
+pulled g c =
+    let all = c.over-rest.ensures.left in
+    elim c.if-is_empty.branch [
+      | then-is_empty at ↦
+          let none : c.args.summary.now ≡ [] = nil_from_length c.args.summary.now (eqb-true _ _ (sym c.is_empty.ensures ∙ at.if-is_empty.true)) in
+          let left : c.if-is_empty.rest.left ≡ [] = ap (λ s. s.left) at.rest-is ∙ all ∙ none in
+          same_pull [] c.args.summary.now [] c.if-is_empty.rest.left None c.if-is_empty.first (sym none) (sym left) (sym at.first-is) (refl, refl)
+      | else-is_empty at ↦
+          same_pull c.over-rest.result.left c.args.summary.now at.next-first.new.self.left c.if-is_empty.rest.left at.next-first.result c.if-is_empty.first all (sym (ap (λ s. s.left) at.rest-is)) (sym at.first-is) at.next-first.ensures.steps.item
+    ]
 
 pub invariant_of-result : goal.invariant_of-result
 invariant_of-result g c =
@@ -28,20 +33,18 @@ invariant_of-result g c =
     let is_block = g.B.BitBlock.is_block in
     let xs = c.args.blocks.now in
     let sums = c.args.summary.now in
-    let rest = drop c.min.result c.over-rest.result.left in
+    let rest = c.if-is_empty.rest.left in
     let pos = g.met.B.BitBlock.width_law.positive in
-    let same : drop (min (length sums) 1) sums ≡ rest = sym (ap (λ n. drop n c.over-rest.result.left) c.min.ensures ∙ ap (drop (min (length sums) 1)) c.over-rest.ensures.left) in
-    rw c.pass.ensures.left (elim c.match-first.branch [
+    let first = pulled g c in
+    elim c.match-first.branch [
       | in-Some at ↦
-          let first = at.in-Some.first.now in
-          let more : sums ≡ first ∷ rest = with_first sums first (sym c.first.ensures.value ∙ ap option_copied at.in-Some.is) ∙ ap (λ ys. first ∷ ys) same in
-          let blocks = All-tail is_block first rest (subst (All is_block) more c.requires.summary.tidy.each) in
-          rw at.marks-is (IsMarked-begun w number is_block at.with_first_marked-marks.result first xs sums rest pos c.requires.each c.requires.fits c.requires.summary more at.with_first_marked-marks.ensures.of_block blocks at.with_first_marked-marks.ensures.of_digits)
+          let more : sums ≡ at.in-Some.first ∷ rest = subst (λ o. YieldsFirst (λ zs. zs) sums o rest) at.in-Some.is first in
+          let blocks = All-tail is_block at.in-Some.first rest (subst (All is_block) more c.requires.summary.tidy.each) in
+          rw at.marks-is (IsMarked-begun w number is_block at.with_first_marked-marks.result at.in-Some.first xs sums rest pos c.requires.each c.requires.fits c.requires.summary more at.with_first_marked-marks.ensures.of_block blocks at.with_first_marked-marks.ensures.of_digits)
       | in-None at ↦
-          let none = with_none sums (sym c.first.ensures.value ∙ ap option_copied at.in-None.is) in
-          let ended : sums ≡ rest = none ∙ sym (ap (drop (min (length sums) 1)) none ∙ no_more (min (length sums) 1)) ∙ same in
-          rw at.marks-is (subst (IsMarked w number is_block 0 at.zero-marks.result xs) ended (IsMarked-none w number is_block at.zero-marks.result xs sums pos c.requires.each c.requires.fits c.requires.summary none at.zero-marks.ensures.of_block at.zero-marks.ensures.of_number))
-    ])
+          let none = subst (λ o. YieldsFirst (λ zs. zs) sums o rest) at.in-None.is first in
+          rw at.marks-is (subst (IsMarked w number is_block 0 at.zero-marks.result xs) (none.0 ∙ sym none.1) (IsMarked-none w number is_block at.zero-marks.result xs sums pos c.requires.each c.requires.fits c.requires.summary none.0 at.zero-marks.ensures.of_block at.zero-marks.ensures.of_number))
+    ]
 
 pub returns-clause-left : goal.returns-clause-left
 returns-clause-left g c =
@@ -50,11 +53,14 @@ returns-clause-left g c =
     let is_block = g.B.BitBlock.is_block in
     let xs = c.args.blocks.now in
     let sums = c.args.summary.now in
+    let rest = c.if-is_empty.rest.left in
     let pos = g.met.B.BitBlock.width_law.positive in
+    let first = pulled g c in
     elim c.match-first.branch [
       | in-Some at ↦
-          let more = with_first sums at.in-Some.first.now (sym c.first.ensures.value ∙ ap option_copied at.in-Some.is) in
-          rw at.marks-is (left-begun w number is_block at.with_first_marked-marks.result at.in-Some.first.now xs sums (drop (min (length sums) 1) sums) pos c.requires.summary more at.with_first_marked-marks.ensures.of_digits)
+          let more : sums ≡ at.in-Some.first ∷ rest = subst (λ o. YieldsFirst (λ zs. zs) sums o rest) at.in-Some.is first in
+          rw at.marks-is (left-begun w number is_block at.with_first_marked-marks.result at.in-Some.first xs sums rest pos c.requires.summary more at.with_first_marked-marks.ensures.of_digits)
       | in-None at ↦
-          left-none w number is_block (number c.match-first.marks) xs sums pos c.requires.summary (with_none sums (sym c.first.ensures.value ∙ ap option_copied at.in-None.is))
+          let none = subst (λ o. YieldsFirst (λ zs. zs) sums o rest) at.in-None.is first in
+          left-none w number is_block (number c.match-first.marks) xs sums pos c.requires.summary none.0
     ]

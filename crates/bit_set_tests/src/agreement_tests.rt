@@ -1,0 +1,74 @@
+//! Sets of the same elements over two block types: no test and no walk tells them apart, as the laws say.
+ghost use Rattle.std.specs.Prelude.{◌≡◌, OnOk};
+ghost use Rattle.bit_set.specs.Sets.{elements};
+
+use bit_set::laws::{calls_are_set_algebra, full_walks, tests_agree, walks_agree};
+use bit_set::{BitBlock, BitSet, SetError};
+use block24::Block24;
+use std::alloc::Global;
+use std::test::Fail;
+
+// The same calls on two sets of the same elements: they have the same elements again.
+fn change_both<A: BitBlock, B: BitBlock>(
+    a: &mut BitSet<A>,
+    b: &mut BitSet<B>,
+    value: usize,
+) -> Result<(), SetError>
+    requires { elements a.old.values ≡ elements b.old.values }
+    ensures { OnOk result (elements a.new.values ≡ elements b.new.values) }
+{
+    a.reserve_len(200)?;
+    a.insert(value)?;
+    b.insert(value)?;
+    a.truncate(100);
+    b.truncate(100);
+    b.shrink_to_fit()?;
+    Ok(())
+}
+
+// The first two items of each set, and how many follow.
+fn walk_both<A: BitBlock + 'static, B: BitBlock + 'static>(
+    a: &BitSet<A>,
+    b: &BitSet<B>,
+) -> (Option<usize>, Option<usize>, usize)
+    requires { elements a.now.values ≡ elements b.now.values }
+{
+    walks_agree::<A, B>();
+    let mut walk = a.iter();
+    let mut other = b.iter();
+    let first = walk.next();
+    let other_first = other.next();
+    prove!(first == other_first);
+    let second = walk.next();
+    let other_second = other.next();
+    prove!(second == other_second);
+    let left = walk.clone().count();
+    let other_left = other.clone().count();
+    prove!(left == other_left);
+    (first, second, left)
+}
+
+// {3, 40, 77} over two block types, with other lengths and capacities.
+fn walked<A: BitBlock + 'static, B: BitBlock + 'static>(
+    alloc: Global,
+) -> Result<(Option<usize>, Option<usize>, usize), SetError> {
+    let mut a = BitSet::<A>::with_capacity_general(alloc, 500)?;
+    let mut b = BitSet::<B>::new_general(alloc);
+    change_both(&mut a, &mut b, 77)?;
+    change_both(&mut a, &mut b, 3)?;
+    change_both(&mut a, &mut b, 40)?;
+    change_both(&mut a, &mut b, 101)?;
+    tests_agree(&a, &a, &b, &b, 40);
+    Ok(walk_both(&a, &b))
+}
+
+#[test]
+fn sets_over_two_block_types_agree(rt: HostRuntime) -> Result<(), Fail> {
+    calls_are_set_algebra();
+    full_walks::<u8>();
+    let items = (Some(3), Some(40), 1);
+    assert_eq!(rt; walked::<u8, u128>(rt.alloc())?, items);
+    assert_eq!(rt; walked::<Block24, u32>(rt.alloc())?, items);
+    assert_eq!(rt; walked::<usize, Block24>(rt.alloc())?, items);
+    Ok(())
+}

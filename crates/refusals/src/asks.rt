@@ -1,0 +1,64 @@
+// What memory a call may ask for, by plain arithmetic on lengths and widths that knows nothing of the library.
+
+/// Memory that a call may ask for.
+#[derive(Clone, Copy)]
+pub enum Ask {
+    /// The blocks of a list of this length and their summary, and no more.
+    Exact(usize),
+    /// The same where they grow: for each of the two twice what it takes, and 8 blocks at least.
+    Grown(usize),
+    /// So many requests, of so many bytes together.
+    Other(usize, usize),
+}
+
+/// How often a call may ask for memory, and for how many bytes together.
+#[derive(Clone, Copy)]
+pub struct Bound {
+    pub requests: usize,
+    pub bytes: usize,
+}
+
+// So many blocks, or twice as many and 8 at least where they grow.
+fn asked(blocks: usize, grows: bool) -> usize {
+    if grows {
+        blocks.saturating_mul(2).max(8)
+    } else {
+        blocks
+    }
+}
+
+// A list of this length, over blocks of so many bits: its blocks, and a bit for each of them.
+fn bound_of_list(len: usize, width: usize, grows: bool) -> Bound {
+    let count = len.div_ceil(width.max(1));
+    let rows = count.div_ceil(width.max(1));
+    let blocks = asked(count, grows).saturating_add(asked(rows, grows));
+    Bound {
+        requests: 2,
+        bytes: blocks.saturating_mul(width / 8),
+    }
+}
+
+impl Ask {
+    // What this is over blocks of so many bits.
+    fn bound(self, width: usize) -> Bound {
+        match self {
+            Ask::Exact(len) => bound_of_list(len, width, false),
+            Ask::Grown(len) => bound_of_list(len, width, true),
+            Ask::Other(requests, bytes) => Bound { requests, bytes },
+        }
+    }
+}
+
+/// All of these together, over blocks of so many bits.
+pub fn bound_of(asks: &[Ask], width: usize) -> Bound {
+    let mut all = Bound {
+        requests: 0,
+        bytes: 0,
+    };
+    for ask in asks {
+        let one = ask.bound(width);
+        all.requests = all.requests.saturating_add(one.requests);
+        all.bytes = all.bytes.saturating_add(one.bytes);
+    }
+    all
+}
