@@ -13,8 +13,8 @@ use thiserror::Error;
 pub enum RunFault {
     /// Memory was refused at the command of this place, counted from 0. Those before it were executed and answered.
     ///
-    /// `?` makes an [`AllocError`] or an [`AllocFailed`] of another call `usize::MAX`, the place of no command: [`run`]
-    /// never returns it.
+    /// `usize::MAX` is the place of no command. [`run`] never returns it; `?` gives it to the [`AllocError`] or the
+    /// [`AllocFailed`] of another call.
     #[error("memory refused")]
     Memory(usize),
 }

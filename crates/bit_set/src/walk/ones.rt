@@ -10,9 +10,6 @@ use crate::BitBlock;
 use crate::bit_vec::take_lowest_one;
 use std::marker::Model;
 
-// Up to so many ones a block, the branch that leaves a block costs more than steps without one.
-const FEW: usize = 4;
-
 // The places of the ones of the blocks of a source, in ascending order.
 #[derive(Drop)]
 pub(crate) struct Ones<S: BlockSource<B>, B: BitBlock> {
@@ -21,7 +18,7 @@ pub(crate) struct Ones<S: BlockSource<B>, B: BitBlock> {
     block: B,
     // The place of its lowest digit.
     place: usize,
-    // Whether the first block had few ones, but some: then the others are taken to have few, too. It changes no answer.
+    // Whether blocks are taken to have few ones, as the first one does. It changes no answer.
     sparse: bool,
 }
 
@@ -49,13 +46,13 @@ impl<S: BlockSource<B>, B: BitBlock> Ones<S, B> {
         ensures fits { length result.left < 2 ^ 64 }
     {
         let mut source = source;
-        let block = source.pull().unwrap_or(B::zero());
-        let ones = block.count_ones();
+        let first = source.pull_with_kind();
+        let block = first.0.unwrap_or(B::zero());
         Ones {
             source,
             block,
             place: 0,
-            sparse: 0 < ones && ones <= FEW,
+            sparse: first.1,
         }
     }
 

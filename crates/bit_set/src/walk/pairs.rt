@@ -14,6 +14,9 @@ use crate::bit_vec::{BitVec, Blocks, Merge};
 // How many pairs of blocks are counted at a time.
 const GROUP: usize = 8;
 
+// Up to so many ones a block, the branch that leaves a block costs more than steps without one.
+const FEW: usize = 4;
+
 // Two sides that are pulled as one, an ended side too.
 #[derive(Drop)]
 pub(crate) struct Pairs<'a, B: BitBlock> {
@@ -33,9 +36,17 @@ impl<'a, B: BitBlock> BlockSource<B> for Pairs<'a, B> {
 
     #[inline]
     fn pull(&mut self) -> Option<B> {
+        self.pull_with_kind().0
+    }
+
+    #[inline]
+    fn pull_with_kind(&mut self) -> (Option<B>, bool) {
         let first = self.first.next();
         let second = self.second.next();
-        merged_block(self.merge, first, second)
+        let block = merged_block(self.merge, first, second);
+        // Two blocks of zeros say nothing.
+        let is_sparse = has_few_ones(block) && (has_ones(first) || has_ones(second));
+        (block, is_sparse)
     }
 
     // Once a side has ended, `pull` alone goes on: a pull that finds the end of both is then counted once. That test is
@@ -72,6 +83,25 @@ impl<'a, B: BitBlock> BlockSource<B> for Pairs<'a, B> {
             second: self.second.clone(),
             merge: self.merge,
         }
+    }
+}
+
+// Whether a block was pulled that has few ones.
+#[inline]
+fn has_few_ones<B: BitBlock>(block: Option<B>) -> bool
+    requires { IfSome block B.is_block }
+{
+    match block {
+        Some(block) => block.count_ones() <= FEW,
+        None => false,
+    }
+}
+
+#[inline]
+fn has_ones<B: BitBlock>(block: Option<B>) -> bool {
+    match block {
+        Some(block) => block != B::zero(),
+        None => false,
     }
 }
 

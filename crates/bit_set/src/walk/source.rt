@@ -22,6 +22,13 @@ pub(crate) trait BlockSource<B: BitBlock>: Drop {
         ensures given { IfSome result B.is_block }
         ensures sound { is_sound self.new };
 
+    // The same, and whether the walk is taken to be over blocks with few ones, from what was pulled.
+    fn pull_with_kind(&mut self) -> (Option<B>, bool)
+        requires { is_sound self.old }
+        ensures steps { PullsBlock B.width B.number (ahead self.old) result.0 (ahead self.new) }
+        ensures given { IfSome result.0 B.is_block }
+        ensures sound { is_sound self.new };
+
     // The next block, pulled, and 1, where it is wanted and the source has it without a branch. Else zeros and 0, and
     // nothing is pulled.
     fn pull_if(&mut self, wanted: bool) -> (B, usize)

@@ -52,8 +52,9 @@ impl<'a, B: BitBlock> Blocks<'a, B> {
         self.blocks.split_at(self.at).1
     }
 
-    /// A call of `next` where the block is wanted, and else a block of zeros and no pull. No branch tells
-    /// the two apart, for a caller whose wishes a processor predicts badly. Constant time.
+    /// [`next`](Self::next) where the block is wanted. Else it gives a block of zeros, makes no pull and
+    /// leaves the walk as it was. No branch depends on `wanted`: for a caller whose branch on it would be
+    /// predicted badly. Constant time.
     #[inline]
     pub fn next_if(&mut self, wanted: bool) -> Option<B>
         ensures { PullsIf B.is_block B.number wanted self.old result self.new }
@@ -64,7 +65,7 @@ impl<'a, B: BitBlock> Blocks<'a, B> {
         let Some(next) = self.as_slice().first() else {
             return (!wanted).then_some(B::zero());
         };
-        // Read in any case, so that what depends on the wish is a conditional move.
+        // Read in any case, so that what depends on `wanted` is a conditional move.
         let block = *next;
         self.at += usize::from(wanted);
         Some(if wanted { block } else { B::zero() })
