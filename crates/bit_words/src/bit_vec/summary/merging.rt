@@ -153,6 +153,7 @@ fn update_summary_rest<B: BitBlock, O: Operation>(
 }
 
 // Each value becomes its merge with that of `other`, and the summary is that of what they become.
+#[inline(always)]
 fn merge_summarized<B: BitBlock, O: Operation>(
     bits: &mut Packed<B>,
     summary: &mut Packed<B>,
@@ -175,6 +176,7 @@ fn merge_summarized<B: BitBlock, O: Operation>(
 }
 
 // The same of a union, where the summary of the other list is given.
+#[inline(always)]
 fn merge_union<B: BitBlock>(
     bits: &mut Packed<B>,
     summary: &mut Packed<B>,
@@ -196,6 +198,7 @@ fn merge_union<B: BitBlock>(
 }
 
 // The same of the merge that is named.
+#[inline(always)]
 pub(crate) fn merge_by<B: BitBlock>(
     bits: &mut Packed<B>,
     summary: &mut Packed<B>,
