@@ -60,5 +60,6 @@ abbrev pub IsFirstFault : ℕ → Data → JsonError → Type 0
 IsFirstFault w d Shape = ¬ HasShape d
 IsFirstFault w d Number = HasShape d × ((ms : List ℕ) (n : ℕ) → ¬ HasNumbers w d ms n)
 IsFirstFault w d Blocks = HasShape d × ((ms : List ℕ) × (n : ℕ) × HasNumbers w d ms n × (length ms ≢ blocks_for w n))
-IsFirstFault w d Unclean = HasShape d × ((ms : List ℕ) × (n : ℕ) × HasNumbers w d ms n × (length ms ≡ blocks_for w n) × ¬ IsClean w ms n)
+IsFirstFault w d Unclean = HasShape d
+    × ((ms : List ℕ) × (n : ℕ) × HasNumbers w d ms n × (length ms ≡ blocks_for w n) × ¬ IsClean w ms n)
 IsFirstFault w d (Memory _) = ⊥

@@ -28,13 +28,15 @@ pub record Ahead : Type 0 where
 
 -- a pull that gave r: the first block, or None where there is none, and one more pull, at the end too
 pub record PullsBlock {X : Type 0} (w : ℕ) (number : X → ℕ) (s : Ahead) (r : Option X) (t : Ahead) : Type 0 where
-  pub values : MatchOption r ((s.values ≡ []) × (t.values ≡ [])) (λ x. s.values ≡ digits_from (number x) 0 w ++ t.values)
+  pub values : MatchOption r ((s.values ≡ []) × (t.values ≡ []))
+      (λ x. s.values ≡ digits_from (number x) 0 w ++ t.values)
   pub blocks : MatchOption r ((s.blocks ≡ 0) × (t.blocks ≡ 0)) (λ _. s.blocks ≡ t.blocks + 1)
   pub counted : t.pulls ≡ s.pulls + 1
 
 -- a pull that may be left out: nothing and zero for a block, or, where it was wanted, the first block r
 abbrev pub PullsBlockIf : {X : Type 0} → ℕ → (X → ℕ) → Bool → Ahead → X → ℕ → Ahead → Type 0
-PullsBlockIf w number wanted s r count t = ((count ≡ 0) × (number r ≡ 0) × (t ≡ s)) ⊎ ((count ≡ 1) × (wanted ≡ true) × PullsBlock w number s (Some r) t)
+PullsBlockIf w number wanted s r count t = ((count ≡ 0) × (number r ≡ 0) × (t ≡ s))
+    ⊎ ((count ≡ 1) × (wanted ≡ true) × PullsBlock w number s (Some r) t)
 
 -- of w digits, r has what those of m and n become
 pub record IsMergedBlock (w : ℕ) (merge : Merge) (m n r : ℕ) : Type 0 where
@@ -45,11 +47,13 @@ abbrev pub IsMergedPull : {X : Type 0} → ℕ → (X → ℕ) → Merge → Opt
 IsMergedPull w number merge None None r = r ≡ None
 IsMergedPull w number merge (Some a) None r = IsSomeAnd r (λ x. IsMergedBlock w merge (number a) 0 (number x))
 IsMergedPull w number merge None (Some b) r = IsSomeAnd r (λ x. IsMergedBlock w merge 0 (number b) (number x))
-IsMergedPull w number merge (Some a) (Some b) r = IsSomeAnd r (λ x. IsMergedBlock w merge (number a) (number b) (number x))
+IsMergedPull w number merge (Some a)
+    (Some b) r = IsSomeAnd r (λ x. IsMergedBlock w merge (number a) (number b) (number x))
 
 -- how many ones two rows of blocks become from one block on
 abbrev pub ones_from : {X : Type 0} → ℕ → (X → ℕ) → Merge → List X → List X → ℕ → ℕ
-ones_from w number merge xs ys i = length (elements (merged merge (values_in w (map number (drop i xs))) (values_in w (map number (drop i ys)))))
+ones_from w number merge xs ys i = length
+    (elements (merged merge (values_in w (map number (drop i xs))) (values_in w (map number (drop i ys)))))
 
 -- A walk can go over the ones of all that is ahead, the first digit having place 0.
 pub record IsWalkable (w : ℕ) (ahead : Ahead) : Type 0 where
@@ -76,10 +80,15 @@ pub record IsWalk (is_block is_sound : Type 0) (w place m : ℕ) (ahead : Ahead)
 -- Of all these blocks, what lies past the one whose first digit has place `place`.
 abbrev pub past_block : {X : Type 0} → ℕ → (X → ℕ) → ℕ → List X → ℕ → Ahead
 past_block w number place xs pulls =
-    let past = drop (place / w + 1) xs in record { values = values_in w (map number past); blocks = length past; pulls = pulls }
+    let past = drop (place / w + 1) xs in record {
+      values = values_in w (map number past);
+      blocks = length past;
+      pulls = pulls;
+    }
 
 -- The fields of a walk that goes by the blocks that are not 0: those past the one in hand are all that it has to pull.
-pub record IsSparseWalk {X : Type 0} (w : ℕ) (number : X → ℕ) (is_block : X → Type 0) (place : ℕ) (block : X) (it : Nonzeros X) : Type 0 where
+pub record IsSparseWalk {X : Type 0} (w : ℕ) (number : X → ℕ) (is_block : X → Type 0) (place : ℕ) (block : X)
+    (it : Nonzeros X) : Type 0 where
   pub in_hand : is_block block
   pub each : All is_block it.blocks
   pub left : it.left ≡ nonzero_from number (place / w + 1) (drop (place / w + 1) it.blocks)

@@ -32,7 +32,8 @@ pub record Advances (w : ℕ) (s : Walk) (r : Option ℕ) (t : Walk) : Type 0 wh
   pub along : t.place + w * t.blocks ≡ s.place + w * s.blocks
   pub at : MatchOption r (t.blocks ≡ 0) (λ x. (t.place ≤ x) × (x < t.place + w))
   pub sparse : MatchOption r (t.pulls ≡ s.pulls + 1) (λ x. FindsBlock w s x t)
-  pub summary : MatchOption r ((t.summary_pulls ≡ s.summary_pulls + s.summary_left + 1) × (t.summary_left ≡ 0)) (λ _. t.summary_pulls + t.summary_left ≡ s.summary_pulls + s.summary_left)
+  pub summary : MatchOption r ((t.summary_pulls ≡ s.summary_pulls + s.summary_left + 1) × (t.summary_left ≡ 0))
+      (λ _. t.summary_pulls + t.summary_left ≡ s.summary_pulls + s.summary_left)
 
 -- the blocks of w past block k that have one of the numbers, which ascend: each once, in order
 abbrev pub blocks_past : ℕ → ℕ → List ℕ → List ℕ
@@ -106,14 +107,19 @@ pub record StartsOverTwo (w : ℕ) (a b : List Bool) (s : TwoSetWalk) : Type 0 w
 
 -- What whole walks over two sets give, in blocks of w. S is what contracts see of such a walk, and `walk` what that
 -- says of the walk itself.
-pub record WalksOverTwo {S : Type 0} (w : ℕ) (merge : Merge) (walk : S → TwoSetWalk) (next : S → Option ℕ → S → Type 0) : Type 0 where
+pub record WalksOverTwo {S : Type 0} (w : ℕ) (merge : Merge) (walk : S → TwoSetWalk)
+    (next : S → Option ℕ → S → Type 0) : Type 0 where
   -- from any point, up to the first None
   pub rest : (s t : S) (items : List ℕ) → YieldsThen next s items None t → IsWalkedOutByEach (walk s) items (walk t)
   -- from the making on
-  pub whole : (a b : List Bool) (s t : S) (items : List ℕ) → (walk s).left ≡ merged_sets merge (elements a) (elements b) → StartsOverTwo w a b (walk s) → YieldsThen next s items None t
-      → (items ≡ merged_sets merge (elements a) (elements b)) × ((walk t).pulls ≡ max 1 (max (blocks_for w (length a)) (blocks_for w (length b))) + 1)
+  pub whole : (a b : List Bool) (s t : S) (items : List ℕ) → (walk s).left ≡ merged_sets merge (elements a) (elements b)
+      → StartsOverTwo w a b (walk s) → YieldsThen next s items None t
+      → (items ≡ merged_sets merge (elements a) (elements b))
+      × ((walk t).pulls ≡ max 1 (max (blocks_for w (length a)) (blocks_for w (length b))) + 1)
   -- after an item x the block in hand is the one that has it
-  pub in_hand : (a b : List Bool) (s t : S) (items : List ℕ) (x : ℕ) → StartsOverTwo w a b (walk s) → YieldsThen next s items (Some x) t → (walk t).blocks ≡ max (blocks_for w (length a)) (blocks_for w (length b)) - 1 - x / w
+  pub in_hand : (a b : List Bool) (s t : S) (items : List ℕ) (x : ℕ) → StartsOverTwo w a b (walk s)
+      → YieldsThen next s items (Some x) t
+      → (walk t).blocks ≡ max (blocks_for w (length a)) (blocks_for w (length b)) - 1 - x / w
   pub for_good : (s t : S) (r : Option ℕ) → (walk s).left ≡ [] → next s r t → (r ≡ None) × ((walk t).left ≡ [])
   -- however `next` is called, it is these calls
   pub count : (s : S) (items : List ℕ) → Drains next s items → length items ≡ length (walk s).left

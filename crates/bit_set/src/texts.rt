@@ -39,7 +39,8 @@ fn write_rest<B: BitBlock, W: fmt::Write>(
     rest: Iter<'_, B>,
     f: &mut fmt::Formatter<W>,
 ) -> fmt::Result
-    ensures { DisplaysOnOk W.write_str_gives f.old result (Some (flat_map (λ n. codes ", " ++ decimal n) rest.entry.left)) f.new }
+    ensures { DisplaysOnOk W.write_str_gives f.old result
+        (Some (flat_map (λ n. codes ", " ++ decimal n) rest.entry.left)) f.new }
 {
     for item in rest {
         f.write_str(", ")?;

@@ -36,7 +36,16 @@ impl<'a, B: BitBlock> Model for Iter<'a, B> {
 
     ghost Value = { Walk };
 
-    ghost view = { λ it. let past = past_block B.width B.number it.place it.nonzero.blocks it.nonzero.pulls in record { left = places B.width it.place (B.number it.block) past.values; pulls = it.nonzero.pulls; place = it.place; blocks = past.blocks; summary_pulls = it.nonzero.summary_pulls; summary_left = it.nonzero.summary_left } };
+    ghost view = { λ it.
+        let past = past_block B.width B.number it.place it.nonzero.blocks it.nonzero.pulls in
+        record {
+          left = places B.width it.place (B.number it.block) past.values;
+          pulls = it.nonzero.pulls;
+          place = it.place;
+          blocks = past.blocks;
+          summary_pulls = it.nonzero.summary_pulls;
+          summary_left = it.nonzero.summary_left;
+        } };
 
     ghost invariant = { λ it. IsSparseWalk B.width B.number B.is_block it.place it.block it.nonzero };
 }
@@ -125,7 +134,8 @@ impl<B: BitBlock> BitSet<B> {
         ensures pulls { result.pulls ≡ 1 }
         ensures place { result.place ≡ 0 }
         ensures blocks { result.blocks ≡ blocks_for B.width (length self.now.values) - 1 }
-        ensures summary { result.summary_pulls + result.summary_left ≡ max 1 (blocks_for B.width (blocks_for B.width (length self.now.values))) }
+        ensures summary { result.summary_pulls + result.summary_left
+            ≡ max 1 (blocks_for B.width (blocks_for B.width (length self.now.values))) }
         ensures fits { length result.left < 2 ^ 64 }
     {
         Iter::over(self.get_ref())

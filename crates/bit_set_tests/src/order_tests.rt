@@ -19,7 +19,10 @@ struct Recorder {
 }
 
 impl Hasher for Recorder {
-    ghost write = { λ s bytes. record { calls = (s.calls + 1) % 2 ^ 64; bytes = fold (λ n b. (n * 256 % 2 ^ 128 + b) % 2 ^ 128) s.bytes bytes } };
+    ghost write = { λ s bytes. record {
+      calls = (s.calls + 1) % 2 ^ 64;
+      bytes = fold (λ n b. (n * 256 % 2 ^ 128 + b) % 2 ^ 128) s.bytes bytes;
+    } };
 
     ghost finish = { λ s. s.calls };
 

@@ -35,7 +35,8 @@ pub record IsTidy {X : Type 0} (w : ℕ) (number : X → ℕ) (is_block : X → 
 
 -- digit by digit, the first blocks of two lists merge to 0
 pub record MergesToZero (merge : Merge) (w : ℕ) (ms ns : List ℕ) (count : ℕ) : Type 0 where
-  pub digit : (k j : ℕ) → k < count → j < w → merged_value merge (is_one (get_or ms k 0) j) (is_one (get_or ns k 0) j) ≡ false
+  pub digit : (k j : ℕ) → k < count → j < w
+      → merged_value merge (is_one (get_or ms k 0) j) (is_one (get_or ns k 0) j) ≡ false
 
 -- at every index two lists of blocks merge to false
 pub record MergesToFalse (merge : Merge) (w : ℕ) (ms ns : List ℕ) : Type 0 where
@@ -48,7 +49,8 @@ pub record IsFirstMerged (merge : Merge) (w : ℕ) (ms ns : List ℕ) (i : ℕ) 
 
 -- digit by digit, the blocks from start to before end are what those of two lists merge to; the others are those of the first list
 pub record IsMergedBetween (merge : Merge) (w start end : ℕ) (ms os ns : List ℕ) : Type 0 where
-  pub digit : (k j : ℕ) → start ≤ k → k < end → j < w → is_one (get_or ns k 0) j ≡ merged_value merge (is_one (get_or ms k 0) j) (is_one (get_or os k 0) j)
+  pub digit : (k j : ℕ) → start ≤ k → k < end → j < w
+      → is_one (get_or ns k 0) j ≡ merged_value merge (is_one (get_or ms k 0) j) (is_one (get_or os k 0) j)
   pub before : (k : ℕ) → k < start → get_or ns k 0 ≡ get_or ms k 0
   pub after : (k : ℕ) → end ≤ k → get_or ns k 0 ≡ get_or ms k 0
 

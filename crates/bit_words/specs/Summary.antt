@@ -9,7 +9,8 @@ abbrev pub is_used : List ℕ → ℕ → Bool
 is_used ms k = not (get_or ms k 0 == 0)
 
 -- The blocks sums hold a list of truth values, one for each block of xs, and value k tells whether block k is not 0.
-pub record IsBlockSummary {X : Type 0} (w : ℕ) (number : X → ℕ) (is_block : X → Type 0) (xs sums : List X) : Type 0 where
+pub record IsBlockSummary {X : Type 0} (w : ℕ) (number : X → ℕ) (is_block : X → Type 0)
+    (xs sums : List X) : Type 0 where
   pub tidy : IsTidy w number is_block sums (length xs)
   pub digit : (k : ℕ) → value_at w (map number sums) k ≡ is_used (map number xs) k
 

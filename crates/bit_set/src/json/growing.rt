@@ -41,7 +41,8 @@ fn put_ones<B: BitBlock>(bits: &mut BitVec<B>, place: usize, mut block: B)
     requires within { (j : ℕ) → j < B.width → bit_at (B.number block) j ≡ 1 → place + j < length bits.old.values }
     requires falses { (j : ℕ) → j < B.width → get_or bits.old.values (place + j) false ≡ false }
     ensures values { (j : ℕ) → j < B.width → get_or bits.new.values (place + j) false ≡ is_one (B.number block) j }
-    ensures others { (i : ℕ) → ((j : ℕ) → j < B.width → i ≢ place + j) → get_or bits.new.values i false ≡ get_or bits.old.values i false }
+    ensures others { (i : ℕ) → ((j : ℕ) → j < B.width → i ≢ place + j)
+        → get_or bits.new.values i false ≡ get_or bits.old.values i false }
     ensures length { length bits.new.values ≡ length bits.old.values }
     ensures room { bits.new.room ≡ bits.old.room }
 {

@@ -37,7 +37,9 @@ fn same_groups<B: BitBlock>(a: &[B], b: &[B], groups: usize) -> usize
     requires right { All B.is_block b.now }
     ensures within { result ≤ groups }
     ensures same { (k : ℕ) → k < result * 32 → get_or (map B.number a.now) k 0 ≡ get_or (map B.number b.now) k 0 }
-    ensures stops { result < groups → ¬ ((k : ℕ) → result * 32 ≤ k → k < result * 32 + 32 → get_or (map B.number a.now) k 0 ≡ get_or (map B.number b.now) k 0) }
+    ensures stops { result < groups
+        → ¬ ((k : ℕ) → result * 32 ≤ k → k < result * 32 + 32
+        → get_or (map B.number a.now) k 0 ≡ get_or (map B.number b.now) k 0) }
 {
     for group in 0..groups {
         if !is_same_group(a, b, group * GROUP) {
@@ -54,7 +56,8 @@ fn is_same_group<B: BitBlock>(a: &[B], b: &[B], start: usize) -> bool
     requires within_other { start + 32 ≤ length b.now }
     requires left { All B.is_block a.now }
     requires right { All B.is_block b.now }
-    ensures { IsTrue result ↔ ((k : ℕ) → start ≤ k → k < start + 32 → get_or (map B.number a.now) k 0 ≡ get_or (map B.number b.now) k 0) }
+    ensures { IsTrue result
+        ↔ ((k : ℕ) → start ≤ k → k < start + 32 → get_or (map B.number a.now) k 0 ≡ get_or (map B.number b.now) k 0) }
 {
     let mut unlike = B::zero();
     for k in start..start + GROUP {

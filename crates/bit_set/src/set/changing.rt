@@ -48,7 +48,8 @@ impl<B: BitBlock> BitSet<B> {
     #[inline(never)]
     fn lengthen_past(&mut self, value: usize) -> Result<(), SetError>
         requires { length self.old.values ≤ value }
-        ensures values { OnOk result (self.new.values ≡ self.old.values ++ replicate (value + 1 - length self.old.values) false) }
+        ensures values { OnOk result (self.new.values
+            ≡ self.old.values ++ replicate (value + 1 - length self.old.values) false) }
         ensures unfit { IsErrOf result SetError.Element ↔ (value ≡ usize.MAX) }
         ensures fit { OnOk result (value < usize.MAX) }
         ensures refused { IfErr result (λ fault. IsRefusal fault value self.old.room) }
@@ -81,7 +82,8 @@ impl<B: BitBlock> BitSet<B> {
             × IsRefusal fault item self.new.room × IsPastBlocks fault B.width (length self.new.values) item) }
         ensures succeeds { HoldsAlong I.next_gives iter (All (λ item. item < self.old.room)) → IsOk result }
         ensures room { self.old.room ≤ self.new.room }
-        ensures within { HoldsAlong I.next_gives iter (All (λ item. item < self.old.room)) → self.new.room ≡ self.old.room }
+        ensures within { HoldsAlong I.next_gives iter (All (λ item. item < self.old.room))
+            → self.new.room ≡ self.old.room }
         ensures kept { length self.new.values ≤ self.old.room → self.new.room ≡ self.old.room }
     {
         for item in iter {
@@ -157,7 +159,8 @@ impl<B: BitBlock> BitSet<B> {
         ensures err { OnErr result (self.new ≡ self.old) }
         ensures full { OnErr result (self.old.room < length other.now.values) }
         ensures succeeds { length other.now.values ≤ self.old.room → IsOk result }
-        ensures exact { OnOk result (self.new.room ≡ max self.old.room (room_of B.width (blocks_for B.width (length other.now.values)))) }
+        ensures exact { OnOk result (self.new.room
+            ≡ max self.old.room (room_of B.width (blocks_for B.width (length other.now.values)))) }
         ensures room { self.old.room ≤ self.new.room }
         ensures within { length other.now.values ≤ self.old.room → self.new.room ≡ self.old.room }
         ensures leaves { Leaves (CloneFrom (length other.now.values)) self.old.room (is_ok result) self.new.room }

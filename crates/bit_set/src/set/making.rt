@@ -53,7 +53,8 @@ impl<B: BitBlock> BitSet<B> {
     /// ```
     pub fn from_bytes_general(alloc: Global, bytes: &[u8]) -> Result<Self, SetError>
         ensures values { IfOk result (λ set. set.values ≡ values_of_bytes bytes.now) }
-        ensures elements { IfOk result (λ set. (q r : ℕ) → r < 8 → IsTrue (has (elements set.values) (8 * q + r)) ↔ (bit_at (slice_index bytes.now q) (7 - r) ≡ 1)) }
+        ensures elements { IfOk result (λ set. (q r : ℕ) → r < 8
+            → IsTrue (has (elements set.values) (8 * q + r)) ↔ (bit_at (slice_index bytes.now q) (7 - r) ≡ 1)) }
         ensures length { IfOk result (λ set. length set.values ≡ 8 * length bytes.now) }
         ensures room { IfOk result (λ set. set.room ≡ room_of B.width (blocks_for B.width (8 * length bytes.now))) }
         ensures too_long { IsErrOf result SetError.Length ↔ (usize.MAX < 8 * length bytes.now) }
@@ -131,7 +132,8 @@ impl BitSet<u32> {
     /// [`BitSet::from_bytes_general`] over blocks of 32 bits.
     pub fn from_bytes(alloc: Global, bytes: &[u8]) -> Result<Self, SetError>
         ensures values { IfOk result (λ set. set.values ≡ values_of_bytes bytes.now) }
-        ensures elements { IfOk result (λ set. (q r : ℕ) → r < 8 → IsTrue (has (elements set.values) (8 * q + r)) ↔ (bit_at (slice_index bytes.now q) (7 - r) ≡ 1)) }
+        ensures elements { IfOk result (λ set. (q r : ℕ) → r < 8
+            → IsTrue (has (elements set.values) (8 * q + r)) ↔ (bit_at (slice_index bytes.now q) (7 - r) ≡ 1)) }
         ensures length { IfOk result (λ set. length set.values ≡ 8 * length bytes.now) }
         ensures room { IfOk result (λ set. set.room ≡ room_of 32 (blocks_for 32 (8 * length bytes.now))) }
         ensures too_long { IsErrOf result SetError.Length ↔ (usize.MAX < 8 * length bytes.now) }

@@ -33,7 +33,8 @@ impl<B: BitBlock> BitSet<B> {
     // the longer length stays.
     #[inline]
     fn merge_with(&mut self, other: &Self, merge: Merge) -> Result<(), AllocError>
-        ensures elements { OnOk result (elements self.new.values ≡ merged_sets merge (elements self.old.values) (elements other.now.values)) }
+        ensures elements { OnOk result (elements self.new.values
+            ≡ merged_sets merge (elements self.old.values) (elements other.now.values)) }
         ensures length { OnOk result (length self.new.values ≡ max (length self.old.values) (length other.now.values)) }
         ensures err { OnErr result (self.new ≡ self.old) }
         ensures full { OnErr result (self.old.room < length other.now.values) }
@@ -52,7 +53,8 @@ impl<B: BitBlock> BitSet<B> {
     /// Fails only where the length of `other` passes the capacity and no memory is found; elements, length
     /// and capacity then stay.
     pub fn union_with(&mut self, other: &Self) -> Result<(), AllocError>
-        ensures elements { OnOk result (elements self.new.values ≡ union (elements self.old.values) (elements other.now.values)) }
+        ensures elements { OnOk result (elements self.new.values
+            ≡ union (elements self.old.values) (elements other.now.values)) }
         ensures length { OnOk result (length self.new.values ≡ max (length self.old.values) (length other.now.values)) }
         ensures err { OnErr result (self.new ≡ self.old) }
         ensures full { OnErr result (self.old.room < length other.now.values) }
@@ -71,7 +73,8 @@ impl<B: BitBlock> BitSet<B> {
     /// Fails only where the length of `other` passes the capacity and no memory is found; elements, length
     /// and capacity then stay.
     pub fn intersect_with(&mut self, other: &Self) -> Result<(), AllocError>
-        ensures elements { OnOk result (elements self.new.values ≡ intersection (elements self.old.values) (elements other.now.values)) }
+        ensures elements { OnOk result (elements self.new.values
+            ≡ intersection (elements self.old.values) (elements other.now.values)) }
         ensures length { OnOk result (length self.new.values ≡ max (length self.old.values) (length other.now.values)) }
         ensures err { OnErr result (self.new ≡ self.old) }
         ensures full { OnErr result (self.old.room < length other.now.values) }
@@ -90,7 +93,8 @@ impl<B: BitBlock> BitSet<B> {
     /// Fails only where the length of `other` passes the capacity and no memory is found; elements, length
     /// and capacity then stay.
     pub fn difference_with(&mut self, other: &Self) -> Result<(), AllocError>
-        ensures elements { OnOk result (elements self.new.values ≡ difference (elements self.old.values) (elements other.now.values)) }
+        ensures elements { OnOk result (elements self.new.values
+            ≡ difference (elements self.old.values) (elements other.now.values)) }
         ensures length { OnOk result (length self.new.values ≡ max (length self.old.values) (length other.now.values)) }
         ensures err { OnErr result (self.new ≡ self.old) }
         ensures full { OnErr result (self.old.room < length other.now.values) }
@@ -109,7 +113,8 @@ impl<B: BitBlock> BitSet<B> {
     /// length becomes the greater of both. One pass over the blocks. Fails only where the length of
     /// `other` passes the capacity and no memory is found; elements, length and capacity then stay.
     pub fn symmetric_difference_with(&mut self, other: &Self) -> Result<(), AllocError>
-        ensures elements { OnOk result (elements self.new.values ≡ symmetric_difference (elements self.old.values) (elements other.now.values)) }
+        ensures elements { OnOk result (elements self.new.values
+            ≡ symmetric_difference (elements self.old.values) (elements other.now.values)) }
         ensures length { OnOk result (length self.new.values ≡ max (length self.old.values) (length other.now.values)) }
         ensures err { OnErr result (self.new ≡ self.old) }
         ensures full { OnErr result (self.old.room < length other.now.values) }
@@ -117,7 +122,8 @@ impl<B: BitBlock> BitSet<B> {
         ensures room { self.old.room ≤ self.new.room }
         ensures kept { length other.now.values ≤ length self.old.values → self.new.room ≡ self.old.room }
         ensures within { length other.now.values ≤ self.old.room → self.new.room ≡ self.old.room }
-        ensures leaves { Leaves (SymmetricDifferenceWith (length other.now.values)) self.old.room (is_ok result) self.new.room }
+        ensures leaves { Leaves (SymmetricDifferenceWith (length other.now.values)) self.old.room (is_ok result)
+            self.new.room }
         ensures changes { Changes (Change.SymmetricDifferenceWith (elements other.now.values))
             self.old.values (finished result) self.new.values }
     {

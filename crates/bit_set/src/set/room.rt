@@ -71,8 +71,10 @@ impl<B: BitBlock> BitSet<B> {
     pub fn shrink_to_fit(&mut self) -> Result<(), AllocError>
         ensures elements { elements self.new.values ≡ elements self.old.values }
         ensures length { length self.new.values ≡ whole_blocks B.width self.old.values }
-        ensures cut { blocks_for B.width (bound_of (elements self.old.values)) * B.width ≤ usize.MAX → length self.new.values ≡ blocks_for B.width (bound_of (elements self.old.values)) * B.width }
-        ensures top { usize.MAX < blocks_for B.width (bound_of (elements self.old.values)) * B.width → length self.new.values ≡ length self.old.values }
+        ensures cut { blocks_for B.width (bound_of (elements self.old.values)) * B.width ≤ usize.MAX
+            → length self.new.values ≡ blocks_for B.width (bound_of (elements self.old.values)) * B.width }
+        ensures top { usize.MAX < blocks_for B.width (bound_of (elements self.old.values)) * B.width
+            → length self.new.values ≡ length self.old.values }
         ensures ok { OnOk result (self.new.room ≡ room_of B.width (blocks_for B.width (length self.new.values))) }
         ensures err { OnErr result (room_of B.width (blocks_for B.width (length self.new.values)) < self.new.room) }
         ensures room { self.new.room ≤ self.old.room }

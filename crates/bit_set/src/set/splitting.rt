@@ -23,7 +23,8 @@ impl<B: BitBlock> BitSet<B> {
     /// assert!(other.is_empty());
     /// ```
     pub fn append(&mut self, other: &mut Self) -> Result<(), AllocError>
-        ensures elements { OnOk result (elements self.new.values ≡ union (elements self.old.values) (elements other.old.values)) }
+        ensures elements { OnOk result (elements self.new.values
+            ≡ union (elements self.old.values) (elements other.old.values)) }
         ensures length { OnOk result (length self.new.values ≡ max (length self.old.values) (length other.old.values)) }
         ensures emptied { OnOk result (elements other.new.values ≡ []) }
         ensures other_length { length other.new.values ≡ length other.old.values }
@@ -62,7 +63,8 @@ impl<B: BitBlock> BitSet<B> {
         ensures elements { OnOk result (elements self.new.values ≡ those_below (elements self.old.values) at) }
         ensures length { OnOk result (length self.new.values ≡ min (length self.old.values) at) }
         ensures part { IfOk result (λ part. elements part.values ≡ those_from (elements self.old.values) at) }
-        ensures part_length { IfOk result (λ part. length part.values ≡ (if nat_lt at (length self.old.values) then length self.old.values else 0)) }
+        ensures part_length { IfOk result (λ part. length part.values
+            ≡ (if nat_lt at (length self.old.values) then length self.old.values else 0)) }
         ensures whole { at ≡ 0 → IfOk result (λ part. part ≡ self.old) }
         ensures err { OnErr result (self.new ≡ self.old) }
         ensures inside { OnErr result ((0 < at) × (at < length self.old.values)) }
@@ -70,7 +72,8 @@ impl<B: BitBlock> BitSet<B> {
         ensures end { length self.old.values ≤ at → IsOk result }
         ensures room { 0 < at → self.new.room ≡ self.old.room }
         ensures given { at ≡ 0 → self.new.room ≡ 0 }
-        ensures exact { 0 < at → at < length self.old.values → IfOk result (λ part. part.room ≡ room_of B.width (blocks_for B.width (length self.old.values))) }
+        ensures exact { 0 < at → at < length self.old.values
+            → IfOk result (λ part. part.room ≡ room_of B.width (blocks_for B.width (length self.old.values))) }
         ensures nothing { 0 < at → length self.old.values ≤ at → IfOk result (λ part. part.room ≡ 0) }
         ensures changes { Changes (Change.SplitOff at) self.old.values (finished result) self.new.values }
     {

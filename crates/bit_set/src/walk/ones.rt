@@ -28,9 +28,16 @@ impl<S: BlockSource<B>, B: BitBlock> Model for Ones<S, B> {
 
     ghost Value = { TwoSetWalk };
 
-    ghost view = { λ it. let ahead = S.ahead it.source in record { left = places B.width it.place (B.number it.block) ahead.values; pulls = ahead.pulls; place = it.place; blocks = ahead.blocks } };
+    ghost view = { λ it. let ahead = S.ahead
+        it.source in record {
+          left = places B.width it.place (B.number it.block) ahead.values;
+          pulls = ahead.pulls;
+          place = it.place;
+          blocks = ahead.blocks;
+        } };
 
-    ghost invariant = { λ it. IsWalk (B.is_block it.block) (S.is_sound it.source) B.width it.place (B.number it.block) (S.ahead it.source) };
+    ghost invariant = { λ it. IsWalk (B.is_block it.block) (S.is_sound it.source) B.width it.place (B.number it.block)
+        (S.ahead it.source) };
 }
 
 impl<S: BlockSource<B>, B: BitBlock> Ones<S, B> {

@@ -30,9 +30,16 @@ impl<'a, B: BitBlock> BlockSource<B> for Pairs<'a, B> {
     ghost use Rattle.bit_words.specs.Merges.{merged};
     ghost use Rattle.bit_set.specs.Places.{values_in};
 
-    ghost ahead = { λ pairs. record { values = merged pairs.merge (values_in B.width (map B.number pairs.first.left)) (values_in B.width (map B.number pairs.second.left)); blocks = max (length pairs.first.left) (length pairs.second.left); pulls = pairs.first.pulls } };
+    ghost ahead = { λ pairs.
+        record {
+          values = merged pairs.merge (values_in B.width (map B.number pairs.first.left))
+              (values_in B.width (map B.number pairs.second.left));
+          blocks = max (length pairs.first.left) (length pairs.second.left);
+          pulls = pairs.first.pulls;
+        } };
 
-    ghost is_sound = { λ pairs. (All B.is_block pairs.first.left) × (All B.is_block pairs.second.left) × (pairs.second.pulls ≡ pairs.first.pulls) };
+    ghost is_sound = { λ pairs. (All B.is_block pairs.first.left) × (All B.is_block pairs.second.left)
+        × (pairs.second.pulls ≡ pairs.first.pulls) };
 
     #[inline]
     fn pull(&mut self) -> Option<B> {
@@ -136,7 +143,8 @@ fn ones_between<B: BitBlock>(
     requires first { All B.is_block first.now }
     requires second { All B.is_block second.now }
     requires fits { ones_from B.width B.number merge first.now second.now start < 2 ^ 64 }
-    ensures { result + ones_from B.width B.number merge first.now second.now end ≡ ones_from B.width B.number merge first.now second.now start }
+    ensures { result + ones_from B.width B.number merge first.now second.now end
+        ≡ ones_from B.width B.number merge first.now second.now start }
 {
     let mut ones = 0;
     for i in start..end {
@@ -151,8 +159,10 @@ fn ones_of_both<B: BitBlock>(merge: Merge, first: &[B], second: &[B]) -> usize
     requires long { length first.now ≡ length second.now }
     requires first { All B.is_block first.now }
     requires second { All B.is_block second.now }
-    requires fits { length (elements (merged merge (values_in B.width (map B.number first.now)) (values_in B.width (map B.number second.now)))) < 2 ^ 64 }
-    ensures { result ≡ length (elements (merged merge (values_in B.width (map B.number first.now)) (values_in B.width (map B.number second.now)))) }
+    requires fits { length (elements (merged merge
+        (values_in B.width (map B.number first.now)) (values_in B.width (map B.number second.now)))) < 2 ^ 64 }
+    ensures { result ≡ length (elements (merged merge
+        (values_in B.width (map B.number first.now)) (values_in B.width (map B.number second.now)))) }
 {
     match merge {
         Merge::Union => ones_by_groups(Merge::Union, first, second),
@@ -168,8 +178,10 @@ fn ones_by_groups<B: BitBlock>(merge: Merge, first: &[B], second: &[B]) -> usize
     requires long { length first.now ≡ length second.now }
     requires first { All B.is_block first.now }
     requires second { All B.is_block second.now }
-    requires fits { length (elements (merged merge (values_in B.width (map B.number first.now)) (values_in B.width (map B.number second.now)))) < 2 ^ 64 }
-    ensures { result ≡ length (elements (merged merge (values_in B.width (map B.number first.now)) (values_in B.width (map B.number second.now)))) }
+    requires fits { length (elements (merged merge
+        (values_in B.width (map B.number first.now)) (values_in B.width (map B.number second.now)))) < 2 ^ 64 }
+    ensures { result ≡ length (elements (merged merge
+        (values_in B.width (map B.number first.now)) (values_in B.width (map B.number second.now)))) }
 {
     let groups = first.len() / GROUP;
     let mut ones = 0;
@@ -186,8 +198,10 @@ fn ones_of_rest<B: BitBlock>(merge: Merge, first: &[B], second: &[B]) -> usize
     requires ended { (first.now ≡ []) ⊎ (second.now ≡ []) }
     requires first { All B.is_block first.now }
     requires second { All B.is_block second.now }
-    requires fits { length (elements (merged merge (values_in B.width (map B.number first.now)) (values_in B.width (map B.number second.now)))) < 2 ^ 64 }
-    ensures { result ≡ length (elements (merged merge (values_in B.width (map B.number first.now)) (values_in B.width (map B.number second.now)))) }
+    requires fits { length (elements (merged merge
+        (values_in B.width (map B.number first.now)) (values_in B.width (map B.number second.now)))) < 2 ^ 64 }
+    ensures { result ≡ length (elements (merged merge
+        (values_in B.width (map B.number first.now)) (values_in B.width (map B.number second.now)))) }
 {
     match merge {
         Merge::Union | Merge::Symmetric => ones_of(first) + ones_of(second),

@@ -13,7 +13,8 @@ fn with_copies<B: BitBlock>(mut blocks: Vec<B>, count: usize, block: B) -> Vec<B
     requires room { count ≤ vec_capacity blocks }
     requires each { All B.is_block blocks.items }
     requires of_block { B.is_block block }
-    ensures numbers { map B.number result.items ≡ map B.number blocks.items ++ replicate (count - vec_len blocks) (B.number block) }
+    ensures numbers { map B.number result.items
+        ≡ map B.number blocks.items ++ replicate (count - vec_len blocks) (B.number block) }
     ensures each { All B.is_block result.items }
     ensures len { vec_len result ≡ count }
     ensures capacity { vec_capacity result ≡ vec_capacity blocks }
@@ -30,7 +31,8 @@ pub(crate) fn push_copies<B: BitBlock>(blocks: &mut Vec<B>, count: usize, block:
     requires room { count ≤ vec_capacity blocks.old }
     requires each { All B.is_block blocks.old.items }
     requires of_block { B.is_block block }
-    ensures numbers { map B.number blocks.new.items ≡ map B.number blocks.old.items ++ replicate (count - vec_len blocks.old) (B.number block) }
+    ensures numbers { map B.number blocks.new.items
+        ≡ map B.number blocks.old.items ++ replicate (count - vec_len blocks.old) (B.number block) }
     ensures each { All B.is_block blocks.new.items }
     ensures len { vec_len blocks.new ≡ count }
     ensures capacity { vec_capacity blocks.new ≡ vec_capacity blocks.old }

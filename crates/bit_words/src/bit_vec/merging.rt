@@ -18,7 +18,9 @@ pub(crate) trait Operation {
         requires left { B.is_block a }
         requires right { B.is_block b }
         ensures of_block { B.is_block result }
-        ensures digits { (i : ℕ) → i < B.width → (bit_at (B.number result) i == 1) ≡ merged_value merge (bit_at (B.number a) i == 1) (bit_at (B.number b) i == 1) };
+        ensures digits { (i : ℕ) → i < B.width
+            → (bit_at (B.number result) i == 1)
+            ≡ merged_value merge (bit_at (B.number a) i == 1) (bit_at (B.number b) i == 1) };
 }
 
 pub(crate) struct Union;
@@ -75,7 +77,8 @@ pub(crate) fn merge_block<B: BitBlock, O: Operation>(
 ) -> B
     requires other { IsOther B.width B.number B.is_block others.now (length bits.old.values) }
     requires in_others { k < length others.now }
-    ensures merged { IsMergedBetween O.merge B.width k (k + 1) (blocks_of B.width bits.old.values) (map B.number others.now) (blocks_of B.width bits.new.values) }
+    ensures merged { IsMergedBetween O.merge B.width k (k + 1) (blocks_of B.width bits.old.values)
+        (map B.number others.now) (blocks_of B.width bits.new.values) }
     ensures of_block { B.is_block result }
     ensures of_number { B.number result ≡ get_or (blocks_of B.width bits.new.values) k 0 }
     ensures len { length bits.new.values ≡ length bits.old.values }
@@ -98,7 +101,8 @@ fn merge_first<B: BitBlock, O: Operation>(
 )
     requires other { IsOther B.width B.number B.is_block others.now (length bits.old.values) }
     requires from { start ≤ length others.now }
-    ensures merged { IsMergedBetween O.merge B.width start (length others.now) (blocks_of B.width bits.old.values) (map B.number others.now) (blocks_of B.width bits.new.values) }
+    ensures merged { IsMergedBetween O.merge B.width start (length others.now) (blocks_of B.width bits.old.values)
+        (map B.number others.now) (blocks_of B.width bits.new.values) }
     ensures len { length bits.new.values ≡ length bits.old.values }
     ensures capacity { bits.new.capacity ≡ bits.old.capacity }
     ensures steps { steps.new + start ≡ steps.old + length others.now }
@@ -116,7 +120,8 @@ pub(crate) fn merge_rest<B: BitBlock, O: Operation>(
     steps: &mut Steps,
 )
     requires { start ≤ blocks_for B.width (length bits.old.values) }
-    ensures merged { IsMergedBetween O.merge B.width start (blocks_for B.width (length bits.old.values)) (blocks_of B.width bits.old.values) [] (blocks_of B.width bits.new.values) }
+    ensures merged { IsMergedBetween O.merge B.width start (blocks_for B.width (length bits.old.values))
+        (blocks_of B.width bits.old.values) [] (blocks_of B.width bits.new.values) }
     ensures len { length bits.new.values ≡ length bits.old.values }
     ensures capacity { bits.new.capacity ≡ bits.old.capacity }
     ensures steps { steps.new + start ≡ steps.old + blocks_for B.width (length bits.old.values) }
@@ -139,7 +144,8 @@ pub(crate) fn merge_each<B: BitBlock, O: Operation>(
 )
     requires other { IsOther B.width B.number B.is_block others.now (length bits.old.values) }
     requires from { start ≤ length others.now }
-    ensures merged { IsMergedBetween O.merge B.width start (blocks_for B.width (length bits.old.values)) (blocks_of B.width bits.old.values) (map B.number others.now) (blocks_of B.width bits.new.values) }
+    ensures merged { IsMergedBetween O.merge B.width start (blocks_for B.width (length bits.old.values))
+        (blocks_of B.width bits.old.values) (map B.number others.now) (blocks_of B.width bits.new.values) }
     ensures len { length bits.new.values ≡ length bits.old.values }
     ensures capacity { bits.new.capacity ≡ bits.old.capacity }
     ensures steps { steps.new + start ≡ steps.old + blocks_for B.width (length bits.old.values) }

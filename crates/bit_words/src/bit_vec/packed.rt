@@ -29,7 +29,10 @@ impl<B: BitBlock> Model for Packed<B> {
 
     ghost Value = { PackedList };
 
-    ghost view = { λ p. record { values = values_of B.width (map B.number p.blocks.items) p.len; capacity = vec_capacity p.blocks } };
+    ghost view = { λ p. record {
+      values = values_of B.width (map B.number p.blocks.items) p.len;
+      capacity = vec_capacity p.blocks;
+    } };
 
     ghost invariant = { λ p. IsTidy B.width B.number B.is_block p.blocks.items p.len };
 }
@@ -78,8 +81,10 @@ impl<B: BitBlock> Packed<B> {
     pub(crate) fn put_block(&mut self, k: usize, block: B)
         requires in_bounds { k < blocks_for B.width (length self.old.values) }
         requires of_block { B.is_block block }
-        requires tail { (j : ℕ) → j < B.width → length self.old.values ≤ k * B.width + j → is_one (B.number block) j ≡ false }
-        ensures numbers { blocks_of B.width self.new.values ≡ set (blocks_of B.width self.old.values) k (B.number block) }
+        requires tail { (j : ℕ) → j < B.width → length self.old.values ≤ k * B.width + j
+            → is_one (B.number block) j ≡ false }
+        ensures numbers { blocks_of B.width self.new.values
+            ≡ set (blocks_of B.width self.old.values) k (B.number block) }
         ensures len { length self.new.values ≡ length self.old.values }
         ensures capacity { self.new.capacity ≡ self.old.capacity }
     {

@@ -34,9 +34,12 @@ fn grow_shared_room<B: BitBlock>(
     ensures summary { summary.new.values ≡ summary.old.values }
     ensures ok { OnOk result (count ≤ shared_room B.width bits.new.capacity summary.new.capacity) }
     ensures exact { IsTrue exact → OnOk result (bits.new.capacity ≡ max bits.old.capacity count) }
-    ensures exact_summary { IsTrue exact → OnOk result (summary.new.capacity ≡ max summary.old.capacity (blocks_for B.width count)) }
-    ensures err { OnErr result (shared_room B.width bits.new.capacity summary.new.capacity ≡ shared_room B.width bits.old.capacity summary.old.capacity) }
-    ensures capacity { shared_room B.width bits.old.capacity summary.old.capacity ≤ shared_room B.width bits.new.capacity summary.new.capacity }
+    ensures exact_summary { IsTrue exact
+        → OnOk result (summary.new.capacity ≡ max summary.old.capacity (blocks_for B.width count)) }
+    ensures err { OnErr result (shared_room B.width bits.new.capacity summary.new.capacity
+        ≡ shared_room B.width bits.old.capacity summary.old.capacity) }
+    ensures capacity { shared_room B.width bits.old.capacity summary.old.capacity
+        ≤ shared_room B.width bits.new.capacity summary.new.capacity }
 {
     let needed = block_count::<B>(count);
     if block_count::<B>(bits.capacity()) <= summary.capacity() {
@@ -60,12 +63,17 @@ pub(crate) fn make_shared_room<B: BitBlock>(
     ensures summary { summary.new.values ≡ summary.old.values }
     ensures ok { OnOk result (count ≤ shared_room B.width bits.new.capacity summary.new.capacity) }
     ensures exact { IsTrue exact → OnOk result (bits.new.capacity ≡ max bits.old.capacity count) }
-    ensures exact_summary { IsTrue exact → OnOk result (summary.new.capacity ≡ max summary.old.capacity (blocks_for B.width count)) }
-    ensures err { OnErr result (shared_room B.width bits.new.capacity summary.new.capacity ≡ shared_room B.width bits.old.capacity summary.old.capacity) }
+    ensures exact_summary { IsTrue exact
+        → OnOk result (summary.new.capacity ≡ max summary.old.capacity (blocks_for B.width count)) }
+    ensures err { OnErr result (shared_room B.width bits.new.capacity summary.new.capacity
+        ≡ shared_room B.width bits.old.capacity summary.old.capacity) }
     ensures full { OnErr result (shared_room B.width bits.old.capacity summary.old.capacity < count) }
     ensures succeeds { count ≤ shared_room B.width bits.old.capacity summary.old.capacity → IsOk result }
-    ensures capacity { shared_room B.width bits.old.capacity summary.old.capacity ≤ shared_room B.width bits.new.capacity summary.new.capacity }
-    ensures within { count ≤ shared_room B.width bits.old.capacity summary.old.capacity → shared_room B.width bits.new.capacity summary.new.capacity ≡ shared_room B.width bits.old.capacity summary.old.capacity }
+    ensures capacity { shared_room B.width bits.old.capacity summary.old.capacity
+        ≤ shared_room B.width bits.new.capacity summary.new.capacity }
+    ensures within { count ≤ shared_room B.width bits.old.capacity summary.old.capacity
+        → shared_room B.width bits.new.capacity summary.new.capacity
+        ≡ shared_room B.width bits.old.capacity summary.old.capacity }
 {
     if have_room(bits, summary, count) {
         return Ok(());
@@ -83,12 +91,17 @@ pub(crate) fn make_exact_shared_room<B: BitBlock>(
     requires longer { blocks_for B.width (length bits.old.values) ≤ count }
     ensures values { bits.new.values ≡ bits.old.values }
     ensures summary { summary.new.values ≡ summary.old.values }
-    ensures ok { OnOk result (shared_room B.width bits.new.capacity summary.new.capacity ≡ max (shared_room B.width bits.old.capacity summary.old.capacity) count) }
-    ensures err { OnErr result (shared_room B.width bits.new.capacity summary.new.capacity ≡ shared_room B.width bits.old.capacity summary.old.capacity) }
+    ensures ok { OnOk result (shared_room B.width bits.new.capacity summary.new.capacity
+        ≡ max (shared_room B.width bits.old.capacity summary.old.capacity) count) }
+    ensures err { OnErr result (shared_room B.width bits.new.capacity summary.new.capacity
+        ≡ shared_room B.width bits.old.capacity summary.old.capacity) }
     ensures full { OnErr result (shared_room B.width bits.old.capacity summary.old.capacity < count) }
     ensures succeeds { count ≤ shared_room B.width bits.old.capacity summary.old.capacity → IsOk result }
-    ensures capacity { shared_room B.width bits.old.capacity summary.old.capacity ≤ shared_room B.width bits.new.capacity summary.new.capacity }
-    ensures within { count ≤ shared_room B.width bits.old.capacity summary.old.capacity → shared_room B.width bits.new.capacity summary.new.capacity ≡ shared_room B.width bits.old.capacity summary.old.capacity }
+    ensures capacity { shared_room B.width bits.old.capacity summary.old.capacity
+        ≤ shared_room B.width bits.new.capacity summary.new.capacity }
+    ensures within { count ≤ shared_room B.width bits.old.capacity summary.old.capacity
+        → shared_room B.width bits.new.capacity summary.new.capacity
+        ≡ shared_room B.width bits.old.capacity summary.old.capacity }
 {
     if block_count::<B>(count) <= summary.capacity() {
         return make_shared_room(bits, summary, count, true);

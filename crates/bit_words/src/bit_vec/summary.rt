@@ -44,7 +44,8 @@ pub(crate) fn is_nonzero_after<B: BitBlock>(block: B, bit: bool) -> bool
 pub(crate) fn update_summary<B: BitBlock>(summary: &mut Packed<B>, bits: &Packed<B>, k: usize)
     requires in_blocks { k < blocks_for B.width (length bits.now.values) }
     requires in_summary { k < length summary.old.values }
-    ensures values { summary.new.values ≡ slice_set summary.old.values k (is_used (blocks_of B.width bits.now.values) k) }
+    ensures values { summary.new.values
+        ≡ slice_set summary.old.values k (is_used (blocks_of B.width bits.now.values) k) }
     ensures capacity { summary.new.capacity ≡ summary.old.capacity }
 {
     let _was = summary.replace(k, is_nonzero(bits.block(k)));
@@ -61,7 +62,8 @@ pub(crate) fn append_summarized<B: BitBlock>(
 )
     requires summary { IsSummary B.width bits.old.values summary.old.values }
     requires fits { length bits.old.values + n < 2 ^ 64 }
-    requires capacity { blocks_for B.width (length bits.old.values + n) ≤ shared_room B.width bits.old.capacity summary.old.capacity }
+    requires capacity { blocks_for B.width (length bits.old.values + n)
+        ≤ shared_room B.width bits.old.capacity summary.old.capacity }
     ensures values { bits.new.values ≡ bits.old.values ++ replicate n bit }
     ensures summary { IsSummary B.width bits.new.values summary.new.values }
     ensures capacity { bits.new.capacity ≡ bits.old.capacity }
@@ -83,7 +85,8 @@ fn used_digits<B: BitBlock>(blocks: &[B], start: usize, count: usize) -> B
     requires within { count ≤ B.width }
     requires each { All B.is_block blocks.now }
     ensures of_block { B.is_block result }
-    ensures digits { (j : ℕ) → j < B.width → is_one (B.number result) j ≡ (nat_lt j count && is_used (map B.number blocks.now) (start + j)) }
+    ensures digits { (j : ℕ) → j < B.width
+        → is_one (B.number result) j ≡ (nat_lt j count && is_used (map B.number blocks.now) (start + j)) }
 {
     let mut digits = B::zero();
     for j in 0..count {
@@ -100,7 +103,8 @@ fn digits_of_groups<B: BitBlock>(blocks: &[B], start: usize, groups: usize) -> B
     requires within { groups * 8 ≤ B.width }
     requires each { All B.is_block blocks.now }
     ensures of_block { B.is_block result }
-    ensures digits { (j : ℕ) → j < B.width → is_one (B.number result) j ≡ (nat_lt j (groups * 8) && is_used (map B.number blocks.now) (start + j)) }
+    ensures digits { (j : ℕ) → j < B.width
+        → is_one (B.number result) j ≡ (nat_lt j (groups * 8) && is_used (map B.number blocks.now) (start + j)) }
 {
     let mut digits = B::zero();
     for group in 0..groups {
@@ -117,7 +121,8 @@ fn summary_block<B: BitBlock>(blocks: &[B], q: usize) -> B
     requires in_bounds { q * B.width ≤ length blocks.now }
     requires each { All B.is_block blocks.now }
     ensures of_block { B.is_block result }
-    ensures digits { (j : ℕ) → j < B.width → is_one (B.number result) j ≡ is_used (map B.number blocks.now) (q * B.width + j) }
+    ensures digits { (j : ℕ) → j < B.width
+        → is_one (B.number result) j ≡ is_used (map B.number blocks.now) (q * B.width + j) }
 {
     let start = q * B::bits();
     let count = (blocks.len() - start).min(B::bits());
@@ -149,7 +154,8 @@ pub(crate) fn summary_of<B: BitBlock>(
     bits: &Packed<B>,
 ) -> Result<Packed<B>, AllocError>
     ensures summary { IfOk result (λ summary. IsSummary B.width bits.now.values summary.values) }
-    ensures capacity { IfOk result (λ summary. summary.capacity ≡ blocks_for B.width (blocks_for B.width (length bits.now.values))) }
+    ensures capacity { IfOk result (λ summary. summary.capacity
+        ≡ blocks_for B.width (blocks_for B.width (length bits.now.values))) }
     ensures empty { length bits.now.values ≡ 0 → IsOk result }
 {
     let count = bits.blocks().len();

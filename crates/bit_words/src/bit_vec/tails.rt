@@ -13,7 +13,8 @@ use std::alloc::{AllocError, Global};
 fn copy_past<B: BitBlock>(alloc: Global, blocks: &[B], count: usize) -> Result<Vec<B>, AllocError>
     requires within { count ≤ length blocks.now }
     requires each { All B.is_block blocks.now }
-    ensures numbers { IfOk result (λ copy. map B.number copy.items ≡ replicate count 0 ++ drop count (map B.number blocks.now)) }
+    ensures numbers { IfOk result (λ copy. map B.number copy.items
+        ≡ replicate count 0 ++ drop count (map B.number blocks.now)) }
     ensures each { IfOk result (λ copy. All B.is_block copy.items) }
     ensures len { IfOk result (λ copy. vec_len copy ≡ length blocks.now) }
     ensures room { IfOk result (λ copy. vec_capacity copy ≡ length blocks.now) }
@@ -31,7 +32,9 @@ pub(crate) fn copy_values_from<B: BitBlock>(
 ) -> Result<Vec<B>, AllocError>
     requires within { blocks_for B.width at ≤ length blocks.now }
     requires each { All B.is_block blocks.now }
-    ensures values { IfOk result (λ copy. (i : ℕ) → value_at B.width (map B.number copy.items) i ≡ (nat_le at i && value_at B.width (map B.number blocks.now) i)) }
+    ensures values { IfOk result (λ copy. (i : ℕ)
+        → value_at B.width (map B.number copy.items) i
+        ≡ (nat_le at i && value_at B.width (map B.number blocks.now) i)) }
     ensures each { IfOk result (λ copy. All B.is_block copy.items) }
     ensures len { IfOk result (λ copy. vec_len copy ≡ length blocks.now) }
     ensures room { IfOk result (λ copy. vec_capacity copy ≡ length blocks.now) }

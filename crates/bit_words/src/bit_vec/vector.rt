@@ -42,7 +42,10 @@ impl<B: BitBlock> Model for BitVec<B> {
 
     ghost Value = { Bits };
 
-    ghost view = { λ v. record { values = v.bits.values; room = room_of B.width (shared_room B.width v.bits.capacity v.summary.capacity) } };
+    ghost view = { λ v. record {
+      values = v.bits.values;
+      room = room_of B.width (shared_room B.width v.bits.capacity v.summary.capacity);
+    } };
 
     ghost invariant = { λ v. IsStored B.width v.bits v.summary };
 }
@@ -131,8 +134,10 @@ impl<B: BitBlock> BitVec<B> {
         ensures each { All B.is_block result.blocks }
         ensures left { result.left ≡ first_and_nonzero B.number result.blocks }
         ensures pulls { result.pulls ≡ 0 }
-        ensures summary_pulls { result.summary_pulls ≡ min 1 (blocks_for B.width (blocks_for B.width (length self.now.values))) }
-        ensures summary_left { result.summary_left ≡ blocks_for B.width (blocks_for B.width (length self.now.values)) - 1 }
+        ensures summary_pulls { result.summary_pulls
+            ≡ min 1 (blocks_for B.width (blocks_for B.width (length self.now.values))) }
+        ensures summary_left { result.summary_left
+            ≡ blocks_for B.width (blocks_for B.width (length self.now.values)) - 1 }
         ensures fits { IsWithinRoom self.now }
     {
         Nonzero::over(self.bits.blocks(), self.summary.blocks())

@@ -48,7 +48,8 @@ impl<B: BitBlock> Packed<B> {
         requires fewer { count ≤ blocks_for B.width (length self.old.values) }
         requires fits { count * B.width < 2 ^ 64 }
         ensures len { length self.new.values ≡ count * B.width }
-        ensures values { (i : ℕ) → i < count * B.width → get_or self.new.values i false ≡ get_or self.old.values i false }
+        ensures values { (i : ℕ) → i < count * B.width
+            → get_or self.new.values i false ≡ get_or self.old.values i false }
         ensures capacity { self.new.capacity ≡ self.old.capacity }
     {
         keep_blocks(&mut self.blocks, count);

@@ -35,9 +35,11 @@ fn merge_group<B: BitBlock, O: Operation>(
     requires other { IsOther B.width B.number B.is_block others.now (length bits.old.values) }
     requires in_others { start + count ≤ length others.now }
     requires within { count ≤ B.width }
-    ensures merged { IsMergedBetween O.merge B.width start (start + count) (blocks_of B.width bits.old.values) (map B.number others.now) (blocks_of B.width bits.new.values) }
+    ensures merged { IsMergedBetween O.merge B.width start (start + count) (blocks_of B.width bits.old.values)
+        (map B.number others.now) (blocks_of B.width bits.new.values) }
     ensures of_block { B.is_block result }
-    ensures digits { (j : ℕ) → j < B.width → is_one (B.number result) j ≡ (nat_lt j count && is_used (blocks_of B.width bits.new.values) (start + j)) }
+    ensures digits { (j : ℕ) → j < B.width
+        → is_one (B.number result) j ≡ (nat_lt j count && is_used (blocks_of B.width bits.new.values) (start + j)) }
     ensures len { length bits.new.values ≡ length bits.old.values }
     ensures capacity { bits.new.capacity ≡ bits.old.capacity }
     ensures steps { steps.new ≡ steps.old + count }
@@ -62,9 +64,12 @@ fn merge_groups<B: BitBlock, O: Operation>(
     requires other { IsOther B.width B.number B.is_block others.now (length bits.old.values) }
     requires in_others { start + groups * 32 ≤ length others.now }
     requires within { groups * 32 ≤ B.width }
-    ensures merged { IsMergedBetween O.merge B.width start (start + groups * 32) (blocks_of B.width bits.old.values) (map B.number others.now) (blocks_of B.width bits.new.values) }
+    ensures merged { IsMergedBetween O.merge B.width start (start + groups * 32) (blocks_of B.width bits.old.values)
+        (map B.number others.now) (blocks_of B.width bits.new.values) }
     ensures of_block { B.is_block result }
-    ensures digits { (j : ℕ) → j < B.width → is_one (B.number result) j ≡ (nat_lt j (groups * 32) && is_used (blocks_of B.width bits.new.values) (start + j)) }
+    ensures digits { (j : ℕ) → j < B.width
+        → is_one (B.number result) j
+        ≡ (nat_lt j (groups * 32) && is_used (blocks_of B.width bits.new.values) (start + j)) }
     ensures len { length bits.new.values ≡ length bits.old.values }
     ensures capacity { bits.new.capacity ≡ bits.old.capacity }
     ensures steps { steps.new ≡ steps.old + groups * 32 }
@@ -89,9 +94,11 @@ fn merge_row<B: BitBlock, O: Operation>(
 ) -> B
     requires other { IsOther B.width B.number B.is_block others.now (length bits.old.values) }
     requires in_others { (q + 1) * B.width ≤ length others.now }
-    ensures merged { IsMergedBetween O.merge B.width (q * B.width) ((q + 1) * B.width) (blocks_of B.width bits.old.values) (map B.number others.now) (blocks_of B.width bits.new.values) }
+    ensures merged { IsMergedBetween O.merge B.width (q * B.width) ((q + 1) * B.width)
+        (blocks_of B.width bits.old.values) (map B.number others.now) (blocks_of B.width bits.new.values) }
     ensures of_block { B.is_block result }
-    ensures digits { (j : ℕ) → j < B.width → is_one (B.number result) j ≡ is_used (blocks_of B.width bits.new.values) (q * B.width + j) }
+    ensures digits { (j : ℕ) → j < B.width
+        → is_one (B.number result) j ≡ is_used (blocks_of B.width bits.new.values) (q * B.width + j) }
     ensures len { length bits.new.values ≡ length bits.old.values }
     ensures capacity { bits.new.capacity ≡ bits.old.capacity }
     ensures steps { steps.new ≡ steps.old + B.width }
@@ -116,9 +123,13 @@ fn merge_rows<B: BitBlock, O: Operation>(
     requires other { IsOther B.width B.number B.is_block others.now (length bits.old.values) }
     requires in_others { rows * B.width ≤ length others.now }
     requires count { length summary.old.values ≡ blocks_for B.width (length bits.old.values) }
-    ensures merged { IsMergedBetween O.merge B.width 0 (rows * B.width) (blocks_of B.width bits.old.values) (map B.number others.now) (blocks_of B.width bits.new.values) }
-    ensures digits { (q j : ℕ) → q < rows → j < B.width → is_one (get_or (blocks_of B.width summary.new.values) q 0) j ≡ is_used (blocks_of B.width bits.new.values) (q * B.width + j) }
-    ensures past { (q : ℕ) → rows ≤ q → get_or (blocks_of B.width summary.new.values) q 0 ≡ get_or (blocks_of B.width summary.old.values) q 0 }
+    ensures merged { IsMergedBetween O.merge B.width 0 (rows * B.width) (blocks_of B.width bits.old.values)
+        (map B.number others.now) (blocks_of B.width bits.new.values) }
+    ensures digits { (q j : ℕ) → q < rows → j < B.width
+        → is_one (get_or (blocks_of B.width summary.new.values) q 0) j
+        ≡ is_used (blocks_of B.width bits.new.values) (q * B.width + j) }
+    ensures past { (q : ℕ) → rows ≤ q
+        → get_or (blocks_of B.width summary.new.values) q 0 ≡ get_or (blocks_of B.width summary.old.values) q 0 }
     ensures len { length bits.new.values ≡ length bits.old.values }
     ensures summary_len { length summary.new.values ≡ length summary.old.values }
     ensures capacity { bits.new.capacity ≡ bits.old.capacity }
@@ -140,9 +151,14 @@ fn update_summary_rest<B: BitBlock, O: Operation>(
 )
     requires in_bounds { start * B.width ≤ blocks_for B.width (length bits.now.values) }
     requires count { length summary.old.values ≡ blocks_for B.width (length bits.now.values) }
-    requires rest { (k : ℕ) → (start + 1) * B.width ≤ k → is_used (blocks_of B.width bits.now.values) k ≡ merged_value O.merge (get_or summary.old.values k false) false }
-    ensures before { (q : ℕ) → q < start → get_or (blocks_of B.width summary.new.values) q 0 ≡ get_or (blocks_of B.width summary.old.values) q 0 }
-    ensures digits { (q j : ℕ) → start ≤ q → q < blocks_for B.width (length summary.old.values) → j < B.width → is_one (get_or (blocks_of B.width summary.new.values) q 0) j ≡ is_used (blocks_of B.width bits.now.values) (q * B.width + j) }
+    requires rest { (k : ℕ) → (start + 1) * B.width ≤ k
+        → is_used (blocks_of B.width bits.now.values) k
+        ≡ merged_value O.merge (get_or summary.old.values k false) false }
+    ensures before { (q : ℕ) → q < start
+        → get_or (blocks_of B.width summary.new.values) q 0 ≡ get_or (blocks_of B.width summary.old.values) q 0 }
+    ensures digits { (q j : ℕ) → start ≤ q → q < blocks_for B.width (length summary.old.values) → j < B.width
+        → is_one (get_or (blocks_of B.width summary.new.values) q 0) j
+        ≡ is_used (blocks_of B.width bits.now.values) (q * B.width + j) }
     ensures len { length summary.new.values ≡ length summary.old.values }
     ensures capacity { summary.new.capacity ≡ summary.old.capacity }
 {

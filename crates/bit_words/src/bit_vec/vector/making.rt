@@ -107,7 +107,8 @@ impl<B: BitBlock> BitVec<B> {
     /// for; `Memory` only where that is refused, and never for no bytes.
     pub fn from_bytes_general(alloc: Global, bytes: &[u8]) -> Result<Self, BitsError>
         ensures values { IfOk result (λ vector. vector.values ≡ values_of_bytes bytes.now) }
-        ensures room { IfOk result (λ vector. vector.room ≡ room_of B.width (blocks_for B.width (8 * length bytes.now))) }
+        ensures room { IfOk result (λ vector. vector.room
+            ≡ room_of B.width (blocks_for B.width (8 * length bytes.now))) }
         ensures too_long { IsErrOf result BitsError.Length ↔ (usize.MAX < 8 * length bytes.now) }
         ensures empty { length bytes.now ≡ 0 → IsOk result }
     {
@@ -123,7 +124,8 @@ impl<B: BitBlock> BitVec<B> {
     /// where memory is refused, and never for an empty list.
     pub fn clone(&self, alloc: Global) -> Result<Self, AllocError>
         ensures values { IfOk result (λ vector. vector.values ≡ self.now.values) }
-        ensures room { IfOk result (λ vector. vector.room ≡ room_of B.width (blocks_for B.width (length self.now.values))) }
+        ensures room { IfOk result (λ vector. vector.room
+            ≡ room_of B.width (blocks_for B.width (length self.now.values))) }
         ensures empty { length self.now.values ≡ 0 → IsOk result }
     {
         let bits = self.bits.copy(alloc)?;
@@ -137,7 +139,8 @@ impl<B: BitBlock> BitVec<B> {
     pub fn clone_tail(&self, alloc: Global, at: usize) -> Result<Self, AllocError>
         requires { at < length self.now.values }
         ensures values { IfOk result (λ vector. vector.values ≡ replicate at false ++ drop at self.now.values) }
-        ensures room { IfOk result (λ vector. vector.room ≡ room_of B.width (blocks_for B.width (length self.now.values))) }
+        ensures room { IfOk result (λ vector. vector.room
+            ≡ room_of B.width (blocks_for B.width (length self.now.values))) }
     {
         let bits = self.bits.copy_tail(alloc, at)?;
         let k = block_index::<B>(at);
