@@ -9,7 +9,8 @@ use Rattle.bit_set_run.specs.declared.streams.LinesFault.TheVariants.{Read, TooL
 -- whether a word names a block type
 abbrev pub names_block : List ℕ → Bool
 names_block word =
-    bytes_eq word (codes "u8") || bytes_eq word (codes "u16") || bytes_eq word (codes "u32") || bytes_eq word (codes "u64") || bytes_eq word (codes "usize") || bytes_eq word (codes "u128")
+    bytes_eq word (codes "u8") || bytes_eq word (codes "u16") || bytes_eq word (codes "u32")
+    || bytes_eq word (codes "u64") || bytes_eq word (codes "usize") || bytes_eq word (codes "u128")
 
 -- whether the program takes these words: none, or the name of a block type
 abbrev pub takes : List (List ℕ) → Bool

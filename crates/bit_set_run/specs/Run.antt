@@ -56,7 +56,8 @@ step sets (Remove name n) = change_to sets name (without (set_of sets name) n) (
 step sets (Contains name n) = answer_with sets (Truth (has (set_of sets name) n))
 -- the items go in up to the first that no set can have
 step sets (Extend name items) =
-    change_to sets name (put_all (set_of sets name) (elements_before_greatest items)) (if list_any (λ n. n == greatest) items then Element else Done)
+    change_to sets name (put_all (set_of sets name) (elements_before_greatest items))
+    (if list_any (λ n. n == greatest) items then Element else Done)
 step sets (Truncate name n) = change_to sets name (those_below (set_of sets name) n) Done
 step sets (Empty name) = change_to sets name [] Done
 step sets (Reset name) = change_to sets name [] Done
@@ -107,7 +108,8 @@ abbrev pub RefusedBy : Sets → Command → Sets → Type 0
 RefusedBy old (Insert name n) new = (n < greatest) × (has (set_of old name) n ≡ false) × (new ≡ old)
 RefusedBy old (Extend name items) new =
     (front : List ℕ) × (item : ℕ) × (back : List ℕ) × (elements_before_greatest items ≡ front ++ item ∷ back)
-    × (has (put_all (set_of old name) front) item ≡ false) × (new ≡ slice_set old name (put_all (set_of old name) front))
+    × (has (put_all (set_of old name) front) item ≡ false)
+    × (new ≡ slice_set old name (put_all (set_of old name) front))
 RefusedBy old (Reserve name n) new = (bound_of (set_of old name) < n) × (new ≡ old)
 RefusedBy old (ReserveExact name n) new = (bound_of (set_of old name) < n) × (new ≡ old)
 RefusedBy old (Shrink name) new = (set_of old name ≢ []) × (new ≡ old)
@@ -123,7 +125,8 @@ RefusedBy old command new = ⊥
 
 -- A run that stopped at command k, with room for this many replies at its start: the replies are those of the
 -- commands before it. Either there was no room for one more, and the command did nothing, or it was refused memory.
-pub record StoppedAt (k : ℕ) (commands : List Command) (room : ℕ) (old new : Sets) (old_replies new_replies : List Reply) : Type 0 where
+pub record StoppedAt (k : ℕ) (commands : List Command) (room : ℕ) (old new : Sets)
+    (old_replies new_replies : List Reply) : Type 0 where
   pub within : k < length commands
   pub command : Command
   pub at : slice_get commands k ≡ Some command

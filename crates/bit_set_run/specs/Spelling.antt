@@ -78,7 +78,8 @@ figures n = 32 ∷ decimal n
 -- between them
 abbrev pub line_of : Command → List ℕ
 line_of (SplitOff s n t) = codes "split_off" ++ (letter s ++ (figures n ++ letter t))
-line_of command = (parts_of command).word ++ (flat_map letter (names_of command) ++ flat_map figures (numbers_of command))
+line_of command = (parts_of command).word
+    ++ (flat_map letter (names_of command) ++ flat_map figures (numbers_of command))
 
 -- a command as a program can have it: each name is one of the sixteen, and no number is too large
 pub record CanBeHad (command : Command) : Type 0 where

@@ -38,7 +38,8 @@ fn answer_line<B: BitBlock>(
     requires { replies.old.items ≡ [] }
     ensures replies { OnOk result (replies.new.items ≡ []) }
     ensures sets { OnOk result (table.new ≡ sets_after table.old (reading line.now)) }
-    ensures text { OnOk result (text.new.items ≡ text.old.items ++ (answer_to table.old (reading line.now) ++ 10 ∷ [])) }
+    ensures text { OnOk result (text.new.items
+        ≡ text.old.items ++ (answer_to table.old (reading line.now) ++ 10 ∷ [])) }
 {
     match read_line(alloc, line)? {
         Err(bad) => text.extend_from_slice(bad_text(bad))?,

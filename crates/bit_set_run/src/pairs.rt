@@ -65,8 +65,10 @@ pub(crate) fn walk<B: BitBlock>(
     s: SetName,
     t: SetName,
 ) -> Result<Reply, AllocError>
-    ensures reply { IfOk result (λ reply. reply ≡ Items (merged_sets merge (set_of (map kept sets.now) s) (set_of (map kept sets.now) t))) }
-    ensures refused { OnErr result (merged_sets merge (set_of (map kept sets.now) s) (set_of (map kept sets.now) t) ≢ []) }
+    ensures reply { IfOk result (λ reply. reply
+        ≡ Items (merged_sets merge (set_of (map kept sets.now) s) (set_of (map kept sets.now) t))) }
+    ensures refused { OnErr result (merged_sets merge (set_of (map kept sets.now) s)
+        (set_of (map kept sets.now) t) ≢ []) }
 {
     let first = named(sets, s);
     let second = named(sets, t);
@@ -87,8 +89,10 @@ pub(crate) fn rest_of_walk<B: BitBlock>(
     t: SetName,
     taken: usize,
 ) -> Result<Reply, AllocError>
-    ensures reply { IfOk result (λ reply. reply ≡ rest_of taken (merged_sets merge (set_of (map kept sets.now) s) (set_of (map kept sets.now) t))) }
-    ensures refused { OnErr result (drop taken (merged_sets merge (set_of (map kept sets.now) s) (set_of (map kept sets.now) t)) ≢ []) }
+    ensures reply { IfOk result (λ reply. reply
+        ≡ rest_of taken (merged_sets merge (set_of (map kept sets.now) s) (set_of (map kept sets.now) t))) }
+    ensures refused { OnErr result
+        (drop taken (merged_sets merge (set_of (map kept sets.now) s) (set_of (map kept sets.now) t)) ≢ []) }
 {
     let first = named(sets, s);
     let second = named(sets, t);

@@ -76,7 +76,8 @@ pub(crate) fn step<B: BitBlock>(
 }
 
 fn insert<B: BitBlock>(set: &mut BitSet<B>, n: usize) -> Result<Reply, AllocError>
-    ensures reply { IfOk result (λ reply. reply ≡ (if n == greatest then Element else Truth (not (has (kept set.old) n)))) }
+    ensures reply { IfOk result (λ reply. reply
+        ≡ (if n == greatest then Element else Truth (not (has (kept set.old) n)))) }
     ensures after { OnOk result (kept set.new ≡ (if n == greatest then kept set.old else put (kept set.old) n)) }
     ensures refused { OnErr result ((n < greatest) × (has (kept set.old) n ≡ false) × (set.new ≡ set.old)) }
     ensures grown { OnOk result (GrowsTo (n + 1) set.old set.new) }
@@ -150,7 +151,8 @@ fn copy<B: BitBlock>(
     requires places { (from < 16) × (to < 16) }
     requires apart { from ≡ to → ⊥ }
     ensures reply { IfOk result (λ reply. reply ≡ Done) }
-    ensures after { OnOk result (map kept sets.new ≡ slice_set (map kept sets.old) to (slice_index_or (map kept sets.old) from [])) }
+    ensures after { OnOk result (map kept sets.new
+        ≡ slice_set (map kept sets.old) to (slice_index_or (map kept sets.old) from [])) }
     ensures grown { OnOk result (Becomes sets.old
         to (GrowsExactlyTo B.width (length (bits_at sets.old from).values)) sets.new) }
     ensures left { OnErr result (sets.new ≡ sets.old) }
@@ -174,7 +176,9 @@ fn merge_in_place<B: BitBlock>(
     requires places { (to < 16) × (other < 16) }
     requires apart { to ≡ other → ⊥ }
     ensures reply { IfOk result (λ reply. reply ≡ Done) }
-    ensures after { OnOk result (map kept sets.new ≡ slice_set (map kept sets.old) to (merged_sets merge (slice_index_or (map kept sets.old) to []) (slice_index_or (map kept sets.old) other []))) }
+    ensures after { OnOk result (map kept sets.new
+        ≡ slice_set (map kept sets.old) to (merged_sets merge (slice_index_or (map kept sets.old) to [])
+        (slice_index_or (map kept sets.old) other []))) }
     ensures grown { OnOk result (Becomes sets.old to (GrowsTo (length (bits_at sets.old other).values)) sets.new) }
     ensures left { OnErr result (sets.new ≡ sets.old) }
 {
@@ -212,7 +216,9 @@ fn append<B: BitBlock>(
     requires places { (to < 16) × (from < 16) }
     requires apart { to ≡ from → ⊥ }
     ensures reply { IfOk result (λ reply. reply ≡ Done) }
-    ensures after { OnOk result (map kept sets.new ≡ slice_set (slice_set (map kept sets.old) to (union (slice_index_or (map kept sets.old) to []) (slice_index_or (map kept sets.old) from []))) from []) }
+    ensures after { OnOk result (map kept sets.new
+        ≡ slice_set (slice_set (map kept sets.old) to (union (slice_index_or (map kept sets.old) to [])
+        (slice_index_or (map kept sets.old) from []))) from []) }
     ensures grown { OnOk result (BecomeTwo sets.old
         to (GrowsTo (length (bits_at sets.old from).values)) from SameCapacity sets.new) }
     ensures left { OnErr result (sets.new ≡ sets.old) }
@@ -235,7 +241,9 @@ fn split_off<B: BitBlock>(
 ) -> Result<Reply, AllocError>
     requires places { (from < 16) × (to < 16) }
     ensures reply { IfOk result (λ reply. reply ≡ Done) }
-    ensures after { OnOk result (map kept sets.new ≡ slice_set (slice_set (map kept sets.old) from (those_below (slice_index_or (map kept sets.old) from []) at)) to (those_from (slice_index_or (map kept sets.old) from []) at)) }
+    ensures after { OnOk result (map kept sets.new
+        ≡ slice_set (slice_set (map kept sets.old) from (those_below (slice_index_or (map kept sets.old) from []) at))
+        to (those_from (slice_index_or (map kept sets.old) from []) at)) }
     ensures refused { OnErr result ((0 < at) × (sets.new ≡ sets.old)) }
     ensures parts { OnOk result (BecomeTwo sets.old
         from (IsFront at) to (λ _ part. IsPart B.width at (bits_at sets.old from) part) sets.new) }
