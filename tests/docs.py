@@ -1,0 +1,150 @@
+"""Compares what the documents of this repository quote with its sources.
+
+    docs.py ROOT
+
+- Each paragraph of a ```rust block of README.md and of a crate's CALLING.md stands in one source, line for line but for
+  the indentation. So a whole block is code that the gate proves.
+- Each clause that a CALLING.md quotes below a line 'fn ..' is a clause of that function.
+- Each example of a doc comment stands in a test.
+
+It prints a line for each quote that does not agree, and at the end 'N passed, M failed'.
+"""
+
+import re
+import sys
+from pathlib import Path
+
+CLAUSE = re.compile(r"^\s+(requires|ensures)\b\s*([\w ]*?)\s*[:{]")
+
+
+def lines_of(text):
+    """The lines without their indentation."""
+    return [line.strip() for line in text.splitlines()]
+
+
+def stands_in(wanted, lines):
+    """Whether the wanted lines stand among these, one after another."""
+    first = wanted[0]
+    return any(
+        line == first and lines[start : start + len(wanted)] == wanted for start, line in enumerate(lines)
+    )
+
+
+def paragraphs(lines):
+    """The runs of lines between empty ones."""
+    found, run = [], []
+    for line in [*lines, ""]:
+        if line:
+            run.append(line)
+        elif run:
+            found.append(run)
+            run = []
+    return found
+
+
+def fences(lines, kind):
+    """The blocks of a kind that a document quotes, each as the number of its first line and its lines."""
+    found, start, inside = [], None, False
+    for number, line in enumerate(lines, 1):
+        if line.startswith("```"):
+            if inside:
+                if start is not None:
+                    found.append((start, lines[start - 1 : number - 1]))
+                start, inside = None, False
+            else:
+                inside = True
+                start = number + 1 if line == f"```{kind}" else None
+    return found
+
+
+class Check:
+    """What was compared so far."""
+
+    def __init__(self):
+        self.passed = 0
+        self.failed = 0
+
+    def expect(self, agrees, where, what):
+        if agrees:
+            self.passed += 1
+        else:
+            self.failed += 1
+            print(f"FAILED: {where}: {what}")
+
+
+def check_examples(check, root, document, sources):
+    """The examples of a document."""
+    lines = lines_of(document.read_text(encoding="utf-8"))
+    for start, block in fences(lines, "rust"):
+        parts = paragraphs(block)
+        agrees = any(all(stands_in(part, source) for part in parts) for source in sources)
+        check.expect(agrees, f"{document.relative_to(root)}:{start}", "no source has this example")
+
+
+def plain(text):
+    """A clause with one space between two words, and without the point in time at which `self` is meant."""
+    text = " ".join(text.split())
+    return re.sub(r"\bself\.(old|now|entry)\b", "self", text)
+
+
+def clauses_of(source):
+    """The clauses of a source: for each function's name, those that it has."""
+    found, name = {}, ""
+    text = source.read_text(encoding="utf-8")
+    for match in re.finditer(r"\bfn (\w+)|^\s+(requires|ensures)\b\s*(\w*)\s*\{", text, re.M):
+        if match.group(1):
+            name = match.group(1)
+            continue
+        end, depth = match.end(), 1
+        while depth:
+            depth += {"{": 1, "}": -1}.get(text[end], 0)
+            end += 1
+        clause = (match.group(2), match.group(3), plain(text[match.end() : end - 1]))
+        found.setdefault(name, set()).add(clause)
+    return found
+
+
+def check_clauses(check, root, document, clauses):
+    """The clauses that a document quotes."""
+    name = ""
+    for number, line in enumerate(document.read_text(encoding="utf-8").splitlines(), 1):
+        head = re.match(r"^fn (?:[\w<>, ]+::)*(\w+)", line)
+        if head:
+            name = head.group(1)
+        quoted = re.match(r"^  (requires|ensures) ?(\w*): (.*)$", line)
+        if not quoted:
+            continue
+        text = re.sub(r"\bS'", "self.new", quoted.group(3))
+        text = re.sub(r"\bS\b", "self", text)
+        clause = (quoted.group(1), quoted.group(2), plain(text))
+        check.expect(clause in clauses.get(name, set()), f"{document.relative_to(root)}:{number}", f"{name} has no such clause")
+
+
+def check_comments(check, root, source, tests):
+    """The examples of the doc comments of a source."""
+    comments = [line[3:].strip() if line.startswith("///") else "" for line in lines_of(source.read_text(encoding="utf-8"))]
+    for start, block in fences(comments, ""):
+        agrees = any(all(stands_in(part, test) for part in paragraphs(block)) for test in tests)
+        check.expect(agrees, f"{source.relative_to(root)}:{start}", "no test has this example")
+
+
+def main():
+    root = Path(sys.argv[1])
+    check = Check()
+    sources = {path: lines_of(path.read_text(encoding="utf-8")) for path in sorted(root.glob("crates/*/src/**/*.rt"))}
+    tests = [lines for path, lines in sources.items() if "#[test]" in lines]
+    documents = [root / "README.md", *sorted(root.glob("crates/*/CALLING.md"))]
+    for document in documents:
+        check_examples(check, root, document, list(sources.values()))
+        clauses = {}
+        for source in sorted(document.parent.glob("src/**/*.rt")):
+            for name, found in clauses_of(source).items():
+                clauses.setdefault(name, set()).update(found)
+        check_clauses(check, root, document, clauses)
+    for source in sources:
+        check_comments(check, root, source, tests)
+    print(f"{check.passed} passed, {check.failed} failed")
+    return 1 if check.failed else 0
+
+
+sys.exit(main())
