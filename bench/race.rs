@@ -1,6 +1,7 @@
 //! Times the same work by this repository's library and by the Rust crates `bit-set` and `fixedbitset`, and prints a
-//! table, and then a table of this library's times over three types of blocks. Ends with status 1 where two sides give
-//! different answers.
+//! table; then a table of libraries that stand on this one, beside the same loops over those crates; and then a table of
+//! this library's times over three types of blocks. Ends with status 1 where two sides give different answers.
+mod users;
 mod widths;
 
 use bit_set::BitSet;
@@ -97,6 +98,12 @@ struct Table {
 impl Table {
     fn start() -> Table {
         println!("| Work | Per | here | `bit-set` | ratio | `fixedbitset` | ratio |");
+        println!("|---|---|---|---|---|---|---|");
+        Table { agrees: true }
+    }
+
+    fn of_users() -> Table {
+        println!("| Users | Per | here | over `bit-set` | ratio | over `fixedbitset` | ratio |");
         println!("|---|---|---|---|---|---|---|");
         Table { agrees: true }
     }
@@ -698,6 +705,8 @@ fn main() -> ExitCode {
     });
     the_rest(&mut table);
     println!();
+    let users_agree = users::race();
+    println!();
     let widths_agree = widths::race(&densities[1], &densities[0]);
-    if table.agrees && widths_agree { ExitCode::SUCCESS } else { ExitCode::FAILURE }
+    if table.agrees && users_agree && widths_agree { ExitCode::SUCCESS } else { ExitCode::FAILURE }
 }

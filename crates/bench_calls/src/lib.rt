@@ -9,5 +9,6 @@ mod making;
 mod pairs;
 mod reading;
 mod room;
+mod slots;
 mod splits;
 mod widths;

@@ -1,0 +1,89 @@
+-- Which slots are free, as the set keeps them.
+use Rattle.std.proofs.Common.{◌≡◌, ℕ, zero, suc, ◌+◌, ◌<◌, ◌≤◌, ◌↔◌, ◌==◌, Bool, true, false, not, ◌||◌, ltb, List, [], ◌∷◌, length, max, replicate, slice_get, Some, refl, sym, ap, ◌∙◌, subst, arith, inl, inr, ⊎_elim}
+use Rattle.std.proofs.lemmas.Bool.{cases_eq, cases_lt, eq-eqb, ne_eqb, le-ltb, lt-ltb, and_right, not-false}
+use Rattle.std.proofs.lemmas.List.{length-replicate}
+use Rattle.std.proofs.lemmas.Option.{slice_get_within}
+use Rattle.std.specs.List.{range_with_len}
+use Rattle.bit_set.specs.Sets.{AscendsFrom, IsAscending, elements, elements_from, has, put}
+use Rattle.free_slots.specs.Runs.{Happens}
+use Rattle.free_slots.specs.Runs.Event.{GiveBack}
+use Rattle.free_slots.specs.Slots.{SlotTable, IsLowestFree, all_free, is_taken}
+
+-- what contracts see of the set that keeps these values
+abbrev pub table_of : List Bool → SlotTable
+table_of values = record { len = length values; free = elements values }
+
+same_table : (m n : ℕ) (xs ys : List ℕ) (s : SlotTable) → m ≡ n → xs ≡ ys → s ≡ record { len = m; free = xs } → s ≡ record { len = n; free = ys }
+same_table m n xs ys s len free is =
+    is ∙ ap (λ k. let t : SlotTable = record { len = k; free = xs } in t) len ∙ ap (λ zs. let t : SlotTable = record { len = n; free = zs } in t) free
+
+-- a list of `true` keeps each of its places
+elements-all : (a n : ℕ) → elements_from a (replicate n true) ≡ range_with_len a n
+elements-all a zero = refl
+elements-all a (suc n) = ap (λ xs. a ∷ xs) (elements-all (a + 1) n)
+
+has-range : (a n slot : ℕ) → a ≤ slot → slot < a + n → has (range_with_len a n) slot ≡ true
+has-range a zero slot from to = absurd (omega arith)
+has-range a (suc n) slot from to =
+    elim (cases_eq a slot) [
+      | inl here ↦ rw (eq-eqb a slot here) refl
+      | inr other ↦ rw (ne_eqb a slot other) (has-range (a + 1) n slot (omega arith) (omega arith))
+    ]
+
+-- where all are free, none is taken
+pub none_taken : (n slot : ℕ) → is_taken (all_free n) slot ≡ false
+none_taken n slot =
+    ⊎_elim
+    (λ (inside : slot < n). and_right (ltb slot n) (not (has (range_with_len 0 n) slot)) (ap not (has-range 0 n slot (omega arith) (omega arith))))
+    (λ (past : n ≤ slot). rw (le-ltb slot n past) refl)
+    (cases_lt slot n)
+
+-- in an ascending list, what is below the first is not there
+below_first : (low : ℕ) (xs : List ℕ) (n : ℕ) → AscendsFrom low xs → n < low → has xs n ≡ false
+below_first low [] n is below = refl
+below_first low (x ∷ xs) n is below =
+    let other : x ≡ n → ⊥ = λ same. omega (arith, is.0) in
+    rw (ne_eqb x n other) (below_first (x + 1) xs n is.1 (omega (arith, is.0)))
+
+-- the first of an ascending list is the least
+pub first_is_least : (xs : List ℕ) (first : ℕ) (rest : List ℕ) → IsAscending xs → xs ≡ first ∷ rest → (n : ℕ) → n < first → has xs n ≡ false
+first_is_least xs first rest is at n below =
+    rw at (below_first first (first ∷ rest) n (let all = subst IsAscending at is in (omega arith, all.1)) below)
+
+pub first_is_in : (xs : List ℕ) (first : ℕ) (rest : List ℕ) → xs ≡ first ∷ rest → has xs first ≡ true
+first_is_in xs first rest at = rw (at, eq-eqb first first refl) refl
+
+-- ---- what the calls leave
+
+pub made : (n : ℕ) (values : List Bool) → values ≡ replicate n true → table_of values ≡ all_free n
+made n values is = same_table (length values) n (elements values) (range_with_len 0 n) (table_of values) (ap length is ∙ length-replicate n true) (ap elements is ∙ elements-all 0 n) refl
+
+pub lowest_of : (values : List Bool) (slot : ℕ) (rest : List ℕ) → IsAscending (elements values) → ((m : ℕ) → (has (elements values) m ≡ true) ↔ (slice_get values m ≡ Some true)) → elements values ≡ slot ∷ rest → IsLowestFree (table_of values) 0 slot
+lowest_of values slot rest ascends places at =
+    let there = first_is_in (elements values) slot rest at in
+    record {
+      free = there;
+      inside = slice_get_within values slot true ((places slot).0 there);
+      above = omega arith;
+      lowest = λ other from below. first_is_least (elements values) slot rest ascends at other below;
+    }
+
+pub left : (old new : List Bool) (free : List ℕ) → length new ≡ length old → elements new ≡ free → table_of new ≡ record { len = length old; free = free }
+left old new free long is = same_table (length new) (length old) (elements new) free (table_of new) long is refl
+
+-- a number that is in is put in for nothing
+pub put_again : (s : List ℕ) (n : ℕ) → IsAscending s → ((s t : List ℕ) → IsAscending s → IsAscending t → ((m : ℕ) → has s m ≡ has t m) → s ≡ t) → IsAscending (put s n)
+    → ((m : ℕ) → has (put s n) m ≡ (n == m || has s m)) → has s n ≡ true → put s n ≡ s
+put_again s n ascends by_members ascends_put members is =
+    by_members (put s n) s ascends_put ascends (λ m.
+    elim (cases_eq n m) [
+      | inl same ↦ rw (members m, eq-eqb n m same) (sym is ∙ ap (has s) same)
+      | inr other ↦ rw (members m, ne_eqb n m other) refl
+    ])
+
+pub given_back : (old new : List Bool) (slot : ℕ) (answer : Bool) → slot < length old → answer ≡ not (has (elements old) slot) → elements new ≡ put (elements old) slot → length new ≡ max (length old) (slot + 1)
+    → (has (elements old) slot ≡ true → put (elements old) slot ≡ elements old) → Happens (table_of old) (GiveBack slot answer) (table_of new)
+given_back old new slot true inside is added long again =
+    (rw (lt-ltb slot (length old) inside) (sym is), left old new (put (elements old) slot) (omega (arith, long, inside)) added)
+given_back old new slot false inside is added long again =
+    (and_right (ltb slot (length old)) _ (sym is), left old new (elements old) (omega (arith, long, inside)) (added ∙ again (not-false (has (elements old) slot) (sym is))))

@@ -1,0 +1,27 @@
+use Rattle.std.proofs.Common.{◌<◌, length, ap, subst}
+use Rattle.bit_set.specs.Sets.{elements}
+use Rattle.free_slots.specs.Runs.{Happens}
+use Rattle.free_slots.specs.Runs.Event.{GiveBack}
+use Rattle.free_slots.specs.Slots.{SlotTable}
+use Rattle.free_slots.proofs.SlotLemmas.{given_back, put_again, table_of}
+use Rattle.free_slots.proofs.Slots.give_back.Given.{Over}
+use Rattle.free_slots.proofs.Slots.give_back.Goals.{After-unwrap}
+use Rattle.free_slots.proofs.Slots.give_back.Goals as goal
+
+happens : (g : Over) (c : After-unwrap g) → Happens c.args.self.now (GiveBack c.args.slot c.unwrap.result) (table_of c.insert.new.self.values)
+happens g c =
+    let values = c.self.inside.free.values in
+    let slot = c.args.slot in
+    let s = elements values in
+    let ascends = c.sets_ascend.ensures.elements values in
+    let inside : slot < length values = rw (ap (λ (t : SlotTable). t.len) c.self.view_is, ← c.len.ensures) c.if-slot-len.true in
+    let again = put_again s slot ascends c.sets_are_their_members.ensures.set (c.sets_ascend.ensures.put s slot ascends) (c.members_of_sets.ensures.put s slot) in
+    let ok = c.unwrap.ensures in
+    subst (λ (t : SlotTable). Happens t (GiveBack slot c.unwrap.result) (table_of c.insert.new.self.values)) c.self.view_is
+    (given_back values c.insert.new.self.values slot c.unwrap.result inside (rw ok at c.insert.ensures.answer) (rw ok at c.insert.ensures.elements) (rw ok at c.insert.ensures.length) again)
+
+pub returns-then-slot-len-clause-happens : goal.returns-then-slot-len-clause-happens
+returns-then-slot-len-clause-happens g c = happens g c
+
+pub returns-then-slot-len-clause-unchanged : goal.returns-then-slot-len-clause-unchanged
+returns-then-slot-len-clause-unchanged g c = λ free. (subst (λ b. Happens c.args.self.now (GiveBack c.args.slot b) (table_of c.insert.new.self.values)) free (happens g c)).1

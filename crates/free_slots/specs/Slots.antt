@@ -1,0 +1,24 @@
+-- Numbered slots, each of them free or taken.
+use Rattle.std.specs.Prelude.{◌≡◌, ℕ, ◌<◌, ◌≤◌, ◌&&◌, nat_lt, not, Bool, false, IsTrue, List}
+use Rattle.std.specs.List.{range_with_len}
+use Rattle.bit_set.specs.Sets.{has}
+
+-- What contracts see of slots: how many there are, and which of them are free, in ascending order.
+pub record SlotTable : Type 0 where
+  pub len : ℕ
+  pub free : List ℕ
+
+-- n slots, of which each is free
+abbrev pub all_free : ℕ → SlotTable
+all_free n = record { len = n; free = range_with_len 0 n }
+
+-- whether a slot is taken: it is one of the slots, and not free
+abbrev pub is_taken : SlotTable → ℕ → Bool
+is_taken s slot = nat_lt slot s.len && not (has s.free slot)
+
+-- the slot is free, and no slot below it is free, of those from `from` on
+pub record IsLowestFree (s : SlotTable) (from slot : ℕ) : Type 0 where
+  pub free : IsTrue (has s.free slot)
+  pub inside : slot < s.len
+  pub above : from ≤ slot
+  pub lowest : (other : ℕ) → from ≤ other → other < slot → has s.free other ≡ false

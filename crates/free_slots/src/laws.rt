@@ -1,0 +1,27 @@
+//! What whole runs of calls on slots come to, as the contract of a function that does nothing.
+ghost use Rattle.std.specs.Prelude.{◌≡◌, ℕ, ◌+◌, ◌<◌, ◌≤◌, ◌↔◌, ◌++◌, ◌∷◌, Bool, IsTrue, List, None, Some};
+ghost use Rattle.free_slots.specs.Runs.{Event, IsHeld, IsLowestUnheld, Run, times_given, times_taken};
+ghost use Rattle.free_slots.specs.Runs.Event.{GiveBack, Take};
+ghost use Rattle.free_slots.specs.Slots.{SlotTable, all_free, is_taken};
+
+use bit_set::laws::members_of_sets;
+
+/// What any calls on n slots, from the making on and one after another, return. `Happens` is a clause of
+/// each call that changes slots, so these are the runs of the calls themselves. A slot is held from where it
+/// is taken until it is given back.
+///
+/// - `once`: a slot is never taken a second time while it is held.
+/// - `held`: the slots that are held are those that are not free.
+/// - `lowest`: what `take` and `take_at_or_above` return was not held, and each slot below it was, of those
+///   from the number on that was asked for.
+/// - `full`: they return `None` only where each of these is held.
+/// - `given`: `give_back` returns `true` for slots that are held, and for no others.
+pub fn whole_runs()
+    ensures once { (n slot : ℕ) (events : List Event) (end : SlotTable) → Run (all_free n) events end → times_taken slot events ≤ times_given slot events + 1 }
+    ensures held { (n slot : ℕ) (events : List Event) (end : SlotTable) → Run (all_free n) events end → IsHeld events slot ↔ IsTrue (is_taken end slot) }
+    ensures lowest { (n from slot : ℕ) (events later : List Event) (end : SlotTable) → Run (all_free n) (events ++ Take from (Some slot) ∷ later) end → IsLowestUnheld n events from slot }
+    ensures full { (n from slot : ℕ) (events later : List Event) (end : SlotTable) → Run (all_free n) (events ++ Take from None ∷ later) end → from ≤ slot → slot < n → IsHeld events slot }
+    ensures given { (n slot : ℕ) (result : Bool) (events later : List Event) (end : SlotTable) → Run (all_free n) (events ++ GiveBack slot result ∷ later) end → IsTrue result ↔ IsHeld events slot }
+{
+    members_of_sets();
+}
