@@ -2,12 +2,15 @@
 ghost use Rattle.std.specs.Prelude.{◌≡◌, ◌+◌};
 
 use std::marker::Model;
+use std::mem::ManuallyDrop;
 use std::snapshot::Snapshot;
 
 /// How many steps were taken. Contracts see the number; at run time it has no bytes and costs nothing.
 #[derive(Drop)]
 pub struct Steps {
-    link: Snapshot<Link>,
+    // A snapshot has a drop of its own, so the borrow checker would take a walk that counts its steps to
+    // read what it borrows until the walk goes out of scope. There is nothing to drop.
+    link: ManuallyDrop<Snapshot<Link>>,
 }
 
 // The count is the length of the chain, which no code can read.
@@ -23,9 +26,10 @@ impl Model for Steps {
 
     ghost Value = { ℕ };
 
+    ghost use Rattle.std.specs.Mem.{manually_drop_value};
     ghost use Rattle.bit_words.specs.Steps.{depth};
 
-    ghost view = { λ steps. depth steps.link.value };
+    ghost view = { λ steps. depth (manually_drop_value steps.link).value };
 }
 
 impl Steps {
@@ -35,7 +39,7 @@ impl Steps {
         ensures { result ≡ 0 }
     {
         Steps {
-            link: Snapshot::of(&Link::Zero),
+            link: ManuallyDrop::new(Snapshot::of(&Link::Zero)),
         }
     }
 
@@ -44,7 +48,7 @@ impl Steps {
     pub fn tick(&mut self)
         ensures { self.new ≡ self.old + 1 }
     {
-        self.link = Snapshot::of(&Link::More(Snapshot::of(&self.link)));
+        self.link = ManuallyDrop::new(Snapshot::of(&Link::More(Snapshot::of(&self.link))));
     }
 
     // So many steps more.
@@ -63,7 +67,7 @@ impl Steps {
         ensures { result ≡ self.now }
     {
         Steps {
-            link: Snapshot::of(&Link::Same(Snapshot::of(&self.link))),
+            link: ManuallyDrop::new(Snapshot::of(&Link::Same(Snapshot::of(&self.link)))),
         }
     }
 }
