@@ -19,14 +19,16 @@ marked_from w number place m xs = pick (is_marked w place m (map number xs)) pla
 
 -- The block `marks` of a summary stands for w blocks of xs from `place` on, and sums for those past them. From
 -- its lowest 1 on it tells exactly which of them are not 0.
-pub record IsMarked {X : Type 0} (w : ℕ) (number : X → ℕ) (is_block : X → Type 0) (place : ℕ) (marks : X) (xs sums : List X) : Type 0 where
+pub record IsMarked {X : Type 0} (w : ℕ) (number : X → ℕ) (is_block : X → Type 0) (place : ℕ) (marks : X)
+    (xs sums : List X) : Type 0 where
   pub each : All is_block xs
   pub in_hand : is_block marks
   pub sums_each : All is_block sums
   pub fits : length xs < 2 ^ 64
   pub within : place ≤ length xs
   pub inside : (j : ℕ) → j < w → is_one (number marks) j ≡ true → place + j < length xs
-  pub exact : (i j : ℕ) → i < j → j < w → is_one (number marks) i ≡ true → is_one (number marks) j ≡ is_used (map number xs) (place + j)
+  pub exact : (i j : ℕ) → i < j → j < w → is_one (number marks) i ≡ true
+      → is_one (number marks) j ≡ is_used (map number xs) (place + j)
   pub enough : length xs ≤ place + w + length sums * w
   pub few : 0 < length sums → place + length sums * w < length xs
   pub digit : (k : ℕ) → value_at w (map number sums) k ≡ is_used (map number xs) (place + w + k)

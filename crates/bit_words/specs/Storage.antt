@@ -26,7 +26,8 @@ pub record IsCleanFrom (w : ℕ) (ms : List ℕ) (n : ℕ) : Type 0 where
 unfoldable pub byte_value : List ℕ → ℕ → Bool
 byte_value bytes i = is_one (get_or bytes (i / 8) 0) (7 - i % 8)
 
--- The blocks xs hold a list of n values: each is a block value, there are as many as it takes, what no value uses is 0, and n is a `usize`.
+-- The blocks xs hold a list of n values: each is a block value, there are as many as it takes, what no value uses is 0,
+-- and n is a `usize`.
 pub record IsTidy {X : Type 0} (w : ℕ) (number : X → ℕ) (is_block : X → Type 0) (xs : List X) (n : ℕ) : Type 0 where
   pub each : All is_block xs
   pub count : length xs ≡ blocks_for w n
@@ -35,7 +36,8 @@ pub record IsTidy {X : Type 0} (w : ℕ) (number : X → ℕ) (is_block : X → 
 
 -- digit by digit, the first blocks of two lists merge to 0
 pub record MergesToZero (merge : Merge) (w : ℕ) (ms ns : List ℕ) (count : ℕ) : Type 0 where
-  pub digit : (k j : ℕ) → k < count → j < w → merged_value merge (is_one (get_or ms k 0) j) (is_one (get_or ns k 0) j) ≡ false
+  pub digit : (k j : ℕ) → k < count → j < w
+      → merged_value merge (is_one (get_or ms k 0) j) (is_one (get_or ns k 0) j) ≡ false
 
 -- at every index two lists of blocks merge to false
 pub record MergesToFalse (merge : Merge) (w : ℕ) (ms ns : List ℕ) : Type 0 where
@@ -46,8 +48,10 @@ pub record IsFirstMerged (merge : Merge) (w : ℕ) (ms ns : List ℕ) (i : ℕ) 
   pub is_true : merged_value merge (value_at w ms i) (value_at w ns i) ≡ true
   pub before : (j : ℕ) → j < i → merged_value merge (value_at w ms j) (value_at w ns j) ≡ false
 
--- digit by digit, the blocks from start to before end are what those of two lists merge to; the others are those of the first list
+-- digit by digit, the blocks from start to before end are what those of two lists merge to; the others are those of the
+-- first list
 pub record IsMergedBetween (merge : Merge) (w start end : ℕ) (ms os ns : List ℕ) : Type 0 where
-  pub digit : (k j : ℕ) → start ≤ k → k < end → j < w → is_one (get_or ns k 0) j ≡ merged_value merge (is_one (get_or ms k 0) j) (is_one (get_or os k 0) j)
+  pub digit : (k j : ℕ) → start ≤ k → k < end → j < w
+      → is_one (get_or ns k 0) j ≡ merged_value merge (is_one (get_or ms k 0) j) (is_one (get_or os k 0) j)
   pub before : (k : ℕ) → k < start → get_or ns k 0 ≡ get_or ms k 0
   pub after : (k : ℕ) → end ≤ k → get_or ns k 0 ≡ get_or ms k 0

@@ -35,9 +35,11 @@ fn merge_group<B: BitBlock, O: Operation>(
     requires within { count ≤ B.width }
     requires each { All B.is_block blocks.old.items }
     requires others { All B.is_block others.now }
-    ensures merged { IsMergedBetween O.merge B.width start (start + count) (map B.number blocks.old.items) (map B.number others.now) (map B.number blocks.new.items) }
+    ensures merged { IsMergedBetween O.merge B.width start (start + count) (map B.number blocks.old.items)
+        (map B.number others.now) (map B.number blocks.new.items) }
     ensures of_block { B.is_block result }
-    ensures digits { (j : ℕ) → j < B.width → is_one (B.number result) j ≡ (nat_lt j count && is_used (map B.number blocks.new.items) (start + j)) }
+    ensures digits { (j : ℕ) → j < B.width
+        → is_one (B.number result) j ≡ (nat_lt j count && is_used (map B.number blocks.new.items) (start + j)) }
     ensures each { All B.is_block blocks.new.items }
     ensures len { vec_len blocks.new ≡ vec_len blocks.old }
     ensures capacity { vec_capacity blocks.new ≡ vec_capacity blocks.old }
@@ -65,9 +67,11 @@ fn merge_groups<B: BitBlock, O: Operation>(
     requires within { groups * 32 ≤ B.width }
     requires each { All B.is_block blocks.old.items }
     requires others { All B.is_block others.now }
-    ensures merged { IsMergedBetween O.merge B.width start (start + groups * 32) (map B.number blocks.old.items) (map B.number others.now) (map B.number blocks.new.items) }
+    ensures merged { IsMergedBetween O.merge B.width start (start + groups * 32) (map B.number blocks.old.items)
+        (map B.number others.now) (map B.number blocks.new.items) }
     ensures of_block { B.is_block result }
-    ensures digits { (j : ℕ) → j < B.width → is_one (B.number result) j ≡ (nat_lt j (groups * 32) && is_used (map B.number blocks.new.items) (start + j)) }
+    ensures digits { (j : ℕ) → j < B.width
+        → is_one (B.number result) j ≡ (nat_lt j (groups * 32) && is_used (map B.number blocks.new.items) (start + j)) }
     ensures each { All B.is_block blocks.new.items }
     ensures len { vec_len blocks.new ≡ vec_len blocks.old }
     ensures capacity { vec_capacity blocks.new ≡ vec_capacity blocks.old }
@@ -95,9 +99,11 @@ fn merge_row<B: BitBlock, O: Operation>(
     requires in_others { (q + 1) * B.width ≤ length others.now }
     requires each { All B.is_block blocks.old.items }
     requires others { All B.is_block others.now }
-    ensures merged { IsMergedBetween O.merge B.width (q * B.width) ((q + 1) * B.width) (map B.number blocks.old.items) (map B.number others.now) (map B.number blocks.new.items) }
+    ensures merged { IsMergedBetween O.merge B.width (q * B.width) ((q + 1) * B.width) (map B.number blocks.old.items)
+        (map B.number others.now) (map B.number blocks.new.items) }
     ensures of_block { B.is_block result }
-    ensures digits { (j : ℕ) → j < B.width → is_one (B.number result) j ≡ is_used (map B.number blocks.new.items) (q * B.width + j) }
+    ensures digits { (j : ℕ) → j < B.width
+        → is_one (B.number result) j ≡ is_used (map B.number blocks.new.items) (q * B.width + j) }
     ensures each { All B.is_block blocks.new.items }
     ensures len { vec_len blocks.new ≡ vec_len blocks.old }
     ensures capacity { vec_capacity blocks.new ≡ vec_capacity blocks.old }
@@ -126,9 +132,13 @@ fn merge_rows<B: BitBlock, O: Operation>(
     requires each { All B.is_block blocks.old.items }
     requires each_sum { All B.is_block sums.old.items }
     requires others { All B.is_block others.now }
-    ensures merged { IsMergedBetween O.merge B.width 0 (rows * B.width) (map B.number blocks.old.items) (map B.number others.now) (map B.number blocks.new.items) }
-    ensures digits { (q j : ℕ) → q < rows → j < B.width → is_one (get_or (map B.number sums.new.items) q 0) j ≡ is_used (map B.number blocks.new.items) (q * B.width + j) }
-    ensures past { (q : ℕ) → rows ≤ q → get_or (map B.number sums.new.items) q 0 ≡ get_or (map B.number sums.old.items) q 0 }
+    ensures merged { IsMergedBetween O.merge B.width 0 (rows * B.width) (map B.number blocks.old.items)
+        (map B.number others.now) (map B.number blocks.new.items) }
+    ensures digits { (q j : ℕ) → q < rows → j < B.width
+        → is_one (get_or (map B.number sums.new.items) q 0) j
+        ≡ is_used (map B.number blocks.new.items) (q * B.width + j) }
+    ensures past { (q : ℕ) → rows ≤ q
+        → get_or (map B.number sums.new.items) q 0 ≡ get_or (map B.number sums.old.items) q 0 }
     ensures each { All B.is_block blocks.new.items }
     ensures each_sum { All B.is_block sums.new.items }
     ensures len { vec_len blocks.new ≡ vec_len blocks.old }
@@ -149,9 +159,13 @@ fn note_rest<B: BitBlock, O: Operation>(sums: &mut Vec<B>, blocks: &[B], start: 
     requires in_bounds { start * B.width ≤ length blocks.now }
     requires each { All B.is_block sums.old.items }
     requires blocks { All B.is_block blocks.now }
-    requires rest { (k : ℕ) → (start + 1) * B.width ≤ k → is_used (map B.number blocks.now) k ≡ merged_value O.merge (value_at B.width (map B.number sums.old.items) k) false }
-    ensures before { (q : ℕ) → q < start → get_or (map B.number sums.new.items) q 0 ≡ get_or (map B.number sums.old.items) q 0 }
-    ensures digits { (q j : ℕ) → start ≤ q → q < vec_len sums.old → j < B.width → is_one (get_or (map B.number sums.new.items) q 0) j ≡ is_used (map B.number blocks.now) (q * B.width + j) }
+    requires rest { (k : ℕ) → (start + 1) * B.width ≤ k
+        → is_used (map B.number blocks.now) k
+        ≡ merged_value O.merge (value_at B.width (map B.number sums.old.items) k) false }
+    ensures before { (q : ℕ) → q < start
+        → get_or (map B.number sums.new.items) q 0 ≡ get_or (map B.number sums.old.items) q 0 }
+    ensures digits { (q j : ℕ) → start ≤ q → q < vec_len sums.old → j < B.width
+        → is_one (get_or (map B.number sums.new.items) q 0) j ≡ is_used (map B.number blocks.now) (q * B.width + j) }
     ensures each { All B.is_block sums.new.items }
     ensures len { vec_len sums.new ≡ vec_len sums.old }
     ensures capacity { vec_capacity sums.new ≡ vec_capacity sums.old }
@@ -174,7 +188,8 @@ fn merge_noted<B: BitBlock, O: Operation>(
     requires each { All B.is_block blocks.old.items }
     requires others { All B.is_block others.now }
     requires summary { IsSummary B.width B.number B.is_block blocks.old.items sums.old.items }
-    ensures merged { IsMergedBetween O.merge B.width 0 (vec_len blocks.old) (map B.number blocks.old.items) (map B.number others.now) (map B.number blocks.new.items) }
+    ensures merged { IsMergedBetween O.merge B.width 0 (vec_len blocks.old) (map B.number blocks.old.items)
+        (map B.number others.now) (map B.number blocks.new.items) }
     ensures summary { IsSummary B.width B.number B.is_block blocks.new.items sums.new.items }
     ensures each { All B.is_block blocks.new.items }
     ensures len { vec_len blocks.new ≡ vec_len blocks.old }
@@ -201,7 +216,8 @@ fn merge_union<B: BitBlock>(
     requires others { All B.is_block others.now }
     requires summary { IsSummary B.width B.number B.is_block blocks.old.items sums.old.items }
     requires other_summary { IsSummary B.width B.number B.is_block others.now other_sums.now }
-    ensures merged { IsMergedBetween Merge.Union B.width 0 (vec_len blocks.old) (map B.number blocks.old.items) (map B.number others.now) (map B.number blocks.new.items) }
+    ensures merged { IsMergedBetween Merge.Union B.width 0 (vec_len blocks.old) (map B.number blocks.old.items)
+        (map B.number others.now) (map B.number blocks.new.items) }
     ensures summary { IsSummary B.width B.number B.is_block blocks.new.items sums.new.items }
     ensures each { All B.is_block blocks.new.items }
     ensures len { vec_len blocks.new ≡ vec_len blocks.old }
@@ -227,7 +243,8 @@ fn merge_owned<B: BitBlock>(
     requires others { All B.is_block others.now }
     requires summary { IsSummary B.width B.number B.is_block blocks.old.items sums.old.items }
     requires other_summary { IsSummary B.width B.number B.is_block others.now other_sums.now }
-    ensures merged { IsMergedBetween merge B.width 0 (vec_len blocks.old) (map B.number blocks.old.items) (map B.number others.now) (map B.number blocks.new.items) }
+    ensures merged { IsMergedBetween merge B.width 0 (vec_len blocks.old) (map B.number blocks.old.items)
+        (map B.number others.now) (map B.number blocks.new.items) }
     ensures summary { IsSummary B.width B.number B.is_block blocks.new.items sums.new.items }
     ensures each { All B.is_block blocks.new.items }
     ensures len { vec_len blocks.new ≡ vec_len blocks.old }
@@ -258,7 +275,8 @@ pub(crate) fn merge_stored<B: BitBlock>(
     requires others { All B.is_block others.now }
     requires summary { IsSummary B.width B.number B.is_block blocks.old.items sums.old.items }
     requires other_summary { IsSummary B.width B.number B.is_block others.now other_sums.now }
-    ensures merged { IsMergedBetween merge B.width 0 (vec_len blocks.old) (map B.number blocks.old.items) (map B.number others.now) (map B.number blocks.new.items) }
+    ensures merged { IsMergedBetween merge B.width 0 (vec_len blocks.old) (map B.number blocks.old.items)
+        (map B.number others.now) (map B.number blocks.new.items) }
     ensures summary { IsSummary B.width B.number B.is_block blocks.new.items sums.new.items }
     ensures each { All B.is_block blocks.new.items }
     ensures len { vec_len blocks.new ≡ vec_len blocks.old }
