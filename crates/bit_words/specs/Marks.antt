@@ -1,6 +1,7 @@
 -- How a walk over the blocks that are not 0 finds them by the summary. No public clause cites this.
 use Rattle.std.specs.Prelude.{◌≡◌, ℕ, ◌+◌, ◌-◌, ◌*◌, ◌^◌, ◌<◌, ◌≤◌, Bool, true, nat_lt, if◌then◌else◌, List, [], ◌∷◌, map, drop, length, All}
-use Rattle.bit_words.specs.Storage.{is_one, value_at}
+use Rattle.bit_words.specs.Digits.{is_one}
+use Rattle.bit_words.specs.Storage.{value_at}
 use Rattle.bit_words.specs.Summary.{is_used}
 
 -- the blocks whose index is marked, each with it, where the first has index k

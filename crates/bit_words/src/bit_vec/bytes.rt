@@ -1,7 +1,9 @@
 // Blocks made of bytes: the highest bit of a byte is the first of eight values.
 ghost use Rattle.std.specs.Prelude.{◌≡◌, ℕ, ◌+◌, ◌*◌, ◌^◌, ◌<◌, ◌≤◌, ◌&&◌, All, map, nat_lt, length, vec_capacity, IfOk, IsOk};
 ghost use Rattle.bit_words.specs.Bits.{blocks_for};
-ghost use Rattle.bit_words.specs.Storage.{is_one, value_at, byte_value};
+ghost use Rattle.bit_words.specs.Bytes.{byte_value};
+ghost use Rattle.bit_words.specs.Digits.{is_one};
+ghost use Rattle.bit_words.specs.Storage.{value_at};
 
 use super::BitBlock;
 use super::changes::block_count;

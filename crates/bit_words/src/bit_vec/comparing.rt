@@ -1,7 +1,7 @@
 // Whether the blocks of two bit vectors merge to zeros.
 ghost use Rattle.std.specs.Prelude.{◌≡◌, ◌≢◌, ℕ, ◌+◌, ◌/◌, ◌<◌, ◌≤◌, ◌↔◌, All, IsTrue, length, map, get_or, min};
 ghost use Rattle.bit_words.specs.declared.bit_vec.merge.Merge.{Merge};
-ghost use Rattle.bit_words.specs.Storage.{IsFirstMerged, MergesToFalse, MergesToZero};
+ghost use Rattle.bit_words.specs.BlockMerges.{IsFirstMerged, MergesToFalse, MergesToZero};
 
 use super::changes::block_at;
 use super::merging::{Difference, Intersection, Operation};

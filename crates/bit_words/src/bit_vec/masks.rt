@@ -1,6 +1,6 @@
 // A block with some of its digits written. Each clause is by digit, as the test that it is 1.
 ghost use Rattle.std.specs.Prelude.{◌≡◌, ◌≢◌, ℕ, ◌<◌, ◌&&◌, ◌||◌, false, nat_lt, nat_le};
-ghost use Rattle.bit_words.specs.Storage.{is_one};
+ghost use Rattle.bit_words.specs.Digits.{is_one};
 
 use super::BitBlock;
 use super::words::{block_and, block_not, block_or, one_at, ones_below};

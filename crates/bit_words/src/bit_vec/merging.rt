@@ -1,7 +1,7 @@
 // Merges of the blocks of two lists, each told by the digits of every block.
 ghost use Rattle.std.specs.Prelude.{◌≡◌, ℕ, ◌+◌, ◌<◌, ◌≤◌, ◌==◌, [], All, get_or, length, map, vec_len, vec_capacity};
 ghost use Rattle.std.specs.Int.{bit_at};
-ghost use Rattle.bit_words.specs.Storage.{IsMergedBetween};
+ghost use Rattle.bit_words.specs.BlockMerges.{IsMergedBetween};
 ghost use Rattle.bit_words.specs.Merges.{merged_value};
 ghost use Rattle.bit_words.specs.declared.bit_vec.merge.Merge.{Merge};
 

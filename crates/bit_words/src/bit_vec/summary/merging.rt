@@ -1,7 +1,9 @@
 // Merges of the blocks of two lists that have summaries: of a union it is the union of the summaries, and
 // of the others each block of it is made while the blocks that it tells of are merged.
 ghost use Rattle.std.specs.Prelude.{◌≡◌, ℕ, ◌+◌, ◌*◌, ◌/◌, ◌<◌, ◌≤◌, ◌&&◌, All, false, get_or, nat_lt, length, map, vec_len, vec_capacity};
-ghost use Rattle.bit_words.specs.Storage.{is_one, value_at, IsMergedBetween};
+ghost use Rattle.bit_words.specs.BlockMerges.{CanMerge, HasMerged, IsMergedBetween};
+ghost use Rattle.bit_words.specs.Digits.{is_one};
+ghost use Rattle.bit_words.specs.Storage.{value_at};
 ghost use Rattle.bit_words.specs.Summary.{is_used, IsSummary};
 ghost use Rattle.bit_words.specs.Merges.{merged_value};
 ghost use Rattle.bit_words.specs.declared.bit_vec.merge.Merge.{Merge};
@@ -184,15 +186,9 @@ fn merge_noted<B: BitBlock, O: Operation>(
     others: &[B],
     steps: &mut Steps,
 )
-    requires fewer { length others.now ≤ vec_len blocks.old }
-    requires each { All B.is_block blocks.old.items }
-    requires others { All B.is_block others.now }
-    requires summary { IsSummary B.width B.number B.is_block blocks.old.items sums.old.items }
-    ensures merged { IsMergedBetween O.merge B.width 0 (vec_len blocks.old) (map B.number blocks.old.items)
-        (map B.number others.now) (map B.number blocks.new.items) }
-    ensures summary { IsSummary B.width B.number B.is_block blocks.new.items sums.new.items }
-    ensures each { All B.is_block blocks.new.items }
-    ensures len { vec_len blocks.new ≡ vec_len blocks.old }
+    requires can { CanMerge B.width B.number B.is_block blocks.old.items sums.old.items others.now }
+    ensures has { HasMerged O.merge B.width B.number B.is_block blocks.old.items others.now
+        blocks.new.items sums.new.items }
     ensures capacity { vec_capacity blocks.new ≡ vec_capacity blocks.old }
     ensures sums_capacity { vec_capacity sums.new ≡ vec_capacity sums.old }
     ensures steps { steps.new ≡ steps.old + vec_len blocks.old }
@@ -211,16 +207,10 @@ fn merge_union<B: BitBlock>(
     other_sums: &[B],
     steps: &mut Steps,
 )
-    requires fewer { length others.now ≤ vec_len blocks.old }
-    requires each { All B.is_block blocks.old.items }
-    requires others { All B.is_block others.now }
-    requires summary { IsSummary B.width B.number B.is_block blocks.old.items sums.old.items }
+    requires can { CanMerge B.width B.number B.is_block blocks.old.items sums.old.items others.now }
     requires other_summary { IsSummary B.width B.number B.is_block others.now other_sums.now }
-    ensures merged { IsMergedBetween Merge.Union B.width 0 (vec_len blocks.old) (map B.number blocks.old.items)
-        (map B.number others.now) (map B.number blocks.new.items) }
-    ensures summary { IsSummary B.width B.number B.is_block blocks.new.items sums.new.items }
-    ensures each { All B.is_block blocks.new.items }
-    ensures len { vec_len blocks.new ≡ vec_len blocks.old }
+    ensures has { HasMerged Merge.Union B.width B.number B.is_block blocks.old.items others.now
+        blocks.new.items sums.new.items }
     ensures capacity { vec_capacity blocks.new ≡ vec_capacity blocks.old }
     ensures sums_capacity { vec_capacity sums.new ≡ vec_capacity sums.old }
     ensures steps { steps.new ≡ steps.old + vec_len blocks.old }
@@ -238,16 +228,10 @@ fn merge_owned<B: BitBlock>(
     merge: Merge,
     steps: &mut Steps,
 )
-    requires fewer { length others.now ≤ vec_len blocks.old }
-    requires each { All B.is_block blocks.old.items }
-    requires others { All B.is_block others.now }
-    requires summary { IsSummary B.width B.number B.is_block blocks.old.items sums.old.items }
+    requires can { CanMerge B.width B.number B.is_block blocks.old.items sums.old.items others.now }
     requires other_summary { IsSummary B.width B.number B.is_block others.now other_sums.now }
-    ensures merged { IsMergedBetween merge B.width 0 (vec_len blocks.old) (map B.number blocks.old.items)
-        (map B.number others.now) (map B.number blocks.new.items) }
-    ensures summary { IsSummary B.width B.number B.is_block blocks.new.items sums.new.items }
-    ensures each { All B.is_block blocks.new.items }
-    ensures len { vec_len blocks.new ≡ vec_len blocks.old }
+    ensures has { HasMerged merge B.width B.number B.is_block blocks.old.items others.now
+        blocks.new.items sums.new.items }
     ensures capacity { vec_capacity blocks.new ≡ vec_capacity blocks.old }
     ensures sums_capacity { vec_capacity sums.new ≡ vec_capacity sums.old }
     ensures steps { steps.new ≡ steps.old + vec_len blocks.old }
@@ -270,16 +254,10 @@ pub(crate) fn merge_stored<B: BitBlock>(
     merge: Merge,
     steps: &mut Steps,
 )
-    requires fewer { length others.now ≤ vec_len blocks.old }
-    requires each { All B.is_block blocks.old.items }
-    requires others { All B.is_block others.now }
-    requires summary { IsSummary B.width B.number B.is_block blocks.old.items sums.old.items }
+    requires can { CanMerge B.width B.number B.is_block blocks.old.items sums.old.items others.now }
     requires other_summary { IsSummary B.width B.number B.is_block others.now other_sums.now }
-    ensures merged { IsMergedBetween merge B.width 0 (vec_len blocks.old) (map B.number blocks.old.items)
-        (map B.number others.now) (map B.number blocks.new.items) }
-    ensures summary { IsSummary B.width B.number B.is_block blocks.new.items sums.new.items }
-    ensures each { All B.is_block blocks.new.items }
-    ensures len { vec_len blocks.new ≡ vec_len blocks.old }
+    ensures has { HasMerged merge B.width B.number B.is_block blocks.old.items others.now
+        blocks.new.items sums.new.items }
     ensures capacity { vec_capacity blocks.new ≡ vec_capacity blocks.old }
     ensures sums_capacity { vec_capacity sums.new ≡ vec_capacity sums.old }
     ensures steps { steps.new ≡ steps.old + vec_len blocks.old }
