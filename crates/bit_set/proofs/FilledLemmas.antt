@@ -8,7 +8,8 @@ use Rattle.std.proofs.lemmas.Nat.{div-mul-add}
 use Rattle.std.proofs.Math.Nat.{div-add-mod', mod-lt}
 use Rattle.bit_words.specs.Bits.{blocks_for, blocks_of, digit_of}
 use Rattle.bit_words.specs.Lowest.{IsLowest, IsCleared}
-use Rattle.bit_words.specs.Storage.{is_one, value_at, IsCleanFrom}
+use Rattle.bit_words.specs.Digits.{is_one}
+use Rattle.bit_words.specs.Storage.{value_at, IsCleanFrom}
 use Rattle.bit_words.proofs.BitsLemmas.{blocks_for-least, blocks_of-digit}
 use Rattle.bit_words.proofs.Masks.{is_one-zero}
 use Rattle.bit_words.proofs.StorageLemmas.{blocks-values_of, value_at-is, value_at-past, value_at-place, values_of-same}

@@ -8,7 +8,7 @@ use Rattle.std.proofs.lemmas.Nat.{pow_pos}
 use Rattle.std.proofs.lemmas.Nat.Bits.{bit_at-lt, bit_at-zero, same_from_bits_below}
 use Rattle.bit_words.specs.Source.{Source, PullsIf}
 use Rattle.std.specs.Iterator.{YieldsFirst}
-use Rattle.bit_words.specs.Storage.{is_one}
+use Rattle.bit_words.specs.Digits.{is_one}
 use Rattle.bit_words.specs.Merges.{merged_value, merged}
 use Rattle.bit_words.specs.declared.bit_vec.merge.Merge.{Merge}
 use Rattle.bit_words.specs.declared.bit_vec.merge.Merge.TheVariants.{Intersection}
@@ -19,7 +19,7 @@ use Rattle.std.proofs.Math.Nat.{mul-le-mul_right}
 use Rattle.std.proofs.lemmas.Bool.{cases_lt}
 use Rattle.bit_set.specs.Sets.{elements_from, elements, intersection, merged_sets}
 use Rattle.bit_set.proofs.AlgebraLemmas.{elements-merged}
-use Rattle.bit_set.proofs.RoomLemmas.{blocks_for-grows}
+use Rattle.bit_words.proofs.BitsLemmas.{blocks_for-le}
 use Rattle.bit_set.proofs.WalkLemmas.{length-held, length-blocks, elements-held, IsWalkable-of, All-pulled}
 use Rattle.bit_set.specs.Places.{digits_from, values_in, Ahead, PullsBlock, PullsBlockIf, IsWalkable, IsMergedBlock, IsMergedPull}
 
@@ -28,8 +28,8 @@ use Rattle.bit_set.specs.Places.{digits_from, values_in, Ahead, PullsBlock, Pull
 max_blocks : (w m n : ℕ) → 0 < w → max (blocks_for w m) (blocks_for w n) ≡ blocks_for w (max m n)
 max_blocks w m n pos =
     elim (cases_lt m n) [
-      | inl lt ↦ let grows = blocks_for-grows w m n pos (omega (arith, lt)) in let greater : max m n ≡ n = omega (arith, lt) in omega (arith, grows) ∙ ap (blocks_for w) (sym greater)
-      | inr ge ↦ let grows = blocks_for-grows w n m pos ge in let greater : max m n ≡ m = omega (arith, ge) in omega (arith, grows) ∙ ap (blocks_for w) (sym greater)
+      | inl lt ↦ let grows = blocks_for-le w m n pos (omega (arith, lt)) in let greater : max m n ≡ n = omega (arith, lt) in omega (arith, grows) ∙ ap (blocks_for w) (sym greater)
+      | inr ge ↦ let grows = blocks_for-le w n m pos ge in let greater : max m n ≡ m = omega (arith, ge) in omega (arith, grows) ∙ ap (blocks_for w) (sym greater)
     ]
 
 max_product : (m n w : ℕ) → max (m * w) (n * w) ≡ max m n * w

@@ -8,22 +8,16 @@ use Rattle.std.proofs.lemmas.List.{length-append, get_or_append_left, get_or-app
 use Rattle.std.proofs.lemmas.List.Elements.{All-nil, All-cons}
 use Rattle.std.proofs.lemmas.List.Sums.{sum_by-cons}
 use Rattle.std.proofs.Math.Nat.{div-add-mod', mod-lt}
-use Rattle.bit_words.proofs.BitsLemmas.{blocks_of-digit}
+use Rattle.bit_words.proofs.BitsLemmas.{blocks_of-digit, read_back}
 use Rattle.bit_words.proofs.OnesLemmas.{ones_are_digits}
-use Rattle.bit_words.proofs.Masks.{is_one-zero}
+use Rattle.bit_words.proofs.Masks.{is_one-none, is_one-one, is_one-zero}
 use Rattle.bit_set.proofs.SetLemmas.{elements-alike, length-elements-le, length-elements_from_both}
 use Rattle.std.proofs.lemmas.List.FromFn.{length-map-range_with_len, get_or-map-range_with_len}
 use Rattle.bit_words.specs.Bits.{blocks_of, digit_of}
 use Rattle.bit_words.specs.Lowest.{IsLowest, IsCleared}
-use Rattle.bit_words.specs.Storage.{is_one}
+use Rattle.bit_words.specs.Digits.{is_one}
 use Rattle.bit_set.specs.Sets.{elements_from, elements}
 use Rattle.bit_set.specs.Places.{digits_from, values_in, places}
-
-is_one-one : (m a : ℕ) → bit_at m a ≡ 1 → is_one m a ≡ true
-is_one-one m a h = eq-eqb (bit_at m a) 1 h
-
-is_one-none : (m a : ℕ) → bit_at m a ≡ 0 → is_one m a ≡ false
-is_one-none m a h = ap (λ n. eqb n 1) h
 
 -- digits that are 0 are passed over
 zeros_passed : (a w p : ℕ) (bs : List Bool) → elements_from p (digits_from 0 a w ++ bs) ≡ elements_from (p + w) bs
@@ -99,10 +93,6 @@ value_in w (m ∷ ms) (suc q) j within =
     get_or-append_right (digits_from m 0 w) (values_in w ms) w (suc q * w + j) false long (omega arith)
     ∙ ap (λ k. get_or (values_in w ms) k false) (let e : suc q * w + j - w ≡ q * w + j = omega arith in e)
     ∙ value_in w ms q j within
-
-read_back : (b : Bool) → eqb (digit_of b) 1 ≡ b
-read_back true = refl
-read_back false = refl
 
 -- the blocks of a list hold the list, and false past its end
 pub values_in-blocks_of : (w : ℕ) (values : List Bool) → 0 < w → (k : ℕ) → get_or (values_in w (blocks_of w values)) k false ≡ get_or values k false

@@ -4,7 +4,7 @@ use Rattle.std.proofs.lemmas.List.Elements.{All-nil, All-cons, All-head, All-tai
 use Rattle.std.proofs.lemmas.Bool.{cases_lt, cases_Bool}
 use Rattle.std.proofs.lemmas.Bool.Decides.{nat_tests}
 use Rattle.bit_words.specs.Bits.{Bits, IsRoomOfBlocks, blocks_for, room_of, true_end, whole_blocks}
-use Rattle.bit_words.proofs.BitsLemmas.{blocks_for-enough, blocks_for-least}
+use Rattle.bit_words.proofs.BitsLemmas.{blocks_for-enough, blocks_for-le, blocks_for-least}
 use Rattle.bit_words.proofs.RoomLemmas.{whole_blocks-fits, whole_blocks-past}
 use Rattle.bit_set.specs.Sets.{elements, elements_from, bound_of}
 use Rattle.bit_set.specs.Room.{Call, Run, room_wanted}
@@ -12,13 +12,9 @@ use Rattle.bit_set.proofs.SetLaws.{slice_get-elements}
 use Rattle.bit_set.proofs.SubsetLemmas.{same_tests}
 use Rattle.bit_set.proofs.SetLemmas.{IsAscending-elements, same_members}
 
--- more values take no fewer blocks
-pub blocks_for-grows : (w m n : ℕ) → 0 < w → m ≤ n → blocks_for w m ≤ blocks_for w n
-blocks_for-grows w m n pos le = blocks_for-least w m (blocks_for w n) pos (omega (arith, blocks_for-enough w n pos))
-
--- nor less room
+-- more values take no less room
 pub room_of-grows : (w m n : ℕ) → 0 < w → m ≤ n → room_of w (blocks_for w m) ≤ room_of w (blocks_for w n)
-room_of-grows w m n pos le = let more = mul-le-mul_right w (blocks_for-grows w m n pos le) in omega (arith, more)
+room_of-grows w m n pos le = let more = mul-le-mul_right w (blocks_for-le w m n pos le) in omega (arith, more)
 
 -- room for a length, asked for as what is missing past the list
 pub room_for_length : (w old new long len missing : ℕ) → 0 < w → missing ≡ len - long → long ≤ old → (long + missing ≤ old → new ≡ old) → new ≡ max old (room_of w (blocks_for w (long + missing))) → new ≡ max old (room_of w (blocks_for w len))

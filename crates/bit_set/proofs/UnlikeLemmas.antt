@@ -11,7 +11,7 @@ use Rattle.std.proofs.Math.Nat.{div-add-mod', mod-lt, mul-le-mul_right}
 use Rattle.bit_words.specs.Bits.{blocks_of, digit_of}
 use Rattle.bit_words.specs.Digits.{IsEither, IsDifferent, IsShiftedRight}
 use Rattle.bit_words.specs.Lowest.{IsLowest}
-use Rattle.bit_words.proofs.BitsLemmas.{blocks_of-digit, blocks_of-lt}
+use Rattle.bit_words.proofs.BitsLemmas.{blocks_of-digit, blocks_of-lt, read_back}
 use Rattle.bit_words.proofs.LowestLemmas.{lowest_found}
 use Rattle.bit_set.specs.Sets.{elements, has}
 use Rattle.bit_set.specs.Differences.{IsFirstDifference, IsFirstUnlike, IsFirstOne, IsLowestUnlike}
@@ -89,10 +89,6 @@ on_alike a b true P is then = then (eqb-true a b (sym is))
 on_alike a b false P is then = tt
 
 -- ---- the blocks of a list of truth values
-
-read_back : (b : Bool) → eqb (digit_of b) 1 ≡ b
-read_back true = refl
-read_back false = refl
 
 -- a number is an element exactly where the digit at its place is 1
 pub has-place : (w q j : ℕ) (values : List Bool) → j < w → has (elements values) (q * w + j) ≡ eqb (bit_at (get_or (blocks_of w values) q 0) j) 1

@@ -3,7 +3,7 @@ use Rattle.std.specs.Prelude.{◌≡◌, ◌≢◌, ℕ, ◌+◌, ◌^◌, ◌<�
 use Rattle.serde_json.specs.Data.{Data, Items, number, unsigned}
 use Rattle.serde_json.specs.View.{view}
 use Rattle.serde_json.specs.declared.value.Value.{Value}
-use Rattle.bit_words.specs.Storage.{is_one}
+use Rattle.bit_words.specs.Digits.{is_one}
 use Rattle.bit_set.specs.Json.{HasShape, number_in, storage_in, nbits_in}
 
 -- the number of an entry, 0 where it has none

@@ -1,7 +1,7 @@
 -- Where the ones of blocks are. No public clause cites this.
 use Rattle.std.specs.Prelude.{◌≡◌, ℕ, ◌+◌, ◌-◌, ◌*◌, ◌/◌, ◌^◌, ◌<◌, ◌≤◌, ◌⊎◌, Bool, true, List, [], ◌++◌, map, length, drop, All, Option, Some, None, MatchOption, IsSomeAnd}
 use Rattle.std.specs.List.{range_with_len, flat_map}
-use Rattle.bit_words.specs.Storage.{is_one}
+use Rattle.bit_words.specs.Digits.{is_one}
 use Rattle.bit_words.specs.Nonzero.{Nonzeros, nonzero_from}
 use Rattle.bit_words.specs.Merges.{merged_value, merged}
 use Rattle.bit_words.specs.declared.bit_vec.merge.Merge.{Merge}

@@ -1,5 +1,5 @@
 -- Lemmas on a list of truth values and the blocks that store it.
-use Rattle.std.proofs.Common.{◌≡◌, ℕ, zero, suc, ◌+◌, ◌*◌, ◌/◌, ◌%◌, ◌^◌, ◌<◌, ◌≤◌, min, Bool, true, false, List, [], ◌∷◌, length, get_or, take, drop, refl, sym, ap, ◌∙◌, subst, arith, div-add-mod', mod-lt, pow_pos, length-take, get_or-take, get_or-drop, pow-suc, div-lt_iff_lt-mul, le_of_mul-le-mul_right, lt_of_mul-lt-mul_right, lt_of_lt_of_le, ⊎_elim, mul-le-mul_right, take_all, slice_get, Some}
+use Rattle.std.proofs.Common.{◌≡◌, ℕ, zero, suc, ◌+◌, ◌*◌, ◌/◌, ◌%◌, ◌^◌, ◌<◌, ◌≤◌, ◌==◌, min, Bool, true, false, List, [], ◌∷◌, length, get_or, take, drop, refl, sym, ap, ◌∙◌, subst, arith, div-add-mod', mod-lt, pow_pos, length-take, get_or-take, get_or-drop, pow-suc, div-lt_iff_lt-mul, le_of_mul-le-mul_right, lt_of_mul-lt-mul_right, lt_of_lt_of_le, ⊎_elim, mul-le-mul_right, take_all, slice_get, Some}
 use Rattle.std.proofs.lemmas.Nat.Bits.{bit_at-suc, bit_at-zero, bit_at_lowest}
 use Rattle.std.proofs.lemmas.List.FromFn.{length-map-range_with_len, get_or-map-range_with_len}
 use Rattle.std.proofs.lemmas.List.{get_or_past, drop_all}
@@ -33,6 +33,11 @@ number_of-lt (b ∷ bs) zero h = absurd (omega arith)
 number_of-lt (true ∷ bs) (suc w) h = let i = number_of-lt bs w (omega arith) in rw pow-suc (omega arith)
 number_of-lt (false ∷ bs) (suc w) h = let i = number_of-lt bs w (omega arith) in rw pow-suc (omega arith)
 
+-- the digit of a truth value says which it is
+pub read_back : (b : Bool) → (digit_of b == 1) ≡ b
+read_back true = refl
+read_back false = refl
+
 -- ---- how many blocks
 
 -- one more than q where something is left over
@@ -53,6 +58,18 @@ blocks_for-enough w n h = let r = rounded_up (n / w) (n % w) w (mod-lt n h) in o
 
 pub blocks_for-least : (w n c : ℕ) → 0 < w → n ≤ c * w → blocks_for w n ≤ c
 blocks_for-least w n c h e = least_above (n / w) (n % w) c w h (omega (arith, div-add-mod' n w))
+
+-- more values take no fewer blocks
+pub blocks_for-le : (w m n : ℕ) → 0 < w → m ≤ n → blocks_for w m ≤ blocks_for w n
+blocks_for-le w m n pos h = blocks_for-least w m (blocks_for w n) pos (omega (arith, blocks_for-enough w n pos))
+
+-- the blocks before one of them are whole
+pub whole_before : (w n k : ℕ) → 0 < w → k < blocks_for w n → k * w < n
+whole_before w n k pos h =
+    ⊎_elim
+    (λ (below : k * w < n). below)
+    (λ (past : n ≤ k * w). let l = blocks_for-least w n k pos past in absurd (omega arith))
+    (cases_lt (k * w) n)
 
 -- a place below n is in one of the blocks, and a place past them is not below n
 pub blocks_for-above : (w n i : ℕ) → 0 < w → i < n → i / w < blocks_for w n

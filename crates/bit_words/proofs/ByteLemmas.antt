@@ -10,8 +10,9 @@ use Rattle.std.specs.Int.{bit_at, reverse_bits, reverse_bits_onto}
 use Rattle.bit_words.specs.Bits.{blocks_for, values_of_byte, values_of_bytes}
 use Rattle.bit_words.proofs.BitsLemmas.{blocks_for-least, blocks_for-below}
 use Rattle.bit_words.proofs.StorageLemmas.{value_at-is, value_at-past}
-use Rattle.bit_words.specs.Digits.{IsWidth, IsEither, IsShiftedLeft}
-use Rattle.bit_words.specs.Storage.{is_one, value_at, byte_value}
+use Rattle.bit_words.specs.Digits.{IsWidth, IsEither, IsShiftedLeft, is_one}
+use Rattle.bit_words.specs.Bytes.{byte_value}
+use Rattle.bit_words.specs.Storage.{value_at}
 use Rattle.bit_words.proofs.Masks.{is_one-either, is_one-zero}
 
 -- ---- a byte turned round

@@ -3,7 +3,8 @@ use Rattle.std.proofs.Common.{◌≡◌, ◌≢◌, ℕ, suc, ◌+◌, ◌*◌, 
 use Rattle.std.proofs.lemmas.Bool.{cases_lt, cases_eq}
 use Rattle.std.proofs.lemmas.Bool.Decides.{nat_tests}
 use Rattle.bit_words.specs.Bits.{blocks_for}
-use Rattle.bit_words.specs.Storage.{is_one, value_at}
+use Rattle.bit_words.specs.Digits.{is_one}
+use Rattle.bit_words.specs.Storage.{value_at}
 use Rattle.bit_words.proofs.StorageLemmas.{value_at-is, value_at-past, value_at-set_same, value_at-set_other}
 
 -- ---- within one block, places follow indexes

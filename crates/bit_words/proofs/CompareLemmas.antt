@@ -8,7 +8,9 @@ use Rattle.bit_words.specs.declared.bit_vec.merge.Merge.{Merge}
 use Rattle.bit_words.specs.declared.bit_vec.merge.Merge.TheVariants.{Intersection, Difference}
 use Rattle.bit_words.specs.Bits.{Bits, IsFirstTrue, digit_of}
 use Rattle.bit_words.specs.Merges.{merged_value, merged}
-use Rattle.bit_words.specs.Storage.{is_one, value_at, values_of, IsCleanFrom, MergesToZero, MergesToFalse, IsFirstMerged}
+use Rattle.bit_words.specs.BlockMerges.{MergesToZero, MergesToFalse, IsFirstMerged}
+use Rattle.bit_words.specs.Digits.{is_one}
+use Rattle.bit_words.specs.Storage.{value_at, values_of, IsCleanFrom}
 use Rattle.bit_words.proofs.BitsLemmas.{slice_get_from_true}
 use Rattle.bit_words.proofs.Masks.{is_one-zero}
 use Rattle.bit_words.proofs.StorageLemmas.{value_at-is, value_at-place, value_at-past, get_or-values_of_clean}

@@ -3,7 +3,8 @@ use Rattle.std.proofs.Common.{◌≡◌, ℕ, zero, suc, ◌+◌, ◌*◌, ◌<�
 use Rattle.std.proofs.lemmas.Bool.{cases_lt, not-false, eqb-true}
 use Rattle.std.proofs.lemmas.List.{take-map, drop-map, get_or_past, length-map}
 use Rattle.std.proofs.lemmas.List.Sums.{sum_by-append, sum_by-cons}
-use Rattle.bit_words.specs.Storage.{is_one, value_at}
+use Rattle.bit_words.specs.Digits.{is_one}
+use Rattle.bit_words.specs.Storage.{value_at}
 use Rattle.std.specs.List.{sum_by, count_by}
 use Rattle.bit_words.specs.Bits.{blocks_of}
 use Rattle.bit_words.specs.Nonzero.{ones_in}

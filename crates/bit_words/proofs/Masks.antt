@@ -4,8 +4,7 @@ use Rattle.std.specs.Int.{bit_at}
 use Rattle.std.proofs.lemmas.Bool.{cases_lt}
 use Rattle.std.proofs.lemmas.Bool.Decides.{nat_tests}
 use Rattle.std.proofs.lemmas.Nat.Bits.{bit_at-lt, bit_at-zero, bit_at-pow_same, bit_at-pow_other, bit_at_ones, bit_at_ones_above}
-use Rattle.bit_words.specs.Digits.{IsBoth, IsEither, IsDifferent, IsComplement}
-use Rattle.bit_words.specs.Storage.{is_one}
+use Rattle.bit_words.specs.Digits.{IsBoth, IsEither, IsDifferent, IsComplement, is_one}
 
 test_both : (a b : ℕ) → a < 2 → b < 2 → (min a b == 1) ≡ ((a == 1) && (b == 1))
 test_both zero zero h k = refl
@@ -42,6 +41,12 @@ is_one-different w m n r j is h = ap (λ d. d == 1) (is.digit j h) ∙ test_diff
 
 pub is_one-complement : (w m r j : ℕ) → IsComplement w m r → j < w → is_one r j ≡ not (is_one m j)
 is_one-complement w m r j is h = ap (λ d. d == 1) (is.digit j h) ∙ test_not _ (bit_at-lt m j)
+
+pub is_one-one : (m a : ℕ) → bit_at m a ≡ 1 → is_one m a ≡ true
+is_one-one m a h = ap (λ d. d == 1) h
+
+pub is_one-none : (m a : ℕ) → bit_at m a ≡ 0 → is_one m a ≡ false
+is_one-none m a h = ap (λ d. d == 1) h
 
 pub is_one-zero : (j : ℕ) → is_one 0 j ≡ false
 is_one-zero j = ap (λ d. d == 1) (bit_at-zero j)

@@ -5,7 +5,9 @@ use Rattle.std.proofs.lemmas.List.{get_or_past}
 use Rattle.bit_words.specs.declared.bit_vec.merge.Merge.{Merge}
 use Rattle.bit_words.specs.declared.bit_vec.merge.Merge.TheVariants.{Union, Intersection, Difference, Symmetric}
 use Rattle.bit_words.specs.Merges.{merged_value, merged}
-use Rattle.bit_words.specs.Storage.{is_one, value_at, values_of, IsCleanFrom, IsMergedBetween}
+use Rattle.bit_words.specs.BlockMerges.{IsMergedBetween}
+use Rattle.bit_words.specs.Digits.{is_one}
+use Rattle.bit_words.specs.Storage.{value_at, values_of, IsCleanFrom}
 use Rattle.bit_words.proofs.StorageLemmas.{length-values_of, values_of-same, get_or-values_of_clean, value_at-is, value_at-past}
 
 -- ---- two lists

@@ -1,22 +1,21 @@
 -- The walk over the blocks that are not 0, by the marks of a summary.
-use Rattle.std.proofs.Common.{◌≡◌, ◌≢◌, ℕ, zero, suc, ◌+◌, ◌-◌, ◌*◌, ◌/◌, ◌%◌, ◌^◌, ◌<◌, ◌≤◌, Bool, true, false, not, ◌||◌, nat_lt, if◌then◌else◌, ◌↔◌, ◌==◌, eqb, List, [], ◌∷◌, min, map, drop, take, length, get_or, get_or-take, get_or-drop, count_ones, mul-le-mul_right, All, refl, sym, ap, subst, ◌∙◌, arith, ⊎_elim, mod-lt, div-add-mod'}
-use Rattle.std.proofs.lemmas.Bool.{cases_lt, cases_eq, eq-eqb, true≢false}
+use Rattle.std.proofs.Common.{◌≡◌, ◌≢◌, ℕ, zero, suc, ◌+◌, ◌-◌, ◌*◌, ◌/◌, ◌%◌, ◌^◌, ◌<◌, ◌≤◌, Bool, true, false, not, ◌||◌, nat_lt, if◌then◌else◌, ◌↔◌, ◌==◌, List, [], ◌∷◌, min, map, drop, take, length, get_or, get_or-take, get_or-drop, count_ones, mul-le-mul_right, All, refl, sym, ap, subst, ◌∙◌, arith, ⊎_elim, mod-lt, div-add-mod'}
+use Rattle.std.proofs.lemmas.Bool.{cases_lt, cases_eq, true≢false}
 use Rattle.std.proofs.lemmas.Bool.Decides.{nat_tests}
 use Rattle.std.proofs.Math.Seq.{drop-drop}
 use Rattle.std.proofs.lemmas.List.{drop_more, drop_all, drop-map, drop-take, get_or_past, length-map, take-map}
 use Rattle.std.proofs.lemmas.List.Sums.{sum_by-cons, sum_by-take-drop}
-use Rattle.std.specs.Int.{bit_at}
 use Rattle.std.proofs.Math.Bool.{or-false, or-true}
 use Rattle.std.proofs.lemmas.Nat.Bits.{bit_at-suc, bit_at-zero, bit_at_lowest}
 use Rattle.bit_words.specs.Bits.{blocks_for}
-use Rattle.bit_words.specs.Digits.{IsEither}
+use Rattle.bit_words.specs.Digits.{IsEither, is_one}
 use Rattle.bit_words.specs.Lowest.{IsLowest, IsCleared}
-use Rattle.bit_words.specs.Storage.{is_one, value_at}
+use Rattle.bit_words.specs.Storage.{value_at}
 use Rattle.bit_words.specs.Summary.{is_used, IsSummary}
 use Rattle.bit_words.specs.Marks.{IsMarked, pick, is_marked, marked_from}
 use Rattle.bit_words.specs.Nonzero.{nonzero_from, first_and_nonzero, ones_in, ones_left}
 use Rattle.bit_words.proofs.LowestLemmas.{ones_zero}
-use Rattle.bit_words.proofs.Masks.{is_one-zero, is_one-either}
+use Rattle.bit_words.proofs.Masks.{is_one-none, is_one-one, is_one-zero, is_one-either}
 use Rattle.std.proofs.lemmas.List.Elements.{All-nil, All-cons, All-head, All-tail}
 use Rattle.bit_words.proofs.BitsLemmas.{blocks_for-enough, blocks_for-least}
 use Rattle.bit_words.proofs.CompareLemmas.{zero_from_digits}
@@ -73,12 +72,6 @@ unfolding is_marked
 marked-past w place m ms k past =
     let t : nat_lt k (place + w) ≡ false = grind (arith, nat_tests) in
     ap (λ b. if b then is_one m (k - place) else is_used ms k) t
-
-is_one-one : (m a : ℕ) → bit_at m a ≡ 1 → is_one m a ≡ true
-is_one-one m a h = eq-eqb (bit_at m a) 1 h
-
-is_one-none : (m a : ℕ) → bit_at m a ≡ 0 → is_one m a ≡ false
-is_one-none m a h = ap (λ n. eqb n 1) h
 
 -- ---- blocks of a summary, one by one
 

@@ -5,7 +5,7 @@ use Rattle.std.proofs.lemmas.Bool.Decides.{nat_tests}
 use Rattle.bit_words.specs.Bits.{Bits, blocks_for, room_of, true_end, whole_blocks}
 use Rattle.bit_words.specs.Storage.{value_at, values_of, IsCleanFrom}
 use Rattle.bit_words.specs.Summary.{shared_room}
-use Rattle.bit_words.proofs.BitsLemmas.{blocks_for-enough, blocks_for-least}
+use Rattle.bit_words.proofs.BitsLemmas.{blocks_for-enough, blocks_for-least, whole_before}
 use Rattle.bit_words.proofs.CompareLemmas.{zero_from_digits, digit_from_zero}
 use Rattle.bit_words.proofs.StorageLemmas.{value_at-is, value_at-past, value_at-place}
 use Rattle.bit_words.proofs.TidyLemmas.{value_at-take}
@@ -101,16 +101,6 @@ clean_cut w c ms ns len pos e is = record {
 pub shared_for_sums : (w count sums : ℕ) → 0 < w → blocks_for w count ≤ sums → count ≤ sums * w
 shared_for_sums w count sums pos h = let more = mul-le-mul_right w h in omega (arith, blocks_for-enough w count pos)
 
-pub sums_for_shared : (w count sums : ℕ) → 0 < w → count ≤ sums * w → blocks_for w count ≤ sums
-sums_for_shared w count sums pos h = blocks_for-least w count sums pos h
-
-pub short_of_sums : (w count sums : ℕ) → 0 < w → sums < blocks_for w count → sums * w < count
-short_of_sums w count sums pos h =
-    ⊎_elim
-    (λ (short : sums * w < count). short)
-    (λ (enough : count ≤ sums * w). let l = sums_for_shared w count sums pos enough in absurd (omega arith))
-    (cases_lt (sums * w) count)
-
 pub shared_enough : (w blocks sums count : ℕ) → 0 < w → count ≤ blocks → blocks_for w count ≤ sums → count ≤ shared_room w blocks sums
 shared_enough w blocks sums count pos first second = let more = shared_for_sums w count sums pos second in omega arith
 
@@ -118,7 +108,7 @@ pub shared_short_blocks : (w blocks sums count : ℕ) → blocks < count → sha
 shared_short_blocks w blocks sums count short = omega arith
 
 pub shared_short_sums : (w blocks sums count : ℕ) → 0 < w → sums < blocks_for w count → shared_room w blocks sums < count
-shared_short_sums w blocks sums count pos short = let less = short_of_sums w count sums pos short in omega arith
+shared_short_sums w blocks sums count pos short = let less = whole_before w count sums pos short in omega arith
 
 pub ruleset shared_tests = (shared_enough, shared_short_blocks, shared_short_sums)
 
@@ -133,7 +123,7 @@ shared_by_blocks w blocks sums more pos enough le =
     omega arith
 
 pub shared_by_sums : (w blocks sums more : ℕ) → 0 < w → sums < blocks_for w blocks → blocks ≤ more → shared_room w more sums ≡ shared_room w blocks sums
-shared_by_sums w blocks sums more pos short le = let less = short_of_sums w blocks sums pos short in omega arith
+shared_by_sums w blocks sums more pos short le = let less = whole_before w blocks sums pos short in omega arith
 
 -- room made for count and no more
 pub shared_exact : (w blocks sums count got got_sums : ℕ) → 0 < w → blocks_for w count ≤ sums → got ≡ max blocks count → got_sums ≡ max sums (blocks_for w count) → shared_room w got got_sums ≡ max (shared_room w blocks sums) count
@@ -143,11 +133,11 @@ shared_exact w blocks sums count got got_sums pos enough first second =
     rw same (omega arith)
 
 pub shared_trimmed : (w blocks sums count trimmed : ℕ) → 0 < w → sums < blocks_for w count → min count blocks ≤ trimmed → trimmed ≤ blocks → shared_room w trimmed sums ≡ shared_room w blocks sums
-shared_trimmed w blocks sums count trimmed pos short low high = let less = short_of_sums w count sums pos short in omega arith
+shared_trimmed w blocks sums count trimmed pos short low high = let less = whole_before w count sums pos short in omega arith
 
 pub shared_exact_trimmed : (w blocks sums count trimmed got got_sums : ℕ) → 0 < w → sums < blocks_for w count → trimmed ≤ count → got ≡ max trimmed count → got_sums ≡ max sums (blocks_for w count) → shared_room w got got_sums ≡ max (shared_room w blocks sums) count
 shared_exact_trimmed w blocks sums count trimmed got got_sums pos short low first second =
-    let less = short_of_sums w count sums pos short in
+    let less = whole_before w count sums pos short in
     let enough = blocks_for-enough w count pos in
     let same : got_sums ≡ blocks_for w count = omega arith in
     rw same (omega arith)

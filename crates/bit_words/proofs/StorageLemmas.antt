@@ -7,7 +7,8 @@ use Rattle.std.proofs.lemmas.List.{get_or_past, ext_get_or, get_or-replicate, ge
 use Rattle.std.proofs.lemmas.Bool.{cases_lt, cases_eq}
 use Rattle.std.specs.Int.{bit_at}
 use Rattle.bit_words.specs.Bits.{blocks_for, digit_of, blocks_of}
-use Rattle.bit_words.specs.Storage.{is_one, value_at, values_of, IsCleanFrom}
+use Rattle.bit_words.specs.Digits.{is_one}
+use Rattle.bit_words.specs.Storage.{value_at, values_of, IsCleanFrom}
 use Rattle.bit_words.proofs.BitsLemmas.{blocks_of-digit, blocks_of-lt, length-blocks_of}
 
 -- ---- one value

@@ -7,13 +7,14 @@ use Rattle.std.proofs.lemmas.List.{get_or_past, length-map}
 use Rattle.std.proofs.lemmas.Nat.{div-mul-add}
 use Rattle.std.proofs.lemmas.Nat.Bits.{bit_at-lt, same_from_bits_below}
 use Rattle.bit_words.specs.Bits.{blocks_for, digit_of}
-use Rattle.bit_words.specs.Digits.{IsEither, IsShiftedLeft}
+use Rattle.bit_words.specs.Digits.{IsEither, IsShiftedLeft, is_one}
 use Rattle.bit_words.specs.declared.bit_vec.merge.Merge.{Merge}
 use Rattle.bit_words.specs.declared.bit_vec.merge.Merge.TheVariants.{Union, Intersection, Difference, Symmetric}
 use Rattle.bit_words.specs.Merges.{merged_value}
-use Rattle.bit_words.specs.Storage.{is_one, value_at, IsTidy, IsMergedBetween}
+use Rattle.bit_words.specs.BlockMerges.{IsMergedBetween}
+use Rattle.bit_words.specs.Storage.{value_at, IsTidy}
 use Rattle.bit_words.specs.Summary.{is_used, shared_room, IsSummary, IsStored}
-use Rattle.bit_words.proofs.BitsLemmas.{blocks_for-below, blocks_for-enough, blocks_for-least}
+use Rattle.bit_words.proofs.BitsLemmas.{blocks_for-below, blocks_for-enough, whole_before}
 use Rattle.bit_words.proofs.CompareLemmas.{zero_from_digits, digit_from_zero}
 use Rattle.bit_words.proofs.Masks.{is_one-either, is_one-zero}
 use Rattle.bit_words.proofs.MergeLemmas.{merged_value-none}
@@ -272,14 +273,6 @@ stored_nil w f P xs sums pos e s = record {
 pub stored_within : {X : Type 0} (w n blocks sums : ℕ) (f : X → ℕ) (P : X → Type 0) (xs ss : List X) → 0 < w → IsStored w f P xs ss n → length xs ≤ blocks → length ss ≤ sums → length xs ≤ shared_room w blocks sums
 stored_within w n blocks sums f P xs ss pos stored first second =
     shared_enough w blocks sums (length xs) pos first (let count = stored.summary.tidy.count in omega arith)
-
--- a block before the last that values reach
-whole_before : (w n k : ℕ) → 0 < w → k < blocks_for w n → k * w < n
-whole_before w n k pos h =
-    ⊎_elim
-    (λ (below : k * w < n). below)
-    (λ (past : n ≤ k * w). let l = blocks_for-least w n k pos past in absurd (omega arith))
-    (cases_lt (k * w) n)
 
 in_block : (w k j : ℕ) → j < w → k * w + j < (k + 1) * w
 in_block w k j h = omega arith

@@ -4,7 +4,8 @@ use Rattle.std.proofs.lemmas.Bool.{cases_lt, cases_eq}
 use Rattle.std.proofs.lemmas.Bool.Decides.{nat_tests}
 use Rattle.std.proofs.lemmas.List.Elements.{All-same, All-append, All-drop}
 use Rattle.std.proofs.lemmas.List.{drop-map, map-append, get_or-drop, get_or-replicate, get_or_append_left, get_or-append_right, length-replicate, length-drop}
-use Rattle.bit_words.specs.Storage.{is_one, value_at, values_of, IsTidy}
+use Rattle.bit_words.specs.Digits.{is_one}
+use Rattle.bit_words.specs.Storage.{value_at, values_of, IsTidy}
 use Rattle.bit_words.specs.Summary.{is_used}
 use Rattle.bit_words.proofs.ChangeLemmas.{nat_le-places, div_lt, read_at, written_same, written_other}
 use Rattle.bit_words.proofs.Masks.{is_one-zero}

@@ -6,9 +6,10 @@ use Rattle.std.proofs.lemmas.Bool.Decides.{nat_tests}
 use Rattle.std.proofs.lemmas.List.{get_or_append_left, get_or-append_right, get_or_past, get_or-replicate, length-replicate, length-append, map-append, take_all}
 use Rattle.std.proofs.lemmas.Grind.{replicate_next}
 use Rattle.bit_words.specs.Bits.{blocks_for}
-use Rattle.bit_words.specs.Storage.{is_one, value_at, IsCleanFrom}
+use Rattle.bit_words.specs.Digits.{is_one}
+use Rattle.bit_words.specs.Storage.{value_at, IsCleanFrom}
 use Rattle.bit_words.proofs.Masks.{is_one-ones, is_one-zero}
-use Rattle.bit_words.proofs.BitsLemmas.{blocks_for-above, blocks_for-enough, blocks_for-least}
+use Rattle.bit_words.proofs.BitsLemmas.{blocks_for-above}
 use Rattle.bit_words.proofs.StorageLemmas.{value_at-is, value_at-past}
 use Rattle.bit_words.proofs.ChangeLemmas.{div_lt, nat_lt-places}
 
@@ -159,9 +160,6 @@ zeros_added w ms rs old m n tail z e i after =
     (cases_lt (i / w) (length ms))
 
 -- ---- keeping the first blocks
-
-pub blocks_for-le : (w m n : ℕ) → 0 < w → m ≤ n → blocks_for w m ≤ blocks_for w n
-blocks_for-le w m n pos h = blocks_for-least w m (blocks_for w n) pos (omega (arith, blocks_for-enough w n pos))
 
 pub cut_kept : (w : ℕ) (ms rs us : List ℕ) (len c : ℕ) → 0 < w → c ≡ blocks_for w len → rs ≡ take c ms → ((i : ℕ) → value_at w us i ≡ (nat_lt i len && value_at w rs i)) → (i : ℕ) → i < len → value_at w us i ≡ value_at w ms i
 cut_kept w ms rs us len c pos count e lowered i below =

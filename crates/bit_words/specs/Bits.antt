@@ -54,7 +54,8 @@ number_of (b ∷ bs) = number_of bs * 2 + digit_of b
 
 -- block k has the w values from k * w on
 unfoldable pub blocks_of : ℕ → List Bool → List ℕ
-blocks_of w values = map (λ k. number_of (take w (drop (k * w) values))) (range_with_len 0 (blocks_for w (length values)))
+blocks_of w values =
+    map (λ k. number_of (take w (drop (k * w) values))) (range_with_len 0 (blocks_for w (length values)))
 
 -- the eight values of a byte, its highest binary digit first
 unfoldable pub values_of_byte : ℕ → List Bool

@@ -36,8 +36,10 @@ bit_at-complement w m i small within =
     (rw (sym (and_pow r i)) (rw (sym (and_pow m i)) sum))
 
 pub complement : (w m r : ℕ) → m < 2 ^ w → r ≡ 2 ^ w - 1 - m → (r < 2 ^ w) × IsComplement w m r
-complement w m r small is =
-    (omega (arith, pow_pos w), record { digit = λ i within. ap (λ x. bit_at x i) is ∙ bit_at-complement w m i small within })
+complement w m r small is = (
+  omega (arith, pow_pos w),
+  record { digit = λ i within. ap (λ x. bit_at x i) is ∙ bit_at-complement w m i small within },
+)
 
 bit_at-mod : (w n i : ℕ) → i < w → bit_at (n % 2 ^ w) i ≡ bit_at n i
 bit_at-mod w n i within =
@@ -45,7 +47,8 @@ bit_at-mod w n i within =
 
 pub bit_at-shl_low : (m d i : ℕ) → i < d → bit_at (m * 2 ^ d) i ≡ 0
 bit_at-shl_low m d i low =
-    ap (λ x. bit_at x i) (let e : m * 2 ^ d ≡ m * 2 ^ d + 0 = omega arith in e) ∙ bit_at_cat_low m d 0 i low ∙ bit_at-zero i
+    ap (λ x. bit_at x i) (let e : m * 2 ^ d ≡ m * 2 ^ d + 0 = omega arith in e) ∙ bit_at_cat_low m d 0 i low
+    ∙ bit_at-zero i
 
 pub bit_at-shl_high : (m d i : ℕ) → bit_at (m * 2 ^ d) (i + d) ≡ bit_at m i
 bit_at-shl_high m d i =

@@ -2,6 +2,7 @@ pub mod Digits
 pub mod DigitLaws
 pub mod Bits
 pub mod Storage
+pub mod Bytes
 pub mod Steps
 pub mod Lowest
 pub mod Source
@@ -9,3 +10,4 @@ pub mod Summary
 pub mod Marks
 pub mod Nonzero
 pub mod Merges
+pub mod BlockMerges

@@ -1,6 +1,7 @@
 -- How a walk over the blocks that are not 0 finds them by the summary. No public clause cites this.
 use Rattle.std.specs.Prelude.{◌≡◌, ℕ, ◌+◌, ◌-◌, ◌*◌, ◌^◌, ◌<◌, ◌≤◌, Bool, true, nat_lt, if◌then◌else◌, List, [], ◌∷◌, map, drop, length, All}
-use Rattle.bit_words.specs.Storage.{is_one, value_at}
+use Rattle.bit_words.specs.Digits.{is_one}
+use Rattle.bit_words.specs.Storage.{value_at}
 use Rattle.bit_words.specs.Summary.{is_used}
 
 -- the blocks whose index is marked, each with it, where the first has index k
@@ -19,14 +20,16 @@ marked_from w number place m xs = pick (is_marked w place m (map number xs)) pla
 
 -- The block `marks` of a summary stands for w blocks of xs from `place` on, and sums for those past them. From
 -- its lowest 1 on it tells exactly which of them are not 0.
-pub record IsMarked {X : Type 0} (w : ℕ) (number : X → ℕ) (is_block : X → Type 0) (place : ℕ) (marks : X) (xs sums : List X) : Type 0 where
+pub record IsMarked {X : Type 0} (w : ℕ) (number : X → ℕ) (is_block : X → Type 0) (place : ℕ) (marks : X)
+    (xs sums : List X) : Type 0 where
   pub each : All is_block xs
   pub in_hand : is_block marks
   pub sums_each : All is_block sums
   pub fits : length xs < 2 ^ 64
   pub within : place ≤ length xs
   pub inside : (j : ℕ) → j < w → is_one (number marks) j ≡ true → place + j < length xs
-  pub exact : (i j : ℕ) → i < j → j < w → is_one (number marks) i ≡ true → is_one (number marks) j ≡ is_used (map number xs) (place + j)
+  pub exact : (i j : ℕ) → i < j → j < w → is_one (number marks) i ≡ true
+      → is_one (number marks) j ≡ is_used (map number xs) (place + j)
   pub enough : length xs ≤ place + w + length sums * w
   pub few : 0 < length sums → place + length sums * w < length xs
   pub digit : (k : ℕ) → value_at w (map number sums) k ≡ is_used (map number xs) (place + w + k)

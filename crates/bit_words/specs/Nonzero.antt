@@ -21,7 +21,8 @@ pub record PullsNonzero {X : Type 0} (s : Nonzeros X) (r : Option (ℕ × X)) (t
   pub same : t.blocks ≡ s.blocks
   pub counted : t.pulls ≡ s.pulls + 1
   pub goes_on : s.summary_pulls ≤ t.summary_pulls
-  pub summary : MatchOption r ((t.summary_pulls ≡ s.summary_pulls + s.summary_left + 1) × (t.summary_left ≡ 0)) (λ _. t.summary_pulls + t.summary_left ≡ s.summary_pulls + s.summary_left)
+  pub summary : MatchOption r ((t.summary_pulls ≡ s.summary_pulls + s.summary_left + 1) × (t.summary_left ≡ 0))
+      (λ _. t.summary_pulls + t.summary_left ≡ s.summary_pulls + s.summary_left)
 
 -- the blocks that are not 0, each with its index, where the first has index k
 abbrev pub nonzero_from : {X : Type 0} → (X → ℕ) → ℕ → List X → List (ℕ × X)

@@ -12,7 +12,8 @@ pub record IsSummary {X : Type 0} (w : ℕ) (number : X → ℕ) (is_block : X �
   pub digit : (k : ℕ) → value_at w (map number sums) k ≡ is_used (map number xs) k
 
 -- The blocks xs hold a list of n values, and sums is their summary.
-pub record IsStored {X : Type 0} (w : ℕ) (number : X → ℕ) (is_block : X → Type 0) (xs sums : List X) (n : ℕ) : Type 0 where
+pub record IsStored {X : Type 0} (w : ℕ) (number : X → ℕ) (is_block : X → Type 0) (xs sums : List X)
+    (n : ℕ) : Type 0 where
   pub tidy : IsTidy w number is_block xs n
   pub summary : IsSummary w number is_block xs sums
 

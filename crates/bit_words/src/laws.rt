@@ -13,7 +13,8 @@ use crate::bit_vec::{BitBlock, Blocks};
 /// What the blocks of a list of truth values are. Block `k` has a 1 at digit `j` exactly where
 /// `k * w + j` is an index at which the list is true, and there are just enough blocks for the list.
 pub fn blocks_of_values()
-    ensures digits { (w k j : ℕ) (values : List Bool) → j < w → (bit_at (slice_index (blocks_of w values) k) j ≡ 1) ↔ (slice_get values (k * w + j) ≡ Some true) }
+    ensures digits { (w k j : ℕ) (values : List Bool) → j < w → (bit_at (slice_index (blocks_of w values) k) j ≡ 1)
+        ↔ (slice_get values (k * w + j) ≡ Some true) }
     ensures below { (w k : ℕ) (values : List Bool) → slice_index (blocks_of w values) k < 2 ^ w }
     ensures enough { (w : ℕ) (values : List Bool) → 0 < w → length values ≤ length (blocks_of w values) * w }
     ensures least { (w n : ℕ) (values : List Bool) → 0 < w → length values ≤ n * w → length (blocks_of w values) ≤ n }
@@ -22,26 +23,32 @@ pub fn blocks_of_values()
 /// What the list of some bytes is: eight values a byte, the value of its highest bit first.
 pub fn values_of_each_byte()
     ensures len { (bytes : List ℕ) → length (values_of_bytes bytes) ≡ 8 * length bytes }
-    ensures values { (bytes : List ℕ) (i j : ℕ) → i < length bytes → j < 8 → slice_get (values_of_bytes bytes) (8 * i + j) ≡ Some (bit_at (slice_index bytes i) (7 - j) == 1) }
+    ensures values { (bytes : List ℕ) (i j : ℕ) → i < length bytes → j < 8
+        → slice_get (values_of_bytes bytes) (8 * i + j) ≡ Some (bit_at (slice_index bytes i) (7 - j) == 1) }
 {}
 
 /// How far the blocks of a list reach: a bit vector whose room is that of whole blocks, as `capacity`
 /// says of each, takes no memory to become as long as the blocks that it has.
 pub fn room_of_whole_blocks()
-    ensures { (w n : ℕ) (v : Bits) → IsRoomOfBlocks w v → n ≤ 2 ^ 64 - 1 → n ≤ blocks_for w (length v.values) * w → n ≤ v.room }
+    ensures { (w n : ℕ) (v : Bits) → IsRoomOfBlocks w v → n ≤ 2 ^ 64 - 1 → n ≤ blocks_for w (length v.values) * w
+        → n ≤ v.room }
 {}
 
 /// What a whole walk over blocks gives: the blocks that were left, each once and in order, by one
 /// pull for each and one that finds the end.
 pub fn walk_of_blocks<B: BitBlock + 'static>()
-    ensures items { (s t : Source B) (items : List B) → YieldsThen ⟦<Blocks<'static, B> as Iterator>⟧.next_gives s items None t → items ≡ s.left }
-    ensures pulls { (s t : Source B) (items : List B) → YieldsThen ⟦<Blocks<'static, B> as Iterator>⟧.next_gives s items None t → t.pulls ≡ s.pulls + length s.left + 1 }
+    ensures items { (s t : Source B) (items : List B)
+        → YieldsThen ⟦<Blocks<'static, B> as Iterator>⟧.next_gives s items None t → items ≡ s.left }
+    ensures pulls { (s t : Source B) (items : List B)
+        → YieldsThen ⟦<Blocks<'static, B> as Iterator>⟧.next_gives s items None t
+        → t.pulls ≡ s.pulls + length s.left + 1 }
 {}
 
 /// Counting the digits that are 1, block by block, counts the true values of a list. In one number
 /// they are as many as the sum of its digits says.
 pub fn ones_of_blocks()
-    ensures blocks { (w : ℕ) (values : List Bool) → 0 < w → sum_by count_ones (blocks_of w values) ≡ count_by (λ value. value) values }
+    ensures blocks { (w : ℕ) (values : List Bool) → 0 < w
+        → sum_by count_ones (blocks_of w values) ≡ count_by (λ value. value) values }
     ensures digits { (w m : ℕ) → m < 2 ^ w → count_ones m ≡ sum_by (bit_at m) (range_with_len 0 w) }
 {}
 

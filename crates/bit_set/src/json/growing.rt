@@ -2,7 +2,7 @@
 ghost use Rattle.std.specs.Prelude.{◌≡◌, ◌≢◌, ◌+◌, ◌^◌, ◌<◌, ℕ, All, IfOk, IsOk, false, get_or, length};
 ghost use Rattle.std.specs.Int.{bit_at};
 ghost use Rattle.bit_words.specs.Bits.{blocks_for, blocks_of, room_of};
-ghost use Rattle.bit_words.specs.Storage.{is_one};
+ghost use Rattle.bit_words.specs.Digits.{is_one};
 ghost use Rattle.bit_set.specs.Json.{IsClean};
 ghost use Rattle.bit_set.specs.Entries.{IsEntry, numbers_of};
 

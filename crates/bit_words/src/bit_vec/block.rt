@@ -80,25 +80,31 @@ pub trait BitBlock: Copy
 
     ghost can_and: { (a b : Self) → is_block a → is_block b → Self.can_bitand a b };
 
-    ghost and_law: { (a b r : Self) → is_block a → is_block b → Self.bitand_gives a b r → is_block r × IsBoth width (number a) (number b) (number r) };
+    ghost and_law: { (a b r : Self) → is_block a → is_block b → Self.bitand_gives a b r
+        → is_block r × IsBoth width (number a) (number b) (number r) };
 
     ghost can_or: { (a b : Self) → is_block a → is_block b → Self.can_bitor a b };
 
-    ghost or_law: { (a b r : Self) → is_block a → is_block b → Self.bitor_gives a b r → is_block r × IsEither width (number a) (number b) (number r) };
+    ghost or_law: { (a b r : Self) → is_block a → is_block b → Self.bitor_gives a b r
+        → is_block r × IsEither width (number a) (number b) (number r) };
 
     ghost can_xor: { (a b : Self) → is_block a → is_block b → Self.can_bitxor a b };
 
-    ghost xor_law: { (a b r : Self) → is_block a → is_block b → Self.bitxor_gives a b r → is_block r × IsDifferent width (number a) (number b) (number r) };
+    ghost xor_law: { (a b r : Self) → is_block a → is_block b → Self.bitxor_gives a b r
+        → is_block r × IsDifferent width (number a) (number b) (number r) };
 
     ghost can_complement: { (a : Self) → is_block a → Self.can_not a };
 
-    ghost not_law: { (a r : Self) → is_block a → Self.not_gives a r → is_block r × IsComplement width (number a) (number r) };
+    ghost not_law: { (a r : Self) → is_block a → Self.not_gives a r
+        → is_block r × IsComplement width (number a) (number r) };
 
     ghost can_sum: { (a b : Self) → is_block a → is_block b → number a + number b < 2 ^ width → Self.can_add a b };
 
-    ghost add_law: { (a b r : Self) → is_block a → is_block b → number a + number b < 2 ^ width → Self.add_gives a b r → is_block r × (number r ≡ number a + number b) };
+    ghost add_law: { (a b r : Self) → is_block a → is_block b → number a + number b < 2 ^ width → Self.add_gives a b r
+        → is_block r × (number r ≡ number a + number b) };
 
     ghost can_subtract: { (a b : Self) → is_block a → is_block b → number b ≤ number a → Self.can_sub a b };
 
-    ghost sub_law: { (a b r : Self) → is_block a → is_block b → number b ≤ number a → Self.sub_gives a b r → is_block r × (number r + number b ≡ number a) };
+    ghost sub_law: { (a b r : Self) → is_block a → is_block b → number b ≤ number a → Self.sub_gives a b r
+        → is_block r × (number r + number b ≡ number a) };
 }

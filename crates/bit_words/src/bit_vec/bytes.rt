@@ -1,7 +1,9 @@
 // Blocks made of bytes: the highest bit of a byte is the first of eight values.
 ghost use Rattle.std.specs.Prelude.{◌≡◌, ℕ, ◌+◌, ◌*◌, ◌^◌, ◌<◌, ◌≤◌, ◌&&◌, All, map, nat_lt, length, vec_capacity, IfOk, IsOk};
 ghost use Rattle.bit_words.specs.Bits.{blocks_for};
-ghost use Rattle.bit_words.specs.Storage.{is_one, value_at, byte_value};
+ghost use Rattle.bit_words.specs.Bytes.{byte_value};
+ghost use Rattle.bit_words.specs.Digits.{is_one};
+ghost use Rattle.bit_words.specs.Storage.{value_at};
 
 use super::BitBlock;
 use super::changes::block_count;
@@ -14,7 +16,8 @@ pub(crate) fn blocks_of_bytes<B: BitBlock>(
     bytes: &[u8],
 ) -> Result<Vec<B>, AllocError>
     requires { 8 * length bytes.now < 2 ^ 64 }
-    ensures values { IfOk result (λ blocks. (i : ℕ) → value_at B.width (map B.number blocks.items) i ≡ byte_value bytes.now i) }
+    ensures values { IfOk result
+        (λ blocks. (i : ℕ) → value_at B.width (map B.number blocks.items) i ≡ byte_value bytes.now i) }
     ensures each { IfOk result (λ blocks. All B.is_block blocks.items) }
     ensures len { IfOk result (λ blocks. length blocks.items ≡ blocks_for B.width (8 * length bytes.now)) }
     ensures capacity { IfOk result (λ blocks. vec_capacity blocks ≡ blocks_for B.width (8 * length bytes.now)) }
@@ -64,7 +67,8 @@ fn block_of_first<B: BitBlock>(bytes: &[u8], count: usize) -> B
     requires in_bounds { count ≤ length bytes.now }
     requires within { 8 * count ≤ B.width }
     ensures of_block { B.is_block result }
-    ensures digits { (j : ℕ) → j < B.width → is_one (B.number result) j ≡ (nat_lt j (8 * count) && byte_value bytes.now j) }
+    ensures digits { (j : ℕ) → j < B.width
+        → is_one (B.number result) j ≡ (nat_lt j (8 * count) && byte_value bytes.now j) }
 {
     let mut block = B::zero();
     for place in 0..count {

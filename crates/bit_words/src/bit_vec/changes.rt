@@ -73,7 +73,8 @@ pub(crate) fn write_value<B: BitBlock>(blocks: &mut Vec<B>, i: usize, block: B, 
     requires of_block { B.is_block block }
     requires read { B.number block ≡ get_or (map B.number blocks.old.items) (i / B.width) 0 }
     ensures same { value_at B.width (map B.number blocks.new.items) i ≡ bit }
-    ensures others { (j : ℕ) → j ≢ i → value_at B.width (map B.number blocks.new.items) j ≡ value_at B.width (map B.number blocks.old.items) j }
+    ensures others { (j : ℕ) → j ≢ i
+        → value_at B.width (map B.number blocks.new.items) j ≡ value_at B.width (map B.number blocks.old.items) j }
     ensures each { All B.is_block blocks.new.items }
     ensures len { vec_len blocks.new ≡ vec_len blocks.old }
     ensures capacity { vec_capacity blocks.new ≡ vec_capacity blocks.old }
@@ -89,7 +90,8 @@ pub(crate) fn replace_value<B: BitBlock>(blocks: &mut Vec<B>, i: usize, bit: boo
     requires each { All B.is_block blocks.old.items }
     ensures was { result ≡ value_at B.width (map B.number blocks.old.items) i }
     ensures same { value_at B.width (map B.number blocks.new.items) i ≡ bit }
-    ensures others { (j : ℕ) → j ≢ i → value_at B.width (map B.number blocks.new.items) j ≡ value_at B.width (map B.number blocks.old.items) j }
+    ensures others { (j : ℕ) → j ≢ i
+        → value_at B.width (map B.number blocks.new.items) j ≡ value_at B.width (map B.number blocks.old.items) j }
     ensures each { All B.is_block blocks.new.items }
     ensures len { vec_len blocks.new ≡ vec_len blocks.old }
     ensures capacity { vec_capacity blocks.new ≡ vec_capacity blocks.old }
@@ -104,7 +106,9 @@ pub(crate) fn raise_last<B: BitBlock>(blocks: &mut Vec<B>, len: usize, end: usiz
     requires count { vec_len blocks.old ≡ blocks_for B.width len }
     requires each { All B.is_block blocks.old.items }
     requires forward { len ≤ end }
-    ensures values { (i : ℕ) → i / B.width < vec_len blocks.old → value_at B.width (map B.number blocks.new.items) i ≡ (value_at B.width (map B.number blocks.old.items) i || (nat_lt i end && nat_le len i)) }
+    ensures values { (i : ℕ) → i / B.width < vec_len blocks.old
+        → value_at B.width (map B.number blocks.new.items) i
+        ≡ (value_at B.width (map B.number blocks.old.items) i || (nat_lt i end && nat_le len i)) }
     ensures each { All B.is_block blocks.new.items }
     ensures len { vec_len blocks.new ≡ vec_len blocks.old }
     ensures capacity { vec_capacity blocks.new ≡ vec_capacity blocks.old }
@@ -127,7 +131,9 @@ pub(crate) fn raise_last<B: BitBlock>(blocks: &mut Vec<B>, len: usize, end: usiz
 pub(crate) fn lower_from<B: BitBlock>(blocks: &mut Vec<B>, len: usize)
     requires count { vec_len blocks.old ≡ blocks_for B.width len }
     requires each { All B.is_block blocks.old.items }
-    ensures values { (i : ℕ) → value_at B.width (map B.number blocks.new.items) i ≡ (nat_lt i len && value_at B.width (map B.number blocks.old.items) i) }
+    ensures values { (i : ℕ)
+        → value_at B.width (map B.number blocks.new.items) i
+        ≡ (nat_lt i len && value_at B.width (map B.number blocks.old.items) i) }
     ensures each { All B.is_block blocks.new.items }
     ensures len { vec_len blocks.new ≡ vec_len blocks.old }
     ensures capacity { vec_capacity blocks.new ≡ vec_capacity blocks.old }
@@ -147,7 +153,8 @@ pub(crate) fn fill_blocks<B: BitBlock>(blocks: &mut Vec<B>, count: usize, block:
     requires each { All B.is_block blocks.old.items }
     requires of_block { B.is_block block }
     ensures filled { (k : ℕ) → k < count → get_or (map B.number blocks.new.items) k 0 ≡ B.number block }
-    ensures others { (k : ℕ) → count ≤ k → get_or (map B.number blocks.new.items) k 0 ≡ get_or (map B.number blocks.old.items) k 0 }
+    ensures others { (k : ℕ) → count ≤ k
+        → get_or (map B.number blocks.new.items) k 0 ≡ get_or (map B.number blocks.old.items) k 0 }
     ensures each { All B.is_block blocks.new.items }
     ensures len { vec_len blocks.new ≡ vec_len blocks.old }
     ensures capacity { vec_capacity blocks.new ≡ vec_capacity blocks.old }

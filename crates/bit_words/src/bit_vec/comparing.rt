@@ -1,7 +1,7 @@
 // Whether the blocks of two bit vectors merge to zeros.
 ghost use Rattle.std.specs.Prelude.{◌≡◌, ◌≢◌, ℕ, ◌+◌, ◌/◌, ◌<◌, ◌≤◌, ◌↔◌, All, IsTrue, length, map, get_or, min};
 ghost use Rattle.bit_words.specs.declared.bit_vec.merge.Merge.{Merge};
-ghost use Rattle.bit_words.specs.Storage.{IsFirstMerged, MergesToFalse, MergesToZero};
+ghost use Rattle.bit_words.specs.BlockMerges.{IsFirstMerged, MergesToFalse, MergesToZero};
 
 use super::changes::block_at;
 use super::merging::{Difference, Intersection, Operation};
@@ -19,8 +19,10 @@ fn first_merge_to_zero<B: BitBlock, O: Operation>(
     requires within_others { count ≤ length others.now }
     requires each { All B.is_block blocks.now }
     requires others { All B.is_block others.now }
-    ensures zero { IsTrue result ↔ MergesToZero O.merge B.width (map B.number blocks.now) (map B.number others.now) count }
-    ensures stops { (i : ℕ) → IsFirstMerged O.merge B.width (map B.number blocks.now) (map B.number others.now) i → i / B.width < count → steps.new ≡ steps.old + i / B.width + 1 }
+    ensures zero { IsTrue result
+        ↔ MergesToZero O.merge B.width (map B.number blocks.now) (map B.number others.now) count }
+    ensures stops { (i : ℕ) → IsFirstMerged O.merge B.width (map B.number blocks.now) (map B.number others.now) i
+        → i / B.width < count → steps.new ≡ steps.old + i / B.width + 1 }
     ensures fewest { steps.old ≤ steps.new }
     ensures most { steps.new ≤ steps.old + count }
     ensures all { IsTrue result → steps.new ≡ steps.old + count }
@@ -40,7 +42,9 @@ fn rest_is_zero<B: BitBlock>(blocks: &[B], start: usize, steps: &mut Steps) -> b
     requires within { start ≤ length blocks.now }
     requires each { All B.is_block blocks.now }
     ensures zero { IsTrue result ↔ ((k : ℕ) → start ≤ k → get_or (map B.number blocks.now) k 0 ≡ 0) }
-    ensures stops { (k : ℕ) → start ≤ k → get_or (map B.number blocks.now) k 0 ≢ 0 → ((q : ℕ) → start ≤ q → q < k → get_or (map B.number blocks.now) q 0 ≡ 0) → steps.new + start ≡ steps.old + k + 1 }
+    ensures stops { (k : ℕ) → start ≤ k → get_or (map B.number blocks.now) k 0 ≢ 0
+        → ((q : ℕ) → start ≤ q → q < k → get_or (map B.number blocks.now) q 0 ≡ 0)
+        → steps.new + start ≡ steps.old + k + 1 }
     ensures fewest { steps.old ≤ steps.new }
     ensures most { steps.new + start ≤ steps.old + length blocks.now }
     ensures all { IsTrue result → steps.new + start ≡ steps.old + length blocks.now }
@@ -58,8 +62,11 @@ fn rest_is_zero<B: BitBlock>(blocks: &[B], start: usize, steps: &mut Steps) -> b
 pub(crate) fn difference_is_zero<B: BitBlock>(blocks: &[B], others: &[B], steps: &mut Steps) -> bool
     requires each { All B.is_block blocks.now }
     requires others { All B.is_block others.now }
-    ensures zero { IsTrue result ↔ MergesToFalse Merge.Difference B.width (map B.number blocks.now) (map B.number others.now) }
-    ensures stops { (i : ℕ) → IsFirstMerged Merge.Difference B.width (map B.number blocks.now) (map B.number others.now) i → steps.new ≡ steps.old + i / B.width + 1 }
+    ensures zero { IsTrue result
+        ↔ MergesToFalse Merge.Difference B.width (map B.number blocks.now) (map B.number others.now) }
+    ensures stops { (i : ℕ)
+        → IsFirstMerged Merge.Difference B.width (map B.number blocks.now) (map B.number others.now) i
+        → steps.new ≡ steps.old + i / B.width + 1 }
     ensures fewest { steps.old ≤ steps.new }
     ensures most { steps.new ≤ steps.old + length blocks.now }
     ensures all { IsTrue result → steps.new ≡ steps.old + length blocks.now }
@@ -77,8 +84,11 @@ pub(crate) fn intersection_is_zero<B: BitBlock>(
 ) -> bool
     requires each { All B.is_block blocks.now }
     requires others { All B.is_block others.now }
-    ensures zero { IsTrue result ↔ MergesToFalse Merge.Intersection B.width (map B.number blocks.now) (map B.number others.now) }
-    ensures stops { (i : ℕ) → IsFirstMerged Merge.Intersection B.width (map B.number blocks.now) (map B.number others.now) i → steps.new ≡ steps.old + i / B.width + 1 }
+    ensures zero { IsTrue result
+        ↔ MergesToFalse Merge.Intersection B.width (map B.number blocks.now) (map B.number others.now) }
+    ensures stops { (i : ℕ)
+        → IsFirstMerged Merge.Intersection B.width (map B.number blocks.now) (map B.number others.now) i
+        → steps.new ≡ steps.old + i / B.width + 1 }
     ensures fewest { steps.old ≤ steps.new }
     ensures most { steps.new ≤ steps.old + min (length blocks.now) (length others.now) }
     ensures all { IsTrue result → steps.new ≡ steps.old + min (length blocks.now) (length others.now) }

@@ -16,7 +16,8 @@ fn with_copies<B: BitBlock>(mut blocks: Vec<B>, count: usize, block: B) -> Vec<B
     requires room { count ≤ vec_capacity blocks }
     requires each { All B.is_block blocks.items }
     requires of_block { B.is_block block }
-    ensures numbers { map B.number result.items ≡ map B.number blocks.items ++ replicate (count - vec_len blocks) (B.number block) }
+    ensures numbers { map B.number result.items
+        ≡ map B.number blocks.items ++ replicate (count - vec_len blocks) (B.number block) }
     ensures each { All B.is_block result.items }
     ensures len { vec_len result ≡ count }
     ensures capacity { vec_capacity result ≡ vec_capacity blocks }
@@ -33,7 +34,8 @@ pub(crate) fn push_copies<B: BitBlock>(blocks: &mut Vec<B>, count: usize, block:
     requires room { count ≤ vec_capacity blocks.old }
     requires each { All B.is_block blocks.old.items }
     requires of_block { B.is_block block }
-    ensures numbers { map B.number blocks.new.items ≡ map B.number blocks.old.items ++ replicate (count - vec_len blocks.old) (B.number block) }
+    ensures numbers { map B.number blocks.new.items
+        ≡ map B.number blocks.old.items ++ replicate (count - vec_len blocks.old) (B.number block) }
     ensures each { All B.is_block blocks.new.items }
     ensures len { vec_len blocks.new ≡ count }
     ensures capacity { vec_capacity blocks.new ≡ vec_capacity blocks.old }
@@ -119,12 +121,18 @@ pub(crate) fn take_over<B: BitBlock>(
     requires count { length from_sums.now ≡ blocks_for B.width (length from.now) }
     ensures items { OnOk result (blocks.new.items ≡ from.now) }
     ensures sums { OnOk result (sums.new.items ≡ from_sums.now) }
-    ensures exact { OnOk result (shared_room B.width (vec_capacity blocks.new) (vec_capacity sums.new) ≡ max (shared_room B.width (vec_capacity blocks.old) (vec_capacity sums.old)) (length from.now)) }
+    ensures exact { OnOk result
+        (shared_room B.width (vec_capacity blocks.new) (vec_capacity sums.new)
+        ≡ max (shared_room B.width (vec_capacity blocks.old) (vec_capacity sums.old)) (length from.now)) }
     ensures err { OnErr result (blocks.new ≡ blocks.old) }
     ensures err_sums { OnErr result (sums.new ≡ sums.old) }
-    ensures full { OnErr result (shared_room B.width (vec_capacity blocks.old) (vec_capacity sums.old) < length from.now) }
-    ensures within { length from.now ≤ shared_room B.width (vec_capacity blocks.old) (vec_capacity sums.old) → shared_room B.width (vec_capacity blocks.new) (vec_capacity sums.new) ≡ shared_room B.width (vec_capacity blocks.old) (vec_capacity sums.old) }
-    ensures capacity { shared_room B.width (vec_capacity blocks.old) (vec_capacity sums.old) ≤ shared_room B.width (vec_capacity blocks.new) (vec_capacity sums.new) }
+    ensures full { OnErr result
+        (shared_room B.width (vec_capacity blocks.old) (vec_capacity sums.old) < length from.now) }
+    ensures within { length from.now ≤ shared_room B.width (vec_capacity blocks.old) (vec_capacity sums.old)
+        → shared_room B.width (vec_capacity blocks.new) (vec_capacity sums.new)
+        ≡ shared_room B.width (vec_capacity blocks.old) (vec_capacity sums.old) }
+    ensures capacity { shared_room B.width (vec_capacity blocks.old) (vec_capacity sums.old)
+        ≤ shared_room B.width (vec_capacity blocks.new) (vec_capacity sums.new) }
 {
     if have_room(blocks, sums, from.len()) {
         copy_blocks(blocks, from);

@@ -1,6 +1,6 @@
 // A block with some of its digits written. Each clause is by digit, as the test that it is 1.
 ghost use Rattle.std.specs.Prelude.{◌≡◌, ◌≢◌, ℕ, ◌<◌, ◌&&◌, ◌||◌, false, nat_lt, nat_le};
-ghost use Rattle.bit_words.specs.Storage.{is_one};
+ghost use Rattle.bit_words.specs.Digits.{is_one};
 
 use super::BitBlock;
 use super::words::{block_and, block_not, block_or, one_at, ones_below};
@@ -58,7 +58,8 @@ pub(crate) fn with_ones_from<B: BitBlock>(block: B, place: usize) -> B
     requires of_block { B.is_block block }
     requires within { place < B.width }
     ensures of_block { B.is_block result }
-    ensures digits { (j : ℕ) → j < B.width → is_one (B.number result) j ≡ (is_one (B.number block) j || nat_le place j) }
+    ensures digits { (j : ℕ) → j < B.width
+        → is_one (B.number result) j ≡ (is_one (B.number block) j || nat_le place j) }
 {
     block_or(block, ones_from(place))
 }
@@ -83,7 +84,8 @@ pub(crate) fn with_ones_between<B: BitBlock>(block: B, start: usize, end: usize)
     requires from { start < B.width }
     requires to { end < B.width }
     ensures of_block { B.is_block result }
-    ensures digits { (j : ℕ) → j < B.width → is_one (B.number result) j ≡ (is_one (B.number block) j || (nat_lt j end && nat_le start j)) }
+    ensures digits { (j : ℕ) → j < B.width
+        → is_one (B.number result) j ≡ (is_one (B.number block) j || (nat_lt j end && nat_le start j)) }
 {
     block_or(block, ones_between(start, end))
 }
@@ -95,7 +97,8 @@ pub(crate) fn cut_from<B: BitBlock>(block: B, place: usize) -> B
     requires of_block { B.is_block block }
     requires within { place < B.width }
     ensures of_block { B.is_block result }
-    ensures digits { (j : ℕ) → j < B.width → is_one (B.number result) j ≡ (nat_lt j place && is_one (B.number block) j) }
+    ensures digits { (j : ℕ) → j < B.width
+        → is_one (B.number result) j ≡ (nat_lt j place && is_one (B.number block) j) }
 {
     block_and(block, ones_below(place))
 }
@@ -107,7 +110,8 @@ pub(crate) fn cut_below<B: BitBlock>(block: B, place: usize) -> B
     requires of_block { B.is_block block }
     requires within { place < B.width }
     ensures of_block { B.is_block result }
-    ensures digits { (j : ℕ) → j < B.width → is_one (B.number result) j ≡ (nat_le place j && is_one (B.number block) j) }
+    ensures digits { (j : ℕ) → j < B.width
+        → is_one (B.number result) j ≡ (nat_le place j && is_one (B.number block) j) }
 {
     block_and(block, ones_from(place))
 }

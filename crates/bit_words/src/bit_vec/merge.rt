@@ -26,7 +26,9 @@ impl Merge {
         requires left { B.is_block a }
         requires right { B.is_block b }
         ensures of_block { B.is_block result }
-        ensures digits { (i : ℕ) → i < B.width → (bit_at (B.number result) i == 1) ≡ merged_value self (bit_at (B.number a) i == 1) (bit_at (B.number b) i == 1) }
+        ensures digits { (i : ℕ) → i < B.width
+            → (bit_at (B.number result) i == 1)
+            ≡ merged_value self (bit_at (B.number a) i == 1) (bit_at (B.number b) i == 1) }
     {
         match self {
             Merge::Union => block_or(a, b),

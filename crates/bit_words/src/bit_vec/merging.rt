@@ -1,7 +1,7 @@
 // Merges of the blocks of two lists, each told by the digits of every block.
 ghost use Rattle.std.specs.Prelude.{◌≡◌, ℕ, ◌+◌, ◌<◌, ◌≤◌, ◌==◌, [], All, get_or, length, map, vec_len, vec_capacity};
 ghost use Rattle.std.specs.Int.{bit_at};
-ghost use Rattle.bit_words.specs.Storage.{IsMergedBetween};
+ghost use Rattle.bit_words.specs.BlockMerges.{IsMergedBetween};
 ghost use Rattle.bit_words.specs.Merges.{merged_value};
 ghost use Rattle.bit_words.specs.declared.bit_vec.merge.Merge.{Merge};
 
@@ -16,7 +16,9 @@ pub(crate) trait Operation {
         requires left { B.is_block a }
         requires right { B.is_block b }
         ensures of_block { B.is_block result }
-        ensures digits { (i : ℕ) → i < B.width → (bit_at (B.number result) i == 1) ≡ merged_value merge (bit_at (B.number a) i == 1) (bit_at (B.number b) i == 1) };
+        ensures digits { (i : ℕ) → i < B.width
+            → (bit_at (B.number result) i == 1)
+            ≡ merged_value merge (bit_at (B.number a) i == 1) (bit_at (B.number b) i == 1) };
 }
 
 pub(crate) struct Union;
@@ -75,7 +77,8 @@ pub(crate) fn merge_block<B: BitBlock, O: Operation>(
     requires in_others { k < length others.now }
     requires each { All B.is_block blocks.old.items }
     requires others { All B.is_block others.now }
-    ensures merged { IsMergedBetween O.merge B.width k (k + 1) (map B.number blocks.old.items) (map B.number others.now) (map B.number blocks.new.items) }
+    ensures merged { IsMergedBetween O.merge B.width k (k + 1) (map B.number blocks.old.items) (map B.number others.now)
+        (map B.number blocks.new.items) }
     ensures of_block { B.is_block result }
     ensures of_number { B.number result ≡ get_or (map B.number blocks.new.items) k 0 }
     ensures each { All B.is_block blocks.new.items }
@@ -101,7 +104,8 @@ fn merge_first<B: BitBlock, O: Operation>(
     requires from { start ≤ length others.now }
     requires each { All B.is_block blocks.old.items }
     requires others { All B.is_block others.now }
-    ensures merged { IsMergedBetween O.merge B.width start (length others.now) (map B.number blocks.old.items) (map B.number others.now) (map B.number blocks.new.items) }
+    ensures merged { IsMergedBetween O.merge B.width start (length others.now) (map B.number blocks.old.items)
+        (map B.number others.now) (map B.number blocks.new.items) }
     ensures each { All B.is_block blocks.new.items }
     ensures len { vec_len blocks.new ≡ vec_len blocks.old }
     ensures capacity { vec_capacity blocks.new ≡ vec_capacity blocks.old }
@@ -121,7 +125,8 @@ pub(crate) fn merge_rest<B: BitBlock, O: Operation>(
 )
     requires within { start ≤ vec_len blocks.old }
     requires each { All B.is_block blocks.old.items }
-    ensures merged { IsMergedBetween O.merge B.width start (vec_len blocks.old) (map B.number blocks.old.items) [] (map B.number blocks.new.items) }
+    ensures merged { IsMergedBetween O.merge B.width start (vec_len blocks.old) (map B.number blocks.old.items) []
+        (map B.number blocks.new.items) }
     ensures each { All B.is_block blocks.new.items }
     ensures len { vec_len blocks.new ≡ vec_len blocks.old }
     ensures capacity { vec_capacity blocks.new ≡ vec_capacity blocks.old }
@@ -147,7 +152,8 @@ pub(crate) fn merge_each<B: BitBlock, O: Operation>(
     requires from { start ≤ length others.now }
     requires each { All B.is_block blocks.old.items }
     requires others { All B.is_block others.now }
-    ensures merged { IsMergedBetween O.merge B.width start (vec_len blocks.old) (map B.number blocks.old.items) (map B.number others.now) (map B.number blocks.new.items) }
+    ensures merged { IsMergedBetween O.merge B.width start (vec_len blocks.old) (map B.number blocks.old.items)
+        (map B.number others.now) (map B.number blocks.new.items) }
     ensures each { All B.is_block blocks.new.items }
     ensures len { vec_len blocks.new ≡ vec_len blocks.old }
     ensures capacity { vec_capacity blocks.new ≡ vec_capacity blocks.old }

@@ -35,7 +35,13 @@ impl<'a, B: BitBlock> Model for Nonzero<'a, B> {
 
     ghost Value = { Nonzeros B };
 
-    ghost view = { λ it. record { blocks = it.blocks.now; left = marked_from B.width B.number it.place (B.number it.marks) it.blocks.now; pulls = it.steps; summary_pulls = it.summary.pulls; summary_left = length it.summary.left } };
+    ghost view = { λ it. record {
+      blocks = it.blocks.now;
+      left = marked_from B.width B.number it.place (B.number it.marks) it.blocks.now;
+      pulls = it.steps;
+      summary_pulls = it.summary.pulls;
+      summary_left = length it.summary.left;
+    } };
 
     ghost invariant = { λ it. IsMarked B.width B.number B.is_block it.place it.marks it.blocks.now it.summary.left };
 }

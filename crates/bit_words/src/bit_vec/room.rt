@@ -60,9 +60,13 @@ fn grow_shared_room<B: BitBlock>(
     ensures sums_len { vec_len sums.new ≡ vec_len sums.old }
     ensures ok { OnOk result (count ≤ shared_room B.width (vec_capacity blocks.new) (vec_capacity sums.new)) }
     ensures exact { IsTrue exact → OnOk result (vec_capacity blocks.new ≡ max (vec_capacity blocks.old) count) }
-    ensures exact_sums { IsTrue exact → OnOk result (vec_capacity sums.new ≡ max (vec_capacity sums.old) (blocks_for B.width count)) }
-    ensures err { OnErr result (shared_room B.width (vec_capacity blocks.new) (vec_capacity sums.new) ≡ shared_room B.width (vec_capacity blocks.old) (vec_capacity sums.old)) }
-    ensures capacity { shared_room B.width (vec_capacity blocks.old) (vec_capacity sums.old) ≤ shared_room B.width (vec_capacity blocks.new) (vec_capacity sums.new) }
+    ensures exact_sums { IsTrue exact
+        → OnOk result (vec_capacity sums.new ≡ max (vec_capacity sums.old) (blocks_for B.width count)) }
+    ensures err { OnErr result
+        (shared_room B.width (vec_capacity blocks.new) (vec_capacity sums.new)
+        ≡ shared_room B.width (vec_capacity blocks.old) (vec_capacity sums.old)) }
+    ensures capacity { shared_room B.width (vec_capacity blocks.old) (vec_capacity sums.old)
+        ≤ shared_room B.width (vec_capacity blocks.new) (vec_capacity sums.new) }
 {
     let needed = block_count::<B>(count);
     if block_count::<B>(blocks.capacity()) <= sums.capacity() {
@@ -88,12 +92,18 @@ pub(crate) fn make_shared_room<B: BitBlock>(
     ensures sums_len { vec_len sums.new ≡ vec_len sums.old }
     ensures ok { OnOk result (count ≤ shared_room B.width (vec_capacity blocks.new) (vec_capacity sums.new)) }
     ensures exact { IsTrue exact → OnOk result (vec_capacity blocks.new ≡ max (vec_capacity blocks.old) count) }
-    ensures exact_sums { IsTrue exact → OnOk result (vec_capacity sums.new ≡ max (vec_capacity sums.old) (blocks_for B.width count)) }
-    ensures err { OnErr result (shared_room B.width (vec_capacity blocks.new) (vec_capacity sums.new) ≡ shared_room B.width (vec_capacity blocks.old) (vec_capacity sums.old)) }
+    ensures exact_sums { IsTrue exact
+        → OnOk result (vec_capacity sums.new ≡ max (vec_capacity sums.old) (blocks_for B.width count)) }
+    ensures err { OnErr result
+        (shared_room B.width (vec_capacity blocks.new) (vec_capacity sums.new)
+        ≡ shared_room B.width (vec_capacity blocks.old) (vec_capacity sums.old)) }
     ensures full { OnErr result (shared_room B.width (vec_capacity blocks.old) (vec_capacity sums.old) < count) }
     ensures succeeds { count ≤ shared_room B.width (vec_capacity blocks.old) (vec_capacity sums.old) → IsOk result }
-    ensures capacity { shared_room B.width (vec_capacity blocks.old) (vec_capacity sums.old) ≤ shared_room B.width (vec_capacity blocks.new) (vec_capacity sums.new) }
-    ensures within { count ≤ shared_room B.width (vec_capacity blocks.old) (vec_capacity sums.old) → shared_room B.width (vec_capacity blocks.new) (vec_capacity sums.new) ≡ shared_room B.width (vec_capacity blocks.old) (vec_capacity sums.old) }
+    ensures capacity { shared_room B.width (vec_capacity blocks.old) (vec_capacity sums.old)
+        ≤ shared_room B.width (vec_capacity blocks.new) (vec_capacity sums.new) }
+    ensures within { count ≤ shared_room B.width (vec_capacity blocks.old) (vec_capacity sums.old)
+        → shared_room B.width (vec_capacity blocks.new) (vec_capacity sums.new)
+        ≡ shared_room B.width (vec_capacity blocks.old) (vec_capacity sums.old) }
 {
     if have_room(blocks, sums, count) {
         return Ok(());
@@ -113,12 +123,19 @@ pub(crate) fn make_exact_shared_room<B: BitBlock>(
     ensures sums { sums.new.items ≡ sums.old.items }
     ensures len { vec_len blocks.new ≡ vec_len blocks.old }
     ensures sums_len { vec_len sums.new ≡ vec_len sums.old }
-    ensures ok { OnOk result (shared_room B.width (vec_capacity blocks.new) (vec_capacity sums.new) ≡ max (shared_room B.width (vec_capacity blocks.old) (vec_capacity sums.old)) count) }
-    ensures err { OnErr result (shared_room B.width (vec_capacity blocks.new) (vec_capacity sums.new) ≡ shared_room B.width (vec_capacity blocks.old) (vec_capacity sums.old)) }
+    ensures ok { OnOk result
+        (shared_room B.width (vec_capacity blocks.new) (vec_capacity sums.new)
+        ≡ max (shared_room B.width (vec_capacity blocks.old) (vec_capacity sums.old)) count) }
+    ensures err { OnErr result
+        (shared_room B.width (vec_capacity blocks.new) (vec_capacity sums.new)
+        ≡ shared_room B.width (vec_capacity blocks.old) (vec_capacity sums.old)) }
     ensures full { OnErr result (shared_room B.width (vec_capacity blocks.old) (vec_capacity sums.old) < count) }
     ensures succeeds { count ≤ shared_room B.width (vec_capacity blocks.old) (vec_capacity sums.old) → IsOk result }
-    ensures capacity { shared_room B.width (vec_capacity blocks.old) (vec_capacity sums.old) ≤ shared_room B.width (vec_capacity blocks.new) (vec_capacity sums.new) }
-    ensures within { count ≤ shared_room B.width (vec_capacity blocks.old) (vec_capacity sums.old) → shared_room B.width (vec_capacity blocks.new) (vec_capacity sums.new) ≡ shared_room B.width (vec_capacity blocks.old) (vec_capacity sums.old) }
+    ensures capacity { shared_room B.width (vec_capacity blocks.old) (vec_capacity sums.old)
+        ≤ shared_room B.width (vec_capacity blocks.new) (vec_capacity sums.new) }
+    ensures within { count ≤ shared_room B.width (vec_capacity blocks.old) (vec_capacity sums.old)
+        → shared_room B.width (vec_capacity blocks.new) (vec_capacity sums.new)
+        ≡ shared_room B.width (vec_capacity blocks.old) (vec_capacity sums.old) }
 {
     if block_count::<B>(count) <= sums.capacity() {
         return make_shared_room(blocks, sums, count, true);

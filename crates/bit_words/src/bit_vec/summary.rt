@@ -2,7 +2,8 @@
 // are not 0. It is kept in blocks as well, and so changed by what changes those.
 ghost use Rattle.std.specs.Prelude.{◌≡◌, ◌≢◌, ℕ, ◌+◌, ◌*◌, ◌/◌, ◌^◌, ◌<◌, ◌≤◌, ◌==◌, ◌&&◌, ◌||◌, All, IfOk, IsOk, get_or, not, nat_lt, length, map, false, true, vec_len, vec_capacity};
 ghost use Rattle.bit_words.specs.Bits.{blocks_for};
-ghost use Rattle.bit_words.specs.Storage.{is_one, value_at, IsTidy};
+ghost use Rattle.bit_words.specs.Digits.{is_one};
+ghost use Rattle.bit_words.specs.Storage.{value_at, IsTidy};
 ghost use Rattle.bit_words.specs.Summary.{is_used, IsSummary};
 
 use super::BitBlock;
@@ -37,7 +38,8 @@ pub(crate) fn note_block<B: BitBlock>(sums: &mut Vec<B>, blocks: &[B], k: usize)
     requires each { All B.is_block sums.old.items }
     requires blocks { All B.is_block blocks.now }
     ensures same { value_at B.width (map B.number sums.new.items) k ≡ is_used (map B.number blocks.now) k }
-    ensures others { (j : ℕ) → j ≢ k → value_at B.width (map B.number sums.new.items) j ≡ value_at B.width (map B.number sums.old.items) j }
+    ensures others { (j : ℕ) → j ≢ k
+        → value_at B.width (map B.number sums.new.items) j ≡ value_at B.width (map B.number sums.old.items) j }
     ensures each { All B.is_block sums.new.items }
     ensures len { vec_len sums.new ≡ vec_len sums.old }
     ensures capacity { vec_capacity sums.new ≡ vec_capacity sums.old }
@@ -56,7 +58,8 @@ pub(crate) fn note_change<B: BitBlock>(sums: &mut Vec<B>, row: B, k: usize, bloc
     requires of_block { B.is_block block }
     requires raised { bit ≡ true → not (B.number block == 0) ≡ true }
     ensures same { value_at B.width (map B.number sums.new.items) k ≡ not (B.number block == 0) }
-    ensures others { (j : ℕ) → j ≢ k → value_at B.width (map B.number sums.new.items) j ≡ value_at B.width (map B.number sums.old.items) j }
+    ensures others { (j : ℕ) → j ≢ k
+        → value_at B.width (map B.number sums.new.items) j ≡ value_at B.width (map B.number sums.old.items) j }
     ensures each { All B.is_block sums.new.items }
     ensures len { vec_len sums.new ≡ vec_len sums.old }
     ensures capacity { vec_capacity sums.new ≡ vec_capacity sums.old }
@@ -72,7 +75,8 @@ fn used_digits<B: BitBlock>(blocks: &[B], start: usize, count: usize) -> B
     requires within { count ≤ B.width }
     requires each { All B.is_block blocks.now }
     ensures of_block { B.is_block result }
-    ensures digits { (j : ℕ) → j < B.width → is_one (B.number result) j ≡ (nat_lt j count && is_used (map B.number blocks.now) (start + j)) }
+    ensures digits { (j : ℕ) → j < B.width
+        → is_one (B.number result) j ≡ (nat_lt j count && is_used (map B.number blocks.now) (start + j)) }
 {
     let mut digits = B::zero();
     for j in 0..count {
@@ -89,7 +93,8 @@ fn digits_of_groups<B: BitBlock>(blocks: &[B], start: usize, groups: usize) -> B
     requires within { groups * 8 ≤ B.width }
     requires each { All B.is_block blocks.now }
     ensures of_block { B.is_block result }
-    ensures digits { (j : ℕ) → j < B.width → is_one (B.number result) j ≡ (nat_lt j (groups * 8) && is_used (map B.number blocks.now) (start + j)) }
+    ensures digits { (j : ℕ) → j < B.width
+        → is_one (B.number result) j ≡ (nat_lt j (groups * 8) && is_used (map B.number blocks.now) (start + j)) }
 {
     let mut digits = B::zero();
     for group in 0..groups {
@@ -106,7 +111,8 @@ fn summary_block<B: BitBlock>(blocks: &[B], q: usize) -> B
     requires in_bounds { q * B.width ≤ length blocks.now }
     requires each { All B.is_block blocks.now }
     ensures of_block { B.is_block result }
-    ensures digits { (j : ℕ) → j < B.width → is_one (B.number result) j ≡ is_used (map B.number blocks.now) (q * B.width + j) }
+    ensures digits { (j : ℕ) → j < B.width
+        → is_one (B.number result) j ≡ is_used (map B.number blocks.now) (q * B.width + j) }
 {
     let start = q * B::bits();
     let count = (blocks.len() - start).min(B::bits());
@@ -157,8 +163,10 @@ pub(crate) fn append_to_summary<B: BitBlock>(sums: &mut Vec<B>, blocks: &[B], ol
     requires blocks { All B.is_block blocks.now }
     requires longer { old ≤ length blocks.now }
     requires room { blocks_for B.width (length blocks.now) ≤ vec_capacity sums.old }
-    requires before { (k : ℕ) → k + 1 < old → value_at B.width (map B.number sums.old.items) k ≡ is_used (map B.number blocks.now) k }
-    requires last { bit ≡ false → (k : ℕ) → k < old → value_at B.width (map B.number sums.old.items) k ≡ is_used (map B.number blocks.now) k }
+    requires before { (k : ℕ) → k + 1 < old
+        → value_at B.width (map B.number sums.old.items) k ≡ is_used (map B.number blocks.now) k }
+    requires last { bit ≡ false → (k : ℕ) → k < old
+        → value_at B.width (map B.number sums.old.items) k ≡ is_used (map B.number blocks.now) k }
     requires after { (k : ℕ) → old ≤ k → k < length blocks.now → is_used (map B.number blocks.now) k ≡ bit }
     ensures summary { IsSummary B.width B.number B.is_block blocks.now sums.new.items }
     ensures capacity { vec_capacity sums.new ≡ vec_capacity sums.old }
@@ -175,7 +183,8 @@ pub(crate) fn cut_summary<B: BitBlock>(sums: &mut Vec<B>, blocks: &[B], old: usi
     requires tidy { IsTidy B.width B.number B.is_block sums.old.items old }
     requires blocks { All B.is_block blocks.now }
     requires shorter { length blocks.now ≤ old }
-    requires before { (k : ℕ) → k + 1 < length blocks.now → value_at B.width (map B.number sums.old.items) k ≡ is_used (map B.number blocks.now) k }
+    requires before { (k : ℕ) → k + 1 < length blocks.now
+        → value_at B.width (map B.number sums.old.items) k ≡ is_used (map B.number blocks.now) k }
     ensures summary { IsSummary B.width B.number B.is_block blocks.now sums.new.items }
     ensures capacity { vec_capacity sums.new ≡ vec_capacity sums.old }
 {

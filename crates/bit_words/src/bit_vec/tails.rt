@@ -15,7 +15,8 @@ use std::alloc::{AllocError, Global};
 fn copy_past<B: BitBlock>(alloc: Global, blocks: &[B], count: usize) -> Result<Vec<B>, AllocError>
     requires within { count ≤ length blocks.now }
     requires each { All B.is_block blocks.now }
-    ensures numbers { IfOk result (λ copy. map B.number copy.items ≡ replicate count 0 ++ drop count (map B.number blocks.now)) }
+    ensures numbers { IfOk result
+        (λ copy. map B.number copy.items ≡ replicate count 0 ++ drop count (map B.number blocks.now)) }
     ensures each { IfOk result (λ copy. All B.is_block copy.items) }
     ensures len { IfOk result (λ copy. vec_len copy ≡ length blocks.now) }
     ensures room { IfOk result (λ copy. vec_capacity copy ≡ length blocks.now) }
@@ -33,7 +34,10 @@ pub(crate) fn copy_values_from<B: BitBlock>(
 ) -> Result<Vec<B>, AllocError>
     requires within { blocks_for B.width at ≤ length blocks.now }
     requires each { All B.is_block blocks.now }
-    ensures values { IfOk result (λ copy. (i : ℕ) → value_at B.width (map B.number copy.items) i ≡ (nat_le at i && value_at B.width (map B.number blocks.now) i)) }
+    ensures values { IfOk result
+        (λ copy. (i : ℕ)
+        → value_at B.width (map B.number copy.items) i
+        ≡ (nat_le at i && value_at B.width (map B.number blocks.now) i)) }
     ensures each { IfOk result (λ copy. All B.is_block copy.items) }
     ensures len { IfOk result (λ copy. vec_len copy ≡ length blocks.now) }
     ensures room { IfOk result (λ copy. vec_capacity copy ≡ length blocks.now) }
@@ -60,7 +64,8 @@ pub(crate) fn copy_summary_from<B: BitBlock>(
     requires blocks { All B.is_block blocks.now }
     requires within { k < length blocks.now }
     requires before { (q : ℕ) → q < k → is_used (map B.number blocks.now) q ≡ false }
-    requires after { (q : ℕ) → k < q → value_at B.width (map B.number sums.now) q ≡ is_used (map B.number blocks.now) q }
+    requires after { (q : ℕ) → k < q
+        → value_at B.width (map B.number sums.now) q ≡ is_used (map B.number blocks.now) q }
     ensures summary { IfOk result (λ copy. IsSummary B.width B.number B.is_block blocks.now copy.items) }
     ensures room { IfOk result (λ copy. vec_capacity copy ≡ length sums.now) }
 {

@@ -15,8 +15,10 @@ fn push_ones<B: BitBlock>(blocks: &mut Vec<B>, len: usize)
     requires more { vec_len blocks.old ≤ blocks_for B.width len }
     requires room { blocks_for B.width len ≤ vec_capacity blocks.old }
     requires each { All B.is_block blocks.old.items }
-    ensures kept { (i : ℕ) → i / B.width < vec_len blocks.old → value_at B.width (map B.number blocks.new.items) i ≡ value_at B.width (map B.number blocks.old.items) i }
-    ensures added { (i : ℕ) → vec_len blocks.old ≤ i / B.width → value_at B.width (map B.number blocks.new.items) i ≡ nat_lt i len }
+    ensures kept { (i : ℕ) → i / B.width < vec_len blocks.old
+        → value_at B.width (map B.number blocks.new.items) i ≡ value_at B.width (map B.number blocks.old.items) i }
+    ensures added { (i : ℕ) → vec_len blocks.old ≤ i / B.width
+        → value_at B.width (map B.number blocks.new.items) i ≡ nat_lt i len }
     ensures each { All B.is_block blocks.new.items }
     ensures len { vec_len blocks.new ≡ blocks_for B.width len }
     ensures capacity { vec_capacity blocks.new ≡ vec_capacity blocks.old }
@@ -52,7 +54,8 @@ pub(crate) fn append_values<B: BitBlock>(blocks: &mut Vec<B>, old: usize, len: u
     requires tidy { IsTidy B.width B.number B.is_block blocks.old.items old }
     requires longer { old ≤ len }
     requires room { blocks_for B.width len ≤ vec_capacity blocks.old }
-    ensures kept { (i : ℕ) → i < old → value_at B.width (map B.number blocks.new.items) i ≡ value_at B.width (map B.number blocks.old.items) i }
+    ensures kept { (i : ℕ) → i < old
+        → value_at B.width (map B.number blocks.new.items) i ≡ value_at B.width (map B.number blocks.old.items) i }
     ensures added { (i : ℕ) → old ≤ i → i < len → value_at B.width (map B.number blocks.new.items) i ≡ bit }
     ensures tidy { IsTidy B.width B.number B.is_block blocks.new.items len }
     ensures capacity { vec_capacity blocks.new ≡ vec_capacity blocks.old }
@@ -72,7 +75,8 @@ pub(crate) fn append_values<B: BitBlock>(blocks: &mut Vec<B>, old: usize, len: u
 pub(crate) fn keep_values<B: BitBlock>(blocks: &mut Vec<B>, old: usize, len: usize)
     requires tidy { IsTidy B.width B.number B.is_block blocks.old.items old }
     requires shorter { len ≤ old }
-    ensures kept { (i : ℕ) → i < len → value_at B.width (map B.number blocks.new.items) i ≡ value_at B.width (map B.number blocks.old.items) i }
+    ensures kept { (i : ℕ) → i < len
+        → value_at B.width (map B.number blocks.new.items) i ≡ value_at B.width (map B.number blocks.old.items) i }
     ensures tidy { IsTidy B.width B.number B.is_block blocks.new.items len }
     ensures capacity { vec_capacity blocks.new ≡ vec_capacity blocks.old }
 {

@@ -46,7 +46,10 @@ impl<B: BitBlock> Model for BitVec<B> {
 
     ghost Value = { Bits };
 
-    ghost view = { λ v. record { values = values_of B.width (map B.number v.blocks.items) v.len; room = room_of B.width (shared_room B.width (vec_capacity v.blocks) (vec_capacity v.summary)) } };
+    ghost view = { λ v. record {
+      values = values_of B.width (map B.number v.blocks.items) v.len;
+      room = room_of B.width (shared_room B.width (vec_capacity v.blocks) (vec_capacity v.summary));
+    } };
 
     ghost invariant = { λ v. IsStored B.width B.number B.is_block v.blocks.items v.summary.items v.len };
 }
@@ -135,8 +138,10 @@ impl<B: BitBlock> BitVec<B> {
         ensures each { All B.is_block result.blocks }
         ensures left { result.left ≡ first_and_nonzero B.number result.blocks }
         ensures pulls { result.pulls ≡ 0 }
-        ensures summary_pulls { result.summary_pulls ≡ min 1 (blocks_for B.width (blocks_for B.width (length self.now.values))) }
-        ensures summary_left { result.summary_left ≡ blocks_for B.width (blocks_for B.width (length self.now.values)) - 1 }
+        ensures summary_pulls { result.summary_pulls
+            ≡ min 1 (blocks_for B.width (blocks_for B.width (length self.now.values))) }
+        ensures summary_left { result.summary_left
+            ≡ blocks_for B.width (blocks_for B.width (length self.now.values)) - 1 }
         ensures fits { IsWithinRoom self.now }
     {
         Nonzero::over(&self.blocks, &self.summary)

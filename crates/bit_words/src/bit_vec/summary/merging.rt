@@ -1,7 +1,9 @@
 // Merges of the blocks of two lists that have summaries: of a union it is the union of the summaries, and
 // of the others each block of it is made while the blocks that it tells of are merged.
 ghost use Rattle.std.specs.Prelude.{◌≡◌, ℕ, ◌+◌, ◌*◌, ◌/◌, ◌<◌, ◌≤◌, ◌&&◌, All, false, get_or, nat_lt, length, map, vec_len, vec_capacity};
-ghost use Rattle.bit_words.specs.Storage.{is_one, value_at, IsMergedBetween};
+ghost use Rattle.bit_words.specs.BlockMerges.{CanMerge, HasMerged, IsMergedBetween};
+ghost use Rattle.bit_words.specs.Digits.{is_one};
+ghost use Rattle.bit_words.specs.Storage.{value_at};
 ghost use Rattle.bit_words.specs.Summary.{is_used, IsSummary};
 ghost use Rattle.bit_words.specs.Merges.{merged_value};
 ghost use Rattle.bit_words.specs.declared.bit_vec.merge.Merge.{Merge};
@@ -35,9 +37,11 @@ fn merge_group<B: BitBlock, O: Operation>(
     requires within { count ≤ B.width }
     requires each { All B.is_block blocks.old.items }
     requires others { All B.is_block others.now }
-    ensures merged { IsMergedBetween O.merge B.width start (start + count) (map B.number blocks.old.items) (map B.number others.now) (map B.number blocks.new.items) }
+    ensures merged { IsMergedBetween O.merge B.width start (start + count) (map B.number blocks.old.items)
+        (map B.number others.now) (map B.number blocks.new.items) }
     ensures of_block { B.is_block result }
-    ensures digits { (j : ℕ) → j < B.width → is_one (B.number result) j ≡ (nat_lt j count && is_used (map B.number blocks.new.items) (start + j)) }
+    ensures digits { (j : ℕ) → j < B.width
+        → is_one (B.number result) j ≡ (nat_lt j count && is_used (map B.number blocks.new.items) (start + j)) }
     ensures each { All B.is_block blocks.new.items }
     ensures len { vec_len blocks.new ≡ vec_len blocks.old }
     ensures capacity { vec_capacity blocks.new ≡ vec_capacity blocks.old }
@@ -65,9 +69,11 @@ fn merge_groups<B: BitBlock, O: Operation>(
     requires within { groups * 32 ≤ B.width }
     requires each { All B.is_block blocks.old.items }
     requires others { All B.is_block others.now }
-    ensures merged { IsMergedBetween O.merge B.width start (start + groups * 32) (map B.number blocks.old.items) (map B.number others.now) (map B.number blocks.new.items) }
+    ensures merged { IsMergedBetween O.merge B.width start (start + groups * 32) (map B.number blocks.old.items)
+        (map B.number others.now) (map B.number blocks.new.items) }
     ensures of_block { B.is_block result }
-    ensures digits { (j : ℕ) → j < B.width → is_one (B.number result) j ≡ (nat_lt j (groups * 32) && is_used (map B.number blocks.new.items) (start + j)) }
+    ensures digits { (j : ℕ) → j < B.width
+        → is_one (B.number result) j ≡ (nat_lt j (groups * 32) && is_used (map B.number blocks.new.items) (start + j)) }
     ensures each { All B.is_block blocks.new.items }
     ensures len { vec_len blocks.new ≡ vec_len blocks.old }
     ensures capacity { vec_capacity blocks.new ≡ vec_capacity blocks.old }
@@ -95,9 +101,11 @@ fn merge_row<B: BitBlock, O: Operation>(
     requires in_others { (q + 1) * B.width ≤ length others.now }
     requires each { All B.is_block blocks.old.items }
     requires others { All B.is_block others.now }
-    ensures merged { IsMergedBetween O.merge B.width (q * B.width) ((q + 1) * B.width) (map B.number blocks.old.items) (map B.number others.now) (map B.number blocks.new.items) }
+    ensures merged { IsMergedBetween O.merge B.width (q * B.width) ((q + 1) * B.width) (map B.number blocks.old.items)
+        (map B.number others.now) (map B.number blocks.new.items) }
     ensures of_block { B.is_block result }
-    ensures digits { (j : ℕ) → j < B.width → is_one (B.number result) j ≡ is_used (map B.number blocks.new.items) (q * B.width + j) }
+    ensures digits { (j : ℕ) → j < B.width
+        → is_one (B.number result) j ≡ is_used (map B.number blocks.new.items) (q * B.width + j) }
     ensures each { All B.is_block blocks.new.items }
     ensures len { vec_len blocks.new ≡ vec_len blocks.old }
     ensures capacity { vec_capacity blocks.new ≡ vec_capacity blocks.old }
@@ -126,9 +134,13 @@ fn merge_rows<B: BitBlock, O: Operation>(
     requires each { All B.is_block blocks.old.items }
     requires each_sum { All B.is_block sums.old.items }
     requires others { All B.is_block others.now }
-    ensures merged { IsMergedBetween O.merge B.width 0 (rows * B.width) (map B.number blocks.old.items) (map B.number others.now) (map B.number blocks.new.items) }
-    ensures digits { (q j : ℕ) → q < rows → j < B.width → is_one (get_or (map B.number sums.new.items) q 0) j ≡ is_used (map B.number blocks.new.items) (q * B.width + j) }
-    ensures past { (q : ℕ) → rows ≤ q → get_or (map B.number sums.new.items) q 0 ≡ get_or (map B.number sums.old.items) q 0 }
+    ensures merged { IsMergedBetween O.merge B.width 0 (rows * B.width) (map B.number blocks.old.items)
+        (map B.number others.now) (map B.number blocks.new.items) }
+    ensures digits { (q j : ℕ) → q < rows → j < B.width
+        → is_one (get_or (map B.number sums.new.items) q 0) j
+        ≡ is_used (map B.number blocks.new.items) (q * B.width + j) }
+    ensures past { (q : ℕ) → rows ≤ q
+        → get_or (map B.number sums.new.items) q 0 ≡ get_or (map B.number sums.old.items) q 0 }
     ensures each { All B.is_block blocks.new.items }
     ensures each_sum { All B.is_block sums.new.items }
     ensures len { vec_len blocks.new ≡ vec_len blocks.old }
@@ -149,9 +161,13 @@ fn note_rest<B: BitBlock, O: Operation>(sums: &mut Vec<B>, blocks: &[B], start: 
     requires in_bounds { start * B.width ≤ length blocks.now }
     requires each { All B.is_block sums.old.items }
     requires blocks { All B.is_block blocks.now }
-    requires rest { (k : ℕ) → (start + 1) * B.width ≤ k → is_used (map B.number blocks.now) k ≡ merged_value O.merge (value_at B.width (map B.number sums.old.items) k) false }
-    ensures before { (q : ℕ) → q < start → get_or (map B.number sums.new.items) q 0 ≡ get_or (map B.number sums.old.items) q 0 }
-    ensures digits { (q j : ℕ) → start ≤ q → q < vec_len sums.old → j < B.width → is_one (get_or (map B.number sums.new.items) q 0) j ≡ is_used (map B.number blocks.now) (q * B.width + j) }
+    requires rest { (k : ℕ) → (start + 1) * B.width ≤ k
+        → is_used (map B.number blocks.now) k
+        ≡ merged_value O.merge (value_at B.width (map B.number sums.old.items) k) false }
+    ensures before { (q : ℕ) → q < start
+        → get_or (map B.number sums.new.items) q 0 ≡ get_or (map B.number sums.old.items) q 0 }
+    ensures digits { (q j : ℕ) → start ≤ q → q < vec_len sums.old → j < B.width
+        → is_one (get_or (map B.number sums.new.items) q 0) j ≡ is_used (map B.number blocks.now) (q * B.width + j) }
     ensures each { All B.is_block sums.new.items }
     ensures len { vec_len sums.new ≡ vec_len sums.old }
     ensures capacity { vec_capacity sums.new ≡ vec_capacity sums.old }
@@ -170,14 +186,9 @@ fn merge_noted<B: BitBlock, O: Operation>(
     others: &[B],
     steps: &mut Steps,
 )
-    requires fewer { length others.now ≤ vec_len blocks.old }
-    requires each { All B.is_block blocks.old.items }
-    requires others { All B.is_block others.now }
-    requires summary { IsSummary B.width B.number B.is_block blocks.old.items sums.old.items }
-    ensures merged { IsMergedBetween O.merge B.width 0 (vec_len blocks.old) (map B.number blocks.old.items) (map B.number others.now) (map B.number blocks.new.items) }
-    ensures summary { IsSummary B.width B.number B.is_block blocks.new.items sums.new.items }
-    ensures each { All B.is_block blocks.new.items }
-    ensures len { vec_len blocks.new ≡ vec_len blocks.old }
+    requires can { CanMerge B.width B.number B.is_block blocks.old.items sums.old.items others.now }
+    ensures has { HasMerged O.merge B.width B.number B.is_block blocks.old.items others.now
+        blocks.new.items sums.new.items }
     ensures capacity { vec_capacity blocks.new ≡ vec_capacity blocks.old }
     ensures sums_capacity { vec_capacity sums.new ≡ vec_capacity sums.old }
     ensures steps { steps.new ≡ steps.old + vec_len blocks.old }
@@ -196,15 +207,10 @@ fn merge_union<B: BitBlock>(
     other_sums: &[B],
     steps: &mut Steps,
 )
-    requires fewer { length others.now ≤ vec_len blocks.old }
-    requires each { All B.is_block blocks.old.items }
-    requires others { All B.is_block others.now }
-    requires summary { IsSummary B.width B.number B.is_block blocks.old.items sums.old.items }
+    requires can { CanMerge B.width B.number B.is_block blocks.old.items sums.old.items others.now }
     requires other_summary { IsSummary B.width B.number B.is_block others.now other_sums.now }
-    ensures merged { IsMergedBetween Merge.Union B.width 0 (vec_len blocks.old) (map B.number blocks.old.items) (map B.number others.now) (map B.number blocks.new.items) }
-    ensures summary { IsSummary B.width B.number B.is_block blocks.new.items sums.new.items }
-    ensures each { All B.is_block blocks.new.items }
-    ensures len { vec_len blocks.new ≡ vec_len blocks.old }
+    ensures has { HasMerged Merge.Union B.width B.number B.is_block blocks.old.items others.now
+        blocks.new.items sums.new.items }
     ensures capacity { vec_capacity blocks.new ≡ vec_capacity blocks.old }
     ensures sums_capacity { vec_capacity sums.new ≡ vec_capacity sums.old }
     ensures steps { steps.new ≡ steps.old + vec_len blocks.old }
@@ -222,15 +228,10 @@ fn merge_owned<B: BitBlock>(
     merge: Merge,
     steps: &mut Steps,
 )
-    requires fewer { length others.now ≤ vec_len blocks.old }
-    requires each { All B.is_block blocks.old.items }
-    requires others { All B.is_block others.now }
-    requires summary { IsSummary B.width B.number B.is_block blocks.old.items sums.old.items }
+    requires can { CanMerge B.width B.number B.is_block blocks.old.items sums.old.items others.now }
     requires other_summary { IsSummary B.width B.number B.is_block others.now other_sums.now }
-    ensures merged { IsMergedBetween merge B.width 0 (vec_len blocks.old) (map B.number blocks.old.items) (map B.number others.now) (map B.number blocks.new.items) }
-    ensures summary { IsSummary B.width B.number B.is_block blocks.new.items sums.new.items }
-    ensures each { All B.is_block blocks.new.items }
-    ensures len { vec_len blocks.new ≡ vec_len blocks.old }
+    ensures has { HasMerged merge B.width B.number B.is_block blocks.old.items others.now
+        blocks.new.items sums.new.items }
     ensures capacity { vec_capacity blocks.new ≡ vec_capacity blocks.old }
     ensures sums_capacity { vec_capacity sums.new ≡ vec_capacity sums.old }
     ensures steps { steps.new ≡ steps.old + vec_len blocks.old }
@@ -253,15 +254,10 @@ pub(crate) fn merge_stored<B: BitBlock>(
     merge: Merge,
     steps: &mut Steps,
 )
-    requires fewer { length others.now ≤ vec_len blocks.old }
-    requires each { All B.is_block blocks.old.items }
-    requires others { All B.is_block others.now }
-    requires summary { IsSummary B.width B.number B.is_block blocks.old.items sums.old.items }
+    requires can { CanMerge B.width B.number B.is_block blocks.old.items sums.old.items others.now }
     requires other_summary { IsSummary B.width B.number B.is_block others.now other_sums.now }
-    ensures merged { IsMergedBetween merge B.width 0 (vec_len blocks.old) (map B.number blocks.old.items) (map B.number others.now) (map B.number blocks.new.items) }
-    ensures summary { IsSummary B.width B.number B.is_block blocks.new.items sums.new.items }
-    ensures each { All B.is_block blocks.new.items }
-    ensures len { vec_len blocks.new ≡ vec_len blocks.old }
+    ensures has { HasMerged merge B.width B.number B.is_block blocks.old.items others.now
+        blocks.new.items sums.new.items }
     ensures capacity { vec_capacity blocks.new ≡ vec_capacity blocks.old }
     ensures sums_capacity { vec_capacity sums.new ≡ vec_capacity sums.old }
     ensures steps { steps.new ≡ steps.old + vec_len blocks.old }

@@ -13,8 +13,10 @@ impl<B: BitBlock> BitVec<B> {
     /// its own blocks that is read, once at most; stops at the block of the first true value that `other`
     /// lacks.
     pub fn is_subset_of(&self, other: &Self, steps: &mut Steps) -> bool
-        ensures subset { IsTrue result ↔ ((i : ℕ) → slice_get self.now.values i ≡ Some true → slice_get other.now.values i ≡ Some true) }
-        ensures stops { (i : ℕ) → IsFirstTrue (merged Merge.Difference self.now.values other.now.values) i → steps.new ≡ steps.old + i / B.width + 1 }
+        ensures subset { IsTrue result
+            ↔ ((i : ℕ) → slice_get self.now.values i ≡ Some true → slice_get other.now.values i ≡ Some true) }
+        ensures stops { (i : ℕ) → IsFirstTrue (merged Merge.Difference self.now.values other.now.values) i
+            → steps.new ≡ steps.old + i / B.width + 1 }
         ensures fewest { steps.old ≤ steps.new }
         ensures most { steps.new ≤ steps.old + blocks_for B.width (length self.now.values) }
         ensures all { IsTrue result → steps.new ≡ steps.old + blocks_for B.width (length self.now.values) }
@@ -25,11 +27,18 @@ impl<B: BitBlock> BitVec<B> {
     /// Whether no index is true in both lists. One step for each block that is read, of those that both
     /// have; stops at the block of the first index that is true in both.
     pub fn is_disjoint_from(&self, other: &Self, steps: &mut Steps) -> bool
-        ensures disjoint { IsTrue result ↔ ((i : ℕ) → slice_get self.now.values i ≡ Some true → slice_get other.now.values i ≢ Some true) }
-        ensures stops { (i : ℕ) → IsFirstTrue (merged Merge.Intersection self.now.values other.now.values) i → steps.new ≡ steps.old + i / B.width + 1 }
+        ensures disjoint { IsTrue result
+            ↔ ((i : ℕ) → slice_get self.now.values i ≡ Some true → slice_get other.now.values i ≢ Some true) }
+        ensures stops { (i : ℕ) → IsFirstTrue (merged Merge.Intersection self.now.values other.now.values) i
+            → steps.new ≡ steps.old + i / B.width + 1 }
         ensures fewest { steps.old ≤ steps.new }
-        ensures most { steps.new ≤ steps.old + min (blocks_for B.width (length self.now.values)) (blocks_for B.width (length other.now.values)) }
-        ensures all { IsTrue result → steps.new ≡ steps.old + min (blocks_for B.width (length self.now.values)) (blocks_for B.width (length other.now.values)) }
+        ensures most { steps.new
+            ≤ steps.old
+            + min (blocks_for B.width (length self.now.values)) (blocks_for B.width (length other.now.values)) }
+        ensures all { IsTrue result
+            → steps.new
+            ≡ steps.old
+            + min (blocks_for B.width (length self.now.values)) (blocks_for B.width (length other.now.values)) }
     {
         intersection_is_zero(&self.blocks, &other.blocks, steps)
     }

@@ -128,7 +128,8 @@ impl<B: BitBlock> BitVec<B> {
         ensures full { OnErr result (self.old.room < length other.now.values) }
         ensures succeeds { length other.now.values ≤ self.old.room → IsOk result }
         ensures within { length other.now.values ≤ self.old.room → self.new.room ≡ self.old.room }
-        ensures exact { OnOk result (self.new.room ≡ max self.old.room (room_of B.width (blocks_for B.width (length other.now.values)))) }
+        ensures exact { OnOk result
+            (self.new.room ≡ max self.old.room (room_of B.width (blocks_for B.width (length other.now.values)))) }
         ensures room { self.old.room ≤ self.new.room }
     {
         take_over(

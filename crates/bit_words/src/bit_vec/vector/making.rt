@@ -110,7 +110,8 @@ impl<B: BitBlock> BitVec<B> {
     /// for; `Memory` only where that is refused, and never for no bytes.
     pub fn from_bytes_general(alloc: Global, bytes: &[u8]) -> Result<Self, BitsError>
         ensures values { IfOk result (λ vector. vector.values ≡ values_of_bytes bytes.now) }
-        ensures room { IfOk result (λ vector. vector.room ≡ room_of B.width (blocks_for B.width (8 * length bytes.now))) }
+        ensures room { IfOk result
+            (λ vector. vector.room ≡ room_of B.width (blocks_for B.width (8 * length bytes.now))) }
         ensures too_long { IsErrOf result BitsError.Length ↔ (usize.MAX < 8 * length bytes.now) }
         ensures empty { length bytes.now ≡ 0 → IsOk result }
     {
@@ -130,7 +131,8 @@ impl<B: BitBlock> BitVec<B> {
     /// where memory is refused, and never for an empty list.
     pub fn clone(&self, alloc: Global) -> Result<Self, AllocError>
         ensures values { IfOk result (λ vector. vector.values ≡ self.now.values) }
-        ensures room { IfOk result (λ vector. vector.room ≡ room_of B.width (blocks_for B.width (length self.now.values))) }
+        ensures room { IfOk result
+            (λ vector. vector.room ≡ room_of B.width (blocks_for B.width (length self.now.values))) }
         ensures empty { length self.now.values ≡ 0 → IsOk result }
     {
         let blocks = copy_of(alloc, &self.blocks)?;
@@ -148,7 +150,8 @@ impl<B: BitBlock> BitVec<B> {
     pub fn clone_tail(&self, alloc: Global, at: usize) -> Result<Self, AllocError>
         requires { at < length self.now.values }
         ensures values { IfOk result (λ vector. vector.values ≡ replicate at false ++ drop at self.now.values) }
-        ensures room { IfOk result (λ vector. vector.room ≡ room_of B.width (blocks_for B.width (length self.now.values))) }
+        ensures room { IfOk result
+            (λ vector. vector.room ≡ room_of B.width (blocks_for B.width (length self.now.values))) }
     {
         let blocks = copy_values_from(alloc, &self.blocks, at)?;
         let summary = copy_summary_from(alloc, &self.summary, &blocks, block_index::<B>(at))?;

@@ -41,7 +41,8 @@ impl<B: BitBlock> BitVec<B> {
         ensures full { OnErr result (self.old.room < length self.old.values + n) }
         ensures succeeds { length self.old.values + n ≤ self.old.room → IsOk result }
         ensures within { length self.old.values + n ≤ self.old.room → self.new.room ≡ self.old.room }
-        ensures exact { OnOk result (self.new.room ≡ max self.old.room (room_of B.width (blocks_for B.width (length self.old.values + n)))) }
+        ensures exact { OnOk result
+            (self.new.room ≡ max self.old.room (room_of B.width (blocks_for B.width (length self.old.values + n)))) }
         ensures room { self.old.room ≤ self.new.room }
     {
         let count = block_count::<B>(self.len + n);
@@ -70,7 +71,8 @@ impl<B: BitBlock> BitVec<B> {
     /// the list can become longer by false values. Nothing where it would be longer than `usize::MAX`.
     /// Looks for that block by the summary, among as many blocks as a block has bits. Takes no memory.
     pub fn cut_zero_blocks(&mut self)
-        ensures true_values { (i : ℕ) → (slice_get self.new.values i ≡ Some true) ↔ (slice_get self.old.values i ≡ Some true) }
+        ensures true_values { (i : ℕ) → (slice_get self.new.values i ≡ Some true)
+            ↔ (slice_get self.old.values i ≡ Some true) }
         ensures len { length self.new.values ≡ whole_blocks B.width self.old.values }
         ensures room { self.new.room ≡ self.old.room }
     {

@@ -1,7 +1,8 @@
 use Rattle.std.proofs.Common.{◌≡◌, ◌+◌, ◌*◌, false, length, get_or, take, ap, sym, ◌∙◌, take_all, arith}
 use Rattle.std.specs.Int.{bit_at}
 use Rattle.std.proofs.lemmas.List.{length-replicate}
-use Rattle.bit_words.specs.Storage.{is_one, value_at}
+use Rattle.bit_words.specs.Digits.{is_one}
+use Rattle.bit_words.specs.Storage.{value_at}
 use Rattle.bit_set.specs.Entries.{numbers_of}
 use Rattle.bit_set.proofs.JsonLemmas.{below_of_entries, counted, number_at}
 use Rattle.bit_set.proofs.FilledLemmas.{blocks_of_filled, clean_from, filled_more, filled_none, next_is_false, one_is_within}

@@ -1,5 +1,6 @@
 use Rattle.std.proofs.Common.{◌≡◌, ℕ, ◌*◌, ◌<◌, ◌&&◌, nat_lt}
-use Rattle.bit_words.specs.Storage.{is_one, byte_value}
+use Rattle.bit_words.specs.Bytes.{byte_value}
+use Rattle.bit_words.specs.Digits.{is_one}
 use Rattle.bit_words.proofs.bit_vec.bytes.block_of_first.Given as goal
 
 abbrev pub invariant-loop-place : goal.invariant-loop-place

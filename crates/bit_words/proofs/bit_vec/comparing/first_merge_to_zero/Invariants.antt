@@ -1,5 +1,5 @@
 use Rattle.std.proofs.Common.{◌≡◌, ◌+◌, map}
-use Rattle.bit_words.specs.Storage.{MergesToZero}
+use Rattle.bit_words.specs.BlockMerges.{MergesToZero}
 use Rattle.bit_words.proofs.bit_vec.comparing.first_merge_to_zero.Given as goal
 
 abbrev pub invariant-loop-k : goal.invariant-loop-k

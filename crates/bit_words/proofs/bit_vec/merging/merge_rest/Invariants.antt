@@ -1,5 +1,5 @@
 use Rattle.std.proofs.Common.{◌≡◌, ◌+◌, [], All, map, vec_len, vec_capacity}
-use Rattle.bit_words.specs.Storage.{IsMergedBetween}
+use Rattle.bit_words.specs.BlockMerges.{IsMergedBetween}
 use Rattle.bit_words.proofs.bit_vec.merging.merge_rest.Given as goal
 
 abbrev pub invariant-loop-k : goal.invariant-loop-k

@@ -1,5 +1,5 @@
 use Rattle.std.proofs.Common.{◌≡◌, ℕ, ◌+◌, ◌*◌, ◌<◌, ◌&&◌, nat_lt, map}
-use Rattle.bit_words.specs.Storage.{is_one}
+use Rattle.bit_words.specs.Digits.{is_one}
 use Rattle.bit_words.specs.Summary.{is_used}
 use Rattle.bit_words.proofs.bit_vec.summary.digits_of_groups.Given as goal
 

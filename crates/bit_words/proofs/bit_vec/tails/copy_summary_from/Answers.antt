@@ -2,7 +2,7 @@ use Rattle.std.proofs.Common.{length, arith}
 use Rattle.bit_words.proofs.BitsLemmas.{blocks_for-above}
 use Rattle.bit_words.proofs.SummaryLemmas.{summary_noted}
 use Rattle.bit_words.proofs.TailLemmas.{tail_tidy, tail_use}
-use Rattle.bit_words.proofs.TidyLemmas.{blocks_for-le}
+use Rattle.bit_words.proofs.BitsLemmas.{blocks_for-le}
 use Rattle.bit_words.proofs.bit_vec.tails.copy_summary_from.Goals as goal
 
 pub copy_values_from-requires-clause-within : goal.copy_values_from-requires-clause-within

@@ -1,7 +1,8 @@
 use Rattle.std.proofs.Common.{◌≡◌, ◌∙◌, sym, map, length, vec_len, arith}
 use Rattle.std.proofs.lemmas.List.{length-map}
 use Rattle.bit_words.specs.Bits.{blocks_for}
-use Rattle.bit_words.proofs.TidyLemmas.{blocks_for-le, ones_kept, ones_added, below_true, above_false, zeros_kept, zeros_added}
+use Rattle.bit_words.proofs.BitsLemmas.{blocks_for-le}
+use Rattle.bit_words.proofs.TidyLemmas.{ones_kept, ones_added, below_true, above_false, zeros_kept, zeros_added}
 use Rattle.bit_words.proofs.bit_vec.tidy.append_values.Goals as goal
 
 pub push_ones-requires-clause-more : goal.push_ones-requires-clause-more

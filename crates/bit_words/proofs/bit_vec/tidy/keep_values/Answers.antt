@@ -1,5 +1,6 @@
 use Rattle.std.proofs.Common.{arith}
-use Rattle.bit_words.proofs.TidyLemmas.{blocks_for-le, cut_kept}
+use Rattle.bit_words.proofs.BitsLemmas.{blocks_for-le}
+use Rattle.bit_words.proofs.TidyLemmas.{cut_kept}
 use Rattle.bit_words.proofs.bit_vec.tidy.keep_values.Goals as goal
 
 pub keep_blocks-requires-clause-fewer : goal.keep_blocks-requires-clause-fewer

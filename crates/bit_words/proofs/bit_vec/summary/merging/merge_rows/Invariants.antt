@@ -1,5 +1,6 @@
 use Rattle.std.proofs.Common.{◌≡◌, ℕ, ◌+◌, ◌*◌, ◌<◌, ◌≤◌, All, get_or, map, vec_len, vec_capacity}
-use Rattle.bit_words.specs.Storage.{is_one, IsMergedBetween}
+use Rattle.bit_words.specs.BlockMerges.{IsMergedBetween}
+use Rattle.bit_words.specs.Digits.{is_one}
 use Rattle.bit_words.specs.Summary.{is_used}
 use Rattle.bit_words.proofs.bit_vec.summary.merging.merge_rows.Given as goal
 

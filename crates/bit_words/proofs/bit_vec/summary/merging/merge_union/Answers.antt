@@ -3,16 +3,16 @@ use Rattle.std.proofs.lemmas.List.{length-map}
 use Rattle.bit_words.specs.Bits.{blocks_for}
 use Rattle.bit_words.proofs.MergeLemmas.{merged_values}
 use Rattle.bit_words.proofs.SummaryLemmas.{summary_of_digits, union_use}
-use Rattle.bit_words.proofs.TidyLemmas.{blocks_for-le}
+use Rattle.bit_words.proofs.BitsLemmas.{blocks_for-le}
 use Rattle.bit_words.proofs.bit_vec.summary.merging.merge_union.Goals as goal
 
 pub merge_each-requires-2-clause-fewer : goal.merge_each-requires-2-clause-fewer
 merge_each-requires-2-clause-fewer g c =
     let le = blocks_for-le g.B.BitBlock.width (length c.args.others.now) (length c.args.blocks.now.items) g.met.B.BitBlock.width_law.positive (omega arith) in
-    omega (arith, le, c.requires.summary.tidy.count, c.requires.other_summary.tidy.count)
+    omega (arith, le, c.requires.can.summary.tidy.count, c.requires.other_summary.tidy.count)
 
-pub returns-clause-summary : goal.returns-clause-summary
-returns-clause-summary g c =
+pub returns-clause-has : goal.returns-clause-has
+returns-clause-has g c =
     let w = g.B.BitBlock.width in
     let f = g.B.BitBlock.number in
     let pos = g.met.B.BitBlock.width_law.positive in
@@ -28,11 +28,17 @@ returns-clause-summary g c =
     let len_sums : length (map f ysums) ≡ length (map f xsums) = rw (length-map, length-map) (omega arith) in
     let short : length (map f os) ≤ length (map f xs) = rw (length-map, length-map) (omega arith) in
     let le = blocks_for-le w (length os) (length xs) pos (omega arith) in
-    let short_sums : length (map f osums) ≤ length (map f xsums) = rw (length-map, length-map) (omega (arith, le, c.requires.summary.tidy.count, c.requires.other_summary.tidy.count)) in
+    let short_sums : length (map f osums) ≤ length (map f xsums) = rw (length-map, length-map) (omega (arith, le, c.requires.can.summary.tidy.count, c.requires.other_summary.tidy.count)) in
     let each = merged_values _ w (map f xs) (map f os) (map f ys) pos len short (rw end at c.merge_each.ensures.merged) in
     let sums = merged_values _ w (map f xsums) (map f osums) (map f ysums) pos len_sums short_sums (rw end_sums at c.merge_each-2.ensures.merged) in
     let own_len : length ys ≡ length xs = omega arith in
-    let own : length ysums ≡ blocks_for w (length ys) = rw own_len (omega (arith, c.requires.summary.tidy.count)) in
-    summary_of_digits w f _ ys ysums c.merge_each-2.ensures.each own (omega (arith, c.requires.summary.tidy.fits)) (λ k.
-    sums k
-    ∙ sym (union_use w k f g.B.BitBlock.is_block xs os ys xsums osums (λ x is. (g.met.B.BitBlock.number_law x is).0) c.requires.each c.requires.others c.merge_each.ensures.each c.requires.summary c.requires.other_summary each))
+    let own : length ysums ≡ blocks_for w (length ys) = rw own_len (omega (arith, c.requires.can.summary.tidy.count)) in
+    let count : vec_len c.args.blocks.now ≡ length xs = omega arith in
+    record {
+      merged = rw count at c.merge_each.ensures.merged;
+      each = c.merge_each.ensures.each;
+      len = own_len;
+      summary = summary_of_digits w f _ ys ysums c.merge_each-2.ensures.each own (omega (arith, c.requires.can.summary.tidy.fits)) (λ k.
+          sums k
+          ∙ sym (union_use w k f g.B.BitBlock.is_block xs os ys xsums osums (λ x is. (g.met.B.BitBlock.number_law x is).0) c.requires.can.each c.requires.can.others c.merge_each.ensures.each c.requires.can.summary c.requires.other_summary each));
+    }

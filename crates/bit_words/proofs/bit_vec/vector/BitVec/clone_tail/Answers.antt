@@ -2,7 +2,7 @@ use Rattle.std.proofs.Common.{◌≡◌, ◌<◌, ◌∙◌, ◌++◌, false, dr
 use Rattle.bit_words.proofs.BitsLemmas.{blocks_for-above}
 use Rattle.bit_words.proofs.RoomLemmas.{room_of_copy}
 use Rattle.bit_words.proofs.TailLemmas.{tail_kept, tail_tidy, tail_unused, values_of-tail}
-use Rattle.bit_words.proofs.TidyLemmas.{blocks_for-le}
+use Rattle.bit_words.proofs.BitsLemmas.{blocks_for-le}
 use Rattle.bit_words.proofs.VectorLemmas.{length_from_view, numbers_below}
 use Rattle.bit_words.proofs.bit_vec.vector.BitVec.clone_tail.Goals as goal
 

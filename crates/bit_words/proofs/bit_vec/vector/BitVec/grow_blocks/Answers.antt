@@ -2,10 +2,10 @@ use Rattle.std.proofs.Common.{◌≡◌, ◌<◌, ◌+◌, ◌*◌, ◌++◌, �
 use Rattle.std.proofs.lemmas.Result.{err_from_is_err_and}
 use Rattle.bit_words.specs.Bits.{room_of}
 use Rattle.bit_words.specs.Summary.{shared_room}
-use Rattle.bit_words.proofs.RoomLemmas.{room_le, sums_for_shared}
+use Rattle.bit_words.proofs.RoomLemmas.{room_le}
 use Rattle.bit_words.proofs.StorageLemmas.{values_of-append}
 use Rattle.bit_words.proofs.SummaryLemmas.{kept_use, kept_with_zeros, same_use, use_of_added}
-use Rattle.bit_words.proofs.TidyLemmas.{blocks_for-le}
+use Rattle.bit_words.proofs.BitsLemmas.{blocks_for-le, blocks_for-least}
 use Rattle.bit_words.proofs.VectorLemmas.{le-room_of, length_from_view, room_from_view, room_for_more, room_of-short, numbers_below}
 use Rattle.bit_words.proofs.bit_vec.vector.BitVec.grow_blocks.Goals.{After-from_residual}
 use Rattle.bit_words.proofs.bit_vec.vector.BitVec.grow_blocks.Goals as goal
@@ -39,7 +39,7 @@ pub append_to_summary-requires-clause-room : goal.append_to_summary-requires-cla
 append_to_summary-requires-clause-room g c =
     let w = g.B.BitBlock.width in
     let count : length c.append_values.new.blocks.items ≡ c.block_count-count.result = omega (arith, c.append_values.ensures.tidy.count) in
-    let enough = sums_for_shared w c.block_count-count.result (vec_capacity c.make_shared_room.new.sums) g.met.B.BitBlock.width_law.positive (omega (arith, c.in_ok-make_shared_room.ensures.ok)) in
+    let enough = blocks_for-least w c.block_count-count.result (vec_capacity c.make_shared_room.new.sums) g.met.B.BitBlock.width_law.positive (omega (arith, c.in_ok-make_shared_room.ensures.ok)) in
     rw (c.deref.ensures.value, count) enough
 
 pub append_to_summary-requires-clause-before : goal.append_to_summary-requires-clause-before

@@ -1,6 +1,6 @@
 use Rattle.std.proofs.Common.{◌↔◌, IsTrue, map, arith}
 use Rattle.bit_words.specs.declared.bit_vec.merge.Merge.TheVariants.{Difference}
-use Rattle.bit_words.specs.Storage.{MergesToFalse}
+use Rattle.bit_words.specs.BlockMerges.{MergesToFalse}
 use Rattle.bit_words.proofs.CompareLemmas.{first_of_lists, subset_lists}
 use Rattle.bit_words.proofs.VectorLemmas.{length_from_view}
 use Rattle.bit_words.proofs.bit_vec.vector.BitVec.is_subset_of.Goals as goal

@@ -1,15 +1,20 @@
-use Rattle.std.proofs.Common.{◌≡◌, ◌≤◌, ◌∙◌, ap₂, map, length, vec_len, arith}
+use Rattle.std.proofs.Common.{◌≡◌, ◌≤◌, ◌∙◌, refl, ap₂, map, length, arith}
 use Rattle.std.proofs.lemmas.List.{length-map}
 use Rattle.bit_words.specs.Merges.{merged}
-use Rattle.bit_words.proofs.TidyLemmas.{blocks_for-le}
+use Rattle.bit_words.proofs.BitsLemmas.{blocks_for-le}
 use Rattle.bit_words.proofs.MergeLemmas.{merged_lists, merged_clean, merged_values}
 use Rattle.bit_words.proofs.VectorLemmas.{length_from_view, no_longer_from_views}
 use Rattle.bit_words.proofs.bit_vec.vector.BitVec.merge_blocks.Goals as goal
 
-pub merge_stored-requires-clause-fewer : goal.merge_stored-requires-clause-fewer
-merge_stored-requires-clause-fewer g c =
+pub merge_stored-requires-clause-can : goal.merge_stored-requires-clause-can
+merge_stored-requires-clause-can g c =
     let le = blocks_for-le g.B.BitBlock.width c.other.inside.len c.self.inside.len g.met.B.BitBlock.width_law.positive (no_longer_from_views _ _ _ _ _ _ _ _ _ c.self.view_is c.other.view_is c.requires) in
-    rw c.deref.ensures.value (omega (arith, le, c.self.invariant.tidy.count, c.other.invariant.tidy.count))
+    rw c.deref.ensures.value (record {
+      fewer = omega (arith, le, c.self.invariant.tidy.count, c.other.invariant.tidy.count);
+      each = c.self.invariant.tidy.each;
+      others = c.other.invariant.tidy.each;
+      summary = c.self.invariant.summary;
+    })
 
 pub merge_stored-requires-clause-other_summary : goal.merge_stored-requires-clause-other_summary
 merge_stored-requires-clause-other_summary g c = rw (c.deref.ensures.value, c.deref-2.ensures.value) c.other.invariant.summary
@@ -26,16 +31,16 @@ invariant_of-self g c =
     let le = blocks_for-le w c.other.inside.len c.self.inside.len pos shorter in
     let len : length (map f ys) ≡ length (map f xs) = rw (length-map, length-map) (omega arith) in
     let short : length (map f os) ≤ length (map f xs) = rw (length-map, length-map) (omega (arith, le, c.self.invariant.tidy.count, c.other.invariant.tidy.count)) in
-    let end : vec_len c.self.inside.blocks ≡ length (map f xs) = rw length-map (omega arith) in
-    let each = merged_values c.args.merge w (map f xs) (map f os) (map f ys) pos len short (rw (c.deref.ensures.value, end) at c.merge_stored.ensures.merged) in
+    let end : length xs ≡ length (map f xs) = rw length-map refl in
+    let each = merged_values c.args.merge w (map f xs) (map f os) (map f ys) pos len short (rw (c.deref.ensures.value, end) at c.merge_stored.ensures.has.merged) in
     record {
       tidy = record {
-        each = c.merge_stored.ensures.each;
+        each = c.merge_stored.ensures.has.each;
         count = omega (arith, c.self.invariant.tidy.count);
         tail = merged_clean _ _ _ _ _ _ _ shorter c.self.invariant.tidy.tail c.other.invariant.tidy.tail each;
         fits = c.self.invariant.tidy.fits;
       };
-      summary = c.merge_stored.ensures.summary;
+      summary = c.merge_stored.ensures.has.summary;
     }
 
 pub returns-clause-values : goal.returns-clause-values
@@ -50,8 +55,8 @@ returns-clause-values g c =
     let le = blocks_for-le w c.other.inside.len c.self.inside.len pos shorter in
     let len : length (map f ys) ≡ length (map f xs) = rw (length-map, length-map) (omega arith) in
     let short : length (map f os) ≤ length (map f xs) = rw (length-map, length-map) (omega (arith, le, c.self.invariant.tidy.count, c.other.invariant.tidy.count)) in
-    let end : vec_len c.self.inside.blocks ≡ length (map f xs) = rw length-map (omega arith) in
-    let each = merged_values c.args.merge w (map f xs) (map f os) (map f ys) pos len short (rw (c.deref.ensures.value, end) at c.merge_stored.ensures.merged) in
+    let end : length xs ≡ length (map f xs) = rw length-map refl in
+    let each = merged_values c.args.merge w (map f xs) (map f os) (map f ys) pos len short (rw (c.deref.ensures.value, end) at c.merge_stored.ensures.has.merged) in
     merged_lists _ _ _ _ _ _ _ shorter c.self.invariant.tidy.tail c.other.invariant.tidy.tail each
     ∙ ap₂ (λ v u. merged c.args.merge v.values u.values) c.self.view_is c.other.view_is
 

@@ -2,7 +2,7 @@ use Rattle.std.proofs.Common.{◌≡◌, ◌+◌, ◌^◌, ◌<◌, ◌∙◌, m
 use Rattle.std.proofs.lemmas.Result.{on_ok_weaker, on_err_weaker}
 use Rattle.bit_words.specs.Bits.{room_of}
 use Rattle.bit_words.specs.Summary.{shared_room}
-use Rattle.bit_words.proofs.TidyLemmas.{blocks_for-le}
+use Rattle.bit_words.proofs.BitsLemmas.{blocks_for-le}
 use Rattle.bit_words.proofs.VectorLemmas.{length_from_view, room_from_view, room_for_more, room_from_max, no_room_for_more, room_got}
 use Rattle.bit_words.proofs.bit_vec.vector.BitVec.reserve_exact.Goals as goal
 

@@ -1,7 +1,7 @@
 use Rattle.std.proofs.Common.{◌∙◌, sym, ap, map, take, take_all, arith}
 use Rattle.bit_words.proofs.StorageLemmas.{values_of-take}
 use Rattle.bit_words.proofs.SummaryLemmas.{kept_use}
-use Rattle.bit_words.proofs.TidyLemmas.{blocks_for-le}
+use Rattle.bit_words.proofs.BitsLemmas.{blocks_for-le}
 use Rattle.bit_words.proofs.VectorLemmas.{length_from_view, numbers_below}
 use Rattle.bit_words.proofs.bit_vec.vector.BitVec.truncate.Goals as goal
 
