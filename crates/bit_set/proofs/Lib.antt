@@ -22,3 +22,4 @@ pub mod JsonLemmas
 pub mod FilledLemmas
 pub mod CallLemmas
 pub mod AgreementLaws
+pub mod CallerLemmas
