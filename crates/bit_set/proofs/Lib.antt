@@ -15,6 +15,7 @@ pub mod WalkLemmas
 pub mod PairLemmas
 pub mod TallyLemmas
 pub mod SparseLemmas
+pub mod ChainLemmas
 pub mod WalkLaws
 pub mod SparseLaws
 pub mod UnlikeLemmas
@@ -23,3 +24,4 @@ pub mod JsonLemmas
 pub mod FilledLemmas
 pub mod CallLemmas
 pub mod AgreementLaws
+pub mod CallerLemmas

@@ -1,6 +1,7 @@
 //! The walks over a set's elements, and over what two sets make.
 ghost use Rattle.std.specs.Prelude.{◌≡◌, ◌+◌, ◌-◌, ◌<◌, ◌^◌, max, IfSome, length};
 ghost use Rattle.std.specs.Iterator.{UpTo, item_count};
+ghost use Rattle.std.specs.Iterator.Runs.{YieldsInOrder};
 ghost use Rattle.std.specs.Iterator.SizeHint.{IsWithinCount};
 ghost use Rattle.bit_words.specs.Bits.{blocks_for};
 ghost use Rattle.bit_set.specs.Sets.{elements};
@@ -127,6 +128,7 @@ impl<B: BitBlock> BitSet<B> {
         ensures blocks { result.blocks ≡ blocks_for B.width (length self.now.values) - 1 }
         ensures summary { result.summary_pulls + result.summary_left ≡ max 1 (blocks_for B.width (blocks_for B.width (length self.now.values))) }
         ensures fits { length result.left < 2 ^ 64 }
+        ensures runs { YieldsInOrder (Advances B.width) (λ walk. walk.left) }
     {
         Iter::over(self.get_ref())
     }
@@ -138,7 +140,8 @@ impl<'a, B: BitBlock> IntoIterator for &'a BitSet<B> {
 
     type IntoIter = Iter<'a, B>;
 
-    ghost into_iter_gives = { λ set walk. IsAtStart B.width set.now.values walk };
+    ghost into_iter_gives = { λ set walk. IsAtStart B.width set.now.values walk
+        × YieldsInOrder (Advances B.width) (λ walk. walk.left) };
 
     /// [`BitSet::iter`].
     #[inline]

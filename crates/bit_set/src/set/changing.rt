@@ -1,6 +1,7 @@
 // Calls that change a set in place.
 ghost use Rattle.std.specs.Prelude.{◌≡◌, ℕ, ◌+◌, ◌-◌, ◌<◌, ◌≤◌, ◌↔◌, if◌then◌else◌, max, min, not, IfOk, IfErr, OnOk, OnErr, IsOk, is_ok, IsErrOf, All, List, [], ◌++◌, length, replicate, false, true, Some};
 ghost use Rattle.std.specs.Iterator.{Drains, HoldsAlong, IsFinite, YieldsThen};
+ghost use Rattle.std.specs.Iterator.Runs.{WholeRun};
 ghost use Rattle.bit_words.specs.Bits.{blocks_for, room_of};
 ghost use Rattle.bit_set.specs.Sets.{elements, has, put, those_below, without};
 ghost use Rattle.bit_set.specs.Members.{HasNone, IsCounted, IsSameSet, KeepsBelow, Updates};
@@ -80,6 +81,7 @@ impl<B: BitBlock> BitSet<B> {
         requires ends { IsFinite (I.remaining iter) }
         ensures ok { OnOk result ((items : List ℕ) × Drains I.next_gives iter items
             × TakesIn items self.old.values self.new.values) }
+        ensures runs { OnOk result (WholeRun I.next_gives iter (λ run. TakesIn run.items self.old.values self.new.values)) }
         ensures err { IfErr result (λ fault. (items : List ℕ) × (item : ℕ) × (rest : I)
             × YieldsThen I.next_gives iter items (Some item) rest
             × TakesIn items self.old.values self.new.values × (length self.new.values ≤ item)

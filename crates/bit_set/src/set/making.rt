@@ -2,6 +2,7 @@
 ghost use Rattle.std.specs.Prelude.{◌≡◌, ◌≢◌, ℕ, ◌+◌, ◌-◌, ◌*◌, ◌<◌, ◌≤◌, ◌↔◌, IfOk, IfErr, IsOk, IsErrOf, IsTrue, List, [], length, slice_index, Some};
 ghost use Rattle.std.specs.Int.{bit_at};
 ghost use Rattle.std.specs.Iterator.{Drains, IsFinite, YieldsThen};
+ghost use Rattle.std.specs.Iterator.Runs.{WholeRun};
 ghost use Rattle.bit_words.specs.Bits.{blocks_for, room_of, values_of_bytes};
 ghost use Rattle.bit_set.specs.Sets.{bound_of, elements, has, put_all};
 ghost use Rattle.bit_set.specs.Members.{HasNone, IsSameSet};
@@ -80,6 +81,8 @@ impl<B: BitBlock> BitSet<B> {
         ensures ok { IfOk result (λ set. (items : List ℕ) × Drains I.next_gives iter items
             × (elements set.values ≡ put_all [] items) × (length set.values ≡ bound_of items)
             × IsSameSet (elements set.values) items) }
+        ensures runs { IfOk result (λ set. WholeRun I.next_gives iter (λ run.
+            (elements set.values ≡ put_all [] run.items) × (length set.values ≡ bound_of run.items))) }
         ensures err { IfErr result (λ fault. (items : List ℕ) × (item : ℕ) × (rest : I)
             × YieldsThen I.next_gives iter items (Some item) rest × (bound_of items ≤ item) × (item ≤ greatest)
             × (fault ≢ SetError.Length) × ((fault ≡ SetError.Element) ↔ (item ≡ greatest))

@@ -1,6 +1,7 @@
 // The walk over what is in both of two sets.
 ghost use Rattle.std.specs.Prelude.{◌≡◌, Some, min, IfSome, length};
 ghost use Rattle.std.specs.Iterator.{UpTo, item_count};
+ghost use Rattle.std.specs.Iterator.Runs.{YieldsInOrder};
 ghost use Rattle.std.specs.Iterator.SizeHint.{IsWithinCount};
 ghost use Rattle.bit_set.specs.Sets.{elements, intersection};
 ghost use Rattle.bit_set.specs.Walk.{AdvancesWithBound, StartsOverTwo};
@@ -83,6 +84,7 @@ impl<B: BitBlock> BitSet<B> {
     pub fn intersection<'a>(&'a self, other: &'a Self) -> Intersection<'a, B>
         ensures left { result.walk.left ≡ intersection (elements self.now.values) (elements other.now.values) }
         ensures start { StartsOverTwo B.width self.now.values other.now.values result.walk }
+        ensures runs { YieldsInOrder (AdvancesWithBound B.width) (λ it. it.walk.left) }
         ensures bound { result.bound ≡ min (length self.now.values) (length other.now.values) }
     {
         let first = self.get_ref();

@@ -1,6 +1,7 @@
 // The walks over what is in either of two sets, in the first alone, and in just one.
 ghost use Rattle.std.specs.Prelude.{◌≡◌, IfSome, length};
 ghost use Rattle.std.specs.Iterator.{UpTo, item_count};
+ghost use Rattle.std.specs.Iterator.Runs.{YieldsInOrder};
 ghost use Rattle.std.specs.Iterator.SizeHint.{IsWithinCount};
 ghost use Rattle.bit_set.specs.Sets.{elements, union, difference, symmetric_difference};
 ghost use Rattle.bit_set.specs.Walk.{AdvancesByEach, StartsOverTwo, bound_on_rest};
@@ -194,6 +195,7 @@ impl<B: BitBlock> BitSet<B> {
     pub fn union<'a>(&'a self, other: &'a Self) -> Union<'a, B>
         ensures left { result.left ≡ union (elements self.now.values) (elements other.now.values) }
         ensures start { StartsOverTwo B.width self.now.values other.now.values result }
+        ensures runs { YieldsInOrder (AdvancesByEach B.width) (λ walk. walk.left) }
     {
         Union {
             ones: ones_of_two(self.get_ref(), other.get_ref(), Merge::Union),
@@ -205,6 +207,7 @@ impl<B: BitBlock> BitSet<B> {
     pub fn difference<'a>(&'a self, other: &'a Self) -> Difference<'a, B>
         ensures left { result.left ≡ difference (elements self.now.values) (elements other.now.values) }
         ensures start { StartsOverTwo B.width self.now.values other.now.values result }
+        ensures runs { YieldsInOrder (AdvancesByEach B.width) (λ walk. walk.left) }
     {
         Difference {
             ones: ones_of_two(self.get_ref(), other.get_ref(), Merge::Difference),
@@ -221,6 +224,7 @@ impl<B: BitBlock> BitSet<B> {
     pub fn symmetric_difference<'a>(&'a self, other: &'a Self) -> SymmetricDifference<'a, B>
         ensures left { result.left ≡ symmetric_difference (elements self.now.values) (elements other.now.values) }
         ensures start { StartsOverTwo B.width self.now.values other.now.values result }
+        ensures runs { YieldsInOrder (AdvancesByEach B.width) (λ walk. walk.left) }
     {
         SymmetricDifference {
             ones: ones_of_two(self.get_ref(), other.get_ref(), Merge::Symmetric),

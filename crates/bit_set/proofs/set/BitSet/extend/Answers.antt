@@ -3,6 +3,7 @@ use Rattle.std.proofs.lemmas.Bool.{true≢false}
 use Rattle.std.specs.declared.option.Option.TheVariants.{Some}
 use Rattle.std.proofs.iter.Next.{Yields-more}
 use Rattle.std.proofs.lemmas.List.Elements.{All-pop}
+use Rattle.bit_set.proofs.ChainLemmas.{run_of_calls}
 use Rattle.bit_set.proofs.ItemLemmas.{TakesIn-more}
 use Rattle.bit_set.proofs.set.BitSet.extend.Goals as goal
 
@@ -27,3 +28,9 @@ returns-in_err-insert-clause-succeeds g c along =
     let more = Yields-more next_gives c.into_iter-item-iterator.result items c.loop-item.item-iterator item c.next.new.self c.loop-item.yielded_by c.in-Some.ensures.steps in
     let low : item < c.args.self.now.room = (All-pop (λ n. n < c.args.self.now.room) (items ++ item ∷ []) items (Some item) refl (along (items ++ item ∷ []) c.next.new.self (rw c.into_iter-item-iterator.ensures.into_iter_gives at more))).1 in
     absurd (true≢false (sym (c.in_err-insert.ensures.succeeds (omega (arith, low, c.loop-item.invariant.room)))))
+
+pub returns-clause-runs : goal.returns-clause-runs
+returns-clause-runs g c =
+    let next_gives = g.I.Iterator.next_gives in
+    let calls = rw c.into_iter-item-iterator.ensures.into_iter_gives at c.loop-item.yielded_by in
+    run_of_calls next_gives _ _ c.loop-item.item-iterator c.next.new.self c.loop-item.yielded calls c.in-None.ensures.steps c.loop-item.invariant.taken

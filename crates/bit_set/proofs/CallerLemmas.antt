@@ -1,0 +1,75 @@
+-- What a caller cites of sets that are made of chains.
+use Rattle.std.proofs.Common.{◌≡◌, ℕ, ◌+◌, ◌-◌, ◌<◌, ◌≤◌, Bool, true, false, not, ◌&&◌, ◌||◌, eqb, ltb, filter, Option, List, [], ◌∷◌, Result, Bor, refl, sym, ap, ◌∙◌, inl, inr, zero, suc, arith}
+use Rattle.std.specs.Prelude.{IfOk}
+use Rattle.std.specs.Fn.{Mut, CalledAt}
+use Rattle.std.specs.Iterator.{Drains}
+use Rattle.std.specs.Iterator.Adapters.{filter_source, filter_callee, filter_steps}
+use Rattle.std.specs.List.{range_with_len}
+use Rattle.std.proofs.iter.Yields.{nat_range_steps}
+use Rattle.std.proofs.lemmas.Bool.{eq-eqb, ne_eqb, lt-ltb, le-ltb, cases_lt, cases_order}
+use Rattle.std.proofs.lemmas.Iterator.{YieldsList, YieldsList-from_range}
+use Rattle.std.proofs.lemmas.Iterator.Adapters.{fact_from_collect}
+use Rattle.std.proofs.lemmas.Iterator.Consumers.{YieldsList-at, YieldsList-from_filter}
+use Rattle.std.proofs.lemmas.Result.{IfOk-weaker}
+use Rattle.bit_words.specs.Bits.{Bits}
+use Rattle.bit_set.specs.Sets.{elements, has, put_all}
+use Rattle.std.proofs.Math.Bool.{and-false, and-true, or-false}
+use Rattle.bit_set.proofs.SetLaws.{has-filter, has-put_all}
+
+module _ {S V E : Type 0} {steps : S → Option ℕ → S → Type 0} {s : S} {all : List ℕ} where
+  -- what is made of a chain by `from_iter` is made of all that the chain gives
+  pub made_of_chain : (Q : List ℕ → V → Type 0) (r : Result V E) → IfOk r (λ v. (items : List ℕ) × Drains steps s items × Q items v) → YieldsList steps (λ x. x) s all → IfOk r (λ v. Q all v)
+  made_of_chain Q r made gives = fact_from_collect Q r (IfOk-weaker r _ _ (λ v m. (m.0, (m.1.1.0, m.1.1.1, λ _. (m.1.0, m.1.1.2)), m.2)) made) gives
+
+-- the members of a row of numbers that count up
+has-range : (a n m : ℕ) → has (range_with_len a n) m ≡ (not (ltb m a) && ltb m (a + n))
+has-range a zero m =
+    elim (cases_lt m a) [
+      | inl lt ↦ sym (ap (λ b. not b && ltb m (a + zero)) (lt-ltb m a lt))
+      | inr ge ↦ sym (ap (λ b. not (ltb m a) && b) (le-ltb m (a + zero) (omega arith)) ∙ and-false (not (ltb m a)))
+    ]
+has-range a (suc n) m =
+    elim (cases_order a m) [
+      | inl e ↦
+          ap (λ b. b || has (range_with_len (a + 1) n) m) (eq-eqb a m e)
+          ∙ sym (ap (λ b. not b && ltb m (a + suc n)) (le-ltb m a (omega arith)) ∙ lt-ltb m (a + suc n) (omega arith))
+      | inr (inl above) ↦
+          ap (λ b. b || has (range_with_len (a + 1) n) m) (ne_eqb a m (λ e. omega arith))
+          ∙ has-range (a + 1) n m
+          ∙ ap (λ b. not b && ltb m (a + 1 + n)) (le-ltb m (a + 1) (omega arith))
+          ∙ ap (ltb m) (same_end a n)
+          ∙ sym (ap (λ b. not b && ltb m (a + suc n)) (le-ltb m a (omega arith)))
+      | inr (inr below) ↦
+          ap (λ b. b || has (range_with_len (a + 1) n) m) (ne_eqb a m (λ e. omega arith))
+          ∙ has-range (a + 1) n m
+          ∙ ap (λ b. not b && ltb m (a + 1 + n)) (lt-ltb m (a + 1) (omega arith))
+          ∙ sym (ap (λ b. not b && ltb m (a + suc n)) (lt-ltb m a below))
+    ]
+  where
+    same_end : (a n : ℕ) → a + 1 + n ≡ a + suc n
+    same_end a n = omega arith
+
+and_swap : (a b : Bool) → (a && b) ≡ (b && a)
+and_swap true b = sym (and-true b)
+and_swap false b = sym (and-false b)
+
+-- the numbers below n that pass a test
+has-passing : (test : ℕ → Bool) (n m : ℕ) → has (filter test (range_with_len 0 n)) m ≡ (ltb m n && test m)
+has-passing test n m =
+    has-filter test (range_with_len 0 n) m
+    ∙ ap (λ b. test m && b) (has-range 0 n m ∙ ap (λ b. not b && ltb m (0 + n)) (le-ltb m 0 (omega arith)) ∙ ap (ltb m) (from_zero n))
+    ∙ and_swap (test m) (ltb m n)
+  where
+    from_zero : (n : ℕ) → 0 + n ≡ n
+    from_zero n = omega arith
+
+-- a set that `from_iter` makes of `(0..n).filter(..)`
+pub members-from_filter : {E F : Type 0} {g : Mut F (Bor ℕ × Unit {0}) Bool} {f : F} {n : ℕ} {s : _} (test : ℕ → Bool) (Rest : List ℕ → Bits → Type 0) (r : Result Bits E)
+    → IfOk r (λ set. (items : List ℕ) × Drains (filter_steps nat_range_steps g) s items × (elements set.values ≡ put_all [] items) × Rest items set)
+    → filter_source s ≡ record { start = 0; end = n } → filter_callee s ≡ f → ((x : ℕ) (b : Bool) (q : F) → CalledAt g f x b q → (q ≡ f) × (b ≡ test x))
+    → IfOk r (λ set. (m : ℕ) → has (elements set.values) m ≡ (ltb m n && test m))
+members-from_filter {g = g} {n = n} {s = s} test Rest r made source callee called =
+    let numbers = range_with_len 0 n in
+    let gives : YieldsList (filter_steps nat_range_steps g) (λ x. x) s (filter test numbers) = YieldsList-from_filter g test (YieldsList-at source (YieldsList-from_range 0 n n refl (omega arith))) callee called in
+    IfOk-weaker r _ _ (λ set is m. ap (λ xs. has xs m) is ∙ has-put_all [] (filter test numbers) m ∙ or-false (has (filter test numbers) m) ∙ has-passing test n m)
+    (made_of_chain {steps = filter_steps nat_range_steps g} {s = s} (λ items set. elements set.values ≡ put_all [] items) r (IfOk-weaker r _ _ (λ set m. (m.0, m.1, m.2)) made) gives)

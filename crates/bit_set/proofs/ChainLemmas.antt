@@ -1,0 +1,23 @@
+-- What the walks give in order, so that std's chains go on from them.
+use Rattle.std.proofs.Common.{◌≡◌, List, Option, Some, None, true, length, refl, ap}
+use Rattle.std.specs.Iterator.{Yields, Drains}
+use Rattle.std.specs.Iterator.Runs.{YieldsInOrder, WholeRun}
+use Rattle.std.proofs.iter.runs.Made.{run, to_end}
+use Rattle.std.proofs.iter.runs.Sources.{from_front, as_is}
+use Rattle.bit_set.specs.Walk.{Walk, Advances, AdvancesByEach, AdvancesWithBound}
+
+pub runs_of_walk : {w : _} → YieldsInOrder (Advances w) (λ walk. walk.left)
+runs_of_walk {w} p s = as_is p p.from.left (from_front (Advances w) (λ x. x) (λ walk. walk.left) (λ s t h. ap length h.item.0) (λ s x t h. h.item) p s)
+
+pub runs_by_each : {w : _} → YieldsInOrder (AdvancesByEach w) (λ walk. walk.left)
+runs_by_each {w} p s = as_is p p.from.left (from_front (AdvancesByEach w) (λ x. x) (λ walk. walk.left) (λ s t h. ap length h.item.0) (λ s x t h. h.item) p s)
+
+pub runs_with_bound : {w : _} → YieldsInOrder (AdvancesWithBound w) (λ it. it.walk.left)
+runs_with_bound {w} p s = as_is p p.from.walk.left (from_front (AdvancesWithBound w) (λ x. x) (λ it. it.walk.left) (λ s t h. ap length h.walk.item.0) (λ s x t h. h.walk.item) p s)
+
+-- calls up to the first None are a whole run
+pub run_to_end : {S A : Type 0} (steps : S → Option A → S → Type 0) (P : List A → Type 0) (s : S) (items : List A) → Drains steps s items → P items → WholeRun steps s (λ p. P p.items)
+run_to_end steps P s items all holds = (run steps s items true (to_end steps s items all), refl, refl, holds)
+
+pub run_of_calls : {S A : Type 0} (steps : S → Option A → S → Type 0) (P : List A → Type 0) (s t u : S) (items : List A) → Yields steps s items t → steps t None u → P items → WholeRun steps s (λ p. P p.items)
+run_of_calls steps P s t u items calls last = run_to_end steps P s items (u, (t, calls, last))
