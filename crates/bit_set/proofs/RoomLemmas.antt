@@ -4,7 +4,7 @@ use Rattle.std.proofs.lemmas.List.Elements.{All-nil, All-cons, All-head, All-tai
 use Rattle.std.proofs.lemmas.Bool.{cases_lt, cases_Bool}
 use Rattle.std.proofs.lemmas.Bool.Decides.{nat_tests}
 use Rattle.bit_words.specs.Bits.{Bits, IsRoomOfBlocks, blocks_for, room_of, true_end, whole_blocks}
-use Rattle.bit_words.proofs.BitsLemmas.{blocks_for-enough, blocks_for-le, blocks_for-least}
+use Rattle.bit_words.proofs.BitsLemmas.{blocks_for-le, blocks_for-least}
 use Rattle.bit_words.proofs.RoomLemmas.{whole_blocks-fits, whole_blocks-past}
 use Rattle.bit_set.specs.Sets.{elements, elements_from, bound_of}
 use Rattle.bit_set.specs.Room.{Call, Run, room_wanted}

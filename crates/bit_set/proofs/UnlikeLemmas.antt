@@ -8,7 +8,7 @@ use Rattle.std.proofs.lemmas.Bool.{cases_lt, cases_eq, true≢false}
 use Rattle.std.proofs.lemmas.Nat.Bits.{bit_at-lt, bit_at-zero, bit_at_above, same_from_bits_below}
 use Rattle.std.proofs.lemmas.Nat.{pow_pos}
 use Rattle.std.proofs.Math.Nat.{div-add-mod', mod-lt, mul-le-mul_right}
-use Rattle.bit_words.specs.Bits.{blocks_of, digit_of}
+use Rattle.bit_words.specs.Bits.{blocks_of}
 use Rattle.bit_words.specs.Digits.{IsEither, IsDifferent, IsShiftedRight}
 use Rattle.bit_words.specs.Lowest.{IsLowest}
 use Rattle.bit_words.proofs.BitsLemmas.{blocks_of-digit, blocks_of-lt, read_back}

@@ -1,5 +1,6 @@
 -- The summary of a vector of blocks: which of them are not 0. No public clause cites this.
-use Rattle.std.specs.Prelude.{◌≡◌, ℕ, ◌*◌, Bool, not, min, List, map, length, get_or, ◌==◌}
+use Rattle.std.specs.Prelude.{◌≡◌, ℕ, ◌*◌, ◌≤◌, Bool, not, min, max, List, map, length, get_or, ◌==◌, IsTrue, OnErr, OnOk, Result}
+use Rattle.bit_words.specs.Bits.{blocks_for}
 use Rattle.bit_words.specs.Storage.{value_at, IsTidy}
 
 -- whether block k is not 0
@@ -20,3 +21,13 @@ pub record IsStored {X : Type 0} (w : ℕ) (number : X → ℕ) (is_block : X �
 -- for how many blocks there is room, with their summary, where there is room for so many blocks of either
 abbrev pub shared_room : ℕ → ℕ → ℕ → ℕ
 shared_room w blocks sums = min blocks (sums * w)
+
+-- A call made room for count blocks and their summary, and where that was asked for no more; or it failed. There was
+-- room for blocks and sums, and then for new_blocks and new_sums.
+pub record MakesSharedRoom {E : Type 0} (w count : ℕ) (is_exact : Bool) (result : Result Unit E)
+    (blocks sums new_blocks new_sums : ℕ) : Type 0 where
+  pub ok : OnOk result (count ≤ shared_room w new_blocks new_sums)
+  pub exact : IsTrue is_exact → OnOk result (new_blocks ≡ max blocks count)
+  pub exact_sums : IsTrue is_exact → OnOk result (new_sums ≡ max sums (blocks_for w count))
+  pub err : OnErr result (shared_room w new_blocks new_sums ≡ shared_room w blocks sums)
+  pub capacity : shared_room w blocks sums ≤ shared_room w new_blocks new_sums

@@ -7,6 +7,7 @@ mod changes;
 mod comparing;
 mod copying;
 mod counting;
+mod groups;
 mod integers;
 mod lowest;
 mod masks;

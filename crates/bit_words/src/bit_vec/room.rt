@@ -1,7 +1,7 @@
 // Room for blocks, and the blocks that a list can do without.
 ghost use Rattle.std.specs.Prelude.{◌≡◌, ◌≢◌, ℕ, ◌-◌, ◌<◌, ◌≤◌, All, false, IsOk, IsTrue, OnErr, OnOk, get_or, length, map, max, vec_len, vec_capacity};
 ghost use Rattle.bit_words.specs.Bits.{blocks_for};
-ghost use Rattle.bit_words.specs.Summary.{IsSummary, shared_room};
+ghost use Rattle.bit_words.specs.Summary.{IsSummary, MakesSharedRoom, shared_room};
 
 use super::BitBlock;
 use super::changes::block_count;
@@ -58,15 +58,8 @@ fn grow_shared_room<B: BitBlock>(
     ensures sums { sums.new.items ≡ sums.old.items }
     ensures len { vec_len blocks.new ≡ vec_len blocks.old }
     ensures sums_len { vec_len sums.new ≡ vec_len sums.old }
-    ensures ok { OnOk result (count ≤ shared_room B.width (vec_capacity blocks.new) (vec_capacity sums.new)) }
-    ensures exact { IsTrue exact → OnOk result (vec_capacity blocks.new ≡ max (vec_capacity blocks.old) count) }
-    ensures exact_sums { IsTrue exact
-        → OnOk result (vec_capacity sums.new ≡ max (vec_capacity sums.old) (blocks_for B.width count)) }
-    ensures err { OnErr result
-        (shared_room B.width (vec_capacity blocks.new) (vec_capacity sums.new)
-        ≡ shared_room B.width (vec_capacity blocks.old) (vec_capacity sums.old)) }
-    ensures capacity { shared_room B.width (vec_capacity blocks.old) (vec_capacity sums.old)
-        ≤ shared_room B.width (vec_capacity blocks.new) (vec_capacity sums.new) }
+    ensures room { MakesSharedRoom B.width count exact result
+        (vec_capacity blocks.old) (vec_capacity sums.old) (vec_capacity blocks.new) (vec_capacity sums.new) }
 {
     let needed = block_count::<B>(count);
     if block_count::<B>(blocks.capacity()) <= sums.capacity() {
@@ -90,17 +83,10 @@ pub(crate) fn make_shared_room<B: BitBlock>(
     ensures sums { sums.new.items ≡ sums.old.items }
     ensures len { vec_len blocks.new ≡ vec_len blocks.old }
     ensures sums_len { vec_len sums.new ≡ vec_len sums.old }
-    ensures ok { OnOk result (count ≤ shared_room B.width (vec_capacity blocks.new) (vec_capacity sums.new)) }
-    ensures exact { IsTrue exact → OnOk result (vec_capacity blocks.new ≡ max (vec_capacity blocks.old) count) }
-    ensures exact_sums { IsTrue exact
-        → OnOk result (vec_capacity sums.new ≡ max (vec_capacity sums.old) (blocks_for B.width count)) }
-    ensures err { OnErr result
-        (shared_room B.width (vec_capacity blocks.new) (vec_capacity sums.new)
-        ≡ shared_room B.width (vec_capacity blocks.old) (vec_capacity sums.old)) }
+    ensures room { MakesSharedRoom B.width count exact result
+        (vec_capacity blocks.old) (vec_capacity sums.old) (vec_capacity blocks.new) (vec_capacity sums.new) }
     ensures full { OnErr result (shared_room B.width (vec_capacity blocks.old) (vec_capacity sums.old) < count) }
     ensures succeeds { count ≤ shared_room B.width (vec_capacity blocks.old) (vec_capacity sums.old) → IsOk result }
-    ensures capacity { shared_room B.width (vec_capacity blocks.old) (vec_capacity sums.old)
-        ≤ shared_room B.width (vec_capacity blocks.new) (vec_capacity sums.new) }
     ensures within { count ≤ shared_room B.width (vec_capacity blocks.old) (vec_capacity sums.old)
         → shared_room B.width (vec_capacity blocks.new) (vec_capacity sums.new)
         ≡ shared_room B.width (vec_capacity blocks.old) (vec_capacity sums.old) }

@@ -9,6 +9,7 @@ ghost use Rattle.bit_words.specs.Summary.{is_used, IsSummary};
 use super::BitBlock;
 use super::changes::{block_at, block_count, put_block, replace_value, write_value};
 use super::copying::push_copies;
+use super::groups::GROUP;
 use super::masks::with_digit;
 use super::tidy::{append_values, keep_values};
 use super::words::{block_or, same, shift_left};
@@ -17,9 +18,6 @@ use std::alloc::{AllocError, Global};
 mod merging;
 
 pub(crate) use merging::merge_stored;
-
-// How many blocks are looked at at once.
-const GROUP: usize = 8;
 
 // Whether a block is not 0.
 #[inline]
@@ -89,12 +87,12 @@ fn used_digits<B: BitBlock>(blocks: &[B], start: usize, count: usize) -> B
 // whose count it knows.
 #[inline]
 fn digits_of_groups<B: BitBlock>(blocks: &[B], start: usize, groups: usize) -> B
-    requires in_bounds { start + groups * 8 ≤ length blocks.now }
-    requires within { groups * 8 ≤ B.width }
+    requires in_bounds { start + groups * GROUP ≤ length blocks.now }
+    requires within { groups * GROUP ≤ B.width }
     requires each { All B.is_block blocks.now }
     ensures of_block { B.is_block result }
     ensures digits { (j : ℕ) → j < B.width
-        → is_one (B.number result) j ≡ (nat_lt j (groups * 8) && is_used (map B.number blocks.now) (start + j)) }
+        → is_one (B.number result) j ≡ (nat_lt j (groups * GROUP) && is_used (map B.number blocks.now) (start + j)) }
 {
     let mut digits = B::zero();
     for group in 0..groups {

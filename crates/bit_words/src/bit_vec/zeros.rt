@@ -3,17 +3,15 @@ ghost use Rattle.std.specs.Prelude.{◌≡◌, ◌≢◌, ℕ, ◌+◌, ◌-◌,
 
 use super::BitBlock;
 use super::changes::block_at;
+use super::groups::GROUP;
 use super::words::same;
-
-// How many blocks are tested at once.
-const GROUP: usize = 8;
 
 // Whether the blocks of the group that begins at `start` are 0. The compiler makes vector code of it.
 #[inline]
 fn is_zero_group<B: BitBlock>(blocks: &[B], start: usize) -> bool
-    requires within { start + 8 ≤ length blocks.now }
+    requires within { start + GROUP ≤ length blocks.now }
     requires each { All B.is_block blocks.now }
-    ensures { IsTrue result → (k : ℕ) → start ≤ k → k < start + 8 → get_or (map B.number blocks.now) k 0 ≡ 0 }
+    ensures { IsTrue result → (k : ℕ) → start ≤ k → k < start + GROUP → get_or (map B.number blocks.now) k 0 ≡ 0 }
 {
     let mut is_zero = true;
     for k in start..start + GROUP {
@@ -26,8 +24,8 @@ fn is_zero_group<B: BitBlock>(blocks: &[B], start: usize) -> bool
 #[inline]
 fn zero_groups_before<B: BitBlock>(blocks: &[B]) -> usize
     requires each { All B.is_block blocks.now }
-    ensures within { result * 8 ≤ length blocks.now }
-    ensures zeros { (k : ℕ) → k < result * 8 → get_or (map B.number blocks.now) k 0 ≡ 0 }
+    ensures within { result * GROUP ≤ length blocks.now }
+    ensures zeros { (k : ℕ) → k < result * GROUP → get_or (map B.number blocks.now) k 0 ≡ 0 }
 {
     let groups = blocks.len() / GROUP;
     for group in 0..groups {

@@ -10,6 +10,7 @@ ghost use Rattle.bit_words.specs.declared.bit_vec.merge.Merge.{Merge};
 
 use super::{is_nonzero, summary_block};
 use crate::bit_vec::changes::{block_index, put_block};
+use crate::bit_vec::groups::LONG_GROUP;
 use crate::bit_vec::masks::with_one_if;
 use crate::bit_vec::merging::{
     Difference, Intersection, Operation, Symmetric, Union, merge_block, merge_each, merge_rest,
@@ -17,9 +18,6 @@ use crate::bit_vec::merging::{
 use crate::bit_vec::words::{block_or, shift_left};
 use crate::bit_vec::{BitBlock, Merge, Steps};
 use std::mem::replace;
-
-// How many blocks are merged at once, where a block of the summary tells of so many or of some times that.
-const GROUP: usize = 32;
 
 // The `count` blocks from `start` on become their merges with the others of their places. The answer tells
 // which of them are not 0 then, the first of them at the lowest digit. The compiler makes vector code of
@@ -65,24 +63,24 @@ fn merge_groups<B: BitBlock, O: Operation>(
     steps: &mut Steps,
 ) -> B
     requires fewer { length others.now ≤ vec_len blocks.old }
-    requires in_others { start + groups * 32 ≤ length others.now }
-    requires within { groups * 32 ≤ B.width }
+    requires in_others { start + groups * LONG_GROUP ≤ length others.now }
+    requires within { groups * LONG_GROUP ≤ B.width }
     requires each { All B.is_block blocks.old.items }
     requires others { All B.is_block others.now }
-    ensures merged { IsMergedBetween O.merge B.width start (start + groups * 32) (map B.number blocks.old.items)
+    ensures merged { IsMergedBetween O.merge B.width start (start + groups * LONG_GROUP) (map B.number blocks.old.items)
         (map B.number others.now) (map B.number blocks.new.items) }
     ensures of_block { B.is_block result }
     ensures digits { (j : ℕ) → j < B.width
-        → is_one (B.number result) j ≡ (nat_lt j (groups * 32) && is_used (map B.number blocks.new.items) (start + j)) }
+        → is_one (B.number result) j ≡ (nat_lt j (groups * LONG_GROUP) && is_used (map B.number blocks.new.items) (start + j)) }
     ensures each { All B.is_block blocks.new.items }
     ensures len { vec_len blocks.new ≡ vec_len blocks.old }
     ensures capacity { vec_capacity blocks.new ≡ vec_capacity blocks.old }
-    ensures steps { steps.new ≡ steps.old + groups * 32 }
+    ensures steps { steps.new ≡ steps.old + groups * LONG_GROUP }
 {
     let mut digits = B::zero();
     for group in 0..groups {
-        let place = group * GROUP;
-        let more = merge_group::<B, O>(blocks, others, start + place, GROUP, steps);
+        let place = group * LONG_GROUP;
+        let more = merge_group::<B, O>(blocks, others, start + place, LONG_GROUP, steps);
         digits = block_or(digits, shift_left(more, place));
     }
     digits
@@ -113,8 +111,8 @@ fn merge_row<B: BitBlock, O: Operation>(
 {
     let width = B::bits();
     let start = q * width;
-    if width % GROUP == 0 {
-        merge_groups::<B, O>(blocks, others, start, width / GROUP, steps)
+    if width % LONG_GROUP == 0 {
+        merge_groups::<B, O>(blocks, others, start, width / LONG_GROUP, steps)
     } else {
         merge_group::<B, O>(blocks, others, start, width, steps)
     }

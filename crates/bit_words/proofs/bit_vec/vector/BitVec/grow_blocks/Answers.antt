@@ -39,7 +39,7 @@ pub append_to_summary-requires-clause-room : goal.append_to_summary-requires-cla
 append_to_summary-requires-clause-room g c =
     let w = g.B.BitBlock.width in
     let count : length c.append_values.new.blocks.items ≡ c.block_count-count.result = omega (arith, c.append_values.ensures.tidy.count) in
-    let enough = blocks_for-least w c.block_count-count.result (vec_capacity c.make_shared_room.new.sums) g.met.B.BitBlock.width_law.positive (omega (arith, c.in_ok-make_shared_room.ensures.ok)) in
+    let enough = blocks_for-least w c.block_count-count.result (vec_capacity c.make_shared_room.new.sums) g.met.B.BitBlock.width_law.positive (omega (arith, c.in_ok-make_shared_room.ensures.room.ok)) in
     rw (c.deref.ensures.value, count) enough
 
 pub append_to_summary-requires-clause-before : goal.append_to_summary-requires-clause-before
@@ -80,14 +80,14 @@ returns-clause-holds_values g c =
     let len = length_from_view _ _ _ _ _ c.self.view_is in
     let room = shared_room w (vec_capacity c.append_values.new.blocks) (vec_capacity c.append_to_summary.new.sums) in
     let kept : shared_room w (vec_capacity c.append_values.new.blocks) (vec_capacity c.append_to_summary.new.sums) ≡ shared_room w (vec_capacity c.make_shared_room.new.blocks) (vec_capacity c.make_shared_room.new.sums) = ap₂ (shared_room w) c.append_values.ensures.capacity c.append_to_summary.ensures.capacity in
-    let enough = le-room_of w room (c.self.inside.len + c.args.n) g.met.B.BitBlock.width_law.positive (omega arith) (omega (arith, kept, c.in_ok-make_shared_room.ensures.ok)) in
+    let enough = le-room_of w room (c.self.inside.len + c.args.n) g.met.B.BitBlock.width_law.positive (omega arith) (omega (arith, kept, c.in_ok-make_shared_room.ensures.room.ok)) in
     omega (arith, len, enough)
 
 pub returns-clause-room : goal.returns-clause-room
 returns-clause-room g c =
     let w = g.B.BitBlock.width in
     let kept : shared_room w (vec_capacity c.append_values.new.blocks) (vec_capacity c.append_to_summary.new.sums) ≡ shared_room w (vec_capacity c.make_shared_room.new.blocks) (vec_capacity c.make_shared_room.new.sums) = ap₂ (shared_room w) c.append_values.ensures.capacity c.append_to_summary.ensures.capacity in
-    rw (room_from_view _ _ _ c.self.view_is) (room_le w _ _ (omega (arith, kept, c.make_shared_room.ensures.capacity)))
+    rw (room_from_view _ _ _ c.self.view_is) (room_le w _ _ (omega (arith, kept, c.make_shared_room.ensures.room.capacity)))
 
 pub returns-clause-within : goal.returns-clause-within
 returns-clause-within g c = λ within.

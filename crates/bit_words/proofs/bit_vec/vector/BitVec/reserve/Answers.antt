@@ -14,7 +14,7 @@ overflow_add-self-inside g c =
 pub returns-clause-ok : goal.returns-clause-ok
 returns-clause-ok g c =
     let len = length_from_view _ _ _ _ _ c.self.view_is in
-    on_ok_weaker _ (λ (enough : blocks_for g.B.BitBlock.width (c.self.inside.len + c.args.n) ≤ shared_room g.B.BitBlock.width (vec_capacity c.make_shared_room.new.blocks) (vec_capacity c.make_shared_room.new.sums)). room_got _ _ _ _ _ _ _ g.met.B.BitBlock.width_law.positive c.self.view_is (omega arith) enough) (rw c.block_count-count.ensures at c.make_shared_room.ensures.ok)
+    on_ok_weaker _ (λ (enough : blocks_for g.B.BitBlock.width (c.self.inside.len + c.args.n) ≤ shared_room g.B.BitBlock.width (vec_capacity c.make_shared_room.new.blocks) (vec_capacity c.make_shared_room.new.sums)). room_got _ _ _ _ _ _ _ g.met.B.BitBlock.width_law.positive c.self.view_is (omega arith) enough) (rw c.block_count-count.ensures at c.make_shared_room.ensures.room.ok)
 
 pub returns-clause-full : goal.returns-clause-full
 returns-clause-full g c =
