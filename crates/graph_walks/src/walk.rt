@@ -1,0 +1,141 @@
+// The nodes to which paths lead.
+ghost use Rattle.std.specs.Prelude.{◌≡◌, ◌≢◌, ◌+◌, ◌<◌, ◌^◌, ◌↔◌, ℕ, IfErr, IfOk, IsErrOf, IsOk, IsTrue, List, OnOk, Some, length, slice_index_or};
+ghost use Rattle.std.specs.Iterator.{Drains, IsFinite, YieldsThen};
+ghost use Rattle.std.specs.List.{sum_by};
+ghost use Rattle.bit_set.specs.Sets.{elements, has};
+ghost use Rattle.graph_walks.specs.Explored.{TakesOn};
+ghost use Rattle.graph_walks.specs.Paths.{Path, successors};
+
+use crate::Graph;
+use bit_set::bit_vec::Steps;
+use bit_set::laws::{members_of_sets, sets_are_their_members, sets_ascend};
+use bit_set::{BitBlock, BitSet, SetError};
+use std::alloc::Global;
+
+/// How much a walk did. Contracts see both numbers; at run time they have no bytes and cost nothing.
+#[derive(Drop)]
+pub struct Effort {
+    /// How often a node's edges were asked for.
+    pub nodes: Steps,
+    /// How often an edge was looked at.
+    pub edges: Steps,
+}
+
+impl Effort {
+    /// Nothing done.
+    #[inline]
+    pub fn new() -> Self
+        ensures nodes { result.nodes ≡ 0 }
+        ensures edges { result.edges ≡ 0 }
+    {
+        Effort {
+            nodes: Steps::new(),
+            edges: Steps::new(),
+        }
+    }
+}
+
+/// The nodes to which a path leads from `start`, itself among them. Each is expanded once, and each edge
+/// from one of them is looked at once. Fails with [`SetError::Element`] only where a path leads to
+/// `usize::MAX`, and else only where memory is refused.
+pub fn reachable<B: BitBlock, G: Graph>(
+    alloc: Global,
+    graph: G,
+    start: usize,
+) -> Result<BitSet<B>, SetError>
+    ensures paths { IfOk result (λ set. (v : ℕ) → IsTrue (has (elements set.values) v) ↔ Path (G.rows graph) start v) }
+    ensures element { IsErrOf result SetError.Element → Path (G.rows graph) start usize.MAX }
+    ensures no_element { IsOk result → ¬ Path (G.rows graph) start usize.MAX }
+    ensures fits { IfErr result (λ fault. fault ≢ SetError.Length) }
+{
+    reachable_counted(alloc, graph, start, &mut Effort::new())
+}
+
+/// [`reachable`], which adds to `effort` what it did.
+pub fn reachable_counted<B: BitBlock, G: Graph>(
+    alloc: Global,
+    graph: G,
+    start: usize,
+    effort: &mut Effort,
+) -> Result<BitSet<B>, SetError>
+    ensures paths { IfOk result (λ set. (v : ℕ) → IsTrue (has (elements set.values) v) ↔ Path (G.rows graph) start v) }
+    ensures element { IsErrOf result SetError.Element → Path (G.rows graph) start usize.MAX }
+    ensures no_element { IsOk result → ¬ Path (G.rows graph) start usize.MAX }
+    ensures fits { IfErr result (λ fault. fault ≢ SetError.Length) }
+    ensures nodes { IfOk result (λ set. effort.new.nodes ≡ effort.old.nodes + length (elements set.values)) }
+    ensures edges { IfOk result (λ set. effort.new.edges ≡ effort.old.edges + sum_by (λ v. length (successors (G.rows graph) v)) (elements set.values)) }
+{
+    let mut reached = BitSet::new_general(alloc);
+    reached.insert(start)?;
+    let mut stack = Vec::new(alloc);
+    stack.push(start)?;
+    explore(graph, &mut reached, stack, effort)?;
+    bounded(&reached);
+    Ok(reached)
+}
+
+// Puts in all that paths lead to from the nodes of the set, which are those on the stack.
+fn explore<B: BitBlock, G: Graph>(
+    graph: G,
+    reached: &mut BitSet<B>,
+    mut stack: Vec<usize>,
+    effort: &mut Effort,
+) -> Result<(), SetError>
+    requires { stack.items ≡ elements reached.old.values }
+    ensures paths { OnOk result ((v : ℕ) → IsTrue (has (elements reached.new.values) v)
+        ↔ ((s : ℕ) × IsTrue (has (elements reached.old.values) s) × Path (G.rows graph) s v)) }
+    ensures element { IsErrOf result SetError.Element
+        → (s : ℕ) × IsTrue (has (elements reached.old.values) s) × Path (G.rows graph) s usize.MAX }
+    ensures fits { IfErr result (λ fault. fault ≢ SetError.Length) }
+    ensures nodes { OnOk result (effort.new.nodes ≡ effort.old.nodes + length (elements reached.new.values)) }
+    ensures edges { OnOk result (effort.new.edges ≡ effort.old.edges
+        + sum_by (λ v. length (successors (G.rows graph) v)) (elements reached.new.values)) }
+{
+    while let Some(node) = stack.pop() {
+        effort.nodes.tick();
+        if let Some(successors) = graph.successors(node) {
+            take_on(successors, reached, &mut stack, &mut effort.edges)?;
+        }
+        bounded(reached);
+    }
+    Ok(())
+}
+
+// Puts in what an iterator gives, and on the stack what is new.
+fn take_on<B: BitBlock, I: Iterator<Item = usize> + Drop>(
+    items: I,
+    reached: &mut BitSet<B>,
+    stack: &mut Vec<usize>,
+    edges: &mut Steps,
+) -> Result<(), SetError>
+    requires can { I.can_next items }
+    requires ends { IsFinite (I.remaining items) }
+    ensures all { OnOk result ((given : List ℕ) × Drains I.next_gives items given
+        × TakesOn given (elements reached.old.values) stack.old.items (elements reached.new.values) stack.new.items
+        × (edges.new ≡ edges.old + length given)) }
+    ensures element { IsErrOf result SetError.Element
+        → (given : List ℕ) × (rest : I) × YieldsThen I.next_gives items given (Some usize.MAX) rest }
+    ensures fits { IfErr result (λ fault. fault ≢ SetError.Length) }
+{
+    members_of_sets();
+    sets_ascend();
+    sets_are_their_members();
+    for item in items {
+        edges.tick();
+        if reached.insert(item)? {
+            stack.push(item)?;
+        }
+    }
+    Ok(())
+}
+
+// How many elements there can be, and how great.
+#[inline]
+pub(crate) fn bounded<B: BitBlock>(set: &BitSet<B>)
+    ensures few { length (elements set.now.values) < 2 ^ 64 }
+    ensures low { (v : ℕ) → IsTrue (has (elements set.now.values) v) → v < usize.MAX }
+{
+    members_of_sets();
+    prove!(set.count() <= usize::MAX);
+    prove!(set.capacity() <= usize::MAX);
+}
