@@ -1,11 +1,13 @@
 -- Items that come into a set one by one.
-use Rattle.std.proofs.Common.{◌<◌, ◌≤◌, ◌≡◌, ◌≢◌, ℕ, ◌+◌, ◌↔◌, max, Bool, List, [], ◌∷◌, ◌++◌, length, refl, sym, ap, ◌∙◌, arith}
-use Rattle.bit_set.specs.Sets.{elements, put, put_all, bound_of}
+use Rattle.std.proofs.Common.{◌<◌, ◌≤◌, ◌≡◌, ◌≢◌, ℕ, ◌+◌, ◌↔◌, max, Bool, ◌||◌, List, [], ◌∷◌, ◌++◌, length, refl, sym, ap, ◌∙◌, arith}
+use Rattle.bit_set.specs.Members.{IsSameSet}
+use Rattle.bit_set.specs.Sets.{elements, has, put, put_all, bound_of}
 use Rattle.bit_set.specs.Effects.{TakesIn}
 use Rattle.bit_set.specs.Bounds.{greatest}
 use Rattle.bit_set.specs.Faults.{IsRefusal}
 use Rattle.bit_set.specs.declared.faults.SetError.{SetError}
 use Rattle.bit_set.specs.declared.faults.SetError.TheVariants.{Element, Length, Memory}
+use Rattle.bit_set.proofs.MemberLemmas.{members_put_all}
 
 put_all-push : (s items : List ℕ) (n : ℕ) → put_all s (items ++ n ∷ []) ≡ put (put_all s items) n
 put_all-push s [] n = refl
@@ -16,11 +18,13 @@ bound_of-push [] n = omega arith
 bound_of-push (x ∷ xs) n = let rest = bound_of-push xs n in omega (arith, rest)
 
 pub TakesIn-more : (items : List ℕ) (n : ℕ) (old mid new : List Bool) → TakesIn items old mid → elements new ≡ put (elements mid) n → length new ≡ max (length mid) (n + 1) → n < greatest → TakesIn (items ++ n ∷ []) old new
-TakesIn-more items n old mid new so_far members long low = record {
-  members = members ∙ ap (λ s. put s n) so_far.members ∙ sym (put_all-push (elements old) items n);
-  long = omega (arith, long, so_far.long, bound_of-push items n);
-  fit = omega (arith, low, so_far.fit, bound_of-push items n);
-}
+TakesIn-more items n old mid new so_far members long low =
+    let all : elements new ≡ put_all (elements old) (items ++ n ∷ []) = members ∙ ap (λ s. put s n) so_far.members ∙ sym (put_all-push (elements old) items n) in record {
+      members = all;
+      union = members_put_all (elements old) (items ++ n ∷ []) (elements new) all;
+      long = omega (arith, long, so_far.long, bound_of-push items n);
+      fit = omega (arith, low, so_far.fit, bound_of-push items n);
+    }
 
 -- which fault a refusal is
 pub IsRefusal-fault : (fault : SetError) (item room : ℕ) → IsRefusal fault item room → (fault ≢ Length) × ((fault ≡ Element) ↔ (item ≡ greatest))
@@ -29,8 +33,12 @@ IsRefusal-fault Length item room is = absurd is
 IsRefusal-fault (Memory fault) item room is = (λ e. cc, (λ e. cc, λ e. absurd (omega (arith, e, is.1))))
 
 -- what items make of a list with no value
-pub TakesIn-empty : (items : List ℕ) (old new : List Bool) → old ≡ [] → TakesIn items old new → (elements new ≡ put_all [] items) × (length new ≡ bound_of items)
-TakesIn-empty items old new is took = (took.members ∙ ap (λ bs. put_all (elements bs) items) is, omega (arith, took.long, ap length is))
+pub TakesIn-empty : (items : List ℕ) (old new : List Bool) → old ≡ [] → TakesIn items old new → (elements new ≡ put_all [] items) × (length new ≡ bound_of items) × IsSameSet (elements new) items
+TakesIn-empty items old new is took = (
+  took.members ∙ ap (λ bs. put_all (elements bs) items) is,
+  omega (arith, took.long, ap length is),
+  λ n. took.union n ∙ ap (λ bs. has (elements bs) n || has items n) is,
+)
 
 -- the item that is refused lies past all that came in
 pub TakesIn-past : (items : List ℕ) (item : ℕ) (old new : List Bool) (fault : SetError) (room : ℕ) → old ≡ [] → TakesIn items old new → length new ≤ item → IsRefusal fault item room → (bound_of items ≤ item) × (item ≤ greatest)

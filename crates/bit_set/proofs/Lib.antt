@@ -1,8 +1,10 @@
 pub mod SetLemmas
 pub mod SetLaws
 pub mod AlgebraLemmas
+pub mod SizeLemmas
 pub mod SplitLemmas
 pub mod SubsetLemmas
+pub mod MemberLemmas
 pub mod CollectLemmas
 pub mod ValueLemmas
 pub mod RoomLemmas

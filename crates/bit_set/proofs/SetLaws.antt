@@ -4,7 +4,6 @@ use Rattle.std.proofs.lemmas.Bool.{eqb-true, eq-eqb, ne_eqb, true≢false, cases
 use Rattle.std.proofs.lemmas.List.{ext_get_or}
 use Rattle.std.specs.Cmp.{nat_cmp_total, unsigned_tied, nat_eq_equiv}
 use Rattle.std.specs.Ordering.{nat_cmp, eq_by_cmp, is_eq}
-use Rattle.std.specs.List.{list_any}
 use Rattle.std.specs.FinSet as set
 use Rattle.bit_set.specs.Sets.{AscendsFrom, IsAscending, has, put, without, elements, those_below, put_all, bound_of}
 use Rattle.bit_set.proofs.SetLemmas.{AscendsFrom-lower, AscendsFrom-put, has-below, has-put, has-without, has-elements, or_swap}
@@ -98,12 +97,8 @@ same_values bs cs same long = ext_get_or false bs cs long (λ i within. sym (has
 abbrev pub finite : List ℕ → set.FinSet nat_cmp
 finite s = set.from_list s
 
-has-list_any : (s : List ℕ) (m : ℕ) → list_any (λ y. eqb y m) s ≡ has s m
-has-list_any [] m = refl
-has-list_any (x ∷ xs) m = ap (λ b. eqb x m || b) (has-list_any xs m)
-
 pub contains-has : (s : List ℕ) (m : ℕ) → set.contains (finite s) m ≡ has s m
-contains-has s m = set.contains-from_list_nat s m ∙ has-list_any s m
+contains-has s m = set.contains-from_list_nat s m
 
 tied : (n m : ℕ) → eq_by_cmp nat_cmp m n ≡ eqb n m
 tied n m = unsigned_tied m n ∙ nat_eq_equiv.symm m n

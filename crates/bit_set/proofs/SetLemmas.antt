@@ -62,7 +62,7 @@ or_again : (x n m : ℕ) (b : Bool) → x ≡ n → (eqb x m || b) ≡ (eqb n m 
 or_again x n m b e = rw e (elim (eqb n m) as (λ t. (t || b) ≡ (t || (t || b))) [ true ↦ refl | false ↦ refl ])
 
 -- what a number is put before, onto or behind
-put_cases : (P : List ℕ → Type 0) (x : ℕ) (xs : List ℕ) (n : ℕ) → (n < x → P (n ∷ x ∷ xs)) → (x ≡ n → P (x ∷ xs)) → (x < n → P (x ∷ put xs n)) → P (put (x ∷ xs) n)
+pub put_cases : (P : List ℕ → Type 0) (x : ℕ) (xs : List ℕ) (n : ℕ) → (n < x → P (n ∷ x ∷ xs)) → (x ≡ n → P (x ∷ xs)) → (x < n → P (x ∷ put xs n)) → P (put (x ∷ xs) n)
 put_cases P x xs n before onto behind =
     elim (cases_order x n) [
       | inl e ↦ let no : ltb n x ≡ false = le-ltb n x (omega (arith, e)) in let yes : eqb x n ≡ true = eq-eqb x n e in rw (no, yes) (onto e)
@@ -82,7 +82,7 @@ AscendsFrom-put low (x ∷ xs) n le h =
     put_cases (AscendsFrom low) x xs n (λ lt. (le, (omega (arith, lt), h.1))) (λ e. h) (λ lt. (h.0, AscendsFrom-put (x + 1) xs n (omega (arith, lt)) h.1))
 
 -- a first number is left out, or stays
-without_cases : (P : List ℕ → Type 0) (x : ℕ) (xs : List ℕ) (n : ℕ) → (x ≡ n → P (without xs n)) → ((x ≡ n → ⊥) → P (x ∷ without xs n)) → P (without (x ∷ xs) n)
+pub without_cases : (P : List ℕ → Type 0) (x : ℕ) (xs : List ℕ) (n : ℕ) → (x ≡ n → P (without xs n)) → ((x ≡ n → ⊥) → P (x ∷ without xs n)) → P (without (x ∷ xs) n)
 without_cases P x xs n gone stays =
     elim (cases_eq x n) [
       | inl e ↦ let yes : eqb x n ≡ true = eq-eqb x n e in rw yes (gone e)

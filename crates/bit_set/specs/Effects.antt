@@ -1,11 +1,13 @@
 -- What several items do to a list of truth values.
 use Rattle.std.specs.Prelude.{◌≡◌, ℕ, ◌≤◌, max, Bool, List, length}
 use Rattle.bit_set.specs.Bounds.{greatest}
+use Rattle.bit_set.specs.Members.{IsUnion}
 use Rattle.bit_set.specs.Sets.{elements, put_all, bound_of}
 
 -- The items came into the set that the list keeps, and the list is just as long as they ask. None of them is the
 -- greatest `usize`.
 pub record TakesIn (items : List ℕ) (old new : List Bool) : Type 0 where
   pub members : elements new ≡ put_all (elements old) items
+  pub union : IsUnion (elements old) items (elements new)
   pub long : length new ≡ max (length old) (bound_of items)
   pub fit : bound_of items ≤ greatest

@@ -1,5 +1,6 @@
 pub mod Bounds
 pub mod Sets
+pub mod Members
 pub mod Faults
 pub mod Effects
 pub mod Calls

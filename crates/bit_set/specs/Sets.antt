@@ -1,6 +1,6 @@
 -- Sets of whole numbers, each as the list of its members in ascending order.
-use Rattle.std.specs.Prelude.{ℕ, ◌+◌, ◌≤◌, max, Bool, false, not, ◌||◌, ◌==◌, nat_lt, nat_le, if◌then◌else◌, List, [], ◌∷◌, filter}
-use Rattle.std.specs.List.{list_all}
+use Rattle.std.specs.Prelude.{ℕ, ◌+◌, ◌≤◌, max, Bool, not, ◌==◌, nat_lt, nat_le, if◌then◌else◌, List, [], ◌∷◌, filter}
+use Rattle.std.specs.List.{list_all, list_any}
 use Rattle.bit_words.specs.declared.bit_vec.merge.Merge.{Merge}
 use Rattle.bit_words.specs.declared.bit_vec.merge.Merge.TheVariants.{Union, Intersection, Difference, Symmetric}
 
@@ -13,10 +13,9 @@ AscendsFrom low (x ∷ xs) = (low ≤ x) × AscendsFrom (x + 1) xs
 abbrev pub IsAscending : List ℕ → Type 0
 IsAscending xs = AscendsFrom 0 xs
 
--- whether n is in the set
+-- whether n is in the set: what `contains` of a slice says too
 abbrev pub has : List ℕ → ℕ → Bool
-has [] n = false
-has (x ∷ xs) n = (x == n) || has xs n
+has s n = list_any (λ m. m == n) s
 
 -- the set with n
 abbrev pub put : List ℕ → ℕ → List ℕ
@@ -48,6 +47,11 @@ those_from xs n = filter (λ x. nat_le n x) xs
 abbrev pub put_all : List ℕ → List ℕ → List ℕ
 put_all xs [] = xs
 put_all xs (n ∷ ns) = put_all (put xs n) ns
+
+-- those of some items that are new where they are put in one by one
+abbrev pub those_new : List ℕ → List ℕ → List ℕ
+those_new xs [] = []
+those_new xs (n ∷ ns) = if has xs n then those_new (put xs n) ns else n ∷ those_new (put xs n) ns
 
 -- one above the greatest of some numbers, 0 where there are none
 abbrev pub bound_of : List ℕ → ℕ

@@ -1,5 +1,6 @@
 ghost use Rattle.std.specs.Prelude.{◌≡◌, ◌≤◌, ◌↔◌, IsTrue, [], length};
 ghost use Rattle.bit_words.specs.Bits.{IsRoomOfBlocks};
+ghost use Rattle.bit_set.specs.Members.{HasNone, IsCounted};
 ghost use Rattle.bit_set.specs.Sets.{elements, has};
 
 use crate::BitBlock;
@@ -52,15 +53,18 @@ impl<B: BitBlock> BitSet<B> {
     /// block has bits at once where they are all zero.
     #[inline]
     pub fn count(&self) -> usize
-        ensures { result ≡ length (elements self.now.values) }
+        ensures value { result ≡ length (elements self.now.values) }
+        ensures counted { IsCounted self.now.values }
     {
+        prove!(self.bits.len() <= usize::MAX);
         self.bits.count_ones()
     }
 
     /// How many elements there are: the older name of [`BitSet::count`].
     #[inline]
     pub fn len(&self) -> usize
-        ensures { result ≡ length (elements self.now.values) }
+        ensures value { result ≡ length (elements self.now.values) }
+        ensures counted { IsCounted self.now.values }
     {
         self.count()
     }
@@ -69,7 +73,8 @@ impl<B: BitBlock> BitSet<B> {
     /// asks at once whether they are all zero.
     #[inline]
     pub fn is_empty(&self) -> bool
-        ensures { IsTrue result ↔ (elements self.now.values ≡ []) }
+        ensures elements { IsTrue result ↔ (elements self.now.values ≡ []) }
+        ensures members { IsTrue result ↔ HasNone (elements self.now.values) }
     {
         self.bits.none()
     }

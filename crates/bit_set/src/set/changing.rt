@@ -1,9 +1,10 @@
 // Calls that change a set in place.
-ghost use Rattle.std.specs.Prelude.{◌≡◌, ℕ, ◌+◌, ◌-◌, ◌<◌, ◌≤◌, ◌↔◌, max, min, not, IfOk, IfErr, OnOk, OnErr, IsOk, is_ok, IsErrOf, All, List, [], ◌++◌, length, replicate, false, true, Some};
+ghost use Rattle.std.specs.Prelude.{◌≡◌, ℕ, ◌+◌, ◌-◌, ◌<◌, ◌≤◌, ◌↔◌, if◌then◌else◌, max, min, not, IfOk, IfErr, OnOk, OnErr, IsOk, is_ok, IsErrOf, All, List, [], ◌++◌, length, replicate, false, true, Some};
 ghost use Rattle.std.specs.Iterator.{Drains, HoldsAlong, IsFinite, YieldsThen};
 ghost use Rattle.std.specs.Iterator.Runs.{WholeRun};
 ghost use Rattle.bit_words.specs.Bits.{blocks_for, room_of};
 ghost use Rattle.bit_set.specs.Sets.{elements, has, put, those_below, without};
+ghost use Rattle.bit_set.specs.Members.{HasNone, IsCounted, IsSameSet, KeepsBelow, Updates};
 ghost use Rattle.bit_set.specs.Effects.{TakesIn};
 ghost use Rattle.bit_set.specs.Faults.{IsRefusal};
 ghost use Rattle.bit_set.specs.Calls.{Change, Changes, finished, inserted};
@@ -22,7 +23,11 @@ impl<B: BitBlock> BitSet<B> {
     pub fn insert(&mut self, value: usize) -> Result<bool, SetError>
         ensures answer { IfOk result (λ new. new ≡ not (has (elements self.old.values) value)) }
         ensures elements { OnOk result (elements self.new.values ≡ put (elements self.old.values) value) }
+        ensures members { OnOk result (Updates (elements self.old.values) (elements self.new.values) value true) }
+        ensures count { IfOk result (λ new. length (elements self.new.values)
+            ≡ length (elements self.old.values) + (if new then 1 else 0)) }
         ensures length { OnOk result (length self.new.values ≡ max (length self.old.values) (value + 1)) }
+        ensures counted { IsCounted self.new.values }
 
         ensures unfit { IsErrOf result SetError.Element ↔ (value ≡ usize.MAX) }
         ensures fit { OnOk result (value < usize.MAX) }
@@ -97,6 +102,9 @@ impl<B: BitBlock> BitSet<B> {
     pub fn remove(&mut self, value: usize) -> bool
         ensures answer { result ≡ has (elements self.old.values) value }
         ensures elements { elements self.new.values ≡ without (elements self.old.values) value }
+        ensures members { Updates (elements self.old.values) (elements self.new.values) value false }
+        ensures count { length (elements self.new.values) + (if result then 1 else 0)
+            ≡ length (elements self.old.values) }
         ensures length { length self.new.values ≡ length self.old.values }
         ensures room { self.new.room ≡ self.old.room }
         ensures leaves { Leaves (Remove value) self.old.room true self.new.room }
@@ -111,6 +119,7 @@ impl<B: BitBlock> BitSet<B> {
     /// Keeps the elements below `len`, and shortens the length to it. Writes one block at most.
     pub fn truncate(&mut self, len: usize)
         ensures elements { elements self.new.values ≡ those_below (elements self.old.values) len }
+        ensures members { KeepsBelow (elements self.old.values) (elements self.new.values) len }
         ensures length { length self.new.values ≡ min (length self.old.values) len }
         ensures room { self.new.room ≡ self.old.room }
         ensures leaves { Leaves (Truncate len) self.old.room true self.new.room }
@@ -122,6 +131,7 @@ impl<B: BitBlock> BitSet<B> {
     /// Takes every element out; the length stays. Writes each block once.
     pub fn make_empty(&mut self)
         ensures elements { elements self.new.values ≡ [] }
+        ensures members { HasNone (elements self.new.values) }
         ensures length { length self.new.values ≡ length self.old.values }
         ensures room { self.new.room ≡ self.old.room }
         ensures leaves { Leaves MakeEmpty self.old.room true self.new.room }
@@ -134,6 +144,7 @@ impl<B: BitBlock> BitSet<B> {
     #[inline]
     pub fn clear(&mut self)
         ensures elements { elements self.new.values ≡ [] }
+        ensures members { HasNone (elements self.new.values) }
         ensures length { length self.new.values ≡ length self.old.values }
         ensures room { self.new.room ≡ self.old.room }
         ensures leaves { Leaves MakeEmpty self.old.room true self.new.room }
@@ -145,6 +156,7 @@ impl<B: BitBlock> BitSet<B> {
     /// Takes every element out and makes the length 0. The room stays. Constant time.
     pub fn reset(&mut self)
         ensures values { self.new.values ≡ [] }
+        ensures members { HasNone (elements self.new.values) }
         ensures room { self.new.room ≡ self.old.room }
         ensures leaves { Leaves Reset self.old.room true self.new.room }
         ensures changes { Changes Change.Reset self.old.values Done self.new.values }
@@ -156,6 +168,7 @@ impl<B: BitBlock> BitSet<B> {
     /// becomes that of the blocks of `other`. Fails only there, and then nothing changed.
     pub fn clone_from(&mut self, other: &Self) -> Result<(), AllocError>
         ensures ok { OnOk result (self.new.values ≡ other.now.values) }
+        ensures members { OnOk result (IsSameSet (elements self.new.values) (elements other.now.values)) }
         ensures err { OnErr result (self.new ≡ self.old) }
         ensures full { OnErr result (self.old.room < length other.now.values) }
         ensures succeeds { length other.now.values ≤ self.old.room → IsOk result }

@@ -5,6 +5,7 @@ ghost use Rattle.std.specs.Iterator.{Drains, IsFinite, YieldsThen};
 ghost use Rattle.std.specs.Iterator.Runs.{WholeRun};
 ghost use Rattle.bit_words.specs.Bits.{blocks_for, room_of, values_of_bytes};
 ghost use Rattle.bit_set.specs.Sets.{bound_of, elements, has, put_all};
+ghost use Rattle.bit_set.specs.Members.{HasNone, IsSameSet};
 ghost use Rattle.bit_set.specs.Bounds.{greatest};
 ghost use Rattle.bit_set.specs.Room.{IsPastBlocks};
 
@@ -17,6 +18,7 @@ impl<B: BitBlock> BitSet<B> {
     #[inline]
     pub fn new_general(alloc: Global) -> Self
         ensures values { result.values ≡ [] }
+        ensures members { HasNone (elements result.values) }
         ensures room { result.room ≡ 0 }
     {
         BitSet {
@@ -28,6 +30,7 @@ impl<B: BitBlock> BitSet<B> {
     /// where memory is refused. Writes `len` bits.
     pub fn with_capacity_general(alloc: Global, len: usize) -> Result<Self, AllocError>
         ensures elements { IfOk result (λ set. elements set.values ≡ []) }
+        ensures members { IfOk result (λ set. HasNone (elements set.values)) }
         ensures length { IfOk result (λ set. length set.values ≡ len) }
         ensures room { IfOk result (λ set. len ≤ set.room) }
         ensures exact { IfOk result (λ set. set.room ≡ room_of B.width (blocks_for B.width len)) }
@@ -76,9 +79,11 @@ impl<B: BitBlock> BitSet<B> {
         requires can { I.can_next iter }
         requires ends { IsFinite (I.remaining iter) }
         ensures ok { IfOk result (λ set. (items : List ℕ) × Drains I.next_gives iter items
-            × (elements set.values ≡ put_all [] items) × (length set.values ≡ bound_of items)) }
+            × (elements set.values ≡ put_all [] items) × (length set.values ≡ bound_of items)
+            × IsSameSet (elements set.values) items) }
         ensures runs { IfOk result (λ set. WholeRun I.next_gives iter (λ run.
-            (elements set.values ≡ put_all [] run.items) × (length set.values ≡ bound_of run.items))) }
+            (elements set.values ≡ put_all [] run.items) × (length set.values ≡ bound_of run.items)
+            × IsSameSet (elements set.values) run.items)) }
         ensures err { IfErr result (λ fault. (items : List ℕ) × (item : ℕ) × (rest : I)
             × YieldsThen I.next_gives iter items (Some item) rest × (bound_of items ≤ item) × (item ≤ greatest)
             × (fault ≢ SetError.Length) × ((fault ≡ SetError.Element) ↔ (item ≡ greatest))
@@ -94,6 +99,7 @@ impl<B: BitBlock> BitSet<B> {
     /// Fails only where no memory is found.
     pub fn clone(&self, alloc: Global) -> Result<Self, AllocError>
         ensures values { IfOk result (λ set. set.values ≡ self.now.values) }
+        ensures members { IfOk result (λ set. IsSameSet (elements set.values) (elements self.now.values)) }
         ensures room { IfOk result (λ set. set.room ≡ room_of B.width (blocks_for B.width (length self.now.values))) }
         ensures empty { length self.now.values ≡ 0 → IsOk result }
     {
@@ -107,6 +113,7 @@ impl BitSet<u32> {
     #[inline]
     pub fn new(alloc: Global) -> Self
         ensures values { result.values ≡ [] }
+        ensures members { HasNone (elements result.values) }
         ensures room { result.room ≡ 0 }
     {
         BitSet::new_general(alloc)
@@ -115,6 +122,7 @@ impl BitSet<u32> {
     /// [`BitSet::with_capacity_general`] over blocks of 32 bits.
     pub fn with_capacity(alloc: Global, len: usize) -> Result<Self, AllocError>
         ensures elements { IfOk result (λ set. elements set.values ≡ []) }
+        ensures members { IfOk result (λ set. HasNone (elements set.values)) }
         ensures length { IfOk result (λ set. length set.values ≡ len) }
         ensures room { IfOk result (λ set. len ≤ set.room) }
         ensures exact { IfOk result (λ set. set.room ≡ room_of 32 (blocks_for 32 len)) }

@@ -1,6 +1,7 @@
 // Calls that make a set, in place, what it and another become.
 ghost use Rattle.std.specs.Prelude.{◌≡◌, ◌-◌, ◌<◌, ◌≤◌, ◌++◌, max, OnOk, OnErr, IsOk, is_ok, length, replicate, false};
 ghost use Rattle.bit_words.specs.Merges.{merged};
+ghost use Rattle.bit_set.specs.Members.{IsDifference, IsIntersection, IsMerged, IsSymmetricDifference, IsUnion};
 ghost use Rattle.bit_set.specs.Sets.{elements, union, intersection, difference, symmetric_difference, merged_sets};
 ghost use Rattle.bit_set.specs.Calls.{Change, Changes, finished};
 ghost use Rattle.bit_set.specs.Room.{Leaves};
@@ -34,6 +35,8 @@ impl<B: BitBlock> BitSet<B> {
     #[inline]
     fn merge_with(&mut self, other: &Self, merge: Merge) -> Result<(), AllocError>
         ensures elements { OnOk result (elements self.new.values ≡ merged_sets merge (elements self.old.values) (elements other.now.values)) }
+        ensures members { OnOk result (IsMerged merge (elements self.old.values) (elements other.now.values)
+            (elements self.new.values)) }
         ensures length { OnOk result (length self.new.values ≡ max (length self.old.values) (length other.now.values)) }
         ensures err { OnErr result (self.new ≡ self.old) }
         ensures full { OnErr result (self.old.room < length other.now.values) }
@@ -53,6 +56,8 @@ impl<B: BitBlock> BitSet<B> {
     /// and capacity then stay.
     pub fn union_with(&mut self, other: &Self) -> Result<(), AllocError>
         ensures elements { OnOk result (elements self.new.values ≡ union (elements self.old.values) (elements other.now.values)) }
+        ensures members { OnOk result (IsUnion (elements self.old.values) (elements other.now.values)
+            (elements self.new.values)) }
         ensures length { OnOk result (length self.new.values ≡ max (length self.old.values) (length other.now.values)) }
         ensures err { OnErr result (self.new ≡ self.old) }
         ensures full { OnErr result (self.old.room < length other.now.values) }
@@ -72,6 +77,8 @@ impl<B: BitBlock> BitSet<B> {
     /// and capacity then stay.
     pub fn intersect_with(&mut self, other: &Self) -> Result<(), AllocError>
         ensures elements { OnOk result (elements self.new.values ≡ intersection (elements self.old.values) (elements other.now.values)) }
+        ensures members { OnOk result (IsIntersection (elements self.old.values) (elements other.now.values)
+            (elements self.new.values)) }
         ensures length { OnOk result (length self.new.values ≡ max (length self.old.values) (length other.now.values)) }
         ensures err { OnErr result (self.new ≡ self.old) }
         ensures full { OnErr result (self.old.room < length other.now.values) }
@@ -91,6 +98,8 @@ impl<B: BitBlock> BitSet<B> {
     /// and capacity then stay.
     pub fn difference_with(&mut self, other: &Self) -> Result<(), AllocError>
         ensures elements { OnOk result (elements self.new.values ≡ difference (elements self.old.values) (elements other.now.values)) }
+        ensures members { OnOk result (IsDifference (elements self.old.values) (elements other.now.values)
+            (elements self.new.values)) }
         ensures length { OnOk result (length self.new.values ≡ max (length self.old.values) (length other.now.values)) }
         ensures err { OnErr result (self.new ≡ self.old) }
         ensures full { OnErr result (self.old.room < length other.now.values) }
@@ -110,6 +119,8 @@ impl<B: BitBlock> BitSet<B> {
     /// `other` passes the capacity and no memory is found; elements, length and capacity then stay.
     pub fn symmetric_difference_with(&mut self, other: &Self) -> Result<(), AllocError>
         ensures elements { OnOk result (elements self.new.values ≡ symmetric_difference (elements self.old.values) (elements other.now.values)) }
+        ensures members { OnOk result (IsSymmetricDifference (elements self.old.values) (elements other.now.values)
+            (elements self.new.values)) }
         ensures length { OnOk result (length self.new.values ≡ max (length self.old.values) (length other.now.values)) }
         ensures err { OnErr result (self.new ≡ self.old) }
         ensures full { OnErr result (self.old.room < length other.now.values) }

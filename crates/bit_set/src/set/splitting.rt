@@ -2,6 +2,7 @@
 ghost use Rattle.std.specs.Prelude.{◌≡◌, ◌<◌, ◌≤◌, if◌then◌else◌, nat_lt, max, min, IfOk, OnOk, OnErr, IsOk, is_ok, [], length};
 ghost use Rattle.bit_words.specs.Bits.{blocks_for, room_of};
 ghost use Rattle.bit_set.specs.Sets.{elements, those_below, those_from, union};
+ghost use Rattle.bit_set.specs.Members.{HasNone, IsUnion, KeepsBelow, KeepsFrom};
 ghost use Rattle.bit_set.specs.Calls.{Change, Changes, finished};
 ghost use Rattle.bit_set.specs.Room.{Leaves};
 ghost use Rattle.bit_set.specs.Room.Call.{Append};
@@ -24,8 +25,11 @@ impl<B: BitBlock> BitSet<B> {
     /// ```
     pub fn append(&mut self, other: &mut Self) -> Result<(), AllocError>
         ensures elements { OnOk result (elements self.new.values ≡ union (elements self.old.values) (elements other.old.values)) }
+        ensures members { OnOk result (IsUnion (elements self.old.values) (elements other.old.values)
+            (elements self.new.values)) }
         ensures length { OnOk result (length self.new.values ≡ max (length self.old.values) (length other.old.values)) }
         ensures emptied { OnOk result (elements other.new.values ≡ []) }
+        ensures other_members { OnOk result (HasNone (elements other.new.values)) }
         ensures other_length { length other.new.values ≡ length other.old.values }
         ensures other_room { other.new.room ≡ other.old.room }
         ensures err { OnErr result (self.new ≡ self.old) }
@@ -60,8 +64,10 @@ impl<B: BitBlock> BitSet<B> {
     /// ```
     pub fn split_off(&mut self, alloc: Global, at: usize) -> Result<Self, AllocError>
         ensures elements { OnOk result (elements self.new.values ≡ those_below (elements self.old.values) at) }
+        ensures members { OnOk result (KeepsBelow (elements self.old.values) (elements self.new.values) at) }
         ensures length { OnOk result (length self.new.values ≡ min (length self.old.values) at) }
         ensures part { IfOk result (λ part. elements part.values ≡ those_from (elements self.old.values) at) }
+        ensures part_members { IfOk result (λ part. KeepsFrom (elements self.old.values) (elements part.values) at) }
         ensures part_length { IfOk result (λ part. length part.values ≡ (if nat_lt at (length self.old.values) then length self.old.values else 0)) }
         ensures whole { at ≡ 0 → IfOk result (λ part. part ≡ self.old) }
         ensures err { OnErr result (self.new ≡ self.old) }

@@ -1,5 +1,7 @@
 use Rattle.std.proofs.Common.{length, refl}
 use Rattle.bit_set.proofs.ValueLemmas.{elements-all_false}
+use Rattle.bit_set.specs.Sets.{elements}
+use Rattle.bit_set.proofs.MemberLemmas.{members_none}
 use Rattle.bit_set.proofs.set.BitSet.make_empty.Goals as goal
 
 pub returns-clause-elements : goal.returns-clause-elements
@@ -7,3 +9,6 @@ returns-clause-elements g c = rw c.fill.ensures.values (elements-all_false (leng
 
 pub returns-clause-changes : goal.returns-clause-changes
 returns-clause-changes g c = (returns-clause-elements g c, refl)
+
+pub returns-clause-members : goal.returns-clause-members
+returns-clause-members g c = members_none (elements c.fill.new.self.values) (returns-clause-elements g c)

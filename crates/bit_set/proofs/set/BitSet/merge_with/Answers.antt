@@ -1,5 +1,7 @@
 use Rattle.std.proofs.Common.{◌-◌, length}
 use Rattle.bit_set.proofs.AlgebraLemmas.{elements-lengthened, length-lengthened}
+use Rattle.bit_set.specs.Sets.{elements}
+use Rattle.bit_set.proofs.MemberLemmas.{members_merged}
 use Rattle.bit_set.proofs.set.BitSet.merge_with.Goals as goal
 
 pub returns-clause-elements : goal.returns-clause-elements
@@ -11,3 +13,6 @@ returns-clause-elements g c =
 pub returns-clause-length : goal.returns-clause-length
 returns-clause-length g c =
     rw (c.merge_blocks.ensures.values, c.self.view_is, c.in_ok-lengthen.ensures.ok, c.len.ensures.value, c.other.view_is) (length-lengthened c.args.merge c.args.self.now.values c.args.other.now.values)
+
+pub returns-clause-members : goal.returns-clause-members
+returns-clause-members g c = members_merged c.args.merge (elements c.args.self.now.values) (elements c.args.other.now.values) (elements c.merge_blocks.new.self.values) (returns-clause-elements g c)

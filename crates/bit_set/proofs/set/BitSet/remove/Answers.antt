@@ -3,6 +3,7 @@ use Rattle.bit_set.specs.Sets.{elements}
 use Rattle.bit_set.proofs.SetLemmas.{IsAscending-elements, without_absent}
 use Rattle.bit_set.proofs.ValueLemmas.{elements-lowered, has-past, has-read}
 use Rattle.bit_set.specs.Calls.Outcome.{Returned}
+use Rattle.bit_set.proofs.MemberLemmas.{count_without, updates_without}
 use Rattle.bit_set.proofs.set.BitSet.remove.Goals as goal
 
 pub returns-then-value-len-clause-answer : goal.returns-then-value-len-clause-answer
@@ -24,3 +25,14 @@ returns-then-value-len-clause-changes g c = (returns-then-value-len-clause-eleme
 
 pub returns-clause-changes : goal.returns-clause-changes
 returns-clause-changes g c = (returns-clause-elements g c, ap Returned (returns-clause-answer g c))
+
+pub returns-then-value-len-clause-members : goal.returns-then-value-len-clause-members
+returns-then-value-len-clause-members g c =
+    let s = elements c.args.self.now.values in
+    updates_without s s c.args.value (returns-then-value-len-clause-elements g c)
+
+pub returns-clause-members : goal.returns-clause-members
+returns-clause-members g c = updates_without (elements c.args.self.now.values) (elements c.replace.new.self.values) c.args.value (returns-clause-elements g c)
+
+pub returns-clause-count : goal.returns-clause-count
+returns-clause-count g c = count_without c.args.self.now.values (elements c.replace.new.self.values) c.args.value c.replace.result (returns-clause-elements g c) (returns-clause-answer g c)

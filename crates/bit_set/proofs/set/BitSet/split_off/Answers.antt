@@ -3,6 +3,7 @@ use Rattle.bit_set.specs.Sets.{elements}
 use Rattle.bit_set.proofs.SetLemmas.{IsAscending-elements}
 use Rattle.bit_set.proofs.SplitLemmas.{all_below, all_from, elements-tail, none_below, none_from}
 use Rattle.bit_set.proofs.ValueLemmas.{elements-take}
+use Rattle.bit_set.proofs.MemberLemmas.{members_below, members_from}
 use Rattle.bit_set.proofs.set.BitSet.split_off.Goals as goal
 
 pub returns-then-at-eq0-clause-elements : goal.returns-then-at-eq0-clause-elements
@@ -41,3 +42,17 @@ returns-then-at-len-clause-changes g c = (returns-then-at-len-clause-elements g 
 
 pub returns-clause-changes : goal.returns-clause-changes
 returns-clause-changes g c = (returns-clause-elements g c, refl)
+
+pub returns-then-at-len-clause-members : goal.returns-then-at-len-clause-members
+returns-then-at-len-clause-members g c =
+    let s = elements c.args.self.now.values in
+    members_below s s c.args.at (returns-then-at-len-clause-elements g c)
+
+pub returns-then-at-len-clause-part_members : goal.returns-then-at-len-clause-part_members
+returns-then-at-len-clause-part_members g c = members_from (elements c.args.self.now.values) (elements c.new_general-then-at-len.result.values) c.args.at (returns-then-at-len-clause-part g c)
+
+pub returns-clause-members : goal.returns-clause-members
+returns-clause-members g c = members_below (elements c.args.self.now.values) (elements c.truncate.new.self.values) c.args.at (returns-clause-elements g c)
+
+pub returns-clause-part_members : goal.returns-clause-part_members
+returns-clause-part_members g c = members_from (elements c.args.self.now.values) (elements c.in_ok-bits.bits.values) c.args.at (returns-clause-part g c)

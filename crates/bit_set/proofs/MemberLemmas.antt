@@ -1,0 +1,92 @@
+-- What calls make of a set, as of every number whether it is in, and of how many there are.
+use Rattle.std.proofs.Common.{◌≡◌, ℕ, ◌+◌, ◌≤◌, Bool, true, false, not, ◌&&◌, ◌||◌, ◌↔◌, cond, eqb, List, [], ◌∷◌, length, refl, sym, ap, ◌∙◌, arith, IsTrue}
+use Rattle.std.proofs.lemmas.Bool.{true≢false, eq-eqb}
+use Rattle.bit_words.specs.Bits.{Bits, IsWithinRoom}
+use Rattle.bit_words.specs.declared.bit_vec.merge.Merge.{Merge}
+use Rattle.bit_set.specs.Bounds.{greatest}
+use Rattle.bit_set.specs.Members.{HasNone, IsCounted, IsDisjoint, IsMerged, IsSubset, IsUnion, KeepsBelow, KeepsFrom, Updates}
+use Rattle.bit_set.specs.Sets.{elements, has, is_disjoint, is_subset, merged_sets, put, put_all, those_below, those_from, without}
+use Rattle.bit_set.proofs.AlgebraLemmas.{has-merged_sets, has-union}
+use Rattle.bit_set.proofs.SetLaws.{has-those_below}
+use Rattle.bit_set.proofs.SetLemmas.{IsAscending-elements, has-put, has-without, length-elements-le}
+use Rattle.bit_set.proofs.SizeLemmas.{length-put, length-without}
+use Rattle.bit_set.proofs.SplitLemmas.{has-those_from}
+use Rattle.bit_set.proofs.SubsetLemmas.{is_disjoint-members, is_subset-members}
+
+-- ---- one number
+
+put_is : (is rest : Bool) → (is || rest) ≡ cond is true rest
+put_is true rest = refl
+put_is false rest = refl
+
+without_is : (is rest : Bool) → (not is && rest) ≡ cond is false rest
+without_is true rest = refl
+without_is false rest = refl
+
+pub updates_put : (s t : List ℕ) (n : ℕ) → t ≡ put s n → Updates s t n true
+updates_put s t n is m = ap (λ u. has u m) is ∙ has-put s n m ∙ put_is (eqb n m) (has s m)
+
+pub updates_without : (s t : List ℕ) (n : ℕ) → t ≡ without s n → Updates s t n false
+updates_without s t n is m = ap (λ u. has u m) is ∙ has-without s n m ∙ without_is (eqb n m) (has s m)
+
+count_not : (b : Bool) (n : ℕ) → n + cond b 0 1 ≡ n + cond (not b) 1 0
+count_not true n = refl
+count_not false n = refl
+
+pub count_put : (values : List Bool) (t : List ℕ) (n : ℕ) (new : Bool) → t ≡ put (elements values) n → new ≡ not (has (elements values) n) → length t ≡ length (elements values) + cond new 1 0
+count_put values t n new is says =
+    let s = elements values in
+    ap length is ∙ length-put s n (IsAscending-elements values) ∙ count_not (has s n) (length s) ∙ ap (λ b. length s + cond b 1 0) (sym says)
+
+pub count_without : (values : List Bool) (t : List ℕ) (n : ℕ) (was : Bool) → t ≡ without (elements values) n → was ≡ has (elements values) n → length t + cond was 1 0 ≡ length (elements values)
+count_without values t n was is says =
+    ap (λ u. length u + cond was 1 0) is
+    ∙ ap (λ b. length (without (elements values) n) + cond b 1 0) says
+    ∙ length-without (elements values) n (IsAscending-elements values)
+
+-- ---- a part of a set, and several sets
+
+pub members_below : (s t : List ℕ) (n : ℕ) → t ≡ those_below s n → KeepsBelow s t n
+members_below s t n is m = ap (λ u. has u m) is ∙ has-those_below s n m
+
+pub members_from : (s t : List ℕ) (n : ℕ) → t ≡ those_from s n → KeepsFrom s t n
+members_from s t n is m = ap (λ u. has u m) is ∙ has-those_from s n m
+
+pub members_put_all : (s items t : List ℕ) → t ≡ put_all s items → IsUnion s items t
+members_put_all s items t is m = ap (λ u. has u m) is ∙ has-union s items m
+
+pub members_merged : (merge : Merge) (s t r : List ℕ) → r ≡ merged_sets merge s t → IsMerged merge s t r
+members_merged merge s t r is m = ap (λ u. has u m) is ∙ has-merged_sets merge s t m
+
+pub members_none : (s : List ℕ) → s ≡ [] → HasNone s
+members_none s none m = ap (λ u. has u m) none
+
+none_from_members : (s : List ℕ) → HasNone s → s ≡ []
+none_from_members [] none = refl
+none_from_members (x ∷ xs) none = absurd (true≢false (sym (ap (λ b. b || has xs x) (eq-eqb x x refl)) ∙ none x))
+
+-- ---- what a test tells
+
+pub tells_empty : (answer : Bool) (s : List ℕ) → (IsTrue answer ↔ (s ≡ [])) → IsTrue answer ↔ HasNone s
+tells_empty answer s tells = (λ is. members_none s (tells.0 is), λ none. tells.1 (none_from_members s none))
+
+pub tells_subset : (answer : Bool) (s t : List ℕ) → answer ≡ is_subset s t → IsTrue answer ↔ IsSubset s t
+tells_subset answer s t says = (λ is. (is_subset-members s t).0 (sym says ∙ is), λ each. says ∙ (is_subset-members s t).1 each)
+
+false_where_not_true : (b : Bool) → (b ≡ true → ⊥) → b ≡ false
+false_where_not_true true no_more = absurd (no_more refl)
+false_where_not_true false no_more = refl
+
+pub tells_disjoint : (answer : Bool) (s t : List ℕ) → answer ≡ is_disjoint s t → IsTrue answer ↔ IsDisjoint s t
+tells_disjoint answer s t says = (
+  λ is n in_s. false_where_not_true (has t n) (λ in_t. (is_disjoint-members s t).0 (sym says ∙ is) n in_s in_t),
+  λ apart. says ∙ (is_disjoint-members s t).1 (λ n in_s in_t. true≢false (sym in_t ∙ apart n in_s)),
+)
+
+-- ---- how long a list is
+
+pub counted : (values : List Bool) → length values ≤ greatest → IsCounted values
+counted values fits = record { few = length-elements-le 0 values; fits = fits }
+
+pub counted_within : (bits : Bits) → IsWithinRoom bits → IsCounted bits.values
+counted_within bits within = counted bits.values (omega (arith, within.holds_values, within.fits))

@@ -1,0 +1,59 @@
+-- Which numbers are in a set after a call: of every number, whether it is in.
+use Rattle.std.specs.Prelude.{◌≡◌, ℕ, ◌≤◌, Bool, false, not, ◌&&◌, ◌||◌, ◌==◌, if◌then◌else◌, IsTrue, nat_le, nat_lt, List, length}
+use Rattle.bit_words.specs.Merges.{merged_value}
+use Rattle.bit_words.specs.declared.bit_vec.merge.Merge.{Merge}
+use Rattle.bit_set.specs.Bounds.{greatest}
+use Rattle.bit_set.specs.Sets.{elements, has}
+
+-- no number is in the set
+abbrev pub HasNone : List ℕ → Type 0
+HasNone s = (n : ℕ) → has s n ≡ false
+
+-- the same numbers are in both sets
+abbrev pub IsSameSet : List ℕ → List ℕ → Type 0
+IsSameSet s t = (n : ℕ) → has s n ≡ has t n
+
+-- `new` has the value exactly if b is true, and each other number exactly if `old` has
+abbrev pub Updates : List ℕ → List ℕ → ℕ → Bool → Type 0
+Updates old new value b = (n : ℕ) → has new n ≡ (if value == n then b else has old n)
+
+-- `new` has what `old` has below n
+abbrev pub KeepsBelow : List ℕ → List ℕ → ℕ → Type 0
+KeepsBelow old new n = (m : ℕ) → has new m ≡ (nat_lt m n && has old m)
+
+-- `new` has what `old` has from n on
+abbrev pub KeepsFrom : List ℕ → List ℕ → ℕ → Type 0
+KeepsFrom old new n = (m : ℕ) → has new m ≡ (nat_le n m && has old m)
+
+-- each number of the set s is in t
+abbrev pub IsSubset : List ℕ → List ℕ → Type 0
+IsSubset s t = (n : ℕ) → IsTrue (has s n) → IsTrue (has t n)
+
+-- no number is in both sets
+abbrev pub IsDisjoint : List ℕ → List ℕ → Type 0
+IsDisjoint s t = (n : ℕ) → IsTrue (has s n) → has t n ≡ false
+
+-- r has what is in s or in t
+abbrev pub IsUnion : List ℕ → List ℕ → List ℕ → Type 0
+IsUnion s t r = (n : ℕ) → has r n ≡ (has s n || has t n)
+
+-- r has what is in both
+abbrev pub IsIntersection : List ℕ → List ℕ → List ℕ → Type 0
+IsIntersection s t r = (n : ℕ) → has r n ≡ (has s n && has t n)
+
+-- r has what is in s and not in t
+abbrev pub IsDifference : List ℕ → List ℕ → List ℕ → Type 0
+IsDifference s t r = (n : ℕ) → has r n ≡ (has s n && not (has t n))
+
+-- r has what is in just one of s and t
+abbrev pub IsSymmetricDifference : List ℕ → List ℕ → List ℕ → Type 0
+IsSymmetricDifference s t r = (n : ℕ) → has r n ≡ (if has s n then not (has t n) else has t n)
+
+-- r has what the operation makes of s and t
+abbrev pub IsMerged : Merge → List ℕ → List ℕ → List ℕ → Type 0
+IsMerged merge s t r = (n : ℕ) → has r n ≡ merged_value merge (has s n) (has t n)
+
+-- The elements of a list of truth values are no more than it is long, and its length is a `usize`.
+pub record IsCounted (values : List Bool) : Type 0 where
+  pub few : length (elements values) ≤ length values
+  pub fits : length values ≤ greatest
