@@ -1,5 +1,5 @@
 -- What a caller cites of sets that are made of chains.
-use Rattle.std.proofs.Common.{◌≡◌, ℕ, ◌+◌, ◌-◌, ◌<◌, ◌≤◌, Bool, true, false, not, ◌&&◌, ◌||◌, eqb, ltb, filter, Option, List, [], ◌∷◌, Result, Bor, refl, sym, ap, ◌∙◌, inl, inr, zero, suc, arith}
+use Rattle.std.proofs.Common.{◌≡◌, ℕ, ◌+◌, Bool, true, false, not, ◌&&◌, ◌||◌, ltb, filter, Option, List, [], Result, Bor, refl, sym, ap, ◌∙◌, inl, inr, zero, suc, arith}
 use Rattle.std.specs.Prelude.{IfOk}
 use Rattle.std.specs.Fn.{Mut, CalledAt}
 use Rattle.std.specs.Iterator.{Drains}

@@ -1,10 +1,10 @@
 -- What the walks give in order, so that std's chains go on from them.
-use Rattle.std.proofs.Common.{◌≡◌, List, Option, Some, None, true, length, refl, ap}
+use Rattle.std.proofs.Common.{List, Option, None, true, length, refl, ap}
 use Rattle.std.specs.Iterator.{Yields, Drains}
 use Rattle.std.specs.Iterator.Runs.{YieldsInOrder, WholeRun}
 use Rattle.std.proofs.iter.runs.Made.{run, to_end}
 use Rattle.std.proofs.iter.runs.Sources.{from_front, as_is}
-use Rattle.bit_set.specs.Walk.{Walk, Advances, AdvancesByEach, AdvancesWithBound}
+use Rattle.bit_set.specs.Walk.{Advances, AdvancesByEach, AdvancesWithBound}
 
 pub runs_of_walk : {w : _} → YieldsInOrder (Advances w) (λ walk. walk.left)
 runs_of_walk {w} p s = as_is p p.from.left (from_front (Advances w) (λ x. x) (λ walk. walk.left) (λ s t h. ap length h.item.0) (λ s x t h. h.item) p s)

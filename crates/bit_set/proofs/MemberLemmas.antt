@@ -1,15 +1,18 @@
 -- What calls make of a set, as of every number whether it is in, and of how many there are.
-use Rattle.std.proofs.Common.{◌≡◌, ℕ, ◌+◌, ◌≤◌, Bool, true, false, not, ◌&&◌, ◌||◌, ◌↔◌, cond, eqb, List, [], ◌∷◌, length, refl, sym, ap, ◌∙◌, arith, IsTrue}
-use Rattle.std.proofs.lemmas.Bool.{true≢false, eq-eqb}
+use Rattle.std.proofs.Common.{◌≡◌, ℕ, ◌+◌, ◌≤◌, Bool, true, false, not, ◌&&◌, ◌||◌, ◌↔◌, cond, eqb, List, [], ◌∷◌, length, set, refl, sym, ap, subst, ◌∙◌, arith, inl, inr, ◌<◌, IsTrue}
+use Rattle.std.proofs.lemmas.Bool.{true≢false, cases_eq, eq-eqb, ne_eqb}
+use Rattle.std.proofs.lemmas.List.{get_or-set_same, get_or-set_other}
+use Rattle.std.specs.Cmp.Lexicographic.{bytes_decides}
 use Rattle.bit_words.specs.Bits.{Bits, IsWithinRoom}
 use Rattle.bit_words.specs.declared.bit_vec.merge.Merge.{Merge}
 use Rattle.bit_set.specs.Bounds.{greatest}
-use Rattle.bit_set.specs.Members.{HasNone, IsCounted, IsDisjoint, IsMerged, IsSubset, IsUnion, KeepsBelow, KeepsFrom, Updates}
-use Rattle.bit_set.specs.Sets.{elements, has, is_disjoint, is_subset, merged_sets, put, put_all, those_below, those_from, without}
+use Rattle.bit_set.specs.Members.{HasNone, HasTrueOf, IsCounted, IsDisjoint, IsMerged, IsSameSet, IsSubset, IsUnion, KeepsBelow, KeepsFrom, TakesLeast, Updates}
+use Rattle.bit_set.specs.Order.{same_sets}
+use Rattle.bit_set.specs.Sets.{AscendsFrom, IsAscending, elements, has, is_disjoint, is_subset, merged_sets, put, put_all, those_below, those_from, without}
 use Rattle.bit_set.proofs.AlgebraLemmas.{has-merged_sets, has-union}
 use Rattle.bit_set.proofs.SetLaws.{has-those_below}
-use Rattle.bit_set.proofs.SetLemmas.{IsAscending-elements, has-put, has-without, length-elements-le}
-use Rattle.bit_set.proofs.SizeLemmas.{length-put, length-without}
+use Rattle.bit_set.proofs.SetLemmas.{AscendsFrom-lower, IsAscending-elements, has-elements, has-put, has-without, length-elements-le, same_members}
+use Rattle.bit_set.proofs.SizeLemmas.{length-put, length-without, least-first, without-first}
 use Rattle.bit_set.proofs.SplitLemmas.{has-those_from}
 use Rattle.bit_set.proofs.SubsetLemmas.{is_disjoint-members, is_subset-members}
 
@@ -44,6 +47,30 @@ count_without values t n was is says =
     ∙ ap (λ b. length (without (elements values) n) + cond b 1 0) says
     ∙ length-without (elements values) n (IsAscending-elements values)
 
+-- the first of an ascending list is taken out
+pub takes_least : (low : ℕ) (s : List ℕ) (x : ℕ) (t : List ℕ) → AscendsFrom low s → s ≡ x ∷ t → TakesLeast s x t
+takes_least low s x t up is =
+    let ascending : IsAscending (x ∷ t) = subst IsAscending is (AscendsFrom-lower low 0 s (omega arith) up) in
+    let rest : without s x ≡ t = ap (λ u. without u x) is ∙ without-first x t ascending in
+    let taken : TakesLeast s x t = record {
+      is_in = ap (λ u. has u x) is ∙ ap (λ b. b || has t x) (eq-eqb x x refl);
+      least = λ n within. least-first x t n ascending (ap (λ u. has u n) (sym is) ∙ within);
+      others = updates_without s t x (sym rest);
+      rest = rest;
+    } in
+    taken
+
+-- a write of the list
+pub updates_written : (values : List Bool) (i : ℕ) (bit : Bool) → i < length values → Updates (elements values) (elements (set values i bit)) i bit
+updates_written values i bit within n =
+    has-elements (set values i bit) n ∙ elim (cases_eq i n) [
+      | inl e ↦ rw (← e, eq-eqb i i refl) (get_or-set_same values i bit false within)
+      | inr other ↦ rw (ne_eqb i n other) (get_or-set_other values i n bit false (λ e. other (sym e)) ∙ sym (has-elements values n))
+    ]
+
+pub true_of : (values : List Bool) → HasTrueOf (elements values) values
+true_of values n = has-elements values n
+
 -- ---- a part of a set, and several sets
 
 pub members_below : (s t : List ℕ) (n : ℕ) → t ≡ those_below s n → KeepsBelow s t n
@@ -69,6 +96,12 @@ none_from_members (x ∷ xs) none = absurd (true≢false (sym (ap (λ b. b || ha
 
 pub tells_empty : (answer : Bool) (s : List ℕ) → (IsTrue answer ↔ (s ≡ [])) → IsTrue answer ↔ HasNone s
 tells_empty answer s tells = (λ is. members_none s (tells.0 is), λ none. tells.1 (none_from_members s none))
+
+pub tells_same : (answer : Bool) (a b : List Bool) → answer ≡ same_sets (elements a) (elements b) → IsTrue answer ↔ IsSameSet (elements a) (elements b)
+tells_same answer a b says = (
+  λ is n. ap (λ u. has u n) ((bytes_decides (elements a) (elements b)).0 (sym says ∙ is)),
+  λ same. says ∙ (bytes_decides (elements a) (elements b)).1 (same_members (elements a) (elements b) (IsAscending-elements a) (IsAscending-elements b) same),
+)
 
 pub tells_subset : (answer : Bool) (s t : List ℕ) → answer ≡ is_subset s t → IsTrue answer ↔ IsSubset s t
 tells_subset answer s t says = (λ is. (is_subset-members s t).0 (sym says ∙ is), λ each. says ∙ (is_subset-members s t).1 each)

@@ -11,12 +11,12 @@ use Rattle.std.proofs.Math.Nat.{div-add-mod', mod-lt}
 use Rattle.bit_words.proofs.BitsLemmas.{blocks_of-digit, read_back}
 use Rattle.bit_words.proofs.OnesLemmas.{ones_are_digits}
 use Rattle.bit_words.proofs.Masks.{is_one-none, is_one-one, is_one-zero}
-use Rattle.bit_set.proofs.SetLemmas.{elements-alike, length-elements-le, length-elements_from_both}
+use Rattle.bit_set.proofs.SetLemmas.{AscendsFrom-elements_from, elements-alike, length-elements-le, length-elements_from_both}
 use Rattle.std.proofs.lemmas.List.FromFn.{length-map-range_with_len, get_or-map-range_with_len}
 use Rattle.bit_words.specs.Bits.{blocks_of}
 use Rattle.bit_words.specs.Lowest.{IsLowest, IsCleared}
 use Rattle.bit_words.specs.Digits.{is_one}
-use Rattle.bit_set.specs.Sets.{elements_from, elements}
+use Rattle.bit_set.specs.Sets.{AscendsFrom, elements_from, elements}
 use Rattle.bit_set.specs.Places.{digits_from, values_in, places}
 
 -- digits that are 0 are passed over
@@ -72,6 +72,11 @@ places-zero w p bs = zeros_passed 0 w p bs
 pub places-next : (w p m : ℕ) (bs cs : List Bool) → bs ≡ digits_from m 0 w ++ cs → elements_from p bs ≡ places w p m cs
 unfolding places
 places-next w p m bs cs is = ap (elements_from p) is
+
+-- they ascend from there on
+pub AscendsFrom-places : (w p m : ℕ) (bs : List Bool) → AscendsFrom p (places w p m bs)
+unfolding places
+AscendsFrom-places w p m bs = AscendsFrom-elements_from p (digits_from m 0 w ++ bs)
 
 pub places-lowest : (w p m r i : ℕ) (bs : List Bool) → IsLowest m i → i < w → IsCleared w m i r → places w p m bs ≡ (p + i) ∷ places w p r bs
 unfolding places

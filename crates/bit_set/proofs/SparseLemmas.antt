@@ -11,10 +11,11 @@ use Rattle.bit_words.specs.Lowest.{IsLowest, IsCleared}
 use Rattle.bit_words.specs.Bits.{blocks_for, blocks_of}
 use Rattle.bit_words.specs.Nonzero.{Nonzeros, PullsNonzero, nonzero_from, first_and_nonzero, ones_left}
 use Rattle.bit_words.proofs.BitsLemmas.{blocks_for-enough, blocks_for-least}
-use Rattle.bit_set.specs.Sets.{elements_from, elements}
+use Rattle.bit_set.specs.Sets.{AscendsFrom, elements_from, elements}
 use Rattle.bit_set.specs.Places.{places, past_block, IsSparseWalk}
 use Rattle.bit_set.specs.Walk.{Walk, Advances, IsAtStart}
-use Rattle.bit_set.proofs.PlaceLemmas.{places-zero, places-next, places-lowest, length-places, length-elements-block}
+use Rattle.bit_set.proofs.MemberLemmas.{takes_least}
+use Rattle.bit_set.proofs.PlaceLemmas.{AscendsFrom-places, places-zero, places-next, places-lowest, length-places, length-elements-block}
 use Rattle.bit_set.proofs.WalkLemmas.{held, length-held, length-blocks, elements-held, IsWalkable-held, CanWalk-taken}
 
 -- ---- the first block that is not 0
@@ -233,6 +234,7 @@ module _ {X : Type 0} (w : ℕ) (number : X → ℕ) (is_block : X → Type 0) (
             ap (λ m. places w place m (held w number xs)) used_up ∙ places-zero w place (held w number xs) ∙ no_nonzero w number (k + 1) xs (sym is.left ∙ pull.item.0) (place + w),
             ended,
           );
+          first = tt;
           goes_on = omega (arith, pull.counted);
           pulled = omega (arith, pull.counted);
           along = along;
@@ -256,8 +258,11 @@ module _ {X : Type 0} (w : ℕ) (number : X → ℕ) (is_block : X → Type 0) (
   pub gives : (s : Walk) (place i : ℕ) (block r : X) (it : Nonzeros X) → Reaches w number is_block s place block it (seen w number is_block place block it) → IsLowest (number block) i → i < w → IsCleared w (number block) i (number r) → Advances w s (Some (place + i)) (seen w number is_block place r it)
   gives s place i block r it to low within cleared =
       let index : (place + i) / w ≡ place / w = ap (λ n. (n + i) / w) to.walk.whole ∙ div-mul-add (place / w) w i within in
+      let ahead = (past_block w number place it.blocks it.pulls).values in
+      let item : s.left ≡ (place + i) ∷ places w place (number r) ahead = sym to.same ∙ places-lowest w place (number block) (number r) i ahead low within cleared in
       record {
-        item = sym to.same ∙ places-lowest w place (number block) (number r) i (past_block w number place it.blocks it.pulls).values low within cleared;
+        item = item;
+        first = takes_least place s.left (place + i) _ (subst (AscendsFrom place) to.same (AscendsFrom-places w place (number block) ahead)) item;
         goes_on = omega (arith, to.pulls);
         pulled = to.pulled;
         along = to.along;

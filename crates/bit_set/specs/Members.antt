@@ -1,9 +1,9 @@
 -- Which numbers are in a set after a call: of every number, whether it is in.
-use Rattle.std.specs.Prelude.{◌≡◌, ℕ, ◌≤◌, Bool, false, not, ◌&&◌, ◌||◌, ◌==◌, if◌then◌else◌, IsTrue, nat_le, nat_lt, List, length}
+use Rattle.std.specs.Prelude.{◌≡◌, ℕ, ◌≤◌, Bool, false, not, ◌&&◌, ◌||◌, ◌==◌, if◌then◌else◌, IsTrue, nat_le, nat_lt, List, get_or, length}
 use Rattle.bit_words.specs.Merges.{merged_value}
 use Rattle.bit_words.specs.declared.bit_vec.merge.Merge.{Merge}
 use Rattle.bit_set.specs.Bounds.{greatest}
-use Rattle.bit_set.specs.Sets.{elements, has}
+use Rattle.bit_set.specs.Sets.{elements, has, without}
 
 -- no number is in the set
 abbrev pub HasNone : List ℕ → Type 0
@@ -24,6 +24,13 @@ KeepsBelow old new n = (m : ℕ) → has new m ≡ (nat_lt m n && has old m)
 -- `new` has what `old` has from n on
 abbrev pub KeepsFrom : List ℕ → List ℕ → ℕ → Type 0
 KeepsFrom old new n = (m : ℕ) → has new m ≡ (nat_le n m && has old m)
+
+-- x is in the set s, and the least in it; t is s without it
+pub record TakesLeast (s : List ℕ) (x : ℕ) (t : List ℕ) : Type 0 where
+  pub is_in : IsTrue (has s x)
+  pub least : (n : ℕ) → IsTrue (has s n) → x ≤ n
+  pub others : Updates s t x false
+  pub rest : without s x ≡ t
 
 -- each number of the set s is in t
 abbrev pub IsSubset : List ℕ → List ℕ → Type 0
@@ -52,6 +59,10 @@ IsSymmetricDifference s t r = (n : ℕ) → has r n ≡ (if has s n then not (ha
 -- r has what the operation makes of s and t
 abbrev pub IsMerged : Merge → List ℕ → List ℕ → List ℕ → Type 0
 IsMerged merge s t r = (n : ℕ) → has r n ≡ merged_value merge (has s n) (has t n)
+
+-- the set has each index at which the list is true, and nothing else
+abbrev pub HasTrueOf : List ℕ → List Bool → Type 0
+HasTrueOf s values = (n : ℕ) → has s n ≡ get_or values n false
 
 -- The elements of a list of truth values are no more than it is long, and its length is a `usize`.
 pub record IsCounted (values : List Bool) : Type 0 where

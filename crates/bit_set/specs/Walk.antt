@@ -1,8 +1,9 @@
 -- Walks over the elements of a set, block by block.
-use Rattle.std.specs.Prelude.{◌≡◌, ℕ, ◌+◌, ◌-◌, ◌*◌, ◌/◌, ◌^◌, ◌<◌, ◌≤◌, ◌==◌, max, Bool, nat_lt, if◌then◌else◌, List, [], ◌∷◌, length, Option, Some, None, MatchOption}
+use Rattle.std.specs.Prelude.{◌≡◌, ℕ, ◌+◌, ◌-◌, ◌*◌, ◌/◌, ◌^◌, ◌<◌, ◌≤◌, ◌==◌, max, Bool, nat_lt, if◌then◌else◌, List, [], ◌∷◌, length, ⊤, Option, Some, None, MatchOption}
 use Rattle.std.specs.Iterator.{YieldsFirst, YieldsThen, Drains}
 use Rattle.bit_words.specs.Bits.{blocks_for}
 use Rattle.bit_words.specs.declared.bit_vec.merge.Merge.{Merge}
+use Rattle.bit_set.specs.Members.{TakesLeast}
 use Rattle.bit_set.specs.Sets.{elements, merged_sets}
 
 -- What contracts see of a walk over a set: the elements that are left, how often it called `next` on its block
@@ -22,11 +23,12 @@ pub record FindsBlock (w : ℕ) (s : Walk) (x : ℕ) (t : Walk) : Type 0 where
   pub place : t.place ≡ x / w * w
   pub pulls : t.pulls ≡ s.pulls + (if s.place / w == x / w then 0 else 1)
 
--- A call of `next` on s gave r and left t, over blocks of w: the first of what was left, or None at the
--- end, which stays. It pulled each block that it passed once at most, and once more where it found the
+-- A call of `next` on s gave r and left t, over blocks of w: the first of what was left, which is the least,
+-- or None at the end, which stays. It pulled each block that it passed once at most, and once more where it found the
 -- end. The block in hand is then the one that has the item, or the last.
 pub record Advances (w : ℕ) (s : Walk) (r : Option ℕ) (t : Walk) : Type 0 where
   pub item : YieldsFirst (λ walk. walk.left) s r t
+  pub first : MatchOption r ⊤ (λ x. TakesLeast s.left x t.left)
   pub goes_on : s.pulls ≤ t.pulls
   pub pulled : MatchOption r (t.pulls ≤ s.pulls + s.blocks + 1) (λ _. t.pulls + t.blocks ≤ s.pulls + s.blocks)
   pub along : t.place + w * t.blocks ≡ s.place + w * s.blocks

@@ -11,13 +11,14 @@ ghost use Rattle.bit_set.specs.Agreement.{WalksAgree};
 ghost use Rattle.bit_set.specs.Calls.{Change, Changes, Event, Happens, outcomes, set_after};
 ghost use Rattle.bit_set.specs.Calls.Outcome.{Done, NoMemory};
 ghost use Rattle.bit_set.specs.Effects.{TakesIn};
+ghost use Rattle.bit_set.specs.Members.{TakesLeast};
 ghost use Rattle.bit_set.specs.Room.{Call, Run, room_wanted};
 ghost use Rattle.bit_set.specs.Json.{IsFirstFault, Spells};
 ghost use Rattle.bit_set.specs.declared.json.JsonError.{JsonError};
 ghost use Rattle.bit_set.specs.Walk.{Walk, TwoSetWalk, BoundedWalk, IsWalkedOut, IsAtStart, StartsOverTwo, WalksOverTwo, blocks_past};
 ghost use Rattle.bit_words.specs.Merges.{merged_value, merged};
 ghost use Rattle.bit_words.specs.declared.bit_vec.merge.Merge.{Merge};
-ghost use Rattle.bit_set.specs.Sets.{IsAscending, has, put, put_all, without, those_below, those_from, elements, bound_of, union, intersection, difference, symmetric_difference, merged_sets, is_subset, is_disjoint};
+ghost use Rattle.bit_set.specs.Sets.{IsAscending, has, put, put_all, without, those_below, those_from, those_new, elements, bound_of, union, intersection, difference, symmetric_difference, merged_sets, is_subset, is_disjoint};
 ghost use Rattle.bit_set.specs.Order.{same_sets, order_of_sets, fed_of_set};
 
 use crate::bit_vec::Merge;
@@ -34,6 +35,34 @@ pub fn members_of_sets()
     ensures those_from { (s : List ℕ) (n m : ℕ) → has (those_from s n) m ≡ (nat_le n m && has s m) }
     ensures put_all { (s items : List ℕ) (m : ℕ) → has (put_all s items) m ≡ (has items m || has s m) }
     ensures elements { (values : List Bool) (m : ℕ) → IsTrue (has (elements values) m) ↔ (slice_get values m ≡ Some true) }
+{}
+
+/// How many members each operation leaves, of a set whose list ascends. Of items that are put in one by
+/// one, `those_new` lists those that are new: they are what is in some item and not in the set. The
+/// elements of a list of truth values are no more than it is long.
+pub fn sizes_of_sets()
+    ensures put { (s : List ℕ) (n : ℕ) → IsAscending s
+        → length (put s n) ≡ length s + (if has s n then 0 else 1) }
+    ensures without { (s : List ℕ) (n : ℕ) → IsAscending s
+        → length (without s n) + (if has s n then 1 else 0) ≡ length s }
+    ensures put_all { (s items : List ℕ) → IsAscending s
+        → length (put_all s items) ≡ length s + length (those_new s items) }
+    ensures those_new { (s items : List ℕ) (n : ℕ) → has (those_new s items) n ≡ (not (has s n) && has items n) }
+    ensures no_more { (s items : List ℕ) → length (those_new s items) ≤ length items }
+    ensures elements { (values : List Bool) → length (elements values) ≤ length values }
+{}
+
+/// Items that are put in one by one, in two parts: first those of one list, then those of the other.
+pub fn items_in_two_parts()
+    ensures put_all { (s xs ys : List ℕ) → put_all s (xs ++ ys) ≡ put_all (put_all s xs) ys }
+    ensures those_new { (s xs ys : List ℕ) → those_new s (xs ++ ys) ≡ those_new s xs ++ those_new (put_all s xs) ys }
+{}
+
+/// The first of a set whose list ascends is the least, and the others are the set without it.
+pub fn first_of_a_set()
+    ensures least { (x : ℕ) (xs : List ℕ) (n : ℕ) → IsAscending (x ∷ xs) → IsTrue (has (x ∷ xs) n) → x ≤ n }
+    ensures rest { (x : ℕ) (xs : List ℕ) → IsAscending (x ∷ xs) → without (x ∷ xs) x ≡ xs }
+    ensures taken { (s t : List ℕ) (x : ℕ) → IsAscending s → s ≡ x ∷ t → TakesLeast s x t }
 {}
 
 /// What each operation gives is strictly ascending.

@@ -1,11 +1,12 @@
 //! Equality and order of sets: those of the lists of their elements in ascending order, found block
 //! by block.
-ghost use Rattle.std.specs.Prelude.{◌≡◌, ℕ, ◌≤◌, MatchOption, Some, true, false};
+ghost use Rattle.std.specs.Prelude.{◌≡◌, ℕ, ◌≤◌, ◌↔◌, IsTrue, MatchOption, Some, true, false};
 ghost use Rattle.std.specs.Bool.{OnTrue, OnFalse};
 ghost use Rattle.std.specs.Cmp.{on_equiv, on_per, on_po, on_total, partial_equiv_from_equiv};
 ghost use Rattle.std.specs.Ordering.{MatchOrdering};
 ghost use Rattle.std.specs.Cmp.Lexicographic.{nat_list_cmp_total, nat_list_eq_equiv, texts_po, texts_ties};
 ghost use Rattle.std.proofs.Common.{refl};
+ghost use Rattle.bit_set.specs.Members.{IsSameSet};
 ghost use Rattle.bit_set.specs.Sets.{elements, has};
 ghost use Rattle.bit_set.specs.Order.{same_sets, order_of_sets};
 ghost use Rattle.bit_set.specs.Differences.{IsFirstDifference};
@@ -25,7 +26,10 @@ impl<B: BitBlock> PartialEq for BitSet<B> {
     ghost laws = { on_per (λ s. elements s.values) (partial_equiv_from_equiv nat_list_eq_equiv) };
 
     #[inline]
-    fn eq(&self, other: &Self) -> bool {
+    fn eq(&self, other: &Self) -> bool
+        ensures lists { result ≡ same_sets (elements self.now.values) (elements other.now.values) }
+        ensures members { IsTrue result ↔ IsSameSet (elements self.now.values) (elements other.now.values) }
+    {
         first_difference(self, other).is_none()
     }
 }

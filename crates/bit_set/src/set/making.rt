@@ -5,7 +5,7 @@ ghost use Rattle.std.specs.Iterator.{Drains, IsFinite, YieldsThen};
 ghost use Rattle.std.specs.Iterator.Runs.{WholeRun};
 ghost use Rattle.bit_words.specs.Bits.{blocks_for, room_of, values_of_bytes};
 ghost use Rattle.bit_set.specs.Sets.{bound_of, elements, has, put_all};
-ghost use Rattle.bit_set.specs.Members.{HasNone, IsSameSet};
+ghost use Rattle.bit_set.specs.Members.{HasNone, HasTrueOf, IsSameSet};
 ghost use Rattle.bit_set.specs.Bounds.{greatest};
 ghost use Rattle.bit_set.specs.Room.{IsPastBlocks};
 
@@ -43,7 +43,8 @@ impl<B: BitBlock> BitSet<B> {
     /// The set that the bit vector keeps: the indexes at which it is true. Constant time.
     #[inline]
     pub fn from_bit_vec_general(bit_vec: BitVec<B>) -> Self
-        ensures { result ≡ bit_vec }
+        ensures value { result ≡ bit_vec }
+        ensures members { HasTrueOf (elements result.values) bit_vec.values }
     {
         BitSet { bits: bit_vec }
     }
@@ -82,7 +83,8 @@ impl<B: BitBlock> BitSet<B> {
             × (elements set.values ≡ put_all [] items) × (length set.values ≡ bound_of items)
             × IsSameSet (elements set.values) items) }
         ensures runs { IfOk result (λ set. WholeRun I.next_gives iter (λ run.
-            (elements set.values ≡ put_all [] run.items) × (length set.values ≡ bound_of run.items))) }
+            (elements set.values ≡ put_all [] run.items) × (length set.values ≡ bound_of run.items)
+            × IsSameSet (elements set.values) run.items)) }
         ensures err { IfErr result (λ fault. (items : List ℕ) × (item : ℕ) × (rest : I)
             × YieldsThen I.next_gives iter items (Some item) rest × (bound_of items ≤ item) × (item ≤ greatest)
             × (fault ≢ SetError.Length) × ((fault ≡ SetError.Element) ↔ (item ≡ greatest))
@@ -133,7 +135,8 @@ impl BitSet<u32> {
     /// [`BitSet::from_bit_vec_general`] over blocks of 32 bits.
     #[inline]
     pub fn from_bit_vec(bit_vec: BitVec<u32>) -> Self
-        ensures { result ≡ bit_vec }
+        ensures value { result ≡ bit_vec }
+        ensures members { HasTrueOf (elements result.values) bit_vec.values }
     {
         BitSet::from_bit_vec_general(bit_vec)
     }

@@ -1,7 +1,8 @@
 // Calls that change the room, or hand out the bit vector.
-ghost use Rattle.std.specs.Prelude.{◌≡◌, ◌*◌, ◌<◌, ◌≤◌, IsOk, is_ok, OnErr, OnOk, [], length, max};
+ghost use Rattle.std.specs.Prelude.{◌≡◌, ℕ, ◌*◌, ◌<◌, ◌≤◌, Bool, IsOk, is_ok, OnErr, OnOk, [], length, max, slice_set};
 ghost use Rattle.std.specs.Borrow.{sem};
 ghost use Rattle.bit_words.specs.Bits.{blocks_for, room_of, whole_blocks, IsWithinRoom};
+ghost use Rattle.bit_set.specs.Members.{Updates};
 ghost use Rattle.bit_set.specs.Sets.{bound_of, elements};
 ghost use Rattle.bit_set.specs.Calls.{Change, Changes, finished};
 ghost use Rattle.bit_set.specs.Room.{Leaves};
@@ -90,6 +91,8 @@ impl<B: BitBlock> BitSet<B> {
     pub fn get_mut(&mut self) -> &mut BitVec<B>
         ensures* writes_back { sem 𝓛 (lends_bits B.row B.BitBlock self.entry result) }
         ensures value { result.now ≡ self.old }
+        ensures members { (i : ℕ) (bit : Bool) → i < length self.old.values
+            → Updates (elements self.old.values) (elements (slice_set self.old.values i bit)) i bit }
     {
         &mut self.bits
     }

@@ -15,7 +15,7 @@ pub returns-clause-runs : goal.returns-clause-runs
 returns-clause-runs g c =
     let done = c.in_ok-extend.ensures.ok in
     let took = TakesIn-empty done.0 c.new_general-set.result.values c.extend.new.self.values c.new_general-set.ensures.values done.2 in
-    run_to_end g.I.Iterator.next_gives _ _ done.0 done.1 (took.0, took.1)
+    run_to_end g.I.Iterator.next_gives _ _ done.0 done.1 (took.0, took.1, took.2)
 
 pub returns-in_err-extend-clause-err : goal.returns-in_err-extend-clause-err
 returns-in_err-extend-clause-err g c =
