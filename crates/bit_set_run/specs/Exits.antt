@@ -1,21 +1,31 @@
 -- The words that the program takes, and how it ends.
-use Rattle.std.specs.Prelude.{ℕ, Bool, true, false, ◌||◌, if◌then◌else◌, List, [], ◌∷◌, codes, Option, None, Some, Result, Ok, Err}
+use Rattle.std.specs.Prelude.{ℕ, Bool, if◌then◌else◌, List, [], ◌∷◌, codes, Option, None, Some, Result, Ok, Err, is_some}
 use Rattle.std.specs.Str.{bytes_eq}
 use Rattle.bit_set_run.specs.declared.starting.BlockType.{BlockType}
 use Rattle.bit_set_run.specs.declared.starting.BlockType.TheVariants.{U8, U16, U32, U64, Usize, U128}
 use Rattle.bit_set_run.specs.declared.streams.LinesFault.{LinesFault}
 use Rattle.bit_set_run.specs.declared.streams.LinesFault.TheVariants.{Read, TooLarge, Memory, Write}
 
--- whether a word names a block type
-abbrev pub names_block : List ℕ → Bool
-names_block word =
-    bytes_eq word (codes "u8") || bytes_eq word (codes "u16") || bytes_eq word (codes "u32") || bytes_eq word (codes "u64") || bytes_eq word (codes "usize") || bytes_eq word (codes "u128")
+-- the block type that a word names
+abbrev pub type_named : List ℕ → Option BlockType
+type_named word =
+    if bytes_eq word (codes "u8") then Some U8
+    else if bytes_eq word (codes "u16") then Some U16
+    else if bytes_eq word (codes "u32") then Some U32
+    else if bytes_eq word (codes "u64") then Some U64
+    else if bytes_eq word (codes "usize") then Some Usize
+    else if bytes_eq word (codes "u128") then Some U128
+    else None
+
+-- The block type that the words choose: u32 where there is no word, and none where they are not the program's.
+abbrev pub type_chosen : List (List ℕ) → Option BlockType
+type_chosen [] = Some U32
+type_chosen (word ∷ []) = type_named word
+type_chosen (word ∷ more ∷ words) = None
 
 -- whether the program takes these words: none, or the name of a block type
 abbrev pub takes : List (List ℕ) → Bool
-takes [] = true
-takes (word ∷ []) = names_block word
-takes (word ∷ more ∷ words) = false
+takes words = is_some (type_chosen words)
 
 -- what is said of other words, at status 2
 abbrev pub usage : List ℕ
@@ -35,20 +45,3 @@ said_at (Err Memory) = codes "memory refused"
 said_at (Err Read) = codes "read failed"
 said_at (Err Write) = codes "write failed"
 said_at (Err TooLarge) = codes "input too large"
-
--- The block type that a word names. No public clause cites this.
-abbrev pub type_named : List ℕ → Option BlockType
-type_named word =
-    if bytes_eq word (codes "u8") then Some U8
-    else if bytes_eq word (codes "u16") then Some U16
-    else if bytes_eq word (codes "u32") then Some U32
-    else if bytes_eq word (codes "u64") then Some U64
-    else if bytes_eq word (codes "usize") then Some Usize
-    else if bytes_eq word (codes "u128") then Some U128
-    else None
-
--- The block type that the words choose. No public clause cites this.
-abbrev pub type_chosen : List (List ℕ) → Option BlockType
-type_chosen [] = Some U32
-type_chosen (word ∷ []) = type_named word
-type_chosen (word ∷ more ∷ words) = None

@@ -4,10 +4,11 @@ ghost use Rattle.std.specs.Prelude.{◌≡◌, ◌≢◌, [], ◌∷◌, ◌++�
 ghost use Rattle.bit_set_run.specs.Output.{answer_to, output, sets_after};
 ghost use Rattle.bit_set_run.specs.Reading.{reading};
 
+use crate::Table;
 use crate::cutting::next_line;
 use crate::reading::read_line;
+use crate::stepping::step;
 use crate::texts::{append_reply, bad_text};
-use crate::{Reply, Table, run};
 use bit_set::BitBlock;
 use std::alloc::{AllocError, Global};
 
@@ -17,38 +18,30 @@ pub(crate) fn output<B: BitBlock>(alloc: Global, input: &[u8]) -> Result<Vec<u8>
     ensures refused { OnErr result (input.now ≢ []) }
 {
     let mut table = Table::<B>::new(alloc);
-    let mut replies = Vec::new(alloc);
     let mut text = Vec::new(alloc);
     let mut rest = input;
     while let Some((line, after)) = next_line(rest) {
-        answer_line(alloc, &mut table, line, &mut replies, &mut text)?;
+        answer_line(alloc, &mut table, line, &mut text)?;
         rest = after;
     }
     Ok(text)
 }
 
-// Runs the command of a line and appends its answer. The vector of replies lends its room alone.
+// Executes the command of a line and appends the text of its reply.
 fn answer_line<B: BitBlock>(
     alloc: Global,
     table: &mut Table<B>,
     line: &[u8],
-    replies: &mut Vec<Reply>,
     text: &mut Vec<u8>,
 ) -> Result<(), AllocError>
-    requires { replies.old.items ≡ [] }
-    ensures replies { OnOk result (replies.new.items ≡ []) }
     ensures sets { OnOk result (table.new ≡ sets_after table.old (reading line.now)) }
     ensures text { OnOk result (text.new.items ≡ text.old.items ++ (answer_to table.old (reading line.now) ++ 10 ∷ [])) }
 {
     match read_line(alloc, line)? {
         Err(bad) => text.extend_from_slice(bad_text(bad))?,
         Ok(command) => {
-            if run(alloc, table, &[command], replies).is_err() {
-                return Err(AllocError);
-            }
-            if let Some(reply) = replies.pop() {
-                append_reply(text, &reply)?;
-            }
+            let reply = step(alloc, &mut table.sets, &command)?;
+            append_reply(text, &reply)?;
         }
     }
     text.push(b'\n')?;

@@ -1,8 +1,7 @@
-//! What is told of sets by their names: of one, or of two, which may be one.
+//! Sets by their names, and the walks over two of them, which may be one.
 
 ghost use Rattle.std.specs.Prelude.{◌≡◌, ◌≢◌, [], drop, map, IfOk, OnErr};
-ghost use Rattle.bit_set.specs.Order.{order_of_sets, same_sets};
-ghost use Rattle.bit_set.specs.Sets.{is_disjoint, is_subset, merged_sets};
+ghost use Rattle.bit_set.specs.Sets.{merged_sets};
 ghost use Rattle.bit_set_run.specs.Kept.{kept};
 ghost use Rattle.bit_set_run.specs.Run.{rest_of, set_of};
 ghost use Rattle.bit_set_run.specs.declared.commands.Reply.TheVariants.{Items};
@@ -12,7 +11,6 @@ use crate::{Reply, SetName};
 use bit_set::bit_vec::Merge;
 use bit_set::{BitBlock, BitSet};
 use std::alloc::{AllocError, Global};
-use std::cmp::Ordering;
 
 /// The set of this name.
 #[inline]
@@ -20,41 +18,6 @@ pub(crate) fn named<B: BitBlock>(sets: &[BitSet<B>; 16], name: SetName) -> &BitS
     ensures { kept result.now ≡ set_of (map kept sets.now) name }
 {
     &sets[name.place()]
-}
-
-/// Whether each number of the first set is in the second.
-pub(crate) fn is_subset<B: BitBlock>(sets: &[BitSet<B>; 16], s: SetName, t: SetName) -> bool
-    ensures { result ≡ is_subset (set_of (map kept sets.now) s) (set_of (map kept sets.now) t) }
-{
-    named(sets, s).is_subset(named(sets, t))
-}
-
-/// Whether each number of the second set is in the first.
-pub(crate) fn is_superset<B: BitBlock>(sets: &[BitSet<B>; 16], s: SetName, t: SetName) -> bool
-    ensures { result ≡ is_subset (set_of (map kept sets.now) t) (set_of (map kept sets.now) s) }
-{
-    named(sets, s).is_superset(named(sets, t))
-}
-
-/// Whether no number is in both sets.
-pub(crate) fn is_disjoint<B: BitBlock>(sets: &[BitSet<B>; 16], s: SetName, t: SetName) -> bool
-    ensures { result ≡ is_disjoint (set_of (map kept sets.now) s) (set_of (map kept sets.now) t) }
-{
-    named(sets, s).is_disjoint(named(sets, t))
-}
-
-/// Whether the sets have the same numbers.
-pub(crate) fn are_equal<B: BitBlock>(sets: &[BitSet<B>; 16], s: SetName, t: SetName) -> bool
-    ensures { result ≡ same_sets (set_of (map kept sets.now) s) (set_of (map kept sets.now) t) }
-{
-    *named(sets, s) == *named(sets, t)
-}
-
-/// How the sets compare.
-pub(crate) fn compare<B: BitBlock>(sets: &[BitSet<B>; 16], s: SetName, t: SetName) -> Ordering
-    ensures { result ≡ order_of_sets (set_of (map kept sets.now) s) (set_of (map kept sets.now) t) }
-{
-    named(sets, s).cmp(named(sets, t))
 }
 
 /// What the sets become.

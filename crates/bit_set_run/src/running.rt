@@ -3,6 +3,7 @@ ghost use Rattle.bit_set.specs.Bounds.{greatest};
 ghost use Rattle.bit_set_run.specs.declared.running.RunFault.TheVariants.{Memory};
 ghost use Rattle.bit_set_run.specs.Run.{step, run_of, RefusedBy, StoppedAt};
 
+use crate::stepping::step;
 use crate::{Command, Reply, Table};
 use bit_set::BitBlock;
 use std::alloc::{AllocError, AllocFailed, Global};
@@ -78,7 +79,7 @@ fn execute<B: BitBlock>(
         ⊎ RefusedBy table.old command.now table.new) }
 {
     replies.reserve(1)?;
-    let reply = table.apply(alloc, command)?;
+    let reply = step(alloc, &mut table.sets, command)?;
     replies.push_reserved(reply);
     Ok(())
 }

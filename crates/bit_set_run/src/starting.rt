@@ -1,6 +1,6 @@
 ghost use Rattle.std.specs.Prelude.{◌≡◌, ◌↔◌, IsTrue, false, map, string_bytes, is_some, Result};
 ghost use Rattle.bit_set_run.specs.Ended.{HasEnded};
-ghost use Rattle.bit_set_run.specs.Exits.{takes, names_block, said_at, status_at, type_chosen, type_named, usage};
+ghost use Rattle.bit_set_run.specs.Exits.{takes, said_at, status_at, type_chosen, type_named, usage};
 ghost use Rattle.bit_set_run.specs.declared.streams.LinesFault.{LinesFault};
 
 use crate::{LinesFault, run_lines};
@@ -43,60 +43,49 @@ pub fn start<R: Read, W: Write>(
         × (result.status ≡ status_at outcome) × (result.text.now ≡ said_at outcome)
         × HasEnded outcome (R.remaining reader.old) (R.remaining reader.new) W.contents writer.old writer.new }
 {
-    match block_type(words) {
-        None => Exit {
-            status: 2,
-            text: "usage: bitset [u8|u16|u32|u64|usize|u128]",
-        },
-        Some(block_type) => exit_of(answer_lines(alloc, block_type, reader, writer)),
+    let ended = match block_type(words) {
+        None => {
+            return Exit {
+                status: 2,
+                text: "usage: bitset [u8|u16|u32|u64|usize|u128]",
+            };
+        }
+        Some(BlockType::U8) => run_lines::<u8, R, W>(alloc, reader, writer),
+        Some(BlockType::U16) => run_lines::<u16, R, W>(alloc, reader, writer),
+        Some(BlockType::U32) => run_lines::<u32, R, W>(alloc, reader, writer),
+        Some(BlockType::U64) => run_lines::<u64, R, W>(alloc, reader, writer),
+        Some(BlockType::Usize) => run_lines::<usize, R, W>(alloc, reader, writer),
+        Some(BlockType::U128) => run_lines::<u128, R, W>(alloc, reader, writer),
+    };
+    Exit::of(ended)
+}
+
+impl Exit {
+    /// The exit at which the program ends where the lines ended so. Constant time.
+    pub fn of(ended: Result<(), LinesFault>) -> Self
+        ensures status { result.status ≡ status_at ended }
+        ensures text { result.text.now ≡ said_at ended }
+    {
+        match ended {
+            Ok(()) => Exit {
+                status: 0,
+                text: "",
+            },
+            Err(fault) => Exit {
+                status: status_of(fault),
+                text: fault.text(),
+            },
+        }
     }
 }
 
-// The lines of the reader answered over this type of blocks.
-fn answer_lines<R: Read, W: Write>(
-    alloc: Global,
-    block_type: BlockType,
-    reader: &mut R,
-    writer: &mut W,
-) -> Result<(), LinesFault>
-    ensures { HasEnded result (R.remaining reader.old) (R.remaining reader.new) W.contents writer.old writer.new }
+fn status_of(fault: LinesFault) -> u8
+    ensures { result ≡ status_at {X = Unit} (Err fault) }
 {
-    match block_type {
-        BlockType::U8 => run_lines::<u8, R, W>(alloc, reader, writer),
-        BlockType::U16 => run_lines::<u16, R, W>(alloc, reader, writer),
-        BlockType::U32 => run_lines::<u32, R, W>(alloc, reader, writer),
-        BlockType::U64 => run_lines::<u64, R, W>(alloc, reader, writer),
-        BlockType::Usize => run_lines::<usize, R, W>(alloc, reader, writer),
-        BlockType::U128 => run_lines::<u128, R, W>(alloc, reader, writer),
-    }
-}
-
-// The exit at this end of the lines.
-fn exit_of(ended: Result<(), LinesFault>) -> Exit
-    ensures status { result.status ≡ status_at ended }
-    ensures text { result.text.now ≡ said_at ended }
-{
-    match ended {
-        Ok(()) => Exit {
-            status: 0,
-            text: "",
-        },
-        Err(LinesFault::Memory) => Exit {
-            status: 3,
-            text: "memory refused",
-        },
-        Err(LinesFault::Read) => Exit {
-            status: 4,
-            text: "read failed",
-        },
-        Err(LinesFault::Write) => Exit {
-            status: 4,
-            text: "write failed",
-        },
-        Err(LinesFault::TooLarge) => Exit {
-            status: 5,
-            text: "input too large",
-        },
+    match fault {
+        LinesFault::Memory => 3,
+        LinesFault::Read | LinesFault::Write => 4,
+        LinesFault::TooLarge => 5,
     }
 }
 
@@ -114,7 +103,6 @@ enum BlockType {
 // The type that the words choose, `u32` where there is no word; `None` where they are not the program's.
 fn block_type(words: &[String]) -> Option<BlockType>
     ensures chosen { result ≡ type_chosen (map string_bytes words.now) }
-    ensures taken { is_some result ≡ takes (map string_bytes words.now) }
 {
     match words {
         [] => Some(BlockType::U32),
@@ -126,7 +114,6 @@ fn block_type(words: &[String]) -> Option<BlockType>
 // The type that the word names.
 fn named_type(word: &str) -> Option<BlockType>
     ensures named { result ≡ type_named word.now }
-    ensures known { is_some result ≡ names_block word.now }
 {
     match word {
         "u8" => Some(BlockType::U8),

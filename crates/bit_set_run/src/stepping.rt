@@ -9,9 +9,7 @@ ghost use Rattle.bit_set.specs.Bounds.{greatest};
 ghost use Rattle.bit_set_run.specs.Run.{step, elements_before_greatest, RefusedBy};
 ghost use Rattle.bit_set_run.specs.declared.commands.Reply.TheVariants.{Truth, Done, Rest, Element};
 
-use crate::pairs::{
-    are_equal, compare, is_disjoint, is_subset, is_superset, named, rest_of_walk, walk,
-};
+use crate::pairs::{named, rest_of_walk, walk};
 use crate::walking::{items, rest};
 use crate::{Command, Numbers, Reply};
 use bit_set::bit_vec::Merge;
@@ -65,11 +63,11 @@ pub(crate) fn step<B: BitBlock>(
         Command::SplitOff(s, _, t) if s == t => Ok(Reply::Same),
         Command::SplitOff(s, n, t) => split_off(alloc, sets, s.place(), *n, t.place()),
         Command::Walk(merge, s, t) => walk(alloc, sets, *merge, *s, *t),
-        Command::Subset(s, t) => Ok(Reply::Truth(is_subset(sets, *s, *t))),
-        Command::Superset(s, t) => Ok(Reply::Truth(is_superset(sets, *s, *t))),
-        Command::Disjoint(s, t) => Ok(Reply::Truth(is_disjoint(sets, *s, *t))),
-        Command::Equal(s, t) => Ok(Reply::Truth(are_equal(sets, *s, *t))),
-        Command::Compare(s, t) => Ok(Reply::Order(compare(sets, *s, *t))),
+        Command::Subset(s, t) => Ok(Reply::Truth(named(sets, *s).is_subset(named(sets, *t)))),
+        Command::Superset(s, t) => Ok(Reply::Truth(named(sets, *s).is_superset(named(sets, *t)))),
+        Command::Disjoint(s, t) => Ok(Reply::Truth(named(sets, *s).is_disjoint(named(sets, *t)))),
+        Command::Equal(s, t) => Ok(Reply::Truth(*named(sets, *s) == *named(sets, *t))),
+        Command::Compare(s, t) => Ok(Reply::Order(named(sets, *s).cmp(named(sets, *t)))),
         Command::RestIter(name, n) => rest(alloc, named(sets, *name).iter(), *n),
         Command::RestWalk(merge, s, t, n) => rest_of_walk(alloc, sets, *merge, *s, *t, *n),
     }

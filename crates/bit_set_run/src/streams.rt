@@ -1,28 +1,50 @@
-ghost use Rattle.std.specs.Prelude.{◌≡◌, ◌≢◌, ℕ, ◌+◌, IfOk, IfErr, OnOk, OnErr};
+ghost use Rattle.std.specs.Prelude.{◌≡◌, ◌≢◌, ℕ, ◌+◌, IfOk, IfErr, OnOk, OnErr, Err, Some};
 ghost use Rattle.std.specs.Io.KnownBytes.{Appends};
+ghost use Rattle.bit_set_run.specs.Exits.{said_at};
 ghost use Rattle.bit_set_run.specs.Streams.{limit, GaveAll, GaveCount, GaveSome, GaveUntil, HoldsBeginning};
 ghost use Rattle.bit_set_run.specs.declared.streams.LinesFault.TheVariants.{Memory};
 
 use std::alloc::{AllocError, AllocFailed, Global};
+use std::error::Error;
+use std::fmt;
 use std::io::{Read, Write};
-use thiserror::Error;
 
 /// Why lines were not answered, or not wholly.
-#[derive(Clone, Copy, Debug, PartialEq, Eq, Error)]
+#[derive(Clone, Copy, Debug, PartialEq, Eq)]
 pub enum LinesFault {
     /// A read failed.
-    #[error("read failed")]
     Read,
     /// The input has more than 1,048,576 bytes.
-    #[error("input too large")]
     TooLarge,
     /// Memory was refused.
-    #[error("memory refused")]
     Memory,
     /// A write failed or took no byte, or the flush failed.
-    #[error("write failed")]
     Write,
 }
+
+impl LinesFault {
+    /// What the program says of it on standard error. Constant time.
+    pub fn text(self) -> &'static str
+        ensures { result.now ≡ said_at {X = Unit} (Err self) }
+    {
+        match self {
+            LinesFault::Read => "read failed",
+            LinesFault::TooLarge => "input too large",
+            LinesFault::Memory => "memory refused",
+            LinesFault::Write => "write failed",
+        }
+    }
+}
+
+impl fmt::Display for LinesFault {
+    ghost output = { λ fault. Some (said_at {X = Unit} (Err fault)) };
+
+    fn fmt<W: fmt::Write>(&self, f: &mut fmt::Formatter<W>) -> fmt::Result {
+        f.write_str(self.text())
+    }
+}
+
+impl Error for LinesFault {}
 
 impl From<AllocError> for LinesFault {
     ghost from_gives = { λ _ fault. fault ≡ Memory };

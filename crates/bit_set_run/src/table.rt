@@ -1,17 +1,16 @@
-ghost use Rattle.std.specs.Prelude.{◌≡◌, ℕ, IfOk, OnOk, OnErr};
+ghost use Rattle.std.specs.Prelude.{◌≡◌};
 ghost use Rattle.bit_set_run.specs.Kept.{kept};
-ghost use Rattle.bit_set_run.specs.Run.{no_sets, set_of, step, RefusedBy};
+ghost use Rattle.bit_set_run.specs.Run.{no_sets, set_of};
 
-use crate::stepping::step;
-use crate::{Command, Reply, SetName};
+use crate::SetName;
 use bit_set::{BitBlock, BitSet};
-use std::alloc::{AllocError, Global};
+use std::alloc::Global;
 use std::marker::Model;
 
 /// Sixteen sets of numbers, each under its name.
 #[derive(Drop)]
 pub struct Table<B: BitBlock> {
-    sets: [BitSet<B>; 16],
+    pub(crate) sets: [BitSet<B>; 16],
 }
 
 impl<B: BitBlock> Model for Table<B> {
@@ -57,14 +56,5 @@ impl<B: BitBlock> Table<B> {
         ensures { kept result.now ≡ set_of self.now name }
     {
         &self.sets[name.place()]
-    }
-
-    // One command, and the reply to it.
-    pub(crate) fn apply(&mut self, alloc: Global, command: &Command) -> Result<Reply, AllocError>
-        ensures reply { IfOk result (λ reply. reply ≡ (step self.old command.now).reply) }
-        ensures sets { OnOk result (self.new ≡ (step self.old command.now).sets) }
-        ensures refused { OnErr result (RefusedBy self.old command.now self.new) }
-    {
-        step(alloc, &mut self.sets, command)
     }
 }

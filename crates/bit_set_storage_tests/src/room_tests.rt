@@ -6,10 +6,7 @@ use block24::Block24;
 use std::alloc::{AllocError, Global};
 use std::process::Abort;
 use std::test::Fail;
-
-pub(crate) fn set_of<B: BitBlock>(alloc: Global, numbers: &[usize]) -> Result<BitSet<B>, SetError> {
-    BitSet::from_iter(alloc, numbers.iter().copied())
-}
+use test_helpers::set_of;
 
 // The length of the set of some numbers, and that once it is shrunk.
 fn lengths<B: BitBlock>(alloc: Global, numbers: &[usize]) -> Result<[usize; 2], SetError> {

@@ -2,13 +2,13 @@
 //! type of blocks and over 24 bits.
 ghost use Rattle.std.specs.Prelude.{◌≡◌, OnOk};
 
-use crate::room_tests::set_of;
 use bit_set::laws::parted_sets;
 use bit_set::{BitBlock, BitSet, SetError};
 use block24::Block24;
 use std::alloc::{AllocError, Global};
 use std::process::Abort;
 use std::test::Fail;
+use test_helpers::set_of;
 
 // 21 numbers below 48.
 const BYTES: [u8; 6] = [

@@ -9,10 +9,7 @@ use bit_set::{BitBlock, BitSet, SetError};
 use std::alloc::{AllocError, Global};
 use std::process::Abort;
 use std::test::Fail;
-
-pub(crate) fn set_of<B: BitBlock>(alloc: Global, numbers: &[usize]) -> Result<BitSet<B>, SetError> {
-    BitSet::from_iter(alloc, numbers.iter().copied())
-}
+use test_helpers::set_of;
 
 // Makes the set what it and another become.
 pub(crate) fn merge_in<B: BitBlock>(

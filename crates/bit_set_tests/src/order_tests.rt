@@ -9,6 +9,7 @@ use std::collections::{BTreeMap, HashMap};
 use std::fmt;
 use std::hash::{Hash, Hasher};
 use std::test::Fail;
+use test_helpers::set_of;
 
 // Counts the calls of `write`, and keeps the last sixteen bytes that it was fed, the first byte
 // highest.
@@ -40,10 +41,6 @@ pub(crate) fn feed<B: BitBlock>(set: &BitSet<B>) -> (u64, u128) {
     let mut recorder = Recorder { calls: 0, bytes: 0 };
     set.hash(&mut recorder);
     (recorder.calls, recorder.bytes)
-}
-
-fn set_of<B: BitBlock>(alloc: Global, numbers: &[usize]) -> Result<BitSet<B>, SetError> {
-    BitSet::from_iter(alloc, numbers.iter().copied())
 }
 
 fn feed_of<B: BitBlock>(alloc: Global, numbers: &[usize]) -> Result<(u64, u128), SetError> {

@@ -7,6 +7,7 @@ use bit_set::{BitBlock, BitSet, SetError};
 use std::alloc::{AllocError, Global};
 use std::process::Abort;
 use std::test::Fail;
+use test_helpers::set_of;
 
 #[test]
 fn insert_answers_what_is_new(rt: HostRuntime) -> Result<(), Fail> {
@@ -64,13 +65,9 @@ fn truncate_keeps_what_is_below(rt: HostRuntime) -> Result<(), Fail> {
     Ok(())
 }
 
-fn set_of(alloc: Global, numbers: &[usize]) -> Result<BitSet, SetError> {
-    BitSet::from_iter(alloc, numbers.iter().copied())
-}
-
 #[test]
 fn items_go_in_one_by_one(rt: HostRuntime) -> Result<(), Fail> {
-    let set = set_of(rt.alloc(), &[0, 2, 2, 3])?;
+    let set = set_of::<u32>(rt.alloc(), &[0, 2, 2, 3])?;
     assert!(rt; set.iter().eq([0, 2, 3]));
     assert_eq!(rt; set.count(), 3);
     assert_eq!(rt; set.get_ref().len(), 4);
@@ -83,7 +80,7 @@ fn put_all(set: &mut BitSet, numbers: &[usize]) -> Result<(), SetError> {
 
 #[test]
 fn no_items_need_no_memory(rt: HostRuntime) -> Result<(), Fail> {
-    let set = set_of(rt.alloc(), &[])?;
+    let set = set_of::<u32>(rt.alloc(), &[])?;
     assert_eq!(rt; (set.get_ref().len(), set.capacity()), (0, 0));
     Ok(())
 }
@@ -127,7 +124,7 @@ fn sets_have_lengths(rt: HostRuntime) -> Result<(), Fail> {
 
 #[test]
 fn a_clone_has_the_items_and_the_length(rt: HostRuntime) -> Result<(), Fail> {
-    let copy = set_of(rt.alloc(), &[400, 1])?.clone(rt.alloc())?;
+    let copy = set_of::<u32>(rt.alloc(), &[400, 1])?.clone(rt.alloc())?;
     assert!(rt; copy.iter().eq([1, 400]));
     assert_eq!(rt; copy.get_ref().len(), 401);
     Ok(())

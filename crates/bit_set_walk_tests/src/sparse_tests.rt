@@ -5,7 +5,7 @@ ghost use Rattle.bit_words.specs.Bits.{blocks_for};
 ghost use Rattle.bit_set.specs.Sets.{elements};
 ghost use Rattle.bit_set.specs.Walk.{Walk, IsAtStart};
 
-use crate::walk_tests::{agrees_at_each_point, bounds, set_of};
+use crate::walk_tests::{agrees_at_each_point, bounds, set_of_one};
 use bit_set::laws::sparse_walks;
 use bit_set::{BitBlock, BitSet, Iter};
 use block24::Block24;
@@ -28,7 +28,7 @@ fn pulls_of_sparse_sets()
 #[test]
 fn the_bound_falls_over_zero_blocks(rt: HostRuntime) -> Result<(), Fail> {
     pulls_of_sparse_sets();
-    let mut far = set_of::<u32>(rt.alloc(), 0, 0)?;
+    let mut far = set_of_one::<u32>(rt.alloc(), 0, 0)?;
     far.insert(100000)?;
     assert_eq!(rt; far.get_ref().storage().len(), 3126);
     assert_eq!(rt; far.get_ref().blocks().count(), 3126);
@@ -47,7 +47,7 @@ fn the_bound_falls_over_zero_blocks(rt: HostRuntime) -> Result<(), Fail> {
 
 #[test]
 fn a_removed_element_leaves_nothing(rt: HostRuntime) -> Result<(), Fail> {
-    let mut set = set_of::<u32>(rt.alloc(), 0, 400)?;
+    let mut set = set_of_one::<u32>(rt.alloc(), 0, 400)?;
     assert!(rt; !set.is_empty());
     set.remove(400);
     assert!(rt; set.is_empty());

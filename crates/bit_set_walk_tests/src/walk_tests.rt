@@ -13,7 +13,7 @@ use std::process::Abort;
 use std::test::Fail;
 
 // A set of one element, of at least this length.
-pub(crate) fn set_of<B: BitBlock>(
+pub(crate) fn set_of_one<B: BitBlock>(
     alloc: Global,
     len: usize,
     element: usize,
@@ -43,18 +43,18 @@ fn pulls_at_401_places()
 #[test]
 fn the_bound_falls_with_the_blocks(rt: HostRuntime) -> Result<(), Fail> {
     pulls_at_401_places();
-    let wide = bounds(&set_of::<u32>(rt.alloc(), 0, 400)?);
+    let wide = bounds(&set_of_one::<u32>(rt.alloc(), 0, 400)?);
     assert_eq!(rt; wide, [(0, Some(416)), (0, Some(32)), (0, Some(32))]);
-    let many_blocks = set_of::<u8>(rt.alloc(), 0, 400)?;
+    let many_blocks = set_of_one::<u8>(rt.alloc(), 0, 400)?;
     assert_eq!(rt; many_blocks.get_ref().storage().len(), 51);
     assert_eq!(rt; many_blocks.get_ref().blocks().count(), 51);
     let narrow = bounds(&many_blocks);
     assert_eq!(rt; narrow, [(0, Some(408)), (0, Some(8)), (0, Some(8))]);
-    let four_blocks = set_of::<u128>(rt.alloc(), 0, 400)?;
+    let four_blocks = set_of_one::<u128>(rt.alloc(), 0, 400)?;
     assert_eq!(rt; four_blocks.get_ref().storage().len(), 4);
     let widest = bounds(&four_blocks);
     assert_eq!(rt; widest, [(0, Some(512)), (0, Some(128)), (0, Some(128))]);
-    let roomy = bounds(&set_of::<u8>(rt.alloc(), 40, 3)?);
+    let roomy = bounds(&set_of_one::<u8>(rt.alloc(), 40, 3)?);
     assert_eq!(rt; roomy, [(0, Some(40)), (0, Some(40)), (0, Some(8))]);
     Ok(())
 }
@@ -77,11 +77,11 @@ fn a_walk_stays_at_its_end(rt: HostRuntime) -> Result<(), Fail> {
     assert_eq!(rt; firsts(&bytes), [Some(1), Some(4), Some(6), None, None]);
     let forty = BitSet::<u8>::from_bytes_general(rt.alloc(), &[0b0001_0100])?;
     assert_eq!(rt; firsts(&forty), [Some(3), Some(5), None, None, None]);
-    let wide = set_of::<u32>(rt.alloc(), 0, 400)?;
+    let wide = set_of_one::<u32>(rt.alloc(), 0, 400)?;
     assert_eq!(rt; firsts(&wide), [Some(400), None, None, None, None]);
     let widest = BitSet::<u128>::from_iter(rt.alloc(), [128, 127].iter().copied())?;
     assert_eq!(rt; firsts(&widest), [Some(127), Some(128), None, None, None]);
-    let roomy = set_of::<u8>(rt.alloc(), 40, 3)?;
+    let roomy = set_of_one::<u8>(rt.alloc(), 40, 3)?;
     assert_eq!(rt; firsts(&roomy), [Some(3), None, None, None, None]);
     Ok(())
 }

@@ -5,7 +5,7 @@ ghost use Rattle.std.specs.Prelude.{◌≡◌, IfOk, drop};
 ghost use Rattle.std.specs.Vec.Iter.{into_iter_items};
 ghost use Rattle.std.specs.Process.{exit_status};
 
-use bit_set_run::{Exit, start};
+use bit_set_run::{Exit, LinesFault, start};
 use std::alloc::{AllocError, Global};
 use std::env::Args;
 use std::process::ExitCode;
@@ -32,10 +32,7 @@ fn code_of(exit: Exit) -> ExitCode
 fn main(rt: HostRuntime) -> ExitCode {
     let exit = match words(&rt) {
         Ok(words) => start(rt.alloc(), &words, &mut rt.stdin(), &mut rt.stdout()),
-        Err(_) => Exit {
-            status: 3,
-            text: "memory refused",
-        },
+        Err(_) => Exit::of(Err(LinesFault::Memory)),
     };
     if !exit.text.is_empty() {
         // There is nowhere left to say that standard error is closed.

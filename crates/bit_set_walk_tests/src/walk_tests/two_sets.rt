@@ -10,6 +10,7 @@ use block24::Block24;
 use std::alloc::Global;
 use std::process::Abort;
 use std::test::Fail;
+use test_helpers::set_of;
 
 // A walk of any kind.
 trait AnyWalk: Drop {
@@ -95,10 +96,6 @@ fn agrees<W: AnyWalk>(rt: &impl Abort, walk: W, items: &[usize]) {
         gives(rt, walk.another(), left);
         assert_eq!(rt; walk.step(), left.first().copied());
     }
-}
-
-fn set_of<B: BitBlock>(alloc: Global, items: &[usize]) -> Result<BitSet<B>, SetError> {
-    BitSet::from_iter(alloc, items.iter().copied())
 }
 
 #[test]

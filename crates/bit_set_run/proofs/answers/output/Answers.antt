@@ -5,14 +5,12 @@ use Rattle.bit_set_run.proofs.answers.output.Goals as goal
 
 pub loop-line-init : goal.loop-line-init
 loop-line-init g c = record {
-  replies = c.new-replies.ensures.items;
   within = search rules;
   done = output-start c.new-text.result.items c.args.input.now c.new-table.result c.new-text.ensures.items c.new-table.ensures;
 }
 
 pub loop-line-preserved : goal.loop-line-preserved
 loop-line-preserved g c = record {
-  replies = c.in_ok-answer_line.ensures.replies;
   within = omega (arith, c.loop-line.invariant.within, c.in-Some.ensures.shorter);
   done =
       output-next c.loop-line.text.items c.answer_line.new.text.items c.loop-line.table c.answer_line.new.table c.loop-line.rest.now c.in-Some.line.now c.in-Some.after.now (output c.args.input.now)

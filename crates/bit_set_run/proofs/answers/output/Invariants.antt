@@ -1,4 +1,4 @@
-use Rattle.std.proofs.Common.{◌≡◌, ◌≤◌, ◌++◌, [], length}
+use Rattle.std.proofs.Common.{◌≡◌, ◌≤◌, ◌++◌, length}
 use Rattle.bit_set_run.specs.Lines.{lines_of}
 use Rattle.bit_set_run.specs.Output.{output}
 use Rattle.bit_set_run.proofs.OutputLemmas.{output_from}
@@ -6,7 +6,6 @@ use Rattle.bit_set_run.proofs.answers.output.Given as goal
 
 abbrev pub invariant-loop-line : goal.invariant-loop-line
 invariant-loop-line g l = record {
-  replies : l.replies.items ≡ [];
   within : length l.rest ≤ length l.input;
   done : l.text.items ++ output_from l.table (lines_of l.rest) ≡ output l.input;
 }
