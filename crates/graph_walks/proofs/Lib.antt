@@ -1,1 +1,3 @@
 pub mod WalkLemmas
+pub mod CloseLemmas
+pub mod PathLemmas

@@ -1,3 +1,4 @@
 pub mod Paths
 pub mod Explored
 pub mod RowLaws
+pub mod Closed

@@ -10,7 +10,7 @@ use crate::Graph;
 use bit_set::bit_vec::Steps;
 use bit_set::laws::{members_of_sets, sets_are_their_members, sets_ascend};
 use bit_set::{BitBlock, BitSet, SetError};
-use std::alloc::Global;
+use std::alloc::{AllocError, Global};
 
 /// How much a walk did. Contracts see both numbers; at run time they have no bytes and cost nothing.
 #[derive(Drop)]
@@ -63,7 +63,8 @@ pub fn reachable_counted<B: BitBlock, G: Graph>(
     ensures no_element { IsOk result → ¬ Path (G.rows graph) start usize.MAX }
     ensures fits { IfErr result (λ fault. fault ≢ SetError.Length) }
     ensures nodes { IfOk result (λ set. effort.new.nodes ≡ effort.old.nodes + length (elements set.values)) }
-    ensures edges { IfOk result (λ set. effort.new.edges ≡ effort.old.edges + sum_by (λ v. length (successors (G.rows graph) v)) (elements set.values)) }
+    ensures edges { IfOk result (λ set. effort.new.edges ≡ effort.old.edges
+        + sum_by (λ v. length (successors (G.rows graph) v)) (elements set.values)) }
 {
     let mut reached = BitSet::new_general(alloc);
     reached.insert(start)?;
@@ -72,6 +73,60 @@ pub fn reachable_counted<B: BitBlock, G: Graph>(
     explore(graph, &mut reached, stack, effort)?;
     bounded(&reached);
     Ok(reached)
+}
+
+/// The nodes to which a path leads from any of `starts`, these among them. As [`reachable`]: of each node
+/// the edges are looked at once, from however many starts it is reached.
+pub fn reachable_from_any<B: BitBlock, G: Graph>(
+    alloc: Global,
+    graph: G,
+    starts: &BitSet<B>,
+) -> Result<BitSet<B>, SetError>
+    ensures paths { IfOk result (λ set. (v : ℕ) → IsTrue (has (elements set.values) v)
+        ↔ ((s : ℕ) × IsTrue (has (elements starts.now.values) s) × Path (G.rows graph) s v)) }
+    ensures element { IsErrOf result SetError.Element
+        → (s : ℕ) × IsTrue (has (elements starts.now.values) s) × Path (G.rows graph) s usize.MAX }
+    ensures no_element { IsOk result
+        → (s : ℕ) → IsTrue (has (elements starts.now.values) s) → ¬ Path (G.rows graph) s usize.MAX }
+    ensures fits { IfErr result (λ fault. fault ≢ SetError.Length) }
+{
+    reachable_from_any_counted(alloc, graph, starts, &mut Effort::new())
+}
+
+/// [`reachable_from_any`], which adds to `effort` what it did.
+pub fn reachable_from_any_counted<B: BitBlock, G: Graph>(
+    alloc: Global,
+    graph: G,
+    starts: &BitSet<B>,
+    effort: &mut Effort,
+) -> Result<BitSet<B>, SetError>
+    ensures paths { IfOk result (λ set. (v : ℕ) → IsTrue (has (elements set.values) v)
+        ↔ ((s : ℕ) × IsTrue (has (elements starts.now.values) s) × Path (G.rows graph) s v)) }
+    ensures element { IsErrOf result SetError.Element
+        → (s : ℕ) × IsTrue (has (elements starts.now.values) s) × Path (G.rows graph) s usize.MAX }
+    ensures no_element { IsOk result
+        → (s : ℕ) → IsTrue (has (elements starts.now.values) s) → ¬ Path (G.rows graph) s usize.MAX }
+    ensures fits { IfErr result (λ fault. fault ≢ SetError.Length) }
+    ensures nodes { IfOk result (λ set. effort.new.nodes ≡ effort.old.nodes + length (elements set.values)) }
+    ensures edges { IfOk result (λ set. effort.new.edges ≡ effort.old.edges
+        + sum_by (λ v. length (successors (G.rows graph) v)) (elements set.values)) }
+{
+    let mut reached = starts.clone(alloc)?;
+    let stack = listed(alloc, starts)?;
+    explore(graph, &mut reached, stack, effort)?;
+    bounded(&reached);
+    Ok(reached)
+}
+
+// The elements of a set in a list.
+fn listed<B: BitBlock>(alloc: Global, set: &BitSet<B>) -> Result<Vec<usize>, AllocError>
+    ensures { IfOk result (λ list. list.items ≡ elements set.now.values) }
+{
+    let mut list = Vec::with_capacity(alloc, set.count())?;
+    for element in set.iter() {
+        list.push(element)?;
+    }
+    Ok(list)
 }
 
 // Puts in all that paths lead to from the nodes of the set, which are those on the stack.

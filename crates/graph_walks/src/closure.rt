@@ -1,0 +1,71 @@
+// The transitive closure of a graph of sets.
+ghost use Rattle.std.specs.Prelude.{◌≡◌, ◌<◌, ◌≤◌, ◌⊎◌, ℕ, All, OnErr, OnOk, length, map};
+ghost use Rattle.bit_set.specs.Sets.{elements};
+ghost use Rattle.graph_walks.specs.Closed.{IsClosed, IsClosureOf, IsOnTheWay, Joins, row};
+ghost use Rattle.graph_walks.specs.Paths.{rows_of};
+
+use bit_set::laws::members_of_merged_sets;
+use bit_set::{BitBlock, BitSet};
+use std::alloc::{AllocError, Global};
+
+/// Makes row `u` the set of all nodes to which a path of at least one edge leads from `u`: Warshall's
+/// algorithm, whole rows at a time. For `n` rows it makes `n * n` tests and at most as many unions. It
+/// takes memory for one spare row first, as long as the longest, and then only for a row whose capacity
+/// is less than that. Fails only where memory is refused. Each row then still has all that it had, and
+/// nothing that the closure does not have, so that the call may be repeated.
+pub fn close<B: BitBlock>(alloc: Global, rows: &mut [BitSet<B>]) -> Result<(), AllocError>
+    ensures closure { OnOk result (IsClosureOf (rows_of rows.old) (rows_of rows.new)) }
+    ensures closed { OnOk result (IsClosed (rows_of rows.new)) }
+    ensures on_the_way { IsOnTheWay (rows_of rows.old) (rows_of rows.new) }
+    ensures spare { (m : ℕ) → All (λ row. (length row.values ≤ m) × (m ≤ row.room)) rows.old
+        → OnErr result (rows.new ≡ rows.old) }
+    ensures room { (m : ℕ) → All (λ row. (length row.values ≤ m) × (m ≤ row.room)) rows.old
+        → map (λ row. row.room) rows.new ≡ map (λ row. row.room) rows.old }
+{
+    let mut via = BitSet::with_capacity_general(alloc, longest(rows))?;
+    for node in 0..rows.len() {
+        via.clone_from(&rows[node])?;
+        join_all(rows, node, &via)?;
+    }
+    Ok(())
+}
+
+// The greatest length of a row.
+fn longest<B: BitBlock>(rows: &[BitSet<B>]) -> usize
+    ensures { (u : ℕ) → u < length rows.now → length (row rows.now u).values ≤ result }
+{
+    let mut longest = 0;
+    for row in rows {
+        longest = longest.max(row.get_ref().len());
+    }
+    longest
+}
+
+// Each row that has the node takes in what is in `via`.
+fn join_all<B: BitBlock>(
+    rows: &mut [BitSet<B>],
+    node: usize,
+    via: &BitSet<B>,
+) -> Result<(), AllocError>
+    ensures each { OnOk result ((u : ℕ) → u < length rows.old → Joins node via.now (row rows.old u) (row rows.new u)) }
+    ensures some { (u : ℕ) → Joins node via.now (row rows.old u) (row rows.new u) ⊎ (row rows.new u ≡ row rows.old u) }
+    ensures full { OnErr result ((u : ℕ) × (u < length rows.old) × ((row rows.old u).room < length via.now.values)) }
+{
+    for row in rows.iter_mut() {
+        join(row, node, via)?;
+    }
+    Ok(())
+}
+
+// The row takes in what is in `via`, where it has the node.
+fn join<B: BitBlock>(row: &mut BitSet<B>, node: usize, via: &BitSet<B>) -> Result<(), AllocError>
+    ensures joins { OnOk result (Joins node via.now row.old row.new) }
+    ensures err { OnErr result (row.new ≡ row.old) }
+    ensures full { OnErr result (row.old.room < length via.now.values) }
+{
+    members_of_merged_sets();
+    if row.contains(node) {
+        row.union_with(via)?;
+    }
+    Ok(())
+}
