@@ -12,7 +12,10 @@ struct Feed {
 }
 
 impl Hasher for Feed {
-    ghost write = { λ s bytes. record { calls = (s.calls + 1) % 2 ^ 64; digest = fold (λ n b. (n * 1099511628211 % 2 ^ 64 + b) % 2 ^ 64) s.digest bytes } };
+    ghost write = { λ s bytes. record {
+      calls = (s.calls + 1) % 2 ^ 64;
+      digest = fold (λ n b. (n * 1099511628211 % 2 ^ 64 + b) % 2 ^ 64) s.digest bytes;
+    } };
 
     ghost finish = { λ s. s.digest };
 

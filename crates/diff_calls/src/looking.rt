@@ -69,7 +69,7 @@ fn next_if<B: Width>(
     answers.number(walk.count())
 }
 
-// A walk over blocks that are not 0, the first among them; and how many ones are left to it and to a copy.
+// So many steps of the walk over the first block and those that are not 0, and how many blocks there are.
 fn nonzero<B: Width>(
     bits: &BitVec<B>,
     steps: usize,
