@@ -77,11 +77,15 @@ impl Draw {
             Call::Contains | Call::Remove | Call::Truncate if is_far => line.first = usize::MAX - self.random.below(2),
             Call::BitsGet | Call::SplitOff if is_far => line.first = usize::MAX - self.random.below(2),
             Call::Insert | Call::Remove | Call::Contains => line.first = self.element(set),
-            Call::BitsSet | Call::BitsReplace | Call::BitsGet | Call::BitsCloneTail => line.first = self.within(set),
+            Call::BitsSet | Call::BitsReplace | Call::BitsGet => line.first = self.within(set),
+            Call::BitsCloneTail => line.first = self.within(&sets[line.other]),
             Call::Truncate | Call::BitsTruncate | Call::SplitOff => line.first = self.cut(set),
             Call::BitsGrow => line.first = self.growth(set),
             Call::BitsReserve | Call::BitsReserveExact => line.first = self.length().saturating_sub(set.len),
             Call::BitsBlocks | Call::BitsNextIf | Call::BitsNonzero => self.steps(line, set.blocks()),
+            Call::Union | Call::SymmetricDifference => {
+                self.steps(line, set.elements.len() + sets[line.other].elements.len());
+            }
             _ if line.call.group() == Group::Walk => self.steps(line, set.elements.len()),
             Call::FromIter | Call::Extend => line.numbers = self.elements(set, is_far),
             _ if line.call.form().contains('*') => line.numbers = self.bytes(),

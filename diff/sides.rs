@@ -3,6 +3,9 @@
 use crate::calls::{Call, Group, Line};
 use std::hash::{Hash, Hasher};
 
+/// What stands for a refused element.
+const REFUSED: usize = 2;
+
 /// An element that no length holds.
 pub struct Refused;
 
@@ -87,7 +90,7 @@ impl Answers {
     }
 
     fn change(&mut self, ended: Result<bool, Refused>) {
-        self.number(ended.map_or(2, usize::from));
+        self.number(ended.map_or(REFUSED, usize::from));
     }
 
     fn block(&mut self, block: u128) {
