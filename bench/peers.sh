@@ -1,0 +1,92 @@
+# What `bench/run` and `diff/run` share: it gets and builds the Rust crates that this library is put beside, and builds
+# this library for Rust. To be sourced, with the name of the script in `script`, and in `folder` where the crates are
+# kept, outside the repository. It ends the script with status 1 where something fails, and with 2 where something is
+# missing.
+cpu=x86-64-v2
+crates="$(cd "$(dirname "${BASH_SOURCE[0]}")/../crates" && pwd -P)"
+
+say() {
+    echo "$script: $1" >&2
+}
+
+missing() {
+    say "$1 is missing: $2"
+    exit 2
+}
+
+# Runs a command, and shows what it says only where it fails.
+quietly() {
+    "$@" > "$folder/log" 2>&1 || {
+        tail -n 40 "$folder/log" >&2
+        say "this failed: $*"
+        exit 1
+    }
+}
+
+command -v rt > /dev/null || missing rt "the Rattle toolchain's command, on the PATH"
+command -v rustc > /dev/null || missing rustc "the Rust compiler, of edition 2024 (1.85 or later), on the PATH"
+mkdir -p "$folder"
+folder="$(cd "$folder" && pwd -P)"
+sources="$folder/root/usr/share/cargo/registry"
+
+# The peers' sources are Debian's packages of the crates, which hold them as published.
+get_packages() {
+    (cd "$folder" && apt-get download librust-bit-set-dev librust-bit-vec-dev librust-fixedbitset-dev)
+}
+
+get_peers() {
+    command -v apt-get > /dev/null || missing apt-get "the peers are Debian's packages librust-bit-set-dev, librust-bit-vec-dev and librust-fixedbitset-dev"
+    command -v dpkg-deb > /dev/null || missing dpkg-deb "it unpacks Debian's packages"
+    say "getting the peers"
+    if ! get_packages > "$folder/log" 2>&1; then
+        apt-get update >> "$folder/log" 2>&1 || true
+        get_packages >> "$folder/log" 2>&1 || {
+            tail -n 10 "$folder/log" >&2
+            missing "a package of the peers" "apt-get could not get librust-bit-set-dev, librust-bit-vec-dev and librust-fixedbitset-dev (a list of packages that is out of date needs 'apt-get update', as root)"
+        }
+    fi
+    rm -rf "$folder/unpacked"
+    for package in "$folder"/*.deb; do
+        quietly dpkg-deb -x "$package" "$folder/unpacked"
+    done
+    mv "$folder/unpacked" "$folder/root"
+}
+
+# Both sides are built for the same processors: rt builds for x86-64-v2.
+rust() {
+    quietly rustc -C opt-level=3 -C "target-cpu=$cpu" --cap-lints allow "$@"
+}
+
+peer() {
+    local name="$1" source
+    shift
+    source="$(echo "$sources/${name//_/-}"-*/src/lib.rs)"
+    [ -f "$source" ] || missing "$source" "it is part of Debian's package of that crate; remove $folder and try again"
+    rust --edition 2018 --crate-type rlib --crate-name "$name" --cfg 'feature="std"' "$source" -o "$folder/lib$name.rlib" "$@"
+}
+
+build_peers() {
+    [ -d "$sources" ] || get_peers
+    say "building the peers"
+    peer bit_vec
+    peer bit_set --extern "bit_vec=$folder/libbit_vec.rlib"
+    peer fixedbitset
+}
+
+# Proves the static library NAME, and builds the Rust program SOURCE over it and over the peers.
+#   build_program NAME SOURCE PROGRAM
+build_program() {
+    local name="$1" memory
+    say "proving and building this library, which takes some minutes the first time"
+    (cd "$crates/$name" && quietly rt check && quietly rt lib)
+    memory="$(dirname "$(rt doc | head -n 1)")/c/liblibc_c.a"
+    [ -f "$memory" ] || missing "$memory" "the toolchain's library of the calls that take memory"
+    rust --edition 2024 "$2" -L "$folder" --extern "bit_set=$folder/libbit_set.rlib" \
+        --extern "bit_vec=$folder/libbit_vec.rlib" --extern "fixedbitset=$folder/libfixedbitset.rlib" \
+        -C "link-arg=$crates/$name/out/lib$name.a" -C "link-arg=$memory" -o "$3"
+}
+
+# Which toolchains and peers these are.
+tell_versions() {
+    echo "$(rt version), $(rustc --version), peers for $cpu: $(cd "$sources" && echo bit-set-* bit-vec-* fixedbitset-*)"
+}

@@ -1,0 +1,16 @@
+//! Scripts of public calls on sets and bit vectors. `diff/run` makes the same calls of other libraries, and compares
+//! what each call returns. A script is read by `lines`, and what its calls return is written by `answers`.
+#![tactic(auto)]
+
+mod answers;
+mod bits;
+mod calls;
+mod changing;
+mod feed;
+mod lines;
+mod looking;
+mod making;
+mod reading;
+mod running;
+mod walks;
+mod widths;

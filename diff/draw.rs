@@ -1,0 +1,196 @@
+//! Scripts drawn at random. Each script has a size of its own: how long its sets are, and how dense.
+use crate::calls::{CALLS, Call, Group, Line};
+use crate::model::{Model, width};
+use crate::random::Random;
+
+/// Draws the lines of one script, each by what the sets then have.
+pub struct Draw {
+    random: Random,
+    lines_left: usize,
+    /// The lengths that are drawn stay below this, and sets of more elements are emptied.
+    most: usize,
+    most_elements: usize,
+}
+
+impl Draw {
+    pub fn new(seed: u64) -> Draw {
+        let mut random = Random::new(seed);
+        let summary = width() * width();
+        let (most, most_elements) = match random.below(1000) {
+            0..200 => (3 * width() + 2, usize::MAX),
+            200..450 => (2 * summary + 2, usize::MAX),
+            450..700 => (9 * summary + 2, 20_000),
+            700..950 => (35 * summary + 2, 20_000),
+            950..995 => (1 << 20, 20_000),
+            _ => (5_000_000, 500_000),
+        };
+        let lines_left = 50 + random.below(150);
+        Draw { random, lines_left, most, most_elements }
+    }
+
+    /// The next line of the script.
+    pub fn line(&mut self, sets: &[Model; 4]) -> Option<Line> {
+        self.lines_left = self.lines_left.checked_sub(1)?;
+        let set = self.random.below(4);
+        if sets[set].elements.len() > self.most_elements && self.random.once_in(4) {
+            return Some(Line::new(self.random.of(&[Call::MakeEmpty, Call::Reset, Call::BitsRemoveAll]), set));
+        }
+        let is_new = sets[set].len == 0 && self.random.once_in(2);
+        let mut line = Line::new(if is_new { Call::BitsGrow } else { self.call(sets[set].len) }, set);
+        if line.call.form().contains('t') {
+            line.other = self.other(set, line.call);
+        }
+        self.numbers(&mut line, sets);
+        Some(line)
+    }
+
+    /// A call, those that change single elements or merge more often. Texts are for short sets.
+    fn call(&mut self, len: usize) -> Call {
+        let often =
+            [Call::Insert, Call::Insert, Call::Remove, Call::Extend, Call::BitsSet, Call::BitsGrow, Call::UnionWith];
+        loop {
+            let call = if self.random.once_in(4) { self.random.of(&often) } else { self.random.of(CALLS).0 };
+            let is_long = match call {
+                Call::Debug | Call::BitsDebug => len > 2000,
+                Call::Display | Call::Json | Call::IntoIter | Call::BitsStorage => len > 20_000,
+                _ => false,
+            };
+            // Sets that are made new are empty or short: so not each call may make one.
+            let is_rare = matches!(call.group(), Group::Make | Group::Move)
+                || matches!(call, Call::MakeEmpty | Call::Clear | Call::Reset | Call::BitsRemoveAll);
+            if !(is_long && !self.random.once_in(100) || is_rare && !self.random.once_in(3)) {
+                return call;
+            }
+        }
+    }
+
+    fn other(&mut self, set: usize, call: Call) -> usize {
+        let may_be_same = matches!(call.group(), Group::Read | Group::Walk);
+        if may_be_same && self.random.once_in(8) { set } else { (set + 1 + self.random.below(3)) % 4 }
+    }
+
+    fn numbers(&mut self, line: &mut Line, sets: &[Model; 4]) {
+        let set = &sets[line.set];
+        let is_far = self.random.once_in(400);
+        match line.call {
+            Call::Insert if is_far => line.first = usize::MAX,
+            Call::Contains | Call::Remove | Call::Truncate if is_far => line.first = usize::MAX - self.random.below(2),
+            Call::BitsGet | Call::SplitOff if is_far => line.first = usize::MAX - self.random.below(2),
+            Call::Insert | Call::Remove | Call::Contains => line.first = self.element(set),
+            Call::BitsSet | Call::BitsReplace | Call::BitsGet => line.first = self.within(set),
+            Call::BitsCloneTail => line.first = self.within(&sets[line.other]),
+            Call::Truncate | Call::BitsTruncate | Call::SplitOff => line.first = self.cut(set),
+            Call::BitsGrow => line.first = self.growth(set),
+            Call::BitsReserve | Call::BitsReserveExact => line.first = self.length().saturating_sub(set.len),
+            Call::BitsBlocks | Call::BitsNextIf | Call::BitsNonzero => self.steps(line, set.blocks()),
+            Call::Union | Call::SymmetricDifference => {
+                self.steps(line, set.elements.len() + sets[line.other].elements.len());
+            }
+            _ if line.call.group() == Group::Walk => self.steps(line, set.elements.len()),
+            Call::FromIter | Call::Extend => line.numbers = self.elements(set, is_far),
+            _ if line.call.form().contains('*') => line.numbers = self.bytes(),
+            _ => line.first = self.length(),
+        }
+        if line.call.form().contains('b') {
+            line.second = usize::from(self.random.once_in(2));
+        }
+        // Long lists of true values are for scripts of short sets.
+        if self.most > 20_000 && line.call.form() == "snb" && line.first > 3000 && !self.random.once_in(12) {
+            line.second = 0;
+        }
+        if line.call == Call::BitsFill && set.len > 20_000 && !self.random.once_in(20) {
+            line.second = 0;
+        }
+    }
+
+    /// A length at a multiple of the bits of a block, of a block of the summary, or of some of those, or to a side.
+    fn length(&mut self) -> usize {
+        let summary = width() * width();
+        let unit = self.random.of(&[1, 8, width(), width(), summary, 8 * summary, 32 * summary]);
+        let count = if self.random.once_in(2) { self.random.below(4) } else { self.random.below(self.most / unit + 1) };
+        let near = unit * count + self.random.below(3);
+        near.saturating_sub(1).min(self.most)
+    }
+
+    /// An element of the set or beside one, a place at an edge, or any below the length or the most.
+    fn element(&mut self, set: &Model) -> usize {
+        match self.random.below(6) {
+            0 | 1 => {
+                let from = self.random.below(set.len.max(1));
+                let near = set.elements.range(from..).next().or(set.elements.last());
+                near.map_or(0, |near| (near + self.random.below(3)).saturating_sub(1))
+            }
+            2 => self.random.below(set.len + 2),
+            3 => self.random.below(self.most.min(4 * width())),
+            4 => self.random.below(self.most),
+            _ => self.length(),
+        }
+    }
+
+    /// A place below the length, and now and then one past it.
+    fn within(&mut self, set: &Model) -> usize {
+        let place = self.element(set);
+        if place < set.len || self.random.once_in(6) { place } else { place % set.len.max(1) }
+    }
+
+    /// Where to cut: mostly near the end, so that something stays.
+    fn cut(&mut self, set: &Model) -> usize {
+        match self.random.below(4) {
+            0 => self.length(),
+            1 => self.element(set),
+            _ => set.len.saturating_sub(self.random.below(3 * width())),
+        }
+    }
+
+    /// By how much to grow: to a length at an edge, or by some blocks.
+    fn growth(&mut self, set: &Model) -> usize {
+        let count = match self.random.below(3) {
+            0 => self.length().saturating_sub(set.len),
+            1 => self.random.below(3 * width()),
+            _ => self.random.below(9),
+        };
+        count.min(self.most.saturating_sub(set.len))
+    }
+
+    /// Some steps and some more: few, or as many as lead to the end and past it.
+    fn steps(&mut self, line: &mut Line, count: usize) {
+        let short = |random: &mut Random| random.below(7);
+        let is_few = count > 3000 && !self.random.once_in(50);
+        let whole = if is_few { 40 } else { count };
+        line.first = if self.random.once_in(2) { short(&mut self.random) } else { self.random.below(whole + 2) };
+        line.second = match self.random.below(3) {
+            0 => short(&mut self.random),
+            1 => self.random.below(whole + 2),
+            _ => (whole + 2).saturating_sub(line.first),
+        };
+    }
+
+    /// Elements in a cluster, evenly apart, at edges, or anywhere, in any order.
+    fn elements(&mut self, set: &Model, is_far: bool) -> Vec<usize> {
+        let count = self.random.of(&[0, 1, 2, 5, 12, 40]);
+        let start = self.element(set);
+        let apart = self.random.of(&[1, 2, 7, width(), width() * width()]);
+        let kind = self.random.below(4);
+        let mut elements: Vec<usize> = (0..count)
+            .map(|place| match kind {
+                0 => start + self.random.below(2 * width()),
+                1 => (start + place * apart) % (self.most + 1),
+                2 => self.length(),
+                _ => self.element(set),
+            })
+            .collect();
+        if is_far {
+            let place = self.random.below(count + 1);
+            elements.insert(place, usize::MAX);
+        }
+        elements
+    }
+
+    fn bytes(&mut self) -> Vec<usize> {
+        let most = self.random.of(&[0, 1, 4, 16, 17, 40, 300]).min(self.most / 8 + 1);
+        let count = self.random.below(most + 1);
+        let fill = self.random.of(&[0, 255, 256, 256]);
+        let random = &mut self.random;
+        (0..count).map(|_| if fill < 256 && !random.once_in(9) { fill } else { random.below(256) }).collect()
+    }
+}

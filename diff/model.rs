@@ -1,0 +1,368 @@
+//! The plain slow side: a `BTreeSet` and a length. It has each call, as this library documents it.
+use crate::calls::{Call, Line};
+use crate::sides::{BlockWalk, Refused, Set, Walk};
+use std::cell::Cell;
+use std::cmp::Ordering;
+use std::collections::BTreeSet;
+use std::hash::{Hash, Hasher};
+
+thread_local! {
+    static WIDTH: Cell<usize> = const { Cell::new(32) };
+}
+
+/// How many bits a block has in the scripts that follow.
+pub fn set_width(bits: usize) {
+    WIDTH.set(bits);
+}
+
+pub fn width() -> usize {
+    WIDTH.get()
+}
+
+#[derive(Clone, Default)]
+pub struct Model {
+    pub elements: BTreeSet<usize>,
+    pub len: usize,
+}
+
+impl Model {
+    fn filled(len: usize, bit: bool) -> Model {
+        let elements = if bit { (0..len).collect() } else { BTreeSet::new() };
+        Model { elements, len }
+    }
+
+    /// The first value is the highest bit of the first byte.
+    fn of_bytes(bytes: &[u8]) -> Model {
+        let len = 8 * bytes.len();
+        let elements = (0..len).filter(|place| bytes[place / 8] >> (7 - place % 8) & 1 == 1).collect();
+        Model { elements, len }
+    }
+
+    fn insert(&mut self, number: usize) -> Result<bool, Refused> {
+        if number == usize::MAX {
+            return Err(Refused);
+        }
+        self.len = self.len.max(number + 1);
+        Ok(self.elements.insert(number))
+    }
+
+    fn extend(&mut self, numbers: &[usize]) -> Result<bool, Refused> {
+        for number in numbers {
+            self.insert(*number)?;
+        }
+        Ok(true)
+    }
+
+    fn truncate(&mut self, len: usize) {
+        if len < self.len {
+            self.elements.split_off(&len);
+            self.len = len;
+        }
+    }
+
+    pub fn blocks(&self) -> usize {
+        self.len.div_ceil(width())
+    }
+
+    /// The length becomes that of the blocks up to the one with the greatest element.
+    fn cut_zero_blocks(&mut self) {
+        self.len = self.elements.last().map_or(0, |last| (last / width() + 1) * width());
+    }
+
+    /// The elements of both sets, those that a call keeps.
+    fn merge(&mut self, call: Call, other: &Model) {
+        let (one, two) = (&self.elements, &other.elements);
+        self.elements = match call {
+            Call::UnionWith | Call::BitsMergeUnion => one | two,
+            Call::IntersectWith | Call::BitsMergeIntersection => one & two,
+            Call::DifferenceWith | Call::BitsMergeDifference => one - two,
+            _ => one ^ two,
+        };
+        self.len = self.len.max(other.len);
+    }
+
+    fn put(&mut self, place: usize, bit: bool) -> bool {
+        if bit { !self.elements.insert(place) } else { self.elements.remove(&place) }
+    }
+
+    fn grow(&mut self, count: usize, bit: bool) {
+        if bit {
+            self.elements.extend(self.len..self.len + count);
+        }
+        self.len += count;
+    }
+
+    /// The values as digits, with a space between those of one block and the next where that is wanted.
+    pub fn digits(&self, between: &str) -> String {
+        let mut text = String::new();
+        for place in 0..self.len {
+            if place != 0 && place % width() == 0 {
+                text.push_str(between);
+            }
+            text.push(if self.elements.contains(&place) { '1' } else { '0' });
+        }
+        text
+    }
+}
+
+impl PartialEq for Model {
+    fn eq(&self, other: &Model) -> bool {
+        self.elements == other.elements
+    }
+}
+
+impl Eq for Model {}
+
+impl PartialOrd for Model {
+    fn partial_cmp(&self, other: &Model) -> Option<Ordering> {
+        Some(self.cmp(other))
+    }
+}
+
+impl Ord for Model {
+    fn cmp(&self, other: &Model) -> Ordering {
+        self.elements.iter().cmp(&other.elements)
+    }
+}
+
+impl Hash for Model {
+    fn hash<H: Hasher>(&self, state: &mut H) {
+        for element in &self.elements {
+            element.hash(state);
+        }
+    }
+}
+
+impl Set for Model {
+    fn made(line: &Line) -> Result<Model, Refused> {
+        Ok(match line.call {
+            Call::WithCapacity | Call::WithCapacityGeneral => Model::filled(line.first, false),
+            Call::BitsFromElem | Call::BitsFromElemGeneral => Model::filled(line.first, line.bit()),
+            Call::FromBytes | Call::FromBytesGeneral | Call::BitsFromBytes | Call::BitsFromBytesGeneral => {
+                Model::of_bytes(&line.bytes())
+            }
+            Call::FromIter => {
+                let mut set = Model::default();
+                set.extend(&line.numbers)?;
+                set
+            }
+            _ => Model::default(),
+        })
+    }
+
+    fn changed(&mut self, line: &Line) -> Result<bool, Refused> {
+        match line.call {
+            Call::Insert => return self.insert(line.first),
+            Call::Remove => return Ok(self.elements.remove(&line.first)),
+            Call::Extend => return self.extend(&line.numbers),
+            Call::Truncate => self.truncate(line.first),
+            Call::MakeEmpty | Call::Clear => self.elements.clear(),
+            Call::Reset => *self = Model::default(),
+            Call::ShrinkToFit => self.cut_zero_blocks(),
+            _ => {}
+        }
+        Ok(true)
+    }
+
+    fn merged(&mut self, call: Call, other: &Model) {
+        self.merge(call, other);
+    }
+
+    fn append(&mut self, other: &mut Model) {
+        self.merge(Call::UnionWith, other);
+        other.elements.clear();
+    }
+
+    fn split_off(&mut self, at: usize) -> Model {
+        if at >= self.len && at != 0 {
+            return Model::default();
+        }
+        let part = Model { elements: self.elements.split_off(&at), len: self.len };
+        self.len = at;
+        part
+    }
+
+    fn bits_clone(&self) -> Model {
+        self.clone()
+    }
+
+    fn bits_clone_tail(&self, at: usize) -> Model {
+        Model { elements: self.elements.range(at..).copied().collect(), len: self.len }
+    }
+
+    fn contains(&self, number: usize) -> bool {
+        self.elements.contains(&number)
+    }
+
+    fn count(&self) -> usize {
+        self.elements.len()
+    }
+
+    fn is_empty(&self) -> bool {
+        self.elements.is_empty()
+    }
+
+    fn capacity(&self) -> usize {
+        self.len
+    }
+
+    fn is_subset(&self, other: &Model) -> bool {
+        self.elements.is_subset(&other.elements)
+    }
+
+    fn is_superset(&self, other: &Model) -> bool {
+        self.elements.is_superset(&other.elements)
+    }
+
+    fn is_disjoint(&self, other: &Model) -> bool {
+        self.elements.is_disjoint(&other.elements)
+    }
+
+    fn display(&self) -> String {
+        format!("{:?}", self.elements)
+    }
+
+    fn debug(&self) -> String {
+        format!("BitSet {{ bit_vec: {} }}", self.bits_debug())
+    }
+
+    fn json(&self) -> Option<String> {
+        let numbers: Vec<String> = self.bits_storage().iter().map(u128::to_string).collect();
+        let text = format!("{{\"bit_vec\":{{\"nbits\":{},\"storage\":[{}]}}}}", self.len, numbers.join(","));
+        (width() < 128).then_some(text)
+    }
+
+    fn walk<'a>(&'a self, call: Call, other: &'a Model) -> Box<dyn Walk + 'a> {
+        let (one, two) = (&self.elements, &other.elements);
+        let items: Vec<usize> = match call {
+            Call::Iter => one.iter().copied().collect(),
+            Call::Union => one.union(two).copied().collect(),
+            Call::Intersection => one.intersection(two).copied().collect(),
+            Call::Difference => one.difference(two).copied().collect(),
+            _ => one.symmetric_difference(two).copied().collect(),
+        };
+        let all = if call == Call::Iter { self.blocks() } else { self.blocks().max(other.blocks()) };
+        let most = (call == Call::Intersection).then_some(self.len.min(other.len));
+        Box::new(ModelWalk { items: items.into(), taken: 0, last_block: all.max(1) - 1, block: 0, most })
+    }
+
+    fn elements(&self) -> Vec<usize> {
+        self.elements.iter().copied().collect()
+    }
+
+    fn bits_written(&mut self, line: &Line, other: &Model) -> Option<bool> {
+        match line.call {
+            Call::BitsSet | Call::BitsReplace => return Some(self.put(line.first, line.bit())),
+            Call::BitsFill => *self = Model::filled(self.len, line.bit()),
+            Call::BitsTruncate => self.truncate(line.first),
+            Call::BitsRemoveAll => *self = Model::default(),
+            Call::BitsGrow => self.grow(line.first, line.bit()),
+            Call::BitsCutZeroBlocks => self.cut_zero_blocks(),
+            Call::BitsCloneFrom => *self = other.clone(),
+            Call::BitsReserve | Call::BitsReserveExact | Call::BitsShrinkToFit => {}
+            merge => self.merge(merge, other),
+        }
+        None
+    }
+
+    fn bits_len(&self) -> usize {
+        self.len
+    }
+
+    fn bits_get(&self, place: usize) -> Option<bool> {
+        (place < self.len).then(|| self.elements.contains(&place))
+    }
+
+    fn bits_none(&self) -> bool {
+        self.elements.is_empty()
+    }
+
+    fn bits_count_ones(&self) -> usize {
+        self.elements.len()
+    }
+
+    fn bits_capacity(&self) -> usize {
+        self.len
+    }
+
+    fn bits_storage(&self) -> Vec<u128> {
+        let mut blocks = vec![0; self.blocks()];
+        for element in &self.elements {
+            blocks[element / width()] |= 1 << (element % width());
+        }
+        blocks
+    }
+
+    fn bits_blocks(&self) -> Box<dyn BlockWalk + '_> {
+        Box::new(ModelBlocks { blocks: self.bits_storage().into(), taken: 0 })
+    }
+
+    fn bits_is_subset_of(&self, other: &Model) -> bool {
+        self.is_subset(other)
+    }
+
+    fn bits_is_disjoint_from(&self, other: &Model) -> bool {
+        self.is_disjoint(other)
+    }
+
+    fn bits_debug(&self) -> String {
+        format!("BitVec {{ storage: \"{}\", nbits: {} }}", self.digits(" "), self.len)
+    }
+}
+
+/// A walk over the items of a list. Its upper bound is that of the blocks from the one in hand on: at first the first
+/// block, after an item the one with that item, and at the end the last; or what it may give at most.
+#[derive(Clone)]
+struct ModelWalk {
+    items: std::rc::Rc<[usize]>,
+    taken: usize,
+    block: usize,
+    last_block: usize,
+    most: Option<usize>,
+}
+
+impl Walk for ModelWalk {
+    fn bounds(&self) -> (usize, Option<usize>) {
+        let blocks_left = 1 + self.last_block - self.block;
+        (0, Some(self.most.unwrap_or(blocks_left * width())))
+    }
+
+    fn next(&mut self) -> Option<usize> {
+        self.most = self.most.map(|most| most.saturating_sub(1));
+        let item = self.items.get(self.taken).copied();
+        self.taken += usize::from(item.is_some());
+        self.block = item.map_or(self.last_block, |item| item / width());
+        item
+    }
+
+    fn copy(&self) -> Box<dyn Walk + '_> {
+        Box::new(self.clone())
+    }
+
+    fn count_left(&self) -> usize {
+        self.items.len() - self.taken
+    }
+}
+
+#[derive(Clone)]
+struct ModelBlocks {
+    blocks: std::rc::Rc<[u128]>,
+    taken: usize,
+}
+
+impl BlockWalk for ModelBlocks {
+    fn bounds(&self) -> (usize, Option<usize>) {
+        let left = self.blocks.len() - self.taken;
+        (left, Some(left))
+    }
+
+    fn next(&mut self) -> Option<u128> {
+        let block = self.blocks.get(self.taken).copied();
+        self.taken += usize::from(block.is_some());
+        block
+    }
+
+    fn copy(&self) -> Box<dyn BlockWalk + '_> {
+        Box::new(self.clone())
+    }
+}

@@ -1,0 +1,28 @@
+//! This library's side: the static library `crates/diff_calls`.
+use crate::calls::Line;
+
+unsafe extern "C" {
+    fn diff_run(bits: usize, script: *const usize, n: usize, places: *mut usize, m: usize) -> usize;
+}
+
+/// What the calls of a script return, and the blocks of all sets at the end; nothing where memory is refused. The bits
+/// are those of a block, or 0 for `usize`. What is in `places` is written over.
+pub fn run(bits: usize, lines: &[Line], places: &mut Vec<usize>) -> bool {
+    let mut script = Vec::new();
+    for line in lines {
+        line.write_words(&mut script);
+    }
+    loop {
+        let room = places.len();
+        let (script, n) = (script.as_ptr(), script.len());
+        let count = unsafe { diff_run(bits, script, n, places.as_mut_ptr(), room) };
+        if count == usize::MAX {
+            return false;
+        }
+        places.resize(count.max(room), 0);
+        if count <= room {
+            places.truncate(count);
+            return true;
+        }
+    }
+}

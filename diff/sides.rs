@@ -1,0 +1,313 @@
+//! What a side that is written in Rust has to offer, and how the words that a call returns are written: as in
+//! `crates/diff_calls`, so that they can be compared word by word.
+use crate::calls::{Call, Group, Line};
+use std::hash::{Hash, Hasher};
+
+/// What stands for a refused element.
+const REFUSED: usize = 2;
+
+/// An element that no length holds.
+pub struct Refused;
+
+/// A walk over elements.
+pub trait Walk {
+    fn bounds(&self) -> (usize, Option<usize>);
+    fn next(&mut self) -> Option<usize>;
+    fn copy(&self) -> Box<dyn Walk + '_>;
+    fn count_left(&self) -> usize;
+}
+
+/// A set of one side. Each function is the call of its name; those behind `bits` are calls of the bit vector.
+pub trait Set: Sized + Ord + Hash + Clone {
+    fn made(line: &Line) -> Result<Self, Refused>;
+    fn changed(&mut self, line: &Line) -> Result<bool, Refused>;
+    fn merged(&mut self, call: Call, other: &Self);
+    fn append(&mut self, other: &mut Self);
+    fn split_off(&mut self, at: usize) -> Self;
+    fn bits_clone(&self) -> Self;
+    fn bits_clone_tail(&self, at: usize) -> Self;
+    fn contains(&self, number: usize) -> bool;
+    fn count(&self) -> usize;
+    fn is_empty(&self) -> bool;
+    fn capacity(&self) -> usize;
+    fn is_subset(&self, other: &Self) -> bool;
+    fn is_superset(&self, other: &Self) -> bool;
+    fn is_disjoint(&self, other: &Self) -> bool;
+    fn display(&self) -> String;
+    fn debug(&self) -> String;
+    /// Nothing where blocks of this type have no JSON form.
+    fn json(&self) -> Option<String>;
+    fn walk<'a>(&'a self, call: Call, other: &'a Self) -> Box<dyn Walk + 'a>;
+    fn elements(&self) -> Vec<usize>;
+    fn bits_written(&mut self, line: &Line, other: &Self) -> Option<bool>;
+    fn bits_len(&self) -> usize;
+    fn bits_get(&self, place: usize) -> Option<bool>;
+    fn bits_none(&self) -> bool;
+    fn bits_count_ones(&self) -> usize;
+    fn bits_capacity(&self) -> usize;
+    fn bits_storage(&self) -> Vec<u128>;
+    fn bits_blocks(&self) -> Box<dyn BlockWalk + '_>;
+    fn bits_is_subset_of(&self, other: &Self) -> bool;
+    fn bits_is_disjoint_from(&self, other: &Self) -> bool;
+    fn bits_debug(&self) -> String;
+}
+
+/// A walk over blocks.
+pub trait BlockWalk {
+    fn bounds(&self) -> (usize, Option<usize>);
+    fn next(&mut self) -> Option<u128>;
+    fn copy(&self) -> Box<dyn BlockWalk + '_>;
+}
+
+/// The words of the calls made so far.
+#[derive(Default)]
+pub struct Answers(pub Vec<usize>);
+
+impl Answers {
+    pub fn number(&mut self, number: usize) {
+        self.0.push(number);
+    }
+
+    pub fn truth(&mut self, truth: bool) {
+        self.number(usize::from(truth));
+    }
+
+    fn item(&mut self, item: Option<usize>) {
+        self.number(item.map_or(0, |item| item + 1));
+    }
+
+    fn bit(&mut self, bit: Option<bool>) {
+        self.item(bit.map(usize::from));
+    }
+
+    fn bounds(&mut self, (lower, upper): (usize, Option<usize>)) {
+        self.0.extend([lower, upper.unwrap_or(usize::MAX)]);
+    }
+
+    pub fn text(&mut self, text: &str) {
+        self.number(text.len());
+        self.0.extend(text.bytes().map(usize::from));
+    }
+
+    fn change(&mut self, ended: Result<bool, Refused>) {
+        self.number(ended.map_or(REFUSED, usize::from));
+    }
+
+    fn block(&mut self, block: u128) {
+        self.0.extend([block as u64 as usize, (block >> 64) as usize]);
+    }
+
+    fn next_block(&mut self, next: Option<u128>) {
+        self.truth(next.is_some());
+        self.block(next.unwrap_or(0));
+    }
+
+    pub fn storage(&mut self, blocks: &[u128]) {
+        self.number(blocks.len());
+        for block in blocks {
+            self.block(*block);
+        }
+    }
+}
+
+/// Says how often it was fed, and a number that tells the bytes that it was fed.
+#[derive(Default)]
+struct Feed {
+    calls: usize,
+    digest: u64,
+}
+
+impl Hasher for Feed {
+    fn finish(&self) -> u64 {
+        self.digest
+    }
+
+    fn write(&mut self, bytes: &[u8]) {
+        self.calls += 1;
+        for byte in bytes {
+            self.digest = self.digest.wrapping_mul(1099511628211).wrapping_add(u64::from(*byte));
+        }
+    }
+}
+
+/// Makes the call of a line, and then says the lengths of both sets.
+pub fn answer<S: Set>(sets: &mut [S; 4], line: &Line, answers: &mut Answers) {
+    match line.call.group() {
+        Group::Make => {
+            let made = S::made(line).map(|set| sets[line.set] = set);
+            answers.change(made.map(|()| true));
+        }
+        Group::Read => read(&sets[line.set], &sets[line.other], line, answers),
+        Group::Walk => walk(&sets[line.set], &sets[line.other], line, answers),
+        _ if line.is_idle() => {}
+        group => {
+            let [set, other] = sets.get_disjoint_mut([line.set, line.other]).expect("two sets");
+            match group {
+                Group::Change => change(set, other, line, answers),
+                Group::Move => move_over(set, other, line),
+                Group::Write => write(set, other, line, answers),
+                _ => look(set, other, line, answers),
+            }
+        }
+    }
+    for set in [&sets[line.set], &sets[line.other]] {
+        answers.number(set.bits_len());
+        answers.truth(set.bits_len() <= set.capacity());
+    }
+}
+
+fn change<S: Set>(set: &mut S, other: &S, line: &Line, answers: &mut Answers) {
+    match line.call {
+        Call::IntoBitVec => {
+            answers.number(set.bits_len());
+            let _same = set.changed(line);
+        }
+        Call::CloneFrom => set.clone_from(other),
+        Call::UnionWith | Call::IntersectWith | Call::DifferenceWith | Call::SymmetricDifferenceWith => {
+            set.merged(line.call, other)
+        }
+        _ => answers.change(set.changed(line)),
+    }
+}
+
+fn move_over<S: Set>(set: &mut S, other: &mut S, line: &Line) {
+    match line.call {
+        Call::Clone => *set = other.clone(),
+        Call::Append => set.append(other),
+        Call::SplitOff => *other = set.split_off(line.first),
+        Call::BitsClone => *set = other.bits_clone(),
+        _ if line.first < other.bits_len() => *set = other.bits_clone_tail(line.first),
+        _ => {}
+    }
+}
+
+fn read<S: Set>(set: &S, other: &S, line: &Line, answers: &mut Answers) {
+    match line.call {
+        Call::Contains => answers.truth(set.contains(line.first)),
+        Call::Count | Call::Len => answers.number(set.count()),
+        Call::IsEmpty => answers.truth(set.is_empty()),
+        Call::Capacity => answers.truth(set.bits_len() <= set.capacity()),
+        Call::IsSubset => answers.truth(set.is_subset(other)),
+        Call::IsSuperset => answers.truth(set.is_superset(other)),
+        Call::IsDisjoint => answers.truth(set.is_disjoint(other)),
+        Call::Eq => answers.truth(set == other),
+        Call::Cmp => {
+            answers.number((set.cmp(other) as i8 + 1) as usize);
+            answers.truth(set.partial_cmp(other).is_some());
+            answers.truth(set < other);
+            answers.truth(set >= other);
+        }
+        Call::Hash => {
+            let mut feed = Feed::default();
+            set.hash(&mut feed);
+            answers.0.extend([feed.calls, feed.finish() as usize]);
+        }
+        Call::Display => answers.text(&set.display()),
+        Call::Debug => answers.text(&set.debug()),
+        _ => {
+            if let Some(text) = set.json() {
+                answers.text(&text);
+                answers.truth(true);
+                answers.number(set.bits_len());
+            }
+        }
+    }
+}
+
+fn step(walk: &mut dyn Walk, steps: usize, answers: &mut Answers) {
+    for _ in 0..steps {
+        answers.bounds(walk.bounds());
+        answers.item(walk.next());
+    }
+}
+
+fn walk<S: Set>(set: &S, other: &S, line: &Line, answers: &mut Answers) {
+    if line.call == Call::IntoIter {
+        return answers.0.extend(set.elements());
+    }
+    let mut walk = set.walk(line.call, other);
+    step(&mut *walk, line.first, answers);
+    // A copy borrows what it is a copy of: so the walk that goes on is a copy too.
+    let (mut on, mut copy) = (walk.copy(), walk.copy());
+    step(&mut *on, line.second, answers);
+    answers.number(on.count_left());
+    step(&mut *copy, line.second, answers);
+    step(&mut *copy, 1, answers);
+    answers.number(copy.count_left());
+    step(&mut *on, 1, answers);
+    answers.number(on.count_left());
+}
+
+fn write<S: Set>(set: &mut S, other: &S, line: &Line, answers: &mut Answers) {
+    let len = set.bits_len();
+    match line.call {
+        Call::BitsSet | Call::BitsReplace if len <= line.first => answers.bit(None),
+        Call::BitsSet | Call::BitsReplace => {
+            let was = set.bits_written(line, other);
+            answers.bit(if line.call == Call::BitsSet { Some(line.bit()) } else { was });
+        }
+        Call::BitsGrow | Call::BitsReserve | Call::BitsReserveExact if line.first > usize::MAX - len => {}
+        Call::BitsMergeUnion | Call::BitsMergeIntersection | Call::BitsMergeDifference | Call::BitsMergeSymmetric
+            if len < other.bits_len() => {}
+        _ => {
+            let _nothing = set.bits_written(line, other);
+        }
+    }
+}
+
+fn look<S: Set>(set: &S, other: &S, line: &Line, answers: &mut Answers) {
+    match line.call {
+        Call::BitsLen => answers.number(set.bits_len()),
+        Call::BitsGet => answers.bit(set.bits_get(line.first)),
+        Call::BitsNone => answers.truth(set.bits_none()),
+        Call::BitsCountOnes => answers.number(set.bits_count_ones()),
+        Call::BitsCapacity => answers.truth(set.bits_len() <= set.bits_capacity()),
+        Call::BitsStorage => answers.storage(&set.bits_storage()),
+        Call::BitsBlocks => blocks(set, line, answers),
+        Call::BitsNextIf => next_if(set, line.first, answers),
+        Call::BitsNonzero => nonzero(set, line.first, answers),
+        Call::BitsIsSubsetOf => answers.truth(set.bits_is_subset_of(other)),
+        Call::BitsIsDisjointFrom => answers.truth(set.bits_is_disjoint_from(other)),
+        _ => answers.text(&set.bits_debug()),
+    }
+}
+
+fn step_blocks(walk: &mut dyn BlockWalk, steps: usize, answers: &mut Answers) {
+    for _ in 0..steps {
+        answers.bounds(walk.bounds());
+        answers.next_block(walk.next());
+    }
+}
+
+fn blocks<S: Set>(set: &S, line: &Line, answers: &mut Answers) {
+    let mut walk = set.bits_blocks();
+    step_blocks(&mut *walk, line.first, answers);
+    let (mut on, mut copy) = (walk.copy(), walk.copy());
+    step_blocks(&mut *on, line.second, answers);
+    step_blocks(&mut *copy, line.second, answers);
+    // The blocks of the slice that is left, and those that each walk counts.
+    for left in [on.bounds().0, on.bounds().0, copy.bounds().0] {
+        answers.number(left);
+    }
+}
+
+/// A block that is not wanted is 0, whether there is one or not.
+fn next_if<S: Set>(set: &S, steps: usize, answers: &mut Answers) {
+    let mut walk = set.bits_blocks();
+    for turn in 0..steps {
+        answers.next_block(if turn % 2 == 0 { walk.next() } else { Some(0) });
+    }
+    answers.number(walk.bounds().0);
+}
+
+/// The first block comes, and each other one that is not 0.
+fn nonzero<S: Set>(set: &S, steps: usize, answers: &mut Answers) {
+    let storage = set.bits_storage();
+    let mut walk = storage.iter().enumerate().filter(|(place, block)| *place == 0 || **block != 0);
+    for _ in 0..steps {
+        let next = walk.next();
+        answers.item(next.map(|entry| entry.0));
+        answers.next_block(next.map(|entry| *entry.1));
+    }
+    answers.number(storage.len());
+}
