@@ -132,7 +132,8 @@ def main():
     root = Path(sys.argv[1])
     check = Check()
     sources = {path: lines_of(path.read_text(encoding="utf-8")) for path in sorted(root.glob("crates/*/src/**/*.rt"))}
-    tests = [lines for path, lines in sources.items() if "#[test]" in lines]
+    # A test hands what it prints by to `assert!`, which no example does.
+    tests = [[line.replace("!(rt; ", "!(") for line in lines] for lines in sources.values() if "#[test]" in lines]
     documents = [root / "README.md", *sorted(root.glob("crates/*/CALLING.md"))]
     for document in documents:
         check_examples(check, root, document, list(sources.values()))

@@ -6,6 +6,8 @@ mod agreement_tests;
 #[cfg(test)]
 mod algebra_tests;
 #[cfg(test)]
+mod example_tests;
+#[cfg(test)]
 mod hostile_tests;
 #[cfg(test)]
 mod order_tests;

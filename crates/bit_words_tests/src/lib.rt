@@ -6,6 +6,8 @@ mod block_tests;
 #[cfg(test)]
 mod blocks_tests;
 #[cfg(test)]
+mod example_tests;
+#[cfg(test)]
 mod merge_tests;
 #[cfg(test)]
 mod nonzero_tests;

@@ -20,7 +20,7 @@ impl<B: BitBlock> BitSet<B> {
     ///
     /// ```
     /// set.reserve_len(100)?;
-    /// // From here on no insertion below 100 is refused.
+    /// // From here on no insertion below 100 fails.
     /// ```
     pub fn reserve_len(&mut self, len: usize) -> Result<(), AllocError>
         ensures values { self.new.values ≡ self.old.values }

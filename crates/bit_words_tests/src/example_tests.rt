@@ -1,0 +1,33 @@
+//! The examples of the doc comments, as they are there.
+use bit_words::bit_vec::{BitVec, BitsError, take_lowest_one};
+use std::alloc::AllocError;
+use std::process::Abort;
+use std::test::Fail;
+
+#[test]
+fn the_lowest_one_of_a_block(rt: HostRuntime) -> Result<(), Fail> {
+    let mut block = 0b0110u8;
+    assert_eq!(rt; take_lowest_one(&mut block), 1);
+    assert_eq!(rt; block, 0b0100);
+    Ok(())
+}
+
+#[test]
+fn a_list_of_five_values(rt: HostRuntime) -> Result<(), Fail> {
+    let alloc = rt.alloc();
+    let mut bits = BitVec::from_elem(alloc, 3, false)?;
+    bits.set(1, true);
+    bits.grow(2, true)?;
+    assert_eq!(rt; bits.storage()[0], 0b11010);
+    Ok(())
+}
+
+#[test]
+fn blocks_that_are_not_zero(rt: HostRuntime) -> Result<(), Fail> {
+    let mut bits = BitVec::from_elem(rt.alloc(), 100, false)?;
+    bits.set(70, true);
+    bits.set(71, true);
+    // Of 100 values, over blocks of 32 bits, those at 70 and 71 are true.
+    assert!(rt; bits.nonzero().eq([(0, 0), (2, 0b1100_0000)]));
+    Ok(())
+}
