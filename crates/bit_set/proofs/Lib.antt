@@ -13,6 +13,7 @@ pub mod WalkLemmas
 pub mod PairLemmas
 pub mod TallyLemmas
 pub mod SparseLemmas
+pub mod FromLemmas
 pub mod WalkLaws
 pub mod SparseLaws
 pub mod UnlikeLemmas
