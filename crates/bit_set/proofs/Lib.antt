@@ -16,6 +16,7 @@ pub mod PairLemmas
 pub mod TallyLemmas
 pub mod SparseLemmas
 pub mod ChainLemmas
+pub mod FromLemmas
 pub mod WalkLaws
 pub mod SparseLaws
 pub mod UnlikeLemmas

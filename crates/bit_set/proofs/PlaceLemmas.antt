@@ -87,7 +87,7 @@ places-lowest w p m r i bs low within cleared =
 
 -- ---- those of a list of truth values
 
-value_in : (w : ℕ) (ms : List ℕ) (q j : ℕ) → j < w → get_or (values_in w ms) (q * w + j) false ≡ is_one (get_or ms q 0) j
+pub value_in : (w : ℕ) (ms : List ℕ) (q j : ℕ) → j < w → get_or (values_in w ms) (q * w + j) false ≡ is_one (get_or ms q 0) j
 value_in w [] q j within = sym (is_one-zero j)
 value_in w (m ∷ ms) zero j within =
     ap (λ k. get_or (digits_from m 0 w ++ values_in w ms) k false) (let e : zero * w + j ≡ j = omega arith in e)

@@ -1,10 +1,10 @@
 -- Walks over the elements of a set, block by block.
-use Rattle.std.specs.Prelude.{◌≡◌, ℕ, ◌+◌, ◌-◌, ◌*◌, ◌/◌, ◌^◌, ◌<◌, ◌≤◌, ◌==◌, max, Bool, nat_lt, if◌then◌else◌, List, [], ◌∷◌, length, ⊤, Option, Some, None, MatchOption}
+use Rattle.std.specs.Prelude.{◌≡◌, ℕ, ◌+◌, ◌-◌, ◌*◌, ◌/◌, ◌^◌, ◌<◌, ◌≤◌, ◌==◌, max, min, Bool, nat_lt, if◌then◌else◌, List, [], ◌∷◌, length, ⊤, Option, Some, None, MatchOption}
 use Rattle.std.specs.Iterator.{YieldsFirst, YieldsThen, Drains}
 use Rattle.bit_words.specs.Bits.{blocks_for}
 use Rattle.bit_words.specs.declared.bit_vec.merge.Merge.{Merge}
 use Rattle.bit_set.specs.Members.{TakesLeast}
-use Rattle.bit_set.specs.Sets.{elements, merged_sets}
+use Rattle.bit_set.specs.Sets.{elements, merged_sets, those_from}
 
 -- What contracts see of a walk over a set: the elements that are left, how often it called `next` on its block
 -- source, the number that stands first in the block in hand, and how many blocks are past that block; how often a
@@ -95,6 +95,16 @@ pub record IsAtStart (w : ℕ) (values : List Bool) (s : Walk) : Type 0 where
   pub blocks : s.blocks ≡ blocks_for w (length values) - 1
   pub summary : s.summary_pulls + s.summary_left ≡ max 1 (blocks_for w (blocks_for w (length values)))
   -- so that the elements can be counted
+  pub few : length s.left < 2 ^ 64
+
+-- At the making of a walk over those elements that are `from` or above: the block of `from` is in hand, or the last
+-- one where the list ends before it.
+pub record IsAtStartFrom (w : ℕ) (values : List Bool) (from : ℕ) (s : Walk) : Type 0 where
+  pub left : s.left ≡ those_from (elements values) from
+  pub pulls : s.pulls ≡ 1
+  pub place : s.place ≡ min (from / w) (blocks_for w (length values) - 1) * w
+  pub blocks : s.blocks ≡ blocks_for w (length values) - 1 - from / w
+  pub summary : s.summary_pulls + s.summary_left ≡ max 1 (blocks_for w (blocks_for w (length values)) - min (from / w) (blocks_for w (length values) - 1) / w)
   pub few : length s.left < 2 ^ 64
 
 -- At the making of a walk over what two lists of truth values become, in blocks of w. It has pulled both once, and

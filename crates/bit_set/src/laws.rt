@@ -15,7 +15,7 @@ ghost use Rattle.bit_set.specs.Members.{TakesLeast};
 ghost use Rattle.bit_set.specs.Room.{Call, Run, room_wanted};
 ghost use Rattle.bit_set.specs.Json.{IsFirstFault, Spells};
 ghost use Rattle.bit_set.specs.declared.json.JsonError.{JsonError};
-ghost use Rattle.bit_set.specs.Walk.{Walk, TwoSetWalk, BoundedWalk, IsWalkedOut, IsAtStart, StartsOverTwo, WalksOverTwo, blocks_past};
+ghost use Rattle.bit_set.specs.Walk.{Walk, TwoSetWalk, BoundedWalk, IsWalkedOut, IsAtStart, IsAtStartFrom, StartsOverTwo, WalksOverTwo, blocks_past};
 ghost use Rattle.bit_words.specs.Merges.{merged_value, merged};
 ghost use Rattle.bit_words.specs.declared.bit_vec.merge.Merge.{Merge};
 ghost use Rattle.bit_set.specs.Sets.{IsAscending, has, put, put_all, without, those_below, those_from, those_new, elements, bound_of, union, intersection, difference, symmetric_difference, merged_sets, is_subset, is_disjoint};
@@ -203,13 +203,15 @@ pub fn whole_walks<B: BitBlock + 'static>()
 
 /// How often whole walks over a set pull. From any point up to the first `None` there is just one pull more
 /// than there are nonzero blocks past the block in hand; from the making on, when block 0 is in hand, zero
-/// or not, there are two more. The blocks of the summary are pulled once each, and once more at the end.
+/// or not, there are two more; so it is where a walk begins at any number, of the blocks past that of this number.
+/// The blocks of the summary are pulled once each, and once more at the end.
 /// The nonzero blocks past block `k` are the blocks past it that an element which is left lies in, each once
 /// and in ascending order.
 pub fn sparse_walks<B: BitBlock + 'static>()
     ensures rest { (s t : Walk) (items : List ℕ) → YieldsThen ⟦<Iter<'static, B> as Iterator>⟧.next_gives s items None t → t.pulls ≡ s.pulls + length (blocks_past B.width (s.place / B.width) s.left) + 1 }
     ensures whole { (values : List Bool) (s t : Walk) (items : List ℕ) → IsAtStart B.width values s → YieldsThen ⟦<Iter<'static, B> as Iterator>⟧.next_gives s items None t → t.pulls ≡ length (blocks_past B.width 0 (elements values)) + 2 }
     ensures summary { (values : List Bool) (s t : Walk) (items : List ℕ) → IsAtStart B.width values s → YieldsThen ⟦<Iter<'static, B> as Iterator>⟧.next_gives s items None t → t.summary_pulls ≡ max 1 (blocks_for B.width (blocks_for B.width (length values))) + 1 }
+    ensures whole_from { (values : List Bool) (from : ℕ) (s t : Walk) (items : List ℕ) → IsAtStartFrom B.width values from s → YieldsThen ⟦<Iter<'static, B> as Iterator>⟧.next_gives s items None t → (items ≡ those_from (elements values) from) × (t.pulls ≡ length (blocks_past B.width (s.place / B.width) (those_from (elements values) from)) + 2) }
     ensures members { (k q : ℕ) (numbers : List ℕ) → IsAscending numbers → has (blocks_past B.width k numbers) q ≡ (nat_lt k q && has (map (λ n. n / B.width) numbers) q) }
     ensures ascend { (k : ℕ) (numbers : List ℕ) → IsAscending (blocks_past B.width k numbers) }
 {}

@@ -1,13 +1,13 @@
 //! The walks over a set's elements, and over what two sets make.
-ghost use Rattle.std.specs.Prelude.{◌≡◌, ◌+◌, ◌-◌, ◌<◌, ◌^◌, max, IfSome, length};
+ghost use Rattle.std.specs.Prelude.{◌≡◌, ◌+◌, ◌-◌, ◌*◌, ◌/◌, ◌<◌, ◌^◌, max, min, IfSome, length};
 ghost use Rattle.std.specs.Iterator.{UpTo, item_count};
 ghost use Rattle.std.specs.Iterator.Runs.{YieldsInOrder};
 ghost use Rattle.std.specs.Iterator.SizeHint.{IsWithinCount};
 ghost use Rattle.bit_words.specs.Bits.{blocks_for};
-ghost use Rattle.bit_set.specs.Sets.{elements};
-ghost use Rattle.bit_set.specs.Walk.{Advances, IsAtStart, bound_on_rest};
+ghost use Rattle.bit_set.specs.Sets.{elements, those_from};
+ghost use Rattle.bit_set.specs.Walk.{Advances, IsAtStart, IsAtStartFrom, bound_on_rest};
 
-use crate::bit_vec::{BitVec, Nonzero, take_lowest_one};
+use crate::bit_vec::{BitVec, Nonzero, clear_below, take_lowest_one};
 use crate::{BitBlock, BitSet};
 use std::marker::Model;
 
@@ -57,6 +57,26 @@ impl<'a, B: BitBlock> Iter<'a, B> {
             nonzero,
             block,
             place: 0,
+        }
+    }
+
+    // The walk over those of these places that are `from` or above.
+    #[inline]
+    pub(crate) fn over_from(bits: &'a BitVec<B>, from: usize) -> Self
+        ensures { IsAtStartFrom B.width bits.now.values from result }
+    {
+        let mut started = bits.nonzero_from(from / B::bits());
+        let (place, block) = match started.next() {
+            Some(first) => {
+                let place = first.0 * B::bits();
+                (place, clear_below(first.1, from - place))
+            }
+            None => (0, B::zero()),
+        };
+        Iter {
+            nonzero: started,
+            block,
+            place,
         }
     }
 
@@ -131,6 +151,24 @@ impl<B: BitBlock> BitSet<B> {
         ensures runs { YieldsInOrder (Advances B.width) (λ walk. walk.left) }
     {
         Iter::over(self.get_ref())
+    }
+
+    /// A walk over the elements that are `from` or above, in ascending order. Constant time.
+    ///
+    /// ```
+    /// let set = BitSet::from_bytes(rt.alloc(), &[0b0100_1010])?;
+    /// assert!(set.iter_from(2).eq([4, 6]));
+    /// ```
+    #[inline]
+    pub fn iter_from(&self, from: usize) -> Iter<'_, B>
+        ensures left { result.left ≡ those_from (elements self.now.values) from }
+        ensures pulls { result.pulls ≡ 1 }
+        ensures place { result.place ≡ min (from / B.width) (blocks_for B.width (length self.now.values) - 1) * B.width }
+        ensures blocks { result.blocks ≡ blocks_for B.width (length self.now.values) - 1 - from / B.width }
+        ensures summary { result.summary_pulls + result.summary_left ≡ max 1 (blocks_for B.width (blocks_for B.width (length self.now.values)) - min (from / B.width) (blocks_for B.width (length self.now.values) - 1) / B.width) }
+        ensures fits { length result.left < 2 ^ 64 }
+    {
+        Iter::over_from(self.get_ref(), from)
     }
 }
 

@@ -16,4 +16,5 @@ pub mod RoomLemmas
 pub mod SummaryLemmas
 pub mod TailLemmas
 pub mod NonzeroLemmas
+pub mod NonzeroFromLemmas
 pub mod CountLemmas

@@ -48,7 +48,7 @@ module _ {X : Type 0} where
       ∙ ap (λ b. if b then (k, get_or xs k d) ∷ pick f (k + 1) (drop (k + 1) xs) else pick f (k + 1) (drop (k + 1) xs)) here
 
   -- where the marks tell which blocks are not 0
-  pick-nonzero : (number : X → ℕ) (f : ℕ → Bool) (k : ℕ) (xs : List X) → ((j : ℕ) → f (k + j) ≡ is_used (map number xs) j) → pick f k xs ≡ nonzero_from number k xs
+  pub pick-nonzero : (number : X → ℕ) (f : ℕ → Bool) (k : ℕ) (xs : List X) → ((j : ℕ) → f (k + j) ≡ is_used (map number xs) j) → pick f k xs ≡ nonzero_from number k xs
   pick-nonzero number f k [] tell = refl
   pick-nonzero number f k (x ∷ xs) tell =
       ap (λ b. if b then (k, x) ∷ pick f (k + 1) xs else pick f (k + 1) xs) (ap f (let e : k ≡ k + 0 = omega arith in e) ∙ tell 0)
@@ -61,13 +61,13 @@ module _ {X : Type 0} where
 
 -- ---- the marks of one block of the summary, and of those past it
 
-marked-within : (w place m : ℕ) (ms : List ℕ) (k : ℕ) → k < place + w → is_marked w place m ms k ≡ is_one m (k - place)
+pub marked-within : (w place m : ℕ) (ms : List ℕ) (k : ℕ) → k < place + w → is_marked w place m ms k ≡ is_one m (k - place)
 unfolding is_marked
 marked-within w place m ms k within =
     let t : nat_lt k (place + w) ≡ true = grind (arith, nat_tests) in
     ap (λ b. if b then is_one m (k - place) else is_used ms k) t
 
-marked-past : (w place m : ℕ) (ms : List ℕ) (k : ℕ) → place + w ≤ k → is_marked w place m ms k ≡ is_used ms k
+pub marked-past : (w place m : ℕ) (ms : List ℕ) (k : ℕ) → place + w ≤ k → is_marked w place m ms k ≡ is_used ms k
 unfolding is_marked
 marked-past w place m ms k past =
     let t : nat_lt k (place + w) ≡ false = grind (arith, nat_tests) in
@@ -75,18 +75,18 @@ marked-past w place m ms k past =
 
 -- ---- blocks of a summary, one by one
 
-value_at-first : (w m : ℕ) (ms : List ℕ) (k : ℕ) → k < w → value_at w (m ∷ ms) k ≡ is_one m k
+pub value_at-first : (w m : ℕ) (ms : List ℕ) (k : ℕ) → k < w → value_at w (m ∷ ms) k ≡ is_one m k
 value_at-first w m ms k within =
     ap (value_at w (m ∷ ms)) (let e : k ≡ 0 * w + k = omega arith in e) ∙ value_at-place w (m ∷ ms) 0 k within
 
-value_at-rest : (w m : ℕ) (ms : List ℕ) (k : ℕ) → 0 < w → value_at w (m ∷ ms) (w + k) ≡ value_at w ms k
+pub value_at-rest : (w m : ℕ) (ms : List ℕ) (k : ℕ) → 0 < w → value_at w (m ∷ ms) (w + k) ≡ value_at w ms k
 value_at-rest w m ms k pos =
     ap (value_at w (m ∷ ms)) (let e : w + k ≡ suc (k / w) * w + k % w = omega (arith, div-add-mod' k w) in e)
     ∙ value_at-place w (m ∷ ms) (suc (k / w)) (k % w) (mod-lt k pos)
     ∙ sym (value_at-is w ms k)
 
 -- what is not 0 is a block
-nonzero_inside : {X : Type 0} (number : X → ℕ) (k : ℕ) (xs : List X) → is_used (map number xs) k ≡ true → k < length xs
+pub nonzero_inside : {X : Type 0} (number : X → ℕ) (k : ℕ) (xs : List X) → is_used (map number xs) k ≡ true → k < length xs
 nonzero_inside number k xs some =
     ⊎_elim
     (λ inside. inside)
@@ -96,7 +96,7 @@ nonzero_inside number k xs some =
     (cases_lt k (length xs))
 
 -- what lies past the first blocks
-dropped : {X : Type 0} (number : X → ℕ) (n j : ℕ) (xs : List X) → get_or (map number (drop n xs)) j 0 ≡ get_or (map number xs) (n + j) 0
+pub dropped : {X : Type 0} (number : X → ℕ) (n j : ℕ) (xs : List X) → get_or (map number (drop n xs)) j 0 ≡ get_or (map number xs) (n + j) 0
 dropped number n j xs = ap (λ ms. get_or ms j 0) (sym (drop-map number n xs)) ∙ get_or-drop n (map number xs) j 0
 
 module _ {X : Type 0} (w : ℕ) (number : X → ℕ) (is_block : X → Type 0) where

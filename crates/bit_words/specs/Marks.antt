@@ -1,5 +1,5 @@
 -- How a walk over the blocks that are not 0 finds them by the summary. No public clause cites this.
-use Rattle.std.specs.Prelude.{◌≡◌, ℕ, ◌+◌, ◌-◌, ◌*◌, ◌^◌, ◌<◌, ◌≤◌, Bool, true, nat_lt, if◌then◌else◌, List, [], ◌∷◌, map, drop, length, All}
+use Rattle.std.specs.Prelude.{◌≡◌, ℕ, ◌+◌, ◌-◌, ◌*◌, ◌^◌, ◌<◌, ◌≤◌, Bool, true, false, nat_lt, if◌then◌else◌, List, [], ◌∷◌, map, drop, length, All}
 use Rattle.bit_words.specs.Digits.{is_one}
 use Rattle.bit_words.specs.Storage.{value_at}
 use Rattle.bit_words.specs.Summary.{is_used}
@@ -33,3 +33,9 @@ pub record IsMarked {X : Type 0} (w : ℕ) (number : X → ℕ) (is_block : X �
   pub enough : length xs ≤ place + w + length sums * w
   pub few : 0 < length sums → place + length sums * w < length xs
   pub digit : (k : ℕ) → value_at w (map number sums) k ≡ is_used (map number xs) (place + w + k)
+
+-- Of w digits, r has those of m past digit d, and is 1 at d and 0 below it.
+pub record IsMarkedFrom (w d m r : ℕ) : Type 0 where
+  pub below : (j : ℕ) → j < d → is_one r j ≡ false
+  pub here : is_one r d ≡ true
+  pub above : (j : ℕ) → d < j → j < w → is_one r j ≡ is_one m j

@@ -35,6 +35,11 @@ abbrev pub first_and_nonzero : {X : Type 0} → (X → ℕ) → List X → List 
 first_and_nonzero number [] = []
 first_and_nonzero number (x ∷ xs) = (0, x) ∷ nonzero_from number 1 xs
 
+-- the same from block k on, the first of these in any case
+abbrev pub block_and_nonzero : {X : Type 0} → (X → ℕ) → ℕ → List X → List (ℕ × X)
+block_and_nonzero number k [] = []
+block_and_nonzero number k (x ∷ xs) = (k, x) ∷ nonzero_from number (k + 1) xs
+
 -- how many binary digits of blocks are 1
 abbrev pub ones_in : {X : Type 0} → (X → ℕ) → List X → ℕ
 ones_in number xs = sum_by (λ x. count_ones (number x)) xs

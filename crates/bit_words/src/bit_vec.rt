@@ -26,6 +26,7 @@ mod zeros;
 pub use block::BitBlock;
 pub use blocks::Blocks;
 pub use lowest::take_lowest_one;
+pub use masks::clear_below;
 pub use merge::Merge;
 pub use nonzero::Nonzero;
 pub use steps::Steps;

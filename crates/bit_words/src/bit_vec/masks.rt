@@ -1,5 +1,6 @@
 // A block with some of its digits written. Each clause is by digit, as the test that it is 1.
-ghost use Rattle.std.specs.Prelude.{◌≡◌, ◌≢◌, ℕ, ◌<◌, ◌&&◌, ◌||◌, false, nat_lt, nat_le};
+ghost use Rattle.std.specs.Prelude.{◌≡◌, ◌≢◌, ℕ, ◌<◌, ◌==◌, ◌&&◌, ◌||◌, false, nat_lt, nat_le};
+ghost use Rattle.std.specs.Int.{bit_at};
 ghost use Rattle.bit_words.specs.Digits.{is_one};
 
 use super::BitBlock;
@@ -114,4 +115,24 @@ pub(crate) fn cut_below<B: BitBlock>(block: B, place: usize) -> B
         → is_one (B.number result) j ≡ (nat_le place j && is_one (B.number block) j) }
 {
     block_and(block, ones_from(place))
+}
+
+/// A block with its digits below `place` made 0; where it has no others, all of them. Constant time: with this a
+/// walk starts inside a block.
+///
+/// ```
+/// assert_eq!(clear_below(0b0111u8, 1), 0b0110);
+/// assert_eq!(clear_below(0b0111u8, 8), 0);
+/// ```
+#[inline]
+pub fn clear_below<B: BitBlock>(block: B, place: usize) -> B
+    requires { B.is_block block }
+    ensures of_block { B.is_block result }
+    ensures digits { (j : ℕ) → j < B.width → (bit_at (B.number result) j == 1) ≡ (nat_le place j && (bit_at (B.number block) j == 1)) }
+{
+    if place < B::bits() {
+        cut_below(block, place)
+    } else {
+        B::zero()
+    }
 }

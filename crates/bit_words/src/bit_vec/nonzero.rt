@@ -1,12 +1,14 @@
-ghost use Rattle.std.specs.Prelude.{◌≡◌, ◌-◌, ◌<◌, ◌^◌, min, All, Some, length, slice_get};
+ghost use Rattle.std.specs.Prelude.{◌≡◌, ◌-◌, ◌/◌, ◌<◌, ◌^◌, min, All, Some, drop, length, slice_get};
 ghost use Rattle.std.specs.Iterator.{item_count};
 ghost use Rattle.bit_words.specs.Bits.{blocks_for};
 ghost use Rattle.bit_words.specs.Digits.{IsEither};
-ghost use Rattle.bit_words.specs.Nonzero.{first_and_nonzero, ones_left};
+ghost use Rattle.bit_words.specs.Nonzero.{block_and_nonzero, first_and_nonzero, ones_left};
+ghost use Rattle.bit_words.specs.Marks.{IsMarkedFrom};
 ghost use Rattle.bit_words.specs.Summary.{IsSummary};
 
 use super::counting::{first_blocks, ones_by_summary, ones_of};
 use super::lowest::take_lowest_one;
+use super::masks::{cut_below, with_digit};
 use super::words::block_or;
 use super::{BitBlock, Blocks, Steps};
 use std::marker::Model;
@@ -74,6 +76,34 @@ impl<'a, B: BitBlock> Nonzero<'a, B> {
             summary: rest,
             marks,
             place: 0,
+            steps: Steps::new(),
+        }
+    }
+
+    // The same from the block at `from` on, which comes in any case.
+    #[inline]
+    pub(crate) fn over_from(blocks: &'a [B], summary: &'a [B], from: usize) -> Self
+        requires each { All B.is_block blocks.now }
+        requires fits { length blocks.now < 2 ^ 64 }
+        requires summary { IsSummary B.width B.number B.is_block blocks.now summary.now }
+        requires inside { from < length blocks.now }
+        ensures blocks { result.blocks ≡ blocks.now }
+        ensures left { result.left ≡ block_and_nonzero B.number from (drop from blocks.now) }
+        ensures pulls { result.pulls ≡ 0 }
+        ensures summary_pulls { result.summary_pulls ≡ 1 }
+        ensures summary_left { result.summary_left ≡ length summary.now - 1 - from / B.width }
+    {
+        let row = from / B::bits();
+        let mut rest = Blocks::over(summary.split_at(row).1);
+        let marks = match rest.next() {
+            Some(row_marks) => with_marks_from(row_marks, from % B::bits()),
+            None => B::zero(),
+        };
+        Nonzero {
+            blocks,
+            summary: rest,
+            marks,
+            place: row * B::bits(),
             steps: Steps::new(),
         }
     }
@@ -148,6 +178,17 @@ fn with_first_marked<B: BitBlock>(marks: B) -> B
     ensures of_digits { IsEither B.width (B.number marks) 1 (B.number result) }
 {
     block_or(marks, B::one())
+}
+
+// The marks of a row of blocks past the one at `place`, and that of this one in any case.
+#[inline]
+fn with_marks_from<B: BitBlock>(marks: B, place: usize) -> B
+    requires of_block { B.is_block marks }
+    requires within { place < B.width }
+    ensures of_block { B.is_block result }
+    ensures marked { IsMarkedFrom B.width place (B.number marks) (B.number result) }
+{
+    with_digit(cut_below(marks, place), place, true)
 }
 
 #[inline]

@@ -1,7 +1,7 @@
-ghost use Rattle.std.specs.Prelude.{◌≡◌, ◌-◌, ◌↔◌, All, IsTrue, false, length, map, min, slice_get};
+ghost use Rattle.std.specs.Prelude.{◌≡◌, ◌-◌, ◌/◌, ◌↔◌, All, IsTrue, drop, false, length, map, min, slice_get};
 ghost use Rattle.std.specs.List.{count_by};
 ghost use Rattle.bit_words.specs.Bits.{blocks_for, blocks_of, IsRoomOfBlocks, IsWithinRoom};
-ghost use Rattle.bit_words.specs.Nonzero.{first_and_nonzero};
+ghost use Rattle.bit_words.specs.Nonzero.{block_and_nonzero, first_and_nonzero};
 
 use super::changes::value_of;
 use super::counting::ones_by_summary;
@@ -145,5 +145,30 @@ impl<B: BitBlock> BitVec<B> {
         ensures fits { IsWithinRoom self.now }
     {
         Nonzero::over(&self.blocks, &self.summary)
+    }
+
+    /// The same from the block with this index on, which comes in any case, zero or not. Where there are fewer
+    /// blocks it is the last one. Constant time, and takes no memory.
+    ///
+    /// ```
+    /// // Of 100 values, over blocks of 32 bits, those at 70 and 71 are true.
+    /// assert!(bits.nonzero_from(1).eq([(1, 0), (2, 0b1100_0000)]));
+    /// ```
+    #[inline]
+    pub fn nonzero_from(&self, index: usize) -> Nonzero<'_, B>
+        ensures blocks { map B.number result.blocks ≡ blocks_of B.width self.now.values }
+        ensures each { All B.is_block result.blocks }
+        ensures left { let first = min index (length result.blocks - 1) in result.left ≡ block_and_nonzero B.number first (drop first result.blocks) }
+        ensures pulls { result.pulls ≡ 0 }
+        ensures summary_pulls { result.summary_pulls ≡ min 1 (blocks_for B.width (blocks_for B.width (length self.now.values))) }
+        ensures summary_left { result.summary_left ≡ blocks_for B.width (blocks_for B.width (length self.now.values)) - 1 - min index (length result.blocks - 1) / B.width }
+        ensures fits { IsWithinRoom self.now }
+    {
+        let blocks = self.blocks.as_slice();
+        if blocks.is_empty() {
+            return self.nonzero();
+        }
+        let last = blocks.len() - 1;
+        Nonzero::over_from(blocks, &self.summary, index.min(last))
     }
 }
