@@ -1,11 +1,6 @@
 -- Two sides of blocks that are pulled as one.
 use Rattle.std.proofs.Common.{◌≡◌, ℕ, zero, suc, ◌+◌, ◌*◌, ◌^◌, ◌<◌, ◌≤◌, max, min, Bool, true, false, List, [], ◌∷◌, ◌++◌, map, length, All, Option, Some, None, refl, sym, ap, ◌∙◌, subst, inl, inr, arith}
-use mir.Val.{bool_byte}
 use Rattle.std.specs.Prelude.{IfSome, IsSomeAnd}
-use Rattle.std.specs.Int.{bit_at}
-use Rattle.std.proofs.lemmas.Bool.{eqb-false}
-use Rattle.std.proofs.lemmas.Nat.{pow_pos}
-use Rattle.std.proofs.lemmas.Nat.Bits.{bit_at-lt, bit_at-zero, same_from_bits_below}
 use Rattle.bit_words.specs.Source.{Source, PullsIf}
 use Rattle.std.specs.Iterator.{YieldsFirst}
 use Rattle.bit_words.specs.Digits.{is_one}
@@ -14,7 +9,7 @@ use Rattle.bit_words.specs.declared.bit_vec.merge.Merge.{Merge}
 use Rattle.bit_words.specs.declared.bit_vec.merge.Merge.TheVariants.{Intersection}
 use Rattle.bit_words.proofs.Masks.{is_one-zero}
 use Rattle.bit_words.specs.Bits.{blocks_of, blocks_for}
-use Rattle.bit_words.proofs.MergeLemmas.{length-merged, merged_value-none}
+use Rattle.bit_words.proofs.MergeLemmas.{length-merged}
 use Rattle.std.proofs.Math.Nat.{mul-le-mul_right}
 use Rattle.std.proofs.lemmas.Bool.{cases_lt}
 use Rattle.bit_set.specs.Sets.{elements_from, elements, intersection, merged_sets}
@@ -62,13 +57,13 @@ both_digits merge m n r a (suc w) xs ys each =
     ∙ ap (λ bs. is_one r a ∷ bs) (both_digits merge m n r (a + 1) w xs ys (λ i low high. each i (omega arith) (omega arith)))
 
 -- the digits of a block of the first side alone, and of the second side alone
-first_digits : (merge : Merge) (m r a w : ℕ) (xs : List Bool) → ((i : ℕ) → a ≤ i → i < a + w → is_one r i ≡ merged_value merge (is_one m i) false) → merged merge (digits_from m a w ++ xs) [] ≡ digits_from r a w ++ merged merge xs []
+pub first_digits : (merge : Merge) (m r a w : ℕ) (xs : List Bool) → ((i : ℕ) → a ≤ i → i < a + w → is_one r i ≡ merged_value merge (is_one m i) false) → merged merge (digits_from m a w ++ xs) [] ≡ digits_from r a w ++ merged merge xs []
 first_digits merge m r a zero xs each = refl
 first_digits merge m r a (suc w) xs each =
     ap (λ b. b ∷ merged merge (digits_from m (a + 1) w ++ xs) []) (sym (each a (omega arith) (omega arith)))
     ∙ ap (λ bs. is_one r a ∷ bs) (first_digits merge m r (a + 1) w xs (λ i low high. each i (omega arith) (omega arith)))
 
-second_digits : (merge : Merge) (n r a w : ℕ) (ys : List Bool) → ((i : ℕ) → a ≤ i → i < a + w → is_one r i ≡ merged_value merge false (is_one n i)) → merged merge [] (digits_from n a w ++ ys) ≡ digits_from r a w ++ merged merge [] ys
+pub second_digits : (merge : Merge) (n r a w : ℕ) (ys : List Bool) → ((i : ℕ) → a ≤ i → i < a + w → is_one r i ≡ merged_value merge false (is_one n i)) → merged merge [] (digits_from n a w ++ ys) ≡ digits_from r a w ++ merged merge [] ys
 second_digits merge n r a zero ys each = refl
 second_digits merge n r a (suc w) ys each =
     ap (λ b. b ∷ merged merge [] (digits_from n (a + 1) w ++ ys)) (sym (each a (omega arith) (omega arith)))
@@ -139,28 +134,17 @@ module _ {X : Type 0} (w : ℕ) (number : X → ℕ) (merge : Merge) where
   same_both : (xs xs' ys ys' : List X) (pulls pulls' : ℕ) → xs' ≡ xs → ys' ≡ ys → pulls' ≡ pulls → both_ahead xs' ys' pulls' ≡ both_ahead xs ys pulls
   same_both xs xs' ys ys' pulls pulls' first second counted = ap (λ zs. both_ahead zs ys' pulls') first ∙ ap (λ zs. both_ahead xs zs pulls') second ∙ ap (both_ahead xs ys) counted
 
-  zeros_merged : (m n r : ℕ) → m ≡ 0 → n ≡ 0 → r < 2 ^ w → IsMergedBlock w merge m n r → r ≡ 0
-  zeros_merged m n r first second small is =
-      same_from_bits_below w r 0 small (pow_pos w) (λ i within.
-      let none = is.digit i within ∙ ap (λ k. merged_value merge (is_one k i) (is_one n i)) first ∙ ap (λ k. merged_value merge (is_one 0 i) (is_one k i)) second
-      ∙ ap (λ b. merged_value merge b (is_one 0 i)) (is_one-zero i) ∙ ap (merged_value merge false) (is_one-zero i) ∙ merged_value-none merge in
-      omega (arith, eqb-false (bit_at r i) 1 none, bit_at-lt r i, bit_at-zero i))
-
-  -- both sides go on, or neither does
-  pub both_pulled_if : (is_block : X → Type 0) (wanted : Bool) (s s' t t' : Source X) (o p : Option X) (a b r : X) → o ≡ Some a → p ≡ Some b → PullsIf is_block number wanted s o s' → PullsIf is_block number wanted t p t' → number r < 2 ^ w
-      → IsMergedBlock w merge (number a) (number b) (number r) → PullsBlockIf w number wanted (both_ahead s.left t.left s.pulls) r (bool_byte wanted) (both_ahead s'.left t'.left s'.pulls)
-  both_pulled_if is_block true s s' t t' o p a b r first second next other small is =
-      let one = subst (λ q. YieldsFirst (λ u. u.left) s q s') first (next.pulled refl).item in
-      let two = subst (λ q. YieldsFirst (λ u. u.left) t q t') second (other.pulled refl).item in
-      inr (refl, refl, both_pulled s.left s'.left t.left t'.left s.pulls s'.pulls (Some a) (Some b) (Some r) one two is (next.pulled refl).counted)
-  both_pulled_if is_block false s s' t t' o p a b r first second next other small is =
-      let one = subst (λ q. IsSomeAnd q (λ x. is_block x × (number x ≡ 0))) first (next.zeros refl) in
-      let two = subst (λ q. IsSomeAnd q (λ x. is_block x × (number x ≡ 0))) second (other.zeros refl) in
-      inl (
-        refl,
-        zeros_merged (number a) (number b) (number r) one.1 two.1 small is,
-        same_both s.left s'.left t.left t'.left s.pulls s'.pulls (ap (λ u. u.left) (next.same refl)) (ap (λ u. u.left) (other.same refl)) (ap (λ u. u.pulls) (next.same refl)),
-      )
+  -- a pull that may be left out, of both
+  pub both_pulled_if : (is_block : X → Type 0) (wanted : Bool) (s s' t t' : Source X) (o p : Option X) (a b r : X) → o ≡ Some a → p ≡ Some b → PullsIf is_block number wanted s o s' → PullsIf is_block number wanted t p t'
+      → IsMergedBlock w merge (number a) (number b) (number r) → PullsBlockIf w number wanted (both_ahead s.left t.left s.pulls) (Some r) (both_ahead s'.left t'.left s'.pulls)
+  both_pulled_if is_block wanted s s' t t' o p a b r first second next other is = record {
+    pulled = λ yes.
+        let one = subst (λ q. YieldsFirst (λ u. u.left) s q s') first (next.pulled yes).item in
+        let two = subst (λ q. YieldsFirst (λ u. u.left) t q t') second (other.pulled yes).item in
+        both_pulled s.left s'.left t.left t'.left s.pulls s'.pulls (Some a) (Some b) (Some r) one two is (next.pulled yes).counted;
+    same = λ no.
+        same_both s.left s'.left t.left t'.left s.pulls s'.pulls (ap (λ u. u.left) (next.same no)) (ap (λ u. u.left) (other.same no)) (ap (λ u. u.pulls) (next.same no));
+  }
 
   -- ---- the making
 

@@ -1,16 +1,17 @@
 -- How many ones rows of blocks have, block by block and side by side.
-use Rattle.std.proofs.Common.{◌≡◌, ℕ, ◌+◌, ◌-◌, ◌*◌, ◌^◌, min, ◌<◌, ◌≤◌, ◌⊎◌, Bool, true, false, cond, List, [], ◌∷◌, ◌++◌, map, length, get_or, take, take_all, drop, count_ones, refl, sym, ap, ◌∙◌, inl, inr, arith}
+use Rattle.std.proofs.Common.{◌≡◌, ℕ, ◌+◌, ◌-◌, ◌*◌, ◌^◌, min, ◌<◌, ◌≤◌, ◌⊎◌, Bool, true, false, List, [], ◌∷◌, ◌++◌, map, length, get_or, take, take_all, drop, count_ones, refl, sym, ap, ◌∙◌, inl, inr, arith}
 use Rattle.std.proofs.lemmas.List.{at_drop_more, map-append, take-append-drop, length-take-le, length-drop, drop_all}
 use Rattle.std.proofs.lemmas.Bool.{cases_lt}
 use Rattle.std.proofs.lemmas.Grind.{flat_map-append}
 use Rattle.bit_words.specs.Merges.{merged_value, merged}
 use Rattle.bit_words.specs.declared.bit_vec.merge.Merge.{Merge}
-use Rattle.bit_words.specs.declared.bit_vec.merge.Merge.TheVariants.{Union, Intersection, Difference, Symmetric}
+use Rattle.bit_words.specs.Storage.{is_one}
+use Rattle.bit_words.proofs.Masks.{is_one-zero}
 use Rattle.bit_set.specs.Sets.{elements_from, elements}
 use Rattle.bit_set.specs.Places.{digits_from, values_in, IsMergedBlock}
 use Rattle.bit_set.proofs.SetLemmas.{length-elements_from_both}
 use Rattle.bit_set.proofs.WalkLemmas.{held, length-held, count_more}
-use Rattle.bit_set.proofs.PairLemmas.{both_held, same_held, both_digits}
+use Rattle.bit_set.proofs.PairLemmas.{both_held, same_held, both_digits, first_digits, second_digits}
 
 -- ---- lists of truth values
 
@@ -25,39 +26,6 @@ merged-append merge [] xs' (y ∷ ys) ys' same = absurd (omega (arith, same))
 merged-append merge (x ∷ xs) xs' [] ys' same = absurd (omega (arith, same))
 merged-append merge (x ∷ xs) xs' (y ∷ ys) ys' same = ap (λ bs. merged_value merge x y ∷ bs) (merged-append merge xs xs' ys ys' (omega (arith, same)))
 
--- a side alone stays, or is dropped
-first_alone : (merge : Merge) (p : ℕ) (xs : List Bool) → length (elements_from p (merged merge xs [])) ≡ cond (merged_value merge true false) (length (elements_from p xs)) 0
-first_alone Union p [] = refl
-first_alone Union p (true ∷ xs) = let rest = first_alone Union (p + 1) xs in omega (arith, rest)
-first_alone Union p (false ∷ xs) = first_alone Union (p + 1) xs
-first_alone Intersection p [] = refl
-first_alone Intersection p (true ∷ xs) = first_alone Intersection (p + 1) xs
-first_alone Intersection p (false ∷ xs) = first_alone Intersection (p + 1) xs
-first_alone Difference p [] = refl
-first_alone Difference p (true ∷ xs) = let rest = first_alone Difference (p + 1) xs in omega (arith, rest)
-first_alone Difference p (false ∷ xs) = first_alone Difference (p + 1) xs
-first_alone Symmetric p [] = refl
-first_alone Symmetric p (true ∷ xs) = let rest = first_alone Symmetric (p + 1) xs in omega (arith, rest)
-first_alone Symmetric p (false ∷ xs) = first_alone Symmetric (p + 1) xs
-
-second_alone : (merge : Merge) (p : ℕ) (ys : List Bool) → length (elements_from p (merged merge [] ys)) ≡ cond (merged_value merge false true) (length (elements_from p ys)) 0
-second_alone Union p [] = refl
-second_alone Union p (true ∷ ys) = let rest = second_alone Union (p + 1) ys in omega (arith, rest)
-second_alone Union p (false ∷ ys) = second_alone Union (p + 1) ys
-second_alone Intersection p [] = refl
-second_alone Intersection p (true ∷ ys) = second_alone Intersection (p + 1) ys
-second_alone Intersection p (false ∷ ys) = second_alone Intersection (p + 1) ys
-second_alone Difference p [] = refl
-second_alone Difference p (true ∷ ys) = second_alone Difference (p + 1) ys
-second_alone Difference p (false ∷ ys) = second_alone Difference (p + 1) ys
-second_alone Symmetric p [] = refl
-second_alone Symmetric p (true ∷ ys) = let rest = second_alone Symmetric (p + 1) ys in omega (arith, rest)
-second_alone Symmetric p (false ∷ ys) = second_alone Symmetric (p + 1) ys
-
-either_zero : (b : Bool) → ◌≡◌ {A = ℕ} (cond b 0 0) 0
-either_zero true = refl
-either_zero false = refl
-
 -- ---- rows of blocks
 
 module _ {X : Type 0} (w : ℕ) (number : X → ℕ) where
@@ -65,10 +33,6 @@ module _ {X : Type 0} (w : ℕ) (number : X → ℕ) where
   row_step : (xs : List X) (i : ℕ) (x : X) → i < length xs → x ≡ get_or xs i x → held w number (drop i xs) ≡ digits_from (number x) 0 w ++ held w number (drop (i + 1) xs)
   row_step xs i x within is =
       at_drop_more (held w number) xs i x within ∙ ap (λ y. digits_from (number y) 0 w ++ held w number (drop (i + 1) xs)) (sym is)
-
-  pub row_counted : (xs : List X) (i : ℕ) (x : X) (ones more total : ℕ) → i < length xs → x ≡ get_or xs i x → ones + length (elements (held w number (drop i xs))) ≡ total → number x < 2 ^ w → more ≡ count_ones (number x) → ones + more + length (elements (held w number (drop (i + 1) xs))) ≡ total
-  row_counted xs i x ones more total within is before small same =
-      count_more w (number x) (held w number (drop i xs)) (held w number (drop (i + 1) xs)) ones more total (row_step xs i x within is) before small same
 
 module _ {X : Type 0} (w : ℕ) (number : X → ℕ) (merge : Merge) where
   rows_step : (xs ys : List X) (i : ℕ) (a b : X) (r : ℕ) → i < length xs → i < length ys → a ≡ get_or xs i a → b ≡ get_or ys i b → IsMergedBlock w merge (number a) (number b) r
@@ -97,28 +61,33 @@ module _ {X : Type 0} (w : ℕ) (number : X → ℕ) (merge : Merge) where
       ∙ ap (λ bs. length (elements bs)) (merged-append merge (held w number xs) (held w number xs') (held w number ys) (held w number ys') long)
       ∙ length-elements_from-append 0 (both_held w number merge xs ys) (both_held w number merge xs' ys')
 
-  -- the ones of what is left of two rows
-  abbrev rest_ones : Merge → List X → List X → ℕ
-  rest_ones m xs ys = cond (merged_value m true false) (length (elements (held w number xs))) 0 + cond (merged_value m false true) (length (elements (held w number ys))) 0
+  -- a row of one side, merged with zeros
+  pub first_counted : (xs : List X) (i : ℕ) (a : X) (none r ones more total : ℕ) → i < length xs → a ≡ get_or xs i a → none ≡ 0 → IsMergedBlock w merge (number a) none r
+      → ones + length (elements (merged merge (held w number (drop i xs)) [])) ≡ total → r < 2 ^ w → more ≡ count_ones r
+      → ones + more + length (elements (merged merge (held w number (drop (i + 1) xs)) [])) ≡ total
+  first_counted xs i a none r ones more total within is zero block before small same =
+      count_more w r (merged merge (held w number (drop i xs)) []) (merged merge (held w number (drop (i + 1) xs)) []) ones more total
+      (ap (λ bs. merged merge bs []) (row_step w number xs i a within is)
+      ∙ first_digits merge (number a) r 0 w (held w number (drop (i + 1) xs)) (λ j low high. block.digit j (omega arith) ∙ ap (λ k. merged_value merge (is_one (number a) j) (is_one k j)) zero ∙ ap (merged_value merge (is_one (number a) j)) (is_one-zero j)))
+      before small same
+
+  pub second_counted : (ys : List X) (i : ℕ) (b : X) (none r ones more total : ℕ) → i < length ys → b ≡ get_or ys i b → none ≡ 0 → IsMergedBlock w merge none (number b) r
+      → ones + length (elements (merged merge [] (held w number (drop i ys)))) ≡ total → r < 2 ^ w → more ≡ count_ones r
+      → ones + more + length (elements (merged merge [] (held w number (drop (i + 1) ys)))) ≡ total
+  second_counted ys i b none r ones more total within is zero block before small same =
+      count_more w r (merged merge [] (held w number (drop i ys))) (merged merge [] (held w number (drop (i + 1) ys))) ones more total
+      (ap (λ bs. merged merge [] bs) (row_step w number ys i b within is)
+      ∙ second_digits merge (number b) r 0 w (held w number (drop (i + 1) ys)) (λ j low high. block.digit j (omega arith) ∙ ap (λ k. merged_value merge (is_one k j) (is_one (number b) j)) zero ∙ ap (λ v. merged_value merge v (is_one (number b) j)) (is_one-zero j)))
+      before small same
 
   -- where one of two rows is at its end
-  pub rest_counted : (xs ys : List X) → (xs ≡ []) ⊎ (ys ≡ []) → length (elements (both_held w number merge xs ys)) ≡ cond (merged_value merge true false) (length (elements (held w number xs))) 0 + cond (merged_value merge false true) (length (elements (held w number ys))) 0
+  pub rest_counted : (xs ys : List X) → (xs ≡ []) ⊎ (ys ≡ []) → length (elements (both_held w number merge xs ys)) ≡ length (elements (merged merge (held w number xs) [])) + length (elements (merged merge [] (held w number ys)))
   rest_counted xs ys (inl none) =
-      let nothing : cond (merged_value merge true false) (length (elements (held w number xs))) 0 ≡ 0 = ap (λ zs. cond (merged_value merge true false) (length (elements (held w number zs))) 0) none ∙ either_zero (merged_value merge true false) in
-      ap (λ zs. length (elements (both_held w number merge zs ys))) none ∙ second_alone merge 0 (held w number ys) ∙ omega (arith, nothing)
+      let nothing : length (elements (merged merge (held w number xs) [])) ≡ 0 = ap (λ zs. length (elements (merged merge (held w number zs) []))) none in
+      ap (λ zs. length (elements (both_held w number merge zs ys))) none ∙ omega (arith, nothing)
   rest_counted xs ys (inr none) =
-      let nothing : cond (merged_value merge false true) (length (elements (held w number ys))) 0 ≡ 0 = ap (λ zs. cond (merged_value merge false true) (length (elements (held w number zs))) 0) none ∙ either_zero (merged_value merge false true) in
-      ap (λ zs. length (elements (both_held w number merge xs zs))) none ∙ first_alone merge 0 (held w number xs) ∙ omega (arith, nothing)
-
-  pub rest_of_either : (xs ys : List X) → (merge ≡ Union) ⊎ (merge ≡ Symmetric) → (xs ≡ []) ⊎ (ys ≡ []) → length (elements (both_held w number merge xs ys)) ≡ length (elements (held w number xs)) + length (elements (held w number ys))
-  rest_of_either xs ys (inl is) ended = rest_counted xs ys ended ∙ ap (λ m. rest_ones m xs ys) is
-  rest_of_either xs ys (inr is) ended = rest_counted xs ys ended ∙ ap (λ m. rest_ones m xs ys) is
-
-  pub rest_of_first : (xs ys : List X) → merge ≡ Difference → (xs ≡ []) ⊎ (ys ≡ []) → length (elements (both_held w number merge xs ys)) ≡ length (elements (held w number xs))
-  rest_of_first xs ys is ended = rest_counted xs ys ended ∙ ap (λ m. rest_ones m xs ys) is ∙ omega arith
-
-  pub rest_of_none : (xs ys : List X) → merge ≡ Intersection → (xs ≡ []) ⊎ (ys ≡ []) → length (elements (both_held w number merge xs ys)) ≡ 0
-  rest_of_none xs ys is ended = rest_counted xs ys ended ∙ ap (λ m. rest_ones m xs ys) is
+      let nothing : length (elements (merged merge [] (held w number ys))) ≡ 0 = ap (λ zs. length (elements (merged merge [] (held w number zs)))) none in
+      ap (λ zs. length (elements (both_held w number merge xs zs))) none ∙ omega (arith, nothing)
 
   -- two rows are cut at one place
   whole_rest : (xs : List X) (k : ℕ) → take (length xs - k) (drop k xs) ≡ drop k xs

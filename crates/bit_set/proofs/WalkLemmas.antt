@@ -1,5 +1,6 @@
 -- What a pull and a taken item do to a walk.
-use Rattle.std.proofs.Common.{◌≡◌, ℕ, ◌+◌, ◌-◌, ◌*◌, ◌^◌, ◌<◌, ◌≤◌, ◌/◌, Bool, List, [], ◌∷◌, ◌++◌, map, length, All, Option, Some, None, true, inl, inr, refl, count_ones, sym, ap, ◌∙◌, subst, arith}
+use Rattle.std.proofs.Common.{◌≡◌, ℕ, ◌+◌, ◌-◌, ◌*◌, ◌^◌, ◌<◌, ◌≤◌, ◌/◌, Bool, List, [], ◌∷◌, ◌++◌, map, length, All, Option, Some, None, true, false, ◌⊎◌, inl, inr, refl, count_ones, sym, ap, ◌∙◌, subst, arith}
+use mir.Val.{bool_byte}
 use Rattle.std.specs.Prelude.{IfSome}
 use Rattle.std.specs.Option.{SomeIff, unwrap_or}
 use Rattle.std.specs.Iterator.{UpTo, at_most, YieldsFirst}
@@ -72,30 +73,25 @@ pub record WentOn (w place at m n : ℕ) (s t : Ahead) : Type 0 where
   pub pulled : t.pulls + t.blocks ≡ s.pulls + s.blocks
   pub along : at + w * t.blocks ≡ place + w * s.blocks
 
-pub went_on : {X : Type 0} (w place at m n : ℕ) (number : X → ℕ) (x : X) (count : ℕ) (wanted : Bool) (s t : Ahead) → CanWalk w place m s → (wanted ≡ true → m ≡ 0) → PullsBlockIf w number wanted s x count t → n ≡ m + number x → at ≡ place + count * w → WentOn w place at m n s t
-went_on w place at m n number x count wanted s t can zero (inl none) sum there =
-    let same_block : n ≡ m = omega (arith, sum, none.1) in
-    let same_place : at ≡ place = there ∙ ap (λ k. place + k * w) none.0 ∙ omega arith in
-    let stayed : WentOn w place place m m s s = record { can = can; same = refl; goes_on = omega arith; pulled = refl; along = refl } in
-    subst (WentOn w place at m n s) (sym none.2) (subst (λ k. WentOn w place at m k s s) (sym same_block) (subst (λ k. WentOn w place k m m s s) (sym same_place) stayed))
-went_on w place at m n number x count wanted s t can zero (inr one) sum there =
-    let pull = one.2 in
-    let none : m ≡ 0 = zero one.1 in
-    let next_block : n ≡ number x = omega (arith, sum, none) in
-    let next_place : at ≡ place + w = there ∙ ap (λ k. place + k * w) one.0 ∙ omega arith in
-    let went : WentOn w place (place + w) m (number x) s t = record {
-      can = CanWalk-pulled w place m number x s t can none pull;
-      same = sym (places-pulled w place m (number x) s.values t.values none pull.values);
-      goes_on = omega (arith, pull.counted);
-      pulled = omega (arith, pull.counted, pull.blocks);
-      along = pulled_along place w t.blocks s.blocks pull.blocks;
+-- where the block in hand is used up, x is taken for it
+pub went_on : {X : Type 0} (w place at : ℕ) (number : X → ℕ) (old new x : X) (wanted : Bool) (s t : Ahead) → CanWalk w place (number old) s → (wanted ≡ true → number old ≡ 0) → PullsBlockIf w number wanted s (Some x) t
+    → ((wanted ≡ true) × (new ≡ x)) ⊎ ((wanted ≡ false) × (new ≡ old)) → at ≡ place + bool_byte wanted * w → WentOn w place at (number old) (number new) s t
+went_on w place at number old new x wanted s t can zero pull (inl used) there =
+    let one = pull.pulled used.0 in
+    let none : number old ≡ 0 = zero used.0 in
+    let next_place : at ≡ place + w = there ∙ ap (λ b. place + bool_byte b * w) used.0 ∙ omega arith in
+    let went : WentOn w place (place + w) (number old) (number x) s t = record {
+      can = CanWalk-pulled w place (number old) number x s t can none one;
+      same = sym (places-pulled w place (number old) (number x) s.values t.values none one.values);
+      goes_on = omega (arith, one.counted);
+      pulled = omega (arith, one.counted, one.blocks);
+      along = pulled_along place w t.blocks s.blocks one.blocks;
     } in
-    subst (λ k. WentOn w place at m k s t) (sym next_block) (subst (λ k. WentOn w place k m (number x) s t) (sym next_place) went)
-
--- the block in hand and the one that was pulled, one of which is zero
-pub sum_small : {X : Type 0} (w m : ℕ) (number : X → ℕ) (x : X) (count : ℕ) (wanted : Bool) (s t : Ahead) → m < 2 ^ w → number x < 2 ^ w → (wanted ≡ true → m ≡ 0) → PullsBlockIf w number wanted s x count t → m + number x < 2 ^ w
-sum_small w m number x count wanted s t small small_x zero (inl none) = omega (arith, small, none.1)
-sum_small w m number x count wanted s t small small_x zero (inr one) = let empty = zero one.1 in omega (arith, small_x, empty)
+    subst (λ y. WentOn w place at (number old) (number y) s t) (sym used.1) (subst (λ k. WentOn w place k (number old) (number x) s t) (sym next_place) went)
+went_on w place at number old new x wanted s t can zero pull (inr kept) there =
+    let same_place : at ≡ place = there ∙ ap (λ b. place + bool_byte b * w) kept.0 ∙ omega arith in
+    let stayed : WentOn w place place (number old) (number old) s s = record { can = can; same = refl; goes_on = omega arith; pulled = refl; along = refl } in
+    subst (WentOn w place at (number old) (number new) s) (sym (pull.same kept.0)) (subst (λ y. WentOn w place at (number old) (number y) s s) (sym kept.1) (subst (λ k. WentOn w place k (number old) (number old) s s) (sym same_place) stayed))
 
 -- ---- the making of a walk
 

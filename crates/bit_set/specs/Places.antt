@@ -1,5 +1,5 @@
 -- Where the ones of blocks are. No public clause cites this.
-use Rattle.std.specs.Prelude.{◌≡◌, ℕ, ◌+◌, ◌-◌, ◌*◌, ◌/◌, ◌^◌, ◌<◌, ◌≤◌, ◌⊎◌, Bool, true, List, [], ◌++◌, map, length, drop, All, Option, Some, None, MatchOption, IsSomeAnd}
+use Rattle.std.specs.Prelude.{◌≡◌, ℕ, ◌+◌, ◌-◌, ◌*◌, ◌/◌, ◌^◌, ◌<◌, ◌≤◌, Bool, true, false, List, [], ◌++◌, map, length, drop, All, Option, Some, None, MatchOption, IsSomeAnd}
 use Rattle.std.specs.List.{range_with_len, flat_map}
 use Rattle.bit_words.specs.Digits.{is_one}
 use Rattle.bit_words.specs.Nonzero.{Nonzeros, nonzero_from}
@@ -32,9 +32,11 @@ pub record PullsBlock {X : Type 0} (w : ℕ) (number : X → ℕ) (s : Ahead) (r
   pub blocks : MatchOption r ((s.blocks ≡ 0) × (t.blocks ≡ 0)) (λ _. s.blocks ≡ t.blocks + 1)
   pub counted : t.pulls ≡ s.pulls + 1
 
--- a pull that may be left out: nothing and zero for a block, or, where it was wanted, the first block r
-abbrev pub PullsBlockIf : {X : Type 0} → ℕ → (X → ℕ) → Bool → Ahead → X → ℕ → Ahead → Type 0
-PullsBlockIf w number wanted s r count t = ((count ≡ 0) × (number r ≡ 0) × (t ≡ s)) ⊎ ((count ≡ 1) × (wanted ≡ true) × PullsBlock w number s (Some r) t)
+-- A pull that may be left out. Where it is wanted it gave r: the first block, or None, and then nothing was pulled.
+-- Else nothing was pulled.
+pub record PullsBlockIf {X : Type 0} (w : ℕ) (number : X → ℕ) (wanted : Bool) (s : Ahead) (r : Option X) (t : Ahead) : Type 0 where
+  pub pulled : wanted ≡ true → MatchOption r (t ≡ s) (λ x. PullsBlock w number s (Some x) t)
+  pub same : wanted ≡ false → t ≡ s
 
 -- of w digits, r has what those of m and n become
 pub record IsMergedBlock (w : ℕ) (merge : Merge) (m n r : ℕ) : Type 0 where

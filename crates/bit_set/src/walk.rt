@@ -18,7 +18,7 @@ mod source;
 mod two_sets;
 
 pub use intersection::Intersection;
-pub use two_sets::{Difference, SymmetricDifference, Union};
+pub use two_sets::{Difference, SymmetricDifference, TwoSets, Union};
 
 /// The elements of a set in ascending order, each once. Looks at no block of the set that is zero, but at
 /// the first.

@@ -6,7 +6,8 @@ ghost use Rattle.bit_set_run.specs.Run.{rest_of};
 ghost use Rattle.bit_set_run.specs.declared.commands.Reply.TheVariants.{Items};
 
 use crate::{Numbers, Reply};
-use bit_set::{BitBlock, Difference, Intersection, Iter, SymmetricDifference, Union};
+use bit_set::bit_vec::operation::Operation;
+use bit_set::{BitBlock, Intersection, Iter, TwoSets};
 use std::alloc::{AllocError, Global};
 
 /// A walk over numbers, which comes to an end.
@@ -38,7 +39,7 @@ impl<B: BitBlock> NumberWalk for Iter<'_, B> {
     }
 }
 
-impl<B: BitBlock> NumberWalk for Union<'_, B> {
+impl<B: BitBlock, O: Operation> NumberWalk for TwoSets<'_, B, O> {
     ghost left = { λ walk. walk.left };
 
     ghost can = { λ s. tt };
@@ -60,34 +61,6 @@ impl<B: BitBlock> NumberWalk for Intersection<'_, B> {
     ghost ends = { λ s. tt };
 
     ghost gives = { λ s r t step. step.walk.item };
-
-    fn count_left(&self) -> usize {
-        self.clone().count()
-    }
-}
-
-impl<B: BitBlock> NumberWalk for Difference<'_, B> {
-    ghost left = { λ walk. walk.left };
-
-    ghost can = { λ s. tt };
-
-    ghost ends = { λ s. tt };
-
-    ghost gives = { λ s r t step. step.item };
-
-    fn count_left(&self) -> usize {
-        self.clone().count()
-    }
-}
-
-impl<B: BitBlock> NumberWalk for SymmetricDifference<'_, B> {
-    ghost left = { λ walk. walk.left };
-
-    ghost can = { λ s. tt };
-
-    ghost ends = { λ s. tt };
-
-    ghost gives = { λ s r t step. step.item };
 
     fn count_left(&self) -> usize {
         self.clone().count()

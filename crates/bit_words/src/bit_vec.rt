@@ -14,6 +14,7 @@ mod masks;
 mod merge;
 mod merging;
 mod nonzero;
+pub mod operation;
 mod room;
 mod steps;
 mod summary;

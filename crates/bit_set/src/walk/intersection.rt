@@ -6,9 +6,8 @@ ghost use Rattle.std.specs.Iterator.SizeHint.{IsWithinCount};
 ghost use Rattle.bit_set.specs.Sets.{elements, intersection};
 ghost use Rattle.bit_set.specs.Walk.{AdvancesWithBound, StartsOverTwo};
 
-use super::ones::Ones;
-use super::pairs::{Pairs, ones_of_two};
-use crate::bit_vec::Merge;
+use super::two_sets::TwoSets;
+use crate::bit_vec::operation;
 use crate::{BitBlock, BitSet};
 use std::marker::Model;
 
@@ -16,7 +15,7 @@ use std::marker::Model;
 /// It keeps a bound on the elements that are left.
 #[derive(Drop)]
 pub struct Intersection<'a, B: BitBlock> {
-    ones: Ones<Pairs<'a, B>, B>,
+    walk: TwoSets<'a, B, operation::Intersection>,
     bound: usize,
 }
 
@@ -26,9 +25,9 @@ impl<'a, B: BitBlock> Model for Intersection<'a, B> {
 
     ghost Value = { BoundedWalk };
 
-    ghost view = { λ it. record { walk = it.ones; bound = it.bound } };
+    ghost view = { λ it. record { walk = it.walk; bound = it.bound } };
 
-    ghost invariant = { λ it. length it.ones.left ≤ it.bound };
+    ghost invariant = { λ it. length it.walk.left ≤ it.bound };
 }
 
 impl<'a, B: BitBlock> Intersection<'a, B> {
@@ -36,7 +35,7 @@ impl<'a, B: BitBlock> Intersection<'a, B> {
     pub fn count(self) -> usize
         ensures { result ≡ length self.entry.walk.left }
     {
-        self.ones.count()
+        self.walk.count()
     }
 
     /// Another walk over what is left. It counts its pulls on from this one's. Constant time.
@@ -45,7 +44,7 @@ impl<'a, B: BitBlock> Intersection<'a, B> {
         ensures { result ≡ self.now }
     {
         Intersection {
-            ones: self.ones.clone(),
+            walk: self.walk.clone(),
             bound: self.bound,
         }
     }
@@ -63,7 +62,7 @@ impl<'a, B: BitBlock> Iterator for Intersection<'a, B> {
     #[inline]
     fn next(&mut self) -> Option<usize> {
         self.bound = self.bound.saturating_sub(1);
-        self.ones.next()
+        self.walk.next()
     }
 
     /// From 0 up to the smaller length of the two sets, less the calls of `next`; 0 at least. So it is 0
@@ -87,11 +86,9 @@ impl<B: BitBlock> BitSet<B> {
         ensures runs { YieldsInOrder (AdvancesWithBound B.width) (λ it. it.walk.left) }
         ensures bound { result.bound ≡ min (length self.now.values) (length other.now.values) }
     {
-        let first = self.get_ref();
-        let second = other.get_ref();
         Intersection {
-            ones: ones_of_two(first, second, Merge::Intersection),
-            bound: first.len().min(second.len()),
+            walk: TwoSets::over(self, other),
+            bound: self.get_ref().len().min(other.get_ref().len()),
         }
     }
 }

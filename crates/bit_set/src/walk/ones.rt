@@ -18,7 +18,7 @@ pub(crate) struct Ones<S: BlockSource<B>, B: BitBlock> {
     block: B,
     // The place of its lowest digit.
     place: usize,
-    // Whether blocks are taken to have few ones, as the first one does. It changes no answer.
+    // Whether blocks are taken to have few ones, as the first one does. It changes no result.
     sparse: bool,
 }
 
@@ -78,9 +78,10 @@ impl<S: BlockSource<B>, B: BitBlock> Ones<S, B> {
         ensures { GoesOn B.width self.old self.new }
     {
         let used_up = self.block == B::zero();
-        let (block, pulled) = self.source.pull_if(used_up);
-        self.block = self.block + block;
-        self.place += pulled * B::bits();
+        if let Some(next) = self.source.pull_if(used_up) {
+            self.block = if used_up { next } else { self.block };
+            self.place += usize::from(used_up) * B::bits();
+        }
     }
 
     // At least none are left, and at most the digits of the block in hand and of those past it.

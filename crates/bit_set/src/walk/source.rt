@@ -1,6 +1,6 @@
 // Where a walk has its blocks from.
-ghost use Rattle.std.specs.Prelude.{◌≡◌, ◌^◌, ◌<◌, IfSome, All, length, map};
-ghost use Rattle.bit_set.specs.Places.{Ahead, PullsBlock, PullsBlockIf, values_in};
+ghost use Rattle.std.specs.Prelude.{◌≡◌, ◌^◌, ◌<◌, IfSome, length};
+ghost use Rattle.bit_set.specs.Places.{Ahead, PullsBlock, PullsBlockIf};
 ghost use Rattle.bit_set.specs.Sets.{elements};
 
 use crate::BitBlock;
@@ -29,12 +29,12 @@ pub(crate) trait BlockSource<B: BitBlock>: Drop {
         ensures given { IfSome result.0 B.is_block }
         ensures sound { is_sound self.new };
 
-    // The next block, pulled, and 1, where it is wanted and the source has it without a branch. Else zeros and 0, and
-    // nothing is pulled.
-    fn pull_if(&mut self, wanted: bool) -> (B, usize)
+    // The next block where it is wanted; else some block, and nothing is pulled. `None`, and nothing pulled, where the
+    // source has no block to give with no branch on `wanted`.
+    fn pull_if(&mut self, wanted: bool) -> Option<B>
         requires { is_sound self.old }
-        ensures steps { PullsBlockIf B.width B.number wanted (ahead self.old) result.0 result.1 (ahead self.new) }
-        ensures of_block { B.is_block result.0 }
+        ensures steps { PullsBlockIf B.width B.number wanted (ahead self.old) result (ahead self.new) }
+        ensures given { IfSome result B.is_block }
         ensures sound { is_sound self.new };
 
     // How many blocks are ahead.
@@ -50,18 +50,4 @@ pub(crate) trait BlockSource<B: BitBlock>: Drop {
     // The same blocks from the same place on, the pulls going on.
     fn copy(&self) -> Self
         ensures { result ≡ self.now };
-}
-
-// How many ones these blocks have.
-#[inline]
-pub(crate) fn ones_of<B: BitBlock>(blocks: &[B]) -> usize
-    requires each { All B.is_block blocks.now }
-    requires fits { length (elements (values_in B.width (map B.number blocks.now))) < 2 ^ 64 }
-    ensures { result ≡ length (elements (values_in B.width (map B.number blocks.now))) }
-{
-    let mut ones = 0;
-    for block in blocks {
-        ones += block.count_ones();
-    }
-    ones
 }

@@ -1,142 +1,33 @@
-// The walks over what is in either of two sets, in the first alone, and in just one.
+// The walk over what two sets become, by a type for each operation.
 ghost use Rattle.std.specs.Prelude.{◌≡◌, IfSome, length};
 ghost use Rattle.std.specs.Iterator.{UpTo, item_count};
 ghost use Rattle.std.specs.Iterator.Runs.{YieldsInOrder};
 ghost use Rattle.std.specs.Iterator.SizeHint.{IsWithinCount};
-ghost use Rattle.bit_set.specs.Sets.{elements, union, difference, symmetric_difference};
+ghost use Rattle.bit_set.specs.Sets.{elements, merged_sets, union, difference, symmetric_difference};
 ghost use Rattle.bit_set.specs.Walk.{AdvancesByEach, StartsOverTwo, bound_on_rest};
 
 use super::ones::Ones;
 use super::pairs::{Pairs, ones_of_two};
-use crate::bit_vec::Merge;
+use crate::bit_vec::operation::{self, Operation};
 use crate::{BitBlock, BitSet};
 use std::marker::Model;
 
-/// What is in either of two sets, in ascending order, each once. Pulls each block of both sets once.
+/// What two sets become by an operation, in ascending order, each once. Pulls each block of both sets once.
 #[derive(Drop)]
-pub struct Union<'a, B: BitBlock> {
-    ones: Ones<Pairs<'a, B>, B>,
+pub struct TwoSets<'a, B: BitBlock, O: Operation> {
+    ones: Ones<Pairs<'a, B, O>, B>,
 }
 
-impl<'a, B: BitBlock> Model for Union<'a, B> {
-    ghost use Rattle.bit_set.specs.Walk.{TwoSetWalk};
-
-    ghost Value = { TwoSetWalk };
-
-    ghost view = { λ it. it.ones };
-}
-
-impl<'a, B: BitBlock> Union<'a, B> {
-    /// How many elements are left. Adds up the ones of each pair of blocks that is left.
-    pub fn count(self) -> usize
-        ensures { result ≡ length self.entry.left }
-    {
-        self.ones.count()
-    }
-
-    /// Another walk over what is left. It counts its pulls on from this one's. Constant time.
-    #[inline]
-    pub fn clone(&self) -> Self
-        ensures { result ≡ self.now }
-    {
-        Union {
-            ones: self.ones.clone(),
-        }
-    }
-}
-
-impl<'a, B: BitBlock> Iterator for Union<'a, B> {
-    type Item = usize;
-
-    ghost next_gives = { AdvancesByEach B.width };
-
-    ghost remaining = { item_count (λ walk. walk.left) };
-
-    /// The least element that is left, and from the end on `None` for good. Pulls each block that it
-    /// passes, of both sets, once; constant time within a block.
-    #[inline]
-    fn next(&mut self) -> Option<usize> {
-        self.ones.next()
-    }
-
-    /// From 0 up to the bits of the block in hand and of the blocks past it, as [`Iter`](crate::Iter) has
-    /// it: those of a whole block where both sets have length 0. Constant time.
-    #[inline]
-    fn size_hint(&self) -> (usize, Option<usize>)
-        ensures exact { result ≡ (0, bound_on_rest B.width self.now.blocks) }
-        ensures lower { IsWithinCount result.0 (item_count (λ walk. walk.left) self.now) }
-        ensures upper { IfSome result.1 (UpTo (item_count (λ walk. walk.left) self.now)) }
-    {
-        (0, self.ones.bound())
-    }
-}
+/// What is in either of two sets, in ascending order, each once. Pulls each block of both sets once.
+pub type Union<'a, B> = TwoSets<'a, B, operation::Union>;
 
 /// What is in the first of two sets alone, in ascending order, each once. Pulls each block of both sets once.
-#[derive(Drop)]
-pub struct Difference<'a, B: BitBlock> {
-    ones: Ones<Pairs<'a, B>, B>,
-}
-
-impl<'a, B: BitBlock> Model for Difference<'a, B> {
-    ghost use Rattle.bit_set.specs.Walk.{TwoSetWalk};
-
-    ghost Value = { TwoSetWalk };
-
-    ghost view = { λ it. it.ones };
-}
-
-impl<'a, B: BitBlock> Difference<'a, B> {
-    /// How many elements are left. Adds up the ones of each pair of blocks that is left.
-    pub fn count(self) -> usize
-        ensures { result ≡ length self.entry.left }
-    {
-        self.ones.count()
-    }
-
-    /// Another walk over what is left. It counts its pulls on from this one's. Constant time.
-    #[inline]
-    pub fn clone(&self) -> Self
-        ensures { result ≡ self.now }
-    {
-        Difference {
-            ones: self.ones.clone(),
-        }
-    }
-}
-
-impl<'a, B: BitBlock> Iterator for Difference<'a, B> {
-    type Item = usize;
-
-    ghost next_gives = { AdvancesByEach B.width };
-
-    ghost remaining = { item_count (λ walk. walk.left) };
-
-    /// The least element that is left, and from the end on `None` for good. Pulls each block that it
-    /// passes, of both sets, once; constant time within a block.
-    #[inline]
-    fn next(&mut self) -> Option<usize> {
-        self.ones.next()
-    }
-
-    /// From 0 up to the bits of the block in hand and of the blocks past it, as [`Iter`](crate::Iter) has
-    /// it: those of a whole block where both sets have length 0. Constant time.
-    #[inline]
-    fn size_hint(&self) -> (usize, Option<usize>)
-        ensures exact { result ≡ (0, bound_on_rest B.width self.now.blocks) }
-        ensures lower { IsWithinCount result.0 (item_count (λ walk. walk.left) self.now) }
-        ensures upper { IfSome result.1 (UpTo (item_count (λ walk. walk.left) self.now)) }
-    {
-        (0, self.ones.bound())
-    }
-}
+pub type Difference<'a, B> = TwoSets<'a, B, operation::Difference>;
 
 /// What is in just one of two sets, in ascending order, each once. Pulls each block of both sets once.
-#[derive(Drop)]
-pub struct SymmetricDifference<'a, B: BitBlock> {
-    ones: Ones<Pairs<'a, B>, B>,
-}
+pub type SymmetricDifference<'a, B> = TwoSets<'a, B, operation::Symmetric>;
 
-impl<'a, B: BitBlock> Model for SymmetricDifference<'a, B> {
+impl<'a, B: BitBlock, O: Operation> Model for TwoSets<'a, B, O> {
     ghost use Rattle.bit_set.specs.Walk.{TwoSetWalk};
 
     ghost Value = { TwoSetWalk };
@@ -144,7 +35,18 @@ impl<'a, B: BitBlock> Model for SymmetricDifference<'a, B> {
     ghost view = { λ it. it.ones };
 }
 
-impl<'a, B: BitBlock> SymmetricDifference<'a, B> {
+impl<'a, B: BitBlock, O: Operation> TwoSets<'a, B, O> {
+    // The walk over what two sets become.
+    #[inline]
+    pub(crate) fn over(first: &'a BitSet<B>, second: &'a BitSet<B>) -> Self
+        ensures left { result.left ≡ merged_sets O.merge (elements first.now.values) (elements second.now.values) }
+        ensures start { StartsOverTwo B.width first.now.values second.now.values result }
+    {
+        TwoSets {
+            ones: ones_of_two(first.get_ref(), second.get_ref()),
+        }
+    }
+
     /// How many elements are left. Adds up the ones of each pair of blocks that is left.
     pub fn count(self) -> usize
         ensures { result ≡ length self.entry.left }
@@ -157,13 +59,13 @@ impl<'a, B: BitBlock> SymmetricDifference<'a, B> {
     pub fn clone(&self) -> Self
         ensures { result ≡ self.now }
     {
-        SymmetricDifference {
+        TwoSets {
             ones: self.ones.clone(),
         }
     }
 }
 
-impl<'a, B: BitBlock> Iterator for SymmetricDifference<'a, B> {
+impl<'a, B: BitBlock, O: Operation> Iterator for TwoSets<'a, B, O> {
     type Item = usize;
 
     ghost next_gives = { AdvancesByEach B.width };
@@ -197,9 +99,7 @@ impl<B: BitBlock> BitSet<B> {
         ensures start { StartsOverTwo B.width self.now.values other.now.values result }
         ensures runs { YieldsInOrder (AdvancesByEach B.width) (λ walk. walk.left) }
     {
-        Union {
-            ones: ones_of_two(self.get_ref(), other.get_ref(), Merge::Union),
-        }
+        TwoSets::over(self, other)
     }
 
     /// A walk over what is in this set and not in the other one, in ascending order. Constant time.
@@ -209,9 +109,7 @@ impl<B: BitBlock> BitSet<B> {
         ensures start { StartsOverTwo B.width self.now.values other.now.values result }
         ensures runs { YieldsInOrder (AdvancesByEach B.width) (λ walk. walk.left) }
     {
-        Difference {
-            ones: ones_of_two(self.get_ref(), other.get_ref(), Merge::Difference),
-        }
+        TwoSets::over(self, other)
     }
 
     /// A walk over what is in just one of this set and the other one, in ascending order. Constant time.
@@ -226,8 +124,6 @@ impl<B: BitBlock> BitSet<B> {
         ensures start { StartsOverTwo B.width self.now.values other.now.values result }
         ensures runs { YieldsInOrder (AdvancesByEach B.width) (λ walk. walk.left) }
     {
-        SymmetricDifference {
-            ones: ones_of_two(self.get_ref(), other.get_ref(), Merge::Symmetric),
-        }
+        TwoSets::over(self, other)
     }
 }

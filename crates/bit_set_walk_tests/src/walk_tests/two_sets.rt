@@ -4,8 +4,9 @@ ghost use Rattle.std.specs.Iterator.{YieldsThen};
 ghost use Rattle.bit_set.specs.Sets.{elements, union, difference};
 ghost use Rattle.bit_set.specs.Walk.{TwoSetWalk, StartsOverTwo};
 
+use bit_set::bit_vec::operation::Operation;
 use bit_set::laws::whole_walks_over_two_sets;
-use bit_set::{BitBlock, BitSet, Difference, Intersection, SetError, SymmetricDifference, Union};
+use bit_set::{BitBlock, BitSet, Difference, Intersection, SetError, TwoSets, Union};
 use block24::Block24;
 use std::alloc::Global;
 use std::process::Abort;
@@ -21,7 +22,7 @@ trait AnyWalk: Drop {
     fn left(self) -> usize;
 }
 
-impl<'a, B: BitBlock> AnyWalk for Union<'a, B> {
+impl<'a, B: BitBlock, O: Operation> AnyWalk for TwoSets<'a, B, O> {
     fn step(&mut self) -> Option<usize> {
         self.next()
     }
@@ -36,34 +37,6 @@ impl<'a, B: BitBlock> AnyWalk for Union<'a, B> {
 }
 
 impl<'a, B: BitBlock> AnyWalk for Intersection<'a, B> {
-    fn step(&mut self) -> Option<usize> {
-        self.next()
-    }
-
-    fn another(&self) -> Self {
-        self.clone()
-    }
-
-    fn left(self) -> usize {
-        self.count()
-    }
-}
-
-impl<'a, B: BitBlock> AnyWalk for Difference<'a, B> {
-    fn step(&mut self) -> Option<usize> {
-        self.next()
-    }
-
-    fn another(&self) -> Self {
-        self.clone()
-    }
-
-    fn left(self) -> usize {
-        self.count()
-    }
-}
-
-impl<'a, B: BitBlock> AnyWalk for SymmetricDifference<'a, B> {
     fn step(&mut self) -> Option<usize> {
         self.next()
     }

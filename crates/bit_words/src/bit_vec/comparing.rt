@@ -4,7 +4,7 @@ ghost use Rattle.bit_words.specs.declared.bit_vec.merge.Merge.{Merge};
 ghost use Rattle.bit_words.specs.BlockMerges.{IsFirstMerged, MergesToFalse, MergesToZero};
 
 use super::changes::block_at;
-use super::merging::{Difference, Intersection, Operation};
+use super::operation::{Difference, Intersection, Operation};
 use super::words::same;
 use super::{BitBlock, Steps};
 

@@ -1,69 +1,10 @@
 // Merges of the blocks of two lists, each told by the digits of every block.
-ghost use Rattle.std.specs.Prelude.{◌≡◌, ℕ, ◌+◌, ◌<◌, ◌≤◌, ◌==◌, [], All, get_or, length, map, vec_len, vec_capacity};
-ghost use Rattle.std.specs.Int.{bit_at};
+ghost use Rattle.std.specs.Prelude.{◌≡◌, ◌+◌, ◌<◌, ◌≤◌, [], All, get_or, length, map, vec_len, vec_capacity};
 ghost use Rattle.bit_words.specs.BlockMerges.{IsMergedBetween};
-ghost use Rattle.bit_words.specs.Merges.{merged_value};
-ghost use Rattle.bit_words.specs.declared.bit_vec.merge.Merge.{Merge};
 
 use super::changes::{block_at, put_block};
-use super::{BitBlock, Merge, Steps};
-
-// One of the four merges, by a type: a loop over blocks is then built once for each, with no choice inside.
-pub(crate) trait Operation {
-    ghost merge: { Merge };
-
-    fn of_blocks<B: BitBlock>(a: B, b: B) -> B
-        requires left { B.is_block a }
-        requires right { B.is_block b }
-        ensures of_block { B.is_block result }
-        ensures digits { (i : ℕ) → i < B.width
-            → (bit_at (B.number result) i == 1)
-            ≡ merged_value merge (bit_at (B.number a) i == 1) (bit_at (B.number b) i == 1) };
-}
-
-pub(crate) struct Union;
-
-pub(crate) struct Intersection;
-
-pub(crate) struct Difference;
-
-pub(crate) struct Symmetric;
-
-impl Operation for Union {
-    ghost merge = { Merge.Union };
-
-    #[inline]
-    fn of_blocks<B: BitBlock>(a: B, b: B) -> B {
-        Merge::Union.of_blocks(a, b)
-    }
-}
-
-impl Operation for Intersection {
-    ghost merge = { Merge.Intersection };
-
-    #[inline]
-    fn of_blocks<B: BitBlock>(a: B, b: B) -> B {
-        Merge::Intersection.of_blocks(a, b)
-    }
-}
-
-impl Operation for Difference {
-    ghost merge = { Merge.Difference };
-
-    #[inline]
-    fn of_blocks<B: BitBlock>(a: B, b: B) -> B {
-        Merge::Difference.of_blocks(a, b)
-    }
-}
-
-impl Operation for Symmetric {
-    ghost merge = { Merge.Symmetric };
-
-    #[inline]
-    fn of_blocks<B: BitBlock>(a: B, b: B) -> B {
-        Merge::Symmetric.of_blocks(a, b)
-    }
-}
+use super::operation::Operation;
+use super::{BitBlock, Steps};
 
 // Block `k` becomes its merge with the other of its place, and is the answer.
 #[inline]

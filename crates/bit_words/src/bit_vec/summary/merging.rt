@@ -12,9 +12,8 @@ use super::{is_nonzero, summary_block};
 use crate::bit_vec::changes::{block_index, put_block};
 use crate::bit_vec::groups::LONG_GROUP;
 use crate::bit_vec::masks::with_one_if;
-use crate::bit_vec::merging::{
-    Difference, Intersection, Operation, Symmetric, Union, merge_block, merge_each, merge_rest,
-};
+use crate::bit_vec::merging::{merge_block, merge_each, merge_rest};
+use crate::bit_vec::operation::{Difference, Intersection, Operation, Symmetric, Union};
 use crate::bit_vec::words::{block_or, shift_left};
 use crate::bit_vec::{BitBlock, Merge, Steps};
 use std::mem::replace;

@@ -7,4 +7,4 @@ abbrev pub invariant-loop-i : goal.invariant-loop-i
 invariant-loop-i g l =
     let w = g.B.BitBlock.width in
     let n = g.B.BitBlock.number in
-    l.ones + ones_from w n l.merge l.first l.second l.i ≡ ones_from w n l.merge l.first l.second l.start
+    l.ones + ones_from w n g.O.Operation.merge l.first l.second l.i ≡ ones_from w n g.O.Operation.merge l.first l.second l.start

@@ -11,8 +11,8 @@ ones_of_both-requires-clause-fits g c =
     let it = c.args.self in
     let xs = c.as_slice-first.result.now in
     let ys = c.as_slice-second.result.now in
-    let same = ap (λ bs. length (elements bs)) (same_held w n it.merge xs it.first.left ys it.second.left c.as_slice-first.ensures c.as_slice-second.ensures) in
-    let cut = rows_cut_at w n it.merge xs ys c.min-both.result (omega (arith, c.min-both.ensures)) (omega (arith, c.min-both.ensures)) in
+    let same = ap (λ bs. length (elements bs)) (same_held w n g.O.Operation.merge xs it.first.left ys it.second.left c.as_slice-first.ensures c.as_slice-second.ensures) in
+    let cut = rows_cut_at w n g.O.Operation.merge xs ys c.min-both.result (omega (arith, c.min-both.ensures)) (omega (arith, c.min-both.ensures)) in
     omega (arith, same, cut, c.requires.fits)
 
 pub ones_of_rest-requires-clause-fits : goal.ones_of_rest-requires-clause-fits
@@ -22,13 +22,13 @@ ones_of_rest-requires-clause-fits g c =
     let it = c.args.self in
     let xs = c.as_slice-first.result.now in
     let ys = c.as_slice-second.result.now in
-    let same = ap (λ bs. length (elements bs)) (same_held w n it.merge xs it.first.left ys it.second.left c.as_slice-first.ensures c.as_slice-second.ensures) in
-    let cut = rows_cut_at w n it.merge xs ys c.min-both.result (omega (arith, c.min-both.ensures)) (omega (arith, c.min-both.ensures)) in
+    let same = ap (λ bs. length (elements bs)) (same_held w n g.O.Operation.merge xs it.first.left ys it.second.left c.as_slice-first.ensures c.as_slice-second.ensures) in
+    let cut = rows_cut_at w n g.O.Operation.merge xs ys c.min-both.result (omega (arith, c.min-both.ensures)) (omega (arith, c.min-both.ensures)) in
     omega (arith, same, cut, c.requires.fits)
 
 pub ones_of_rest-requires-clause-ended : goal.ones_of_rest-requires-clause-ended
 ones_of_rest-requires-clause-ended g c =
-    rest_ended g.B.BitBlock.width g.B.BitBlock.number c.args.self.merge c.as_slice-first.result.now c.as_slice-second.result.now c.min-both.result c.min-both.ensures
+    rest_ended g.B.BitBlock.width g.B.BitBlock.number g.O.Operation.merge c.as_slice-first.result.now c.as_slice-second.result.now c.min-both.result c.min-both.ensures
 
 pub overflow_add-result : goal.overflow_add-result
 overflow_add-result g c =
@@ -37,8 +37,8 @@ overflow_add-result g c =
     let it = c.args.self in
     let xs = c.as_slice-first.result.now in
     let ys = c.as_slice-second.result.now in
-    let same = ap (λ bs. length (elements bs)) (same_held w n it.merge xs it.first.left ys it.second.left c.as_slice-first.ensures c.as_slice-second.ensures) in
-    let cut = rows_cut_at w n it.merge xs ys c.min-both.result (omega (arith, c.min-both.ensures)) (omega (arith, c.min-both.ensures)) in
+    let same = ap (λ bs. length (elements bs)) (same_held w n g.O.Operation.merge xs it.first.left ys it.second.left c.as_slice-first.ensures c.as_slice-second.ensures) in
+    let cut = rows_cut_at w n g.O.Operation.merge xs ys c.min-both.result (omega (arith, c.min-both.ensures)) (omega (arith, c.min-both.ensures)) in
     omega (arith, same, cut, c.requires.fits, c.ones_of_both.ensures, c.ones_of_rest.ensures)
 
 pub returns : goal.returns
@@ -48,6 +48,6 @@ returns g c =
     let it = c.args.self in
     let xs = c.as_slice-first.result.now in
     let ys = c.as_slice-second.result.now in
-    let same = ap (λ bs. length (elements bs)) (same_held w n it.merge xs it.first.left ys it.second.left c.as_slice-first.ensures c.as_slice-second.ensures) in
-    let cut = rows_cut_at w n it.merge xs ys c.min-both.result (omega (arith, c.min-both.ensures)) (omega (arith, c.min-both.ensures)) in
+    let same = ap (λ bs. length (elements bs)) (same_held w n g.O.Operation.merge xs it.first.left ys it.second.left c.as_slice-first.ensures c.as_slice-second.ensures) in
+    let cut = rows_cut_at w n g.O.Operation.merge xs ys c.min-both.result (omega (arith, c.min-both.ensures)) (omega (arith, c.min-both.ensures)) in
     omega (arith, same, cut, c.ones_of_both.ensures, c.ones_of_rest.ensures)

@@ -11,8 +11,7 @@ of_blocks-requires-clause-right g c = subst (λ o. IfSome o g.B.BitBlock.is_bloc
 
 pub returns-in-Some-Some-clause-steps : goal.returns-in-Some-Some-clause-steps
 returns-in-Some-Some-clause-steps g c =
-    let small = (g.met.B.BitBlock.number_law c.of_blocks.result c.of_blocks.ensures.of_block).0 in
-    rw c.from.ensures (both_pulled_if _ _ _ _ _ _ _ _ _ _ _ _ _ _ c.in-Some-Some.is-0 c.in-Some-Some.is-1 c.next_if.ensures c.next_if-2.ensures small (record { digit = c.of_blocks.ensures.digits }))
+    both_pulled_if _ _ _ _ _ _ _ _ _ _ _ _ _ _ c.in-Some-Some.is-0 c.in-Some-Some.is-1 c.next_if.ensures c.next_if-2.ensures (record { digit = c.of_blocks.ensures.digits })
 
 pub returns-in-Some-Some-clause-sound : goal.returns-in-Some-Some-clause-sound
 returns-in-Some-Some-clause-sound g c = (

@@ -12,7 +12,7 @@ merged_block-block-requires-clause-second g c = (All-pulled g.B.BitBlock.is_bloc
 pub returns-clause-steps : goal.returns-clause-steps
 returns-clause-steps g c =
     let it = c.args.self.now in
-    both_pulled g.B.BitBlock.width g.B.BitBlock.number it.merge it.first.left c.next-first.new.self.left it.second.left c.next-second.new.self.left it.first.pulls c.next-first.new.self.pulls c.next-first.result c.next-second.result c.merged_block-block.result
+    both_pulled g.B.BitBlock.width g.B.BitBlock.number g.O.Operation.merge it.first.left c.next-first.new.self.left it.second.left c.next-second.new.self.left it.first.pulls c.next-first.new.self.pulls c.next-first.result c.next-second.result c.merged_block-block.result
     c.next-first.ensures.steps.item c.next-second.ensures.steps.item c.merged_block-block.ensures.merged c.next-first.ensures.steps.counted
 
 pub returns-clause-sound : goal.returns-clause-sound
