@@ -36,7 +36,8 @@ pub record CanMerge {X : Type 0} (w : ℕ) (number : X → ℕ) (is_block : X �
   pub summary : IsSummary w number is_block xs sums
 
 -- The blocks xs became ys, what they merge to with os, or with zeros past its end; and the summary of ys is sums.
-pub record HasMerged {X : Type 0} (merge : Merge) (w : ℕ) (number : X → ℕ) (is_block : X → Type 0) (xs os ys sums : List X)
+pub record HasMerged {X : Type 0} (merge : Merge) (w : ℕ) (number : X → ℕ) (is_block : X → Type 0)
+    (xs os ys sums : List X)
     : Type 0 where
   pub merged : IsMergedBetween merge w 0 (length xs) (map number xs) (map number os) (map number ys)
   pub each : All is_block ys

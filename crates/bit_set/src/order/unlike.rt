@@ -31,13 +31,15 @@ pub(crate) fn first_unlike<B: BitBlock>(a: &[B], b: &[B]) -> Option<usize>
 
 // How many groups of blocks are the same, up to the first that is not.
 fn same_groups<B: BitBlock>(a: &[B], b: &[B], groups: usize) -> usize
-    requires within { groups * 32 ≤ length a.now }
-    requires within_other { groups * 32 ≤ length b.now }
+    requires within { groups * GROUP ≤ length a.now }
+    requires within_other { groups * GROUP ≤ length b.now }
     requires left { All B.is_block a.now }
     requires right { All B.is_block b.now }
     ensures within { result ≤ groups }
-    ensures same { (k : ℕ) → k < result * 32 → get_or (map B.number a.now) k 0 ≡ get_or (map B.number b.now) k 0 }
-    ensures stops { result < groups → ¬ ((k : ℕ) → result * 32 ≤ k → k < result * 32 + 32 → get_or (map B.number a.now) k 0 ≡ get_or (map B.number b.now) k 0) }
+    ensures same { (k : ℕ) → k < result * GROUP → get_or (map B.number a.now) k 0 ≡ get_or (map B.number b.now) k 0 }
+    ensures stops { result < groups
+        → ¬ ((k : ℕ) → result * GROUP ≤ k → k < result * GROUP + GROUP
+        → get_or (map B.number a.now) k 0 ≡ get_or (map B.number b.now) k 0) }
 {
     for group in 0..groups {
         if !is_same_group(a, b, group * GROUP) {
@@ -50,11 +52,13 @@ fn same_groups<B: BitBlock>(a: &[B], b: &[B], groups: usize) -> usize
 // Whether the blocks of the group that begins at `start` are the same. One test for all of them.
 #[inline]
 fn is_same_group<B: BitBlock>(a: &[B], b: &[B], start: usize) -> bool
-    requires within { start + 32 ≤ length a.now }
-    requires within_other { start + 32 ≤ length b.now }
+    requires within { start + GROUP ≤ length a.now }
+    requires within_other { start + GROUP ≤ length b.now }
     requires left { All B.is_block a.now }
     requires right { All B.is_block b.now }
-    ensures { IsTrue result ↔ ((k : ℕ) → start ≤ k → k < start + 32 → get_or (map B.number a.now) k 0 ≡ get_or (map B.number b.now) k 0) }
+    ensures { IsTrue result
+        ↔ ((k : ℕ) → start ≤ k → k < start + GROUP
+        → get_or (map B.number a.now) k 0 ≡ get_or (map B.number b.now) k 0) }
 {
     let mut unlike = B::zero();
     for k in start..start + GROUP {

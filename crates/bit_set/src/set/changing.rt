@@ -68,6 +68,7 @@ impl<B: BitBlock> BitSet<B> {
         if value == usize::MAX {
             return Err(SetError::Element);
         }
+        // For the proof alone: `capacity` ensures that the list is within its room, which is that of whole blocks.
         prove!(len <= self.bits.capacity());
         self.bits.grow(value - len + 1, false)?;
         Ok(())

@@ -1,4 +1,5 @@
-// The unsigned integers as blocks: a value is its own number.
+// The unsigned integers as blocks: a value is its own number. The six impls are alike and are written out all the
+// same: the gate takes no impl that a macro of this repository writes.
 ghost use Rattle.std.specs.Prelude.{◌^◌, ◌<◌, refl};
 ghost use Rattle.std.proofs.Common.{lit<};
 ghost use Rattle.bit_words.specs.DigitLaws.{both, either, different, complement, added, subtracted, compared};

@@ -161,6 +161,8 @@ impl<'a, B: BitBlock> Iterator for Nonzero<'a, B> {
     fn next(&mut self) -> Option<(usize, B)> {
         self.steps.tick();
         while self.marks == B::zero() {
+            // `place` goes with the block of the summary in hand: on by those that are passed over, and by one more
+            // only where one is pulled. At the end there is none, and `place` must not leave the blocks.
             self.place += self.summary.pass_zeros() * B::bits();
             self.marks = self.summary.next()?;
             self.place += B::bits();

@@ -13,7 +13,9 @@ pub struct Steps {
     link: ManuallyDrop<Snapshot<Link>>,
 }
 
-// The count is the length of the chain, which no code can read.
+// The count is the length of the chain, which no code can read. A chain cannot be taken from a `Steps` that is
+// borrowed, and so a clone begins one of its own: its first link, `Same`, goes back to the other chain and counts for
+// nothing.
 #[derive(Drop)]
 enum Link {
     Zero,

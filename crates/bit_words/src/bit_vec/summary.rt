@@ -19,7 +19,6 @@ mod merging;
 
 pub(crate) use merging::merge_stored;
 
-// Whether a block is not 0.
 #[inline]
 fn is_nonzero<B: BitBlock>(block: B) -> bool
     requires { B.is_block block }

@@ -87,7 +87,6 @@ pub(crate) fn used_blocks<B: BitBlock>(blocks: &[B]) -> usize
     0
 }
 
-// Whether every block is 0.
 pub(crate) fn are_zero<B: BitBlock>(blocks: &[B]) -> bool
     requires { All B.is_block blocks.now }
     ensures { IsTrue result ↔ All (λ block. B.number block ≡ 0) blocks.now }

@@ -70,7 +70,8 @@ fn merge_groups<B: BitBlock, O: Operation>(
         (map B.number others.now) (map B.number blocks.new.items) }
     ensures of_block { B.is_block result }
     ensures digits { (j : ℕ) → j < B.width
-        → is_one (B.number result) j ≡ (nat_lt j (groups * LONG_GROUP) && is_used (map B.number blocks.new.items) (start + j)) }
+        → is_one (B.number result) j
+        ≡ (nat_lt j (groups * LONG_GROUP) && is_used (map B.number blocks.new.items) (start + j)) }
     ensures each { All B.is_block blocks.new.items }
     ensures len { vec_len blocks.new ≡ vec_len blocks.old }
     ensures capacity { vec_capacity blocks.new ≡ vec_capacity blocks.old }
