@@ -86,10 +86,12 @@ impl Draw {
             Call::Union | Call::SymmetricDifference => {
                 self.steps(line, set.elements.len() + sets[line.other].elements.len());
             }
+            Call::IntoIter => {}
             _ if line.call.group() == Group::Walk => self.steps(line, set.elements.len()),
             Call::FromIter | Call::Extend => line.numbers = self.elements(set, is_far),
             _ if line.call.form().contains('*') => line.numbers = self.bytes(),
-            _ => line.first = self.length(),
+            _ if line.call.form().contains('n') => line.first = self.length(),
+            _ => {}
         }
         if line.call.form().contains('b') {
             line.second = usize::from(self.random.once_in(2));
@@ -158,6 +160,9 @@ impl Draw {
         let is_few = count > 3000 && !self.random.once_in(50);
         let whole = if is_few { 40 } else { count };
         line.first = if self.random.once_in(2) { short(&mut self.random) } else { self.random.below(whole + 2) };
+        if !line.call.form().contains('m') {
+            return;
+        }
         line.second = match self.random.below(3) {
             0 => short(&mut self.random),
             1 => self.random.below(whole + 2),
