@@ -26,7 +26,8 @@ pub trait Graph: Copy {
         ensures can { IfSome result Self.Successors.can_next }
         ensures ends { IfSome result (λ walk. IsFinite (Self.Successors.remaining walk)) };
 
-    ghost in_order: { (s t : Self.Successors) (item : Option ℕ) → Self.Successors.next_gives s item t → YieldsFirst left s item t };
+    ghost in_order: { (s t : Self.Successors) (item : Option ℕ) → Self.Successors.next_gives s item t
+        → YieldsFirst left s item t };
 }
 
 /// A row of successors for each node.
