@@ -41,14 +41,11 @@ fn sets_are_changed(rt: HostRuntime) -> Result<(), Fail> {
 #[test]
 fn a_set_is_a_key(rt: HostRuntime) -> Result<(), Fail> {
     let mut numbers = BTreeMap::new(rt.alloc());
-    let mut longer = BitSet::<u32>::with_capacity(rt.alloc(), 1000)?;
-    longer.insert(2)?;
-    longer.insert(0)?;
-    lists_of_members(&longer, &evens::<u8>(rt.alloc(), 4)?);
-    assert_eq!(rt;
-        keep_under(&mut numbers, evens(rt.alloc(), 4)?, 7, &longer)?,
-        Some(7)
-    );
+    let mut longer: BitSet<u8> = evens(rt.alloc(), 4)?;
+    exchange(&mut longer, 900, 900)?;
+    let shorter: BitSet<u8> = copy_over(rt.alloc(), &longer)?;
+    lists_of_members(&shorter, &longer);
+    assert_eq!(rt; keep_under(&mut numbers, shorter, 7, &longer)?, Some(7));
     Ok(())
 }
 
