@@ -1,5 +1,5 @@
 -- What a caller cites of sets that are made of chains.
-use Rattle.std.proofs.Common.{◌≡◌, ℕ, ◌+◌, Bool, true, false, not, ◌&&◌, ◌||◌, ltb, filter, Option, List, [], Result, Bor, refl, sym, ap, ◌∙◌, inl, inr, zero, suc, arith}
+use Rattle.std.proofs.Common.{◌≡◌, ℕ, ◌+◌, Bool, true, false, not, ◌&&◌, ◌||◌, ltb, filter, Option, List, [], Result, Bor, refl, sym, ap, ◌∙◌, inl, inr, zero, suc, arith, length, subst}
 use Rattle.std.specs.Prelude.{IfOk}
 use Rattle.std.specs.Fn.{Mut, CalledAt}
 use Rattle.std.specs.Iterator.{Drains}
@@ -9,10 +9,12 @@ use Rattle.std.proofs.iter.Yields.{nat_range_steps}
 use Rattle.std.proofs.lemmas.Bool.{eq-eqb, ne_eqb, lt-ltb, le-ltb, cases_lt, cases_order}
 use Rattle.std.proofs.lemmas.Iterator.{YieldsList, YieldsList-from_range}
 use Rattle.std.proofs.lemmas.Iterator.Adapters.{fact_from_collect}
-use Rattle.std.proofs.lemmas.Iterator.Consumers.{YieldsList-at, YieldsList-from_filter}
+use Rattle.std.proofs.lemmas.Iterator.Consumers.{YieldsList-at, YieldsList-from_filter, YieldsList-from_shown}
 use Rattle.std.proofs.lemmas.Result.{IfOk-weaker}
 use Rattle.bit_words.specs.Bits.{Bits}
-use Rattle.bit_set.specs.Sets.{elements, has, put_all}
+use Rattle.bit_set.specs.Members.{IsSameSet}
+use Rattle.bit_set.specs.Sets.{bound_of, elements, has, put_all}
+use Rattle.bit_set.specs.Walk.{Walk, Advances}
 use Rattle.std.proofs.Math.Bool.{and-false, and-true, or-false}
 use Rattle.bit_set.proofs.SetLaws.{has-filter, has-put_all}
 
@@ -64,12 +66,16 @@ has-passing test n m =
     from_zero n = omega arith
 
 -- a set that `from_iter` makes of `(0..n).filter(..)`
-pub members-from_filter : {E F : Type 0} {g : Mut F (Bor ℕ × Unit {0}) Bool} {f : F} {n : ℕ} {s : _} (test : ℕ → Bool) (Rest : List ℕ → Bits → Type 0) (r : Result Bits E)
-    → IfOk r (λ set. (items : List ℕ) × Drains (filter_steps nat_range_steps g) s items × (elements set.values ≡ put_all [] items) × Rest items set)
+pub members-from_filter : {E F : Type 0} {g : Mut F (Bor ℕ × Unit {0}) Bool} {f : F} {n : ℕ} {s : _} (test : ℕ → Bool) (r : Result Bits E)
+    → IfOk r (λ set. (items : List ℕ) × Drains (filter_steps nat_range_steps g) s items × (elements set.values ≡ put_all [] items) × (length set.values ≡ bound_of items) × IsSameSet (elements set.values) items)
     → filter_source s ≡ record { start = 0; end = n } → filter_callee s ≡ f → ((x : ℕ) (b : Bool) (q : F) → CalledAt g f x b q → (q ≡ f) × (b ≡ test x))
     → IfOk r (λ set. (m : ℕ) → has (elements set.values) m ≡ (ltb m n && test m))
-members-from_filter {g = g} {n = n} {s = s} test Rest r made source callee called =
+members-from_filter {g = g} {n = n} {s = s} test r made source callee called =
     let numbers = range_with_len 0 n in
     let gives : YieldsList (filter_steps nat_range_steps g) (λ x. x) s (filter test numbers) = YieldsList-from_filter g test (YieldsList-at source (YieldsList-from_range 0 n n refl (omega arith))) callee called in
-    IfOk-weaker r _ _ (λ set is m. ap (λ xs. has xs m) is ∙ has-put_all [] (filter test numbers) m ∙ or-false (has (filter test numbers) m) ∙ has-passing test n m)
-    (made_of_chain {steps = filter_steps nat_range_steps g} {s = s} (λ items set. elements set.values ≡ put_all [] items) r (IfOk-weaker r _ _ (λ set m. (m.0, m.1, m.2)) made) gives)
+    IfOk-weaker r _ _ (λ set same m. same m ∙ has-passing test n m)
+    (made_of_chain {steps = filter_steps nat_range_steps g} {s = s} (λ items set. IsSameSet (elements set.values) items) r (IfOk-weaker r _ _ (λ set m. (m.0, m.1, m.4)) made) gives)
+
+-- what a walk over a set gives
+pub gives_left : (w : ℕ) (s : Walk) {xs : List ℕ} → s.left ≡ xs → YieldsList (Advances w) (λ x. x) s xs
+gives_left w s same = subst (YieldsList (Advances w) (λ x. x) s) same (YieldsList-from_shown (Advances w) (λ x. x) (λ walk. walk.left) (λ a b h. ap length h.item.0) (λ a x b h. h.item) s)

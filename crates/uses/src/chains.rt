@@ -1,0 +1,69 @@
+//! Walks over sets in chains.
+ghost use Rattle.std.specs.Prelude.{◌≡◌, max, nat_le, nat_lt, IfOk, OnOk};
+ghost use Rattle.std.specs.List.{list_all, list_any, reduce};
+ghost use Rattle.bit_set.specs.Members.{IsIntersection, IsSameSet, IsUnion};
+ghost use Rattle.bit_set.specs.Sets.{elements};
+
+use bit_set::{BitBlock, BitSet, SetError, laws};
+use std::alloc::Global;
+
+/// Whether all members are below `n`.
+pub fn all_below<B: BitBlock>(set: &BitSet<B>, n: usize) -> bool
+    ensures { result ≡ list_all (λ x. nat_lt x n) (elements set.now.values) }
+{
+    set.iter().all(|x| x < n)
+}
+
+/// Whether a member is `n` or above.
+pub fn any_from<B: BitBlock>(set: &BitSet<B>, n: usize) -> bool
+    ensures { result ≡ list_any (λ x. nat_le n x) (elements set.now.values) }
+{
+    set.iter().any(|x| n <= x)
+}
+
+/// The greatest member.
+pub fn greatest<B: BitBlock>(set: &BitSet<B>) -> Option<usize>
+    ensures { result ≡ reduce max (elements set.now.values) }
+{
+    set.iter().max()
+}
+
+/// Puts the numbers of a row in.
+pub fn put_row<B: BitBlock>(set: &mut BitSet<B>, row: &[usize]) -> Result<(), SetError>
+    ensures { OnOk result (IsUnion (elements set.old.values) row.now (elements set.new.values)) }
+{
+    set.extend(row.iter().copied())
+}
+
+/// Puts the members of another set in, which may have another block type.
+pub fn put_members<A: BitBlock, B: BitBlock>(
+    set: &mut BitSet<A>,
+    other: &BitSet<B>,
+) -> Result<(), SetError>
+    ensures { OnOk result (IsUnion (elements set.old.values) (elements other.now.values) (elements set.new.values)) }
+{
+    set.extend(other.iter())
+}
+
+/// A copy over another block type.
+pub fn copy_over<A: BitBlock, B: BitBlock>(
+    alloc: Global,
+    set: &BitSet<A>,
+) -> Result<BitSet<B>, SetError>
+    ensures { IfOk result (λ copy. IsSameSet (elements copy.values) (elements set.now.values)) }
+{
+    BitSet::from_iter(alloc, set.iter())
+}
+
+/// What both sets have, as a new one.
+pub fn common<B: BitBlock>(
+    alloc: Global,
+    a: &BitSet<B>,
+    b: &BitSet<B>,
+) -> Result<BitSet<B>, SetError>
+    ensures { IfOk result (λ set.
+        IsIntersection (elements a.now.values) (elements b.now.values) (elements set.values)) }
+{
+    laws::members_of_merged_sets();
+    BitSet::from_iter(alloc, a.intersection(b))
+}
