@@ -157,7 +157,7 @@ impl<B: BitBlock> BitSet<B> {
     /// A walk over the elements that are `from` or above, in ascending order. Constant time.
     ///
     /// ```
-    /// let set = BitSet::from_bytes(rt.alloc(), &[0b0100_1010])?;
+    /// let set = BitSet::from_bytes(alloc, &[0b0100_1010])?;
     /// assert!(set.iter_from(2).eq([4, 6]));
     /// ```
     #[inline]
@@ -168,6 +168,7 @@ impl<B: BitBlock> BitSet<B> {
         ensures blocks { result.blocks ≡ blocks_for B.width (length self.now.values) - 1 - from / B.width }
         ensures summary { result.summary_pulls + result.summary_left ≡ max 1 (blocks_for B.width (blocks_for B.width (length self.now.values)) - min (from / B.width) (blocks_for B.width (length self.now.values) - 1) / B.width) }
         ensures fits { length result.left < 2 ^ 64 }
+        ensures runs { YieldsInOrder (Advances B.width) (λ walk. walk.left) }
     {
         Iter::over_from(self.get_ref(), from)
     }

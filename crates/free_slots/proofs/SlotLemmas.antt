@@ -1,10 +1,10 @@
 -- Which slots are free, as the set keeps them.
-use Rattle.std.proofs.Common.{◌≡◌, ℕ, zero, suc, ◌+◌, ◌<◌, ◌≤◌, ◌↔◌, ◌==◌, Bool, true, false, not, ◌||◌, ltb, List, [], ◌∷◌, length, max, replicate, slice_get, Some, refl, sym, ap, ◌∙◌, subst, arith, inl, inr, ⊎_elim}
-use Rattle.std.proofs.lemmas.Bool.{cases_eq, cases_lt, eq-eqb, ne_eqb, le-ltb, lt-ltb, and_right, not-false}
+use Rattle.std.proofs.Common.{◌≡◌, ℕ, zero, suc, ◌+◌, ◌<◌, ◌≤◌, ◌↔◌, ◌==◌, Bool, true, false, not, ◌||◌, ◌&&◌, leb, ltb, List, [], ◌∷◌, length, max, replicate, slice_get, Some, refl, sym, ap, ◌∙◌, subst, arith, inl, inr, ⊎_elim}
+use Rattle.std.proofs.lemmas.Bool.{and_parts, and_right, cases_eq, cases_lt, eq-eqb, le-leb, le-ltb, leb-true, lt-ltb, ne_eqb, not-false}
 use Rattle.std.proofs.lemmas.List.{length-replicate}
 use Rattle.std.proofs.lemmas.Option.{slice_get_within}
 use Rattle.std.specs.List.{range_with_len}
-use Rattle.bit_set.specs.Sets.{AscendsFrom, IsAscending, elements, elements_from, has, put}
+use Rattle.bit_set.specs.Sets.{AscendsFrom, IsAscending, elements, elements_from, has, put, those_from}
 use Rattle.free_slots.specs.Runs.{Happens}
 use Rattle.free_slots.specs.Runs.Event.{GiveBack}
 use Rattle.free_slots.specs.Slots.{SlotTable, IsLowestFree, all_free, is_taken}
@@ -87,3 +87,23 @@ given_back old new slot true inside is added long again =
     (rw (lt-ltb slot (length old) inside) (sym is), left old new (put (elements old) slot) (omega (arith, long, inside)) added)
 given_back old new slot false inside is added long again =
     (and_right (ltb slot (length old)) _ (sym is), left old new (elements old) (omega (arith, long, inside)) (added ∙ again (not-false (has (elements old) slot) (sym is))))
+
+-- ---- from any slot on
+
+module _ (s : List ℕ) (from : ℕ) (members : (m : ℕ) → has (those_from s from) m ≡ (leb from m && has s m)) where
+  pub none_free_from : those_from s from ≡ [] → (n : ℕ) → from ≤ n → has s n ≡ false
+  none_free_from none n above = ap (λ b. b && has s n) (sym (le-leb from n above)) ∙ sym (members n) ∙ ap (λ xs. has xs n) none
+
+  pub least_from : (first : ℕ) (rest : List ℕ) → IsAscending (those_from s from) → those_from s from ≡ first ∷ rest → (has s first ≡ true) × (from ≤ first) × ((n : ℕ) → from ≤ n → n < first → has s n ≡ false)
+  least_from first rest ascends at =
+      let there = and_parts (leb from first) (has s first) (sym (members first) ∙ first_is_in (those_from s from) first rest at) in (
+        there.1,
+        leb-true from first there.0,
+        λ n above below. ap (λ b. b && has s n) (sym (le-leb from n above)) ∙ sym (members n) ∙ first_is_least (those_from s from) first rest ascends at n below,
+      )
+
+pub lowest_from : (values : List Bool) (from slot : ℕ) (rest : List ℕ) → ((m : ℕ) → has (those_from (elements values) from) m ≡ (leb from m && has (elements values) m)) → IsAscending (those_from (elements values) from)
+    → ((m : ℕ) → (has (elements values) m ≡ true) ↔ (slice_get values m ≡ Some true)) → those_from (elements values) from ≡ slot ∷ rest → IsLowestFree (table_of values) from slot
+lowest_from values from slot rest members ascends places at =
+    let least = least_from (elements values) from members slot rest ascends at in
+    record { free = least.0; inside = slice_get_within values slot true ((places slot).0 least.0); above = least.1; lowest = least.2 }

@@ -83,6 +83,21 @@ impl<B: BitBlock> Slots<B> {
         Some(slot)
     }
 
+    /// Takes the lowest free slot that is at or above `slot`, and returns it; `None` where each of these is taken.
+    pub fn take_at_or_above(&mut self, slot: usize) -> Option<usize>
+        ensures full { (result ≡ None) ↔ (those_from self.old.free slot ≡ []) }
+        ensures lowest { IfSome result (λ taken. IsLowestFree self.old slot taken) }
+        ensures taken { IfSome result (λ taken. self.new.free ≡ without self.old.free taken) }
+        ensures len { self.new.len ≡ self.old.len }
+        ensures happens { Happens self.old (Take slot result) self.new }
+    {
+        members_of_sets();
+        sets_ascend();
+        let taken = self.free.iter_from(slot).next()?;
+        self.free.remove(taken);
+        Some(taken)
+    }
+
     /// Gives a slot back that is taken, which is free then. Returns `false` where the slot is free or there is no
     /// such slot, and changes nothing then. Constant time.
     pub fn give_back(&mut self, slot: usize) -> bool

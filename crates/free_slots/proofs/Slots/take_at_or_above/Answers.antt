@@ -1,0 +1,31 @@
+use Rattle.std.proofs.Common.{◌≡◌, [], refl, sym, ◌∙◌}
+use Rattle.bit_set.specs.Sets.{elements, those_from, without}
+use Rattle.free_slots.proofs.SlotLemmas.{left, lowest_from, none_free_from}
+use Rattle.free_slots.proofs.Slots.take_at_or_above.Goals as goal
+
+pub returns-clause-lowest : goal.returns-clause-lowest
+returns-clause-lowest g c =
+    let values = c.self.inside.free.values in
+    let s = elements values in
+    let from = c.args.slot in
+    let at = sym c.iter_from.ensures.left ∙ c.in_ok-taken.ensures.steps.item in
+    rw (← c.self.view_is) (lowest_from values from c.in_ok-taken.taken _ (c.members_of_sets.ensures.those_from s from) (c.sets_ascend.ensures.those_from s from (c.sets_ascend.ensures.elements values)) (c.members_of_sets.ensures.elements values) at)
+
+pub returns-clause-happens : goal.returns-clause-happens
+returns-clause-happens g c =
+    let values = c.self.inside.free.values in
+    let s = elements values in
+    let from = c.args.slot in
+    let taken = c.in_ok-taken.taken in
+    let at = sym c.iter_from.ensures.left ∙ c.in_ok-taken.ensures.steps.item in
+    rw (← c.self.view_is) (
+      lowest_from values from taken _ (c.members_of_sets.ensures.those_from s from) (c.sets_ascend.ensures.those_from s from (c.sets_ascend.ensures.elements values)) (c.members_of_sets.ensures.elements values) at,
+      left values c.remove.new.self.values (without s taken) c.remove.ensures.length c.remove.ensures.elements,
+    )
+
+pub returns-in_err-taken-clause-happens : goal.returns-in_err-taken-clause-happens
+returns-in_err-taken-clause-happens g c =
+    let s = elements c.self.inside.free.values in
+    let from = c.args.slot in
+    let none : those_from s from ≡ [] = sym c.iter_from.ensures.left ∙ c.in_err-taken.ensures.steps.item.0 in
+    rw (c.from_residual.ensures, ← c.self.view_is) (λ n above. none_free_from s from (c.members_of_sets.ensures.those_from s from) none n above, refl)

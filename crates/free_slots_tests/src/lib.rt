@@ -1,0 +1,5 @@
+//! The tests of `free_slots`, by its public calls alone.
+#![tactic(auto)]
+
+#[cfg(test)]
+mod slot_tests;
