@@ -5,7 +5,7 @@ use Rattle.std.proofs.lemmas.Bool.{cases_lt}
 use Rattle.std.proofs.lemmas.Grind.{flat_map-append}
 use Rattle.bit_words.specs.Merges.{merged_value, merged}
 use Rattle.bit_words.specs.declared.bit_vec.merge.Merge.{Merge}
-use Rattle.bit_words.specs.Storage.{is_one}
+use Rattle.bit_words.specs.Digits.{is_one}
 use Rattle.bit_words.proofs.Masks.{is_one-zero}
 use Rattle.bit_set.specs.Sets.{elements_from, elements}
 use Rattle.bit_set.specs.Places.{digits_from, values_in, IsMergedBlock}
