@@ -4,4 +4,4 @@ use Rattle.free_slots.proofs.Slots.with_slots.Goals as goal
 
 pub returns-clause-free : goal.returns-clause-free
 returns-clause-free g c =
-    made c.args.n c.from_bit_vec_general.result.values (ap (λ v. v.values) c.from_bit_vec_general.ensures ∙ c.in_ok-all.ensures.values)
+    made c.args.n c.from_bit_vec_general.result.values (ap (λ v. v.values) c.from_bit_vec_general.ensures.value ∙ c.in_ok-all.ensures.values)
