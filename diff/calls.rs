@@ -84,6 +84,7 @@ calls! {
     Walk {
         Iter "iter" "snm"
         IntoIter "into_iter" "s"
+        IterFrom "iter_from" "snm"
         Union "union" "stnm"
         Intersection "intersection" "stnm"
         Difference "difference" "stnm"
@@ -116,6 +117,7 @@ calls! {
         BitsBlocks "bits.blocks" "snm"
         BitsNextIf "bits.next_if" "sn"
         BitsNonzero "bits.nonzero" "sn"
+        BitsNonzeroFrom "bits.nonzero_from" "snm"
         BitsIsSubsetOf "bits.is_subset_of" "st"
         BitsIsDisjointFrom "bits.is_disjoint_from" "st"
         BitsDebug "bits.debug" "s"

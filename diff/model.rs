@@ -232,18 +232,23 @@ impl Set for Model {
         (width() < 128).then_some(text)
     }
 
-    fn walk<'a>(&'a self, call: Call, other: &'a Model) -> Box<dyn Walk + 'a> {
+    fn walk<'a>(&'a self, line: &Line, other: &'a Model) -> Box<dyn Walk + 'a> {
         let (one, two) = (&self.elements, &other.elements);
+        let call = line.call;
         let items: Vec<usize> = match call {
             Call::Iter => one.iter().copied().collect(),
+            Call::IterFrom => one.range(line.first..).copied().collect(),
             Call::Union => one.union(two).copied().collect(),
             Call::Intersection => one.intersection(two).copied().collect(),
             Call::Difference => one.difference(two).copied().collect(),
             _ => one.symmetric_difference(two).copied().collect(),
         };
-        let all = if call == Call::Iter { self.blocks() } else { self.blocks().max(other.blocks()) };
+        let is_of_one = matches!(call, Call::Iter | Call::IterFrom);
+        let all = if is_of_one { self.blocks() } else { self.blocks().max(other.blocks()) };
+        let last_block = all.max(1) - 1;
+        let block = if call == Call::IterFrom { (line.first / width()).min(last_block) } else { 0 };
         let most = (call == Call::Intersection).then_some(self.len.min(other.len));
-        Box::new(ModelWalk { items: items.into(), taken: 0, last_block: all.max(1) - 1, block: 0, most })
+        Box::new(ModelWalk { items: items.into(), taken: 0, last_block, block, most })
     }
 
     fn elements(&self) -> Vec<usize> {
@@ -311,7 +316,7 @@ impl Set for Model {
 }
 
 /// A walk over the items of a list. Its upper bound is that of the blocks from the one in hand on: at first the first
-/// block, after an item the one with that item, and at the end the last; or what it may give at most.
+/// block or that of the number it begins at, after an item the one with that item, and at the end the last; or what it may give at most.
 #[derive(Clone)]
 struct ModelWalk {
     items: std::rc::Rc<[usize]>,

@@ -196,9 +196,9 @@ impl<B: Block> Set for Peer<B> {
         unreachable!("by the model")
     }
 
-    fn walk<'a>(&'a self, call: Call, other: &'a Self) -> Box<dyn Walk + 'a> {
+    fn walk<'a>(&'a self, line: &Line, other: &'a Self) -> Box<dyn Walk + 'a> {
         let (one, two) = (&self.0, &other.0);
-        match call {
+        match line.call {
             Call::Iter => Box::new(Items(one.iter())),
             Call::Union => Box::new(Items(one.union(two))),
             Call::Intersection => Box::new(Items(one.intersection(two))),

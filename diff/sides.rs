@@ -37,7 +37,7 @@ pub trait Set: Sized + Ord + Hash + Clone {
     fn debug(&self) -> String;
     /// Nothing where blocks of this type have no JSON form.
     fn json(&self) -> Option<String>;
-    fn walk<'a>(&'a self, call: Call, other: &'a Self) -> Box<dyn Walk + 'a>;
+    fn walk<'a>(&'a self, line: &Line, other: &'a Self) -> Box<dyn Walk + 'a>;
     fn elements(&self) -> Vec<usize>;
     fn bits_written(&mut self, line: &Line, other: &Self) -> Option<bool>;
     fn bits_len(&self) -> usize;
@@ -225,8 +225,10 @@ fn walk<S: Set>(set: &S, other: &S, line: &Line, answers: &mut Answers) {
     if line.call == Call::IntoIter {
         return answers.0.extend(set.elements());
     }
-    let mut walk = set.walk(line.call, other);
-    step(&mut *walk, line.first, answers);
+    let mut walk = set.walk(line, other);
+    // The first number of `iter_from` is where it begins.
+    let steps = if line.call == Call::IterFrom { line.second } else { line.first };
+    step(&mut *walk, steps, answers);
     // A copy borrows what it is a copy of: so the walk that goes on is a copy too.
     let (mut on, mut copy) = (walk.copy(), walk.copy());
     step(&mut *on, line.second, answers);
@@ -265,7 +267,8 @@ fn look<S: Set>(set: &S, other: &S, line: &Line, answers: &mut Answers) {
         Call::BitsStorage => answers.storage(&set.bits_storage()),
         Call::BitsBlocks => blocks(set, line, answers),
         Call::BitsNextIf => next_if(set, line.first, answers),
-        Call::BitsNonzero => nonzero(set, line.first, answers),
+        Call::BitsNonzero => nonzero(set, 0, line.first, answers),
+        Call::BitsNonzeroFrom => nonzero(set, line.first, line.second, answers),
         Call::BitsIsSubsetOf => answers.truth(set.bits_is_subset_of(other)),
         Call::BitsIsDisjointFrom => answers.truth(set.bits_is_disjoint_from(other)),
         _ => answers.text(&set.bits_debug()),
@@ -300,10 +303,11 @@ fn next_if<S: Set>(set: &S, steps: usize, answers: &mut Answers) {
     answers.number(walk.bounds().0);
 }
 
-/// The first block comes, and each other one that is not 0.
-fn nonzero<S: Set>(set: &S, steps: usize, answers: &mut Answers) {
+/// The block with this index comes, or the last where there are fewer, and each one after it that is not 0.
+fn nonzero<S: Set>(set: &S, from: usize, steps: usize, answers: &mut Answers) {
     let storage = set.bits_storage();
-    let mut walk = storage.iter().enumerate().filter(|(place, block)| *place == 0 || **block != 0);
+    let first = from.min(storage.len().saturating_sub(1));
+    let mut walk = storage.iter().enumerate().skip(first).filter(|(place, block)| *place == first || **block != 0);
     for _ in 0..steps {
         let next = walk.next();
         answers.item(next.map(|entry| entry.0));

@@ -2,10 +2,11 @@
 
     docs.py ROOT
 
-- Each paragraph of a ```rust block of README.md and of a crate's CALLING.md stands in one source, line for line but for
-  the indentation. So a whole block is code that the gate proves.
+- Each paragraph of a ```rust block of README.md and of a crate's CALLING.md is in one source, line for line but for the
+  indentation, and what it imports is imported there. So a whole block is code that the gate proves.
+- A ```antt block begins with the name of a file, and the rest of it is in a file of that name.
 - Each clause that a CALLING.md quotes below a line 'fn ..' is a clause of that function.
-- Each example of a doc comment stands in a test.
+- Each example of a doc comment is in a test.
 
 It prints a line for each quote that does not agree, and at the end 'N passed, M failed'.
 """
@@ -22,8 +23,8 @@ def lines_of(text):
     return [line.strip() for line in text.splitlines()]
 
 
-def stands_in(wanted, lines):
-    """Whether the wanted lines stand among these, one after another."""
+def is_in(wanted, lines):
+    """Whether the wanted lines are among these, one after another."""
     first = wanted[0]
     return any(
         line == first and lines[start : start + len(wanted)] == wanted for start, line in enumerate(lines)
@@ -72,13 +73,43 @@ class Check:
             print(f"FAILED: {where}: {what}")
 
 
+def imports(lines):
+    """The names that lines import, each with the path that it is imported from."""
+    found = set()
+    for line in lines:
+        whole = re.match(r"(?:ghost )?use ([\w.:]+?)(?:[.:]+\{(.*)\})?;?$", line)
+        if whole:
+            path, names = whole.groups()
+            if names is None:
+                path, names = re.fullmatch(r"(.*?)[.:]*(\w+)", path).groups()
+            found.update((path, name.strip()) for name in names.split(","))
+    return found
+
+
+def is_example_of(block, source):
+    """Whether a source has the code of an example, and imports what the example does."""
+    names = imports(source)
+    for part in paragraphs(block):
+        wanted = imports(part)
+        if wanted:
+            if not wanted <= names:
+                return False
+        elif not is_in(part, source):
+            return False
+    return True
+
+
 def check_examples(check, root, document, sources):
     """The examples of a document."""
     lines = lines_of(document.read_text(encoding="utf-8"))
     for start, block in fences(lines, "rust"):
-        parts = paragraphs(block)
-        agrees = any(all(stands_in(part, source) for part in parts) for source in sources)
+        agrees = any(is_example_of(block, source) for source in sources)
         check.expect(agrees, f"{document.relative_to(root)}:{start}", "no source has this example")
+    for start, block in fences(lines, "antt"):
+        name = block[0].removeprefix("-- ")
+        files = [lines_of(path.read_text(encoding="utf-8")) for path in root.glob(f"crates/*/{name}")]
+        agrees = any(all(is_in(part, file) for part in paragraphs(block[1:])) for file in files)
+        check.expect(agrees, f"{document.relative_to(root)}:{start}", f"no {name} has this")
 
 
 def plain(text):
@@ -108,7 +139,7 @@ def check_clauses(check, root, document, clauses):
     """The clauses that a document quotes."""
     name = ""
     for number, line in enumerate(document.read_text(encoding="utf-8").splitlines(), 1):
-        head = re.match(r"^fn (?:[\w<>, ]+::)*(\w+)", line)
+        head = re.match(r"^(?:fn |<)(?:[\w<>,' &]+::)*(\w+)\(", line) or re.match(r"^(?:fn |<).*?(\w+)[(<]", line)
         if head:
             name = head.group(1)
         quoted = re.match(r"^  (requires|ensures) ?(\w*): (.*)$", line)
@@ -124,7 +155,7 @@ def check_comments(check, root, source, tests):
     """The examples of the doc comments of a source."""
     comments = [line[3:].strip() if line.startswith("///") else "" for line in lines_of(source.read_text(encoding="utf-8"))]
     for start, block in fences(comments, ""):
-        agrees = any(all(stands_in(part, test) for part in paragraphs(block)) for test in tests)
+        agrees = any(all(is_in(part, test) for part in paragraphs(block)) for test in tests)
         check.expect(agrees, f"{source.relative_to(root)}:{start}", "no test has this example")
 
 
@@ -136,7 +167,7 @@ def main():
     tests = [[line.replace("!(rt; ", "!(") for line in lines] for lines in sources.values() if "#[test]" in lines]
     documents = [root / "README.md", *sorted(root.glob("crates/*/CALLING.md"))]
     for document in documents:
-        check_examples(check, root, document, list(sources.values()))
+        check_examples(check, root, document, [*sources.values(), *tests])
         clauses = {}
         for source in sorted(document.parent.glob("src/**/*.rt")):
             for name, found in clauses_of(source).items():

@@ -122,6 +122,11 @@ pub(crate) fn walk_over<B: BitBlock>(
     match walking {
         Walking::Iter => take(set.iter(), steps, answers),
         Walking::IntoIter => loop_over(set, answers),
+        Walking::IterFrom => take(
+            set.iter_from(line.first),
+            (line.second, line.second),
+            answers,
+        ),
         Walking::Union => take(set.union(other), steps, answers),
         Walking::Intersection => take(set.intersection(other), steps, answers),
         Walking::Difference => take(set.difference(other), steps, answers),
