@@ -18,7 +18,7 @@ fn a_list_of_five_values(rt: HostRuntime) -> Result<(), Fail> {
     let mut bits = BitVec::from_elem(alloc, 3, false)?;
     bits.set(1, true);
     bits.grow(2, true)?;
-    assert_eq!(rt; bits.storage()[0], 0b11010);
+    assert_eq!(rt; bits.storage(), [0b11010].as_slice());
     Ok(())
 }
 

@@ -28,7 +28,7 @@ pub use making::BitsError;
 /// let mut bits = BitVec::from_elem(alloc, 3, false)?;
 /// bits.set(1, true);
 /// bits.grow(2, true)?;
-/// assert_eq!(bits.storage()[0], 0b11010);
+/// assert_eq!(bits.storage(), [0b11010].as_slice());
 /// ```
 #[derive(Drop)]
 pub struct BitVec<B: BitBlock = u32> {
