@@ -3,7 +3,7 @@ ghost use Rattle.std.specs.Prelude.{◌≡◌, OnOk};
 ghost use Rattle.bit_set.specs.Sets.{elements};
 
 use bit_set::laws::{calls_are_set_algebra, full_walks, tests_agree, walks_agree};
-use bit_set::{BitBlock, BitSet, SetError};
+use bit_set::{BitBlock, BitSet, Iter, SetError};
 use block24::Block24;
 use std::alloc::Global;
 use std::test::Fail;
@@ -26,6 +26,19 @@ fn change_both<A: BitBlock, B: BitBlock>(
     Ok(())
 }
 
+// The next item of two walks that have the same elements left.
+fn next_of_both<A: BitBlock + 'static, B: BitBlock + 'static>(
+    a: &mut Iter<'_, A>,
+    b: &mut Iter<'_, B>,
+) -> (Option<usize>, Option<usize>)
+    requires { a.old.left ≡ b.old.left }
+    ensures items { result.0 ≡ result.1 }
+    ensures left { a.new.left ≡ b.new.left }
+{
+    walks_agree::<A, B>();
+    (a.next(), b.next())
+}
+
 // The first two items of each set, and how many follow.
 fn walk_both<A: BitBlock + 'static, B: BitBlock + 'static>(
     a: &BitSet<A>,
@@ -33,19 +46,16 @@ fn walk_both<A: BitBlock + 'static, B: BitBlock + 'static>(
 ) -> (Option<usize>, Option<usize>, usize)
     requires { elements a.now.values ≡ elements b.now.values }
 {
-    walks_agree::<A, B>();
     let mut walk = a.iter();
     let mut other = b.iter();
-    let first = walk.next();
-    let other_first = other.next();
-    prove!(first == other_first);
-    let second = walk.next();
-    let other_second = other.next();
-    prove!(second == other_second);
+    let first = next_of_both(&mut walk, &mut other);
+    let second = next_of_both(&mut walk, &mut other);
     let left = walk.clone().count();
     let other_left = other.clone().count();
+    prove!(first.0 == first.1);
+    prove!(second.0 == second.1);
     prove!(left == other_left);
-    (first, second, left)
+    (first.0, second.0, left)
 }
 
 // {3, 40, 77} over two block types, with other lengths and capacities.
