@@ -20,8 +20,8 @@ mod here {
     pub type OnFar = unsafe extern "C" fn(number: usize, shrinks: usize, turns: usize) -> usize;
 
     unsafe extern "C" {
-        pub fn bench_insert_with_room_u32(len: usize, numbers: *const usize, n: usize, turns: usize) -> usize;
-        pub fn bench_insert_with_room_u64(len: usize, numbers: *const usize, n: usize, turns: usize) -> usize;
+        pub fn bench_insert_with_capacity_u32(len: usize, numbers: *const usize, n: usize, turns: usize) -> usize;
+        pub fn bench_insert_with_capacity_u64(len: usize, numbers: *const usize, n: usize, turns: usize) -> usize;
         pub fn bench_insert_below_u32(len: usize, numbers: *const usize, n: usize, turns: usize) -> usize;
         pub fn bench_insert_below_u64(len: usize, numbers: *const usize, n: usize, turns: usize) -> usize;
         pub fn bench_insert_in_order(len: usize, turns: usize) -> usize;
@@ -663,14 +663,14 @@ fn main() -> ExitCode {
     let mut table = Table::start();
     let over_u32 = Calls {
         blocks: "u32",
-        insert_with_room: here::bench_insert_with_room_u32,
+        insert_with_room: here::bench_insert_with_capacity_u32,
         insert_below: here::bench_insert_below_u32,
         remove: here::bench_remove_u32,
         contains: here::bench_contains_u32,
     };
     let over_u64 = Calls {
         blocks: "u64",
-        insert_with_room: here::bench_insert_with_room_u64,
+        insert_with_room: here::bench_insert_with_capacity_u64,
         insert_below: here::bench_insert_below_u64,
         remove: here::bench_remove_u64,
         contains: here::bench_contains_u64,

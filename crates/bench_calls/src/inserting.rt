@@ -1,9 +1,9 @@
 // Numbers that go in and out one by one.
-use crate::making::set_of;
+use crate::input_sets::set_of;
 use bit_set::{BitBlock, BitSet, SetError};
 use std::alloc::Global;
 
-fn insert_with_room<B: BitBlock>(
+fn insert_with_capacity<B: BitBlock>(
     alloc: Global,
     len: usize,
     numbers: &[usize],
@@ -20,23 +20,23 @@ fn insert_with_room<B: BitBlock>(
 }
 
 #[unsafe(no_mangle)]
-pub extern "C" fn bench_insert_with_room_u32(
+pub extern "C" fn bench_insert_with_capacity_u32(
     alloc: Global,
     len: usize,
     numbers: &[usize],
     turns: usize,
 ) -> usize {
-    insert_with_room::<u32>(alloc, len, numbers, turns).unwrap_or(usize::MAX)
+    insert_with_capacity::<u32>(alloc, len, numbers, turns).unwrap_or(usize::MAX)
 }
 
 #[unsafe(no_mangle)]
-pub extern "C" fn bench_insert_with_room_u64(
+pub extern "C" fn bench_insert_with_capacity_u64(
     alloc: Global,
     len: usize,
     numbers: &[usize],
     turns: usize,
 ) -> usize {
-    insert_with_room::<u64>(alloc, len, numbers, turns).unwrap_or(usize::MAX)
+    insert_with_capacity::<u64>(alloc, len, numbers, turns).unwrap_or(usize::MAX)
 }
 
 pub(crate) fn insert_below<B: BitBlock>(

@@ -1,14 +1,14 @@
-//! Work on sets and bit vectors to be timed: `bench/run` calls it beside the same work by other
-//! libraries. Each function does its work `turns` times over and answers a number that all sides
-//! agree on, or `usize::MAX` where memory is refused.
+//! Work on sets and bit vectors to be timed: `bench/run` calls it beside the same work by other libraries. Each
+//! function does its work `turns` times over and returns a number that all sides agree on, or `usize::MAX` where
+//! memory is refused.
 #![tactic(auto)]
 
+mod capacity;
 mod filling;
+mod input_sets;
 mod inserting;
-mod making;
-mod pairs;
 mod reading;
-mod room;
 mod slots;
 mod splits;
+mod two_sets;
 mod widths;

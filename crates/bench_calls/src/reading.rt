@@ -1,5 +1,5 @@
 // Sets that are read.
-use crate::making::set_of;
+use crate::input_sets::set_of;
 use bit_set::{BitBlock, SetError};
 use std::alloc::Global;
 
@@ -39,7 +39,7 @@ pub extern "C" fn bench_contains_u64(
     contains::<u64>(alloc, members, numbers, turns).unwrap_or(usize::MAX)
 }
 
-// One number leaves after each turn, so that no turn can be the answer of another.
+// One number leaves after each turn, so that no turn can be the result of another.
 pub(crate) fn walk<B: BitBlock>(
     alloc: Global,
     members: &[usize],

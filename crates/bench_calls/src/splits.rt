@@ -1,5 +1,5 @@
 // Elements that move from one set to another.
-use crate::making::set_of;
+use crate::input_sets::set_of;
 use bit_set::{BitSet, SetError};
 use std::alloc::Global;
 

@@ -1,8 +1,8 @@
 // The same work over blocks of 32, 64 and 128 bits: `bits` says which.
+use crate::input_sets::copies;
 use crate::inserting::{insert_below, insert_in_order, remove};
-use crate::making::copies;
-use crate::pairs::{compare, count_merged, merge_in_place, walk_merged};
 use crate::reading::{contains, count, walk};
+use crate::two_sets::{compare, count_merged, merge_in_place, walk_merged};
 use bit_set::bit_vec::Merge;
 use bit_set::{BitBlock, BitSet, SetError};
 use std::alloc::Global;

@@ -2,7 +2,7 @@
 use Rattle.std.proofs.Common.{◌≡◌, ℕ, ◌+◌, ◌<◌, ◌≤◌, max, Bool, List, [], ◌∷◌, length, Option, Some, None, refl, sym, ap, ◌∙◌, arith}
 use Rattle.std.specs.Iterator.{Yields, YieldsFirst, YieldsThen}
 use Rattle.bit_words.specs.Bits.{blocks_for}
-use Rattle.bit_words.specs.declared.bit_vec.merge.Merge.TheVariants.{Union}
+use Rattle.bit_words.specs.declared.block.merge.Merge.TheVariants.{Union}
 use Rattle.bit_set.specs.Agreement.{WalksAgree}
 use Rattle.bit_set.specs.Walk.{Advances, AdvancesByEach, IsAtStart, StartsOverTwo, TwoSetWalk, Walk}
 use Rattle.bit_set.proofs.WalkLaws.{over_two, walked_whole}

@@ -5,11 +5,11 @@ use Rattle.std.proofs.Math.Bool.{and_comm, or_comm}
 use Rattle.std.proofs.lemmas.List.{length-replicate}
 use Rattle.std.specs.Cmp.{nat_cmp_total}
 use Rattle.std.specs.FinSet as set
-use Rattle.bit_words.specs.Merges.{merged_value, merged}
+use Rattle.bit_words.specs.Merges.{merge_of_values, merge_of}
 use Rattle.bit_words.proofs.MergeLemmas.{get_or-merged, length-merged}
-use Rattle.bit_words.specs.declared.bit_vec.merge.Merge.{Merge}
-use Rattle.bit_words.specs.declared.bit_vec.merge.Merge.TheVariants.{Union, Intersection, Difference, Symmetric}
-use Rattle.bit_set.specs.Sets.{IsAscending, has, elements, union, intersection, difference, symmetric_difference, merged_sets}
+use Rattle.bit_words.specs.declared.block.merge.Merge.{Merge}
+use Rattle.bit_words.specs.declared.block.merge.Merge.TheVariants.{Union, Intersection, Difference, Symmetric}
+use Rattle.bit_set.specs.Sets.{IsAscending, has, elements, union, intersection, difference, symmetric_difference, merge_of_sets}
 use Rattle.bit_set.proofs.SetLemmas.{has-elements, IsAscending-elements, elements-by_members, elements-alike, get_or_padded}
 use Rattle.bit_set.proofs.SetLaws.{has-filter, has-put_all, AscendsFrom-filter, IsAscending-put_all, contains-has, finite, finite-put_all, same_finite}
 
@@ -29,34 +29,34 @@ has-symmetric s t n =
     ∙ ap (λ b. (has s n && not (has t n)) || b) (has-difference t s n ∙ and_comm (has t n) (not (has s n)))
 
 -- a number is a member of what two sets become as each of them has it or not
-pub has-merged_sets : (merge : Merge) (s t : List ℕ) (n : ℕ) → has (merged_sets merge s t) n ≡ merged_value merge (has s n) (has t n)
-has-merged_sets Union s t n = has-union s t n
-has-merged_sets Intersection s t n = has-intersection s t n
-has-merged_sets Difference s t n = has-difference s t n
-has-merged_sets Symmetric s t n = has-symmetric s t n
+pub has-merge_of_sets : (merge : Merge) (s t : List ℕ) (n : ℕ) → has (merge_of_sets merge s t) n ≡ merge_of_values merge (has s n) (has t n)
+has-merge_of_sets Union s t n = has-union s t n
+has-merge_of_sets Intersection s t n = has-intersection s t n
+has-merge_of_sets Difference s t n = has-difference s t n
+has-merge_of_sets Symmetric s t n = has-symmetric s t n
 
-pub IsAscending-merged_sets : (merge : Merge) (s t : List ℕ) → IsAscending s → IsAscending (merged_sets merge s t)
-IsAscending-merged_sets Union s t up = IsAscending-put_all s t up
-IsAscending-merged_sets Intersection s t up = AscendsFrom-filter 0 (λ n. has t n) s up
-IsAscending-merged_sets Difference s t up = AscendsFrom-filter 0 (λ n. not (has t n)) s up
-IsAscending-merged_sets Symmetric s t up = IsAscending-put_all (difference s t) (difference t s) (AscendsFrom-filter 0 (λ n. not (has t n)) s up)
+pub IsAscending-merge_of_sets : (merge : Merge) (s t : List ℕ) → IsAscending s → IsAscending (merge_of_sets merge s t)
+IsAscending-merge_of_sets Union s t up = IsAscending-put_all s t up
+IsAscending-merge_of_sets Intersection s t up = AscendsFrom-filter 0 (λ n. has t n) s up
+IsAscending-merge_of_sets Difference s t up = AscendsFrom-filter 0 (λ n. not (has t n)) s up
+IsAscending-merge_of_sets Symmetric s t up = IsAscending-put_all (difference s t) (difference t s) (AscendsFrom-filter 0 (λ n. not (has t n)) s up)
 
 -- the set that a merged list keeps is what the sets of the two become
-pub elements-merged : (merge : Merge) (xs ys : List Bool) → elements (merged merge xs ys) ≡ merged_sets merge (elements xs) (elements ys)
+pub elements-merged : (merge : Merge) (xs ys : List Bool) → elements (merge_of merge xs ys) ≡ merge_of_sets merge (elements xs) (elements ys)
 elements-merged merge xs ys =
-    elements-by_members (merged merge xs ys) (merged_sets merge (elements xs) (elements ys))
-    (IsAscending-merged_sets merge (elements xs) (elements ys) (IsAscending-elements xs))
+    elements-by_members (merge_of merge xs ys) (merge_of_sets merge (elements xs) (elements ys))
+    (IsAscending-merge_of_sets merge (elements xs) (elements ys) (IsAscending-elements xs))
     (λ k. get_or-merged merge xs ys k
-    ∙ ap (λ b. merged_value merge b (get_or ys k false)) (sym (has-elements xs k))
-    ∙ ap (λ b. merged_value merge (has (elements xs) k) b) (sym (has-elements ys k))
-    ∙ sym (has-merged_sets merge (elements xs) (elements ys) k))
+    ∙ ap (λ b. merge_of_values merge b (get_or ys k false)) (sym (has-elements xs k))
+    ∙ ap (λ b. merge_of_values merge (has (elements xs) k) b) (sym (has-elements ys k))
+    ∙ sym (has-merge_of_sets merge (elements xs) (elements ys) k))
 
 -- the same where the first list was lengthened with false
-pub elements-lengthened : (merge : Merge) (xs ys : List Bool) (n : ℕ) → elements (merged merge (xs ++ replicate n false) ys) ≡ merged_sets merge (elements xs) (elements ys)
+pub elements-lengthened : (merge : Merge) (xs ys : List Bool) (n : ℕ) → elements (merge_of merge (xs ++ replicate n false) ys) ≡ merge_of_sets merge (elements xs) (elements ys)
 elements-lengthened merge xs ys n =
-    elements-merged merge (xs ++ replicate n false) ys ∙ ap (λ s. merged_sets merge s (elements ys)) (elements-alike xs (xs ++ replicate n false) (get_or_padded xs n))
+    elements-merged merge (xs ++ replicate n false) ys ∙ ap (λ s. merge_of_sets merge s (elements ys)) (elements-alike xs (xs ++ replicate n false) (get_or_padded xs n))
 
-pub length-lengthened : (merge : Merge) (xs ys : List Bool) → length (merged merge (xs ++ replicate (length ys - length xs) false) ys) ≡ max (length xs) (length ys)
+pub length-lengthened : (merge : Merge) (xs ys : List Bool) → length (merge_of merge (xs ++ replicate (length ys - length xs) false) ys) ≡ max (length xs) (length ys)
 length-lengthened merge xs ys =
     omega (arith, length-merged merge (xs ++ replicate (length ys - length xs) false) ys, length-append xs (replicate (length ys - length xs) false), length-replicate (length ys - length xs) false)
 

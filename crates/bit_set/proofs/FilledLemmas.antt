@@ -9,11 +9,11 @@ use Rattle.std.proofs.Math.Nat.{div-add-mod', mod-lt}
 use Rattle.bit_words.specs.Bits.{blocks_for, blocks_of, digit_of}
 use Rattle.bit_words.specs.Lowest.{IsLowest, IsCleared}
 use Rattle.bit_words.specs.Digits.{is_one}
-use Rattle.bit_words.specs.Storage.{value_at, IsCleanFrom}
+use Rattle.bit_words.specs.Storage.{value_at, IsZeroFrom}
 use Rattle.bit_words.proofs.BitsLemmas.{blocks_for-least, blocks_of-digit}
 use Rattle.bit_words.proofs.Masks.{is_one-zero}
-use Rattle.bit_words.proofs.StorageLemmas.{blocks-values_of, value_at-is, value_at-past, value_at-place, values_of-same}
-use Rattle.bit_set.specs.Json.{IsClean}
+use Rattle.bit_words.proofs.StorageLemmas.{blocks-values_of, value_at-is, value_at-past, value_at-index, values_of-same}
+use Rattle.bit_set.specs.Json.{HasZeroTail}
 use Rattle.bit_set.specs.Entries.{IsPartlyPut}
 
 -- ---- one block
@@ -22,40 +22,40 @@ or_true : (b c : Bool) → c ≡ true → (b || c) ≡ true
 or_true true c h = refl
 or_true false c h = h
 
-pub put_nothing : (w place m : ℕ) (values : List Bool) → ((j : ℕ) → j < w → get_or values (place + j) false ≡ false) → IsPartlyPut w place m m values values
-put_nothing w place m values falses = record {
+pub put_nothing : (w index m : ℕ) (values : List Bool) → ((j : ℕ) → j < w → get_or values (index + j) false ≡ false) → IsPartlyPut w index m m values values
+put_nothing w index m values falses = record {
   values = λ j within. ap (λ b. b || is_one m j) (falses j within);
   others = λ i apart. refl;
   long = refl;
 }
 
 -- the lowest digit that is left is one of the whole block
-pub lowest_is_one : (w place whole left i : ℕ) (old new : List Bool) → IsPartlyPut w place whole left old new → IsLowest left i → i < w → bit_at whole i ≡ 1
-lowest_is_one w place whole left i old new put low within =
+pub lowest_is_one : (w index whole left i : ℕ) (old new : List Bool) → IsPartlyPut w index whole left old new → IsLowest left i → i < w → bit_at whole i ≡ 1
+lowest_is_one w index whole left i old new put low within =
     let one : is_one left i ≡ true = eq-eqb (bit_at left i) 1 low.one in
-    eqb-true (bit_at whole i) 1 (sym (put.values i within) ∙ or_true (get_or new (place + i) false) (is_one left i) one)
+    eqb-true (bit_at whole i) 1 (sym (put.values i within) ∙ or_true (get_or new (index + i) false) (is_one left i) one)
 
-pub put_lowest : (w place whole left rest i : ℕ) (old new : List Bool) → IsPartlyPut w place whole left old new → IsLowest left i → i < w → IsCleared w left i rest → place + i < length new
-    → IsPartlyPut w place whole rest old (set new (place + i) true)
-put_lowest w place whole left rest i old new put low within cleared inside =
+pub put_lowest : (w index whole left rest i : ℕ) (old new : List Bool) → IsPartlyPut w index whole left old new → IsLowest left i → i < w → IsCleared w left i rest → index + i < length new
+    → IsPartlyPut w index whole rest old (set new (index + i) true)
+put_lowest w index whole left rest i old new put low within cleared inside =
     let one : is_one left i ≡ true = eq-eqb (bit_at left i) 1 low.one in
     record {
       values = λ j below.
           ⊎_elim
           (λ here.
-          ap (λ x. get_or (set new (place + i) true) (place + x) false || is_one rest x) here
-          ∙ ap (λ b. b || is_one rest i) (get_or-set_same new (place + i) true false inside)
-          ∙ sym (or_true (get_or new (place + i) false) (is_one left i) one)
+          ap (λ x. get_or (set new (index + i) true) (index + x) false || is_one rest x) here
+          ∙ ap (λ b. b || is_one rest i) (get_or-set_same new (index + i) true false inside)
+          ∙ sym (or_true (get_or new (index + i) false) (is_one left i) one)
           ∙ put.values i within
           ∙ ap (is_one whole) (sym here))
           (λ apart.
-          let other : place + j ≢ place + i = λ e. apart (omega (arith, e)) in
-          ap (λ b. b || is_one rest j) (get_or-set_other new (place + i) (place + j) true false other)
-          ∙ ap (λ d. get_or new (place + j) false || (d == 1)) (cleared.kept j below apart)
+          let other : index + j ≢ index + i = λ e. apart (omega (arith, e)) in
+          ap (λ b. b || is_one rest j) (get_or-set_other new (index + i) (index + j) true false other)
+          ∙ ap (λ d. get_or new (index + j) false || (d == 1)) (cleared.kept j below apart)
           ∙ put.values j below)
           (cases_eq j i);
-      others = λ k apart. get_or-set_other new (place + i) k true false (apart i within) ∙ put.others k apart;
-      long = length-set new (place + i) true ∙ put.long;
+      others = λ k apart. get_or-set_other new (index + i) k true false (apart i within) ∙ put.others k apart;
+      long = length-set new (index + i) true ∙ put.long;
     }
 
 -- ---- block by block
@@ -100,7 +100,7 @@ filled_more w k ms old new pos before here others i =
 pub next_is_false : (w k j : ℕ) (ms : List ℕ) (values : List Bool) → ((i : ℕ) → get_or values i false ≡ value_at w (take k ms) i) → j < w → get_or values (k * w + j) false ≡ false
 next_is_false w k j ms values before within =
     before (k * w + j)
-    ∙ value_at-place w (take k ms) k j within
+    ∙ value_at-index w (take k ms) k j within
     ∙ ap (λ m. is_one m j) (get_or_past (take k ms) k 0 (omega (arith, length-take k ms)))
     ∙ is_one-zero j
 
@@ -111,9 +111,9 @@ pub block_begins : (w n c k : ℕ) → 0 < w → c ≡ blocks_for w n → k < c 
 block_begins w n c k pos count within =
     ⊎_elim (λ below. below) (λ past. absurd (let least = blocks_for-least w n k pos past in omega arith)) (cases_lt (k * w) n)
 
-pub clean_from : (w n : ℕ) (ms : List ℕ) → 0 < w → length ms ≡ blocks_for w n → IsClean w ms n → IsCleanFrom w ms n
-clean_from w n ms pos count clean = record {
-  clean = λ i past.
+pub zero_tail_from : (w n : ℕ) (ms : List ℕ) → 0 < w → length ms ≡ blocks_for w n → HasZeroTail w ms n → IsZeroFrom w ms n
+zero_tail_from w n ms pos count zero_tail = record {
+  zero_tail = λ i past.
       let split : i ≡ i / w * w + i % w = sym (div-add-mod' i w) in
       let low : i % w < w = mod-lt i pos in
       ⊎_elim
@@ -126,20 +126,20 @@ clean_from w n ms pos count clean = record {
       let at : length ms - 1 ≡ i / w = omega arith in
       value_at-is w ms i
       ∙ ap (λ q. is_one (get_or ms q 0) (i % w)) (sym at)
-      ∙ ap (λ d. d == 1) (clean.tail (i % w) low (omega (arith, split, ap (λ q. q * w) at))))
+      ∙ ap (λ d. d == 1) (zero_tail.tail (i % w) low (omega (arith, split, ap (λ q. q * w) at))))
       (λ beyond. value_at-past w ms i beyond)
       (cases_lt (i / w) (length ms)))
       (cases_lt (i / w) (length ms - 1));
 }
 
--- a digit that is 1 stands for an index below the length
-pub one_is_within : (w n k j : ℕ) (ms : List ℕ) → IsCleanFrom w ms n → j < w → bit_at (get_or ms k 0) j ≡ 1 → k * w + j < n
-one_is_within w n k j ms clean within one =
+-- a digit that is 1 represents an index below the length
+pub one_is_within : (w n k j : ℕ) (ms : List ℕ) → IsZeroFrom w ms n → j < w → bit_at (get_or ms k 0) j ≡ 1 → k * w + j < n
+one_is_within w n k j ms zero_tail within one =
     ⊎_elim
     (λ below. below)
     (λ past.
-    let yes : value_at w ms (k * w + j) ≡ true = value_at-place w ms k j within ∙ eq-eqb (bit_at (get_or ms k 0) j) 1 one in
-    let no : value_at w ms (k * w + j) ≡ false = clean.clean (k * w + j) past in
+    let yes : value_at w ms (k * w + j) ≡ true = value_at-index w ms k j within ∙ eq-eqb (bit_at (get_or ms k 0) j) 1 one in
+    let no : value_at w ms (k * w + j) ≡ false = zero_tail.zero_tail (k * w + j) past in
     absurd (cc))
     (cases_lt (k * w + j) n)
 
@@ -151,14 +151,14 @@ each_below w k ms below =
     (cases_lt k (length ms))
 
 -- a list of truth values that has just those of some blocks has those blocks
-pub blocks_of_filled : (w n : ℕ) (ms : List ℕ) (values : List Bool) → 0 < w → length values ≡ n → length ms ≡ blocks_for w n → All (λ m. m < 2 ^ w) ms → IsClean w ms n
+pub blocks_of_filled : (w n : ℕ) (ms : List ℕ) (values : List Bool) → 0 < w → length values ≡ n → length ms ≡ blocks_for w n → All (λ m. m < 2 ^ w) ms → HasZeroTail w ms n
     → ((i : ℕ) → get_or values i false ≡ value_at w ms i) → blocks_of w values ≡ ms
-blocks_of_filled w n ms values pos long count below clean filled =
+blocks_of_filled w n ms values pos long count below zero_tail filled =
     ap (blocks_of w) (sym (values_of-same w ms n values long (λ i within. sym (filled i))))
-    ∙ sym (blocks-values_of w ms n pos count (λ k. each_below w k ms below) (clean_from w n ms pos count clean))
+    ∙ sym (blocks-values_of w ms n pos count (λ k. each_below w k ms below) (zero_tail_from w n ms pos count zero_tail))
 
--- and the blocks of a list are clean
-pub blocks_of_clean : (w : ℕ) (values : List Bool) → IsClean w (blocks_of w values) (length values)
-blocks_of_clean w values = record {
+-- and the blocks of a list are 0 past the length
+pub blocks_of_zero_tail : (w : ℕ) (values : List Bool) → HasZeroTail w (blocks_of w values) (length values)
+blocks_of_zero_tail w values = record {
   tail = λ j within past. blocks_of-digit w (length (blocks_of w values) - 1) j values within ∙ ap digit_of (get_or_past values _ false past);
 }

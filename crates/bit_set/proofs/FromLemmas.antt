@@ -5,20 +5,20 @@ use Rattle.std.proofs.lemmas.List.{drop-map, drop_all, get_or_past, length-drop,
 use Rattle.std.proofs.lemmas.List.Elements.{All-drop, All-filter, All-head}
 use Rattle.std.proofs.lemmas.List.Filters.{length-filter_both}
 use Rattle.std.proofs.Math.Seq.{drop-drop}
-use Rattle.bit_words.specs.Bits.{Bits, IsWithinRoom, blocks_for, blocks_of}
+use Rattle.bit_words.specs.Bits.{Bits, IsWithinCapacity, blocks_for, blocks_of}
 use Rattle.bit_words.specs.Nonzero.{Nonzeros, PullsNonzero, nonzero_from, first_and_nonzero, block_and_nonzero}
 use Rattle.bit_words.specs.Digits.{is_one}
 use Rattle.bit_words.proofs.BitsLemmas.{blocks_for-least}
 use Rattle.bit_words.proofs.Masks.{is_one-zero}
-use Rattle.bit_words.proofs.NonzeroFromLemmas.{row_inside}
+use Rattle.bit_words.proofs.NonzeroFromLemmas.{chunk_inside}
 use Rattle.bit_set.specs.Sets.{elements_from, elements, has, those_from}
-use Rattle.bit_set.specs.Places.{places, past_block, values_in, IsSparseWalk}
+use Rattle.bit_set.specs.Places.{indexes, past_block, values_in, IsSparseWalk}
 use Rattle.bit_set.specs.Walk.{Walk, IsAtStart, IsAtStartFrom}
-use Rattle.bit_set.proofs.PlaceLemmas.{places-next, value_in, values_in-blocks_of}
+use Rattle.bit_set.proofs.PlaceLemmas.{indexes-next, value_in, values_in-blocks_of}
 use Rattle.bit_set.proofs.SetLaws.{AscendsFrom-filter, has-filter}
 use Rattle.bit_set.proofs.SetLemmas.{AscendsFrom-elements_from, AscendsFrom-lower, IsAscending-elements, has-below, has-elements, has-elements_from, same_members}
 use Rattle.bit_set.proofs.SparseLemmas.{Begins, IsFresh, begins_empty, seen, whole_index}
-use Rattle.bit_set.proofs.WalkLemmas.{IsWalkable-held, elements-held, held, length-blocks, length-held}
+use Rattle.bit_set.proofs.WalkLemmas.{IsWalkable-values_of_blocks, elements-values_of_blocks, values_of_blocks, length-blocks, length-values_of_blocks}
 
 -- Of some blocks, k is the one of `from`, or the last, and m is what that block has from there on.
 pub record IsCut {X : Type 0} (w : ℕ) (number : X → ℕ) (blocks : List X) (from k : ℕ) (x : X) (rest : List X) (m : ℕ) : Type 0 where
@@ -78,12 +78,12 @@ module _ {X : Type 0} (w : ℕ) (number : X → ℕ) (pos : 0 < w) where
       let j = i % w in
       let within = mod-lt i pos in
       let split : i ≡ q * w + j = sym (div-add-mod' i w) in
-      let place : (k + q) * w + j ≡ k * w + i = omega (arith, split) in
+      let index : (k + q) * w + j ≡ k * w + i = omega (arith, split) in
       let value : is_one (get_or (map number blocks) (k + q) 0) j ≡ get_or values (k * w + i) false =
       sym (value_in w (map number blocks) (k + q) j within)
       ∙ ap (λ ms. get_or (values_in w ms) ((k + q) * w + j) false) numbers
       ∙ values_in-blocks_of w values pos ((k + q) * w + j)
-      ∙ ap (λ n. get_or values n false) place in
+      ∙ ap (λ n. get_or values n false) index in
       ap (λ n. get_or (values_in w (m ∷ map number rest)) n false) split
       ∙ value_in w (m ∷ map number rest) q j within
       ∙ digit_at blocks from k x rest m q j is within
@@ -92,11 +92,11 @@ module _ {X : Type 0} (w : ℕ) (number : X → ℕ) (pos : 0 < w) where
 
   -- what is left is what the set has from there on
   pub left_from : (blocks : List X) (values : List Bool) (from k : ℕ) (x : X) (rest : List X) (m : ℕ) → IsCut w number blocks from k x rest m → map number blocks ≡ blocks_of w values
-      → places w (k * w) m (held w number rest) ≡ those_from (elements values) from
+      → indexes w (k * w) m (values_of_blocks w number rest) ≡ those_from (elements values) from
   left_from blocks values from k x rest m is numbers =
       let p = k * w in
       let bs = values_in w (m ∷ map number rest) in
-      sym (places-next w p m bs (held w number rest) refl)
+      sym (indexes-next w p m bs (values_of_blocks w number rest) refl)
       ∙ same_members (elements_from p bs) (those_from (elements values) from) (AscendsFrom-lower p 0 (elements_from p bs) (omega arith) (AscendsFrom-elements_from p bs)) (AscendsFrom-filter 0 (λ n. leb from n) (elements values) (IsAscending-elements values)) (λ n.
       ⊎_elim
       (λ (below : n < p).
@@ -115,7 +115,8 @@ module _ {X : Type 0} (w : ℕ) (number : X → ℕ) (pos : 0 < w) where
 
 -- ---- the making
 
--- What holds of a walk over the nonzero blocks of these values from the block with this index on, which is not yet pulled.
+-- What holds of a walk over the nonzero blocks of these values from the block with this index on, which is not yet
+-- pulled.
 pub record IsFreshFrom {X : Type 0} (w : ℕ) (number : X → ℕ) (is_block : X → Type 0) (values : List Bool) (index : ℕ) (it : Nonzeros X) : Type 0 where
   pub numbers : map number it.blocks ≡ blocks_of w values
   pub each : All is_block it.blocks
@@ -128,13 +129,13 @@ pub record IsFreshFrom {X : Type 0} (w : ℕ) (number : X → ℕ) (is_block : X
 -- The index as the code has it, by the width as the code has it.
 pub made_fresh : {X : Type 0} (w : ℕ) (number : X → ℕ) (is_block : X → Type 0) (v : Bits) (from bits : ℕ) (it : Nonzeros X) → bits ≡ w → map number it.blocks ≡ blocks_of w v.values → All is_block it.blocks
     → it.left ≡ block_and_nonzero number (min (from / bits) (length it.blocks - 1)) (drop (min (from / bits) (length it.blocks - 1)) it.blocks) → it.pulls ≡ 0 → it.summary_pulls ≡ min 1 (blocks_for w (blocks_for w (length v.values)))
-    → it.summary_left ≡ blocks_for w (blocks_for w (length v.values)) - 1 - min (from / bits) (length it.blocks - 1) / w → IsWithinRoom v → IsFreshFrom w number is_block v.values (from / w) it
-made_fresh w number is_block v from bits it width numbers each left pulls summary_pulls summary_left room =
-    subst (λ n. IsFreshFrom w number is_block v.values (from / n) it) width (record { numbers = numbers; each = each; left = left; pulls = pulls; summary_pulls = summary_pulls; summary_left = summary_left; fits = omega (arith, room.holds_values, room.fits) })
+    → it.summary_left ≡ blocks_for w (blocks_for w (length v.values)) - 1 - min (from / bits) (length it.blocks - 1) / w → IsWithinCapacity v → IsFreshFrom w number is_block v.values (from / w) it
+made_fresh w number is_block v from bits it width numbers each left pulls summary_pulls summary_left capacity =
+    subst (λ n. IsFreshFrom w number is_block v.values (from / n) it) width (record { numbers = numbers; each = each; left = left; pulls = pulls; summary_pulls = summary_pulls; summary_left = summary_left; fits = omega (arith, capacity.holds_values, capacity.fits) })
 
--- With this block in hand at `place` a walk over the blocks of these values is at its start.
-pub record BeginsFrom {X : Type 0} (w : ℕ) (number : X → ℕ) (is_block : X → Type 0) (values : List Bool) (from place : ℕ) (block : X) (it : Nonzeros X) (t : Walk) : Type 0 where
-  pub walk : IsSparseWalk w number is_block place block it
+-- With this block in hand at `index` a walk over the blocks of these values is at its start.
+pub record BeginsFrom {X : Type 0} (w : ℕ) (number : X → ℕ) (is_block : X → Type 0) (values : List Bool) (from index : ℕ) (block : X) (it : Nonzeros X) (t : Walk) : Type 0 where
+  pub walk : IsSparseWalk w number is_block index block it
   pub start : IsAtStartFrom w values from t
 
 few_kept : (p : ℕ → Bool) (xs : List ℕ) (n : ℕ) → length xs < n → length (filter p xs) < n
@@ -180,41 +181,41 @@ module _ {X : Type 0} (w : ℕ) (number : X → ℕ) (is_block : X → Type 0) (
       let k = min (from / w) (n - 1) in
       let found = first_block k q x s.blocks t.left (sym is.left ∙ pull.item) in
       let rest = drop (k + 1) s.blocks in
-      let index : q * w / w ≡ k = whole_index w q pos ∙ found.0 in
-      let past : drop (q * w / w + 1) t.blocks ≡ rest = ap (λ i. drop (i + 1) t.blocks) index ∙ ap (drop (k + 1)) pull.same in
+      let index_is : q * w / w ≡ k = whole_index w q pos ∙ found.0 in
+      let past : drop (q * w / w + 1) t.blocks ≡ rest = ap (λ i. drop (i + 1) t.blocks) index_is ∙ ap (drop (k + 1)) pull.same in
       let here : drop q s.blocks ≡ x ∷ rest = ap (λ i. drop i s.blocks) found.0 ∙ found.1 in
       let cut : IsCut w number s.blocks from q x rest (number block) = record { here = here; at = found.0; digit = digit } in
       let some : k < n = let e = ap length found.1 in let long = length-drop k s.blocks in omega (arith, e, long) in
       let many = length-blocks w number s.blocks values is.numbers in
-      let can = IsWalkable-held w number s.blocks values 0 pos is.numbers is.fits in
-      let left : places w (q * w) (number block) (held w number (drop (q * w / w + 1) t.blocks)) ≡ those_from (elements values) from = ap (λ ys. places w (q * w) (number block) (held w number ys)) past ∙ left_from w number pos s.blocks values from q x rest (number block) cut is.numbers in
+      let can = IsWalkable-values_of_blocks w number s.blocks values 0 pos is.numbers is.fits in
+      let left : indexes w (q * w) (number block) (values_of_blocks w number (drop (q * w / w + 1) t.blocks)) ≡ those_from (elements values) from = ap (λ ys. indexes w (q * w) (number block) (values_of_blocks w number ys)) past ∙ left_from w number pos s.blocks values from q x rest (number block) cut is.numbers in
       let count : length (drop (q * w / w + 1) t.blocks) ≡ n - (k + 1) = ap length past ∙ length-drop (k + 1) s.blocks in
-      let few : length (those_from (elements values) from) < 2 ^ 64 = few_kept (λ i. leb from i) (elements values) (2 ^ 64) (subst (λ ys. length ys < 2 ^ 64) (elements-held w number s.blocks values pos is.numbers) can.few) in
-      let few_left : length (places w (q * w) (number block) (held w number (drop (q * w / w + 1) t.blocks))) < 2 ^ 64 = subst (λ ys. length ys < 2 ^ 64) (sym left) few in
-      let rows = row_inside w k (blocks_for w (length values)) (blocks_for w (blocks_for w (length values))) pos (omega (arith, some, many)) refl in
+      let few : length (those_from (elements values) from) < 2 ^ 64 = few_kept (λ i. leb from i) (elements values) (2 ^ 64) (subst (λ ys. length ys < 2 ^ 64) (elements-values_of_blocks w number s.blocks values pos is.numbers) can.few) in
+      let few_left : length (indexes w (q * w) (number block) (values_of_blocks w number (drop (q * w / w + 1) t.blocks))) < 2 ^ 64 = subst (λ ys. length ys < 2 ^ 64) (sym left) few in
+      let rows = chunk_inside w k (blocks_for w (length values)) (blocks_for w (blocks_for w (length values))) pos (omega (arith, some, many)) refl in
       let first : k ≡ min (from / w) (blocks_for w (length values) - 1) = ap (λ i. min (from / w) (i - 1)) many in
       record {
         walk = record {
           in_hand = lawful;
           each = subst (All is_block) (sym pull.same) is.each;
-          left = found.2 ∙ ap (nonzero_from number (k + 1)) (sym past) ∙ ap (λ i. nonzero_from number (i + 1) (drop (q * w / w + 1) t.blocks)) (sym index);
-          whole = ap (λ i. i * w) (found.0 ∙ sym index);
-          inside = let same = ap length pull.same in omega (arith, index, some, same);
+          left = found.2 ∙ ap (nonzero_from number (k + 1)) (sym past) ∙ ap (λ i. nonzero_from number (i + 1) (drop (q * w / w + 1) t.blocks)) (sym index_is);
+          whole = ap (λ i. i * w) (found.0 ∙ sym index_is);
+          inside = let same = ap length pull.same in omega (arith, index_is, some, same);
           can = record {
-            long = length-held w number (drop (q * w / w + 1) t.blocks);
+            long = length-values_of_blocks w number (drop (q * w / w + 1) t.blocks);
             fits =
                 let product = ap (λ i. w * i) count in
-                let place = ap (λ i. i * w) found.0 in
+                let index = ap (λ i. i * w) found.0 in
                 let whole : k * w + w * (n - (k + 1)) ≡ w * (n - 1) = (let e : n - 1 ≡ k + (n - (k + 1)) = omega (arith, some) in let f = ap (λ i. w * i) e in omega (arith, f)) in
-                omega (arith, product, place, whole, can.fits);
-            below = subst (All (λ i. i < 2 ^ 64)) (sym left) (All-filter (λ i. leb from i) (λ i. i < 2 ^ 64) (elements values) (subst (All (λ i. i < 2 ^ 64)) (elements-held w number s.blocks values pos is.numbers) can.below));
+                omega (arith, product, index, whole, can.fits);
+            below = subst (All (λ i. i < 2 ^ 64)) (sym left) (All-filter (λ i. leb from i) (λ i. i < 2 ^ 64) (elements values) (subst (All (λ i. i < 2 ^ 64)) (elements-values_of_blocks w number s.blocks values pos is.numbers) can.below));
             few = few_left;
           };
         };
         start = record {
           left = left;
           pulls = omega (arith, pull.counted, is.pulls);
-          place = ap (λ i. i * w) (found.0 ∙ first);
+          index = ap (λ i. i * w) (found.0 ∙ first);
           blocks = omega (arith, count, many, some);
           summary = let at = ap (λ i. i / w) first in omega (arith, pull.summary, is.summary_pulls, is.summary_left, rows, at);
           few = few_left;
@@ -230,14 +231,14 @@ module _ {X : Type 0} (w : ℕ) (number : X → ℕ) (is_block : X → Type 0) (
       let left : s.left ≡ first_and_nonzero number s.blocks = pull.item.0 ∙ sym (ap (first_and_nonzero number) no_block) in
       let fresh : IsFresh w number is_block values s = record { numbers = is.numbers; each = is.each; left = left; pulls = is.pulls; summary_pulls = is.summary_pulls; summary_left = omega (arith, is.summary_left, rows); fits = is.fits } in
       let begun = begins_empty w number is_block pos values none s t fresh pull lawful no_one in
-      let nothing : elements values ≡ [] = sym (elements-held w number s.blocks values pos is.numbers) ∙ ap (λ xs. elements (held w number xs)) no_block in
+      let nothing : elements values ≡ [] = sym (elements-values_of_blocks w number s.blocks values pos is.numbers) ∙ ap (λ xs. elements (values_of_blocks w number xs)) no_block in
       let start = begun.start in
       record {
         walk = begun.walk;
         start = record {
           left = start.left ∙ nothing ∙ sym (ap (λ xs. those_from xs from) nothing);
           pulls = start.pulls;
-          place = start.place ∙ sym (ap (λ i. min (from / w) (i - 1) * w) many ∙ (let e : min (from / w) (0 - 1) * w ≡ 0 = (let m : min (from / w) (0 - 1) ≡ 0 = omega arith in ap (λ i. i * w) m ∙ omega arith) in e));
+          index = start.index ∙ sym (ap (λ i. min (from / w) (i - 1) * w) many ∙ (let e : min (from / w) (0 - 1) * w ≡ 0 = (let m : min (from / w) (0 - 1) ≡ 0 = omega arith in ap (λ i. i * w) m ∙ omega arith) in e));
           blocks = omega (arith, start.blocks, many);
           summary = omega (arith, start.summary, rows);
           few = start.few;

@@ -27,10 +27,10 @@ TakesIn-more items n old mid new so_far members long low =
     }
 
 -- which fault a refusal is
-pub IsRefusal-fault : (fault : SetError) (item room : ℕ) → IsRefusal fault item room → (fault ≢ Length) × ((fault ≡ Element) ↔ (item ≡ greatest))
-IsRefusal-fault Element item room is = (λ e. cc, (λ e. is, λ e. refl))
-IsRefusal-fault Length item room is = absurd is
-IsRefusal-fault (Memory fault) item room is = (λ e. cc, (λ e. cc, λ e. absurd (omega (arith, e, is.1))))
+pub IsRefusal-fault : (fault : SetError) (item capacity : ℕ) → IsRefusal fault item capacity → (fault ≢ Length) × ((fault ≡ Element) ↔ (item ≡ greatest))
+IsRefusal-fault Element item capacity is = (λ e. cc, (λ e. is, λ e. refl))
+IsRefusal-fault Length item capacity is = absurd is
+IsRefusal-fault (Memory fault) item capacity is = (λ e. cc, (λ e. cc, λ e. absurd (omega (arith, e, is.1))))
 
 -- what items make of a list with no value
 pub TakesIn-empty : (items : List ℕ) (old new : List Bool) → old ≡ [] → TakesIn items old new → (elements new ≡ put_all [] items) × (length new ≡ bound_of items) × IsSameSet (elements new) items
@@ -40,8 +40,8 @@ TakesIn-empty items old new is took = (
   λ n. took.union n ∙ ap (λ bs. has (elements bs) n || has items n) is,
 )
 
--- the item that is refused lies past all that came in
-pub TakesIn-past : (items : List ℕ) (item : ℕ) (old new : List Bool) (fault : SetError) (room : ℕ) → old ≡ [] → TakesIn items old new → length new ≤ item → IsRefusal fault item room → (bound_of items ≤ item) × (item ≤ greatest)
-TakesIn-past items item old new Element room is took past refused = (omega (arith, took.long, past, ap length is), omega (arith, refused))
-TakesIn-past items item old new Length room is took past refused = absurd refused
-TakesIn-past items item old new (Memory fault) room is took past refused = (omega (arith, took.long, past, ap length is), omega (arith, refused.1))
+-- the item that cannot go in lies past all that came in
+pub TakesIn-past : (items : List ℕ) (item : ℕ) (old new : List Bool) (fault : SetError) (capacity : ℕ) → old ≡ [] → TakesIn items old new → length new ≤ item → IsRefusal fault item capacity → (bound_of items ≤ item) × (item ≤ greatest)
+TakesIn-past items item old new Element capacity is took past refused = (omega (arith, took.long, past, ap length is), omega (arith, refused))
+TakesIn-past items item old new Length capacity is took past refused = absurd refused
+TakesIn-past items item old new (Memory fault) capacity is took past refused = (omega (arith, took.long, past, ap length is), omega (arith, refused.1))

@@ -17,10 +17,10 @@ use Rattle.bit_words.specs.Digits.{IsShiftedRight}
 use Rattle.bit_words.proofs.BitsLemmas.{blocks_of-lt, length-blocks_of}
 use Rattle.bit_set.specs.Places.{values_in}
 use Rattle.bit_set.proofs.PlaceLemmas.{values_in-blocks_of}
-use Rattle.bit_set.proofs.FilledLemmas.{blocks_of_clean}
+use Rattle.bit_set.proofs.FilledLemmas.{blocks_of_zero_tail}
 use Rattle.bit_set.specs.declared.json.JsonError.{JsonError}
 use Rattle.bit_set.specs.declared.json.JsonError.TheVariants.{Shape, Number, Blocks, Unclean, Memory}
-use Rattle.bit_set.specs.Json.{HasNumbers, IsClean, IsFirstFault, Spells, members_in, number_in, numbers_in, bit_vec_in, storage_in, nbits_in}
+use Rattle.bit_set.specs.Json.{HasNumbers, HasZeroTail, IsFirstFault, Spells, members_in, number_in, numbers_in, bit_vec_in, storage_in, nbits_in}
 use Rattle.bit_set.specs.Entries.{AreNumbers, AreParts, HasLength, IsEntry, number_of_entry, numbers_of}
 use Rattle.serde_json.specs.Find.{as_object}
 
@@ -93,9 +93,10 @@ number_at vs k v m within at is =
 pub blocks_for_some : (w n c : ℕ) → n % w ≢ 0 → c ≡ blocks_for w n → c - 1 < c
 blocks_for_some w n c part count = let one : min 1 (n % w) ≡ 1 = omega (arith, part) in omega (arith, count, one)
 
--- a last block that is not full is clean just where nothing is left of it once its used digits are shifted out
-pub clean_by_shift : (w n r : ℕ) (ms : List ℕ) → 0 < w → n % w ≢ 0 → length ms ≡ blocks_for w n → r < 2 ^ w → IsShiftedRight w (get_or ms (length ms - 1) 0) (n % w) r → (r ≡ 0) ↔ IsClean w ms n
-clean_by_shift w n r ms pos part count small shifted =
+-- a last block that is not full is 0 past the length just where nothing is left of it once its used digits are
+-- shifted out
+pub zero_tail_by_shift : (w n r : ℕ) (ms : List ℕ) → 0 < w → n % w ≢ 0 → length ms ≡ blocks_for w n → r < 2 ^ w → IsShiftedRight w (get_or ms (length ms - 1) 0) (n % w) r → (r ≡ 0) ↔ HasZeroTail w ms n
+zero_tail_by_shift w n r ms pos part count small shifted =
     let u = n % w in
     let last = get_or ms (length ms - 1) 0 in
     let used : u < w = mod-lt n pos in
@@ -109,9 +110,9 @@ clean_by_shift w n r ms pos part count small shifted =
             let back : j - u + u ≡ j = omega arith in
             sym (shifted.moved (j - u) (omega arith) ∙ ap (bit_at last) back) ∙ ap (λ x. bit_at x (j - u)) none ∙ bit_at-zero (j - u);
       },
-      λ clean. same_from_bits_below w r 0 small (pow_pos w) (λ i within.
+      λ zero_tail. same_from_bits_below w r 0 small (pow_pos w) (λ i within.
           ⊎_elim
-          (λ inside. shifted.moved i inside ∙ clean.tail (i + u) inside (omega (arith, before, split)) ∙ sym (bit_at-zero i))
+          (λ inside. shifted.moved i inside ∙ zero_tail.tail (i + u) inside (omega (arith, before, split)) ∙ sym (bit_at-zero i))
           (λ outside. shifted.zeros i within outside ∙ sym (bit_at-zero i))
           (cases_lt (i + u) w)),
     )
@@ -121,8 +122,8 @@ clean_by_shift w n r ms pos part count small shifted =
 pub same_numbers : (w : ℕ) (d : Data) (ms ns : List ℕ) (m n : ℕ) → HasNumbers w d ms m → HasNumbers w d ns n → (ms ≡ ns) × (m ≡ n)
 same_numbers w d ms ns m n one other = (same_Some ms ns (sym one.blocks ∙ other.blocks), same_Some m n (sym one.length ∙ other.length))
 
-clean_along : (w : ℕ) (ms ns : List ℕ) (n m : ℕ) → ms ≡ ns → n ≡ m → IsClean w ms n → IsClean w ns m
-clean_along w ms ns n m same equal clean = subst (λ x. IsClean w x m) same (subst (λ x. IsClean w ms x) equal clean)
+zero_tail_along : (w : ℕ) (ms ns : List ℕ) (n m : ℕ) → ms ≡ ns → n ≡ m → HasZeroTail w ms n → HasZeroTail w ns m
+zero_tail_along w ms ns n m same equal zero_tail = subst (λ x. HasZeroTail w x m) same (subst (λ x. HasZeroTail w ms x) equal zero_tail)
 
 -- what spells something has no fault
 pub spelt_has_no_fault : (w : ℕ) (d : Data) (ms : List ℕ) (n : ℕ) (fault : JsonError) → Spells w d ms n → ¬ IsFirstFault w d fault
@@ -133,7 +134,7 @@ spelt_has_no_fault w d ms n Blocks spelt (shape, (ns, m, numbers, other)) =
     other (ap length same.0 ∙ spelt.count ∙ ap (blocks_for w) (sym same.1))
 spelt_has_no_fault w d ms n Unclean spelt (shape, (ns, m, numbers, count, unclean)) =
     let same = same_numbers w d ms ns n m spelt.numbers numbers in
-    unclean (clean_along w ms ns n m same.0 same.1 spelt.clean)
+    unclean (zero_tail_along w ms ns n m same.0 same.1 spelt.zero_tail)
 spelt_has_no_fault w d ms n (Memory refused) spelt h = h
 
 two_counts : (w : ℕ) (d : Data) (ms ns : List ℕ) (n m : ℕ) → HasNumbers w d ms n → HasNumbers w d ns m → length ms ≢ blocks_for w n → length ns ≡ blocks_for w m → ⊥
@@ -208,5 +209,5 @@ written_spells w d vs ms values n same long are form = record {
     below = All-from_get_or (λ m. m < 2 ^ w) (blocks_of w values) 0 (λ k within. blocks_of-lt w k values);
   };
   count = length-blocks_of w values;
-  clean = blocks_of_clean w values;
+  zero_tail = blocks_of_zero_tail w values;
 }

@@ -7,7 +7,7 @@ pub mod SubsetLemmas
 pub mod MemberLemmas
 pub mod CollectLemmas
 pub mod ValueLemmas
-pub mod RoomLemmas
+pub mod CapacityLemmas
 pub mod ItemLemmas
 pub mod ByteLemmas
 pub mod PlaceLemmas
@@ -19,7 +19,7 @@ pub mod ChainLemmas
 pub mod FromLemmas
 pub mod WalkLaws
 pub mod SparseLaws
-pub mod UnlikeLemmas
+pub mod MismatchLemmas
 pub mod OrderLemmas
 pub mod JsonLemmas
 pub mod FilledLemmas

@@ -3,13 +3,13 @@ use Rattle.std.proofs.Common.{◌≡◌, ℕ, ◌+◌, ◌≤◌, Bool, true, fa
 use Rattle.std.proofs.lemmas.Bool.{true≢false, cases_eq, eq-eqb, ne_eqb}
 use Rattle.std.proofs.lemmas.List.{get_or-set_same, get_or-set_other}
 use Rattle.std.specs.Cmp.Lexicographic.{bytes_decides}
-use Rattle.bit_words.specs.Bits.{Bits, IsWithinRoom}
-use Rattle.bit_words.specs.declared.bit_vec.merge.Merge.{Merge}
+use Rattle.bit_words.specs.Bits.{Bits, IsWithinCapacity}
+use Rattle.bit_words.specs.declared.block.merge.Merge.{Merge}
 use Rattle.bit_set.specs.Bounds.{greatest}
 use Rattle.bit_set.specs.Members.{HasNone, HasTrueOf, IsCounted, IsDisjoint, IsMerged, IsSameSet, IsSubset, IsUnion, KeepsBelow, KeepsFrom, TakesLeast, Updates}
 use Rattle.bit_set.specs.Order.{same_sets}
-use Rattle.bit_set.specs.Sets.{AscendsFrom, IsAscending, elements, has, is_disjoint, is_subset, merged_sets, put, put_all, those_below, those_from, without}
-use Rattle.bit_set.proofs.AlgebraLemmas.{has-merged_sets, has-union}
+use Rattle.bit_set.specs.Sets.{AscendsFrom, IsAscending, elements, has, is_disjoint, is_subset, merge_of_sets, put, put_all, those_below, those_from, without}
+use Rattle.bit_set.proofs.AlgebraLemmas.{has-merge_of_sets, has-union}
 use Rattle.bit_set.proofs.SetLaws.{has-those_below}
 use Rattle.bit_set.proofs.SetLemmas.{AscendsFrom-lower, IsAscending-elements, has-elements, has-put, has-without, length-elements-le, same_members}
 use Rattle.bit_set.proofs.SizeLemmas.{length-put, length-without, least-first, without-first}
@@ -82,8 +82,8 @@ members_from s t n is m = ap (λ u. has u m) is ∙ has-those_from s n m
 pub members_put_all : (s items t : List ℕ) → t ≡ put_all s items → IsUnion s items t
 members_put_all s items t is m = ap (λ u. has u m) is ∙ has-union s items m
 
-pub members_merged : (merge : Merge) (s t r : List ℕ) → r ≡ merged_sets merge s t → IsMerged merge s t r
-members_merged merge s t r is m = ap (λ u. has u m) is ∙ has-merged_sets merge s t m
+pub members_merged : (merge : Merge) (s t r : List ℕ) → r ≡ merge_of_sets merge s t → IsMerged merge s t r
+members_merged merge s t r is m = ap (λ u. has u m) is ∙ has-merge_of_sets merge s t m
 
 pub members_none : (s : List ℕ) → s ≡ [] → HasNone s
 members_none s none m = ap (λ u. has u m) none
@@ -92,7 +92,7 @@ none_from_members : (s : List ℕ) → HasNone s → s ≡ []
 none_from_members [] none = refl
 none_from_members (x ∷ xs) none = absurd (true≢false (sym (ap (λ b. b || has xs x) (eq-eqb x x refl)) ∙ none x))
 
--- ---- what a test tells
+-- ---- what a test says
 
 pub tells_empty : (answer : Bool) (s : List ℕ) → (IsTrue answer ↔ (s ≡ [])) → IsTrue answer ↔ HasNone s
 tells_empty answer s tells = (λ is. members_none s (tells.0 is), λ none. tells.1 (none_from_members s none))
@@ -121,5 +121,5 @@ tells_disjoint answer s t says = (
 pub counted : (values : List Bool) → length values ≤ greatest → IsCounted values
 counted values fits = record { few = length-elements-le 0 values; fits = fits }
 
-pub counted_within : (bits : Bits) → IsWithinRoom bits → IsCounted bits.values
+pub counted_within : (bits : Bits) → IsWithinCapacity bits → IsCounted bits.values
 counted_within bits within = counted bits.values (omega (arith, within.holds_values, within.fits))

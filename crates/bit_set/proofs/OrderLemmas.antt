@@ -9,7 +9,7 @@ use Rattle.std.specs.declared.cmp.Ordering.{Ordering}
 use Rattle.std.specs.declared.cmp.Ordering.TheVariants.{Less, Equal, Greater}
 use Rattle.bit_set.specs.Sets.{elements_from, elements, has, AscendsFrom}
 use Rattle.bit_set.specs.Order.{order_of_sets, same_sets}
-use Rattle.bit_set.specs.Differences.{IsFirstDifference}
+use Rattle.bit_set.specs.Mismatches.{IsFirstMismatch}
 use Rattle.bit_set.proofs.SetLemmas.{has-elements, has-elements_from, AscendsFrom-elements_from, IsAscending-elements, same_members}
 
 -- the same first number leaves it to the others
@@ -76,7 +76,7 @@ order-goes_on p (suc n) (suc j) (false ∷ xs) (false ∷ ys) same one none past
 
 -- ---- by members
 
-agree : (xs ys : List Bool) (n : ℕ) → IsFirstDifference (elements xs) (elements ys) n → (k : ℕ) → k < n → get_or xs k false ≡ get_or ys k false
+agree : (xs ys : List Bool) (n : ℕ) → IsFirstMismatch (elements xs) (elements ys) n → (k : ℕ) → k < n → get_or xs k false ≡ get_or ys k false
 agree xs ys n d k below = sym (has-elements xs k) ∙ d.below k below ∙ has-elements ys k
 
 turned : (b c : Bool) → b ≡ not c → b ≡ true → c ≡ false
@@ -85,14 +85,14 @@ turned b false e is = refl
 turned false true e is = absurd (true≢false (sym is))
 
 -- The set that has the first number that differs is less where the other goes on past it.
-pub holder_first : (xs ys : List Bool) (n k : ℕ) → IsFirstDifference (elements xs) (elements ys) n → has (elements xs) n ≡ true → n ≤ k → has (elements ys) k ≡ true → order_of_sets (elements xs) (elements ys) ≡ Less
-holder_first xs ys n k d held past is =
-    order-goes_on 0 n k xs ys (agree xs ys n d) (sym (has-elements xs n) ∙ held) (sym (has-elements ys n) ∙ turned _ _ d.here held) past (sym (has-elements ys k) ∙ is)
+pub holder_first : (xs ys : List Bool) (n k : ℕ) → IsFirstMismatch (elements xs) (elements ys) n → has (elements xs) n ≡ true → n ≤ k → has (elements ys) k ≡ true → order_of_sets (elements xs) (elements ys) ≡ Less
+holder_first xs ys n k d values_of_blocks past is =
+    order-goes_on 0 n k xs ys (agree xs ys n d) (sym (has-elements xs n) ∙ values_of_blocks) (sym (has-elements ys n) ∙ turned _ _ d.here values_of_blocks) past (sym (has-elements ys k) ∙ is)
 
 -- It is greater where the other ends before it.
-pub holder_last : (xs ys : List Bool) (n : ℕ) → IsFirstDifference (elements xs) (elements ys) n → has (elements xs) n ≡ true → ((k : ℕ) → n ≤ k → has (elements ys) k ≡ false) → order_of_sets (elements xs) (elements ys) ≡ Greater
-holder_last xs ys n d held none =
-    order-ends 0 n n xs ys (agree xs ys n d) (λ k from. sym (has-elements ys k) ∙ none k from) (omega arith) (sym (has-elements xs n) ∙ held)
+pub holder_last : (xs ys : List Bool) (n : ℕ) → IsFirstMismatch (elements xs) (elements ys) n → has (elements xs) n ≡ true → ((k : ℕ) → n ≤ k → has (elements ys) k ≡ false) → order_of_sets (elements xs) (elements ys) ≡ Greater
+holder_last xs ys n d values_of_blocks none =
+    order-ends 0 n n xs ys (agree xs ys n d) (λ k from. sym (has-elements ys k) ∙ none k from) (omega arith) (sym (has-elements xs n) ∙ values_of_blocks)
 
 pub twice : (b c : Bool) → b ≡ not c → c ≡ not b
 twice true true e = e
@@ -101,7 +101,7 @@ twice false true e = refl
 twice false false e = e
 
 -- the same difference, seen from the other set
-pub swapped : (s t : List ℕ) (n : ℕ) → IsFirstDifference s t n → IsFirstDifference t s n
+pub swapped : (s t : List ℕ) (n : ℕ) → IsFirstMismatch s t n → IsFirstMismatch t s n
 swapped s t n d = record { below = λ k below. sym (d.below k below); here = twice (has s n) (has t n) d.here }
 
 pub order-swapped : (s t : List ℕ) → order_of_sets s t ≡ ordering_reverse (order_of_sets t s)
@@ -114,19 +114,19 @@ order-itself s = tied_itself nat_list_cmp_total s
 -- ---- what the walk over the blocks found
 
 -- the holder's side of the order, as found
-pub by_holder : (xs ys : List Bool) (n : ℕ) (r : Ordering) → IsFirstDifference (elements xs) (elements ys) n → has (elements xs) n ≡ true
+pub by_holder : (xs ys : List Bool) (n : ℕ) (r : Ordering) → IsFirstMismatch (elements xs) (elements ys) n → has (elements xs) n ≡ true
     → MatchOrdering r ((k : ℕ) × (n ≤ k) × (has (elements ys) k ≡ true)) ⊥ ((k : ℕ) → n ≤ k → has (elements ys) k ≡ false)
     → r ≡ order_of_sets (elements xs) (elements ys)
-by_holder xs ys n Less d held found = sym (holder_first xs ys n found.0 d held found.1 found.2)
-by_holder xs ys n Equal d held found = absurd found
-by_holder xs ys n Greater d held found = sym (holder_last xs ys n d held found)
+by_holder xs ys n Less d values_of_blocks found = sym (holder_first xs ys n found.0 d values_of_blocks found.1 found.2)
+by_holder xs ys n Equal d values_of_blocks found = absurd found
+by_holder xs ys n Greater d values_of_blocks found = sym (holder_last xs ys n d values_of_blocks found)
 
 other_holds : (b c : Bool) → b ≡ not c → b ≡ false → c ≡ true
 other_holds b true e is = refl
 other_holds b false e is = absurd (true≢false (sym e ∙ is))
 
 -- the same, where the other set has the number
-pub by_other_holder : (xs ys : List Bool) (n : ℕ) (r : Ordering) → IsFirstDifference (elements xs) (elements ys) n → has (elements xs) n ≡ false
+pub by_other_holder : (xs ys : List Bool) (n : ℕ) (r : Ordering) → IsFirstMismatch (elements xs) (elements ys) n → has (elements xs) n ≡ false
     → MatchOrdering r ((k : ℕ) × (n ≤ k) × (has (elements xs) k ≡ true)) ⊥ ((k : ℕ) → n ≤ k → has (elements xs) k ≡ false)
     → ordering_reverse r ≡ order_of_sets (elements xs) (elements ys)
 by_other_holder xs ys n r d lacks found =
@@ -147,8 +147,8 @@ not_itself true false e same = true≢false same
 not_itself false true e same = true≢false (sym same)
 not_itself false false e same = true≢false (sym e)
 
--- a search for the first difference tells whether the sets are the same
-pub same_where_none : (xs ys : List Bool) (r : Option ℕ) → MatchOption r ((k : ℕ) → has (elements xs) k ≡ has (elements ys) k) (IsFirstDifference (elements xs) (elements ys)) → not (is_some r) ≡ same_sets (elements xs) (elements ys)
+-- a search for the first difference says whether the sets are the same
+pub same_where_none : (xs ys : List Bool) (r : Option ℕ) → MatchOption r ((k : ℕ) → has (elements xs) k ≡ has (elements ys) k) (IsFirstMismatch (elements xs) (elements ys)) → not (is_some r) ≡ same_sets (elements xs) (elements ys)
 same_where_none xs ys None same =
     sym ((bytes_decides (elements xs) (elements ys)).1 (same_members (elements xs) (elements ys) (IsAscending-elements xs) (IsAscending-elements ys) same))
 same_where_none xs ys (Some n) d =

@@ -4,18 +4,18 @@ use Rattle.std.specs.Prelude.{IfSome, IsSomeAnd}
 use Rattle.bit_words.specs.Source.{Source, PullsIf}
 use Rattle.std.specs.Iterator.{YieldsFirst}
 use Rattle.bit_words.specs.Digits.{is_one}
-use Rattle.bit_words.specs.Merges.{merged_value, merged}
-use Rattle.bit_words.specs.declared.bit_vec.merge.Merge.{Merge}
-use Rattle.bit_words.specs.declared.bit_vec.merge.Merge.TheVariants.{Intersection}
+use Rattle.bit_words.specs.Merges.{merge_of_values, merge_of}
+use Rattle.bit_words.specs.declared.block.merge.Merge.{Merge}
+use Rattle.bit_words.specs.declared.block.merge.Merge.TheVariants.{Intersection}
 use Rattle.bit_words.proofs.Masks.{is_one-zero}
 use Rattle.bit_words.specs.Bits.{blocks_of, blocks_for}
 use Rattle.bit_words.proofs.MergeLemmas.{length-merged}
 use Rattle.std.proofs.Math.Nat.{mul-le-mul_right}
 use Rattle.std.proofs.lemmas.Bool.{cases_lt}
-use Rattle.bit_set.specs.Sets.{elements_from, elements, intersection, merged_sets}
+use Rattle.bit_set.specs.Sets.{elements_from, elements, intersection, merge_of_sets}
 use Rattle.bit_set.proofs.AlgebraLemmas.{elements-merged}
 use Rattle.bit_words.proofs.BitsLemmas.{blocks_for-le}
-use Rattle.bit_set.proofs.WalkLemmas.{length-held, length-blocks, elements-held, IsWalkable-of, All-pulled}
+use Rattle.bit_set.proofs.WalkLemmas.{length-values_of_blocks, length-blocks, elements-values_of_blocks, IsWalkable-of, All-pulled}
 use Rattle.bit_set.specs.Places.{digits_from, values_in, Ahead, PullsBlock, PullsBlockIf, IsWalkable, IsMergedBlock, IsMergedPull}
 
 -- ---- what two lists of blocks have
@@ -35,7 +35,7 @@ max_product m n w =
     ]
 
 -- what is in both lists is no more than either has
-in_both : (p : ℕ) (xs ys : List Bool) → length (elements_from p (merged Intersection xs ys)) ≤ min (length xs) (length ys)
+in_both : (p : ℕ) (xs ys : List Bool) → length (elements_from p (merge_of Intersection xs ys)) ≤ min (length xs) (length ys)
 in_both p [] [] = omega arith
 in_both p (true ∷ xs) [] = let rest = in_both (p + 1) xs [] in omega (arith, rest)
 in_both p (false ∷ xs) [] = let rest = in_both (p + 1) xs [] in omega (arith, rest)
@@ -50,23 +50,23 @@ length-intersection a b = let same = ap length (elements-merged Intersection a b
 -- ---- a pull of both
 
 -- the digits of two blocks, and what is past them
-pub both_digits : (merge : Merge) (m n r a w : ℕ) (xs ys : List Bool) → ((i : ℕ) → a ≤ i → i < a + w → is_one r i ≡ merged_value merge (is_one m i) (is_one n i)) → merged merge (digits_from m a w ++ xs) (digits_from n a w ++ ys) ≡ digits_from r a w ++ merged merge xs ys
+pub both_digits : (merge : Merge) (m n r a w : ℕ) (xs ys : List Bool) → ((i : ℕ) → a ≤ i → i < a + w → is_one r i ≡ merge_of_values merge (is_one m i) (is_one n i)) → merge_of merge (digits_from m a w ++ xs) (digits_from n a w ++ ys) ≡ digits_from r a w ++ merge_of merge xs ys
 both_digits merge m n r a zero xs ys each = refl
 both_digits merge m n r a (suc w) xs ys each =
-    ap (λ b. b ∷ merged merge (digits_from m (a + 1) w ++ xs) (digits_from n (a + 1) w ++ ys)) (sym (each a (omega arith) (omega arith)))
+    ap (λ b. b ∷ merge_of merge (digits_from m (a + 1) w ++ xs) (digits_from n (a + 1) w ++ ys)) (sym (each a (omega arith) (omega arith)))
     ∙ ap (λ bs. is_one r a ∷ bs) (both_digits merge m n r (a + 1) w xs ys (λ i low high. each i (omega arith) (omega arith)))
 
 -- the digits of a block of the first side alone, and of the second side alone
-pub first_digits : (merge : Merge) (m r a w : ℕ) (xs : List Bool) → ((i : ℕ) → a ≤ i → i < a + w → is_one r i ≡ merged_value merge (is_one m i) false) → merged merge (digits_from m a w ++ xs) [] ≡ digits_from r a w ++ merged merge xs []
+pub first_digits : (merge : Merge) (m r a w : ℕ) (xs : List Bool) → ((i : ℕ) → a ≤ i → i < a + w → is_one r i ≡ merge_of_values merge (is_one m i) false) → merge_of merge (digits_from m a w ++ xs) [] ≡ digits_from r a w ++ merge_of merge xs []
 first_digits merge m r a zero xs each = refl
 first_digits merge m r a (suc w) xs each =
-    ap (λ b. b ∷ merged merge (digits_from m (a + 1) w ++ xs) []) (sym (each a (omega arith) (omega arith)))
+    ap (λ b. b ∷ merge_of merge (digits_from m (a + 1) w ++ xs) []) (sym (each a (omega arith) (omega arith)))
     ∙ ap (λ bs. is_one r a ∷ bs) (first_digits merge m r (a + 1) w xs (λ i low high. each i (omega arith) (omega arith)))
 
-pub second_digits : (merge : Merge) (n r a w : ℕ) (ys : List Bool) → ((i : ℕ) → a ≤ i → i < a + w → is_one r i ≡ merged_value merge false (is_one n i)) → merged merge [] (digits_from n a w ++ ys) ≡ digits_from r a w ++ merged merge [] ys
+pub second_digits : (merge : Merge) (n r a w : ℕ) (ys : List Bool) → ((i : ℕ) → a ≤ i → i < a + w → is_one r i ≡ merge_of_values merge false (is_one n i)) → merge_of merge [] (digits_from n a w ++ ys) ≡ digits_from r a w ++ merge_of merge [] ys
 second_digits merge n r a zero ys each = refl
 second_digits merge n r a (suc w) ys each =
-    ap (λ b. b ∷ merged merge [] (digits_from n (a + 1) w ++ ys)) (sym (each a (omega arith) (omega arith)))
+    ap (λ b. b ∷ merge_of merge [] (digits_from n (a + 1) w ++ ys)) (sym (each a (omega arith) (omega arith)))
     ∙ ap (λ bs. is_one r a ∷ bs) (second_digits merge n r (a + 1) w ys (λ i low high. each i (omega arith) (omega arith)))
 
 zeros_given : {X : Type 0} (number : X → ℕ) (P : X → Type 0) (r : Option X) → IsSomeAnd r (λ x. P x × (number x ≡ 0)) → IfSome r P
@@ -85,7 +85,7 @@ same_pulls_if number is_block false s s' t t' o p next other same = ap (λ u. u.
 module _ {X : Type 0} (w : ℕ) (number : X → ℕ) (merge : Merge) where
   -- what two lists of blocks hold, merged
   abbrev pub both_held : List X → List X → List Bool
-  both_held xs ys = merged merge (values_in w (map number xs)) (values_in w (map number ys))
+  both_held xs ys = merge_of merge (values_in w (map number xs)) (values_in w (map number ys))
 
   pub same_held : (xs xs' ys ys' : List X) → xs ≡ xs' → ys ≡ ys' → both_held xs ys ≡ both_held xs' ys'
   same_held xs xs' ys ys' first second = ap (λ zs. both_held zs ys) first ∙ ap (λ zs. both_held xs' zs) second
@@ -108,7 +108,7 @@ module _ {X : Type 0} (w : ℕ) (number : X → ℕ) (merge : Merge) where
   both_pulled xs xs' ys ys' pulls pulls' (Some a) None (Some x) first second is counted = record {
     values =
         same_held xs (a ∷ xs') ys [] first second.0
-        ∙ first_digits merge (number a) (number x) 0 w (values_in w (map number xs')) (λ i low high. is.digit i (omega arith) ∙ ap (merged_value merge (is_one (number a) i)) (is_one-zero i))
+        ∙ first_digits merge (number a) (number x) 0 w (values_in w (map number xs')) (λ i low high. is.digit i (omega arith) ∙ ap (merge_of_values merge (is_one (number a) i)) (is_one-zero i))
         ∙ ap (λ bs. digits_from (number x) 0 w ++ bs) (same_held xs' xs' [] ys' refl (sym second.1));
     blocks = let one = ap length first in let none = ap length second.0 in let left = ap length second.1 in omega (arith, one, none, left);
     counted = counted;
@@ -117,7 +117,7 @@ module _ {X : Type 0} (w : ℕ) (number : X → ℕ) (merge : Merge) where
   both_pulled xs xs' ys ys' pulls pulls' None (Some b) (Some x) first second is counted = record {
     values =
         same_held xs [] ys (b ∷ ys') first.0 second
-        ∙ second_digits merge (number b) (number x) 0 w (values_in w (map number ys')) (λ i low high. is.digit i (omega arith) ∙ ap (λ v. merged_value merge v (is_one (number b) i)) (is_one-zero i))
+        ∙ second_digits merge (number b) (number x) 0 w (values_in w (map number ys')) (λ i low high. is.digit i (omega arith) ∙ ap (λ v. merge_of_values merge v (is_one (number b) i)) (is_one-zero i))
         ∙ ap (λ bs. digits_from (number x) 0 w ++ bs) (same_held [] xs' ys' ys' (sym first.1) refl);
     blocks = let none = ap length first.0 in let left = ap length first.1 in let one = ap length second in omega (arith, one, none, left);
     counted = counted;
@@ -149,11 +149,11 @@ module _ {X : Type 0} (w : ℕ) (number : X → ℕ) (merge : Merge) where
   -- ---- the making
 
   -- the lists of truth values become what their blocks become
-  pub elements-both : (xs ys : List X) (a b : List Bool) → 0 < w → map number xs ≡ blocks_of w a → map number ys ≡ blocks_of w b → elements (both_held xs ys) ≡ merged_sets merge (elements a) (elements b)
+  pub elements-both : (xs ys : List X) (a b : List Bool) → 0 < w → map number xs ≡ blocks_of w a → map number ys ≡ blocks_of w b → elements (both_held xs ys) ≡ merge_of_sets merge (elements a) (elements b)
   elements-both xs ys a b pos first second =
       elements-merged merge (values_in w (map number xs)) (values_in w (map number ys))
-      ∙ ap (λ s. merged_sets merge s (elements (values_in w (map number ys)))) (elements-held w number xs a pos first)
-      ∙ ap (λ s. merged_sets merge (elements a) s) (elements-held w number ys b pos second)
+      ∙ ap (λ s. merge_of_sets merge s (elements (values_in w (map number ys)))) (elements-values_of_blocks w number xs a pos first)
+      ∙ ap (λ s. merge_of_sets merge (elements a) s) (elements-values_of_blocks w number ys b pos second)
 
   pub max_past : (xs ys : List X) (a b : List Bool) → map number xs ≡ blocks_of w a → map number ys ≡ blocks_of w b → max (length xs) (length ys) ≡ max (blocks_for w (length a)) (blocks_for w (length b))
   max_past xs ys a b first second = let one = length-blocks w number xs a first in let other = length-blocks w number ys b second in cc
@@ -161,8 +161,8 @@ module _ {X : Type 0} (w : ℕ) (number : X → ℕ) (merge : Merge) where
   pub IsWalkable-both : (xs ys : List X) (a b : List Bool) (pulls : ℕ) → 0 < w → map number xs ≡ blocks_of w a → map number ys ≡ blocks_of w b → length a < 2 ^ 64 → length b < 2 ^ 64 → IsWalkable w (both_ahead xs ys pulls)
   IsWalkable-both xs ys a b pulls pos first second first_fits second_fits =
       let long = length-merged merge a b in
-      IsWalkable-of w (both_ahead xs ys pulls) (merged merge a b)
-      (let one = length-held w number xs in let other = length-held w number ys in let both = length-merged merge (values_in w (map number xs)) (values_in w (map number ys)) in omega (arith, one, other, both, max_product (length xs) (length ys) w))
+      IsWalkable-of w (both_ahead xs ys pulls) (merge_of merge a b)
+      (let one = length-values_of_blocks w number xs in let other = length-values_of_blocks w number ys in let both = length-merged merge (values_in w (map number xs)) (values_in w (map number ys)) in omega (arith, one, other, both, max_product (length xs) (length ys) w))
       (max_past xs ys a b first second ∙ max_blocks w (length a) (length b) pos ∙ ap (blocks_for w) (sym long))
       (elements-both xs ys a b pos first second ∙ sym (elements-merged merge a b))
       (omega (arith, long))

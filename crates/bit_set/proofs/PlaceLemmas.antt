@@ -1,4 +1,5 @@
--- The places of the ones of blocks: a block of zeros, the lowest one, how many there are, and those of a list of truth values.
+-- The indexes of the ones of blocks: a block of zeros, the lowest one, how many there are, and those of a list of truth
+-- values.
 use Rattle.std.proofs.Common.{◌≡◌, ℕ, zero, suc, ◌+◌, ◌-◌, ◌*◌, ◌/◌, ◌%◌, ◌^◌, ◌<◌, ◌≤◌, Bool, true, false, cond, eqb, List, [], ◌∷◌, ◌++◌, length, get_or, All, count_ones, refl, sym, ap, ◌∙◌, subst, inl, inr, arith}
 use Rattle.std.specs.Int.{bit_at}
 use Rattle.std.specs.List.{sum_by, range_with_len}
@@ -17,7 +18,7 @@ use Rattle.bit_words.specs.Bits.{blocks_of}
 use Rattle.bit_words.specs.Lowest.{IsLowest, IsCleared}
 use Rattle.bit_words.specs.Digits.{is_one}
 use Rattle.bit_set.specs.Sets.{AscendsFrom, elements_from, elements}
-use Rattle.bit_set.specs.Places.{digits_from, values_in, places}
+use Rattle.bit_set.specs.Places.{digits_from, values_in, indexes}
 
 -- digits that are 0 are passed over
 zeros_passed : (a w p : ℕ) (bs : List Bool) → elements_from p (digits_from 0 a w ++ bs) ≡ elements_from (p + w) bs
@@ -44,43 +45,43 @@ lowest_from m r i a (suc w) p bs low cleared from within =
           let none : is_one m a ≡ false = is_one-none m a (low.zeros a below) in
           let none_there : is_one r a ≡ false = is_one-none r a (cleared.kept a (omega arith) (λ e. omega (arith, e)) ∙ low.zeros a below) in
           let along : a + 1 + w ≡ a + suc w = omega arith in
-          let place : p + 1 + (i - (a + 1)) ≡ p + (i - a) = omega arith in
+          let index : p + 1 + (i - (a + 1)) ≡ p + (i - a) = omega arith in
           let rest = lowest_from m r i (a + 1) w (p + 1) bs low (subst (λ x. IsCleared x m i r) (sym along) cleared) (omega arith) (omega arith) in
           ap (λ b. cond b (p ∷ elements_from (p + 1) (digits_from m (a + 1) w ++ bs)) (elements_from (p + 1) (digits_from m (a + 1) w ++ bs))) none
           ∙ rest
-          ∙ ap (λ x. x ∷ elements_from (p + 1) (digits_from r (a + 1) w ++ bs)) place
+          ∙ ap (λ x. x ∷ elements_from (p + 1) (digits_from r (a + 1) w ++ bs)) index
           ∙ ap (λ b. (p + (i - a)) ∷ cond b (p ∷ elements_from (p + 1) (digits_from r (a + 1) w ++ bs)) (elements_from (p + 1) (digits_from r (a + 1) w ++ bs))) (sym none_there)
       | inr past ↦
           let here : i ≡ a = omega arith in
           let one : is_one m a ≡ true = is_one-one m a (ap (bit_at m) (sym here) ∙ low.one) in
           let none_there : is_one r a ≡ false = is_one-none r a (ap (bit_at r) (sym here) ∙ cleared.cleared) in
-          let place : p ≡ p + (i - a) = omega arith in
+          let index : p ≡ p + (i - a) = omega arith in
           let rest : digits_from r (a + 1) w ≡ digits_from m (a + 1) w = same_digits m r (a + 1) w (λ k from_next inside. cleared.kept k (omega arith) (λ e. omega (arith, e))) in
           ap (λ b. cond b (p ∷ elements_from (p + 1) (digits_from m (a + 1) w ++ bs)) (elements_from (p + 1) (digits_from m (a + 1) w ++ bs))) one
-          ∙ ap (λ x. x ∷ elements_from (p + 1) (digits_from m (a + 1) w ++ bs)) place
+          ∙ ap (λ x. x ∷ elements_from (p + 1) (digits_from m (a + 1) w ++ bs)) index
           ∙ ap (λ ds. (p + (i - a)) ∷ elements_from (p + 1) (ds ++ bs)) (sym rest)
           ∙ ap (λ b. (p + (i - a)) ∷ cond b (p ∷ elements_from (p + 1) (digits_from r (a + 1) w ++ bs)) (elements_from (p + 1) (digits_from r (a + 1) w ++ bs))) (sym none_there)
     ]
 
 -- ---- a block and what is past it
 
-pub places-zero : (w p : ℕ) (bs : List Bool) → places w p 0 bs ≡ elements_from (p + w) bs
-unfolding places
-places-zero w p bs = zeros_passed 0 w p bs
+pub indexes-zero : (w p : ℕ) (bs : List Bool) → indexes w p 0 bs ≡ elements_from (p + w) bs
+unfolding indexes
+indexes-zero w p bs = zeros_passed 0 w p bs
 
 -- the values past the first block are those of the next one
-pub places-next : (w p m : ℕ) (bs cs : List Bool) → bs ≡ digits_from m 0 w ++ cs → elements_from p bs ≡ places w p m cs
-unfolding places
-places-next w p m bs cs is = ap (elements_from p) is
+pub indexes-next : (w p m : ℕ) (bs cs : List Bool) → bs ≡ digits_from m 0 w ++ cs → elements_from p bs ≡ indexes w p m cs
+unfolding indexes
+indexes-next w p m bs cs is = ap (elements_from p) is
 
 -- they ascend from there on
-pub AscendsFrom-places : (w p m : ℕ) (bs : List Bool) → AscendsFrom p (places w p m bs)
-unfolding places
-AscendsFrom-places w p m bs = AscendsFrom-elements_from p (digits_from m 0 w ++ bs)
+pub AscendsFrom-indexes : (w p m : ℕ) (bs : List Bool) → AscendsFrom p (indexes w p m bs)
+unfolding indexes
+AscendsFrom-indexes w p m bs = AscendsFrom-elements_from p (digits_from m 0 w ++ bs)
 
-pub places-lowest : (w p m r i : ℕ) (bs : List Bool) → IsLowest m i → i < w → IsCleared w m i r → places w p m bs ≡ (p + i) ∷ places w p r bs
-unfolding places
-places-lowest w p m r i bs low within cleared =
+pub indexes-lowest : (w p m r i : ℕ) (bs : List Bool) → IsLowest m i → i < w → IsCleared w m i r → indexes w p m bs ≡ (p + i) ∷ indexes w p r bs
+unfolding indexes
+indexes-lowest w p m r i bs low within cleared =
     let whole : 0 + w ≡ w = omega arith in
     lowest_from m r i 0 w p bs low (subst (λ x. IsCleared x m i r) (sym whole) cleared) (omega arith) (omega arith)
     ∙ ap (λ x. x ∷ elements_from p (digits_from r 0 w ++ bs)) (let e : p + (i - 0) ≡ p + i = omega arith in e)
@@ -138,9 +139,9 @@ pub length-digits_from : (m w : ℕ) (bs : List Bool) → length (digits_from m 
 length-digits_from m w bs = let first = length-map-range_with_len (is_one m) 0 w in omega (arith, length-append (digits_from m 0 w) bs, first)
 
 -- as many as the ones of the block and the true values past it
-pub length-places : (w p m : ℕ) (bs : List Bool) → m < 2 ^ w → length (places w p m bs) ≡ count_ones m + length (elements bs)
-unfolding places
-length-places w p m bs small =
+pub length-indexes : (w p m : ℕ) (bs : List Bool) → m < 2 ^ w → length (indexes w p m bs) ≡ count_ones m + length (elements bs)
+unfolding indexes
+length-indexes w p m bs small =
     count_digits m 0 w p bs ∙ omega (arith, ones_are_digits w m small, length-elements_from_both (p + w) 0 bs)
 
 pub length-values_in : (w : ℕ) (ms : List ℕ) → length (values_in w ms) ≡ length ms * w
@@ -149,13 +150,13 @@ length-values_in w (m ∷ ms) = let rest = length-values_in w ms in length-digit
 
 -- one block more is counted
 pub length-elements-block : (w m : ℕ) (bs : List Bool) → m < 2 ^ w → length (elements (digits_from m 0 w ++ bs)) ≡ count_ones m + length (elements bs)
-unfolding places
-length-elements-block w m bs small = length-places w 0 m bs small
+unfolding indexes
+length-elements-block w m bs small = length-indexes w 0 m bs small
 
 -- no more than digits
-pub length-places-le : (w p m : ℕ) (bs : List Bool) → length (places w p m bs) ≤ w + length bs
-unfolding places
-length-places-le w p m bs =
+pub length-indexes-le : (w p m : ℕ) (bs : List Bool) → length (indexes w p m bs) ≤ w + length bs
+unfolding indexes
+length-indexes-le w p m bs =
     let most = length-elements-le p (digits_from m 0 w ++ bs) in
     omega (arith, most, length-digits_from m w bs)
 

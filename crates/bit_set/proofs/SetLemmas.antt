@@ -112,23 +112,23 @@ AscendsFrom-without low (x ∷ xs) n h =
     without_cases (AscendsFrom low) x xs n (λ e. AscendsFrom-lower (x + 1) low _ (omega (arith, h.0)) (AscendsFrom-without (x + 1) xs n h.1))
     (λ other. (h.0, AscendsFrom-without (x + 1) xs n h.1))
 
-pub AscendsFrom-elements_from : (place : ℕ) (bs : List Bool) → AscendsFrom place (elements_from place bs)
-AscendsFrom-elements_from place [] = tt
-AscendsFrom-elements_from place (true ∷ bs) = (omega arith, AscendsFrom-elements_from (place + 1) bs)
-AscendsFrom-elements_from place (false ∷ bs) = AscendsFrom-lower (place + 1) place _ (omega arith) (AscendsFrom-elements_from (place + 1) bs)
+pub AscendsFrom-elements_from : (index : ℕ) (bs : List Bool) → AscendsFrom index (elements_from index bs)
+AscendsFrom-elements_from index [] = tt
+AscendsFrom-elements_from index (true ∷ bs) = (omega arith, AscendsFrom-elements_from (index + 1) bs)
+AscendsFrom-elements_from index (false ∷ bs) = AscendsFrom-lower (index + 1) index _ (omega arith) (AscendsFrom-elements_from (index + 1) bs)
 
 -- a number is an element exactly where the list is true at it
-pub has-elements_from : (place : ℕ) (bs : List Bool) (k : ℕ) → has (elements_from place bs) (place + k) ≡ get_or bs k false
-has-elements_from place [] k = refl
-has-elements_from place (true ∷ bs) zero = let here : eqb place (place + 0) ≡ true = eq-eqb _ _ (omega arith) in rw here refl
-has-elements_from place (false ∷ bs) zero = has-below (place + 1) _ _ (AscendsFrom-elements_from (place + 1) bs) (omega arith)
-has-elements_from place (true ∷ bs) (suc k) =
-    let other : eqb place (place + suc k) ≡ false = ne_eqb _ _ (λ e. omega (arith, e)) in
-    let along : place + suc k ≡ place + 1 + k = omega arith in
-    rw other (ap (has (elements_from (place + 1) bs)) along ∙ has-elements_from (place + 1) bs k)
-has-elements_from place (false ∷ bs) (suc k) =
-    let along : place + suc k ≡ place + 1 + k = omega arith in
-    ap (has (elements_from (place + 1) bs)) along ∙ has-elements_from (place + 1) bs k
+pub has-elements_from : (index : ℕ) (bs : List Bool) (k : ℕ) → has (elements_from index bs) (index + k) ≡ get_or bs k false
+has-elements_from index [] k = refl
+has-elements_from index (true ∷ bs) zero = let here : eqb index (index + 0) ≡ true = eq-eqb _ _ (omega arith) in rw here refl
+has-elements_from index (false ∷ bs) zero = has-below (index + 1) _ _ (AscendsFrom-elements_from (index + 1) bs) (omega arith)
+has-elements_from index (true ∷ bs) (suc k) =
+    let other : eqb index (index + suc k) ≡ false = ne_eqb _ _ (λ e. omega (arith, e)) in
+    let along : index + suc k ≡ index + 1 + k = omega arith in
+    rw other (ap (has (elements_from (index + 1) bs)) along ∙ has-elements_from (index + 1) bs k)
+has-elements_from index (false ∷ bs) (suc k) =
+    let along : index + suc k ≡ index + 1 + k = omega arith in
+    ap (has (elements_from (index + 1) bs)) along ∙ has-elements_from (index + 1) bs k
 
 pub has-elements : (bs : List Bool) (k : ℕ) → has (elements bs) k ≡ get_or bs k false
 has-elements bs k = let from_zero : k ≡ 0 + k = omega arith in ap (has (elements bs)) from_zero ∙ has-elements_from 0 bs k
@@ -140,7 +140,7 @@ IsAscending-elements bs = AscendsFrom-elements_from 0 bs
 pub elements-by_members : (bs : List Bool) (s : List ℕ) → IsAscending s → ((k : ℕ) → get_or bs k false ≡ has s k) → elements bs ≡ s
 elements-by_members bs s up same = same_members _ s (IsAscending-elements bs) up (λ k. has-elements bs k ∙ same k)
 
--- how many elements there are does not depend on the place of the first value
+-- how many elements there are does not depend on the index of the first value
 pub length-elements_from_both : (p q : ℕ) (bs : List Bool) → length (elements_from p bs) ≡ length (elements_from q bs)
 length-elements_from_both p q [] = refl
 length-elements_from_both p q (true ∷ bs) = let more = length-elements_from_both (p + 1) (q + 1) bs in omega (arith, more)
@@ -154,10 +154,10 @@ length-elements_step false bs = length-elements_from_both 1 0 bs
 pub length-elements : (bs : List Bool) → length (elements bs) ≡ count_by (λ b. b) bs
 length-elements bs = is_count_by (λ xs. length (elements xs)) (λ b. b) refl length-elements_step bs
 
-pub length-elements-le : (place : ℕ) (bs : List Bool) → length (elements_from place bs) ≤ length bs
-length-elements-le place [] = omega arith
-length-elements-le place (true ∷ bs) = let more = length-elements-le (place + 1) bs in omega (arith, more)
-length-elements-le place (false ∷ bs) = let more = length-elements-le (place + 1) bs in omega (arith, more)
+pub length-elements-le : (index : ℕ) (bs : List Bool) → length (elements_from index bs) ≤ length bs
+length-elements-le index [] = omega arith
+length-elements-le index (true ∷ bs) = let more = length-elements-le (index + 1) bs in omega (arith, more)
+length-elements-le index (false ∷ bs) = let more = length-elements-le (index + 1) bs in omega (arith, more)
 
 -- a value made true, where the list read as another before: the set gains its place
 pub elements-set_true : (bs cs : List Bool) (v : ℕ) → v < length cs → ((k : ℕ) → get_or cs k false ≡ get_or bs k false) → elements (set cs v true) ≡ put (elements bs) v

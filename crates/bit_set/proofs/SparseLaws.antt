@@ -63,34 +63,34 @@ has-blocks_past w k low (x ∷ xs) q pos up =
 
 -- ---- how often whole walks pull
 
-pub pulled_sparsely : (w : ℕ) (s t : Walk) (items : List ℕ) → 0 < w → YieldsThen (Advances w) s items None t → t.pulls ≡ s.pulls + length (blocks_past w (s.place / w) s.left) + 1
+pub pulled_sparsely : (w : ℕ) (s t : Walk) (items : List ℕ) → 0 < w → YieldsThen (Advances w) s items None t → t.pulls ≡ s.pulls + length (blocks_past w (s.index / w) s.left) + 1
 pulled_sparsely w s t [] pos run =
     let pulls = ap (λ walk. walk.pulls) run.1 in
-    let none = ap (λ xs. length (blocks_past w (s.place / w) xs)) (ap (λ walk. walk.left) run.1 ∙ run.2.item.0) in
+    let none = ap (λ xs. length (blocks_past w (s.index / w) xs)) (ap (λ walk. walk.left) run.1 ∙ run.2.item.0) in
     omega (arith, run.2.sparse, pulls, none)
 pulled_sparsely w s t (x ∷ xs) pos run =
     let mid = run.1.0 in
     let step = run.1.1 in
     let found = step.sparse in
     let rest = pulled_sparsely w mid t xs pos (run.0, run.1.2, run.2) in
-    let block : mid.place / w ≡ x / w = ap (λ n. n / w) found.place ∙ whole_index w (x / w) pos in
+    let block : mid.index / w ≡ x / w = ap (λ n. n / w) found.index ∙ whole_index w (x / w) pos in
     let ahead = ap (λ k. length (blocks_past w k mid.left)) block in
-    let all = ap (λ ys. length (blocks_past w (s.place / w) ys)) step.item in
-    elim (cases_eq (s.place / w) (x / w)) [
+    let all = ap (λ ys. length (blocks_past w (s.index / w) ys)) step.item in
+    elim (cases_eq (s.index / w) (x / w)) [
       | inl same ↦
-          let none : ◌≡◌ {A = ℕ} (if s.place / w == x / w then 0 else 1) 0 = ap (λ b. if b then 0 else 1) (eq-eqb (s.place / w) (x / w) same) in
-          let stays = ap length (past_same w (s.place / w) x mid.left (omega (arith, same))) in
+          let none : ◌≡◌ {A = ℕ} (if s.index / w == x / w then 0 else 1) 0 = ap (λ b. if b then 0 else 1) (eq-eqb (s.index / w) (x / w) same) in
+          let stays = ap length (past_same w (s.index / w) x mid.left (omega (arith, same))) in
           let here = ap (λ k. length (blocks_past w k mid.left)) same in
           omega (arith, rest, ahead, all, found.pulls, none, stays, here)
       | inr other ↦
-          let one : ◌≡◌ {A = ℕ} (if s.place / w == x / w then 0 else 1) 1 = ap (λ b. if b then 0 else 1) (ne_eqb (s.place / w) (x / w) (λ e. omega (arith, e, other))) in
-          let goes = ap length (past_next w (s.place / w) x mid.left (omega (arith, found.onward, other))) in
+          let one : ◌≡◌ {A = ℕ} (if s.index / w == x / w then 0 else 1) 1 = ap (λ b. if b then 0 else 1) (ne_eqb (s.index / w) (x / w) (λ e. omega (arith, e, other))) in
+          let goes = ap length (past_next w (s.index / w) x mid.left (omega (arith, found.onward, other))) in
           omega (arith, rest, ahead, all, found.pulls, one, goes)
     ]
 
 pub pulled_whole : (w : ℕ) (values : List Bool) (s t : Walk) (items : List ℕ) → 0 < w → IsAtStart w values s → YieldsThen (Advances w) s items None t → t.pulls ≡ length (blocks_past w 0 (elements values)) + 2
 pulled_whole w values s t items pos start run =
-    let first : s.place / w ≡ 0 = ap (λ n. n / w) (start.place ∙ (let e : 0 ≡ 0 * w = omega arith in e)) ∙ whole_index w 0 pos in
+    let first : s.index / w ≡ 0 = ap (λ n. n / w) (start.index ∙ (let e : 0 ≡ 0 * w = omega arith in e)) ∙ whole_index w 0 pos in
     let from = ap (λ k. length (blocks_past w k s.left)) first in
     let all = ap (λ xs. length (blocks_past w 0 xs)) start.left in
     omega (arith, pulled_sparsely w s t items pos run, start.pulls, from, all)

@@ -12,22 +12,23 @@ use Rattle.bit_words.specs.Bits.{blocks_for, blocks_of}
 use Rattle.bit_words.specs.Nonzero.{Nonzeros, PullsNonzero, nonzero_from, first_and_nonzero, ones_left}
 use Rattle.bit_words.proofs.BitsLemmas.{blocks_for-enough, blocks_for-least}
 use Rattle.bit_set.specs.Sets.{AscendsFrom, elements_from, elements}
-use Rattle.bit_set.specs.Places.{places, past_block, IsSparseWalk}
+use Rattle.bit_set.specs.Places.{indexes, past_block, IsSparseWalk}
 use Rattle.bit_set.specs.Walk.{Walk, Advances, IsAtStart}
 use Rattle.bit_set.proofs.MemberLemmas.{takes_least}
-use Rattle.bit_set.proofs.PlaceLemmas.{AscendsFrom-places, places-zero, places-next, places-lowest, length-places, length-elements-block}
-use Rattle.bit_set.proofs.WalkLemmas.{held, length-held, length-blocks, elements-held, IsWalkable-held, CanWalk-taken}
+use Rattle.bit_set.proofs.PlaceLemmas.{AscendsFrom-indexes, indexes-zero, indexes-next, indexes-lowest, length-indexes, length-elements-block}
+use Rattle.bit_set.proofs.WalkLemmas.{values_of_blocks, length-values_of_blocks, length-blocks, elements-values_of_blocks, IsWalkable-values_of_blocks, CanWalk-taken}
 
 -- ---- the first block that is not 0
 
--- Of the blocks xs, the first of which has index k, x is the first that is not 0. It has index q, and rest are those past it.
+-- Of the blocks xs, the first of which has index k, x is the first that is not 0. It has index q, and rest are those
+-- past it.
 pub record IsNext {X : Type 0} (w : ℕ) (number : X → ℕ) (k : ℕ) (xs : List X) (q : ℕ) (x : X) (rest : List (ℕ × X)) : Type 0 where
   pub by : ℕ
   pub at : q ≡ k + by
   pub here : drop by xs ≡ x ∷ drop (suc by) xs
   pub some : 0 < number x
   pub past : rest ≡ nonzero_from number (q + 1) (drop (suc by) xs)
-  pub same : (p : ℕ) → elements_from p (held w number xs) ≡ places w (p + by * w) (number x) (held w number (drop (suc by) xs))
+  pub same : (p : ℕ) → elements_from p (values_of_blocks w number xs) ≡ indexes w (p + by * w) (number x) (values_of_blocks w number (drop (suc by) xs))
 
 module _ {X : Type 0} (w : ℕ) (number : X → ℕ) where
   skipped : (k : ℕ) (x : X) (xs : List X) → number x ≡ 0 → nonzero_from number k (x ∷ xs) ≡ nonzero_from number (k + 1) xs
@@ -40,12 +41,12 @@ module _ {X : Type 0} (w : ℕ) (number : X → ℕ) where
       let t : (number x == 0) ≡ false = grind (arith, nat_tests) in
       ap (λ b. if b then nonzero_from number (k + 1) xs else (k, x) ∷ nonzero_from number (k + 1) xs) t
 
-  -- a block that is 0 has no place
-  passed : (p : ℕ) (x : X) (xs : List X) → number x ≡ 0 → elements_from p (held w number (x ∷ xs)) ≡ elements_from (p + w) (held w number xs)
+  -- a block that is 0 has no one
+  passed : (p : ℕ) (x : X) (xs : List X) → number x ≡ 0 → elements_from p (values_of_blocks w number (x ∷ xs)) ≡ elements_from (p + w) (values_of_blocks w number xs)
   passed p x xs none =
-      places-next w p (number x) (held w number (x ∷ xs)) (held w number xs) refl
-      ∙ ap (λ m. places w p m (held w number xs)) none
-      ∙ places-zero w p (held w number xs)
+      indexes-next w p (number x) (values_of_blocks w number (x ∷ xs)) (values_of_blocks w number xs) refl
+      ∙ ap (λ m. indexes w p m (values_of_blocks w number xs)) none
+      ∙ indexes-zero w p (values_of_blocks w number xs)
 
   pub next_nonzero : (k : ℕ) (xs : List X) (q : ℕ) (x : X) (rest : List (ℕ × X)) → nonzero_from number k xs ≡ (q, x) ∷ rest → IsNext w number k xs q x rest
   next_nonzero k [] q x rest is = absurd (let e = is in cc)
@@ -62,7 +63,7 @@ module _ {X : Type 0} (w : ℕ) (number : X → ℕ) where
               same = λ p.
                   passed p y ys none
                   ∙ further.same (p + w)
-                  ∙ ap (λ n. places w n (number x) (held w number (drop (suc further.by) ys))) (let e : p + w + further.by * w ≡ p + suc further.by * w = omega arith in e);
+                  ∙ ap (λ n. indexes w n (number x) (values_of_blocks w number (drop (suc further.by) ys))) (let e : p + w + further.by * w ≡ p + suc further.by * w = omega arith in e);
             }
         | inr some ↦
             let first : (k, y) ∷ nonzero_from number (k + 1) ys ≡ (q, x) ∷ rest = sym (taken k y ys (omega arith)) ∙ is in
@@ -76,14 +77,14 @@ module _ {X : Type 0} (w : ℕ) (number : X → ℕ) where
               some = subst (λ z. 0 < number z) block (omega arith);
               past = sym (ap (drop 1) first) ∙ ap (λ j. nonzero_from number (j + 1) ys) index;
               same = λ p.
-                  places-next w p (number y) (held w number (y ∷ ys)) (held w number ys) refl
-                  ∙ ap (λ z. places w p (number z) (held w number ys)) block
-                  ∙ ap (λ n. places w n (number x) (held w number ys)) (let e : p ≡ p + 0 * w = omega arith in e);
+                  indexes-next w p (number y) (values_of_blocks w number (y ∷ ys)) (values_of_blocks w number ys) refl
+                  ∙ ap (λ z. indexes w p (number z) (values_of_blocks w number ys)) block
+                  ∙ ap (λ n. indexes w n (number x) (values_of_blocks w number ys)) (let e : p ≡ p + 0 * w = omega arith in e);
             }
       ]
 
   -- where there is none, there is no place
-  pub no_nonzero : (k : ℕ) (xs : List X) → nonzero_from number k xs ≡ [] → (p : ℕ) → elements_from p (held w number xs) ≡ []
+  pub no_nonzero : (k : ℕ) (xs : List X) → nonzero_from number k xs ≡ [] → (p : ℕ) → elements_from p (values_of_blocks w number xs) ≡ []
   no_nonzero k [] is p = refl
   no_nonzero k (y ∷ ys) is p =
       elim (cases_eq (number y) 0) [
@@ -96,9 +97,9 @@ module _ {X : Type 0} (w : ℕ) (number : X → ℕ) where
 module _ {X : Type 0} (w : ℕ) (number : X → ℕ) (is_block : X → Type 0) where
   -- what contracts see of a walk that has this block in hand
   abbrev pub seen : ℕ → X → Nonzeros X → Walk
-  seen place block it =
-      let past = past_block w number place it.blocks it.pulls in
-      record { left = places w place (number block) past.values; pulls = it.pulls; place = place; blocks = past.blocks; summary_pulls = it.summary_pulls; summary_left = it.summary_left }
+  seen index block it =
+      let past = past_block w number index it.blocks it.pulls in
+      record { left = indexes w index (number block) past.values; pulls = it.pulls; index = index; blocks = past.blocks; summary_pulls = it.summary_pulls; summary_left = it.summary_left }
 
 -- a block that the test for 0 does not find
 pub not_zero : (m z : ℕ) (test : Bool) → (m ≡ z → test ≡ true) → test ≡ false → z ≡ 0 → 0 < m
@@ -108,15 +109,16 @@ not_zero m z test found is none_there =
       | inr some ↦ omega arith
     ]
 
--- From a walk s with a block at `place`, to t with one at `at` that is not 0: the same is left, and there was no pull, or one to another block.
+-- From a walk s with a block at `index`, to t with one at `at` that is not 0: the same is left, and there was no pull,
+-- or one to another block.
 pub record Reaches {X : Type 0} (w : ℕ) (number : X → ℕ) (is_block : X → Type 0) (s : Walk) (at : ℕ) (block : X) (it : Nonzeros X) (t : Walk) : Type 0 where
   pub walk : IsSparseWalk w number is_block at block it
   pub some : 0 < number block
   pub same : t.left ≡ s.left
-  pub onward : s.place / w ≤ at / w
-  pub pulls : t.pulls ≡ s.pulls + (if s.place / w == at / w then 0 else 1)
+  pub onward : s.index / w ≤ at / w
+  pub pulls : t.pulls ≡ s.pulls + (if s.index / w == at / w then 0 else 1)
   pub pulled : t.pulls + t.blocks ≤ s.pulls + s.blocks
-  pub along : at + w * t.blocks ≡ s.place + w * s.blocks
+  pub along : at + w * t.blocks ≡ s.index + w * s.blocks
   pub summary : t.summary_pulls + t.summary_left ≡ s.summary_pulls + s.summary_left
 
 -- From a walk s to its end t, in the last block.
@@ -136,29 +138,29 @@ blocks_for-some w n pos some =
     (cases_lt 0 (blocks_for w n))
 
 -- by blocks further along
-along_by : (w place at k by b c : ℕ) → place ≡ k * w → at ≡ (k + by) * w → b ≡ c + by → at + w * c ≡ place + w * b
-along_by w place at k by b c from to fewer = let product = ap (λ n. w * n) fewer in omega (arith, from, to, product)
+along_by : (w index at k by b c : ℕ) → index ≡ k * w → at ≡ (k + by) * w → b ≡ c + by → at + w * c ≡ index + w * b
+along_by w index at k by b c from to fewer = let product = ap (λ n. w * n) fewer in omega (arith, from, to, product)
 
 module _ {X : Type 0} (w : ℕ) (number : X → ℕ) (is_block : X → Type 0) (pos : 0 < w) where
-  pub stays : (place : ℕ) (block : X) (s : Nonzeros X) → IsSparseWalk w number is_block place block s → 0 < number block → Reaches w number is_block (seen w number is_block place block s) place block s (seen w number is_block place block s)
-  stays place block s is some = record {
+  pub stays : (index : ℕ) (block : X) (s : Nonzeros X) → IsSparseWalk w number is_block index block s → 0 < number block → Reaches w number is_block (seen w number is_block index block s) index block s (seen w number is_block index block s)
+  stays index block s is some = record {
     walk = is;
     some = some;
     same = refl;
     onward = omega arith;
-    pulls = let t : (place / w == place / w) ≡ true = grind (arith, nat_tests) in (let e : s.pulls ≡ s.pulls + 0 = omega arith in e) ∙ ap (λ b. s.pulls + (if b then 0 else 1)) (sym t);
+    pulls = let t : (index / w == index / w) ≡ true = grind (arith, nat_tests) in (let e : s.pulls ≡ s.pulls + 0 = omega arith in e) ∙ ap (λ b. s.pulls + (if b then 0 else 1)) (sym t);
     pulled = omega arith;
     along = refl;
     summary = refl;
   }
 
-  pub jumps : (place q : ℕ) (block x : X) (s t : Nonzeros X) → IsSparseWalk w number is_block place block s → number block ≡ 0 → PullsNonzero s (Some (q, x)) t → Reaches w number is_block (seen w number is_block place block s) (q * w) x t (seen w number is_block (q * w) x t)
-  jumps place q block x s t is used_up pull =
-      let k = place / w in
+  pub jumps : (index q : ℕ) (block x : X) (s t : Nonzeros X) → IsSparseWalk w number is_block index block s → number block ≡ 0 → PullsNonzero s (Some (q, x)) t → Reaches w number is_block (seen w number is_block index block s) (q * w) x t (seen w number is_block (q * w) x t)
+  jumps index q block x s t is used_up pull =
+      let k = index / w in
       let xs = drop (k + 1) s.blocks in
       let next = next_nonzero w number (k + 1) xs q x t.left (sym is.left ∙ pull.item) in
-      let index = whole_index w q pos in
-      let count : q * w / w + 1 ≡ k + 1 + suc next.by = omega (arith, index, next.at) in
+      let index_is = whole_index w q pos in
+      let count : q * w / w + 1 ≡ k + 1 + suc next.by = omega (arith, index_is, next.at) in
       let rest = drop (q * w / w + 1) t.blocks in
       let past : drop (suc next.by) xs ≡ rest = drop-drop (suc next.by) (k + 1) s.blocks ∙ ap (λ n. drop n s.blocks) (sym count) ∙ ap (drop (q * w / w + 1)) (sym pull.same) in
       let here = ap length next.here in
@@ -167,24 +169,24 @@ module _ {X : Type 0} (w : ℕ) (number : X → ℕ) (is_block : X → Type 0) (
       let behind : length rest ≡ length t.blocks - (q * w / w + 1) = length-drop (q * w / w + 1) t.blocks in
       let all = ap length pull.same in
       let fewer : length xs ≡ length rest + suc next.by = omega (arith, here, long, ahead, behind, all, count) in
-      let at_place : q * w ≡ (k + suc next.by) * w = ap (λ n. n * w) (let e : q ≡ k + suc next.by = omega (arith, next.at) in e) in
-      let along = along_by w place (q * w) k (suc next.by) (length xs) (length rest) is.whole at_place fewer in
-      let same : places w (q * w) (number x) (held w number rest) ≡ places w place (number block) (held w number xs) =
+      let at_index : q * w ≡ (k + suc next.by) * w = ap (λ n. n * w) (let e : q ≡ k + suc next.by = omega (arith, next.at) in e) in
+      let along = along_by w index (q * w) k (suc next.by) (length xs) (length rest) is.whole at_index fewer in
+      let same : indexes w (q * w) (number x) (values_of_blocks w number rest) ≡ indexes w index (number block) (values_of_blocks w number xs) =
       sym (
-      ap (λ m. places w place m (held w number xs)) used_up
-      ∙ places-zero w place (held w number xs)
-      ∙ next.same (place + w)
-      ∙ ap (λ n. places w n (number x) (held w number (drop (suc next.by) xs))) (let e : place + w + next.by * w ≡ q * w = omega (arith, is.whole, at_place) in e)
-      ∙ ap (λ ys. places w (q * w) (number x) (held w number ys)) past) in
+      ap (λ m. indexes w index m (values_of_blocks w number xs)) used_up
+      ∙ indexes-zero w index (values_of_blocks w number xs)
+      ∙ next.same (index + w)
+      ∙ ap (λ n. indexes w n (number x) (values_of_blocks w number (drop (suc next.by) xs))) (let e : index + w + next.by * w ≡ q * w = omega (arith, is.whole, at_index) in e)
+      ∙ ap (λ ys. indexes w (q * w) (number x) (values_of_blocks w number ys)) past) in
       record {
         walk = record {
           in_hand = All-head is_block x (drop (suc next.by) xs) (subst (All is_block) next.here (All-drop is_block next.by xs (All-drop is_block (k + 1) s.blocks is.each)));
           each = subst (All is_block) (sym pull.same) is.each;
-          left = next.past ∙ ap (nonzero_from number (q + 1)) past ∙ ap (λ n. nonzero_from number (n + 1) rest) (sym index);
-          whole = sym (ap (λ n. n * w) index);
-          inside = omega (arith, fewer, ahead, index, next.at, all);
+          left = next.past ∙ ap (nonzero_from number (q + 1)) past ∙ ap (λ n. nonzero_from number (n + 1) rest) (sym index_is);
+          whole = sym (ap (λ n. n * w) index_is);
+          inside = omega (arith, fewer, ahead, index_is, next.at, all);
           can = record {
-            long = length-held w number rest;
+            long = length-values_of_blocks w number rest;
             fits = omega (arith, along, is.can.fits);
             below = subst (All (λ n. n < 2 ^ 64)) (sym same) is.can.below;
             few = subst (λ ys. length ys < 2 ^ 64) (sym same) is.can.few;
@@ -192,38 +194,38 @@ module _ {X : Type 0} (w : ℕ) (number : X → ℕ) (is_block : X → Type 0) (
         };
         some = next.some;
         same = same;
-        onward = omega (arith, index, next.at);
-        pulls = let t : (k == q * w / w) ≡ false = grind (arith, nat_tests, index, next.at) in pull.counted ∙ ap (λ b. s.pulls + (if b then 0 else 1)) (sym t);
+        onward = omega (arith, index_is, next.at);
+        pulls = let t : (k == q * w / w) ≡ false = grind (arith, nat_tests, index_is, next.at) in pull.counted ∙ ap (λ b. s.pulls + (if b then 0 else 1)) (sym t);
         pulled = omega (arith, pull.counted, fewer);
         along = along;
         summary = pull.summary;
       }
 
-  pub ends : (place last : ℕ) (block : X) (s t : Nonzeros X) → IsSparseWalk w number is_block place block s → number block ≡ 0 → PullsNonzero s None t → last ≡ (length t.blocks - 1) * w → Ends w number is_block (seen w number is_block place block s) last block t (seen w number is_block last block t)
-  ends place last block s t is used_up pull at =
-      let k = place / w in
+  pub ends : (index last : ℕ) (block : X) (s t : Nonzeros X) → IsSparseWalk w number is_block index block s → number block ≡ 0 → PullsNonzero s None t → last ≡ (length t.blocks - 1) * w → Ends w number is_block (seen w number is_block index block s) last block t (seen w number is_block last block t)
+  ends index last block s t is used_up pull at =
+      let k = index / w in
       let n = length t.blocks - 1 in
       let xs = drop (k + 1) s.blocks in
-      let index : last / w ≡ n = ap (λ j. j / w) at ∙ whole_index w n pos in
+      let index_is : last / w ≡ n = ap (λ j. j / w) at ∙ whole_index w n pos in
       let rest = drop (last / w + 1) t.blocks in
-      let none : rest ≡ [] = drop_all (last / w + 1) t.blocks (omega (arith, index)) in
+      let none : rest ≡ [] = drop_all (last / w + 1) t.blocks (omega (arith, index_is)) in
       let no_block : length rest ≡ 0 = ap length none in
       let ahead : length xs ≡ length s.blocks - (k + 1) = length-drop (k + 1) s.blocks in
       let all = ap length pull.same in
       let further : length xs ≡ length rest + (n - k) = omega (arith, ahead, all, no_block) in
-      let at_place : last ≡ (k + (n - k)) * w = at ∙ ap (λ j. j * w) (let e : n ≡ k + (n - k) = omega (arith, is.inside, all) in e) in
-      let along = along_by w place last k (n - k) (length xs) (length rest) is.whole at_place further in
-      let ended : places w last (number block) (held w number rest) ≡ [] =
-      ap (λ m. places w last m (held w number rest)) used_up ∙ places-zero w last (held w number rest) ∙ ap (λ ys. elements_from (last + w) (held w number ys)) none in
+      let at_index : last ≡ (k + (n - k)) * w = at ∙ ap (λ j. j * w) (let e : n ≡ k + (n - k) = omega (arith, is.inside, all) in e) in
+      let along = along_by w index last k (n - k) (length xs) (length rest) is.whole at_index further in
+      let ended : indexes w last (number block) (values_of_blocks w number rest) ≡ [] =
+      ap (λ m. indexes w last m (values_of_blocks w number rest)) used_up ∙ indexes-zero w last (values_of_blocks w number rest) ∙ ap (λ ys. elements_from (last + w) (values_of_blocks w number ys)) none in
       record {
         walk = record {
           in_hand = is.in_hand;
           each = subst (All is_block) (sym pull.same) is.each;
           left = pull.item.1 ∙ ap (nonzero_from number (last / w + 1)) (sym none);
-          whole = at ∙ ap (λ j. j * w) (sym index);
-          inside = omega (arith, index);
+          whole = at ∙ ap (λ j. j * w) (sym index_is);
+          inside = omega (arith, index_is);
           can = record {
-            long = length-held w number rest;
+            long = length-values_of_blocks w number rest;
             fits = omega (arith, along, is.can.fits);
             below = subst (All (λ j. j < 2 ^ 64)) (sym ended) (All-nil (λ j. j < 2 ^ 64));
             few = subst (λ ys. length ys < 2 ^ 64) (sym ended) (omega arith);
@@ -231,7 +233,7 @@ module _ {X : Type 0} (w : ℕ) (number : X → ℕ) (is_block : X → Type 0) (
         };
         steps = record {
           item = (
-            ap (λ m. places w place m (held w number xs)) used_up ∙ places-zero w place (held w number xs) ∙ no_nonzero w number (k + 1) xs (sym is.left ∙ pull.item.0) (place + w),
+            ap (λ m. indexes w index m (values_of_blocks w number xs)) used_up ∙ indexes-zero w index (values_of_blocks w number xs) ∙ no_nonzero w number (k + 1) xs (sym is.left ∙ pull.item.0) (index + w),
             ended,
           );
           first = tt;
@@ -245,32 +247,32 @@ module _ {X : Type 0} (w : ℕ) (number : X → ℕ) (is_block : X → Type 0) (
       }
 
   -- the lowest one of the block that was reached is taken
-  pub taken_walk : (place i : ℕ) (block r : X) (it : Nonzeros X) → IsSparseWalk w number is_block place block it → is_block r → IsLowest (number block) i → i < w → IsCleared w (number block) i (number r) → IsSparseWalk w number is_block place r it
-  taken_walk place i block r it is lawful low within cleared = record {
+  pub taken_walk : (index i : ℕ) (block r : X) (it : Nonzeros X) → IsSparseWalk w number is_block index block it → is_block r → IsLowest (number block) i → i < w → IsCleared w (number block) i (number r) → IsSparseWalk w number is_block index r it
+  taken_walk index i block r it is lawful low within cleared = record {
     in_hand = lawful;
     each = is.each;
     left = is.left;
     whole = is.whole;
     inside = is.inside;
-    can = CanWalk-taken w place (number block) (number r) i (past_block w number place it.blocks it.pulls) is.can low within cleared;
+    can = CanWalk-taken w index (number block) (number r) i (past_block w number index it.blocks it.pulls) is.can low within cleared;
   }
 
-  pub gives : (s : Walk) (place i : ℕ) (block r : X) (it : Nonzeros X) → Reaches w number is_block s place block it (seen w number is_block place block it) → IsLowest (number block) i → i < w → IsCleared w (number block) i (number r) → Advances w s (Some (place + i)) (seen w number is_block place r it)
-  gives s place i block r it to low within cleared =
-      let index : (place + i) / w ≡ place / w = ap (λ n. (n + i) / w) to.walk.whole ∙ div-mul-add (place / w) w i within in
-      let ahead = (past_block w number place it.blocks it.pulls).values in
-      let item : s.left ≡ (place + i) ∷ places w place (number r) ahead = sym to.same ∙ places-lowest w place (number block) (number r) i ahead low within cleared in
+  pub gives : (s : Walk) (index i : ℕ) (block r : X) (it : Nonzeros X) → Reaches w number is_block s index block it (seen w number is_block index block it) → IsLowest (number block) i → i < w → IsCleared w (number block) i (number r) → Advances w s (Some (index + i)) (seen w number is_block index r it)
+  gives s index i block r it to low within cleared =
+      let index_is : (index + i) / w ≡ index / w = ap (λ n. (n + i) / w) to.walk.whole ∙ div-mul-add (index / w) w i within in
+      let ahead = (past_block w number index it.blocks it.pulls).values in
+      let item : s.left ≡ (index + i) ∷ indexes w index (number r) ahead = sym to.same ∙ indexes-lowest w index (number block) (number r) i ahead low within cleared in
       record {
         item = item;
-        first = takes_least place s.left (place + i) _ (subst (AscendsFrom place) to.same (AscendsFrom-places w place (number block) ahead)) item;
+        first = takes_least index s.left (index + i) _ (subst (AscendsFrom index) to.same (AscendsFrom-indexes w index (number block) ahead)) item;
         goes_on = omega (arith, to.pulls);
         pulled = to.pulled;
         along = to.along;
         at = (omega arith, omega (arith, within));
         sparse = record {
-          onward = omega (arith, to.onward, index);
-          place = to.walk.whole ∙ ap (λ n. n * w) (sym index);
-          pulls = to.pulls ∙ ap (λ n. s.pulls + (if s.place / w == n then 0 else 1)) (sym index);
+          onward = omega (arith, to.onward, index_is);
+          index = to.walk.whole ∙ ap (λ n. n * w) (sym index_is);
+          pulls = to.pulls ∙ ap (λ n. s.pulls + (if s.index / w == n then 0 else 1)) (sym index_is);
         };
         summary = to.summary;
       }
@@ -294,34 +296,34 @@ pub record IsFresh {X : Type 0} (w : ℕ) (number : X → ℕ) (is_block : X →
 
 module _ {X : Type 0} (w : ℕ) (number : X → ℕ) (is_block : X → Type 0) (pos : 0 < w) where
   begins : (values : List Bool) (block : X) (s t : Nonzeros X) → IsFresh w number is_block values s → t.blocks ≡ s.blocks → t.pulls ≡ s.pulls + 1 → is_block block → t.left ≡ nonzero_from number 1 (drop 1 s.blocks)
-      → places w 0 (number block) (held w number (drop 1 s.blocks)) ≡ elements (held w number s.blocks)
+      → indexes w 0 (number block) (values_of_blocks w number (drop 1 s.blocks)) ≡ elements (values_of_blocks w number s.blocks)
       → t.summary_pulls + t.summary_left ≡ max 1 (blocks_for w (blocks_for w (length values)))
       → Begins w number is_block values block t (seen w number is_block 0 block t)
   begins values block s t is same counted lawful left all summary =
-      let index : 0 / w ≡ 0 = ap (λ n. n / w) (let e : 0 ≡ 0 * w = omega arith in e) ∙ whole_index w 0 pos in
-      let past : drop (0 / w + 1) t.blocks ≡ drop 1 s.blocks = ap (λ n. drop (n + 1) t.blocks) index ∙ ap (drop 1) same in
-      let can = IsWalkable-held w number s.blocks values 0 pos is.numbers is.fits in
-      let there : places w 0 (number block) (held w number (drop (0 / w + 1) t.blocks)) ≡ elements (held w number s.blocks) = ap (λ ys. places w 0 (number block) (held w number ys)) past ∙ all in
-      let few : length (places w 0 (number block) (held w number (drop (0 / w + 1) t.blocks))) < 2 ^ 64 = subst (λ ys. length ys < 2 ^ 64) (sym there) can.few in
+      let index_is : 0 / w ≡ 0 = ap (λ n. n / w) (let e : 0 ≡ 0 * w = omega arith in e) ∙ whole_index w 0 pos in
+      let past : drop (0 / w + 1) t.blocks ≡ drop 1 s.blocks = ap (λ n. drop (n + 1) t.blocks) index_is ∙ ap (drop 1) same in
+      let can = IsWalkable-values_of_blocks w number s.blocks values 0 pos is.numbers is.fits in
+      let there : indexes w 0 (number block) (values_of_blocks w number (drop (0 / w + 1) t.blocks)) ≡ elements (values_of_blocks w number s.blocks) = ap (λ ys. indexes w 0 (number block) (values_of_blocks w number ys)) past ∙ all in
+      let few : length (indexes w 0 (number block) (values_of_blocks w number (drop (0 / w + 1) t.blocks))) < 2 ^ 64 = subst (λ ys. length ys < 2 ^ 64) (sym there) can.few in
       let count : length (drop (0 / w + 1) t.blocks) ≡ length s.blocks - 1 = ap length past ∙ length-drop 1 s.blocks in
       record {
         walk = record {
           in_hand = lawful;
           each = subst (All is_block) (sym same) is.each;
-          left = left ∙ ap (nonzero_from number 1) (sym past) ∙ ap (λ n. nonzero_from number (n + 1) (drop (0 / w + 1) t.blocks)) (sym index);
-          whole = (let e : 0 ≡ 0 * w = omega arith in e) ∙ ap (λ n. n * w) (sym index);
-          inside = omega (arith, index);
+          left = left ∙ ap (nonzero_from number 1) (sym past) ∙ ap (λ n. nonzero_from number (n + 1) (drop (0 / w + 1) t.blocks)) (sym index_is);
+          whole = (let e : 0 ≡ 0 * w = omega arith in e) ∙ ap (λ n. n * w) (sym index_is);
+          inside = omega (arith, index_is);
           can = record {
-            long = length-held w number (drop (0 / w + 1) t.blocks);
+            long = length-values_of_blocks w number (drop (0 / w + 1) t.blocks);
             fits = let product = ap (λ n. w * n) count in omega (arith, product, can.fits);
             below = subst (All (λ n. n < 2 ^ 64)) (sym there) can.below;
             few = few;
           };
         };
         start = record {
-          left = there ∙ elements-held w number s.blocks values pos is.numbers;
+          left = there ∙ elements-values_of_blocks w number s.blocks values pos is.numbers;
           pulls = omega (arith, counted, is.pulls);
-          place = refl;
+          index = refl;
           blocks = count ∙ ap (λ n. n - 1) (length-blocks w number s.blocks values is.numbers);
           summary = summary;
           few = few;
@@ -339,12 +341,12 @@ module _ {X : Type 0} (w : ℕ) (number : X → ℕ) (is_block : X → Type 0) (
           let block : y ≡ x = ap (λ p. p.1) here in
           let rest : ys ≡ drop 1 s.blocks = sym (ap (drop 1) at) in
           let some : 1 ≤ blocks_for w (length values) = let n = ap length at in let m = length-blocks w number s.blocks values is.numbers in omega (arith, n, m) in
-          let sums = blocks_for-some w (blocks_for w (length values)) pos some in
+          let summary_blocks = blocks_for-some w (blocks_for w (length values)) pos some in
           begins values x s t is pull.same pull.counted
           (All-head is_block x (drop 1 s.blocks) (subst (All is_block) (at ∙ ap (λ z. z ∷ ys) block ∙ ap (λ zs. x ∷ zs) rest) is.each))
           (sym (ap (drop 1) pair) ∙ ap (nonzero_from number 1) rest)
-          (sym (ap (λ zs. elements (held w number zs)) at ∙ places-next w 0 (number y) (held w number (y ∷ ys)) (held w number ys) refl ∙ ap (λ z. places w 0 (number z) (held w number ys)) block ∙ ap (λ zs. places w 0 (number x) (held w number zs)) rest))
-          (omega (arith, pull.summary, is.summary_pulls, is.summary_left, sums))
+          (sym (ap (λ zs. elements (values_of_blocks w number zs)) at ∙ indexes-next w 0 (number y) (values_of_blocks w number (y ∷ ys)) (values_of_blocks w number ys) refl ∙ ap (λ z. indexes w 0 (number z) (values_of_blocks w number ys)) block ∙ ap (λ zs. indexes w 0 (number x) (values_of_blocks w number zs)) rest))
+          (omega (arith, pull.summary, is.summary_pulls, is.summary_left, summary_blocks))
 
   pub begins_empty : (values : List Bool) (none : X) (s t : Nonzeros X) → IsFresh w number is_block values s → PullsNonzero s None t → is_block none → number none ≡ 0 → Begins w number is_block values none t (seen w number is_block 0 none t)
   begins_empty values none s t is pull lawful no_one = first s.blocks refl (sym is.left ∙ pull.item.0)
@@ -355,7 +357,7 @@ module _ {X : Type 0} (w : ℕ) (number : X → ℕ) (is_block : X → Type 0) (
           let no_sum : blocks_for w (blocks_for w (length values)) ≤ 0 = blocks_for-least w (blocks_for w (length values)) 0 pos (omega (arith, no_block)) in
           begins values none s t is pull.same pull.counted lawful
           (pull.item.1 ∙ ap (λ zs. nonzero_from number 1 (drop 1 zs)) (sym at))
-          (ap (λ zs. places w 0 (number none) (held w number (drop 1 zs))) at ∙ ap (λ m. places w 0 m []) no_one ∙ places-zero w 0 [] ∙ ap (λ zs. elements (held w number zs)) (sym at))
+          (ap (λ zs. indexes w 0 (number none) (values_of_blocks w number (drop 1 zs))) at ∙ ap (λ m. indexes w 0 m []) no_one ∙ indexes-zero w 0 [] ∙ ap (λ zs. elements (values_of_blocks w number zs)) (sym at))
           (omega (arith, pull.summary, is.summary_pulls, is.summary_left, no_sum))
       first (y ∷ ys) at found = absurd (let e = sym (ap (first_and_nonzero number) at) ∙ found in cc)
 
@@ -363,11 +365,11 @@ module _ {X : Type 0} (w : ℕ) (number : X → ℕ) (is_block : X → Type 0) (
 
 module _ {X : Type 0} (w : ℕ) (number : X → ℕ) (is_block : X → Type 0) (small : (x : X) → is_block x → number x < 2 ^ w) where
   -- the blocks that are 0 have no ones
-  ones_of_nonzero : (k : ℕ) (xs : List X) → All is_block xs → ones_left number (nonzero_from number k xs) ≡ length (elements (held w number xs))
+  ones_of_nonzero : (k : ℕ) (xs : List X) → All is_block xs → ones_left number (nonzero_from number k xs) ≡ length (elements (values_of_blocks w number xs))
   ones_of_nonzero k [] each = refl
   ones_of_nonzero k (y ∷ ys) each =
       let rest = ones_of_nonzero (k + 1) ys (All-tail is_block y ys each) in
-      let block = length-elements-block w (number y) (held w number ys) (small y (All-head is_block y ys each)) in
+      let block = length-elements-block w (number y) (values_of_blocks w number ys) (small y (All-head is_block y ys each)) in
       elim (cases_eq (number y) 0) [
         | inl none ↦
             let few = ones_le_self (number y) in
@@ -379,9 +381,9 @@ module _ {X : Type 0} (w : ℕ) (number : X → ℕ) (is_block : X → Type 0) (
       ]
 
   -- those of the block in hand and of the blocks past it
-  pub ones_ahead : (place : ℕ) (block : X) (it : Nonzeros X) → IsSparseWalk w number is_block place block it → count_ones (number block) + ones_left number it.left ≡ length (seen w number is_block place block it).left
-  ones_ahead place block it is =
-      let xs = drop (place / w + 1) it.blocks in
-      let past = ap (ones_left number) is.left ∙ ones_of_nonzero (place / w + 1) xs (All-drop is_block (place / w + 1) it.blocks is.each) in
-      let all = length-places w place (number block) (held w number xs) (small block is.in_hand) in
+  pub ones_ahead : (index : ℕ) (block : X) (it : Nonzeros X) → IsSparseWalk w number is_block index block it → count_ones (number block) + ones_left number it.left ≡ length (seen w number is_block index block it).left
+  ones_ahead index block it is =
+      let xs = drop (index / w + 1) it.blocks in
+      let past = ap (ones_left number) is.left ∙ ones_of_nonzero (index / w + 1) xs (All-drop is_block (index / w + 1) it.blocks is.each) in
+      let all = length-indexes w index (number block) (values_of_blocks w number xs) (small block is.in_hand) in
       omega (arith, past, all)

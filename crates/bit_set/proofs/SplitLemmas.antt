@@ -15,7 +15,7 @@ has-those_from s n m = has-filter (λ x. nat_le n x) s m
 pub IsAscending-those_from : (s : List ℕ) (n : ℕ) → IsAscending s → IsAscending (those_from s n)
 IsAscending-those_from s n up = AscendsFrom-filter 0 (λ x. nat_le n x) s up
 
--- ---- the part of a list that stands on a bit vector
+-- ---- the part of a list that a bit vector keeps
 
 get_or-tail : (bs : List Bool) (n k : ℕ) → get_or (replicate n false ++ drop n bs) k false ≡ (nat_le n k && get_or bs k false)
 get_or-tail bs n k =
@@ -100,7 +100,7 @@ apart s at m n low high =
 pub disjoint : (s : List ℕ) (at : ℕ) → IsTrue (is_disjoint (those_below s at) (those_from s at))
 disjoint s at = (is_disjoint-members (those_below s at) (those_from s at)).1 (λ n low high. let l = apart s at n n low high in absurd (omega arith))
 
--- the list is as it was once what was handed out is put in again
+-- the list is as it was once what was returned is put in again
 pub rejoined : (a b c d : List Bool) (at : ℕ) → elements b ≡ those_below (elements a) at → length b ≡ min (length a) at → elements c ≡ those_from (elements a) at → length c ≡ (if nat_lt at (length a) then length a else 0) → elements d ≡ union (elements b) (elements c) → length d ≡ max (length b) (length c) → d ≡ a
 rejoined a b c d at first first_length second second_length both both_length =
     same_values d a

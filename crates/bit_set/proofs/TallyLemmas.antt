@@ -1,16 +1,16 @@
--- How many ones rows of blocks have, block by block and side by side.
+-- How many ones slices of blocks have, block by block and side by side.
 use Rattle.std.proofs.Common.{◌≡◌, ℕ, ◌+◌, ◌-◌, ◌*◌, ◌^◌, min, ◌<◌, ◌≤◌, ◌⊎◌, Bool, true, false, List, [], ◌∷◌, ◌++◌, map, length, get_or, take, take_all, drop, count_ones, refl, sym, ap, ◌∙◌, inl, inr, arith}
 use Rattle.std.proofs.lemmas.List.{at_drop_more, map-append, take-append-drop, length-take-le, length-drop, drop_all}
 use Rattle.std.proofs.lemmas.Bool.{cases_lt}
 use Rattle.std.proofs.lemmas.Grind.{flat_map-append}
-use Rattle.bit_words.specs.Merges.{merged_value, merged}
-use Rattle.bit_words.specs.declared.bit_vec.merge.Merge.{Merge}
+use Rattle.bit_words.specs.Merges.{merge_of_values, merge_of}
+use Rattle.bit_words.specs.declared.block.merge.Merge.{Merge}
 use Rattle.bit_words.specs.Digits.{is_one}
 use Rattle.bit_words.proofs.Masks.{is_one-zero}
 use Rattle.bit_set.specs.Sets.{elements_from, elements}
 use Rattle.bit_set.specs.Places.{digits_from, values_in, IsMergedBlock}
 use Rattle.bit_set.proofs.SetLemmas.{length-elements_from_both}
-use Rattle.bit_set.proofs.WalkLemmas.{held, length-held, count_more}
+use Rattle.bit_set.proofs.WalkLemmas.{values_of_blocks, length-values_of_blocks, count_more}
 use Rattle.bit_set.proofs.PairLemmas.{both_held, same_held, both_digits, first_digits, second_digits}
 
 -- ---- lists of truth values
@@ -20,27 +20,27 @@ length-elements_from-append p [] ys = length-elements_from_both p 0 ys ∙ omega
 length-elements_from-append p (true ∷ xs) ys = let rest = length-elements_from-append (p + 1) xs ys in omega (arith, rest)
 length-elements_from-append p (false ∷ xs) ys = length-elements_from-append (p + 1) xs ys
 
-merged-append : (merge : Merge) (xs xs' ys ys' : List Bool) → length xs ≡ length ys → merged merge (xs ++ xs') (ys ++ ys') ≡ merged merge xs ys ++ merged merge xs' ys'
+merged-append : (merge : Merge) (xs xs' ys ys' : List Bool) → length xs ≡ length ys → merge_of merge (xs ++ xs') (ys ++ ys') ≡ merge_of merge xs ys ++ merge_of merge xs' ys'
 merged-append merge [] xs' [] ys' same = refl
 merged-append merge [] xs' (y ∷ ys) ys' same = absurd (omega (arith, same))
 merged-append merge (x ∷ xs) xs' [] ys' same = absurd (omega (arith, same))
-merged-append merge (x ∷ xs) xs' (y ∷ ys) ys' same = ap (λ bs. merged_value merge x y ∷ bs) (merged-append merge xs xs' ys ys' (omega (arith, same)))
+merged-append merge (x ∷ xs) xs' (y ∷ ys) ys' same = ap (λ bs. merge_of_values merge x y ∷ bs) (merged-append merge xs xs' ys ys' (omega (arith, same)))
 
--- ---- rows of blocks
+-- ---- slices of blocks
 
 module _ {X : Type 0} (w : ℕ) (number : X → ℕ) where
-  -- a row from one block on
-  row_step : (xs : List X) (i : ℕ) (x : X) → i < length xs → x ≡ get_or xs i x → held w number (drop i xs) ≡ digits_from (number x) 0 w ++ held w number (drop (i + 1) xs)
+  -- a slice from one block on
+  row_step : (xs : List X) (i : ℕ) (x : X) → i < length xs → x ≡ get_or xs i x → values_of_blocks w number (drop i xs) ≡ digits_from (number x) 0 w ++ values_of_blocks w number (drop (i + 1) xs)
   row_step xs i x within is =
-      at_drop_more (held w number) xs i x within ∙ ap (λ y. digits_from (number y) 0 w ++ held w number (drop (i + 1) xs)) (sym is)
+      at_drop_more (values_of_blocks w number) xs i x within ∙ ap (λ y. digits_from (number y) 0 w ++ values_of_blocks w number (drop (i + 1) xs)) (sym is)
 
 module _ {X : Type 0} (w : ℕ) (number : X → ℕ) (merge : Merge) where
   rows_step : (xs ys : List X) (i : ℕ) (a b : X) (r : ℕ) → i < length xs → i < length ys → a ≡ get_or xs i a → b ≡ get_or ys i b → IsMergedBlock w merge (number a) (number b) r
       → both_held w number merge (drop i xs) (drop i ys) ≡ digits_from r 0 w ++ both_held w number merge (drop (i + 1) xs) (drop (i + 1) ys)
   rows_step xs ys i a b r first second a_is b_is both =
-      ap (λ bs. merged merge bs (held w number (drop i ys))) (row_step w number xs i a first a_is)
-      ∙ ap (λ bs. merged merge (digits_from (number a) 0 w ++ held w number (drop (i + 1) xs)) bs) (row_step w number ys i b second b_is)
-      ∙ both_digits merge (number a) (number b) r 0 w (held w number (drop (i + 1) xs)) (held w number (drop (i + 1) ys)) (λ j low high. both.digit j (omega arith))
+      ap (λ bs. merge_of merge bs (values_of_blocks w number (drop i ys))) (row_step w number xs i a first a_is)
+      ∙ ap (λ bs. merge_of merge (digits_from (number a) 0 w ++ values_of_blocks w number (drop (i + 1) xs)) bs) (row_step w number ys i b second b_is)
+      ∙ both_digits merge (number a) (number b) r 0 w (values_of_blocks w number (drop (i + 1) xs)) (values_of_blocks w number (drop (i + 1) ys)) (λ j low high. both.digit j (omega arith))
 
   pub rows_counted : (xs ys : List X) (i : ℕ) (a b : X) (r ones more total : ℕ) → i < length xs → i < length ys → a ≡ get_or xs i a → b ≡ get_or ys i b → IsMergedBlock w merge (number a) (number b) r
       → ones + length (elements (both_held w number merge (drop i xs) (drop i ys))) ≡ total → r < 2 ^ w → more ≡ count_ones r
@@ -48,48 +48,48 @@ module _ {X : Type 0} (w : ℕ) (number : X → ℕ) (merge : Merge) where
   rows_counted xs ys i a b r ones more total first second a_is b_is both before small same =
       count_more w r (both_held w number merge (drop i xs) (drop i ys)) (both_held w number merge (drop (i + 1) xs) (drop (i + 1) ys)) ones more total (rows_step xs ys i a b r first second a_is b_is both) before small same
 
-  -- two rows are cut at one place
-  held-append : (xs ys : List X) → held w number (xs ++ ys) ≡ held w number xs ++ held w number ys
-  held-append xs ys = ap (values_in w) (map-append number xs ys) ∙ flat_map-append (λ m. digits_from m 0 w) (map number xs) (map number ys)
+  -- two slices are cut at one place
+  values_of_blocks-append : (xs ys : List X) → values_of_blocks w number (xs ++ ys) ≡ values_of_blocks w number xs ++ values_of_blocks w number ys
+  values_of_blocks-append xs ys = ap (values_in w) (map-append number xs ys) ∙ flat_map-append (λ m. digits_from m 0 w) (map number xs) (map number ys)
 
   pub rows_cut : (xs xs' ys ys' : List X) → length xs ≡ length ys
       → length (elements (both_held w number merge (xs ++ xs') (ys ++ ys'))) ≡ length (elements (both_held w number merge xs ys)) + length (elements (both_held w number merge xs' ys'))
   rows_cut xs xs' ys ys' same =
-      let long : length (held w number xs) ≡ length (held w number ys) = length-held w number xs ∙ ap (λ n. n * w) same ∙ sym (length-held w number ys) in
-      ap (λ bs. length (elements (merged merge bs (held w number (ys ++ ys'))))) (held-append xs xs')
-      ∙ ap (λ bs. length (elements (merged merge (held w number xs ++ held w number xs') bs))) (held-append ys ys')
-      ∙ ap (λ bs. length (elements bs)) (merged-append merge (held w number xs) (held w number xs') (held w number ys) (held w number ys') long)
+      let long : length (values_of_blocks w number xs) ≡ length (values_of_blocks w number ys) = length-values_of_blocks w number xs ∙ ap (λ n. n * w) same ∙ sym (length-values_of_blocks w number ys) in
+      ap (λ bs. length (elements (merge_of merge bs (values_of_blocks w number (ys ++ ys'))))) (values_of_blocks-append xs xs')
+      ∙ ap (λ bs. length (elements (merge_of merge (values_of_blocks w number xs ++ values_of_blocks w number xs') bs))) (values_of_blocks-append ys ys')
+      ∙ ap (λ bs. length (elements bs)) (merged-append merge (values_of_blocks w number xs) (values_of_blocks w number xs') (values_of_blocks w number ys) (values_of_blocks w number ys') long)
       ∙ length-elements_from-append 0 (both_held w number merge xs ys) (both_held w number merge xs' ys')
 
   -- a row of one side, merged with zeros
   pub first_counted : (xs : List X) (i : ℕ) (a : X) (none r ones more total : ℕ) → i < length xs → a ≡ get_or xs i a → none ≡ 0 → IsMergedBlock w merge (number a) none r
-      → ones + length (elements (merged merge (held w number (drop i xs)) [])) ≡ total → r < 2 ^ w → more ≡ count_ones r
-      → ones + more + length (elements (merged merge (held w number (drop (i + 1) xs)) [])) ≡ total
+      → ones + length (elements (merge_of merge (values_of_blocks w number (drop i xs)) [])) ≡ total → r < 2 ^ w → more ≡ count_ones r
+      → ones + more + length (elements (merge_of merge (values_of_blocks w number (drop (i + 1) xs)) [])) ≡ total
   first_counted xs i a none r ones more total within is zero block before small same =
-      count_more w r (merged merge (held w number (drop i xs)) []) (merged merge (held w number (drop (i + 1) xs)) []) ones more total
-      (ap (λ bs. merged merge bs []) (row_step w number xs i a within is)
-      ∙ first_digits merge (number a) r 0 w (held w number (drop (i + 1) xs)) (λ j low high. block.digit j (omega arith) ∙ ap (λ k. merged_value merge (is_one (number a) j) (is_one k j)) zero ∙ ap (merged_value merge (is_one (number a) j)) (is_one-zero j)))
+      count_more w r (merge_of merge (values_of_blocks w number (drop i xs)) []) (merge_of merge (values_of_blocks w number (drop (i + 1) xs)) []) ones more total
+      (ap (λ bs. merge_of merge bs []) (row_step w number xs i a within is)
+      ∙ first_digits merge (number a) r 0 w (values_of_blocks w number (drop (i + 1) xs)) (λ j low high. block.digit j (omega arith) ∙ ap (λ k. merge_of_values merge (is_one (number a) j) (is_one k j)) zero ∙ ap (merge_of_values merge (is_one (number a) j)) (is_one-zero j)))
       before small same
 
   pub second_counted : (ys : List X) (i : ℕ) (b : X) (none r ones more total : ℕ) → i < length ys → b ≡ get_or ys i b → none ≡ 0 → IsMergedBlock w merge none (number b) r
-      → ones + length (elements (merged merge [] (held w number (drop i ys)))) ≡ total → r < 2 ^ w → more ≡ count_ones r
-      → ones + more + length (elements (merged merge [] (held w number (drop (i + 1) ys)))) ≡ total
+      → ones + length (elements (merge_of merge [] (values_of_blocks w number (drop i ys)))) ≡ total → r < 2 ^ w → more ≡ count_ones r
+      → ones + more + length (elements (merge_of merge [] (values_of_blocks w number (drop (i + 1) ys)))) ≡ total
   second_counted ys i b none r ones more total within is zero block before small same =
-      count_more w r (merged merge [] (held w number (drop i ys))) (merged merge [] (held w number (drop (i + 1) ys))) ones more total
-      (ap (λ bs. merged merge [] bs) (row_step w number ys i b within is)
-      ∙ second_digits merge (number b) r 0 w (held w number (drop (i + 1) ys)) (λ j low high. block.digit j (omega arith) ∙ ap (λ k. merged_value merge (is_one k j) (is_one (number b) j)) zero ∙ ap (λ v. merged_value merge v (is_one (number b) j)) (is_one-zero j)))
+      count_more w r (merge_of merge [] (values_of_blocks w number (drop i ys))) (merge_of merge [] (values_of_blocks w number (drop (i + 1) ys))) ones more total
+      (ap (λ bs. merge_of merge [] bs) (row_step w number ys i b within is)
+      ∙ second_digits merge (number b) r 0 w (values_of_blocks w number (drop (i + 1) ys)) (λ j low high. block.digit j (omega arith) ∙ ap (λ k. merge_of_values merge (is_one k j) (is_one (number b) j)) zero ∙ ap (λ v. merge_of_values merge v (is_one (number b) j)) (is_one-zero j)))
       before small same
 
-  -- where one of two rows is at its end
-  pub rest_counted : (xs ys : List X) → (xs ≡ []) ⊎ (ys ≡ []) → length (elements (both_held w number merge xs ys)) ≡ length (elements (merged merge (held w number xs) [])) + length (elements (merged merge [] (held w number ys)))
+  -- where one of two slices is at its end
+  pub rest_counted : (xs ys : List X) → (xs ≡ []) ⊎ (ys ≡ []) → length (elements (both_held w number merge xs ys)) ≡ length (elements (merge_of merge (values_of_blocks w number xs) [])) + length (elements (merge_of merge [] (values_of_blocks w number ys)))
   rest_counted xs ys (inl none) =
-      let nothing : length (elements (merged merge (held w number xs) [])) ≡ 0 = ap (λ zs. length (elements (merged merge (held w number zs) []))) none in
+      let nothing : length (elements (merge_of merge (values_of_blocks w number xs) [])) ≡ 0 = ap (λ zs. length (elements (merge_of merge (values_of_blocks w number zs) []))) none in
       ap (λ zs. length (elements (both_held w number merge zs ys))) none ∙ omega (arith, nothing)
   rest_counted xs ys (inr none) =
-      let nothing : length (elements (merged merge [] (held w number ys))) ≡ 0 = ap (λ zs. length (elements (merged merge [] (held w number zs)))) none in
+      let nothing : length (elements (merge_of merge [] (values_of_blocks w number ys))) ≡ 0 = ap (λ zs. length (elements (merge_of merge [] (values_of_blocks w number zs)))) none in
       ap (λ zs. length (elements (both_held w number merge xs zs))) none ∙ omega (arith, nothing)
 
-  -- two rows are cut at one place
+  -- two slices are cut at one place
   whole_rest : (xs : List X) (k : ℕ) → take (length xs - k) (drop k xs) ≡ drop k xs
   whole_rest xs k = take_all (length xs - k) (drop k xs) (let long = length-drop k xs in omega (arith, long))
 
@@ -102,7 +102,7 @@ module _ {X : Type 0} (w : ℕ) (number : X → ℕ) (merge : Merge) where
       ∙ ap (λ bs. length (elements (both_held w number merge (take k xs) (take k ys))) + length (elements bs))
       (same_held w number merge (drop k xs) (take (length xs - k) (drop k xs)) (drop k ys) (take (length ys - k) (drop k ys)) (sym (whole_rest xs k)) (sym (whole_rest ys k)))
 
-  -- the shorter row has no rest
+  -- the shorter slice has no rest
   pub rest_ended : (xs ys : List X) (k : ℕ) → k ≡ min (length xs) (length ys) → (take (length xs - k) (drop k xs) ≡ []) ⊎ (take (length ys - k) (drop k ys) ≡ [])
   rest_ended xs ys k is =
       elim (cases_lt (length ys) (length xs)) [

@@ -6,7 +6,7 @@ use Rattle.std.proofs.lemmas.Nat.{div-mul-add}
 use Rattle.bit_words.specs.Bits.{blocks_for}
 use Rattle.bit_set.specs.Sets.{elements}
 use Rattle.bit_set.specs.Walk.{Walk, TwoSetWalk, Advances, AdvancesByEach, IsWalkedOut, IsWalkedOutByEach, IsAtStart, WalksOverTwo}
-use Rattle.bit_words.specs.declared.bit_vec.merge.Merge.{Merge}
+use Rattle.bit_words.specs.declared.block.merge.Merge.{Merge}
 
 pub walked_out : (w : ℕ) (s t : Walk) (items : List ℕ) → YieldsThen (Advances w) s items None t → IsWalkedOut s items t
 walked_out w s t [] run =
@@ -44,25 +44,25 @@ counted w s items run = ap length (walked_out w s run.0 items run.1).all
 -- ---- the block in hand
 
 -- of walks of any kind, each call of which goes along the blocks
-module _ {S : Type 0} (w : ℕ) (place blocks : S → ℕ) (steps : S → Option ℕ → S → Type 0) (each : (s t : S) (r : Option ℕ) → steps s r t → place t + w * blocks t ≡ place s + w * blocks s) where
-  along : (s t : S) (items : List ℕ) → Yields steps s items t → place t + w * blocks t ≡ place s + w * blocks s
-  along s t [] run = sym (ap (λ walk. place walk + w * blocks walk) run)
+module _ {S : Type 0} (w : ℕ) (index blocks : S → ℕ) (steps : S → Option ℕ → S → Type 0) (each : (s t : S) (r : Option ℕ) → steps s r t → index t + w * blocks t ≡ index s + w * blocks s) where
+  along : (s t : S) (items : List ℕ) → Yields steps s items t → index t + w * blocks t ≡ index s + w * blocks s
+  along s t [] run = sym (ap (λ walk. index walk + w * blocks walk) run)
   along s t (x ∷ xs) run = along run.0 t xs run.2 ∙ each s run.0 (Some x) run.1
 
   -- after an item the block in hand is the one that has it
-  in_hand_of : ((s t : S) (x : ℕ) → steps s (Some x) t → (place t ≤ x) × (x < place t + w)) → (past : ℕ) (s t : S) (items : List ℕ) (x : ℕ) → 0 < w → place s ≡ 0 → blocks s ≡ past → YieldsThen steps s items (Some x) t → blocks t ≡ past - x / w
+  in_hand_of : ((s t : S) (x : ℕ) → steps s (Some x) t → (index t ≤ x) × (x < index t + w)) → (past : ℕ) (s t : S) (items : List ℕ) (x : ℕ) → 0 < w → index s ≡ 0 → blocks s ≡ past → YieldsThen steps s items (Some x) t → blocks t ≡ past - x / w
   in_hand_of has_item past s t items x pos start ahead run =
       let at = has_item run.0 t x run.2 in
-      let whole : place t + w * blocks t ≡ w * past = each run.0 t (Some x) run.2 ∙ along s run.0 items run.1 ∙ omega (arith, start, ap (λ k. w * k) ahead) in
+      let whole : index t + w * blocks t ≡ w * past = each run.0 t (Some x) run.2 ∙ along s run.0 items run.1 ∙ omega (arith, start, ap (λ k. w * k) ahead) in
       let few : blocks t ≤ past = le_of_mul-le-mul_left (omega (arith, whole)) pos in
-      let first : place t ≡ (past - blocks t) * w = omega (arith, whole, mul-sub w past (blocks t), mul_comm w (past - blocks t)) in
-      let number : (past - blocks t) * w + (x - place t) ≡ x = omega (arith, first, at.0) in
-      let block : x / w ≡ past - blocks t = ap (λ n. n / w) (sym number) ∙ div-mul-add (past - blocks t) w (x - place t) (omega (arith, at)) in
+      let first : index t ≡ (past - blocks t) * w = omega (arith, whole, mul-sub w past (blocks t), mul_comm w (past - blocks t)) in
+      let number : (past - blocks t) * w + (x - index t) ≡ x = omega (arith, first, at.0) in
+      let block : x / w ≡ past - blocks t = ap (λ n. n / w) (sym number) ∙ div-mul-add (past - blocks t) w (x - index t) (omega (arith, at)) in
       omega (arith, few, block)
 
 pub in_hand : (w : ℕ) (values : List Bool) (s t : Walk) (items : List ℕ) (x : ℕ) → 0 < w → IsAtStart w values s → YieldsThen (Advances w) s items (Some x) t → t.blocks ≡ blocks_for w (length values) - 1 - x / w
 in_hand w values s t items x pos start run =
-    in_hand_of w (λ walk. walk.place) (λ walk. walk.blocks) (Advances w) (λ u v r step. step.along) (λ u v y step. step.at) (blocks_for w (length values) - 1) s t items x pos start.place start.blocks run
+    in_hand_of w (λ walk. walk.index) (λ walk. walk.blocks) (Advances w) (λ u v r step. step.along) (λ u v y step. step.at) (blocks_for w (length values) - 1) s t items x pos start.index start.blocks run
 
 -- ---- walks over two sets
 
@@ -100,7 +100,7 @@ over_two w merge walk next pos each =
       rest = out;
       whole = λ a b s t items left start run. let ended = out s t items run in (ended.all ∙ left, omega (arith, ended.pulled, start.pulls, start.blocks));
       in_hand = λ a b s t items x start run.
-          in_hand_of w (λ u. (walk u).place) (λ u. (walk u).blocks) next (λ u v r step. (each u r v step).along) (λ u v y step. (each u (Some y) v step).at) (max (blocks_for w (length a)) (blocks_for w (length b)) - 1) s t items x pos start.place start.blocks run;
+          in_hand_of w (λ u. (walk u).index) (λ u. (walk u).blocks) next (λ u v r step. (each u r v step).along) (λ u v y step. (each u (Some y) v step).at) (max (blocks_for w (length a)) (blocks_for w (length b)) - 1) s t items x pos start.index start.blocks run;
       for_good = λ s t r ended step. none_after (λ u. u.left) (walk s) (walk t) r ended (each s r t step).item;
       count = λ s items run. ap length (out s run.0 items run.1).all;
     }

@@ -11,21 +11,21 @@ use Rattle.bit_words.specs.Bits.{blocks_of, blocks_for}
 use Rattle.bit_words.specs.Lowest.{IsLowest, IsCleared}
 use Rattle.bit_words.proofs.BitsLemmas.{length-blocks_of}
 use Rattle.bit_set.specs.Sets.{elements_from, elements}
-use Rattle.bit_set.specs.Places.{digits_from, values_in, places, Ahead, PullsBlock, PullsBlockIf, IsWalkable, CanWalk}
+use Rattle.bit_set.specs.Places.{digits_from, values_in, indexes, Ahead, PullsBlock, PullsBlockIf, IsWalkable, CanWalk}
 use Rattle.bit_set.proofs.SetLemmas.{length-elements-le}
-use Rattle.bit_set.proofs.PlaceLemmas.{places-zero, places-next, places-lowest, length-digits_from, length-values_in, length-places-le, length-elements-block, elements-blocks_of, elements-below}
+use Rattle.bit_set.proofs.PlaceLemmas.{indexes-zero, indexes-next, indexes-lowest, length-digits_from, length-values_in, length-indexes-le, length-elements-block, elements-blocks_of, elements-below}
 
 -- a pull takes one block on
-pub pulled_along : (place w m n : ℕ) → n ≡ m + 1 → place + w + w * m ≡ place + w * n
-pulled_along place w m n is = let product = ap (λ k. w * k) is in omega (arith, product, mul-suc w m)
+pub pulled_along : (index w m n : ℕ) → n ≡ m + 1 → index + w + w * m ≡ index + w * n
+pulled_along index w m n is = let product = ap (λ k. w * k) is in omega (arith, product, mul-suc w m)
 
 -- a block of zeros is passed
-pub places-pulled : (w place m n : ℕ) (s t : List Bool) → m ≡ 0 → s ≡ digits_from n 0 w ++ t → places w place m s ≡ places w (place + w) n t
-places-pulled w place m n s t zero is = ap (λ k. places w place k s) zero ∙ places-zero w place s ∙ places-next w (place + w) n s t is
+pub indexes-pulled : (w index m n : ℕ) (s t : List Bool) → m ≡ 0 → s ≡ digits_from n 0 w ++ t → indexes w index m s ≡ indexes w (index + w) n t
+indexes-pulled w index m n s t zero is = ap (λ k. indexes w index k s) zero ∙ indexes-zero w index s ∙ indexes-next w (index + w) n s t is
 
 -- where the last block in hand is used up
-pub places-ended : (w place m : ℕ) (s : List Bool) → m ≡ 0 → s ≡ [] → places w place m s ≡ []
-places-ended w place m s zero is = ap (λ k. places w place k s) zero ∙ places-zero w place s ∙ ap (elements_from (place + w)) is
+pub indexes-ended : (w index m : ℕ) (s : List Bool) → m ≡ 0 → s ≡ [] → indexes w index m s ≡ []
+indexes-ended w index m s zero is = ap (λ k. indexes w index k s) zero ∙ indexes-zero w index s ∙ ap (elements_from (index + w)) is
 
 -- the values ahead are those of whole blocks
 long_pulled : {X : Type 0} (w : ℕ) (number : X → ℕ) (x : X) (s t : Ahead) → length s.values ≡ s.blocks * w → PullsBlock w number s (Some x) t → length t.values ≡ t.blocks * w
@@ -34,86 +34,86 @@ long_pulled w number x s t long pull =
     let product = ap (λ k. k * w) pull.blocks in
     omega (arith, whole, long, product)
 
-pub CanWalk-pulled : {X : Type 0} (w place m : ℕ) (number : X → ℕ) (x : X) (s t : Ahead) → CanWalk w place m s → m ≡ 0 → PullsBlock w number s (Some x) t → CanWalk w (place + w) (number x) t
-CanWalk-pulled w place m number x s t can zero pull =
-    let same = places-pulled w place m (number x) s.values t.values zero pull.values in
+pub CanWalk-pulled : {X : Type 0} (w index m : ℕ) (number : X → ℕ) (x : X) (s t : Ahead) → CanWalk w index m s → m ≡ 0 → PullsBlock w number s (Some x) t → CanWalk w (index + w) (number x) t
+CanWalk-pulled w index m number x s t can zero pull =
+    let same = indexes-pulled w index m (number x) s.values t.values zero pull.values in
     record {
       long = long_pulled w number x s t can.long pull;
-      fits = omega (arith, can.fits, pulled_along place w t.blocks s.blocks pull.blocks);
+      fits = omega (arith, can.fits, pulled_along index w t.blocks s.blocks pull.blocks);
       below = subst (All (λ n. n < 2 ^ 64)) same can.below;
       few = subst (λ xs. length xs < 2 ^ 64) same can.few;
     }
 
-pub CanWalk-taken : (w place m r i : ℕ) (ahead : Ahead) → CanWalk w place m ahead → IsLowest m i → i < w → IsCleared w m i r → CanWalk w place r ahead
-CanWalk-taken w place m r i ahead can low within cleared =
-    let same = places-lowest w place m r i ahead.values low within cleared in
+pub CanWalk-taken : (w index m r i : ℕ) (ahead : Ahead) → CanWalk w index m ahead → IsLowest m i → i < w → IsCleared w m i r → CanWalk w index r ahead
+CanWalk-taken w index m r i ahead can low within cleared =
+    let same = indexes-lowest w index m r i ahead.values low within cleared in
     record {
       long = can.long;
       fits = can.fits;
-      below = All-tail (λ n. n < 2 ^ 64) (place + i) (places w place r ahead.values) (subst (All (λ n. n < 2 ^ 64)) same can.below);
+      below = All-tail (λ n. n < 2 ^ 64) (index + i) (indexes w index r ahead.values) (subst (All (λ n. n < 2 ^ 64)) same can.below);
       few = let shorter = ap length same in omega (arith, can.few, shorter);
     }
 
-pub taken_fits : (w place m r i : ℕ) (ahead : Ahead) → CanWalk w place m ahead → IsLowest m i → i < w → IsCleared w m i r → place + i < 2 ^ 64
-taken_fits w place m r i ahead can low within cleared =
-    let same = places-lowest w place m r i ahead.values low within cleared in
-    All-head (λ n. n < 2 ^ 64) (place + i) (places w place r ahead.values) (subst (All (λ n. n < 2 ^ 64)) same can.below)
+pub taken_fits : (w index m r i : ℕ) (ahead : Ahead) → CanWalk w index m ahead → IsLowest m i → i < w → IsCleared w m i r → index + i < 2 ^ 64
+taken_fits w index m r i ahead can low within cleared =
+    let same = indexes-lowest w index m r i ahead.values low within cleared in
+    All-head (λ n. n < 2 ^ 64) (index + i) (indexes w index r ahead.values) (subst (All (λ n. n < 2 ^ 64)) same can.below)
 
 -- no more items than digits
-pub left-most : (w place m : ℕ) (ahead : Ahead) → CanWalk w place m ahead → length (places w place m ahead.values) ≤ (1 + ahead.blocks) * w
-left-most w place m ahead can = let most = length-places-le w place m ahead.values in omega (arith, most, can.long)
+pub left-most : (w index m : ℕ) (ahead : Ahead) → CanWalk w index m ahead → length (indexes w index m ahead.values) ≤ (1 + ahead.blocks) * w
+left-most w index m ahead can = let most = length-indexes-le w index m ahead.values in omega (arith, most, can.long)
 
 -- ---- a step that may be left out
 
--- From `place` with m in hand and s ahead, to `at` with n in hand and t ahead: the same is left.
-pub record WentOn (w place at m n : ℕ) (s t : Ahead) : Type 0 where
+-- From `index` with m in hand and s ahead, to `at` with n in hand and t ahead: the same is left.
+pub record WentOn (w index at m n : ℕ) (s t : Ahead) : Type 0 where
   pub can : CanWalk w at n t
-  pub same : places w at n t.values ≡ places w place m s.values
+  pub same : indexes w at n t.values ≡ indexes w index m s.values
   pub goes_on : s.pulls ≤ t.pulls
   pub pulled : t.pulls + t.blocks ≡ s.pulls + s.blocks
-  pub along : at + w * t.blocks ≡ place + w * s.blocks
+  pub along : at + w * t.blocks ≡ index + w * s.blocks
 
 -- where the block in hand is used up, x is taken for it
-pub went_on : {X : Type 0} (w place at : ℕ) (number : X → ℕ) (old new x : X) (wanted : Bool) (s t : Ahead) → CanWalk w place (number old) s → (wanted ≡ true → number old ≡ 0) → PullsBlockIf w number wanted s (Some x) t
-    → ((wanted ≡ true) × (new ≡ x)) ⊎ ((wanted ≡ false) × (new ≡ old)) → at ≡ place + bool_byte wanted * w → WentOn w place at (number old) (number new) s t
-went_on w place at number old new x wanted s t can zero pull (inl used) there =
+pub went_on : {X : Type 0} (w index at : ℕ) (number : X → ℕ) (old new x : X) (wanted : Bool) (s t : Ahead) → CanWalk w index (number old) s → (wanted ≡ true → number old ≡ 0) → PullsBlockIf w number wanted s (Some x) t
+    → ((wanted ≡ true) × (new ≡ x)) ⊎ ((wanted ≡ false) × (new ≡ old)) → at ≡ index + bool_byte wanted * w → WentOn w index at (number old) (number new) s t
+went_on w index at number old new x wanted s t can zero pull (inl used) there =
     let one = pull.pulled used.0 in
     let none : number old ≡ 0 = zero used.0 in
-    let next_place : at ≡ place + w = there ∙ ap (λ b. place + bool_byte b * w) used.0 ∙ omega arith in
-    let went : WentOn w place (place + w) (number old) (number x) s t = record {
-      can = CanWalk-pulled w place (number old) number x s t can none one;
-      same = sym (places-pulled w place (number old) (number x) s.values t.values none one.values);
+    let next_index : at ≡ index + w = there ∙ ap (λ b. index + bool_byte b * w) used.0 ∙ omega arith in
+    let went : WentOn w index (index + w) (number old) (number x) s t = record {
+      can = CanWalk-pulled w index (number old) number x s t can none one;
+      same = sym (indexes-pulled w index (number old) (number x) s.values t.values none one.values);
       goes_on = omega (arith, one.counted);
       pulled = omega (arith, one.counted, one.blocks);
-      along = pulled_along place w t.blocks s.blocks one.blocks;
+      along = pulled_along index w t.blocks s.blocks one.blocks;
     } in
-    subst (λ y. WentOn w place at (number old) (number y) s t) (sym used.1) (subst (λ k. WentOn w place k (number old) (number x) s t) (sym next_place) went)
-went_on w place at number old new x wanted s t can zero pull (inr kept) there =
-    let same_place : at ≡ place = there ∙ ap (λ b. place + bool_byte b * w) kept.0 ∙ omega arith in
-    let stayed : WentOn w place place (number old) (number old) s s = record { can = can; same = refl; goes_on = omega arith; pulled = refl; along = refl } in
-    subst (WentOn w place at (number old) (number new) s) (sym (pull.same kept.0)) (subst (λ y. WentOn w place at (number old) (number y) s s) (sym kept.1) (subst (λ k. WentOn w place k (number old) (number old) s s) (sym same_place) stayed))
+    subst (λ y. WentOn w index at (number old) (number y) s t) (sym used.1) (subst (λ k. WentOn w index k (number old) (number x) s t) (sym next_index) went)
+went_on w index at number old new x wanted s t can zero pull (inr kept) there =
+    let same_index : at ≡ index = there ∙ ap (λ b. index + bool_byte b * w) kept.0 ∙ omega arith in
+    let stayed : WentOn w index index (number old) (number old) s s = record { can = can; same = refl; goes_on = omega arith; pulled = refl; along = refl } in
+    subst (WentOn w index at (number old) (number new) s) (sym (pull.same kept.0)) (subst (λ y. WentOn w index at (number old) (number y) s s) (sym kept.1) (subst (λ k. WentOn w index k (number old) (number old) s s) (sym same_index) stayed))
 
 -- ---- the making of a walk
 
 -- With block m in hand and t ahead of it, a walk is at the start of s.
 pub record IsBegun (w m : ℕ) (s t : Ahead) : Type 0 where
-  pub all : places w 0 m t.values ≡ elements s.values
+  pub all : indexes w 0 m t.values ≡ elements s.values
   pub past : t.blocks ≡ s.blocks - 1
   pub long : length t.values ≡ t.blocks * w
 
 pub begun : {X : Type 0} (w : ℕ) (number : X → ℕ) (zero : X) (s t : Ahead) (r : Option X) → length s.values ≡ s.blocks * w → PullsBlock w number s r t → number zero ≡ 0 → IsBegun w (number (unwrap_or r zero)) s t
 begun w number zero s t None long pull none = record {
-  all = places-ended w 0 (number zero) t.values none pull.values.1 ∙ sym (ap (elements_from 0) pull.values.0);
+  all = indexes-ended w 0 (number zero) t.values none pull.values.1 ∙ sym (ap (elements_from 0) pull.values.0);
   past = omega (arith, pull.blocks);
   long = let no_value = ap length pull.values.1 in let product = ap (λ k. k * w) pull.blocks.1 in omega (arith, no_value, product);
 }
 begun w number zero s t (Some x) long pull none = record {
-  all = sym (places-next w 0 (number x) s.values t.values pull.values);
+  all = sym (indexes-next w 0 (number x) s.values t.values pull.values);
   past = omega (arith, pull.blocks);
   long = long_pulled w number x s t long pull;
 }
 
-pub begun_few : (w m : ℕ) (s t : Ahead) → IsWalkable w s → IsBegun w m s t → length (places w 0 m t.values) < 2 ^ 64
+pub begun_few : (w m : ℕ) (s t : Ahead) → IsWalkable w s → IsBegun w m s t → length (indexes w 0 m t.values) < 2 ^ 64
 begun_few w m s t can at = subst (λ xs. length xs < 2 ^ 64) (sym at.all) can.few
 
 pub CanWalk-begun : (w m : ℕ) (s t : Ahead) → IsWalkable w s → IsBegun w m s t → CanWalk w 0 m t
@@ -143,20 +143,20 @@ IsWalkable-of w ahead values long blocks same fits = record {
 
 module _ {X : Type 0} (w : ℕ) (number : X → ℕ) where
   -- what blocks hold
-  abbrev pub held : List X → List Bool
-  held xs = values_in w (map number xs)
+  abbrev pub values_of_blocks : List X → List Bool
+  values_of_blocks xs = values_in w (map number xs)
 
-  pub length-held : (xs : List X) → length (held xs) ≡ length xs * w
-  length-held xs = length-values_in w (map number xs) ∙ ap (λ k. k * w) (length-map xs number)
+  pub length-values_of_blocks : (xs : List X) → length (values_of_blocks xs) ≡ length xs * w
+  length-values_of_blocks xs = length-values_in w (map number xs) ∙ ap (λ k. k * w) (length-map xs number)
 
   pub length-blocks : (xs : List X) (values : List Bool) → map number xs ≡ blocks_of w values → length xs ≡ blocks_for w (length values)
   length-blocks xs values is = sym (length-map xs number) ∙ ap length is ∙ length-blocks_of w values
 
-  pub elements-held : (xs : List X) (values : List Bool) → 0 < w → map number xs ≡ blocks_of w values → elements (held xs) ≡ elements values
-  elements-held xs values pos is = ap (λ ms. elements (values_in w ms)) is ∙ elements-blocks_of w values pos
+  pub elements-values_of_blocks : (xs : List X) (values : List Bool) → 0 < w → map number xs ≡ blocks_of w values → elements (values_of_blocks xs) ≡ elements values
+  elements-values_of_blocks xs values pos is = ap (λ ms. elements (values_in w ms)) is ∙ elements-blocks_of w values pos
 
-  pub IsWalkable-held : (xs : List X) (values : List Bool) (pulls : ℕ) → 0 < w → map number xs ≡ blocks_of w values → length values < 2 ^ 64 → IsWalkable w (record { values = held xs; blocks = length xs; pulls = pulls })
-  IsWalkable-held xs values pulls pos is fits = IsWalkable-of w _ values (length-held xs) (length-blocks xs values is) (elements-held xs values pos is) fits
+  pub IsWalkable-values_of_blocks : (xs : List X) (values : List Bool) (pulls : ℕ) → 0 < w → map number xs ≡ blocks_of w values → length values < 2 ^ 64 → IsWalkable w (record { values = values_of_blocks xs; blocks = length xs; pulls = pulls })
+  IsWalkable-values_of_blocks xs values pulls pos is fits = IsWalkable-of w _ values (length-values_of_blocks xs) (length-blocks xs values is) (elements-values_of_blocks xs values pos is) fits
 
 -- one block more is counted
 pub count_more : (w m : ℕ) (bs cs : List Bool) (ones more total : ℕ) → bs ≡ digits_from m 0 w ++ cs → ones + length (elements bs) ≡ total → m < 2 ^ w → more ≡ count_ones m → ones + more + length (elements cs) ≡ total

@@ -29,10 +29,10 @@ pub record HasLength (w : ℕ) (vs : List Value) (nbits : Data) (n : ℕ) : Type
   pub entries : All (IsEntry w) vs
   pub length : number_in nbits ≡ Some n
 
--- Of the digits of a block `whole` all but those of `left` are put into the values from `place` on, which were false.
-pub record IsPartlyPut (w place whole left : ℕ) (old new : List Bool) : Type 0 where
-  pub values : (j : ℕ) → j < w → (get_or new (place + j) false || is_one left j) ≡ is_one whole j
-  pub others : (i : ℕ) → ((j : ℕ) → j < w → i ≢ place + j) → get_or new i false ≡ get_or old i false
+-- Of the digits of a block `whole` all but those of `left` are put into the values from `index` on, which were false.
+pub record IsPartlyPut (w index whole left : ℕ) (old new : List Bool) : Type 0 where
+  pub values : (j : ℕ) → j < w → (get_or new (index + j) false || is_one left j) ≡ is_one whole j
+  pub others : (i : ℕ) → ((j : ℕ) → j < w → i ≢ index + j) → get_or new i false ≡ get_or old i false
   pub long : length new ≡ length old
 
 -- the entries are just these numbers

@@ -1,8 +1,8 @@
 -- Why a set does not take a number in.
 use Rattle.std.specs.Prelude.{◌≡◌, ℕ, ◌<◌, ◌≤◌}
 use Rattle.bit_set.specs.Bounds.{greatest}
-use Rattle.bit_words.specs.declared.bit_vec.vector.making.BitsError.{BitsError}
-use Rattle.bit_words.specs.declared.bit_vec.vector.making.BitsError.TheVariants.{Length as BitsLength, Memory as BitsMemory}
+use Rattle.bit_words.specs.declared.bit_vec.constructors.BitsError.{BitsError}
+use Rattle.bit_words.specs.declared.bit_vec.constructors.BitsError.TheVariants.{Length as BitsLength, Memory as BitsMemory}
 use Rattle.bit_set.specs.declared.faults.SetError.{SetError}
 use Rattle.bit_set.specs.declared.faults.SetError.TheVariants.{Element, Length, Memory}
 
@@ -11,8 +11,9 @@ abbrev pub of_bits : BitsError → SetError
 of_bits BitsLength = Length
 of_bits (BitsMemory fault) = Memory fault
 
--- a set with room for this many values refused the item: for the item itself, or for a growth that the item needs
+-- a set with capacity for this many values did not take the item in: for the item itself, or for a growth that
+-- the item needs
 abbrev pub IsRefusal : SetError → ℕ → ℕ → Type 0
-IsRefusal Element item room = item ≡ greatest
-IsRefusal Length item room = ⊥
-IsRefusal (Memory fault) item room = (room ≤ item) × (item < greatest)
+IsRefusal Element item capacity = item ≡ greatest
+IsRefusal Length item capacity = ⊥
+IsRefusal (Memory fault) item capacity = (capacity ≤ item) × (item < greatest)

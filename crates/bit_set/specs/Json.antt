@@ -31,7 +31,8 @@ storage_in d = option_and_then as_array (option_and_then (get (codes "storage"))
 abbrev pub nbits_in : Data → Option Data
 nbits_in d = option_and_then (get (codes "nbits")) (bit_vec_in d)
 
--- The shape: an object with just the member `bit_vec`, whose value is one with just the members `storage`, an array, and `nbits`.
+-- The shape: an object with just the member `bit_vec`, whose value is one with just the members `storage`, an array,
+-- and `nbits`.
 pub record HasShape (d : Data) : Type 0 where
   pub one : members_in d ≡ Some 1
   pub two : option_and_then members_in (bit_vec_in d) ≡ Some 2
@@ -44,8 +45,8 @@ pub record HasNumbers (w : ℕ) (d : Data) (ms : List ℕ) (n : ℕ) : Type 0 wh
   pub length : option_and_then number_in (nbits_in d) ≡ Some n
   pub below : All (λ m. m < 2 ^ w) ms
 
--- No digit of the last block that stands for an index at or past n is 1.
-pub record IsClean (w : ℕ) (ms : List ℕ) (n : ℕ) : Type 0 where
+-- No digit of the last block that represents an index at or past n is 1.
+pub record HasZeroTail (w : ℕ) (ms : List ℕ) (n : ℕ) : Type 0 where
   pub tail : (j : ℕ) → j < w → n ≤ (length ms - 1) * w + j → bit_at (get_or ms (length ms - 1) 0) j ≡ 0
 
 -- The value spells the blocks of w digits with the numbers ms, and the length n.
@@ -53,12 +54,13 @@ pub record Spells (w : ℕ) (d : Data) (ms : List ℕ) (n : ℕ) : Type 0 where
   pub shape : HasShape d
   pub numbers : HasNumbers w d ms n
   pub count : length ms ≡ blocks_for w n
-  pub clean : IsClean w ms n
+  pub zero_tail : HasZeroTail w ms n
 
 -- The value spells nothing, and this is the first of the faults, in the order below, that it has.
 abbrev pub IsFirstFault : ℕ → Data → JsonError → Type 0
 IsFirstFault w d Shape = ¬ HasShape d
 IsFirstFault w d Number = HasShape d × ((ms : List ℕ) (n : ℕ) → ¬ HasNumbers w d ms n)
 IsFirstFault w d Blocks = HasShape d × ((ms : List ℕ) × (n : ℕ) × HasNumbers w d ms n × (length ms ≢ blocks_for w n))
-IsFirstFault w d Unclean = HasShape d × ((ms : List ℕ) × (n : ℕ) × HasNumbers w d ms n × (length ms ≡ blocks_for w n) × ¬ IsClean w ms n)
+IsFirstFault w d Unclean =
+    HasShape d × ((ms : List ℕ) × (n : ℕ) × HasNumbers w d ms n × (length ms ≡ blocks_for w n) × ¬ HasZeroTail w ms n)
 IsFirstFault w d (Memory _) = ⊥

@@ -4,12 +4,12 @@ pub mod Members
 pub mod Faults
 pub mod Effects
 pub mod Calls
-pub mod Room
+pub mod Capacity
 pub mod Walk
 pub mod Agreement
 pub mod Texts
 pub mod Order
-pub mod Differences
+pub mod Mismatches
 pub mod Places
 pub mod Json
 pub mod Entries

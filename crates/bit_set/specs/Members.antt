@@ -1,7 +1,7 @@
 -- Which numbers are in a set after a call: of every number, whether it is in.
 use Rattle.std.specs.Prelude.{◌≡◌, ℕ, ◌≤◌, Bool, false, not, ◌&&◌, ◌||◌, ◌==◌, if◌then◌else◌, IsTrue, nat_le, nat_lt, List, get_or, length}
-use Rattle.bit_words.specs.Merges.{merged_value}
-use Rattle.bit_words.specs.declared.bit_vec.merge.Merge.{Merge}
+use Rattle.bit_words.specs.Merges.{merge_of_values}
+use Rattle.bit_words.specs.declared.block.merge.Merge.{Merge}
 use Rattle.bit_set.specs.Bounds.{greatest}
 use Rattle.bit_set.specs.Sets.{elements, has, without}
 
@@ -58,7 +58,7 @@ IsSymmetricDifference s t r = (n : ℕ) → has r n ≡ (if has s n then not (ha
 
 -- r has what the operation makes of s and t
 abbrev pub IsMerged : Merge → List ℕ → List ℕ → List ℕ → Type 0
-IsMerged merge s t r = (n : ℕ) → has r n ≡ merged_value merge (has s n) (has t n)
+IsMerged merge s t r = (n : ℕ) → has r n ≡ merge_of_values merge (has s n) (has t n)
 
 -- the set has each index at which the list is true, and nothing else
 abbrev pub HasTrueOf : List ℕ → List Bool → Type 0

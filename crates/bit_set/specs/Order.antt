@@ -10,7 +10,7 @@ use Rattle.std.specs.Hash as fed
 abbrev pub same_sets : List ℕ → List ℕ → Bool
 same_sets s t = pointwise nat_eq s t
 
--- At the first place where the lists differ the smaller number comes first; where one list is a front of the
+-- At the first index where the lists differ the smaller number comes first; where one list is a front of the
 -- other, the shorter does.
 abbrev pub order_of_sets : List ℕ → List ℕ → Ordering
 order_of_sets s t = slice_cmp nat_cmp s t

@@ -3,8 +3,8 @@ use Rattle.std.specs.Prelude.{◌≡◌, ℕ, ◌+◌, ◌-◌, ◌*◌, ◌/◌
 use Rattle.std.specs.List.{range_with_len, flat_map}
 use Rattle.bit_words.specs.Digits.{is_one}
 use Rattle.bit_words.specs.Nonzero.{Nonzeros, nonzero_from}
-use Rattle.bit_words.specs.Merges.{merged_value, merged}
-use Rattle.bit_words.specs.declared.bit_vec.merge.Merge.{Merge}
+use Rattle.bit_words.specs.Merges.{merge_of_values, merge_of}
+use Rattle.bit_words.specs.declared.block.merge.Merge.{Merge}
 use Rattle.bit_set.specs.Sets.{elements_from, elements}
 
 -- the w binary digits of m from digit a on, as truth values
@@ -15,9 +15,10 @@ digits_from m a w = map (is_one m) (range_with_len a w)
 abbrev pub values_in : ℕ → List ℕ → List Bool
 values_in w ms = flat_map (λ m. digits_from m 0 w) ms
 
--- the places of the ones of a block m of w digits and of the true values past it, the first digit having place `place`
-unfoldable pub places : ℕ → ℕ → ℕ → List Bool → List ℕ
-places w place m values = elements_from place (digits_from m 0 w ++ values)
+-- the indexes of the ones of a block m of w digits and of the true values past it, the first digit having index
+-- `index`
+unfoldable pub indexes : ℕ → ℕ → ℕ → List Bool → List ℕ
+indexes w index m values = elements_from index (digits_from m 0 w ++ values)
 
 -- What lies ahead in a source of blocks: the values of the blocks that are not yet pulled, how many these are, and
 -- how often the source was pulled.
@@ -28,63 +29,72 @@ pub record Ahead : Type 0 where
 
 -- a pull that gave r: the first block, or None where there is none, and one more pull, at the end too
 pub record PullsBlock {X : Type 0} (w : ℕ) (number : X → ℕ) (s : Ahead) (r : Option X) (t : Ahead) : Type 0 where
-  pub values : MatchOption r ((s.values ≡ []) × (t.values ≡ [])) (λ x. s.values ≡ digits_from (number x) 0 w ++ t.values)
+  pub values : MatchOption r ((s.values ≡ []) × (t.values ≡ []))
+      (λ x. s.values ≡ digits_from (number x) 0 w ++ t.values)
   pub blocks : MatchOption r ((s.blocks ≡ 0) × (t.blocks ≡ 0)) (λ _. s.blocks ≡ t.blocks + 1)
   pub counted : t.pulls ≡ s.pulls + 1
 
 -- A pull that may be left out. Where it is wanted it gave r: the first block, or None, and then nothing was pulled.
 -- Else nothing was pulled.
-pub record PullsBlockIf {X : Type 0} (w : ℕ) (number : X → ℕ) (wanted : Bool) (s : Ahead) (r : Option X) (t : Ahead) : Type 0 where
+pub record PullsBlockIf {X : Type 0} (w : ℕ) (number : X → ℕ) (wanted : Bool) (s : Ahead) (r : Option X)
+    (t : Ahead) : Type 0 where
   pub pulled : wanted ≡ true → MatchOption r (t ≡ s) (λ x. PullsBlock w number s (Some x) t)
   pub same : wanted ≡ false → t ≡ s
 
 -- of w digits, r has what those of m and n become
 pub record IsMergedBlock (w : ℕ) (merge : Merge) (m n r : ℕ) : Type 0 where
-  pub digit : (i : ℕ) → i < w → is_one r i ≡ merged_value merge (is_one m i) (is_one n i)
+  pub digit : (i : ℕ) → i < w → is_one r i ≡ merge_of_values merge (is_one m i) (is_one n i)
 
 -- a pull of two sides that gave a and b becomes r: the side that has ended goes on with zeros
 abbrev pub IsMergedPull : {X : Type 0} → ℕ → (X → ℕ) → Merge → Option X → Option X → Option X → Type 0
 IsMergedPull w number merge None None r = r ≡ None
 IsMergedPull w number merge (Some a) None r = IsSomeAnd r (λ x. IsMergedBlock w merge (number a) 0 (number x))
 IsMergedPull w number merge None (Some b) r = IsSomeAnd r (λ x. IsMergedBlock w merge 0 (number b) (number x))
-IsMergedPull w number merge (Some a) (Some b) r = IsSomeAnd r (λ x. IsMergedBlock w merge (number a) (number b) (number x))
+IsMergedPull w number merge (Some a) (Some b) r =
+    IsSomeAnd r (λ x. IsMergedBlock w merge (number a) (number b) (number x))
 
--- how many ones two rows of blocks become from one block on
+-- how many ones two slices of blocks become from one block on
 abbrev pub ones_from : {X : Type 0} → ℕ → (X → ℕ) → Merge → List X → List X → ℕ → ℕ
-ones_from w number merge xs ys i = length (elements (merged merge (values_in w (map number (drop i xs))) (values_in w (map number (drop i ys)))))
+ones_from w number merge xs ys i =
+    length (elements (merge_of merge (values_in w (map number (drop i xs))) (values_in w (map number (drop i ys)))))
 
--- A walk can go over the ones of all that is ahead, the first digit having place 0.
+-- A walk can go over the ones of all that is ahead, the first digit having index 0.
 pub record IsWalkable (w : ℕ) (ahead : Ahead) : Type 0 where
   pub long : length ahead.values ≡ ahead.blocks * w
-  -- each place of a block past the first can be counted
+  -- each index of a block past the first can be counted
   pub fits : w * (ahead.blocks - 1) < 2 ^ 64
   pub below : All (λ n. n < 2 ^ 64) (elements ahead.values)
   pub few : length (elements ahead.values) < 2 ^ 64
 
--- A walk can go over the ones of a block m and of what is ahead, m having place `place` for its first digit.
-pub record CanWalk (w place m : ℕ) (ahead : Ahead) : Type 0 where
+-- A walk can go over the ones of a block m and of what is ahead, m having index `index` for its first digit.
+pub record CanWalk (w index m : ℕ) (ahead : Ahead) : Type 0 where
   pub long : length ahead.values ≡ ahead.blocks * w
-  -- each place of a block past the one in hand can be counted
-  pub fits : place + w * ahead.blocks < 2 ^ 64
-  pub below : All (λ n. n < 2 ^ 64) (places w place m ahead.values)
-  pub few : length (places w place m ahead.values) < 2 ^ 64
+  -- each index of a block past the one in hand can be counted
+  pub fits : index + w * ahead.blocks < 2 ^ 64
+  pub below : All (λ n. n < 2 ^ 64) (indexes w index m ahead.values)
+  pub few : length (indexes w index m ahead.values) < 2 ^ 64
 
 -- The fields of a walk: the block in hand is a block value, the source is sound, and the walk can go on.
-pub record IsWalk (is_block is_sound : Type 0) (w place m : ℕ) (ahead : Ahead) : Type 0 where
+pub record IsWalk (is_block is_sound : Type 0) (w index m : ℕ) (ahead : Ahead) : Type 0 where
   pub in_hand : is_block
   pub sound : is_sound
-  pub can : CanWalk w place m ahead
+  pub can : CanWalk w index m ahead
 
--- Of all these blocks, what lies past the one whose first digit has place `place`.
+-- Of all these blocks, what lies past the one whose first digit has index `index`.
 abbrev pub past_block : {X : Type 0} → ℕ → (X → ℕ) → ℕ → List X → ℕ → Ahead
-past_block w number place xs pulls =
-    let past = drop (place / w + 1) xs in record { values = values_in w (map number past); blocks = length past; pulls = pulls }
+past_block w number index xs pulls =
+    let past = drop (index / w + 1) xs in record {
+      values = values_in w (map number past);
+      blocks = length past;
+      pulls = pulls;
+    }
 
 -- The fields of a walk that goes by the blocks that are not 0: those past the one in hand are all that it has to pull.
-pub record IsSparseWalk {X : Type 0} (w : ℕ) (number : X → ℕ) (is_block : X → Type 0) (place : ℕ) (block : X) (it : Nonzeros X) : Type 0 where
+pub record IsSparseWalk {X : Type 0} (w : ℕ) (number : X → ℕ) (is_block : X → Type 0) (index : ℕ) (block : X)
+    (it : Nonzeros X) : Type 0 where
   pub in_hand : is_block block
   pub each : All is_block it.blocks
-  pub left : it.left ≡ nonzero_from number (place / w + 1) (drop (place / w + 1) it.blocks)
-  pub whole : place ≡ place / w * w
-  pub inside : place / w ≤ length it.blocks - 1
-  pub can : CanWalk w place (number block) (past_block w number place it.blocks it.pulls)
+  pub left : it.left ≡ nonzero_from number (index / w + 1) (drop (index / w + 1) it.blocks)
+  pub whole : index ≡ index / w * w
+  pub inside : index / w ≤ length it.blocks - 1
+  pub can : CanWalk w index (number block) (past_block w number index it.blocks it.pulls)

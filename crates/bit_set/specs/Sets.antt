@@ -1,8 +1,8 @@
 -- Sets of whole numbers, each as the list of its members in ascending order.
 use Rattle.std.specs.Prelude.{ℕ, ◌+◌, ◌≤◌, max, Bool, not, ◌==◌, nat_lt, nat_le, if◌then◌else◌, List, [], ◌∷◌, filter}
 use Rattle.std.specs.List.{list_all, list_any}
-use Rattle.bit_words.specs.declared.bit_vec.merge.Merge.{Merge}
-use Rattle.bit_words.specs.declared.bit_vec.merge.Merge.TheVariants.{Union, Intersection, Difference, Symmetric}
+use Rattle.bit_words.specs.declared.block.merge.Merge.{Merge}
+use Rattle.bit_words.specs.declared.block.merge.Merge.TheVariants.{Union, Intersection, Difference, Symmetric}
 
 -- the numbers strictly ascend, and the first is at least `low`
 abbrev pub AscendsFrom : ℕ → List ℕ → Type 0
@@ -26,12 +26,12 @@ put (x ∷ xs) n = if nat_lt n x then n ∷ x ∷ xs else (if x == n then x ∷ 
 abbrev pub without : List ℕ → ℕ → List ℕ
 without xs n = filter (λ x. not (x == n)) xs
 
--- the places from `place` on at which a list of truth values is true
+-- the indexes from `index` on at which a list of truth values is true
 abbrev pub elements_from : ℕ → List Bool → List ℕ
-elements_from place [] = []
-elements_from place (b ∷ bs) = if b then place ∷ elements_from (place + 1) bs else elements_from (place + 1) bs
+elements_from index [] = []
+elements_from index (b ∷ bs) = if b then index ∷ elements_from (index + 1) bs else elements_from (index + 1) bs
 
--- the set that a list of truth values keeps: the places at which it is true
+-- the set that a list of truth values keeps: the indexes at which it is true
 abbrev pub elements : List Bool → List ℕ
 elements bs = elements_from 0 bs
 
@@ -75,11 +75,11 @@ abbrev pub symmetric_difference : List ℕ → List ℕ → List ℕ
 symmetric_difference s t = union (difference s t) (difference t s)
 
 -- what two sets become
-abbrev pub merged_sets : Merge → List ℕ → List ℕ → List ℕ
-merged_sets Union s t = union s t
-merged_sets Intersection s t = intersection s t
-merged_sets Difference s t = difference s t
-merged_sets Symmetric s t = symmetric_difference s t
+abbrev pub merge_of_sets : Merge → List ℕ → List ℕ → List ℕ
+merge_of_sets Union s t = union s t
+merge_of_sets Intersection s t = intersection s t
+merge_of_sets Difference s t = difference s t
+merge_of_sets Symmetric s t = symmetric_difference s t
 
 -- whether each number of the first set is in the second
 abbrev pub is_subset : List ℕ → List ℕ → Bool

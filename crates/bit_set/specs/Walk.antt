@@ -2,26 +2,26 @@
 use Rattle.std.specs.Prelude.{◌≡◌, ℕ, ◌+◌, ◌-◌, ◌*◌, ◌/◌, ◌^◌, ◌<◌, ◌≤◌, ◌==◌, max, min, Bool, nat_lt, if◌then◌else◌, List, [], ◌∷◌, length, ⊤, Option, Some, None, MatchOption}
 use Rattle.std.specs.Iterator.{YieldsFirst, YieldsThen, Drains}
 use Rattle.bit_words.specs.Bits.{blocks_for}
-use Rattle.bit_words.specs.declared.bit_vec.merge.Merge.{Merge}
+use Rattle.bit_words.specs.declared.block.merge.Merge.{Merge}
 use Rattle.bit_set.specs.Members.{TakesLeast}
-use Rattle.bit_set.specs.Sets.{elements, merged_sets, those_from}
+use Rattle.bit_set.specs.Sets.{elements, merge_of_sets, those_from}
 
 -- What contracts see of a walk over a set: the elements that are left, how often it called `next` on its block
--- source, the number that stands first in the block in hand, and how many blocks are past that block; how often a
--- block of the summary was pulled, and how many of these are left.
+-- source, the first number of the block in hand, and how many blocks are past that block; how often a block of
+-- the summary was pulled, and how many of these are left.
 pub record Walk : Type 0 where
   pub left : List ℕ
   pub pulls : ℕ
-  pub place : ℕ
+  pub index : ℕ
   pub blocks : ℕ
   pub summary_pulls : ℕ
   pub summary_left : ℕ
 
 -- The item x was found in the block in hand with no pull, or else by one, in a block past it.
 pub record FindsBlock (w : ℕ) (s : Walk) (x : ℕ) (t : Walk) : Type 0 where
-  pub onward : s.place / w ≤ x / w
-  pub place : t.place ≡ x / w * w
-  pub pulls : t.pulls ≡ s.pulls + (if s.place / w == x / w then 0 else 1)
+  pub onward : s.index / w ≤ x / w
+  pub index : t.index ≡ x / w * w
+  pub pulls : t.pulls ≡ s.pulls + (if s.index / w == x / w then 0 else 1)
 
 -- A call of `next` on s gave r and left t, over blocks of w: the first of what was left, which is the least,
 -- or None at the end, which stays. It pulled each block that it passed once at most, and once more where it found the
@@ -31,22 +31,23 @@ pub record Advances (w : ℕ) (s : Walk) (r : Option ℕ) (t : Walk) : Type 0 wh
   pub first : MatchOption r ⊤ (λ x. TakesLeast s.left x t.left)
   pub goes_on : s.pulls ≤ t.pulls
   pub pulled : MatchOption r (t.pulls ≤ s.pulls + s.blocks + 1) (λ _. t.pulls + t.blocks ≤ s.pulls + s.blocks)
-  pub along : t.place + w * t.blocks ≡ s.place + w * s.blocks
-  pub at : MatchOption r (t.blocks ≡ 0) (λ x. (t.place ≤ x) × (x < t.place + w))
+  pub along : t.index + w * t.blocks ≡ s.index + w * s.blocks
+  pub at : MatchOption r (t.blocks ≡ 0) (λ x. (t.index ≤ x) × (x < t.index + w))
   pub sparse : MatchOption r (t.pulls ≡ s.pulls + 1) (λ x. FindsBlock w s x t)
-  pub summary : MatchOption r ((t.summary_pulls ≡ s.summary_pulls + s.summary_left + 1) × (t.summary_left ≡ 0)) (λ _. t.summary_pulls + t.summary_left ≡ s.summary_pulls + s.summary_left)
+  pub summary : MatchOption r ((t.summary_pulls ≡ s.summary_pulls + s.summary_left + 1) × (t.summary_left ≡ 0))
+      (λ _. t.summary_pulls + t.summary_left ≡ s.summary_pulls + s.summary_left)
 
 -- the blocks of w past block k that have one of the numbers, which ascend: each once, in order
 abbrev pub blocks_past : ℕ → ℕ → List ℕ → List ℕ
 blocks_past w k [] = []
 blocks_past w k (x ∷ xs) = if nat_lt k (x / w) then x / w ∷ blocks_past w (x / w) xs else blocks_past w k xs
 
--- What contracts see of a walk over two sets: the elements that are left, how often it pulled both, the number that
--- stands first in the block in hand, and how many blocks are past that block in the set that has more.
+-- What contracts see of a walk over two sets: the elements that are left, how often it pulled both, the first
+-- number of the block in hand, and how many blocks are past that block in the set that has more.
 pub record TwoSetWalk : Type 0 where
   pub left : List ℕ
   pub pulls : ℕ
-  pub place : ℕ
+  pub index : ℕ
   pub blocks : ℕ
 
 -- A call of `next` on such a walk, which pulls each block that it passes just once, and once more where it finds the
@@ -55,15 +56,15 @@ pub record AdvancesByEach (w : ℕ) (s : TwoSetWalk) (r : Option ℕ) (t : TwoSe
   pub item : YieldsFirst (λ walk. walk.left) s r t
   pub goes_on : s.pulls ≤ t.pulls
   pub pulled : MatchOption r (t.pulls ≡ s.pulls + s.blocks + 1) (λ _. t.pulls + t.blocks ≡ s.pulls + s.blocks)
-  pub along : t.place + w * t.blocks ≡ s.place + w * s.blocks
-  pub at : MatchOption r (t.blocks ≡ 0) (λ x. (t.place ≤ x) × (x < t.place + w))
+  pub along : t.index + w * t.blocks ≡ s.index + w * s.blocks
+  pub at : MatchOption r (t.blocks ≡ 0) (λ x. (t.index ≤ x) × (x < t.index + w))
 
 -- A walk went on to the next block or stayed, and what is left stayed.
 pub record GoesOn (w : ℕ) (s t : TwoSetWalk) : Type 0 where
   pub left : t.left ≡ s.left
   pub goes_on : s.pulls ≤ t.pulls
   pub pulled : t.pulls + t.blocks ≡ s.pulls + s.blocks
-  pub along : t.place + w * t.blocks ≡ s.place + w * s.blocks
+  pub along : t.index + w * t.blocks ≡ s.index + w * s.blocks
 
 -- What contracts see of a walk that keeps a bound on the elements left.
 pub record BoundedWalk : Type 0 where
@@ -87,11 +88,12 @@ pub record IsWalkedOutByEach (s : TwoSetWalk) (items : List ℕ) (t : TwoSetWalk
   pub ended : t.left ≡ []
   pub pulled : t.pulls ≡ s.pulls + s.blocks + 1
 
--- At the making of a walk over the elements of a list of truth values, in blocks of w. It has pulled one block, or found that there is none.
+-- At the making of a walk over the elements of a list of truth values, in blocks of w. It has pulled one block, or
+-- found that there is none.
 pub record IsAtStart (w : ℕ) (values : List Bool) (s : Walk) : Type 0 where
   pub left : s.left ≡ elements values
   pub pulls : s.pulls ≡ 1
-  pub place : s.place ≡ 0
+  pub index : s.index ≡ 0
   pub blocks : s.blocks ≡ blocks_for w (length values) - 1
   pub summary : s.summary_pulls + s.summary_left ≡ max 1 (blocks_for w (blocks_for w (length values)))
   -- so that the elements can be counted
@@ -102,30 +104,37 @@ pub record IsAtStart (w : ℕ) (values : List Bool) (s : Walk) : Type 0 where
 pub record IsAtStartFrom (w : ℕ) (values : List Bool) (from : ℕ) (s : Walk) : Type 0 where
   pub left : s.left ≡ those_from (elements values) from
   pub pulls : s.pulls ≡ 1
-  pub place : s.place ≡ min (from / w) (blocks_for w (length values) - 1) * w
+  pub index : s.index ≡ min (from / w) (blocks_for w (length values) - 1) * w
   pub blocks : s.blocks ≡ blocks_for w (length values) - 1 - from / w
-  pub summary : s.summary_pulls + s.summary_left ≡ max 1 (blocks_for w (blocks_for w (length values)) - min (from / w) (blocks_for w (length values) - 1) / w)
+  pub summary : s.summary_pulls + s.summary_left ≡ max 1
+      (blocks_for w (blocks_for w (length values)) - min (from / w) (blocks_for w (length values) - 1) / w)
   pub few : length s.left < 2 ^ 64
 
 -- At the making of a walk over what two lists of truth values become, in blocks of w. It has pulled both once, and
 -- has as many blocks to go as the longer one.
 pub record StartsOverTwo (w : ℕ) (a b : List Bool) (s : TwoSetWalk) : Type 0 where
   pub pulls : s.pulls ≡ 1
-  pub place : s.place ≡ 0
+  pub index : s.index ≡ 0
   pub blocks : s.blocks ≡ max (blocks_for w (length a)) (blocks_for w (length b)) - 1
   -- so that the elements can be counted
   pub few : length s.left < 2 ^ 64
 
 -- What whole walks over two sets give, in blocks of w. S is what contracts see of such a walk, and `walk` what that
 -- says of the walk itself.
-pub record WalksOverTwo {S : Type 0} (w : ℕ) (merge : Merge) (walk : S → TwoSetWalk) (next : S → Option ℕ → S → Type 0) : Type 0 where
+pub record WalksOverTwo {S : Type 0} (w : ℕ) (merge : Merge) (walk : S → TwoSetWalk)
+    (next : S → Option ℕ → S → Type 0) : Type 0 where
   -- from any point, up to the first None
   pub rest : (s t : S) (items : List ℕ) → YieldsThen next s items None t → IsWalkedOutByEach (walk s) items (walk t)
   -- from the making on
-  pub whole : (a b : List Bool) (s t : S) (items : List ℕ) → (walk s).left ≡ merged_sets merge (elements a) (elements b) → StartsOverTwo w a b (walk s) → YieldsThen next s items None t
-      → (items ≡ merged_sets merge (elements a) (elements b)) × ((walk t).pulls ≡ max 1 (max (blocks_for w (length a)) (blocks_for w (length b))) + 1)
+  pub whole : (a b : List Bool) (s t : S) (items : List ℕ)
+      → (walk s).left ≡ merge_of_sets merge (elements a) (elements b) → StartsOverTwo w a b (walk s)
+      → YieldsThen next s items None t
+      → (items ≡ merge_of_sets merge (elements a) (elements b))
+      × ((walk t).pulls ≡ max 1 (max (blocks_for w (length a)) (blocks_for w (length b))) + 1)
   -- after an item x the block in hand is the one that has it
-  pub in_hand : (a b : List Bool) (s t : S) (items : List ℕ) (x : ℕ) → StartsOverTwo w a b (walk s) → YieldsThen next s items (Some x) t → (walk t).blocks ≡ max (blocks_for w (length a)) (blocks_for w (length b)) - 1 - x / w
+  pub in_hand : (a b : List Bool) (s t : S) (items : List ℕ) (x : ℕ) → StartsOverTwo w a b (walk s)
+      → YieldsThen next s items (Some x) t → (walk t).blocks
+      ≡ max (blocks_for w (length a)) (blocks_for w (length b)) - 1 - x / w
   pub for_good : (s t : S) (r : Option ℕ) → (walk s).left ≡ [] → next s r t → (r ≡ None) × ((walk t).left ≡ [])
   -- however `next` is called, it is these calls
   pub count : (s : S) (items : List ℕ) → Drains next s items → length items ≡ length (walk s).left

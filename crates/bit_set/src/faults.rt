@@ -1,3 +1,4 @@
+// Why a set does not take something in. The faults of the JSON form are in `json`.
 ghost use Rattle.std.specs.Prelude.{◌≡◌, alloc_error};
 
 use crate::bit_vec::BitsError;

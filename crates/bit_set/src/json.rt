@@ -1,7 +1,7 @@
 //! The JSON form of sets: an object with the one member `bit_vec`, an object with the members
 //! `storage`, the numbers of the blocks, and `nbits`, the length.
 ghost use Rattle.std.specs.Prelude.{◌≡◌, ◌↔◌, ℕ, List, [], alloc_error, IfOk, IsErrOf, IsOk, length, map};
-ghost use Rattle.bit_words.specs.Bits.{blocks_for, blocks_of, room_of};
+ghost use Rattle.bit_words.specs.Bits.{blocks_for, blocks_of, capacity_of};
 ghost use Rattle.serde_json.specs.View.{view};
 ghost use Rattle.bit_set.specs.Json.{IsFirstFault, Spells};
 ghost use Rattle.std.specs.declared.alloc.AllocError.{AllocError};
@@ -34,7 +34,7 @@ pub enum JsonError {
     /// The length asks for another number of blocks.
     #[error("a wrong number of blocks")]
     Blocks,
-    /// The last block has a 1 at a place for an index at or past the length.
+    /// The last block has a bit 1 that is for an index at or past the length.
     #[error("a bit past the length")]
     Unclean,
     /// Memory for the set was refused.
@@ -70,7 +70,8 @@ impl<B: JsonBlock> BitSet<B> {
     ///
     /// The set {0, 2}, of length 3, gives `{"bit_vec": {"storage": [5], "nbits": 3}}`.
     pub fn to_json(&self, alloc: Global) -> Result<Value, AllocError>
-        ensures { IfOk result (λ value. Spells B.width (view value) (blocks_of B.width self.now.values) (length self.now.values)) }
+        ensures { IfOk result (λ value. Spells B.width (view value) (blocks_of B.width self.now.values)
+            (length self.now.values)) }
     {
         let bits = self.get_ref();
         let storage = numbers(alloc, bits.storage())?;
@@ -81,13 +82,16 @@ impl<B: JsonBlock> BitSet<B> {
     /// The tests come first, and the first fault in the order of [`JsonError`] is returned. `Memory` comes
     /// only where the value spells a set, and never where that has length 0.
     pub fn from_json(alloc: Global, value: &Value) -> Result<Self, JsonError>
-        ensures ok { IfOk result (λ set. Spells B.width (view value.now) (blocks_of B.width set.values) (length set.values)) }
-        ensures room { IfOk result (λ set. set.room ≡ room_of B.width (blocks_for B.width (length set.values))) }
+        ensures ok { IfOk result (λ set. Spells B.width (view value.now) (blocks_of B.width set.values)
+            (length set.values)) }
+        ensures capacity { IfOk result (λ set. set.capacity
+            ≡ capacity_of B.width (blocks_for B.width (length set.values))) }
         ensures shape { IsErrOf result JsonError.Shape ↔ IsFirstFault B.width (view value.now) JsonError.Shape }
         ensures number { IsErrOf result JsonError.Number ↔ IsFirstFault B.width (view value.now) JsonError.Number }
         ensures blocks { IsErrOf result JsonError.Blocks ↔ IsFirstFault B.width (view value.now) JsonError.Blocks }
         ensures unclean { IsErrOf result JsonError.Unclean ↔ IsFirstFault B.width (view value.now) JsonError.Unclean }
-        ensures memory { (refused : AllocError) → IsErrOf result (JsonError.Memory refused) → (ms : List ℕ) × (n : ℕ) × Spells B.width (view value.now) ms n }
+        ensures memory { (refused : AllocError) → IsErrOf result (JsonError.Memory refused)
+            → (ms : List ℕ) × (n : ℕ) × Spells B.width (view value.now) ms n }
         ensures empty { Spells B.width (view value.now) [] 0 → IsOk result }
     {
         let (entries, len) = checked::<B>(value)?;

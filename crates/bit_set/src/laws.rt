@@ -12,13 +12,13 @@ ghost use Rattle.bit_set.specs.Calls.{Change, Changes, Event, Happens, outcomes,
 ghost use Rattle.bit_set.specs.Calls.Outcome.{Done, NoMemory};
 ghost use Rattle.bit_set.specs.Effects.{TakesIn};
 ghost use Rattle.bit_set.specs.Members.{TakesLeast};
-ghost use Rattle.bit_set.specs.Room.{Call, Run, room_wanted};
+ghost use Rattle.bit_set.specs.Capacity.{Call, Run, capacity_wanted};
 ghost use Rattle.bit_set.specs.Json.{IsFirstFault, Spells};
 ghost use Rattle.bit_set.specs.declared.json.JsonError.{JsonError};
 ghost use Rattle.bit_set.specs.Walk.{Walk, TwoSetWalk, BoundedWalk, IsWalkedOut, IsAtStart, IsAtStartFrom, StartsOverTwo, WalksOverTwo, blocks_past};
-ghost use Rattle.bit_words.specs.Merges.{merged_value, merged};
-ghost use Rattle.bit_words.specs.declared.bit_vec.merge.Merge.{Merge};
-ghost use Rattle.bit_set.specs.Sets.{IsAscending, has, put, put_all, without, those_below, those_from, those_new, elements, bound_of, union, intersection, difference, symmetric_difference, merged_sets, is_subset, is_disjoint};
+ghost use Rattle.bit_words.specs.Merges.{merge_of_values, merge_of};
+ghost use Rattle.bit_words.specs.declared.block.merge.Merge.{Merge};
+ghost use Rattle.bit_set.specs.Sets.{IsAscending, has, put, put_all, without, those_below, those_from, those_new, elements, bound_of, union, intersection, difference, symmetric_difference, merge_of_sets, is_subset, is_disjoint};
 ghost use Rattle.bit_set.specs.Order.{same_sets, order_of_sets, fed_of_set};
 
 use crate::bit_vec::Merge;
@@ -34,7 +34,8 @@ pub fn members_of_sets()
     ensures those_below { (s : List ℕ) (n m : ℕ) → has (those_below s n) m ≡ (nat_lt m n && has s m) }
     ensures those_from { (s : List ℕ) (n m : ℕ) → has (those_from s n) m ≡ (nat_le n m && has s m) }
     ensures put_all { (s items : List ℕ) (m : ℕ) → has (put_all s items) m ≡ (has items m || has s m) }
-    ensures elements { (values : List Bool) (m : ℕ) → IsTrue (has (elements values) m) ↔ (slice_get values m ≡ Some true) }
+    ensures elements { (values : List Bool) (m : ℕ) → IsTrue (has (elements values) m)
+        ↔ (slice_get values m ≡ Some true) }
 {}
 
 /// How many members each operation leaves, of a set whose list ascends. Of items that are put in one by
@@ -81,7 +82,8 @@ pub fn sets_are_their_members()
     ensures set { (s t : List ℕ) → IsAscending s → IsAscending t → ((n : ℕ) → has s n ≡ has t n) → s ≡ t }
     ensures values { (a b : List Bool) → elements a ≡ elements b → length a ≡ length b → a ≡ b }
     ensures bound_above { (numbers : List ℕ) (n : ℕ) → IsTrue (has numbers n) → n < bound_of numbers }
-    ensures bound_least { (numbers : List ℕ) (bound : ℕ) → ((n : ℕ) → IsTrue (has numbers n) → n < bound) → bound_of numbers ≤ bound }
+    ensures bound_least { (numbers : List ℕ) (bound : ℕ) → ((n : ℕ) → IsTrue (has numbers n) → n < bound)
+        → bound_of numbers ≤ bound }
 {}
 
 /// The same operations are those of finite sets.
@@ -89,9 +91,12 @@ pub fn sets_are_finite_sets()
     ensures contains { (s : List ℕ) (n : ℕ) → set.contains (set.from_list {R = nat_cmp} s) n ≡ has s n }
     ensures insert { (s : List ℕ) (n : ℕ) → set.from_list {R = nat_cmp} (put s n) ≡ set.insert (set.from_list s) n }
     ensures remove { (s : List ℕ) (n : ℕ) → set.from_list {R = nat_cmp} (without s n) ≡ set.remove (set.from_list s) n }
-    ensures retain { (s : List ℕ) (n : ℕ) → set.from_list {R = nat_cmp} (those_below s n) ≡ set.retain (set.from_list s) (λ m. nat_lt m n) }
-    ensures retain_from { (s : List ℕ) (n : ℕ) → set.from_list {R = nat_cmp} (those_from s n) ≡ set.retain (set.from_list s) (λ m. nat_le n m) }
-    ensures union { (s items : List ℕ) → set.from_list {R = nat_cmp} (put_all s items) ≡ set.union (set.from_list s) (set.from_list items) }
+    ensures retain { (s : List ℕ) (n : ℕ) → set.from_list {R = nat_cmp} (those_below s n)
+        ≡ set.retain (set.from_list s) (λ m. nat_lt m n) }
+    ensures retain_from { (s : List ℕ) (n : ℕ) → set.from_list {R = nat_cmp} (those_from s n)
+        ≡ set.retain (set.from_list s) (λ m. nat_le n m) }
+    ensures union { (s items : List ℕ) → set.from_list {R = nat_cmp} (put_all s items)
+        ≡ set.union (set.from_list s) (set.from_list items) }
     ensures len { (s : List ℕ) → IsAscending s → set.len (set.from_list {R = nat_cmp} s) ≡ length s }
 {}
 
@@ -100,8 +105,10 @@ pub fn members_of_merged_sets()
     ensures union { (s t : List ℕ) (n : ℕ) → has (union s t) n ≡ (has s n || has t n) }
     ensures intersection { (s t : List ℕ) (n : ℕ) → has (intersection s t) n ≡ (has s n && has t n) }
     ensures difference { (s t : List ℕ) (n : ℕ) → has (difference s t) n ≡ (has s n && not (has t n)) }
-    ensures symmetric_difference { (s t : List ℕ) (n : ℕ) → has (symmetric_difference s t) n ≡ ((has s n && not (has t n)) || (not (has s n) && has t n)) }
-    ensures merged { (merge : Merge) (s t : List ℕ) (n : ℕ) → has (merged_sets merge s t) n ≡ merged_value merge (has s n) (has t n) }
+    ensures symmetric_difference { (s t : List ℕ) (n : ℕ) → has (symmetric_difference s t) n
+        ≡ ((has s n && not (has t n)) || (not (has s n) && has t n)) }
+    ensures merged { (merge : Merge) (s t : List ℕ) (n : ℕ)
+        → has (merge_of_sets merge s t) n ≡ merge_of_values merge (has s n) (has t n) }
 {}
 
 /// What two sets become is strictly ascending.
@@ -110,28 +117,36 @@ pub fn merged_sets_ascend()
     ensures intersection { (s t : List ℕ) → IsAscending s → IsAscending (intersection s t) }
     ensures difference { (s t : List ℕ) → IsAscending s → IsAscending (difference s t) }
     ensures symmetric_difference { (s t : List ℕ) → IsAscending s → IsAscending (symmetric_difference s t) }
-    ensures merged { (merge : Merge) (s t : List ℕ) → IsAscending s → IsAscending (merged_sets merge s t) }
+    ensures merged { (merge : Merge) (s t : List ℕ) → IsAscending s → IsAscending (merge_of_sets merge s t) }
 {}
 
 /// What two sets become is what two finite sets become. What is in just one of them is what the first
 /// has alone, and what the second has alone.
 pub fn merged_sets_are_finite_sets()
-    ensures union { (s t : List ℕ) → set.from_list {R = nat_cmp} (union s t) ≡ set.union (set.from_list s) (set.from_list t) }
-    ensures intersection { (s t : List ℕ) → set.from_list {R = nat_cmp} (intersection s t) ≡ set.intersection (set.from_list s) (set.from_list t) }
-    ensures difference { (s t : List ℕ) → set.from_list {R = nat_cmp} (difference s t) ≡ set.difference (set.from_list s) (set.from_list t) }
+    ensures union { (s t : List ℕ) → set.from_list {R = nat_cmp} (union s t)
+        ≡ set.union (set.from_list s) (set.from_list t) }
+    ensures intersection { (s t : List ℕ) → set.from_list {R = nat_cmp} (intersection s t)
+        ≡ set.intersection (set.from_list s) (set.from_list t) }
+    ensures difference { (s t : List ℕ) → set.from_list {R = nat_cmp} (difference s t)
+        ≡ set.difference (set.from_list s) (set.from_list t) }
     ensures symmetric_difference { (s t : List ℕ) → set.from_list {R = nat_cmp} (symmetric_difference s t)
-        ≡ set.union (set.difference (set.from_list s) (set.from_list t)) (set.difference (set.from_list t) (set.from_list s)) }
+        ≡ set.union (set.difference (set.from_list s) (set.from_list t))
+        (set.difference (set.from_list t) (set.from_list s)) }
 {}
 
 /// Where two lists of truth values become one value by value, the shorter one going on with false, the
 /// sets that they keep become one.
 pub fn merged_lists_keep_merged_sets()
-    ensures union { (a b : List Bool) → elements (merged Merge.Union a b) ≡ union (elements a) (elements b) }
-    ensures intersection { (a b : List Bool) → elements (merged Merge.Intersection a b) ≡ intersection (elements a) (elements b) }
-    ensures difference { (a b : List Bool) → elements (merged Merge.Difference a b) ≡ difference (elements a) (elements b) }
-    ensures symmetric_difference { (a b : List Bool) → elements (merged Merge.Symmetric a b) ≡ symmetric_difference (elements a) (elements b) }
-    ensures merged { (merge : Merge) (a b : List Bool) → elements (merged merge a b) ≡ merged_sets merge (elements a) (elements b) }
-    ensures length { (merge : Merge) (a b : List Bool) → length (merged merge a b) ≡ max (length a) (length b) }
+    ensures union { (a b : List Bool) → elements (merge_of Merge.Union a b) ≡ union (elements a) (elements b) }
+    ensures intersection { (a b : List Bool) → elements (merge_of Merge.Intersection a b)
+        ≡ intersection (elements a) (elements b) }
+    ensures difference { (a b : List Bool) → elements (merge_of Merge.Difference a b)
+        ≡ difference (elements a) (elements b) }
+    ensures symmetric_difference { (a b : List Bool) → elements (merge_of Merge.Symmetric a b)
+        ≡ symmetric_difference (elements a) (elements b) }
+    ensures merged { (merge : Merge) (a b : List Bool)
+        → elements (merge_of merge a b) ≡ merge_of_sets merge (elements a) (elements b) }
+    ensures length { (merge : Merge) (a b : List Bool) → length (merge_of merge a b) ≡ max (length a) (length b) }
 {}
 
 /// When a set is in another, and when two have nothing in common.
@@ -140,21 +155,27 @@ pub fn sets_in_one_another()
     ensures disjoint { (s t : List ℕ) → IsTrue (is_disjoint s t) ↔ ((n : ℕ) → IsTrue (has s n) → IsTrue (has t n) → ⊥) }
     ensures no_difference { (s t : List ℕ) → IsTrue (is_subset s t) ↔ (difference s t ≡ []) }
     ensures no_intersection { (s t : List ℕ) → IsTrue (is_disjoint s t) ↔ (intersection s t ≡ []) }
-    ensures both_ways { (s t : List ℕ) → IsAscending s → IsAscending t → (IsTrue (is_subset s t) × IsTrue (is_subset t s)) ↔ (s ≡ t) }
-    ensures finite_sets { (s t : List ℕ) → is_subset s t ≡ set.is_subset (set.from_list {R = nat_cmp} s) (set.from_list t) }
+    ensures both_ways { (s t : List ℕ) → IsAscending s → IsAscending t
+        → (IsTrue (is_subset s t) × IsTrue (is_subset t s)) ↔ (s ≡ t) }
+    ensures finite_sets { (s t : List ℕ) → is_subset s t ≡ set.is_subset (set.from_list {R = nat_cmp} s)
+        (set.from_list t) }
 {}
 
-/// What a set in two parts is, as `split_off` parts one: its members below a number, and the others. The
-/// two have nothing in common, each of the first is below each of the second, and together they are the
-/// set. So `append` of the part that was handed out leaves the list of truth values as it was before:
-/// the old elements, and the old length.
+/// What a set in two parts is, as `split_off` parts one: its members below a number, and the others. The two have
+/// nothing in common, each of the first is below each of the second, and together they are the set. So `append`
+/// of the part that was returned leaves the list of truth values as it was before: the old elements, and the old
+/// length.
 pub fn parted_sets()
     ensures joined { (s : List ℕ) (at : ℕ) → IsAscending s → union (those_below s at) (those_from s at) ≡ s }
     ensures disjoint { (s : List ℕ) (at : ℕ) → IsTrue (is_disjoint (those_below s at) (those_from s at)) }
-    ensures below { (s : List ℕ) (at m n : ℕ) → IsTrue (has (those_below s at) m) → IsTrue (has (those_from s at) n) → m < n }
-    ensures rejoined { (old first part new : List Bool) (at : ℕ) → elements first ≡ those_below (elements old) at → length first ≡ min (length old) at
-        → elements part ≡ those_from (elements old) at → length part ≡ (if nat_lt at (length old) then length old else 0)
-        → elements new ≡ union (elements first) (elements part) → length new ≡ max (length first) (length part) → new ≡ old }
+    ensures below { (s : List ℕ) (at m n : ℕ) → IsTrue (has (those_below s at) m) → IsTrue (has (those_from s at) n)
+        → m < n }
+    ensures rejoined { (old first part new : List Bool) (at : ℕ) → elements first ≡ those_below (elements old) at
+        → length first ≡ min (length old) at
+        → elements part ≡ those_from (elements old) at
+        → length part ≡ (if nat_lt at (length old) then length old else 0)
+        → elements new ≡ union (elements first) (elements part) → length new ≡ max (length first) (length part)
+        → new ≡ old }
 {}
 
 /// What `from_iter` collects of a whole walk over what two sets become is what the operation in place
@@ -162,25 +183,33 @@ pub fn parted_sets()
 pub fn collected_walks<B: BitBlock + 'static>()
     ensures set { (s : List ℕ) → IsAscending s → put_all [] s ≡ s }
     ensures union { (a b c : List Bool) (s : TwoSetWalk) (items : List ℕ) → s.left ≡ union (elements a) (elements b)
-        → Drains ⟦<Union<'static, B> as Iterator>⟧.next_gives s items → elements c ≡ put_all [] items → elements c ≡ union (elements a) (elements b) }
-    ensures intersection { (a b c : List Bool) (s : BoundedWalk) (items : List ℕ) → s.walk.left ≡ intersection (elements a) (elements b)
-        → Drains ⟦<Intersection<'static, B> as Iterator>⟧.next_gives s items → elements c ≡ put_all [] items → elements c ≡ intersection (elements a) (elements b) }
-    ensures difference { (a b c : List Bool) (s : TwoSetWalk) (items : List ℕ) → s.left ≡ difference (elements a) (elements b)
-        → Drains ⟦<Difference<'static, B> as Iterator>⟧.next_gives s items → elements c ≡ put_all [] items → elements c ≡ difference (elements a) (elements b) }
-    ensures symmetric_difference { (a b c : List Bool) (s : TwoSetWalk) (items : List ℕ) → s.left ≡ symmetric_difference (elements a) (elements b)
-        → Drains ⟦<SymmetricDifference<'static, B> as Iterator>⟧.next_gives s items → elements c ≡ put_all [] items → elements c ≡ symmetric_difference (elements a) (elements b) }
+        → Drains ⟦<Union<'static, B> as Iterator>⟧.next_gives s items → elements c ≡ put_all [] items
+        → elements c ≡ union (elements a) (elements b) }
+    ensures intersection { (a b c : List Bool) (s : BoundedWalk) (items : List ℕ)
+        → s.walk.left ≡ intersection (elements a) (elements b)
+        → Drains ⟦<Intersection<'static, B> as Iterator>⟧.next_gives s items → elements c ≡ put_all [] items
+        → elements c ≡ intersection (elements a) (elements b) }
+    ensures difference { (a b c : List Bool) (s : TwoSetWalk) (items : List ℕ)
+        → s.left ≡ difference (elements a) (elements b)
+        → Drains ⟦<Difference<'static, B> as Iterator>⟧.next_gives s items → elements c ≡ put_all [] items
+        → elements c ≡ difference (elements a) (elements b) }
+    ensures symmetric_difference { (a b c : List Bool) (s : TwoSetWalk) (items : List ℕ)
+        → s.left ≡ symmetric_difference (elements a) (elements b)
+        → Drains ⟦<SymmetricDifference<'static, B> as Iterator>⟧.next_gives s items → elements c ≡ put_all [] items
+        → elements c ≡ symmetric_difference (elements a) (elements b) }
 {}
 
-/// How sets compare. Sets are the same where their lists are one list. The order is total, and answers
-/// `Equal` for the same sets alone. The first number that just one set has decides: that set is less
-/// where the other goes on past the number, and greater where the other ends. So it is not the order of
-/// subsets. The same sets feed a hasher the same.
+/// How sets compare. Sets are the same where their lists are one list. The order is total, and gives `Equal` for
+/// the same sets alone. The first number that just one set has decides: that set is less where the other goes on
+/// past the number, and greater where the other ends. So it is not the order of subsets. The same sets feed a
+/// hasher the same.
 pub fn sets_compare()
     ensures same { (s t : List ℕ) → IsTrue (same_sets s t) ↔ (s ≡ t) }
     ensures equivalence { IsEquivalence same_sets }
     ensures total { IsTotalOrder order_of_sets }
     ensures equal { (s t : List ℕ) → (order_of_sets s t ≡ Ordering.Equal) ↔ IsTrue (same_sets s t) }
-    ensures goes_on { (front s t : List ℕ) (x y : ℕ) → x < y → order_of_sets (front ++ x ∷ s) (front ++ y ∷ t) ≡ Ordering.Less }
+    ensures goes_on { (front s t : List ℕ) (x y : ℕ) → x < y
+        → order_of_sets (front ++ x ∷ s) (front ++ y ∷ t) ≡ Ordering.Less }
     ensures ends { (front s : List ℕ) (x : ℕ) → order_of_sets front (front ++ x ∷ s) ≡ Ordering.Less }
     ensures no_subsets_first { order_of_sets (0 ∷ 1 ∷ []) (1 ∷ []) ≡ Ordering.Less }
     ensures fed { (s t : List ℕ) → IsTrue (same_sets s t) → fed_of_set s ≡ fed_of_set t }
@@ -193,12 +222,18 @@ pub fn sets_compare()
 /// than there are blocks, and two where there is none. However `next` is called, it is these calls, so the
 /// number of items that generic code counts is the number of elements left.
 pub fn whole_walks<B: BitBlock + 'static>()
-    ensures rest { (s t : Walk) (items : List ℕ) → YieldsThen ⟦<Iter<'static, B> as Iterator>⟧.next_gives s items None t → IsWalkedOut s items t }
-    ensures whole { (values : List Bool) (s t : Walk) (items : List ℕ) → IsAtStart B.width values s → YieldsThen ⟦<Iter<'static, B> as Iterator>⟧.next_gives s items None t → (items ≡ elements values) × (t.pulls ≤ max 1 (blocks_for B.width (length values)) + 1) }
+    ensures rest { (s t : Walk) (items : List ℕ) → YieldsThen ⟦<Iter<'static, B> as Iterator>⟧.next_gives s items None t
+        → IsWalkedOut s items t }
+    ensures whole { (values : List Bool) (s t : Walk) (items : List ℕ) → IsAtStart B.width values s
+        → YieldsThen ⟦<Iter<'static, B> as Iterator>⟧.next_gives s items None t
+        → (items ≡ elements values) × (t.pulls ≤ max 1 (blocks_for B.width (length values)) + 1) }
     ensures in_hand { (values : List Bool) (s t : Walk) (items : List ℕ) (x : ℕ) → IsAtStart B.width values s
-        → YieldsThen ⟦<Iter<'static, B> as Iterator>⟧.next_gives s items (Some x) t → t.blocks ≡ blocks_for B.width (length values) - 1 - x / B.width }
-    ensures for_good { (s t : Walk) (r : Option ℕ) → s.left ≡ [] → ⟦<Iter<'static, B> as Iterator>⟧.next_gives s r t → (r ≡ None) × (t.left ≡ []) }
-    ensures count { (s : Walk) (items : List ℕ) → Drains ⟦<Iter<'static, B> as Iterator>⟧.next_gives s items → length items ≡ length s.left }
+        → YieldsThen ⟦<Iter<'static, B> as Iterator>⟧.next_gives s items (Some x) t
+        → t.blocks ≡ blocks_for B.width (length values) - 1 - x / B.width }
+    ensures for_good { (s t : Walk) (r : Option ℕ) → s.left ≡ [] → ⟦<Iter<'static, B> as Iterator>⟧.next_gives s r t
+        → (r ≡ None) × (t.left ≡ []) }
+    ensures count { (s : Walk) (items : List ℕ) → Drains ⟦<Iter<'static, B> as Iterator>⟧.next_gives s items
+        → length items ≡ length s.left }
 {}
 
 /// How often whole walks over a set pull. From any point up to the first `None` there is just one pull more
@@ -208,11 +243,20 @@ pub fn whole_walks<B: BitBlock + 'static>()
 /// The nonzero blocks past block `k` are the blocks past it that an element which is left lies in, each once
 /// and in ascending order.
 pub fn sparse_walks<B: BitBlock + 'static>()
-    ensures rest { (s t : Walk) (items : List ℕ) → YieldsThen ⟦<Iter<'static, B> as Iterator>⟧.next_gives s items None t → t.pulls ≡ s.pulls + length (blocks_past B.width (s.place / B.width) s.left) + 1 }
-    ensures whole { (values : List Bool) (s t : Walk) (items : List ℕ) → IsAtStart B.width values s → YieldsThen ⟦<Iter<'static, B> as Iterator>⟧.next_gives s items None t → t.pulls ≡ length (blocks_past B.width 0 (elements values)) + 2 }
-    ensures summary { (values : List Bool) (s t : Walk) (items : List ℕ) → IsAtStart B.width values s → YieldsThen ⟦<Iter<'static, B> as Iterator>⟧.next_gives s items None t → t.summary_pulls ≡ max 1 (blocks_for B.width (blocks_for B.width (length values))) + 1 }
-    ensures whole_from { (values : List Bool) (from : ℕ) (s t : Walk) (items : List ℕ) → IsAtStartFrom B.width values from s → YieldsThen ⟦<Iter<'static, B> as Iterator>⟧.next_gives s items None t → (items ≡ those_from (elements values) from) × (t.pulls ≡ length (blocks_past B.width (s.place / B.width) (those_from (elements values) from)) + 2) }
-    ensures members { (k q : ℕ) (numbers : List ℕ) → IsAscending numbers → has (blocks_past B.width k numbers) q ≡ (nat_lt k q && has (map (λ n. n / B.width) numbers) q) }
+    ensures rest { (s t : Walk) (items : List ℕ) → YieldsThen ⟦<Iter<'static, B> as Iterator>⟧.next_gives s items None t
+        → t.pulls ≡ s.pulls + length (blocks_past B.width (s.index / B.width) s.left) + 1 }
+    ensures whole { (values : List Bool) (s t : Walk) (items : List ℕ) → IsAtStart B.width values s
+        → YieldsThen ⟦<Iter<'static, B> as Iterator>⟧.next_gives s items None t
+        → t.pulls ≡ length (blocks_past B.width 0 (elements values)) + 2 }
+    ensures summary { (values : List Bool) (s t : Walk) (items : List ℕ) → IsAtStart B.width values s
+        → YieldsThen ⟦<Iter<'static, B> as Iterator>⟧.next_gives s items None t
+        → t.summary_pulls ≡ max 1 (blocks_for B.width (blocks_for B.width (length values))) + 1 }
+    ensures whole_from { (values : List Bool) (from : ℕ) (s t : Walk) (items : List ℕ)
+        → IsAtStartFrom B.width values from s → YieldsThen ⟦<Iter<'static, B> as Iterator>⟧.next_gives s items None t
+        → (items ≡ those_from (elements values) from)
+        × (t.pulls ≡ length (blocks_past B.width (s.index / B.width) (those_from (elements values) from)) + 2) }
+    ensures members { (k q : ℕ) (numbers : List ℕ) → IsAscending numbers
+        → has (blocks_past B.width k numbers) q ≡ (nat_lt k q && has (map (λ n. n / B.width) numbers) q) }
     ensures ascend { (k : ℕ) (numbers : List ℕ) → IsAscending (blocks_past B.width k numbers) }
 {}
 
@@ -221,9 +265,12 @@ pub fn sparse_walks<B: BitBlock + 'static>()
 /// from the making on one more than the set with more blocks has, and two where both have none.
 pub fn whole_walks_over_two_sets<B: BitBlock + 'static>()
     ensures union { WalksOverTwo B.width Merge.Union (λ walk. walk) ⟦<Union<'static, B> as Iterator>⟧.next_gives }
-    ensures intersection { WalksOverTwo B.width Merge.Intersection (λ it. it.walk) ⟦<Intersection<'static, B> as Iterator>⟧.next_gives }
-    ensures difference { WalksOverTwo B.width Merge.Difference (λ walk. walk) ⟦<Difference<'static, B> as Iterator>⟧.next_gives }
-    ensures symmetric_difference { WalksOverTwo B.width Merge.Symmetric (λ walk. walk) ⟦<SymmetricDifference<'static, B> as Iterator>⟧.next_gives }
+    ensures intersection { WalksOverTwo B.width Merge.Intersection
+        (λ it. it.walk) ⟦<Intersection<'static, B> as Iterator>⟧.next_gives }
+    ensures difference { WalksOverTwo B.width Merge.Difference
+        (λ walk. walk) ⟦<Difference<'static, B> as Iterator>⟧.next_gives }
+    ensures symmetric_difference { WalksOverTwo B.width Merge.Symmetric
+        (λ walk. walk) ⟦<SymmetricDifference<'static, B> as Iterator>⟧.next_gives }
 {}
 
 /// What each of the five walks gives up to the first `None` is strictly ascending.
@@ -232,22 +279,28 @@ pub fn whole_walks_ascend<B: BitBlock + 'static>()
         → YieldsThen ⟦<Iter<'static, B> as Iterator>⟧.next_gives s items None t → IsAscending items }
     ensures union { (a b : List Bool) (s t : TwoSetWalk) (items : List ℕ) → s.left ≡ union (elements a) (elements b)
         → YieldsThen ⟦<Union<'static, B> as Iterator>⟧.next_gives s items None t → IsAscending items }
-    ensures intersection { (a b : List Bool) (s t : BoundedWalk) (items : List ℕ) → s.walk.left ≡ intersection (elements a) (elements b)
+    ensures intersection { (a b : List Bool) (s t : BoundedWalk) (items : List ℕ)
+        → s.walk.left ≡ intersection (elements a) (elements b)
         → YieldsThen ⟦<Intersection<'static, B> as Iterator>⟧.next_gives s items None t → IsAscending items }
-    ensures difference { (a b : List Bool) (s t : TwoSetWalk) (items : List ℕ) → s.left ≡ difference (elements a) (elements b)
+    ensures difference { (a b : List Bool) (s t : TwoSetWalk) (items : List ℕ)
+        → s.left ≡ difference (elements a) (elements b)
         → YieldsThen ⟦<Difference<'static, B> as Iterator>⟧.next_gives s items None t → IsAscending items }
-    ensures symmetric_difference { (a b : List Bool) (s t : TwoSetWalk) (items : List ℕ) → s.left ≡ symmetric_difference (elements a) (elements b)
+    ensures symmetric_difference { (a b : List Bool) (s t : TwoSetWalk) (items : List ℕ)
+        → s.left ≡ symmetric_difference (elements a) (elements b)
         → YieldsThen ⟦<SymmetricDifference<'static, B> as Iterator>⟧.next_gives s items None t → IsAscending items }
 {}
 
-/// Room that is there is enough. Where a set has room for `room` values, as after `reserve_len(room)`, any
-/// run of calls that want no more is never refused, and the room stays: that of insertions below `room`,
-/// of removals, of `truncate`, `make_empty` and `reset`, of reservations of at most `room`, and of
-/// `clone_from`, `append` and operations in place with sets no longer than `room`. The clause `leaves` of
-/// each call says what it does to the room.
-pub fn runs_within_room()
-    ensures each { (room old new : ℕ) (calls : List (Call × Bool)) → room ≤ old → All (λ call. room_wanted call.0 ≤ room) calls → Run old calls new → All (λ call. IsTrue call.1) calls }
-    ensures stays { (room old new : ℕ) (calls : List (Call × Bool)) → room ≤ old → All (λ call. room_wanted call.0 ≤ room) calls → Run old calls new → new ≡ old }
+/// Capacity that is there is enough. Where a set has capacity for `capacity` values, as after
+/// `reserve_len(capacity)`, any run of calls that want no more never fails, and the capacity stays: that of
+/// insertions below `capacity`, of removals, of `truncate`, `make_empty` and `reset`, of reservations of at most
+/// `capacity`, and of `clone_from`, `append` and operations in place with sets no longer than `capacity`. The
+/// clause `leaves` of each call says what it does to the capacity.
+pub fn runs_within_capacity()
+    ensures each { (capacity old new : ℕ) (calls : List (Call × Bool)) → capacity ≤ old
+        → All (λ call. capacity_wanted call.0 ≤ capacity) calls → Run old calls new
+        → All (λ call. IsTrue call.1) calls }
+    ensures stays { (capacity old new : ℕ) (calls : List (Call × Bool)) → capacity ≤ old
+        → All (λ call. capacity_wanted call.0 ≤ capacity) calls → Run old calls new → new ≡ old }
 {}
 
 /// How long a shrunk set is. A list of truth values is true up to the bound of its elements, and as many
@@ -262,11 +315,16 @@ pub fn shrunk_lengths()
 /// the list of truth values and its elements. What is written of a set and read again is that set. Where
 /// a value spells a set it has no fault, and else one at most is the first.
 pub fn values_have_one_reading()
-    ensures reading { (w : ℕ) (value : Data) (ms ns : List ℕ) (m n : ℕ) → Spells w value ms m → Spells w value ns n → (ms ≡ ns) × (m ≡ n) }
-    ensures values { (w : ℕ) (value : Data) (a b : List Bool) → 0 < w → Spells w value (blocks_of w a) (length a) → Spells w value (blocks_of w b) (length b) → a ≡ b }
-    ensures elements { (w : ℕ) (value : Data) (a b : List Bool) → 0 < w → Spells w value (blocks_of w a) (length a) → Spells w value (blocks_of w b) (length b) → elements a ≡ elements b }
-    ensures no_fault { (w : ℕ) (value : Data) (ms : List ℕ) (n : ℕ) (fault : JsonError) → Spells w value ms n → ¬ IsFirstFault w value fault }
-    ensures one_fault { (w : ℕ) (value : Data) (a b : JsonError) → IsFirstFault w value a → IsFirstFault w value b → a ≡ b }
+    ensures reading { (w : ℕ) (value : Data) (ms ns : List ℕ) (m n : ℕ) → Spells w value ms m → Spells w value ns n
+        → (ms ≡ ns) × (m ≡ n) }
+    ensures values { (w : ℕ) (value : Data) (a b : List Bool) → 0 < w → Spells w value (blocks_of w a) (length a)
+        → Spells w value (blocks_of w b) (length b) → a ≡ b }
+    ensures elements { (w : ℕ) (value : Data) (a b : List Bool) → 0 < w → Spells w value (blocks_of w a) (length a)
+        → Spells w value (blocks_of w b) (length b) → elements a ≡ elements b }
+    ensures no_fault { (w : ℕ) (value : Data) (ms : List ℕ) (n : ℕ) (fault : JsonError) → Spells w value ms n
+        → ¬ IsFirstFault w value fault }
+    ensures one_fault { (w : ℕ) (value : Data) (a b : JsonError) → IsFirstFault w value a → IsFirstFault w value b
+        → a ≡ b }
 {}
 
 /// What calls make of a set, one after another, where each finds memory. The elements are those of set
@@ -350,6 +408,7 @@ pub fn full_walks<B: BitBlock + 'static>()
         → YieldsThen ⟦<Difference<'static, B> as Iterator>⟧.next_gives s items None t
         → t.pulls ≤ max (blocks_for B.width (length a)) (blocks_for B.width (length b)) + 2 }
     ensures symmetric_difference { (a b : List Bool) (s t : TwoSetWalk) (items : List ℕ)
-        → StartsOverTwo B.width a b s → YieldsThen ⟦<SymmetricDifference<'static, B> as Iterator>⟧.next_gives s items None t
+        → StartsOverTwo B.width a b s
+        → YieldsThen ⟦<SymmetricDifference<'static, B> as Iterator>⟧.next_gives s items None t
         → t.pulls ≤ max (blocks_for B.width (length a)) (blocks_for B.width (length b)) + 2 }
 {}

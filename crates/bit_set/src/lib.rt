@@ -1,13 +1,13 @@
-//! Sets of whole numbers, each kept as the true places of a bit vector.
+//! Sets of whole numbers, each kept as the true indexes of a bit vector.
 #![tactic(auto)]
 
+mod display;
 mod faults;
 mod hash;
 mod json;
 pub mod laws;
 mod order;
 mod set;
-mod texts;
 mod walk;
 
 /// Bit vectors: what a set is kept in, and what can be made a set.

@@ -9,17 +9,19 @@ ghost use Rattle.std.proofs.Common.{refl};
 ghost use Rattle.bit_set.specs.Members.{IsSameSet};
 ghost use Rattle.bit_set.specs.Sets.{elements, has};
 ghost use Rattle.bit_set.specs.Order.{same_sets, order_of_sets};
-ghost use Rattle.bit_set.specs.Differences.{IsFirstDifference};
+ghost use Rattle.bit_set.specs.Mismatches.{IsFirstMismatch};
 
 use crate::{BitBlock, BitSet};
 use std::cmp::Ordering;
 
-mod unlike;
+mod mismatch;
 
-use unlike::{block_or_zero, first_one, first_unlike, has_one_from, lowest_unlike};
+use mismatch::{
+    block_or_zero, first_mismatching_block, first_nonzero_block, has_one_from, lowest_mismatch,
+};
 
-/// Sets are equal where they have the same elements, whatever their lengths and rooms. Compares the
-/// blocks up to the first that differs.
+/// Sets are equal where they have the same elements, whatever their lengths and capacities. Compares the blocks
+/// up to the first that differs.
 impl<B: BitBlock> PartialEq for BitSet<B> {
     ghost eq = { λ s t. same_sets (elements s.values) (elements t.values) };
 
@@ -30,7 +32,7 @@ impl<B: BitBlock> PartialEq for BitSet<B> {
         ensures lists { result ≡ same_sets (elements self.now.values) (elements other.now.values) }
         ensures members { IsTrue result ↔ IsSameSet (elements self.now.values) (elements other.now.values) }
     {
-        first_difference(self, other).is_none()
+        first_mismatch(self, other).is_none()
     }
 }
 
@@ -66,7 +68,7 @@ impl<B: BitBlock> Ord for BitSet<B> {
     ghost matches_eq = { λ s t. texts_ties (elements s.values) (elements t.values) };
 
     fn cmp(&self, other: &Self) -> Ordering {
-        match first_difference(self, other) {
+        match first_mismatch(self, other) {
             None => Ordering::Equal,
             Some(number) if self.contains(number) => order_of_holder(other, number),
             Some(number) => order_of_holder(self, number).reverse(),
@@ -89,17 +91,17 @@ fn order_of_holder<B: BitBlock>(other: &BitSet<B>, number: usize) -> Ordering
 }
 
 // The least number that just one of the sets has.
-fn first_difference<B: BitBlock>(a: &BitSet<B>, b: &BitSet<B>) -> Option<usize>
+fn first_mismatch<B: BitBlock>(a: &BitSet<B>, b: &BitSet<B>) -> Option<usize>
     ensures { MatchOption result
         ((k : ℕ) → has (elements a.now.values) k ≡ has (elements b.now.values) k)
-        (IsFirstDifference (elements a.now.values) (elements b.now.values)) }
+        (IsFirstMismatch (elements a.now.values) (elements b.now.values)) }
 {
     let (left, right) = (a.get_ref().storage(), b.get_ref().storage());
-    match first_unlike(left, right) {
+    match first_mismatching_block(left, right) {
         None => None,
         Some(at) => {
-            let place = lowest_unlike(block_or_zero(left, at), block_or_zero(right, at));
-            Some(at * B::bits() + place)
+            let index = lowest_mismatch(block_or_zero(left, at), block_or_zero(right, at));
+            Some(at * B::bits() + index)
         }
     }
 }
@@ -115,5 +117,5 @@ fn has_from<B: BitBlock>(set: &BitSet<B>, from: usize) -> bool
     if has_one_from(block_or_zero(blocks, at), from % width) {
         return true;
     }
-    first_one(blocks, at + 1).is_some()
+    first_nonzero_block(blocks, at + 1).is_some()
 }

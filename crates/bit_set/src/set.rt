@@ -1,5 +1,7 @@
+// A set, and the calls that read it. Those that make or change one are in the folder; walks, order, texts and JSON
+// are beside it.
 ghost use Rattle.std.specs.Prelude.{◌≡◌, ◌≤◌, ◌↔◌, IsTrue, [], length};
-ghost use Rattle.bit_words.specs.Bits.{IsRoomOfBlocks};
+ghost use Rattle.bit_words.specs.Bits.{IsCapacityOfBlocks};
 ghost use Rattle.bit_set.specs.Members.{HasNone, IsCounted};
 ghost use Rattle.bit_set.specs.Sets.{elements, has};
 
@@ -7,18 +9,18 @@ use crate::BitBlock;
 use crate::bit_vec::BitVec;
 use std::marker::Model;
 
+mod capacity;
 mod changing;
-mod comparing;
-mod making;
-mod merging;
-mod room;
+mod in_place;
+mod new_sets;
+mod relations;
 mod splitting;
 
 /// A set of whole numbers below `usize::MAX`, kept as a bit vector: a number is an element exactly
 /// where the vector is true at it.
 ///
-/// Contracts see the bit vector, as its list of truth values and its room. The elements of the list
-/// and its length fix it.
+/// Contracts see the bit vector, as its list of truth values and its capacity. The elements of the list and its
+/// length fix it.
 ///
 /// ```
 /// let mut set = BitSet::new(alloc);
@@ -83,9 +85,9 @@ impl<B: BitBlock> BitSet<B> {
     /// Constant time.
     #[inline]
     pub fn capacity(&self) -> usize
-        ensures value { result ≡ self.now.room }
+        ensures value { result ≡ self.now.capacity }
         ensures holds_values { length self.now.values ≤ result }
-        ensures whole { IsRoomOfBlocks B.width self.now }
+        ensures whole { IsCapacityOfBlocks B.width self.now }
     {
         self.bits.capacity()
     }

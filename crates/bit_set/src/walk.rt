@@ -11,10 +11,10 @@ use crate::bit_vec::{BitVec, Nonzero, clear_below, take_lowest_one};
 use crate::{BitBlock, BitSet};
 use std::marker::Model;
 
+mod block_source;
 mod intersection;
+mod merged_blocks;
 mod ones;
-mod pairs;
-mod source;
 mod two_sets;
 
 pub use intersection::Intersection;
@@ -27,23 +27,31 @@ pub struct Iter<'a, B: BitBlock> {
     nonzero: Nonzero<'a, B>,
     // What is left of the block in hand.
     block: B,
-    // The place of its lowest digit.
-    place: usize,
+    // The index of its lowest bit.
+    index: usize,
 }
 
 impl<'a, B: BitBlock> Model for Iter<'a, B> {
     ghost use Rattle.bit_set.specs.Walk.{Walk};
-    ghost use Rattle.bit_set.specs.Places.{places, past_block, IsSparseWalk};
+    ghost use Rattle.bit_set.specs.Places.{indexes, past_block, IsSparseWalk};
 
     ghost Value = { Walk };
 
-    ghost view = { λ it. let past = past_block B.width B.number it.place it.nonzero.blocks it.nonzero.pulls in record { left = places B.width it.place (B.number it.block) past.values; pulls = it.nonzero.pulls; place = it.place; blocks = past.blocks; summary_pulls = it.nonzero.summary_pulls; summary_left = it.nonzero.summary_left } };
+    ghost view = { λ it. let past = past_block B.width B.number it.index it.nonzero.blocks it.nonzero.pulls in
+        record {
+          left = indexes B.width it.index (B.number it.block) past.values;
+          pulls = it.nonzero.pulls;
+          index = it.index;
+          blocks = past.blocks;
+          summary_pulls = it.nonzero.summary_pulls;
+          summary_left = it.nonzero.summary_left;
+        } };
 
-    ghost invariant = { λ it. IsSparseWalk B.width B.number B.is_block it.place it.block it.nonzero };
+    ghost invariant = { λ it. IsSparseWalk B.width B.number B.is_block it.index it.block it.nonzero };
 }
 
 impl<'a, B: BitBlock> Iter<'a, B> {
-    // The walk over all places of a bit vector at which it is true.
+    // The walk over all indexes of a bit vector at which it is true.
     #[inline]
     pub(crate) fn over(bits: &'a BitVec<B>) -> Self
         ensures { IsAtStart B.width bits.now.values result }
@@ -56,7 +64,7 @@ impl<'a, B: BitBlock> Iter<'a, B> {
         Iter {
             nonzero,
             block,
-            place: 0,
+            index: 0,
         }
     }
 
@@ -66,17 +74,17 @@ impl<'a, B: BitBlock> Iter<'a, B> {
         ensures { IsAtStartFrom B.width bits.now.values from result }
     {
         let mut started = bits.nonzero_from(from / B::bits());
-        let (place, block) = match started.next() {
+        let (index, block) = match started.next() {
             Some(first) => {
-                let place = first.0 * B::bits();
-                (place, clear_below(first.1, from - place))
+                let index = first.0 * B::bits();
+                (index, clear_below(first.1, from - index))
             }
             None => (0, B::zero()),
         };
         Iter {
             nonzero: started,
             block,
-            place,
+            index,
         }
     }
 
@@ -96,7 +104,7 @@ impl<'a, B: BitBlock> Iter<'a, B> {
         Iter {
             nonzero: self.nonzero.clone(),
             block: self.block,
-            place: self.place,
+            index: self.index,
         }
     }
 }
@@ -115,13 +123,13 @@ impl<'a, B: BitBlock> Iterator for Iter<'a, B> {
         if self.block == B::zero() {
             let Some(found) = self.nonzero.next() else {
                 // On to the last block, which may be one of zeros: `size_hint` counts the blocks past the place.
-                self.place = self.nonzero.as_slice().len().saturating_sub(1) * B::bits();
+                self.index = self.nonzero.as_slice().len().saturating_sub(1) * B::bits();
                 return None;
             };
             self.block = found.1;
-            self.place = found.0 * B::bits();
+            self.index = found.0 * B::bits();
         }
-        Some(self.place + take_lowest_one(&mut self.block))
+        Some(self.index + take_lowest_one(&mut self.block))
     }
 
     /// From 0 up to the bits of the block in hand and of the blocks past it, or to no bound where a
@@ -133,7 +141,7 @@ impl<'a, B: BitBlock> Iterator for Iter<'a, B> {
         ensures lower { IsWithinCount result.0 (item_count (λ walk. walk.left) self.now) }
         ensures upper { IfSome result.1 (UpTo (item_count (λ walk. walk.left) self.now)) }
     {
-        let passed = self.place / B::bits() + 1;
+        let passed = self.index / B::bits() + 1;
         let past = self.nonzero.as_slice().len().saturating_sub(passed);
         (0, (1 + past).checked_mul(B::bits()))
     }
@@ -145,9 +153,10 @@ impl<B: BitBlock> BitSet<B> {
     pub fn iter(&self) -> Iter<'_, B>
         ensures left { result.left ≡ elements self.now.values }
         ensures pulls { result.pulls ≡ 1 }
-        ensures place { result.place ≡ 0 }
+        ensures index { result.index ≡ 0 }
         ensures blocks { result.blocks ≡ blocks_for B.width (length self.now.values) - 1 }
-        ensures summary { result.summary_pulls + result.summary_left ≡ max 1 (blocks_for B.width (blocks_for B.width (length self.now.values))) }
+        ensures summary { result.summary_pulls + result.summary_left
+            ≡ max 1 (blocks_for B.width (blocks_for B.width (length self.now.values))) }
         ensures fits { length result.left < 2 ^ 64 }
         ensures runs { YieldsInOrder (Advances B.width) (λ walk. walk.left) }
     {
@@ -164,9 +173,12 @@ impl<B: BitBlock> BitSet<B> {
     pub fn iter_from(&self, from: usize) -> Iter<'_, B>
         ensures left { result.left ≡ those_from (elements self.now.values) from }
         ensures pulls { result.pulls ≡ 1 }
-        ensures place { result.place ≡ min (from / B.width) (blocks_for B.width (length self.now.values) - 1) * B.width }
+        ensures index { result.index ≡ min (from / B.width)
+            (blocks_for B.width (length self.now.values) - 1) * B.width }
         ensures blocks { result.blocks ≡ blocks_for B.width (length self.now.values) - 1 - from / B.width }
-        ensures summary { result.summary_pulls + result.summary_left ≡ max 1 (blocks_for B.width (blocks_for B.width (length self.now.values)) - min (from / B.width) (blocks_for B.width (length self.now.values) - 1) / B.width) }
+        ensures summary { result.summary_pulls + result.summary_left
+            ≡ max 1 (blocks_for B.width (blocks_for B.width (length self.now.values)) - min (from / B.width)
+            (blocks_for B.width (length self.now.values) - 1) / B.width) }
         ensures fits { length result.left < 2 ^ 64 }
         ensures runs { YieldsInOrder (Advances B.width) (λ walk. walk.left) }
     {

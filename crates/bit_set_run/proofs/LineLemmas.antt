@@ -6,7 +6,7 @@ use Rattle.std.proofs.lemmas.List.{same_from_push}
 use Rattle.std.proofs.lemmas.List.Elements.{All-nil, All-cons, All-head, All-tail}
 use Rattle.std.specs.List.{All, onto_first}
 use Rattle.bit_set_run.specs.Cuts.{Lacks}
-use Rattle.bit_set_run.specs.Lines.{lines_of, ended, EndsWithBytes, AreLines}
+use Rattle.bit_set_run.specs.Lines.{lines_of, text_of_lines, EndsWithBytes, AreLines}
 
 -- a line that a byte 10 ends
 pub lines_of-ended : (text rest : List ℕ) → Lacks 10 text → lines_of (text ++ 10 ∷ rest) ≡ text ∷ lines_of rest
@@ -21,7 +21,7 @@ lines_of-open b (d ∷ bs) lacks =
     rw (ne_eqb b 10 (All-head (λ x. x ≢ 10) b (d ∷ bs) lacks), lines_of-open d bs (All-tail (λ x. x ≢ 10) b (d ∷ bs) lacks))
 
 -- where one line at least is open, a line in front is not the last
-last_below : (text : List ℕ) (lines : List (List ℕ)) (rest : List ℕ) → rest ++ 10 ∷ [] ≡ ended lines → EndsWithBytes lines → EndsWithBytes (text ∷ lines)
+last_below : (text : List ℕ) (lines : List (List ℕ)) (rest : List ℕ) → rest ++ 10 ∷ [] ≡ text_of_lines lines → EndsWithBytes lines → EndsWithBytes (text ∷ lines)
 last_below text [] [] e last = cc
 last_below text [] (b ∷ bs) e last = cc
 last_below text (line ∷ lines) rest e last = last
@@ -73,27 +73,27 @@ lines_of-are (b ∷ bs) =
     ]
 
 -- texts of which each has a byte 10 after it are the lines of the whole
-pub lines_of-all : (lines : List (List ℕ)) → All (Lacks 10) lines → lines_of (ended lines) ≡ lines
+pub lines_of-all : (lines : List (List ℕ)) → All (Lacks 10) lines → lines_of (text_of_lines lines) ≡ lines
 lines_of-all [] lack = refl
 lines_of-all (line ∷ lines) lack =
-    rw (lines_of-ended line (ended lines) (All-head (Lacks 10) line lines lack), lines_of-all lines (All-tail (Lacks 10) line lines lack))
+    rw (lines_of-ended line (text_of_lines lines) (All-head (Lacks 10) line lines lack), lines_of-all lines (All-tail (Lacks 10) line lines lack))
 
 -- with a byte 10 after each, the last byte is that
-ended_ends : (line : List ℕ) (lines : List (List ℕ)) → (front : List ℕ) × (ended (line ∷ lines) ≡ front ++ 10 ∷ [])
+ended_ends : (line : List ℕ) (lines : List (List ℕ)) → (front : List ℕ) × (text_of_lines (line ∷ lines) ≡ front ++ 10 ∷ [])
 ended_ends line [] = (line, refl)
 ended_ends line (next ∷ lines) =
-    let found : (front : List ℕ) × (ended (next ∷ lines) ≡ front ++ 10 ∷ []) = ended_ends next lines in
+    let found : (front : List ℕ) × (text_of_lines (next ∷ lines) ≡ front ++ 10 ∷ []) = ended_ends next lines in
     (line ++ 10 ∷ found.0, ap (λ bs. line ++ 10 ∷ bs) found.1 ∙ sym (append_assoc line (10 ∷ found.0) (10 ∷ [])))
 
 -- the same where the last of them has none
-lines_of-short : (lines : List (List ℕ)) (input : List ℕ) → All (Lacks 10) lines → input ++ 10 ∷ [] ≡ ended lines → EndsWithBytes lines → lines_of input ≡ lines
+lines_of-short : (lines : List (List ℕ)) (input : List ℕ) → All (Lacks 10) lines → input ++ 10 ∷ [] ≡ text_of_lines lines → EndsWithBytes lines → lines_of input ≡ lines
 lines_of-short [] [] lack e last = cc
 lines_of-short [] (b ∷ bs) lack e last = cc
 lines_of-short ([] ∷ []) input lack e last = absurd (last refl)
 lines_of-short ((b ∷ bs) ∷ []) input lack e last =
     ap lines_of (same_from_push input (b ∷ bs) 10 10 e).0 ∙ lines_of-open b bs (All-head (Lacks 10) (b ∷ bs) [] lack)
 lines_of-short (line ∷ next ∷ lines) input lack e last =
-    let found : (front : List ℕ) × (ended (next ∷ lines) ≡ front ++ 10 ∷ []) = ended_ends next lines in
+    let found : (front : List ℕ) × (text_of_lines (next ∷ lines) ≡ front ++ 10 ∷ []) = ended_ends next lines in
     let same : input ≡ line ++ 10 ∷ found.0 =
     (same_from_push input (line ++ 10 ∷ found.0) 10 10 (e ∙ ap (λ bs. line ++ 10 ∷ bs) found.1 ∙ sym (append_assoc line (10 ∷ found.0) (10 ∷ [])))).0 in
     ap lines_of same ∙ lines_of-ended line found.0 (All-head (Lacks 10) line (next ∷ lines) lack)
@@ -107,7 +107,7 @@ lines_of-only input lines are =
       | inr short ↦ sym (lines_of-short lines input are.whole short.0 short.1)
     ]
 
--- what stands before the first byte 10 of an input is its first line
+-- what is before the first byte 10 of an input is its first line
 pub lines_of-first : (input : List ℕ) (found : Option (Bor (List ℕ) × Bor (List ℕ))) (whole parts : Bor (List ℕ) × Bor (List ℕ)) → false ≡ (length input == 0) → IfNone found (Lacks 10 input) → IfSome found (λ p. Lacks 10 p.0.now) → IfSome found (λ p. input ≡ p.0.now ++ 10 ∷ p.1.now) → whole.0.now ≡ input → whole.1.now ≡ [] → parts ≡ unwrap_or found whole → lines_of input ≡ parts.0.now ∷ lines_of parts.1.now
 lines_of-first [] found whole parts some lacks first joined front rest same = absurd (false≢true some)
 lines_of-first (b ∷ bs) None whole parts some lacks first joined front rest same =

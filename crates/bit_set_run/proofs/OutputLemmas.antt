@@ -4,7 +4,7 @@ use Rattle.std.proofs.lemmas.List.{length-map}
 use Rattle.std.proofs.lemmas.List.Elements.{All-cons, All-nil}
 use Rattle.std.specs.List.{All}
 use Rattle.bit_set_run.specs.Cuts.{Lacks}
-use Rattle.bit_set_run.specs.Lines.{ended, lines_of}
+use Rattle.bit_set_run.specs.Lines.{text_of_lines, lines_of}
 use Rattle.bit_set_run.specs.Output.{answer_to, answers_from, output, sets_after, Line}
 use Rattle.bit_set_run.specs.Reading.{reading}
 use Rattle.bit_set_run.specs.Run.{no_sets, step, Sets}
@@ -22,11 +22,11 @@ answers_from-line sets (Err bad) lines = refl
 
 -- what is written for some lines, where the commands before them left these sets
 unfoldable pub output_from : Sets → List (List ℕ) → List ℕ
-output_from sets lines = ended (answers_from sets (map reading lines))
+output_from sets lines = text_of_lines (answers_from sets (map reading lines))
 
 output_from-line : (sets : Sets) (line : List ℕ) (lines : List (List ℕ)) → output_from sets (line ∷ lines) ≡ answer_to sets (reading line) ++ 10 ∷ output_from (sets_after sets (reading line)) lines
 unfolding output_from
-output_from-line sets line lines = ap ended (answers_from-line sets (reading line) (map reading lines))
+output_from-line sets line lines = ap text_of_lines (answers_from-line sets (reading line) (map reading lines))
 
 -- The loop over the lines keeps this: the text so far, and what is written for the lines that are left, are
 -- the output. It holds at the start, after each line, and says all where no line is left.

@@ -160,7 +160,7 @@ ok_by_test : {Y : Type 0} (fits : Bool) (z : Y) (s : ℕ) (y : Y) → ◌≡◌ 
 ok_by_test true z s y is = cc
 ok_by_test false z s y is = cc
 
--- what is told of a name and another value, by what is told of each
+-- what is said of a name and another value, by what is said of each
 pub zip-name_err : {Y : Type 0} (numbers : Y → List ℕ) (name : Option ℕ) (other : Option Y) (e : BadLine) → Err e ≡ within_range (λ (s : ℕ). []) name → Err e ≡ within_range (λ (p : ℕ × Y). numbers p.1) (option_zip name other)
 zip-name_err numbers None other e is = cc
 zip-name_err numbers (Some s) other e is = cc
@@ -173,12 +173,12 @@ pub zip-ok : {Y : Type 0} (numbers : Y → List ℕ) (name : Option ℕ) (other 
 zip-ok numbers name None s y is told = cc
 zip-ok numbers name (Some z) s y is told = rw (named name s is) (ok_by_test (list_all (λ k. nat_le k greatest) (numbers z)) z s y told)
 
--- what is told of numbers of which some are read, and whether one of those was too large
+-- what is said of numbers of which some are read, and whether one of those was too large
 abbrev pub told : List ℕ → Bool → Option (List ℕ) → Result (List ℕ) BadLine
 told read large None = Err BadCommand
 told read large (Some ns) = if not large && list_all (λ n. nat_le n greatest) ns then Ok (read ++ ns) else Err BadNumber
 
--- the numbers of a command, by the shape of its words: the first verb stands for all
+-- the numbers of a command, by the shape of its words: the first verb represents all
 pub numbers-name_command : (verb : NameVerb) (s : ℕ) → numbers_of (name_command verb s) ≡ []
 numbers-name_command Empty s = refl
 numbers-name_command verb s = refl

@@ -18,7 +18,7 @@ pub replies-run_of_push : (sets : Sets) (commands : List Command) (command : Com
 replies-run_of_push sets [] command = refl
 replies-run_of_push sets (first ∷ commands) command = ap (λ rs. (step sets first).reply ∷ rs) (replies-run_of_push (step sets first).sets commands command)
 
--- the first commands have left these sets and given these replies, behind those that stood there
+-- the first commands have left these sets and given these replies, behind those that were there
 pub record HasRun (place : ℕ) (commands : List Command) (old new : Sets) (old_replies new_replies : List Reply) : Type 0 where
   pub sets : new ≡ (run_of old (take place commands)).sets
   pub replies : new_replies ≡ old_replies ++ (run_of old (take place commands)).replies
@@ -46,12 +46,12 @@ when_no_error (Err e) none p = absurd (true≢false none)
 
 -- a run that stops at a command that it has read
 pub StoppedAt-here :
-    (place : ℕ) (commands : List Command) (room : ℕ) (old mid new : Sets) (old_replies mid_replies new_replies : List Reply) (command : Command)
+    (place : ℕ) (commands : List Command) (capacity : ℕ) (old mid new : Sets) (old_replies mid_replies new_replies : List Reply) (command : Command)
     → HasRun place commands old mid old_replies mid_replies
     → place < length commands → command ≡ get_or commands place command
-    → new_replies ≡ mid_replies → ((room ≤ length mid_replies) × (new ≡ mid)) ⊎ RefusedBy mid command new
-    → StoppedAt place commands room old new old_replies new_replies
-StoppedAt-here place commands room old mid new old_replies mid_replies new_replies command so_far lt is replies stopped = record {
+    → new_replies ≡ mid_replies → ((capacity ≤ length mid_replies) × (new ≡ mid)) ⊎ RefusedBy mid command new
+    → StoppedAt place commands capacity old new old_replies new_replies
+StoppedAt-here place commands capacity old mid new old_replies mid_replies new_replies command so_far lt is replies stopped = record {
   within = lt;
   command = command;
   at = slice_get_read commands (length commands) place command refl lt is;

@@ -13,7 +13,7 @@ use Rattle.std.specs.List.{All, list_any}
 use Rattle.bit_set.specs.Bits.{Bits}
 use Rattle.bit_set.specs.Sets.{bound_of, elements, elements_from, has, put, union}
 use Rattle.bit_set_run.specs.Capacities.{bits_at, Becomes, GrowsTo}
-use Rattle.bit_set_run.specs.Kept.{kept}
+use Rattle.bit_set_run.specs.Elements.{elements_of}
 use Rattle.bit_set_run.specs.declared.commands.Command.TheVariants.{Insert}
 use Rattle.bit_set_run.specs.declared.commands.Reply.TheVariants.{Truth, Element}
 use Rattle.bit_set.specs.Bounds.{greatest}
@@ -40,7 +40,7 @@ pub before_taken : (item : ℕ) (rest : List ℕ) → item < greatest → elemen
 before_taken item rest low =
     let other : eqb item greatest ≡ false = ne_eqb item greatest (λ e. omega (arith, e, low)) in rw other refl
 
--- where it stands behind them, it is found
+-- where it is behind them, it is found
 pub some_greatest : (front rest : List ℕ) → bound_of front ≤ greatest → list_any (λ n. eqb n greatest) (front ++ greatest ∷ rest) ≡ true
 some_greatest [] rest fit = refl
 some_greatest (n ∷ ns) rest fit =
@@ -62,19 +62,19 @@ stands_before all items item front within is =
     ∙ append_assoc items (item ∷ []) (drop (length items + 1) all)
 
 -- a set of the array becomes what f makes of it and of one at another place
-pub changed_by : (sets : List Bits) (f : List ℕ → List ℕ → List ℕ) (to from : ℕ) (gone old set_now source : Bits) → to < length sets → from < length sets → (from ≡ to → ⊥) → old ≡ get_or sets to old → source ≡ get_or (set sets to gone) from source → kept set_now ≡ f (kept old) (kept source) → map kept (set (set sets to gone) to set_now) ≡ set (map kept sets) to (f (get_or (map kept sets) to []) (get_or (map kept sets) from []))
+pub changed_by : (sets : List Bits) (f : List ℕ → List ℕ → List ℕ) (to from : ℕ) (gone old set_now source : Bits) → to < length sets → from < length sets → (from ≡ to → ⊥) → old ≡ get_or sets to old → source ≡ get_or (set sets to gone) from source → elements_of set_now ≡ f (elements_of old) (elements_of source) → map elements_of (set (set sets to gone) to set_now) ≡ set (map elements_of sets) to (f (get_or (map elements_of sets) to []) (get_or (map elements_of sets) from []))
 changed_by sets f to from gone old set_now source at within apart was is changed =
     let there : source ≡ get_or sets from source = is ∙ get_or-set_other sets to from gone source apart in
-    let own : kept old ≡ get_or (map kept sets) to [] = ap kept was ∙ sym (get_or-map kept sets to old [] at) in
-    let other : kept source ≡ get_or (map kept sets) from [] = ap kept there ∙ sym (get_or-map kept sets from source [] within) in
-    ap (map kept) (set-set sets to gone set_now) ∙ map-set kept sets to set_now ∙ ap (λ s. set (map kept sets) to s) (changed ∙ ap (λ s. f s (kept source)) own ∙ ap (f (get_or (map kept sets) to [])) other)
+    let own : elements_of old ≡ get_or (map elements_of sets) to [] = ap elements_of was ∙ sym (get_or-map elements_of sets to old [] at) in
+    let other : elements_of source ≡ get_or (map elements_of sets) from [] = ap elements_of there ∙ sym (get_or-map elements_of sets from source [] within) in
+    ap (map elements_of) (set-set sets to gone set_now) ∙ map-set elements_of sets to set_now ∙ ap (λ s. set (map elements_of sets) to s) (changed ∙ ap (λ s. f s (elements_of source)) own ∙ ap (f (get_or (map elements_of sets) to [])) other)
 
 -- two sets of the array become these
-pub two_are : (sets : List Bits) (s t : ℕ) (first second : Bits) (first_is second_is : List ℕ) → kept first ≡ first_is → kept second ≡ second_is → map kept (set (set sets s first) t second) ≡ set (set (map kept sets) s first_is) t second_is
+pub two_are : (sets : List Bits) (s t : ℕ) (first second : Bits) (first_is second_is : List ℕ) → elements_of first ≡ first_is → elements_of second ≡ second_is → map elements_of (set (set sets s first) t second) ≡ set (set (map elements_of sets) s first_is) t second_is
 two_are sets s t first second first_is second_is one two =
-    map-set kept (set sets s first) t second
-    ∙ ap (λ l. set l t (kept second)) (map-set kept sets s first ∙ ap (λ x. set (map kept sets) s x) one)
-    ∙ ap (λ x. set (set (map kept sets) s first_is) t x) two
+    map-set elements_of (set sets s first) t second
+    ∙ ap (λ l. set l t (elements_of second)) (map-set elements_of sets s first ∙ ap (λ x. set (map elements_of sets) s x) one)
+    ∙ ap (λ x. set (set (map elements_of sets) s first_is) t x) two
 
 -- a set of the array is changed while another was taken out, and that one is put back
 pub put_back_beside : (sets : List Bits) (to from : ℕ) (gone set_now other_now : Bits) → (to ≡ from → ⊥) → set (set (set sets from gone) to set_now) from other_now ≡ set (set sets to set_now) from other_now
@@ -82,14 +82,14 @@ put_back_beside sets to from gone set_now other_now apart =
     ap (λ l. set l from other_now) (set_comm sets from to gone set_now (λ e. apart (sym e))) ∙ set-set (set sets to set_now) from gone other_now
 
 -- it takes in what the other has, and that one is put back with nothing
-pub appended_to : (sets : List Bits) (to from : ℕ) (gone old set_now source other_now : Bits) → to < length sets → from < length sets → (to ≡ from → ⊥) → old ≡ get_or (set sets from gone) to old → source ≡ get_or sets from source → kept set_now ≡ union (kept old) (kept source) → kept other_now ≡ [] → map kept (set (set (set sets from gone) to set_now) from other_now) ≡ set (set (map kept sets) to (union (get_or (map kept sets) to []) (get_or (map kept sets) from []))) from []
+pub appended_to : (sets : List Bits) (to from : ℕ) (gone old set_now source other_now : Bits) → to < length sets → from < length sets → (to ≡ from → ⊥) → old ≡ get_or (set sets from gone) to old → source ≡ get_or sets from source → elements_of set_now ≡ union (elements_of old) (elements_of source) → elements_of other_now ≡ [] → map elements_of (set (set (set sets from gone) to set_now) from other_now) ≡ set (set (map elements_of sets) to (union (get_or (map elements_of sets) to []) (get_or (map elements_of sets) from []))) from []
 appended_to sets to from gone old set_now source other_now at within apart was is joined emptied =
     let there : old ≡ get_or sets to old = was ∙ get_or-set_other sets from to gone old apart in
-    let own : kept old ≡ get_or (map kept sets) to [] = ap kept there ∙ sym (get_or-map kept sets to old [] at) in
-    let other : kept source ≡ get_or (map kept sets) from [] = ap kept is ∙ sym (get_or-map kept sets from source [] within) in
-    ap (map kept) (put_back_beside sets to from gone set_now other_now apart)
-    ∙ two_are sets to from set_now other_now (union (get_or (map kept sets) to []) (get_or (map kept sets) from [])) []
-    (joined ∙ ap (λ s. union s (kept source)) own ∙ ap (union (get_or (map kept sets) to [])) other) emptied
+    let own : elements_of old ≡ get_or (map elements_of sets) to [] = ap elements_of there ∙ sym (get_or-map elements_of sets to old [] at) in
+    let other : elements_of source ≡ get_or (map elements_of sets) from [] = ap elements_of is ∙ sym (get_or-map elements_of sets from source [] within) in
+    ap (map elements_of) (put_back_beside sets to from gone set_now other_now apart)
+    ∙ two_are sets to from set_now other_now (union (get_or (map elements_of sets) to []) (get_or (map elements_of sets) from [])) []
+    (joined ∙ ap (λ s. union s (elements_of source)) own ∙ ap (union (get_or (map elements_of sets) to [])) other) emptied
 
 -- both are as they were
 pub put_back_both : (sets : List Bits) (to from : ℕ) (gone set_now other_now : Bits) → (to ≡ from → ⊥) → set_now ≡ get_or (set sets from gone) to set_now → other_now ≡ get_or sets from other_now → set (set (set sets from gone) to set_now) from other_now ≡ sets
@@ -104,18 +104,18 @@ pub put_back : (sets : List Bits) (to : ℕ) (gone set_now : Bits) → set_now �
 put_back sets to gone set_now at = set-set sets to gone set_now ∙ ap (λ s. set sets to s) at ∙ set-get_or sets to set_now
 
 -- the set of a name is the one at its place
-pub set_at : (sets : List Bits) (place name : ℕ) (d : Bits) → place ≡ name → place < length sets → get_or (map kept sets) name [] ≡ kept (get_or sets place d)
-set_at sets place name d at within = ap (λ p. get_or (map kept sets) p []) (sym at) ∙ get_or-map kept sets place d [] within
+pub set_at : (sets : List Bits) (place name : ℕ) (d : Bits) → place ≡ name → place < length sets → get_or (map elements_of sets) name [] ≡ elements_of (get_or sets place d)
+set_at sets place name d at within = ap (λ p. get_or (map elements_of sets) p []) (sym at) ∙ get_or-map elements_of sets place d [] within
 
 -- one set of the array is changed by f
-pub change_is : (sets : List Bits) (place name : ℕ) (d set_now : Bits) (f : List ℕ → List ℕ) → place ≡ name → place < length sets → kept set_now ≡ f (kept (get_or sets place d)) → map kept (set sets place set_now) ≡ set (map kept sets) name (f (get_or (map kept sets) name []))
+pub change_is : (sets : List Bits) (place name : ℕ) (d set_now : Bits) (f : List ℕ → List ℕ) → place ≡ name → place < length sets → elements_of set_now ≡ f (elements_of (get_or sets place d)) → map elements_of (set sets place set_now) ≡ set (map elements_of sets) name (f (get_or (map elements_of sets) name []))
 change_is sets place name d set_now f at within changed =
-    map-set kept sets place set_now ∙ ap (λ t. set (map kept sets) place t) (changed ∙ ap f (sym (get_or-map kept sets place d [] within))) ∙ ap (λ p. set (map kept sets) p (f (get_or (map kept sets) p []))) at
+    map-set elements_of sets place set_now ∙ ap (λ t. set (map elements_of sets) place t) (changed ∙ ap f (sym (get_or-map elements_of sets place d [] within))) ∙ ap (λ p. set (map elements_of sets) p (f (get_or (map elements_of sets) p []))) at
 
 -- one set of the array is as it was
-pub no_change_is : (sets : List Bits) (place : ℕ) (d set_now : Bits) → place < length sets → kept set_now ≡ kept (get_or sets place d) → map kept (set sets place set_now) ≡ map kept sets
+pub no_change_is : (sets : List Bits) (place : ℕ) (d set_now : Bits) → place < length sets → elements_of set_now ≡ elements_of (get_or sets place d) → map elements_of (set sets place set_now) ≡ map elements_of sets
 no_change_is sets place d set_now within same =
-    change_is sets place place d set_now (λ s. s) refl within same ∙ set-get_or (map kept sets) place []
+    change_is sets place place d set_now (λ s. s) refl within same ∙ set-get_or (map elements_of sets) place []
 
 -- what an insert leaves, the greatest number included
 pub sets-insert : (sets : List (List ℕ)) (name n : ℕ) → set sets name (if n == greatest then get_or sets name [] else put (get_or sets name []) n) ≡ (step sets (Insert name n)).sets
@@ -127,7 +127,7 @@ sets-insert sets name n =
 
 -- what was read at a place is the set there
 pub read_at : (sets : List Bits) (place : ℕ) (set_read : Bits) → place < length sets → set_read ≡ get_or sets place set_read → set_read ≡ bits_at sets place
-read_at sets place set_read within is = is ∙ get_or_default sets place set_read record { values = []; room = 0 } within
+read_at sets place set_read within is = is ∙ get_or_default sets place set_read record { values = []; capacity = 0 } within
 
 -- the same where another set was taken out
 pub read_beside : (sets : List Bits) (place gone_from : ℕ) (gone set_read : Bits) → place < length sets → (place ≡ gone_from → ⊥) → set_read ≡ get_or (set sets gone_from gone) place set_read → set_read ≡ bits_at sets place

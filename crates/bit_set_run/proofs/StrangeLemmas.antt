@@ -14,7 +14,7 @@ use Rattle.bit_set_run.specs.declared.verbs.Verb.{Verb}
 use Rattle.bit_set_run.specs.declared.verbs.Verb.TheVariants.{Name, NameAndNumber, TwoNames, Extend, SplitOff, Rest}
 use Rattle.bit_set_run.specs.declared.verbs.SetWalk.{SetWalk}
 use Rattle.bit_set_run.specs.declared.verbs.SetWalk.TheVariants.{One, Two}
-use Rattle.bit_set_run.specs.Reading.{all_numbers, command_of, is_plain, name_alone, name_and_number, name_and_numbers, name_of, names_and_number, names_around_number, number_and_name, number_of, reading, rest_command, rest_of, spelled, two_names}
+use Rattle.bit_set_run.specs.Reading.{all_numbers, command_of, is_plain, name_alone, name_and_number, name_and_numbers, name_of, names_and_number, names_around_number, number_and_name, number_of, reading, rest_command, rest_of, command_in_words, two_names}
 use Rattle.bit_set_run.specs.Verbs.{verb_of, verbs, walk_of, walks}
 use Rattle.bit_set_run.specs.Words.{words_of}
 use Rattle.bit_set_run.proofs.ReadingLemmas.{nothing}
@@ -172,9 +172,9 @@ arguments_unfit : (v : Option Verb) (words : List (List ℕ)) → list_all is_fi
 arguments_unfit None words unfit = refl
 arguments_unfit (Some v) words unfit = command_of-unfit v words unfit
 
-spelled-unfit : (words : List (List ℕ)) → list_all is_fit words ≡ false → spelled words ≡ None
-spelled-unfit [] unfit = refl
-spelled-unfit (word ∷ words) unfit = elim (is_fit word) as (λ v. v ≡ is_fit word → (v && list_all is_fit words) ≡ false → spelled (word ∷ words) ≡ None) [
+command_in_words-unfit : (words : List (List ℕ)) → list_all is_fit words ≡ false → command_in_words words ≡ None
+command_in_words-unfit [] unfit = refl
+command_in_words-unfit (word ∷ words) unfit = elim (is_fit word) as (λ v. v ≡ is_fit word → (v && list_all is_fit words) ≡ false → command_in_words (word ∷ words) ≡ None) [
   | true ↦ λ e rest. arguments_unfit (verb_of word) words rest
   | false ↦ λ e rest. rw (verb_of-unfit word (sym e))
 ] refl unfit
@@ -185,7 +185,7 @@ contains_false test (y ∷ ys) x zero below at fails = rw (at, fails)
 contains_false test (y ∷ ys) x (suc k) below at fails = and_right (test y) (list_all test ys) (contains_false test ys x k (omega arith) at fails)
 
 reading-unfit : (line : List ℕ) → list_all is_fit (words_of line) ≡ false → reading line ≡ Err BadCommand
-reading-unfit line unfit = rw (spelled-unfit (words_of line) unfit)
+reading-unfit line unfit = rw (command_in_words-unfit (words_of line) unfit)
 
 pub reading-empty_word : (line : List ℕ) → Contains (words_of line) [] → reading line ≡ Err BadCommand
 reading-empty_word line found = reading-unfit line (contains_false is_fit (words_of line) [] found.0 found.1 found.2 refl)

@@ -1,4 +1,4 @@
--- Reads and writes one after another, at a reader and a writer that tell their bytes.
+-- Reads and writes one after another, at a reader and a writer whose bytes are known.
 use Rattle.std.proofs.Common.{◌≡◌, ℕ, ◌+◌, ◌<◌, ◌≤◌, List, [], ◌++◌, length, take, drop, Option, refl, sym, ap, ◌∙◌, append_assoc, arith}
 use Rattle.std.proofs.KnownBytes.{Appends-nil, Appends-trans, Consumes-trans}
 use Rattle.std.proofs.lemmas.List.{take-append-drop, length-append, length-take-le, take-append-le}
@@ -45,10 +45,10 @@ pub GaveCount-past :
     (old mid new : Option (List ℕ)) (input buffer : List ℕ) (turns n : ℕ)
     → HasRead old mid input turns → Consumes mid new (take n buffer) → n ≤ length buffer → length input + length buffer ≤ limit + 1 → limit < length input + n
     → GaveCount old new (limit + 1)
-GaveCount-past old mid new input buffer turns n so_far read within room past = record {
+GaveCount-past old mid new input buffer turns n so_far read within capacity past = record {
   bytes = input ++ take n buffer;
   taken = Consumes-trans old mid new input (take n buffer) so_far.taken read;
-  count_is = let long : length (take n buffer) ≡ n = length-take-le n buffer within in rw (length-append, long) (omega (arith, within, room, past));
+  count_is = let long : length (take n buffer) ≡ n = length-take-le n buffer within in rw (length-append, long) (omega (arith, within, capacity, past));
 }
 
 -- what was read after one turn at least

@@ -1,14 +1,14 @@
 -- What a command does to the capacities of sixteen sets over blocks of w bits. No public clause cites this.
 use Rattle.std.specs.Prelude.{◌≡◌, ℕ, ◌+◌, ◌<◌, ◌≤◌, ◌==◌, Bool, true, false, List, [], length, max, slice_index_or, slice_set}
 use Rattle.std.specs.List.{All}
-use Rattle.bit_set.specs.Bits.{Bits, blocks_for, room_of, whole_blocks}
+use Rattle.bit_set.specs.Bits.{Bits, blocks_for, capacity_of, whole_blocks}
 use Rattle.bit_set.specs.Bounds.{greatest}
 use Rattle.bit_set_run.specs.declared.commands.Command.{Command}
 use Rattle.bit_set_run.specs.declared.commands.Command.TheVariants.{Insert, Remove, Extend, Truncate, Empty, Reset, Reserve, ReserveExact, Shrink, Copy, InPlace, Append, SplitOff}
 
 -- the set at a place
 abbrev pub bits_at : List Bits → ℕ → Bits
-bits_at sets place = slice_index_or sets place record { values = []; room = 0 }
+bits_at sets place = slice_index_or sets place record { values = []; capacity = 0 }
 
 -- the set at a place becomes another, which is so related to it, and no other set changes
 abbrev pub Becomes : List Bits → ℕ → (Bits → Bits → Type 0) → List Bits → Type 0
@@ -22,35 +22,37 @@ BecomeTwo old s First t Second new =
 
 -- the capacity stays
 abbrev pub SameCapacity : Bits → Bits → Type 0
-SameCapacity set after = after.room ≡ set.room
+SameCapacity set after = after.capacity ≡ set.capacity
 
 -- the capacity stays where it is enough for this length, and it does not fall
 abbrev pub GrowsTo : ℕ → Bits → Bits → Type 0
-GrowsTo len set after = (len ≤ set.room → after.room ≡ set.room) × (set.room ≤ after.room)
+GrowsTo len set after = (len ≤ set.capacity → after.capacity ≡ set.capacity) × (set.capacity ≤ after.capacity)
 
 -- the same for a length that is above each of these numbers
 abbrev pub GrowsPast : List ℕ → Bits → Bits → Type 0
-GrowsPast numbers set after = (All (λ n. n < set.room) numbers → after.room ≡ set.room) × (set.room ≤ after.room)
+GrowsPast numbers set after =
+    (All (λ n. n < set.capacity) numbers → after.capacity ≡ set.capacity) × (set.capacity ≤ after.capacity)
 
 -- the capacity becomes that of the blocks of this length, where it was less
 abbrev pub GrowsExactlyTo : ℕ → ℕ → Bits → Bits → Type 0
-GrowsExactlyTo w len set after = after.room ≡ max set.room (room_of w (blocks_for w len))
+GrowsExactlyTo w len set after = after.capacity ≡ max set.capacity (capacity_of w (blocks_for w len))
 
 -- the length becomes that of the blocks up to the greatest number, and the capacity that of the blocks of this length
 abbrev pub Shrinks : ℕ → Bits → Bits → Type 0
 Shrinks w set after =
-    (length after.values ≡ whole_blocks w set.values) × (after.room ≡ room_of w (blocks_for w (length after.values)))
+    (length after.values ≡ whole_blocks w set.values)
+    × (after.capacity ≡ capacity_of w (blocks_for w (length after.values)))
 
 -- the capacity that stays where a set is split at n: none at 0, and else all
 abbrev pub IsFront : ℕ → Bits → Bits → Type 0
-IsFront n set front = (n ≡ 0 → front.room ≡ 0) × (0 < n → front.room ≡ set.room)
+IsFront n set front = (n ≡ 0 → front.capacity ≡ 0) × (0 < n → front.capacity ≡ set.capacity)
 
 -- that of the set that is split off: all at 0, none from the length on, and else that of the blocks of the length
 abbrev pub IsPart : ℕ → ℕ → Bits → Bits → Type 0
 IsPart w n set part =
-    (n ≡ 0 → part.room ≡ set.room)
-    × (0 < n → n < length set.values → part.room ≡ room_of w (blocks_for w (length set.values)))
-    × (0 < n → length set.values ≤ n → part.room ≡ 0)
+    (n ≡ 0 → part.capacity ≡ set.capacity)
+    × (0 < n → n < length set.values → part.capacity ≡ capacity_of w (blocks_for w (length set.values)))
+    × (0 < n → length set.values ≤ n → part.capacity ≡ 0)
 
 -- the first where the test is true, and else the second
 abbrev pub Choice : Bool → Type 0 → Type 0 → Type 0
@@ -67,7 +69,7 @@ ChangesCapacities w old (Truncate name n) new = Becomes old name SameCapacity ne
 ChangesCapacities w old (Empty name) new = Becomes old name SameCapacity new
 ChangesCapacities w old (Reset name) new = Becomes old name SameCapacity new
 ChangesCapacities w old (Reserve name n) new =
-    Becomes old name (λ set after. (n ≤ after.room) × GrowsTo n set after) new
+    Becomes old name (λ set after. (n ≤ after.capacity) × GrowsTo n set after) new
 ChangesCapacities w old (ReserveExact name n) new = Becomes old name (GrowsExactlyTo w n) new
 ChangesCapacities w old (Shrink name) new = Becomes old name (Shrinks w) new
 ChangesCapacities w old (Copy from to) new =
@@ -80,8 +82,8 @@ ChangesCapacities w old (SplitOff s n t) new =
     Choice (s == t) (new ≡ old) (BecomeTwo old s (IsFront n) t (λ _ part. IsPart w n (bits_at old s) part) new)
 ChangesCapacities w old command new = new ≡ old
 
--- A command that was refused memory. An `Extend` may have grown, and a `Shrink` given back a part.
+-- A command that found no memory. An `Extend` may have grown, and a `Shrink` given back a part.
 abbrev pub KeepsCapacities : List Bits → Command → List Bits → Type 0
-KeepsCapacities old (Extend name items) new = Becomes old name (λ set after. set.room ≤ after.room) new
-KeepsCapacities old (Shrink name) new = Becomes old name (λ set after. after.room ≤ set.room) new
+KeepsCapacities old (Extend name items) new = Becomes old name (λ set after. set.capacity ≤ after.capacity) new
+KeepsCapacities old (Shrink name) new = Becomes old name (λ set after. after.capacity ≤ set.capacity) new
 KeepsCapacities old command new = new ≡ old

@@ -1,4 +1,4 @@
--- A text cut at each place where a byte stands.
+-- A text cut at each index at which a byte is.
 use Rattle.std.specs.Prelude.{ℕ, ◌≢◌, List, ◌==◌}
 use Rattle.std.specs.List.{All, slice_split}
 
@@ -6,6 +6,6 @@ use Rattle.std.specs.List.{All, slice_split}
 abbrev pub Lacks : ℕ → List ℕ → Type 0
 Lacks byte text = All (λ b. b ≢ byte) text
 
--- the parts of a text between the places where the byte stands
+-- the parts of a text between the indexes at which the byte is
 abbrev pub parts_at : ℕ → List ℕ → List (List ℕ)
 parts_at byte text = slice_split (λ b. b == byte) text

@@ -19,7 +19,7 @@ pub record IsCutOff (remaining remaining_after contents contents_after : Option 
   pub written : HoldsBeginning contents contents_after (output input)
 
 -- How it ended: what the reader gave, and what was done to the writer. They are seen as the bytes that the reader has
--- left and those that the writer holds, as far as they tell them.
+-- left and those that the writer holds, as far as they are known.
 abbrev pub HasEnded :
     {W : Type 0} → Result Unit LinesFault → (remaining remaining_after : Option (List ℕ))
     → (contents : W → Option (List ℕ)) → (writer writer_after : W) → Type 0

@@ -2,7 +2,7 @@ pub mod Capacities
 pub mod Cuts
 pub mod Ended
 pub mod Exits
-pub mod Kept
+pub mod Elements
 pub mod Lines
 pub mod Output
 pub mod Reading

@@ -4,7 +4,7 @@ use Rattle.std.specs.Prelude.{◌≡◌, ℕ, codes, List, [], ◌∷◌, map, R
 use Rattle.bit_set_run.specs.declared.commands.Command.{Command}
 use Rattle.bit_set_run.specs.declared.commands.Reply.{Reply}
 use Rattle.bit_set_run.specs.declared.reading.BadLine.{BadLine}
-use Rattle.bit_set_run.specs.Lines.{ended, lines_of}
+use Rattle.bit_set_run.specs.Lines.{text_of_lines, lines_of}
 use Rattle.bit_set_run.specs.Reading.{reading}
 use Rattle.bit_set_run.specs.Run.{no_sets, run_of, step, Sets}
 use Rattle.bit_set_run.specs.Texts.{text_of, text_of_bad}
@@ -34,11 +34,11 @@ answers_from sets lines = answers lines (run_of sets (commands_of lines)).replie
 -- the lines of the input are read, their commands are run on sixteen empty sets, and each answer has a byte
 -- 10 after it
 abbrev pub output : List ℕ → List ℕ
-output input = ended (answers_from no_sets (map reading (lines_of input)))
+output input = text_of_lines (answers_from no_sets (map reading (lines_of input)))
 
 -- each line beside its answer
 abbrev pub Gives : List (String × String) → Type 0
-Gives rows = output (ended (map (λ row. codes row.0) rows)) ≡ ended (map (λ row. codes row.1) rows)
+Gives rows = output (text_of_lines (map (λ row. codes row.0) rows)) ≡ text_of_lines (map (λ row. codes row.1) rows)
 
 -- one line alone: its answer, and the sets after it
 abbrev pub answer_to : Sets → Line → List ℕ

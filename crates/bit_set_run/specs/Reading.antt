@@ -95,9 +95,9 @@ command_of SplitOff words = option_map (λ (s, p). command.SplitOff s p.1 p.0) (
 command_of Rest words = rest_of words
 
 -- the command that some words spell, the first of them its verb
-abbrev pub spelled : List (List ℕ) → Option Command
-spelled [] = None
-spelled (word ∷ words) = option_and_then (λ verb. command_of verb words) (verb_of word)
+abbrev pub command_in_words : List (List ℕ) → Option Command
+command_in_words [] = None
+command_in_words (word ∷ words) = option_and_then (λ verb. command_of verb words) (verb_of word)
 
 -- what was spelled, where its numbers are none of them too large
 abbrev pub within_range : {X : Type 0} → (X → List ℕ) → Option X → Result X BadLine
@@ -107,7 +107,7 @@ within_range numbers (Some x) = if list_all (λ n. nat_le n greatest) (numbers x
 -- A line whose words spell no command is a bad command; one that spells a command with too large a
 -- number is a bad number.
 abbrev pub reading : List ℕ → Result Command BadLine
-reading line = within_range numbers_of (spelled (words_of line))
+reading line = within_range numbers_of (command_in_words (words_of line))
 
 -- the bytes that a command's line can have: small letters, digits, the low line and the space
 abbrev pub is_plain : ℕ → Bool

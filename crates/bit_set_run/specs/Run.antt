@@ -7,7 +7,7 @@ use Rattle.bit_set_run.specs.declared.commands.Reply.{Reply}
 use Rattle.bit_set_run.specs.declared.commands.Reply.TheVariants.{Truth, Done, Number, Items, Order, Rest, Element, Same}
 use Rattle.bit_set.specs.Bounds.{greatest}
 use Rattle.bit_set.specs.Order.{order_of_sets, same_sets}
-use Rattle.bit_set.specs.Sets.{bound_of, has, is_disjoint, is_subset, merged_sets, put, put_all, those_below, those_from, union, without}
+use Rattle.bit_set.specs.Sets.{bound_of, has, is_disjoint, is_subset, merge_of_sets, put, put_all, those_below, those_from, union, without}
 
 -- sixteen sets, by their places
 abbrev pub Sets : Type 0
@@ -56,7 +56,8 @@ step sets (Remove name n) = change_to sets name (without (set_of sets name) n) (
 step sets (Contains name n) = answer_with sets (Truth (has (set_of sets name) n))
 -- the items go in up to the first that no set can have
 step sets (Extend name items) =
-    change_to sets name (put_all (set_of sets name) (elements_before_greatest items)) (if list_any (λ n. n == greatest) items then Element else Done)
+    change_to sets name (put_all (set_of sets name) (elements_before_greatest items))
+    (if list_any (λ n. n == greatest) items then Element else Done)
 step sets (Truncate name n) = change_to sets name (those_below (set_of sets name) n) Done
 step sets (Empty name) = change_to sets name [] Done
 step sets (Reset name) = change_to sets name [] Done
@@ -71,21 +72,21 @@ step sets (Copy from to) =
     else change_to sets to (set_of sets from) Done
 step sets (InPlace merge s t) =
     if s == t then answer_with sets Same
-    else change_to sets s (merged_sets merge (set_of sets s) (set_of sets t)) Done
+    else change_to sets s (merge_of_sets merge (set_of sets s) (set_of sets t)) Done
 step sets (Append s t) =
     if s == t then answer_with sets Same
     else change_two sets s (union (set_of sets s) (set_of sets t)) t []
 step sets (SplitOff s n t) =
     if s == t then answer_with sets Same
     else change_two sets s (those_below (set_of sets s) n) t (those_from (set_of sets s) n)
-step sets (Walk merge s t) = answer_with sets (Items (merged_sets merge (set_of sets s) (set_of sets t)))
+step sets (Walk merge s t) = answer_with sets (Items (merge_of_sets merge (set_of sets s) (set_of sets t)))
 step sets (Subset s t) = answer_with sets (Truth (is_subset (set_of sets s) (set_of sets t)))
 step sets (Superset s t) = answer_with sets (Truth (is_subset (set_of sets t) (set_of sets s)))
 step sets (Disjoint s t) = answer_with sets (Truth (is_disjoint (set_of sets s) (set_of sets t)))
 step sets (Equal s t) = answer_with sets (Truth (same_sets (set_of sets s) (set_of sets t)))
 step sets (Compare s t) = answer_with sets (Order (order_of_sets (set_of sets s) (set_of sets t)))
 step sets (RestIter name n) = answer_with sets (rest_of n (set_of sets name))
-step sets (RestWalk merge s t n) = answer_with sets (rest_of n (merged_sets merge (set_of sets s) (set_of sets t)))
+step sets (RestWalk merge s t n) = answer_with sets (rest_of n (merge_of_sets merge (set_of sets s) (set_of sets t)))
 
 -- what some commands leave, and what they answer, a reply each
 pub record Run : Type 0 where
@@ -100,14 +101,16 @@ run_of sets (command ∷ commands) =
     let rest : Run = run_of first.sets commands in
     record { sets = rest.sets; replies = first.reply ∷ rest.replies }
 
--- which commands can be refused memory, and what they leave: what stood before, but that an `Extend` has put in
--- the items before the one that was refused. What is put in was not in before, room is made past all numbers of the
--- set, and numbers are listed, or moved to less room, where there is one. All numbers are split off without memory.
+-- which commands can find no memory, and what they leave: what was before, but that an `Extend` has put in the
+-- items before the one that could not go in. What is put in was not in before, capacity is reserved past all
+-- numbers of the set, and numbers are listed, or moved to less capacity, where there is one. All numbers are split
+-- off without memory.
 abbrev pub RefusedBy : Sets → Command → Sets → Type 0
 RefusedBy old (Insert name n) new = (n < greatest) × (has (set_of old name) n ≡ false) × (new ≡ old)
 RefusedBy old (Extend name items) new =
     (front : List ℕ) × (item : ℕ) × (back : List ℕ) × (elements_before_greatest items ≡ front ++ item ∷ back)
-    × (has (put_all (set_of old name) front) item ≡ false) × (new ≡ slice_set old name (put_all (set_of old name) front))
+    × (has (put_all (set_of old name) front) item ≡ false)
+    × (new ≡ slice_set old name (put_all (set_of old name) front))
 RefusedBy old (Reserve name n) new = (bound_of (set_of old name) < n) × (new ≡ old)
 RefusedBy old (ReserveExact name n) new = (bound_of (set_of old name) < n) × (new ≡ old)
 RefusedBy old (Shrink name) new = (set_of old name ≢ []) × (new ≡ old)
@@ -116,18 +119,21 @@ RefusedBy old (Copy from to) new = (from ≢ to) × (new ≡ old)
 RefusedBy old (InPlace merge s t) new = (s ≢ t) × (new ≡ old)
 RefusedBy old (Append s t) new = (s ≢ t) × (new ≡ old)
 RefusedBy old (SplitOff s n t) new = (s ≢ t) × (0 < n) × (new ≡ old)
-RefusedBy old (Walk merge s t) new = (merged_sets merge (set_of old s) (set_of old t) ≢ []) × (new ≡ old)
+RefusedBy old (Walk merge s t) new = (merge_of_sets merge (set_of old s) (set_of old t) ≢ []) × (new ≡ old)
 RefusedBy old (RestIter name n) new = (drop n (set_of old name) ≢ []) × (new ≡ old)
-RefusedBy old (RestWalk merge s t n) new = (drop n (merged_sets merge (set_of old s) (set_of old t)) ≢ []) × (new ≡ old)
+RefusedBy old (RestWalk merge s t n) new =
+    (drop n (merge_of_sets merge (set_of old s) (set_of old t)) ≢ []) × (new ≡ old)
 RefusedBy old command new = ⊥
 
--- A run that stopped at command k, with room for this many replies at its start: the replies are those of the
--- commands before it. Either there was no room for one more, and the command did nothing, or it was refused memory.
-pub record StoppedAt (k : ℕ) (commands : List Command) (room : ℕ) (old new : Sets) (old_replies new_replies : List Reply) : Type 0 where
+-- A run that stopped at command k, with capacity for this many replies at its start: the replies are those of the
+-- commands before it. Either there was no capacity for one more, and the command did nothing, or it found no
+-- memory.
+pub record StoppedAt (k : ℕ) (commands : List Command) (capacity : ℕ) (old new : Sets)
+    (old_replies new_replies : List Reply) : Type 0 where
   pub within : k < length commands
   pub command : Command
   pub at : slice_get commands k ≡ Some command
   pub replies : new_replies ≡ old_replies ++ (run_of old (take k commands)).replies
   pub sets :
-      ((room ≤ length new_replies) × (new ≡ (run_of old (take k commands)).sets))
+      ((capacity ≤ length new_replies) × (new ≡ (run_of old (take k commands)).sets))
       ⊎ RefusedBy (run_of old (take k commands)).sets command new

@@ -74,11 +74,12 @@ letter place = 32 ∷ (place + 97) ∷ []
 abbrev pub figures : ℕ → List ℕ
 figures n = 32 ∷ decimal n
 
--- the line that spells a command: the numbers stand behind the names, but for that of `split_off`, which stands
--- between them
+-- the line that spells a command: the numbers are behind the names, but for that of `split_off`, which is between
+-- them
 abbrev pub line_of : Command → List ℕ
 line_of (SplitOff s n t) = codes "split_off" ++ (letter s ++ (figures n ++ letter t))
-line_of command = (parts_of command).word ++ (flat_map letter (names_of command) ++ flat_map figures (numbers_of command))
+line_of command =
+    (parts_of command).word ++ (flat_map letter (names_of command) ++ flat_map figures (numbers_of command))
 
 -- a command as a program can have it: each name is one of the sixteen, and no number is too large
 pub record CanBeHad (command : Command) : Type 0 where

@@ -1,4 +1,4 @@
--- What reading an input to its end and writing an output do to a reader and a writer that tell their bytes.
+-- What reading an input to its end and writing an output do to a reader and a writer whose bytes are known.
 use Rattle.std.specs.Prelude.{◌≡◌, ◌≢◌, ℕ, ◌<◌, ◌≤◌, ◌⊎◌, List, [], ◌++◌, length, Option}
 use Rattle.std.specs.Io.KnownBytes.{Consumes, IsAtEnd, Appends}
 use Rattle.std.specs.declared.io.Error.{Error}

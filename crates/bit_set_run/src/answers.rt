@@ -7,8 +7,8 @@ ghost use Rattle.bit_set_run.specs.Reading.{reading};
 use crate::Table;
 use crate::cutting::next_line;
 use crate::reading::read_line;
+use crate::reply_texts::{append_reply, bad_text};
 use crate::stepping::step;
-use crate::texts::{append_reply, bad_text};
 use bit_set::BitBlock;
 use std::alloc::{AllocError, Global};
 
@@ -35,7 +35,8 @@ fn answer_line<B: BitBlock>(
     text: &mut Vec<u8>,
 ) -> Result<(), AllocError>
     ensures sets { OnOk result (table.new ≡ sets_after table.old (reading line.now)) }
-    ensures text { OnOk result (text.new.items ≡ text.old.items ++ (answer_to table.old (reading line.now) ++ 10 ∷ [])) }
+    ensures text { OnOk result (text.new.items ≡ text.old.items
+        ++ (answer_to table.old (reading line.now) ++ 10 ∷ [])) }
 {
     match read_line(alloc, line)? {
         Err(bad) => text.extend_from_slice(bad_text(bad))?,

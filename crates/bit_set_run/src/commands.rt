@@ -1,3 +1,5 @@
+// What a command is and what a reply is. How a line is read as a command is in `reading`, and how a reply is written
+// in `reply_texts`.
 use crate::{Numbers, SetName};
 use bit_set::bit_vec::Merge;
 use std::cmp::Ordering;
@@ -19,11 +21,11 @@ pub enum Command {
     Empty(SetName),
     /// Take out all numbers; the set has length 0.
     Reset(SetName),
-    /// Make room, so that numbers below this one go into a set without memory.
+    /// Reserve capacity, so that numbers below this one go into a set without memory.
     Reserve(SetName, usize),
-    /// The same, and no more room than that.
+    /// The same, and no more capacity than that.
     ReserveExact(SetName, usize),
-    /// Give back the room that a set does not need for its numbers.
+    /// Give back the capacity that a set does not need for its numbers.
     Shrink(SetName),
     /// How many numbers are in a set.
     Count(SetName),
@@ -57,7 +59,7 @@ pub enum Command {
     RestWalk(Merge, SetName, SetName, usize),
 }
 
-/// What `run` answers to a command.
+/// What `run` returns for a command.
 #[derive(Debug, Drop, PartialEq, Eq)]
 pub enum Reply {
     /// Yes or no: whether the set changed, or whether the number is in it.

@@ -5,8 +5,8 @@ ghost use Rattle.bit_set_run.specs.Cuts.{Lacks};
 ghost use Rattle.bit_set_run.specs.Lines.{lines_of};
 ghost use Rattle.bit_set_run.specs.Words.{words_of, words_left};
 
-/// What stands before the first such byte and what stands after it; `None` where there is none. One
-/// scan, up to that byte.
+/// What is before the first such byte and what is after it; `None` where there is none. One scan, up to that
+/// byte.
 #[inline]
 pub(crate) fn split_once(text: &[u8], byte: u8) -> Option<(&[u8], &[u8])>
     ensures whole { IfNone result (Lacks byte text.now) }

@@ -195,7 +195,7 @@ pub fn outputs_are_as_shown()
         ("superset a a", "true") ∷
         ("disjoint b b", "false") ∷
         []) }
-    ensures room { Gives (
+    ensures capacity { Gives (
         ("extend a 3 200", "ok") ∷
         ("reserve a 100", "ok") ∷
         ("reserve_exact a 500", "ok") ∷
@@ -259,7 +259,8 @@ pub fn commands_are_read_back()
 /// a tab or one that is not ASCII.
 pub fn strange_lines_are_bad_commands()
     ensures empty_word { (line : List ℕ) → Contains (words_of line) [] → reading line ≡ Err BadCommand }
-    ensures strange_byte { (line : List ℕ) (b : ℕ) → Contains line b → is_plain b ≡ false → reading line ≡ Err BadCommand }
+    ensures strange_byte { (line : List ℕ) (b : ℕ) → Contains line b → is_plain b ≡ false
+        → reading line ≡ Err BadCommand }
 {}
 
 /// The same commands on two tables with equal sets, over any two types of blocks: where memory is found, the

@@ -8,14 +8,14 @@ pub mod laws;
 mod lines;
 mod names;
 mod numbers;
-mod pairs;
 mod reading;
+mod reply_texts;
 mod running;
 mod starting;
 mod stepping;
 mod streams;
 mod table;
-mod texts;
+mod two_sets;
 mod verbs;
 mod walking;
 

@@ -1,3 +1,4 @@
+// An input read, answered and written, by one call. Each of the three steps is in a file of its own.
 ghost use Rattle.bit_set_run.specs.Ended.{HasEnded};
 
 use crate::LinesFault;
@@ -7,7 +8,8 @@ use bit_set::BitBlock;
 use std::alloc::Global;
 use std::io::{Read, Write};
 
-/// Reads lines to the end of the reader, executes their commands on sixteen empty sets over blocks of type `B`, and writes a line for each.
+/// Reads lines to the end of the reader, executes their commands on sixteen empty sets over blocks of type `B`, and
+/// writes a line for each.
 ///
 /// The whole output is made before any of it is written, and the writer is flushed behind it. At most 1,048,577 reads
 /// are made. At [`LinesFault::Read`], [`LinesFault::TooLarge`] and [`LinesFault::Memory`] nothing was written; at

@@ -1,3 +1,4 @@
+// The names of the sixteen sets. The sets are in `table`.
 ghost use Rattle.std.specs.Prelude.{◌≡◌, ℕ, ◌+◌, ◌<◌, ◌≤◌, ◌↔◌, IsSome, IfSome};
 
 use std::marker::Model;
@@ -35,7 +36,7 @@ impl SetName {
         }
     }
 
-    // Where the set stands in a table.
+    // The index of the set in a table.
     #[inline]
     pub(crate) fn place(self) -> usize
         ensures place { result ≡ self }

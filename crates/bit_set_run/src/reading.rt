@@ -22,8 +22,8 @@ pub(crate) enum BadLine {
     BadNumber,
 }
 
-/// The command that the line spells. A word that does not fit is told before a number too large,
-/// wherever in the line they stand. Memory is taken for the numbers of an `extend` alone.
+/// The command that the line spells. A word that does not fit is reported before a number too large, wherever in
+/// the line they are. Memory is taken for the numbers of an `extend` alone.
 pub(crate) fn read_line(alloc: Global, line: &[u8]) -> Result<Result<Command, BadLine>, AllocError>
     ensures read { IfOk result (λ read. read ≡ reading line.now) }
     ensures memory { OnErr result (option_and_then verb_of (slice_get (words_of line.now) 0) ≡ Some Verb.Extend) }
@@ -155,7 +155,7 @@ fn read_names_around_number(words: &[u8]) -> Result<(SetName, (SetName, usize)),
     Ok((read_name(name)?, read_number_and_name(words)?))
 }
 
-// The numbers that the words write, one each: a word that writes none is told before a number too large.
+// The numbers that the words write, one each: a word that writes none is reported before a number too large.
 fn read_numbers(alloc: Global, words: Option<&[u8]>) -> Result<Result<Numbers, BadLine>, AllocError>
     ensures { IfOk result (λ read. read ≡ within_range (λ ns. ns) (all_numbers (words_left words.entry))) }
 {

@@ -1,3 +1,4 @@
+// Runs of commands on a table. What one command does is in `stepping`.
 ghost use Rattle.std.specs.Prelude.{◌≡◌, ℕ, ◌≤◌, ◌⊎◌, List, ◌++◌, [], ◌∷◌, IfOk, OnOk, OnErr, vec_len, vec_capacity};
 ghost use Rattle.bit_set.specs.Bounds.{greatest};
 ghost use Rattle.bit_set_run.specs.declared.running.RunFault.TheVariants.{Memory};
@@ -38,12 +39,12 @@ impl<T: Drop> From<AllocFailed<T>> for RunFault {
 
 /// Executes the commands on the table, one after another, and appends a reply for each.
 ///
-/// At [`RunFault::Memory`] the commands before the one named have been executed and have their replies.
-/// It and those after it have changed nothing, but that an [`Command::Extend`] has put in the items before
-/// the one that was refused. A reply's room is reserved before its command runs: where there is room for
-/// the replies, only an insert, an extend, a copy, an operation in place, an append, a split off at a number
-/// above 0, room past all numbers of a set, and `Items`, a walk, a rest and a shrink that have a number to show
-/// or to keep can be refused memory.
+/// At [`RunFault::Memory`] the commands before the one named have been executed and have their replies. It and
+/// those after it have changed nothing, but that an [`Command::Extend`] has put in the items before the one that
+/// could not go in. A reply's capacity is reserved before its command runs: where there is capacity for the
+/// replies, only an insert, an extend, a copy, an operation in place, an append, a split off at a number above 0,
+/// capacity past all numbers of a set, and `Items`, a walk, a rest and a shrink that have a number to show or to
+/// keep can find no memory.
 pub fn run<B: BitBlock>(
     alloc: Global,
     table: &mut Table<B>,
@@ -52,7 +53,7 @@ pub fn run<B: BitBlock>(
 ) -> Result<(), RunFault>
     ensures replies { OnOk result (replies.new.items ≡ replies.old.items ++ (run_of table.old commands.now).replies) }
     ensures sets { OnOk result (table.new ≡ (run_of table.old commands.now).sets) }
-    ensures room { vec_capacity replies.old ≤ vec_capacity replies.new }
+    ensures capacity { vec_capacity replies.old ≤ vec_capacity replies.new }
     ensures memory { (k : ℕ) → result ≡ Err (RunFault.Memory k)
         → StoppedAt k commands.now (vec_capacity replies.old) table.old table.new replies.old.items replies.new.items }
 {

@@ -1,3 +1,4 @@
+// The whole program over any reader and writer: its words, and its status and text at the end. No line is read here.
 ghost use Rattle.std.specs.Prelude.{◌≡◌, ◌↔◌, IsTrue, false, map, string_bytes, is_some, Result};
 ghost use Rattle.bit_set_run.specs.Ended.{HasEnded};
 ghost use Rattle.bit_set_run.specs.Exits.{takes, said_at, status_at, type_chosen, type_named, usage};

@@ -2,14 +2,14 @@
 
 ghost use Rattle.std.specs.Prelude.{◌≡◌, ◌≢◌, ℕ, ◌+◌, ◌<◌, ◌≤◌, ◌==◌, ◌∷◌, false, not, map, List, length, drop, [], ◌++◌, IfOk, OnOk, OnErr, slice_index_or, slice_set, if◌then◌else◌};
 ghost use Rattle.std.specs.List.{list_any};
-ghost use Rattle.bit_set.specs.Sets.{bound_of, has, merged_sets, put, put_all, those_below, those_from, union};
+ghost use Rattle.bit_set.specs.Sets.{bound_of, has, merge_of_sets, put, put_all, those_below, those_from, union};
 ghost use Rattle.bit_set_run.specs.Capacities.{bits_at, Becomes, BecomeTwo, ChangesCapacities, GrowsExactlyTo, GrowsPast, GrowsTo, IsFront, IsPart, KeepsCapacities, SameCapacity, Shrinks};
-ghost use Rattle.bit_set_run.specs.Kept.{kept};
+ghost use Rattle.bit_set_run.specs.Elements.{elements_of};
 ghost use Rattle.bit_set.specs.Bounds.{greatest};
 ghost use Rattle.bit_set_run.specs.Run.{step, elements_before_greatest, RefusedBy};
 ghost use Rattle.bit_set_run.specs.declared.commands.Reply.TheVariants.{Truth, Done, Rest, Element};
 
-use crate::pairs::{named, rest_of_walk, walk};
+use crate::two_sets::{named, rest_of_walk, walk};
 use crate::walking::{items, rest};
 use crate::{Command, Numbers, Reply};
 use bit_set::bit_vec::Merge;
@@ -23,9 +23,9 @@ pub(crate) fn step<B: BitBlock>(
     sets: &mut [BitSet<B>; 16],
     command: &Command,
 ) -> Result<Reply, AllocError>
-    ensures reply { IfOk result (λ reply. reply ≡ (step (map kept sets.old) command.now).reply) }
-    ensures sets { OnOk result (map kept sets.new ≡ (step (map kept sets.old) command.now).sets) }
-    ensures refused { OnErr result (RefusedBy (map kept sets.old) command.now (map kept sets.new)) }
+    ensures reply { IfOk result (λ reply. reply ≡ (step (map elements_of sets.old) command.now).reply) }
+    ensures sets { OnOk result (map elements_of sets.new ≡ (step (map elements_of sets.old) command.now).sets) }
+    ensures refused { OnErr result (RefusedBy (map elements_of sets.old) command.now (map elements_of sets.new)) }
 
     // A table's contract sees no capacities, so these two are of this function alone.
     ensures capacities { OnOk result (ChangesCapacities B.width sets.old command.now sets.new) }
@@ -74,9 +74,11 @@ pub(crate) fn step<B: BitBlock>(
 }
 
 fn insert<B: BitBlock>(set: &mut BitSet<B>, n: usize) -> Result<Reply, AllocError>
-    ensures reply { IfOk result (λ reply. reply ≡ (if n == greatest then Element else Truth (not (has (kept set.old) n)))) }
-    ensures after { OnOk result (kept set.new ≡ (if n == greatest then kept set.old else put (kept set.old) n)) }
-    ensures refused { OnErr result ((n < greatest) × (has (kept set.old) n ≡ false) × (set.new ≡ set.old)) }
+    ensures reply { IfOk result (λ reply. reply ≡ (if n == greatest then Element else Truth
+        (not (has (elements_of set.old) n)))) }
+    ensures after { OnOk result (elements_of set.new ≡
+        (if n == greatest then elements_of set.old else put (elements_of set.old) n)) }
+    ensures refused { OnErr result ((n < greatest) × (has (elements_of set.old) n ≡ false) × (set.new ≡ set.old)) }
     ensures grown { OnOk result (GrowsTo (n + 1) set.old set.new) }
     ensures unfit { n ≡ greatest → set.new ≡ set.old }
 {
@@ -89,12 +91,14 @@ fn insert<B: BitBlock>(set: &mut BitSet<B>, n: usize) -> Result<Reply, AllocErro
 
 fn extend<B: BitBlock>(set: &mut BitSet<B>, items: &Numbers) -> Result<Reply, AllocError>
     ensures reply { IfOk result (λ reply. reply ≡ (if list_any (λ n. n == greatest) items.now then Element else Done)) }
-    ensures after { OnOk result (kept set.new ≡ put_all (kept set.old) (elements_before_greatest items.now)) }
+    ensures after { OnOk result (elements_of set.new ≡ put_all (elements_of set.old)
+        (elements_before_greatest items.now)) }
     ensures refused { OnErr result ((front : List ℕ) × (item : ℕ) × (back : List ℕ)
         × (elements_before_greatest items.now ≡ front ++ item ∷ back)
-        × (has (put_all (kept set.old) front) item ≡ false) × (kept set.new ≡ put_all (kept set.old) front)) }
+        × (has (put_all (elements_of set.old) front) item ≡ false)
+        × (elements_of set.new ≡ put_all (elements_of set.old) front)) }
     ensures grown { OnOk result (GrowsPast items.now set.old set.new) }
-    ensures room { set.old.room ≤ set.new.room }
+    ensures capacity { set.old.capacity ≤ set.new.capacity }
 {
     match set.extend(items.as_slice().iter().copied()) {
         Ok(()) => Ok(Reply::Done),
@@ -107,9 +111,9 @@ fn extend<B: BitBlock>(set: &mut BitSet<B>, items: &Numbers) -> Result<Reply, Al
 #[tactic(auto, using(crate::proofs::SteppingLemmas::bound_of_elements))]
 fn reserve<B: BitBlock>(set: &mut BitSet<B>, len: usize) -> Result<Reply, AllocError>
     ensures reply { IfOk result (λ reply. reply ≡ Done) }
-    ensures after { OnOk result (kept set.new ≡ kept set.old) }
-    ensures refused { OnErr result ((bound_of (kept set.old) < len) × (set.new ≡ set.old)) }
-    ensures room { OnOk result (len ≤ set.new.room) }
+    ensures after { OnOk result (elements_of set.new ≡ elements_of set.old) }
+    ensures refused { OnErr result ((bound_of (elements_of set.old) < len) × (set.new ≡ set.old)) }
+    ensures capacity { OnOk result (len ≤ set.new.capacity) }
     ensures grown { OnOk result (GrowsTo len set.old set.new) }
 {
     set.reserve_len(len)?;
@@ -119,8 +123,8 @@ fn reserve<B: BitBlock>(set: &mut BitSet<B>, len: usize) -> Result<Reply, AllocE
 #[tactic(auto, using(crate::proofs::SteppingLemmas::bound_of_elements))]
 fn reserve_exact<B: BitBlock>(set: &mut BitSet<B>, len: usize) -> Result<Reply, AllocError>
     ensures reply { IfOk result (λ reply. reply ≡ Done) }
-    ensures after { OnOk result (kept set.new ≡ kept set.old) }
-    ensures refused { OnErr result ((bound_of (kept set.old) < len) × (set.new ≡ set.old)) }
+    ensures after { OnOk result (elements_of set.new ≡ elements_of set.old) }
+    ensures refused { OnErr result ((bound_of (elements_of set.old) < len) × (set.new ≡ set.old)) }
     ensures grown { OnOk result (GrowsExactlyTo B.width len set.old set.new) }
 {
     set.reserve_len_exact(len)?;
@@ -129,10 +133,10 @@ fn reserve_exact<B: BitBlock>(set: &mut BitSet<B>, len: usize) -> Result<Reply, 
 
 fn shrink<B: BitBlock>(set: &mut BitSet<B>) -> Result<Reply, AllocError>
     ensures reply { IfOk result (λ reply. reply ≡ Done) }
-    ensures after { OnOk result (kept set.new ≡ kept set.old) }
-    ensures refused { OnErr result ((kept set.old ≢ []) × (kept set.new ≡ kept set.old)) }
+    ensures after { OnOk result (elements_of set.new ≡ elements_of set.old) }
+    ensures refused { OnErr result ((elements_of set.old ≢ []) × (elements_of set.new ≡ elements_of set.old)) }
     ensures fitted { OnOk result (Shrinks B.width set.old set.new) }
-    ensures room { set.new.room ≤ set.old.room }
+    ensures capacity { set.new.capacity ≤ set.old.capacity }
 {
     set.shrink_to_fit()?;
     Ok(Reply::Done)
@@ -148,7 +152,8 @@ fn copy<B: BitBlock>(
     requires places { (from < 16) × (to < 16) }
     requires apart { from ≡ to → ⊥ }
     ensures reply { IfOk result (λ reply. reply ≡ Done) }
-    ensures after { OnOk result (map kept sets.new ≡ slice_set (map kept sets.old) to (slice_index_or (map kept sets.old) from [])) }
+    ensures after { OnOk result (map elements_of sets.new
+        ≡ slice_set (map elements_of sets.old) to (slice_index_or (map elements_of sets.old) from [])) }
     ensures grown { OnOk result (Becomes sets.old
         to (GrowsExactlyTo B.width (length (bits_at sets.old from).values)) sets.new) }
     ensures left { OnErr result (sets.new ≡ sets.old) }
@@ -172,7 +177,10 @@ fn merge_in_place<B: BitBlock>(
     requires places { (to < 16) × (other < 16) }
     requires apart { to ≡ other → ⊥ }
     ensures reply { IfOk result (λ reply. reply ≡ Done) }
-    ensures after { OnOk result (map kept sets.new ≡ slice_set (map kept sets.old) to (merged_sets merge (slice_index_or (map kept sets.old) to []) (slice_index_or (map kept sets.old) other []))) }
+    ensures after { OnOk result (map elements_of sets.new
+        ≡ slice_set (map elements_of sets.old) to
+        (merge_of_sets merge (slice_index_or (map elements_of sets.old) to [])
+        (slice_index_or (map elements_of sets.old) other []))) }
     ensures grown { OnOk result (Becomes sets.old to (GrowsTo (length (bits_at sets.old other).values)) sets.new) }
     ensures left { OnErr result (sets.new ≡ sets.old) }
 {
@@ -188,7 +196,7 @@ fn merge_with<B: BitBlock>(
     merge: Merge,
     other: &BitSet<B>,
 ) -> Result<(), AllocError>
-    ensures ok { OnOk result (kept set.new ≡ merged_sets merge (kept set.old) (kept other.now)) }
+    ensures ok { OnOk result (elements_of set.new ≡ merge_of_sets merge (elements_of set.old) (elements_of other.now)) }
     ensures grown { OnOk result (GrowsTo (length other.now.values) set.old set.new) }
     ensures err { OnErr result (set.new ≡ set.old) }
 {
@@ -210,7 +218,10 @@ fn append<B: BitBlock>(
     requires places { (to < 16) × (from < 16) }
     requires apart { to ≡ from → ⊥ }
     ensures reply { IfOk result (λ reply. reply ≡ Done) }
-    ensures after { OnOk result (map kept sets.new ≡ slice_set (slice_set (map kept sets.old) to (union (slice_index_or (map kept sets.old) to []) (slice_index_or (map kept sets.old) from []))) from []) }
+    ensures after { OnOk result (map elements_of sets.new
+        ≡ slice_set (slice_set (map elements_of sets.old) to
+        (union (slice_index_or (map elements_of sets.old) to [])
+        (slice_index_or (map elements_of sets.old) from []))) from []) }
     ensures grown { OnOk result (BecomeTwo sets.old
         to (GrowsTo (length (bits_at sets.old from).values)) from SameCapacity sets.new) }
     ensures left { OnErr result (sets.new ≡ sets.old) }
@@ -233,7 +244,10 @@ fn split_off<B: BitBlock>(
 ) -> Result<Reply, AllocError>
     requires places { (from < 16) × (to < 16) }
     ensures reply { IfOk result (λ reply. reply ≡ Done) }
-    ensures after { OnOk result (map kept sets.new ≡ slice_set (slice_set (map kept sets.old) from (those_below (slice_index_or (map kept sets.old) from []) at)) to (those_from (slice_index_or (map kept sets.old) from []) at)) }
+    ensures after { OnOk result (map elements_of sets.new
+        ≡ slice_set (slice_set (map elements_of sets.old) from
+        (those_below (slice_index_or (map elements_of sets.old) from []) at)) to
+        (those_from (slice_index_or (map elements_of sets.old) from []) at)) }
     ensures refused { OnErr result ((0 < at) × (sets.new ≡ sets.old)) }
     ensures parts { OnOk result (BecomeTwo sets.old
         from (IsFront at) to (λ _ part. IsPart B.width at (bits_at sets.old from) part) sets.new) }

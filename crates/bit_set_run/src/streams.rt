@@ -1,3 +1,4 @@
+// An input read to its end and an output written, each failed call just once. What the bytes mean is not in here.
 ghost use Rattle.std.specs.Prelude.{◌≡◌, ◌≢◌, ℕ, ◌+◌, IfOk, IfErr, OnOk, OnErr, Err, Some};
 ghost use Rattle.std.specs.Io.KnownBytes.{Appends};
 ghost use Rattle.bit_set_run.specs.Exits.{said_at};

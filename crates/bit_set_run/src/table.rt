@@ -1,5 +1,6 @@
+// The table of sixteen sets. What commands do to it is in `stepping`.
 ghost use Rattle.std.specs.Prelude.{◌≡◌};
-ghost use Rattle.bit_set_run.specs.Kept.{kept};
+ghost use Rattle.bit_set_run.specs.Elements.{elements_of};
 ghost use Rattle.bit_set_run.specs.Run.{no_sets, set_of};
 
 use crate::SetName;
@@ -15,11 +16,11 @@ pub struct Table<B: BitBlock> {
 
 impl<B: BitBlock> Model for Table<B> {
     ghost use Rattle.std.specs.Prelude.{ℕ, List, map};
-    ghost use Rattle.bit_set_run.specs.Kept.{kept};
+    ghost use Rattle.bit_set_run.specs.Elements.{elements_of};
 
     ghost Value = { List (List ℕ) };
 
-    ghost view = { λ table. map kept table.sets };
+    ghost view = { λ table. map elements_of table.sets };
 }
 
 impl<B: BitBlock> Table<B> {
@@ -53,7 +54,7 @@ impl<B: BitBlock> Table<B> {
     /// The set of this name.
     #[inline]
     pub fn get(&self, name: SetName) -> &BitSet<B>
-        ensures { kept result.now ≡ set_of self.now name }
+        ensures { elements_of result.now ≡ set_of self.now name }
     {
         &self.sets[name.place()]
     }

@@ -61,7 +61,7 @@ pub(crate) enum PairVerb {
     Compare,
 }
 
-/// A walk, of which `rest` tells what is left.
+/// A walk, of which `rest` says what is left.
 #[derive(Clone, Copy)]
 pub(crate) enum SetWalk {
     /// Over one set.
@@ -149,7 +149,7 @@ pub(crate) fn walk_of(word: &[u8]) -> Option<SetWalk>
     lookup(&WALKS, word)
 }
 
-// What stands beside the word in the table.
+// What is beside the word in the table.
 fn lookup<T: Copy>(mut table: &[(&[u8], T)], word: &[u8]) -> Option<T>
     ensures { result ≡ lookup (bytes_eq word.now) (map (λ entry. (entry.0.now, entry.1)) table.entry.now) }
 {

@@ -125,9 +125,9 @@ fn answers_rows_over_blocks_of_24_bits(rt: HostRuntime) -> Result<(), Fail> {
     Ok(())
 }
 
-// Room that no memory has.
+// Capacity that no memory has.
 #[test]
-fn refuses_room_under_each_word(rt: HostRuntime) -> Result<(), Fail> {
+fn refuses_capacity_under_each_word(rt: HostRuntime) -> Result<(), Fail> {
     let refused = Exit {
         status: 3,
         text: "memory refused",

@@ -1,5 +1,5 @@
-//! The JSON form: rows with their exact answers, from texts that `serde_json` reads, and each call over
-//! each type of blocks.
+//! The JSON form: rows with their exact results, from texts that `serde_json` reads, and each call over each type
+//! of blocks.
 use bit_set::bit_vec::BitVec;
 use bit_set::{BitSet, JsonBlock, JsonError};
 use serde_json::Value;

@@ -3,8 +3,8 @@
 #![tactic(auto)]
 
 #[cfg(test)]
-mod json_tests;
+mod capacity_tests;
 #[cfg(test)]
-mod room_tests;
+mod json_tests;
 #[cfg(test)]
 mod split_tests;

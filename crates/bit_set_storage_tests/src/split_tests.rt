@@ -1,5 +1,5 @@
-//! Sets that are parted at a number and put together again: rows with their exact answers, over each
-//! type of blocks and over 24 bits.
+//! Sets that are parted at a number and put together again: rows with their exact results, over each type of
+//! blocks and over 24 bits.
 ghost use Rattle.std.specs.Prelude.{◌≡◌, OnOk};
 
 use bit_set::laws::parted_sets;
@@ -137,8 +137,8 @@ fn check_parted<B: BitBlock>(rt: &impl Abort, alloc: Global) -> Result<(), SetEr
     Ok(())
 }
 
-// How many elements {1, 2, 3, 6} has once it is parted at 0 and put together again, how many its part, and the length of
-// that.
+// How many elements {1, 2, 3, 6} has once it is parted at 0 and put together again, how many its part, and the length
+// of that.
 fn joined_at_0<B: BitBlock>(alloc: Global) -> Result<[usize; 3], SetError> {
     let mut set = set_of::<B>(alloc, &[1, 2, 3, 6])?;
     let part = split_and_join(alloc, &mut set, 0)?;

@@ -1,5 +1,5 @@
-//! Two sets made one in place, and sets in one another: rows with their exact answers, and each call once
-//! over three block types.
+//! Two sets made one in place, and sets in one another: rows with their exact results, and each call once over
+//! three block types.
 ghost use Rattle.std.specs.Prelude.{◌≡◌, IfOk};
 ghost use Rattle.bit_set.specs.Sets.{elements};
 

@@ -1,5 +1,5 @@
 //! Sets of one element and other lengths, numbers at the end of their range, odd blocks and sets of millions of
-//! places: rows with their exact answers.
+//! places: rows with their exact results.
 use crate::algebra_tests::merge_in;
 use crate::order_tests::feed;
 use bit_set::bit_vec::Merge;
@@ -22,7 +22,7 @@ const LENGTHS: [(usize, usize); 6] = [
     (401, 500),
 ];
 
-// {3}, by a room for 500 or by an element that leaves again, and else by one `insert`.
+// {3}, by a capacity for 500 or by an element that leaves again, and else by one `insert`.
 fn three(alloc: Global, len: usize) -> Result<BitSet, SetError> {
     let mut set = BitSet::with_capacity(alloc, if len == 500 { len } else { 0 })?;
     set.insert(3)?;
@@ -142,7 +142,7 @@ fn the_greatest_numbers_change_nothing(rt: HostRuntime) -> Result<(), Fail> {
 }
 
 #[test]
-fn no_set_has_room_for_the_greatest_numbers(rt: HostRuntime) {
+fn no_set_has_capacity_for_the_greatest_numbers(rt: HostRuntime) {
     for number in [GREATEST, GREATEST - 1] {
         assert!(rt; BitSet::with_capacity(rt.alloc(), number).is_err());
         assert!(rt; BitSet::<Block24>::with_capacity_general(rt.alloc(), number).is_err());

@@ -1,4 +1,4 @@
-//! The rows of equality, order, hash and texts, with their exact answers.
+//! The rows of equality, order, hash and texts, with their exact results.
 ghost use Rattle.std.specs.Prelude.{◌+◌, ◌*◌, ◌%◌, ◌^◌, fold};
 
 use bit_set::{BitBlock, BitSet, SetError};
@@ -20,7 +20,10 @@ struct Recorder {
 }
 
 impl Hasher for Recorder {
-    ghost write = { λ s bytes. record { calls = (s.calls + 1) % 2 ^ 64; bytes = fold (λ n b. (n * 256 % 2 ^ 128 + b) % 2 ^ 128) s.bytes bytes } };
+    ghost write = { λ s bytes. record {
+      calls = (s.calls + 1) % 2 ^ 64;
+      bytes = fold (λ n b. (n * 256 % 2 ^ 128 + b) % 2 ^ 128) s.bytes bytes;
+    } };
 
     ghost finish = { λ s. s.calls };
 
@@ -242,7 +245,7 @@ fn the_order_is_that_of_the_walks(rt: HostRuntime) -> Result<(), Fail> {
     Ok(())
 }
 
-// {3}, with room for 500 at once.
+// {3}, with capacity for 500 at once.
 fn roomy(alloc: Global) -> Result<BitSet, SetError> {
     let mut set = BitSet::with_capacity(alloc, 500)?;
     set.insert(3)?;
@@ -296,8 +299,8 @@ fn a_merged_set_is_the_set_read(rt: HostRuntime) -> Result<(), Fail> {
     Ok(())
 }
 
-// How many keys a sorted map has of three sets, two of them equal, and what stands at a longer set of
-// the same elements.
+// How many keys a sorted map has of three sets, two of them equal, and what is at a longer set of the same
+// elements.
 fn sorted(alloc: Global) -> Result<(usize, Option<char>), Fail> {
     let mut names = BTreeMap::new(alloc);
     for (numbers, name) in [([1, 1], 'a'), ([0, 1], 'b'), ([1, 0], 'c')] {

@@ -1,5 +1,4 @@
-//! Rows with their exact answers, each generic call once over two block types, and the texts of the
-//! faults.
+//! Rows with their exact results, each generic call once over two block types, and the texts of the faults.
 ghost use Rattle.std.specs.Prelude.{IsErrOf};
 
 use bit_set::bit_vec::BitVec;
@@ -153,7 +152,7 @@ fn copied<B: BitBlock>(alloc: Global) -> Result<[usize; 3], SetError> {
     Ok([count, len, copy.get_ref().len()])
 }
 
-// Whether nine ones are a set that has 8, that is not empty, and that has room for them.
+// Whether nine ones are a set that has 8, that is not empty, and that has capacity for them.
 fn has_nine<B: BitBlock>(alloc: Global) -> Result<bool, AllocError> {
     let set = BitSet::<B>::from_bit_vec_general(BitVec::from_elem_general(alloc, 9, true)?);
     Ok(set.contains(8) && !set.is_empty() && set.capacity() >= 9)

@@ -16,10 +16,17 @@ use std::test::Fail;
 // Over `u32` the whole walk of {400} pulls two blocks and once more at the end, that of {0, 100000} too, and that of a
 // set without an element the first block alone. The summary of 3126 blocks, in 98, is pulled once each and once more.
 fn pulls_of_sparse_sets()
-    ensures one { (values : List Bool) (s t : Walk) (items : List ℕ) → elements values ≡ 400 ∷ [] → IsAtStart 32 values s → YieldsThen ⟦<Iter<'static, u32> as Iterator>⟧.next_gives s items None t → t.pulls ≡ 3 }
-    ensures two { (values : List Bool) (s t : Walk) (items : List ℕ) → elements values ≡ 0 ∷ 100000 ∷ [] → IsAtStart 32 values s → YieldsThen ⟦<Iter<'static, u32> as Iterator>⟧.next_gives s items None t → t.pulls ≡ 3 }
-    ensures none { (values : List Bool) (s t : Walk) (items : List ℕ) → elements values ≡ [] → IsAtStart 32 values s → YieldsThen ⟦<Iter<'static, u32> as Iterator>⟧.next_gives s items None t → t.pulls ≡ 2 }
-    ensures summary { (values : List Bool) (s t : Walk) (items : List ℕ) → length values ≡ 100001 → IsAtStart 32 values s → YieldsThen ⟦<Iter<'static, u32> as Iterator>⟧.next_gives s items None t → t.summary_pulls ≡ 99 }
+    ensures one { (values : List Bool) (s t : Walk) (items : List ℕ) → elements values ≡ 400 ∷ []
+        → IsAtStart 32 values s → YieldsThen ⟦<Iter<'static, u32> as Iterator>⟧.next_gives s items None t
+        → t.pulls ≡ 3 }
+    ensures two { (values : List Bool) (s t : Walk) (items : List ℕ) → elements values ≡ 0 ∷ 100000 ∷ []
+        → IsAtStart 32 values s → YieldsThen ⟦<Iter<'static, u32> as Iterator>⟧.next_gives s items None t
+        → t.pulls ≡ 3 }
+    ensures none { (values : List Bool) (s t : Walk) (items : List ℕ) → elements values ≡ [] → IsAtStart 32 values s
+        → YieldsThen ⟦<Iter<'static, u32> as Iterator>⟧.next_gives s items None t → t.pulls ≡ 2 }
+    ensures summary { (values : List Bool) (s t : Walk) (items : List ℕ) → length values ≡ 100001
+        → IsAtStart 32 values s → YieldsThen ⟦<Iter<'static, u32> as Iterator>⟧.next_gives s items None t
+        → t.summary_pulls ≡ 99 }
     ensures blocks { (blocks_for 32 100001 ≡ 3126) × (blocks_for 32 3126 ≡ 98) }
 {
     sparse_walks::<u32>();

@@ -35,7 +35,8 @@ pub(crate) fn bounds<B: BitBlock>(set: &BitSet<B>) -> [(usize, Option<usize>); 3
 
 // A set of 401 places over `u32` has 13 blocks, and its whole walk makes 14 pulls at most.
 fn pulls_at_401_places()
-    ensures { (values : List Bool) (s t : Walk) (items : List ℕ) → length values ≡ 401 → IsAtStart 32 values s → YieldsThen ⟦<Iter<'static, u32> as Iterator>⟧.next_gives s items None t → t.pulls ≤ 14 }
+    ensures { (values : List Bool) (s t : Walk) (items : List ℕ) → length values ≡ 401 → IsAtStart 32 values s
+        → YieldsThen ⟦<Iter<'static, u32> as Iterator>⟧.next_gives s items None t → t.pulls ≤ 14 }
 {
     whole_walks::<u32>();
 }

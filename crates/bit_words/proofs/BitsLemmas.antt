@@ -121,7 +121,7 @@ blocks_of-lt w k values =
     (λ past. let e = get_or_past (blocks_of w values) k 0 (rw length-blocks_of past) in rw e (pow_pos w))
     (cases_lt k (blocks_for w (length values)))
 
--- a value of 1 at a place is a true value there
+-- a value of 1 at an index is a true value there
 pub true_from_slice_get : (bs : List Bool) (i : ℕ) → slice_get bs i ≡ Some true → digit_of (get_or bs i false) ≡ 1
 true_from_slice_get bs i h = rw (get_or_from_slice_get bs i true false h) refl
 

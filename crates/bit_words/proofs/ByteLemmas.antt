@@ -62,7 +62,7 @@ byte_value-past bytes i h =
 is_one-above : (m j : ℕ) → m < 2 ^ 8 → 8 ≤ j → is_one m j ≡ false
 is_one-above m j small h = ap (λ d. d == 1) (bit_at_above m 8 j small h)
 
--- r is the turned byte at place p
+-- r is the turned byte at index p
 moved_below : (w n d r j : ℕ) → IsShiftedLeft w n d r → j < d → is_one r j ≡ false
 moved_below w n d r j is h = ap (λ x. x == 1) (is.zeros j h)
 
@@ -73,7 +73,7 @@ moved_from w n d r j is h k =
     ap (is_one r) (sym e) ∙ ap (λ x. x == 1) (is.moved (j - d) f)
 
 pub byte_added : (w m n d r q p : ℕ) (bytes : List ℕ) → ((j : ℕ) → j < w → is_one m j ≡ (nat_lt j (8 * p) && byte_value bytes j)) → n ≡ reverse_bits w8 (get_or bytes p 0) → n < 2 ^ 8 → d ≡ 8 * p → IsShiftedLeft w n d r → IsEither w m r q → (j : ℕ) → j < w → is_one q j ≡ (nat_lt j (8 * (p + 1)) && byte_value bytes j)
-byte_added w m n d r q p bytes old turn small place moved either j within =
+byte_added w m n d r q p bytes old turn small index moved either j within =
     is_one-either w m r q j either within
     ∙ ap (λ a. a || is_one r j) (old j within)
     ∙ ⊎_elim
@@ -121,7 +121,7 @@ start_below w s k n pos e h =
     (λ past. let l = blocks_for-least w (8 * n) k pos (scaled w s k n e past) in absurd (omega arith))
     (cases_lt (k * s) n)
 
--- the same of what the code computes: b is what `bits()` answered
+-- the same of what the code computes: b is what `bits()` returned
 pub whole_bytes : (w b : ℕ) → IsWidth w → b ≡ w → w ≡ 8 * (b / 8)
 whole_bytes w b width e = omega (arith, width.whole_bytes)
 

@@ -9,14 +9,14 @@ use Rattle.bit_words.proofs.StorageLemmas.{value_at-is, value_at-past, value_at-
 
 -- ---- within one block, places follow indexes
 
-same_place : (w i j : ℕ) → i / w ≡ j / w → i % w ≡ j % w → i ≡ j
-same_place w i j e f = let p = ap (λ q. q * w) e in omega (arith, div-add-mod' i w, div-add-mod' j w)
+same_index : (w i j : ℕ) → i / w ≡ j / w → i % w ≡ j % w → i ≡ j
+same_index w i j e f = let p = ap (λ q. q * w) e in omega (arith, div-add-mod' i w, div-add-mod' j w)
 
-pub nat_le-places : (w i j : ℕ) → j / w ≡ i / w → nat_le i j ≡ nat_le (i % w) (j % w)
-nat_le-places w i j e = let p = ap (λ q. q * w) e in let a = div-add-mod' i w in let b = div-add-mod' j w in grind (arith, nat_tests)
+pub nat_le-indexes : (w i j : ℕ) → j / w ≡ i / w → nat_le i j ≡ nat_le (i % w) (j % w)
+nat_le-indexes w i j e = let p = ap (λ q. q * w) e in let a = div-add-mod' i w in let b = div-add-mod' j w in grind (arith, nat_tests)
 
-pub nat_lt-places : (w i j : ℕ) → i / w ≡ j / w → nat_lt i j ≡ nat_lt (i % w) (j % w)
-nat_lt-places w i j e = let p = ap (λ q. q * w) e in let a = div-add-mod' i w in let b = div-add-mod' j w in grind (arith, nat_tests)
+pub nat_lt-indexes : (w i j : ℕ) → i / w ≡ j / w → nat_lt i j ≡ nat_lt (i % w) (j % w)
+nat_lt-indexes w i j e = let p = ap (λ q. q * w) e in let a = div-add-mod' i w in let b = div-add-mod' j w in grind (arith, nat_tests)
 
 -- ---- one block written
 
@@ -40,7 +40,7 @@ pub put_others : (w : ℕ) (ms ns : List ℕ) (i k p m n : ℕ) → 0 < w → k 
 put_others w ms ns i k p m n pos ke pe h read e digits j ne =
     ⊎_elim
     (λ here. written_same w ms ns k n j e h here
-    ∙ digits (j % w) (mod-lt j pos) (λ q. ne (same_place w j i (here ∙ ke) (q ∙ pe)))
+    ∙ digits (j % w) (mod-lt j pos) (λ q. ne (same_index w j i (here ∙ ke) (q ∙ pe)))
     ∙ sym (read_at w ms k m j read here))
     (λ there. written_other w ms ns k n j e there)
     (cases_eq (j / w) k)
@@ -50,7 +50,7 @@ or_and_false true b = refl
 or_and_false false true = refl
 or_and_false false false = refl
 
--- in a block other than the one at which the values end, the index tells on which side it is
+-- in a block other than the one at which the values end, the index says on which side it is
 kept_before : (w : ℕ) (ms : List ℕ) (len i : ℕ) → i < len → value_at w ms i ≡ (nat_lt i len && value_at w ms i)
 kept_before w ms len i h = let test : nat_lt i len ≡ true = grind (arith, nat_tests) in ap (λ t. t && value_at w ms i) (sym test)
 
@@ -81,14 +81,14 @@ digits_from w s t k p m n pos ke forward later digits j h =
     let test : nat_lt (k * w + j) t ≡ true = let low = div-mul-le_self t w in grind (arith, nat_tests) in
     digits j h ∙ ap (λ x. is_one m j || (x && nat_le p j)) (sym test)
 
-pub raised : (w : ℕ) (ms ns : List ℕ) (s t k p m n : ℕ) → 0 < w → k ≡ s / w → p ≡ s % w → p ≢ 0 → length ms ≡ blocks_for w s → m ≡ get_or ms k 0 → ns ≡ set ms k n → ((j : ℕ) → j < w → is_one n j ≡ (is_one m j || (nat_lt (k * w + j) t && nat_le p j))) → (i : ℕ) → i / w < length ms → value_at w ns i ≡ (value_at w ms i || (nat_lt i t && nat_le s i))
-raised w ms ns s t k p m n pos ke pe nz count read e digits i within =
+pub tail_set : (w : ℕ) (ms ns : List ℕ) (s t k p m n : ℕ) → 0 < w → k ≡ s / w → p ≡ s % w → p ≢ 0 → length ms ≡ blocks_for w s → m ≡ get_or ms k 0 → ns ≡ set ms k n → ((j : ℕ) → j < w → is_one n j ≡ (is_one m j || (nat_lt (k * w + j) t && nat_le p j))) → (i : ℕ) → i / w < length ms → value_at w ns i ≡ (value_at w ms i || (nat_lt i t && nat_le s i))
+tail_set w ms ns s t k p m n pos ke pe nz count read e digits i within =
     ⊎_elim
     (λ here.
     let index : k * w + i % w ≡ i = ap (λ q. q * w + i % w) (sym here) ∙ div-add-mod' i w in
     written_same w ms ns k n i e (omega arith) here
     ∙ digits (i % w) (mod-lt i pos)
-    ∙ ap₂ (λ a b. a || b) (sym (read_at w ms k m i read here)) (ap₂ (λ a b. nat_lt a t && b) index (ap (λ q. nat_le q (i % w)) pe ∙ sym (nat_le-places w s i (here ∙ ke)))))
+    ∙ ap₂ (λ a b. a || b) (sym (read_at w ms k m i read here)) (ap₂ (λ a b. nat_lt a t && b) index (ap (λ q. nat_le q (i % w)) pe ∙ sym (nat_le-indexes w s i (here ∙ ke)))))
     (λ there.
     let before = div_lt w i s pos (omega arith) in
     let test : nat_le s i ≡ false = grind (arith, nat_tests) in
@@ -112,7 +112,7 @@ lowered w ms ns len k p m n pos ke pe nz count read e digits i =
     (λ here.
     written_same w ms ns k n i e (omega arith) here
     ∙ digits (i % w) (mod-lt i pos)
-    ∙ ap₂ (λ a b. a && b) (ap (nat_lt (i % w)) pe ∙ sym (nat_lt-places w i len (here ∙ ke))) (sym (read_at w ms k m i read here)))
+    ∙ ap₂ (λ a b. a && b) (ap (nat_lt (i % w)) pe ∙ sym (nat_lt-indexes w i len (here ∙ ke))) (sym (read_at w ms k m i read here)))
     (λ there.
     written_other w ms ns k n i e there
     ∙ ⊎_elim

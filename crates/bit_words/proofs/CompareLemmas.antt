@@ -4,16 +4,16 @@ use Rattle.std.proofs.lemmas.Bool.{cases_lt, eq-eqb, false≢true}
 use Rattle.std.proofs.lemmas.List.{get_or_past, length-map}
 use Rattle.std.proofs.lemmas.Nat.Bits.{bit_at-zero, same_from_bits_below}
 use Rattle.std.proofs.lemmas.Option.{get_or_from_slice_get}
-use Rattle.bit_words.specs.declared.bit_vec.merge.Merge.{Merge}
-use Rattle.bit_words.specs.declared.bit_vec.merge.Merge.TheVariants.{Intersection, Difference}
+use Rattle.bit_words.specs.declared.block.merge.Merge.{Merge}
+use Rattle.bit_words.specs.declared.block.merge.Merge.TheVariants.{Intersection, Difference}
 use Rattle.bit_words.specs.Bits.{Bits, IsFirstTrue, digit_of}
-use Rattle.bit_words.specs.Merges.{merged_value, merged}
+use Rattle.bit_words.specs.Merges.{merge_of_values, merge_of}
 use Rattle.bit_words.specs.BlockMerges.{MergesToZero, MergesToFalse, IsFirstMerged}
 use Rattle.bit_words.specs.Digits.{is_one}
-use Rattle.bit_words.specs.Storage.{value_at, values_of, IsCleanFrom}
+use Rattle.bit_words.specs.Storage.{value_at, values_of, IsZeroFrom}
 use Rattle.bit_words.proofs.BitsLemmas.{slice_get_from_true}
 use Rattle.bit_words.proofs.Masks.{is_one-zero}
-use Rattle.bit_words.proofs.StorageLemmas.{value_at-is, value_at-place, value_at-past, get_or-values_of_clean}
+use Rattle.bit_words.proofs.StorageLemmas.{value_at-is, value_at-index, value_at-past, get_or-values_of_zero_tail}
 use Rattle.bit_words.proofs.MergeLemmas.{get_or-merged}
 use Rattle.bit_words.proofs.VectorLemmas.{bit_from_false}
 
@@ -27,17 +27,17 @@ zero_from_digits w n small falses =
 pub digit_from_zero : (n j : ℕ) → n ≡ 0 → is_one n j ≡ false
 digit_from_zero n j z = ap (λ m. is_one m j) z ∙ is_one-zero j
 
--- a test against a block of zeros that answers no
-pub unlike_zero : (n z : ℕ) (b : Bool) → b ≡ (n == z) → b ≡ false → z ≡ 0 → n ≢ 0
-unlike_zero n z b is unlike naught none = false≢true (sym unlike ∙ is ∙ eq-eqb n z (none ∙ sym naught))
+-- a test against a block of zeros that says no
+pub mismatch_zero : (n z : ℕ) (b : Bool) → b ≡ (n == z) → b ≡ false → z ≡ 0 → n ≢ 0
+mismatch_zero n z b is mismatch naught none = false≢true (sym mismatch ∙ is ∙ eq-eqb n z (none ∙ sym naught))
 
 -- block k is one of those that merge to 0, and its merge is n
-pub merge_of_zeros : (m : Merge) (w : ℕ) (ms ns : List ℕ) (count k a b n : ℕ) → n < 2 ^ w → a ≡ get_or ms k 0 → b ≡ get_or ns k 0 → ((j : ℕ) → j < w → is_one n j ≡ merged_value m (is_one a j) (is_one b j)) → k < count → MergesToZero m w ms ns count → n ≡ 0
+pub merge_of_zeros : (m : Merge) (w : ℕ) (ms ns : List ℕ) (count k a b n : ℕ) → n < 2 ^ w → a ≡ get_or ms k 0 → b ≡ get_or ns k 0 → ((j : ℕ) → j < w → is_one n j ≡ merge_of_values m (is_one a j) (is_one b j)) → k < count → MergesToZero m w ms ns count → n ≡ 0
 merge_of_zeros m w ms ns count k a b n small first second digits within zeros =
-    zero_from_digits w n small (λ j place.
-    digits j place
-    ∙ ap₂ (λ x y. merged_value m (is_one x j) (is_one y j)) first second
-    ∙ zeros.digit k j within place)
+    zero_from_digits w n small (λ j index.
+    digits j index
+    ∙ ap₂ (λ x y. merge_of_values m (is_one x j) (is_one y j)) first second
+    ∙ zeros.digit k j within index)
 
 -- ---- the first index at which they merge to true
 
@@ -47,24 +47,24 @@ first_is_past m w ms ns count i pos zeros first =
     ⊎_elim
     (λ within. absurd (false≢true (
     sym (zeros.digit (i / w) (i % w) within (mod-lt i pos))
-    ∙ ap₂ (merged_value m) (sym (value_at-is w ms i)) (sym (value_at-is w ns i))
+    ∙ ap₂ (merge_of_values m) (sym (value_at-is w ms i)) (sym (value_at-is w ns i))
     ∙ first.is_true)))
     (λ past. past)
     (cases_lt (i / w) count)
 
 index_below : (w k j i : ℕ) → j < w → k < i / w → k * w + j < i
-index_below w k j i place below = let more = mul-le-mul_right w (let le : k + 1 ≤ i / w = omega arith in le) in omega (arith, div-add-mod' i w)
+index_below w k j i index below = let more = mul-le-mul_right w (let le : k + 1 ≤ i / w = omega arith in le) in omega (arith, div-add-mod' i w)
 
 -- the blocks before its own merge to 0
 pub zero_before_first : (m : Merge) (w : ℕ) (ms ns : List ℕ) (count i : ℕ) → count ≤ i / w → IsFirstMerged m w ms ns i → MergesToZero m w ms ns count
 zero_before_first m w ms ns count i past first = record {
-  digit = λ k j within place.
-      ap₂ (merged_value m) (sym (value_at-place w ms k j place)) (sym (value_at-place w ns k j place))
-      ∙ first.before (k * w + j) (index_below w k j i place (omega arith));
+  digit = λ k j within index.
+      ap₂ (merge_of_values m) (sym (value_at-index w ms k j index)) (sym (value_at-index w ns k j index))
+      ∙ first.before (k * w + j) (index_below w k j i index (omega arith));
 }
 
 -- so its block is the first whose merge n is not 0
-pub first_is_here : (m : Merge) (w : ℕ) (ms ns : List ℕ) (k a b n i : ℕ) → 0 < w → n < 2 ^ w → a ≡ get_or ms k 0 → b ≡ get_or ns k 0 → ((j : ℕ) → j < w → is_one n j ≡ merged_value m (is_one a j) (is_one b j)) → n ≢ 0 → MergesToZero m w ms ns k → IsFirstMerged m w ms ns i → i / w ≡ k
+pub first_is_here : (m : Merge) (w : ℕ) (ms ns : List ℕ) (k a b n i : ℕ) → 0 < w → n < 2 ^ w → a ≡ get_or ms k 0 → b ≡ get_or ns k 0 → ((j : ℕ) → j < w → is_one n j ≡ merge_of_values m (is_one a j) (is_one b j)) → n ≢ 0 → MergesToZero m w ms ns k → IsFirstMerged m w ms ns i → i / w ≡ k
 first_is_here m w ms ns k a b n i pos small one two digits some zeros first =
     let past = first_is_past m w ms ns k i pos zeros first in
     ⊎_elim
@@ -74,19 +74,19 @@ first_is_here m w ms ns k a b n i pos small one two digits some zeros first =
 
 -- ---- values
 
-pub false_from_zero : (m : Merge) (w : ℕ) (ms ns : List ℕ) (count : ℕ) → 0 < w → MergesToZero m w ms ns count → ((k j : ℕ) → count ≤ k → j < w → merged_value m (is_one (get_or ms k 0) j) (is_one (get_or ns k 0) j) ≡ false) → MergesToFalse m w ms ns
+pub false_from_zero : (m : Merge) (w : ℕ) (ms ns : List ℕ) (count : ℕ) → 0 < w → MergesToZero m w ms ns count → ((k j : ℕ) → count ≤ k → j < w → merge_of_values m (is_one (get_or ms k 0) j) (is_one (get_or ns k 0) j) ≡ false) → MergesToFalse m w ms ns
 false_from_zero m w ms ns count pos zeros past = record {
   value = λ i.
-      ap₂ (merged_value m) (value_at-is w ms i) (value_at-is w ns i)
+      ap₂ (merge_of_values m) (value_at-is w ms i) (value_at-is w ns i)
       ∙ ⊎_elim
       (λ within. zeros.digit (i / w) (i % w) within (mod-lt i pos))
       (λ out. past (i / w) (i % w) out (mod-lt i pos))
       (cases_lt (i / w) count);
 }
 
-pub zero_from_false : (m : Merge) (w : ℕ) (ms ns : List ℕ) → MergesToFalse m w ms ns → (k j : ℕ) → j < w → merged_value m (is_one (get_or ms k 0) j) (is_one (get_or ns k 0) j) ≡ false
-zero_from_false m w ms ns falses k j place =
-    ap₂ (merged_value m) (sym (value_at-place w ms k j place)) (sym (value_at-place w ns k j place)) ∙ falses.value (k * w + j)
+pub zero_from_false : (m : Merge) (w : ℕ) (ms ns : List ℕ) → MergesToFalse m w ms ns → (k j : ℕ) → j < w → merge_of_values m (is_one (get_or ms k 0) j) (is_one (get_or ns k 0) j) ≡ false
+zero_from_false m w ms ns falses k j index =
+    ap₂ (merge_of_values m) (sym (value_at-index w ms k j index)) (sym (value_at-index w ns k j index)) ∙ falses.value (k * w + j)
 
 -- the lesser of two numbers of blocks is one of them
 pub shorter_end : {X : Type 0} (f : X → ℕ) (xs ys : List X) (c : ℕ) → c ≡ min (length xs) (length ys) → (c ≡ length (map f ys)) ⊎ (c ≡ length (map f xs))
@@ -97,29 +97,29 @@ shorter_end f xs ys c e =
     (λ (more : length ys ≤ length xs). inl (omega arith))
     (cases_lt (length xs) (length ys)))
 
-difference_of_false : (b : Bool) → merged_value Difference false b ≡ false
+difference_of_false : (b : Bool) → merge_of_values Difference false b ≡ false
 difference_of_false true = refl
 difference_of_false false = refl
 
-difference_past : (a : Bool) → merged_value Difference a false ≡ false → a ≡ false
+difference_past : (a : Bool) → merge_of_values Difference a false ≡ false → a ≡ false
 difference_past true e = e
 difference_past false e = e
 
-intersection_past : (a : Bool) → merged_value Intersection a false ≡ false
+intersection_past : (a : Bool) → merge_of_values Intersection a false ≡ false
 intersection_past true = refl
 intersection_past false = refl
 
 -- a difference: where both have blocks, and past those
 pub difference_of_blocks : (w : ℕ) (ms ns : List ℕ) (count : ℕ) → 0 < w → ((k : ℕ) → get_or ms k 0 < 2 ^ w) → (count ≡ length ns) ⊎ (count ≡ length ms) → (MergesToZero Difference w ms ns count × ((k : ℕ) → count ≤ k → get_or ms k 0 ≡ 0)) ↔ MergesToFalse Difference w ms ns
 difference_of_blocks w ms ns count pos small ends = (
-  λ zeros. false_from_zero Difference w ms ns count pos zeros.0 (λ k j past place.
-      ap (λ x. merged_value Difference x (is_one (get_or ns k 0) j)) (digit_from_zero _ j (zeros.1 k past)) ∙ difference_of_false (is_one (get_or ns k 0) j)),
+  λ zeros. false_from_zero Difference w ms ns count pos zeros.0 (λ k j past index.
+      ap (λ x. merge_of_values Difference x (is_one (get_or ns k 0) j)) (digit_from_zero _ j (zeros.1 k past)) ∙ difference_of_false (is_one (get_or ns k 0) j)),
   λ falses. (
-    record { digit = λ k j within place. zero_from_false Difference w ms ns falses k j place },
+    record { digit = λ k j within index. zero_from_false Difference w ms ns falses k j index },
     λ k past. ⊎_elim
-        (λ other. zero_from_digits w _ (small k) (λ j place. difference_past _ (
-        ap (merged_value Difference (is_one (get_or ms k 0) j)) (sym (digit_from_zero _ j (get_or_past ns k 0 (omega arith))))
-        ∙ zero_from_false Difference w ms ns falses k j place)))
+        (λ other. zero_from_digits w _ (small k) (λ j index. difference_past _ (
+        ap (merge_of_values Difference (is_one (get_or ms k 0) j)) (sym (digit_from_zero _ j (get_or_past ns k 0 (omega arith))))
+        ∙ zero_from_false Difference w ms ns falses k j index)))
         (λ own. get_or_past ms k 0 (omega arith))
         ends,
   ),
@@ -128,12 +128,12 @@ difference_of_blocks w ms ns count pos small ends = (
 -- an intersection: it is enough to look where both have blocks
 pub intersection_of_blocks : (w : ℕ) (ms ns : List ℕ) (count : ℕ) → 0 < w → (count ≡ length ns) ⊎ (count ≡ length ms) → MergesToZero Intersection w ms ns count ↔ MergesToFalse Intersection w ms ns
 intersection_of_blocks w ms ns count pos ends = (
-  λ zeros. false_from_zero Intersection w ms ns count pos zeros (λ k j past place.
+  λ zeros. false_from_zero Intersection w ms ns count pos zeros (λ k j past index.
       ⊎_elim
-      (λ other. ap (merged_value Intersection (is_one (get_or ms k 0) j)) (digit_from_zero _ j (get_or_past ns k 0 (omega arith))) ∙ intersection_past (is_one (get_or ms k 0) j))
-      (λ own. ap (λ x. merged_value Intersection x (is_one (get_or ns k 0) j)) (digit_from_zero _ j (get_or_past ms k 0 (omega arith))))
+      (λ other. ap (merge_of_values Intersection (is_one (get_or ms k 0) j)) (digit_from_zero _ j (get_or_past ns k 0 (omega arith))) ∙ intersection_past (is_one (get_or ms k 0) j))
+      (λ own. ap (λ x. merge_of_values Intersection x (is_one (get_or ns k 0) j)) (digit_from_zero _ j (get_or_past ms k 0 (omega arith))))
       ends),
-  λ falses. record { digit = λ k j within place. zero_from_false Intersection w ms ns falses k j place },
+  λ falses. record { digit = λ k j within index. zero_from_false Intersection w ms ns falses k j index },
 )
 
 -- where a difference first is true past the others, the first own block past them that is not 0
@@ -141,13 +141,13 @@ pub first_of_rest : (w : ℕ) (ms ns : List ℕ) (count i : ℕ) → ((k : ℕ) 
 first_of_rest w ms ns count i small ends first = (
   λ none. false≢true (
       sym (difference_of_false (value_at w ns i))
-      ∙ ap (λ x. merged_value Difference x (value_at w ns i)) (sym (value_at-is w ms i ∙ digit_from_zero _ (i % w) none))
+      ∙ ap (λ x. merge_of_values Difference x (value_at w ns i)) (sym (value_at-is w ms i ∙ digit_from_zero _ (i % w) none))
       ∙ first.is_true),
   λ q past below. ⊎_elim
-      (λ other. zero_from_digits w _ (small q) (λ j place. difference_past _ (
-      ap (merged_value Difference (is_one (get_or ms q 0) j)) (sym (digit_from_zero _ j (get_or_past ns q 0 (omega arith))))
-      ∙ ap₂ (merged_value Difference) (sym (value_at-place w ms q j place)) (sym (value_at-place w ns q j place))
-      ∙ first.before (q * w + j) (index_below w q j i place below))))
+      (λ other. zero_from_digits w _ (small q) (λ j index. difference_past _ (
+      ap (merge_of_values Difference (is_one (get_or ms q 0) j)) (sym (digit_from_zero _ j (get_or_past ns q 0 (omega arith))))
+      ∙ ap₂ (merge_of_values Difference) (sym (value_at-index w ms q j index)) (sym (value_at-index w ns q j index))
+      ∙ first.before (q * w + j) (index_below w q j i index below))))
       (λ own. get_or_past ms q 0 (omega arith))
       ends,
 )
@@ -159,8 +159,8 @@ first_is_within w ms ns count i ends first =
     (λ within. within)
     (λ past. absurd (false≢true (
     sym (⊎_elim
-    (λ other. ap (merged_value Intersection (value_at w ms i)) (value_at-past w ns i (omega arith)) ∙ intersection_past (value_at w ms i))
-    (λ own. ap (λ x. merged_value Intersection x (value_at w ns i)) (value_at-past w ms i (omega arith)))
+    (λ other. ap (merge_of_values Intersection (value_at w ms i)) (value_at-past w ns i (omega arith)) ∙ intersection_past (value_at w ms i))
+    (λ own. ap (λ x. merge_of_values Intersection x (value_at w ns i)) (value_at-past w ms i (omega arith)))
     ends)
     ∙ first.is_true)))
     (cases_lt (i / w) count)
@@ -168,12 +168,12 @@ first_is_within w ms ns count i ends first =
 -- ---- lists
 
 -- a value of a list is one of its blocks
-pub value_in_view : (w n r : ℕ) (ms : List ℕ) (v : Bits) → record { values = values_of w ms n; room = r } ≡ v → IsCleanFrom w ms n → (i : ℕ) → get_or v.values i false ≡ value_at w ms i
-value_in_view w n r ms v e clean i = sym (ap (λ b. get_or b.values i false) e) ∙ get_or-values_of_clean w ms n i clean
+pub value_in_view : (w n r : ℕ) (ms : List ℕ) (v : Bits) → record { values = values_of w ms n; capacity = r } ≡ v → IsZeroFrom w ms n → (i : ℕ) → get_or v.values i false ≡ value_at w ms i
+value_in_view w n r ms v e zero_tail i = sym (ap (λ b. get_or b.values i false) e) ∙ get_or-values_of_zero_tail w ms n i zero_tail
 
-pub true_at : (w n r : ℕ) (ms : List ℕ) (v : Bits) → record { values = values_of w ms n; room = r } ≡ v → IsCleanFrom w ms n → (i : ℕ) → (slice_get v.values i ≡ Some true) ↔ (value_at w ms i ≡ true)
-true_at w n r ms v e clean i =
-    let same = value_in_view w n r ms v e clean i in (
+pub true_at : (w n r : ℕ) (ms : List ℕ) (v : Bits) → record { values = values_of w ms n; capacity = r } ≡ v → IsZeroFrom w ms n → (i : ℕ) → (slice_get v.values i ≡ Some true) ↔ (value_at w ms i ≡ true)
+true_at w n r ms v e zero_tail i =
+    let same = value_in_view w n r ms v e zero_tail i in (
       λ found. sym same ∙ get_or_from_slice_get v.values i true false found,
       λ one. slice_get_from_true v.values i (ap digit_of (same ∙ one)),
     )
@@ -184,44 +184,44 @@ false_from_not (true ∷ bs) zero h = absurd (h refl)
 false_from_not (false ∷ bs) zero h = refl
 false_from_not (b ∷ bs) (suc j) h = false_from_not bs j h
 
-merged_in_views : (m : Merge) (w n p r s : ℕ) (ms ns : List ℕ) (v u : Bits) → record { values = values_of w ms n; room = r } ≡ v → record { values = values_of w ns p; room = s } ≡ u → IsCleanFrom w ms n → IsCleanFrom w ns p → (i : ℕ) → get_or (merged m v.values u.values) i false ≡ merged_value m (value_at w ms i) (value_at w ns i)
-merged_in_views m w n p r s ms ns v u e f clean also i =
+merged_in_views : (m : Merge) (w n p r s : ℕ) (ms ns : List ℕ) (v u : Bits) → record { values = values_of w ms n; capacity = r } ≡ v → record { values = values_of w ns p; capacity = s } ≡ u → IsZeroFrom w ms n → IsZeroFrom w ns p → (i : ℕ) → get_or (merge_of m v.values u.values) i false ≡ merge_of_values m (value_at w ms i) (value_at w ns i)
+merged_in_views m w n p r s ms ns v u e f zero_tail also i =
     get_or-merged m v.values u.values i
-    ∙ ap₂ (merged_value m) (value_in_view w n r ms v e clean i) (value_in_view w p s ns u f also i)
+    ∙ ap₂ (merge_of_values m) (value_in_view w n r ms v e zero_tail i) (value_in_view w p s ns u f also i)
 
-pub first_of_lists : (m : Merge) (w n p r s : ℕ) (ms ns : List ℕ) (v u : Bits) → record { values = values_of w ms n; room = r } ≡ v → record { values = values_of w ns p; room = s } ≡ u → IsCleanFrom w ms n → IsCleanFrom w ns p → (i : ℕ) → IsFirstTrue (merged m v.values u.values) i → IsFirstMerged m w ms ns i
-first_of_lists m w n p r s ms ns v u e f clean also i first = record {
-  is_true = sym (merged_in_views m w n p r s ms ns v u e f clean also i) ∙ get_or_from_slice_get (merged m v.values u.values) i true false first.is_true;
-  before = λ j less. sym (merged_in_views m w n p r s ms ns v u e f clean also j) ∙ false_from_not (merged m v.values u.values) j (first.before j less);
+pub first_of_lists : (m : Merge) (w n p r s : ℕ) (ms ns : List ℕ) (v u : Bits) → record { values = values_of w ms n; capacity = r } ≡ v → record { values = values_of w ns p; capacity = s } ≡ u → IsZeroFrom w ms n → IsZeroFrom w ns p → (i : ℕ) → IsFirstTrue (merge_of m v.values u.values) i → IsFirstMerged m w ms ns i
+first_of_lists m w n p r s ms ns v u e f zero_tail also i first = record {
+  is_true = sym (merged_in_views m w n p r s ms ns v u e f zero_tail also i) ∙ get_or_from_slice_get (merge_of m v.values u.values) i true false first.is_true;
+  before = λ j less. sym (merged_in_views m w n p r s ms ns v u e f zero_tail also j) ∙ false_from_not (merge_of m v.values u.values) j (first.before j less);
 }
 
-difference_true : (a b : Bool) → merged_value Difference a b ≡ false → a ≡ true → b ≡ true
+difference_true : (a b : Bool) → merge_of_values Difference a b ≡ false → a ≡ true → b ≡ true
 difference_true true true e f = refl
 difference_true true false e f = sym e ∙ f
 difference_true false b e f = absurd (false≢true f)
 
-difference_false : (a b : Bool) → (a ≡ true → b ≡ true) → merged_value Difference a b ≡ false
-difference_false true b f = ap (λ x. merged_value Difference true x) (f refl)
+difference_false : (a b : Bool) → (a ≡ true → b ≡ true) → merge_of_values Difference a b ≡ false
+difference_false true b f = ap (λ x. merge_of_values Difference true x) (f refl)
 difference_false false b f = difference_of_false b
 
-intersection_not : (a b : Bool) → merged_value Intersection a b ≡ false → a ≡ true → b ≢ true
+intersection_not : (a b : Bool) → merge_of_values Intersection a b ≡ false → a ≡ true → b ≢ true
 intersection_not true true e f g = false≢true (sym e)
 intersection_not true false e f g = false≢true g
 intersection_not false b e f g = false≢true f
 
-intersection_false : (a b : Bool) → (a ≡ true → b ≢ true) → merged_value Intersection a b ≡ false
+intersection_false : (a b : Bool) → (a ≡ true → b ≢ true) → merge_of_values Intersection a b ≡ false
 intersection_false true true f = absurd (f refl refl)
 intersection_false true false f = refl
 intersection_false false b f = refl
 
-pub subset_lists : (w n p r s : ℕ) (ms ns : List ℕ) (v u : Bits) → record { values = values_of w ms n; room = r } ≡ v → record { values = values_of w ns p; room = s } ≡ u → IsCleanFrom w ms n → IsCleanFrom w ns p → MergesToFalse Difference w ms ns ↔ ((i : ℕ) → slice_get v.values i ≡ Some true → slice_get u.values i ≡ Some true)
-subset_lists w n p r s ms ns v u e f clean also = (
-  λ falses i first. (true_at w p s ns u f also i).1 (difference_true _ _ (falses.value i) ((true_at w n r ms v e clean i).0 first)),
-  λ each. record { value = λ i. difference_false _ _ (λ first. (true_at w p s ns u f also i).0 (each i ((true_at w n r ms v e clean i).1 first))) },
+pub subset_lists : (w n p r s : ℕ) (ms ns : List ℕ) (v u : Bits) → record { values = values_of w ms n; capacity = r } ≡ v → record { values = values_of w ns p; capacity = s } ≡ u → IsZeroFrom w ms n → IsZeroFrom w ns p → MergesToFalse Difference w ms ns ↔ ((i : ℕ) → slice_get v.values i ≡ Some true → slice_get u.values i ≡ Some true)
+subset_lists w n p r s ms ns v u e f zero_tail also = (
+  λ falses i first. (true_at w p s ns u f also i).1 (difference_true _ _ (falses.value i) ((true_at w n r ms v e zero_tail i).0 first)),
+  λ each. record { value = λ i. difference_false _ _ (λ first. (true_at w p s ns u f also i).0 (each i ((true_at w n r ms v e zero_tail i).1 first))) },
 )
 
-pub disjoint_lists : (w n p r s : ℕ) (ms ns : List ℕ) (v u : Bits) → record { values = values_of w ms n; room = r } ≡ v → record { values = values_of w ns p; room = s } ≡ u → IsCleanFrom w ms n → IsCleanFrom w ns p → MergesToFalse Intersection w ms ns ↔ ((i : ℕ) → slice_get v.values i ≡ Some true → slice_get u.values i ≢ Some true)
-disjoint_lists w n p r s ms ns v u e f clean also = (
-  λ falses i first second. intersection_not _ _ (falses.value i) ((true_at w n r ms v e clean i).0 first) ((true_at w p s ns u f also i).0 second),
-  λ each. record { value = λ i. intersection_false _ _ (λ first second. each i ((true_at w n r ms v e clean i).1 first) ((true_at w p s ns u f also i).1 second)) },
+pub disjoint_lists : (w n p r s : ℕ) (ms ns : List ℕ) (v u : Bits) → record { values = values_of w ms n; capacity = r } ≡ v → record { values = values_of w ns p; capacity = s } ≡ u → IsZeroFrom w ms n → IsZeroFrom w ns p → MergesToFalse Intersection w ms ns ↔ ((i : ℕ) → slice_get v.values i ≡ Some true → slice_get u.values i ≢ Some true)
+disjoint_lists w n p r s ms ns v u e f zero_tail also = (
+  λ falses i first second. intersection_not _ _ (falses.value i) ((true_at w n r ms v e zero_tail i).0 first) ((true_at w p s ns u f also i).0 second),
+  λ each. record { value = λ i. intersection_false _ _ (λ first second. each i ((true_at w n r ms v e zero_tail i).1 first) ((true_at w p s ns u f also i).1 second)) },
 )

@@ -12,7 +12,7 @@ use Rattle.bit_words.specs.Summary.{is_used}
 use Rattle.bit_words.proofs.LowestLemmas.{ones_zero}
 use Rattle.bit_words.proofs.OnesLemmas.{take_split, blocks_ones}
 use Rattle.bit_words.proofs.Masks.{is_one-zero}
-use Rattle.bit_words.proofs.StorageLemmas.{value_at-place}
+use Rattle.bit_words.proofs.StorageLemmas.{value_at-index}
 
 module _ {X : Type 0} (number : X → ℕ) where
   -- those of some blocks, and of the next ones
@@ -27,21 +27,21 @@ module _ {X : Type 0} (number : X → ℕ) where
       let here : count_ones (number x) ≡ 0 = ap count_ones (zeros 0) ∙ ones_zero in
       sum_by-cons (λ y. count_ones (number y)) x xs ∙ omega (arith, rest, here)
 
-  -- some rows of blocks more
-  pub rows_counted : (w i n ones : ℕ) (xs back front : List X) → ones ≡ ones_in number (take (i * w) xs) → front ≡ take (n * w) back → back ≡ drop (i * w) xs → ones + ones_in number front ≡ ones_in number (take ((i + n) * w) xs)
-  rows_counted w i n ones xs back front counted is from =
+  -- some slices of blocks more
+  pub chunks_counted : (w i n ones : ℕ) (xs back front : List X) → ones ≡ ones_in number (take (i * w) xs) → front ≡ take (n * w) back → back ≡ drop (i * w) xs → ones + ones_in number front ≡ ones_in number (take ((i + n) * w) xs)
+  chunks_counted w i n ones xs back front counted is from =
       let more = ones_in-more (i * w) (n * w) xs in
       let next : ones_in number (take (i * w + n * w) xs) ≡ ones_in number (take ((i + n) * w) xs) = ap (λ m. ones_in number (take m xs)) (let e : i * w + n * w ≡ (i + n) * w = omega arith in e) in
       let here = ap (ones_in number) is ∙ ap (λ ys. ones_in number (take (n * w) ys)) from in
       omega (arith, more, next, here, counted)
 
-  -- a row of blocks of which the summary has no digit
-  pub row_none : (w i : ℕ) (xs sums : List X) → ((k : ℕ) → value_at w (map number sums) k ≡ is_used (map number xs) k) → get_or (map number sums) i 0 ≡ 0 → ones_in number (take w (drop (i * w) xs)) ≡ 0
-  row_none w i xs sums digit none = ones_in-none (take w (drop (i * w) xs)) (λ j.
+  -- a slice of blocks of which the summary has no bit
+  pub chunk_none : (w i : ℕ) (xs summary : List X) → ((k : ℕ) → value_at w (map number summary) k ≡ is_used (map number xs) k) → get_or (map number summary) i 0 ≡ 0 → ones_in number (take w (drop (i * w) xs)) ≡ 0
+  chunk_none w i xs summary digit none = ones_in-none (take w (drop (i * w) xs)) (λ j.
       ⊎_elim
       (λ within.
       let unused : is_used (map number xs) (i * w + j) ≡ false =
-      sym (digit (i * w + j)) ∙ value_at-place w (map number sums) i j within ∙ ap (λ m. is_one m j) none ∙ is_one-zero j in
+      sym (digit (i * w + j)) ∙ value_at-index w (map number summary) i j within ∙ ap (λ m. is_one m j) none ∙ is_one-zero j in
       read j ∙ get_or-take w (map number (drop (i * w) xs)) j 0 within
       ∙ ap (λ ms. get_or ms j 0) (sym (drop-map number (i * w) xs)) ∙ get_or-drop (i * w) (map number xs) j 0
       ∙ eqb-true _ 0 (not-false _ unused))
@@ -54,16 +54,16 @@ module _ {X : Type 0} (number : X → ℕ) where
       short : (j : ℕ) → w ≤ j → length (map number (take w (drop (i * w) xs))) ≤ j
       short j past = let most = length-take w (drop (i * w) xs) in rw length-map (omega (arith, most))
 
-  -- rows of blocks of which the summary has no digit
-  pub rows_none : (w i n : ℕ) (xs sums : List X) → ((k : ℕ) → value_at w (map number sums) k ≡ is_used (map number xs) k) → ((j : ℕ) → j < n → get_or (map number sums) (i + j) 0 ≡ 0)
+  -- slices of blocks of which the summary has no bit
+  pub chunks_none : (w i n : ℕ) (xs summary : List X) → ((k : ℕ) → value_at w (map number summary) k ≡ is_used (map number xs) k) → ((j : ℕ) → j < n → get_or (map number summary) (i + j) 0 ≡ 0)
       → ones_in number (take (i * w) xs) ≡ ones_in number (take ((i + n) * w) xs)
-  rows_none w i zero xs sums digit none = ap (λ m. ones_in number (take (m * w) xs)) (let e : i ≡ i + 0 = omega arith in e)
-  rows_none w i (suc n) xs sums digit none =
-      let before = rows_none w i n xs sums digit (λ j within. none j (omega (arith, within))) in
+  chunks_none w i zero xs summary digit none = ap (λ m. ones_in number (take (m * w) xs)) (let e : i ≡ i + 0 = omega arith in e)
+  chunks_none w i (suc n) xs summary digit none =
+      let before = chunks_none w i n xs summary digit (λ j within. none j (omega (arith, within))) in
       let back = drop ((i + n) * w) xs in
       let front : take w back ≡ take (1 * w) back = ap (λ m. take m back) (let e : w ≡ 1 * w = omega arith in e) in
-      let more = rows_counted w (i + n) 1 (ones_in number (take (i * w) xs)) xs back (take w back) before front refl in
-      let here = row_none w (i + n) xs sums digit (none n (omega arith)) in
+      let more = chunks_counted w (i + n) 1 (ones_in number (take (i * w) xs)) xs back (take w back) before front refl in
+      let here = chunk_none w (i + n) xs summary digit (none n (omega arith)) in
       let last : ones_in number (take ((i + n + 1) * w) xs) ≡ ones_in number (take ((i + suc n) * w) xs) = ap (λ m. ones_in number (take (m * w) xs)) (let e : i + n + 1 ≡ i + suc n = omega arith in e) in
       omega (arith, more, here, last)
 

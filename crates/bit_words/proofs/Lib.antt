@@ -7,12 +7,12 @@ pub mod StorageLemmas
 pub mod Masks
 pub mod ChangeLemmas
 pub mod VectorLemmas
-pub mod TidyLemmas
+pub mod PackedLemmas
 pub mod ByteLemmas
 pub mod SourceLemmas
 pub mod MergeLemmas
 pub mod CompareLemmas
-pub mod RoomLemmas
+pub mod CapacityLemmas
 pub mod SummaryLemmas
 pub mod TailLemmas
 pub mod NonzeroLemmas

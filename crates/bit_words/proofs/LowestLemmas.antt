@@ -66,8 +66,8 @@ sides i q =
     }
 
 -- What is both m and the complement of m - 1 has the digits of 2 ^ i
-alone_digit : (m i k x y : ℕ) → Sides m i → x ≡ 1 - bit_at (m - 1) k → y ≡ min (bit_at m k) x → y ≡ bit_at (2 ^ i) k
-alone_digit m i k x y s turned is =
+isolated_digit : (m i k x y : ℕ) → Sides m i → x ≡ 1 - bit_at (m - 1) k → y ≡ min (bit_at m k) x → y ≡ bit_at (2 ^ i) k
+isolated_digit m i k x y s turned is =
     ⊎_elim
     (λ same.
     let a : bit_at m k ≡ 1 = ap (λ z. bit_at m z) same ∙ s.here in
@@ -110,11 +110,11 @@ found w m i pos fits within s =
     record {
       lowest = record { one = s.here; zeros = s.below };
       within = within;
-      negated = λ n small turned. let e = complement-number w m n fits small turned in omega (arith, e);
-      negated_fits = omega arith;
-      alone = λ r small both.
+      wrapping_neg = λ n small turned. let e = complement-number w m n fits small turned in omega (arith, e);
+      wrapping_neg_fits = omega arith;
+      isolated = λ r small both.
           same_from_bits_below w r (2 ^ i) small (pow_below i w within)
-          (λ k inside. alone_digit m i k (bit_at (2 ^ w - m) k) (bit_at r k) s (less_turned w m k pos fits inside) (both.digit k inside));
+          (λ k inside. isolated_digit m i k (bit_at (2 ^ w - m) k) (bit_at r k) s (less_turned w m k pos fits inside) (both.digit k inside));
       counted = ones_below i;
       rest = λ r both.
           record {

@@ -1,27 +1,27 @@
 -- The steps that take the lowest 1 off a block, at the numbers of the blocks.
 use Rattle.std.proofs.Common.{◌≡◌, ℕ, ◌+◌, ◌-◌, ◌^◌, ◌<◌, count_ones, sym, ap, ◌∙◌, subst, arith}
 use Rattle.bit_words.specs.Digits.{IsBoth, IsComplement}
-use Rattle.bit_words.specs.Lowest.{IsLowest, IsCleared, IsAlone}
+use Rattle.bit_words.specs.Lowest.{IsLowest, IsCleared, IsIsolated}
 use Rattle.bit_words.proofs.LowestLemmas.{lowest_found}
 use Rattle.std.proofs.lemmas.Nat.{pow_pos}
 
 -- `!m + 1`
-pub negated_is : (w m n : ℕ) → 0 < m → m < 2 ^ w → n < 2 ^ w → IsComplement w m n → n + 1 ≡ 2 ^ w - m
-negated_is w m n pos small fits is = (lowest_found w m pos small).1.negated n fits is
+pub wrapping_neg_is : (w m n : ℕ) → 0 < m → m < 2 ^ w → n < 2 ^ w → IsComplement w m n → n + 1 ≡ 2 ^ w - m
+wrapping_neg_is w m n pos small fits is = (lowest_found w m pos small).1.wrapping_neg n fits is
 
 -- it does not wrap
-pub negated_fits : (w m n : ℕ) → 0 < m → m < 2 ^ w → n < 2 ^ w → IsComplement w m n → n + 1 < 2 ^ w
-negated_fits w m n pos small fits is = omega (arith, negated_is w m n pos small fits is, (lowest_found w m pos small).1.negated_fits)
+pub wrapping_neg_fits : (w m n : ℕ) → 0 < m → m < 2 ^ w → n < 2 ^ w → IsComplement w m n → n + 1 < 2 ^ w
+wrapping_neg_fits w m n pos small fits is = omega (arith, wrapping_neg_is w m n pos small fits is, (lowest_found w m pos small).1.wrapping_neg_fits)
 
-pub alone : (w m n l : ℕ) → 0 < m → m < 2 ^ w → l < 2 ^ w → n ≡ 2 ^ w - m → IsBoth w m n l → IsAlone w m l
-alone w m n l pos small fits is both =
+pub isolated : (w m n l : ℕ) → 0 < m → m < 2 ^ w → l < 2 ^ w → n ≡ 2 ^ w - m → IsBoth w m n l → IsIsolated w m l
+isolated w m n l pos small fits is both =
     let found = lowest_found w m pos small in
     let i : ℕ = found.0 in
-    let l_is : l ≡ 2 ^ i = found.1.alone l fits (subst (λ x. IsBoth w m x l) is both) in
-    let place : (o : ℕ) → o + 1 ≡ l → count_ones o ≡ i = λ o next. ap count_ones (let e : o ≡ 2 ^ i - 1 = omega arith in e) ∙ found.1.counted in
+    let l_is : l ≡ 2 ^ i = found.1.isolated l fits (subst (λ x. IsBoth w m x l) is both) in
+    let index : (o : ℕ) → o + 1 ≡ l → count_ones o ≡ i = λ o next. ap count_ones (let e : o ≡ 2 ^ i - 1 = omega arith in e) ∙ found.1.counted in
     record {
       some = omega (arith, l_is, pow_pos i);
-      within = λ o next. let e = place o next in omega (arith, e, found.1.within);
-      lowest = λ o next. subst (IsLowest m) (sym (place o next)) found.1.lowest;
-      cleared = λ o r next rest. subst (λ x. IsCleared w m x r) (sym (place o next)) (found.1.rest r rest);
+      within = λ o next. let e = index o next in omega (arith, e, found.1.within);
+      lowest = λ o next. subst (IsLowest m) (sym (index o next)) found.1.lowest;
+      cleared = λ o r next rest. subst (λ x. IsCleared w m x r) (sym (index o next)) (found.1.rest r rest);
     }

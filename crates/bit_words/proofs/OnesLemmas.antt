@@ -51,7 +51,7 @@ blocks_ones w values pos =
     front_ones w (blocks_for w (length values)) values
     ∙ ap trues (take_all (blocks_for w (length values) * w) values (blocks_for-enough w (length values) pos))
 
--- the digits from place a + 1 on are those of the half from place a on
+-- the digits from index a + 1 on are those of the half from index a on
 digits_of_half : (m a n : ℕ) → sum_by (bit_at m) (range_with_len (a + 1) n) ≡ sum_by (bit_at (m / 2)) (range_with_len a n)
 digits_of_half m a zero = refl
 digits_of_half m a (suc n) =

@@ -8,7 +8,7 @@ use Rattle.std.proofs.lemmas.Bool.{cases_lt, cases_eq}
 use Rattle.std.specs.Int.{bit_at}
 use Rattle.bit_words.specs.Bits.{blocks_for, digit_of, blocks_of}
 use Rattle.bit_words.specs.Digits.{is_one}
-use Rattle.bit_words.specs.Storage.{value_at, values_of, IsCleanFrom}
+use Rattle.bit_words.specs.Storage.{value_at, values_of, IsZeroFrom}
 use Rattle.bit_words.proofs.BitsLemmas.{blocks_of-digit, blocks_of-lt, length-blocks_of}
 
 -- ---- one value
@@ -41,12 +41,12 @@ pub get_or-values_of : (w : ℕ) (ms : List ℕ) (n i : ℕ) (d : Bool) → i < 
 unfolding values_of
 get_or-values_of w ms n i d h = get_or-map-range_with_len (value_at w ms) 0 n i i d h (omega arith)
 
--- with a clean tail the list has the same values at every place
-pub get_or-values_of_clean : (w : ℕ) (ms : List ℕ) (n i : ℕ) → IsCleanFrom w ms n → get_or (values_of w ms n) i false ≡ value_at w ms i
-get_or-values_of_clean w ms n i c =
+-- with zeros past the length the list has the same values at every index
+pub get_or-values_of_zero_tail : (w : ℕ) (ms : List ℕ) (n i : ℕ) → IsZeroFrom w ms n → get_or (values_of w ms n) i false ≡ value_at w ms i
+get_or-values_of_zero_tail w ms n i c =
     ⊎_elim
     (λ within. get_or-values_of w ms n i false within)
-    (λ past. get_or_past _ i false (rw length-values_of past) ∙ sym (c.clean i past))
+    (λ past. get_or_past _ i false (rw length-values_of past) ∙ sym (c.zero_tail i past))
     (cases_lt i n)
 
 -- length and every entry fix a list
@@ -63,15 +63,15 @@ digit_of-is_one zero h = refl
 digit_of-is_one (suc zero) h = refl
 digit_of-is_one (suc (suc d)) h = absurd (omega arith)
 
-pub value_at-place : (w : ℕ) (ms : List ℕ) (k j : ℕ) → j < w → value_at w ms (k * w + j) ≡ is_one (get_or ms k 0) j
-value_at-place w ms k j h = value_at-is w ms (k * w + j) ∙ rw (div-mul-add k w j h, mod-mul-add k w j h) refl
+pub value_at-index : (w : ℕ) (ms : List ℕ) (k j : ℕ) → j < w → value_at w ms (k * w + j) ≡ is_one (get_or ms k 0) j
+value_at-index w ms k j h = value_at-is w ms (k * w + j) ∙ rw (div-mul-add k w j h, mod-mul-add k w j h) refl
 
-pub blocks-values_of : (w : ℕ) (ms : List ℕ) (n : ℕ) → 0 < w → length ms ≡ blocks_for w n → ((k : ℕ) → get_or ms k 0 < 2 ^ w) → IsCleanFrom w ms n → ms ≡ blocks_of w (values_of w ms n)
+pub blocks-values_of : (w : ℕ) (ms : List ℕ) (n : ℕ) → 0 < w → length ms ≡ blocks_for w n → ((k : ℕ) → get_or ms k 0 < 2 ^ w) → IsZeroFrom w ms n → ms ≡ blocks_of w (values_of w ms n)
 blocks-values_of w ms n h count each c =
     ext_get_or 0 ms _ (count ∙ sym (length-blocks_of w (values_of w ms n) ∙ ap (blocks_for w) (length-values_of w ms n))) (λ k within.
     same_from_bits_below w _ _ (each k) (blocks_of-lt w k (values_of w ms n)) (λ j below. sym (
     blocks_of-digit w k j (values_of w ms n) below
-    ∙ ap digit_of (get_or-values_of_clean w ms n (k * w + j) c ∙ value_at-place w ms k j below)
+    ∙ ap digit_of (get_or-values_of_zero_tail w ms n (k * w + j) c ∙ value_at-index w ms k j below)
     ∙ digit_of-is_one _ (bit_at-lt (get_or ms k 0) j))))
 
 -- ---- changes of the list, by index

@@ -5,9 +5,9 @@ use Rattle.std.proofs.lemmas.Bool.Decides.{nat_tests}
 use Rattle.std.proofs.lemmas.List.Elements.{All-same, All-append, All-drop}
 use Rattle.std.proofs.lemmas.List.{drop-map, map-append, get_or-drop, get_or-replicate, get_or_append_left, get_or-append_right, length-replicate, length-drop}
 use Rattle.bit_words.specs.Digits.{is_one}
-use Rattle.bit_words.specs.Storage.{value_at, values_of, IsTidy}
+use Rattle.bit_words.specs.Storage.{value_at, values_of, IsPacked}
 use Rattle.bit_words.specs.Summary.{is_used}
-use Rattle.bit_words.proofs.ChangeLemmas.{nat_le-places, div_lt, read_at, written_same, written_other}
+use Rattle.bit_words.proofs.ChangeLemmas.{nat_le-indexes, div_lt, read_at, written_same, written_other}
 use Rattle.bit_words.proofs.Masks.{is_one-zero}
 use Rattle.bit_words.proofs.StorageLemmas.{value_at-is, values_of-same, length-values_of, get_or-values_of}
 use Rattle.bit_words.proofs.SummaryLemmas.{same_use, unused_from_false}
@@ -68,7 +68,7 @@ tail_whole w ms ns count at pos e c whole i =
     (λ from.
     ⊎_elim
     (λ here.
-    let places : nat_le at i ≡ nat_le 0 (i % w) = nat_le-places w at i here ∙ ap (λ p. nat_le p (i % w)) whole in
+    let indexes : nat_le at i ≡ nat_le 0 (i % w) = nat_le-indexes w at i here ∙ ap (λ p. nat_le p (i % w)) whole in
     let test : nat_le at i ≡ true = grind (arith, nat_tests) in
     value_from w ms ns count i e from ∙ ap (λ t. t && value_at w ms i) (sym test))
     (λ there. value_past w ms ns count at i pos e c (omega arith))
@@ -82,7 +82,7 @@ tail_cut w ms ns rs k at p m n pos e ke pe within read put digits i =
     (λ here.
     written_same w ns rs k n i put within here
     ∙ digits (i % w) (mod-lt i pos)
-    ∙ ap₂ (λ a b. a && b) (ap (λ q. nat_le q (i % w)) pe ∙ sym (nat_le-places w at i (here ∙ ke))) (sym (read_at w ms k m i read here)))
+    ∙ ap₂ (λ a b. a && b) (ap (λ q. nat_le q (i % w)) pe ∙ sym (nat_le-indexes w at i (here ∙ ke))) (sym (read_at w ms k m i read here)))
     (λ there.
     written_other w ns rs k n i put there
     ∙ ⊎_elim
@@ -97,12 +97,12 @@ and_false : (a b : Bool) → b ≡ false → (a && b) ≡ false
 and_false true b e = e
 and_false false b e = refl
 
-pub tail_tidy : {X : Type 0} (w n at : ℕ) (f : X → ℕ) (P : X → Type 0) (xs ys : List X) → IsTidy w f P xs n → All P ys → length ys ≡ length xs → ((i : ℕ) → value_at w (map f ys) i ≡ (nat_le at i && value_at w (map f xs) i)) → IsTidy w f P ys n
-tail_tidy w n at f P xs ys tidy each len values = record {
+pub tail_packed : {X : Type 0} (w n at : ℕ) (f : X → ℕ) (P : X → Type 0) (xs ys : List X) → IsPacked w f P xs n → All P ys → length ys ≡ length xs → ((i : ℕ) → value_at w (map f ys) i ≡ (nat_le at i && value_at w (map f xs) i)) → IsPacked w f P ys n
+tail_packed w n at f P xs ys packed each len values = record {
   each = each;
-  count = len ∙ tidy.count;
-  tail = record { clean = λ i past. values i ∙ and_false (nat_le at i) _ (tidy.tail.clean i past) };
-  fits = tidy.fits;
+  count = len ∙ packed.count;
+  tail = record { zero_tail = λ i past. values i ∙ and_false (nat_le at i) _ (packed.tail.zero_tail i past) };
+  fits = packed.fits;
 }
 
 pub values_of-tail : (w : ℕ) (ms ns : List ℕ) (n at : ℕ) → at ≤ n → ((i : ℕ) → value_at w ns i ≡ (nat_le at i && value_at w ms i)) → values_of w ns n ≡ replicate at false ++ drop at (values_of w ms n)
@@ -131,20 +131,20 @@ block_above : (w q at j : ℕ) → 0 < w → at / w < q → at < q * w + j
 block_above w q at j pos h = let a = (div-lt_iff_lt-mul pos).0 h in omega arith
 
 block_below : (w q at j : ℕ) → j < w → q < at / w → q * w + j < at
-block_below w q at j place h = let a = mul-le-mul_right w (let l : q + 1 ≤ at / w = omega arith in l) in omega (arith, div-mul-le_self at w)
+block_below w q at j index h = let a = mul-le-mul_right w (let l : q + 1 ≤ at / w = omega arith in l) in omega (arith, div-mul-le_self at w)
 
 -- the blocks before that of the index are 0
 pub tail_unused : (w at q : ℕ) (ms ns : List ℕ) → get_or ns q 0 < 2 ^ w → ((i : ℕ) → value_at w ns i ≡ (nat_le at i && value_at w ms i)) → q < at / w → is_used ns q ≡ false
 tail_unused w at q ms ns small values before =
-    unused_from_false w ns q small (λ j place.
-    let below = block_below w q at j place before in
+    unused_from_false w ns q small (λ j index.
+    let below = block_below w q at j index before in
     let test : nat_le at (q * w + j) ≡ false = grind (arith, nat_tests) in
     values (q * w + j) ∙ ap (λ t. t && value_at w ms (q * w + j)) test)
 
 -- those past it are as they were
 pub tail_kept : (w at q : ℕ) (ms ns : List ℕ) → 0 < w → get_or ms q 0 < 2 ^ w → get_or ns q 0 < 2 ^ w → ((i : ℕ) → value_at w ns i ≡ (nat_le at i && value_at w ms i)) → at / w < q → is_used ms q ≡ is_used ns q
 tail_kept w at q ms ns pos small also values after =
-    same_use w ms ns q small also (λ j place.
+    same_use w ms ns q small also (λ j index.
     let above = block_above w q at j pos after in
     let test : nat_le at (q * w + j) ≡ true = grind (arith, nat_tests) in
     sym (values (q * w + j) ∙ ap (λ t. t && value_at w ms (q * w + j)) test))

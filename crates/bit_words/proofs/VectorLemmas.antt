@@ -1,4 +1,4 @@
--- What the calls of a bit vector cite: its length, its room and its list.
+-- What the calls of a bit vector cite: its length, its capacity and its list.
 use Rattle.std.proofs.Common.{◌≡◌, ℕ, ◌+◌, ◌-◌, ◌*◌, ◌/◌, ◌%◌, ◌^◌, ◌<◌, ◌≤◌, max, Bool, false, zero, suc, List, [], ◌∷◌, map, length, get_or, refl, sym, ap, ◌∙◌, arith, ⊎_elim, Some, None, slice_get, All, mul-le-mul_right, pow_pos}
 use Rattle.std.proofs.lemmas.Bool.{cases_lt}
 use Rattle.std.proofs.lemmas.Bool.Decides.{nat_tests}
@@ -7,79 +7,79 @@ use Rattle.std.proofs.lemmas.List.Elements.{All-tail, All-same, All-nil}
 use Rattle.std.proofs.lemmas.Nat.Bits.{bit_at-lt, bit_at-zero, same_from_bits_below}
 use Rattle.std.specs.Int.{bit_at}
 use Rattle.std.proofs.lemmas.Option.{slice_get-get_or, slice_get_past}
-use Rattle.bit_words.specs.Bits.{Bits, IsWithinRoom, IsRoomOfBlocks, blocks_for, room_of}
+use Rattle.bit_words.specs.Bits.{Bits, IsWithinCapacity, IsCapacityOfBlocks, blocks_for, capacity_of}
 use Rattle.bit_words.specs.Digits.{is_one}
-use Rattle.bit_words.specs.Storage.{value_at, values_of, IsTidy}
+use Rattle.bit_words.specs.Storage.{value_at, values_of, IsPacked}
 use Rattle.bit_words.proofs.BitsLemmas.{blocks_for-enough, blocks_for-least}
-use Rattle.bit_words.proofs.StorageLemmas.{length-values_of, value_at-past, get_or-values_of, value_at-is, value_at-place}
+use Rattle.bit_words.proofs.StorageLemmas.{length-values_of, value_at-past, get_or-values_of, value_at-is, value_at-index}
 use Rattle.bit_words.proofs.Masks.{is_one-zero}
 
--- ---- the length and the room
+-- ---- the length and the capacity
 
-pub length_from_view : (w n r : ℕ) (ms : List ℕ) (v : Bits) → record { values = values_of w ms n; room = r } ≡ v → length v.values ≡ n
+pub length_from_view : (w n r : ℕ) (ms : List ℕ) (v : Bits) → record { values = values_of w ms n; capacity = r } ≡ v → length v.values ≡ n
 length_from_view w n r ms v e = sym (ap (λ b. length b.values) e) ∙ length-values_of w ms n
 
-pub room_from_view : (r : ℕ) (bs : List Bool) (v : Bits) → record { values = bs; room = r } ≡ v → v.room ≡ r
-room_from_view r bs v e = sym (ap (λ b. b.room) e)
+pub capacity_from_view : (r : ℕ) (bs : List Bool) (v : Bits) → record { values = bs; capacity = r } ≡ v → v.capacity ≡ r
+capacity_from_view r bs v e = sym (ap (λ b. b.capacity) e)
 
-pub no_longer_from_views : (w n m r s : ℕ) (ms os : List ℕ) (v u : Bits) → record { values = values_of w ms n; room = r } ≡ v → record { values = values_of w os m; room = s } ≡ u → length u.values ≤ length v.values → m ≤ n
+pub no_longer_from_views : (w n m r s : ℕ) (ms os : List ℕ) (v u : Bits) → record { values = values_of w ms n; capacity = r } ≡ v → record { values = values_of w os m; capacity = s } ≡ u → length u.values ≤ length v.values → m ≤ n
 no_longer_from_views w n m r s ms os v u e f h = omega (arith, length_from_view w n r ms v e, length_from_view w m s os u f)
 
-pub le-room_of : (w blocks n : ℕ) → 0 < w → n < 2 ^ 64 → blocks_for w n ≤ blocks → n ≤ room_of w blocks
-le-room_of w blocks n pos fits h = let a = mul-le-mul_right w h in omega (arith, blocks_for-enough w n pos)
+pub le-capacity_of : (w blocks n : ℕ) → 0 < w → n < 2 ^ 64 → blocks_for w n ≤ blocks → n ≤ capacity_of w blocks
+le-capacity_of w blocks n pos fits h = let a = mul-le-mul_right w h in omega (arith, blocks_for-enough w n pos)
 
-pub room_of-short : (w blocks n : ℕ) → 0 < w → blocks < blocks_for w n → room_of w blocks < n
-room_of-short w blocks n pos h =
+pub capacity_of-short : (w blocks n : ℕ) → 0 < w → blocks < blocks_for w n → capacity_of w blocks < n
+capacity_of-short w blocks n pos h =
     ⊎_elim
     (λ short. short)
     (λ enough. let a : n ≤ blocks * w = omega arith in let l = blocks_for-least w n blocks pos a in absurd (omega arith))
-    (cases_lt (room_of w blocks) n)
+    (cases_lt (capacity_of w blocks) n)
 
-pub blocks_from_room : (w blocks n : ℕ) → 0 < w → n ≤ room_of w blocks → blocks_for w n ≤ blocks
-blocks_from_room w blocks n pos h = ⊎_elim (λ short. let less = room_of-short w blocks n pos short in absurd (omega arith)) (λ enough. enough) (cases_lt blocks (blocks_for w n))
+pub blocks_from_capacity : (w blocks n : ℕ) → 0 < w → n ≤ capacity_of w blocks → blocks_for w n ≤ blocks
+blocks_from_capacity w blocks n pos h = ⊎_elim (λ short. let less = capacity_of-short w blocks n pos short in absurd (omega arith)) (λ enough. enough) (cases_lt blocks (blocks_for w n))
 
-pub room_of-max : (w a b : ℕ) → room_of w (max a b) ≡ max (room_of w a) (room_of w b)
-room_of-max w a b =
+pub capacity_of-max : (w a b : ℕ) → capacity_of w (max a b) ≡ max (capacity_of w a) (capacity_of w b)
+capacity_of-max w a b =
     ⊎_elim
     (λ (less : a < b). let more = mul-le-mul_right w (let le : a ≤ b = omega arith in le) in let e : max a b ≡ b = omega arith in rw e (omega arith))
     (λ (enough : b ≤ a). let more = mul-le-mul_right w enough in let e : max a b ≡ a = omega arith in rw e (omega arith))
     (cases_lt a b)
 
--- the room that is asked for exactly
-pub room_from_max : (w n m cap got count : ℕ) (ms : List ℕ) (v : Bits) → record { values = values_of w ms n; room = room_of w cap } ≡ v → count ≡ blocks_for w (n + m) → got ≡ max cap count → room_of w got ≡ max v.room (room_of w (blocks_for w (length v.values + m)))
-room_from_max w n m cap got count ms v e is most =
-    rw (length_from_view w n _ ms v e, room_from_view (room_of w cap) (values_of w ms n) v e)
-    (ap (room_of w) (most ∙ ap (max cap) is) ∙ room_of-max w cap (blocks_for w (n + m)))
+-- the capacity that is asked for exactly
+pub capacity_from_max : (w n m cap got count : ℕ) (ms : List ℕ) (v : Bits) → record { values = values_of w ms n; capacity = capacity_of w cap } ≡ v → count ≡ blocks_for w (n + m) → got ≡ max cap count → capacity_of w got ≡ max v.capacity (capacity_of w (blocks_for w (length v.values + m)))
+capacity_from_max w n m cap got count ms v e is most =
+    rw (length_from_view w n _ ms v e, capacity_from_view (capacity_of w cap) (values_of w ms n) v e)
+    (ap (capacity_of w) (most ∙ ap (max cap) is) ∙ capacity_of-max w cap (blocks_for w (n + m)))
 
 -- the same, of a list that is to have m values more
-pub room_for_more : (w n m cap : ℕ) (ms : List ℕ) (v : Bits) → 0 < w → record { values = values_of w ms n; room = room_of w cap } ≡ v → length v.values + m ≤ v.room → blocks_for w (n + m) ≤ cap
-room_for_more w n m cap ms v pos e h =
-    blocks_from_room w cap (n + m) pos (rw (length_from_view w n _ ms v e, room_from_view (room_of w cap) (values_of w ms n) v e) at h)
+pub capacity_for_more : (w n m cap : ℕ) (ms : List ℕ) (v : Bits) → 0 < w → record { values = values_of w ms n; capacity = capacity_of w cap } ≡ v → length v.values + m ≤ v.capacity → blocks_for w (n + m) ≤ cap
+capacity_for_more w n m cap ms v pos e h =
+    blocks_from_capacity w cap (n + m) pos (rw (length_from_view w n _ ms v e, capacity_from_view (capacity_of w cap) (values_of w ms n) v e) at h)
 
-pub no_room_for_more : (w n m cap : ℕ) (ms : List ℕ) (v : Bits) → 0 < w → record { values = values_of w ms n; room = room_of w cap } ≡ v → cap < blocks_for w (n + m) → v.room < length v.values + m
-no_room_for_more w n m cap ms v pos e h =
-    rw (length_from_view w n _ ms v e, room_from_view (room_of w cap) (values_of w ms n) v e) (room_of-short w cap (n + m) pos h)
+pub no_capacity_for_more : (w n m cap : ℕ) (ms : List ℕ) (v : Bits) → 0 < w → record { values = values_of w ms n; capacity = capacity_of w cap } ≡ v → cap < blocks_for w (n + m) → v.capacity < length v.values + m
+no_capacity_for_more w n m cap ms v pos e h =
+    rw (length_from_view w n _ ms v e, capacity_from_view (capacity_of w cap) (values_of w ms n) v e) (capacity_of-short w cap (n + m) pos h)
 
-pub room_got : (w n m cap : ℕ) (ms : List ℕ) (v : Bits) (r : ℕ) → 0 < w → record { values = values_of w ms n; room = r } ≡ v → n + m < 2 ^ 64 → blocks_for w (n + m) ≤ cap → length v.values + m ≤ room_of w cap
-room_got w n m cap ms v r pos e fits h = rw (length_from_view w n r ms v e) (le-room_of w cap (n + m) pos fits h)
+pub capacity_got : (w n m cap : ℕ) (ms : List ℕ) (v : Bits) (r : ℕ) → 0 < w → record { values = values_of w ms n; capacity = r } ≡ v → n + m < 2 ^ 64 → blocks_for w (n + m) ≤ cap → length v.values + m ≤ capacity_of w cap
+capacity_got w n m cap ms v r pos e fits h = rw (length_from_view w n r ms v e) (le-capacity_of w cap (n + m) pos fits h)
 
-pub is_within_room : {X : Type 0} (w n cap : ℕ) (f : X → ℕ) (P : X → Type 0) (xs : List X) (v : Bits) → 0 < w → IsTidy w f P xs n → length xs ≤ cap → record { values = values_of w (map f xs) n; room = room_of w cap } ≡ v → IsWithinRoom v
-is_within_room w n cap f P xs v pos tidy h e = record {
-  holds_values = rw (length_from_view w n (room_of w cap) (map f xs) v e, room_from_view (room_of w cap) (values_of w (map f xs) n) v e)
-      (le-room_of w cap n pos tidy.fits (let c = tidy.count in omega arith));
-  fits = rw (room_from_view (room_of w cap) (values_of w (map f xs) n) v e) (omega arith);
+pub is_within_capacity : {X : Type 0} (w n cap : ℕ) (f : X → ℕ) (P : X → Type 0) (xs : List X) (v : Bits) → 0 < w → IsPacked w f P xs n → length xs ≤ cap → record { values = values_of w (map f xs) n; capacity = capacity_of w cap } ≡ v → IsWithinCapacity v
+is_within_capacity w n cap f P xs v pos packed h e = record {
+  holds_values = rw (length_from_view w n (capacity_of w cap) (map f xs) v e, capacity_from_view (capacity_of w cap) (values_of w (map f xs) n) v e)
+      (le-capacity_of w cap n pos packed.fits (let c = packed.count in omega arith));
+  fits = rw (capacity_from_view (capacity_of w cap) (values_of w (map f xs) n) v e) (omega arith);
 }
 
-pub is_room_of_blocks : {X : Type 0} (w n cap : ℕ) (f : X → ℕ) (P : X → Type 0) (xs : List X) (v : Bits) → IsTidy w f P xs n → length xs ≤ cap → record { values = values_of w (map f xs) n; room = room_of w cap } ≡ v → IsRoomOfBlocks w v
-is_room_of_blocks w n cap f P xs v tidy h e = record {
+pub is_capacity_of_blocks : {X : Type 0} (w n cap : ℕ) (f : X → ℕ) (P : X → Type 0) (xs : List X) (v : Bits) → IsPacked w f P xs n → length xs ≤ cap → record { values = values_of w (map f xs) n; capacity = capacity_of w cap } ≡ v → IsCapacityOfBlocks w v
+is_capacity_of_blocks w n cap f P xs v packed h e = record {
   blocks = cap;
-  room = room_from_view (room_of w cap) (values_of w (map f xs) n) v e;
-  enough = rw (length_from_view w n (room_of w cap) (map f xs) v e) (let c = tidy.count in omega arith);
+  capacity = capacity_from_view (capacity_of w cap) (values_of w (map f xs) n) v e;
+  enough = rw (length_from_view w n (capacity_of w cap) (map f xs) v e) (let c = packed.count in omega arith);
 }
 
 -- the blocks that a list has cover each length up to their last value
-pub room_covers : (w n : ℕ) (v : Bits) → IsRoomOfBlocks w v → n ≤ 2 ^ 64 - 1 → n ≤ blocks_for w (length v.values) * w → n ≤ v.room
-room_covers w n v whole fits h = let more = mul-le-mul_right w whole.enough in rw whole.room (omega arith)
+pub capacity_covers : (w n : ℕ) (v : Bits) → IsCapacityOfBlocks w v → n ≤ 2 ^ 64 - 1 → n ≤ blocks_for w (length v.values) * w → n ≤ v.capacity
+capacity_covers w n v whole fits h = let more = mul-le-mul_right w whole.enough in rw whole.capacity (omega arith)
 
 -- ---- one value
 
@@ -111,26 +111,26 @@ all_false_from_zero w n f xs zeros k d within =
 pub bit_from_false : (m j : ℕ) → is_one m j ≡ false → bit_at m j ≡ 0
 bit_from_false m j h = let l = bit_at-lt m j in grind (arith, nat_tests)
 
-pub zero_from_all_false : {X : Type 0} (w n : ℕ) (f : X → ℕ) (P : X → Type 0) (xs : List X) → 0 < w → ((x : X) → P x → f x < 2 ^ w) → IsTidy w f P xs n → All (λ b. b ≡ false) (values_of w (map f xs) n) → All (λ x. f x ≡ 0) xs
-zero_from_all_false w n f P xs pos below tidy falses k d within =
+pub zero_from_all_false : {X : Type 0} (w n : ℕ) (f : X → ℕ) (P : X → Type 0) (xs : List X) → 0 < w → ((x : X) → P x → f x < 2 ^ w) → IsPacked w f P xs n → All (λ b. b ≡ false) (values_of w (map f xs) n) → All (λ x. f x ≡ 0) xs
+zero_from_all_false w n f P xs pos below packed falses k d within =
     sym (get_or-map f xs k d 0 within)
-    ∙ same_from_bits_below w _ 0 (numbers_below w f P xs below tidy.each k) (pow_pos w) (λ j inside.
+    ∙ same_from_bits_below w _ 0 (numbers_below w f P xs below packed.each k) (pow_pos w) (λ j inside.
     let value : value_at w (map f xs) (k * w + j) ≡ false = ⊎_elim
     (λ index. sym (get_or-values_of w (map f xs) n (k * w + j) false index) ∙ falses (k * w + j) false (rw length-values_of index))
-    (λ past. tidy.tail.clean (k * w + j) past)
+    (λ past. packed.tail.zero_tail (k * w + j) past)
     (cases_lt (k * w + j) n) in
-    bit_from_false _ j (sym (value_at-place w (map f xs) k j inside) ∙ value) ∙ sym (bit_at-zero j))
+    bit_from_false _ j (sym (value_at-index w (map f xs) k j inside) ∙ value) ∙ sym (bit_at-zero j))
 
 -- ---- the empty list
 
 pub blocks_for-none : (w : ℕ) → 0 < w → 0 ≡ blocks_for w 0
 blocks_for-none w pos = let l = blocks_for-least w 0 0 pos (omega arith) in omega arith
 
-pub tidy_nil : {X : Type 0} (w : ℕ) (f : X → ℕ) (P : X → Type 0) (xs : List X) → 0 < w → xs ≡ [] → IsTidy w f P xs 0
-tidy_nil w f P xs pos e = record {
+pub packed_nil : {X : Type 0} (w : ℕ) (f : X → ℕ) (P : X → Type 0) (xs : List X) → 0 < w → xs ≡ [] → IsPacked w f P xs 0
+packed_nil w f P xs pos e = record {
   each = All-same P xs [] e (All-nil P);
   count = ap length e ∙ blocks_for-none w pos;
-  tail = record { clean = λ i past. value_at-past w (map f xs) i (rw (length-map, ap length e) (omega arith)) };
+  tail = record { zero_tail = λ i past. value_at-past w (map f xs) i (rw (length-map, ap length e) (omega arith)) };
   fits = omega arith;
 }
 

@@ -28,9 +28,9 @@ shifted_left-number w m d r within fits is =
     (λ low. is.zeros i low ∙ sym (other.1.zeros i low))
     (λ high.
     let back : i - d + d ≡ i = omega arith in
-    let place : i - d + d < w = omega arith in
+    let index : i - d + d < w = omega arith in
     subst (λ x. bit_at r x ≡ bit_at (m * 2 ^ d % 2 ^ w) x) back
-    (is.moved (i - d) place ∙ sym (other.1.moved (i - d) place)))
+    (is.moved (i - d) index ∙ sym (other.1.moved (i - d) index)))
     (cases_lt i d))
 
 pub shifted_right-number : (w m d r : ℕ) → m < 2 ^ w → r < 2 ^ w → IsShiftedRight w m d r → r ≡ m / 2 ^ d

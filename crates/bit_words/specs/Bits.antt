@@ -3,28 +3,28 @@ use Rattle.std.specs.Prelude.{◌≡◌, ◌≢◌, ℕ, ◌||◌, nat_lt, nat_l
 use Rattle.std.specs.Int.{bit_at}
 use Rattle.std.specs.List.{range_with_len, flat_map}
 
--- What contracts see of a bit vector: its truth values, and for how many it has room.
+-- What contracts see of a bit vector: its truth values, and for how many it has capacity.
 pub record Bits : Type 0 where
   pub values : List Bool
-  pub room : ℕ
+  pub capacity : ℕ
 
--- What holds of every bit vector: the list is no longer than the room, and the room is a `usize`.
-pub record IsWithinRoom (v : Bits) : Type 0 where
-  pub holds_values : length v.values ≤ v.room
-  pub fits : v.room ≤ 2 ^ 64 - 1
+-- What holds of every bit vector: the list is no longer than the capacity, and the capacity is a `usize`.
+pub record IsWithinCapacity (v : Bits) : Type 0 where
+  pub holds_values : length v.values ≤ v.capacity
+  pub fits : v.capacity ≤ 2 ^ 64 - 1
 
 -- how many blocks of w values a list of n has: n / w, rounded up
 abbrev pub blocks_for : ℕ → ℕ → ℕ
 blocks_for w n = n / w + min 1 (n % w)
 
--- how many values there is room for in that many blocks of w: no more than `usize::MAX`
-abbrev pub room_of : ℕ → ℕ → ℕ
-room_of w blocks = min (blocks * w) (2 ^ 64 - 1)
+-- how many values there is capacity for in that many blocks of w: no more than `usize::MAX`
+abbrev pub capacity_of : ℕ → ℕ → ℕ
+capacity_of w blocks = min (blocks * w) (2 ^ 64 - 1)
 
--- What else holds of it: the room is that of some blocks, and they are enough for the list.
-pub record IsRoomOfBlocks (w : ℕ) (v : Bits) : Type 0 where
+-- What else holds of it: the capacity is that of some blocks, and they are enough for the list.
+pub record IsCapacityOfBlocks (w : ℕ) (v : Bits) : Type 0 where
   pub blocks : ℕ
-  pub room : v.room ≡ room_of w blocks
+  pub capacity : v.capacity ≡ capacity_of w blocks
   pub enough : blocks_for w (length v.values) ≤ blocks
 
 -- index i is the first at which a list is true

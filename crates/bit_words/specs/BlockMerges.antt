@@ -1,45 +1,46 @@
 -- What the blocks of two lists become, digit by digit. No public clause cites this.
 use Rattle.std.specs.Prelude.{◌≡◌, ℕ, ◌<◌, ◌≤◌, true, false, List, map, length, get_or, All}
 use Rattle.bit_words.specs.Digits.{is_one}
-use Rattle.bit_words.specs.Merges.{merged_value}
+use Rattle.bit_words.specs.Merges.{merge_of_values}
 use Rattle.bit_words.specs.Storage.{value_at}
 use Rattle.bit_words.specs.Summary.{IsSummary}
-use Rattle.bit_words.specs.declared.bit_vec.merge.Merge.{Merge}
+use Rattle.bit_words.specs.declared.block.merge.Merge.{Merge}
 
 -- digit by digit, the first blocks of two lists merge to 0
 pub record MergesToZero (merge : Merge) (w : ℕ) (ms ns : List ℕ) (count : ℕ) : Type 0 where
   pub digit : (k j : ℕ) → k < count → j < w
-      → merged_value merge (is_one (get_or ms k 0) j) (is_one (get_or ns k 0) j) ≡ false
+      → merge_of_values merge (is_one (get_or ms k 0) j) (is_one (get_or ns k 0) j) ≡ false
 
 -- at every index two lists of blocks merge to false
 pub record MergesToFalse (merge : Merge) (w : ℕ) (ms ns : List ℕ) : Type 0 where
-  pub value : (i : ℕ) → merged_value merge (value_at w ms i) (value_at w ns i) ≡ false
+  pub value : (i : ℕ) → merge_of_values merge (value_at w ms i) (value_at w ns i) ≡ false
 
 -- index i is the first at which they merge to true
 pub record IsFirstMerged (merge : Merge) (w : ℕ) (ms ns : List ℕ) (i : ℕ) : Type 0 where
-  pub is_true : merged_value merge (value_at w ms i) (value_at w ns i) ≡ true
-  pub before : (j : ℕ) → j < i → merged_value merge (value_at w ms j) (value_at w ns j) ≡ false
+  pub is_true : merge_of_values merge (value_at w ms i) (value_at w ns i) ≡ true
+  pub before : (j : ℕ) → j < i → merge_of_values merge (value_at w ms j) (value_at w ns j) ≡ false
 
 -- digit by digit, the blocks from start to before end are what those of two lists merge to; the others are those of the
 -- first list
 pub record IsMergedBetween (merge : Merge) (w start end : ℕ) (ms os ns : List ℕ) : Type 0 where
   pub digit : (k j : ℕ) → start ≤ k → k < end → j < w
-      → is_one (get_or ns k 0) j ≡ merged_value merge (is_one (get_or ms k 0) j) (is_one (get_or os k 0) j)
+      → is_one (get_or ns k 0) j ≡ merge_of_values merge (is_one (get_or ms k 0) j) (is_one (get_or os k 0) j)
   pub before : (k : ℕ) → k < start → get_or ns k 0 ≡ get_or ms k 0
   pub after : (k : ℕ) → end ≤ k → get_or ns k 0 ≡ get_or ms k 0
 
--- The blocks xs, which have the summary sums, can be merged with the blocks os: these are no more.
-pub record CanMerge {X : Type 0} (w : ℕ) (number : X → ℕ) (is_block : X → Type 0) (xs sums os : List X) : Type 0 where
+-- The blocks xs, which have this summary, can be merged with the blocks os: these are no more.
+pub record CanMerge {X : Type 0} (w : ℕ) (number : X → ℕ) (is_block : X → Type 0)
+    (xs own_summary os : List X) : Type 0 where
   pub fewer : length os ≤ length xs
   pub each : All is_block xs
   pub others : All is_block os
-  pub summary : IsSummary w number is_block xs sums
+  pub summary : IsSummary w number is_block xs own_summary
 
--- The blocks xs became ys, what they merge to with os, or with zeros past its end; and the summary of ys is sums.
+-- The blocks xs became ys, what they merge to with os, or with zeros past its end; and this is the summary of ys.
 pub record HasMerged {X : Type 0} (merge : Merge) (w : ℕ) (number : X → ℕ) (is_block : X → Type 0)
-    (xs os ys sums : List X)
+    (xs os ys own_summary : List X)
     : Type 0 where
   pub merged : IsMergedBetween merge w 0 (length xs) (map number xs) (map number os) (map number ys)
   pub each : All is_block ys
   pub len : length ys ≡ length xs
-  pub summary : IsSummary w number is_block ys sums
+  pub summary : IsSummary w number is_block ys own_summary

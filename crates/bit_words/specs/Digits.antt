@@ -29,12 +29,12 @@ pub record IsDifferent (w m n r : ℕ) : Type 0 where
 pub record IsComplement (w m r : ℕ) : Type 0 where
   pub digit : (i : ℕ) → i < w → bit_at r i ≡ 1 - bit_at m i
 
--- A shift to higher places by d: what leaves at the top is dropped, and zeros come in below.
+-- A shift to higher indexes by d: what leaves at the top is dropped, and zeros come in below.
 pub record IsShiftedLeft (w m d r : ℕ) : Type 0 where
   pub zeros : (i : ℕ) → i < d → bit_at r i ≡ 0
   pub moved : (i : ℕ) → i + d < w → bit_at r (i + d) ≡ bit_at m i
 
--- A shift to lower places by d: what leaves below is dropped, and zeros come in at the top.
+-- A shift to lower indexes by d: what leaves below is dropped, and zeros come in at the top.
 pub record IsShiftedRight (w m d r : ℕ) : Type 0 where
   pub moved : (i : ℕ) → i + d < w → bit_at r i ≡ bit_at m (i + d)
   pub zeros : (i : ℕ) → i < w → w ≤ i + d → bit_at r i ≡ 0

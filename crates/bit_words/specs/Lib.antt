@@ -7,7 +7,7 @@ pub mod Steps
 pub mod Lowest
 pub mod Source
 pub mod Summary
-pub mod Marks
+pub mod Pending
 pub mod Nonzero
 pub mod Merges
 pub mod BlockMerges

@@ -13,22 +13,22 @@ pub record IsCleared (w m i r : ℕ) : Type 0 where
   pub cleared : bit_at r i ≡ 0
   pub kept : (k : ℕ) → k < w → k ≢ i → bit_at r k ≡ bit_at m k
 
--- How blocks of w digits find the lowest 1 of m, at place i, and clear it.
+-- How blocks of w digits find the lowest 1 of m, at index i, and clear it.
 pub record LowestIsFound (w m i : ℕ) : Type 0 where
   pub lowest : IsLowest m i
   pub within : i < w
   -- `!m + 1`, which does not wrap
-  pub negated : (n : ℕ) → n < 2 ^ w → IsComplement w m n → n + 1 ≡ 2 ^ w - m
-  pub negated_fits : 2 ^ w - m < 2 ^ w
+  pub wrapping_neg : (n : ℕ) → n < 2 ^ w → IsComplement w m n → n + 1 ≡ 2 ^ w - m
+  pub wrapping_neg_fits : 2 ^ w - m < 2 ^ w
   -- `m & (!m + 1)`
-  pub alone : (r : ℕ) → r < 2 ^ w → IsBoth w m (2 ^ w - m) r → r ≡ 2 ^ i
-  -- the place is the count of ones below it
+  pub isolated : (r : ℕ) → r < 2 ^ w → IsBoth w m (2 ^ w - m) r → r ≡ 2 ^ i
+  -- the index is the count of ones below it
   pub counted : count_ones (2 ^ i - 1) ≡ i
   -- `m & (m - 1)`
   pub rest : (r : ℕ) → IsBoth w m (m - 1) r → IsCleared w m i r
 
--- Of w digits, l is the lowest 1 of m alone: the number o below it counts its place, and clearing goes by that place.
-pub record IsAlone (w m l : ℕ) : Type 0 where
+-- Of w digits, l is the lowest 1 of m alone: the number o below it counts its index, and clearing goes by that index.
+pub record IsIsolated (w m l : ℕ) : Type 0 where
   pub some : 1 ≤ l
   pub within : (o : ℕ) → o + 1 ≡ l → count_ones o < w
   pub lowest : (o : ℕ) → o + 1 ≡ l → IsLowest m (count_ones o)

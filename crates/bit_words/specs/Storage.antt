@@ -13,13 +13,13 @@ unfoldable pub values_of : ℕ → List ℕ → ℕ → List Bool
 values_of w ms n = map (value_at w ms) (range_with_len 0 n)
 
 -- every value from n on is false
-pub record IsCleanFrom (w : ℕ) (ms : List ℕ) (n : ℕ) : Type 0 where
-  pub clean : (i : ℕ) → n ≤ i → value_at w ms i ≡ false
+pub record IsZeroFrom (w : ℕ) (ms : List ℕ) (n : ℕ) : Type 0 where
+  pub zero_tail : (i : ℕ) → n ≤ i → value_at w ms i ≡ false
 
 -- The blocks xs hold a list of n values: each is a block value, there are as many as it takes, what no value uses is 0,
 -- and n is a `usize`.
-pub record IsTidy {X : Type 0} (w : ℕ) (number : X → ℕ) (is_block : X → Type 0) (xs : List X) (n : ℕ) : Type 0 where
+pub record IsPacked {X : Type 0} (w : ℕ) (number : X → ℕ) (is_block : X → Type 0) (xs : List X) (n : ℕ) : Type 0 where
   pub each : All is_block xs
   pub count : length xs ≡ blocks_for w n
-  pub tail : IsCleanFrom w (map number xs) n
+  pub tail : IsZeroFrom w (map number xs) n
   pub fits : n < 2 ^ 64

@@ -1,34 +1,187 @@
 //! Bit vectors over blocks of any lawful type.
+ghost use Rattle.std.specs.Prelude.{◌≡◌, ◌-◌, ◌/◌, ◌↔◌, All, IsTrue, drop, false, length, map, min, slice_get};
+ghost use Rattle.std.specs.List.{count_by};
+ghost use Rattle.bit_words.specs.Bits.{blocks_for, blocks_of, IsCapacityOfBlocks, IsWithinCapacity};
+ghost use Rattle.bit_words.specs.Nonzero.{block_and_nonzero, first_and_nonzero};
 
-mod block;
+use crate::packed::access::get_bit;
+use crate::packed::zeros::are_zero;
+use crate::summary::queries::ones_by_summary;
+use std::marker::Model;
+
 mod blocks;
-mod bytes;
-mod changes;
+mod capacity;
 mod comparing;
-mod copying;
-mod counting;
-mod groups;
-mod integers;
-mod lowest;
-mod masks;
-mod merge;
+mod constructors;
+mod debug;
+mod editing;
 mod merging;
 mod nonzero;
 pub mod operation;
-mod room;
-mod steps;
-mod summary;
-mod tails;
-mod tidy;
-mod vector;
-mod words;
-mod zeros;
 
-pub use block::BitBlock;
+pub use crate::block::BitBlock;
+pub use crate::block::lowest::take_lowest_one;
+pub use crate::block::masks::clear_below;
+pub use crate::block::merge::Merge;
+pub use crate::steps::Steps;
 pub use blocks::Blocks;
-pub use lowest::take_lowest_one;
-pub use masks::clear_below;
-pub use merge::Merge;
+pub use constructors::BitsError;
 pub use nonzero::Nonzero;
-pub use steps::Steps;
-pub use vector::{BitVec, BitsError};
+
+/// A list of truth values, kept as bits in a vector of blocks.
+///
+/// Contracts see the list, as `values`, and `capacity`, the length up to which it grows without memory.
+/// Value `i` is bit `i % B::bits()` of block `i / B::bits()`; bits of the last block past the
+/// length are 0.
+///
+/// ```
+/// let mut bits = BitVec::from_elem(alloc, 3, false)?;
+/// bits.set(1, true);
+/// bits.grow(2, true)?;
+/// assert_eq!(bits.storage(), [0b11010].as_slice());
+/// ```
+#[derive(Drop)]
+pub struct BitVec<B: BitBlock = u32> {
+    blocks: Vec<B>,
+    // Which of the blocks are not 0.
+    summary: Vec<B>,
+    len: usize,
+}
+
+impl<B: BitBlock> Model for BitVec<B> {
+    ghost use Rattle.std.specs.Prelude.{map, vec_capacity};
+    ghost use Rattle.bit_words.specs.Bits.{Bits, capacity_of};
+    ghost use Rattle.bit_words.specs.Storage.{values_of};
+    ghost use Rattle.bit_words.specs.Summary.{shared_capacity, IsStored};
+
+    ghost Value = { Bits };
+
+    ghost view = { λ v. record {
+      values = values_of B.width (map B.number v.blocks.items) v.len;
+      capacity = capacity_of B.width (shared_capacity B.width (vec_capacity v.blocks) (vec_capacity v.summary));
+    } };
+
+    ghost invariant = { λ v. IsStored B.width B.number B.is_block v.blocks.items v.summary.items v.len };
+}
+
+impl<B: BitBlock> BitVec<B> {
+    /// How many values the list has. Constant time.
+    #[inline]
+    pub fn len(&self) -> usize
+        ensures value { result ≡ length self.now.values }
+        ensures fits { IsWithinCapacity self.now }
+    {
+        self.len
+    }
+
+    /// The value at `i`, or `None` at or past the length. Constant time.
+    #[inline]
+    pub fn get(&self, i: usize) -> Option<bool>
+        ensures { result ≡ slice_get self.now.values i }
+    {
+        if i >= self.len {
+            return None;
+        }
+        Some(get_bit(&self.blocks, i))
+    }
+
+    /// Whether no value is true. Reads the summary alone: one block of it for as many blocks as a block
+    /// has bits.
+    pub fn none(&self) -> bool
+        ensures { IsTrue result ↔ All (λ bit. bit ≡ false) self.now.values }
+    {
+        are_zero(&self.summary)
+    }
+
+    /// How many values are true. Adds up the ones of each block, and passes over as many blocks as a
+    /// block has bits at once where they are all zero.
+    pub fn count_ones(&self) -> usize
+        ensures { result ≡ count_by (λ value. value) self.now.values }
+    {
+        ones_by_summary(&self.blocks, &self.summary)
+    }
+
+    /// The greatest length for which no memory is missing. Each block that there is capacity for counts for its
+    /// width, as far as a `usize` goes. Constant time.
+    #[inline]
+    pub fn capacity(&self) -> usize
+        ensures value { result ≡ self.now.capacity }
+        ensures fits { IsWithinCapacity self.now }
+        ensures whole { IsCapacityOfBlocks B.width self.now }
+    {
+        let summarized = self.summary.capacity().saturating_mul(B::bits());
+        let count = self.blocks.capacity().min(summarized);
+        count.saturating_mul(B::bits())
+    }
+
+    /// The blocks in which the list is kept. Constant time.
+    #[inline]
+    pub fn storage(&self) -> &[B]
+        ensures numbers { map B.number result.now ≡ blocks_of B.width self.now.values }
+        ensures each { All B.is_block result.now }
+        ensures fits { IsWithinCapacity self.now }
+    {
+        &self.blocks
+    }
+
+    /// A walk over these blocks. Constant time.
+    #[inline]
+    pub fn blocks(&self) -> Blocks<'_, B>
+        ensures numbers { map B.number result.left ≡ blocks_of B.width self.now.values }
+        ensures each { All B.is_block result.left }
+        ensures pulls { result.pulls ≡ 0 }
+        ensures fits { IsWithinCapacity self.now }
+    {
+        Blocks::over(self.storage())
+    }
+
+    /// A walk over the blocks that are not zero, each with its index; the first block comes in any case.
+    /// Constant time, and takes no memory.
+    ///
+    /// ```
+    /// // Of 100 values, over blocks of 32 bits, those at 70 and 71 are true.
+    /// assert!(bits.nonzero().eq([(0, 0), (2, 0b1100_0000)]));
+    /// ```
+    #[inline]
+    pub fn nonzero(&self) -> Nonzero<'_, B>
+        ensures blocks { map B.number result.blocks ≡ blocks_of B.width self.now.values }
+        ensures each { All B.is_block result.blocks }
+        ensures left { result.left ≡ first_and_nonzero B.number result.blocks }
+        ensures pulls { result.pulls ≡ 0 }
+        ensures summary_pulls { result.summary_pulls
+            ≡ min 1 (blocks_for B.width (blocks_for B.width (length self.now.values))) }
+        ensures summary_left { result.summary_left
+            ≡ blocks_for B.width (blocks_for B.width (length self.now.values)) - 1 }
+        ensures fits { IsWithinCapacity self.now }
+    {
+        Nonzero::over(&self.blocks, &self.summary)
+    }
+
+    /// The same from the block with this index on, which comes in any case, zero or not. Where there are fewer
+    /// blocks it is the last one. Constant time, and takes no memory.
+    ///
+    /// ```
+    /// // Of 100 values, over blocks of 32 bits, those at 70 and 71 are true.
+    /// assert!(bits.nonzero_from(1).eq([(1, 0), (2, 0b1100_0000)]));
+    /// ```
+    #[inline]
+    pub fn nonzero_from(&self, index: usize) -> Nonzero<'_, B>
+        ensures blocks { map B.number result.blocks ≡ blocks_of B.width self.now.values }
+        ensures each { All B.is_block result.blocks }
+        ensures left { let first = min index (length result.blocks - 1) in
+            result.left ≡ block_and_nonzero B.number first (drop first result.blocks) }
+        ensures pulls { result.pulls ≡ 0 }
+        ensures summary_pulls { result.summary_pulls ≡ min 1 (blocks_for B.width
+            (blocks_for B.width (length self.now.values))) }
+        ensures summary_left { result.summary_left ≡ blocks_for B.width
+            (blocks_for B.width (length self.now.values)) - 1 - min index (length result.blocks - 1) / B.width }
+        ensures fits { IsWithinCapacity self.now }
+    {
+        let blocks = self.blocks.as_slice();
+        if blocks.is_empty() {
+            return self.nonzero();
+        }
+        let last = blocks.len() - 1;
+        Nonzero::over_from(blocks, &self.summary, index.min(last))
+    }
+}

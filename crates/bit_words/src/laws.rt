@@ -4,11 +4,12 @@ ghost use Rattle.std.specs.Int.{bit_at};
 ghost use Rattle.std.specs.Iterator.{YieldsThen};
 ghost use Rattle.std.specs.Int.RustNames.{count_ones};
 ghost use Rattle.std.specs.List.{sum_by, count_by, range_with_len};
-ghost use Rattle.bit_words.specs.Bits.{blocks_for, blocks_of, values_of_bytes, Bits, IsRoomOfBlocks};
+ghost use Rattle.bit_words.specs.Bits.{blocks_for, blocks_of, values_of_bytes, Bits, IsCapacityOfBlocks};
 ghost use Rattle.bit_words.specs.Source.{Source};
 ghost use Rattle.bit_words.specs.Lowest.{LowestIsFound};
 
-use crate::bit_vec::{BitBlock, Blocks};
+use crate::bit_vec::Blocks;
+use crate::block::BitBlock;
 
 /// What the blocks of a list of truth values are. Block `k` has a 1 at digit `j` exactly where
 /// `k * w + j` is an index at which the list is true, and there are just enough blocks for the list.
@@ -27,11 +28,11 @@ pub fn values_of_each_byte()
         → slice_get (values_of_bytes bytes) (8 * i + j) ≡ Some (bit_at (slice_index bytes i) (7 - j) == 1) }
 {}
 
-/// How far the blocks of a list reach: a bit vector whose room is that of whole blocks, as `capacity`
-/// says of each, takes no memory to become as long as the blocks that it has.
-pub fn room_of_whole_blocks()
-    ensures { (w n : ℕ) (v : Bits) → IsRoomOfBlocks w v → n ≤ 2 ^ 64 - 1 → n ≤ blocks_for w (length v.values) * w
-        → n ≤ v.room }
+/// How far the blocks of a list reach: a bit vector whose capacity is that of whole blocks, as `capacity` says of
+/// each, takes no memory to become as long as the blocks that it has.
+pub fn capacity_of_whole_blocks()
+    ensures { (w n : ℕ) (v : Bits) → IsCapacityOfBlocks w v → n ≤ 2 ^ 64 - 1 → n ≤ blocks_for w (length v.values) * w
+        → n ≤ v.capacity }
 {}
 
 /// What a whole walk over blocks gives: the blocks that were left, each once and in order, by one
@@ -52,9 +53,9 @@ pub fn ones_of_blocks()
     ensures digits { (w m : ℕ) → m < 2 ^ w → count_ones m ≡ sum_by (bit_at m) (range_with_len 0 w) }
 {}
 
-/// How a block that is not zero gives up its lowest 1, at every width. `!m + 1` does not wrap,
-/// `m & (!m + 1)` is that 1 alone, the number below it has as many ones as its place says, and
-/// `m & (m - 1)` is `m` with that digit made 0.
+/// How a block that is not zero gives up its lowest 1, at every width. `!m + 1` does not wrap, `m & (!m + 1)` is
+/// that 1 alone, the number below it has as many ones as its index says, and `m & (m - 1)` is `m` with that digit
+/// made 0.
 pub fn lowest_one()
     ensures { (w m : ℕ) → 0 < m → m < 2 ^ w → (i : ℕ) × LowestIsFound w m i }
 {}

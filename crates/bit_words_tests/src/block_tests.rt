@@ -1,8 +1,8 @@
 use bit_words::bit_vec::{BitBlock, take_lowest_one};
 use block24::Block24;
 
-// The ones of a byte, of its complement, and of what is left of it once only its low four bits
-// have room above and the low one of those is dropped.
+// The ones of a byte, of its complement, and of what is left of it once only its low four bits fit above and the
+// low one of those is dropped.
 fn counts<B: BitBlock>(byte: u8) -> [usize; 3] {
     let low = B::from_byte(byte);
     let high = low.shift_left(B::bits() - 4);
@@ -40,11 +40,11 @@ fn digits_pass_the_middle_of_a_wide_block(rt: HostRuntime) {
 #[test]
 fn forty_gives_up_its_lowest_one(rt: HostRuntime) {
     let block = 40u8;
-    let negated = !block + u8::one();
-    let low = block & negated;
+    let wrapping_neg = !block + u8::one();
+    let low = block & wrapping_neg;
     let below = low - u8::one();
     let rest = block & (block - u8::one());
-    assert_eq!(rt; [negated, low, below, rest], [216, 8, 7, 32]);
+    assert_eq!(rt; [wrapping_neg, low, below, rest], [216, 8, 7, 32]);
     assert_eq!(rt; BitBlock::count_ones(below), 3);
     assert_eq!(rt; low | rest, block);
     assert_eq!(rt; block ^ rest, low);
@@ -55,9 +55,9 @@ fn forty_gives_up_its_lowest_one(rt: HostRuntime) {
 fn the_highest_digit_of_an_odd_block(rt: HostRuntime) {
     assert_eq!(rt; !Block24::zero(), Block24(16777215));
     let block = Block24(8388608);
-    let negated = !block + Block24(1);
-    assert_eq!(rt; negated, block);
-    let below = (block & negated) - Block24(1);
+    let wrapping_neg = !block + Block24(1);
+    assert_eq!(rt; wrapping_neg, block);
+    let below = (block & wrapping_neg) - Block24(1);
     assert_eq!(rt; BitBlock::count_ones(below), 23);
     let mut rest = block;
     assert_eq!(rt; take_lowest_one(&mut rest), 23);

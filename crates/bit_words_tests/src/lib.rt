@@ -6,13 +6,13 @@ mod block_tests;
 #[cfg(test)]
 mod blocks_tests;
 #[cfg(test)]
+mod capacity_tests;
+#[cfg(test)]
 mod example_tests;
 #[cfg(test)]
 mod merge_tests;
 #[cfg(test)]
 mod nonzero_tests;
-#[cfg(test)]
-mod room_tests;
 #[cfg(test)]
 mod tail_tests;
 #[cfg(test)]

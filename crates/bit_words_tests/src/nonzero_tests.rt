@@ -49,8 +49,8 @@ fn the_first_block_and_those_that_are_not_zero_come(rt: HostRuntime) -> Result<(
     Ok(())
 }
 
-// The first and the last blocks that a block of the summary tells of: all that lie between are passed
-// over, and each of these is found.
+// The first and the last blocks that a block of the summary says of: all that lie between are passed over, and
+// each of these is found.
 fn ends_are_found<B: BitBlock>(
     rt: &impl Abort,
     alloc: Global,

@@ -77,8 +77,8 @@ fn last_of_forty<B: BitBlock>(alloc: Global) -> Result<BitVec<B>, BitsError> {
     Ok(bits.clone(alloc)?)
 }
 
-// Of five values that are true but for the first: the outer two, what is past them, and whether
-// the room holds all.
+// Of five values that are true but for the first: the outer two, what is past them, and whether the capacity
+// holds all.
 fn grown<B: BitBlock>(alloc: Global) -> Result<([Option<bool>; 3], bool), AllocError> {
     let mut bits = BitVec::<B>::new_general(alloc);
     bits.grow(5, true)?;
@@ -139,16 +139,16 @@ fn a_walk_gives_each_block(rt: HostRuntime) -> Result<(), Fail> {
     Ok(())
 }
 
-// How a list is refused so many values, by each call that takes memory for them.
+// How a list fails to take so many values, by each call that takes memory for them.
 fn refusals<B: BitBlock>(bits: &mut BitVec<B>, len: usize) -> [Result<(), AllocError>; 4] {
     let more = len.saturating_sub(bits.len());
     let ones = bits.grow(more, true);
     let more = len.saturating_sub(bits.len());
     let zeros = bits.grow(more, false);
     let more = len.saturating_sub(bits.len());
-    let room = bits.reserve(more);
+    let capacity = bits.reserve(more);
     let more = len.saturating_sub(bits.len());
-    [ones, zeros, room, bits.reserve_exact(more)]
+    [ones, zeros, capacity, bits.reserve_exact(more)]
 }
 
 // Each call that takes a number, at one for which there is no memory.

@@ -3,7 +3,7 @@ use bit_set::SetError;
 use std::alloc::{AllocError, Global};
 use std::cmp::Ordering;
 
-// What stands for a refused element, for a refused length and for no upper bound.
+// What represents a refused element, for a refused length and for no upper bound.
 const ELEMENT: usize = 2;
 
 const LENGTH: usize = 3;

@@ -4,7 +4,7 @@ ghost use Rattle.std.specs.Prelude.{◌+◌, ◌*◌, ◌%◌, ◌^◌, fold};
 use bit_set::{BitBlock, BitSet};
 use std::hash::{Hash, Hasher};
 
-// How often it was fed, and a number that tells the bytes that it was fed.
+// How often it was fed, and a number that says the bytes that it was fed.
 #[derive(Drop)]
 struct Feed {
     calls: u64,

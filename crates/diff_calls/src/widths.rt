@@ -5,7 +5,7 @@ use bit_set::{BitBlock, BitSet, JsonBlock, JsonError, SetError};
 use serde_json::Value;
 use std::alloc::{AllocError, Global};
 
-// What differs between the types of blocks: the calls that stand at `u32` alone, the numbers of blocks, and the JSON
+// What differs between the types of blocks: the calls that are at `u32` alone, the numbers of blocks, and the JSON
 // form, which `u128` lacks.
 pub(crate) trait Width: BitBlock {
     fn new(alloc: Global) -> BitSet<Self> {

@@ -10,9 +10,11 @@ pub data Event : Type 0 where
 
 -- what a call does to the slots
 abbrev pub Happens : SlotTable → Event → SlotTable → Type 0
-Happens old (Take from (Some slot)) new = IsLowestFree old from slot × (new ≡ record { len = old.len; free = without old.free slot })
+Happens old (Take from (Some slot)) new =
+    IsLowestFree old from slot × (new ≡ record { len = old.len; free = without old.free slot })
 Happens old (Take from None) new = ((slot : ℕ) → from ≤ slot → has old.free slot ≡ false) × (new ≡ old)
-Happens old (GiveBack slot true) new = (is_taken old slot ≡ true) × (new ≡ record { len = old.len; free = put old.free slot })
+Happens old (GiveBack slot true) new =
+    (is_taken old slot ≡ true) × (new ≡ record { len = old.len; free = put old.free slot })
 Happens old (GiveBack slot false) new = (is_taken old slot ≡ false) × (new ≡ old)
 
 -- Calls, one after another.

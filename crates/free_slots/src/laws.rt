@@ -17,11 +17,16 @@ use bit_set::laws::members_of_sets;
 /// - `full`: they return `None` only where each of these is held.
 /// - `given`: `give_back` returns `true` for slots that are held, and for no others.
 pub fn whole_runs()
-    ensures once { (n slot : ℕ) (events : List Event) (end : SlotTable) → Run (all_free n) events end → times_taken slot events ≤ times_given slot events + 1 }
-    ensures held { (n slot : ℕ) (events : List Event) (end : SlotTable) → Run (all_free n) events end → IsHeld events slot ↔ IsTrue (is_taken end slot) }
-    ensures lowest { (n from slot : ℕ) (events later : List Event) (end : SlotTable) → Run (all_free n) (events ++ Take from (Some slot) ∷ later) end → IsLowestUnheld n events from slot }
-    ensures full { (n from slot : ℕ) (events later : List Event) (end : SlotTable) → Run (all_free n) (events ++ Take from None ∷ later) end → from ≤ slot → slot < n → IsHeld events slot }
-    ensures given { (n slot : ℕ) (result : Bool) (events later : List Event) (end : SlotTable) → Run (all_free n) (events ++ GiveBack slot result ∷ later) end → IsTrue result ↔ IsHeld events slot }
+    ensures once { (n slot : ℕ) (events : List Event) (end : SlotTable) → Run (all_free n) events end
+        → times_taken slot events ≤ times_given slot events + 1 }
+    ensures held { (n slot : ℕ) (events : List Event) (end : SlotTable) → Run (all_free n) events end
+        → IsHeld events slot ↔ IsTrue (is_taken end slot) }
+    ensures lowest { (n from slot : ℕ) (events later : List Event) (end : SlotTable)
+        → Run (all_free n) (events ++ Take from (Some slot) ∷ later) end → IsLowestUnheld n events from slot }
+    ensures full { (n from slot : ℕ) (events later : List Event) (end : SlotTable)
+        → Run (all_free n) (events ++ Take from None ∷ later) end → from ≤ slot → slot < n → IsHeld events slot }
+    ensures given { (n slot : ℕ) (result : Bool) (events later : List Event) (end : SlotTable)
+        → Run (all_free n) (events ++ GiveBack slot result ∷ later) end → IsTrue result ↔ IsHeld events slot }
 {
     members_of_sets();
 }

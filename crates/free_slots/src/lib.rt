@@ -31,7 +31,7 @@ impl<B: BitBlock> Model for Slots<B> {
 
     ghost view = { λ it. record { len = length it.free.values; free = elements it.free.values } };
 
-    ghost invariant = { λ it. length it.free.values ≤ it.free.room };
+    ghost invariant = { λ it. length it.free.values ≤ it.free.capacity };
 }
 
 impl<B: BitBlock> Slots<B> {

@@ -119,7 +119,7 @@ module _ (rows : List (List ℕ)) (closed : IsClosed rows) where
 -- ---- rows of sets
 
 pub row_of : (rows : List Bits) (u : ℕ) → successors (rows_of rows) u ≡ elements (row rows u).values
-row_of rows u = get_or-map (λ (set : Bits). elements set.values) rows u (record { values = []; room = 0 })
+row_of rows u = get_or-map (λ (set : Bits). elements set.values) rows u (record { values = []; capacity = 0 })
 
 pub into_row : (rows : List Bits) (u v : ℕ) → Edge (rows_of rows) u v → has (elements (row rows u).values) v ≡ true
 into_row rows u v e = ap (λ s. has s v) (sym (row_of rows u)) ∙ e
@@ -129,7 +129,7 @@ out_of_row rows u v e = ap (λ s. has s v) (row_of rows u) ∙ e
 
 -- what is read of a row
 pub read_row : (rows : List Bits) (u : ℕ) (x : Bits) → u < length rows → get_or rows u x ≡ row rows u
-read_row rows u x lt = get_or_default rows u x (record { values = []; room = 0 }) lt
+read_row rows u x lt = get_or_default rows u x (record { values = []; capacity = 0 }) lt
 
 module _ (node : ℕ) (via : Bits) (rows new : List Bits) (is : via.values ≡ (row rows node).values) where
   of_via : (v : ℕ) → has (elements via.values) v ≡ true → Edge (rows_of rows) node v
@@ -159,19 +159,19 @@ module _ (node : ℕ) (via : Bits) (rows new : List Bits) (is : via.values ≡ (
       within u v e =
           elim (cases_lt u (length rows)) [
             | inl lt ↦ lt
-            | inr past ↦ absurd (true≢false (sym (sym (ap (λ (set : Bits). has (elements set.values) v) (get_or_past rows u (record { values = []; room = 0 }) past)) ∙ into_row rows u v e)))
+            | inr past ↦ absurd (true≢false (sym (sym (ap (λ (set : Bits). has (elements set.values) v) (get_or_past rows u (record { values = []; capacity = 0 }) past)) ∙ into_row rows u v e)))
           ]
 
 -- ---- one row
 
 module _ (node : ℕ) (via old new : Bits) where
-  pub joined : elements new.values ≡ union (elements old.values) (elements via.values) → length new.values ≡ max (length old.values) (length via.values) → (length via.values ≤ old.room → new.room ≡ old.room) → ((s t : List ℕ) (n : ℕ) → has (union s t) n ≡ (has s n || has t n)) → has (elements old.values) node ≡ true → Joins node via old new
-  joined is long room members present = record {
+  pub joined : elements new.values ≡ union (elements old.values) (elements via.values) → length new.values ≡ max (length old.values) (length via.values) → (length via.values ≤ old.capacity → new.capacity ≡ old.capacity) → ((s t : List ℕ) (n : ℕ) → has (union s t) n ≡ (has s n || has t n)) → has (elements old.values) node ≡ true → Joins node via old new
+  joined is long capacity members present = record {
     keeps = λ v h. member v ∙ or_left (has (elements old.values) v) _ h;
     only = λ v h. elim (or_cases (has (elements old.values) v) (has (elements via.values) v) (sym (member v) ∙ h)) [ inl before ↦ inl before | inr more ↦ inr (present, more) ];
     adds = λ v h more. member v ∙ or_right (has (elements old.values) v) _ more;
     long = omega (arith, long);
-    room = room;
+    capacity = capacity;
   }
     where
       member : (v : ℕ) → has (elements new.values) v ≡ (has (elements old.values) v || has (elements via.values) v)
@@ -183,21 +183,21 @@ module _ (node : ℕ) (via old new : Bits) where
     only = λ v h. inl h;
     adds = λ v h more. absurd (true≢false (sym h ∙ absent));
     long = omega arith;
-    room = λ h. refl;
+    capacity = λ h. refl;
   })
 
--- ---- lengths and rooms
+-- ---- lengths and capacities
 
 pub record Roomy (m : ℕ) (first rows : List Bits) : Type 0 where
   pub long : (u : ℕ) → u < length first → length (row rows u).values ≤ m
-  pub room : (u : ℕ) → u < length first → (row rows u).room ≡ (row first u).room
-  pub enough : (u : ℕ) → u < length first → m ≤ (row first u).room
+  pub capacity : (u : ℕ) → u < length first → (row rows u).capacity ≡ (row first u).capacity
+  pub enough : (u : ℕ) → u < length first → m ≤ (row first u).capacity
 
-pub roomy_first : (m : ℕ) (rows : List Bits) → All (λ row. (length row.values ≤ m) × (m ≤ row.room)) rows → Roomy m rows rows
-roomy_first m rows all = record { long = λ u lt. (at u lt).0; room = λ u lt. refl; enough = λ u lt. (at u lt).1 }
+pub roomy_first : (m : ℕ) (rows : List Bits) → All (λ row. (length row.values ≤ m) × (m ≤ row.capacity)) rows → Roomy m rows rows
+roomy_first m rows all = record { long = λ u lt. (at u lt).0; capacity = λ u lt. refl; enough = λ u lt. (at u lt).1 }
   where
-    at : (u : ℕ) → u < length rows → (length (row rows u).values ≤ m) × (m ≤ (row rows u).room)
-    at u lt = All-get_or (λ (r : Bits). (length r.values ≤ m) × (m ≤ r.room)) rows u (record { values = []; room = 0 }) lt all
+    at : (u : ℕ) → u < length rows → (length (row rows u).values ≤ m) × (m ≤ (row rows u).capacity)
+    at u lt = All-get_or (λ (r : Bits). (length r.values ≤ m) × (m ≤ r.capacity)) rows u (record { values = []; capacity = 0 }) lt all
 
 pub long_on : (limit node : ℕ) (via : Bits) (rows new : List Bits) → length via.values ≤ limit → ((u : ℕ) → Joins node via (row rows u) (row new u) ⊎ (row new u ≡ row rows u)) → (u : ℕ) → length (row rows u).values ≤ limit → length (row new u).values ≤ limit
 long_on limit node via rows new short some u low =
@@ -209,24 +209,24 @@ long_on limit node via rows new short some u low =
 pub roomy_on : (m node : ℕ) (via : Bits) (first rows new : List Bits) → length via.values ≤ m → ((u : ℕ) → Joins node via (row rows u) (row new u) ⊎ (row new u ≡ row rows u)) → Roomy m first rows → Roomy m first new
 roomy_on m node via first rows new short some r = record {
   long = λ u lt. long_on m node via rows new short some u (r.long u lt);
-  room = λ u lt. stays u lt (some u) ∙ r.room u lt;
+  capacity = λ u lt. stays u lt (some u) ∙ r.capacity u lt;
   enough = r.enough;
 }
   where
-    stays : (u : ℕ) → u < length first → Joins node via (row rows u) (row new u) ⊎ (row new u ≡ row rows u) → (row new u).room ≡ (row rows u).room
-    stays u lt (inl j) = let has_room = r.room u lt in let enough = r.enough u lt in j.room (omega (arith, short, has_room, enough))
-    stays u lt (inr same) = ap (λ (s : Bits). s.room) same
+    stays : (u : ℕ) → u < length first → Joins node via (row rows u) (row new u) ⊎ (row new u ≡ row rows u) → (row new u).capacity ≡ (row rows u).capacity
+    stays u lt (inl j) = let has_capacity = r.capacity u lt in let enough = r.enough u lt in j.capacity (omega (arith, short, has_capacity, enough))
+    stays u lt (inr same) = ap (λ (s : Bits). s.capacity) same
 
-pub same_rooms : (m : ℕ) (first rows : List Bits) → length rows ≡ length first → Roomy m first rows → map (λ (r : Bits). r.room) rows ≡ map (λ (r : Bits). r.room) first
-same_rooms m first rows long r = go first rows long r.room
+pub same_capacities : (m : ℕ) (first rows : List Bits) → length rows ≡ length first → Roomy m first rows → map (λ (r : Bits). r.capacity) rows ≡ map (λ (r : Bits). r.capacity) first
+same_capacities m first rows long r = go first rows long r.capacity
   where
-    go : (first rows : List Bits) → length rows ≡ length first → ((u : ℕ) → u < length first → (row rows u).room ≡ (row first u).room) → map (λ (r : Bits). r.room) rows ≡ map (λ (r : Bits). r.room) first
+    go : (first rows : List Bits) → length rows ≡ length first → ((u : ℕ) → u < length first → (row rows u).capacity ≡ (row first u).capacity) → map (λ (r : Bits). r.capacity) rows ≡ map (λ (r : Bits). r.capacity) first
     go [] [] long each = refl
     go [] (x ∷ xs) long each = absurd (omega (arith, long))
     go (x ∷ xs) [] long each = absurd (omega (arith, long))
     go (x ∷ xs) (y ∷ ys) long each =
-        let head : y.room ≡ x.room = each 0 (omega arith) in
-        let tail : map (λ (r : Bits). r.room) ys ≡ map (λ (r : Bits). r.room) xs = go xs ys (omega (arith, long)) (λ u lt. each (suc u) (omega (arith, lt))) in
+        let head : y.capacity ≡ x.capacity = each 0 (omega arith) in
+        let tail : map (λ (r : Bits). r.capacity) ys ≡ map (λ (r : Bits). r.capacity) xs = go xs ys (omega (arith, long)) (λ u lt. each (suc u) (omega (arith, lt))) in
         cc
 
 -- ---- a row beside none

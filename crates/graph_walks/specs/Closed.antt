@@ -21,14 +21,15 @@ pub record IsOnTheWay (old new : List (List ℕ)) : Type 0 where
 
 -- a row, and an empty set of no length past the last one
 abbrev pub row : List Bits → ℕ → Bits
-row rows u = slice_index_or rows u (record { values = []; room = 0 })
+row rows u = slice_index_or rows u (record { values = []; capacity = 0 })
 
 -- A row became what leads on by one node: where it has that node it takes in what is in `via`.
 pub record Joins (node : ℕ) (via old new : Bits) : Type 0 where
   pub keeps : (v : ℕ) → IsTrue (has (elements old.values) v) → IsTrue (has (elements new.values) v)
   pub only : (v : ℕ) → IsTrue (has (elements new.values) v)
-      → IsTrue (has (elements old.values) v) ⊎ (IsTrue (has (elements old.values) node) × IsTrue (has (elements via.values) v))
+      → IsTrue (has (elements old.values) v)
+      ⊎ (IsTrue (has (elements old.values) node) × IsTrue (has (elements via.values) v))
   pub adds : (v : ℕ) → IsTrue (has (elements old.values) node) → IsTrue (has (elements via.values) v)
       → IsTrue (has (elements new.values) v)
   pub long : length new.values ≤ max (length old.values) (length via.values)
-  pub room : length via.values ≤ old.room → new.room ≡ old.room
+  pub capacity : length via.values ≤ old.capacity → new.capacity ≡ old.capacity

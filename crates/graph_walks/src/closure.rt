@@ -17,10 +17,10 @@ pub fn close<B: BitBlock>(alloc: Global, rows: &mut [BitSet<B>]) -> Result<(), A
     ensures closure { OnOk result (IsClosureOf (rows_of rows.old) (rows_of rows.new)) }
     ensures closed { OnOk result (IsClosed (rows_of rows.new)) }
     ensures on_the_way { IsOnTheWay (rows_of rows.old) (rows_of rows.new) }
-    ensures spare { (m : ℕ) → All (λ row. (length row.values ≤ m) × (m ≤ row.room)) rows.old
+    ensures spare { (m : ℕ) → All (λ row. (length row.values ≤ m) × (m ≤ row.capacity)) rows.old
         → OnErr result (rows.new ≡ rows.old) }
-    ensures room { (m : ℕ) → All (λ row. (length row.values ≤ m) × (m ≤ row.room)) rows.old
-        → map (λ row. row.room) rows.new ≡ map (λ row. row.room) rows.old }
+    ensures capacity { (m : ℕ) → All (λ row. (length row.values ≤ m) × (m ≤ row.capacity)) rows.old
+        → map (λ row. row.capacity) rows.new ≡ map (λ row. row.capacity) rows.old }
 {
     let mut via = BitSet::with_capacity_general(alloc, longest(rows))?;
     for node in 0..rows.len() {
@@ -49,7 +49,8 @@ fn join_all<B: BitBlock>(
 ) -> Result<(), AllocError>
     ensures each { OnOk result ((u : ℕ) → u < length rows.old → Joins node via.now (row rows.old u) (row rows.new u)) }
     ensures some { (u : ℕ) → Joins node via.now (row rows.old u) (row rows.new u) ⊎ (row rows.new u ≡ row rows.old u) }
-    ensures full { OnErr result ((u : ℕ) × (u < length rows.old) × ((row rows.old u).room < length via.now.values)) }
+    ensures full { OnErr result ((u : ℕ) × (u < length rows.old)
+        × ((row rows.old u).capacity < length via.now.values)) }
 {
     for row in rows.iter_mut() {
         join(row, node, via)?;
@@ -61,7 +62,7 @@ fn join_all<B: BitBlock>(
 fn join<B: BitBlock>(row: &mut BitSet<B>, node: usize, via: &BitSet<B>) -> Result<(), AllocError>
     ensures joins { OnOk result (Joins node via.now row.old row.new) }
     ensures err { OnErr result (row.new ≡ row.old) }
-    ensures full { OnErr result (row.old.room < length via.now.values) }
+    ensures full { OnErr result (row.old.capacity < length via.now.values) }
 {
     members_of_merged_sets();
     if row.contains(node) {

@@ -1,7 +1,7 @@
-// Calls that change a bit vector or its room.
+// Calls that change a bit vector or its capacity.
 use crate::asks::Ask;
 use crate::faults::Fault;
-use crate::standing::{Room, first_bits, lent_set, works};
+use crate::states::{Capacity, first_bits, lent_set, works};
 use crate::sweep::Sweep;
 use bit_set::bit_vec::BitVec;
 use bit_set::{BitBlock, BitSet};
@@ -16,17 +16,17 @@ enum Call {
     Shrink,
 }
 
-// What stands at first of the list that a call is made on, and of the list that is lent to it.
+// What there is at first of the list that a call is made on, and of the list that is lent to it.
 const FIRST: &str = "{3, 447} of 448, and 0 past them";
 
 const LENT: &str = "{3, 7} of 5001, and 1 past them";
 
-// A call at some room, under a name of its own; the memory that it may ask for; and what stands where it is answered.
+// A call at some capacity, under a name of its own; the memory that it may ask for; and what is where it succeeds.
 // Where it is refused all is as it was.
 struct Row {
     name: &'static str,
     call: Call,
-    room: Room,
+    capacity: Capacity,
     asks: &'static [Ask],
     answered: &'static str,
 }
@@ -35,84 +35,84 @@ const ROWS: &[Row] = &[
     Row {
         name: "bits_grow",
         call: Call::Grow(false),
-        room: Room::Short,
+        capacity: Capacity::Short,
         asks: &[Ask::Grown(5001)],
         answered: "{3, 447} of 5001, and 0 past them",
     },
     Row {
         name: "bits_grow_within",
         call: Call::Grow(false),
-        room: Room::Ample,
+        capacity: Capacity::Ample,
         asks: &[],
         answered: "{3, 447} of 5001, and 0 past them",
     },
     Row {
         name: "bits_grow_true",
         call: Call::Grow(true),
-        room: Room::Short,
+        capacity: Capacity::Short,
         asks: &[Ask::Grown(5001)],
         answered: "{3, 447} of 5001, and 4553 past them",
     },
     Row {
         name: "bits_grow_true_within",
         call: Call::Grow(true),
-        room: Room::Ample,
+        capacity: Capacity::Ample,
         asks: &[],
         answered: "{3, 447} of 5001, and 4553 past them",
     },
     Row {
         name: "bits_reserve",
         call: Call::Reserve,
-        room: Room::Short,
+        capacity: Capacity::Short,
         asks: &[Ask::Grown(5001)],
         answered: FIRST,
     },
     Row {
         name: "bits_reserve_within",
         call: Call::Reserve,
-        room: Room::Ample,
+        capacity: Capacity::Ample,
         asks: &[],
         answered: FIRST,
     },
     Row {
         name: "bits_reserve_exact",
         call: Call::ReserveExact,
-        room: Room::Short,
+        capacity: Capacity::Short,
         asks: &[Ask::Exact(5001)],
         answered: FIRST,
     },
     Row {
         name: "bits_reserve_exact_within",
         call: Call::ReserveExact,
-        room: Room::Ample,
+        capacity: Capacity::Ample,
         asks: &[],
         answered: FIRST,
     },
     Row {
         name: "bits_clone_from",
         call: Call::CloneFrom,
-        room: Room::Short,
+        capacity: Capacity::Short,
         asks: &[Ask::Exact(5001)],
         answered: LENT,
     },
     Row {
         name: "bits_clone_from_within",
         call: Call::CloneFrom,
-        room: Room::Ample,
+        capacity: Capacity::Ample,
         asks: &[],
         answered: LENT,
     },
     Row {
         name: "bits_shrink_to_fit",
         call: Call::Shrink,
-        room: Room::Ample,
+        capacity: Capacity::Ample,
         asks: &[Ask::Exact(448)],
         answered: FIRST,
     },
     Row {
         name: "bits_shrink_to_fit_exact",
         call: Call::Shrink,
-        room: Room::Exact,
+        capacity: Capacity::Exact,
         asks: &[],
         answered: FIRST,
     },
@@ -139,7 +139,7 @@ fn text_of<B: BitBlock>(alloc: Global, bits: &BitVec<B>) -> Result<String, Alloc
 }
 
 impl Row {
-    // Whether this may stand where the call ended so.
+    // Whether this may be where the call ended so.
     fn allows(&self, ended: Result<(), Fault>, now: &str) -> bool {
         match ended {
             Ok(()) => now == self.answered,
@@ -151,7 +151,7 @@ impl Row {
 
 fn tried<B: BitBlock>(sweep: &Sweep<'_>, row: &Row) -> Result<bool, Fault> {
     let alloc = sweep.alloc();
-    let mut bits = first_bits::<B>(alloc, row.room)?;
+    let mut bits = first_bits::<B>(alloc, row.capacity)?;
     let lent = lent_set::<B>(alloc)?;
     sweep.begin(row.name, row.asks)?;
     let ended = change(row.call, &mut bits, lent.get_ref());

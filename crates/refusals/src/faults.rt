@@ -1,15 +1,16 @@
+// Why a call failed, whichever library says so.
 use bit_set::bit_vec::BitsError;
 use bit_set::{JsonError, SetError};
 use bit_set_run::LinesFault;
 use std::alloc::AllocError;
 use std::io;
 
-/// Why a call did not answer.
+/// Why a call failed.
 #[derive(Clone, Copy, Debug, PartialEq, Eq)]
 pub enum Fault {
     /// Memory was refused.
     Memory,
-    /// Anything else, which no call here may answer.
+    /// Anything else, which no call here may return.
     Other,
 }
 

@@ -1,8 +1,8 @@
 // Calls of the JSON form, which not every type of blocks has.
 use crate::asks::Ask;
 use crate::faults::Fault;
-use crate::making::text_made;
-use crate::standing::{LENT, lent_set, text_of};
+use crate::new_values::text_made;
+use crate::states::{LENT, lent_set, text_of};
 use crate::sweep::Sweep;
 use bit_set::{BitSet, JsonBlock, JsonError};
 use serde_json::Value;

@@ -1,19 +1,19 @@
-//! Each call that may be refused memory, and those that take none: made on a state of its own, and what then
-//! stands compared with what may. `tests/refusals.sh` runs this with one request after another refused.
+//! Each call that may find no memory, and those that take none: made on a state of its own, and what then holds,
+//! compared with what may. `tests/refusals.sh` runs this with one request after another refused.
 #![tactic(auto)]
 
 mod asks;
 mod bits;
+mod failing_writers;
 mod faults;
 mod json;
-mod making;
-mod quiet;
+mod new_values;
 mod runs;
 mod sets;
 mod splits;
-mod standing;
+mod states;
 mod sweep;
-mod texts;
+mod without_memory;
 
 use bit_set::{BitBlock, JsonBlock};
 use faults::Fault;
@@ -30,10 +30,10 @@ fn words(rt: &HostRuntime) -> Result<Vec<String>, Fault> {
 fn over<B: BitBlock>(sweep: &Sweep<'_>) -> Result<bool, Fault> {
     let sets = sets::all::<B>(sweep)?;
     let splits = splits::all::<B>(sweep)?;
-    let making = making::all::<B>(sweep)?;
+    let making = new_values::all::<B>(sweep)?;
     let bits = bits::all::<B>(sweep)?;
     let runs = runs::all::<B>(sweep)?;
-    let quiet = quiet::all::<B>(sweep)?;
+    let quiet = without_memory::all::<B>(sweep)?;
     Ok(sets && splits && making && bits && runs && quiet)
 }
 
@@ -47,7 +47,7 @@ fn over_with_json<B: JsonBlock>(sweep: &Sweep<'_>) -> Result<bool, Fault> {
 // Those and the calls that are over blocks of 32 bits alone.
 fn over_plain(sweep: &Sweep<'_>) -> Result<bool, Fault> {
     let calls = over_with_json::<u32>(sweep)?;
-    let plain = making::all_plain(sweep)?;
+    let plain = new_values::all_plain(sweep)?;
     Ok(calls && plain)
 }
 

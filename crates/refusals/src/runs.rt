@@ -7,8 +7,8 @@ use bit_set::{BitBlock, BitSet};
 use bit_set_run::{Command, Numbers, Reply, RunFault, SetName, Table, run, run_lines};
 use std::alloc::{AllocError, Global};
 
-// What stands of the sets `a`, `b` and `c` where the command of each place is refused, and at last behind them all.
-// Of the items of an extend a front may be in.
+// What is left of the sets `a`, `b` and `c` where the command of each place is refused, and at last behind them
+// all. Of the items of an extend a front may be in.
 const STANDING: &[&[&str]] = &[
     &["{} {} {}", "{3} {} {}"],
     &["{3, 447} {} {}"],
@@ -105,7 +105,7 @@ fn shown<B: BitBlock>(
     format!(in alloc; "{a} {b} {c}")
 }
 
-// Whether these sets may stand where the command of this place is refused, or behind them all.
+// Whether these sets may be where the command of this place is refused, or behind them all.
 fn may_stand(place: usize, now: &str) -> bool {
     match STANDING.get(place) {
         Some(standing) => standing.contains(&now),
@@ -167,7 +167,7 @@ fn thousand(alloc: Global, name: SetName) -> Result<Vec<Command>, AllocError> {
     Ok(commands)
 }
 
-// A thousand commands that need no memory, with room for their replies.
+// A thousand commands that need no memory, with capacity for their replies.
 fn tried_thousand<B: BitBlock>(sweep: &Sweep<'_>, name: SetName) -> Result<bool, Fault> {
     let alloc = sweep.alloc();
     let commands = thousand(alloc, name)?;

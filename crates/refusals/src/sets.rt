@@ -1,7 +1,7 @@
-// Calls that change a set or its room.
+// Calls that change a set or its capacity.
 use crate::asks::Ask;
 use crate::faults::Fault;
-use crate::standing::{FIRST, LENT, Room, first_set, lent_set, text_of, works};
+use crate::states::{Capacity, FIRST, LENT, first_set, lent_set, text_of, works};
 use crate::sweep::Sweep;
 use bit_set::{BitBlock, BitSet};
 
@@ -20,12 +20,12 @@ enum Call {
     Shrink,
 }
 
-// A call at some room, under a name of its own; the memory that it may ask for; and what it leaves, where it is
-// answered, and where it is refused. A shrink leaves whole blocks.
+// A call at some capacity, under a name of its own; the memory that it may ask for; and what it leaves, where it
+// succeeds, and where it is refused. A shrink leaves whole blocks.
 struct Row {
     name: &'static str,
     call: Call,
-    room: Room,
+    capacity: Capacity,
     asks: &'static [Ask],
     answered: &'static str,
     refused: &'static str,
@@ -35,7 +35,7 @@ const ROWS: &[Row] = &[
     Row {
         name: "insert",
         call: Call::Insert,
-        room: Room::Short,
+        capacity: Capacity::Short,
         asks: &[Ask::Grown(5001)],
         answered: "{3, 447, 5000} of 5001",
         refused: FIRST,
@@ -43,7 +43,7 @@ const ROWS: &[Row] = &[
     Row {
         name: "insert_within",
         call: Call::Insert,
-        room: Room::Ample,
+        capacity: Capacity::Ample,
         asks: &[],
         answered: "{3, 447, 5000} of 5001",
         refused: "",
@@ -51,7 +51,7 @@ const ROWS: &[Row] = &[
     Row {
         name: "insert_next",
         call: Call::InsertNext,
-        room: Room::Short,
+        capacity: Capacity::Short,
         asks: &[Ask::Grown(1101)],
         answered: "{3, 447, 1100} of 1101",
         refused: FIRST,
@@ -59,7 +59,7 @@ const ROWS: &[Row] = &[
     Row {
         name: "extend",
         call: Call::Extend,
-        room: Room::Short,
+        capacity: Capacity::Short,
         asks: &[Ask::Grown(5001)],
         answered: "{3, 9, 447, 450, 5000} of 5001",
         refused: "{3, 9, 447, 450} of 451",
@@ -67,7 +67,7 @@ const ROWS: &[Row] = &[
     Row {
         name: "extend_within",
         call: Call::Extend,
-        room: Room::Ample,
+        capacity: Capacity::Ample,
         asks: &[],
         answered: "{3, 9, 447, 450, 5000} of 5001",
         refused: "",
@@ -75,7 +75,7 @@ const ROWS: &[Row] = &[
     Row {
         name: "union_with",
         call: Call::Union,
-        room: Room::Short,
+        capacity: Capacity::Short,
         asks: &[Ask::Grown(5001)],
         answered: "{3, 7, 447, 5000} of 5001",
         refused: FIRST,
@@ -83,7 +83,7 @@ const ROWS: &[Row] = &[
     Row {
         name: "union_with_within",
         call: Call::Union,
-        room: Room::Ample,
+        capacity: Capacity::Ample,
         asks: &[],
         answered: "{3, 7, 447, 5000} of 5001",
         refused: "",
@@ -91,7 +91,7 @@ const ROWS: &[Row] = &[
     Row {
         name: "intersect_with",
         call: Call::Intersection,
-        room: Room::Short,
+        capacity: Capacity::Short,
         asks: &[Ask::Grown(5001)],
         answered: "{3} of 5001",
         refused: FIRST,
@@ -99,7 +99,7 @@ const ROWS: &[Row] = &[
     Row {
         name: "intersect_with_within",
         call: Call::Intersection,
-        room: Room::Ample,
+        capacity: Capacity::Ample,
         asks: &[],
         answered: "{3} of 5001",
         refused: "",
@@ -107,7 +107,7 @@ const ROWS: &[Row] = &[
     Row {
         name: "difference_with",
         call: Call::Difference,
-        room: Room::Short,
+        capacity: Capacity::Short,
         asks: &[Ask::Grown(5001)],
         answered: "{447} of 5001",
         refused: FIRST,
@@ -115,7 +115,7 @@ const ROWS: &[Row] = &[
     Row {
         name: "difference_with_within",
         call: Call::Difference,
-        room: Room::Ample,
+        capacity: Capacity::Ample,
         asks: &[],
         answered: "{447} of 5001",
         refused: "",
@@ -123,7 +123,7 @@ const ROWS: &[Row] = &[
     Row {
         name: "symmetric_difference_with",
         call: Call::Symmetric,
-        room: Room::Short,
+        capacity: Capacity::Short,
         asks: &[Ask::Grown(5001)],
         answered: "{7, 447, 5000} of 5001",
         refused: FIRST,
@@ -131,7 +131,7 @@ const ROWS: &[Row] = &[
     Row {
         name: "symmetric_difference_with_within",
         call: Call::Symmetric,
-        room: Room::Ample,
+        capacity: Capacity::Ample,
         asks: &[],
         answered: "{7, 447, 5000} of 5001",
         refused: "",
@@ -139,7 +139,7 @@ const ROWS: &[Row] = &[
     Row {
         name: "clone_from",
         call: Call::CloneFrom,
-        room: Room::Short,
+        capacity: Capacity::Short,
         asks: &[Ask::Exact(5001)],
         answered: LENT,
         refused: FIRST,
@@ -147,7 +147,7 @@ const ROWS: &[Row] = &[
     Row {
         name: "clone_from_within",
         call: Call::CloneFrom,
-        room: Room::Ample,
+        capacity: Capacity::Ample,
         asks: &[],
         answered: LENT,
         refused: "",
@@ -155,7 +155,7 @@ const ROWS: &[Row] = &[
     Row {
         name: "reserve_len",
         call: Call::Reserve,
-        room: Room::Short,
+        capacity: Capacity::Short,
         asks: &[Ask::Grown(5001)],
         answered: FIRST,
         refused: FIRST,
@@ -163,7 +163,7 @@ const ROWS: &[Row] = &[
     Row {
         name: "reserve_len_within",
         call: Call::Reserve,
-        room: Room::Ample,
+        capacity: Capacity::Ample,
         asks: &[],
         answered: FIRST,
         refused: "",
@@ -171,7 +171,7 @@ const ROWS: &[Row] = &[
     Row {
         name: "reserve_len_exact",
         call: Call::ReserveExact,
-        room: Room::Short,
+        capacity: Capacity::Short,
         asks: &[Ask::Exact(5001)],
         answered: FIRST,
         refused: FIRST,
@@ -179,7 +179,7 @@ const ROWS: &[Row] = &[
     Row {
         name: "reserve_len_exact_within",
         call: Call::ReserveExact,
-        room: Room::Ample,
+        capacity: Capacity::Ample,
         asks: &[],
         answered: FIRST,
         refused: "",
@@ -187,7 +187,7 @@ const ROWS: &[Row] = &[
     Row {
         name: "shrink_to_fit",
         call: Call::Shrink,
-        room: Room::Long,
+        capacity: Capacity::Long,
         asks: &[Ask::Exact(448)],
         answered: FIRST,
         refused: FIRST,
@@ -195,14 +195,14 @@ const ROWS: &[Row] = &[
     Row {
         name: "shrink_to_fit_exact",
         call: Call::Shrink,
-        room: Room::Exact,
+        capacity: Capacity::Exact,
         asks: &[],
         answered: FIRST,
         refused: "",
     },
 ];
 
-// Makes the call. Whether its answer is right, where it has one.
+// Makes the call. Whether its result is right, where it has one.
 fn change<B: BitBlock>(call: Call, set: &mut BitSet<B>, lent: &BitSet<B>) -> Result<bool, Fault> {
     let items: [usize; 3] = [9, 450, 5000];
     match call {
@@ -231,7 +231,7 @@ fn in_whole_blocks(width: usize) -> &'static str {
 }
 
 impl Row {
-    // Whether this may stand where the call ended so, over blocks of so many bits.
+    // Whether this may be where the call ended so, over blocks of so many bits.
     fn allows(&self, width: usize, ended: Result<bool, Fault>, now: &str) -> bool {
         let left = match ended {
             Ok(true) => self.answered,
@@ -247,7 +247,7 @@ impl Row {
 
 fn tried<B: BitBlock>(sweep: &Sweep<'_>, row: &Row) -> Result<bool, Fault> {
     let alloc = sweep.alloc();
-    let mut set = first_set::<B>(alloc, row.room)?;
+    let mut set = first_set::<B>(alloc, row.capacity)?;
     let lent = lent_set::<B>(alloc)?;
     sweep.begin(row.name, row.asks)?;
     let ended = change(row.call, &mut set, &lent);
@@ -258,7 +258,7 @@ fn tried<B: BitBlock>(sweep: &Sweep<'_>, row: &Row) -> Result<bool, Fault> {
     Ok(sweep.judge(is_whole && is_right, now.as_str())?)
 }
 
-// How many of the numbers below 100 are new to a set with room for them, each as it goes in.
+// How many of the numbers below 100 are new to a set with capacity for them, each as it goes in.
 fn put_hundred<B: BitBlock>(set: &mut BitSet<B>) -> Result<usize, Fault> {
     let mut count: usize = 0;
     for number in 0..100 {

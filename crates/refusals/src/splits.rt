@@ -1,7 +1,7 @@
 // Calls that move elements from one set to another.
 use crate::asks::Ask;
 use crate::faults::Fault;
-use crate::standing::{Room, first_set, lent_set, text_of, works};
+use crate::states::{Capacity, first_set, lent_set, text_of, works};
 use crate::sweep::Sweep;
 use bit_set::{BitBlock, BitSet};
 use std::alloc::Global;
@@ -15,12 +15,12 @@ enum Call {
 // What both sets are before a call, and after one that was refused.
 const REFUSED: &str = "{3, 447} of 448 and {3, 7, 5000} of 5001";
 
-// A call at some room, under a name of its own, the memory that it may ask for, and what the set and the other one
-// are where it is answered.
+// A call at some capacity, under a name of its own, the memory that it may ask for, and what the set and the other
+// one are where it succeeds.
 struct Row {
     name: &'static str,
     call: Call,
-    room: Room,
+    capacity: Capacity,
     asks: &'static [Ask],
     answered: &'static str,
 }
@@ -29,48 +29,48 @@ const ROWS: &[Row] = &[
     Row {
         name: "append",
         call: Call::Append,
-        room: Room::Short,
+        capacity: Capacity::Short,
         asks: &[Ask::Grown(5001)],
         answered: "{3, 7, 447, 5000} of 5001 and {} of 5001",
     },
     Row {
         name: "append_within",
         call: Call::Append,
-        room: Room::Ample,
+        capacity: Capacity::Ample,
         asks: &[],
         answered: "{3, 7, 447, 5000} of 5001 and {} of 5001",
     },
     Row {
         name: "split_off",
         call: Call::SplitOff(3),
-        room: Room::Short,
+        capacity: Capacity::Short,
         asks: &[Ask::Exact(448)],
         answered: "{} of 3 and {3, 447} of 448",
     },
     Row {
         name: "split_off_last",
         call: Call::SplitOff(447),
-        room: Room::Short,
+        capacity: Capacity::Short,
         asks: &[Ask::Exact(448)],
         answered: "{3} of 447 and {447} of 448",
     },
     Row {
         name: "split_off_at_0",
         call: Call::SplitOff(0),
-        room: Room::Short,
+        capacity: Capacity::Short,
         asks: &[],
         answered: "{} of 0 and {3, 447} of 448",
     },
     Row {
         name: "split_off_at_the_length",
         call: Call::SplitOff(448),
-        room: Room::Short,
+        capacity: Capacity::Short,
         asks: &[],
         answered: "{3, 447} of 448 and {} of 0",
     },
 ];
 
-// Makes the call. The other set is the one that is appended, or becomes the one that is handed out.
+// Makes the call. The other set is the one that is appended, or becomes the one that is returned.
 fn exchange<B: BitBlock>(
     alloc: Global,
     call: Call,
@@ -97,7 +97,7 @@ impl Row {
 
 fn tried<B: BitBlock>(sweep: &Sweep<'_>, row: &Row) -> Result<bool, Fault> {
     let alloc = sweep.alloc();
-    let mut set = first_set::<B>(alloc, row.room)?;
+    let mut set = first_set::<B>(alloc, row.capacity)?;
     let mut other = lent_set::<B>(alloc)?;
     sweep.begin(row.name, row.asks)?;
     let ended = exchange(alloc, row.call, &mut set, &mut other);

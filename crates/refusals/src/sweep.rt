@@ -1,3 +1,4 @@
+// One call after another, each between two writes by which the script knows it.
 use crate::asks::{Ask, bound_of};
 use crate::faults::Fault;
 use std::alloc::Global;
@@ -69,7 +70,7 @@ impl<'a> Sweep<'a> {
         })
     }
 
-    /// Says whether that is as it may be, or else what stands; and answers it.
+    /// Says whether that is as it may be, or else what is; and returns it.
     pub fn judge(&self, is_right: bool, now: &str) -> io::Result<bool> {
         if is_right {
             self.rt.println("")?;

@@ -90,10 +90,10 @@ pub fn take_least<B: BitBlock>(set: &mut BitSet<B>) -> Option<usize>
 
 /// Puts numbers below 100 into a set with capacity for 100, as after `reserve_len(100)`. It never fails.
 pub fn put_each<B: BitBlock>(set: &mut BitSet<B>, numbers: &[usize]) -> Result<(), SetError>
-    requires room { 100 ≤ set.old.room }
+    requires capacity { 100 ≤ set.old.capacity }
     requires below { All (λ x. x < 100) numbers.now }
     ensures succeeds { IsOk result }
-    ensures kept { set.new.room ≡ set.old.room }
+    ensures kept { set.new.capacity ≡ set.old.capacity }
     ensures members { IsUnion (elements set.old.values) numbers.now (elements set.new.values) }
 {
     for &number in numbers {
@@ -106,7 +106,7 @@ pub fn put_each<B: BitBlock>(set: &mut BitSet<B>, numbers: &[usize]) -> Result<(
 pub fn exchange<B: BitBlock>(set: &mut BitSet<B>, new: usize, old: usize) -> Result<(), SetError>
     ensures members { OnOk result ((x : ℕ) → has (elements set.new.values) x
         ≡ (not (old == x) && (new == x || has (elements set.old.values) x))) }
-    ensures succeeds { new < set.old.room → IsOk result }
+    ensures succeeds { new < set.old.capacity → IsOk result }
 {
     set.insert(new)?;
     set.remove(old);

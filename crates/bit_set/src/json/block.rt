@@ -12,7 +12,8 @@ pub trait JsonBlock: BitBlock {
 
     /// The block of a number, where it has one: where the number is below `2 ^ bits()`.
     fn from_number(number: u64) -> Option<Self>
-        ensures { MatchOption result (2 ^ Self.width ≤ number) (λ block. Self.is_block block × (Self.number block ≡ number)) };
+        ensures { MatchOption result (2 ^ Self.width ≤ number)
+            (λ block. Self.is_block block × (Self.number block ≡ number)) };
 }
 
 impl JsonBlock for u8 {

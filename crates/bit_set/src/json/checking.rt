@@ -2,7 +2,7 @@
 ghost use Rattle.std.specs.Prelude.{◌≡◌, ◌≢◌, ◌↔◌, ℕ, List, All, IsTrue, IfOk, IfErr, MatchOption, Some, length, map};
 ghost use Rattle.bit_words.specs.Bits.{blocks_for};
 ghost use Rattle.serde_json.specs.View.{view, items_view};
-ghost use Rattle.bit_set.specs.Json.{HasShape, IsClean, IsFirstFault, Spells, members_in, number_in};
+ghost use Rattle.bit_set.specs.Json.{HasShape, HasZeroTail, IsFirstFault, Spells, members_in, number_in};
 ghost use Rattle.bit_set.specs.Entries.{AreParts, HasLength, IsEntry, numbers_of};
 
 use super::{JsonBlock, JsonError};
@@ -19,13 +19,13 @@ pub(super) fn checked<B: JsonBlock>(value: &Value) -> Result<(&[Value], usize), 
     if entries.len() != len.div_ceil(B::bits()) {
         return Err(JsonError::Blocks);
     }
-    if !is_clean::<B>(entries, len) {
+    if !has_zero_tail::<B>(entries, len) {
         return Err(JsonError::Unclean);
     }
     Ok((entries, len))
 }
 
-// What stands at `storage` and at `nbits`, where the value has the shape.
+// What is at `storage` and at `nbits`, where the value has the shape.
 fn parts(value: &Value) -> Option<(&[Value], &Value)>
     ensures { MatchOption result (¬ HasShape (view value.now))
         (λ found. AreParts (view value.now) (items_view found.0.now) (view found.1.now)) }
@@ -52,7 +52,7 @@ fn has_members(value: &Value, count: usize) -> bool
     }
 }
 
-// The length, where that and each entry is a number that can stand there.
+// The length, where that and each entry is a number that can be there.
 fn length_of<B: JsonBlock>(entries: &[Value], nbits: &Value) -> Option<usize>
     ensures { MatchOption result ((n : ℕ) → ¬ HasLength B.width entries.now (view nbits.now) n)
         (HasLength B.width entries.now (view nbits.now)) }
@@ -92,10 +92,10 @@ pub(super) fn block_of<B: JsonBlock>(entry: &Value) -> B
 }
 
 // Whether the last block has no 1 at or past the length.
-fn is_clean<B: JsonBlock>(entries: &[Value], len: usize) -> bool
+fn has_zero_tail<B: JsonBlock>(entries: &[Value], len: usize) -> bool
     requires each { All (IsEntry B.width) entries.now }
     requires count { length entries.now ≡ blocks_for B.width len }
-    ensures { IsTrue result ↔ IsClean B.width (numbers_of entries.now) len }
+    ensures { IsTrue result ↔ HasZeroTail B.width (numbers_of entries.now) len }
 {
     let used = len % B::bits();
     if used == 0 {

@@ -1,9 +1,9 @@
 // Making of the bits that were read.
 ghost use Rattle.std.specs.Prelude.{◌≡◌, ◌≢◌, ◌+◌, ◌^◌, ◌<◌, ℕ, All, IfOk, IsOk, false, get_or, length};
 ghost use Rattle.std.specs.Int.{bit_at};
-ghost use Rattle.bit_words.specs.Bits.{blocks_for, blocks_of, room_of};
+ghost use Rattle.bit_words.specs.Bits.{blocks_for, blocks_of, capacity_of};
 ghost use Rattle.bit_words.specs.Digits.{is_one};
-ghost use Rattle.bit_set.specs.Json.{IsClean};
+ghost use Rattle.bit_set.specs.Json.{HasZeroTail};
 ghost use Rattle.bit_set.specs.Entries.{IsEntry, numbers_of};
 
 use super::JsonBlock;
@@ -21,10 +21,10 @@ pub(super) fn bits_of_entries<B: JsonBlock>(
 ) -> Result<BitVec<B>, AllocError>
     requires each { All (IsEntry B.width) entries.now }
     requires count { length entries.now ≡ blocks_for B.width len }
-    requires clean { IsClean B.width (numbers_of entries.now) len }
+    requires zero_tail { HasZeroTail B.width (numbers_of entries.now) len }
     ensures blocks { IfOk result (λ bits. blocks_of B.width bits.values ≡ numbers_of entries.now) }
     ensures length { IfOk result (λ bits. length bits.values ≡ len) }
-    ensures room { IfOk result (λ bits. bits.room ≡ room_of B.width (blocks_for B.width len)) }
+    ensures capacity { IfOk result (λ bits. bits.capacity ≡ capacity_of B.width (blocks_for B.width len)) }
     ensures empty { len ≡ 0 → IsOk result }
 {
     let mut bits = BitVec::from_elem_general(alloc, len, false)?;
@@ -34,19 +34,20 @@ pub(super) fn bits_of_entries<B: JsonBlock>(
     Ok(bits)
 }
 
-// Makes the values from `place` on, which are false, those of the block's bits, one step for each 1.
-fn put_ones<B: BitBlock>(bits: &mut BitVec<B>, place: usize, mut block: B)
+// Makes the values from `index` on, which are false, those of the block's bits, one step for each 1.
+fn put_ones<B: BitBlock>(bits: &mut BitVec<B>, index: usize, mut block: B)
     requires of_block { B.is_block block }
     requires counted { length bits.old.values < 2 ^ 64 }
-    requires within { (j : ℕ) → j < B.width → bit_at (B.number block) j ≡ 1 → place + j < length bits.old.values }
-    requires falses { (j : ℕ) → j < B.width → get_or bits.old.values (place + j) false ≡ false }
-    ensures values { (j : ℕ) → j < B.width → get_or bits.new.values (place + j) false ≡ is_one (B.number block) j }
-    ensures others { (i : ℕ) → ((j : ℕ) → j < B.width → i ≢ place + j) → get_or bits.new.values i false ≡ get_or bits.old.values i false }
+    requires within { (j : ℕ) → j < B.width → bit_at (B.number block) j ≡ 1 → index + j < length bits.old.values }
+    requires falses { (j : ℕ) → j < B.width → get_or bits.old.values (index + j) false ≡ false }
+    ensures values { (j : ℕ) → j < B.width → get_or bits.new.values (index + j) false ≡ is_one (B.number block) j }
+    ensures others { (i : ℕ) → ((j : ℕ) → j < B.width → i ≢ index + j)
+        → get_or bits.new.values i false ≡ get_or bits.old.values i false }
     ensures length { length bits.new.values ≡ length bits.old.values }
-    ensures room { bits.new.room ≡ bits.old.room }
+    ensures capacity { bits.new.capacity ≡ bits.old.capacity }
 {
     while block != B::zero() {
         let lowest = take_lowest_one(&mut block);
-        bits.set(place + lowest, true);
+        bits.set(index + lowest, true);
     }
 }

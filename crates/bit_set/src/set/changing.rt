@@ -2,23 +2,23 @@
 ghost use Rattle.std.specs.Prelude.{◌≡◌, ℕ, ◌+◌, ◌-◌, ◌<◌, ◌≤◌, ◌↔◌, if◌then◌else◌, max, min, not, IfOk, IfErr, OnOk, OnErr, IsOk, is_ok, IsErrOf, All, List, [], ◌++◌, length, replicate, false, true, Some};
 ghost use Rattle.std.specs.Iterator.{Drains, HoldsAlong, IsFinite, YieldsThen};
 ghost use Rattle.std.specs.Iterator.Runs.{WholeRun};
-ghost use Rattle.bit_words.specs.Bits.{blocks_for, room_of};
+ghost use Rattle.bit_words.specs.Bits.{blocks_for, capacity_of};
 ghost use Rattle.bit_set.specs.Sets.{elements, has, put, those_below, without};
 ghost use Rattle.bit_set.specs.Members.{HasNone, IsCounted, IsSameSet, KeepsBelow, Updates};
 ghost use Rattle.bit_set.specs.Effects.{TakesIn};
 ghost use Rattle.bit_set.specs.Faults.{IsRefusal};
 ghost use Rattle.bit_set.specs.Calls.{Change, Changes, finished, inserted};
 ghost use Rattle.bit_set.specs.Calls.Outcome.{Done, Returned};
-ghost use Rattle.bit_set.specs.Room.{IsPastBlocks, Leaves};
-ghost use Rattle.bit_set.specs.Room.Call.{CloneFrom, Insert, MakeEmpty, Remove, Reset, Truncate};
+ghost use Rattle.bit_set.specs.Capacity.{IsPastBlocks, Leaves};
+ghost use Rattle.bit_set.specs.Capacity.Call.{CloneFrom, Insert, MakeEmpty, Remove, Reset, Truncate};
 
 use crate::{BitBlock, BitSet, SetError};
 use std::alloc::AllocError;
 
 impl<B: BitBlock> BitSet<B> {
-    /// Puts `value` in, and answers whether it is new. Constant time, but for a growth at or past
-    /// the length. Fails at `usize::MAX`, and where a growth past the room is refused; elements, length
-    /// and capacity then stay.
+    /// Puts `value` in, and returns whether it is new. Constant time, but for a growth at or past the length.
+    /// Fails at `usize::MAX`, and where a growth past the capacity fails; elements, length and capacity then
+    /// stay.
     #[inline]
     pub fn insert(&mut self, value: usize) -> Result<bool, SetError>
         ensures answer { IfOk result (λ new. new ≡ not (has (elements self.old.values) value)) }
@@ -31,15 +31,15 @@ impl<B: BitBlock> BitSet<B> {
 
         ensures unfit { IsErrOf result SetError.Element ↔ (value ≡ usize.MAX) }
         ensures fit { OnOk result (value < usize.MAX) }
-        ensures refused { IfErr result (λ fault. IsRefusal fault value self.old.room) }
+        ensures refused { IfErr result (λ fault. IsRefusal fault value self.old.capacity) }
         ensures past { OnErr result (length self.old.values ≤ value) }
         ensures err { OnErr result (self.new ≡ self.old) }
-        ensures succeeds { value < self.old.room → IsOk result }
-        ensures room { self.old.room ≤ self.new.room }
-        ensures kept { value < length self.old.values → self.new.room ≡ self.old.room }
-        ensures within { value < self.old.room → self.new.room ≡ self.old.room }
+        ensures succeeds { value < self.old.capacity → IsOk result }
+        ensures capacity { self.old.capacity ≤ self.new.capacity }
+        ensures kept { value < length self.old.values → self.new.capacity ≡ self.old.capacity }
+        ensures within { value < self.old.capacity → self.new.capacity ≡ self.old.capacity }
         ensures past_blocks { IfErr result (λ fault. IsPastBlocks fault B.width (length self.old.values) value) }
-        ensures leaves { Leaves (Insert value) self.old.room (is_ok result) self.new.room }
+        ensures leaves { Leaves (Insert value) self.old.capacity (is_ok result) self.new.capacity }
         ensures changes { Changes (Change.Insert value) self.old.values (inserted result) self.new.values }
     {
         if value >= self.bits.len() {
@@ -54,43 +54,47 @@ impl<B: BitBlock> BitSet<B> {
     #[inline(never)]
     fn lengthen_past(&mut self, value: usize) -> Result<(), SetError>
         requires { length self.old.values ≤ value }
-        ensures values { OnOk result (self.new.values ≡ self.old.values ++ replicate (value + 1 - length self.old.values) false) }
+        ensures values { OnOk result (self.new.values ≡ self.old.values
+            ++ replicate (value + 1 - length self.old.values) false) }
         ensures unfit { IsErrOf result SetError.Element ↔ (value ≡ usize.MAX) }
         ensures fit { OnOk result (value < usize.MAX) }
-        ensures refused { IfErr result (λ fault. IsRefusal fault value self.old.room) }
+        ensures refused { IfErr result (λ fault. IsRefusal fault value self.old.capacity) }
         ensures err { OnErr result (self.new ≡ self.old) }
-        ensures succeeds { value < self.old.room → IsOk result }
-        ensures room { self.old.room ≤ self.new.room }
-        ensures within { value < self.old.room → self.new.room ≡ self.old.room }
+        ensures succeeds { value < self.old.capacity → IsOk result }
+        ensures capacity { self.old.capacity ≤ self.new.capacity }
+        ensures within { value < self.old.capacity → self.new.capacity ≡ self.old.capacity }
         ensures past_blocks { IfErr result (λ fault. IsPastBlocks fault B.width (length self.old.values) value) }
     {
         let len = self.bits.len();
         if value == usize::MAX {
             return Err(SetError::Element);
         }
-        // For the proof alone: `capacity` ensures that the list is within its room, which is that of whole blocks.
+        // For the proof alone: `capacity` ensures that the list is within its capacity, which is that of whole
+        // blocks.
         prove!(len <= self.bits.capacity());
         self.bits.grow(value - len + 1, false)?;
         Ok(())
     }
 
-    /// Puts the items in, one by one, up to the end of the iterator: it has to end. Constant time an
-    /// item, but for growths. It stops at the first item that [`BitSet::insert`] refuses: the items
-    /// before it stay in, and the rest is dropped.
+    /// Puts the items in, one by one, up to the end of the iterator: it has to end. Constant time an item, but
+    /// for growths. It stops at the first item at which [`BitSet::insert`] fails: the items before it stay in,
+    /// and the rest is dropped.
     pub fn extend<I: Iterator<Item = usize> + Drop>(&mut self, iter: I) -> Result<(), SetError>
         requires can { I.can_next iter }
         requires ends { IsFinite (I.remaining iter) }
         ensures ok { OnOk result ((items : List ℕ) × Drains I.next_gives iter items
             × TakesIn items self.old.values self.new.values) }
-        ensures runs { OnOk result (WholeRun I.next_gives iter (λ run. TakesIn run.items self.old.values self.new.values)) }
+        ensures runs { OnOk result (WholeRun I.next_gives iter
+            (λ run. TakesIn run.items self.old.values self.new.values)) }
         ensures err { IfErr result (λ fault. (items : List ℕ) × (item : ℕ) × (rest : I)
             × YieldsThen I.next_gives iter items (Some item) rest
             × TakesIn items self.old.values self.new.values × (length self.new.values ≤ item)
-            × IsRefusal fault item self.new.room × IsPastBlocks fault B.width (length self.new.values) item) }
-        ensures succeeds { HoldsAlong I.next_gives iter (All (λ item. item < self.old.room)) → IsOk result }
-        ensures room { self.old.room ≤ self.new.room }
-        ensures within { HoldsAlong I.next_gives iter (All (λ item. item < self.old.room)) → self.new.room ≡ self.old.room }
-        ensures kept { length self.new.values ≤ self.old.room → self.new.room ≡ self.old.room }
+            × IsRefusal fault item self.new.capacity × IsPastBlocks fault B.width (length self.new.values) item) }
+        ensures succeeds { HoldsAlong I.next_gives iter (All (λ item. item < self.old.capacity)) → IsOk result }
+        ensures capacity { self.old.capacity ≤ self.new.capacity }
+        ensures within { HoldsAlong I.next_gives iter (All (λ item. item < self.old.capacity))
+            → self.new.capacity ≡ self.old.capacity }
+        ensures kept { length self.new.values ≤ self.old.capacity → self.new.capacity ≡ self.old.capacity }
     {
         for item in iter {
             self.insert(item)?;
@@ -98,7 +102,7 @@ impl<B: BitBlock> BitSet<B> {
         Ok(())
     }
 
-    /// Takes `value` out, and answers whether it was in. Constant time.
+    /// Takes `value` out, and returns whether it was in. Constant time.
     #[inline]
     pub fn remove(&mut self, value: usize) -> bool
         ensures answer { result ≡ has (elements self.old.values) value }
@@ -107,8 +111,8 @@ impl<B: BitBlock> BitSet<B> {
         ensures count { length (elements self.new.values) + (if result then 1 else 0)
             ≡ length (elements self.old.values) }
         ensures length { length self.new.values ≡ length self.old.values }
-        ensures room { self.new.room ≡ self.old.room }
-        ensures leaves { Leaves (Remove value) self.old.room true self.new.room }
+        ensures capacity { self.new.capacity ≡ self.old.capacity }
+        ensures leaves { Leaves (Remove value) self.old.capacity true self.new.capacity }
         ensures changes { Changes (Change.Remove value) self.old.values (Returned result) self.new.values }
     {
         if value >= self.bits.len() {
@@ -122,8 +126,8 @@ impl<B: BitBlock> BitSet<B> {
         ensures elements { elements self.new.values ≡ those_below (elements self.old.values) len }
         ensures members { KeepsBelow (elements self.old.values) (elements self.new.values) len }
         ensures length { length self.new.values ≡ min (length self.old.values) len }
-        ensures room { self.new.room ≡ self.old.room }
-        ensures leaves { Leaves (Truncate len) self.old.room true self.new.room }
+        ensures capacity { self.new.capacity ≡ self.old.capacity }
+        ensures leaves { Leaves (Truncate len) self.old.capacity true self.new.capacity }
         ensures changes { Changes (Change.Truncate len) self.old.values Done self.new.values }
     {
         self.bits.truncate(len);
@@ -134,8 +138,8 @@ impl<B: BitBlock> BitSet<B> {
         ensures elements { elements self.new.values ≡ [] }
         ensures members { HasNone (elements self.new.values) }
         ensures length { length self.new.values ≡ length self.old.values }
-        ensures room { self.new.room ≡ self.old.room }
-        ensures leaves { Leaves MakeEmpty self.old.room true self.new.room }
+        ensures capacity { self.new.capacity ≡ self.old.capacity }
+        ensures leaves { Leaves MakeEmpty self.old.capacity true self.new.capacity }
         ensures changes { Changes Change.MakeEmpty self.old.values Done self.new.values }
     {
         self.bits.fill(false);
@@ -147,36 +151,38 @@ impl<B: BitBlock> BitSet<B> {
         ensures elements { elements self.new.values ≡ [] }
         ensures members { HasNone (elements self.new.values) }
         ensures length { length self.new.values ≡ length self.old.values }
-        ensures room { self.new.room ≡ self.old.room }
-        ensures leaves { Leaves MakeEmpty self.old.room true self.new.room }
+        ensures capacity { self.new.capacity ≡ self.old.capacity }
+        ensures leaves { Leaves MakeEmpty self.old.capacity true self.new.capacity }
         ensures changes { Changes Change.MakeEmpty self.old.values Done self.new.values }
     {
         self.make_empty();
     }
 
-    /// Takes every element out and makes the length 0. The room stays. Constant time.
+    /// Takes every element out and makes the length 0. The capacity stays. Constant time.
     pub fn reset(&mut self)
         ensures values { self.new.values ≡ [] }
         ensures members { HasNone (elements self.new.values) }
-        ensures room { self.new.room ≡ self.old.room }
-        ensures leaves { Leaves Reset self.old.room true self.new.room }
+        ensures capacity { self.new.capacity ≡ self.old.capacity }
+        ensures leaves { Leaves Reset self.old.capacity true self.new.capacity }
         ensures changes { Changes Change.Reset self.old.values Done self.new.values }
     {
         self.bits.remove_all();
     }
 
-    /// Becomes equal to `other`, in one pass over its blocks. Where the room was missing the capacity
-    /// becomes that of the blocks of `other`. Fails only there, and then nothing changed.
+    /// Becomes equal to `other`, in one pass over its blocks. Where the capacity was missing the capacity becomes
+    /// that of the blocks of `other`. Fails only there, and then nothing changed.
     pub fn clone_from(&mut self, other: &Self) -> Result<(), AllocError>
         ensures ok { OnOk result (self.new.values ≡ other.now.values) }
         ensures members { OnOk result (IsSameSet (elements self.new.values) (elements other.now.values)) }
         ensures err { OnErr result (self.new ≡ self.old) }
-        ensures full { OnErr result (self.old.room < length other.now.values) }
-        ensures succeeds { length other.now.values ≤ self.old.room → IsOk result }
-        ensures exact { OnOk result (self.new.room ≡ max self.old.room (room_of B.width (blocks_for B.width (length other.now.values)))) }
-        ensures room { self.old.room ≤ self.new.room }
-        ensures within { length other.now.values ≤ self.old.room → self.new.room ≡ self.old.room }
-        ensures leaves { Leaves (CloneFrom (length other.now.values)) self.old.room (is_ok result) self.new.room }
+        ensures full { OnErr result (self.old.capacity < length other.now.values) }
+        ensures succeeds { length other.now.values ≤ self.old.capacity → IsOk result }
+        ensures exact { OnOk result (self.new.capacity ≡ max self.old.capacity
+            (capacity_of B.width (blocks_for B.width (length other.now.values)))) }
+        ensures capacity { self.old.capacity ≤ self.new.capacity }
+        ensures within { length other.now.values ≤ self.old.capacity → self.new.capacity ≡ self.old.capacity }
+        ensures leaves { Leaves (CloneFrom (length other.now.values)) self.old.capacity
+            (is_ok result) self.new.capacity }
         ensures changes { Changes (Change.CloneFrom (elements other.now.values))
             self.old.values (finished result) self.new.values }
     {

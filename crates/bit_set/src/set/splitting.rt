@@ -1,21 +1,21 @@
 // Calls that move elements from one set to another.
 ghost use Rattle.std.specs.Prelude.{◌≡◌, ◌<◌, ◌≤◌, if◌then◌else◌, nat_lt, max, min, IfOk, OnOk, OnErr, IsOk, is_ok, [], length};
-ghost use Rattle.bit_words.specs.Bits.{blocks_for, room_of};
+ghost use Rattle.bit_words.specs.Bits.{blocks_for, capacity_of};
 ghost use Rattle.bit_set.specs.Sets.{elements, those_below, those_from, union};
 ghost use Rattle.bit_set.specs.Members.{HasNone, IsUnion, KeepsBelow, KeepsFrom};
 ghost use Rattle.bit_set.specs.Calls.{Change, Changes, finished};
-ghost use Rattle.bit_set.specs.Room.{Leaves};
-ghost use Rattle.bit_set.specs.Room.Call.{Append};
+ghost use Rattle.bit_set.specs.Capacity.{Leaves};
+ghost use Rattle.bit_set.specs.Capacity.Call.{Append};
 
 use crate::{BitBlock, BitSet};
 use std::alloc::{AllocError, Global};
 use std::mem::replace;
 
 impl<B: BitBlock> BitSet<B> {
-    /// Moves what is in `other` into the set. The length becomes the greater of both; `other` is empty
-    /// then, and keeps its length and room. One pass over the blocks of the set, and one over those of
-    /// `other`. Fails only where the length of `other` passes the capacity and no memory is found;
-    /// elements, lengths and capacities of both then stay.
+    /// Moves what is in `other` into the set. The length becomes the greater of both; `other` is empty then, and
+    /// keeps its length and capacity. One pass over the blocks of the set, and one over those of `other`. Fails
+    /// only where the length of `other` passes the capacity and no memory is found; elements, lengths and
+    /// capacities of both then stay.
     ///
     /// ```
     /// // The sets are {2, 6} and {1, 3, 6}.
@@ -24,22 +24,23 @@ impl<B: BitBlock> BitSet<B> {
     /// assert!(other.is_empty());
     /// ```
     pub fn append(&mut self, other: &mut Self) -> Result<(), AllocError>
-        ensures elements { OnOk result (elements self.new.values ≡ union (elements self.old.values) (elements other.old.values)) }
+        ensures elements { OnOk result (elements self.new.values
+            ≡ union (elements self.old.values) (elements other.old.values)) }
         ensures members { OnOk result (IsUnion (elements self.old.values) (elements other.old.values)
             (elements self.new.values)) }
         ensures length { OnOk result (length self.new.values ≡ max (length self.old.values) (length other.old.values)) }
         ensures emptied { OnOk result (elements other.new.values ≡ []) }
         ensures other_members { OnOk result (HasNone (elements other.new.values)) }
         ensures other_length { length other.new.values ≡ length other.old.values }
-        ensures other_room { other.new.room ≡ other.old.room }
+        ensures other_capacity { other.new.capacity ≡ other.old.capacity }
         ensures err { OnErr result (self.new ≡ self.old) }
         ensures err_other { OnErr result (other.new ≡ other.old) }
-        ensures full { OnErr result (self.old.room < length other.old.values) }
-        ensures succeeds { length other.old.values ≤ self.old.room → IsOk result }
-        ensures room { self.old.room ≤ self.new.room }
-        ensures kept { length other.old.values ≤ length self.old.values → self.new.room ≡ self.old.room }
-        ensures within { length other.old.values ≤ self.old.room → self.new.room ≡ self.old.room }
-        ensures leaves { Leaves (Append (length other.old.values)) self.old.room (is_ok result) self.new.room }
+        ensures full { OnErr result (self.old.capacity < length other.old.values) }
+        ensures succeeds { length other.old.values ≤ self.old.capacity → IsOk result }
+        ensures capacity { self.old.capacity ≤ self.new.capacity }
+        ensures kept { length other.old.values ≤ length self.old.values → self.new.capacity ≡ self.old.capacity }
+        ensures within { length other.old.values ≤ self.old.capacity → self.new.capacity ≡ self.old.capacity }
+        ensures leaves { Leaves (Append (length other.old.values)) self.old.capacity (is_ok result) self.new.capacity }
         ensures changes { Changes (Change.Append (elements other.old.values))
             self.old.values (finished result) self.new.values }
     {
@@ -48,13 +49,13 @@ impl<B: BitBlock> BitSet<B> {
         Ok(())
     }
 
-    /// Parts the set at `at`: the elements below it stay, and the others are handed out. The set that is
-    /// handed out keeps the length, and the length of this one becomes `at`. Copies the blocks from that
-    /// of `at` on, each once, and writes a zero for each before it; the capacity is that of these blocks.
+    /// Parts the set at `at`: the elements below it stay, and the others are returned. The returned set keeps the
+    /// length, and the length of this one becomes `at`. Copies the blocks from that of `at` on, each once, and
+    /// writes a zero for each before it; the capacity is that of these blocks.
     ///
-    /// Where `at` is at or past the length nothing changes, and an empty set of length 0 is handed out.
-    /// Where it is 0 all is handed out, the room too, and an empty set of length 0 stays. Both take no
-    /// memory, and constant time. Fails only between them where memory is refused; then nothing changed.
+    /// Where `at` is at or past the length nothing changes, and an empty set of length 0 is returned. Where it is
+    /// 0 all is returned, the capacity too, and an empty set of length 0 stays. Both take no memory, and constant
+    /// time. Fails only between them where memory is refused; then nothing changed.
     ///
     /// ```
     /// // The set is {1, 2, 3, 6}.
@@ -68,16 +69,18 @@ impl<B: BitBlock> BitSet<B> {
         ensures length { OnOk result (length self.new.values ≡ min (length self.old.values) at) }
         ensures part { IfOk result (λ part. elements part.values ≡ those_from (elements self.old.values) at) }
         ensures part_members { IfOk result (λ part. KeepsFrom (elements self.old.values) (elements part.values) at) }
-        ensures part_length { IfOk result (λ part. length part.values ≡ (if nat_lt at (length self.old.values) then length self.old.values else 0)) }
+        ensures part_length { IfOk result (λ part. length part.values
+            ≡ (if nat_lt at (length self.old.values) then length self.old.values else 0)) }
         ensures whole { at ≡ 0 → IfOk result (λ part. part ≡ self.old) }
         ensures err { OnErr result (self.new ≡ self.old) }
         ensures inside { OnErr result ((0 < at) × (at < length self.old.values)) }
         ensures start { at ≡ 0 → IsOk result }
         ensures end { length self.old.values ≤ at → IsOk result }
-        ensures room { 0 < at → self.new.room ≡ self.old.room }
-        ensures given { at ≡ 0 → self.new.room ≡ 0 }
-        ensures exact { 0 < at → at < length self.old.values → IfOk result (λ part. part.room ≡ room_of B.width (blocks_for B.width (length self.old.values))) }
-        ensures nothing { 0 < at → length self.old.values ≤ at → IfOk result (λ part. part.room ≡ 0) }
+        ensures capacity { 0 < at → self.new.capacity ≡ self.old.capacity }
+        ensures given { at ≡ 0 → self.new.capacity ≡ 0 }
+        ensures exact { 0 < at → at < length self.old.values
+            → IfOk result (λ part. part.capacity ≡ capacity_of B.width (blocks_for B.width (length self.old.values))) }
+        ensures nothing { 0 < at → length self.old.values ≤ at → IfOk result (λ part. part.capacity ≡ 0) }
         ensures changes { Changes (Change.SplitOff at) self.old.values (finished result) self.new.values }
     {
         if at == 0 {

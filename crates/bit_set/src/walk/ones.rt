@@ -1,36 +1,43 @@
-// The one walk over the ones of blocks, on which all others stand.
+// The one walk over the ones of blocks, on which all others are built.
 ghost use Rattle.std.specs.Prelude.{◌≡◌, ◌+◌, ◌-◌, ◌<◌, ◌^◌, IfSome, Some, length};
 ghost use Rattle.std.specs.Iterator.{UpTo, item_count};
 ghost use Rattle.bit_set.specs.Sets.{elements};
 ghost use Rattle.bit_set.specs.Places.{IsWalkable};
 ghost use Rattle.bit_set.specs.Walk.{AdvancesByEach, GoesOn, bound_on_rest};
 
-use super::source::BlockSource;
+use super::block_source::BlockSource;
 use crate::BitBlock;
 use crate::bit_vec::take_lowest_one;
 use std::marker::Model;
 
-// The places of the ones of the blocks of a source, in ascending order.
+// The indexes of the ones of the blocks of a source, in ascending order.
 #[derive(Drop)]
 pub(crate) struct Ones<S: BlockSource<B>, B: BitBlock> {
     source: S,
     // What is left of the block in hand.
     block: B,
-    // The place of its lowest digit.
-    place: usize,
+    // The index of its lowest bit.
+    index: usize,
     // Whether blocks are taken to have few ones, as the first one does. It changes no result.
     sparse: bool,
 }
 
 impl<S: BlockSource<B>, B: BitBlock> Model for Ones<S, B> {
     ghost use Rattle.bit_set.specs.Walk.{TwoSetWalk};
-    ghost use Rattle.bit_set.specs.Places.{places, IsWalk};
+    ghost use Rattle.bit_set.specs.Places.{indexes, IsWalk};
 
     ghost Value = { TwoSetWalk };
 
-    ghost view = { λ it. let ahead = S.ahead it.source in record { left = places B.width it.place (B.number it.block) ahead.values; pulls = ahead.pulls; place = it.place; blocks = ahead.blocks } };
+    ghost view = { λ it. let ahead = S.ahead it.source in
+        record {
+          left = indexes B.width it.index (B.number it.block) ahead.values;
+          pulls = ahead.pulls;
+          index = it.index;
+          blocks = ahead.blocks;
+        } };
 
-    ghost invariant = { λ it. IsWalk (B.is_block it.block) (S.is_sound it.source) B.width it.place (B.number it.block) (S.ahead it.source) };
+    ghost invariant = { λ it. IsWalk (B.is_block it.block) (S.is_sound it.source) B.width it.index (B.number it.block)
+        (S.ahead it.source) };
 }
 
 impl<S: BlockSource<B>, B: BitBlock> Ones<S, B> {
@@ -41,7 +48,7 @@ impl<S: BlockSource<B>, B: BitBlock> Ones<S, B> {
         requires can { IsWalkable B.width (S.ahead source) }
         ensures left { result.left ≡ elements (S.ahead source).values }
         ensures pulls { result.pulls ≡ (S.ahead source).pulls + 1 }
-        ensures place { result.place ≡ 0 }
+        ensures index { result.index ≡ 0 }
         ensures blocks { result.blocks ≡ (S.ahead source).blocks - 1 }
         ensures fits { length result.left < 2 ^ 64 }
     {
@@ -51,12 +58,12 @@ impl<S: BlockSource<B>, B: BitBlock> Ones<S, B> {
         Ones {
             source,
             block,
-            place: 0,
+            index: 0,
             sparse: first.1,
         }
     }
 
-    // The place of the next one.
+    // The index of the next one.
     #[inline(always)]
     pub(crate) fn next(&mut self) -> Option<usize>
         ensures { AdvancesByEach B.width self.old result self.new }
@@ -66,9 +73,9 @@ impl<S: BlockSource<B>, B: BitBlock> Ones<S, B> {
         }
         while self.block == B::zero() {
             self.block = self.source.pull()?;
-            self.place += B::bits();
+            self.index += B::bits();
         }
-        Some(self.place + take_lowest_one(&mut self.block))
+        Some(self.index + take_lowest_one(&mut self.block))
     }
 
     // Goes on to the next block where the one in hand is used up and the source has it without a branch. How many ones
@@ -80,7 +87,7 @@ impl<S: BlockSource<B>, B: BitBlock> Ones<S, B> {
         let used_up = self.block == B::zero();
         if let Some(next) = self.source.pull_if(used_up) {
             self.block = if used_up { next } else { self.block };
-            self.place += usize::from(used_up) * B::bits();
+            self.index += usize::from(used_up) * B::bits();
         }
     }
 
@@ -110,7 +117,7 @@ impl<S: BlockSource<B>, B: BitBlock> Ones<S, B> {
         Ones {
             source: self.source.copy(),
             block: self.block,
-            place: self.place,
+            index: self.index,
             sparse: self.sparse,
         }
     }

@@ -3,11 +3,11 @@ ghost use Rattle.std.specs.Prelude.{◌≡◌, IfSome, length};
 ghost use Rattle.std.specs.Iterator.{UpTo, item_count};
 ghost use Rattle.std.specs.Iterator.Runs.{YieldsInOrder};
 ghost use Rattle.std.specs.Iterator.SizeHint.{IsWithinCount};
-ghost use Rattle.bit_set.specs.Sets.{elements, merged_sets, union, difference, symmetric_difference};
+ghost use Rattle.bit_set.specs.Sets.{elements, merge_of_sets, union, difference, symmetric_difference};
 ghost use Rattle.bit_set.specs.Walk.{AdvancesByEach, StartsOverTwo, bound_on_rest};
 
+use super::merged_blocks::{Pairs, ones_of_two};
 use super::ones::Ones;
-use super::pairs::{Pairs, ones_of_two};
 use crate::bit_vec::operation::{self, Operation};
 use crate::{BitBlock, BitSet};
 use std::marker::Model;
@@ -39,7 +39,7 @@ impl<'a, B: BitBlock, O: Operation> TwoSets<'a, B, O> {
     // The walk over what two sets become.
     #[inline]
     pub(crate) fn over(first: &'a BitSet<B>, second: &'a BitSet<B>) -> Self
-        ensures left { result.left ≡ merged_sets O.merge (elements first.now.values) (elements second.now.values) }
+        ensures left { result.left ≡ merge_of_sets O.merge (elements first.now.values) (elements second.now.values) }
         ensures start { StartsOverTwo B.width first.now.values second.now.values result }
     {
         TwoSets {

@@ -127,8 +127,8 @@ fn parts_have_their_lengths(rt: HostRuntime) -> Result<(), Fail> {
     Ok(())
 }
 
-// The lengths of a set after each of the commands, and how many numbers it has room for.
-fn rooms(alloc: Global, commands: &[Command], a: SetName) -> Result<String, Fail> {
+// The lengths of a set after each of the commands, and how many numbers it has capacity for.
+fn capacities_of_two(alloc: Global, commands: &[Command], a: SetName) -> Result<String, Fail> {
     let mut table: Table<u32> = Table::new(alloc);
     let mut replies = Vec::new(alloc);
     let mut text = String::new(alloc);
@@ -142,7 +142,7 @@ fn rooms(alloc: Global, commands: &[Command], a: SetName) -> Result<String, Fail
 
 // What is asked for exactly is a whole number of blocks.
 #[test]
-fn sets_have_their_room(rt: HostRuntime) -> Result<(), Fail> {
+fn sets_have_their_capacity(rt: HostRuntime) -> Result<(), Fail> {
     let a = name(b'a')?;
     let commands = [
         Command::Count(a),
@@ -153,7 +153,7 @@ fn sets_have_their_room(rt: HostRuntime) -> Result<(), Fail> {
         Command::Remove(a, 3),
         Command::Shrink(a),
     ];
-    let text = rooms(rt.alloc(), &commands, a)?;
+    let text = capacities_of_two(rt.alloc(), &commands, a)?;
     assert_eq!(rt;
         text.as_str(),
         "0 0, 0 128, 4 128, 4 128, 32 32, 32 32, 0 0, "
@@ -161,7 +161,7 @@ fn sets_have_their_room(rt: HostRuntime) -> Result<(), Fail> {
     Ok(())
 }
 
-// How many numbers two sets have room for after each of the commands.
+// How many numbers two sets have capacity for after each of the commands.
 fn capacities(alloc: Global, commands: &[Command], a: SetName, b: SetName) -> Result<String, Fail> {
     let mut table: Table<u32> = Table::new(alloc);
     let mut replies = Vec::new(alloc);
@@ -273,9 +273,9 @@ fn parts_have_their_capacity(rt: HostRuntime) -> Result<(), Fail> {
     Ok(())
 }
 
-// A set has what it had where room is refused, and the replies end there.
+// A set has what it had where capacity is refused, and the replies end there.
 #[test]
-fn keeps_a_set_whose_room_is_refused(rt: HostRuntime) -> Result<(), Fail> {
+fn keeps_a_set_whose_capacity_is_refused(rt: HostRuntime) -> Result<(), Fail> {
     let a = name(b'a')?;
     let commands = [
         Command::Insert(a, 5),

@@ -105,10 +105,14 @@ fn an_intersection_lowers_its_bound_at_its_end(rt: HostRuntime) -> Result<(), Fa
 // Sets of lengths 501 and 201 over `u32` have 16 blocks and 7: a whole walk over what is in the first
 // alone makes 17 pulls. One over what is in either of two sets of a block at most makes two.
 fn pulls_over_two_sets()
-    ensures wide { (a b : List Bool) (s t : TwoSetWalk) (items : List ℕ) → length a ≡ 501 → length b ≡ 201 → s.left ≡ difference (elements a) (elements b)
-        → StartsOverTwo 32 a b s → YieldsThen ⟦<Difference<'static, u32> as Iterator>⟧.next_gives s items None t → t.pulls ≡ 17 }
-    ensures narrow { (a b : List Bool) (s t : TwoSetWalk) (items : List ℕ) → length a ≤ 32 → length b ≤ 32 → s.left ≡ union (elements a) (elements b)
-        → StartsOverTwo 32 a b s → YieldsThen ⟦<Union<'static, u32> as Iterator>⟧.next_gives s items None t → t.pulls ≡ 2 }
+    ensures wide { (a b : List Bool) (s t : TwoSetWalk) (items : List ℕ) → length a ≡ 501 → length b ≡ 201
+        → s.left ≡ difference (elements a) (elements b)
+        → StartsOverTwo 32 a b s → YieldsThen ⟦<Difference<'static, u32> as Iterator>⟧.next_gives s items None t
+        → t.pulls ≡ 17 }
+    ensures narrow { (a b : List Bool) (s t : TwoSetWalk) (items : List ℕ) → length a ≤ 32 → length b ≤ 32
+        → s.left ≡ union (elements a) (elements b)
+        → StartsOverTwo 32 a b s → YieldsThen ⟦<Union<'static, u32> as Iterator>⟧.next_gives s items None t
+        → t.pulls ≡ 2 }
 {
     whole_walks_over_two_sets::<u32>();
 }

@@ -1,10 +1,12 @@
+// The walk over all blocks of a bit vector.
 ghost use Rattle.std.specs.Prelude.{◌≡◌, ℕ, ◌+◌, ◌<◌, ◌≤◌, All, IfSome, Some, drop, get_or, length, map};
 ghost use Rattle.std.specs.Iterator.{UpTo, item_count};
 ghost use Rattle.std.specs.Iterator.SizeHint.{IsWithinCount};
 ghost use Rattle.bit_words.specs.Source.{PullsIf};
 
-use super::zeros::zeros_before;
-use super::{BitBlock, Steps};
+use crate::block::BitBlock;
+use crate::packed::zeros::zeros_before;
+use crate::steps::Steps;
 use std::marker::Model;
 
 /// A walk over the blocks of a bit vector, from the first to the last.
@@ -44,7 +46,7 @@ impl<'a, B: BitBlock> Blocks<'a, B> {
         }
     }
 
-    /// The blocks that are left, in a row. Constant time.
+    /// The blocks that are left, as a slice. Constant time.
     #[inline]
     pub fn as_slice(&self) -> &'a [B]
         ensures { result.now ≡ self.now.left }
@@ -71,7 +73,7 @@ impl<'a, B: BitBlock> Blocks<'a, B> {
         Some(if wanted { block } else { B::zero() })
     }
 
-    // Pulls the blocks before the first that is not 0. The answer is how many they are.
+    // Pulls the blocks before the first that is not 0. Returns how many they are.
     #[inline]
     pub(crate) fn pass_zeros(&mut self) -> usize
         requires each { All B.is_block self.old.left }
@@ -82,7 +84,7 @@ impl<'a, B: BitBlock> Blocks<'a, B> {
         ensures pulls { self.new.pulls ≡ self.old.pulls + result }
     {
         let zeros = zeros_before(self.as_slice());
-        self.steps.pass(zeros);
+        self.steps.tick_by(zeros);
         self.at += zeros;
         zeros
     }

@@ -1,98 +1,46 @@
-// Whether the blocks of two bit vectors merge to zeros.
-ghost use Rattle.std.specs.Prelude.{◌≡◌, ◌≢◌, ℕ, ◌+◌, ◌/◌, ◌<◌, ◌≤◌, ◌↔◌, All, IsTrue, length, map, get_or, min};
-ghost use Rattle.bit_words.specs.declared.bit_vec.merge.Merge.{Merge};
-ghost use Rattle.bit_words.specs.BlockMerges.{IsFirstMerged, MergesToFalse, MergesToZero};
+// Calls that say how the true values of two lists lie to each other.
+ghost use Rattle.std.specs.Prelude.{◌≡◌, ◌≢◌, ℕ, ◌+◌, ◌/◌, ◌≤◌, ◌↔◌, IsTrue, Some, length, min, slice_get, true};
+ghost use Rattle.bit_words.specs.Bits.{IsFirstTrue, blocks_for};
+ghost use Rattle.bit_words.specs.Merges.{merge_of};
+ghost use Rattle.bit_words.specs.declared.block.merge.Merge.{Merge};
 
-use super::changes::block_at;
-use super::operation::{Difference, Intersection, Operation};
-use super::words::same;
-use super::{BitBlock, Steps};
+use crate::bit_vec::BitVec;
+use crate::block::BitBlock;
+use crate::packed::inclusion::{difference_is_zero, intersection_is_zero};
+use crate::steps::Steps;
 
-// Whether the first `count` blocks merge to zeros. Stops at the first that does not.
-fn first_merge_to_zero<B: BitBlock, O: Operation>(
-    blocks: &[B],
-    others: &[B],
-    count: usize,
-    steps: &mut Steps,
-) -> bool
-    requires within { count ≤ length blocks.now }
-    requires within_others { count ≤ length others.now }
-    requires each { All B.is_block blocks.now }
-    requires others { All B.is_block others.now }
-    ensures zero { IsTrue result
-        ↔ MergesToZero O.merge B.width (map B.number blocks.now) (map B.number others.now) count }
-    ensures stops { (i : ℕ) → IsFirstMerged O.merge B.width (map B.number blocks.now) (map B.number others.now) i
-        → i / B.width < count → steps.new ≡ steps.old + i / B.width + 1 }
-    ensures fewest { steps.old ≤ steps.new }
-    ensures most { steps.new ≤ steps.old + count }
-    ensures all { IsTrue result → steps.new ≡ steps.old + count }
-{
-    for k in 0..count {
-        steps.tick();
-        let merged = O::of_blocks(block_at(blocks, k), block_at(others, k));
-        if !same(merged, B::zero()) {
-            return false;
-        }
+impl<B: BitBlock> BitVec<B> {
+    /// Whether `other` is true wherever this list is, whichever of them is longer. One step for each of
+    /// its own blocks that is read, once at most; stops at the block of the first true value that `other`
+    /// lacks.
+    pub fn is_subset_of(&self, other: &Self, steps: &mut Steps) -> bool
+        ensures subset { IsTrue result
+            ↔ ((i : ℕ) → slice_get self.now.values i ≡ Some true → slice_get other.now.values i ≡ Some true) }
+        ensures stops { (i : ℕ) → IsFirstTrue (merge_of Merge.Difference self.now.values other.now.values) i
+            → steps.new ≡ steps.old + i / B.width + 1 }
+        ensures fewest { steps.old ≤ steps.new }
+        ensures most { steps.new ≤ steps.old + blocks_for B.width (length self.now.values) }
+        ensures all { IsTrue result → steps.new ≡ steps.old + blocks_for B.width (length self.now.values) }
+    {
+        difference_is_zero(&self.blocks, &other.blocks, steps)
     }
-    true
-}
 
-// Whether the blocks from `start` on are zeros. Stops at the first that is not.
-fn rest_is_zero<B: BitBlock>(blocks: &[B], start: usize, steps: &mut Steps) -> bool
-    requires within { start ≤ length blocks.now }
-    requires each { All B.is_block blocks.now }
-    ensures zero { IsTrue result ↔ ((k : ℕ) → start ≤ k → get_or (map B.number blocks.now) k 0 ≡ 0) }
-    ensures stops { (k : ℕ) → start ≤ k → get_or (map B.number blocks.now) k 0 ≢ 0
-        → ((q : ℕ) → start ≤ q → q < k → get_or (map B.number blocks.now) q 0 ≡ 0)
-        → steps.new + start ≡ steps.old + k + 1 }
-    ensures fewest { steps.old ≤ steps.new }
-    ensures most { steps.new + start ≤ steps.old + length blocks.now }
-    ensures all { IsTrue result → steps.new + start ≡ steps.old + length blocks.now }
-{
-    for k in start..blocks.len() {
-        steps.tick();
-        if !same(block_at(blocks, k), B::zero()) {
-            return false;
-        }
+    /// Whether no index is true in both lists. One step for each block that is read, of those that both
+    /// have; stops at the block of the first index that is true in both.
+    pub fn is_disjoint_from(&self, other: &Self, steps: &mut Steps) -> bool
+        ensures disjoint { IsTrue result
+            ↔ ((i : ℕ) → slice_get self.now.values i ≡ Some true → slice_get other.now.values i ≢ Some true) }
+        ensures stops { (i : ℕ) → IsFirstTrue (merge_of Merge.Intersection self.now.values other.now.values) i
+            → steps.new ≡ steps.old + i / B.width + 1 }
+        ensures fewest { steps.old ≤ steps.new }
+        ensures most { steps.new
+            ≤ steps.old
+            + min (blocks_for B.width (length self.now.values)) (blocks_for B.width (length other.now.values)) }
+        ensures all { IsTrue result
+            → steps.new
+            ≡ steps.old
+            + min (blocks_for B.width (length self.now.values)) (blocks_for B.width (length other.now.values)) }
+    {
+        intersection_is_zero(&self.blocks, &other.blocks, steps)
     }
-    true
-}
-
-// Whether each 1 of the blocks is one of the others.
-pub(crate) fn difference_is_zero<B: BitBlock>(blocks: &[B], others: &[B], steps: &mut Steps) -> bool
-    requires each { All B.is_block blocks.now }
-    requires others { All B.is_block others.now }
-    ensures zero { IsTrue result
-        ↔ MergesToFalse Merge.Difference B.width (map B.number blocks.now) (map B.number others.now) }
-    ensures stops { (i : ℕ)
-        → IsFirstMerged Merge.Difference B.width (map B.number blocks.now) (map B.number others.now) i
-        → steps.new ≡ steps.old + i / B.width + 1 }
-    ensures fewest { steps.old ≤ steps.new }
-    ensures most { steps.new ≤ steps.old + length blocks.now }
-    ensures all { IsTrue result → steps.new ≡ steps.old + length blocks.now }
-{
-    let count = blocks.len().min(others.len());
-    first_merge_to_zero::<B, Difference>(blocks, others, count, steps)
-        && rest_is_zero(blocks, count, steps)
-}
-
-// Whether no 1 of the blocks is one of the others.
-pub(crate) fn intersection_is_zero<B: BitBlock>(
-    blocks: &[B],
-    others: &[B],
-    steps: &mut Steps,
-) -> bool
-    requires each { All B.is_block blocks.now }
-    requires others { All B.is_block others.now }
-    ensures zero { IsTrue result
-        ↔ MergesToFalse Merge.Intersection B.width (map B.number blocks.now) (map B.number others.now) }
-    ensures stops { (i : ℕ)
-        → IsFirstMerged Merge.Intersection B.width (map B.number blocks.now) (map B.number others.now) i
-        → steps.new ≡ steps.old + i / B.width + 1 }
-    ensures fewest { steps.old ≤ steps.new }
-    ensures most { steps.new ≤ steps.old + min (length blocks.now) (length others.now) }
-    ensures all { IsTrue result → steps.new ≡ steps.old + min (length blocks.now) (length others.now) }
-{
-    let count = blocks.len().min(others.len());
-    first_merge_to_zero::<B, Intersection>(blocks, others, count, steps)
 }

@@ -1,105 +1,30 @@
-// Merges of the blocks of two lists, each told by the digits of every block.
-ghost use Rattle.std.specs.Prelude.{◌≡◌, ◌+◌, ◌<◌, ◌≤◌, [], All, get_or, length, map, vec_len, vec_capacity};
-ghost use Rattle.bit_words.specs.BlockMerges.{IsMergedBetween};
+// Calls that merge a second list into the list.
+ghost use Rattle.std.specs.Prelude.{◌≡◌, ◌+◌, ◌≤◌, length};
+ghost use Rattle.bit_words.specs.Bits.{blocks_for};
+ghost use Rattle.bit_words.specs.Merges.{merge_of};
 
-use super::changes::{block_at, put_block};
-use super::operation::Operation;
-use super::{BitBlock, Steps};
+use crate::bit_vec::BitVec;
+use crate::block::BitBlock;
+use crate::block::merge::Merge;
+use crate::steps::Steps;
+use crate::summary::merges::merge_stored;
 
-// Block `k` becomes its merge with the other of its place, and is the answer.
-#[inline]
-pub(crate) fn merge_block<B: BitBlock, O: Operation>(
-    blocks: &mut Vec<B>,
-    others: &[B],
-    k: usize,
-    steps: &mut Steps,
-) -> B
-    requires in_bounds { k < vec_len blocks.old }
-    requires in_others { k < length others.now }
-    requires each { All B.is_block blocks.old.items }
-    requires others { All B.is_block others.now }
-    ensures merged { IsMergedBetween O.merge B.width k (k + 1) (map B.number blocks.old.items) (map B.number others.now)
-        (map B.number blocks.new.items) }
-    ensures of_block { B.is_block result }
-    ensures of_number { B.number result ≡ get_or (map B.number blocks.new.items) k 0 }
-    ensures each { All B.is_block blocks.new.items }
-    ensures len { vec_len blocks.new ≡ vec_len blocks.old }
-    ensures capacity { vec_capacity blocks.new ≡ vec_capacity blocks.old }
-    ensures steps { steps.new ≡ steps.old + 1 }
-{
-    steps.tick();
-    let merged = O::of_blocks(block_at(blocks, k), block_at(others, k));
-    put_block(blocks, k, merged);
-    merged
-}
-
-// Each of the blocks from `start` on, as far as there are others, becomes its merge with the other of
-// its place.
-fn merge_first<B: BitBlock, O: Operation>(
-    blocks: &mut Vec<B>,
-    others: &[B],
-    start: usize,
-    steps: &mut Steps,
-)
-    requires fewer { length others.now ≤ vec_len blocks.old }
-    requires from { start ≤ length others.now }
-    requires each { All B.is_block blocks.old.items }
-    requires others { All B.is_block others.now }
-    ensures merged { IsMergedBetween O.merge B.width start (length others.now) (map B.number blocks.old.items)
-        (map B.number others.now) (map B.number blocks.new.items) }
-    ensures each { All B.is_block blocks.new.items }
-    ensures len { vec_len blocks.new ≡ vec_len blocks.old }
-    ensures capacity { vec_capacity blocks.new ≡ vec_capacity blocks.old }
-    ensures steps { steps.new + start ≡ steps.old + length others.now }
-{
-    for k in start..others.len() {
-        let _merged = merge_block::<B, O>(blocks, others, k, steps);
+impl<B: BitBlock> BitVec<B> {
+    /// Each value becomes its merge with that of `other`, which is false past its end. The other must
+    /// not be longer. Writes each block once, one step a block, and takes no memory.
+    pub fn merge_blocks(&mut self, other: &Self, merge: Merge, steps: &mut Steps)
+        requires { length other.now.values ≤ length self.old.values }
+        ensures values { self.new.values ≡ merge_of merge self.old.values other.now.values }
+        ensures capacity { self.new.capacity ≡ self.old.capacity }
+        ensures steps { steps.new ≡ steps.old + blocks_for B.width (length self.old.values) }
+    {
+        merge_stored(
+            &mut self.blocks,
+            &mut self.summary,
+            &other.blocks,
+            &other.summary,
+            merge,
+            steps,
+        );
     }
-}
-
-// Each of the blocks from `start` on becomes its merge with a block of zeros, and those before them stay.
-// Only an intersection changes them: otherwise the compiler takes out the loop.
-pub(crate) fn merge_rest<B: BitBlock, O: Operation>(
-    blocks: &mut Vec<B>,
-    start: usize,
-    steps: &mut Steps,
-)
-    requires within { start ≤ vec_len blocks.old }
-    requires each { All B.is_block blocks.old.items }
-    ensures merged { IsMergedBetween O.merge B.width start (vec_len blocks.old) (map B.number blocks.old.items) []
-        (map B.number blocks.new.items) }
-    ensures each { All B.is_block blocks.new.items }
-    ensures len { vec_len blocks.new ≡ vec_len blocks.old }
-    ensures capacity { vec_capacity blocks.new ≡ vec_capacity blocks.old }
-    ensures steps { steps.new + start ≡ steps.old + vec_len blocks.old }
-{
-    let zero = B::zero();
-    for k in start..blocks.len() {
-        steps.tick();
-        let merged = O::of_blocks(block_at(blocks, k), zero);
-        put_block(blocks, k, merged);
-    }
-}
-
-// Each of the blocks from `start` on becomes its merge with the other of its place, or with zeros where
-// there is none.
-pub(crate) fn merge_each<B: BitBlock, O: Operation>(
-    blocks: &mut Vec<B>,
-    others: &[B],
-    start: usize,
-    steps: &mut Steps,
-)
-    requires fewer { length others.now ≤ vec_len blocks.old }
-    requires from { start ≤ length others.now }
-    requires each { All B.is_block blocks.old.items }
-    requires others { All B.is_block others.now }
-    ensures merged { IsMergedBetween O.merge B.width start (vec_len blocks.old) (map B.number blocks.old.items)
-        (map B.number others.now) (map B.number blocks.new.items) }
-    ensures each { All B.is_block blocks.new.items }
-    ensures len { vec_len blocks.new ≡ vec_len blocks.old }
-    ensures capacity { vec_capacity blocks.new ≡ vec_capacity blocks.old }
-    ensures steps { steps.new + start ≡ steps.old + vec_len blocks.old }
-{
-    merge_first::<B, O>(blocks, others, start, steps);
-    merge_rest::<B, O>(blocks, others.len(), steps);
 }

@@ -1,16 +1,20 @@
+// The walk over the blocks of a bit vector that are not 0, by its summary.
 ghost use Rattle.std.specs.Prelude.{◌≡◌, ◌-◌, ◌/◌, ◌<◌, ◌^◌, min, All, Some, drop, length, slice_get};
 ghost use Rattle.std.specs.Iterator.{item_count};
 ghost use Rattle.bit_words.specs.Bits.{blocks_for};
 ghost use Rattle.bit_words.specs.Digits.{IsEither};
 ghost use Rattle.bit_words.specs.Nonzero.{block_and_nonzero, first_and_nonzero, ones_left};
-ghost use Rattle.bit_words.specs.Marks.{IsMarkedFrom};
+ghost use Rattle.bit_words.specs.Pending.{IsMarkedFrom};
 ghost use Rattle.bit_words.specs.Summary.{IsSummary};
 
-use super::counting::{first_blocks, ones_by_summary, ones_of};
-use super::lowest::take_lowest_one;
-use super::masks::{cut_below, with_digit};
-use super::words::block_or;
-use super::{BitBlock, Blocks, Steps};
+use crate::bit_vec::Blocks;
+use crate::block::BitBlock;
+use crate::block::lowest::take_lowest_one;
+use crate::block::masks::{cut_below, with_bit};
+use crate::block::operators::block_or;
+use crate::packed::ones::ones_of;
+use crate::steps::Steps;
+use crate::summary::queries::{first_blocks, ones_by_summary};
 use std::marker::Model;
 
 /// A walk over the blocks of a bit vector that are not zero, each with its index, in ascending order. The
@@ -24,28 +28,28 @@ pub struct Nonzero<'a, B: BitBlock> {
     blocks: &'a [B],
     summary: Blocks<'a, B>,
     // What is left of the summary's block in hand.
-    marks: B,
-    // The index of the block that its lowest digit stands for.
-    place: usize,
+    pending: B,
+    // The index of the block that its lowest bit is about.
+    index: usize,
     steps: Steps,
 }
 
 impl<'a, B: BitBlock> Model for Nonzero<'a, B> {
     ghost use Rattle.std.specs.Prelude.{length, map};
     ghost use Rattle.bit_words.specs.Nonzero.{Nonzeros};
-    ghost use Rattle.bit_words.specs.Marks.{IsMarked, marked_from};
+    ghost use Rattle.bit_words.specs.Pending.{IsPending, pending_from};
 
     ghost Value = { Nonzeros B };
 
     ghost view = { λ it. record {
       blocks = it.blocks.now;
-      left = marked_from B.width B.number it.place (B.number it.marks) it.blocks.now;
+      left = pending_from B.width B.number it.index (B.number it.pending) it.blocks.now;
       pulls = it.steps;
       summary_pulls = it.summary.pulls;
       summary_left = length it.summary.left;
     } };
 
-    ghost invariant = { λ it. IsMarked B.width B.number B.is_block it.place it.marks it.blocks.now it.summary.left };
+    ghost invariant = { λ it. IsPending B.width B.number B.is_block it.index it.pending it.blocks.now it.summary.left };
 }
 
 impl<'a, B: BitBlock> Nonzero<'a, B> {
@@ -67,15 +71,15 @@ impl<'a, B: BitBlock> Nonzero<'a, B> {
         } else {
             rest.next()
         };
-        let marks = match first {
-            Some(first) => with_first_marked(first),
+        let pending = match first {
+            Some(first) => with_first_pending(first),
             None => B::zero(),
         };
         Nonzero {
             blocks,
             summary: rest,
-            marks,
-            place: 0,
+            pending,
+            index: 0,
             steps: Steps::new(),
         }
     }
@@ -93,22 +97,22 @@ impl<'a, B: BitBlock> Nonzero<'a, B> {
         ensures summary_pulls { result.summary_pulls ≡ 1 }
         ensures summary_left { result.summary_left ≡ length summary.now - 1 - from / B.width }
     {
-        let row = from / B::bits();
-        let mut rest = Blocks::over(summary.split_at(row).1);
-        let marks = match rest.next() {
-            Some(row_marks) => with_marks_from(row_marks, from % B::bits()),
+        let chunk = from / B::bits();
+        let mut rest = Blocks::over(summary.split_at(chunk).1);
+        let pending = match rest.next() {
+            Some(chunk_pending) => with_pending_from(chunk_pending, from % B::bits()),
             None => B::zero(),
         };
         Nonzero {
             blocks,
             summary: rest,
-            marks,
-            place: row * B::bits(),
+            pending,
+            index: chunk * B::bits(),
             steps: Steps::new(),
         }
     }
 
-    /// All the blocks that it goes over, in a row. Constant time.
+    /// All the blocks that it goes over, as a slice. Constant time.
     #[inline]
     pub fn as_slice(&self) -> &'a [B]
         ensures { result.now ≡ self.now.blocks }
@@ -124,8 +128,8 @@ impl<'a, B: BitBlock> Nonzero<'a, B> {
         Nonzero {
             blocks: self.blocks,
             summary: self.summary.clone(),
-            marks: self.marks,
-            place: self.place,
+            pending: self.pending,
+            index: self.index,
             steps: self.steps.clone(),
         }
     }
@@ -136,14 +140,14 @@ impl<'a, B: BitBlock> Nonzero<'a, B> {
         requires fits { ones_left B.number self.left < 2 ^ 64 }
         ensures { result ≡ ones_left B.number self.entry.left }
     {
-        let (row, rest) = first_blocks(self.blocks.split_at(self.place).1);
+        let (chunk, rest) = first_blocks(self.blocks.split_at(self.index).1);
         let ones = ones_by_summary(rest, self.summary.as_slice());
-        let mut marks = self.marks;
-        if marks == B::zero() {
+        let mut pending = self.pending;
+        if pending == B::zero() {
             return ones;
         }
-        // From its lowest digit on the block in hand tells of each block that is not zero.
-        ones + ones_of(row.split_at(take_lowest_one(&mut marks)).1)
+        // From its lowest bit on the block in hand says of each block whether it is zero.
+        ones + ones_of(chunk.split_at(take_lowest_one(&mut pending)).1)
     }
 }
 
@@ -160,37 +164,37 @@ impl<'a, B: BitBlock> Iterator for Nonzero<'a, B> {
     #[inline]
     fn next(&mut self) -> Option<(usize, B)> {
         self.steps.tick();
-        while self.marks == B::zero() {
-            // `place` goes with the block of the summary in hand: on by those that are passed over, and by one more
-            // only where one is pulled. At the end there is none, and `place` must not leave the blocks.
-            self.place += self.summary.pass_zeros() * B::bits();
-            self.marks = self.summary.next()?;
-            self.place += B::bits();
+        while self.pending == B::zero() {
+            // `index` goes with the block of the summary in hand: on by those that are passed over, and by one more
+            // only where one is pulled. At the end there is none, and `index` must not leave the blocks.
+            self.index += self.summary.pass_zeros() * B::bits();
+            self.pending = self.summary.next()?;
+            self.index += B::bits();
         }
-        let k = self.place + take_lowest_one(&mut self.marks);
+        let k = self.index + take_lowest_one(&mut self.pending);
         Some((k, at(self.blocks, k)))
     }
 }
 
-// The marks of a row of blocks, and that of the first in any case.
+// The pending bits of a block of the summary, and that of the first block in any case.
 #[inline]
-fn with_first_marked<B: BitBlock>(marks: B) -> B
-    requires { B.is_block marks }
+fn with_first_pending<B: BitBlock>(pending: B) -> B
+    requires { B.is_block pending }
     ensures of_block { B.is_block result }
-    ensures of_digits { IsEither B.width (B.number marks) 1 (B.number result) }
+    ensures of_digits { IsEither B.width (B.number pending) 1 (B.number result) }
 {
-    block_or(marks, B::one())
+    block_or(pending, B::one())
 }
 
-// The marks of a row of blocks past the one at `place`, and that of this one in any case.
+// The marks of a slice of blocks past the one at `index`, and that of this one in any case.
 #[inline]
-fn with_marks_from<B: BitBlock>(marks: B, place: usize) -> B
-    requires of_block { B.is_block marks }
-    requires within { place < B.width }
+fn with_pending_from<B: BitBlock>(pending: B, index: usize) -> B
+    requires of_block { B.is_block pending }
+    requires within { index < B.width }
     ensures of_block { B.is_block result }
-    ensures marked { IsMarkedFrom B.width place (B.number marks) (B.number result) }
+    ensures pending { IsMarkedFrom B.width index (B.number pending) (B.number result) }
 {
-    with_digit(cut_below(marks, place), place, true)
+    with_bit(cut_below(pending, index), index, true)
 }
 
 #[inline]

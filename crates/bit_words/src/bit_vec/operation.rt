@@ -1,10 +1,11 @@
 //! The four merges, each by a type.
 ghost use Rattle.std.specs.Prelude.{◌≡◌, ℕ, ◌<◌, ◌==◌};
 ghost use Rattle.std.specs.Int.{bit_at};
-ghost use Rattle.bit_words.specs.Merges.{merged_value};
-ghost use Rattle.bit_words.specs.declared.bit_vec.merge.Merge.{Merge};
+ghost use Rattle.bit_words.specs.Merges.{merge_of_values};
+ghost use Rattle.bit_words.specs.declared.block.merge.Merge.{Merge};
 
-use super::{BitBlock, Merge};
+use crate::block::BitBlock;
+use crate::block::merge::Merge;
 
 /// A [`Merge`] by a type. Generic code is then built once for each, with no choice inside.
 pub trait Operation {
@@ -17,7 +18,7 @@ pub trait Operation {
         ensures of_block { B.is_block result }
         ensures digits { (i : ℕ) → i < B.width
             → (bit_at (B.number result) i == 1)
-            ≡ merged_value merge (bit_at (B.number a) i == 1) (bit_at (B.number b) i == 1) };
+            ≡ merge_of_values merge (bit_at (B.number a) i == 1) (bit_at (B.number b) i == 1) };
 }
 
 /// [`Merge::Union`].

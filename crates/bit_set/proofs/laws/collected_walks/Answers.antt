@@ -1,4 +1,4 @@
-use Rattle.bit_words.specs.declared.bit_vec.merge.Merge.TheVariants.{Union, Intersection, Difference, Symmetric}
+use Rattle.bit_words.specs.declared.block.merge.Merge.TheVariants.{Union, Intersection, Difference, Symmetric}
 use Rattle.bit_set.proofs.CollectLemmas.{put_all-items, collected_by_each, collected_with_bound}
 use Rattle.bit_set.proofs.laws.collected_walks.Goals as goal
 

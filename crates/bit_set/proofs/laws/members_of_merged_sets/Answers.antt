@@ -1,4 +1,4 @@
-use Rattle.bit_set.proofs.AlgebraLemmas.{has-union, has-intersection, has-difference, has-symmetric, has-merged_sets}
+use Rattle.bit_set.proofs.AlgebraLemmas.{has-union, has-intersection, has-difference, has-symmetric, has-merge_of_sets}
 use Rattle.bit_set.proofs.laws.members_of_merged_sets.Goals as goal
 
 pub returns-clause-union : goal.returns-clause-union
@@ -14,4 +14,4 @@ pub returns-clause-symmetric_difference : goal.returns-clause-symmetric_differen
 returns-clause-symmetric_difference c s t n = has-symmetric s t n
 
 pub returns-clause-merged : goal.returns-clause-merged
-returns-clause-merged c merge s t n = has-merged_sets merge s t n
+returns-clause-merged c merge s t n = has-merge_of_sets merge s t n

@@ -1,4 +1,4 @@
-use Rattle.bit_words.specs.declared.bit_vec.merge.Merge.TheVariants.{Union, Intersection, Difference, Symmetric}
+use Rattle.bit_words.specs.declared.block.merge.Merge.TheVariants.{Union, Intersection, Difference, Symmetric}
 use Rattle.bit_words.proofs.MergeLemmas.{length-merged}
 use Rattle.bit_set.proofs.AlgebraLemmas.{elements-merged}
 use Rattle.bit_set.proofs.laws.merged_lists_keep_merged_sets.Goals as goal

@@ -1,5 +1,5 @@
 use Rattle.bit_words.proofs.BitsLemmas.{blocks_for-enough, blocks_for-least}
-use Rattle.bit_set.proofs.RoomLemmas.{true_end-bound}
+use Rattle.bit_set.proofs.CapacityLemmas.{true_end-bound}
 use Rattle.bit_set.proofs.laws.shrunk_lengths.Goals as goal
 
 pub returns-clause-ends : goal.returns-clause-ends

@@ -17,7 +17,7 @@ returns-clause-summary g c = λ values s t items start run. summary_pulled g.B.B
 pub returns-clause-whole_from : goal.returns-clause-whole_from
 returns-clause-whole_from g c = λ values from s t items start run.
     let w = g.B.BitBlock.width in
-    let left = ap (λ xs. length (blocks_past w (s.place / w) xs)) start.left in
+    let left = ap (λ xs. length (blocks_past w (s.index / w) xs)) start.left in
     let pulls = pulled_sparsely w s t items g.met.B.BitBlock.width_law.positive run in
     ((walked_out w s t items run).all ∙ start.left, omega (arith, pulls, left, start.pulls))
 

@@ -1,16 +1,16 @@
 use Rattle.std.proofs.Common.{◌≡◌, ℕ, Bool, List, sym, ◌∙◌, subst}
-use Rattle.bit_words.specs.declared.bit_vec.merge.Merge.{Merge}
-use Rattle.bit_words.specs.declared.bit_vec.merge.Merge.TheVariants.{Union, Intersection, Difference, Symmetric}
-use Rattle.bit_set.specs.Sets.{IsAscending, elements, merged_sets}
+use Rattle.bit_words.specs.declared.block.merge.Merge.{Merge}
+use Rattle.bit_words.specs.declared.block.merge.Merge.TheVariants.{Union, Intersection, Difference, Symmetric}
+use Rattle.bit_set.specs.Sets.{IsAscending, elements, merge_of_sets}
 use Rattle.bit_set.specs.Walk.{AdvancesWithBound}
 use Rattle.bit_set.proofs.SetLemmas.{IsAscending-elements}
-use Rattle.bit_set.proofs.AlgebraLemmas.{IsAscending-merged_sets}
+use Rattle.bit_set.proofs.AlgebraLemmas.{IsAscending-merge_of_sets}
 use Rattle.bit_set.proofs.WalkLaws.{walked_out, over_two}
 use Rattle.bit_set.proofs.laws.whole_walks_ascend.Goals as goal
 
 -- items that are what two sets become
-merged_ascend : (merge : Merge) (a b : List Bool) (left items : List ℕ) → left ≡ merged_sets merge (elements a) (elements b) → items ≡ left → IsAscending items
-merged_ascend merge a b left items is all = subst IsAscending (sym (all ∙ is)) (IsAscending-merged_sets merge (elements a) (elements b) (IsAscending-elements a))
+merged_ascend : (merge : Merge) (a b : List Bool) (left items : List ℕ) → left ≡ merge_of_sets merge (elements a) (elements b) → items ≡ left → IsAscending items
+merged_ascend merge a b left items is all = subst IsAscending (sym (all ∙ is)) (IsAscending-merge_of_sets merge (elements a) (elements b) (IsAscending-elements a))
 
 pub returns-clause-iter : goal.returns-clause-iter
 returns-clause-iter g c = λ a s t items is yields. subst IsAscending (sym ((walked_out g.B.BitBlock.width s t items yields).all ∙ is)) (IsAscending-elements a)

@@ -1,4 +1,4 @@
-use Rattle.bit_words.specs.declared.bit_vec.merge.Merge.TheVariants.{Union, Intersection, Difference, Symmetric}
+use Rattle.bit_words.specs.declared.block.merge.Merge.TheVariants.{Union, Intersection, Difference, Symmetric}
 use Rattle.bit_set.proofs.WalkLaws.{over_two}
 use Rattle.bit_set.proofs.laws.whole_walks_over_two_sets.Goals as goal
 

@@ -1,6 +1,6 @@
 use Rattle.std.proofs.Common.{◌≡◌, ◌<◌, map, ap, ◌∙◌}
 use Rattle.bit_words.specs.Bits.{blocks_of}
-use Rattle.bit_set.proofs.UnlikeLemmas.{has_in_block, some_past, none_past}
+use Rattle.bit_set.proofs.MismatchLemmas.{has_in_block, some_past, none_past}
 use Rattle.bit_set.proofs.order.has_from.Goals as goal
 
 pub returns-then-has_one_from-clause-some : goal.returns-then-has_one_from-clause-some
@@ -17,7 +17,7 @@ returns-clause-some g c =
     let w = c.bits-width.result in
     let are : map n c.storage-blocks.result.now ≡ blocks_of w c.args.set.now.values = rw c.bits-width.ensures (c.storage-blocks.ensures.numbers ∙ ap (λ s. blocks_of g.B.BitBlock.width s.values) c.get_ref.ensures) in
     let positive : 0 < w = rw c.bits-width.ensures g.met.B.BitBlock.width_law.positive in
-    some_past w c.args.from (map n c.storage-blocks.result.now) c.args.set.now.values c.first_one.result c.is_some.result positive are c.first_one.ensures c.is_some.ensures
+    some_past w c.args.from (map n c.storage-blocks.result.now) c.args.set.now.values c.first_nonzero_block.result c.is_some.result positive are c.first_nonzero_block.ensures c.is_some.ensures
 
 pub returns-clause-none : goal.returns-clause-none
 returns-clause-none g c =
@@ -25,4 +25,4 @@ returns-clause-none g c =
     let w = c.bits-width.result in
     let are : map n c.storage-blocks.result.now ≡ blocks_of w c.args.set.now.values = rw c.bits-width.ensures (c.storage-blocks.ensures.numbers ∙ ap (λ s. blocks_of g.B.BitBlock.width s.values) c.get_ref.ensures) in
     let positive : 0 < w = rw c.bits-width.ensures g.met.B.BitBlock.width_law.positive in
-    none_past w c.args.from (n c.block_or_zero.result) (map n c.storage-blocks.result.now) c.args.set.now.values c.first_one.result c.is_some.result positive are c.block_or_zero.ensures.of_number c.if-has_one_from.ensures.none c.first_one.ensures c.is_some.ensures
+    none_past w c.args.from (n c.block_or_zero.result) (map n c.storage-blocks.result.now) c.args.set.now.values c.first_nonzero_block.result c.is_some.result positive are c.block_or_zero.ensures.of_number c.if-has_one_from.ensures.none c.first_nonzero_block.ensures c.is_some.ensures

@@ -42,9 +42,9 @@ pub returns-clause-two_set_edges : goal.returns-clause-two_set_edges
 unfolding digits
 returns-clause-two_set_edges c = refl
 
-pub returns-clause-room : goal.returns-clause-room
+pub returns-clause-capacity : goal.returns-clause-capacity
 unfolding digits
-returns-clause-room c = refl
+returns-clause-capacity c = refl
 
 pub returns-clause-whole_set_edges : goal.returns-clause-whole_set_edges
 unfolding digits

@@ -12,7 +12,7 @@ loop-place-preserved g c =
           c.args.replies.now.items c.loop-place.replies.items c.execute.new.replies.items c.index-commands-place.result
           c.loop-place.invariant.done c.loop-place-test.true c.index-commands-place.is
           (when_no_error c.execute.result none c.execute.ensures.sets) (when_no_error c.execute.result none c.execute.ensures.replies);
-      room = omega (arith, c.loop-place.invariant.room, c.execute.ensures.capacity);
+      capacity = omega (arith, c.loop-place.invariant.capacity, c.execute.ensures.capacity);
     }
 
 pub returns-then-is_err-clause-memory : goal.returns-then-is_err-clause-memory
@@ -25,4 +25,4 @@ returns-then-is_err-clause-memory g c = λ k e.
     c.args.replies.now.items c.loop-place.replies.items c.execute.new.replies.items c.index-commands-place.result
     c.loop-place.invariant.done c.loop-place-test.true c.index-commands-place.is
     (when_error c.execute.result some c.execute.ensures.kept)
-    (⊎_elim (λ full. inl (omega (arith, full.0, c.loop-place.invariant.room), full.1)) (λ refused. inr refused) stopped))
+    (⊎_elim (λ full. inl (omega (arith, full.0, c.loop-place.invariant.capacity), full.1)) (λ refused. inr refused) stopped))

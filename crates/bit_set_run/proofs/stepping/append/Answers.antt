@@ -1,7 +1,7 @@
 use Rattle.std.proofs.Common.{◌≡◌, sym, ap, ◌∙◌, arith}
 use Rattle.std.proofs.lemmas.Result.{err_from_is_err_and}
 use Rattle.bit_set.specs.Sets.{union}
-use Rattle.bit_set_run.specs.Kept.{kept}
+use Rattle.bit_set_run.specs.Elements.{elements_of}
 use Rattle.bit_set_run.proofs.SteppingLemmas.{appended_to, grows_along, put_back_beside, put_back_both, read_at, read_beside}
 use Rattle.bit_set_run.proofs.stepping.append.Goals as goal
 
@@ -9,7 +9,7 @@ pub returns-clause-after : goal.returns-clause-after
 returns-clause-after g c =
     let taken : c.replace-other.result ≡ c.index-sets-from.result = cc (c.replace-other.ensures.value) in
     appended_to c.args.sets.now c.args.to c.args.from c.replace-other.new.dest c.index-sets-to.result c.append-appended.new.self c.index-sets-from.result c.append-appended.new.other (omega (arith, c.told-sets)) (omega (arith, c.told-sets)) c.requires.apart c.index-sets-to.is c.index-sets-from.is
-    (c.in_ok-appended.ensures.elements ∙ ap (λ s. union (kept s) (kept c.replace-other.result)) (sym c.index-sets-to.is) ∙ ap (λ s. union (kept c.index-sets-to.result) (kept s)) taken) c.in_ok-appended.ensures.emptied
+    (c.in_ok-appended.ensures.elements ∙ ap (λ s. union (elements_of s) (elements_of c.replace-other.result)) (sym c.index-sets-to.is) ∙ ap (λ s. union (elements_of c.index-sets-to.result) (elements_of s)) taken) c.in_ok-appended.ensures.emptied
 
 pub returns-in_err-appended-clause-left : goal.returns-in_err-appended-clause-left
 returns-in_err-appended-clause-left g c =
@@ -30,6 +30,6 @@ returns-clause-grown g c =
       _,
       _,
       put_back_beside sets c.args.to c.args.from c.replace-other.new.dest first c.append-appended.new.other c.requires.apart,
-      grows_along _ _ _ _ first own other (c.append-appended.ensures.within, c.append-appended.ensures.room),
-      c.append-appended.ensures.other_room ∙ ap (λ s. s.room) other,
+      grows_along _ _ _ _ first own other (c.append-appended.ensures.within, c.append-appended.ensures.capacity),
+      c.append-appended.ensures.other_capacity ∙ ap (λ s. s.capacity) other,
     )

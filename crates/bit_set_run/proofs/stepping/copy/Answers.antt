@@ -1,7 +1,7 @@
 use Rattle.std.proofs.Common.{◌≡◌, get_or, length, max, sym, ap, ◌∙◌, arith}
 use Rattle.bit_set_run.proofs.SteppingLemmas.{changed_by, changed_outside, put_back, read_beside}
 use Rattle.std.proofs.lemmas.Result.{err_from_is_err_and}
-use Rattle.bit_set.specs.Bits.{blocks_for, room_of}
+use Rattle.bit_set.specs.Bits.{blocks_for, capacity_of}
 use Rattle.bit_set.specs.Sets.{elements}
 use Rattle.bit_set_run.specs.Capacities.{bits_at, GrowsExactlyTo}
 use Rattle.bit_set_run.proofs.stepping.copy.Goals as goal
@@ -25,4 +25,4 @@ returns-clause-grown g c =
     let was : c.replace-set.result ≡ c.index-sets-to.result = cc (c.replace-set.ensures.value) in
     let source = sym c.index-sets-from.is ∙ read_beside sets c.args.from c.args.to c.replace-set.new.dest c.index-sets-from.result (omega (arith, c.told-sets)) c.requires.apart c.index-sets-from.is in
     changed_outside sets c.args.to c.replace-set.new.dest c.index-sets-to.result c.clone_from-copied.new.self (GrowsExactlyTo w (length (bits_at sets c.args.from).values)) (omega (arith, c.told-sets)) c.index-sets-to.is
-    (c.in_ok-copied.ensures.exact ∙ ap (λ s. max c.replace-set.result.room (room_of w (blocks_for w (length s.values)))) source ∙ ap (λ s. max s.room (room_of w (blocks_for w (length (bits_at sets c.args.from).values)))) was)
+    (c.in_ok-copied.ensures.exact ∙ ap (λ s. max c.replace-set.result.capacity (capacity_of w (blocks_for w (length s.values)))) source ∙ ap (λ s. max s.capacity (capacity_of w (blocks_for w (length (bits_at sets c.args.from).values)))) was)

@@ -2,7 +2,7 @@ use Rattle.std.proofs.Common.{◌≡◌, ◌<◌, ◌++◌, ◌∷◌, length, d
 use Rattle.std.proofs.iter.Yields.{Copied-Drains}
 use Rattle.bit_set.specs.Sets.{has, put_all}
 use Rattle.bit_set.proofs.ValueLemmas.{has-past}
-use Rattle.bit_set_run.specs.Kept.{kept}
+use Rattle.bit_set_run.specs.Elements.{elements_of}
 use Rattle.bit_set.specs.Bounds.{greatest}
 use Rattle.bit_set_run.specs.Run.{elements_before_greatest}
 use Rattle.bit_set_run.proofs.SteppingLemmas.{none_greatest, some_greatest, before_taken, front_before, copied_along, copied_before}
@@ -20,12 +20,12 @@ returns-in-Ok-clause-after g c =
     let h = c.in-Ok.ensures.ok in
     let shown : c.copied.result.iter.rest.now ≡ c.args.items.now = cc in
     let whole : h.0 ≡ c.args.items.now = Copied-Drains c.copied.result h.0 h.1 ∙ shown in
-    h.2.members ∙ ap (put_all (kept c.args.set.now)) (sym (append-nil h.0) ∙ sym (front_before h.0 [] h.2.fit) ∙ ap elements_before_greatest (append-nil h.0 ∙ whole))
+    h.2.members ∙ ap (put_all (elements_of c.args.set.now)) (sym (append-nil h.0) ∙ sym (front_before h.0 [] h.2.fit) ∙ ap elements_before_greatest (append-nil h.0 ∙ whole))
 
 pub returns-in-Ok-clause-grown : goal.returns-in-Ok-clause-grown
 returns-in-Ok-clause-grown g c =
     let shown : c.copied.result.iter.rest.now ≡ c.args.items.now = cc in
-    (λ below. c.extend.ensures.within (copied_along c.copied.result c.args.items.now (λ n. n < c.args.set.now.room) shown below), c.extend.ensures.room)
+    (λ below. c.extend.ensures.within (copied_along c.copied.result c.args.items.now (λ n. n < c.args.set.now.capacity) shown below), c.extend.ensures.capacity)
 
 pub returns-in-Err-Element : goal.returns-in-Err-Element
 returns-in-Err-Element g c =
@@ -35,10 +35,10 @@ returns-in-Err-Element g c =
     let whole : c.args.items.now ≡ h.0 ++ greatest ∷ drop (length h.0 + 1) c.args.items.now = before ∙ ap (λ n. h.0 ++ n ∷ drop (length h.0 + 1) c.args.items.now) (rw c.in-Err-Element.field-0-is at h.6) in
     record {
       reply = rw (whole, some_greatest h.0 (drop (length h.0 + 1) c.args.items.now) h.4.fit) refl;
-      after = h.4.members ∙ ap (put_all (kept c.args.set.now)) (sym (append-nil h.0) ∙ sym (front_before h.0 (greatest ∷ drop (length h.0 + 1) c.args.items.now) h.4.fit) ∙ ap elements_before_greatest (sym whole));
+      after = h.4.members ∙ ap (put_all (elements_of c.args.set.now)) (sym (append-nil h.0) ∙ sym (front_before h.0 (greatest ∷ drop (length h.0 + 1) c.args.items.now) h.4.fit) ∙ ap elements_before_greatest (sym whole));
       refused = tt;
-      grown = (λ below. c.extend.ensures.within (copied_along c.copied.result c.args.items.now (λ n. n < c.args.set.now.room) shown below), c.extend.ensures.room);
-      room = c.extend.ensures.room;
+      grown = (λ below. c.extend.ensures.within (copied_along c.copied.result c.args.items.now (λ n. n < c.args.set.now.capacity) shown below), c.extend.ensures.capacity);
+      capacity = c.extend.ensures.capacity;
     }
 
 pub returns-in-Err-Memory-clause-refused : goal.returns-in-Err-Memory-clause-refused

@@ -1,17 +1,17 @@
 use Rattle.std.proofs.Common.{◌≡◌, get_or, length, sym, ap, ◌∙◌, arith}
 use Rattle.std.proofs.lemmas.Result.{err_from_is_err_and}
-use Rattle.bit_set.specs.Sets.{merged_sets}
+use Rattle.bit_set.specs.Sets.{merge_of_sets}
 use Rattle.bit_set_run.specs.Capacities.{bits_at, GrowsTo}
-use Rattle.bit_set_run.specs.Kept.{kept}
+use Rattle.bit_set_run.specs.Elements.{elements_of}
 use Rattle.bit_set_run.proofs.SteppingLemmas.{changed_by, changed_outside, grows_along, put_back, read_beside}
 use Rattle.bit_set_run.proofs.stepping.merge_in_place.Goals as goal
 
 pub returns-clause-after : goal.returns-clause-after
 returns-clause-after g c =
-    let become = merged_sets c.args.merge in
+    let become = merge_of_sets c.args.merge in
     let was : c.replace-set.result ≡ c.index-sets-to.result = cc (c.replace-set.ensures.value) in
     changed_by c.args.sets.now become c.args.to c.args.other c.replace-set.new.dest c.index-sets-to.result c.merge_with-merged.new.set c.index-sets-other.result (omega (arith, c.told-sets)) (omega (arith, c.told-sets)) (λ e. c.requires.apart (sym e)) c.index-sets-to.is c.index-sets-other.is
-    (c.in_ok-merged.ensures.ok ∙ ap (λ s. become (kept c.replace-set.result) (kept s)) (sym c.index-sets-other.is) ∙ ap (λ s. become (kept s) (kept c.index-sets-other.result)) was)
+    (c.in_ok-merged.ensures.ok ∙ ap (λ s. become (elements_of c.replace-set.result) (elements_of s)) (sym c.index-sets-other.is) ∙ ap (λ s. become (elements_of s) (elements_of c.index-sets-other.result)) was)
 
 pub returns-in_err-merged-clause-left : goal.returns-in_err-merged-clause-left
 returns-in_err-merged-clause-left g c =

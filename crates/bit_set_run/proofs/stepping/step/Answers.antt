@@ -1,7 +1,7 @@
 use Rattle.std.proofs.Common.{ap, ◌==◌, ◌∙◌, if◌then◌else◌, [], map, arith}
 use Rattle.std.proofs.lemmas.Result.{on_ok_weaker, on_err_weaker}
 use Rattle.bit_set.specs.Sets.{elements, has, put, put_all, those_below, without}
-use Rattle.bit_set_run.specs.Kept.{kept}
+use Rattle.bit_set_run.specs.Elements.{elements_of}
 use Rattle.bit_set.specs.Bounds.{greatest}
 use Rattle.bit_set_run.specs.Run.{elements_before_greatest}
 use Rattle.bit_set_run.proofs.SteppingLemmas.{change_is, no_change_is, set_at, sets-insert}
@@ -11,13 +11,13 @@ pub returns-in-Insert-clause-sets : goal.returns-in-Insert-clause-sets
 returns-in-Insert-clause-sets g c =
     let sets = c.args.sets.now in
     let n = c.in-Insert.n in
-    rw c.in-Insert.is (on_ok_weaker c.insert.result (λ after. change_is sets c.place.result c.in-Insert.name c.index-sets-place.result c.insert.new.set (λ s. if n == greatest then s else put s n) c.place.ensures.place (omega (arith, c.told-sets, c.place.ensures.within)) after ∙ sets-insert (map kept sets) c.in-Insert.name n) c.insert.ensures.after)
+    rw c.in-Insert.is (on_ok_weaker c.insert.result (λ after. change_is sets c.place.result c.in-Insert.name c.index-sets-place.result c.insert.new.set (λ s. if n == greatest then s else put s n) c.place.ensures.place (omega (arith, c.told-sets, c.place.ensures.within)) after ∙ sets-insert (map elements_of sets) c.in-Insert.name n) c.insert.ensures.after)
 
 pub returns-in-Insert-clause-refused : goal.returns-in-Insert-clause-refused
 returns-in-Insert-clause-refused g c =
     let sets = c.args.sets.now in
     let there = set_at sets c.place.result c.in-Insert.name c.index-sets-place.result c.place.ensures.place (omega (arith, c.told-sets, c.place.ensures.within)) in
-    rw c.in-Insert.is (on_err_weaker c.insert.result (λ refused. (refused.0, ap (λ s. has s c.in-Insert.n) there ∙ refused.1, no_change_is sets c.place.result c.index-sets-place.result c.insert.new.set (omega (arith, c.told-sets, c.place.ensures.within)) (ap kept refused.2))) c.insert.ensures.refused)
+    rw c.in-Insert.is (on_err_weaker c.insert.result (λ refused. (refused.0, ap (λ s. has s c.in-Insert.n) there ∙ refused.1, no_change_is sets c.place.result c.index-sets-place.result c.insert.new.set (omega (arith, c.told-sets, c.place.ensures.within)) (ap elements_of refused.2))) c.insert.ensures.refused)
 
 pub returns-in-Remove-clause-sets : goal.returns-in-Remove-clause-sets
 returns-in-Remove-clause-sets g c =
@@ -59,7 +59,7 @@ pub returns-in-Reserve-clause-refused : goal.returns-in-Reserve-clause-refused
 returns-in-Reserve-clause-refused g c =
     let sets = c.args.sets.now in
     let there = set_at sets c.place-in-Reserve.result c.in-Reserve.name c.index-sets-place-in-Reserve.result c.place-in-Reserve.ensures.place (omega (arith, c.told-sets, c.place-in-Reserve.ensures.within)) in
-    rw c.in-Reserve.is (on_err_weaker c.reserve.result (λ refused. (rw there refused.0, no_change_is sets c.place-in-Reserve.result c.index-sets-place-in-Reserve.result c.reserve.new.set (omega (arith, c.told-sets, c.place-in-Reserve.ensures.within)) (ap kept refused.1))) c.reserve.ensures.refused)
+    rw c.in-Reserve.is (on_err_weaker c.reserve.result (λ refused. (rw there refused.0, no_change_is sets c.place-in-Reserve.result c.index-sets-place-in-Reserve.result c.reserve.new.set (omega (arith, c.told-sets, c.place-in-Reserve.ensures.within)) (ap elements_of refused.1))) c.reserve.ensures.refused)
 
 pub returns-in-ReserveExact-clause-sets : goal.returns-in-ReserveExact-clause-sets
 returns-in-ReserveExact-clause-sets g c =
@@ -70,7 +70,7 @@ pub returns-in-ReserveExact-clause-refused : goal.returns-in-ReserveExact-clause
 returns-in-ReserveExact-clause-refused g c =
     let sets = c.args.sets.now in
     let there = set_at sets c.place-in-ReserveExact.result c.in-ReserveExact.name c.index-sets-place-in-ReserveExact.result c.place-in-ReserveExact.ensures.place (omega (arith, c.told-sets, c.place-in-ReserveExact.ensures.within)) in
-    rw c.in-ReserveExact.is (on_err_weaker c.reserve_exact.result (λ refused. (rw there refused.0, no_change_is sets c.place-in-ReserveExact.result c.index-sets-place-in-ReserveExact.result c.reserve_exact.new.set (omega (arith, c.told-sets, c.place-in-ReserveExact.ensures.within)) (ap kept refused.1))) c.reserve_exact.ensures.refused)
+    rw c.in-ReserveExact.is (on_err_weaker c.reserve_exact.result (λ refused. (rw there refused.0, no_change_is sets c.place-in-ReserveExact.result c.index-sets-place-in-ReserveExact.result c.reserve_exact.new.set (omega (arith, c.told-sets, c.place-in-ReserveExact.ensures.within)) (ap elements_of refused.1))) c.reserve_exact.ensures.refused)
 
 pub returns-in-Shrink-clause-sets : goal.returns-in-Shrink-clause-sets
 returns-in-Shrink-clause-sets g c =

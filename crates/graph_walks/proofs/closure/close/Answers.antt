@@ -4,7 +4,7 @@ use Rattle.bit_set.specs.Bits.{Bits}
 use Rattle.bit_set.specs.Sets.{elements}
 use Rattle.graph_walks.specs.Closed.{row}
 use Rattle.graph_walks.specs.Paths.{rows_of}
-use Rattle.graph_walks.proofs.CloseLemmas.{adds_all, closes_none, closes_on, is_closed, is_closure, long_on, none_on_the_way, on_kept, on_the_way, on_within, passes, read_row, roomy_first, roomy_on, same_rooms}
+use Rattle.graph_walks.proofs.CloseLemmas.{adds_all, closes_none, closes_on, is_closed, is_closure, long_on, none_on_the_way, on_kept, on_the_way, on_within, passes, read_row, roomy_first, roomy_on, same_capacities}
 use Rattle.graph_walks.proofs.closure.close.Goals as goal
 
 pub returns-in_err-via-clause-on_the_way : goal.returns-in_err-via-clause-on_the_way
@@ -13,7 +13,7 @@ returns-in_err-via-clause-on_the_way g c = none_on_the_way (rows_of c.args.rows.
 pub loop-node-init : goal.loop-node-init
 loop-node-init g c = record {
   closes = closes_none (rows_of c.args.rows.now);
-  long = λ u lt. omega (arith, c.longest.ensures u lt, c.in_ok-via.ensures.room);
+  long = λ u lt. omega (arith, c.longest.ensures u lt, c.in_ok-via.ensures.capacity);
   roomy = λ m all. roomy_first m c.args.rows.now all;
 }
 
@@ -28,8 +28,8 @@ returns-in_err-clone_from-clause-spare g c m all =
     let as_long : length (get_or c.loop-node.rows c.loop-node.node c.index-rows-node.result).values ≡ length (row c.loop-node.rows c.loop-node.node).values = ap (λ (r : Bits). length r.values) (read_row c.loop-node.rows c.loop-node.node c.index-rows-node.result inside) in
     absurd (omega (arith, short, as_long, c.in_err-clone_from.ensures.full))
 
-pub returns-in_err-clone_from-clause-room : goal.returns-in_err-clone_from-clause-room
-returns-in_err-clone_from-clause-room g c m all = same_rooms m c.args.rows.now c.loop-node.rows (omega arith) (c.loop-node.invariant.roomy m all)
+pub returns-in_err-clone_from-clause-capacity : goal.returns-in_err-clone_from-clause-capacity
+returns-in_err-clone_from-clause-capacity g c m all = same_capacities m c.args.rows.now c.loop-node.rows (omega arith) (c.loop-node.invariant.roomy m all)
 
 pub returns-in_err-join_all-clause-on_the_way : goal.returns-in_err-join_all-clause-on_the_way
 returns-in_err-join_all-clause-on_the_way g c =
@@ -46,18 +46,18 @@ returns-in_err-join_all-clause-spare g c m all =
     let full = c.in_err-join_all.ensures.full in
     let at_most_m = roomy.long c.loop-node.node (omega arith) in
     let as_long : length c.clone_from.new.self.values ≡ length (row c.loop-node.rows c.loop-node.node).values = ap length copied in
-    let same_room = roomy.room full.0 (omega arith) in
+    let same_capacity = roomy.capacity full.0 (omega arith) in
     let enough = roomy.enough full.0 (omega arith) in
-    absurd (omega (arith, at_most_m, as_long, same_room, enough, full.2))
+    absurd (omega (arith, at_most_m, as_long, same_capacity, enough, full.2))
 
-pub returns-in_err-join_all-clause-room : goal.returns-in_err-join_all-clause-room
-returns-in_err-join_all-clause-room g c m all =
+pub returns-in_err-join_all-clause-capacity : goal.returns-in_err-join_all-clause-capacity
+returns-in_err-join_all-clause-capacity g c m all =
     let inside : c.loop-node.node < length c.loop-node.rows = omega arith in
     let copied : c.clone_from.new.self.values ≡ (row c.loop-node.rows c.loop-node.node).values = c.in_ok-clone_from.ensures.ok ∙ ap (λ (r : Bits). r.values) (read_row c.loop-node.rows c.loop-node.node c.index-rows-node.result inside) in
     let roomy = c.loop-node.invariant.roomy m all in
     let at_most_m = roomy.long c.loop-node.node (omega arith) in
     let as_long : length c.clone_from.new.self.values ≡ length (row c.loop-node.rows c.loop-node.node).values = ap length copied in
-    same_rooms m c.args.rows.now c.join_all.new.rows (omega arith) (roomy_on m c.loop-node.node c.clone_from.new.self c.args.rows.now c.loop-node.rows c.join_all.new.rows (omega (arith, at_most_m, as_long)) c.in_err-join_all.ensures.some roomy)
+    same_capacities m c.args.rows.now c.join_all.new.rows (omega arith) (roomy_on m c.loop-node.node c.clone_from.new.self c.args.rows.now c.loop-node.rows c.join_all.new.rows (omega (arith, at_most_m, as_long)) c.in_err-join_all.ensures.some roomy)
 
 pub loop-node-preserved : goal.loop-node-preserved
 loop-node-preserved g c =
@@ -69,11 +69,11 @@ loop-node-preserved g c =
     let as_long : length via.values ≡ length (row c.loop-node.rows node).values = ap length copied in
     let short = c.loop-node.invariant.long node (omega arith) in
     let read_long : length (get_or c.loop-node.rows node c.index-rows-node.result).values ≡ length (row c.loop-node.rows node).values = ap (λ (r : Bits). length r.values) read in
-    let same_room : via.room ≡ c.loop-node.via.room = c.in_ok-clone_from.ensures.within (omega (arith, short, read_long)) in
+    let same_capacity : via.capacity ≡ c.loop-node.via.capacity = c.in_ok-clone_from.ensures.within (omega (arith, short, read_long)) in
     let passed = passes node via c.loop-node.rows c.join_all.new.rows copied c.in_ok-join_all.ensures.some in
     record {
       closes = closes_on _ _ _ node c.loop-node.invariant.closes passed (adds_all node via c.loop-node.rows c.join_all.new.rows copied c.in_ok-join_all.ensures.each);
-      long = λ u lt. rw same_room (long_on c.loop-node.via.room node via c.loop-node.rows c.join_all.new.rows (omega (arith, short, as_long)) c.in_ok-join_all.ensures.some u (c.loop-node.invariant.long u lt));
+      long = λ u lt. rw same_capacity (long_on c.loop-node.via.capacity node via c.loop-node.rows c.join_all.new.rows (omega (arith, short, as_long)) c.in_ok-join_all.ensures.some u (c.loop-node.invariant.long u lt));
       roomy = λ m all.
           let roomy = c.loop-node.invariant.roomy m all in
           let at_most_m = roomy.long node (omega arith) in
@@ -93,5 +93,5 @@ returns-clause-closed g c =
 pub returns-clause-on_the_way : goal.returns-clause-on_the_way
 returns-clause-on_the_way g c = on_the_way _ _ c.loop-node.invariant.closes.kept c.loop-node.invariant.closes.within
 
-pub returns-clause-room : goal.returns-clause-room
-returns-clause-room g c m all = same_rooms m c.args.rows.now c.loop-node.rows (omega arith) (c.loop-node.invariant.roomy m all)
+pub returns-clause-capacity : goal.returns-clause-capacity
+returns-clause-capacity g c m all = same_capacities m c.args.rows.now c.loop-node.rows (omega arith) (c.loop-node.invariant.roomy m all)

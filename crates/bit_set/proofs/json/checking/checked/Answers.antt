@@ -3,7 +3,7 @@ use Rattle.std.proofs.lemmas.Option.{MatchOption-at_some, MatchOption-at_none}
 use Rattle.std.proofs.lemmas.Result.{err_from_is_err_and}
 use Rattle.serde_json.specs.View.{view, items_view}
 use Rattle.bit_words.specs.Bits.{blocks_for}
-use Rattle.bit_set.specs.Json.{IsClean}
+use Rattle.bit_set.specs.Json.{HasZeroTail}
 use Rattle.bit_set.specs.Entries.{AreParts, HasLength, numbers_of}
 use Rattle.bit_set.proofs.JsonLemmas.{counted, has_numbers, no_numbers, was_none}
 use Rattle.bit_set.proofs.json.checking.checked.Goals as goal
@@ -30,8 +30,8 @@ returns-then-entries-div_ceil-clause-err g c =
     let wanted : c.div_ceil.result ≡ blocks_for w n = c.div_ceil.ensures ∙ ap (λ x. blocks_for x n) c.bits.ensures in
     (parts.shape, (numbers_of vs, n, has_numbers w d nbits vs n parts is, λ same. c.if-entries-div_ceil.true (sym (counted vs) ∙ same ∙ sym wanted)))
 
-pub returns-then-not-is_clean-clause-err : goal.returns-then-not-is_clean-clause-err
-returns-then-not-is_clean-clause-err g c =
+pub returns-then-not-has_zero_tail-clause-err : goal.returns-then-not-has_zero_tail-clause-err
+returns-then-not-has_zero_tail-clause-err g c =
     let w = g.B.BitBlock.width in
     let d = view c.args.value.now in
     let vs = c.in_ok-entries.entries.now in
@@ -40,7 +40,7 @@ returns-then-not-is_clean-clause-err g c =
     let parts : AreParts d (items_view vs) nbits = MatchOption-at_some _ _ _ c.in_ok-entries.ensures.ok_part c.parts.ensures in
     let is : HasLength w vs nbits n = MatchOption-at_some _ _ _ c.in_ok-len.ensures.ok_part c.length_of.ensures in
     let wanted : c.div_ceil.result ≡ blocks_for w n = c.div_ceil.ensures ∙ ap (λ x. blocks_for x n) c.bits.ensures in
-    let unclean : ¬ IsClean w (numbers_of vs) n = λ clean. true≢false (sym (c.is_clean.ensures.1 clean) ∙ c.if-not-is_clean.true) in
+    let unclean : ¬ HasZeroTail w (numbers_of vs) n = λ zero_tail. true≢false (sym (c.has_zero_tail.ensures.1 zero_tail) ∙ c.if-not-has_zero_tail.true) in
     (parts.shape, (numbers_of vs, n, has_numbers w d nbits vs n parts is, counted vs ∙ c.if-entries-div_ceil.false ∙ wanted, unclean))
 
 pub returns-clause-ok : goal.returns-clause-ok
@@ -57,5 +57,5 @@ returns-clause-ok g c =
       shape = parts.shape;
       numbers = has_numbers w d nbits vs n parts is;
       count = counted vs ∙ c.if-entries-div_ceil.false ∙ wanted;
-      clean = c.is_clean.ensures.0 c.if-not-is_clean.false;
+      zero_tail = c.has_zero_tail.ensures.0 c.if-not-has_zero_tail.false;
     }

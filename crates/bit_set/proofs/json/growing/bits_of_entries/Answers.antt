@@ -5,7 +5,7 @@ use Rattle.bit_words.specs.Digits.{is_one}
 use Rattle.bit_words.specs.Storage.{value_at}
 use Rattle.bit_set.specs.Entries.{numbers_of}
 use Rattle.bit_set.proofs.JsonLemmas.{below_of_entries, counted, number_at}
-use Rattle.bit_set.proofs.FilledLemmas.{blocks_of_filled, clean_from, filled_more, filled_none, next_is_false, one_is_within}
+use Rattle.bit_set.proofs.FilledLemmas.{blocks_of_filled, zero_tail_from, filled_more, filled_none, next_is_false, one_is_within}
 use Rattle.bit_set.proofs.json.growing.bits_of_entries.Goals as goal
 
 pub loop-k-init : goal.loop-k-init
@@ -14,7 +14,7 @@ loop-k-init g c =
     record {
       filled = λ i. ap (λ values. get_or values i false) is ∙ filled_none g.B.BitBlock.width c.args.len i (numbers_of c.args.entries.now);
       long = ap length is ∙ length-replicate c.args.len false;
-      room = c.in_ok-bits.ensures.room;
+      capacity = c.in_ok-bits.ensures.capacity;
     }
 
 pub put_ones-requires-clause-within : goal.put_ones-requires-clause-within
@@ -23,8 +23,8 @@ put_ones-requires-clause-within g c = λ j within one.
     let vs = c.args.entries.now in
     let k = c.loop-k.k in
     let number = number_at vs k c.index-entries-k.result (g.B.BitBlock.number c.block_of.result) c.loop-k-test.true c.index-entries-k.is c.block_of.ensures.of_number in
-    let clean = clean_from w c.args.len (numbers_of vs) g.met.B.BitBlock.width_law.positive (counted vs ∙ c.requires.count) c.requires.clean in
-    let below = one_is_within w c.args.len k j (numbers_of vs) clean within (sym (ap (λ m. bit_at m j) number) ∙ one) in
+    let zero_tail = zero_tail_from w c.args.len (numbers_of vs) g.met.B.BitBlock.width_law.positive (counted vs ∙ c.requires.count) c.requires.zero_tail in
+    let below = one_is_within w c.args.len k j (numbers_of vs) zero_tail within (sym (ap (λ m. bit_at m j) number) ∙ one) in
     let begins : k * c.bits.result ≡ k * w = ap (λ x. k * x) c.bits.ensures in
     omega (arith, below, begins, c.loop-k.invariant.long)
 
@@ -47,7 +47,7 @@ loop-k-preserved g c =
           (λ j within. ap (λ p. get_or new (p + j) false) (sym begins) ∙ c.put_ones.ensures.values j within ∙ ap (λ m. is_one m j) number)
           (λ i apart. c.put_ones.ensures.others i (λ j within at. apart j within (at ∙ ap (λ p. p + j) begins)));
       long = c.put_ones.ensures.length ∙ c.loop-k.invariant.long;
-      room = c.put_ones.ensures.room ∙ c.loop-k.invariant.room;
+      capacity = c.put_ones.ensures.capacity ∙ c.loop-k.invariant.capacity;
     }
 
 pub returns-clause-blocks : goal.returns-clause-blocks
@@ -56,5 +56,5 @@ returns-clause-blocks g c =
     let vs = c.args.entries.now in
     let ms = numbers_of vs in
     let all : take c.loop-k.k ms ≡ ms = take_all c.loop-k.k ms (omega (arith, counted vs, c.loop-k-test.false)) in
-    blocks_of_filled w c.args.len ms c.loop-k.bits.values g.met.B.BitBlock.width_law.positive c.loop-k.invariant.long (counted vs ∙ c.requires.count) (below_of_entries w vs c.requires.each) c.requires.clean
+    blocks_of_filled w c.args.len ms c.loop-k.bits.values g.met.B.BitBlock.width_law.positive c.loop-k.invariant.long (counted vs ∙ c.requires.count) (below_of_entries w vs c.requires.each) c.requires.zero_tail
     (λ i. c.loop-k.invariant.filled i ∙ ap (λ x. value_at w x i) all)

@@ -1,13 +1,13 @@
 use Rattle.std.proofs.Common.{◌+◌, ◌∙◌, ◌<◌, [], ap, length, refl, arith}
-use Rattle.bit_set.proofs.PlaceLemmas.{places-lowest}
+use Rattle.bit_set.proofs.PlaceLemmas.{indexes-lowest}
 use Rattle.bit_set.proofs.FilledLemmas.{put_nothing, put_lowest, lowest_is_one}
 use Rattle.bit_set.proofs.json.growing.put_ones.Goals as goal
 
 pub loop-block-init : goal.loop-block-init
 loop-block-init g c = record {
   of_block = c.requires.of_block;
-  put = put_nothing g.B.BitBlock.width c.args.place (g.B.BitBlock.number c.args.block) c.args.bits.now.values c.requires.falses;
-  room = refl;
+  put = put_nothing g.B.BitBlock.width c.args.index (g.B.BitBlock.number c.args.block) c.args.bits.now.values c.requires.falses;
+  capacity = refl;
 }
 
 pub loop-block-smaller : goal.loop-block-smaller
@@ -17,14 +17,14 @@ loop-block-smaller g c =
     let m = number c.loop-block.block in
     let r = number c.take_lowest_one-lowest.new.block in
     let taken = c.take_lowest_one-lowest.ensures in
-    let one_less = ap length (places-lowest w 0 m r c.take_lowest_one-lowest.result [] taken.lowest taken.within taken.cleared) in
+    let one_less = ap length (indexes-lowest w 0 m r c.take_lowest_one-lowest.result [] taken.lowest taken.within taken.cleared) in
     omega (arith, one_less)
 
 pub loop-block-preserved : goal.loop-block-preserved
 loop-block-preserved g c =
     let w = g.B.BitBlock.width in
     let number = g.B.BitBlock.number in
-    let p = c.args.place in
+    let p = c.args.index in
     let whole = number c.args.block in
     let m = number c.loop-block.block in
     let r = number c.take_lowest_one-lowest.new.block in
@@ -38,5 +38,5 @@ loop-block-preserved g c =
     record {
       of_block = taken.of_block;
       put = rw c.set.ensures.values (put_lowest w p whole m r i old new put taken.lowest taken.within taken.cleared inside);
-      room = c.set.ensures.room ∙ c.loop-block.invariant.room;
+      capacity = c.set.ensures.capacity ∙ c.loop-block.invariant.capacity;
     }

@@ -10,9 +10,9 @@ use Rattle.bit_set.proofs.set.BitSet.extend.Goals as goal
 pub loop-item-preserved : goal.loop-item-preserved
 loop-item-preserved g c = record {
   taken = TakesIn-more c.loop-item.yielded c.in-Some.item c.args.self.now.values c.loop-item.self.values c.insert.new.self.values c.loop-item.invariant.taken c.in_ok-insert.ensures.elements c.in_ok-insert.ensures.length c.in_ok-insert.ensures.fit;
-  room = omega (arith, c.loop-item.invariant.room, c.insert.ensures.room);
+  capacity = omega (arith, c.loop-item.invariant.capacity, c.insert.ensures.capacity);
   within = λ low.
-      let parts = All-pop (λ item. item < c.args.self.now.room) (c.loop-item.yielded ++ c.in-Some.item ∷ []) c.loop-item.yielded (Some c.in-Some.item) refl low in
+      let parts = All-pop (λ item. item < c.args.self.now.capacity) (c.loop-item.yielded ++ c.in-Some.item ∷ []) c.loop-item.yielded (Some c.in-Some.item) refl low in
       let before = c.loop-item.invariant.within parts.0 in
       c.insert.ensures.within (omega (arith, parts.1, before)) ∙ before;
   kept = λ short.
@@ -26,8 +26,8 @@ returns-in_err-insert-clause-succeeds g c along =
     let item = c.in-Some.item in
     let next_gives = g.I.Iterator.next_gives in
     let more = Yields-more next_gives c.into_iter-item-iterator.result items c.loop-item.item-iterator item c.next.new.self c.loop-item.yielded_by c.in-Some.ensures.steps in
-    let low : item < c.args.self.now.room = (All-pop (λ n. n < c.args.self.now.room) (items ++ item ∷ []) items (Some item) refl (along (items ++ item ∷ []) c.next.new.self (rw c.into_iter-item-iterator.ensures.into_iter_gives at more))).1 in
-    absurd (true≢false (sym (c.in_err-insert.ensures.succeeds (omega (arith, low, c.loop-item.invariant.room)))))
+    let low : item < c.args.self.now.capacity = (All-pop (λ n. n < c.args.self.now.capacity) (items ++ item ∷ []) items (Some item) refl (along (items ++ item ∷ []) c.next.new.self (rw c.into_iter-item-iterator.ensures.into_iter_gives at more))).1 in
+    absurd (true≢false (sym (c.in_err-insert.ensures.succeeds (omega (arith, low, c.loop-item.invariant.capacity)))))
 
 pub returns-clause-runs : goal.returns-clause-runs
 returns-clause-runs g c =

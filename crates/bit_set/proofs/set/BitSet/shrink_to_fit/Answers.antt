@@ -1,7 +1,7 @@
 use Rattle.std.proofs.Common.{ap, length, ◌∙◌, arith}
 use Rattle.bit_words.specs.Bits.{whole_blocks}
 use Rattle.bit_set.specs.Sets.{elements}
-use Rattle.bit_set.proofs.RoomLemmas.{elements-true_values, whole_blocks-cut, whole_blocks-empty, whole_blocks-top}
+use Rattle.bit_set.proofs.CapacityLemmas.{elements-true_values, whole_blocks-cut, whole_blocks-empty, whole_blocks-top}
 use Rattle.bit_set.proofs.CallLemmas.{changes_shrunk}
 use Rattle.bit_set.proofs.set.BitSet.shrink_to_fit.Goals as goal
 

@@ -6,8 +6,8 @@ use Rattle.bit_set.proofs.walk.Iter.over_from.Given.{Over}
 use Rattle.bit_set.proofs.walk.Iter.over_from.Goals.{Joined-next, in-Some, in-None}
 use Rattle.bit_set.proofs.walk.Iter.over_from.Goals as goal
 
-pub overflow_mul-place : goal.overflow_mul-place
-overflow_mul-place g c =
+pub overflow_mul-index : goal.overflow_mul-index
+overflow_mul-index g c =
     let w = g.B.BitBlock.width in
     let number = g.B.BitBlock.number in
     let is_block = g.B.BitBlock.is_block in
@@ -40,8 +40,8 @@ clear_below-requires g c =
     found.1
 
 -- the walk, once the first block is pulled
-begun : (g : Over) (c : Joined-next g) → BeginsFrom g.B.BitBlock.width g.B.BitBlock.number g.B.BitBlock.is_block c.args.bits.now.values c.args.from c.match-next.place.0 c.match-next.place.1 c.next.new.self
-    (seen g.B.BitBlock.width g.B.BitBlock.number g.B.BitBlock.is_block c.match-next.place.0 c.match-next.place.1 c.next.new.self)
+begun : (g : Over) (c : Joined-next g) → BeginsFrom g.B.BitBlock.width g.B.BitBlock.number g.B.BitBlock.is_block c.args.bits.now.values c.args.from c.match-next.index.0 c.match-next.index.1 c.next.new.self
+    (seen g.B.BitBlock.width g.B.BitBlock.number g.B.BitBlock.is_block c.match-next.index.0 c.match-next.index.1 c.next.new.self)
 begun g c =
     let w = g.B.BitBlock.width in
     let number = g.B.BitBlock.number in
@@ -58,8 +58,8 @@ begun g c =
           let q = at.in-Some.first.0 in
           let x = at.in-Some.first.1 in
           let digits : (j : ℕ) → j < w → is_one (number at.clear_below.result) j ≡ (leb (from - q * w) j && is_one (number x) j) = rw at.bits-in-Some.ensures at at.clear_below.ensures.digits in
-          rw (at.place-is, at.bits-in-Some.ensures) (begins_from w number is_block pos values from q x at.clear_below.result s t fresh at.in-Some.ensures.steps at.clear_below.ensures.of_block digits)
-      | in-None at ↦ rw at.place-is (begins_from_empty w number is_block pos values from at.zero.result s t fresh at.in-None.ensures.steps at.zero.ensures.of_block at.zero.ensures.of_number)
+          rw (at.index-is, at.bits-in-Some.ensures) (begins_from w number is_block pos values from q x at.clear_below.result s t fresh at.in-Some.ensures.steps at.clear_below.ensures.of_block digits)
+      | in-None at ↦ rw at.index-is (begins_from_empty w number is_block pos values from at.zero.result s t fresh at.in-None.ensures.steps at.zero.ensures.of_block at.zero.ensures.of_number)
     ]
 
 pub invariant_of-result : goal.invariant_of-result

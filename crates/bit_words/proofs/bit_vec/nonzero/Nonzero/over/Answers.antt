@@ -3,8 +3,8 @@ use Rattle.std.specs.Iterator.{YieldsFirst}
 use Rattle.std.proofs.lemmas.List.{nil_from_length}
 use Rattle.std.proofs.lemmas.List.Elements.{All-tail}
 use Rattle.std.proofs.lemmas.Bool.{eqb-true}
-use Rattle.bit_words.specs.Marks.{IsMarked}
-use Rattle.bit_words.proofs.NonzeroLemmas.{IsMarked-begun, left-begun, IsMarked-none, left-none}
+use Rattle.bit_words.specs.Pending.{IsPending}
+use Rattle.bit_words.proofs.NonzeroLemmas.{IsPending-begun, left-begun, IsPending-none, left-none}
 use Rattle.bit_words.proofs.bit_vec.nonzero.Nonzero.over.Goals.{After-new, then-is_empty, else-is_empty, in-Some, in-None}
 use Rattle.bit_words.proofs.bit_vec.nonzero.Nonzero.over.Given.{Over}
 use Rattle.bit_words.proofs.bit_vec.nonzero.Nonzero.over.Goals as goal
@@ -32,18 +32,18 @@ invariant_of-result g c =
     let number = g.B.BitBlock.number in
     let is_block = g.B.BitBlock.is_block in
     let xs = c.args.blocks.now in
-    let sums = c.args.summary.now in
+    let summary = c.args.summary.now in
     let rest = c.if-is_empty.rest.left in
     let pos = g.met.B.BitBlock.width_law.positive in
     let first = pulled g c in
     elim c.match-first.branch [
       | in-Some at ↦
-          let more : sums ≡ at.in-Some.first ∷ rest = subst (λ o. YieldsFirst (λ zs. zs) sums o rest) at.in-Some.is first in
-          let blocks = All-tail is_block at.in-Some.first rest (subst (All is_block) more c.requires.summary.tidy.each) in
-          rw at.marks-is (IsMarked-begun w number is_block at.with_first_marked-marks.result at.in-Some.first xs sums rest pos c.requires.each c.requires.fits c.requires.summary more at.with_first_marked-marks.ensures.of_block blocks at.with_first_marked-marks.ensures.of_digits)
+          let more : summary ≡ at.in-Some.first ∷ rest = subst (λ o. YieldsFirst (λ zs. zs) summary o rest) at.in-Some.is first in
+          let blocks = All-tail is_block at.in-Some.first rest (subst (All is_block) more c.requires.summary.packed.each) in
+          rw at.pending-is (IsPending-begun w number is_block at.with_first_pending-pending.result at.in-Some.first xs summary rest pos c.requires.each c.requires.fits c.requires.summary more at.with_first_pending-pending.ensures.of_block blocks at.with_first_pending-pending.ensures.of_digits)
       | in-None at ↦
-          let none = subst (λ o. YieldsFirst (λ zs. zs) sums o rest) at.in-None.is first in
-          rw at.marks-is (subst (IsMarked w number is_block 0 at.zero-marks.result xs) (none.0 ∙ sym none.1) (IsMarked-none w number is_block at.zero-marks.result xs sums pos c.requires.each c.requires.fits c.requires.summary none.0 at.zero-marks.ensures.of_block at.zero-marks.ensures.of_number))
+          let none = subst (λ o. YieldsFirst (λ zs. zs) summary o rest) at.in-None.is first in
+          rw at.pending-is (subst (IsPending w number is_block 0 at.zero-pending.result xs) (none.0 ∙ sym none.1) (IsPending-none w number is_block at.zero-pending.result xs summary pos c.requires.each c.requires.fits c.requires.summary none.0 at.zero-pending.ensures.of_block at.zero-pending.ensures.of_number))
     ]
 
 pub returns-clause-left : goal.returns-clause-left
@@ -52,15 +52,15 @@ returns-clause-left g c =
     let number = g.B.BitBlock.number in
     let is_block = g.B.BitBlock.is_block in
     let xs = c.args.blocks.now in
-    let sums = c.args.summary.now in
+    let summary = c.args.summary.now in
     let rest = c.if-is_empty.rest.left in
     let pos = g.met.B.BitBlock.width_law.positive in
     let first = pulled g c in
     elim c.match-first.branch [
       | in-Some at ↦
-          let more : sums ≡ at.in-Some.first ∷ rest = subst (λ o. YieldsFirst (λ zs. zs) sums o rest) at.in-Some.is first in
-          rw at.marks-is (left-begun w number is_block at.with_first_marked-marks.result at.in-Some.first xs sums rest pos c.requires.summary more at.with_first_marked-marks.ensures.of_digits)
+          let more : summary ≡ at.in-Some.first ∷ rest = subst (λ o. YieldsFirst (λ zs. zs) summary o rest) at.in-Some.is first in
+          rw at.pending-is (left-begun w number is_block at.with_first_pending-pending.result at.in-Some.first xs summary rest pos c.requires.summary more at.with_first_pending-pending.ensures.of_digits)
       | in-None at ↦
-          let none = subst (λ o. YieldsFirst (λ zs. zs) sums o rest) at.in-None.is first in
-          left-none w number is_block (number c.match-first.marks) xs sums pos c.requires.summary none.0
+          let none = subst (λ o. YieldsFirst (λ zs. zs) summary o rest) at.in-None.is first in
+          left-none w number is_block (number c.match-first.pending) xs summary pos c.requires.summary none.0
     ]

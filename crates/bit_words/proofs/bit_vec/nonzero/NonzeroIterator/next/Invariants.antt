@@ -1,5 +1,5 @@
 use Rattle.std.proofs.Common.{◌≡◌, ◌+◌, ◌≤◌, length}
-use Rattle.bit_words.specs.Marks.{IsMarked, marked_from}
+use Rattle.bit_words.specs.Pending.{IsPending, pending_from}
 use Rattle.bit_words.proofs.bit_vec.nonzero.NonzeroIterator.next.Given as goal
 
 -- the same is left, and what was pulled came out of the summary
@@ -9,8 +9,8 @@ invariant-loop-self g l =
     let number = g.B.BitBlock.number in
     let it = l.self-inside in
     record {
-      walk : IsMarked w number g.B.BitBlock.is_block it.place it.marks it.blocks.now it.summary.left;
-      same : marked_from w number it.place (number it.marks) it.blocks.now ≡ l.fn.self.left;
+      walk : IsPending w number g.B.BitBlock.is_block it.index it.pending it.blocks.now it.summary.left;
+      same : pending_from w number it.index (number it.pending) it.blocks.now ≡ l.fn.self.left;
       kept : it.blocks.now ≡ l.fn.self.blocks;
       counted : it.steps ≡ l.fn.self.pulls + 1;
       pulled : it.summary.pulls + length it.summary.left ≡ l.fn.self.summary_pulls + l.fn.self.summary_left;

@@ -1,0 +1,314 @@
+// Two sets at once.
+ghost use Rattle.std.specs.Iterator.{IsFinite};
+
+use crate::input_sets::set_of;
+use bit_set::bit_vec::Merge;
+use bit_set::{BitBlock, BitSet, SetError};
+use std::alloc::{AllocError, Global};
+use std::cmp::Ordering;
+
+fn sum_of<I: Iterator<Item = usize> + Drop>(items: I) -> usize
+    requires can { I.can_next items }
+    requires ends { IsFinite (I.remaining items) }
+{
+    let mut sum = 0usize;
+    for item in items {
+        sum = sum.wrapping_add(item);
+    }
+    sum
+}
+
+fn sum_of_merged<B: BitBlock>(merge: Merge, one: &BitSet<B>, other: &BitSet<B>) -> usize {
+    match merge {
+        Merge::Union => sum_of(one.union(other)),
+        Merge::Intersection => sum_of(one.intersection(other)),
+        Merge::Difference => sum_of(one.difference(other)),
+        Merge::Symmetric => sum_of(one.symmetric_difference(other)),
+    }
+}
+
+fn count_of_merged<B: BitBlock>(merge: Merge, one: &BitSet<B>, other: &BitSet<B>) -> usize {
+    match merge {
+        Merge::Union => one.union(other).count(),
+        Merge::Intersection => one.intersection(other).count(),
+        Merge::Difference => one.difference(other).count(),
+        Merge::Symmetric => one.symmetric_difference(other).count(),
+    }
+}
+
+fn merge_into<B: BitBlock>(
+    merge: Merge,
+    one: &mut BitSet<B>,
+    other: &BitSet<B>,
+) -> Result<(), AllocError> {
+    match merge {
+        Merge::Union => one.union_with(other),
+        Merge::Intersection => one.intersect_with(other),
+        Merge::Difference => one.difference_with(other),
+        Merge::Symmetric => one.symmetric_difference_with(other),
+    }
+}
+
+// One number leaves after each turn, so that no turn can be the result of another.
+pub(crate) fn walk_merged<B: BitBlock>(
+    alloc: Global,
+    merge: Merge,
+    first: &[usize],
+    second: &[usize],
+    turns: usize,
+) -> Result<usize, SetError> {
+    let mut one = set_of::<B>(alloc, 0, first)?;
+    let other = set_of::<B>(alloc, 0, second)?;
+    let mut sum = 0usize;
+    for turn in 0..turns {
+        sum = sum.wrapping_add(sum_of_merged(merge, &one, &other));
+        let _was = one.remove(turn);
+    }
+    Ok(sum)
+}
+
+pub(crate) fn count_merged<B: BitBlock>(
+    alloc: Global,
+    merge: Merge,
+    first: &[usize],
+    second: &[usize],
+    turns: usize,
+) -> Result<usize, SetError> {
+    let mut one = set_of::<B>(alloc, 0, first)?;
+    let other = set_of::<B>(alloc, 0, second)?;
+    let mut sum = 0usize;
+    for turn in 0..turns {
+        sum = sum.wrapping_add(count_of_merged(merge, &one, &other));
+        let _was = one.remove(turn);
+    }
+    Ok(sum)
+}
+
+pub(crate) fn merge_in_place<B: BitBlock>(
+    alloc: Global,
+    merge: Merge,
+    first: &[usize],
+    second: &[usize],
+    turns: usize,
+) -> Result<usize, SetError> {
+    let mut one = set_of::<B>(alloc, 0, first)?;
+    let other = set_of::<B>(alloc, 0, second)?;
+    let mut were = 0usize;
+    for turn in 0..turns {
+        merge_into(merge, &mut one, &other)?;
+        were = were.wrapping_add(usize::from(one.remove(turn)));
+    }
+    Ok(were)
+}
+
+// The first set without the second, which has nothing in common with it.
+fn find_apart(
+    alloc: Global,
+    first: &[usize],
+    second: &[usize],
+    turns: usize,
+) -> Result<usize, SetError> {
+    let mut one = set_of::<u32>(alloc, 0, first)?;
+    let other = set_of(alloc, 0, second)?;
+    one.difference_with(&other)?;
+    let mut found = 0usize;
+    for turn in 0..turns {
+        found = found.wrapping_add(usize::from(one.is_disjoint(&other)));
+        let _was = one.remove(turn);
+    }
+    Ok(found)
+}
+
+#[unsafe(no_mangle)]
+pub extern "C" fn bench_is_disjoint(
+    alloc: Global,
+    first: &[usize],
+    second: &[usize],
+    turns: usize,
+) -> usize {
+    find_apart(alloc, first, second, turns).unwrap_or(usize::MAX)
+}
+
+// The second set and the first with it, which has all of it.
+fn find_within(
+    alloc: Global,
+    first: &[usize],
+    second: &[usize],
+    turns: usize,
+) -> Result<usize, SetError> {
+    let mut one = set_of::<u32>(alloc, 0, second)?;
+    let mut other = set_of(alloc, 0, first)?;
+    other.union_with(&one)?;
+    let mut found = 0usize;
+    for turn in 0..turns {
+        found = found.wrapping_add(usize::from(one.is_subset(&other)));
+        let _was = one.remove(turn);
+    }
+    Ok(found)
+}
+
+#[unsafe(no_mangle)]
+pub extern "C" fn bench_is_subset(
+    alloc: Global,
+    first: &[usize],
+    second: &[usize],
+    turns: usize,
+) -> usize {
+    find_within(alloc, first, second, turns).unwrap_or(usize::MAX)
+}
+
+pub(crate) fn compare<B: BitBlock>(
+    alloc: Global,
+    members: &[usize],
+    turns: usize,
+) -> Result<usize, SetError> {
+    let mut one = set_of::<B>(alloc, 0, members)?;
+    let mut other = one.clone(alloc)?;
+    let mut equal = 0usize;
+    for turn in 0..turns {
+        equal = equal.wrapping_add(usize::from(one == other));
+        let _was = one.remove(turn) | other.remove(turn);
+    }
+    Ok(equal)
+}
+
+#[unsafe(no_mangle)]
+pub extern "C" fn bench_eq(alloc: Global, members: &[usize], turns: usize) -> usize {
+    compare::<u32>(alloc, members, turns).unwrap_or(usize::MAX)
+}
+
+fn order(alloc: Global, members: &[usize], turns: usize) -> Result<usize, SetError> {
+    let mut one = set_of::<u32>(alloc, 0, members)?;
+    let mut other = one.clone(alloc)?;
+    let mut equal = 0usize;
+    for turn in 0..turns {
+        equal = equal.wrapping_add(usize::from(one.cmp(&other) == Ordering::Equal));
+        let _was = one.remove(turn) | other.remove(turn);
+    }
+    Ok(equal)
+}
+
+#[unsafe(no_mangle)]
+pub extern "C" fn bench_cmp(alloc: Global, members: &[usize], turns: usize) -> usize {
+    order(alloc, members, turns).unwrap_or(usize::MAX)
+}
+
+#[unsafe(no_mangle)]
+pub extern "C" fn bench_walk_union(
+    alloc: Global,
+    first: &[usize],
+    second: &[usize],
+    turns: usize,
+) -> usize {
+    walk_merged::<u32>(alloc, Merge::Union, first, second, turns).unwrap_or(usize::MAX)
+}
+
+#[unsafe(no_mangle)]
+pub extern "C" fn bench_walk_intersection(
+    alloc: Global,
+    first: &[usize],
+    second: &[usize],
+    turns: usize,
+) -> usize {
+    walk_merged::<u32>(alloc, Merge::Intersection, first, second, turns).unwrap_or(usize::MAX)
+}
+
+#[unsafe(no_mangle)]
+pub extern "C" fn bench_walk_difference(
+    alloc: Global,
+    first: &[usize],
+    second: &[usize],
+    turns: usize,
+) -> usize {
+    walk_merged::<u32>(alloc, Merge::Difference, first, second, turns).unwrap_or(usize::MAX)
+}
+
+#[unsafe(no_mangle)]
+pub extern "C" fn bench_walk_symmetric_difference(
+    alloc: Global,
+    first: &[usize],
+    second: &[usize],
+    turns: usize,
+) -> usize {
+    walk_merged::<u32>(alloc, Merge::Symmetric, first, second, turns).unwrap_or(usize::MAX)
+}
+
+#[unsafe(no_mangle)]
+pub extern "C" fn bench_count_union(
+    alloc: Global,
+    first: &[usize],
+    second: &[usize],
+    turns: usize,
+) -> usize {
+    count_merged::<u32>(alloc, Merge::Union, first, second, turns).unwrap_or(usize::MAX)
+}
+
+#[unsafe(no_mangle)]
+pub extern "C" fn bench_count_intersection(
+    alloc: Global,
+    first: &[usize],
+    second: &[usize],
+    turns: usize,
+) -> usize {
+    count_merged::<u32>(alloc, Merge::Intersection, first, second, turns).unwrap_or(usize::MAX)
+}
+
+#[unsafe(no_mangle)]
+pub extern "C" fn bench_count_difference(
+    alloc: Global,
+    first: &[usize],
+    second: &[usize],
+    turns: usize,
+) -> usize {
+    count_merged::<u32>(alloc, Merge::Difference, first, second, turns).unwrap_or(usize::MAX)
+}
+
+#[unsafe(no_mangle)]
+pub extern "C" fn bench_count_symmetric_difference(
+    alloc: Global,
+    first: &[usize],
+    second: &[usize],
+    turns: usize,
+) -> usize {
+    count_merged::<u32>(alloc, Merge::Symmetric, first, second, turns).unwrap_or(usize::MAX)
+}
+
+#[unsafe(no_mangle)]
+pub extern "C" fn bench_merge_union(
+    alloc: Global,
+    first: &[usize],
+    second: &[usize],
+    turns: usize,
+) -> usize {
+    merge_in_place::<u32>(alloc, Merge::Union, first, second, turns).unwrap_or(usize::MAX)
+}
+
+#[unsafe(no_mangle)]
+pub extern "C" fn bench_merge_intersection(
+    alloc: Global,
+    first: &[usize],
+    second: &[usize],
+    turns: usize,
+) -> usize {
+    merge_in_place::<u32>(alloc, Merge::Intersection, first, second, turns).unwrap_or(usize::MAX)
+}
+
+#[unsafe(no_mangle)]
+pub extern "C" fn bench_merge_difference(
+    alloc: Global,
+    first: &[usize],
+    second: &[usize],
+    turns: usize,
+) -> usize {
+    merge_in_place::<u32>(alloc, Merge::Difference, first, second, turns).unwrap_or(usize::MAX)
+}
+
+#[unsafe(no_mangle)]
+pub extern "C" fn bench_merge_symmetric_difference(
+    alloc: Global,
+    first: &[usize],
+    second: &[usize],
+    turns: usize,
+) -> usize {
+    merge_in_place::<u32>(alloc, Merge::Symmetric, first, second, turns).unwrap_or(usize::MAX)
+}

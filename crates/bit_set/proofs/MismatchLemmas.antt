@@ -1,0 +1,201 @@
+-- Where lists of blocks differ, and what of the lists of truth values that they hold.
+use Rattle.std.proofs.Common.{◌≡◌, ◌≢◌, ℕ, ◌+◌, ◌-◌, ◌*◌, ◌/◌, ◌%◌, ◌^◌, ◌<◌, ◌≤◌, max, Bool, true, false, not, eqb, List, get_or, length, refl, sym, ap, ◌∙◌, subst, inl, inr, arith}
+use Rattle.std.specs.Bool.{OnTrue, OnFalse}
+use Rattle.std.specs.Prelude.{Option, Some, None, MatchOption, is_some}
+use Rattle.std.specs.Int.{bit_at}
+use borrow.Author.Tests.{eqb-true, eqb-false}
+use Rattle.std.proofs.lemmas.Bool.{cases_lt, cases_eq, true≢false}
+use Rattle.std.proofs.lemmas.Nat.Bits.{bit_at-lt, bit_at-zero, bit_at_above, same_from_bits_below}
+use Rattle.std.proofs.lemmas.Nat.{pow_pos}
+use Rattle.std.proofs.Math.Nat.{div-add-mod', mod-lt, mul-le-mul_right}
+use Rattle.bit_words.specs.Bits.{blocks_of}
+use Rattle.bit_words.specs.Digits.{IsEither, IsDifferent, IsShiftedRight}
+use Rattle.bit_words.specs.Lowest.{IsLowest}
+use Rattle.bit_words.proofs.BitsLemmas.{blocks_of-digit, blocks_of-lt, read_back}
+use Rattle.bit_words.proofs.LowestLemmas.{lowest_found}
+use Rattle.bit_set.specs.Sets.{elements, has}
+use Rattle.bit_set.specs.Mismatches.{IsFirstMismatch, IsFirstBlockMismatch, IsFirstNonzeroBlock, IsLowestMismatch}
+use Rattle.bit_set.proofs.SetLemmas.{has-elements}
+use Rattle.bit_set.proofs.ValueLemmas.{has-within}
+
+-- ---- the digits of one block
+
+-- an or is 0 where both sides are
+pub none_of_either : (w m n r : ℕ) → m < 2 ^ w → n < 2 ^ w → IsEither w m n r → r ≡ 0 → (m ≡ 0) × (n ≡ 0)
+none_of_either w m n r small also is none =
+    let digit : (i : ℕ) → i < w → max (bit_at m i) (bit_at n i) ≡ 0 = λ i within. sym (is.digit i within) ∙ ap (λ x. bit_at x i) none ∙ bit_at-zero i in (
+      same_from_bits_below w m 0 small (pow_pos w) (λ i within. omega (arith, digit i within, bit_at-zero i)),
+      same_from_bits_below w n 0 also (pow_pos w) (λ i within. omega (arith, digit i within, bit_at-zero i)),
+    )
+
+-- an exclusive or is 0 where both sides are one number
+pub none_of_different : (w m n r : ℕ) → m < 2 ^ w → n < 2 ^ w → IsDifferent w m n r → r ≡ 0 → m ≡ n
+none_of_different w m n r small also is none =
+    same_from_bits_below w m n small also (λ i within.
+    let digit : bit_at r i ≡ 0 = ap (λ x. bit_at x i) none ∙ bit_at-zero i in
+    omega (arith, is.digit i within, digit, bit_at-lt m i, bit_at-lt n i))
+
+pub either_of_none : (w m n r : ℕ) → r < 2 ^ w → IsEither w m n r → m ≡ 0 → n ≡ 0 → r ≡ 0
+either_of_none w m n r small is first second =
+    same_from_bits_below w r 0 small (pow_pos w) (λ i within.
+    let one : bit_at m i ≡ 0 = ap (λ x. bit_at x i) first ∙ bit_at-zero i in
+    let two : bit_at n i ≡ 0 = ap (λ x. bit_at x i) second ∙ bit_at-zero i in omega (arith, is.digit i within, one, two, bit_at-zero i))
+
+pub different_of_same : (w m n r : ℕ) → r < 2 ^ w → IsDifferent w m n r → m ≡ n → r ≡ 0
+different_of_same w m n r small is same =
+    same_from_bits_below w r 0 small (pow_pos w) (λ i within.
+    let one : bit_at m i ≡ bit_at n i = ap (λ x. bit_at x i) same in omega (arith, is.digit i within, one, bit_at-zero i))
+
+-- the digits of numbers that differ do not all agree, so that their exclusive or is not 0
+pub different_some : (w m n r : ℕ) → m < 2 ^ w → n < 2 ^ w → m ≢ n → IsDifferent w m n r → 0 < r
+different_some w m n r small also mismatch is =
+    elim (cases_lt 0 r) [
+      | inl some ↦ some
+      | inr none ↦ absurd (mismatch (none_of_different w m n r small also is (omega arith)))
+    ]
+
+pub lowest_mismatch_is : (w m n r i : ℕ) → IsDifferent w m n r → IsLowest r i → i < w → IsLowestMismatch w m n i
+lowest_mismatch_is w m n r i is low within = record {
+  within = within;
+  below = λ k lower. omega (arith, is.digit k (omega arith), low.zeros k lower, bit_at-lt m k, bit_at-lt n k);
+  here = omega (arith, is.digit i within, low.one, bit_at-lt m i, bit_at-lt n i);
+}
+
+-- what is moved down and not 0 has a 1 at the place or above it
+pub some_moved : (w m d r : ℕ) → r < 2 ^ w → IsShiftedRight w m d r → r ≢ 0 → (j : ℕ) × (d ≤ j) × (j < w) × (bit_at m j ≡ 1)
+some_moved w m d r small is some =
+    let found = lowest_found w r (omega (arith, some)) small in
+    elim (cases_lt (found.0 + d) w) [
+      | inl inside ↦ (found.0 + d, omega arith, inside, sym (is.moved found.0 inside) ∙ found.1.lowest.one)
+      | inr past ↦ absurd (omega (arith, found.1.lowest.one, is.zeros found.0 found.1.within past))
+    ]
+
+pub none_moved : (w m d r : ℕ) → m < 2 ^ w → IsShiftedRight w m d r → r ≡ 0 → (j : ℕ) → d ≤ j → bit_at m j ≡ 0
+none_moved w m d r small is none j from =
+    elim (cases_lt j w) [
+      | inl inside ↦
+          let back : j - d + d ≡ j = omega arith in
+          sym (ap (bit_at m) back) ∙ sym (is.moved (j - d) (omega arith)) ∙ ap (λ x. bit_at x (j - d)) none ∙ bit_at-zero (j - d)
+      | inr past ↦ bit_at_above m w j small past
+    ]
+
+-- what a test that two numbers are the same says
+pub on_mismatch : (a b : ℕ) (c : Bool) (P : Type 0) → c ≡ eqb a b → (a ≢ b → P) → OnTrue (not c) P
+on_mismatch a b true P is then = tt
+on_mismatch a b false P is then = then (eqb-false a b (sym is))
+
+pub on_alike : (a b : ℕ) (c : Bool) (P : Type 0) → c ≡ eqb a b → (a ≡ b → P) → OnFalse (not c) P
+on_alike a b true P is then = then (eqb-true a b (sym is))
+on_alike a b false P is then = tt
+
+-- ---- the blocks of a list of truth values
+
+-- a number is an element exactly where the digit at its place is 1
+pub has-index : (w q j : ℕ) (values : List Bool) → j < w → has (elements values) (q * w + j) ≡ eqb (bit_at (get_or (blocks_of w values) q 0) j) 1
+has-index w q j values within =
+    has-elements values (q * w + j) ∙ sym (ap (λ d. eqb d 1) (blocks_of-digit w q j values within) ∙ read_back (get_or values (q * w + j) false))
+
+has-number : (w k : ℕ) (values : List Bool) → 0 < w → has (elements values) k ≡ eqb (bit_at (get_or (blocks_of w values) (k / w) 0) (k % w)) 1
+has-number w k values pos =
+    let split : k ≡ k / w * w + k % w = sym (div-add-mod' k w) in
+    ap (has (elements values)) split ∙ has-index w (k / w) (k % w) values (mod-lt k pos)
+
+-- blocks that agree hold the same set
+pub all_alike : (w : ℕ) (ms ns : List ℕ) (xs ys : List Bool) → 0 < w → ms ≡ blocks_of w xs → ns ≡ blocks_of w ys → ((k : ℕ) → get_or ms k 0 ≡ get_or ns k 0) → (k : ℕ) → has (elements xs) k ≡ has (elements ys) k
+all_alike w ms ns xs ys pos left right same k =
+    has-number w k xs pos
+    ∙ ap (λ bs. eqb (bit_at (get_or bs (k / w) 0) (k % w)) 1) (sym left)
+    ∙ ap (λ m. eqb (bit_at m (k % w)) 1) (same (k / w))
+    ∙ ap (λ bs. eqb (bit_at (get_or bs (k / w) 0) (k % w)) 1) right
+    ∙ sym (has-number w k ys pos)
+
+-- a number below a place of a block is in an earlier block, or in that block below the place
+earlier : (w at i k : ℕ) → 0 < w → i < w → k < at * w + i → ((k / w) ≢ at → (k / w) < at)
+earlier w at i k pos within below other =
+    elim (cases_lt (k / w) (at + 1)) [
+      | inl lower ↦ omega (arith, other, lower)
+      | inr past ↦ absurd (omega (arith, mul-le-mul_right w past, div-add-mod' k w))
+    ]
+
+one_of_two : (a b : ℕ) → a < 2 → b < 2 → a + b ≡ 1 → eqb a 1 ≡ not (eqb b 1)
+one_of_two a b small also sum =
+    elim (cases_eq a 1) [
+      | inl one ↦ let none : b ≡ 0 = omega arith in rw (one, none) refl
+      | inr other ↦ let none : a ≡ 0 = omega (arith, other) in let one : b ≡ 1 = omega arith in rw (one, none) refl
+    ]
+
+-- the first block that differs, and the lowest digit there, give the first number that differs
+first_mismatch_is : (w at i : ℕ) (xs ys : List Bool) → 0 < w → IsFirstBlockMismatch (blocks_of w xs) (blocks_of w ys) at → IsLowestMismatch w (get_or (blocks_of w xs) at 0) (get_or (blocks_of w ys) at 0) i
+    → IsFirstMismatch (elements xs) (elements ys) (at * w + i)
+first_mismatch_is w at i xs ys pos first lowest = record {
+  below = λ k below.
+      has-number w k xs pos
+      ∙ ap (λ d. eqb d 1) (elim (cases_eq (k / w) at) as (λ _. bit_at (get_or (blocks_of w xs) (k / w) 0) (k % w) ≡ bit_at (get_or (blocks_of w ys) (k / w) 0) (k % w)) [
+        | inl here ↦ rw here (lowest.below (k % w) (omega (arith, div-add-mod' k w, ap (λ q. q * w) here)))
+        | inr other ↦ ap (λ m. bit_at m (k % w)) (first.below (k / w) (earlier w at i k pos lowest.within below other))
+      ])
+      ∙ sym (has-number w k ys pos);
+  here =
+      has-index w at i xs lowest.within
+      ∙ one_of_two _ _ (bit_at-lt (get_or (blocks_of w xs) at 0) i) (bit_at-lt (get_or (blocks_of w ys) at 0) i) lowest.here
+      ∙ ap not (sym (has-index w at i ys lowest.within));
+}
+
+pub first_difference_is : (w at i m n : ℕ) (ms ns : List ℕ) (xs ys : List Bool) → 0 < w → ms ≡ blocks_of w xs → ns ≡ blocks_of w ys → IsFirstBlockMismatch ms ns at → m ≡ get_or ms at 0 → n ≡ get_or ns at 0 → IsLowestMismatch w m n i
+    → IsFirstMismatch (elements xs) (elements ys) (at * w + i)
+first_difference_is w at i m n ms ns xs ys pos left right first m_is n_is lowest =
+    first_mismatch_is w at i xs ys pos
+    (subst (λ bs. IsFirstBlockMismatch bs (blocks_of w ys) at) left (subst (λ bs. IsFirstBlockMismatch ms bs at) right first))
+    (subst (λ x. IsLowestMismatch w x (get_or (blocks_of w ys) at 0) i) (m_is ∙ ap (λ bs. get_or bs at 0) left) (subst (λ x. IsLowestMismatch w m x i) (n_is ∙ ap (λ bs. get_or bs at 0) right) lowest))
+
+-- it is below one of the lengths
+pub first_within : (xs ys : List Bool) (n : ℕ) → IsFirstMismatch (elements xs) (elements ys) n → length xs < 2 ^ 64 → length ys < 2 ^ 64 → n < 2 ^ 64
+first_within xs ys n first left right = by_cases (has (elements xs) n) (has (elements ys) n) refl refl first.here
+  where
+    by_cases : (b c : Bool) → has (elements xs) n ≡ b → has (elements ys) n ≡ c → b ≡ not c → n < 2 ^ 64
+    by_cases true c is it e = (let below = has-within xs n is in omega (arith, below, left))
+    by_cases false true is it e = (let below = has-within ys n it in omega (arith, below, right))
+    by_cases false false is it e = absurd (true≢false (sym e))
+
+-- ---- what a set has from a number on
+
+pub has_in_block : (w from m j : ℕ) (ms : List ℕ) (values : List Bool) → ms ≡ blocks_of w values → m ≡ get_or ms (from / w) 0 → from % w ≤ j → j < w → bit_at m j ≡ 1 → (k : ℕ) × (from ≤ k) × (has (elements values) k ≡ true)
+has_in_block w from m j ms values are is past within one =
+    (from / w * w + j, omega (arith, div-add-mod' from w), has-index w (from / w) j values within ∙ ap (λ x. eqb (bit_at x j) 1) (sym (is ∙ ap (λ bs. get_or bs (from / w) 0) are)) ∙ ap (λ d. eqb d 1) one)
+
+has_past_block : (w from q : ℕ) (ms : List ℕ) (values : List Bool) → 0 < w → ms ≡ blocks_of w values → IsFirstNonzeroBlock ms (from / w + 1) q → (k : ℕ) × (from ≤ k) × (has (elements values) k ≡ true)
+has_past_block w from q ms values pos are found_one =
+    let first = subst (λ bs. IsFirstNonzeroBlock bs (from / w + 1) q) are found_one in
+    let m = get_or (blocks_of w values) q 0 in
+    let found = lowest_found w m (omega (arith, first.here)) (blocks_of-lt w q values) in
+    let above = mul-le-mul_right w first.reached in (
+      q * w + found.0,
+      omega (arith, above, div-add-mod' from w, mod-lt from pos),
+      has-index w q found.0 values found.1.within ∙ ap (λ d. eqb d 1) found.1.lowest.one,
+    )
+
+has_none : (w from m : ℕ) (ms : List ℕ) (values : List Bool) → 0 < w → ms ≡ blocks_of w values → m ≡ get_or ms (from / w) 0 → ((j : ℕ) → from % w ≤ j → bit_at m j ≡ 0) → ((q : ℕ) → from / w + 1 ≤ q → get_or ms q 0 ≡ 0)
+    → (k : ℕ) → from ≤ k → has (elements values) k ≡ false
+has_none w from m ms values pos are is in_block past k above =
+    has-number w k values pos
+    ∙ ap (λ bs. eqb (bit_at (get_or bs (k / w) 0) (k % w)) 1) (sym are)
+    ∙ ap (λ d. eqb d 1) (elim (cases_lt (k / w) (from / w)) as (λ _. bit_at (get_or ms (k / w) 0) (k % w) ≡ 0) [
+      | inl below ↦ absurd (omega (arith, mul-le-mul_right w (let e : k / w + 1 ≤ from / w = omega arith in e), div-add-mod' from w, div-add-mod' k w, mod-lt k pos))
+      | inr reached ↦
+          elim (cases_eq (k / w) (from / w)) as (λ _. bit_at (get_or ms (k / w) 0) (k % w) ≡ 0) [
+            | inl here ↦ ap (λ q. bit_at (get_or ms q 0) (k % w)) here ∙ ap (λ x. bit_at x (k % w)) (sym is) ∙ in_block (k % w) (omega (arith, div-add-mod' k w, div-add-mod' from w, ap (λ q. q * w) here))
+            | inr other ↦ ap (λ m. bit_at m (k % w)) (past (k / w) (omega (arith, other, reached))) ∙ bit_at-zero (k % w)
+          ]
+    ])
+
+-- the same, by what a search past the block found
+pub some_past : (w from : ℕ) (ms : List ℕ) (values : List Bool) (r : Option ℕ) (b : Bool) → 0 < w → ms ≡ blocks_of w values → MatchOption r ((q : ℕ) → from / w + 1 ≤ q → get_or ms q 0 ≡ 0) (IsFirstNonzeroBlock ms (from / w + 1)) → b ≡ is_some r
+    → OnTrue b ((k : ℕ) × (from ≤ k) × (has (elements values) k ≡ true))
+some_past w from ms values None b pos are found is = subst (λ t. OnTrue t ((k : ℕ) × (from ≤ k) × (has (elements values) k ≡ true))) (sym is) tt
+some_past w from ms values (Some q) b pos are found is = subst (λ t. OnTrue t ((k : ℕ) × (from ≤ k) × (has (elements values) k ≡ true))) (sym is) (has_past_block w from q ms values pos are found)
+
+pub none_past : (w from m : ℕ) (ms : List ℕ) (values : List Bool) (r : Option ℕ) (b : Bool) → 0 < w → ms ≡ blocks_of w values → m ≡ get_or ms (from / w) 0 → ((j : ℕ) → from % w ≤ j → bit_at m j ≡ 0)
+    → MatchOption r ((q : ℕ) → from / w + 1 ≤ q → get_or ms q 0 ≡ 0) (IsFirstNonzeroBlock ms (from / w + 1)) → b ≡ is_some r
+    → OnFalse b ((k : ℕ) → from ≤ k → has (elements values) k ≡ false)
+none_past w from m ms values None b pos are m_is in_block found is = subst (λ t. OnFalse t ((k : ℕ) → from ≤ k → has (elements values) k ≡ false)) (sym is) (has_none w from m ms values pos are m_is in_block found)
+none_past w from m ms values (Some q) b pos are m_is in_block found is = subst (λ t. OnFalse t ((k : ℕ) → from ≤ k → has (elements values) k ≡ false)) (sym is) tt

@@ -1,0 +1,12 @@
+use Rattle.std.proofs.Common.{◌≡◌, ℕ, List, ◌++◌}
+use Rattle.std.specs.Prelude.{codes, decimal}
+use Rattle.std.specs.List.{flat_map}
+use Rattle.std.specs.Fmt.{HasWritten, IsPlainFormatter}
+use Rattle.bit_set.proofs.display.write_rest.Given as goal
+
+-- what is written and what is left, each item with its comma, are the text
+abbrev pub invariant-loop-item : goal.invariant-loop-item
+invariant-loop-item g l =
+    IsPlainFormatter l.fn.f
+    → (done : List ℕ) × HasWritten g.W.Write.write_str_gives l.fn.f done l.f
+    × (done ++ flat_map (λ n. codes ", " ++ decimal n) l.item-iterator.left ≡ flat_map (λ n. codes ", " ++ decimal n) l.fn.rest.left)

@@ -1,0 +1,29 @@
+use Rattle.std.proofs.Common.{◌≡◌, ◌≢◌, ◌↔◌, ◌-◌, ◌%◌, length, get_or, ap, sym, ◌∙◌, subst}
+use Rattle.bit_words.specs.Digits.{IsShiftedRight}
+use Rattle.bit_set.specs.Json.{HasZeroTail}
+use Rattle.bit_set.specs.Entries.{numbers_of}
+use Rattle.bit_set.proofs.JsonLemmas.{blocks_for_some, zero_tail_by_shift, counted, number_at}
+use Rattle.bit_set.proofs.json.checking.has_zero_tail.Goals as goal
+
+pub returns : goal.returns
+returns g c =
+    let law = g.met.B.BitBlock in
+    let w = g.B.BitBlock.width in
+    let number = g.B.BitBlock.number in
+    let vs = c.args.entries.now in
+    let n = c.args.len in
+    let r = number c.shift_right.result in
+    let width = c.bits.ensures in
+    let part : n % w ≢ 0 = λ e. c.if-used-eq0.false (ap (λ x. n % x) width ∙ e) in
+    let some = blocks_for_some w n (length vs) part c.requires.count in
+    let last : number c.block_of-last.result ≡ get_or (numbers_of vs) (length (numbers_of vs) - 1) 0 =
+    number_at vs (length vs - 1) c.index-entries-entries.result (number c.block_of-last.result) some c.index-entries-entries.is c.block_of-last.ensures.of_number
+    ∙ ap (λ k. get_or (numbers_of vs) (k - 1) 0) (sym (counted vs)) in
+    let shifted : IsShiftedRight w (get_or (numbers_of vs) (length (numbers_of vs) - 1) 0) (n % w) r =
+    subst (λ m. IsShiftedRight w m (n % w) r) last (subst (λ x. IsShiftedRight w (number c.block_of-last.result) (n % x) r) width c.shift_right.ensures.of_digits) in
+    let zero_tail : (r ≡ 0) ↔ HasZeroTail w (numbers_of vs) n =
+    zero_tail_by_shift w n r (numbers_of vs) law.width_law.positive part (counted vs ∙ c.requires.count) (law.number_law c.shift_right.result c.shift_right.ensures.of_block).0 shifted in
+    let same = law.eq_law c.shift_right.result c.zero.result c.shift_right.ensures.of_block c.zero.ensures.of_block in (
+      λ yes. zero_tail.0 (same.0 (sym c.eq.ensures ∙ yes) ∙ c.zero.ensures.of_number),
+      λ is. c.eq.ensures ∙ same.1 (zero_tail.1 is ∙ sym c.zero.ensures.of_number),
+    )

@@ -1,0 +1,150 @@
+// Where lists of blocks differ. A block past the end of a list counts as 0.
+ghost use Rattle.std.specs.Prelude.{◌≡◌, ◌≢◌, ℕ, ◌+◌, ◌*◌, ◌<◌, ◌≤◌, ◌==◌, ◌↔◌, All, IsTrue, MatchOption, get_or, length, map};
+ghost use Rattle.std.specs.Bool.{OnTrue, OnFalse};
+ghost use Rattle.std.specs.Int.{bit_at};
+ghost use Rattle.bit_set.specs.Mismatches.{IsFirstBlockMismatch, IsFirstNonzeroBlock, IsLowestMismatch};
+
+use crate::BitBlock;
+use crate::bit_vec::take_lowest_one;
+
+// How many blocks are tested at once.
+const GROUP: usize = 32;
+
+// The first index at which the blocks differ.
+pub(crate) fn first_mismatching_block<B: BitBlock>(a: &[B], b: &[B]) -> Option<usize>
+    requires left { All B.is_block a.now }
+    requires right { All B.is_block b.now }
+    ensures { MatchOption result
+        ((k : ℕ) → get_or (map B.number a.now) k 0 ≡ get_or (map B.number b.now) k 0)
+        (IsFirstBlockMismatch (map B.number a.now) (map B.number b.now)) }
+{
+    let both = a.len().min(b.len());
+    let alike = same_groups(a, b, both / GROUP) * GROUP;
+    for k in alike..both {
+        if !same(block_at(a, k), block_at(b, k)) {
+            return Some(k);
+        }
+    }
+    let longer = if a.len() < b.len() { b } else { a };
+    first_nonzero_block(longer, both)
+}
+
+// How many groups of blocks are the same, up to the first that is not.
+fn same_groups<B: BitBlock>(a: &[B], b: &[B], groups: usize) -> usize
+    requires within { groups * GROUP ≤ length a.now }
+    requires within_other { groups * GROUP ≤ length b.now }
+    requires left { All B.is_block a.now }
+    requires right { All B.is_block b.now }
+    ensures within { result ≤ groups }
+    ensures same { (k : ℕ) → k < result * GROUP → get_or (map B.number a.now) k 0 ≡ get_or (map B.number b.now) k 0 }
+    ensures stops { result < groups
+        → ¬ ((k : ℕ) → result * GROUP ≤ k → k < result * GROUP + GROUP
+        → get_or (map B.number a.now) k 0 ≡ get_or (map B.number b.now) k 0) }
+{
+    for group in 0..groups {
+        if !is_same_group(a, b, group * GROUP) {
+            return group;
+        }
+    }
+    groups
+}
+
+// Whether the blocks of the group that begins at `start` are the same. One test for all of them.
+#[inline]
+fn is_same_group<B: BitBlock>(a: &[B], b: &[B], start: usize) -> bool
+    requires within { start + GROUP ≤ length a.now }
+    requires within_other { start + GROUP ≤ length b.now }
+    requires left { All B.is_block a.now }
+    requires right { All B.is_block b.now }
+    ensures { IsTrue result
+        ↔ ((k : ℕ) → start ≤ k → k < start + GROUP
+        → get_or (map B.number a.now) k 0 ≡ get_or (map B.number b.now) k 0) }
+{
+    let mut mismatch = B::zero();
+    for k in start..start + GROUP {
+        mismatch = or_mismatch(mismatch, block_at(a, k), block_at(b, k));
+    }
+    same(mismatch, B::zero())
+}
+
+// The digits of `seen`, and those in which the other two differ.
+#[inline]
+fn or_mismatch<B: BitBlock>(seen: B, a: B, b: B) -> B
+    requires seen { B.is_block seen }
+    requires left { B.is_block a }
+    requires right { B.is_block b }
+    ensures of_block { B.is_block result }
+    ensures none { (B.number result ≡ 0) ↔ ((B.number seen ≡ 0) × (B.number a ≡ B.number b)) }
+{
+    seen | (a ^ b)
+}
+
+// The first index, from `from` on, of a block that is not 0.
+pub(crate) fn first_nonzero_block<B: BitBlock>(blocks: &[B], from: usize) -> Option<usize>
+    requires { All B.is_block blocks.now }
+    ensures { MatchOption result
+        ((k : ℕ) → from ≤ k → get_or (map B.number blocks.now) k 0 ≡ 0)
+        (IsFirstNonzeroBlock (map B.number blocks.now) from) }
+{
+    for k in from..blocks.len() {
+        if !same(block_at(blocks, k), B::zero()) {
+            return Some(k);
+        }
+    }
+    None
+}
+
+#[inline]
+pub(crate) fn block_or_zero<B: BitBlock>(blocks: &[B], k: usize) -> B
+    requires { All B.is_block blocks.now }
+    ensures of_block { B.is_block result }
+    ensures of_number { B.number result ≡ get_or (map B.number blocks.now) k 0 }
+{
+    if k < blocks.len() {
+        block_at(blocks, k)
+    } else {
+        B::zero()
+    }
+}
+
+#[inline]
+fn block_at<B: BitBlock>(blocks: &[B], k: usize) -> B
+    requires in_bounds { k < length blocks.now }
+    requires each { All B.is_block blocks.now }
+    ensures of_block { B.is_block result }
+    ensures of_number { B.number result ≡ get_or (map B.number blocks.now) k 0 }
+{
+    blocks[k]
+}
+
+#[inline]
+fn same<B: BitBlock>(a: B, b: B) -> bool
+    requires left { B.is_block a }
+    requires right { B.is_block b }
+    ensures { result ≡ (B.number a == B.number b) }
+{
+    a == b
+}
+
+// The lowest index at which the digits of two blocks differ.
+#[inline]
+pub(crate) fn lowest_mismatch<B: BitBlock>(a: B, b: B) -> usize
+    requires left { B.is_block a }
+    requires right { B.is_block b }
+    requires mismatch { B.number a ≢ B.number b }
+    ensures { IsLowestMismatch B.width (B.number a) (B.number b) result }
+{
+    let mut mismatch = a ^ b;
+    take_lowest_one(&mut mismatch)
+}
+
+// Whether the block has a 1 at an index or above it.
+#[inline]
+pub(crate) fn has_one_from<B: BitBlock>(block: B, index: usize) -> bool
+    requires of_block { B.is_block block }
+    requires within { index < B.width }
+    ensures some { OnTrue result ((j : ℕ) × (index ≤ j) × (j < B.width) × (bit_at (B.number block) j ≡ 1)) }
+    ensures none { OnFalse result ((j : ℕ) → index ≤ j → bit_at (B.number block) j ≡ 0) }
+{
+    !same(block.shift_right(index), B::zero())
+}

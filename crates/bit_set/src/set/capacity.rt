@@ -1,0 +1,112 @@
+// Calls that change the capacity, or return the bit vector.
+ghost use Rattle.std.specs.Prelude.{◌≡◌, ℕ, ◌*◌, ◌<◌, ◌≤◌, Bool, IsOk, is_ok, OnErr, OnOk, [], length, max, slice_set};
+ghost use Rattle.std.specs.Borrow.{sem};
+ghost use Rattle.bit_words.specs.Bits.{blocks_for, capacity_of, whole_blocks, IsWithinCapacity};
+ghost use Rattle.bit_set.specs.Members.{Updates};
+ghost use Rattle.bit_set.specs.Sets.{bound_of, elements};
+ghost use Rattle.bit_set.specs.Calls.{Change, Changes, finished};
+ghost use Rattle.bit_set.specs.Capacity.{Leaves};
+ghost use Rattle.bit_set.specs.Capacity.Call.{ReserveLen, ReserveLenExact};
+ghost use Rattle.bit_set.specs.Lends.{lends_bits};
+
+use crate::bit_vec::BitVec;
+use crate::{BitBlock, BitSet};
+use std::alloc::AllocError;
+
+impl<B: BitBlock> BitSet<B> {
+    /// Reserves capacity for elements below `len`; no element, and not the length, changes. Where the capacity
+    /// was missing it asks for twice the old at least, and may move the blocks. Fails only there, and the
+    /// capacity then stays.
+    ///
+    /// ```
+    /// set.reserve_len(100)?;
+    /// // From here on no insertion below 100 fails.
+    /// ```
+    pub fn reserve_len(&mut self, len: usize) -> Result<(), AllocError>
+        ensures values { self.new.values ≡ self.old.values }
+        ensures ok { OnOk result (len ≤ self.new.capacity) }
+        ensures err { OnErr result (self.new ≡ self.old) }
+        ensures full { OnErr result (self.old.capacity < len) }
+        ensures past { OnErr result (length self.old.values < len) }
+        ensures succeeds { len ≤ self.old.capacity → IsOk result }
+        ensures within { len ≤ self.old.capacity → self.new.capacity ≡ self.old.capacity }
+        ensures capacity { self.old.capacity ≤ self.new.capacity }
+        ensures leaves { Leaves (ReserveLen len) self.old.capacity (is_ok result) self.new.capacity }
+        ensures changes { Changes (Change.ReserveLen len) self.old.values (finished result) self.new.values }
+    {
+        let missing = len.saturating_sub(self.bits.len());
+        self.bits.reserve(missing)
+    }
+
+    /// Reserves capacity for elements below `len`; no element, and not the length, changes. Where the capacity
+    /// was missing the capacity becomes that of the blocks of `len`; this may move the blocks. Fails only there,
+    /// and the capacity then stays.
+    pub fn reserve_len_exact(&mut self, len: usize) -> Result<(), AllocError>
+        ensures values { self.new.values ≡ self.old.values }
+        ensures ok { OnOk result (len ≤ self.new.capacity) }
+        ensures err { OnErr result (self.new ≡ self.old) }
+        ensures full { OnErr result (self.old.capacity < len) }
+        ensures past { OnErr result (length self.old.values < len) }
+        ensures succeeds { len ≤ self.old.capacity → IsOk result }
+        ensures within { len ≤ self.old.capacity → self.new.capacity ≡ self.old.capacity }
+        ensures exact { OnOk result (self.new.capacity ≡ max self.old.capacity
+            (capacity_of B.width (blocks_for B.width len))) }
+        ensures capacity { self.old.capacity ≤ self.new.capacity }
+        ensures leaves { Leaves (ReserveLenExact len) self.old.capacity (is_ok result) self.new.capacity }
+        ensures changes { Changes (Change.ReserveLenExact len) self.old.values (finished result) self.new.values }
+    {
+        let missing = len.saturating_sub(self.bits.len());
+        self.bits.reserve_exact(missing)
+    }
+
+    /// Makes the length that of the blocks up to the one with the greatest element, so that it can become greater
+    /// too, and gives back the capacity that these blocks do not take; may move them. The elements stay. Fails
+    /// just where the capacity is still greater than that of these blocks, since memory to move to was refused;
+    /// the length is the new one then too.
+    ///
+    /// ```
+    /// // The set is {3, 400}, over blocks of 32 bits.
+    /// set.remove(400);
+    /// set.shrink_to_fit()?;
+    /// assert_eq!(set.capacity(), 32);
+    /// ```
+    pub fn shrink_to_fit(&mut self) -> Result<(), AllocError>
+        ensures elements { elements self.new.values ≡ elements self.old.values }
+        ensures length { length self.new.values ≡ whole_blocks B.width self.old.values }
+        ensures cut { blocks_for B.width (bound_of (elements self.old.values)) * B.width ≤ usize.MAX
+            → length self.new.values ≡ blocks_for B.width (bound_of (elements self.old.values)) * B.width }
+        ensures top { usize.MAX < blocks_for B.width (bound_of (elements self.old.values)) * B.width
+            → length self.new.values ≡ length self.old.values }
+        ensures ok { OnOk result (self.new.capacity ≡ capacity_of B.width
+            (blocks_for B.width (length self.new.values))) }
+        ensures err { OnErr result (capacity_of B.width (blocks_for B.width (length self.new.values))
+            < self.new.capacity) }
+        ensures capacity { self.new.capacity ≤ self.old.capacity }
+        ensures fits { IsWithinCapacity self.new }
+        ensures empty { elements self.old.values ≡ [] → IsOk result }
+        ensures changes { Changes Change.ShrinkToFit self.old.values (finished result) self.new.values }
+    {
+        self.bits.cut_zero_blocks();
+        self.bits.shrink_to_fit()
+    }
+
+    /// The bit vector, to write to: what it is when the borrow ends is the set from then on. Constant
+    /// time.
+    #[inline]
+    pub fn get_mut(&mut self) -> &mut BitVec<B>
+        ensures* writes_back { sem 𝓛 (lends_bits B.row B.BitBlock self.entry result) }
+        ensures value { result.now ≡ self.old }
+        ensures members { (i : ℕ) (bit : Bool) → i < length self.old.values
+            → Updates (elements self.old.values) (elements (slice_set self.old.values i bit)) i bit }
+    {
+        &mut self.bits
+    }
+
+    /// The bit vector that keeps the set. Constant time.
+    #[inline]
+    pub fn into_bit_vec(self) -> BitVec<B>
+        ensures { result ≡ self }
+    {
+        self.bits
+    }
+}

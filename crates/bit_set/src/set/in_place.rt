@@ -1,0 +1,146 @@
+// Calls that make a set, in place, what it and another become.
+ghost use Rattle.std.specs.Prelude.{◌≡◌, ◌-◌, ◌<◌, ◌≤◌, ◌++◌, max, OnOk, OnErr, IsOk, is_ok, length, replicate, false};
+ghost use Rattle.bit_words.specs.Merges.{merge_of};
+ghost use Rattle.bit_set.specs.Members.{IsDifference, IsIntersection, IsMerged, IsSymmetricDifference, IsUnion};
+ghost use Rattle.bit_set.specs.Sets.{elements, union, intersection, difference, symmetric_difference, merge_of_sets};
+ghost use Rattle.bit_set.specs.Calls.{Change, Changes, finished};
+ghost use Rattle.bit_set.specs.Capacity.{Leaves};
+ghost use Rattle.bit_set.specs.Capacity.Call.{UnionWith, IntersectWith, DifferenceWith, SymmetricDifferenceWith};
+
+use crate::bit_vec::{Merge, Steps};
+use crate::{BitBlock, BitSet};
+use std::alloc::AllocError;
+
+impl<B: BitBlock> BitSet<B> {
+    // Makes the list at least `len` long: it goes on with false.
+    #[inline]
+    fn lengthen(&mut self, len: usize) -> Result<(), AllocError>
+        ensures ok { OnOk result (self.new.values ≡ self.old.values ++ replicate (len - length self.old.values) false) }
+        ensures err { OnErr result (self.new ≡ self.old) }
+        ensures full { OnErr result (self.old.capacity < len) }
+        ensures succeeds { len ≤ self.old.capacity → IsOk result }
+        ensures capacity { self.old.capacity ≤ self.new.capacity }
+        ensures kept { len ≤ length self.old.values → self.new.capacity ≡ self.old.capacity }
+        ensures within { len ≤ self.old.capacity → self.new.capacity ≡ self.old.capacity }
+    {
+        let old = self.bits.len();
+        if len > old {
+            self.bits.grow(len - old, false)?;
+        }
+        Ok(())
+    }
+
+    // Each value becomes its merge with that of `other`. The shorter list goes on with false, so that
+    // the longer length stays.
+    #[inline]
+    fn merge_with(&mut self, other: &Self, merge: Merge) -> Result<(), AllocError>
+        ensures elements { OnOk result (elements self.new.values
+            ≡ merge_of_sets merge (elements self.old.values) (elements other.now.values)) }
+        ensures members { OnOk result (IsMerged merge (elements self.old.values) (elements other.now.values)
+            (elements self.new.values)) }
+        ensures length { OnOk result (length self.new.values ≡ max (length self.old.values) (length other.now.values)) }
+        ensures err { OnErr result (self.new ≡ self.old) }
+        ensures full { OnErr result (self.old.capacity < length other.now.values) }
+        ensures succeeds { length other.now.values ≤ self.old.capacity → IsOk result }
+        ensures capacity { self.old.capacity ≤ self.new.capacity }
+        ensures kept { length other.now.values ≤ length self.old.values → self.new.capacity ≡ self.old.capacity }
+        ensures within { length other.now.values ≤ self.old.capacity → self.new.capacity ≡ self.old.capacity }
+    {
+        self.lengthen(other.bits.len())?;
+        self.bits
+            .merge_blocks(&other.bits, merge, &mut Steps::new());
+        Ok(())
+    }
+
+    /// Puts in what is in `other`. The length becomes the greater of both. One pass over the blocks.
+    /// Fails only where the length of `other` passes the capacity and no memory is found; elements, length
+    /// and capacity then stay.
+    pub fn union_with(&mut self, other: &Self) -> Result<(), AllocError>
+        ensures elements { OnOk result (elements self.new.values
+            ≡ union (elements self.old.values) (elements other.now.values)) }
+        ensures members { OnOk result (IsUnion (elements self.old.values) (elements other.now.values)
+            (elements self.new.values)) }
+        ensures length { OnOk result (length self.new.values ≡ max (length self.old.values) (length other.now.values)) }
+        ensures err { OnErr result (self.new ≡ self.old) }
+        ensures full { OnErr result (self.old.capacity < length other.now.values) }
+        ensures succeeds { length other.now.values ≤ self.old.capacity → IsOk result }
+        ensures capacity { self.old.capacity ≤ self.new.capacity }
+        ensures kept { length other.now.values ≤ length self.old.values → self.new.capacity ≡ self.old.capacity }
+        ensures within { length other.now.values ≤ self.old.capacity → self.new.capacity ≡ self.old.capacity }
+        ensures leaves { Leaves (UnionWith (length other.now.values)) self.old.capacity
+            (is_ok result) self.new.capacity }
+        ensures changes { Changes (Change.UnionWith (elements other.now.values))
+            self.old.values (finished result) self.new.values }
+    {
+        self.merge_with(other, Merge::Union)
+    }
+
+    /// Keeps what is in `other` too. The length becomes the greater of both. One pass over the blocks.
+    /// Fails only where the length of `other` passes the capacity and no memory is found; elements, length
+    /// and capacity then stay.
+    pub fn intersect_with(&mut self, other: &Self) -> Result<(), AllocError>
+        ensures elements { OnOk result (elements self.new.values
+            ≡ intersection (elements self.old.values) (elements other.now.values)) }
+        ensures members { OnOk result (IsIntersection (elements self.old.values) (elements other.now.values)
+            (elements self.new.values)) }
+        ensures length { OnOk result (length self.new.values ≡ max (length self.old.values) (length other.now.values)) }
+        ensures err { OnErr result (self.new ≡ self.old) }
+        ensures full { OnErr result (self.old.capacity < length other.now.values) }
+        ensures succeeds { length other.now.values ≤ self.old.capacity → IsOk result }
+        ensures capacity { self.old.capacity ≤ self.new.capacity }
+        ensures kept { length other.now.values ≤ length self.old.values → self.new.capacity ≡ self.old.capacity }
+        ensures within { length other.now.values ≤ self.old.capacity → self.new.capacity ≡ self.old.capacity }
+        ensures leaves { Leaves (IntersectWith (length other.now.values)) self.old.capacity
+            (is_ok result) self.new.capacity }
+        ensures changes { Changes (Change.IntersectWith (elements other.now.values))
+            self.old.values (finished result) self.new.values }
+    {
+        self.merge_with(other, Merge::Intersection)
+    }
+
+    /// Takes out what is in `other`. The length becomes the greater of both. One pass over the blocks.
+    /// Fails only where the length of `other` passes the capacity and no memory is found; elements, length
+    /// and capacity then stay.
+    pub fn difference_with(&mut self, other: &Self) -> Result<(), AllocError>
+        ensures elements { OnOk result (elements self.new.values
+            ≡ difference (elements self.old.values) (elements other.now.values)) }
+        ensures members { OnOk result (IsDifference (elements self.old.values) (elements other.now.values)
+            (elements self.new.values)) }
+        ensures length { OnOk result (length self.new.values ≡ max (length self.old.values) (length other.now.values)) }
+        ensures err { OnErr result (self.new ≡ self.old) }
+        ensures full { OnErr result (self.old.capacity < length other.now.values) }
+        ensures succeeds { length other.now.values ≤ self.old.capacity → IsOk result }
+        ensures capacity { self.old.capacity ≤ self.new.capacity }
+        ensures kept { length other.now.values ≤ length self.old.values → self.new.capacity ≡ self.old.capacity }
+        ensures within { length other.now.values ≤ self.old.capacity → self.new.capacity ≡ self.old.capacity }
+        ensures leaves { Leaves (DifferenceWith (length other.now.values)) self.old.capacity
+            (is_ok result) self.new.capacity }
+        ensures changes { Changes (Change.DifferenceWith (elements other.now.values))
+            self.old.values (finished result) self.new.values }
+    {
+        self.merge_with(other, Merge::Difference)
+    }
+
+    /// Takes out what is in `other` too, and puts in the rest of it: what is in just one stays. The
+    /// length becomes the greater of both. One pass over the blocks. Fails only where the length of
+    /// `other` passes the capacity and no memory is found; elements, length and capacity then stay.
+    pub fn symmetric_difference_with(&mut self, other: &Self) -> Result<(), AllocError>
+        ensures elements { OnOk result (elements self.new.values
+            ≡ symmetric_difference (elements self.old.values) (elements other.now.values)) }
+        ensures members { OnOk result (IsSymmetricDifference (elements self.old.values) (elements other.now.values)
+            (elements self.new.values)) }
+        ensures length { OnOk result (length self.new.values ≡ max (length self.old.values) (length other.now.values)) }
+        ensures err { OnErr result (self.new ≡ self.old) }
+        ensures full { OnErr result (self.old.capacity < length other.now.values) }
+        ensures succeeds { length other.now.values ≤ self.old.capacity → IsOk result }
+        ensures capacity { self.old.capacity ≤ self.new.capacity }
+        ensures kept { length other.now.values ≤ length self.old.values → self.new.capacity ≡ self.old.capacity }
+        ensures within { length other.now.values ≤ self.old.capacity → self.new.capacity ≡ self.old.capacity }
+        ensures leaves { Leaves (SymmetricDifferenceWith (length other.now.values)) self.old.capacity
+            (is_ok result) self.new.capacity }
+        ensures changes { Changes (Change.SymmetricDifferenceWith (elements other.now.values))
+            self.old.values (finished result) self.new.values }
+    {
+        self.merge_with(other, Merge::Symmetric)
+    }
+}

@@ -1,0 +1,160 @@
+// Calls that make a set.
+ghost use Rattle.std.specs.Prelude.{◌≡◌, ◌≢◌, ℕ, ◌+◌, ◌-◌, ◌*◌, ◌<◌, ◌≤◌, ◌↔◌, IfOk, IfErr, IsOk, IsErrOf, IsTrue, List, [], length, slice_index, Some};
+ghost use Rattle.std.specs.Int.{bit_at};
+ghost use Rattle.std.specs.Iterator.{Drains, IsFinite, YieldsThen};
+ghost use Rattle.std.specs.Iterator.Runs.{WholeRun};
+ghost use Rattle.bit_words.specs.Bits.{blocks_for, capacity_of, values_of_bytes};
+ghost use Rattle.bit_set.specs.Sets.{bound_of, elements, has, put_all};
+ghost use Rattle.bit_set.specs.Members.{HasNone, HasTrueOf, IsSameSet};
+ghost use Rattle.bit_set.specs.Bounds.{greatest};
+ghost use Rattle.bit_set.specs.Capacity.{IsPastBlocks};
+
+use crate::bit_vec::BitVec;
+use crate::{BitBlock, BitSet, SetError};
+use std::alloc::{AllocError, Global};
+
+impl<B: BitBlock> BitSet<B> {
+    /// The empty set of length 0. Constant time; it takes no memory.
+    #[inline]
+    pub fn new_general(alloc: Global) -> Self
+        ensures values { result.values ≡ [] }
+        ensures members { HasNone (elements result.values) }
+        ensures capacity { result.capacity ≡ 0 }
+    {
+        BitSet {
+            bits: BitVec::new_general(alloc),
+        }
+    }
+
+    /// The empty set of length `len`, so that elements below `len` go in without memory. Fails only
+    /// where memory is refused. Writes `len` bits.
+    pub fn with_capacity_general(alloc: Global, len: usize) -> Result<Self, AllocError>
+        ensures elements { IfOk result (λ set. elements set.values ≡ []) }
+        ensures members { IfOk result (λ set. HasNone (elements set.values)) }
+        ensures length { IfOk result (λ set. length set.values ≡ len) }
+        ensures capacity { IfOk result (λ set. len ≤ set.capacity) }
+        ensures exact { IfOk result (λ set. set.capacity ≡ capacity_of B.width (blocks_for B.width len)) }
+        ensures empty { len ≡ 0 → IsOk result }
+    {
+        let bits = BitVec::from_elem_general(alloc, len, false)?;
+        Ok(BitSet { bits })
+    }
+
+    /// The set that the bit vector keeps: the indexes at which it is true. Constant time.
+    #[inline]
+    pub fn from_bit_vec_general(bit_vec: BitVec<B>) -> Self
+        ensures value { result ≡ bit_vec }
+        ensures members { HasTrueOf (elements result.values) bit_vec.values }
+    {
+        BitSet { bits: bit_vec }
+    }
+
+    /// The set of the bits that are 1, those of each byte counted from the highest. One step a byte.
+    /// Fails at [`SetError::Length`] before it asks for memory, or where memory is refused.
+    ///
+    /// ```
+    /// let set = BitSet::from_bytes(alloc, &[0b0100_1010])?;
+    /// assert!(set.iter().eq([1, 4, 6]));
+    /// ```
+    pub fn from_bytes_general(alloc: Global, bytes: &[u8]) -> Result<Self, SetError>
+        ensures values { IfOk result (λ set. set.values ≡ values_of_bytes bytes.now) }
+        ensures elements { IfOk result (λ set. (q r : ℕ) → r < 8
+            → IsTrue (has (elements set.values) (8 * q + r)) ↔ (bit_at (slice_index bytes.now q) (7 - r) ≡ 1)) }
+        ensures length { IfOk result (λ set. length set.values ≡ 8 * length bytes.now) }
+        ensures capacity { IfOk result (λ set. set.capacity
+            ≡ capacity_of B.width (blocks_for B.width (8 * length bytes.now))) }
+        ensures too_long { IsErrOf result SetError.Length ↔ (usize.MAX < 8 * length bytes.now) }
+        ensures fits { IfErr result (λ fault. fault ≢ SetError.Element) }
+        ensures empty { length bytes.now ≡ 0 → IsOk result }
+    {
+        let bits = BitVec::from_bytes_general(alloc, bytes)?;
+        Ok(BitSet { bits })
+    }
+
+    /// The set of the items, as long as its greatest element asks; of no items its capacity is 0. The
+    /// iterator has to end. Constant time an item, but for growths. Fails at the first item that is
+    /// `usize::MAX`, or for which memory is refused: one past the blocks of all items before it. The rest
+    /// of the items is dropped.
+    pub fn from_iter<I: Iterator<Item = usize> + Drop>(
+        alloc: Global,
+        iter: I,
+    ) -> Result<Self, SetError>
+        requires can { I.can_next iter }
+        requires ends { IsFinite (I.remaining iter) }
+        ensures ok { IfOk result (λ set. (items : List ℕ) × Drains I.next_gives iter items
+            × (elements set.values ≡ put_all [] items) × (length set.values ≡ bound_of items)
+            × IsSameSet (elements set.values) items) }
+        ensures runs { IfOk result (λ set. WholeRun I.next_gives iter (λ run.
+            (elements set.values ≡ put_all [] run.items) × (length set.values ≡ bound_of run.items)
+            × IsSameSet (elements set.values) run.items)) }
+        ensures err { IfErr result (λ fault. (items : List ℕ) × (item : ℕ) × (rest : I)
+            × YieldsThen I.next_gives iter items (Some item) rest × (bound_of items ≤ item) × (item ≤ greatest)
+            × (fault ≢ SetError.Length) × ((fault ≡ SetError.Element) ↔ (item ≡ greatest))
+            × IsPastBlocks fault B.width (bound_of items) item) }
+        ensures capacity { IfOk result (λ set. length set.values ≡ 0 → set.capacity ≡ 0) }
+    {
+        let mut set = Self::new_general(alloc);
+        set.extend(iter)?;
+        Ok(set)
+    }
+
+    /// A set of its own over the same list. Copies each block once. Its capacity is that of its blocks.
+    /// Fails only where no memory is found.
+    pub fn clone(&self, alloc: Global) -> Result<Self, AllocError>
+        ensures values { IfOk result (λ set. set.values ≡ self.now.values) }
+        ensures members { IfOk result (λ set. IsSameSet (elements set.values) (elements self.now.values)) }
+        ensures capacity { IfOk result (λ set. set.capacity
+            ≡ capacity_of B.width (blocks_for B.width (length self.now.values))) }
+        ensures empty { length self.now.values ≡ 0 → IsOk result }
+    {
+        let bits = self.bits.clone(alloc)?;
+        Ok(BitSet { bits })
+    }
+}
+
+impl BitSet<u32> {
+    /// [`BitSet::new_general`] over blocks of 32 bits.
+    #[inline]
+    pub fn new(alloc: Global) -> Self
+        ensures values { result.values ≡ [] }
+        ensures members { HasNone (elements result.values) }
+        ensures capacity { result.capacity ≡ 0 }
+    {
+        BitSet::new_general(alloc)
+    }
+
+    /// [`BitSet::with_capacity_general`] over blocks of 32 bits.
+    pub fn with_capacity(alloc: Global, len: usize) -> Result<Self, AllocError>
+        ensures elements { IfOk result (λ set. elements set.values ≡ []) }
+        ensures members { IfOk result (λ set. HasNone (elements set.values)) }
+        ensures length { IfOk result (λ set. length set.values ≡ len) }
+        ensures capacity { IfOk result (λ set. len ≤ set.capacity) }
+        ensures exact { IfOk result (λ set. set.capacity ≡ capacity_of 32 (blocks_for 32 len)) }
+        ensures empty { len ≡ 0 → IsOk result }
+    {
+        BitSet::with_capacity_general(alloc, len)
+    }
+
+    /// [`BitSet::from_bit_vec_general`] over blocks of 32 bits.
+    #[inline]
+    pub fn from_bit_vec(bit_vec: BitVec<u32>) -> Self
+        ensures value { result ≡ bit_vec }
+        ensures members { HasTrueOf (elements result.values) bit_vec.values }
+    {
+        BitSet::from_bit_vec_general(bit_vec)
+    }
+
+    /// [`BitSet::from_bytes_general`] over blocks of 32 bits.
+    pub fn from_bytes(alloc: Global, bytes: &[u8]) -> Result<Self, SetError>
+        ensures values { IfOk result (λ set. set.values ≡ values_of_bytes bytes.now) }
+        ensures elements { IfOk result (λ set. (q r : ℕ) → r < 8
+            → IsTrue (has (elements set.values) (8 * q + r)) ↔ (bit_at (slice_index bytes.now q) (7 - r) ≡ 1)) }
+        ensures length { IfOk result (λ set. length set.values ≡ 8 * length bytes.now) }
+        ensures capacity { IfOk result (λ set. set.capacity ≡ capacity_of 32 (blocks_for 32 (8 * length bytes.now))) }
+        ensures too_long { IsErrOf result SetError.Length ↔ (usize.MAX < 8 * length bytes.now) }
+        ensures fits { IfErr result (λ fault. fault ≢ SetError.Element) }
+        ensures empty { length bytes.now ≡ 0 → IsOk result }
+    {
+        BitSet::from_bytes_general(alloc, bytes)
+    }
+}

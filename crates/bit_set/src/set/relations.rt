@@ -1,0 +1,38 @@
+// Calls that say how the elements of two sets lie to each other.
+ghost use Rattle.std.specs.Prelude.{◌≡◌, ◌↔◌, IsTrue};
+ghost use Rattle.bit_set.specs.Members.{IsDisjoint, IsSubset};
+ghost use Rattle.bit_set.specs.Sets.{elements, is_subset, is_disjoint};
+
+use crate::bit_vec::Steps;
+use crate::{BitBlock, BitSet};
+
+impl<B: BitBlock> BitSet<B> {
+    /// Whether every element is one of `other`, whichever is longer. Reads each block once at most, and
+    /// stops at the one with the first element that `other` lacks.
+    #[inline]
+    pub fn is_subset(&self, other: &Self) -> bool
+        ensures answer { result ≡ is_subset (elements self.now.values) (elements other.now.values) }
+        ensures members { IsTrue result ↔ IsSubset (elements self.now.values) (elements other.now.values) }
+    {
+        self.bits.is_subset_of(&other.bits, &mut Steps::new())
+    }
+
+    /// Whether every element of `other` is one of this set: [`BitSet::is_subset`], asked of `other`.
+    #[inline]
+    pub fn is_superset(&self, other: &Self) -> bool
+        ensures answer { result ≡ is_subset (elements other.now.values) (elements self.now.values) }
+        ensures members { IsTrue result ↔ IsSubset (elements other.now.values) (elements self.now.values) }
+    {
+        other.is_subset(self)
+    }
+
+    /// Whether no element is one of `other`. Reads each block once at most, and stops at the first in
+    /// which both have a common one.
+    #[inline]
+    pub fn is_disjoint(&self, other: &Self) -> bool
+        ensures answer { result ≡ is_disjoint (elements self.now.values) (elements other.now.values) }
+        ensures members { IsTrue result ↔ IsDisjoint (elements self.now.values) (elements other.now.values) }
+    {
+        self.bits.is_disjoint_from(&other.bits, &mut Steps::new())
+    }
+}

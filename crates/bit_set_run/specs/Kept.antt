@@ -1,8 +1,0 @@
--- What a table keeps in a set.
-use Rattle.std.specs.Prelude.{ℕ, List}
-use Rattle.bit_set.specs.Bits.{Bits}
-use Rattle.bit_set.specs.Sets.{elements}
-
--- the numbers of a set, as the places at which its bit vector is true
-abbrev pub kept : Bits → List ℕ
-kept set = elements set.values

@@ -1,0 +1,157 @@
+-- How far a list is true, and the blocks that this takes.
+use Rattle.std.proofs.Common.{◌≡◌, ◌≢◌, ℕ, zero, suc, ◌+◌, ◌-◌, ◌*◌, ◌/◌, ◌%◌, ◌^◌, ◌<◌, ◌≤◌, min, max, Bool, true, false, ◌||◌, nat_lt, nat_le, if◌then◌else◌, List, [], ◌∷◌, length, get_or, take, refl, sym, ap, ◌∙◌, arith, ⊎_elim, length-take, le_of_mul-le-mul_right, div-lt_iff_lt-mul, mul-le-mul_right}
+use Rattle.std.proofs.lemmas.Bool.{cases_lt, true≢false}
+use Rattle.std.proofs.lemmas.Bool.Decides.{nat_tests}
+use Rattle.bit_words.specs.Bits.{Bits, blocks_for, capacity_of, true_end, whole_blocks}
+use Rattle.bit_words.specs.Storage.{value_at, values_of, IsZeroFrom}
+use Rattle.bit_words.specs.Summary.{shared_capacity}
+use Rattle.bit_words.proofs.BitsLemmas.{blocks_for-enough, blocks_for-least, whole_before}
+use Rattle.bit_words.proofs.CompareLemmas.{zero_from_digits, digit_from_zero}
+use Rattle.bit_words.proofs.StorageLemmas.{value_at-is, value_at-past, value_at-index}
+use Rattle.bit_words.proofs.PackedLemmas.{value_at-take}
+use Rattle.bit_words.proofs.VectorLemmas.{length_from_view}
+
+-- ---- how far a list is true
+
+or_pos : (b : Bool) (n i : ℕ) → (if b || nat_lt 0 n then n + 1 else 0) ≤ suc i → n ≤ i
+or_pos true n i h = omega arith
+or_pos false zero i h = omega arith
+or_pos false (suc n) i h = let test : nat_lt 0 (suc n) ≡ true = grind (arith, nat_tests) in let full : suc n + 1 ≤ suc i = rw test at h in omega arith
+
+or_none : (b : Bool) (n : ℕ) → (if b || nat_lt 0 n then n + 1 else 0) ≤ 0 → b ≡ false
+or_none true n h = absurd (omega arith)
+or_none false n h = refl
+
+or_least : (b : Bool) (n c : ℕ) → (c ≡ 0 → b ≡ false) → n ≤ c - 1 → (if b || nat_lt 0 n then n + 1 else 0) ≤ c
+or_least true n zero f h = let e : true ≡ false = f refl in absurd (true≢false e)
+or_least true n (suc c) f h = omega arith
+or_least false zero c f h = omega arith
+or_least false (suc n) zero f h = absurd (omega arith)
+or_least false (suc n) (suc c) f h = let test : nat_lt 0 (suc n) ≡ true = grind (arith, nat_tests) in rw test (omega arith)
+
+pub true_end-past : (xs : List Bool) (i : ℕ) → true_end xs ≤ i → get_or xs i false ≡ false
+true_end-past [] i h = refl
+true_end-past (b ∷ bs) zero h = or_none b (true_end bs) h
+true_end-past (b ∷ bs) (suc i) h = true_end-past bs i (or_pos b (true_end bs) i h)
+
+pub true_end-least : (xs : List Bool) (c : ℕ) → ((i : ℕ) → c ≤ i → get_or xs i false ≡ false) → true_end xs ≤ c
+true_end-least [] c falses = omega arith
+true_end-least (b ∷ bs) c falses =
+    or_least b (true_end bs) c (λ none. falses 0 (omega arith)) (true_end-least bs (c - 1) (λ i past. falses (suc i) (omega arith)))
+
+-- ---- the blocks up to there
+
+pub blocks_for-whole : (w c : ℕ) → 0 < w → blocks_for w (c * w) ≡ c
+blocks_for-whole w c pos =
+    let low = blocks_for-least w (c * w) c pos (omega arith) in
+    let high = le_of_mul-le-mul_right (blocks_for-enough w (c * w) pos) pos in
+    omega arith
+
+block_past : (w c i : ℕ) → 0 < w → c * w ≤ i → c ≤ i / w
+block_past w c i pos past =
+    ⊎_elim
+    (λ (less : i / w < c). let below = (div-lt_iff_lt-mul pos).0 less in absurd (omega arith))
+    (λ (reached : c ≤ i / w). reached)
+    (cases_lt (i / w) c)
+
+-- the last block that is not 0 holds the last true value
+pub used_blocks-true_end : (w : ℕ) (ms : List ℕ) (count : ℕ) (xs : List Bool) → 0 < w → ((k : ℕ) → get_or ms k 0 < 2 ^ w) → ((i : ℕ) → get_or xs i false ≡ value_at w ms i) → ((k : ℕ) → count ≤ k → get_or ms k 0 ≡ 0) → (0 < count → get_or ms (count - 1) 0 ≢ 0) → blocks_for w (true_end xs) ≡ count
+used_blocks-true_end w ms count xs pos small same zeros last =
+    let low = blocks_for-least w (true_end xs) count pos (true_end-least xs (count * w) (λ i past.
+    same i ∙ value_at-is w ms i ∙ digit_from_zero _ (i % w) (zeros (i / w) (block_past w count i pos past)))) in
+    ⊎_elim
+    (λ (less : blocks_for w (true_end xs) < count).
+    let enough = blocks_for-enough w (true_end xs) pos in
+    let more = mul-le-mul_right w (let le : blocks_for w (true_end xs) ≤ count - 1 = omega arith in le) in
+    absurd (last (omega arith) (zero_from_digits w _ (small (count - 1)) (λ j index.
+    sym (value_at-index w ms (count - 1) j index) ∙ sym (same ((count - 1) * w + j)) ∙ true_end-past xs ((count - 1) * w + j) (omega arith)))))
+    (λ (enough : count ≤ blocks_for w (true_end xs)). omega arith)
+    (cases_lt (blocks_for w (true_end xs)) count)
+
+pub whole_blocks-fits : (w c : ℕ) (xs : List Bool) → blocks_for w (true_end xs) ≡ c → c * w < 2 ^ 64 → whole_blocks w xs ≡ c * w
+whole_blocks-fits w c xs e h =
+    let test : nat_le (c * w) (2 ^ 64 - 1) ≡ true = grind (arith, nat_tests) in
+    ap (λ n. if nat_le (n * w) (2 ^ 64 - 1) then n * w else length xs) e ∙ ap (λ t. if t then c * w else length xs) test
+
+pub whole_blocks-past : (w c : ℕ) (xs : List Bool) → blocks_for w (true_end xs) ≡ c → 2 ^ 64 ≤ c * w → whole_blocks w xs ≡ length xs
+whole_blocks-past w c xs e h =
+    let test : nat_le (c * w) (2 ^ 64 - 1) ≡ false = grind (arith, nat_tests) in
+    ap (λ n. if nat_le (n * w) (2 ^ 64 - 1) then n * w else length xs) e ∙ ap (λ t. if t then c * w else length xs) test
+
+-- ---- what stays when the blocks past them go
+
+pub value_at-cut : (w c : ℕ) (ms ns : List ℕ) → ns ≡ take c ms → ((k : ℕ) → c ≤ k → get_or ms k 0 ≡ 0) → (i : ℕ) → value_at w ns i ≡ value_at w ms i
+value_at-cut w c ms ns e zeros i =
+    ap (λ xs. value_at w xs i) e
+    ∙ ⊎_elim
+    (λ within. value_at-take w c ms i within)
+    (λ past. value_at-past w (take c ms) i (omega (arith, length-take c ms)) ∙ sym (value_at-is w ms i ∙ digit_from_zero _ (i % w) (zeros (i / w) past)))
+    (cases_lt (i / w) c)
+
+pub zero_tail_cut : (w c : ℕ) (ms ns : List ℕ) (len : ℕ) → 0 < w → len ≡ c * w → ns ≡ take c ms → IsZeroFrom w ns len
+zero_tail_cut w c ms ns len pos e is = record {
+  zero_tail = λ i past. value_at-past w ns i (
+      let blocks = block_past w c i pos (omega arith) in
+      let short = ap length is in
+      omega (arith, length-take c ms));
+}
+
+-- ---- the capacity that blocks and their summary share
+
+pub shared_for_summary : (w count summary : ℕ) → 0 < w → blocks_for w count ≤ summary → count ≤ summary * w
+shared_for_summary w count summary pos h = let more = mul-le-mul_right w h in omega (arith, blocks_for-enough w count pos)
+
+pub shared_enough : (w blocks summary count : ℕ) → 0 < w → count ≤ blocks → blocks_for w count ≤ summary → count ≤ shared_capacity w blocks summary
+shared_enough w blocks summary count pos first second = let more = shared_for_summary w count summary pos second in omega arith
+
+pub shared_short_blocks : (w blocks summary count : ℕ) → blocks < count → shared_capacity w blocks summary < count
+shared_short_blocks w blocks summary count short = omega arith
+
+pub shared_short_summary : (w blocks summary count : ℕ) → 0 < w → summary < blocks_for w count → shared_capacity w blocks summary < count
+shared_short_summary w blocks summary count pos short = let less = whole_before w count summary pos short in omega arith
+
+pub ruleset shared_tests = (shared_enough, shared_short_blocks, shared_short_summary)
+
+pub shared_le : (w blocks summary more_blocks more_summary : ℕ) → blocks ≤ more_blocks → summary ≤ more_summary → shared_capacity w blocks summary ≤ shared_capacity w more_blocks more_summary
+shared_le w blocks summary more_blocks more_summary first second = let more = mul-le-mul_right w second in omega arith
+
+-- what has less capacity of the two says
+pub shared_by_blocks : (w blocks summary more : ℕ) → 0 < w → blocks_for w blocks ≤ summary → summary ≤ more → shared_capacity w blocks more ≡ shared_capacity w blocks summary
+shared_by_blocks w blocks summary more pos enough le =
+    let covered = shared_for_summary w blocks summary pos enough in
+    let wider = mul-le-mul_right w le in
+    omega arith
+
+pub shared_by_summary : (w blocks summary more : ℕ) → 0 < w → summary < blocks_for w blocks → blocks ≤ more → shared_capacity w more summary ≡ shared_capacity w blocks summary
+shared_by_summary w blocks summary more pos short le = let less = whole_before w blocks summary pos short in omega arith
+
+-- capacity reserved for count and no more
+pub shared_exact : (w blocks summary count got got_summary : ℕ) → 0 < w → blocks_for w count ≤ summary → got ≡ max blocks count → got_summary ≡ max summary (blocks_for w count) → shared_capacity w got got_summary ≡ max (shared_capacity w blocks summary) count
+shared_exact w blocks summary count got got_summary pos enough first second =
+    let covered = shared_for_summary w count summary pos enough in
+    let same : got_summary ≡ summary = omega arith in
+    rw same (omega arith)
+
+pub shared_trimmed : (w blocks summary count trimmed : ℕ) → 0 < w → summary < blocks_for w count → min count blocks ≤ trimmed → trimmed ≤ blocks → shared_capacity w trimmed summary ≡ shared_capacity w blocks summary
+shared_trimmed w blocks summary count trimmed pos short low high = let less = whole_before w count summary pos short in omega arith
+
+pub shared_exact_trimmed : (w blocks summary count trimmed got got_summary : ℕ) → 0 < w → summary < blocks_for w count → trimmed ≤ count → got ≡ max trimmed count → got_summary ≡ max summary (blocks_for w count) → shared_capacity w got got_summary ≡ max (shared_capacity w blocks summary) count
+shared_exact_trimmed w blocks summary count trimmed got got_summary pos short low first second =
+    let less = whole_before w count summary pos short in
+    let enough = blocks_for-enough w count pos in
+    let same : got_summary ≡ blocks_for w count = omega arith in
+    rw same (omega arith)
+
+pub capacity_le : (w a b : ℕ) → a ≤ b → capacity_of w a ≤ capacity_of w b
+capacity_le w a b h = let more = mul-le-mul_right w h in omega arith
+
+-- the capacity of just so many blocks and their summary
+pub shared_whole : (w count blocks summary : ℕ) → 0 < w → blocks ≡ count → summary ≡ blocks_for w count → shared_capacity w blocks summary ≡ count
+shared_whole w count blocks summary pos first second =
+    let enough = blocks_for-enough w count pos in
+    rw (first, second) (omega arith)
+
+-- the capacity of a copy, which is that of the blocks and of their summary
+pub capacity_of_copy : (w n r count blocks summary : ℕ) (ms : List ℕ) (v : Bits) → 0 < w → record { values = values_of w ms n; capacity = r } ≡ v → count ≡ blocks_for w n → blocks ≡ count → summary ≡ blocks_for w count → capacity_of w (shared_capacity w blocks summary) ≡ capacity_of w (blocks_for w (length v.values))
+capacity_of_copy w n r count blocks summary ms v pos e is first second =
+    rw (length_from_view w n r ms v e) (ap (capacity_of w) (shared_whole w count blocks summary pos first second ∙ is))

@@ -1,0 +1,62 @@
+use Rattle.std.proofs.Common.{◌≡◌, ◌<◌, ◌∙◌, ◌++◌, false, drop, length, map, replicate, ap, arith}
+use Rattle.bit_words.proofs.BitsLemmas.{blocks_for-above}
+use Rattle.bit_words.proofs.CapacityLemmas.{capacity_of_copy}
+use Rattle.bit_words.proofs.TailLemmas.{tail_kept, tail_packed, tail_unused, values_of-tail}
+use Rattle.bit_words.proofs.BitsLemmas.{blocks_for-le}
+use Rattle.bit_words.proofs.VectorLemmas.{length_from_view, numbers_below}
+use Rattle.bit_words.proofs.bit_vec.BitVec.clone_tail.Goals as goal
+
+pub copy_bits_from-requires-clause-within : goal.copy_bits_from-requires-clause-within
+copy_bits_from-requires-clause-within g c =
+    let at : c.args.at < c.self.inside.len = rw (length_from_view _ _ _ _ _ c.self.view_is) at c.requires in
+    let le = blocks_for-le g.B.BitBlock.width c.args.at c.self.inside.len g.met.B.BitBlock.width_law.positive (omega arith) in
+    rw c.deref.ensures.value (omega (arith, le, c.self.invariant.packed.count))
+
+pub copy_summary_from-requires-clause-packed : goal.copy_summary_from-requires-clause-packed
+copy_summary_from-requires-clause-packed g c =
+    let len : length c.in_ok-blocks.blocks.items ≡ length c.self.inside.blocks.items = omega (arith, c.in_ok-blocks.ensures.len, c.deref.ensures.len) in
+    rw (c.deref-2.ensures.value, c.deref-3.ensures.value, len) c.self.invariant.summary.packed
+
+pub copy_summary_from-requires-clause-within : goal.copy_summary_from-requires-clause-within
+copy_summary_from-requires-clause-within g c =
+    let at : c.args.at < c.self.inside.len = rw (length_from_view _ _ _ _ _ c.self.view_is) at c.requires in
+    let above = blocks_for-above g.B.BitBlock.width c.self.inside.len c.args.at g.met.B.BitBlock.width_law.positive at in
+    omega (arith, above, c.block_index.ensures, c.self.invariant.packed.count, c.in_ok-blocks.ensures.len, c.deref-3.ensures.len, c.deref.ensures.len)
+
+pub copy_summary_from-requires-clause-before : goal.copy_summary_from-requires-clause-before
+copy_summary_from-requires-clause-before g c = λ q before.
+    let w = g.B.BitBlock.width in
+    let f = g.B.BitBlock.number in
+    rw c.deref-3.ensures.value
+    (tail_unused w c.args.at q _ (map f c.in_ok-blocks.blocks.items)
+    (numbers_below w f _ _ (λ x is. (g.met.B.BitBlock.number_law x is).0) c.in_ok-blocks.ensures.each q)
+    c.in_ok-blocks.ensures.values (omega (arith, before, c.block_index.ensures)))
+
+pub copy_summary_from-requires-clause-after : goal.copy_summary_from-requires-clause-after
+copy_summary_from-requires-clause-after g c = λ q after.
+    let w = g.B.BitBlock.width in
+    let f = g.B.BitBlock.number in
+    rw (c.deref-2.ensures.value, c.deref-3.ensures.value)
+    (c.self.invariant.summary.digit q
+    ∙ tail_kept w c.args.at q (map f c.self.inside.blocks.items) (map f c.in_ok-blocks.blocks.items) g.met.B.BitBlock.width_law.positive
+    (numbers_below w f _ _ (λ x is. (g.met.B.BitBlock.number_law x is).0) c.self.invariant.packed.each q)
+    (numbers_below w f _ _ (λ x is. (g.met.B.BitBlock.number_law x is).0) c.in_ok-blocks.ensures.each q)
+    (rw c.deref.ensures.value at c.in_ok-blocks.ensures.values) (omega (arith, after, c.block_index.ensures)))
+
+pub invariant_of-result : goal.invariant_of-result
+invariant_of-result g c = record {
+  packed = tail_packed g.B.BitBlock.width _ c.args.at g.B.BitBlock.number _ c.self.inside.blocks.items _ c.self.invariant.packed c.in_ok-blocks.ensures.each (omega (arith, c.in_ok-blocks.ensures.len, c.deref.ensures.len)) (rw c.deref.ensures.value at c.in_ok-blocks.ensures.values);
+  summary = rw c.deref-3.ensures.value at c.in_ok-summary.ensures.summary;
+}
+
+pub returns-clause-values : goal.returns-clause-values
+returns-clause-values g c =
+    let at : c.args.at < c.self.inside.len = rw (length_from_view _ _ _ _ _ c.self.view_is) at c.requires in
+    values_of-tail g.B.BitBlock.width (map g.B.BitBlock.number c.self.inside.blocks.items) _ c.self.inside.len c.args.at (omega arith) (rw c.deref.ensures.value at c.in_ok-blocks.ensures.values)
+    ∙ ap (λ v. replicate c.args.at false ++ drop c.args.at v.values) c.self.view_is
+
+pub returns-clause-capacity : goal.returns-clause-capacity
+returns-clause-capacity g c =
+    capacity_of_copy g.B.BitBlock.width _ _ (length c.self.inside.blocks.items) _ _ _ _ g.met.B.BitBlock.width_law.positive c.self.view_is c.self.invariant.packed.count
+    (omega (arith, c.in_ok-blocks.ensures.capacity, c.deref.ensures.len))
+    (omega (arith, c.in_ok-summary.ensures.capacity, c.deref-2.ensures.len, c.self.invariant.summary.packed.count))

@@ -1,0 +1,20 @@
+use Rattle.std.proofs.Common.{◌∙◌, sym, ap, replicate, ◌≡◌, length, vec_len, arith}
+use Rattle.bit_words.proofs.StorageLemmas.{values_of-replicate}
+use Rattle.bit_words.proofs.SummaryLemmas.{filled_summary}
+use Rattle.bit_words.proofs.VectorLemmas.{length_from_view}
+use Rattle.bit_words.proofs.bit_vec.BitVec.fill.Goals as goal
+
+pub returns-clause-values : goal.returns-clause-values
+returns-clause-values g c =
+    values_of-replicate _ _ _ _ c.fill_bits.ensures.filled
+    ∙ ap (λ n. replicate n c.args.bit) (sym (length_from_view _ _ _ _ _ c.self.view_is))
+
+pub invariant_of-self : goal.invariant_of-self
+invariant_of-self g c =
+    let count : length c.fill_bits.new.blocks.items ≡ vec_len c.fill_bits.new.blocks = omega arith in
+    record {
+      packed = c.fill_bits.ensures.packed;
+      summary =
+          filled_summary g.B.BitBlock.width _ g.B.BitBlock.number g.B.BitBlock.is_block c.fill_bits.new.blocks.items c.fill_bits-2.new.blocks.items c.args.bit g.met.B.BitBlock.width_law.positive (λ x is. (g.met.B.BitBlock.number_law x is).0) c.fill_bits.ensures.packed c.fill_bits.ensures.filled
+          (rw (c.len.ensures, ← count) at c.fill_bits-2.ensures.packed) (λ k within. c.fill_bits-2.ensures.filled k (omega arith));
+    }

@@ -1,0 +1,37 @@
+use Rattle.std.proofs.Common.{◌<◌, ◌+◌, ◌^◌, vec_capacity, ◌++◌, replicate, refl, sym, ap, ◌∙◌, arith, rules}
+use Rattle.bit_words.specs.Summary.{shared_capacity}
+use Rattle.bit_words.proofs.StorageLemmas.{values_of-append}
+use Rattle.bit_words.proofs.SummaryLemmas.{stored_within}
+use Rattle.bit_words.proofs.VectorLemmas.{le-capacity_of, length_from_view}
+use Rattle.bit_words.proofs.bit_vec.BitVec.grow.Goals as goal
+
+pub overflow_add-len : goal.overflow_add-len
+overflow_add-len g c = let len = length_from_view _ _ _ _ _ c.self.view_is in
+    let small : c.self.inside.len + c.args.n < 2 ^ 64 = omega arith in
+    search rules
+
+pub invariant_of-self : goal.invariant_of-self
+invariant_of-self g c =
+    let len = length_from_view _ _ _ _ _ c.self.view_is in
+    record {
+      packed = record {
+        each = c.self.invariant.packed.each;
+        count = omega arith;
+        tail = record { zero_tail = λ i past. c.self.invariant.packed.tail.zero_tail i (omega arith) };
+        fits = omega (arith, len);
+      };
+      summary = c.self.invariant.summary;
+    }
+
+pub returns-then-block_count-len-clause-ok : goal.returns-then-block_count-len-clause-ok
+returns-then-block_count-len-clause-ok g c =
+    values_of-append _ _ _ _ _ c.args.bit (λ i _. refl) (λ i past _. c.self.invariant.packed.tail.zero_tail i past ∙ sym c.if-not-bit.true)
+    ∙ ap (λ v. v.values ++ replicate c.args.n c.args.bit) c.self.view_is
+
+pub returns-then-block_count-len-clause-holds_values : goal.returns-then-block_count-len-clause-holds_values
+returns-then-block_count-len-clause-holds_values g c =
+    let len = length_from_view _ _ _ _ _ c.self.view_is in
+    let w = g.B.BitBlock.width in
+    let inside = stored_within w _ (vec_capacity c.self.inside.blocks) (vec_capacity c.self.inside.summary) _ _ _ _ g.met.B.BitBlock.width_law.positive c.self.invariant (omega arith) (omega arith) in
+    let enough = le-capacity_of w (shared_capacity w (vec_capacity c.self.inside.blocks) (vec_capacity c.self.inside.summary)) (c.self.inside.len + c.args.n) g.met.B.BitBlock.width_law.positive (omega arith) (omega (arith, inside)) in
+    omega (arith, len, enough)

@@ -1,0 +1,97 @@
+use Rattle.std.proofs.Common.{◌≡◌, ◌<◌, ◌+◌, ◌*◌, ◌++◌, ◌∙◌, ◌^◌, length, map, vec_capacity, replicate, sym, ap, ap₂, arith, rules}
+use Rattle.std.proofs.lemmas.Result.{err_from_is_err_and}
+use Rattle.bit_words.specs.Bits.{capacity_of}
+use Rattle.bit_words.specs.Summary.{shared_capacity}
+use Rattle.bit_words.proofs.CapacityLemmas.{capacity_le}
+use Rattle.bit_words.proofs.StorageLemmas.{values_of-append}
+use Rattle.bit_words.proofs.SummaryLemmas.{kept_use, kept_with_zeros, same_use, use_of_added}
+use Rattle.bit_words.proofs.BitsLemmas.{blocks_for-le, blocks_for-least}
+use Rattle.bit_words.proofs.VectorLemmas.{le-capacity_of, length_from_view, capacity_from_view, capacity_for_more, capacity_of-short, numbers_below}
+use Rattle.bit_words.proofs.bit_vec.BitVec.grow_blocks.Goals.{After-from_residual}
+use Rattle.bit_words.proofs.bit_vec.BitVec.grow_blocks.Goals as goal
+
+pub overflow_add-len : goal.overflow_add-len
+overflow_add-len g c = let len = length_from_view _ _ _ _ _ c.self.view_is in
+    let small : c.self.inside.len + c.args.n < 2 ^ 64 = omega arith in
+    search rules
+
+-- where there is no capacity for the blocks of the longer list, the list has none for the values
+refused : (g : _) (c : After-from_residual g) → c.args.self.now.capacity < length c.args.self.now.values + c.args.n
+refused g c =
+    let w = g.B.BitBlock.width in
+    let capacity = shared_capacity w (vec_capacity c.self.inside.blocks) (vec_capacity c.self.inside.summary) in
+    let short = capacity_of-short w capacity (c.self.inside.len + c.args.n) g.met.B.BitBlock.width_law.positive (omega (arith, c.in_err-reserve_shared.ensures.full)) in
+    rw (capacity_from_view _ _ _ c.self.view_is, length_from_view _ _ _ _ _ c.self.view_is) short
+
+pub returns-in_err-reserve_shared-clause-full : goal.returns-in_err-reserve_shared-clause-full
+returns-in_err-reserve_shared-clause-full g c =
+    let p = err_from_is_err_and c.from_residual.result c.from_residual.ensures.1 in rw p.1 (refused g c)
+
+pub returns-in_err-reserve_shared-clause-succeeds : goal.returns-in_err-reserve_shared-clause-succeeds
+returns-in_err-reserve_shared-clause-succeeds g c = λ enough. let short = refused g c in absurd (omega arith)
+
+pub append_to_summary-requires-clause-longer : goal.append_to_summary-requires-clause-longer
+append_to_summary-requires-clause-longer g c =
+    let le = blocks_for-le g.B.BitBlock.width c.self.inside.len (c.self.inside.len + c.args.n) g.met.B.BitBlock.width_law.positive (omega arith) in
+    rw c.deref.ensures.value (omega (arith, c.append_bits.ensures.packed.count))
+
+pub append_to_summary-requires-clause-capacity : goal.append_to_summary-requires-clause-capacity
+append_to_summary-requires-clause-capacity g c =
+    let w = g.B.BitBlock.width in
+    let count : length c.append_bits.new.blocks.items ≡ c.block_count-count.result = omega (arith, c.append_bits.ensures.packed.count) in
+    let enough = blocks_for-least w c.block_count-count.result (vec_capacity c.reserve_shared.new.summary) g.met.B.BitBlock.width_law.positive (omega (arith, c.in_ok-reserve_shared.ensures.capacity.ok)) in
+    rw (c.deref.ensures.value, count) enough
+
+pub append_to_summary-requires-clause-before : goal.append_to_summary-requires-clause-before
+append_to_summary-requires-clause-before g c = λ k before.
+    let w = g.B.BitBlock.width in
+    let f = g.B.BitBlock.number in
+    let kept = rw c.reserve_shared.ensures.items at c.append_bits.ensures.kept in
+    rw (c.deref.ensures.value, c.reserve_shared.ensures.summary) (
+    c.self.invariant.summary.digit k
+    ∙ kept_use w c.self.inside.len k (map f c.self.inside.blocks.items) (map f c.append_bits.new.blocks.items) g.met.B.BitBlock.width_law.positive (numbers_below w f _ _ (λ x is. (g.met.B.BitBlock.number_law x is).0) c.self.invariant.packed.each k) (numbers_below w f _ _ (λ x is. (g.met.B.BitBlock.number_law x is).0) c.append_bits.ensures.packed.each k) kept (omega arith))
+
+pub append_to_summary-requires-clause-last : goal.append_to_summary-requires-clause-last
+append_to_summary-requires-clause-last g c = λ none k _.
+    let w = g.B.BitBlock.width in
+    let f = g.B.BitBlock.number in
+    let kept = rw c.reserve_shared.ensures.items at c.append_bits.ensures.kept in
+    rw (c.deref.ensures.value, c.reserve_shared.ensures.summary) (
+    c.self.invariant.summary.digit k
+    ∙ same_use w (map f c.self.inside.blocks.items) (map f c.append_bits.new.blocks.items) k (numbers_below w f _ _ (λ x is. (g.met.B.BitBlock.number_law x is).0) c.self.invariant.packed.each k) (numbers_below w f _ _ (λ x is. (g.met.B.BitBlock.number_law x is).0) c.append_bits.ensures.packed.each k)
+    (λ j _. sym (kept_with_zeros w c.self.inside.len (c.self.inside.len + c.args.n) (k * w + j) c.args.bit (map f c.self.inside.blocks.items) (map f c.append_bits.new.blocks.items) none kept c.self.invariant.packed.tail.zero_tail c.append_bits.ensures.added c.append_bits.ensures.packed.tail.zero_tail)))
+
+pub append_to_summary-requires-clause-after : goal.append_to_summary-requires-clause-after
+append_to_summary-requires-clause-after g c = λ k from.
+    let w = g.B.BitBlock.width in
+    let f = g.B.BitBlock.number in
+    rw c.deref.ensures.value (λ inside.
+    use_of_added w c.self.inside.len (c.self.inside.len + c.args.n) k (map f c.append_bits.new.blocks.items) _ g.met.B.BitBlock.width_law.positive
+    (numbers_below w f _ _ (λ x is. (g.met.B.BitBlock.number_law x is).0) c.append_bits.ensures.packed.each k) (omega arith) (omega (arith, inside, c.append_bits.ensures.packed.count)) c.append_bits.ensures.added c.append_bits.ensures.packed.tail.zero_tail)
+
+pub returns-clause-ok : goal.returns-clause-ok
+returns-clause-ok g c =
+    values_of-append _ _ _ _ _ _ (rw c.reserve_shared.ensures.items at c.append_bits.ensures.kept) c.append_bits.ensures.added
+    ∙ ap (λ v. v.values ++ replicate c.args.n c.args.bit) c.self.view_is
+
+pub returns-clause-holds_values : goal.returns-clause-holds_values
+returns-clause-holds_values g c =
+    let w = g.B.BitBlock.width in
+    let len = length_from_view _ _ _ _ _ c.self.view_is in
+    let capacity = shared_capacity w (vec_capacity c.append_bits.new.blocks) (vec_capacity c.append_to_summary.new.summary) in
+    let kept : shared_capacity w (vec_capacity c.append_bits.new.blocks) (vec_capacity c.append_to_summary.new.summary) ≡ shared_capacity w (vec_capacity c.reserve_shared.new.blocks) (vec_capacity c.reserve_shared.new.summary) = ap₂ (shared_capacity w) c.append_bits.ensures.capacity c.append_to_summary.ensures.capacity in
+    let enough = le-capacity_of w capacity (c.self.inside.len + c.args.n) g.met.B.BitBlock.width_law.positive (omega arith) (omega (arith, kept, c.in_ok-reserve_shared.ensures.capacity.ok)) in
+    omega (arith, len, enough)
+
+pub returns-clause-capacity : goal.returns-clause-capacity
+returns-clause-capacity g c =
+    let w = g.B.BitBlock.width in
+    let kept : shared_capacity w (vec_capacity c.append_bits.new.blocks) (vec_capacity c.append_to_summary.new.summary) ≡ shared_capacity w (vec_capacity c.reserve_shared.new.blocks) (vec_capacity c.reserve_shared.new.summary) = ap₂ (shared_capacity w) c.append_bits.ensures.capacity c.append_to_summary.ensures.capacity in
+    rw (capacity_from_view _ _ _ c.self.view_is) (capacity_le w _ _ (omega (arith, kept, c.reserve_shared.ensures.capacity.capacity)))
+
+pub returns-clause-within : goal.returns-clause-within
+returns-clause-within g c = λ within.
+    let w = g.B.BitBlock.width in
+    let kept : shared_capacity w (vec_capacity c.append_bits.new.blocks) (vec_capacity c.append_to_summary.new.summary) ≡ shared_capacity w (vec_capacity c.reserve_shared.new.blocks) (vec_capacity c.reserve_shared.new.summary) = ap₂ (shared_capacity w) c.append_bits.ensures.capacity c.append_to_summary.ensures.capacity in
+    let enough = capacity_for_more _ _ _ _ _ _ g.met.B.BitBlock.width_law.positive c.self.view_is within in
+    ap (capacity_of w) (kept ∙ c.reserve_shared.ensures.within (omega arith)) ∙ sym (capacity_from_view _ _ _ c.self.view_is)

@@ -1,0 +1,24 @@
+use Rattle.std.proofs.Common.{◌↔◌, IsTrue, map, arith}
+use Rattle.bit_words.specs.declared.block.merge.Merge.TheVariants.{Difference}
+use Rattle.bit_words.specs.BlockMerges.{MergesToFalse}
+use Rattle.bit_words.proofs.CompareLemmas.{first_of_lists, subset_lists}
+use Rattle.bit_words.proofs.VectorLemmas.{length_from_view}
+use Rattle.bit_words.proofs.bit_vec.BitVec.is_subset_of.Goals as goal
+
+pub returns-clause-subset : goal.returns-clause-subset
+returns-clause-subset g c =
+    let f = g.B.BitBlock.number in
+    let zero : IsTrue c.difference_is_zero.result ↔ MergesToFalse Difference g.B.BitBlock.width (map f c.self.inside.blocks.items) (map f c.other.inside.blocks.items) = rw (c.deref.ensures.value, c.deref-2.ensures.value) at c.difference_is_zero.ensures.zero in
+    let both = subset_lists _ _ _ _ _ _ _ _ _ c.self.view_is c.other.view_is c.self.invariant.packed.tail c.other.invariant.packed.tail in
+    (λ yes. both.0 (zero.0 yes), λ each. zero.1 (both.1 each))
+
+pub returns-clause-stops : goal.returns-clause-stops
+returns-clause-stops g c = λ i first.
+    let stop = rw (c.deref.ensures.value, c.deref-2.ensures.value) at c.difference_is_zero.ensures.stops i in
+    stop (first_of_lists _ _ _ _ _ _ _ _ _ _ c.self.view_is c.other.view_is c.self.invariant.packed.tail c.other.invariant.packed.tail i first)
+
+pub returns-clause-most : goal.returns-clause-most
+returns-clause-most g c = rw (length_from_view _ _ _ _ _ c.self.view_is) (omega arith)
+
+pub returns-clause-all : goal.returns-clause-all
+returns-clause-all g c = λ yes. let exact = c.difference_is_zero.ensures.all yes in rw (length_from_view _ _ _ _ _ c.self.view_is) (omega arith)

@@ -1,0 +1,27 @@
+use Rattle.std.proofs.Common.{◌∙◌, sym, ap, map, take, take_all, arith}
+use Rattle.bit_words.proofs.StorageLemmas.{values_of-take}
+use Rattle.bit_words.proofs.SummaryLemmas.{kept_use}
+use Rattle.bit_words.proofs.BitsLemmas.{blocks_for-le}
+use Rattle.bit_words.proofs.VectorLemmas.{length_from_view, numbers_below}
+use Rattle.bit_words.proofs.bit_vec.BitVec.truncate.Goals as goal
+
+pub returns-then-n-self-clause-values : goal.returns-then-n-self-clause-values
+returns-then-n-self-clause-values g c =
+    sym (take_all c.args.n c.args.self.now.values (rw (length_from_view _ _ _ _ _ c.self.view_is) (omega arith)))
+
+pub returns-clause-values : goal.returns-clause-values
+returns-clause-values g c =
+    values_of-take _ _ _ _ _ (omega arith) c.truncate_bits.ensures.kept ∙ ap (λ v. take c.args.n v.values) c.self.view_is
+
+pub cut_summary-requires-clause-shorter : goal.cut_summary-requires-clause-shorter
+cut_summary-requires-clause-shorter g c =
+    let le = blocks_for-le g.B.BitBlock.width c.args.n c.self.inside.len g.met.B.BitBlock.width_law.positive (omega arith) in
+    rw c.deref.ensures.value (omega (arith, le, c.truncate_bits.ensures.packed.count))
+
+pub cut_summary-requires-clause-before : goal.cut_summary-requires-clause-before
+cut_summary-requires-clause-before g c = λ k.
+    let w = g.B.BitBlock.width in
+    let f = g.B.BitBlock.number in
+    rw c.deref.ensures.value (λ before.
+    c.self.invariant.summary.digit k
+    ∙ kept_use w c.args.n k (map f c.self.inside.blocks.items) (map f c.truncate_bits.new.blocks.items) g.met.B.BitBlock.width_law.positive (numbers_below w f _ _ (λ x is. (g.met.B.BitBlock.number_law x is).0) c.self.invariant.packed.each k) (numbers_below w f _ _ (λ x is. (g.met.B.BitBlock.number_law x is).0) c.truncate_bits.ensures.packed.each k) c.truncate_bits.ensures.kept (omega (arith, before, c.truncate_bits.ensures.packed.count)))

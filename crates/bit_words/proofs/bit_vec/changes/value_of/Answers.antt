@@ -1,7 +1,0 @@
-use Rattle.std.proofs.Common.{◌∙◌}
-use Rattle.bit_words.proofs.ChangeLemmas.{value_read}
-use Rattle.bit_words.proofs.bit_vec.changes.value_of.Goals as goal
-
-pub returns : goal.returns
-returns g c =
-    c.has_one_at.ensures ∙ value_read _ _ _ _ _ _ c.block_index.ensures c.place_in_block.ensures.value c.block_at-block.ensures.of_number

@@ -1,0 +1,12 @@
+use Rattle.std.proofs.Common.{vec_len, arith, ◌∙◌}
+use Rattle.std.proofs.lemmas.List.Elements.{All-same, All-push}
+use Rattle.bit_words.proofs.PackedLemmas.{copy_pushed}
+use Rattle.bit_words.proofs.packed.copies.with_copies.Goals as goal
+
+pub loop-preserved : goal.loop-preserved
+loop-preserved g c = record {
+  numbers = copy_pushed g.B.BitBlock.number _ _ _ (vec_len c.args.blocks) c.loop.counter _ (omega arith) c.loop.invariant.numbers c.push_reserved.ensures.items;
+  each = All-same g.B.BitBlock.is_block _ _ c.push_reserved.ensures.items (All-push g.B.BitBlock.is_block _ _ c.loop.invariant.each c.requires.of_block);
+  count = omega arith;
+  capacity = c.push_reserved.ensures.capacity ∙ c.loop.invariant.capacity;
+}

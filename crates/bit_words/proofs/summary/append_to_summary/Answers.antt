@@ -1,0 +1,22 @@
+use Rattle.std.proofs.Common.{◌∙◌, ◌-◌, length, sym, arith, ⊎_elim}
+use Rattle.std.proofs.lemmas.Bool.{cases_lt}
+use Rattle.bit_words.proofs.BitsLemmas.{blocks_for-above}
+use Rattle.bit_words.proofs.SummaryLemmas.{summary_updated}
+use Rattle.bit_words.proofs.summary.append_to_summary.Goals as goal
+
+pub update_summary_at-requires-clause-in_summary : goal.update_summary_at-requires-clause-in_summary
+update_summary_at-requires-clause-in_summary g c =
+    let longer = c.requires.longer in
+    let within = blocks_for-above g.B.BitBlock.width (length c.args.blocks.now) (c.args.old - 1) g.met.B.BitBlock.width_law.positive (omega arith) in
+    omega arith
+
+pub returns-then-old-ne0-clause-summary : goal.returns-then-old-ne0-clause-summary
+returns-then-old-ne0-clause-summary g c =
+    let longer = c.requires.longer in
+    summary_updated _ _ _ _ c.append_bits.new.blocks.items _ _ (omega arith) c.append_bits.ensures.packed
+    (λ k within other.
+    ⊎_elim
+    (λ first. c.append_bits.ensures.kept k first ∙ c.requires.before k (omega arith))
+    (λ added. c.append_bits.ensures.added k added within ∙ sym (c.requires.after k added within))
+    (cases_lt k c.args.old))
+    c.update_summary_at.ensures.same c.update_summary_at.ensures.others c.update_summary_at.ensures.each (omega arith)

@@ -1,0 +1,59 @@
+use Rattle.std.proofs.Common.{◌≡◌, ◌≢◌, ℕ, ◌+◌, ◌*◌, ◌<◌, ◌≤◌, ◌∙◌, ◌==◌, not, refl, sym, ap, get_or, map, length, arith, get_or-set_other, mul-le-mul_right}
+use Rattle.std.proofs.lemmas.List.{length-map}
+use Rattle.bit_words.specs.Digits.{is_one}
+use Rattle.bit_words.specs.Summary.{is_used}
+use Rattle.bit_words.proofs.MergeLemmas.{merged_none, merged_more}
+use Rattle.bit_words.proofs.SummaryLemmas.{summary_put}
+use Rattle.bit_words.proofs.summary.merges.merge_chunks.Goals as goal
+
+pub loop-q-init : goal.loop-q-init
+loop-q-init g c = record {
+  merged = merged_none _ _ _ _ _ _ (omega arith);
+  done = λ p j below index. absurd (omega arith);
+  past = λ p from. refl;
+  each = c.requires.each;
+  each_sum = c.requires.each_sum;
+  len = omega arith;
+  summary_len = omega arith;
+  capacity = omega arith;
+  summary_capacity = omega arith;
+  steps = omega arith;
+}
+
+pub merge_chunk-digits-requires-clause-in_others : goal.merge_chunk-digits-requires-clause-in_others
+merge_chunk-digits-requires-clause-in_others g c =
+    let below : c.loop-q.q + 1 ≤ c.args.chunks = omega arith in
+    let le = mul-le-mul_right g.B.BitBlock.width below in
+    omega (arith, le, c.requires.in_others)
+
+pub loop-q-preserved : goal.loop-q-preserved
+loop-q-preserved g c =
+    let w = g.B.BitBlock.width in
+    let f = g.B.BitBlock.number in
+    let q = c.loop-q.q in
+    let ns = map f c.merge_chunk-digits.new.blocks.items in
+    let ss = map f c.loop-q.summary.items in
+    let within : q < length ss = rw length-map (omega arith) in
+    let chunk = c.merge_chunk-digits.ensures.merged in
+    let put = c.put_block.ensures.numbers in
+    let done : (p j : ℕ) → p < q → j < w → is_one (get_or ss p 0) j ≡ is_used ns (p * w + j) = λ p j below index.
+    let first : p + 1 ≤ q = omega arith in
+    let le = mul-le-mul_right w first in
+    c.loop-q.invariant.done p j below index ∙ ap (λ m. not (m == 0)) (sym (chunk.before (p * w + j) (omega (arith, le)))) in
+    record {
+      merged = merged_more _ w 0 (q * w) ((q + 1) * w) (q * w) ((q + 1) * w) _ _ _ _ (omega arith) (omega arith) refl refl c.loop-q.invariant.merged chunk;
+      done = summary_put w ns ss _ q _ within put c.merge_chunk-digits.ensures.digits done;
+      past = λ p from. let other : p ≢ q = omega arith in ap (λ xs. get_or xs p 0) put ∙ get_or-set_other ss q p _ 0 other ∙ c.loop-q.invariant.past p (omega arith);
+      each = c.merge_chunk-digits.ensures.each;
+      each_sum = c.put_block.ensures.each;
+      len = omega arith;
+      summary_len = omega arith;
+      capacity = omega arith;
+      summary_capacity = omega arith;
+      steps = omega arith;
+    }
+
+pub returns-clause-merged : goal.returns-clause-merged
+returns-clause-merged g c =
+    let end : c.loop-q.q ≡ c.args.chunks = omega arith in
+    rw end at c.loop-q.invariant.merged

@@ -1,0 +1,28 @@
+use Rattle.std.proofs.Common.{◌≡◌, ◌<◌, map, length, arith}
+use Rattle.std.proofs.lemmas.List.{length-map}
+use Rattle.bit_words.specs.Bits.{blocks_for}
+use Rattle.bit_words.proofs.SummaryLemmas.{summary_put, summary_of_digits, digits_of_summary}
+use Rattle.bit_words.proofs.summary.summarize.Goals as goal
+
+pub loop-q-preserved : goal.loop-q-preserved
+loop-q-preserved g c =
+    let f = g.B.BitBlock.number in
+    let ms = map f c.args.blocks.now in
+    let ss = map f c.loop-q.summary.items in
+    let within : c.loop-q.q < length ss = rw length-map (omega arith) in
+    record {
+      done = summary_put g.B.BitBlock.width ms ss _ c.loop-q.q _ within c.put_block.ensures.numbers c.summary_block.ensures.digits c.loop-q.invariant.done;
+      each = c.put_block.ensures.each;
+      len = omega arith;
+      capacity = omega arith;
+    }
+
+pub returns-clause-summary : goal.returns-clause-summary
+returns-clause-summary g c =
+    let w = g.B.BitBlock.width in
+    let f = g.B.BitBlock.number in
+    let ms = map f c.args.blocks.now in
+    let ss = map f c.loop-q.summary.items in
+    let count : length ss ≡ blocks_for w (length ms) = rw (length-map, length-map) (omega arith) in
+    summary_of_digits w f _ c.args.blocks.now c.loop-q.summary.items c.loop-q.invariant.each (omega arith) c.requires.fits
+    (digits_of_summary w ms ss g.met.B.BitBlock.width_law.positive count (λ q j below index. let inside : q < length c.loop-q.summary.items = rw length-map at below in c.loop-q.invariant.done q j (omega arith) index))

@@ -1,0 +1,166 @@
+// Calls that make a bit vector.
+ghost use Rattle.std.specs.Prelude.{◌≡◌, ◌*◌, ◌<◌, ◌≤◌, ◌↔◌, ◌++◌, [], alloc_error, drop, false, length, replicate, IfOk, IsErrOf, IsOk};
+ghost use Rattle.bit_words.specs.Bits.{blocks_for, capacity_of, values_of_bytes};
+ghost use Rattle.bit_words.specs.declared.bit_vec.constructors.BitsError.TheVariants.{Memory};
+
+use crate::bit_vec::BitVec;
+use crate::block::BitBlock;
+use crate::packed::access::block_index;
+use crate::packed::bytes::blocks_of_bytes;
+use crate::packed::copies::copy_of;
+use crate::packed::tail_copies::copy_bits_from;
+use crate::summary::copies_of_both::copy_summary_from;
+use crate::summary::summary_of;
+use std::alloc::{AllocError, AllocFailed, Global};
+use thiserror::Error;
+
+/// Why bytes could not be made a bit vector.
+#[derive(Clone, Copy, Debug, PartialEq, Eq, Error)]
+pub enum BitsError {
+    /// Eight times the number of bytes is more than `usize::MAX`.
+    #[error("too many bits")]
+    Length,
+    /// Memory for the blocks was refused.
+    #[error("memory refused")]
+    Memory(AllocError),
+}
+
+impl From<AllocError> for BitsError {
+    ghost from_gives = { λ fault e. e ≡ Memory fault };
+
+    fn from(fault: AllocError) -> BitsError {
+        BitsError::Memory(fault)
+    }
+}
+
+// So that `?` serves a push to a `Vec` as well.
+impl<T: Drop> From<AllocFailed<T>> for BitsError {
+    ghost from_gives = { λ _ e. e ≡ Memory alloc_error };
+
+    fn from(_fault: AllocFailed<T>) -> BitsError {
+        BitsError::Memory(AllocError)
+    }
+}
+
+impl BitVec<u32> {
+    /// The empty list, over blocks of 32 bits. Takes no memory.
+    pub fn new(alloc: Global) -> Self
+        ensures values { result.values ≡ [] }
+        ensures capacity { result.capacity ≡ 0 }
+    {
+        BitVec::new_general(alloc)
+    }
+
+    /// `n` times `bit`, over blocks of 32 bits. Writes each block once. The capacity is that of its blocks.
+    /// Fails only where memory is refused, and never for `n` 0.
+    pub fn from_elem(alloc: Global, n: usize, bit: bool) -> Result<Self, AllocError>
+        ensures values { IfOk result (λ vector. vector.values ≡ replicate n bit) }
+        ensures holds_values { IfOk result (λ vector. n ≤ vector.capacity) }
+        ensures capacity { IfOk result (λ vector. vector.capacity ≡ capacity_of 32 (blocks_for 32 n)) }
+        ensures empty { n ≡ 0 → IsOk result }
+    {
+        BitVec::from_elem_general(alloc, n, bit)
+    }
+
+    /// The bits of each byte in turn, from the highest down, over blocks of 32 bits. One step a byte.
+    /// The capacity is that of its blocks.
+    ///
+    /// `Length` comes exactly where there are more values than `usize::MAX`, and before memory is asked
+    /// for; `Memory` only where that is refused, and never for no bytes.
+    pub fn from_bytes(alloc: Global, bytes: &[u8]) -> Result<Self, BitsError>
+        ensures values { IfOk result (λ vector. vector.values ≡ values_of_bytes bytes.now) }
+        ensures capacity { IfOk result (λ vector. vector.capacity
+            ≡ capacity_of 32 (blocks_for 32 (8 * length bytes.now))) }
+        ensures too_long { IsErrOf result BitsError.Length ↔ (usize.MAX < 8 * length bytes.now) }
+        ensures empty { length bytes.now ≡ 0 → IsOk result }
+    {
+        BitVec::from_bytes_general(alloc, bytes)
+    }
+}
+
+impl<B: BitBlock> BitVec<B> {
+    /// The empty list. Takes no memory.
+    pub fn new_general(alloc: Global) -> Self
+        ensures values { result.values ≡ [] }
+        ensures capacity { result.capacity ≡ 0 }
+    {
+        BitVec {
+            blocks: Vec::new(alloc),
+            summary: Vec::new(alloc),
+            len: 0,
+        }
+    }
+
+    /// `n` times `bit`. Writes each block once. The capacity is that of its blocks. Fails only where memory
+    /// is refused, and never for `n` 0.
+    pub fn from_elem_general(alloc: Global, n: usize, bit: bool) -> Result<Self, AllocError>
+        ensures values { IfOk result (λ vector. vector.values ≡ replicate n bit) }
+        ensures holds_values { IfOk result (λ vector. n ≤ vector.capacity) }
+        ensures capacity { IfOk result (λ vector. vector.capacity ≡ capacity_of B.width (blocks_for B.width n)) }
+        ensures empty { n ≡ 0 → IsOk result }
+    {
+        let mut vector = BitVec::new_general(alloc);
+        vector.reserve_exact(n)?;
+        vector.grow(n, bit)?;
+        Ok(vector)
+    }
+
+    /// The bits of each byte in turn, from the highest down. One step a byte. The capacity is that of its
+    /// blocks.
+    ///
+    /// `Length` comes exactly where there are more values than `usize::MAX`, and before memory is asked
+    /// for; `Memory` only where that is refused, and never for no bytes.
+    pub fn from_bytes_general(alloc: Global, bytes: &[u8]) -> Result<Self, BitsError>
+        ensures values { IfOk result (λ vector. vector.values ≡ values_of_bytes bytes.now) }
+        ensures capacity { IfOk result
+            (λ vector. vector.capacity ≡ capacity_of B.width (blocks_for B.width (8 * length bytes.now))) }
+        ensures too_long { IsErrOf result BitsError.Length ↔ (usize.MAX < 8 * length bytes.now) }
+        ensures empty { length bytes.now ≡ 0 → IsOk result }
+    {
+        let Some(len) = bytes.len().checked_mul(8) else {
+            return Err(BitsError::Length);
+        };
+        let blocks = blocks_of_bytes(alloc, bytes)?;
+        let summary = summary_of(alloc, &blocks)?;
+        Ok(BitVec {
+            blocks,
+            summary,
+            len,
+        })
+    }
+
+    /// A bit vector of the same list. Copies each block once. Its capacity is that of its blocks. Fails only
+    /// where memory is refused, and never for an empty list.
+    pub fn clone(&self, alloc: Global) -> Result<Self, AllocError>
+        ensures values { IfOk result (λ vector. vector.values ≡ self.now.values) }
+        ensures capacity { IfOk result
+            (λ vector. vector.capacity ≡ capacity_of B.width (blocks_for B.width (length self.now.values))) }
+        ensures empty { length self.now.values ≡ 0 → IsOk result }
+    {
+        let blocks = copy_of(alloc, &self.blocks)?;
+        let summary = copy_of(alloc, &self.summary)?;
+        Ok(BitVec {
+            blocks,
+            summary,
+            len: self.len,
+        })
+    }
+
+    /// A bit vector of the same length and the same values from `at` on, which is below the length; those
+    /// before it are false. Writes each block once, those before that of `at` as zeros. Its capacity is that
+    /// of its blocks. Fails only where memory is refused.
+    pub fn clone_tail(&self, alloc: Global, at: usize) -> Result<Self, AllocError>
+        requires { at < length self.now.values }
+        ensures values { IfOk result (λ vector. vector.values ≡ replicate at false ++ drop at self.now.values) }
+        ensures capacity { IfOk result
+            (λ vector. vector.capacity ≡ capacity_of B.width (blocks_for B.width (length self.now.values))) }
+    {
+        let blocks = copy_bits_from(alloc, &self.blocks, at)?;
+        let summary = copy_summary_from(alloc, &self.summary, &blocks, block_index::<B>(at))?;
+        Ok(BitVec {
+            blocks,
+            summary,
+            len: self.len,
+        })
+    }
+}

@@ -1,0 +1,144 @@
+// Calls that change the list in place.
+ghost use Rattle.std.specs.Prelude.{◌≡◌, ◌+◌, ◌<◌, ◌≤◌, [], ◌++◌, length, max, replicate, slice_get, slice_set, take, Some, IsOk, OnErr, OnOk};
+ghost use Rattle.bit_words.specs.Bits.{blocks_for, capacity_of};
+
+use crate::bit_vec::BitVec;
+use crate::block::BitBlock;
+use crate::packed::access::{block_at, block_count, block_index, replace_bit};
+use crate::packed::resizing::{append_bits, fill_bits, truncate_bits};
+use crate::summary::copies_of_both::take_over;
+use crate::summary::shared_capacity::reserve_shared;
+use crate::summary::{append_to_summary, cut_summary, update_summary_bit};
+use std::alloc::AllocError;
+
+impl<B: BitBlock> BitVec<B> {
+    /// Makes the value at `i` be `bit`, where `i` is below [`len`](Self::len). Constant time.
+    #[inline]
+    pub fn set(&mut self, i: usize, bit: bool)
+        requires { i < length self.old.values }
+        ensures values { self.new.values ≡ slice_set self.old.values i bit }
+        ensures capacity { self.new.capacity ≡ self.old.capacity }
+    {
+        let _was = self.replace(i, bit);
+    }
+
+    /// Makes the value at `i` be `bit`, where `i` is below [`len`](Self::len), and returns what it was. Constant
+    /// time: one read and one write of one block and of one of the summary, whatever they hold.
+    #[inline]
+    pub fn replace(&mut self, i: usize, bit: bool) -> bool
+        requires { i < length self.old.values }
+        ensures was { slice_get self.old.values i ≡ Some result }
+        ensures values { self.new.values ≡ slice_set self.old.values i bit }
+        ensures capacity { self.new.capacity ≡ self.old.capacity }
+    {
+        let k = block_index::<B>(i);
+        // Read before the block is written, so that a bit of it is set in a register and not in memory.
+        let current = block_at(&self.summary, block_index::<B>(k));
+        let was = replace_bit(&mut self.blocks, i, bit);
+        let block = block_at(&self.blocks, k);
+        update_summary_bit(&mut self.summary, current, k, block, bit);
+        was
+    }
+
+    /// Makes every value be `bit`. Writes each block once.
+    pub fn fill(&mut self, bit: bool)
+        ensures values { self.new.values ≡ replicate (length self.old.values) bit }
+        ensures capacity { self.new.capacity ≡ self.old.capacity }
+    {
+        fill_bits(&mut self.blocks, self.len, bit);
+        fill_bits(&mut self.summary, self.blocks.len(), bit);
+    }
+
+    /// Keeps the first `n` values; nothing where there are no more. Writes one block at most.
+    pub fn truncate(&mut self, n: usize)
+        ensures values { self.new.values ≡ take n self.old.values }
+        ensures capacity { self.new.capacity ≡ self.old.capacity }
+    {
+        if n >= self.len {
+            return;
+        }
+        let count = self.blocks.len();
+        truncate_bits(&mut self.blocks, self.len, n);
+        cut_summary(&mut self.summary, &self.blocks, count);
+        self.len = n;
+    }
+
+    /// Makes the list empty. Constant time.
+    #[inline]
+    pub fn remove_all(&mut self)
+        ensures values { self.new.values ≡ [] }
+        ensures capacity { self.new.capacity ≡ self.old.capacity }
+    {
+        self.blocks.clear();
+        self.summary.clear();
+        self.len = 0;
+    }
+
+    /// Appends `n` values `bit`; the new length must fit a `usize`. Writes each new block once, and the old last
+    /// one where it takes ones. Within the capacity it takes no memory; where the capacity was missing it moves
+    /// the old blocks. Fails only there; the list and the capacity then stay, though part of the memory may be
+    /// kept.
+    pub fn grow(&mut self, n: usize, bit: bool) -> Result<(), AllocError>
+        requires { length self.old.values + n ≤ usize.MAX }
+        ensures ok { OnOk result (self.new.values ≡ self.old.values ++ replicate n bit) }
+        ensures holds_values { OnOk result (length self.old.values + n ≤ self.new.capacity) }
+        ensures err { OnErr result (self.new ≡ self.old) }
+        ensures full { OnErr result (self.old.capacity < length self.old.values + n) }
+        ensures succeeds { length self.old.values + n ≤ self.old.capacity → IsOk result }
+        ensures within { length self.old.values + n ≤ self.old.capacity → self.new.capacity ≡ self.old.capacity }
+        ensures capacity { self.old.capacity ≤ self.new.capacity }
+    {
+        let len = self.len + n;
+        if !bit && block_count::<B>(len) == self.blocks.len() {
+            self.len = len;
+            return Ok(());
+        }
+        self.grow_blocks(n, bit)
+    }
+
+    // `grow` where a block is written. It is a call of its own, so that a list that grows by a value
+    // at a time, past the last block once in its width, saves no registers for what is rare.
+    #[inline(never)]
+    fn grow_blocks(&mut self, n: usize, bit: bool) -> Result<(), AllocError>
+        requires { length self.old.values + n ≤ usize.MAX }
+        ensures ok { OnOk result (self.new.values ≡ self.old.values ++ replicate n bit) }
+        ensures holds_values { OnOk result (length self.old.values + n ≤ self.new.capacity) }
+        ensures err { OnErr result (self.new ≡ self.old) }
+        ensures full { OnErr result (self.old.capacity < length self.old.values + n) }
+        ensures succeeds { length self.old.values + n ≤ self.old.capacity → IsOk result }
+        ensures within { length self.old.values + n ≤ self.old.capacity → self.new.capacity ≡ self.old.capacity }
+        ensures capacity { self.old.capacity ≤ self.new.capacity }
+    {
+        let len = self.len + n;
+        let count = block_count::<B>(len);
+        reserve_shared(&mut self.blocks, &mut self.summary, count, false)?;
+        let old = self.blocks.len();
+        append_bits(&mut self.blocks, self.len, len, bit);
+        append_to_summary(&mut self.summary, &self.blocks, old, bit);
+        self.len = len;
+        Ok(())
+    }
+
+    /// Takes over the list of `other`, in one pass over its blocks. Within the capacity it takes no memory; where
+    /// the capacity was missing it takes new blocks, and the capacity becomes that of the blocks of `other`.
+    /// Fails only there, and then nothing changed.
+    pub fn clone_from(&mut self, other: &Self) -> Result<(), AllocError>
+        ensures ok { OnOk result (self.new.values ≡ other.now.values) }
+        ensures err { OnErr result (self.new ≡ self.old) }
+        ensures full { OnErr result (self.old.capacity < length other.now.values) }
+        ensures succeeds { length other.now.values ≤ self.old.capacity → IsOk result }
+        ensures within { length other.now.values ≤ self.old.capacity → self.new.capacity ≡ self.old.capacity }
+        ensures exact { OnOk result
+            (self.new.capacity ≡ max self.old.capacity (capacity_of B.width (blocks_for B.width (length other.now.values)))) }
+        ensures capacity { self.old.capacity ≤ self.new.capacity }
+    {
+        take_over(
+            &mut self.blocks,
+            &mut self.summary,
+            &other.blocks,
+            &other.summary,
+        )?;
+        self.len = other.len;
+        Ok(())
+    }
+}

@@ -1,0 +1,165 @@
+// Reads and writes of a vector of blocks, each by what it does to the bit at every index. They keep its length and
+// capacity unless they say otherwise, and know nothing of how many bits it holds.
+ghost use Rattle.std.specs.Prelude.{◌≡◌, ◌≢◌, ℕ, ◌<◌, ◌≤◌, ◌/◌, ◌%◌, ◌==◌, ◌&&◌, ◌||◌, ◌↔◌, All, IsTrue, length, map, set, get_or, nat_lt, nat_le, vec_len, vec_capacity, true, false};
+ghost use Rattle.bit_words.specs.Bits.{blocks_for};
+ghost use Rattle.bit_words.specs.Storage.{value_at};
+
+use crate::block::BitBlock;
+use crate::block::masks::{cut_from, with_bit, with_ones_between, with_ones_from};
+use crate::block::operators::has_one_at;
+
+// How many blocks a list of `len` values has.
+#[inline]
+pub(crate) fn block_count<B: BitBlock>(len: usize) -> usize
+    ensures { result ≡ blocks_for B.width len }
+{
+    len.div_ceil(B::bits())
+}
+
+// The block in which index `i` is, and its index there.
+#[inline]
+pub(crate) fn block_index<B: BitBlock>(i: usize) -> usize
+    ensures { result ≡ i / B.width }
+{
+    i / B::bits()
+}
+
+#[inline]
+pub(crate) fn bit_index<B: BitBlock>(i: usize) -> usize
+    ensures value { result ≡ i % B.width }
+    ensures within { result < B.width }
+{
+    i % B::bits()
+}
+
+#[inline]
+pub(crate) fn block_at<B: BitBlock>(blocks: &[B], k: usize) -> B
+    requires in_bounds { k < length blocks.now }
+    requires each { All B.is_block blocks.now }
+    ensures of_block { B.is_block result }
+    ensures of_number { B.number result ≡ get_or (map B.number blocks.now) k 0 }
+{
+    blocks[k]
+}
+
+#[inline]
+pub(crate) fn put_block<B: BitBlock>(blocks: &mut Vec<B>, k: usize, block: B)
+    requires in_bounds { k < vec_len blocks.old }
+    requires each { All B.is_block blocks.old.items }
+    requires of_block { B.is_block block }
+    ensures numbers { map B.number blocks.new.items ≡ set (map B.number blocks.old.items) k (B.number block) }
+    ensures each { All B.is_block blocks.new.items }
+    ensures len { vec_len blocks.new ≡ vec_len blocks.old }
+    ensures capacity { vec_capacity blocks.new ≡ vec_capacity blocks.old }
+{
+    blocks[k] = block;
+}
+
+#[inline]
+pub(crate) fn get_bit<B: BitBlock>(blocks: &[B], i: usize) -> bool
+    requires in_bounds { i / B.width < length blocks.now }
+    requires each { All B.is_block blocks.now }
+    ensures { result ≡ value_at B.width (map B.number blocks.now) i }
+{
+    let block = block_at(blocks, block_index::<B>(i));
+    has_one_at(block, bit_index::<B>(i))
+}
+
+// The value at `i` becomes `bit`, where `block` is the block that it is in.
+#[inline]
+pub(crate) fn write_bit<B: BitBlock>(blocks: &mut Vec<B>, i: usize, block: B, bit: bool)
+    requires in_bounds { i / B.width < vec_len blocks.old }
+    requires each { All B.is_block blocks.old.items }
+    requires of_block { B.is_block block }
+    requires read { B.number block ≡ get_or (map B.number blocks.old.items) (i / B.width) 0 }
+    ensures same { value_at B.width (map B.number blocks.new.items) i ≡ bit }
+    ensures others { (j : ℕ) → j ≢ i
+        → value_at B.width (map B.number blocks.new.items) j ≡ value_at B.width (map B.number blocks.old.items) j }
+    ensures each { All B.is_block blocks.new.items }
+    ensures len { vec_len blocks.new ≡ vec_len blocks.old }
+    ensures capacity { vec_capacity blocks.new ≡ vec_capacity blocks.old }
+{
+    let index = bit_index::<B>(i);
+    put_block(blocks, block_index::<B>(i), with_bit(block, index, bit));
+}
+
+// The value at `i` becomes `bit`, and what it was is returned.
+#[inline]
+pub(crate) fn replace_bit<B: BitBlock>(blocks: &mut Vec<B>, i: usize, bit: bool) -> bool
+    requires in_bounds { i / B.width < vec_len blocks.old }
+    requires each { All B.is_block blocks.old.items }
+    ensures was { result ≡ value_at B.width (map B.number blocks.old.items) i }
+    ensures same { value_at B.width (map B.number blocks.new.items) i ≡ bit }
+    ensures others { (j : ℕ) → j ≢ i
+        → value_at B.width (map B.number blocks.new.items) j ≡ value_at B.width (map B.number blocks.old.items) j }
+    ensures each { All B.is_block blocks.new.items }
+    ensures len { vec_len blocks.new ≡ vec_len blocks.old }
+    ensures capacity { vec_capacity blocks.new ≡ vec_capacity blocks.old }
+{
+    let block = block_at(blocks, block_index::<B>(i));
+    write_bit(blocks, i, block, bit);
+    has_one_at(block, bit_index::<B>(i))
+}
+
+// The values from `len` on, up to `end`, become true in the last block; none where it is full.
+pub(crate) fn set_tail<B: BitBlock>(blocks: &mut Vec<B>, len: usize, end: usize)
+    requires count { vec_len blocks.old ≡ blocks_for B.width len }
+    requires each { All B.is_block blocks.old.items }
+    requires forward { len ≤ end }
+    ensures values { (i : ℕ) → i / B.width < vec_len blocks.old
+        → value_at B.width (map B.number blocks.new.items) i
+        ≡ (value_at B.width (map B.number blocks.old.items) i || (nat_lt i end && nat_le len i)) }
+    ensures each { All B.is_block blocks.new.items }
+    ensures len { vec_len blocks.new ≡ vec_len blocks.old }
+    ensures capacity { vec_capacity blocks.new ≡ vec_capacity blocks.old }
+{
+    let index = bit_index::<B>(len);
+    if index == 0 {
+        return;
+    }
+    let k = block_index::<B>(len);
+    let last = block_at(blocks, k);
+    if block_index::<B>(end) == k {
+        let tail_set = with_ones_between(last, index, bit_index::<B>(end));
+        put_block(blocks, k, tail_set);
+    } else {
+        put_block(blocks, k, with_ones_from(last, index));
+    }
+}
+
+// The values from `len` on become false, where there is no block past them.
+pub(crate) fn clear_from<B: BitBlock>(blocks: &mut Vec<B>, len: usize)
+    requires count { vec_len blocks.old ≡ blocks_for B.width len }
+    requires each { All B.is_block blocks.old.items }
+    ensures values { (i : ℕ)
+        → value_at B.width (map B.number blocks.new.items) i
+        ≡ (nat_lt i len && value_at B.width (map B.number blocks.old.items) i) }
+    ensures each { All B.is_block blocks.new.items }
+    ensures len { vec_len blocks.new ≡ vec_len blocks.old }
+    ensures capacity { vec_capacity blocks.new ≡ vec_capacity blocks.old }
+{
+    let index = bit_index::<B>(len);
+    if index == 0 {
+        return;
+    }
+    let k = block_index::<B>(len);
+    let block = cut_from(block_at(blocks, k), index);
+    put_block(blocks, k, block);
+}
+
+// Each of the first `count` blocks becomes `block`.
+pub(crate) fn fill_blocks<B: BitBlock>(blocks: &mut Vec<B>, count: usize, block: B)
+    requires in_bounds { count ≤ vec_len blocks.old }
+    requires each { All B.is_block blocks.old.items }
+    requires of_block { B.is_block block }
+    ensures filled { (k : ℕ) → k < count → get_or (map B.number blocks.new.items) k 0 ≡ B.number block }
+    ensures others { (k : ℕ) → count ≤ k
+        → get_or (map B.number blocks.new.items) k 0 ≡ get_or (map B.number blocks.old.items) k 0 }
+    ensures each { All B.is_block blocks.new.items }
+    ensures len { vec_len blocks.new ≡ vec_len blocks.old }
+    ensures capacity { vec_capacity blocks.new ≡ vec_capacity blocks.old }
+{
+    for k in 0..count {
+        put_block(blocks, k, block);
+    }
+}

@@ -1,0 +1,79 @@
+// Blocks made of bytes: the highest bit of a byte is the first of eight.
+ghost use Rattle.std.specs.Prelude.{◌≡◌, ℕ, ◌+◌, ◌*◌, ◌^◌, ◌<◌, ◌≤◌, ◌&&◌, All, map, nat_lt, length, vec_capacity, IfOk, IsOk};
+ghost use Rattle.bit_words.specs.Bits.{blocks_for};
+ghost use Rattle.bit_words.specs.Bytes.{byte_value};
+ghost use Rattle.bit_words.specs.Digits.{is_one};
+ghost use Rattle.bit_words.specs.Storage.{value_at};
+
+use crate::block::BitBlock;
+use crate::block::operators::{block_or, shift_left};
+use crate::packed::access::block_count;
+use std::alloc::{AllocError, Global};
+
+// The blocks of the values of all bytes.
+pub(crate) fn blocks_of_bytes<B: BitBlock>(
+    alloc: Global,
+    bytes: &[u8],
+) -> Result<Vec<B>, AllocError>
+    requires { 8 * length bytes.now < 2 ^ 64 }
+    ensures values { IfOk result
+        (λ blocks. (i : ℕ) → value_at B.width (map B.number blocks.items) i ≡ byte_value bytes.now i) }
+    ensures each { IfOk result (λ blocks. All B.is_block blocks.items) }
+    ensures len { IfOk result (λ blocks. length blocks.items ≡ blocks_for B.width (8 * length bytes.now)) }
+    ensures capacity { IfOk result (λ blocks. vec_capacity blocks ≡ blocks_for B.width (8 * length bytes.now)) }
+    ensures empty { length bytes.now ≡ 0 → IsOk result }
+{
+    let count = block_count::<B>(8 * bytes.len());
+    let mut blocks = Vec::with_capacity(alloc, count)?;
+    for k in 0..count {
+        blocks.push_reserved(block_of_bytes(bytes_of_block::<B>(bytes, k)));
+    }
+    Ok(blocks)
+}
+
+// The bytes of block `k`: as many as a block holds, or those that are left.
+#[inline]
+fn bytes_of_block<B: BitBlock>(bytes: &[u8], k: usize) -> &[u8]
+    requires few { 8 * length bytes.now < 2 ^ 64 }
+    requires in_bounds { k < blocks_for B.width (8 * length bytes.now) }
+    ensures len { 8 * length result.now ≤ B.width }
+    ensures values { (j : ℕ) → j < B.width → byte_value result.now j ≡ byte_value bytes.now (k * B.width + j) }
+{
+    let step = B::bits() / 8;
+    let start = k * step;
+    let end = (start + step).min(bytes.len());
+    &bytes[start..end]
+}
+
+// One block of no more bytes than it holds.
+#[inline]
+fn block_of_bytes<B: BitBlock>(bytes: &[u8]) -> B
+    requires { 8 * length bytes.now ≤ B.width }
+    ensures of_block { B.is_block result }
+    ensures digits { (j : ℕ) → j < B.width → is_one (B.number result) j ≡ byte_value bytes.now j }
+{
+    let whole = B::bits() / 8;
+    // All blocks but the last are whole, and the compiler unrolls a loop whose count it knows.
+    if bytes.len() == whole {
+        block_of_first(bytes, whole)
+    } else {
+        block_of_first(bytes, bytes.len())
+    }
+}
+
+// One block of the first `count` bytes.
+#[inline]
+fn block_of_first<B: BitBlock>(bytes: &[u8], count: usize) -> B
+    requires in_bounds { count ≤ length bytes.now }
+    requires within { 8 * count ≤ B.width }
+    ensures of_block { B.is_block result }
+    ensures digits { (j : ℕ) → j < B.width
+        → is_one (B.number result) j ≡ (nat_lt j (8 * count) && byte_value bytes.now j) }
+{
+    let mut block = B::zero();
+    for index in 0..count {
+        let digits = B::from_byte(bytes[index].reverse_bits());
+        block = block_or(block, shift_left(digits, 8 * index));
+    }
+    block
+}

@@ -1,0 +1,70 @@
+// Copies of blocks together with their summary, whole or from a block on.
+ghost use Rattle.std.specs.Prelude.{◌≡◌, ◌-◌, ◌<◌, ◌≤◌, All, IfOk, OnErr, OnOk, length, map, max, vec_capacity, ℕ, false};
+ghost use Rattle.bit_words.specs.Bits.{blocks_for};
+ghost use Rattle.bit_words.specs.Summary.{shared_capacity, is_used, IsSummary};
+ghost use Rattle.bit_words.specs.Storage.{value_at, IsPacked};
+
+use crate::block::BitBlock;
+use crate::packed::copies::{copy_blocks, copy_of};
+use crate::packed::tail_copies::copy_bits_from;
+use crate::summary::shared_capacity::have_capacity;
+use crate::summary::update_summary_at;
+use std::alloc::{AllocError, Global};
+
+// The blocks become those of `from`, and so does their summary. Where capacity for either is missing, both are
+// new vectors.
+pub(crate) fn take_over<B: BitBlock>(
+    blocks: &mut Vec<B>,
+    summary: &mut Vec<B>,
+    from: &[B],
+    from_summary: &[B],
+) -> Result<(), AllocError>
+    requires count { length from_summary.now ≡ blocks_for B.width (length from.now) }
+    ensures items { OnOk result (blocks.new.items ≡ from.now) }
+    ensures summary { OnOk result (summary.new.items ≡ from_summary.now) }
+    ensures exact { OnOk result
+        (shared_capacity B.width (vec_capacity blocks.new) (vec_capacity summary.new)
+        ≡ max (shared_capacity B.width (vec_capacity blocks.old) (vec_capacity summary.old)) (length from.now)) }
+    ensures err { OnErr result (blocks.new ≡ blocks.old) }
+    ensures err_summary { OnErr result (summary.new ≡ summary.old) }
+    ensures full { OnErr result
+        (shared_capacity B.width (vec_capacity blocks.old) (vec_capacity summary.old) < length from.now) }
+    ensures within { length from.now ≤ shared_capacity B.width (vec_capacity blocks.old) (vec_capacity summary.old)
+        → shared_capacity B.width (vec_capacity blocks.new) (vec_capacity summary.new)
+        ≡ shared_capacity B.width (vec_capacity blocks.old) (vec_capacity summary.old) }
+    ensures capacity { shared_capacity B.width (vec_capacity blocks.old) (vec_capacity summary.old)
+        ≤ shared_capacity B.width (vec_capacity blocks.new) (vec_capacity summary.new) }
+{
+    if have_capacity(blocks, summary, from.len()) {
+        copy_blocks(blocks, from);
+        copy_blocks(summary, from_summary);
+        return Ok(());
+    }
+    let alloc = *blocks.allocator();
+    let new_blocks = copy_of(alloc, from)?;
+    let new_summary = copy_of(alloc, from_summary)?;
+    *blocks = new_blocks;
+    *summary = new_summary;
+    Ok(())
+}
+
+// The summary of `blocks`, of which those before block `k` are 0, from one that is right of those past it.
+pub(crate) fn copy_summary_from<B: BitBlock>(
+    alloc: Global,
+    summary: &[B],
+    blocks: &[B],
+    k: usize,
+) -> Result<Vec<B>, AllocError>
+    requires packed { IsPacked B.width B.number B.is_block summary.now (length blocks.now) }
+    requires blocks { All B.is_block blocks.now }
+    requires within { k < length blocks.now }
+    requires before { (q : ℕ) → q < k → is_used (map B.number blocks.now) q ≡ false }
+    requires after { (q : ℕ) → k < q
+        → value_at B.width (map B.number summary.now) q ≡ is_used (map B.number blocks.now) q }
+    ensures summary { IfOk result (λ copy. IsSummary B.width B.number B.is_block blocks.now copy.items) }
+    ensures capacity { IfOk result (λ copy. vec_capacity copy ≡ length summary.now) }
+{
+    let mut copy = copy_bits_from(alloc, summary, k)?;
+    update_summary_at(&mut copy, blocks, k);
+    Ok(copy)
+}

@@ -1,0 +1,79 @@
+// What is found faster by a summary: the ones of the blocks, and the last block that is not 0. Changes nothing.
+ghost use Rattle.std.specs.Prelude.{◌≡◌, ℕ, ◌*◌, ◌^◌, ◌<◌, ◌≤◌, All, get_or, length, map, take, drop, ◌≢◌, ◌-◌};
+ghost use Rattle.bit_words.specs.Storage.{value_at};
+ghost use Rattle.bit_words.specs.Nonzero.{ones_in};
+ghost use Rattle.bit_words.specs.Summary.{is_used, IsSummary};
+
+use crate::block::BitBlock;
+use crate::block::operators::same;
+use crate::packed::access::block_at;
+use crate::packed::ones::ones_of;
+use crate::packed::zeros::{used_blocks, zeros_before};
+
+// How many ones the blocks have, where a summary says which of them are not zero. Counts each run of chunks that
+// have any in one pass, and passes over chunks of zeros, each as many blocks as one has bits, by the summary
+// alone.
+pub(crate) fn ones_by_summary<B: BitBlock>(blocks: &[B], summary: &[B]) -> usize
+    requires each { All B.is_block blocks.now }
+    requires summary { All B.is_block summary.now }
+    requires enough { length blocks.now ≤ length summary.now * B.width }
+    requires digit { (k : ℕ) → value_at B.width (map B.number summary.now) k ≡ is_used (map B.number blocks.now) k }
+    requires fits { ones_in B.number blocks.now < 2 ^ 64 }
+    ensures { result ≡ ones_in B.number blocks.now }
+{
+    let mut ones = 0;
+    let mut q = 0;
+    while q < summary.len() {
+        let used = chunks_before_zero(summary.split_at(q).1);
+        ones += ones_of(first_chunks(first_chunks(blocks, q).1, used).0);
+        q += used;
+        q += zeros_before(summary.split_at(q).1);
+    }
+    ones
+}
+
+// How many blocks of a summary come before the first that is 0.
+#[inline]
+fn chunks_before_zero<B: BitBlock>(summary: &[B]) -> usize
+    requires each { All B.is_block summary.now }
+    ensures within { result ≤ length summary.now }
+    ensures end { get_or (map B.number summary.now) result 0 ≡ 0 }
+{
+    for k in 0..summary.len() {
+        if same(block_at(summary, k), B::zero()) {
+            return k;
+        }
+    }
+    summary.len()
+}
+
+// The blocks that the first blocks of a summary are about, or all where there are fewer, and the others.
+#[inline]
+fn first_chunks<B: BitBlock>(blocks: &[B], chunks: usize) -> (&[B], &[B])
+    ensures first { result.0.now ≡ take (chunks * B.width) blocks.now }
+    ensures rest { result.1.now ≡ drop (chunks * B.width) blocks.now }
+{
+    blocks.split_at(chunks.saturating_mul(B::bits()).min(blocks.len()))
+}
+
+// As many blocks as one has bits, or all where there are fewer, and the others.
+#[inline]
+pub(crate) fn first_blocks<B: BitBlock>(blocks: &[B]) -> (&[B], &[B])
+    ensures first { result.0.now ≡ take B.width blocks.now }
+    ensures rest { result.1.now ≡ drop B.width blocks.now }
+{
+    first_chunks(blocks, 1)
+}
+
+// How many blocks there are up to the last that is not 0. The summary says among which to look.
+pub(crate) fn used_by_summary<B: BitBlock>(blocks: &[B], summary: &[B]) -> usize
+    requires each { All B.is_block blocks.now }
+    requires summary { IsSummary B.width B.number B.is_block blocks.now summary.now }
+    ensures within { result ≤ length blocks.now }
+    ensures zeros { (k : ℕ) → result ≤ k → get_or (map B.number blocks.now) k 0 ≡ 0 }
+    ensures last { 0 < result → get_or (map B.number blocks.now) (result - 1) 0 ≢ 0 }
+{
+    let chunks = used_blocks(summary);
+    let end = chunks.saturating_mul(B::bits()).min(blocks.len());
+    used_blocks(&blocks[..end])
+}

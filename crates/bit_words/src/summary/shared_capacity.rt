@@ -1,0 +1,152 @@
+// Capacity for blocks and their summary at once, and the refusal of one of the two. No bit changes here.
+ghost use Rattle.std.specs.Prelude.{◌≡◌, ◌-◌, ◌<◌, ◌≤◌, false, IsOk, IsTrue, OnErr, OnOk, length, max, vec_len, vec_capacity};
+ghost use Rattle.bit_words.specs.Summary.{MakesSharedCapacity, shared_capacity};
+
+use crate::block::BitBlock;
+use crate::packed::access::block_count;
+use std::alloc::AllocError;
+
+// Reserves capacity for `count` blocks, and for no more where that is asked. Takes no memory where it is there.
+#[inline]
+fn reserve_blocks<B: BitBlock>(
+    blocks: &mut Vec<B>,
+    count: usize,
+    exact: bool,
+) -> Result<(), AllocError>
+    ensures items { blocks.new.items ≡ blocks.old.items }
+    ensures len { vec_len blocks.new ≡ vec_len blocks.old }
+    ensures ok { OnOk result (count ≤ vec_capacity blocks.new) }
+    ensures exact { IsTrue exact → OnOk result (vec_capacity blocks.new ≡ max (vec_capacity blocks.old) count) }
+    ensures err { OnErr result (vec_capacity blocks.new ≡ vec_capacity blocks.old) }
+    ensures full { OnErr result (vec_capacity blocks.old < count) }
+    ensures succeeds { count ≤ vec_capacity blocks.old → IsOk result }
+    ensures capacity { vec_capacity blocks.old ≤ vec_capacity blocks.new }
+    ensures within { count ≤ vec_capacity blocks.old → vec_capacity blocks.new ≡ vec_capacity blocks.old }
+{
+    if count <= blocks.capacity() {
+        return Ok(());
+    }
+    let missing = count - blocks.len();
+    if exact {
+        blocks.reserve_exact(missing)
+    } else {
+        blocks.reserve(missing)
+    }
+}
+
+// Whether there is capacity for `count` blocks and their summary.
+#[inline]
+#[tactic(auto, using(crate::proofs::CapacityLemmas::shared_tests))]
+pub(crate) fn have_capacity<B: BitBlock>(blocks: &Vec<B>, summary: &Vec<B>, count: usize) -> bool
+    ensures yes { IsTrue result → count ≤ shared_capacity B.width (vec_capacity blocks.now) (vec_capacity summary.now) }
+    ensures no { result ≡ false → shared_capacity B.width (vec_capacity blocks.now) (vec_capacity summary.now) < count }
+{
+    count <= blocks.capacity() && block_count::<B>(count) <= summary.capacity()
+}
+
+// Reserves capacity for `count` blocks and their summary where it is missing. What has more capacity of the two
+// grows first: then a refusal of the other leaves the capacity that they share.
+#[cold]
+#[inline(never)]
+fn grow_shared_capacity<B: BitBlock>(
+    blocks: &mut Vec<B>,
+    summary: &mut Vec<B>,
+    count: usize,
+    exact: bool,
+) -> Result<(), AllocError>
+    requires { shared_capacity B.width (vec_capacity blocks.old) (vec_capacity summary.old) < count }
+    ensures items { blocks.new.items ≡ blocks.old.items }
+    ensures summary { summary.new.items ≡ summary.old.items }
+    ensures len { vec_len blocks.new ≡ vec_len blocks.old }
+    ensures summary_len { vec_len summary.new ≡ vec_len summary.old }
+    ensures capacity { MakesSharedCapacity B.width count exact result
+        (vec_capacity blocks.old) (vec_capacity summary.old) (vec_capacity blocks.new) (vec_capacity summary.new) }
+{
+    let needed = block_count::<B>(count);
+    if block_count::<B>(blocks.capacity()) <= summary.capacity() {
+        reserve_blocks(summary, needed, exact)?;
+        reserve_blocks(blocks, count, exact)
+    } else {
+        reserve_blocks(blocks, count, exact)?;
+        reserve_blocks(summary, needed, exact)
+    }
+}
+
+// Reserves capacity for `count` blocks and their summary. Where it is there, that costs two comparisons.
+#[inline]
+pub(crate) fn reserve_shared<B: BitBlock>(
+    blocks: &mut Vec<B>,
+    summary: &mut Vec<B>,
+    count: usize,
+    exact: bool,
+) -> Result<(), AllocError>
+    ensures items { blocks.new.items ≡ blocks.old.items }
+    ensures summary { summary.new.items ≡ summary.old.items }
+    ensures len { vec_len blocks.new ≡ vec_len blocks.old }
+    ensures summary_len { vec_len summary.new ≡ vec_len summary.old }
+    ensures capacity { MakesSharedCapacity B.width count exact result
+        (vec_capacity blocks.old) (vec_capacity summary.old) (vec_capacity blocks.new) (vec_capacity summary.new) }
+    ensures full { OnErr result (shared_capacity B.width (vec_capacity blocks.old) (vec_capacity summary.old) < count) }
+    ensures succeeds { count ≤ shared_capacity B.width (vec_capacity blocks.old) (vec_capacity summary.old)
+        → IsOk result }
+    ensures within { count ≤ shared_capacity B.width (vec_capacity blocks.old) (vec_capacity summary.old)
+        → shared_capacity B.width (vec_capacity blocks.new) (vec_capacity summary.new)
+        ≡ shared_capacity B.width (vec_capacity blocks.old) (vec_capacity summary.old) }
+{
+    if have_capacity(blocks, summary, count) {
+        return Ok(());
+    }
+    grow_shared_capacity(blocks, summary, count, exact)
+}
+
+// Reserves capacity for `count` blocks and their summary, and for no more. Where the blocks had capacity for more
+// and their summary had not, they give the rest back first.
+pub(crate) fn reserve_shared_exact<B: BitBlock>(
+    blocks: &mut Vec<B>,
+    summary: &mut Vec<B>,
+    count: usize,
+) -> Result<(), AllocError>
+    requires longer { vec_len blocks.old ≤ count }
+    ensures items { blocks.new.items ≡ blocks.old.items }
+    ensures summary { summary.new.items ≡ summary.old.items }
+    ensures len { vec_len blocks.new ≡ vec_len blocks.old }
+    ensures summary_len { vec_len summary.new ≡ vec_len summary.old }
+    ensures ok { OnOk result
+        (shared_capacity B.width (vec_capacity blocks.new) (vec_capacity summary.new)
+        ≡ max (shared_capacity B.width (vec_capacity blocks.old) (vec_capacity summary.old)) count) }
+    ensures err { OnErr result
+        (shared_capacity B.width (vec_capacity blocks.new) (vec_capacity summary.new)
+        ≡ shared_capacity B.width (vec_capacity blocks.old) (vec_capacity summary.old)) }
+    ensures full { OnErr result (shared_capacity B.width (vec_capacity blocks.old) (vec_capacity summary.old) < count) }
+    ensures succeeds { count ≤ shared_capacity B.width (vec_capacity blocks.old) (vec_capacity summary.old)
+        → IsOk result }
+    ensures capacity { shared_capacity B.width (vec_capacity blocks.old) (vec_capacity summary.old)
+        ≤ shared_capacity B.width (vec_capacity blocks.new) (vec_capacity summary.new) }
+    ensures within { count ≤ shared_capacity B.width (vec_capacity blocks.old) (vec_capacity summary.old)
+        → shared_capacity B.width (vec_capacity blocks.new) (vec_capacity summary.new)
+        ≡ shared_capacity B.width (vec_capacity blocks.old) (vec_capacity summary.old) }
+{
+    if block_count::<B>(count) <= summary.capacity() {
+        return reserve_shared(blocks, summary, count, true);
+    }
+    blocks.shrink_to(count);
+    if count < blocks.capacity() {
+        return Err(AllocError);
+    }
+    reserve_shared(blocks, summary, count, true)
+}
+
+// Gives back what the blocks and their summary do not take, as far as memory to move them to is there. A refusal
+// of one does not keep the other.
+pub(crate) fn shrink_shared_capacity<B: BitBlock>(blocks: &mut Vec<B>, summary: &mut Vec<B>)
+    ensures items { blocks.new.items ≡ blocks.old.items }
+    ensures summary { summary.new.items ≡ summary.old.items }
+    ensures holds { length blocks.old.items ≤ vec_capacity blocks.new }
+    ensures holds_summary { length summary.old.items ≤ vec_capacity summary.new }
+    ensures capacity { vec_capacity blocks.new ≤ vec_capacity blocks.old }
+    ensures summary_capacity { vec_capacity summary.new ≤ vec_capacity summary.old }
+    ensures empty { length blocks.old.items ≡ 0 → vec_capacity blocks.new ≡ 0 }
+{
+    blocks.shrink_to_fit();
+    summary.shrink_to_fit();
+}

@@ -1,0 +1,74 @@
+use bit_words::bit_vec::{BitBlock, BitVec};
+use block24::Block24;
+use std::alloc::{AllocError, Global};
+use std::process::Abort;
+use std::test::Fail;
+
+// A list of `n` values that is true at `i` alone.
+fn one_true<B: BitBlock>(alloc: Global, n: usize, i: usize) -> Result<BitVec<B>, AllocError> {
+    let mut bits = BitVec::from_elem_general(alloc, n, false)?;
+    if i < bits.len() {
+        bits.set(i, true);
+    }
+    Ok(bits)
+}
+
+#[test]
+fn capacity_is_reserved(rt: HostRuntime) -> Result<(), Fail> {
+    let mut bits = BitVec::new(rt.alloc());
+    bits.reserve(100)?;
+    assert!(rt; bits.capacity() >= 100);
+    assert_eq!(rt; bits.len(), 0);
+
+    let mut exact = BitVec::<Block24>::new_general(rt.alloc());
+    exact.reserve_exact(25)?;
+    assert_eq!(rt; exact.capacity(), 48);
+    exact.reserve_exact(3)?;
+    assert_eq!(rt; exact.capacity(), 48, "there was room");
+    Ok(())
+}
+
+// How long a list with a true value at 40 is once its zero blocks are cut, and its capacity after that.
+fn check_shrink<B: BitBlock>(rt: &impl Abort, alloc: Global, len: usize) -> Result<(), Fail> {
+    let mut bits = one_true::<B>(alloc, 1000, 40)?;
+    bits.cut_zero_blocks();
+    assert_eq!(rt; bits.len(), len);
+    assert_eq!(rt; bits.get(40), Some(true));
+    bits.shrink_to_fit()?;
+    assert_eq!(rt; bits.capacity(), len);
+    assert_eq!(rt; bits.get(40), Some(true));
+    bits.fill(false);
+    bits.cut_zero_blocks();
+    assert_eq!(rt; bits.len(), 0);
+    bits.shrink_to_fit()?;
+    assert_eq!(rt; bits.capacity(), 0);
+    Ok(())
+}
+
+#[test]
+fn zero_blocks_are_cut_and_capacity_is_given_back(rt: HostRuntime) -> Result<(), Fail> {
+    check_shrink::<u8>(&rt, rt.alloc(), 48)?;
+    check_shrink::<Block24>(&rt, rt.alloc(), 48)?;
+    check_shrink::<u32>(&rt, rt.alloc(), 64)?;
+    check_shrink::<u64>(&rt, rt.alloc(), 64)?;
+    check_shrink::<u128>(&rt, rt.alloc(), 128)
+}
+
+#[test]
+fn a_shrunk_list_has_the_capacity_of_its_blocks(rt: HostRuntime) -> Result<(), Fail> {
+    let mut bits = BitVec::<u8>::new_general(rt.alloc());
+    bits.reserve(100)?;
+    bits.grow(72, true)?;
+    assert!(rt; bits.capacity() >= 100);
+    bits.shrink_to_fit()?;
+    assert_eq!(rt; (bits.len(), bits.capacity()), (72, 72));
+    Ok(())
+}
+
+#[test]
+fn a_cut_can_lengthen(rt: HostRuntime) -> Result<(), Fail> {
+    let mut bits = one_true::<u32>(rt.alloc(), 41, 40)?;
+    bits.cut_zero_blocks();
+    assert_eq!(rt; bits.len(), 64);
+    Ok(())
+}
