@@ -23,7 +23,8 @@ pub(super) fn numbers<B: JsonBlock>(alloc: Global, blocks: &[B]) -> Result<Vec<V
 // The two members within the one.
 pub(super) fn form(alloc: Global, storage: Vec<Value>, nbits: usize) -> Result<Value, AllocError>
     ensures { IfOk result (λ value. view value ≡ object (member (codes "bit_vec")
-        (object (member (codes "nbits") (number (unsigned nbits)) (member (codes "storage") (array (items_view storage.items)) no_members))) no_members)) }
+        (object (member (codes "nbits") (number (unsigned nbits))
+        (member (codes "storage") (array (items_view storage.items)) no_members))) no_members)) }
 {
     json!(in alloc; {"bit_vec": {"storage": storage, "nbits": nbits}})
 }
