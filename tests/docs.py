@@ -4,7 +4,8 @@
 
 - Each paragraph of a ```rust block of README.md and of a crate's CALLING.md is in one source, line for line but for the
   indentation, and what it imports is imported there. So a whole block is code that the gate proves.
-- A ```antt block begins with the name of a file, and the rest of it is in a file of that name.
+- A ```antt block begins with the name of a file, and the rest of it is in a file of that name. README's crate `mine` is
+  `uses` here.
 - Each clause that a CALLING.md quotes below a line 'fn ..' is a clause of that function.
 - Each example of a doc comment is in a test.
 
@@ -108,7 +109,8 @@ def check_examples(check, root, document, sources):
     for start, block in fences(lines, "antt"):
         name = block[0].removeprefix("-- ")
         files = [lines_of(path.read_text(encoding="utf-8")) for path in root.glob(f"crates/*/{name}")]
-        agrees = any(all(is_in(part, file) for part in paragraphs(block[1:])) for file in files)
+        wanted = paragraphs(line.replace("Rattle.mine.", "Rattle.uses.") for line in block[1:])
+        agrees = any(all(is_in(part, file) for part in wanted) for file in files)
         check.expect(agrees, f"{document.relative_to(root)}:{start}", f"no {name} has this")
 
 

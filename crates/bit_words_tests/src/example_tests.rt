@@ -1,5 +1,5 @@
 //! The examples of the doc comments, as they are there.
-use bit_words::bit_vec::{BitVec, BitsError, take_lowest_one};
+use bit_words::bit_vec::{BitVec, BitsError, clear_below, take_lowest_one};
 use std::alloc::AllocError;
 use std::process::Abort;
 use std::test::Fail;
@@ -29,5 +29,14 @@ fn blocks_that_are_not_zero(rt: HostRuntime) -> Result<(), Fail> {
     bits.set(71, true);
     // Of 100 values, over blocks of 32 bits, those at 70 and 71 are true.
     assert!(rt; bits.nonzero().eq([(0, 0), (2, 0b1100_0000)]));
+    // Of 100 values, over blocks of 32 bits, those at 70 and 71 are true.
+    assert!(rt; bits.nonzero_from(1).eq([(1, 0), (2, 0b1100_0000)]));
+    Ok(())
+}
+
+#[test]
+fn a_block_without_its_lowest_digits(rt: HostRuntime) -> Result<(), Fail> {
+    assert_eq!(rt; clear_below(0b0111u8, 1), 0b0110);
+    assert_eq!(rt; clear_below(0b0111u8, 8), 0);
     Ok(())
 }

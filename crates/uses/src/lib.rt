@@ -9,7 +9,13 @@ use bit_set::{BitBlock, BitSet, SetError, laws};
 use std::alloc::{AllocError, AllocFailed, Global};
 use std::collections::BTreeMap;
 
+pub mod bits;
+#[cfg(test)]
+mod bits_tests;
 pub mod chains;
+pub mod commands;
+#[cfg(test)]
+mod commands_tests;
 #[cfg(test)]
 mod tests;
 
