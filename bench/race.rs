@@ -1,6 +1,6 @@
 //! Times the same work by this repository's library and by the Rust crates `bit-set` and `fixedbitset`, and prints a
-//! table; then a table of libraries that stand on this one, beside the same loops over those crates; and then a table of
-//! this library's times over three types of blocks. Ends with status 1 where two sides give different answers.
+//! table; then a table of libraries that are on this one, beside the same loops over those crates; and then a table of
+//! this library's times over three types of blocks. Ends with status 1 where two sides give different results.
 mod users;
 mod widths;
 
@@ -85,7 +85,7 @@ struct Work<'a> {
     numbers: &'a [usize],
 }
 
-/// A side does so many turns over some numbers, and gives an answer. The sides of a row stand in the order of the
+/// A side does so many turns over some numbers, and gives a result. The sides of a row are in the order of the
 /// table: this library, `bit-set` and, where it has the call, `fixedbitset`.
 type Side<'a> = &'a dyn Fn(&[usize], usize) -> usize;
 
@@ -118,20 +118,20 @@ impl Table {
     fn times(&mut self, work: &Work, sides: &[Side]) -> Vec<f64> {
         let empty_turns = if work.numbers.is_empty() { 0 } else { work.turns };
         let mut least = vec![[f64::MAX; 2]; sides.len()];
-        let mut answers = vec![0; sides.len()];
+        let mut results = vec![0; sides.len()];
         for _ in 0..ROUNDS {
             for (side, run) in sides.iter().enumerate() {
                 let start = now();
                 black_box(run(&[], empty_turns));
                 let middle = now();
-                answers[side] = black_box(run(work.numbers, work.turns));
+                results[side] = black_box(run(work.numbers, work.turns));
                 let end = now();
                 least[side][0] = least[side][0].min(middle - start);
                 least[side][1] = least[side][1].min(end - middle);
             }
         }
-        if answers.iter().any(|answer| *answer != answers[0]) {
-            println!("the sides of the next row give different answers: {answers:?}");
+        if results.iter().any(|result| *result != results[0]) {
+            println!("the sides of the next row give different results: {results:?}");
             self.agrees = false;
         }
         let all_units = (work.units * work.turns) as f64;
@@ -259,7 +259,7 @@ impl Density {
 /// This library's side of the calls on one number, over blocks of one type.
 struct Calls {
     blocks: &'static str,
-    insert_with_room: here::OnNumbers,
+    insert_with_capacity: here::OnNumbers,
     insert_below: here::OnNumbers,
     remove: here::OnMembers,
     contains: here::OnMembers,
@@ -270,8 +270,8 @@ fn single_calls<B: BitBlock>(table: &mut Table, density: &Density, calls: &Calls
     let (len, m, ms) = (*len, members.len(), members.as_ptr());
     let name = |call: &str| format!("{call}, {label}, `{}`", calls.blocks);
     let work = || Work { unit: "call", units: numbers.len(), turns: 4, numbers };
-    table.row(&name("`insert` with room"), work(), &[
-        &|xs, turns| unsafe { (calls.insert_with_room)(len, xs.as_ptr(), xs.len(), turns) },
+    table.row(&name("`insert` with capacity"), work(), &[
+        &|xs, turns| unsafe { (calls.insert_with_capacity)(len, xs.as_ptr(), xs.len(), turns) },
         &|xs, turns| total(turns, |_| insert_all(&mut with_len::<B>(len), xs)),
         &|xs, turns| total(turns, |_| put_all(&mut FixedBitSet::with_capacity(len), xs)),
     ]);
@@ -579,7 +579,7 @@ fn sparse_set<B: BitBlock>(table: &mut Table, calls: &SparseCalls) {
             total(turns, |turn| { let none = set.is_empty(); set.remove(turn); usize::from(none) })
         },
     ]);
-    // The time of the turns that give no room back is left out.
+    // The time of the turns that give no capacity back is left out.
     let shrinking = Work { unit: "call", units: 1, turns: 10, numbers: &[1] };
     table.row(&name("`shrink_to_fit` of {0, 64M} once both are removed"), shrinking, &[
         &|xs, turns| unsafe { (calls.shrink_emptied)(far[1], xs.len(), turns) },
@@ -663,14 +663,14 @@ fn main() -> ExitCode {
     let mut table = Table::start();
     let over_u32 = Calls {
         blocks: "u32",
-        insert_with_room: here::bench_insert_with_capacity_u32,
+        insert_with_capacity: here::bench_insert_with_capacity_u32,
         insert_below: here::bench_insert_below_u32,
         remove: here::bench_remove_u32,
         contains: here::bench_contains_u32,
     };
     let over_u64 = Calls {
         blocks: "u64",
-        insert_with_room: here::bench_insert_with_capacity_u64,
+        insert_with_capacity: here::bench_insert_with_capacity_u64,
         insert_below: here::bench_insert_below_u64,
         remove: here::bench_remove_u64,
         contains: here::bench_contains_u64,

@@ -92,7 +92,7 @@ fn the_rest(table: &mut Table) {
     });
 }
 
-/// Prints the table. Whether the sides of each row gave the same answers.
+/// Prints the table. Whether the sides of each row gave the same results.
 pub fn race(dense: &Density, sparse: &Density) -> bool {
     let mut table = Table::of_widths();
     for density in [dense, sparse] {
