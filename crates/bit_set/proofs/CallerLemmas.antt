@@ -1,6 +1,7 @@
 -- What a caller cites of sets that are made of chains.
 use Rattle.std.proofs.Common.{◌≡◌, ℕ, ◌+◌, Bool, true, false, not, ◌&&◌, ◌||◌, ltb, filter, Option, List, [], Result, Bor, refl, sym, ap, ◌∙◌, inl, inr, zero, suc, arith, length, subst}
 use Rattle.std.specs.Prelude.{IfOk}
+use Rattle.std.specs.BTreeMap.{BTreeMap, get_by}
 use Rattle.std.specs.Fn.{Mut, CalledAt}
 use Rattle.std.specs.Iterator.{Drains}
 use Rattle.std.specs.Iterator.Adapters.{filter_source, filter_callee, filter_steps}
@@ -13,10 +14,12 @@ use Rattle.std.proofs.lemmas.Iterator.Consumers.{YieldsList-at, YieldsList-from_
 use Rattle.std.proofs.lemmas.Result.{IfOk-weaker}
 use Rattle.bit_words.specs.Bits.{Bits}
 use Rattle.bit_set.specs.Members.{IsSameSet}
+use Rattle.bit_set.specs.Order.{order_of_sets}
 use Rattle.bit_set.specs.Sets.{bound_of, elements, has, put_all}
 use Rattle.bit_set.specs.Walk.{Walk, Advances}
 use Rattle.std.proofs.Math.Bool.{and-false, and-true, or-false}
 use Rattle.bit_set.proofs.SetLaws.{has-filter, has-put_all}
+use Rattle.bit_set.proofs.SetLemmas.{IsAscending-elements, same_members}
 
 module _ {S V E : Type 0} {steps : S → Option ℕ → S → Type 0} {s : S} {all : List ℕ} where
   -- what is made of a chain by `from_iter` is made of all that the chain gives
@@ -79,3 +82,9 @@ members-from_filter {g = g} {n = n} {s = s} test r made source callee called =
 -- what a walk over a set gives
 pub gives_left : (w : ℕ) (s : Walk) {xs : List ℕ} → s.left ≡ xs → YieldsList (Advances w) (λ x. x) s xs
 gives_left w s same = subst (YieldsList (Advances w) (λ x. x) s) same (YieldsList-from_shown (Advances w) (λ x. x) (λ walk. walk.left) (λ a b h. ap length h.item.0) (λ a x b h. h.item) s)
+
+-- what a map finds under a set it finds under any set of the same members
+pub same_key : {V : Type 0} (a b : Bits) (map : BTreeMap Bits V) → IsSameSet (elements a.values) (elements b.values)
+    → get_by (λ (t : Bits). order_of_sets (elements b.values) (elements t.values)) map ≡ get_by (λ (t : Bits). order_of_sets (elements a.values) (elements t.values)) map
+same_key a b map same =
+    ap (λ l. get_by (λ (t : Bits). order_of_sets l (elements t.values)) map) (sym (same_members _ _ (IsAscending-elements a.values) (IsAscending-elements b.values) same))

@@ -1,9 +1,11 @@
 //! The JSON form of sets: an object with the one member `bit_vec`, an object with the members
 //! `storage`, the numbers of the blocks, and `nbits`, the length.
-ghost use Rattle.std.specs.Prelude.{◌≡◌, ◌↔◌, ℕ, List, [], alloc_error, IfOk, IsErrOf, IsOk, length, map};
+ghost use Rattle.std.specs.Prelude.{◌≡◌, ◌↔◌, ℕ, Bool, List, [], alloc_error, IfOk, IsErrOf, IsOk, length, map};
 ghost use Rattle.bit_words.specs.Bits.{blocks_for, blocks_of, capacity_of};
 ghost use Rattle.serde_json.specs.View.{view};
 ghost use Rattle.bit_set.specs.Json.{IsFirstFault, Spells};
+ghost use Rattle.bit_set.specs.Members.{IsSameSet};
+ghost use Rattle.bit_set.specs.Sets.{elements};
 ghost use Rattle.std.specs.declared.alloc.AllocError.{AllocError};
 
 use crate::BitSet;
@@ -84,6 +86,8 @@ impl<B: JsonBlock> BitSet<B> {
     pub fn from_json(alloc: Global, value: &Value) -> Result<Self, JsonError>
         ensures ok { IfOk result (λ set. Spells B.width (view value.now) (blocks_of B.width set.values)
             (length set.values)) }
+        ensures members { (values : List Bool) → Spells B.width (view value.now) (blocks_of B.width values) (length values)
+            → IfOk result (λ set. IsSameSet (elements set.values) (elements values)) }
         ensures capacity { IfOk result (λ set. set.capacity
             ≡ capacity_of B.width (blocks_for B.width (length set.values))) }
         ensures shape { IsErrOf result JsonError.Shape ↔ IsFirstFault B.width (view value.now) JsonError.Shape }

@@ -1,33 +1,14 @@
 -- What a walk over a graph keeps, and what it comes to.
 use Rattle.std.proofs.Common.{◌≡◌, ℕ, ◌+◌, ◌-◌, ◌*◌, ◌<◌, ◌≤◌, Bool, not, true, false, ◌||◌, cond, eqb, ltb, ◌⊎◌, inl, inr, List, [], ◌∷◌, ◌++◌, length, Option, Some, None, refl, sym, ap, ◌∙◌, ◌↔◌, arith}
-use Rattle.std.proofs.lemmas.Bool.{eqb-true, eq-eqb, ne_eqb, true≢false, cases_eq}
+use Rattle.std.proofs.lemmas.Bool.{eqb-true, eq-eqb, ne_eqb, true≢false, cases_eq, or_cases, or_left, or_parts, or_right}
 use Rattle.std.proofs.lemmas.List.{append-nil, get_or_past, length_push}
+use Rattle.std.proofs.lemmas.List.Folds.{list_any-append}
 use Rattle.std.proofs.lemmas.List.Sums.{sum_by-cons, sum_by_push}
 use Rattle.std.specs.Iterator.{Yields, YieldsThen, Drains, YieldsFirst}
 use Rattle.std.specs.List.{sum_by}
 use Rattle.bit_set.specs.Sets.{has, put, IsAscending}
 use Rattle.graph_walks.specs.Explored.{TakesOn}
 use Rattle.graph_walks.specs.Paths.{successors, Edge, Path, here, onward}
-
-pub or_cases : (a b : Bool) → (a || b) ≡ true → (a ≡ true) ⊎ (b ≡ true)
-or_cases true b h = inl refl
-or_cases false b h = inr h
-
-pub or_left : (a b : Bool) → a ≡ true → (a || b) ≡ true
-or_left true b h = refl
-or_left false b h = absurd (true≢false (sym h))
-
-pub or_right : (a b : Bool) → b ≡ true → (a || b) ≡ true
-or_right true b h = refl
-or_right false b h = h
-
-or_false : (a b : Bool) → (a || b) ≡ false → (a ≡ false) × (b ≡ false)
-or_false true b h = absurd (true≢false h)
-or_false false b h = (refl, h)
-
-or_assoc : (a b c : Bool) → (a || (b || c)) ≡ ((a || b) || c)
-or_assoc true b c = refl
-or_assoc false b c = refl
 
 or_around : (a b c : Bool) → (a || (b || c)) ≡ ((b || (a || false)) || c)
 or_around true true c = refl
@@ -41,13 +22,9 @@ or_behind true false c h = h refl
 or_behind false true c h = refl
 or_behind false false c h = refl
 
-pub has-append : (xs ys : List ℕ) (v : ℕ) → has (xs ++ ys) v ≡ (has xs v || has ys v)
-has-append [] ys v = refl
-has-append (x ∷ xs) ys v = ap (λ b. eqb x v || b) (has-append xs ys v) ∙ or_assoc (eqb x v) (has xs v) (has ys v)
-
 -- a number at the end of a list
 has-push : (xs : List ℕ) (x v : ℕ) → has (xs ++ x ∷ []) v ≡ (has xs v || (eqb x v || false))
-has-push xs x v = has-append xs (x ∷ []) v
+has-push xs x v = list_any-append (λ m. eqb m v) xs (x ∷ [])
 
 kept_by_push : (xs : List ℕ) (x v : ℕ) → has xs v ≡ true → has (xs ++ x ∷ []) v ≡ true
 kept_by_push xs x v h = has-push xs x v ∙ or_left (has xs v) _ h
@@ -66,7 +43,7 @@ of_push xs x v h =
 pub sum_by-put : (weigh : ℕ → ℕ) (s : List ℕ) (n : ℕ) → has s n ≡ false → sum_by weigh (put s n) ≡ sum_by weigh s + weigh n
 sum_by-put weigh [] n absent = refl
 sum_by-put weigh (x ∷ xs) n absent =
-    let none = or_false (eqb x n) (has xs n) absent in
+    let none = or_parts (eqb x n) (has xs n) absent in
     let other : eqb x n ≡ false = none.0 in
     let rest : sum_by weigh (put xs n) ≡ sum_by weigh xs + weigh n = sum_by-put weigh xs n none.1 in
     rw other (elim (ltb n x) as (λ b. sum_by weigh (cond b (n ∷ x ∷ xs) (x ∷ put xs n)) ≡ sum_by weigh (x ∷ xs) + weigh n) [
@@ -134,7 +111,7 @@ module _ {S : Type 0} (next : S → Option ℕ → S → Type 0) (left : S → L
   pub given_at_last : (s : S) (xs : List ℕ) (x : ℕ) (u : S) → YieldsThen next s xs (Some x) u → has (left s) x ≡ true
   given_at_last s xs x u h =
       let last : left h.0 ≡ x ∷ left u = in_order h.0 u (Some x) h.2 in
-      ap (λ l. has l x) (given_first s h.0 xs h.1 ∙ ap (λ l. xs ++ l) last) ∙ has-append xs (x ∷ left u) x ∙ or_right (has xs x) _ (or_left (eqb x x) _ (eq-eqb x x refl))
+      ap (λ l. has l x) (given_first s h.0 xs h.1 ∙ ap (λ l. xs ++ l) last) ∙ list_any-append (λ m. eqb m x) xs (x ∷ left u) ∙ or_right (has xs x) _ (or_left (eqb x x) _ (eq-eqb x x refl))
 
 -- ---- the walk itself
 

@@ -8,7 +8,7 @@ ghost use Rattle.graph_walks.specs.Paths.{Path, successors};
 
 use crate::Graph;
 use bit_set::bit_vec::Steps;
-use bit_set::laws::{members_of_sets, sets_are_their_members, sets_ascend};
+use bit_set::laws::{members_of_sets, sets_are_their_members, sets_ascend, sizes_of_sets};
 use bit_set::{BitBlock, BitSet, SetError};
 use std::alloc::{AllocError, Global};
 
@@ -191,6 +191,7 @@ pub(crate) fn bounded<B: BitBlock>(set: &BitSet<B>)
     ensures low { (v : ℕ) → IsTrue (has (elements set.now.values) v) → v < usize.MAX }
 {
     members_of_sets();
-    prove!(set.count() <= usize::MAX);
+    sizes_of_sets();
+    // A call of constant time.
     prove!(set.capacity() <= usize::MAX);
 }

@@ -4,7 +4,7 @@ ghost use Rattle.std.specs.List.{list_all, list_any, reduce};
 ghost use Rattle.bit_set.specs.Members.{IsIntersection, IsSameSet, IsUnion};
 ghost use Rattle.bit_set.specs.Sets.{elements};
 
-use bit_set::{BitBlock, BitSet, SetError, laws};
+use bit_set::{BitBlock, BitSet, SetError};
 use std::alloc::Global;
 
 /// Whether all members are below `n`.
@@ -64,6 +64,5 @@ pub fn common<B: BitBlock>(
     ensures { IfOk result (λ set.
         IsIntersection (elements a.now.values) (elements b.now.values) (elements set.values)) }
 {
-    laws::members_of_merged_sets();
     BitSet::from_iter(alloc, a.intersection(b))
 }

@@ -155,9 +155,6 @@ pub fn keep_under<B: BitBlock>(
     requires { IsSameSet (elements set.values) (elements same.now.values) }
     ensures { IfOk result (λ found. found ≡ Some number) }
 {
-    laws::sets_ascend();
-    laws::sets_are_their_members();
-    laws::sets_compare();
     numbers.insert(set, number)?;
     Ok(numbers.get(same).copied())
 }

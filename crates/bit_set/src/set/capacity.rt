@@ -2,7 +2,7 @@
 ghost use Rattle.std.specs.Prelude.{◌≡◌, ℕ, ◌*◌, ◌<◌, ◌≤◌, Bool, IsOk, is_ok, OnErr, OnOk, [], length, max, slice_set};
 ghost use Rattle.std.specs.Borrow.{sem};
 ghost use Rattle.bit_words.specs.Bits.{blocks_for, capacity_of, whole_blocks, IsWithinCapacity};
-ghost use Rattle.bit_set.specs.Members.{Updates};
+ghost use Rattle.bit_set.specs.Members.{IsSameSet, Updates};
 ghost use Rattle.bit_set.specs.Sets.{bound_of, elements};
 ghost use Rattle.bit_set.specs.Calls.{Change, Changes, finished};
 ghost use Rattle.bit_set.specs.Capacity.{Leaves};
@@ -72,6 +72,7 @@ impl<B: BitBlock> BitSet<B> {
     /// ```
     pub fn shrink_to_fit(&mut self) -> Result<(), AllocError>
         ensures elements { elements self.new.values ≡ elements self.old.values }
+        ensures members { IsSameSet (elements self.new.values) (elements self.old.values) }
         ensures length { length self.new.values ≡ whole_blocks B.width self.old.values }
         ensures cut { blocks_for B.width (bound_of (elements self.old.values)) * B.width ≤ usize.MAX
             → length self.new.values ≡ blocks_for B.width (bound_of (elements self.old.values)) * B.width }

@@ -3,6 +3,7 @@ ghost use Rattle.std.specs.Prelude.{◌≡◌, Some, min, IfSome, length};
 ghost use Rattle.std.specs.Iterator.{UpTo, item_count};
 ghost use Rattle.std.specs.Iterator.Runs.{YieldsInOrder};
 ghost use Rattle.std.specs.Iterator.SizeHint.{IsWithinCount};
+ghost use Rattle.bit_set.specs.Members.{IsIntersection};
 ghost use Rattle.bit_set.specs.Sets.{elements, intersection};
 ghost use Rattle.bit_set.specs.Walk.{AdvancesWithBound, StartsOverTwo};
 
@@ -82,6 +83,7 @@ impl<B: BitBlock> BitSet<B> {
     #[inline]
     pub fn intersection<'a>(&'a self, other: &'a Self) -> Intersection<'a, B>
         ensures left { result.walk.left ≡ intersection (elements self.now.values) (elements other.now.values) }
+        ensures members { IsIntersection (elements self.now.values) (elements other.now.values) result.walk.left }
         ensures start { StartsOverTwo B.width self.now.values other.now.values result.walk }
         ensures runs { YieldsInOrder (AdvancesWithBound B.width) (λ it. it.walk.left) }
         ensures bound { result.bound ≡ min (length self.now.values) (length other.now.values) }

@@ -3,6 +3,7 @@ ghost use Rattle.std.specs.Prelude.{◌≡◌, IfSome, length};
 ghost use Rattle.std.specs.Iterator.{UpTo, item_count};
 ghost use Rattle.std.specs.Iterator.Runs.{YieldsInOrder};
 ghost use Rattle.std.specs.Iterator.SizeHint.{IsWithinCount};
+ghost use Rattle.bit_set.specs.Members.{IsDifference, IsMerged, IsSymmetricDifference, IsUnion};
 ghost use Rattle.bit_set.specs.Sets.{elements, merge_of_sets, union, difference, symmetric_difference};
 ghost use Rattle.bit_set.specs.Walk.{AdvancesByEach, StartsOverTwo, bound_on_rest};
 
@@ -40,6 +41,7 @@ impl<'a, B: BitBlock, O: Operation> TwoSets<'a, B, O> {
     #[inline]
     pub(crate) fn over(first: &'a BitSet<B>, second: &'a BitSet<B>) -> Self
         ensures left { result.left ≡ merge_of_sets O.merge (elements first.now.values) (elements second.now.values) }
+        ensures members { IsMerged O.merge (elements first.now.values) (elements second.now.values) result.left }
         ensures start { StartsOverTwo B.width first.now.values second.now.values result }
     {
         TwoSets {
@@ -96,6 +98,7 @@ impl<B: BitBlock> BitSet<B> {
     #[inline]
     pub fn union<'a>(&'a self, other: &'a Self) -> Union<'a, B>
         ensures left { result.left ≡ union (elements self.now.values) (elements other.now.values) }
+        ensures members { IsUnion (elements self.now.values) (elements other.now.values) result.left }
         ensures start { StartsOverTwo B.width self.now.values other.now.values result }
         ensures runs { YieldsInOrder (AdvancesByEach B.width) (λ walk. walk.left) }
     {
@@ -106,6 +109,7 @@ impl<B: BitBlock> BitSet<B> {
     #[inline]
     pub fn difference<'a>(&'a self, other: &'a Self) -> Difference<'a, B>
         ensures left { result.left ≡ difference (elements self.now.values) (elements other.now.values) }
+        ensures members { IsDifference (elements self.now.values) (elements other.now.values) result.left }
         ensures start { StartsOverTwo B.width self.now.values other.now.values result }
         ensures runs { YieldsInOrder (AdvancesByEach B.width) (λ walk. walk.left) }
     {
@@ -121,6 +125,7 @@ impl<B: BitBlock> BitSet<B> {
     #[inline]
     pub fn symmetric_difference<'a>(&'a self, other: &'a Self) -> SymmetricDifference<'a, B>
         ensures left { result.left ≡ symmetric_difference (elements self.now.values) (elements other.now.values) }
+        ensures members { IsSymmetricDifference (elements self.now.values) (elements other.now.values) result.left }
         ensures start { StartsOverTwo B.width self.now.values other.now.values result }
         ensures runs { YieldsInOrder (AdvancesByEach B.width) (λ walk. walk.left) }
     {

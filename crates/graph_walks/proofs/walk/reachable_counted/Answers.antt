@@ -1,11 +1,10 @@
 use Rattle.std.proofs.Common.{◌≡◌, ◌<◌, Err, true, false, eqb, ap, refl, arith}
-use Rattle.std.proofs.lemmas.Bool.{eq-eqb}
+use Rattle.std.proofs.lemmas.Bool.{eq-eqb, or_left}
 use Rattle.std.proofs.lemmas.Result.{err_from_is_err_and}
 use Rattle.bit_set.specs.Bounds.{greatest}
 use Rattle.bit_set.specs.Sets.{elements, has}
 use Rattle.bit_set.specs.declared.faults.SetError.TheVariants.{Element}
 use Rattle.graph_walks.specs.Paths.{here}
-use Rattle.graph_walks.proofs.WalkLemmas.{or_left}
 use Rattle.graph_walks.proofs.walk.reachable_counted.Goals as goal
 
 pub returns-in_err-insert-clause-element : goal.returns-in_err-insert-clause-element

@@ -1,12 +1,15 @@
 use Rattle.std.proofs.Common.{ap, length, ◌∙◌, arith}
 use Rattle.bit_words.specs.Bits.{whole_blocks}
-use Rattle.bit_set.specs.Sets.{elements}
+use Rattle.bit_set.specs.Sets.{elements, has}
 use Rattle.bit_set.proofs.CapacityLemmas.{elements-true_values, whole_blocks-cut, whole_blocks-empty, whole_blocks-top}
 use Rattle.bit_set.proofs.CallLemmas.{changes_shrunk}
 use Rattle.bit_set.proofs.set.BitSet.shrink_to_fit.Goals as goal
 
 pub returns-clause-elements : goal.returns-clause-elements
 returns-clause-elements g c = ap elements c.shrink_to_fit.ensures.values ∙ elements-true_values _ _ c.cut_zero_blocks.ensures.true_values ∙ ap (λ bits. elements bits.values) c.self.view_is
+
+pub returns-clause-members : goal.returns-clause-members
+returns-clause-members g c n = ap (λ s. has s n) (returns-clause-elements g c)
 
 pub returns-clause-empty : goal.returns-clause-empty
 returns-clause-empty g c = λ none. c.shrink_to_fit.ensures.empty (c.cut_zero_blocks.ensures.len ∙ whole_blocks-empty _ c.self.inside.bits.values g.met.B.BitBlock.width_law.positive (ap (λ bits. elements bits.values) c.self.view_is ∙ none))
