@@ -3,7 +3,7 @@ use Rattle.std.proofs.Common.{◌≡◌, ◌≢◌, ℕ, ◌<◌, ◌==◌, not,
 use Rattle.std.proofs.lemmas.Bool.Decides.{nat_tests}
 use Rattle.std.proofs.lemmas.List.Elements.{All-head, All-tail}
 use Rattle.bit_set.specs.Bounds.{greatest}
-use Rattle.bit_set.specs.Calls.{Change, Changes, Event, Happens, Outcome, changed, finished, outcome_of, outcomes, set_after}
+use Rattle.bit_set.specs.Calls.{Change, Changes, Event, Happens, Outcome, elements_after, outcome_of_result, outcome_of, outcomes, set_after}
 use Rattle.bit_set.specs.Calls.Change.{Insert, ShrinkToFit}
 use Rattle.bit_set.specs.Calls.Outcome.{Done, NoElement, NoMemory, Returned}
 use Rattle.bit_set.specs.Sets.{elements, has, put}
@@ -17,11 +17,11 @@ changes_inserted value new old next fits says is =
     rw test (is, ap Returned says)
 
 -- the elements stay, also where no memory is found
-pub changes_shrunk : {T E : Type 0} (r : Result T E) (old next : List Bool) → elements next ≡ elements old → Changes ShrinkToFit old (finished r) next
+pub changes_shrunk : {T E : Type 0} (r : Result T E) (old next : List Bool) → elements next ≡ elements old → Changes ShrinkToFit old (outcome_of_result r) next
 changes_shrunk (Ok x) old next same = (same, refl)
 changes_shrunk (Err fault) old next same = same
 
-found : (call : Change) (old new : List Bool) (outcome : Outcome) → outcome ≢ NoMemory → Changes call old outcome new → (elements new ≡ changed call (elements old)) × (outcome ≡ outcome_of call (elements old))
+found : (call : Change) (old new : List Bool) (outcome : Outcome) → outcome ≢ NoMemory → Changes call old outcome new → (elements new ≡ elements_after call (elements old)) × (outcome ≡ outcome_of call (elements old))
 found call old new Done some is = is
 found call old new (Returned value) some is = is
 found call old new NoElement some is = is

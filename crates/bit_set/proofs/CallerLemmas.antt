@@ -26,7 +26,7 @@ module _ {S V E : Type 0} {steps : S → Option ℕ → S → Type 0} {s : S} {a
   pub made_of_chain : (Q : List ℕ → V → Type 0) (r : Result V E) → IfOk r (λ v. (items : List ℕ) × Drains steps s items × Q items v) → YieldsList steps (λ x. x) s all → IfOk r (λ v. Q all v)
   made_of_chain Q r made gives = fact_from_collect Q r (IfOk-weaker r _ _ (λ v m. (m.0, (m.1.1.0, m.1.1.1, λ _. (m.1.0, m.1.1.2)), m.2)) made) gives
 
--- the members of a row of numbers that count up
+-- the members of numbers that count up
 has-range : (a n m : ℕ) → has (range_with_len a n) m ≡ (not (ltb m a) && ltb m (a + n))
 has-range a zero m =
     elim (cases_lt m a) [

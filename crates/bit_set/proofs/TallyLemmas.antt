@@ -61,7 +61,7 @@ module _ {X : Type 0} (w : ℕ) (number : X → ℕ) (merge : Merge) where
       ∙ ap (λ bs. length (elements bs)) (merged-append merge (values_of_blocks w number xs) (values_of_blocks w number xs') (values_of_blocks w number ys) (values_of_blocks w number ys') long)
       ∙ length-elements_from-append 0 (both_held w number merge xs ys) (both_held w number merge xs' ys')
 
-  -- a row of one side, merged with zeros
+  -- a slice of one side, merged with zeros
   pub first_counted : (xs : List X) (i : ℕ) (a : X) (none r ones more total : ℕ) → i < length xs → a ≡ get_or xs i a → none ≡ 0 → IsMergedBlock w merge (number a) none r
       → ones + length (elements (merge_of merge (values_of_blocks w number (drop i xs)) [])) ≡ total → r < 2 ^ w → more ≡ count_ones r
       → ones + more + length (elements (merge_of merge (values_of_blocks w number (drop (i + 1) xs)) [])) ≡ total

@@ -32,23 +32,23 @@ pub data Outcome : Type 0 where
   NoMemory : Outcome
 
 -- the elements after a call that found memory; an `extend` is given the items that went in
-abbrev pub changed : Change → List ℕ → List ℕ
-changed (Insert value) s = if value == greatest then s else put s value
-changed (Extend items) s = put_all s items
-changed (Remove value) s = without s value
-changed (Truncate len) s = those_below s len
-changed MakeEmpty s = []
-changed Reset s = []
-changed (CloneFrom other) s = other
-changed (UnionWith other) s = union s other
-changed (IntersectWith other) s = intersection s other
-changed (DifferenceWith other) s = difference s other
-changed (SymmetricDifferenceWith other) s = symmetric_difference s other
-changed (Append other) s = union s other
-changed (SplitOff at) s = those_below s at
-changed (ReserveLen len) s = s
-changed (ReserveLenExact len) s = s
-changed ShrinkToFit s = s
+abbrev pub elements_after : Change → List ℕ → List ℕ
+elements_after (Insert value) s = if value == greatest then s else put s value
+elements_after (Extend items) s = put_all s items
+elements_after (Remove value) s = without s value
+elements_after (Truncate len) s = those_below s len
+elements_after MakeEmpty s = []
+elements_after Reset s = []
+elements_after (CloneFrom other) s = other
+elements_after (UnionWith other) s = union s other
+elements_after (IntersectWith other) s = intersection s other
+elements_after (DifferenceWith other) s = difference s other
+elements_after (SymmetricDifferenceWith other) s = symmetric_difference s other
+elements_after (Append other) s = union s other
+elements_after (SplitOff at) s = those_below s at
+elements_after (ReserveLen len) s = s
+elements_after (ReserveLenExact len) s = s
+elements_after ShrinkToFit s = s
 
 -- how it returns: `insert` whether the number is new, `remove` whether it was in
 abbrev pub outcome_of : Change → List ℕ → Outcome
@@ -59,19 +59,19 @@ outcome_of call s = Done
 -- The call found the list `old` and left `new`, and this is how it returned.
 abbrev pub Changes : Change → List Bool → Outcome → List Bool → Type 0
 Changes call old NoMemory new = elements new ≡ elements old
-Changes call old outcome new = (elements new ≡ changed call (elements old)) × (outcome ≡ outcome_of call (elements old))
+Changes call old outcome new = (elements new ≡ elements_after call (elements old)) × (outcome ≡ outcome_of call (elements old))
 
 -- how `insert` returned
-abbrev pub inserted : Result Bool SetError → Outcome
-inserted (Ok new) = Returned new
-inserted (Err Element) = NoElement
-inserted (Err Length) = NoMemory
-inserted (Err (Memory fault)) = NoMemory
+abbrev pub outcome_of_insert : Result Bool SetError → Outcome
+outcome_of_insert (Ok new) = Returned new
+outcome_of_insert (Err Element) = NoElement
+outcome_of_insert (Err Length) = NoMemory
+outcome_of_insert (Err (Memory fault)) = NoMemory
 
 -- how a call returned that fails for memory alone
-abbrev pub finished : {T E : Type 0} → Result T E → Outcome
-finished (Ok x) = Done
-finished (Err fault) = NoMemory
+abbrev pub outcome_of_result : {T E : Type 0} → Result T E → Outcome
+outcome_of_result (Ok x) = Done
+outcome_of_result (Err fault) = NoMemory
 
 -- a call, and how it returned
 pub record Event : Type 0 where
@@ -86,9 +86,9 @@ Happens old (e ∷ es) new = (next : List Bool) × Changes e.call old e.outcome 
 -- the elements after calls that found memory
 abbrev pub set_after : List ℕ → List Change → List ℕ
 set_after s [] = s
-set_after s (call ∷ calls) = set_after (changed call s) calls
+set_after s (call ∷ calls) = set_after (elements_after call s) calls
 
 -- how they return
 abbrev pub outcomes : List ℕ → List Change → List Outcome
 outcomes s [] = []
-outcomes s (call ∷ calls) = outcome_of call s ∷ outcomes (changed call s) calls
+outcomes s (call ∷ calls) = outcome_of call s ∷ outcomes (elements_after call s) calls

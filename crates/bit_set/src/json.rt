@@ -19,7 +19,7 @@ mod growing;
 mod writing;
 
 pub use block::JsonBlock;
-use checking::checked;
+use checking::entries_and_len;
 use growing::bits_of_entries;
 use writing::{form, numbers};
 
@@ -98,7 +98,7 @@ impl<B: JsonBlock> BitSet<B> {
             → (ms : List ℕ) × (n : ℕ) × Spells B.width (view value.now) ms n }
         ensures empty { Spells B.width (view value.now) [] 0 → IsOk result }
     {
-        let (entries, len) = checked::<B>(value)?;
+        let (entries, len) = entries_and_len::<B>(value)?;
         let bits = bits_of_entries::<B>(alloc, entries, len)?;
         Ok(BitSet::from_bit_vec_general(bits))
     }

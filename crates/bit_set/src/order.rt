@@ -11,14 +11,11 @@ ghost use Rattle.bit_set.specs.Sets.{elements, has};
 ghost use Rattle.bit_set.specs.Order.{same_sets, order_of_sets};
 ghost use Rattle.bit_set.specs.Mismatches.{IsFirstMismatch};
 
-use crate::{BitBlock, BitSet};
-use std::cmp::Ordering;
-
-mod mismatch;
-
-use mismatch::{
+use crate::bit_vec::{
     block_or_zero, first_mismatching_block, first_nonzero_block, has_one_from, lowest_mismatch,
 };
+use crate::{BitBlock, BitSet};
+use std::cmp::Ordering;
 
 /// Sets are equal where they have the same elements, whatever their lengths and capacities. Compares the blocks
 /// up to the first that differs.

@@ -122,7 +122,8 @@ impl<'a, B: BitBlock> Iterator for Iter<'a, B> {
     fn next(&mut self) -> Option<usize> {
         if self.block == B::zero() {
             let Some(found) = self.nonzero.next() else {
-                // On to the last block, which may be one of zeros: `size_hint` counts the blocks past the place.
+                // On to the last block, however far it is: those before it are zeros, and `size_hint` counts the
+                // blocks past `index`.
                 self.index = self.nonzero.as_slice().len().saturating_sub(1) * B::bits();
                 return None;
             };

@@ -23,7 +23,7 @@ use Rattle.bit_set_run.specs.declared.verbs.SetWalk.{SetWalk}
 use Rattle.bit_set_run.specs.declared.verbs.SetWalk.TheVariants.{One, Two}
 use Rattle.bit_set_run.specs.declared.reading.BadLine.{BadLine}
 use Rattle.bit_set_run.specs.declared.reading.BadLine.TheVariants.{BadCommand, BadNumber}
-use Rattle.bit_set_run.specs.Reading.{command_of, held, name_alone, name_and_number, name_of, names_and_number, names_around_number, number_and_name, number_of, reading, rest_command, rest_of, two_names, within_range}
+use Rattle.bit_set_run.specs.Reading.{command_of, fitting_number, name_alone, name_and_number, name_of, names_and_number, names_around_number, number_and_name, number_of, reading, rest_command, rest_of, two_names, within_range}
 use Rattle.bit_set_run.specs.Spelling.{numbers_of}
 use Rattle.bit_set_run.specs.Verbs.{name_command, number_command, pair_command, verb_of, walk_of}
 use Rattle.bit_set.specs.Bounds.{greatest}
@@ -49,11 +49,11 @@ pub number_of-other : (ds : List ℕ) (i : ℕ) → i < length ds → is_ascii_d
 number_of-other ds i below other = rw (and_right (nat_lt 0 (length ds)) (all_ascii_digits ds) (not_all_digits ds i below other))
 
 -- the number so far, with one more digit behind it
-pub held_more : (ds : List ℕ) (i : ℕ) (number next : Option ℕ) → i < length ds → IsAsciiDigit (get_or ds i 0) → ((n : ℕ) → number ≡ held n → next ≡ held (n * 10 + (get_or ds i 0 - 48))) → number ≡ held (digits_value 10 (take i ds)) → next ≡ held (digits_value 10 (take (i + 1) ds))
-held_more ds i number next below digit step so_far =
+pub fitting_number-more : (ds : List ℕ) (i : ℕ) (number next : Option ℕ) → i < length ds → IsAsciiDigit (get_or ds i 0) → ((n : ℕ) → number ≡ fitting_number n → next ≡ fitting_number (n * 10 + (get_or ds i 0 - 48))) → number ≡ fitting_number (digits_value 10 (take i ds)) → next ≡ fitting_number (digits_value 10 (take (i + 1) ds))
+fitting_number-more ds i number next below digit step so_far =
     let value : digit_value (get_or ds i 0) + 48 ≡ get_or ds i 0 = digit_value_digit (get_or ds i 0) digit in
     let same : digits_value 10 (take (i + 1) ds) ≡ digits_value 10 (take i ds) * 10 + (get_or ds i 0 - 48) = omega (arith, digits_value_more 10 ds i below) in
-    step (digits_value 10 (take i ds)) so_far ∙ ap held (sym same)
+    step (digits_value 10 (take i ds)) so_far ∙ ap fitting_number (sym same)
 
 -- A line with a space in it has two words or more.
 record IsCut (text : List ℕ) : Type 0 where

@@ -7,8 +7,8 @@ use Rattle.bit_set_run.specs.declared.streams.LinesFault.{LinesFault}
 use Rattle.bit_set_run.specs.declared.streams.LinesFault.TheVariants.{Read, TooLarge, Memory, Write}
 
 -- the block type that a word names
-abbrev pub type_named : List ℕ → Option BlockType
-type_named word =
+abbrev pub type_of_word : List ℕ → Option BlockType
+type_of_word word =
     if bytes_eq word (codes "u8") then Some U8
     else if bytes_eq word (codes "u16") then Some U16
     else if bytes_eq word (codes "u32") then Some U32
@@ -18,14 +18,14 @@ type_named word =
     else None
 
 -- The block type that the words choose: u32 where there is no word, and none where they are not the program's.
-abbrev pub type_chosen : List (List ℕ) → Option BlockType
-type_chosen [] = Some U32
-type_chosen (word ∷ []) = type_named word
-type_chosen (word ∷ more ∷ words) = None
+abbrev pub type_of_words : List (List ℕ) → Option BlockType
+type_of_words [] = Some U32
+type_of_words (word ∷ []) = type_of_word word
+type_of_words (word ∷ more ∷ words) = None
 
 -- whether the program takes these words: none, or the name of a block type
 abbrev pub takes : List (List ℕ) → Bool
-takes words = is_some (type_chosen words)
+takes words = is_some (type_of_words words)
 
 -- what is said of other words, at status 2
 abbrev pub usage : List ℕ
@@ -39,9 +39,9 @@ status_at (Err Read) = 4
 status_at (Err Write) = 4
 status_at (Err TooLarge) = 5
 
-abbrev pub said_at : {X : Type 0} → Result X LinesFault → List ℕ
-said_at (Ok x) = []
-said_at (Err Memory) = codes "memory refused"
-said_at (Err Read) = codes "read failed"
-said_at (Err Write) = codes "write failed"
-said_at (Err TooLarge) = codes "input too large"
+abbrev pub text_at : {X : Type 0} → Result X LinesFault → List ℕ
+text_at (Ok x) = []
+text_at (Err Memory) = codes "memory refused"
+text_at (Err Read) = codes "read failed"
+text_at (Err Write) = codes "write failed"
+text_at (Err TooLarge) = codes "input too large"

@@ -114,5 +114,5 @@ abbrev pub is_plain : ℕ → Bool
 is_plain b = is_ascii_lowercase b || is_ascii_digit b || b == 95 || b == 32
 
 -- The number where a `usize` holds it. No public clause cites this.
-abbrev pub held : ℕ → Option ℕ
-held n = if nat_le n greatest then Some n else None
+abbrev pub fitting_number : ℕ → Option ℕ
+fitting_number n = if nat_le n greatest then Some n else None

@@ -3,7 +3,7 @@
 ghost use Rattle.std.specs.Prelude.{◌≡◌, ℕ, ◌+◌, ◌-◌, ◌*◌, [], ◌∷◌, IfOk, OnErr, slice_get};
 ghost use Rattle.std.specs.Char.{IsAsciiDigit};
 ghost use Rattle.std.specs.Option.{option_and_then};
-ghost use Rattle.bit_set_run.specs.Reading.{all_numbers, command_of, held, name_and_number, name_of, names_and_number, names_around_number, number_and_name, number_of, reading, rest_of, two_names, within_range};
+ghost use Rattle.bit_set_run.specs.Reading.{all_numbers, command_of, fitting_number, name_and_number, name_of, names_and_number, names_around_number, number_and_name, number_of, reading, rest_of, two_names, within_range};
 ghost use Rattle.bit_set_run.specs.Spelling.{numbers_of};
 ghost use Rattle.bit_set_run.specs.Verbs.{verb_of};
 ghost use Rattle.bit_set_run.specs.Words.{words_left, words_of};
@@ -198,7 +198,7 @@ fn read_number(word: &[u8]) -> Result<usize, BadLine>
 #[inline]
 fn with_digit(number: Option<usize>, digit: u8) -> Option<usize>
     requires { IsAsciiDigit digit }
-    ensures { (n : ℕ) → number ≡ held n → result ≡ held (n * 10 + (digit - 48)) }
+    ensures { (n : ℕ) → number ≡ fitting_number n → result ≡ fitting_number (n * 10 + (digit - 48)) }
 {
     number?
         .checked_mul(10)?

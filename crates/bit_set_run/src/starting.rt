@@ -1,7 +1,7 @@
 // The whole program over any reader and writer: its words, and its status and text at the end. No line is read here.
 ghost use Rattle.std.specs.Prelude.{◌≡◌, ◌↔◌, IsTrue, false, map, string_bytes, is_some, Result};
 ghost use Rattle.bit_set_run.specs.Ended.{HasEnded};
-ghost use Rattle.bit_set_run.specs.Exits.{takes, said_at, status_at, type_chosen, type_named, usage};
+ghost use Rattle.bit_set_run.specs.Exits.{takes, text_at, status_at, type_of_words, type_of_word, usage};
 ghost use Rattle.bit_set_run.specs.declared.streams.LinesFault.{LinesFault};
 
 use crate::{LinesFault, run_lines};
@@ -41,7 +41,7 @@ pub fn start<R: Read, W: Write>(
 
     // Otherwise the lines were answered, and the exit is that of how this ended.
     ensures ended { IsTrue (takes (map string_bytes words.now)) → (outcome : Result Unit LinesFault)
-        × (result.status ≡ status_at outcome) × (result.text.now ≡ said_at outcome)
+        × (result.status ≡ status_at outcome) × (result.text.now ≡ text_at outcome)
         × HasEnded outcome (R.remaining reader.old) (R.remaining reader.new) W.contents writer.old writer.new }
 {
     let ended = match block_type(words) {
@@ -65,7 +65,7 @@ impl Exit {
     /// The exit at which the program ends where the lines ended so. Constant time.
     pub fn of(ended: Result<(), LinesFault>) -> Self
         ensures status { result.status ≡ status_at ended }
-        ensures text { result.text.now ≡ said_at ended }
+        ensures text { result.text.now ≡ text_at ended }
     {
         match ended {
             Ok(()) => Exit {
@@ -103,18 +103,18 @@ enum BlockType {
 
 // The type that the words choose, `u32` where there is no word; `None` where they are not the program's.
 fn block_type(words: &[String]) -> Option<BlockType>
-    ensures chosen { result ≡ type_chosen (map string_bytes words.now) }
+    ensures chosen { result ≡ type_of_words (map string_bytes words.now) }
 {
     match words {
         [] => Some(BlockType::U32),
-        [word] => named_type(word.as_str()),
+        [word] => type_of_word(word.as_str()),
         _ => None,
     }
 }
 
 // The type that the word names.
-fn named_type(word: &str) -> Option<BlockType>
-    ensures named { result ≡ type_named word.now }
+fn type_of_word(word: &str) -> Option<BlockType>
+    ensures named { result ≡ type_of_word word.now }
 {
     match word {
         "u8" => Some(BlockType::U8),

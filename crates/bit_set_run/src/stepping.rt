@@ -9,7 +9,7 @@ ghost use Rattle.bit_set.specs.Bounds.{greatest};
 ghost use Rattle.bit_set_run.specs.Run.{step, elements_before_greatest, RefusedBy};
 ghost use Rattle.bit_set_run.specs.declared.commands.Reply.TheVariants.{Truth, Done, Rest, Element};
 
-use crate::two_sets::{named, rest_of_walk, walk};
+use crate::two_sets::{rest_of_walk, set_of, walk};
 use crate::walking::{items, rest};
 use crate::{Command, Numbers, Reply};
 use bit_set::bit_vec::Merge;
@@ -34,7 +34,7 @@ pub(crate) fn step<B: BitBlock>(
     match command {
         Command::Insert(name, n) => insert(&mut sets[name.place()], *n),
         Command::Remove(name, n) => Ok(Reply::Truth(sets[name.place()].remove(*n))),
-        Command::Contains(name, n) => Ok(Reply::Truth(named(sets, *name).contains(*n))),
+        Command::Contains(name, n) => Ok(Reply::Truth(set_of(sets, *name).contains(*n))),
         Command::Extend(name, items) => extend(&mut sets[name.place()], items),
         Command::Truncate(name, n) => {
             sets[name.place()].truncate(*n);
@@ -51,9 +51,9 @@ pub(crate) fn step<B: BitBlock>(
         Command::Reserve(name, n) => reserve(&mut sets[name.place()], *n),
         Command::ReserveExact(name, n) => reserve_exact(&mut sets[name.place()], *n),
         Command::Shrink(name) => shrink(&mut sets[name.place()]),
-        Command::Count(name) => Ok(Reply::Number(named(sets, *name).count())),
-        Command::IsEmpty(name) => Ok(Reply::Truth(named(sets, *name).is_empty())),
-        Command::Items(name) => items(alloc, named(sets, *name).iter()),
+        Command::Count(name) => Ok(Reply::Number(set_of(sets, *name).count())),
+        Command::IsEmpty(name) => Ok(Reply::Truth(set_of(sets, *name).is_empty())),
+        Command::Items(name) => items(alloc, set_of(sets, *name).iter()),
         Command::Copy(from, to) if from == to => Ok(Reply::Same),
         Command::Copy(from, to) => copy(alloc, sets, from.place(), to.place()),
         Command::InPlace(_, s, t) if s == t => Ok(Reply::Same),
@@ -63,12 +63,12 @@ pub(crate) fn step<B: BitBlock>(
         Command::SplitOff(s, _, t) if s == t => Ok(Reply::Same),
         Command::SplitOff(s, n, t) => split_off(alloc, sets, s.place(), *n, t.place()),
         Command::Walk(merge, s, t) => walk(alloc, sets, *merge, *s, *t),
-        Command::Subset(s, t) => Ok(Reply::Truth(named(sets, *s).is_subset(named(sets, *t)))),
-        Command::Superset(s, t) => Ok(Reply::Truth(named(sets, *s).is_superset(named(sets, *t)))),
-        Command::Disjoint(s, t) => Ok(Reply::Truth(named(sets, *s).is_disjoint(named(sets, *t)))),
-        Command::Equal(s, t) => Ok(Reply::Truth(*named(sets, *s) == *named(sets, *t))),
-        Command::Compare(s, t) => Ok(Reply::Order(named(sets, *s).cmp(named(sets, *t)))),
-        Command::RestIter(name, n) => rest(alloc, named(sets, *name).iter(), *n),
+        Command::Subset(s, t) => Ok(Reply::Truth(set_of(sets, *s).is_subset(set_of(sets, *t)))),
+        Command::Superset(s, t) => Ok(Reply::Truth(set_of(sets, *s).is_superset(set_of(sets, *t)))),
+        Command::Disjoint(s, t) => Ok(Reply::Truth(set_of(sets, *s).is_disjoint(set_of(sets, *t)))),
+        Command::Equal(s, t) => Ok(Reply::Truth(*set_of(sets, *s) == *set_of(sets, *t))),
+        Command::Compare(s, t) => Ok(Reply::Order(set_of(sets, *s).cmp(set_of(sets, *t)))),
+        Command::RestIter(name, n) => rest(alloc, set_of(sets, *name).iter(), *n),
         Command::RestWalk(merge, s, t, n) => rest_of_walk(alloc, sets, *merge, *s, *t, *n),
     }
 }

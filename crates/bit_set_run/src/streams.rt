@@ -1,7 +1,7 @@
 // An input read to its end and an output written, each failed call just once. What the bytes mean is not in here.
 ghost use Rattle.std.specs.Prelude.{◌≡◌, ◌≢◌, ℕ, ◌+◌, IfOk, IfErr, OnOk, OnErr, Err, Some};
 ghost use Rattle.std.specs.Io.KnownBytes.{Appends};
-ghost use Rattle.bit_set_run.specs.Exits.{said_at};
+ghost use Rattle.bit_set_run.specs.Exits.{text_at};
 ghost use Rattle.bit_set_run.specs.Streams.{limit, GaveAll, GaveCount, GaveSome, GaveUntil, HoldsBeginning};
 ghost use Rattle.bit_set_run.specs.declared.streams.LinesFault.TheVariants.{Memory};
 
@@ -26,7 +26,7 @@ pub enum LinesFault {
 impl LinesFault {
     /// What the program says of it on standard error. Constant time.
     pub fn text(self) -> &'static str
-        ensures { result.now ≡ said_at {X = Unit} (Err self) }
+        ensures { result.now ≡ text_at {X = Unit} (Err self) }
     {
         match self {
             LinesFault::Read => "read failed",
@@ -38,7 +38,7 @@ impl LinesFault {
 }
 
 impl fmt::Display for LinesFault {
-    ghost output = { λ fault. Some (said_at {X = Unit} (Err fault)) };
+    ghost output = { λ fault. Some (text_at {X = Unit} (Err fault)) };
 
     fn fmt<W: fmt::Write>(&self, f: &mut fmt::Formatter<W>) -> fmt::Result {
         f.write_str(self.text())

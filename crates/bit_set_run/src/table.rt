@@ -4,6 +4,7 @@ ghost use Rattle.bit_set_run.specs.Elements.{elements_of};
 ghost use Rattle.bit_set_run.specs.Run.{no_sets, set_of};
 
 use crate::SetName;
+use crate::two_sets::set_of;
 use bit_set::{BitBlock, BitSet};
 use std::alloc::Global;
 use std::marker::Model;
@@ -56,6 +57,6 @@ impl<B: BitBlock> Table<B> {
     pub fn get(&self, name: SetName) -> &BitSet<B>
         ensures { elements_of result.now ≡ set_of self.now name }
     {
-        &self.sets[name.place()]
+        set_of(&self.sets, name)
     }
 }

@@ -14,7 +14,7 @@ use std::alloc::{AllocError, Global};
 
 /// The set of this name.
 #[inline]
-pub(crate) fn named<B: BitBlock>(sets: &[BitSet<B>; 16], name: SetName) -> &BitSet<B>
+pub(crate) fn set_of<B: BitBlock>(sets: &[BitSet<B>; 16], name: SetName) -> &BitSet<B>
     ensures { elements_of result.now ≡ set_of (map elements_of sets.now) name }
 {
     &sets[name.place()]
@@ -33,8 +33,8 @@ pub(crate) fn walk<B: BitBlock>(
     ensures refused { OnErr result (merge_of_sets merge (set_of (map elements_of sets.now) s)
         (set_of (map elements_of sets.now) t) ≢ []) }
 {
-    let first = named(sets, s);
-    let second = named(sets, t);
+    let first = set_of(sets, s);
+    let second = set_of(sets, t);
     match merge {
         Merge::Union => items(alloc, first.union(second)),
         Merge::Intersection => items(alloc, first.intersection(second)),
@@ -57,8 +57,8 @@ pub(crate) fn rest_of_walk<B: BitBlock>(
     ensures refused { OnErr result (drop taken (merge_of_sets merge (set_of (map elements_of sets.now) s)
         (set_of (map elements_of sets.now) t)) ≢ []) }
 {
-    let first = named(sets, s);
-    let second = named(sets, t);
+    let first = set_of(sets, s);
+    let second = set_of(sets, t);
     match merge {
         Merge::Union => rest(alloc, first.union(second), taken),
         Merge::Intersection => rest(alloc, first.intersection(second), taken),

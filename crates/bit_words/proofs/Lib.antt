@@ -12,6 +12,7 @@ pub mod ByteLemmas
 pub mod SourceLemmas
 pub mod MergeLemmas
 pub mod CompareLemmas
+pub mod MismatchLemmas
 pub mod CapacityLemmas
 pub mod SummaryLemmas
 pub mod TailLemmas

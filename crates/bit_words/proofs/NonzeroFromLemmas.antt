@@ -8,7 +8,7 @@ use Rattle.bit_words.specs.Bits.{blocks_for}
 use Rattle.bit_words.specs.Digits.{is_one}
 use Rattle.bit_words.specs.Storage.{value_at}
 use Rattle.bit_words.specs.Summary.{is_used, IsSummary}
-use Rattle.bit_words.specs.Pending.{IsPending, IsMarkedFrom, pick, is_pending, pending_from}
+use Rattle.bit_words.specs.Pending.{IsPending, ArePendingFrom, pick, is_pending, pending_from}
 use Rattle.bit_words.specs.Nonzero.{block_and_nonzero, first_and_nonzero}
 use Rattle.bit_words.proofs.BitsLemmas.{blocks_for-enough, blocks_for-least}
 use Rattle.bit_words.proofs.NonzeroLemmas.{dropped, pending-past, pending-within, nonzero_inside, pick-nonzero, pick-tick_by, value_at-first, value_at-rest}
@@ -23,28 +23,28 @@ value_at-drop w q ms k pos =
 
 module _ {X : Type 0} (w : ℕ) (number : X → ℕ) (is_block : X → Type 0) where
   -- the chunk of blocks from block q * w on
-  told : (q : ℕ) (first : X) (xs summary rest : List X) → 0 < w → IsSummary w number is_block xs summary → drop q summary ≡ first ∷ rest → (k : ℕ) → value_at w (map number (first ∷ rest)) k ≡ is_used (map number xs) (q * w + k)
-  told q first xs summary rest pos is more k =
+  summary_value : (q : ℕ) (first : X) (xs summary rest : List X) → 0 < w → IsSummary w number is_block xs summary → drop q summary ≡ first ∷ rest → (k : ℕ) → value_at w (map number (first ∷ rest)) k ≡ is_used (map number xs) (q * w + k)
+  summary_value q first xs summary rest pos is more k =
       ap (λ ys. value_at w (map number ys) k) (sym more)
       ∙ ap (λ ms. value_at w ms k) (sym (drop-map number q summary))
       ∙ value_at-drop w q (map number summary) k pos
       ∙ is.digit (q * w + k)
 
-  told_by_mark : (q j : ℕ) (first : X) (xs summary rest : List X) → 0 < w → IsSummary w number is_block xs summary → drop q summary ≡ first ∷ rest → j < w → is_one (number first) j ≡ is_used (map number xs) (q * w + j)
-  told_by_mark q j first xs summary rest pos is more within = sym (value_at-first w (number first) (map number rest) j within) ∙ told q first xs summary rest pos is more j
+  summary_bit : (q j : ℕ) (first : X) (xs summary rest : List X) → 0 < w → IsSummary w number is_block xs summary → drop q summary ≡ first ∷ rest → j < w → is_one (number first) j ≡ is_used (map number xs) (q * w + j)
+  summary_bit q j first xs summary rest pos is more within = sym (value_at-first w (number first) (map number rest) j within) ∙ summary_value q first xs summary rest pos is more j
 
   chunks_counted : (q : ℕ) (first : X) (summary rest : List X) → drop q summary ≡ first ∷ rest → length summary ≡ q + 1 + length rest
   chunks_counted q first summary rest more = let e = ap length more in omega (arith, e, length-drop q summary)
 
   pub IsPending-from : (q d : ℕ) (pending first : X) (xs summary rest : List X) → 0 < w → All is_block xs → length xs < 2 ^ 64 → IsSummary w number is_block xs summary → drop q summary ≡ first ∷ rest → is_block pending → d < w → q * w + d < length xs
-      → IsMarkedFrom w d (number first) (number pending) → IsPending w number is_block (q * w) pending xs rest
+      → ArePendingFrom w d (number first) (number pending) → IsPending w number is_block (q * w) pending xs rest
   IsPending-from q d pending first xs summary rest pos each fits is more block within inside from =
       let count = chunks_counted q first summary rest more in
       let product : length summary * w ≡ q * w + w + length rest * w = ap (λ n. n * w) count ∙ omega arith in
       let enough = blocks_for-enough w (length xs) pos in
       let whole : blocks_for w (length xs) * w ≡ length summary * w = ap (λ k. k * w) (sym is.packed.count) in
       let past : (j : ℕ) → d < j → j < w → is_one (number pending) j ≡ is_used (map number xs) (q * w + j) = λ j after to.
-      from.above j after to ∙ told_by_mark q j first xs summary rest pos is more to in
+      from.above j after to ∙ summary_bit q j first xs summary rest pos is more to in
       let mark_at : (j : ℕ) → is_one (number pending) j ≡ true → d ≤ j = λ j tail_set.
       ⊎_elim (λ below. absurd (true≢false (sym tail_set ∙ from.below j below))) (λ reached. reached) (cases_lt j d) in
       record {
@@ -67,11 +67,11 @@ module _ {X : Type 0} (w : ℕ) (number : X → ℕ) (is_block : X → Type 0) w
             (cases_lt (q * w + length rest * w) (length xs));
         digit = λ k.
             sym (value_at-rest w (number first) (map number rest) k pos)
-            ∙ told q first xs summary rest pos is more (w + k)
+            ∙ summary_value q first xs summary rest pos is more (w + k)
             ∙ ap (is_used (map number xs)) (let e : q * w + (w + k) ≡ q * w + w + k = omega arith in e);
       }
 
-  -- where block k is marked, and the marks past it say which blocks are not 0
+  -- where block k is pending, and the pending bits past it say which blocks are not 0
   picked : (f : ℕ → Bool) (k : ℕ) (ys : List X) → f k ≡ true → ((j : ℕ) → f (k + suc j) ≡ is_used (map number ys) (suc j)) → pick f k ys ≡ block_and_nonzero number k ys
   picked f k [] here tell = refl
   picked f k (y ∷ ys) here tell =
@@ -79,7 +79,7 @@ module _ {X : Type 0} (w : ℕ) (number : X → ℕ) (is_block : X → Type 0) w
       ∙ ap (λ zs. (k, y) ∷ zs) (pick-nonzero number f (k + 1) ys (λ j. ap f (let e : k + 1 + j ≡ k + suc j = omega arith in e) ∙ tell j))
 
   pub left-from : (q d : ℕ) (pending first : X) (xs summary rest : List X) → 0 < w → IsSummary w number is_block xs summary → drop q summary ≡ first ∷ rest → d < w
-      → IsMarkedFrom w d (number first) (number pending) → pending_from w number (q * w) (number pending) xs ≡ block_and_nonzero number (q * w + d) (drop (q * w + d) xs)
+      → ArePendingFrom w d (number first) (number pending) → pending_from w number (q * w) (number pending) xs ≡ block_and_nonzero number (q * w + d) (drop (q * w + d) xs)
   left-from q d pending first xs summary rest pos is more within from =
       let m = number pending in
       let ms = map number xs in
@@ -94,7 +94,7 @@ module _ {X : Type 0} (w : ℕ) (number : X → ℕ) (is_block : X → Type 0) w
       pending-within w p m ms (p + d + suc j) in_hand
       ∙ ap (is_one m) (let e : p + d + suc j - p ≡ d + suc j = omega arith in e)
       ∙ from.above (d + suc j) (omega arith) to
-      ∙ told_by_mark q (d + suc j) first xs summary rest pos is more to
+      ∙ summary_bit q (d + suc j) first xs summary rest pos is more to
       ∙ ap (is_used ms) (let e : p + (d + suc j) ≡ p + d + suc j = omega arith in e))
       (λ past. pending-past w p m ms (p + d + suc j) past)
       (cases_lt (p + d + suc j) (p + w)) in
@@ -102,7 +102,7 @@ module _ {X : Type 0} (w : ℕ) (number : X → ℕ) (is_block : X → Type 0) w
       ∙ ap (pick f (p + d)) (drop-drop d p xs)
       ∙ picked f (p + d) (drop (p + d) xs) here (λ j. tell j ∙ ap (λ n. not (n == 0)) (sym (dropped number (p + d) (suc j) xs)))
 
--- a block's mark is in a block of the summary
+-- a block's bit is in a block of the summary
 pub chunk_inside : (w from blocks summary : ℕ) → 0 < w → from < blocks → summary ≡ blocks_for w blocks → from / w < summary
 chunk_inside w from blocks summary pos inside count =
     let enough = blocks_for-enough w blocks pos in

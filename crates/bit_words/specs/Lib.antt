@@ -11,3 +11,4 @@ pub mod Pending
 pub mod Nonzero
 pub mod Merges
 pub mod BlockMerges
+pub mod Mismatches

@@ -35,7 +35,7 @@ pub record IsPending {X : Type 0} (w : ℕ) (number : X → ℕ) (is_block : X �
   pub digit : (k : ℕ) → value_at w (map number summary) k ≡ is_used (map number xs) (index + w + k)
 
 -- Of w digits, r has those of m past digit d, and is 1 at d and 0 below it.
-pub record IsMarkedFrom (w d m r : ℕ) : Type 0 where
+pub record ArePendingFrom (w d m r : ℕ) : Type 0 where
   pub below : (j : ℕ) → j < d → is_one r j ≡ false
   pub here : is_one r d ≡ true
   pub above : (j : ℕ) → d < j → j < w → is_one r j ≡ is_one m j

@@ -23,6 +23,9 @@ pub use crate::block::BitBlock;
 pub use crate::block::lowest::take_lowest_one;
 pub use crate::block::masks::clear_below;
 pub use crate::block::merge::Merge;
+pub use crate::packed::mismatch::{
+    block_or_zero, first_mismatching_block, first_nonzero_block, has_one_from, lowest_mismatch,
+};
 pub use crate::steps::Steps;
 pub use blocks::Blocks;
 pub use constructors::BitsError;

@@ -9,7 +9,7 @@ use super::{JsonBlock, JsonError};
 use serde_json::Value;
 
 // The entries of a value that spells a set, and its length.
-pub(super) fn checked<B: JsonBlock>(value: &Value) -> Result<(&[Value], usize), JsonError>
+pub(super) fn entries_and_len<B: JsonBlock>(value: &Value) -> Result<(&[Value], usize), JsonError>
     ensures ok { IfOk result (λ found. Spells B.width (view value.now) (numbers_of found.0.now) found.1) }
     ensures entries { IfOk result (λ found. All (IsEntry B.width) found.0.now) }
     ensures err { IfErr result (IsFirstFault B.width (view value.now)) }

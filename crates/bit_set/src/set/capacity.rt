@@ -4,7 +4,7 @@ ghost use Rattle.std.specs.Borrow.{sem};
 ghost use Rattle.bit_words.specs.Bits.{blocks_for, capacity_of, whole_blocks, IsWithinCapacity};
 ghost use Rattle.bit_set.specs.Members.{IsSameSet, Updates};
 ghost use Rattle.bit_set.specs.Sets.{bound_of, elements};
-ghost use Rattle.bit_set.specs.Calls.{Change, Changes, finished};
+ghost use Rattle.bit_set.specs.Calls.{Change, Changes, outcome_of_result};
 ghost use Rattle.bit_set.specs.Capacity.{Leaves};
 ghost use Rattle.bit_set.specs.Capacity.Call.{ReserveLen, ReserveLenExact};
 ghost use Rattle.bit_set.specs.Lends.{lends_bits};
@@ -32,7 +32,7 @@ impl<B: BitBlock> BitSet<B> {
         ensures within { len ≤ self.old.capacity → self.new.capacity ≡ self.old.capacity }
         ensures capacity { self.old.capacity ≤ self.new.capacity }
         ensures leaves { Leaves (ReserveLen len) self.old.capacity (is_ok result) self.new.capacity }
-        ensures changes { Changes (Change.ReserveLen len) self.old.values (finished result) self.new.values }
+        ensures changes { Changes (Change.ReserveLen len) self.old.values (outcome_of_result result) self.new.values }
     {
         let missing = len.saturating_sub(self.bits.len());
         self.bits.reserve(missing)
@@ -53,7 +53,7 @@ impl<B: BitBlock> BitSet<B> {
             (capacity_of B.width (blocks_for B.width len))) }
         ensures capacity { self.old.capacity ≤ self.new.capacity }
         ensures leaves { Leaves (ReserveLenExact len) self.old.capacity (is_ok result) self.new.capacity }
-        ensures changes { Changes (Change.ReserveLenExact len) self.old.values (finished result) self.new.values }
+        ensures changes { Changes (Change.ReserveLenExact len) self.old.values (outcome_of_result result) self.new.values }
     {
         let missing = len.saturating_sub(self.bits.len());
         self.bits.reserve_exact(missing)
@@ -85,7 +85,7 @@ impl<B: BitBlock> BitSet<B> {
         ensures capacity { self.new.capacity ≤ self.old.capacity }
         ensures fits { IsWithinCapacity self.new }
         ensures empty { elements self.old.values ≡ [] → IsOk result }
-        ensures changes { Changes Change.ShrinkToFit self.old.values (finished result) self.new.values }
+        ensures changes { Changes Change.ShrinkToFit self.old.values (outcome_of_result result) self.new.values }
     {
         self.bits.cut_zero_blocks();
         self.bits.shrink_to_fit()

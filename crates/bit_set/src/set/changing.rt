@@ -7,7 +7,7 @@ ghost use Rattle.bit_set.specs.Sets.{elements, has, put, those_below, without};
 ghost use Rattle.bit_set.specs.Members.{HasNone, IsCounted, IsSameSet, KeepsBelow, Updates};
 ghost use Rattle.bit_set.specs.Effects.{TakesIn};
 ghost use Rattle.bit_set.specs.Faults.{IsRefusal};
-ghost use Rattle.bit_set.specs.Calls.{Change, Changes, finished, inserted};
+ghost use Rattle.bit_set.specs.Calls.{Change, Changes, outcome_of_result, outcome_of_insert};
 ghost use Rattle.bit_set.specs.Calls.Outcome.{Done, Returned};
 ghost use Rattle.bit_set.specs.Capacity.{IsPastBlocks, Leaves};
 ghost use Rattle.bit_set.specs.Capacity.Call.{CloneFrom, Insert, MakeEmpty, Remove, Reset, Truncate};
@@ -40,7 +40,7 @@ impl<B: BitBlock> BitSet<B> {
         ensures within { value < self.old.capacity → self.new.capacity ≡ self.old.capacity }
         ensures past_blocks { IfErr result (λ fault. IsPastBlocks fault B.width (length self.old.values) value) }
         ensures leaves { Leaves (Insert value) self.old.capacity (is_ok result) self.new.capacity }
-        ensures changes { Changes (Change.Insert value) self.old.values (inserted result) self.new.values }
+        ensures changes { Changes (Change.Insert value) self.old.values (outcome_of_insert result) self.new.values }
     {
         if value >= self.bits.len() {
             self.lengthen_past(value)?;
@@ -69,8 +69,8 @@ impl<B: BitBlock> BitSet<B> {
         if value == usize::MAX {
             return Err(SetError::Element);
         }
-        // For the proof alone: `capacity` ensures that the list is within its capacity, which is that of whole
-        // blocks.
+        // For the proof alone: the call of `capacity` brings in its clauses, by which the capacity is that of whole
+        // blocks and holds the list.
         prove!(len <= self.bits.capacity());
         self.bits.grow(value - len + 1, false)?;
         Ok(())
@@ -184,7 +184,7 @@ impl<B: BitBlock> BitSet<B> {
         ensures leaves { Leaves (CloneFrom (length other.now.values)) self.old.capacity
             (is_ok result) self.new.capacity }
         ensures changes { Changes (Change.CloneFrom (elements other.now.values))
-            self.old.values (finished result) self.new.values }
+            self.old.values (outcome_of_result result) self.new.values }
     {
         self.bits.clone_from(&other.bits)
     }

@@ -3,7 +3,7 @@ ghost use Rattle.std.specs.Prelude.{◌≡◌, ◌-◌, ◌<◌, ◌≤◌, ◌+
 ghost use Rattle.bit_words.specs.Merges.{merge_of};
 ghost use Rattle.bit_set.specs.Members.{IsDifference, IsIntersection, IsMerged, IsSymmetricDifference, IsUnion};
 ghost use Rattle.bit_set.specs.Sets.{elements, union, intersection, difference, symmetric_difference, merge_of_sets};
-ghost use Rattle.bit_set.specs.Calls.{Change, Changes, finished};
+ghost use Rattle.bit_set.specs.Calls.{Change, Changes, outcome_of_result};
 ghost use Rattle.bit_set.specs.Capacity.{Leaves};
 ghost use Rattle.bit_set.specs.Capacity.Call.{UnionWith, IntersectWith, DifferenceWith, SymmetricDifferenceWith};
 
@@ -70,7 +70,7 @@ impl<B: BitBlock> BitSet<B> {
         ensures leaves { Leaves (UnionWith (length other.now.values)) self.old.capacity
             (is_ok result) self.new.capacity }
         ensures changes { Changes (Change.UnionWith (elements other.now.values))
-            self.old.values (finished result) self.new.values }
+            self.old.values (outcome_of_result result) self.new.values }
     {
         self.merge_with(other, Merge::Union)
     }
@@ -93,7 +93,7 @@ impl<B: BitBlock> BitSet<B> {
         ensures leaves { Leaves (IntersectWith (length other.now.values)) self.old.capacity
             (is_ok result) self.new.capacity }
         ensures changes { Changes (Change.IntersectWith (elements other.now.values))
-            self.old.values (finished result) self.new.values }
+            self.old.values (outcome_of_result result) self.new.values }
     {
         self.merge_with(other, Merge::Intersection)
     }
@@ -116,7 +116,7 @@ impl<B: BitBlock> BitSet<B> {
         ensures leaves { Leaves (DifferenceWith (length other.now.values)) self.old.capacity
             (is_ok result) self.new.capacity }
         ensures changes { Changes (Change.DifferenceWith (elements other.now.values))
-            self.old.values (finished result) self.new.values }
+            self.old.values (outcome_of_result result) self.new.values }
     {
         self.merge_with(other, Merge::Difference)
     }
@@ -139,7 +139,7 @@ impl<B: BitBlock> BitSet<B> {
         ensures leaves { Leaves (SymmetricDifferenceWith (length other.now.values)) self.old.capacity
             (is_ok result) self.new.capacity }
         ensures changes { Changes (Change.SymmetricDifferenceWith (elements other.now.values))
-            self.old.values (finished result) self.new.values }
+            self.old.values (outcome_of_result result) self.new.values }
     {
         self.merge_with(other, Merge::Symmetric)
     }

@@ -3,7 +3,7 @@ ghost use Rattle.std.specs.Prelude.{◌≡◌, ◌<◌, ◌≤◌, if◌then◌e
 ghost use Rattle.bit_words.specs.Bits.{blocks_for, capacity_of};
 ghost use Rattle.bit_set.specs.Sets.{elements, those_below, those_from, union};
 ghost use Rattle.bit_set.specs.Members.{HasNone, IsUnion, KeepsBelow, KeepsFrom};
-ghost use Rattle.bit_set.specs.Calls.{Change, Changes, finished};
+ghost use Rattle.bit_set.specs.Calls.{Change, Changes, outcome_of_result};
 ghost use Rattle.bit_set.specs.Capacity.{Leaves};
 ghost use Rattle.bit_set.specs.Capacity.Call.{Append};
 
@@ -42,7 +42,7 @@ impl<B: BitBlock> BitSet<B> {
         ensures within { length other.old.values ≤ self.old.capacity → self.new.capacity ≡ self.old.capacity }
         ensures leaves { Leaves (Append (length other.old.values)) self.old.capacity (is_ok result) self.new.capacity }
         ensures changes { Changes (Change.Append (elements other.old.values))
-            self.old.values (finished result) self.new.values }
+            self.old.values (outcome_of_result result) self.new.values }
     {
         self.union_with(other)?;
         other.make_empty();
@@ -81,7 +81,7 @@ impl<B: BitBlock> BitSet<B> {
         ensures exact { 0 < at → at < length self.old.values
             → IfOk result (λ part. part.capacity ≡ capacity_of B.width (blocks_for B.width (length self.old.values))) }
         ensures nothing { 0 < at → length self.old.values ≤ at → IfOk result (λ part. part.capacity ≡ 0) }
-        ensures changes { Changes (Change.SplitOff at) self.old.values (finished result) self.new.values }
+        ensures changes { Changes (Change.SplitOff at) self.old.values (outcome_of_result result) self.new.values }
     {
         if at == 0 {
             return Ok(replace(self, Self::new_general(alloc)));

@@ -187,7 +187,7 @@ fn ones_of_rest<B: BitBlock, O: Operation>(first: &[B], second: &[B]) -> usize
     ones_of_first::<B, O>(first) + ones_of_second::<B, O>(second)
 }
 
-// How many ones a row of the first side has, merged with zeros. The compiler takes out a loop that adds none.
+// How many ones a slice of the first side has, merged with zeros. The compiler takes out a loop that adds none.
 #[inline]
 fn ones_of_first<B: BitBlock, O: Operation>(blocks: &[B]) -> usize
     requires each { All B.is_block blocks.now }

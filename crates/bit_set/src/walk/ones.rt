@@ -72,9 +72,11 @@ impl<S: BlockSource<B>, B: BitBlock> Ones<S, B> {
             self.advance_branchless();
         }
         while self.block == B::zero() {
+            // At the end `index` stays with the last block.
             self.block = self.source.pull()?;
             self.index += B::bits();
         }
+        // `index` is a multiple of the width, so where the width is a power of two this adds as an or does.
         Some(self.index + take_lowest_one(&mut self.block))
     }
 

@@ -4,7 +4,7 @@ ghost use Rattle.std.specs.Iterator.{item_count};
 ghost use Rattle.bit_words.specs.Bits.{blocks_for};
 ghost use Rattle.bit_words.specs.Digits.{IsEither};
 ghost use Rattle.bit_words.specs.Nonzero.{block_and_nonzero, first_and_nonzero, ones_left};
-ghost use Rattle.bit_words.specs.Pending.{IsMarkedFrom};
+ghost use Rattle.bit_words.specs.Pending.{ArePendingFrom};
 ghost use Rattle.bit_words.specs.Summary.{IsSummary};
 
 use crate::bit_vec::Blocks;
@@ -186,13 +186,13 @@ fn with_first_pending<B: BitBlock>(pending: B) -> B
     block_or(pending, B::one())
 }
 
-// The marks of a slice of blocks past the one at `index`, and that of this one in any case.
+// The pending bits of a slice of blocks past the one at `index`, and that of this one in any case.
 #[inline]
 fn with_pending_from<B: BitBlock>(pending: B, index: usize) -> B
     requires of_block { B.is_block pending }
     requires within { index < B.width }
     ensures of_block { B.is_block result }
-    ensures pending { IsMarkedFrom B.width index (B.number pending) (B.number result) }
+    ensures pending { ArePendingFrom B.width index (B.number pending) (B.number result) }
 {
     with_bit(cut_below(pending, index), index, true)
 }

@@ -1,4 +1,6 @@
-// The unsigned integers as blocks: a value is its own number. No other type is a block here.
+// The unsigned integers as blocks: a value is its own number. No other type is a block here. The six impls differ in
+// the type and its width alone. They are written out, since the merge gate takes no impl that a macro of the
+// repository writes.
 ghost use Rattle.std.specs.Prelude.{◌^◌, ◌<◌, refl};
 ghost use Rattle.std.proofs.Common.{lit<};
 ghost use Rattle.bit_words.specs.DigitLaws.{both, either, different, complement, added, subtracted, compared};

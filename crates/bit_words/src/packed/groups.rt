@@ -2,5 +2,6 @@
 // Where a group is left at the first block that decides: a short one leaves little to read in vain.
 pub(crate) const GROUP: usize = 8;
 
-// Where a block of the summary is made of the groups, most often of one or two.
+// Where a block of the summary is made of the groups, most often of one or two; and where two lists are compared, most
+// often to their end.
 pub(crate) const LONG_GROUP: usize = 32;

@@ -2,16 +2,22 @@
 ghost use Rattle.std.specs.Prelude.{◌≡◌, ◌≢◌, ℕ, ◌+◌, ◌*◌, ◌<◌, ◌≤◌, ◌==◌, ◌↔◌, All, IsTrue, MatchOption, get_or, length, map};
 ghost use Rattle.std.specs.Bool.{OnTrue, OnFalse};
 ghost use Rattle.std.specs.Int.{bit_at};
-ghost use Rattle.bit_set.specs.Mismatches.{IsFirstBlockMismatch, IsFirstNonzeroBlock, IsLowestMismatch};
+ghost use Rattle.bit_words.specs.Mismatches.{IsFirstBlockMismatch, IsFirstNonzeroBlock, IsLowestMismatch};
 
-use crate::BitBlock;
-use crate::bit_vec::take_lowest_one;
+use crate::block::BitBlock;
+use crate::block::lowest::take_lowest_one;
+use crate::block::operators::{block_or, block_xor, same, shift_right};
+use crate::packed::access::block_at;
+use crate::packed::groups::LONG_GROUP;
 
-// How many blocks are tested at once.
-const GROUP: usize = 32;
-
-// The first index at which the blocks differ.
-pub(crate) fn first_mismatching_block<B: BitBlock>(a: &[B], b: &[B]) -> Option<usize>
+/// The first index at which the blocks differ, or `None`. Reads each block once at most, up to the end of the
+/// group of the first that differs.
+///
+/// ```
+/// assert_eq!(first_mismatching_block(&[7u8, 1], &[7, 1, 0]), None);
+/// assert_eq!(first_mismatching_block(&[7u8, 1], &[7, 1, 2]), Some(2));
+/// ```
+pub fn first_mismatching_block<B: BitBlock>(a: &[B], b: &[B]) -> Option<usize>
     requires left { All B.is_block a.now }
     requires right { All B.is_block b.now }
     ensures { MatchOption result
@@ -19,7 +25,7 @@ pub(crate) fn first_mismatching_block<B: BitBlock>(a: &[B], b: &[B]) -> Option<u
         (IsFirstBlockMismatch (map B.number a.now) (map B.number b.now)) }
 {
     let both = a.len().min(b.len());
-    let alike = same_groups(a, b, both / GROUP) * GROUP;
+    let alike = same_groups(a, b, both / LONG_GROUP) * LONG_GROUP;
     for k in alike..both {
         if !same(block_at(a, k), block_at(b, k)) {
             return Some(k);
@@ -31,18 +37,18 @@ pub(crate) fn first_mismatching_block<B: BitBlock>(a: &[B], b: &[B]) -> Option<u
 
 // How many groups of blocks are the same, up to the first that is not.
 fn same_groups<B: BitBlock>(a: &[B], b: &[B], groups: usize) -> usize
-    requires within { groups * GROUP ≤ length a.now }
-    requires within_other { groups * GROUP ≤ length b.now }
+    requires within { groups * LONG_GROUP ≤ length a.now }
+    requires within_other { groups * LONG_GROUP ≤ length b.now }
     requires left { All B.is_block a.now }
     requires right { All B.is_block b.now }
     ensures within { result ≤ groups }
-    ensures same { (k : ℕ) → k < result * GROUP → get_or (map B.number a.now) k 0 ≡ get_or (map B.number b.now) k 0 }
+    ensures same { (k : ℕ) → k < result * LONG_GROUP → get_or (map B.number a.now) k 0 ≡ get_or (map B.number b.now) k 0 }
     ensures stops { result < groups
-        → ¬ ((k : ℕ) → result * GROUP ≤ k → k < result * GROUP + GROUP
+        → ¬ ((k : ℕ) → result * LONG_GROUP ≤ k → k < result * LONG_GROUP + LONG_GROUP
         → get_or (map B.number a.now) k 0 ≡ get_or (map B.number b.now) k 0) }
 {
     for group in 0..groups {
-        if !is_same_group(a, b, group * GROUP) {
+        if !is_same_group(a, b, group * LONG_GROUP) {
             return group;
         }
     }
@@ -52,16 +58,16 @@ fn same_groups<B: BitBlock>(a: &[B], b: &[B], groups: usize) -> usize
 // Whether the blocks of the group that begins at `start` are the same. One test for all of them.
 #[inline]
 fn is_same_group<B: BitBlock>(a: &[B], b: &[B], start: usize) -> bool
-    requires within { start + GROUP ≤ length a.now }
-    requires within_other { start + GROUP ≤ length b.now }
+    requires within { start + LONG_GROUP ≤ length a.now }
+    requires within_other { start + LONG_GROUP ≤ length b.now }
     requires left { All B.is_block a.now }
     requires right { All B.is_block b.now }
     ensures { IsTrue result
-        ↔ ((k : ℕ) → start ≤ k → k < start + GROUP
+        ↔ ((k : ℕ) → start ≤ k → k < start + LONG_GROUP
         → get_or (map B.number a.now) k 0 ≡ get_or (map B.number b.now) k 0) }
 {
     let mut mismatch = B::zero();
-    for k in start..start + GROUP {
+    for k in start..start + LONG_GROUP {
         mismatch = or_mismatch(mismatch, block_at(a, k), block_at(b, k));
     }
     same(mismatch, B::zero())
@@ -76,11 +82,15 @@ fn or_mismatch<B: BitBlock>(seen: B, a: B, b: B) -> B
     ensures of_block { B.is_block result }
     ensures none { (B.number result ≡ 0) ↔ ((B.number seen ≡ 0) × (B.number a ≡ B.number b)) }
 {
-    seen | (a ^ b)
+    block_or(seen, block_xor(a, b))
 }
 
-// The first index, from `from` on, of a block that is not 0.
-pub(crate) fn first_nonzero_block<B: BitBlock>(blocks: &[B], from: usize) -> Option<usize>
+/// The first index, from `from` on, of a block that is not 0, or `None`. Reads no block past it.
+///
+/// ```
+/// assert_eq!(first_nonzero_block(&[1u8, 0, 4], 1), Some(2));
+/// ```
+pub fn first_nonzero_block<B: BitBlock>(blocks: &[B], from: usize) -> Option<usize>
     requires { All B.is_block blocks.now }
     ensures { MatchOption result
         ((k : ℕ) → from ≤ k → get_or (map B.number blocks.now) k 0 ≡ 0)
@@ -94,8 +104,9 @@ pub(crate) fn first_nonzero_block<B: BitBlock>(blocks: &[B], from: usize) -> Opt
     None
 }
 
+/// The block with this index, or 0 past the end. Constant time.
 #[inline]
-pub(crate) fn block_or_zero<B: BitBlock>(blocks: &[B], k: usize) -> B
+pub fn block_or_zero<B: BitBlock>(blocks: &[B], k: usize) -> B
     requires { All B.is_block blocks.now }
     ensures of_block { B.is_block result }
     ensures of_number { B.number result ≡ get_or (map B.number blocks.now) k 0 }
@@ -107,44 +118,29 @@ pub(crate) fn block_or_zero<B: BitBlock>(blocks: &[B], k: usize) -> B
     }
 }
 
+/// The lowest index at which the bits of two blocks differ, which are not the same. Constant time.
+///
+/// ```
+/// assert_eq!(lowest_mismatch(0b0101u8, 0b1001), 2);
+/// ```
 #[inline]
-fn block_at<B: BitBlock>(blocks: &[B], k: usize) -> B
-    requires in_bounds { k < length blocks.now }
-    requires each { All B.is_block blocks.now }
-    ensures of_block { B.is_block result }
-    ensures of_number { B.number result ≡ get_or (map B.number blocks.now) k 0 }
-{
-    blocks[k]
-}
-
-#[inline]
-fn same<B: BitBlock>(a: B, b: B) -> bool
-    requires left { B.is_block a }
-    requires right { B.is_block b }
-    ensures { result ≡ (B.number a == B.number b) }
-{
-    a == b
-}
-
-// The lowest index at which the digits of two blocks differ.
-#[inline]
-pub(crate) fn lowest_mismatch<B: BitBlock>(a: B, b: B) -> usize
+pub fn lowest_mismatch<B: BitBlock>(a: B, b: B) -> usize
     requires left { B.is_block a }
     requires right { B.is_block b }
     requires mismatch { B.number a ≢ B.number b }
     ensures { IsLowestMismatch B.width (B.number a) (B.number b) result }
 {
-    let mut mismatch = a ^ b;
+    let mut mismatch = block_xor(a, b);
     take_lowest_one(&mut mismatch)
 }
 
-// Whether the block has a 1 at an index or above it.
+/// Whether the block has a 1 at an index or above it. Constant time.
 #[inline]
-pub(crate) fn has_one_from<B: BitBlock>(block: B, index: usize) -> bool
+pub fn has_one_from<B: BitBlock>(block: B, index: usize) -> bool
     requires of_block { B.is_block block }
     requires within { index < B.width }
     ensures some { OnTrue result ((j : ℕ) × (index ≤ j) × (j < B.width) × (bit_at (B.number block) j ≡ 1)) }
     ensures none { OnFalse result ((j : ℕ) → index ≤ j → bit_at (B.number block) j ≡ 0) }
 {
-    !same(block.shift_right(index), B::zero())
+    !same(shift_right(block, index), B::zero())
 }

@@ -6,7 +6,7 @@ use Rattle.bit_words.specs.Bits.{blocks_for}
 use Rattle.bit_set.specs.Json.{HasZeroTail}
 use Rattle.bit_set.specs.Entries.{AreParts, HasLength, numbers_of}
 use Rattle.bit_set.proofs.JsonLemmas.{counted, has_numbers, no_numbers, was_none}
-use Rattle.bit_set.proofs.json.checking.checked.Goals as goal
+use Rattle.bit_set.proofs.json.checking.entries_and_len.Goals as goal
 
 pub returns-in_err-len-clause-err : goal.returns-in_err-len-clause-err
 returns-in_err-len-clause-err g c =
