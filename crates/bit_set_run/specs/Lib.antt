@@ -5,6 +5,7 @@ pub mod Exits
 pub mod Elements
 pub mod Lines
 pub mod Output
+pub mod Questions
 pub mod Reading
 pub mod Run
 pub use Rattle.bit_set.specs.Sets

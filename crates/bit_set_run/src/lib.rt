@@ -8,6 +8,7 @@ pub mod laws;
 mod lines;
 mod names;
 mod numbers;
+mod questions;
 mod reading;
 mod reply_texts;
 mod running;

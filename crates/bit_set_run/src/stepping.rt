@@ -1,16 +1,16 @@
 //! One command over sixteen sets.
 
-ghost use Rattle.std.specs.Prelude.{◌≡◌, ◌≢◌, ℕ, ◌+◌, ◌<◌, ◌≤◌, ◌==◌, ◌∷◌, false, not, map, List, length, drop, [], ◌++◌, IfOk, OnOk, OnErr, slice_index_or, slice_set, if◌then◌else◌};
+ghost use Rattle.std.specs.Prelude.{◌≡◌, ◌≢◌, ℕ, ◌+◌, ◌<◌, ◌≤◌, ◌==◌, ◌∷◌, false, not, map, List, length, drop, [], ◌++◌, IfOk, OnOk, OnErr, IsTrue, slice_index_or, slice_set, if◌then◌else◌};
 ghost use Rattle.std.specs.List.{list_any};
 ghost use Rattle.bit_set.specs.Sets.{bound_of, has, merge_of_sets, put, put_all, those_below, those_from, union};
 ghost use Rattle.bit_set_run.specs.Capacities.{bits_at, Becomes, BecomeTwo, ChangesCapacities, GrowsExactlyTo, GrowsPast, GrowsTo, IsFront, IsPart, KeepsCapacities, SameCapacity, Shrinks};
 ghost use Rattle.bit_set_run.specs.Elements.{elements_of};
 ghost use Rattle.bit_set.specs.Bounds.{greatest};
+ghost use Rattle.bit_set_run.specs.Questions.{is_of_two};
 ghost use Rattle.bit_set_run.specs.Run.{step, elements_before_greatest, RefusedBy};
 ghost use Rattle.bit_set_run.specs.declared.commands.Reply.TheVariants.{Truth, Done, Rest, Element};
 
-use crate::two_sets::{rest_of_walk, set_of, walk};
-use crate::walking::{items, rest};
+use crate::questions::reply_to;
 use crate::{Command, Numbers, Reply};
 use bit_set::bit_vec::Merge;
 use bit_set::{BitBlock, BitSet, SetError};
@@ -34,7 +34,6 @@ pub(crate) fn step<B: BitBlock>(
     match command {
         Command::Insert(name, n) => insert(&mut sets[name.place()], *n),
         Command::Remove(name, n) => Ok(Reply::Truth(sets[name.place()].remove(*n))),
-        Command::Contains(name, n) => Ok(Reply::Truth(set_of(sets, *name).contains(*n))),
         Command::Extend(name, items) => extend(&mut sets[name.place()], items),
         Command::Truncate(name, n) => {
             sets[name.place()].truncate(*n);
@@ -51,9 +50,26 @@ pub(crate) fn step<B: BitBlock>(
         Command::Reserve(name, n) => reserve(&mut sets[name.place()], *n),
         Command::ReserveExact(name, n) => reserve_exact(&mut sets[name.place()], *n),
         Command::Shrink(name) => shrink(&mut sets[name.place()]),
-        Command::Count(name) => Ok(Reply::Number(set_of(sets, *name).count())),
-        Command::IsEmpty(name) => Ok(Reply::Truth(set_of(sets, *name).is_empty())),
-        Command::Items(name) => items(alloc, set_of(sets, *name).iter()),
+        Command::Copy(..) | Command::InPlace(..) | Command::Append(..) | Command::SplitOff(..) =>
+            change_by_another(alloc, sets, command),
+        _ => reply_to(alloc, sets, command),
+    }
+}
+
+// One command that changes a set by another, over the sets themselves.
+fn change_by_another<B: BitBlock>(
+    alloc: Global,
+    sets: &mut [BitSet<B>; 16],
+    command: &Command,
+) -> Result<Reply, AllocError>
+    requires { IsTrue (is_of_two command.now) }
+    ensures reply { IfOk result (λ reply. reply ≡ (step (map elements_of sets.old) command.now).reply) }
+    ensures sets { OnOk result (map elements_of sets.new ≡ (step (map elements_of sets.old) command.now).sets) }
+    ensures refused { OnErr result (RefusedBy (map elements_of sets.old) command.now (map elements_of sets.new)) }
+    ensures capacities { OnOk result (ChangesCapacities B.width sets.old command.now sets.new) }
+    ensures capacities_left { OnErr result (KeepsCapacities sets.old command.now sets.new) }
+{
+    match command {
         Command::Copy(from, to) if from == to => Ok(Reply::Same),
         Command::Copy(from, to) => copy(alloc, sets, from.place(), to.place()),
         Command::InPlace(_, s, t) if s == t => Ok(Reply::Same),
@@ -62,14 +78,7 @@ pub(crate) fn step<B: BitBlock>(
         Command::Append(s, t) => append(alloc, sets, s.place(), t.place()),
         Command::SplitOff(s, _, t) if s == t => Ok(Reply::Same),
         Command::SplitOff(s, n, t) => split_off(alloc, sets, s.place(), *n, t.place()),
-        Command::Walk(merge, s, t) => walk(alloc, sets, *merge, *s, *t),
-        Command::Subset(s, t) => Ok(Reply::Truth(set_of(sets, *s).is_subset(set_of(sets, *t)))),
-        Command::Superset(s, t) => Ok(Reply::Truth(set_of(sets, *s).is_superset(set_of(sets, *t)))),
-        Command::Disjoint(s, t) => Ok(Reply::Truth(set_of(sets, *s).is_disjoint(set_of(sets, *t)))),
-        Command::Equal(s, t) => Ok(Reply::Truth(*set_of(sets, *s) == *set_of(sets, *t))),
-        Command::Compare(s, t) => Ok(Reply::Order(set_of(sets, *s).cmp(set_of(sets, *t)))),
-        Command::RestIter(name, n) => rest(alloc, set_of(sets, *name).iter(), *n),
-        Command::RestWalk(merge, s, t, n) => rest_of_walk(alloc, sets, *merge, *s, *t, *n),
+        _ => unreachable!(),
     }
 }
 
