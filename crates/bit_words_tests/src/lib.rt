@@ -12,6 +12,8 @@ mod example_tests;
 #[cfg(test)]
 mod merge_tests;
 #[cfg(test)]
+mod mismatch_tests;
+#[cfg(test)]
 mod nonzero_tests;
 #[cfg(test)]
 mod tail_tests;
