@@ -8,6 +8,7 @@
   `uses` here.
 - Each clause that a CALLING.md quotes below a line 'fn ..' is a clause of that function.
 - Each example of a doc comment is in a test.
+- Each link of a document leads to a file, and to a heading where it names one.
 
 It prints a line for each quote that does not agree, and at the end 'N passed, M failed'.
 """
@@ -161,6 +162,21 @@ def check_comments(check, root, source, tests):
         check.expect(agrees, f"{source.relative_to(root)}:{start}", "no test has this example")
 
 
+def anchors(document):
+    """What links to the headings of a document are spelled like."""
+    heads = re.findall(r"^#+ (.*)$", document.read_text(encoding="utf-8"), re.M)
+    return {re.sub(r"[^\w -]", "", head.lower()).replace(" ", "-") for head in heads}
+
+
+def check_links(check, root, document):
+    """The links of a document that stay in the repository."""
+    for number, line in enumerate(document.read_text(encoding="utf-8").splitlines(), 1):
+        for path, anchor in re.findall(r"\]\((?!https?:)([^)#\s]*)#?([^)\s]*)\)", line):
+            target = document.parent / path if path else document
+            agrees = target.exists() and (not anchor or anchor in anchors(target))
+            check.expect(agrees, f"{document.relative_to(root)}:{number}", f"no {path}#{anchor}".rstrip("#"))
+
+
 def main():
     root = Path(sys.argv[1])
     check = Check()
@@ -175,6 +191,8 @@ def main():
             for name, found in clauses_of(source).items():
                 clauses.setdefault(name, set()).update(found)
         check_clauses(check, root, document, clauses)
+    for document in [root / "README.md", *sorted(root.glob("*/*.md")), *sorted(root.glob("crates/*/*.md"))]:
+        check_links(check, root, document)
     for source in sources:
         check_comments(check, root, source, tests)
     print(f"{check.passed} passed, {check.failed} failed")

@@ -1,5 +1,6 @@
 #!/usr/bin/env bash
-# Compares what the documents quote with the sources: examples and contracts. The last line is 'N passed, M failed'.
+# Compares what the documents quote with the sources, examples and contracts, and follows their links. The last line is
+# 'N passed, M failed'.
 set -euo pipefail
 unset CDPATH
 here="$(dirname "$(readlink -f "${BASH_SOURCE[0]}")")"
