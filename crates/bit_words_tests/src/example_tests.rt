@@ -1,5 +1,8 @@
 //! The examples of the doc comments, as they are there.
-use bit_words::bit_vec::{BitVec, BitsError, take_lowest_one};
+use bit_words::bit_vec::{
+    BitVec, BitsError, first_mismatching_block, first_nonzero_block, lowest_mismatch,
+    take_lowest_one,
+};
 use std::alloc::AllocError;
 use std::process::Abort;
 use std::test::Fail;
@@ -30,4 +33,12 @@ fn blocks_that_are_not_zero(rt: HostRuntime) -> Result<(), Fail> {
     // Of 100 values, over blocks of 32 bits, those at 70 and 71 are true.
     assert!(rt; bits.nonzero().eq([(0, 0), (2, 0b1100_0000)]));
     Ok(())
+}
+
+#[test]
+fn where_lists_of_blocks_differ(rt: HostRuntime) {
+    assert_eq!(rt; first_mismatching_block(&[7u8, 1], &[7, 1, 0]), None);
+    assert_eq!(rt; first_mismatching_block(&[7u8, 1], &[7, 1, 2]), Some(2));
+    assert_eq!(rt; first_nonzero_block(&[1u8, 0, 4], 1), Some(2));
+    assert_eq!(rt; lowest_mismatch(0b0101u8, 0b1001), 2);
 }

@@ -1,23 +1,9 @@
+use crate::lists::list_of;
 use bit_words::bit_vec::{BitBlock, BitVec, Merge, Steps};
 use block24::Block24;
-use std::alloc::{AllocError, AllocFailed, Global};
+use std::alloc::{AllocFailed, Global};
 use std::process::Abort;
 use std::test::Fail;
-
-// A list of `n` values that is true at these indices.
-fn list_of<B: BitBlock>(
-    alloc: Global,
-    n: usize,
-    indices: &[usize],
-) -> Result<BitVec<B>, AllocError> {
-    let mut bits = BitVec::from_elem_general(alloc, n, false)?;
-    for i in indices {
-        if *i < bits.len() {
-            bits.set(*i, true);
-        }
-    }
-    Ok(bits)
-}
 
 // The indices at which a list is true.
 fn indices_of<B: BitBlock>(
