@@ -14,14 +14,18 @@ fn put<B: BitBlock>(bits: &mut BitVec<B>, place: usize, bit: bool) {
     }
 }
 
+fn next_index<B: BitBlock>(walk: &mut Nonzero<'_, B>) -> Option<usize> {
+    Some(walk.next()?.0)
+}
+
 // The indices of the first four blocks that a walk gives.
 fn indices<B: BitBlock>(bits: &BitVec<B>) -> [Option<usize>; 4] {
     let mut walk = bits.nonzero();
     [
-        walk.next().map(|entry| entry.0),
-        walk.next().map(|entry| entry.0),
-        walk.next().map(|entry| entry.0),
-        walk.next().map(|entry| entry.0),
+        next_index(&mut walk),
+        next_index(&mut walk),
+        next_index(&mut walk),
+        next_index(&mut walk),
     ]
 }
 
