@@ -10,7 +10,7 @@ use Rattle.bit_words.specs.Bits.{blocks_for, blocks_of, digit_of}
 use Rattle.bit_words.specs.Lowest.{IsLowest, IsCleared}
 use Rattle.bit_words.specs.Digits.{is_one}
 use Rattle.bit_words.specs.Storage.{value_at, IsZeroFrom}
-use Rattle.bit_words.proofs.BitsLemmas.{blocks_for-least, blocks_of-digit}
+use Rattle.bit_words.proofs.BitsLemmas.{blocks_of-digit, whole_before}
 use Rattle.bit_words.proofs.Masks.{is_one-zero}
 use Rattle.bit_words.proofs.StorageLemmas.{blocks-values_of, value_at-is, value_at-past, value_at-index, values_of-same}
 use Rattle.bit_set.specs.Json.{HasZeroTail}
@@ -108,8 +108,7 @@ next_is_false w k j ms values before within =
 
 -- each block begins below the length
 pub block_begins : (w n c k : ℕ) → 0 < w → c ≡ blocks_for w n → k < c → k * w < n
-block_begins w n c k pos count within =
-    ⊎_elim (λ below. below) (λ past. absurd (let least = blocks_for-least w n k pos past in omega arith)) (cases_lt (k * w) n)
+block_begins w n c k pos count within = whole_before w n k pos (omega (arith, count, within))
 
 pub zero_tail_from : (w n : ℕ) (ms : List ℕ) → 0 < w → length ms ≡ blocks_for w n → HasZeroTail w ms n → IsZeroFrom w ms n
 zero_tail_from w n ms pos count zero_tail = record {

@@ -11,7 +11,7 @@ use Rattle.std.proofs.lemmas.List.Sums.{sum_by-cons}
 use Rattle.std.proofs.Math.Nat.{div-add-mod', mod-lt}
 use Rattle.bit_words.proofs.BitsLemmas.{blocks_of-digit, read_back}
 use Rattle.bit_words.proofs.OnesLemmas.{ones_are_digits}
-use Rattle.bit_words.proofs.Masks.{is_one-none, is_one-one, is_one-zero}
+use Rattle.bit_words.proofs.Masks.{is_one-bit, is_one-zero}
 use Rattle.bit_set.proofs.SetLemmas.{AscendsFrom-elements_from, elements-alike, length-elements-le, length-elements_from_both}
 use Rattle.std.proofs.lemmas.List.FromFn.{length-map-range_with_len, get_or-map-range_with_len}
 use Rattle.bit_words.specs.Bits.{blocks_of}
@@ -42,8 +42,8 @@ lowest_from m r i a zero p bs low cleared from within = absurd (omega arith)
 lowest_from m r i a (suc w) p bs low cleared from within =
     elim (cases_lt a i) [
       | inl below ↦
-          let none : is_one m a ≡ false = is_one-none m a (low.zeros a below) in
-          let none_there : is_one r a ≡ false = is_one-none r a (cleared.kept a (omega arith) (λ e. omega (arith, e)) ∙ low.zeros a below) in
+          let none : is_one m a ≡ false = is_one-bit 0 m a (low.zeros a below) in
+          let none_there : is_one r a ≡ false = is_one-bit 0 r a (cleared.kept a (omega arith) (λ e. omega (arith, e)) ∙ low.zeros a below) in
           let along : a + 1 + w ≡ a + suc w = omega arith in
           let index : p + 1 + (i - (a + 1)) ≡ p + (i - a) = omega arith in
           let rest = lowest_from m r i (a + 1) w (p + 1) bs low (subst (λ x. IsCleared x m i r) (sym along) cleared) (omega arith) (omega arith) in
@@ -53,8 +53,8 @@ lowest_from m r i a (suc w) p bs low cleared from within =
           ∙ ap (λ b. (p + (i - a)) ∷ cond b (p ∷ elements_from (p + 1) (digits_from r (a + 1) w ++ bs)) (elements_from (p + 1) (digits_from r (a + 1) w ++ bs))) (sym none_there)
       | inr past ↦
           let here : i ≡ a = omega arith in
-          let one : is_one m a ≡ true = is_one-one m a (ap (bit_at m) (sym here) ∙ low.one) in
-          let none_there : is_one r a ≡ false = is_one-none r a (ap (bit_at r) (sym here) ∙ cleared.cleared) in
+          let one : is_one m a ≡ true = is_one-bit 1 m a (ap (bit_at m) (sym here) ∙ low.one) in
+          let none_there : is_one r a ≡ false = is_one-bit 0 r a (ap (bit_at r) (sym here) ∙ cleared.cleared) in
           let index : p ≡ p + (i - a) = omega arith in
           let rest : digits_from r (a + 1) w ≡ digits_from m (a + 1) w = same_digits m r (a + 1) w (λ k from_next inside. cleared.kept k (omega arith) (λ e. omega (arith, e))) in
           ap (λ b. cond b (p ∷ elements_from (p + 1) (digits_from m (a + 1) w ++ bs)) (elements_from (p + 1) (digits_from m (a + 1) w ++ bs))) one
@@ -121,10 +121,10 @@ one_more m a p xs =
     elim (cases_lt 0 (bit_at m a)) [
       | inl some ↦
           let one : bit_at m a ≡ 1 = omega (arith, bit_at-lt m a) in
-          ap (λ b. length (cond b (p ∷ xs) xs)) (is_one-one m a one) ∙ omega (arith, one)
+          ap (λ b. length (cond b (p ∷ xs) xs)) (is_one-bit 1 m a one) ∙ omega (arith, one)
       | inr none ↦
           let zero_there : bit_at m a ≡ 0 = omega arith in
-          ap (λ b. length (cond b (p ∷ xs) xs)) (is_one-none m a zero_there) ∙ omega (arith, zero_there)
+          ap (λ b. length (cond b (p ∷ xs) xs)) (is_one-bit 0 m a zero_there) ∙ omega (arith, zero_there)
     ]
 
 count_digits : (m a w p : ℕ) (bs : List Bool) → length (elements_from p (digits_from m a w ++ bs)) ≡ sum_by (bit_at m) (range_with_len a w) + length (elements_from (p + w) bs)

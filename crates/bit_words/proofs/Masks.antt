@@ -42,11 +42,8 @@ is_one-different w m n r j is h = ap (λ d. d == 1) (is.digit j h) ∙ test_diff
 pub is_one-complement : (w m r j : ℕ) → IsComplement w m r → j < w → is_one r j ≡ not (is_one m j)
 is_one-complement w m r j is h = ap (λ d. d == 1) (is.digit j h) ∙ test_not _ (bit_at-lt m j)
 
-pub is_one-one : (m a : ℕ) → bit_at m a ≡ 1 → is_one m a ≡ true
-is_one-one m a h = ap (λ d. d == 1) h
-
-pub is_one-none : (m a : ℕ) → bit_at m a ≡ 0 → is_one m a ≡ false
-is_one-none m a h = ap (λ d. d == 1) h
+pub is_one-bit : (d m a : ℕ) → bit_at m a ≡ d → is_one m a ≡ (d == 1)
+is_one-bit d m a h = ap (λ x. x == 1) h
 
 pub is_one-zero : (j : ℕ) → is_one 0 j ≡ false
 is_one-zero j = ap (λ d. d == 1) (bit_at-zero j)

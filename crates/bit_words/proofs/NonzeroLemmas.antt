@@ -15,7 +15,7 @@ use Rattle.bit_words.specs.Summary.{is_used, IsSummary}
 use Rattle.bit_words.specs.Pending.{IsPending, pick, is_pending, pending_from}
 use Rattle.bit_words.specs.Nonzero.{nonzero_from, first_and_nonzero, ones_in, ones_left}
 use Rattle.bit_words.proofs.LowestLemmas.{ones_zero}
-use Rattle.bit_words.proofs.Masks.{is_one-none, is_one-one, is_one-zero, is_one-either}
+use Rattle.bit_words.proofs.Masks.{is_one-bit, is_one-zero, is_one-either}
 use Rattle.std.proofs.lemmas.List.Elements.{All-nil, All-cons, All-head, All-tail}
 use Rattle.bit_words.proofs.BitsLemmas.{blocks_for-enough, blocks_for-least}
 use Rattle.bit_words.proofs.CompareLemmas.{zero_from_digits}
@@ -109,16 +109,16 @@ module _ {X : Type 0} (w : ℕ) (number : X → ℕ) (is_block : X → Type 0) w
       let ms = map number xs in
       let f = is_pending w index m ms in
       let g = is_pending w index r ms in
-      let one : is_one m i ≡ true = is_one-one m i low.one in
+      let one : is_one m i ≡ true = is_one-bit 1 m i low.one in
       let inside : index + i < length xs = is.inside i within one in
       let here : f (index + i) ≡ true = pending-within w index m ms (index + i) (omega arith) ∙ ap (is_one m) (let e : index + i - index ≡ i = omega arith in e) ∙ one in
       let before : (j : ℕ) → index ≤ j → j < index + i → f j ≡ false = λ j from to.
-      pending-within w index m ms j (omega arith) ∙ is_one-none m (j - index) (low.zeros (j - index) (omega arith)) in
+      pending-within w index m ms j (omega arith) ∙ is_one-bit 0 m (j - index) (low.zeros (j - index) (omega arith)) in
       let none : (j : ℕ) → index ≤ j → j < index + (i + 1) → g j ≡ false = λ j from to.
       pending-within w index r ms j (omega arith)
       ∙ ⊎_elim
-      (λ below. is_one-none r (j - index) (cleared.kept (j - index) (omega arith) (λ e. omega (arith, e)) ∙ low.zeros (j - index) below))
-      (λ at. ap (is_one r) (let e : j - index ≡ i = omega arith in e) ∙ is_one-none r i cleared.cleared)
+      (λ below. is_one-bit 0 r (j - index) (cleared.kept (j - index) (omega arith) (λ e. omega (arith, e)) ∙ low.zeros (j - index) below))
+      (λ at. ap (is_one r) (let e : j - index ≡ i = omega arith in e) ∙ is_one-bit 0 r i cleared.cleared)
       (cases_lt (j - index) i) in
       let after : (j : ℕ) → index + i + 1 ≤ j → f j ≡ g j = λ j from.
       ⊎_elim
@@ -148,17 +148,17 @@ module _ {X : Type 0} (w : ℕ) (number : X → ℕ) (is_block : X → Type 0) w
     within = is.within;
     inside = λ j within one.
         ⊎_elim
-        (λ at. absurd (true≢false (sym one ∙ ap (is_one (number rest)) at ∙ is_one-none (number rest) i cleared.cleared)))
+        (λ at. absurd (true≢false (sym one ∙ ap (is_one (number rest)) at ∙ is_one-bit 0 (number rest) i cleared.cleared)))
         (λ other. is.inside j within (ap (λ b. b == 1) (sym (cleared.kept j within other)) ∙ one))
         (cases_eq j i);
     exact = λ a j after within one.
         let kept : (k : ℕ) → k < w → k ≢ i → is_one (number rest) k ≡ is_one (number pending) k = λ k below other. ap (λ b. b == 1) (cleared.kept k below other) in
         let past : i < a =
         ⊎_elim
-        (λ below. absurd (true≢false (sym one ∙ kept a (omega arith) (λ e. omega (arith, e)) ∙ is_one-none (number pending) a (low.zeros a below))))
+        (λ below. absurd (true≢false (sym one ∙ kept a (omega arith) (λ e. omega (arith, e)) ∙ is_one-bit 0 (number pending) a (low.zeros a below))))
         (λ not_below.
         ⊎_elim
-        (λ at. absurd (true≢false (sym one ∙ ap (is_one (number rest)) at ∙ is_one-none (number rest) i cleared.cleared)))
+        (λ at. absurd (true≢false (sym one ∙ ap (is_one (number rest)) at ∙ is_one-bit 0 (number rest) i cleared.cleared)))
         (λ other. omega (arith, other))
         (cases_eq a i))
         (cases_lt a i) in
@@ -280,10 +280,10 @@ module _ {X : Type 0} (w : ℕ) (number : X → ℕ) (is_block : X → Type 0) w
       ∙ is.digit j)
 
   unit_lowest : is_one 1 0 ≡ true
-  unit_lowest = is_one-one 1 0 (bit_at_lowest 1)
+  unit_lowest = is_one-bit 1 1 0 (bit_at_lowest 1)
 
   unit_above : (j : ℕ) → is_one 1 (suc j) ≡ false
-  unit_above j = is_one-none 1 (suc j) (bit_at-suc 1 j ∙ bit_at-zero j)
+  unit_above j = is_one-bit 0 1 (suc j) (bit_at-suc 1 j ∙ bit_at-zero j)
 
   some_blocks : (first : X) (xs summary rest : List X) → 0 < w → IsSummary w number is_block xs summary → summary ≡ first ∷ rest → 0 < length xs
   some_blocks first xs summary rest pos is more =
@@ -427,9 +427,9 @@ module _ {X : Type 0} (w : ℕ) (number : X → ℕ) (is_block : X → Type 0) w
       let m = number pending in
       let ms = map number xs in
       let f = is_pending w index m ms in
-      let one : is_one m i ≡ true = is_one-one m i low.one in
+      let one : is_one m i ≡ true = is_one-bit 1 m i low.one in
       let before : (j : ℕ) → index ≤ j → j < index + i → f j ≡ false = λ j from to.
-      pending-within w index m ms j (omega arith) ∙ is_one-none m (j - index) (low.zeros (j - index) (omega arith)) in
+      pending-within w index m ms j (omega arith) ∙ is_one-bit 0 m (j - index) (low.zeros (j - index) (omega arith)) in
       let tell : (j : ℕ) → f (index + i + suc j) ≡ is_used ms (index + i + suc j) = λ j.
       ⊎_elim
       (λ in_hand.

@@ -1,17 +1,9 @@
+use crate::lists::list_of;
 use bit_words::bit_vec::{BitBlock, BitVec};
 use block24::Block24;
-use std::alloc::{AllocError, Global};
+use std::alloc::Global;
 use std::process::Abort;
 use std::test::Fail;
-
-// A list of `n` values that is true at `i` alone.
-fn one_true<B: BitBlock>(alloc: Global, n: usize, i: usize) -> Result<BitVec<B>, AllocError> {
-    let mut bits = BitVec::from_elem_general(alloc, n, false)?;
-    if i < bits.len() {
-        bits.set(i, true);
-    }
-    Ok(bits)
-}
 
 #[test]
 fn capacity_is_reserved(rt: HostRuntime) -> Result<(), Fail> {
@@ -24,13 +16,13 @@ fn capacity_is_reserved(rt: HostRuntime) -> Result<(), Fail> {
     exact.reserve_exact(25)?;
     assert_eq!(rt; exact.capacity(), 48);
     exact.reserve_exact(3)?;
-    assert_eq!(rt; exact.capacity(), 48, "there was room");
+    assert_eq!(rt; exact.capacity(), 48, "there was capacity");
     Ok(())
 }
 
 // How long a list with a true value at 40 is once its zero blocks are cut, and its capacity after that.
 fn check_shrink<B: BitBlock>(rt: &impl Abort, alloc: Global, len: usize) -> Result<(), Fail> {
-    let mut bits = one_true::<B>(alloc, 1000, 40)?;
+    let mut bits = list_of::<B>(alloc, 1000, &[40])?;
     bits.cut_zero_blocks();
     assert_eq!(rt; bits.len(), len);
     assert_eq!(rt; bits.get(40), Some(true));
@@ -67,7 +59,7 @@ fn a_shrunk_list_has_the_capacity_of_its_blocks(rt: HostRuntime) -> Result<(), F
 
 #[test]
 fn a_cut_can_lengthen(rt: HostRuntime) -> Result<(), Fail> {
-    let mut bits = one_true::<u32>(rt.alloc(), 41, 40)?;
+    let mut bits = list_of::<u32>(rt.alloc(), 41, &[40])?;
     bits.cut_zero_blocks();
     assert_eq!(rt; bits.len(), 64);
     Ok(())

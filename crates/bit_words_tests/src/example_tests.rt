@@ -1,5 +1,8 @@
 //! The examples of the doc comments, as they are there.
-use bit_words::bit_vec::{BitVec, BitsError, clear_below, take_lowest_one};
+use bit_words::bit_vec::{
+    BitVec, BitsError, clear_below, first_mismatching_block, first_nonzero_block, lowest_mismatch,
+    take_lowest_one,
+};
 use std::alloc::AllocError;
 use std::process::Abort;
 use std::test::Fail;
@@ -39,4 +42,12 @@ fn a_block_without_its_lowest_digits(rt: HostRuntime) -> Result<(), Fail> {
     assert_eq!(rt; clear_below(0b0111u8, 1), 0b0110);
     assert_eq!(rt; clear_below(0b0111u8, 8), 0);
     Ok(())
+}
+
+#[test]
+fn where_lists_of_blocks_differ(rt: HostRuntime) {
+    assert_eq!(rt; first_mismatching_block(&[7u8, 1], &[7, 1, 0]), None);
+    assert_eq!(rt; first_mismatching_block(&[7u8, 1], &[7, 1, 2]), Some(2));
+    assert_eq!(rt; first_nonzero_block(&[1u8, 0, 4], 1), Some(2));
+    assert_eq!(rt; lowest_mismatch(0b0101u8, 0b1001), 2);
 }

@@ -1,23 +1,9 @@
+use crate::lists::list_of;
 use bit_words::bit_vec::{BitBlock, BitVec, Merge, Steps};
 use block24::Block24;
-use std::alloc::{AllocError, AllocFailed, Global};
+use std::alloc::{AllocFailed, Global};
 use std::process::Abort;
 use std::test::Fail;
-
-// A list of `n` values that is true at these indices.
-fn list_of<B: BitBlock>(
-    alloc: Global,
-    n: usize,
-    indices: &[usize],
-) -> Result<BitVec<B>, AllocError> {
-    let mut bits = BitVec::from_elem_general(alloc, n, false)?;
-    for i in indices {
-        if *i < bits.len() {
-            bits.set(*i, true);
-        }
-    }
-    Ok(bits)
-}
 
 // The indices at which a list is true.
 fn indices_of<B: BitBlock>(
@@ -68,12 +54,26 @@ fn lists_of_unequal_lengths_merge(rt: HostRuntime) -> Result<(), Fail> {
     check_merges::<u128>(&rt, rt.alloc())
 }
 
+// What two bytes become as blocks. It has no clause, so that a test that compares it does not carry one along.
+fn merge_of_bytes<B: BitBlock>(merge: Merge, a: u8, b: u8) -> B {
+    merge.of_blocks(B::from_byte(a), B::from_byte(b))
+}
+
 #[test]
 fn two_blocks_merge(rt: HostRuntime) {
-    assert_eq!(rt; Merge::Union.of_blocks(0b1100u8, 0b1010), 0b1110);
-    assert_eq!(rt; Merge::Intersection.of_blocks(0b1100u32, 0b1010), 0b1000);
-    assert_eq!(rt; Merge::Difference.of_blocks(0b1100u64, 0b1010), 0b0100);
-    assert_eq!(rt; Merge::Symmetric.of_blocks(0b1100u16, 0b1010), 0b0110);
+    assert_eq!(rt; merge_of_bytes::<u8>(Merge::Union, 0b1100, 0b1010), 0b1110);
+    assert_eq!(rt;
+        merge_of_bytes::<u32>(Merge::Intersection, 0b1100, 0b1010),
+        0b1000
+    );
+    assert_eq!(rt;
+        merge_of_bytes::<u64>(Merge::Difference, 0b1100, 0b1010),
+        0b0100
+    );
+    assert_eq!(rt;
+        merge_of_bytes::<u16>(Merge::Symmetric, 0b1100, 0b1010),
+        0b0110
+    );
 }
 
 // Whether a list is within another, and whether it is apart from it.

@@ -1,4 +1,5 @@
 //! The walk over the blocks that are not zero, and what goes by the summary: at the ends of its blocks.
+use crate::lists::list_of;
 use bit_words::bit_vec::{BitBlock, BitVec, Nonzero};
 use block24::Block24;
 use std::alloc::{AllocError, AllocFailed, Global};
@@ -13,27 +14,18 @@ fn put<B: BitBlock>(bits: &mut BitVec<B>, place: usize, bit: bool) {
     }
 }
 
-// A list of so many values, of which these are true.
-fn list_of<B: BitBlock>(
-    alloc: Global,
-    len: usize,
-    trues: &[usize],
-) -> Result<BitVec<B>, AllocError> {
-    let mut bits = BitVec::from_elem_general(alloc, len, false)?;
-    for place in trues {
-        put(&mut bits, *place, true);
-    }
-    Ok(bits)
+fn next_index<B: BitBlock>(walk: &mut Nonzero<'_, B>) -> Option<usize> {
+    Some(walk.next()?.0)
 }
 
 // The indices of the first four blocks that a walk gives.
 fn indices<B: BitBlock>(bits: &BitVec<B>) -> [Option<usize>; 4] {
     let mut walk = bits.nonzero();
     [
-        walk.next().map(|entry| entry.0),
-        walk.next().map(|entry| entry.0),
-        walk.next().map(|entry| entry.0),
-        walk.next().map(|entry| entry.0),
+        next_index(&mut walk),
+        next_index(&mut walk),
+        next_index(&mut walk),
+        next_index(&mut walk),
     ]
 }
 

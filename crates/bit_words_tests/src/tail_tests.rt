@@ -1,4 +1,5 @@
 //! The tail of a list, copied: its values, and what its summary says of them.
+use crate::lists::list_of;
 use bit_words::bit_vec::{BitBlock, BitVec};
 use block24::Block24;
 use std::alloc::Global;
@@ -13,9 +14,8 @@ fn check_tails<B: BitBlock>(rt: &impl Abort, alloc: Global) -> Result<(), Fail> 
         assert_eq!(rt; tail.count_ones(), bits.len() - at, "from {at}");
         assert_eq!(rt; tail.get(at), Some(true));
     }
-    let mut one = BitVec::<B>::from_elem_general(alloc, 100, false)?;
+    let one = list_of::<B>(alloc, 100, &[40])?;
     assert!(rt; one.len() > 41);
-    one.set(40, true);
     assert!(rt; !one.clone_tail(alloc, 40)?.none());
     assert!(rt; one.clone_tail(alloc, 41)?.none());
     Ok(())
