@@ -59,7 +59,8 @@ outcome_of call s = Done
 -- The call found the list `old` and left `new`, and this is how it returned.
 abbrev pub Changes : Change → List Bool → Outcome → List Bool → Type 0
 Changes call old NoMemory new = elements new ≡ elements old
-Changes call old outcome new = (elements new ≡ elements_after call (elements old)) × (outcome ≡ outcome_of call (elements old))
+Changes call old outcome new =
+    (elements new ≡ elements_after call (elements old)) × (outcome ≡ outcome_of call (elements old))
 
 -- how `insert` returned
 abbrev pub outcome_of_insert : Result Bool SetError → Outcome

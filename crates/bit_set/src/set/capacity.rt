@@ -53,7 +53,8 @@ impl<B: BitBlock> BitSet<B> {
             (capacity_of B.width (blocks_for B.width len))) }
         ensures capacity { self.old.capacity ≤ self.new.capacity }
         ensures leaves { Leaves (ReserveLenExact len) self.old.capacity (is_ok result) self.new.capacity }
-        ensures changes { Changes (Change.ReserveLenExact len) self.old.values (outcome_of_result result) self.new.values }
+        ensures changes { Changes (Change.ReserveLenExact len)
+            self.old.values (outcome_of_result result) self.new.values }
     {
         let missing = len.saturating_sub(self.bits.len());
         self.bits.reserve_exact(missing)

@@ -43,7 +43,8 @@ impl<B: BitBlock> BitVec<B> {
         ensures succeeds { length self.old.values + n ≤ self.old.capacity → IsOk result }
         ensures within { length self.old.values + n ≤ self.old.capacity → self.new.capacity ≡ self.old.capacity }
         ensures exact { OnOk result
-            (self.new.capacity ≡ max self.old.capacity (capacity_of B.width (blocks_for B.width (length self.old.values + n)))) }
+            (self.new.capacity
+            ≡ max self.old.capacity (capacity_of B.width (blocks_for B.width (length self.old.values + n)))) }
         ensures capacity { self.old.capacity ≤ self.new.capacity }
     {
         let count = block_count::<B>(self.len + n);

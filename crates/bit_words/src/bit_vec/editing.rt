@@ -129,7 +129,8 @@ impl<B: BitBlock> BitVec<B> {
         ensures succeeds { length other.now.values ≤ self.old.capacity → IsOk result }
         ensures within { length other.now.values ≤ self.old.capacity → self.new.capacity ≡ self.old.capacity }
         ensures exact { OnOk result
-            (self.new.capacity ≡ max self.old.capacity (capacity_of B.width (blocks_for B.width (length other.now.values)))) }
+            (self.new.capacity
+            ≡ max self.old.capacity (capacity_of B.width (blocks_for B.width (length other.now.values)))) }
         ensures capacity { self.old.capacity ≤ self.new.capacity }
     {
         take_over(

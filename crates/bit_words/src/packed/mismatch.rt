@@ -42,7 +42,8 @@ fn same_groups<B: BitBlock>(a: &[B], b: &[B], groups: usize) -> usize
     requires left { All B.is_block a.now }
     requires right { All B.is_block b.now }
     ensures within { result ≤ groups }
-    ensures same { (k : ℕ) → k < result * LONG_GROUP → get_or (map B.number a.now) k 0 ≡ get_or (map B.number b.now) k 0 }
+    ensures same { (k : ℕ) → k < result * LONG_GROUP
+        → get_or (map B.number a.now) k 0 ≡ get_or (map B.number b.now) k 0 }
     ensures stops { result < groups
         → ¬ ((k : ℕ) → result * LONG_GROUP ≤ k → k < result * LONG_GROUP + LONG_GROUP
         → get_or (map B.number a.now) k 0 ≡ get_or (map B.number b.now) k 0) }
