@@ -181,7 +181,7 @@ def main():
     root = Path(sys.argv[1])
     check = Check()
     sources = {path: lines_of(path.read_text(encoding="utf-8")) for path in sorted(root.glob("crates/*/src/**/*.rt"))}
-    # A test hands what it prints by to `assert!`, which no example does.
+    # A test passes `rt`, by which it prints, to `assert!`; no example does.
     tests = [[line.replace("!(rt; ", "!(") for line in lines] for lines in sources.values() if "#[test]" in lines]
     documents = [root / "README.md", *sorted(root.glob("crates/*/CALLING.md"))]
     for document in documents:

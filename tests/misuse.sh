@@ -1,7 +1,7 @@
 #!/usr/bin/env bash
-# Tries each edit of `misuse/` on a copy of the crates' sources: the compiler must refuse it, for the one reason that
-# the edit names. Edits that the prover refuses stand with the crates, in their must-fail/; these do not come so far.
-# An edit has one line each of 'crate:', 'file:', 'old:' and 'new:', of which the old text stands once in the file, and
+# Tries each edit of `misuse/` on a copy of the crates' sources: the compiler must reject it, for the one reason that
+# the edit names. Edits that the prover rejects are with the crates, in their must-fail/; these do not come so far.
+# An edit has one line each of 'crate:', 'file:', 'old:' and 'new:', of which the old text is once in the file, and
 # of 'says:', with which each error that is said begins, behind its place. The last line is 'N passed, M failed'.
 set -uo pipefail
 unset CDPATH
@@ -19,7 +19,7 @@ fail() {
 # What the edit's line of this name has.
 line_of() { sed -n "s/^$2: //p" "$1"; }
 
-# Writes the edited text over the file, where the old text stands in it once.
+# Writes the edited text over the file, where the old text is in it once.
 apply() {
     local file="$1" old="$2" new="$3" text rest
     text="$(cat "$file" && echo .)" || return 1

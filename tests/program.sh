@@ -34,7 +34,7 @@ fail() {
 }
 
 # Counts the run before: whether it had this status, wrote what this file has and said this line, or nothing. Where its
-# output or its errors cannot be kept, '-' stands in their place.
+# output or its errors cannot be kept, '-' is in their place.
 judge() {
     local name="$1" ended="$2" status="$3" text="$4" line="$5"
     printf '%s' "${line:+$line$'\n'}" > line

@@ -185,7 +185,7 @@ for word in u8 u32 u64 u128; do
     judge "$word: past the last request" 0 replies '' 'n > 1 && requests == n - 1 && writes > 0'
 done
 
-# Each word has its own type of blocks: room for 8,000,000 numbers is a million bytes of blocks, and a bit for each of
+# Each word has its own type of blocks: capacity for 8,000,000 numbers is a million bytes of blocks, and a bit for each of
 # these blocks, in blocks of the same type. Nothing else is so large. `u64` and `usize` have blocks of one size. With no
 # word it is `u32`.
 echo ok > replies
@@ -193,12 +193,12 @@ while read -r word summary; do
     words=("$word")
     [ "$word" != none ] || words=()
     shimmed "$bitset" "${words[@]}" <<< 'reserve a 8000000'
-    judge "$word: room for 8,000,000 numbers" 0 replies '' 'requests > 0' || continue
+    judge "$word: capacity for 8,000,000 numbers" 0 replies '' 'requests > 0' || continue
     large="$(printf '%s\n' "${sizes[@]}" | awk '$1 > 4096' | sort -n | tr '\n' ' ')"
     if [ "$large" = "$summary 1000000 " ]; then
         passed=$((passed + 1))
     else
-        fail "$word: room for 8,000,000 numbers: its large requests have these bytes: $large"
+        fail "$word: capacity for 8,000,000 numbers: its large requests have these bytes: $large"
     fi
 done << 'END'
 none 31252

@@ -1,6 +1,6 @@
 //! Work on sets and bit vectors to be timed: `bench/run` calls it beside the same work by other libraries. Each
 //! function does its work `turns` times over and returns a number that all sides agree on, or `usize::MAX` where
-//! memory is refused.
+//! memory runs out.
 #![tactic(auto)]
 
 mod capacity;

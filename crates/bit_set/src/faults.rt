@@ -14,7 +14,7 @@ pub enum SetError {
     /// The bytes have more bits than a `usize` counts.
     #[error("too many bits")]
     Length,
-    /// Memory was refused, to a growth or to a new set.
+    /// Memory ran out, at a growth or at a new set.
     #[error("memory refused")]
     Memory(AllocError),
 }

@@ -39,7 +39,7 @@ pub enum JsonError {
     /// The last block has a bit 1 that is for an index at or past the length.
     #[error("a bit past the length")]
     Unclean,
-    /// Memory for the set was refused.
+    /// Memory for the set ran out.
     #[error("memory refused")]
     Memory(AllocError),
 }
@@ -68,7 +68,7 @@ impl<T: Drop> From<AllocFailed<T>> for JsonError {
 impl<B: JsonBlock> BitSet<B> {
     /// The value that spells the blocks and the length: an object with the one member `bit_vec`, an
     /// object with the members `storage`, the numbers of the blocks, and `nbits`, the length. One step a
-    /// block. Fails only where memory is refused.
+    /// block. Fails only where memory runs out.
     ///
     /// The set {0, 2}, of length 3, gives `{"bit_vec": {"storage": [5], "nbits": 3}}`.
     pub fn to_json(&self, alloc: Global) -> Result<Value, AllocError>

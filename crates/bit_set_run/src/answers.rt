@@ -1,4 +1,4 @@
-//! An input answered, a line at a time.
+//! The output of an input, a line at a time.
 
 ghost use Rattle.std.specs.Prelude.{◌≡◌, ◌≢◌, [], ◌∷◌, ◌++◌, IfOk, OnOk, OnErr};
 ghost use Rattle.bit_set_run.specs.Output.{answer_to, output, sets_after};

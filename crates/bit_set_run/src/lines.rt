@@ -1,4 +1,4 @@
-// An input read, answered and written, by one call. Each of the three steps is in a file of its own.
+// An input read, its output made and written, by one call. Each of the three steps is in a file of its own.
 ghost use Rattle.bit_set_run.specs.Ended.{HasEnded};
 
 use crate::LinesFault;
@@ -15,7 +15,7 @@ use std::io::{Read, Write};
 /// are made. At [`LinesFault::Read`], [`LinesFault::TooLarge`] and [`LinesFault::Memory`] nothing was written; at
 /// [`LinesFault::Write`] a beginning of the output may have been. No failed read or write is tried again.
 ///
-/// The lines `insert a 3` and `items a` are answered by `true` and `{3}`.
+/// The output of the lines `insert a 3` and `items a` is `true` and `{3}`.
 pub fn run_lines<B: BitBlock, R: Read, W: Write>(
     alloc: Global,
     reader: &mut R,

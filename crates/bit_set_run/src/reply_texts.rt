@@ -1,4 +1,4 @@
-//! The texts that answer lines.
+//! The texts of replies.
 
 ghost use Rattle.std.specs.Prelude.{◌≡◌, ◌++◌, OnOk, codes, decimal};
 ghost use Rattle.bit_set_run.specs.Texts.{items_text, text_of, text_of_bad};

@@ -13,7 +13,7 @@ use thiserror::Error;
 /// Why a run of commands stopped.
 #[derive(Clone, Copy, Debug, PartialEq, Eq, Error)]
 pub enum RunFault {
-    /// Memory was refused at the command of this place, counted from 0. Those before it were executed and answered.
+    /// Memory ran out at the command of this place, counted from 0. Those before it were executed and have replies.
     ///
     /// `usize::MAX` is the place of no command. [`run`] never returns it; `?` gives it to the [`AllocError`] or the
     /// [`AllocFailed`] of another call.

@@ -17,14 +17,14 @@ pub struct Exit {
     pub text: &'static str,
 }
 
-/// Does what the program does: answers the lines of the reader over the type of blocks that the word names, or
+/// Does what the program does: replies to the lines of the reader over the type of blocks that the word names, or
 /// over `u32` where there is no word.
 ///
 /// | Status | When |
 /// |---|---|
-/// | 0 | the lines are answered |
+/// | 0 | each line has its reply |
 /// | 2 | the words are others; nothing is read or written |
-/// | 3 | memory was refused; nothing was written |
+/// | 3 | memory ran out; nothing was written |
 /// | 4 | a read failed, and nothing was written; or a write failed, and a beginning may have been |
 /// | 5 | the input has more than 1,048,576 bytes; nothing was written |
 pub fn start<R: Read, W: Write>(
@@ -39,7 +39,7 @@ pub fn start<R: Read, W: Write>(
     ensures misused_unread { result.status ≡ 2 → reader.new ≡ reader.old }
     ensures misused_unwritten { result.status ≡ 2 → writer.new ≡ writer.old }
 
-    // Otherwise the lines were answered, and the exit is that of how this ended.
+    // Otherwise the lines were run, and the exit is that of how this ended.
     ensures ended { IsTrue (takes (map string_bytes words.now)) → (outcome : Result Unit LinesFault)
         × (result.status ≡ status_at outcome) × (result.text.now ≡ text_at outcome)
         × HasEnded outcome (R.remaining reader.old) (R.remaining reader.new) W.contents writer.old writer.new }

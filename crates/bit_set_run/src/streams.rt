@@ -10,14 +10,14 @@ use std::error::Error;
 use std::fmt;
 use std::io::{Read, Write};
 
-/// Why lines were not answered, or not wholly.
+/// Why lines got no replies, or not all.
 #[derive(Clone, Copy, Debug, PartialEq, Eq)]
 pub enum LinesFault {
     /// A read failed.
     Read,
     /// The input has more than 1,048,576 bytes.
     TooLarge,
-    /// Memory was refused.
+    /// Memory ran out.
     Memory,
     /// A write failed or took no byte, or the flush failed.
     Write,

@@ -144,7 +144,7 @@ fn summarize<B: BitBlock>(summary: &mut Vec<B>, blocks: &[B])
     }
 }
 
-// A summary of its own for the blocks. Fails only where memory is refused, and never for none.
+// A summary of its own for the blocks. Fails only where memory runs out, and never for none.
 pub(crate) fn summary_of<B: BitBlock>(alloc: Global, blocks: &[B]) -> Result<Vec<B>, AllocError>
     requires blocks { All B.is_block blocks.now }
     requires fits { length blocks.now < 2 ^ 64 }

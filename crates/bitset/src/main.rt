@@ -1,4 +1,4 @@
-//! The program `bitset`: it answers the command lines on its standard input.
+//! The program `bitset`: it replies to the command lines on its standard input.
 #![tactic(auto)]
 
 ghost use Rattle.std.specs.Prelude.{◌≡◌, IfOk, drop};

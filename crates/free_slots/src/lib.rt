@@ -35,7 +35,7 @@ impl<B: BitBlock> Model for Slots<B> {
 }
 
 impl<B: BitBlock> Slots<B> {
-    /// That many slots, all of them free. Fails where memory is refused; none is asked for where there are
+    /// That many slots, all of them free. Fails where memory runs out; none is asked for where there are
     /// no slots. A pass over the blocks of the set.
     pub fn with_slots(alloc: Global, n: usize) -> Result<Self, AllocError>
         ensures free { IfOk result (λ slots. slots ≡ all_free n) }

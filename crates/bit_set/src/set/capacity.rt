@@ -62,7 +62,7 @@ impl<B: BitBlock> BitSet<B> {
 
     /// Makes the length that of the blocks up to the one with the greatest element, so that it can become greater
     /// too, and gives back the capacity that these blocks do not take; may move them. The elements stay. Fails
-    /// just where the capacity is still greater than that of these blocks, since memory to move to was refused;
+    /// just where the capacity is still greater than that of these blocks, since there was no memory to move to;
     /// the length is the new one then too.
     ///
     /// ```

@@ -27,7 +27,7 @@ impl<B: BitBlock> BitSet<B> {
     }
 
     /// The empty set of length `len`, so that elements below `len` go in without memory. Fails only
-    /// where memory is refused. Writes `len` bits.
+    /// where memory runs out. Writes `len` bits.
     pub fn with_capacity_general(alloc: Global, len: usize) -> Result<Self, AllocError>
         ensures elements { IfOk result (λ set. elements set.values ≡ []) }
         ensures members { IfOk result (λ set. HasNone (elements set.values)) }
@@ -50,7 +50,7 @@ impl<B: BitBlock> BitSet<B> {
     }
 
     /// The set of the bits that are 1, those of each byte counted from the highest. One step a byte.
-    /// Fails at [`SetError::Length`] before it asks for memory, or where memory is refused.
+    /// Fails at [`SetError::Length`] before it asks for memory, or where memory runs out.
     ///
     /// ```
     /// let set = BitSet::from_bytes(alloc, &[0b0100_1010])?;
@@ -73,7 +73,7 @@ impl<B: BitBlock> BitSet<B> {
 
     /// The set of the items, as long as its greatest element asks; of no items its capacity is 0. The
     /// iterator has to end. Constant time an item, but for growths. Fails at the first item that is
-    /// `usize::MAX`, or for which memory is refused: one past the blocks of all items before it. The rest
+    /// `usize::MAX`, or for which memory runs out: one past the blocks of all items before it. The rest
     /// of the items is dropped.
     pub fn from_iter<I: Iterator<Item = usize> + Drop>(
         alloc: Global,

@@ -55,7 +55,7 @@ impl<B: BitBlock> BitSet<B> {
     ///
     /// Where `at` is at or past the length nothing changes, and an empty set of length 0 is returned. Where it is
     /// 0 all is returned, the capacity too, and an empty set of length 0 stays. Both take no memory, and constant
-    /// time. Fails only between them where memory is refused; then nothing changed.
+    /// time. Fails only between them where memory runs out; then nothing changed.
     ///
     /// ```
     /// // The set is {1, 2, 3, 6}.

@@ -52,7 +52,7 @@ impl<B: BitBlock> BitVec<B> {
     }
 
     /// Gives back the capacity that the blocks of the list do not take; may move them. Fails just where the
-    /// capacity is still greater than that of these blocks, since memory to move to was refused; the list is as
+    /// capacity is still greater than that of these blocks, since there was no memory to move to; the list is as
     /// it was.
     pub fn shrink_to_fit(&mut self) -> Result<(), AllocError>
         ensures values { self.new.values ≡ self.old.values }

@@ -20,7 +20,7 @@ pub enum BitsError {
     /// Eight times the number of bytes is more than `usize::MAX`.
     #[error("too many bits")]
     Length,
-    /// Memory for the blocks was refused.
+    /// Memory for the blocks ran out.
     #[error("memory refused")]
     Memory(AllocError),
 }
@@ -52,7 +52,7 @@ impl BitVec<u32> {
     }
 
     /// `n` times `bit`, over blocks of 32 bits. Writes each block once. The capacity is that of its blocks.
-    /// Fails only where memory is refused, and never for `n` 0.
+    /// Fails only where memory runs out, and never for `n` 0.
     pub fn from_elem(alloc: Global, n: usize, bit: bool) -> Result<Self, AllocError>
         ensures values { IfOk result (λ vector. vector.values ≡ replicate n bit) }
         ensures holds_values { IfOk result (λ vector. n ≤ vector.capacity) }
@@ -66,7 +66,7 @@ impl BitVec<u32> {
     /// The capacity is that of its blocks.
     ///
     /// `Length` comes exactly where there are more values than `usize::MAX`, and before memory is asked
-    /// for; `Memory` only where that is refused, and never for no bytes.
+    /// for; `Memory` only where that runs out, and never for no bytes.
     pub fn from_bytes(alloc: Global, bytes: &[u8]) -> Result<Self, BitsError>
         ensures values { IfOk result (λ vector. vector.values ≡ values_of_bytes bytes.now) }
         ensures capacity { IfOk result (λ vector. vector.capacity
@@ -92,7 +92,7 @@ impl<B: BitBlock> BitVec<B> {
     }
 
     /// `n` times `bit`. Writes each block once. The capacity is that of its blocks. Fails only where memory
-    /// is refused, and never for `n` 0.
+    /// runs out, and never for `n` 0.
     pub fn from_elem_general(alloc: Global, n: usize, bit: bool) -> Result<Self, AllocError>
         ensures values { IfOk result (λ vector. vector.values ≡ replicate n bit) }
         ensures holds_values { IfOk result (λ vector. n ≤ vector.capacity) }
@@ -109,7 +109,7 @@ impl<B: BitBlock> BitVec<B> {
     /// blocks.
     ///
     /// `Length` comes exactly where there are more values than `usize::MAX`, and before memory is asked
-    /// for; `Memory` only where that is refused, and never for no bytes.
+    /// for; `Memory` only where that runs out, and never for no bytes.
     pub fn from_bytes_general(alloc: Global, bytes: &[u8]) -> Result<Self, BitsError>
         ensures values { IfOk result (λ vector. vector.values ≡ values_of_bytes bytes.now) }
         ensures capacity { IfOk result
@@ -130,7 +130,7 @@ impl<B: BitBlock> BitVec<B> {
     }
 
     /// A bit vector of the same list. Copies each block once. Its capacity is that of its blocks. Fails only
-    /// where memory is refused, and never for an empty list.
+    /// where memory runs out, and never for an empty list.
     pub fn clone(&self, alloc: Global) -> Result<Self, AllocError>
         ensures values { IfOk result (λ vector. vector.values ≡ self.now.values) }
         ensures capacity { IfOk result
@@ -148,7 +148,7 @@ impl<B: BitBlock> BitVec<B> {
 
     /// A bit vector of the same length and the same values from `at` on, which is below the length; those
     /// before it are false. Writes each block once, those before that of `at` as zeros. Its capacity is that
-    /// of its blocks. Fails only where memory is refused.
+    /// of its blocks. Fails only where memory runs out.
     pub fn clone_tail(&self, alloc: Global, at: usize) -> Result<Self, AllocError>
         requires { at < length self.now.values }
         ensures values { IfOk result (λ vector. vector.values ≡ replicate at false ++ drop at self.now.values) }

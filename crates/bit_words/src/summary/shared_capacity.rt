@@ -1,4 +1,4 @@
-// Capacity for blocks and their summary at once, and the refusal of one of the two. No bit changes here.
+// Capacity for blocks and their summary at once, and what is left where one of the two fails. No bit changes here.
 ghost use Rattle.std.specs.Prelude.{◌≡◌, ◌-◌, ◌<◌, ◌≤◌, false, IsOk, IsTrue, OnErr, OnOk, length, max, vec_len, vec_capacity};
 ghost use Rattle.bit_words.specs.Summary.{MakesSharedCapacity, shared_capacity};
 
@@ -45,7 +45,7 @@ pub(crate) fn have_capacity<B: BitBlock>(blocks: &Vec<B>, summary: &Vec<B>, coun
 }
 
 // Reserves capacity for `count` blocks and their summary where it is missing. What has more capacity of the two
-// grows first: then a refusal of the other leaves the capacity that they share.
+// grows first: then a failure of the other leaves the capacity that they share.
 #[cold]
 #[inline(never)]
 fn grow_shared_capacity<B: BitBlock>(
@@ -136,7 +136,7 @@ pub(crate) fn reserve_shared_exact<B: BitBlock>(
     reserve_shared(blocks, summary, count, true)
 }
 
-// Gives back what the blocks and their summary do not take, as far as memory to move them to is there. A refusal
+// Gives back what the blocks and their summary do not take, as far as memory to move them to is there. A failure
 // of one does not keep the other.
 pub(crate) fn shrink_shared_capacity<B: BitBlock>(blocks: &mut Vec<B>, summary: &mut Vec<B>)
     ensures items { blocks.new.items ≡ blocks.old.items }
