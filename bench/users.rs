@@ -8,6 +8,10 @@ use fixedbitset::FixedBitSet;
 unsafe extern "C" {
     fn bench_slots_u32(len: usize, taken: usize, given: *const usize, n: usize, turns: usize) -> usize;
     fn bench_slots_u64(len: usize, taken: usize, given: *const usize, n: usize, turns: usize) -> usize;
+    fn bench_reachable_u32(nodes: usize, each: usize, ends: *const usize, n: usize, turns: usize) -> usize;
+    fn bench_reachable_u64(nodes: usize, each: usize, ends: *const usize, n: usize, turns: usize) -> usize;
+    fn bench_close_u32(nodes: usize, each: usize, ends: *const usize, n: usize, turns: usize) -> usize;
+    fn bench_close_u64(nodes: usize, each: usize, ends: *const usize, n: usize, turns: usize) -> usize;
 }
 
 /// The calls of a peer's set that the users' loops make.
@@ -18,6 +22,9 @@ trait Set: Clone {
     fn insert(&mut self, number: usize) -> bool;
     fn remove(&mut self, number: usize);
     fn first(&self) -> Option<usize>;
+    fn contains(&self, number: usize) -> bool;
+    fn count(&self) -> usize;
+    fn union_with(&mut self, other: &Self);
 }
 
 impl<B: BitBlock> Set for BitSet<B> {
@@ -36,6 +43,18 @@ impl<B: BitBlock> Set for BitSet<B> {
     fn first(&self) -> Option<usize> {
         self.iter().next()
     }
+
+    fn contains(&self, number: usize) -> bool {
+        BitSet::contains(self, number)
+    }
+
+    fn count(&self) -> usize {
+        self.len()
+    }
+
+    fn union_with(&mut self, other: &Self) {
+        BitSet::union_with(self, other);
+    }
 }
 
 impl Set for FixedBitSet {
@@ -53,6 +72,18 @@ impl Set for FixedBitSet {
 
     fn first(&self) -> Option<usize> {
         self.ones().next()
+    }
+
+    fn contains(&self, number: usize) -> bool {
+        FixedBitSet::contains(self, number)
+    }
+
+    fn count(&self) -> usize {
+        self.count_ones(..)
+    }
+
+    fn union_with(&mut self, other: &Self) {
+        FixedBitSet::union_with(self, other);
     }
 }
 
@@ -88,12 +119,89 @@ fn slots_row<B: BitBlock>(table: &mut Table, blocks: &str, here: OnSlots, len: u
     ]);
 }
 
+/// Adds up how many nodes are reached from the first one, where each has so many of the edges.
+fn reachable<S: Set>(each: usize, ends: &[usize], turns: usize) -> usize {
+    let rows: Vec<Vec<usize>> = ends.chunks(each).map(<[usize]>::to_vec).collect();
+    total(turns, |_| {
+        let mut reached = S::for_numbers_below(rows.len());
+        reached.insert(0);
+        let mut stack = vec![0];
+        while let Some(node) = stack.pop() {
+            if let Some(row) = rows.get(node) {
+                for end in row {
+                    if reached.insert(*end) {
+                        stack.push(*end);
+                    }
+                }
+            }
+        }
+        reached.count()
+    })
+}
+
+/// Closes copies of the rows by Warshall's algorithm, and adds up how many edges these have then.
+fn close<S: Set>(each: usize, ends: &[usize], turns: usize) -> usize {
+    let nodes = ends.len() / each;
+    let rows: Vec<S> = ends.chunks(each).map(|row| {
+        let mut set = S::for_numbers_below(nodes);
+        for end in row {
+            set.insert(*end);
+        }
+        set
+    }).collect();
+    total(turns, |_| {
+        let mut closed = rows.clone();
+        let mut via = S::for_numbers_below(nodes);
+        for node in 0..nodes {
+            via.clone_from(&closed[node]);
+            for row in &mut closed {
+                if row.contains(node) {
+                    row.union_with(&via);
+                }
+            }
+        }
+        closed.iter().map(S::count).sum()
+    })
+}
+
+type OnGraph = unsafe extern "C" fn(nodes: usize, each: usize, *const usize, usize, turns: usize) -> usize;
+
+fn reachable_row<B: BitBlock>(table: &mut Table, blocks: &str, here: OnGraph, nodes: usize, turns: usize) {
+    let each = 4;
+    let ends = Density::of("", nodes, nodes * each).members;
+    let name = format!("`reachable`, {nodes} nodes, {each} edges each, `{blocks}`");
+    table.row(&name, Work { unit: "node", units: nodes, turns, numbers: &[] }, &[
+        &|_, turns| unsafe { here(nodes, each, ends.as_ptr(), ends.len(), turns) },
+        &|_, turns| reachable::<BitSet<B>>(each, &ends, turns),
+        &|_, turns| reachable::<FixedBitSet>(each, &ends, turns),
+    ]);
+}
+
+fn close_row<B: BitBlock>(table: &mut Table, blocks: &str, here: OnGraph, nodes: usize, turns: usize) {
+    let each = 2;
+    let ends = Density::of("", nodes, nodes * each).members;
+    let name = format!("`close`, {nodes} rows, {each} edges each, `{blocks}`");
+    table.row(&name, Work { unit: "row", units: nodes, turns, numbers: &[] }, &[
+        &|_, turns| unsafe { here(nodes, each, ends.as_ptr(), ends.len(), turns) },
+        &|_, turns| close::<BitSet<B>>(each, &ends, turns),
+        &|_, turns| close::<FixedBitSet>(each, &ends, turns),
+    ]);
+}
+
 /// Prints the table. Whether the sides of each row gave the same answers.
 pub fn race() -> bool {
     let mut table = Table::of_users();
     for (len, taken) in [(1_000, 900), (1 << 16, 60_000)] {
         slots_row::<u32>(&mut table, "u32", bench_slots_u32, len, taken);
         slots_row::<u64>(&mut table, "u64", bench_slots_u64, len, taken);
+    }
+    for (nodes, turns) in [(20_000, 16), (1_000_000, 2)] {
+        reachable_row::<u32>(&mut table, "u32", bench_reachable_u32, nodes, turns);
+        reachable_row::<u64>(&mut table, "u64", bench_reachable_u64, nodes, turns);
+    }
+    for (nodes, turns) in [(500, 16), (2_000, 2)] {
+        close_row::<u32>(&mut table, "u32", bench_close_u32, nodes, turns);
+        close_row::<u64>(&mut table, "u64", bench_close_u64, nodes, turns);
     }
     table.agrees
 }

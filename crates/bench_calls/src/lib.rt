@@ -5,6 +5,7 @@
 
 mod capacity;
 mod filling;
+mod graphs;
 mod input_sets;
 mod inserting;
 mod reading;

@@ -121,7 +121,7 @@ fn even_numbers_are_counted(rt: HostRuntime) -> Result<(), Fail> {
 }
 
 // The walk gives these items first.
-fn passes<B: BitBlock>(rt: &impl Abort, walk: &mut Iter<'_, B>, items: &[usize]) {
+pub(crate) fn passes<B: BitBlock>(rt: &impl Abort, walk: &mut Iter<'_, B>, items: &[usize]) {
     for item in items {
         assert_eq!(rt; walk.next(), Some(*item));
     }

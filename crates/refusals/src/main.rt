@@ -13,6 +13,7 @@ mod sets;
 mod splits;
 mod states;
 mod sweep;
+mod users;
 mod without_memory;
 
 use bit_set::{BitBlock, JsonBlock};
@@ -34,7 +35,8 @@ fn over<B: BitBlock>(sweep: &Sweep<'_>) -> Result<bool, Fault> {
     let bits = bits::all::<B>(sweep)?;
     let runs = runs::all::<B>(sweep)?;
     let quiet = without_memory::all::<B>(sweep)?;
-    Ok(sets && splits && making && bits && runs && quiet)
+    let users = users::all::<B>(sweep)?;
+    Ok(sets && splits && making && bits && runs && quiet && users)
 }
 
 // Those and the calls of the JSON form.
