@@ -1,1 +1,3 @@
 pub mod StepLemmas
+pub mod NumberingLemmas
+pub mod BuildLemmas

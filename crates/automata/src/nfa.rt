@@ -2,7 +2,7 @@
 ghost use Rattle.std.specs.Prelude.{◌≡◌, ◌≤◌, ◌↔◌, ℕ, IfOk, IsOk, IsTrue, OnOk, length};
 ghost use Rattle.bit_set.specs.Sets.{elements, has};
 ghost use Rattle.automata.specs.Bounds.{AreWithin, IsRowWithin, set_at};
-ghost use Rattle.automata.specs.Runs.{Accepts, IsEnd, rows_of_sets};
+ghost use Rattle.automata.specs.Runs.{Accepts, IsEnd, IsImage, row_of, rows_of_sets};
 
 use crate::step::step;
 use bit_set::{BitBlock, BitSet};
@@ -62,18 +62,49 @@ impl<B: BitBlock> Nfa<B> {
         self.moves.len()
     }
 
-    /// Whether some run from a start to an accepting state spells the word. Makes two sets of states, and takes no
-    /// more memory: it fails only where memory is refused for these. For each symbol of the word it makes at most one
-    /// union for each state.
-    pub fn accepts(&self, alloc: Global, word: &[usize]) -> Result<bool, AllocError>
-        ensures { IfOk result (λ is. IsTrue is ↔ Accepts self.now word.now) }
+    // The starts.
+    pub(crate) fn starts(&self) -> &BitSet<B>
+        ensures { elements result.now.values ≡ self.now.starts }
     {
-        let mut states = BitSet::with_capacity_general(alloc, self.longest)?;
-        let mut next = BitSet::with_capacity_general(alloc, self.longest)?;
-        states.clone_from(&self.starts)?;
-        follow(self.moves.as_slice(), word, &mut states, &mut next);
-        Ok(!states.is_disjoint(&self.accepting))
+        &self.starts
     }
+
+    // The accepting states.
+    pub(crate) fn accepting(&self) -> &BitSet<B>
+        ensures { elements result.now.values ≡ self.now.accepting }
+    {
+        &self.accepting
+    }
+
+    // The greatest length of a set of states to which symbols lead.
+    pub(crate) fn longest(&self) -> usize {
+        self.longest
+    }
+
+    // Makes `into` the set of the states to which the symbol leads from those in `states`.
+    pub(crate) fn step(
+        &self,
+        symbol: usize,
+        states: &BitSet<B>,
+        into: &mut BitSet<B>,
+    ) -> Result<(), AllocError>
+        ensures { OnOk result (IsImage (row_of self.now.moves symbol) (elements states.now.values) (elements into.new.values)) }
+    {
+        step(self.moves.as_slice(), symbol, states, into)
+    }
+}
+
+/// Whether some run from a start to an accepting state spells the word. Makes two sets of states, and takes no more
+/// memory: it fails only where memory is refused for these. For each symbol of the word it makes at most one union for
+/// each state.
+pub fn accepts<B: BitBlock>(alloc: Global, nfa: &Nfa<B>, word: &[usize]) -> Result<bool, AllocError>
+    ensures { IfOk result (λ is. IsTrue is ↔ Accepts nfa.now word.now) }
+{
+    let mut states = BitSet::with_capacity_general(alloc, nfa.longest)?;
+    let mut next = BitSet::with_capacity_general(alloc, nfa.longest)?;
+    states.clone_from(&nfa.starts)?;
+    follow(nfa.moves.as_slice(), word, &mut states, &mut next);
+    Ok(!states.is_disjoint(&nfa.accepting))
 }
 
 // Follows the word from a set of states, each symbol by one step. Takes no memory.
