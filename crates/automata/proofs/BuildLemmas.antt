@@ -196,6 +196,16 @@ accept_past P old i not_it before j = (
   (λ p. (before j).1 (elim (cases_eq i j) [ inl is ↦ absurd (not_it (subst P (sym is) p.1)) | inr other ↦ omega (arith, p.0, other) ], p.1)),
 )
 
+-- ---- what one word reaches
+
+both_ways : (x y : Bool) → (x ≡ true → y ≡ true) → (y ≡ true → x ≡ true) → x ≡ y
+both_ways true y f g = sym (f refl)
+both_ways false true f g = g refl
+both_ways false false f g = refl
+
+pub same_reach : (nfa : Automaton) (word s t : List ℕ) → IsReach nfa word s → IsReach nfa word t → IsSameSet s t
+same_reach nfa word s t reach_s reach_t v = both_ways (has s v) (has t v) (λ h. (reach_t v).1 ((reach_s v).0 h)) (λ h. (reach_s v).1 ((reach_t v).0 h))
+
 -- ---- the table of all sets
 
 module _ (nfa : Automaton) (sets : List (List ℕ)) (next : List ℕ) (b : Builds nfa sets next) (whole : length next ≡ length sets * length nfa.moves) where
@@ -215,19 +225,11 @@ module _ (nfa : Automaton) (sets : List (List ℕ)) (next : List ℕ) (b : Build
   leads : (word : List ℕ) → IsWordOver (length nfa.moves) word → (end_from (length nfa.moves) next 0 word < length sets) × IsReach nfa word (set_of sets (end_from (length nfa.moves) next 0 word))
   leads word over = let p = ends 0 word b.some over in (p.0, rw b.start at p.1)
 
-  both_ways : (x y : Bool) → (x ≡ true → y ≡ true) → (y ≡ true → x ≡ true) → x ≡ y
-  both_ways true y f g = sym (f refl)
-  both_ways false true f g = g refl
-  both_ways false false f g = refl
-
-  same_reach : (word s t : List ℕ) → IsReach nfa word s → IsReach nfa word t → IsSameSet s t
-  same_reach word s t reach_s reach_t v = both_ways (has s v) (has t v) (λ h. (reach_t v).1 ((reach_s v).0 h)) (λ h. (reach_s v).1 ((reach_t v).0 h))
-
   is_led_to : (i : ℕ) → i < length sets → (word : List ℕ) × IsWordOver (length nfa.moves) word × (end_from (length nfa.moves) next 0 word ≡ i)
   is_led_to i lt =
       let r = b.reached i lt in
       let l = leads r.0 r.1 in
-      (r.0, r.1, b.apart (end_from (length nfa.moves) next 0 r.0) i l.0 lt (same_reach r.0 _ _ l.1 r.2))
+      (r.0, r.1, b.apart (end_from (length nfa.moves) next 0 r.0) i l.0 lt (same_reach nfa r.0 _ _ l.1 r.2))
 
   module _ (accepting : List ℕ) where
     table : Table

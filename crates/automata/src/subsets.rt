@@ -1,5 +1,5 @@
 // The deterministic automaton that accepts the same words.
-ghost use Rattle.std.specs.Prelude.{◌≡◌, ◌+◌, ◌*◌, ◌<◌, ◌≤◌, ◌↔◌, ℕ, IfOk, IsErrOf, IsTrue, List, OnOk, [], length};
+ghost use Rattle.std.specs.Prelude.{◌≡◌, ◌+◌, ◌*◌, ◌<◌, ◌≤◌, ◌↔◌, ℕ, IfOk, IsErrOf, IsOk, IsTrue, List, OnOk, [], length};
 ghost use Rattle.bit_set.specs.Sets.{elements, has};
 ghost use Rattle.automata.specs.Building.{Builds, Meets};
 ghost use Rattle.automata.specs.Numbering.{set_of};
@@ -14,7 +14,8 @@ use std::alloc::{AllocError, Global};
 
 /// The deterministic automaton that accepts just the words that `nfa` accepts, by the subset construction. Its states
 /// are the sets of states that words reach, each once. Fails with [`DfaError::TooMany`] only where there are more of
-/// these sets than `most_states`, and else only where memory is refused. For each state and symbol it takes the
+/// these sets than `most_states`, else only where memory is refused; and succeeds only where there are not more. For
+/// each state and symbol it takes the
 /// successors of one set, and looks for that set in a map.
 pub fn determinize<B: BitBlock>(
     alloc: Global,
@@ -25,6 +26,7 @@ pub fn determinize<B: BitBlock>(
     ensures sets { IfOk result (λ dfa. (sets : List (List ℕ)) × IsSubsetTable nfa.now dfa sets) }
     ensures few { IfOk result (λ dfa. dfa.states ≤ most_states) }
     ensures too_many { IsErrOf result DfaError.TooMany → ReachesMoreThan most_states nfa.now }
+    ensures no_more { IsOk result → ¬ ReachesMoreThan most_states nfa.now }
 {
     let mut numbering = first_set(alloc, nfa, most_states)?;
     let next = fill(alloc, nfa, &mut numbering, most_states)?;
