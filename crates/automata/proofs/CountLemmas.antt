@@ -1,5 +1,5 @@
 -- No more different sets are reached than the table has states.
-use Rattle.std.proofs.Common.{◌≡◌, ℕ, ◌<◌, ◌≤◌, true, false, ◌||◌, eqb, inl, inr, List, [], ◌∷◌, ◌++◌, length, zero, suc, get_or, refl, sym, ap, ◌∙◌, arith}
+use Rattle.std.proofs.Common.{◌≡◌, ℕ, ◌<◌, ◌≤◌, true, eqb, inl, inr, List, [], ◌∷◌, ◌++◌, length, zero, suc, get_or, refl, sym, ap, ◌∙◌, arith}
 use Rattle.std.proofs.lemmas.Bool.{true≢false, cases_lt, eqb-true, ne_eqb}
 use Rattle.std.proofs.lemmas.List.{get_or_append_left, get_or_default, get_or_push, length_push}
 use Rattle.std.proofs.lemmas.Map.Keys.{IsDistinct-from_apart}
@@ -37,13 +37,16 @@ module _ (nfa : Automaton) (dfa : Table) (sets : List (List ℕ)) (t : IsSubsetT
   gather zero le = ([], refl, λ i lt. absurd (omega (arith, lt)))
   gather (suc m) le =
       let before = gather m (omega (arith, le)) in
-      let last = represented m (omega (arith, le)) in
-      (before.0 ++ last.0 ∷ [], omega (arith, before.1, length_push before.0 last.0), λ i lt. elim (cases_lt i m) [
-        | inl below ↦ let inside : i < length before.0 = omega (arith, below, before.1) in rw get_or_append_left (before.2 i below)
-        | inr above ↦
-            let is : i ≡ m = omega (arith, lt, above) in
-            rw (get_or_push before.0 last.0 0 i (before.1 ∙ sym is), is) last.1
-      ])
+      let last = represented m (omega (arith, le)) in (
+        before.0 ++ last.0 ∷ [],
+        omega (arith, before.1, length_push before.0 last.0),
+        λ i lt. elim (cases_lt i m) [
+          | inl below ↦ let inside : i < length before.0 = omega (arith, below, before.1) in rw get_or_append_left (before.2 i below)
+          | inr above ↦
+              let is : i ≡ m = omega (arith, lt, above) in
+              rw (get_or_push before.0 last.0 0 i (before.1 ∙ sym is), is) last.1
+        ],
+      )
 
   pub no_more : dfa.states ≤ most → ⊥
   no_more few =

@@ -1,7 +1,7 @@
 -- A set's number, by a list and a map that say the same.
 use Rattle.std.proofs.Common.{◌≡◌, ℕ, ◌<◌, true, false, cond, ◌⊎◌, inl, inr, List, [], ◌∷◌, ◌++◌, Option, Some, None, IsTrue, length, refl, sym, ap, ◌∙◌, ◌↔◌, arith}
 use Rattle.std.proofs.lemmas.Bool.{true≢false, cases_lt}
-use Rattle.std.proofs.lemmas.List.{get_or_append_left, get_or_push, length_push}
+use Rattle.std.proofs.lemmas.List.{get_or_append_left, get_or_push, length_push, map_push}
 use Rattle.std.specs.Ordering.{is_eq}
 use Rattle.std.specs.declared.cmp.Ordering.{Ordering}
 use Rattle.std.specs.declared.cmp.Ordering.TheVariants.{Less, Equal, Greater}
@@ -9,6 +9,7 @@ use Rattle.bit_set.specs.Bits.{Bits}
 use Rattle.bit_set.specs.Order.{order_of_sets, same_sets}
 use Rattle.bit_set.specs.Sets.{elements}
 use Rattle.automata.specs.Numbering.{Finds, IsNew, Numbers, set_of}
+use Rattle.automata.specs.Runs.{row_of_sets}
 
 pub is_equal : (o : Ordering) → is_eq o ≡ true → o ≡ Equal
 is_equal Less h = absurd (true≢false (sym h))
@@ -32,6 +33,10 @@ set_last sets set i is = get_or_push sets set [] i (sym is)
 -- a number below one more is below or the last
 pub before_or_last : (sets : List (List ℕ)) (set : List ℕ) (i : ℕ) → i < length (sets ++ set ∷ []) → (i < length sets) ⊎ (i ≡ length sets)
 before_or_last sets set i lt = elim (cases_lt i (length sets)) [ inl below ↦ inl below | inr above ↦ inr (omega (arith, lt, above, length_push sets set)) ]
+
+-- a copy of the set at the end of the list
+pub pushed : (sets mid after : List Bits) (copy : Bits) (set : List ℕ) → after ≡ mid ++ copy ∷ [] → mid ≡ sets → elements copy.values ≡ set → row_of_sets after ≡ row_of_sets sets ++ set ∷ []
+pushed sets mid after copy set is same copied = ap row_of_sets (is ∙ ap (λ l. l ++ copy ∷ []) same) ∙ map_push (λ (bits : Bits). elements bits.values) sets copy ∙ ap (λ last. row_of_sets sets ++ last ∷ []) copied
 
 module _ (find : Bits → Option ℕ) (sets : List (List ℕ)) (f : Finds find sets) where
   pub numbers_found : (set : Bits) (number : ℕ) → find set ≡ Some number → Numbers sets (elements set.values) number sets

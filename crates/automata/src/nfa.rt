@@ -88,7 +88,8 @@ impl<B: BitBlock> Nfa<B> {
         states: &BitSet<B>,
         into: &mut BitSet<B>,
     ) -> Result<(), AllocError>
-        ensures { OnOk result (IsImage (row_of self.now.moves symbol) (elements states.now.values) (elements into.new.values)) }
+        ensures { OnOk result (IsImage (row_of self.now.moves symbol)
+            (elements states.now.values) (elements into.new.values)) }
     {
         step(self.moves.as_slice(), symbol, states, into)
     }
