@@ -1,0 +1,4 @@
+pub mod StepLemmas
+pub mod NumberingLemmas
+pub mod BuildLemmas
+pub mod CountLemmas

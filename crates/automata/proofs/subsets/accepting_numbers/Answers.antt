@@ -1,0 +1,35 @@
+use Rattle.std.proofs.Common.{◌≡◌, ◌≤◌, true, false, length, refl, sym, arith}
+use Rattle.bit_set.specs.Members.{IsDisjoint, Updates}
+use Rattle.bit_set.specs.Sets.{elements, is_disjoint}
+use Rattle.automata.specs.Building.{Meets}
+use Rattle.automata.specs.Numbering.{set_of}
+use Rattle.automata.proofs.StepLemmas.{not_disjoint, shared}
+use Rattle.automata.proofs.BuildLemmas.{accept_on, accept_past}
+use Rattle.automata.proofs.subsets.accepting_numbers.Goals as goal
+use Rattle.automata.proofs.subsets.accepting_numbers.Goals.{then-not-is_disjoint, else-not-is_disjoint}
+
+pub loop-number-preserved : goal.loop-number-preserved
+loop-number-preserved g c =
+    let i = c.loop-number.number in
+    let sets = c.args.numbering.now in
+    let accepting = c.args.nfa.now.accepting in
+    let it = c.loop-number.invariant in
+    elim c.if-not-is_disjoint.branch [
+      | then-not-is_disjoint w ↦
+          let apart : false ≡ is_disjoint (set_of sets i) accepting = rw (c.set.ensures, c.accepting.ensures) at w.if-not-is_disjoint.ensures.answer in
+          let updates : Updates (elements c.loop-number.numbers.values) (elements w.insert.new.self.values) i true = rw w.unwrap.ensures at w.insert.ensures.members in
+          let capacity : w.insert.new.self.capacity ≡ c.loop-number.numbers.capacity = w.insert.ensures.within (omega arith) in
+          let larger : length sets ≤ w.insert.new.self.capacity = omega (arith, capacity, it.capacity) in
+          record {
+            end = it.end;
+            capacity = rw w.numbers-is larger;
+            members = rw w.numbers-is (accept_on (λ j. Meets (set_of sets j) accepting) _ _ i updates (shared (set_of sets i) accepting (sym apart)) it.members);
+          }
+      | else-not-is_disjoint w ↦
+          let apart : IsDisjoint (set_of sets i) accepting = rw (c.set.ensures, c.accepting.ensures) at (w.if-not-is_disjoint.ensures.members.0 refl) in
+          record {
+            end = it.end;
+            capacity = rw w.numbers-is it.capacity;
+            members = rw w.numbers-is (accept_past (λ j. Meets (set_of sets j) accepting) _ i (λ m. not_disjoint (set_of sets i) accepting m.0 m.1 m.2 apart) it.members);
+          }
+    ]

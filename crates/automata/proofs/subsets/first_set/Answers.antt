@@ -1,0 +1,18 @@
+use Rattle.std.proofs.Common.{◌≡◌, Err, length, ap, arith}
+use Rattle.std.proofs.lemmas.Result.{err_from_is_err_and}
+use Rattle.bit_set.specs.Sets.{elements}
+use Rattle.automata.specs.declared.fault.DfaError.TheVariants.{TooMany}
+use Rattle.automata.proofs.BuildLemmas.{builds_first, more_than_none}
+use Rattle.automata.proofs.subsets.first_set.Goals as goal
+
+pub returns-in_err-number_of-clause-too_many : goal.returns-in_err-number_of-clause-too_many
+returns-in_err-number_of-clause-too_many g c =
+    let p = err_from_is_err_and c.from_residual.result c.from_residual.ensures.1 in
+    rw (p.1, p.2) (λ is.
+    let fault : c.in_err-number_of.field-0.0 ≡ TooMany = cc in
+    let full = c.in_err-number_of.ensures.full (ap Err fault) in
+    let empty = ap length c.new-numbering.ensures in
+    more_than_none c.args.nfa.now (elements c.starts.result.now.values) (c.sets_ascend.ensures.elements c.starts.result.now.values) c.starts.ensures c.args.most (omega (arith, full, empty)))
+
+pub returns-clause-builds : goal.returns-clause-builds
+returns-clause-builds g c = builds_first c.args.nfa.now (elements c.starts.result.now.values) (c.sets_ascend.ensures.elements c.starts.result.now.values) c.starts.ensures _ _ (rw c.new-numbering.ensures at c.in_ok-number_of.ensures.ok)

@@ -1,0 +1,5 @@
+pub mod Runs
+pub mod Bounds
+pub mod Numbering
+pub mod Tables
+pub mod Building

@@ -1,0 +1,76 @@
+// Deterministic automata.
+ghost use Rattle.std.specs.Prelude.{◌≡◌, ◌<◌, ◌↔◌, IfNone, IfSome, IsTrue};
+ghost use Rattle.automata.specs.Tables.{IsAcceptedBy, IsTable, IsWordOver, end_from};
+
+use bit_set::{BitBlock, BitSet};
+use std::marker::Model;
+
+/// A deterministic automaton: from each of its states, each symbol leads to one state. It starts in state 0.
+#[derive(Drop)]
+pub struct Dfa<B: BitBlock> {
+    pub(crate) states: usize,
+    pub(crate) symbols: usize,
+    // Where the symbol leads from the state, at `state * symbols + symbol`.
+    pub(crate) next: Vec<usize>,
+    pub(crate) accepting: BitSet<B>,
+}
+
+impl<B: BitBlock> Model for Dfa<B> {
+    ghost use Rattle.bit_set.specs.Sets.{elements};
+    ghost use Rattle.automata.specs.Tables.{IsTable, Table};
+
+    ghost Value = { Table };
+
+    ghost view = { λ it. record {
+      states = it.states;
+      symbols = it.symbols;
+      next = it.next.items;
+      accepting = elements it.accepting.values;
+    } };
+
+    ghost invariant = { λ it. IsTable it.states it.symbols it.next.items };
+}
+
+impl<B: BitBlock> Dfa<B> {
+    /// How many states there are: those below this number. Constant time.
+    pub fn states(&self) -> usize
+        ensures { result ≡ self.now.states }
+    {
+        self.states
+    }
+
+    /// How many symbols there are: those below this number. Constant time.
+    pub fn symbols(&self) -> usize
+        ensures { result ≡ self.now.symbols }
+    {
+        self.symbols
+    }
+
+    /// Whether the word leads to an accepting state. A word with a symbol that the automaton does not have is not
+    /// accepted. One look-up for each symbol.
+    pub fn accepts(&self, word: &[usize]) -> bool
+        ensures { IsTrue result ↔ IsAcceptedBy self.now word.now }
+    {
+        match end_of(self.next.as_slice(), self.states, self.symbols, word) {
+            Some(state) => self.accepting.contains(state),
+            None => false,
+        }
+    }
+}
+
+// The state to which the word leads from state 0, or `None` where one of its symbols is no symbol of the table.
+fn end_of(next: &[usize], states: usize, symbols: usize, word: &[usize]) -> Option<usize>
+    requires { IsTable states symbols next.now }
+    ensures outside { IfNone result (¬ IsWordOver symbols word.now) }
+    ensures over { IfSome result (λ _. IsWordOver symbols word.now) }
+    ensures end { IfSome result (λ state. state ≡ end_from symbols next.now 0 word.now) }
+{
+    let mut state = 0;
+    for &symbol in word {
+        if symbol >= symbols {
+            return None;
+        }
+        state = next[state * symbols + symbol];
+    }
+    Some(state)
+}

@@ -1,0 +1,148 @@
+// Automata without determinism.
+ghost use Rattle.std.specs.Prelude.{◌≡◌, ◌≤◌, ◌↔◌, ℕ, IfOk, IsOk, IsTrue, OnOk, length};
+ghost use Rattle.bit_set.specs.Sets.{elements, has};
+ghost use Rattle.automata.specs.Bounds.{AreWithin, IsRowWithin, set_at};
+ghost use Rattle.automata.specs.Runs.{Accepts, IsEnd, IsImage, row_of, rows_of_sets};
+
+use crate::step::step;
+use bit_set::{BitBlock, BitSet};
+use std::alloc::{AllocError, Global};
+use std::marker::Model;
+use std::mem;
+
+/// An automaton: for each symbol and state a set of states, a set of starts, and a set of accepting states. A symbol
+/// or a state with no set of its own leads nowhere.
+#[derive(Drop)]
+pub struct Nfa<B: BitBlock> {
+    moves: Vec<Vec<BitSet<B>>>,
+    starts: BitSet<B>,
+    accepting: BitSet<B>,
+    // The greatest length of a set in `moves`, or of `starts`.
+    longest: usize,
+}
+
+impl<B: BitBlock> Model for Nfa<B> {
+    ghost use Rattle.std.specs.Prelude.{◌≤◌, length};
+    ghost use Rattle.bit_set.specs.Sets.{elements};
+    ghost use Rattle.automata.specs.Bounds.{AreWithin};
+    ghost use Rattle.automata.specs.Runs.{Automaton, rows_of_sets};
+
+    ghost Value = { Automaton };
+
+    ghost view = { λ it. record {
+      moves = rows_of_sets it.moves.items;
+      starts = elements it.starts.values;
+      accepting = elements it.accepting.values;
+    } };
+
+    ghost invariant = { λ it. AreWithin it.longest it.moves.items × (length it.starts.values ≤ it.longest) };
+}
+
+impl<B: BitBlock> Nfa<B> {
+    /// The automaton of these sets: `moves[symbol][state]` has the states to which the symbol leads from the state.
+    /// Looks at each set once.
+    pub fn new(moves: Vec<Vec<BitSet<B>>>, starts: BitSet<B>, accepting: BitSet<B>) -> Self
+        ensures moves { result.moves ≡ rows_of_sets moves.items }
+        ensures starts { result.starts ≡ elements starts.values }
+        ensures accepting { result.accepting ≡ elements accepting.values }
+    {
+        let longest = longest_of_rows(moves.as_slice()).max(starts.get_ref().len());
+        Nfa {
+            moves,
+            starts,
+            accepting,
+            longest,
+        }
+    }
+
+    /// How many symbols have sets of their own: those below this number. Constant time.
+    pub fn symbols(&self) -> usize
+        ensures { result ≡ length self.now.moves }
+    {
+        self.moves.len()
+    }
+
+    // The starts.
+    pub(crate) fn starts(&self) -> &BitSet<B>
+        ensures { elements result.now.values ≡ self.now.starts }
+    {
+        &self.starts
+    }
+
+    // The accepting states.
+    pub(crate) fn accepting(&self) -> &BitSet<B>
+        ensures { elements result.now.values ≡ self.now.accepting }
+    {
+        &self.accepting
+    }
+
+    // The greatest length of a set of states to which symbols lead.
+    pub(crate) fn longest(&self) -> usize {
+        self.longest
+    }
+
+    // Makes `into` the set of the states to which the symbol leads from those in `states`.
+    pub(crate) fn step(
+        &self,
+        symbol: usize,
+        states: &BitSet<B>,
+        into: &mut BitSet<B>,
+    ) -> Result<(), AllocError>
+        ensures { OnOk result (IsImage (row_of self.now.moves symbol)
+            (elements states.now.values) (elements into.new.values)) }
+    {
+        step(self.moves.as_slice(), symbol, states, into)
+    }
+}
+
+/// Whether some run from a start to an accepting state spells the word. Makes two sets of states, and takes no more
+/// memory: it fails only where memory is refused for these. For each symbol of the word it makes at most one union for
+/// each state.
+pub fn accepts<B: BitBlock>(alloc: Global, nfa: &Nfa<B>, word: &[usize]) -> Result<bool, AllocError>
+    ensures { IfOk result (λ is. IsTrue is ↔ Accepts nfa.now word.now) }
+{
+    let mut states = BitSet::with_capacity_general(alloc, nfa.longest)?;
+    let mut next = BitSet::with_capacity_general(alloc, nfa.longest)?;
+    states.clone_from(&nfa.starts)?;
+    follow(nfa.moves.as_slice(), word, &mut states, &mut next);
+    Ok(!states.is_disjoint(&nfa.accepting))
+}
+
+// Follows the word from a set of states, each symbol by one step. Takes no memory.
+fn follow<B: BitBlock>(
+    moves: &[Vec<BitSet<B>>],
+    word: &[usize],
+    states: &mut BitSet<B>,
+    next: &mut BitSet<B>,
+)
+    requires states { AreWithin states.old.capacity moves.now }
+    requires next { AreWithin next.old.capacity moves.now }
+    ensures { IsEnd (rows_of_sets moves.now) (elements states.old.values) word.now (elements states.new.values) }
+{
+    for &symbol in word {
+        step(moves, symbol, states, next).unwrap();
+        mem::swap(states, next);
+    }
+}
+
+// The greatest length of a set in the rows.
+fn longest_of_rows<B: BitBlock>(rows: &[Vec<BitSet<B>>]) -> usize
+    ensures { AreWithin result rows.now }
+{
+    let mut longest = 0;
+    for row in rows {
+        longest = longest.max(longest_of_row(row.as_slice()));
+    }
+    longest
+}
+
+// The greatest length of a set in the row.
+fn longest_of_row<B: BitBlock>(row: &[BitSet<B>]) -> usize
+    ensures { IsRowWithin result row.now }
+{
+    let mut longest = 0;
+    for set in row {
+        longest = longest.max(set.get_ref().len());
+    }
+    longest
+}
