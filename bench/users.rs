@@ -1,9 +1,15 @@
-//! Times libraries that stand on this repository's sets beside the same loops over the sets of the Rust crates
-//! `bit-set` and `fixedbitset`, and prints a table.
-use super::{Density, Table, Work, total};
+//! Times libraries that use this repository's sets beside the same loops over the sets of the Rust crates `bit-set`
+//! and `fixedbitset`, and prints a table.
+use crate::automata;
+use crate::inputs::Density;
+use crate::peers::{Set, total};
+use crate::table::{Table, Work};
 use bit_set::BitSet;
 use bit_vec::BitBlock;
 use fixedbitset::FixedBitSet;
+
+type OnSlots = unsafe extern "C" fn(len: usize, taken: usize, *const usize, usize, turns: usize) -> usize;
+type OnGraph = unsafe extern "C" fn(nodes: usize, each: usize, *const usize, usize, turns: usize) -> usize;
 
 unsafe extern "C" {
     fn bench_slots_u32(len: usize, taken: usize, given: *const usize, n: usize, turns: usize) -> usize;
@@ -12,79 +18,6 @@ unsafe extern "C" {
     fn bench_reachable_u64(nodes: usize, each: usize, ends: *const usize, n: usize, turns: usize) -> usize;
     fn bench_close_u32(nodes: usize, each: usize, ends: *const usize, n: usize, turns: usize) -> usize;
     fn bench_close_u64(nodes: usize, each: usize, ends: *const usize, n: usize, turns: usize) -> usize;
-}
-
-/// The calls of a peer's set that the users' loops make.
-trait Set: Clone {
-    /// An empty set for numbers below `len`.
-    fn for_numbers_below(len: usize) -> Self;
-    /// Whether the number is new.
-    fn insert(&mut self, number: usize) -> bool;
-    fn remove(&mut self, number: usize);
-    fn first(&self) -> Option<usize>;
-    fn contains(&self, number: usize) -> bool;
-    fn count(&self) -> usize;
-    fn union_with(&mut self, other: &Self);
-}
-
-impl<B: BitBlock> Set for BitSet<B> {
-    fn for_numbers_below(len: usize) -> Self {
-        super::with_len(len)
-    }
-
-    fn insert(&mut self, number: usize) -> bool {
-        BitSet::insert(self, number)
-    }
-
-    fn remove(&mut self, number: usize) {
-        BitSet::remove(self, number);
-    }
-
-    fn first(&self) -> Option<usize> {
-        self.iter().next()
-    }
-
-    fn contains(&self, number: usize) -> bool {
-        BitSet::contains(self, number)
-    }
-
-    fn count(&self) -> usize {
-        self.len()
-    }
-
-    fn union_with(&mut self, other: &Self) {
-        BitSet::union_with(self, other);
-    }
-}
-
-impl Set for FixedBitSet {
-    fn for_numbers_below(len: usize) -> Self {
-        FixedBitSet::with_capacity(len)
-    }
-
-    fn insert(&mut self, number: usize) -> bool {
-        !self.put(number)
-    }
-
-    fn remove(&mut self, number: usize) {
-        self.set(number, false);
-    }
-
-    fn first(&self) -> Option<usize> {
-        self.ones().next()
-    }
-
-    fn contains(&self, number: usize) -> bool {
-        FixedBitSet::contains(self, number)
-    }
-
-    fn count(&self) -> usize {
-        self.count_ones(..)
-    }
-
-    fn union_with(&mut self, other: &Self) {
-        FixedBitSet::union_with(self, other);
-    }
 }
 
 /// Adds up the lowest free slots that are taken after each of some slots is given back.
@@ -97,16 +30,15 @@ fn slots<S: Set>(len: usize, taken: usize, given: &[usize], turns: usize) -> usi
         let mut sum = 0usize;
         for slot in given {
             free.insert(*slot);
-            if let Some(lowest) = free.first() {
-                free.remove(lowest);
+            let lowest = free.walk().next();
+            if let Some(lowest) = lowest {
+                free.drop_number(lowest);
                 sum = sum.wrapping_add(lowest);
             }
         }
         sum
     })
 }
-
-type OnSlots = unsafe extern "C" fn(len: usize, taken: usize, *const usize, usize, turns: usize) -> usize;
 
 fn slots_row<B: BitBlock>(table: &mut Table, blocks: &str, here: OnSlots, len: usize, taken: usize) {
     let given = Density::of("", taken, 1 << 14).members;
@@ -139,16 +71,21 @@ fn reachable<S: Set>(each: usize, ends: &[usize], turns: usize) -> usize {
     })
 }
 
+fn reachable_row<B: BitBlock>(table: &mut Table, blocks: &str, here: OnGraph, nodes: usize) {
+    let each = 4;
+    let ends = Density::of("", nodes, nodes * each).members;
+    let name = format!("`reachable`, {nodes} nodes, {each} edges each, `{blocks}`");
+    table.row(&name, Work { unit: "node", units: nodes, turns: 2, numbers: &[] }, &[
+        &|_, turns| unsafe { here(nodes, each, ends.as_ptr(), ends.len(), turns) },
+        &|_, turns| reachable::<BitSet<B>>(each, &ends, turns),
+        &|_, turns| reachable::<FixedBitSet>(each, &ends, turns),
+    ]);
+}
+
 /// Closes copies of the rows by Warshall's algorithm, and adds up how many edges these have then.
 fn close<S: Set>(each: usize, ends: &[usize], turns: usize) -> usize {
     let nodes = ends.len() / each;
-    let rows: Vec<S> = ends.chunks(each).map(|row| {
-        let mut set = S::for_numbers_below(nodes);
-        for end in row {
-            set.insert(*end);
-        }
-        set
-    }).collect();
+    let rows: Vec<S> = ends.chunks(each).map(|row| S::of(nodes, row)).collect();
     total(turns, |_| {
         let mut closed = rows.clone();
         let mut via = S::for_numbers_below(nodes);
@@ -164,44 +101,32 @@ fn close<S: Set>(each: usize, ends: &[usize], turns: usize) -> usize {
     })
 }
 
-type OnGraph = unsafe extern "C" fn(nodes: usize, each: usize, *const usize, usize, turns: usize) -> usize;
-
-fn reachable_row<B: BitBlock>(table: &mut Table, blocks: &str, here: OnGraph, nodes: usize, turns: usize) {
-    let each = 4;
-    let ends = Density::of("", nodes, nodes * each).members;
-    let name = format!("`reachable`, {nodes} nodes, {each} edges each, `{blocks}`");
-    table.row(&name, Work { unit: "node", units: nodes, turns, numbers: &[] }, &[
-        &|_, turns| unsafe { here(nodes, each, ends.as_ptr(), ends.len(), turns) },
-        &|_, turns| reachable::<BitSet<B>>(each, &ends, turns),
-        &|_, turns| reachable::<FixedBitSet>(each, &ends, turns),
-    ]);
-}
-
-fn close_row<B: BitBlock>(table: &mut Table, blocks: &str, here: OnGraph, nodes: usize, turns: usize) {
+fn close_row<B: BitBlock>(table: &mut Table, blocks: &str, here: OnGraph, nodes: usize) {
     let each = 2;
     let ends = Density::of("", nodes, nodes * each).members;
     let name = format!("`close`, {nodes} rows, {each} edges each, `{blocks}`");
-    table.row(&name, Work { unit: "row", units: nodes, turns, numbers: &[] }, &[
+    table.row(&name, Work { unit: "row", units: nodes, turns: 2, numbers: &[] }, &[
         &|_, turns| unsafe { here(nodes, each, ends.as_ptr(), ends.len(), turns) },
         &|_, turns| close::<BitSet<B>>(each, &ends, turns),
         &|_, turns| close::<FixedBitSet>(each, &ends, turns),
     ]);
 }
 
-/// Prints the table. Whether the sides of each row gave the same answers.
+/// Prints the table. Whether the sides of each row gave the same results.
 pub fn race() -> bool {
-    let mut table = Table::of_users();
+    let mut table = Table::start(&["Users", "Per", "here", "over `bit-set`", "ratio", "over `fixedbitset`", "ratio"]);
     for (len, taken) in [(1_000, 900), (1 << 16, 60_000)] {
         slots_row::<u32>(&mut table, "u32", bench_slots_u32, len, taken);
         slots_row::<u64>(&mut table, "u64", bench_slots_u64, len, taken);
     }
-    for (nodes, turns) in [(20_000, 16), (1_000_000, 2)] {
-        reachable_row::<u32>(&mut table, "u32", bench_reachable_u32, nodes, turns);
-        reachable_row::<u64>(&mut table, "u64", bench_reachable_u64, nodes, turns);
+    for nodes in [20_000, 1_000_000] {
+        reachable_row::<u32>(&mut table, "u32", bench_reachable_u32, nodes);
+        reachable_row::<u64>(&mut table, "u64", bench_reachable_u64, nodes);
     }
-    for (nodes, turns) in [(500, 16), (2_000, 2)] {
-        close_row::<u32>(&mut table, "u32", bench_close_u32, nodes, turns);
-        close_row::<u64>(&mut table, "u64", bench_close_u64, nodes, turns);
+    for nodes in [500, 2_000] {
+        close_row::<u32>(&mut table, "u32", bench_close_u32, nodes);
+        close_row::<u64>(&mut table, "u64", bench_close_u64, nodes);
     }
-    table.agrees
+    automata::rows(&mut table);
+    table.end()
 }

@@ -1,26 +1,39 @@
 //! Times this library over blocks of 32, 64 and 128 bits beside one another, and prints a table.
-use super::{Density, Table, Work};
+use crate::inputs::Density;
+use crate::peers::Set;
+use crate::table::{Table, Work};
+use bit_set::BitSet;
+
+/// The address of numbers, which their count follows.
+type Numbers = *const usize;
 
 unsafe extern "C" {
     fn bench_insert_in_order_at_width(bits: usize, len: usize, turns: usize) -> usize;
-    fn bench_insert_below_at_width(bits: usize, len: usize, numbers: *const usize, n: usize, turns: usize) -> usize;
-    fn bench_remove_at_width(bits: usize, members: *const usize, m: usize, numbers: *const usize, n: usize, turns: usize) -> usize;
-    fn bench_contains_at_width(bits: usize, members: *const usize, m: usize, numbers: *const usize, n: usize, turns: usize) -> usize;
-    fn bench_walk_at_width(bits: usize, members: *const usize, m: usize, turns: usize) -> usize;
-    fn bench_count_at_width(bits: usize, members: *const usize, m: usize, turns: usize) -> usize;
-    fn bench_clone_at_width(bits: usize, members: *const usize, m: usize, turns: usize) -> usize;
-    fn bench_eq_at_width(bits: usize, members: *const usize, m: usize, turns: usize) -> usize;
-    fn bench_small_sets_at_width(bits: usize, numbers: *const usize, n: usize, turns: usize) -> usize;
-    fn bench_walk_union_at_width(bits: usize, first: *const usize, m: usize, second: *const usize, n: usize, turns: usize) -> usize;
-    fn bench_count_union_at_width(bits: usize, first: *const usize, m: usize, second: *const usize, n: usize, turns: usize) -> usize;
-    fn bench_merge_union_at_width(bits: usize, first: *const usize, m: usize, second: *const usize, n: usize, turns: usize) -> usize;
-    fn bench_merge_intersection_at_width(bits: usize, first: *const usize, m: usize, second: *const usize, n: usize, turns: usize) -> usize;
+    fn bench_insert_below_at_width(bits: usize, len: usize, numbers: Numbers, n: usize, turns: usize) -> usize;
+    fn bench_remove_at_width(bits: usize, a: Numbers, m: usize, b: Numbers, n: usize, turns: usize) -> usize;
+    fn bench_contains_at_width(bits: usize, a: Numbers, m: usize, b: Numbers, n: usize, turns: usize) -> usize;
+    fn bench_walk_at_width(bits: usize, members: Numbers, m: usize, turns: usize) -> usize;
+    fn bench_count_at_width(bits: usize, members: Numbers, m: usize, turns: usize) -> usize;
+    fn bench_clone_at_width(bits: usize, members: Numbers, m: usize, turns: usize) -> usize;
+    fn bench_eq_at_width(bits: usize, members: Numbers, m: usize, turns: usize) -> usize;
+    fn bench_small_sets_at_width(bits: usize, numbers: Numbers, n: usize, turns: usize) -> usize;
+    fn bench_walk_union_at_width(bits: usize, a: Numbers, m: usize, b: Numbers, n: usize, turns: usize) -> usize;
+    fn bench_count_union_at_width(bits: usize, a: Numbers, m: usize, b: Numbers, n: usize, turns: usize) -> usize;
+    fn bench_merge_union_at_width(bits: usize, a: Numbers, m: usize, b: Numbers, n: usize, turns: usize) -> usize;
+    fn bench_merge_intersection_at_width(
+        bits: usize,
+        a: Numbers,
+        m: usize,
+        b: Numbers,
+        n: usize,
+        turns: usize,
+    ) -> usize;
 }
 
 const WIDTHS: [usize; 3] = [32, 64, 128];
 
-type OnSet = unsafe extern "C" fn(bits: usize, *const usize, usize, turns: usize) -> usize;
-type OnPair = unsafe extern "C" fn(bits: usize, *const usize, usize, *const usize, usize, turns: usize) -> usize;
+type OnSet = unsafe extern "C" fn(bits: usize, Numbers, usize, turns: usize) -> usize;
+type OnPair = unsafe extern "C" fn(bits: usize, Numbers, usize, Numbers, usize, turns: usize) -> usize;
 
 /// A row with a side for each width.
 fn row(table: &mut Table, name: &str, work: Work, call: impl Fn(usize, &[usize], usize) -> usize) {
@@ -47,7 +60,7 @@ fn whole_sets(table: &mut Table, density: &Density) {
     let Density { label, len, members, numbers } = density;
     let places = |turns| Work { unit: "1,024 places", units: len / 1024, turns, numbers: &[] };
     let items = |units| Work { unit: "item", units, turns: 4, numbers: &[] };
-    let one = super::set_of::<u64>(members);
+    let one = BitSet::<u32>::of(*len, members);
     let calls: [(&str, Work, OnSet); 4] = [
         ("walk", items(one.len()), bench_walk_at_width),
         ("`count`", places(40), bench_count_at_width),
@@ -59,7 +72,7 @@ fn whole_sets(table: &mut Table, density: &Density) {
             call(bits, members.as_ptr(), members.len(), turns)
         });
     }
-    let either = one.union(&super::set_of(numbers)).count();
+    let either = one.union(&BitSet::of(*len, numbers)).count();
     let calls: [(&str, Work, OnPair); 4] = [
         ("walk of the union", items(either), bench_walk_union_at_width),
         ("`count` of the walk of the union", places(40), bench_count_union_at_width),
@@ -93,14 +106,17 @@ fn the_rest(table: &mut Table) {
 }
 
 /// Prints the table. Whether the sides of each row gave the same results.
-pub fn race(dense: &Density, sparse: &Density) -> bool {
-    let mut table = Table::of_widths();
-    for density in [dense, sparse] {
+pub fn race() -> bool {
+    let mut table = Table::start(&["Work", "Per", "`u32`", "`u64`", "`u128`"]);
+    let dense = Density::of("1M in 1M", 1 << 20, 1 << 20);
+    let sparse = Density::of("64k in 1M", 1 << 20, 1 << 16);
+    let sparser = Density::of("1k in 16M", 1 << 24, 1 << 10);
+    for density in [&dense, &sparse] {
         single_calls(&mut table, density);
     }
-    for density in [dense, sparse, &Density::of("1k in 16M", 1 << 24, 1 << 10)] {
+    for density in [&dense, &sparse, &sparser] {
         whole_sets(&mut table, density);
     }
     the_rest(&mut table);
-    table.agrees
+    table.end()
 }

@@ -28,7 +28,7 @@ fn lists(
 }
 
 // A set of successors for each node, with capacity for all nodes.
-fn sets<B: BitBlock>(
+pub(crate) fn sets<B: BitBlock>(
     alloc: Global,
     nodes: usize,
     each: usize,

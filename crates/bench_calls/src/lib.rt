@@ -4,12 +4,15 @@
 #![tactic(auto)]
 
 mod capacity;
+mod determinizing;
 mod filling;
 mod graphs;
 mod input_sets;
 mod inserting;
 mod reading;
 mod slots;
+mod small_changes;
+mod small_reads;
 mod splits;
 mod two_sets;
 mod widths;

@@ -1,0 +1,42 @@
+//! Random numbers for the sets of the rows, the same in each run.
+
+/// Numbers that look random, the same from each start.
+pub struct Random {
+    state: u64,
+}
+
+impl Random {
+    pub fn start() -> Random {
+        Random { state: 0x853c_49e6_748f_ea9b }
+    }
+
+    /// The next number, below `len`.
+    pub fn below(&mut self, len: usize) -> usize {
+        self.state ^= self.state << 13;
+        self.state ^= self.state >> 7;
+        self.state ^= self.state << 17;
+        (self.state % len as u64) as usize
+    }
+
+    /// The next `count` numbers below `len`.
+    pub fn numbers_below(&mut self, len: usize, count: usize) -> Vec<usize> {
+        (0..count).map(|_| self.below(len)).collect()
+    }
+}
+
+/// Random numbers below `len`: those that are in the sets of the rows, and those that the calls are about.
+pub struct Density {
+    pub label: &'static str,
+    pub len: usize,
+    pub members: Vec<usize>,
+    pub numbers: Vec<usize>,
+}
+
+impl Density {
+    pub fn of(label: &'static str, len: usize, count: usize) -> Density {
+        let mut random = Random::start();
+        let members = random.numbers_below(len, count);
+        let numbers = random.numbers_below(len, count);
+        Density { label, len, members, numbers }
+    }
+}

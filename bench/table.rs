@@ -1,0 +1,178 @@
+//! Times the sides of a row, and prints the row.
+use std::hint::black_box;
+
+/// What is timed in a row: turns of so many `units` of work.
+pub struct Work<'a> {
+    pub unit: &'static str,
+    pub units: usize,
+    /// How many turns each side does at least.
+    pub turns: usize,
+    /// What each turn goes over. The time of the turns over no numbers is taken off.
+    /// Where there are none, the time of no turn is taken off.
+    pub numbers: &'a [usize],
+}
+
+/// A side does so many turns over some numbers, and returns a result. The sides of a row are in the order of the
+/// table: this library, `bit-set` and, where it has the call, `fixedbitset`.
+pub type Side<'a> = &'a dyn Fn(&[usize], usize) -> usize;
+
+/// The work is to take so many times what is taken off for the set-up.
+const SHARE: f64 = 10.0;
+/// While the turns are doubled more is asked for, since the times of that are not those of the row.
+const SHARE_AT_FIRST: f64 = 12.0;
+/// No side does more turns, which some loops take as numbers below the lengths of their sets.
+const MOST_TURNS: usize = 1 << 19;
+/// Seconds of processor time for one run of a side, and for all of a row.
+const LONGEST_RUN: f64 = 0.5;
+const LONGEST_ROW: f64 = 4.0;
+const ROUNDS: usize = 7;
+const FEWEST_ROUNDS: usize = 3;
+
+/// Processor time of this process in seconds: other work on the machine moves it less than the time on the wall.
+fn now() -> f64 {
+    unsafe extern "C" {
+        fn clock_gettime(clock: i32, time: *mut [i64; 2]) -> i32;
+    }
+    const OF_PROCESS: i32 = 2;
+    let mut time = [0; 2];
+    unsafe { clock_gettime(OF_PROCESS, &mut time) };
+    time[0] as f64 + time[1] as f64 * 1e-9
+}
+
+/// A side with the turns that it does, and the least times of these, in seconds.
+struct Timed<'a> {
+    run: Side<'a>,
+    turns: usize,
+    set_up: f64,
+    whole: f64,
+}
+
+impl Timed<'_> {
+    fn start(run: Side, turns: usize) -> Timed {
+        Timed { run, turns, set_up: f64::MAX, whole: f64::MAX }
+    }
+
+    /// Runs the side once with its set-up alone and once with all of its turns.
+    fn round(&mut self, numbers: &[usize]) {
+        let empty_turns = if numbers.is_empty() { 0 } else { self.turns };
+        let start = now();
+        black_box((self.run)(&[], empty_turns));
+        let middle = now();
+        black_box((self.run)(numbers, self.turns));
+        let end = now();
+        self.set_up = self.set_up.min(middle - start);
+        self.whole = self.whole.min(end - middle);
+    }
+
+    /// Whether the work took so many times what is taken off.
+    fn is_mostly_work(&self, share: f64) -> bool {
+        self.whole - self.set_up >= share * self.set_up
+    }
+
+    /// Doubles the turns until the work takes its share, or a run its longest time.
+    fn calibrate(&mut self, numbers: &[usize]) {
+        loop {
+            (self.set_up, self.whole) = (f64::MAX, f64::MAX);
+            self.round(numbers);
+            self.round(numbers);
+            if self.is_mostly_work(SHARE_AT_FIRST) || self.whole > LONGEST_RUN || self.turns * 2 > MOST_TURNS {
+                return;
+            }
+            self.turns *= 2;
+        }
+    }
+}
+
+/// The times of a row's sides.
+struct Times {
+    /// Nanoseconds a unit, of each side.
+    of_sides: Vec<f64>,
+    /// Whether each side's work took its share.
+    are_mostly_work: bool,
+}
+
+/// A table on its way.
+pub struct Table {
+    agrees: bool,
+    has_marks: bool,
+}
+
+impl Table {
+    /// Prints the head of a table with these columns.
+    pub fn start(columns: &[&str]) -> Table {
+        println!("| {} |", columns.join(" | "));
+        println!("|{}", "---|".repeat(columns.len()));
+        Table { agrees: true, has_marks: false }
+    }
+
+    /// Prints what is to be said below the rows. Whether the sides of each row had the same results.
+    pub fn end(self) -> bool {
+        if self.has_marks {
+            println!();
+            println!("`*`: the work of a side took less than ten times what is taken off for its set-up.");
+        }
+        self.agrees
+    }
+
+    /// Compares the results of the sides after one number of turns.
+    fn compare(&mut self, results: &[usize]) {
+        if results.iter().any(|result| *result != results[0]) {
+            println!("the sides of the next row give different results: {results:?}");
+            self.agrees = false;
+        }
+    }
+
+    /// Runs the sides one after another, again and again.
+    fn times(&mut self, work: &Work, sides: &[Side]) -> Times {
+        let mut sides: Vec<Timed> = sides.iter().map(|run| Timed::start(*run, work.turns)).collect();
+        for side in &mut sides {
+            side.calibrate(work.numbers);
+        }
+        let common = sides.iter().map(|side| side.turns).min().unwrap_or(0);
+        let results: Vec<usize> = sides.iter().map(|side| (side.run)(work.numbers, common)).collect();
+        self.compare(&results);
+        let round: f64 = sides.iter().map(|side| side.set_up + side.whole).sum();
+        let rounds = ((LONGEST_ROW / round) as usize).clamp(FEWEST_ROUNDS, ROUNDS);
+        for _ in 0..rounds {
+            for side in &mut sides {
+                side.round(work.numbers);
+            }
+        }
+        let per_unit = |side: &Timed| (side.whole - side.set_up) * 1e9 / (work.units * side.turns) as f64;
+        Times {
+            of_sides: sides.iter().map(per_unit).collect(),
+            are_mostly_work: sides.iter().all(|side| side.is_mostly_work(SHARE)),
+        }
+    }
+
+    /// Prints the name and the unit of a row, and marks it where its times are worth less.
+    fn print_name(&mut self, name: &str, unit: &str, times: &Times) {
+        let mark = if times.are_mostly_work { "" } else { " *" };
+        self.has_marks |= !times.are_mostly_work;
+        print!("| {name}{mark} | {unit} |");
+    }
+
+    /// Prints the time of each side, and this library's over the other's.
+    pub fn row(&mut self, name: &str, work: Work, sides: &[Side]) {
+        let times = self.times(&work, sides);
+        self.print_name(name, work.unit, &times);
+        print!(" {:.2} |", times.of_sides[0]);
+        for side in 1..3 {
+            match times.of_sides.get(side) {
+                Some(time) => print!(" {time:.2} | {:.2} |", times.of_sides[0] / time),
+                None => print!(" | |"),
+            }
+        }
+        println!();
+    }
+
+    /// Prints the time of each side alone.
+    pub fn row_of_times(&mut self, name: &str, work: Work, sides: &[Side]) {
+        let times = self.times(&work, sides);
+        self.print_name(name, work.unit, &times);
+        for time in &times.of_sides {
+            print!(" {time:.2} |");
+        }
+        println!();
+    }
+}
