@@ -19,7 +19,7 @@ pub type Side<'a> = &'a dyn Fn(&[usize], usize) -> usize;
 /// The work is to take so many times what is taken off for the set-up.
 const SHARE: f64 = 10.0;
 /// While the turns are doubled more is asked for, since the times of that are not those of the row.
-const SHARE_AT_FIRST: f64 = 12.0;
+const SHARE_AT_FIRST: f64 = 15.0;
 /// No side does more turns, which some loops take as numbers below the lengths of their sets.
 const MOST_TURNS: usize = 1 << 19;
 /// Seconds of processor time for one run of a side, and for all of a row.
