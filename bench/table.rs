@@ -74,7 +74,6 @@ impl Timed<'_> {
         loop {
             (self.set_up, self.whole) = (f64::MAX, f64::MAX);
             self.round(numbers);
-            self.round(numbers);
             if self.is_mostly_work(SHARE_AT_FIRST) || self.whole > LONGEST_RUN || self.turns * 2 > MOST_TURNS {
                 return;
             }
