@@ -41,7 +41,7 @@ end_first moves s t r word symbol image end v = (
 
 -- ---- a set more, and an entry more
 
-one_place : (k i j a b : ℕ) → a < k → b < k → i * k + a ≡ j * k + b → (i ≡ j) × (a ≡ b)
+pub one_place : (k i j a b : ℕ) → a < k → b < k → i * k + a ≡ j * k + b → (i ≡ j) × (a ≡ b)
 one_place k i j a b lt_a lt_b is = (
   sym (div-mul-add i k a lt_a) ∙ ap (λ n. n / k) is ∙ div-mul-add j k b lt_b,
   sym (mod-mul-add i k a lt_a) ∙ ap (λ n. n % k) is ∙ mod-mul-add j k b lt_b,

@@ -2,3 +2,4 @@ pub mod StepLemmas
 pub mod NumberingLemmas
 pub mod BuildLemmas
 pub mod CountLemmas
+pub mod PairLemmas

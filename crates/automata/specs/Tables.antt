@@ -1,5 +1,5 @@
 -- Deterministic automata, and the words that they accept. A run starts in state 0.
-use Rattle.std.specs.Prelude.{◌≡◌, ℕ, ◌+◌, ◌*◌, ◌<◌, IsTrue, List, [], ◌∷◌, length, slice_index}
+use Rattle.std.specs.Prelude.{◌≡◌, ℕ, ◌+◌, ◌*◌, ◌<◌, ◌⊎◌, ◌↔◌, IsTrue, List, [], ◌∷◌, length, slice_index}
 use Rattle.bit_set.specs.Members.{IsSameSet}
 use Rattle.bit_set.specs.Sets.{has}
 use Rattle.automata.specs.Numbering.{set_of}
@@ -34,6 +34,14 @@ IsWordOver n (symbol ∷ word) = (symbol < n) × IsWordOver n word
 -- the word is one over the symbols of the table, and leads to an accepting state
 abbrev pub IsAcceptedBy : Table → List ℕ → Type 0
 IsAcceptedBy dfa word = IsWordOver dfa.symbols word × IsTrue (has dfa.accepting (end_of dfa word))
+
+-- the two tables accept the same words
+abbrev pub AcceptTheSame : Table → Table → Type 0
+AcceptTheSame a b = (word : List ℕ) → IsAcceptedBy a word ↔ IsAcceptedBy b word
+
+-- just one of the two tables accepts the word
+abbrev pub IsAcceptedByOne : Table → Table → List ℕ → Type 0
+IsAcceptedByOne a b word = (IsAcceptedBy a word × (¬ IsAcceptedBy b word)) ⊎ (IsAcceptedBy b word × (¬ IsAcceptedBy a word))
 
 -- there is a state, and each symbol leads from each state to a state
 pub record IsTable (states symbols : ℕ) (next : List ℕ) : Type 0 where

@@ -1,5 +1,6 @@
 // Deterministic automata.
-ghost use Rattle.std.specs.Prelude.{◌≡◌, ◌<◌, ◌↔◌, IfNone, IfSome, IsTrue};
+ghost use Rattle.std.specs.Prelude.{◌≡◌, ◌<◌, ◌≤◌, ◌↔◌, IfNone, IfSome, IsTrue};
+ghost use Rattle.automata.specs.Pairs.{does_accept, step_of};
 ghost use Rattle.automata.specs.Tables.{IsAcceptedBy, IsTable, IsWordOver, end_from};
 
 use bit_set::{BitBlock, BitSet};
@@ -34,7 +35,8 @@ impl<B: BitBlock> Model for Dfa<B> {
 impl<B: BitBlock> Dfa<B> {
     /// How many states there are: those below this number. Constant time.
     pub fn states(&self) -> usize
-        ensures { result ≡ self.now.states }
+        ensures value { result ≡ self.now.states }
+        ensures table { IsTable self.now.states self.now.symbols self.now.next }
     {
         self.states
     }
@@ -55,6 +57,25 @@ impl<B: BitBlock> Dfa<B> {
             Some(state) => self.accepting.contains(state),
             None => false,
         }
+    }
+
+    // Where the symbol leads from the state: to `states` where it is none of the symbols, and from `states` itself.
+    pub(crate) fn step(&self, state: usize, symbol: usize) -> usize
+        ensures value { result ≡ step_of self.now state symbol }
+        ensures inside { result ≤ self.now.states }
+    {
+        if state < self.states && symbol < self.symbols {
+            self.next[state * self.symbols + symbol]
+        } else {
+            self.states
+        }
+    }
+
+    // Whether the state is one of the automaton's, and accepting.
+    pub(crate) fn is_accepting(&self, state: usize) -> bool
+        ensures { result ≡ does_accept self.now state }
+    {
+        state < self.states && self.accepting.contains(state)
     }
 }
 

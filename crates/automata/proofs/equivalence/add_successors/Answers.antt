@@ -1,0 +1,28 @@
+use Rattle.std.proofs.Common.{◌≡◌, ◌<◌, ◌∙◌, length, true, sym, arith}
+use Rattle.bit_set.specs.Members.{Updates}
+use Rattle.bit_set.specs.Sets.{elements}
+use Rattle.automata.specs.Pairs.{symbols_of}
+use Rattle.automata.specs.Searching.{pair_at, pair_number}
+use Rattle.automata.proofs.PairLemmas.{as_many, pair_on, read, same_pair}
+use Rattle.automata.proofs.equivalence.add_successors.Goals as goal
+
+pub loop-symbol-preserved : goal.loop-symbol-preserved
+loop-symbol-preserved g c =
+    let a = c.args.a.now in
+    let b = c.args.b.now in
+    let it = c.loop-symbol.invariant in
+    let queue = c.loop-symbol.queue.items in
+    let at = c.args.done in
+    let from = c.index-from.result.now in
+    let inside : c.loop-symbol.symbol < symbols_of a b = omega (arith, it.end) in
+    let lt : at < length queue = omega (arith, c.requires.inside, it.more) in
+    let from_is : pair_at queue at ≡ from = it.same at c.requires.inside ∙ sym (read c.args.queue.now.items at from c.requires.inside c.index-from.ensures) in
+    let updates : Updates (elements c.loop-symbol.met.values) (elements c.add.new.met.values) (pair_number b c.step.result c.step-in-loop-symbol.result) true = rw c.states.ensures.value at c.in_ok-add.ensures.met in
+    let after = rw c.states.ensures.value at c.in_ok-add.ensures.queue in
+    record {
+      end = it.end;
+      explores = pair_on a b queue _ at c.loop-symbol.symbol from c.step.result c.step-in-loop-symbol.result _ _ it.explores inside lt from_is c.step.ensures.value c.step-in-loop-symbol.ensures.value c.step.ensures.inside c.step-in-loop-symbol.ensures.inside updates after;
+      more = let longer = as_many queue _ _ _ after in omega (arith, longer, it.more);
+      same = λ i early. same_pair queue _ _ _ i after (omega (arith, early, it.more)) ∙ it.same i early;
+      capacity = c.in_ok-add.ensures.capacity ∙ it.capacity;
+    }

@@ -1,0 +1,55 @@
+-- A search through the pairs of states of two tables that one word reaches.
+use Rattle.std.specs.Prelude.{◌≡◌, ℕ, ◌+◌, ◌*◌, ◌<◌, ◌≤◌, ◌++◌, IsTrue, List, [], ◌∷◌, length, slice_index_or}
+use Rattle.bit_set.specs.Sets.{has}
+use Rattle.automata.specs.declared.equivalence.Pair.{Pair}
+use Rattle.automata.specs.Pairs.{step_of, symbols_of}
+use Rattle.automata.specs.Tables.{Table}
+
+-- the first pair, which the empty word reaches
+abbrev pub first_pair : Pair
+first_pair = record { parent = 0; symbol = 0; left = 0; right = 0 }
+
+-- the pair of that place in the queue
+abbrev pub pair_at : List Pair → ℕ → Pair
+pair_at queue i = slice_index_or queue i first_pair
+
+-- the number of a pair of states
+abbrev pub pair_number : Table → ℕ → ℕ → ℕ
+pair_number b left right = left * (b.states + 1) + right
+
+-- how many pairs there are, each table with one state more
+abbrev pub pairs_of : Table → Table → ℕ
+pairs_of a b = (a.states + 1) * (b.states + 1)
+
+-- Going back from a pair to its parent, and on to the first, spells the word from its end.
+pub data Spells (queue : List Pair) : ℕ → List ℕ → Type 0 where
+  start : Spells queue 0 []
+  onward : {i : ℕ} {word : List ℕ} → 0 < i → Spells queue (pair_at queue i).parent word
+      → Spells queue i (word ++ (pair_at queue i).symbol ∷ [])
+
+-- a pair of the queue has these states
+pub record IsListed (queue : List Pair) (left right : ℕ) : Type 0 where
+  pub place : ℕ
+  pub inside : place < length queue
+  pub left_is : (pair_at queue place).left ≡ left
+  pub right_is : (pair_at queue place).right ≡ right
+
+-- a pair's symbol leads to it from its parent, which is before it
+pub record IsLinked (a b : Table) (queue : List Pair) (i : ℕ) : Type 0 where
+  pub before : (pair_at queue i).parent < i
+  pub left_is : (pair_at queue i).left ≡ step_of a (pair_at queue (pair_at queue i).parent).left (pair_at queue i).symbol
+  pub right_is : (pair_at queue i).right ≡ step_of b (pair_at queue (pair_at queue i).parent).right (pair_at queue i).symbol
+
+-- A queue of pairs, the numbers of those that it has, and where symbols lead from the pairs of the first of it: `place`
+-- counts the symbols that were followed, pair by pair.
+pub record Explores (a b : Table) (queue : List Pair) (met : List ℕ) (place : ℕ) : Type 0 where
+  pub some : 0 < length queue
+  pub left_first : (pair_at queue 0).left ≡ 0
+  pub right_first : (pair_at queue 0).right ≡ 0
+  pub left_inside : (i : ℕ) → i < length queue → (pair_at queue i).left ≤ a.states
+  pub right_inside : (i : ℕ) → i < length queue → (pair_at queue i).right ≤ b.states
+  pub linked : (i : ℕ) → 0 < i → i < length queue → IsLinked a b queue i
+  pub listed : (left right : ℕ) → left ≤ a.states → right ≤ b.states → IsTrue (has met (pair_number b left right))
+      → IsListed queue left right
+  pub closed : (i symbol : ℕ) → i < length queue → symbol < symbols_of a b → i * symbols_of a b + symbol < place
+      → IsTrue (has met (pair_number b (step_of a (pair_at queue i).left symbol) (step_of b (pair_at queue i).right symbol)))
