@@ -1,0 +1,106 @@
+-- For each block the blocks that it flows into.
+use Rattle.std.proofs.Common.{◌≡◌, ◌≢◌, ℕ, ◌+◌, ◌<◌, ◌≤◌, true, eqb, inl, inr, List, [], ◌∷◌, ◌++◌, length, map, get_or, set, refl, sym, ap, ◌∙◌, arith}
+use Rattle.std.proofs.lemmas.Bool.{true≢false, cases_eq, eq-eqb, eqb-true, or_cases, or_left, or_right}
+use Rattle.std.proofs.lemmas.List.{get_or-set_other, get_or-set_same, length-set, map-set}
+use Rattle.std.specs.Global.{Vec}
+use Rattle.bit_set.specs.Sets.{has}
+use Rattle.dataflow.specs.Flow.{Flow, block_at}
+use Rattle.dataflow.specs.Worklist.{AddsDependent, AreDependents, row_at}
+use Rattle.dataflow.proofs.SettleLemmas.{with_source}
+use Rattle.dataflow.proofs.TakeLemmas.{in_push, mapped}
+
+-- ---- a row is written
+
+pub row_written : (rows : List (Vec ℕ)) (x : ℕ) (row : Vec ℕ) → x < length rows → row_at (set rows x row) x ≡ row.items
+row_written rows x row lt = mapped (λ (r : Vec ℕ). r.items) (set rows x row) x row [] (omega (arith, lt, length-set rows x row)) (sym (get_or-set_same rows x row row lt))
+
+pub other_rows : (rows : List (Vec ℕ)) (x : ℕ) (row : Vec ℕ) (s : ℕ) → s ≢ x → row_at (set rows x row) s ≡ row_at rows s
+other_rows rows x row s other = ap (λ (l : List (List ℕ)). get_or l s []) (map-set (λ (r : Vec ℕ). r.items) rows x row) ∙ get_or-set_other (map (λ (r : Vec ℕ). r.items) rows) x s row.items [] other
+
+pub row_read : (rows : List (Vec ℕ)) (x : ℕ) (row : Vec ℕ) → x < length rows → row ≡ get_or rows x row → row_at rows x ≡ row.items
+row_read rows x row lt is = mapped (λ (r : Vec ℕ). r.items) rows x row [] lt is
+
+-- ---- one block, source by source
+
+pub adds_none : (b : ℕ) (rows : List (Vec ℕ)) → AddsDependent [] b rows rows
+adds_none b rows = record {
+  long = refl;
+  kept = λ c s h. h;
+  adds = λ s lt none. absurd (true≢false (sym none));
+  only = λ c s h. inl h;
+}
+
+module _ (sources : List ℕ) (b x : ℕ) (first old new : List (Vec ℕ)) (a : AddsDependent sources b first old) where
+  -- a source that is a block
+  pub adds_on : length new ≡ length old → ((s : ℕ) → s ≢ x → row_at new s ≡ row_at old s) → row_at new x ≡ row_at old x ++ b ∷ [] → AddsDependent (sources ++ x ∷ []) b first new
+  adds_on long others here = record {
+    long = long ∙ a.long;
+    kept = λ c s h. keeps c s (a.kept c s h);
+    adds = λ s lt source. elim (or_cases (has sources s) (eqb x s) (sym (in_push sources x s) ∙ source)) [
+      | inl before ↦ keeps b s (a.adds s lt before)
+      | inr is ↦ ap (λ n. has (row_at new n) b) (sym (eqb-true x s is)) ∙ ap (λ r. has r b) here ∙ in_push (row_at old x) b b ∙ or_right (has (row_at old x) b) _ (eq-eqb b b refl)
+    ];
+    only = λ c s h. elim (cases_eq s x) [
+      | inl is ↦ elim (or_cases (has (row_at old x) c) (eqb b c) (sym (in_push (row_at old x) b c) ∙ sym (ap (λ r. has r c) here) ∙ ap (λ n. has (row_at new n) c) (sym is) ∙ h)) [
+        | inl before ↦ a.only c s (ap (λ n. has (row_at old n) c) is ∙ before)
+        | inr same ↦ inr (sym (eqb-true b c same))
+      ]
+      | inr other ↦ a.only c s (sym (ap (λ r. has r c) (others s other)) ∙ h)
+    ];
+  }
+    where
+      keeps : (c s : ℕ) → has (row_at old s) c ≡ true → has (row_at new s) c ≡ true
+      keeps c s h = elim (cases_eq s x) [
+        | inl is ↦ ap (λ n. has (row_at new n) c) is ∙ ap (λ r. has r c) here ∙ in_push (row_at old x) b c ∙ or_left (has (row_at old x) c) _ (ap (λ n. has (row_at old n) c) (sym is) ∙ h)
+        | inr other ↦ ap (λ r. has r c) (others s other) ∙ h
+      ]
+
+  -- one that is none
+  pub adds_past : length old ≤ x → AddsDependent (sources ++ x ∷ []) b first old
+  adds_past past = record {
+    long = a.long;
+    kept = a.kept;
+    adds = λ s lt source. elim (or_cases (has sources s) (eqb x s) (sym (in_push sources x s) ∙ source)) [
+      | inl before ↦ a.adds s lt before
+      | inr is ↦ absurd (too_far s lt (eqb-true x s is))
+    ];
+    only = a.only;
+  }
+    where
+      too_far : (s : ℕ) → s < length first → x ≡ s → ⊥
+      too_far s lt is = let long = a.long in omega (arith, lt, is, past, long)
+
+-- ---- block after block
+
+-- The rows have the first of the blocks.
+pub record Depends (blocks : List Flow) (count : ℕ) (rows : List (Vec ℕ)) : Type 0 where
+  pub long : length rows ≡ length blocks
+  pub all : (b s : ℕ) → b < count → s < length blocks → has (block_at blocks b).sources s ≡ true → has (row_at rows s) b ≡ true
+  pub inside : (b s : ℕ) → has (row_at rows s) b ≡ true → b < count
+
+pub depends_none : (blocks : List Flow) (rows : List (Vec ℕ)) → length rows ≡ length blocks → ((s : ℕ) → row_at rows s ≡ []) → Depends blocks 0 rows
+depends_none blocks rows long none = record {
+  long = long;
+  all = λ b s lt low source. absurd (omega (arith, lt));
+  inside = λ b s h. absurd (true≢false (sym h ∙ ap (λ r. has r b) (none s)));
+}
+
+pub depends_on : (blocks : List Flow) (n : ℕ) (sources : List ℕ) (old new : List (Vec ℕ)) → sources ≡ (block_at blocks n).sources → Depends blocks n old → AddsDependent sources n old new → Depends blocks (n + 1) new
+depends_on blocks n sources old new is d a = record {
+  long = a.long ∙ d.long;
+  all = λ b s lt low source. elim (cases_eq b n) [
+    | inl same ↦ ap (has (row_at new s)) same ∙ a.adds s (let long = d.long in omega (arith, low, long)) (ap (λ l. has l s) is ∙ ap (λ m. has (block_at blocks m).sources s) (sym same) ∙ source)
+    | inr other ↦ a.kept b s (d.all b s (omega (arith, lt, other)) low source)
+  ];
+  inside = λ b s h. elim (a.only b s h) [
+    | inl before ↦ let lt = d.inside b s before in omega (arith, lt)
+    | inr same ↦ omega (arith, same)
+  ];
+}
+
+pub depends_all : (blocks : List Flow) (rows : List (Vec ℕ)) → Depends blocks (length blocks) rows → AreDependents blocks rows
+depends_all blocks rows d = record {
+  long = d.long;
+  all = λ b s low source. d.all b s (with_source blocks b s source) low source;
+  inside = d.inside;
+}

@@ -1,0 +1,4 @@
+pub mod FlowLemmas
+pub mod SettleLemmas
+pub mod TakeLemmas
+pub mod DependentLemmas

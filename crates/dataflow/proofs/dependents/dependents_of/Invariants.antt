@@ -1,0 +1,6 @@
+use Rattle.std.proofs.Common.{map}
+use Rattle.dataflow.proofs.DependentLemmas.{Depends}
+use Rattle.dataflow.proofs.dependents.dependents_of.Given as goal
+
+abbrev pub invariant-loop-number : goal.invariant-loop-number
+invariant-loop-number g l = Depends (map g.N.Block.flow l.blocks) l.number l.rows.items

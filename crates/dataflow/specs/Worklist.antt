@@ -1,0 +1,53 @@
+-- What the parts of the solver do: the blocks that wait, and the sets on their way.
+use Rattle.std.specs.Prelude.{◌≡◌, ◌≢◌, ℕ, ◌-◌, ◌<◌, ◌^◌, ◌↔◌, ◌⊎◌, Bool, false, if◌then◌else◌, IsTrue, List, [], length, map, slice_index_or}
+use Rattle.std.specs.Global.{Vec}
+use Rattle.bit_set.specs.Sets.{has}
+use Rattle.dataflow.specs.Flow.{Enters, Flow, Reaches, block_at, set_at}
+
+-- where a block stands among those that wait: by its number, or counted from the last
+abbrev pub place_of : ℕ → Bool → ℕ → ℕ
+place_of count from_last block = if from_last then count - 1 - block else block
+
+-- the row of a block, and none past the last
+abbrev pub row_at : List (Vec ℕ) → ℕ → List ℕ
+row_at rows s = slice_index_or (map (λ row. row.items) rows) s []
+
+-- each row has all blocks that its block flows into, and no number that is none of a block
+pub record AreDependents (blocks : List Flow) (rows : List (Vec ℕ)) : Type 0 where
+  pub long : length rows ≡ length blocks
+  pub all : (b s : ℕ) → s < length blocks → IsTrue (has (block_at blocks b).sources s) → IsTrue (has (row_at rows s) b)
+  pub inside : (b s : ℕ) → IsTrue (has (row_at rows s) b) → b < length blocks
+
+-- One block went into the rows of its sources.
+pub record AddsDependent (sources : List ℕ) (b : ℕ) (old new : List (Vec ℕ)) : Type 0 where
+  pub long : length new ≡ length old
+  pub kept : (c s : ℕ) → IsTrue (has (row_at old s) c) → IsTrue (has (row_at new s) c)
+  pub adds : (s : ℕ) → s < length old → IsTrue (has sources s) → IsTrue (has (row_at new s) b)
+  pub only : (c s : ℕ) → IsTrue (has (row_at new s) c) → IsTrue (has (row_at old s) c) ⊎ (c ≡ b)
+
+-- the set has what is in the sets of the sources
+abbrev pub IsGathered : List ℕ → List (List ℕ) → List ℕ → Type 0
+IsGathered sources sets into = (v : ℕ) → IsTrue (has into v)
+    ↔ ((s : ℕ) × IsTrue (has sources s) × IsTrue (has (set_at sets s) v))
+
+-- The set of block b took in what enters the block and is not killed.
+pub record TakesIn (block : Flow) (b : ℕ) (old new : List (List ℕ)) : Type 0 where
+  pub long : length new ≡ length old
+  pub others : (c : ℕ) → c ≢ b → set_at new c ≡ set_at old c
+  pub kept : (v : ℕ) → IsTrue (has (set_at old b) v) → IsTrue (has (set_at new b) v)
+  pub takes : (v : ℕ) → Enters block old v → has block.killed v ≡ false → IsTrue (has (set_at new b) v)
+  pub only : (v : ℕ) → IsTrue (has (set_at new b) v)
+      → IsTrue (has (set_at old b) v) ⊎ (Enters block old v × (has block.killed v ≡ false))
+
+-- Sets on their way to the solution: all that they have reaches its block, and they have what is generated.
+pub record AreOnTheWay (blocks : List Flow) (sets : List (List ℕ)) : Type 0 where
+  pub long : length sets ≡ length blocks
+  pub few : (b : ℕ) → length (set_at sets b) < 2 ^ 64
+  pub sound : (b v : ℕ) → IsTrue (has (set_at sets b) v) → Reaches blocks v b
+  pub generated : (b v : ℕ) → IsTrue (has (block_at blocks b).generated v) → IsTrue (has (set_at sets b) v)
+
+-- The dependents of a block wait again, beside those that did.
+pub record PutsBack (dependents : List ℕ) (place : ℕ → ℕ) (count : ℕ) (old new : List ℕ) : Type 0 where
+  pub kept : (p : ℕ) → IsTrue (has old p) → IsTrue (has new p)
+  pub adds : (b : ℕ) → IsTrue (has dependents b) → IsTrue (has new (place b))
+  pub below : ((p : ℕ) → IsTrue (has old p) → p < count) → (p : ℕ) → IsTrue (has new p) → p < count

@@ -1,0 +1,60 @@
+// What the solver has to know of a block of code.
+ghost use Rattle.std.specs.Prelude.{◌≡◌};
+ghost use Rattle.bit_set.specs.Sets.{elements};
+ghost use Rattle.dataflow.specs.Flow.{Flow};
+
+use bit_set::{BitBlock, BitSet};
+
+/// A block of code, as an analysis sees it. Blocks and values are numbers.
+pub trait Block<B: BitBlock> {
+    ghost flow: { Self → Flow };
+
+    /// The blocks from which values flow into this one: its successors where the analysis goes backward, its
+    /// predecessors where it goes forward. From a number that is no block nothing flows. Constant time.
+    fn sources(&self) -> &[usize]
+        ensures { result.now ≡ (flow self.now).sources };
+
+    /// The values that the block generates. Constant time.
+    fn generated(&self) -> &BitSet<B>
+        ensures { elements result.now.values ≡ (flow self.now).generated };
+
+    /// The values that do not pass through the block. What it generates itself it does not kill. Constant time.
+    fn killed(&self) -> &BitSet<B>
+        ensures { elements result.now.values ≡ (flow self.now).killed };
+}
+
+/// A block as the three parts of its equation.
+#[derive(Drop)]
+pub struct FlowBlock<B: BitBlock> {
+    /// The blocks from which values flow into this one.
+    pub sources: Vec<usize>,
+    /// The values that the block generates.
+    pub generated: BitSet<B>,
+    /// The values that do not pass through the block.
+    pub killed: BitSet<B>,
+}
+
+impl<B: BitBlock> Block<B> for FlowBlock<B> {
+    ghost use Rattle.bit_set.specs.Sets.{elements};
+
+    ghost flow = { λ block. record {
+      sources = block.sources.items;
+      generated = elements block.generated.values;
+      killed = elements block.killed.values;
+    } };
+
+    #[inline]
+    fn sources(&self) -> &[usize] {
+        self.sources.as_slice()
+    }
+
+    #[inline]
+    fn generated(&self) -> &BitSet<B> {
+        &self.generated
+    }
+
+    #[inline]
+    fn killed(&self) -> &BitSet<B> {
+        &self.killed
+    }
+}

@@ -1,0 +1,50 @@
+// For each block the blocks that it flows into.
+ghost use Rattle.std.specs.Prelude.{◌≡◌, ◌<◌, ℕ, IfOk, IsTrue, OnOk, [], length, map};
+ghost use Rattle.bit_set.specs.Sets.{has};
+ghost use Rattle.dataflow.specs.Worklist.{AddsDependent, AreDependents, row_at};
+
+use crate::Block;
+use bit_set::BitBlock;
+use std::alloc::{AllocError, Global};
+
+// A row for each block, with the blocks of which it is a source.
+pub(crate) fn dependents_of<B: BitBlock, N: Block<B>>(
+    alloc: Global,
+    blocks: &[N],
+) -> Result<Vec<Vec<usize>>, AllocError>
+    ensures { IfOk result (λ rows. AreDependents (map N.flow blocks.now) rows.items) }
+{
+    let mut rows = empty_rows(alloc, blocks.len())?;
+    for (number, block) in blocks.iter().enumerate() {
+        add_dependent(block.sources(), number, rows.as_mut_slice())?;
+    }
+    Ok(rows)
+}
+
+// So many rows, each with nothing.
+fn empty_rows(alloc: Global, count: usize) -> Result<Vec<Vec<usize>>, AllocError>
+    ensures long { IfOk result (λ rows. length rows.items ≡ count) }
+    ensures none { IfOk result (λ rows. (s : ℕ) → row_at rows.items s ≡ []) }
+{
+    let mut rows = Vec::with_capacity(alloc, count)?;
+    'rows: for _ in 0..count {
+        rows.push(Vec::new(alloc))?;
+    }
+    Ok(rows)
+}
+
+// Puts the block into the row of each of its sources.
+fn add_dependent(
+    sources: &[usize],
+    number: usize,
+    rows: &mut [Vec<usize>],
+) -> Result<(), AllocError>
+    ensures { OnOk result (AddsDependent sources.now number rows.old rows.new) }
+{
+    for &source in sources {
+        if source < rows.len() {
+            rows[source].push(number)?;
+        }
+    }
+    Ok(())
+}

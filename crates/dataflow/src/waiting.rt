@@ -1,0 +1,73 @@
+// The blocks that wait, by places: a set of them, and in which order they are visited.
+ghost use Rattle.std.specs.Prelude.{◌≡◌, ◌<◌, ◌≤◌, ◌↔◌, ℕ, IfNone, IfOk, IfSome, IsTrue, length};
+ghost use Rattle.bit_set.specs.Members.{HasNone};
+ghost use Rattle.bit_set.specs.Sets.{elements, has};
+ghost use Rattle.dataflow.specs.Worklist.{PutsBack, place_of};
+
+use crate::Block;
+use bit_set::{BitBlock, BitSet};
+use std::alloc::{AllocError, Global};
+
+// Whether most sources are blocks of a greater number, so that values flow from the last block to the first.
+pub(crate) fn flows_back<B: BitBlock, N: Block<B>>(blocks: &[N]) -> bool {
+    let mut all: usize = 0;
+    let mut greater: usize = 0;
+    for (number, block) in blocks.iter().enumerate() {
+        let sources = block.sources();
+        all = all.saturating_add(sources.len());
+        greater = greater.saturating_add(sources.iter().filter(|source| **source > number).count());
+    }
+    greater > all / 2
+}
+
+// The place of a block, or the block at a place: each is the other counted from the last, or both are one.
+#[inline]
+pub(crate) fn place(count: usize, from_last: bool, block: usize) -> usize
+    requires { block < count }
+    ensures value { result ≡ place_of count from_last block }
+    ensures inside { result < count }
+{
+    if from_last { count - 1 - block } else { block }
+}
+
+// All places below `count`.
+pub(crate) fn all_waiting(alloc: Global, count: usize) -> Result<BitSet<usize>, AllocError>
+    ensures all { IfOk result (λ waiting. (p : ℕ) → IsTrue (has (elements waiting.values) p) ↔ (p < count)) }
+    ensures capacity { IfOk result (λ waiting. count ≤ waiting.capacity) }
+{
+    let mut waiting = BitSet::with_capacity_general(alloc, count)?;
+    for place in 0..count {
+        waiting.insert(place).unwrap();
+    }
+    Ok(waiting)
+}
+
+// The first place from `from` on that waits, or else the first of all.
+#[inline]
+pub(crate) fn next_waiting(waiting: &BitSet<usize>, from: usize) -> Option<usize>
+    ensures some { IfSome result (λ p. IsTrue (has (elements waiting.now.values) p)) }
+    ensures none { IfNone result (HasNone (elements waiting.now.values)) }
+{
+    match waiting.iter_from(from).next() {
+        Some(place) => Some(place),
+        None => waiting.iter().next(),
+    }
+}
+
+// The dependents of a block wait again. There is capacity for each, so that it takes no memory.
+pub(crate) fn put_back(
+    dependents: &[usize],
+    count: usize,
+    from_last: bool,
+    waiting: &mut BitSet<usize>,
+)
+    requires inside { (b : ℕ) → IsTrue (has dependents.now b) → b < count }
+    requires capacity { count ≤ waiting.old.capacity }
+    ensures back { PutsBack dependents.now (place_of count from_last) count (elements waiting.old.values)
+        (elements waiting.new.values) }
+    ensures capacity { waiting.new.capacity ≡ waiting.old.capacity }
+{
+    for &dependent in dependents {
+        waiting.insert(place(count, from_last, dependent)).unwrap();
+    }
+}
