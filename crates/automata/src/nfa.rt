@@ -96,7 +96,7 @@ impl<B: BitBlock> Nfa<B> {
 }
 
 /// Whether some run from a start to an accepting state spells the word. Makes two sets of states, and takes no more
-/// memory: it fails only where memory is refused for these. For each symbol of the word it makes at most one union for
+/// memory: it fails only where memory for these runs out. For each symbol of the word it makes at most one union for
 /// each state.
 pub fn accepts<B: BitBlock>(alloc: Global, nfa: &Nfa<B>, word: &[usize]) -> Result<bool, AllocError>
     ensures { IfOk result (λ is. IsTrue is ↔ Accepts nfa.now word.now) }

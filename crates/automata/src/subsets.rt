@@ -14,7 +14,7 @@ use std::alloc::{AllocError, Global};
 
 /// The deterministic automaton that accepts just the words that `nfa` accepts, by the subset construction. Its states
 /// are the sets of states that words reach, each once. Fails with [`DfaError::TooMany`] only where there are more of
-/// these sets than `most_states`, else only where memory is refused; and succeeds only where there are not more. For
+/// these sets than `most_states`, else only where memory runs out; and succeeds only where there are not more. For
 /// each state and symbol it takes the
 /// successors of one set, and looks for that set in a map.
 pub fn determinize<B: BitBlock>(

@@ -4,7 +4,7 @@ use Rattle.std.specs.Global.{Vec}
 use Rattle.bit_set.specs.Sets.{has}
 use Rattle.dataflow.specs.Flow.{Enters, Flow, Reaches, block_at, set_at}
 
--- where a block stands among those that wait: by its number, or counted from the last
+-- the place of a block among those that wait: its number, or counted from the last
 abbrev pub place_of : ℕ → Bool → ℕ → ℕ
 place_of count from_last block = if from_last then count - 1 - block else block
 

@@ -12,7 +12,7 @@ use bit_set::{BitBlock, BitSet};
 use std::alloc::{AllocError, Global};
 
 /// For each block the set of the values that reach it: what it generates, and what its sources have and it does
-/// not kill. Of all sets that meet these equations they are the least. Fails only where memory is refused.
+/// not kill. Of all sets that meet these equations they are the least. Fails only where memory runs out.
 ///
 /// A block is visited again only after a set that flows into it grew. A visit unites the sets of the block's
 /// sources, takes out what it kills, and compares. Sets get the capacity for the longest before the first visit.
