@@ -1,5 +1,5 @@
 -- What the summary says of the blocks, and how it follows their changes.
-use Rattle.std.proofs.Common.{◌≡◌, ◌≢◌, ℕ, ◌+◌, ◌-◌, ◌*◌, ◌/◌, ◌%◌, ◌^◌, ◌<◌, ◌≤◌, Bool, true, false, not, ◌&&◌, ◌||◌, ◌==◌, nat_lt, List, [], map, length, get_or, set, All, refl, sym, ap, ap₂, subst, ◌∙◌, arith, ⊎_elim, mod-lt, div-add-mod', get_or-set_same, get_or-set_other, mul-le-mul_right}
+use Rattle.std.proofs.Common.{◌≡◌, ◌≢◌, ℕ, ◌+◌, ◌-◌, ◌*◌, ◌/◌, ◌%◌, ◌^◌, ◌<◌, ◌≤◌, Bool, true, false, not, ◌&&◌, ◌||◌, ◌==◌, nat_lt, nat_le, List, [], map, length, get_or, set, All, refl, sym, ap, ap₂, subst, ◌∙◌, arith, ⊎_elim, mod-lt, div-add-mod', get_or-set_same, get_or-set_other, mul-le-mul_right}
 use Rattle.std.proofs.Math.Bool.{or-false}
 use Rattle.std.proofs.lemmas.Bool.{cases_lt, cases_eq, true≢false, false≢true}
 use Rattle.std.proofs.lemmas.Bool.Decides.{nat_tests}
@@ -231,14 +231,32 @@ used_isolated Intersection w a b small also digits =
 used_isolated Difference w a b small also digits = stays Difference w a b kept_by_difference small also digits
 used_isolated Symmetric w a b small also digits = stays Symmetric w a b kept_by_symmetric small also digits
 
-pub use_past_others : (m : Merge) (w k : ℕ) (ms os ns : List ℕ) → length ns ≡ length ms → length os ≤ k → IsMergedBetween m w 0 (length ms) ms os ns → get_or ms k 0 < 2 ^ w → get_or ns k 0 < 2 ^ w → is_used ns k ≡ merge_of_values m (is_used ms k) false
-use_past_others m w k ms os ns len past is small also =
+pub use_past_others : (m : Merge) (w start k : ℕ) (ms os ns : List ℕ) → length ns ≡ length ms → length os ≤ k → start ≤ k → IsMergedBetween m w start (length ms) ms os ns → get_or ms k 0 < 2 ^ w → get_or ns k 0 < 2 ^ w → is_used ns k ≡ merge_of_values m (is_used ms k) false
+use_past_others m w start k ms os ns len past from is small also =
     ⊎_elim
     (λ within. used_isolated m w _ _ small also (λ j index.
     is.digit k j (omega arith) within index
     ∙ ap (merge_of_values m (is_one (get_or ms k 0) j)) (ap (λ n. is_one n j) (get_or_past os k 0 past) ∙ is_one-zero j)))
     (λ outside. used_past ns k (omega arith) ∙ sym (ap (λ b. merge_of_values m b false) (used_past ms k outside) ∙ merge_of_values-none m))
     (cases_lt k (length ms))
+
+-- a block of the summary whose first digits were made while blocks were merged, and whose others were merged with none
+pub digits_of_part : (m : Merge) (w q count made alone cut whole : ℕ) (ss ns : List ℕ) → ((j : ℕ) → j < w → is_one made j ≡ (nat_lt j count && is_used ns (q * w + j))) → ((j : ℕ) → j < w → is_one alone j ≡ merge_of_values m (is_one (get_or ss q 0) j) false) → ((j : ℕ) → j < w → is_one cut j ≡ (nat_le count j && is_one alone j)) → IsEither w made cut whole → ((k : ℕ) → q * w + count ≤ k → is_used ns k ≡ merge_of_values m (value_at w ss k) false) → (j : ℕ) → j < w → is_one whole j ≡ is_used ns (q * w + j)
+digits_of_part m w q count made alone cut whole ss ns first past kept either rest j index =
+    is_one-either w made cut whole j either index
+    ∙ ⊎_elim
+    (λ below.
+    let test : nat_lt j count ≡ true = grind (arith, nat_tests) in
+    let none : nat_le count j ≡ false = grind (arith, nat_tests) in
+    ap₂ (λ x y. x || y) (first j index ∙ ap (λ t. t && is_used ns (q * w + j)) test) (kept j index ∙ ap (λ t. t && is_one alone j) none)
+    ∙ or-false (is_used ns (q * w + j)))
+    (λ from.
+    let test : nat_lt j count ≡ false = grind (arith, nat_tests) in
+    let all : nat_le count j ≡ true = grind (arith, nat_tests) in
+    ap₂ (λ x y. x || y) (first j index ∙ ap (λ t. t && is_used ns (q * w + j)) test) (kept j index ∙ ap (λ t. t && is_one alone j) all ∙ past j index)
+    ∙ ap (λ b. merge_of_values m b false) (sym (value_at-index w ss q j index))
+    ∙ sym (rest (q * w + j) (omega (arith, from))))
+    (cases_lt j count)
 
 -- one block of the summary was made anew, and those past it were merged with none
 pub rest_updated : (m : Merge) (w start n : ℕ) (ms ss ps ns : List ℕ) → start < length ss → ps ≡ set ss start n → ((j : ℕ) → j < w → is_one n j ≡ is_used ms (start * w + j)) → IsMergedBetween m w (start + 1) (length ss) ps [] ns → ((k : ℕ) → (start + 1) * w ≤ k → is_used ms k ≡ merge_of_values m (value_at w ss k) false) → (q j : ℕ) → start ≤ q → q < length ss → j < w → is_one (get_or ns q 0) j ≡ is_used ms (q * w + j)

@@ -55,6 +55,20 @@ pub(crate) fn put_block<B: BitBlock>(blocks: &mut Vec<B>, k: usize, block: B)
     blocks[k] = block;
 }
 
+// The same of blocks that are lent as a slice. Its address is in a register, so that a loop of these becomes vector
+// code.
+#[inline]
+pub(crate) fn put_in<B: BitBlock>(blocks: &mut [B], k: usize, block: B)
+    requires in_bounds { k < length blocks.old }
+    requires each { All B.is_block blocks.old }
+    requires of_block { B.is_block block }
+    ensures numbers { map B.number blocks.new ≡ set (map B.number blocks.old) k (B.number block) }
+    ensures each { All B.is_block blocks.new }
+    ensures len { length blocks.new ≡ length blocks.old }
+{
+    blocks[k] = block;
+}
+
 #[inline]
 pub(crate) fn get_bit<B: BitBlock>(blocks: &[B], i: usize) -> bool
     requires in_bounds { i / B.width < length blocks.now }

@@ -1,5 +1,5 @@
-use Rattle.std.proofs.Common.{◌≡◌, ◌≤◌, ◌∙◌, refl, ap₂, map, length, arith}
-use Rattle.std.proofs.lemmas.List.{length-map}
+use Rattle.std.proofs.Common.{◌≡◌, ◌≤◌, ◌∙◌, refl, ap₂, ◌++◌, map, drop, length, take, arith}
+use Rattle.std.proofs.lemmas.List.{length-map, take_at}
 use Rattle.bit_words.specs.Merges.{merge_of}
 use Rattle.bit_words.proofs.BitsLemmas.{blocks_for-le}
 use Rattle.bit_words.proofs.MergeLemmas.{merged_lists, merged_zero_tail, merges_of_values}
@@ -9,7 +9,7 @@ use Rattle.bit_words.proofs.bit_vec.BitVec.merge_blocks.Goals as goal
 pub merge_stored-requires-clause-can : goal.merge_stored-requires-clause-can
 merge_stored-requires-clause-can g c =
     let le = blocks_for-le g.B.BitBlock.width c.other.inside.len c.self.inside.len g.met.B.BitBlock.width_law.positive (no_longer_from_views _ _ _ _ _ _ _ _ _ c.self.view_is c.other.view_is c.requires) in
-    rw c.deref.ensures.value (record {
+    rw (c.as_mut_slice.ensures.value, c.as_mut_slice-2.ensures.value, c.deref.ensures.value) (record {
       fewer = omega (arith, le, c.self.invariant.packed.count, c.other.invariant.packed.count);
       each = c.self.invariant.packed.each;
       others = c.other.invariant.packed.each;
@@ -26,14 +26,19 @@ invariant_of-self g c =
     let pos = g.met.B.BitBlock.width_law.positive in
     let xs = c.self.inside.blocks.items in
     let os = c.other.inside.blocks.items in
-    let ys = c.merge_stored.new.blocks.items in
+    let ys = c.merge_stored.new.blocks in
     let shorter = no_longer_from_views _ _ _ _ _ _ _ _ _ c.self.view_is c.other.view_is c.requires in
     let le = blocks_for-le w c.other.inside.len c.self.inside.len pos shorter in
     let len : length (map f ys) ≡ length (map f xs) = rw (length-map, length-map) (omega arith) in
     let short : length (map f os) ≤ length (map f xs) = rw (length-map, length-map) (omega (arith, le, c.self.invariant.packed.count, c.other.invariant.packed.count)) in
     let end : length xs ≡ length (map f xs) = rw length-map refl in
-    let each = merges_of_values c.args.merge w (map f xs) (map f os) (map f ys) pos len short (rw (c.deref.ensures.value, end) at c.merge_stored.ensures.has.merged) in
-    record {
+    let each = merges_of_values c.args.merge w (map f xs) (map f os) (map f ys) pos len short (rw (c.as_mut_slice.ensures.value, c.deref.ensures.value, end) at c.merge_stored.ensures.has.merged) in
+    let old = c.self.inside.blocks in
+    let old_summary = c.self.inside.summary in
+    let summary = c.merge_stored.new.summary in
+    let back : take old.len (ys ++ drop (length ys) old.items) ≡ ys = take_at ys _ old.len (omega arith) in
+    let back_summary : take old_summary.len (summary ++ drop (length summary) old_summary.items) ≡ summary = take_at summary _ old_summary.len (omega arith) in
+    rw (back, back_summary) (record {
       packed = record {
         each = c.merge_stored.ensures.has.each;
         count = omega (arith, c.self.invariant.packed.count);
@@ -41,7 +46,7 @@ invariant_of-self g c =
         fits = c.self.invariant.packed.fits;
       };
       summary = c.merge_stored.ensures.has.summary;
-    }
+    })
 
 pub returns-clause-values : goal.returns-clause-values
 returns-clause-values g c =
@@ -50,15 +55,18 @@ returns-clause-values g c =
     let pos = g.met.B.BitBlock.width_law.positive in
     let xs = c.self.inside.blocks.items in
     let os = c.other.inside.blocks.items in
-    let ys = c.merge_stored.new.blocks.items in
+    let ys = c.merge_stored.new.blocks in
     let shorter = no_longer_from_views _ _ _ _ _ _ _ _ _ c.self.view_is c.other.view_is c.requires in
     let le = blocks_for-le w c.other.inside.len c.self.inside.len pos shorter in
     let len : length (map f ys) ≡ length (map f xs) = rw (length-map, length-map) (omega arith) in
     let short : length (map f os) ≤ length (map f xs) = rw (length-map, length-map) (omega (arith, le, c.self.invariant.packed.count, c.other.invariant.packed.count)) in
     let end : length xs ≡ length (map f xs) = rw length-map refl in
-    let each = merges_of_values c.args.merge w (map f xs) (map f os) (map f ys) pos len short (rw (c.deref.ensures.value, end) at c.merge_stored.ensures.has.merged) in
-    merged_lists _ _ _ _ _ _ _ shorter c.self.invariant.packed.tail c.other.invariant.packed.tail each
-    ∙ ap₂ (λ v u. merge_of c.args.merge v.values u.values) c.self.view_is c.other.view_is
+    let each = merges_of_values c.args.merge w (map f xs) (map f os) (map f ys) pos len short (rw (c.as_mut_slice.ensures.value, c.deref.ensures.value, end) at c.merge_stored.ensures.has.merged) in
+    let old = c.self.inside.blocks in
+    let back : take old.len (ys ++ drop (length ys) old.items) ≡ ys = take_at ys _ old.len (omega arith) in
+    rw back
+    (merged_lists _ _ _ _ _ _ _ shorter c.self.invariant.packed.tail c.other.invariant.packed.tail each
+    ∙ ap₂ (λ v u. merge_of c.args.merge v.values u.values) c.self.view_is c.other.view_is)
 
 pub returns-clause-steps : goal.returns-clause-steps
 returns-clause-steps g c = rw (length_from_view _ _ _ _ _ c.self.view_is) (omega (arith, c.self.invariant.packed.count))

@@ -7,7 +7,6 @@ loop-k-init g c = record {
   merged = merged_none _ _ _ _ _ _ (omega arith);
   each = c.requires.each;
   len = omega arith;
-  capacity = omega arith;
   steps = omega arith;
 }
 
@@ -18,7 +17,6 @@ loop-k-preserved g c =
       merged = merged_more _ _ c.args.start c.loop-k.k (c.loop-k.k + 1) _ _ _ _ _ _ (omega arith) (omega arith) refl refl c.loop-k.invariant.merged c.merge_block-merged.ensures.merged;
       each = c.merge_block-merged.ensures.each;
       len = omega arith;
-      capacity = omega arith;
       steps = omega arith;
     }
 

@@ -15,8 +15,6 @@ loop-q-init g c = record {
   each_sum = c.requires.each_sum;
   len = omega arith;
   summary_len = omega arith;
-  capacity = omega arith;
-  summary_capacity = omega arith;
   steps = omega arith;
 }
 
@@ -31,11 +29,11 @@ loop-q-preserved g c =
     let w = g.B.BitBlock.width in
     let f = g.B.BitBlock.number in
     let q = c.loop-q.q in
-    let ns = map f c.merge_chunk-digits.new.blocks.items in
-    let ss = map f c.loop-q.summary.items in
+    let ns = map f c.merge_chunk-digits.new.blocks in
+    let ss = map f c.loop-q.summary in
     let within : q < length ss = rw length-map (omega arith) in
     let chunk = c.merge_chunk-digits.ensures.merged in
-    let put = c.put_block.ensures.numbers in
+    let put = c.put_in.ensures.numbers in
     let done : (p j : ℕ) → p < q → j < w → is_one (get_or ss p 0) j ≡ is_used ns (p * w + j) = λ p j below index.
     let first : p + 1 ≤ q = omega arith in
     let le = mul-le-mul_right w first in
@@ -45,11 +43,9 @@ loop-q-preserved g c =
       done = summary_put w ns ss _ q _ within put c.merge_chunk-digits.ensures.digits done;
       past = λ p from. let other : p ≢ q = omega arith in ap (λ xs. get_or xs p 0) put ∙ get_or-set_other ss q p _ 0 other ∙ c.loop-q.invariant.past p (omega arith);
       each = c.merge_chunk-digits.ensures.each;
-      each_sum = c.put_block.ensures.each;
+      each_sum = c.put_in.ensures.each;
       len = omega arith;
       summary_len = omega arith;
-      capacity = omega arith;
-      summary_capacity = omega arith;
       steps = omega arith;
     }
 

@@ -11,7 +11,6 @@ loop-j-init g c = record {
   merged = merged_none _ _ _ _ _ _ (omega arith);
   each = c.requires.each;
   len = omega arith;
-  capacity = omega arith;
   steps = omega arith;
 }
 
@@ -26,9 +25,9 @@ loop-j-preserved g c =
     let f = g.B.BitBlock.number in
     let start = c.args.start in
     let j = c.loop-j.j in
-    let ns = map f c.merge_block-merged.new.blocks.items in
+    let ns = map f c.merge_block-merged.new.blocks in
     let one = c.merge_block-merged.ensures.merged in
-    let kept = used_kept w start j _ (map f c.loop-j.blocks.items) ns one.before c.loop-j.invariant.digits in
+    let kept = used_kept w start j _ (map f c.loop-j.blocks) ns one.before c.loop-j.invariant.digits in
     let used = c.is_nonzero.ensures ∙ ap (λ m. not (m == 0)) c.merge_block-merged.ensures.of_number in
     record {
       of_block = c.with_one_if-digits.ensures.of_block;
@@ -36,7 +35,6 @@ loop-j-preserved g c =
       merged = merged_more _ w start (start + j) (start + (j + 1)) (start + j) (start + j + 1) _ _ _ _ (omega arith) (omega arith) refl (omega arith) c.loop-j.invariant.merged one;
       each = c.merge_block-merged.ensures.each;
       len = omega arith;
-      capacity = omega arith;
       steps = omega arith;
     }
 

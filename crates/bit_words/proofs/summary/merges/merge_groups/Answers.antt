@@ -10,7 +10,6 @@ loop-group-init g c = record {
   merged = merged_none _ _ _ _ _ _ (omega arith);
   each = c.requires.each;
   len = omega arith;
-  capacity = omega arith;
   steps = omega arith;
 }
 
@@ -21,16 +20,15 @@ loop-group-preserved g c =
     let start = c.args.start in
     let index = c.loop-group.group * 32 in
     let next : (c.loop-group.group + 1) * 32 ≡ index + 32 = omega arith in
-    let ns = map f c.merge_group-more.new.blocks.items in
+    let ns = map f c.merge_group-more.new.blocks in
     let some = c.merge_group-more.ensures.merged in
-    let kept = used_kept w start index _ (map f c.loop-group.blocks.items) ns some.before c.loop-group.invariant.digits in
+    let kept = used_kept w start index _ (map f c.loop-group.blocks) ns some.before c.loop-group.invariant.digits in
     record {
       of_block = c.block_or-digits.ensures.of_block;
       digits = rw next (group_added w index 32 start (start + index) _ _ _ _ ns refl kept c.merge_group-more.ensures.digits c.shift_left.ensures.of_digits c.block_or-digits.ensures.of_digits);
       merged = merged_more _ w start (start + index) (start + (c.loop-group.group + 1) * 32) (start + index) (start + index + 32) _ _ _ _ (omega arith) (omega arith) refl (omega arith) c.loop-group.invariant.merged some;
       each = c.merge_group-more.ensures.each;
       len = omega arith;
-      capacity = omega arith;
       steps = omega arith;
     }
 

@@ -1,4 +1,4 @@
-use Rattle.std.proofs.Common.{◌≡◌, ℕ, ◌+◌, ◌*◌, ◌<◌, ◌&&◌, nat_lt, All, map, vec_len, vec_capacity}
+use Rattle.std.proofs.Common.{◌≡◌, ℕ, ◌+◌, ◌*◌, ◌<◌, ◌&&◌, nat_lt, All, map, length}
 use Rattle.bit_words.specs.BlockMerges.{IsMergedBetween}
 use Rattle.bit_words.specs.Digits.{is_one}
 use Rattle.bit_words.specs.Summary.{is_used}
@@ -7,10 +7,9 @@ use Rattle.bit_words.proofs.summary.merges.merge_groups.Given as goal
 abbrev pub invariant-loop-group : goal.invariant-loop-group
 invariant-loop-group g l = record {
   of_block : g.B.BitBlock.is_block l.digits;
-  digits : (j : ℕ) → j < g.B.BitBlock.width → is_one (g.B.BitBlock.number l.digits) j ≡ (nat_lt j (l.group * 32) && is_used (map g.B.BitBlock.number l.blocks.items) (l.start + j));
-  merged : IsMergedBetween g.O.Operation.merge g.B.BitBlock.width l.start (l.start + l.group * 32) (map g.B.BitBlock.number l.fn.blocks.items) (map g.B.BitBlock.number l.others) (map g.B.BitBlock.number l.blocks.items);
-  each : All g.B.BitBlock.is_block l.blocks.items;
-  len : vec_len l.blocks ≡ vec_len l.fn.blocks;
-  capacity : vec_capacity l.blocks ≡ vec_capacity l.fn.blocks;
+  digits : (j : ℕ) → j < g.B.BitBlock.width → is_one (g.B.BitBlock.number l.digits) j ≡ (nat_lt j (l.group * 32) && is_used (map g.B.BitBlock.number l.blocks) (l.start + j));
+  merged : IsMergedBetween g.O.Operation.merge g.B.BitBlock.width l.start (l.start + l.group * 32) (map g.B.BitBlock.number l.fn.blocks) (map g.B.BitBlock.number l.others) (map g.B.BitBlock.number l.blocks);
+  each : All g.B.BitBlock.is_block l.blocks;
+  len : length l.blocks ≡ length l.fn.blocks;
   steps : l.steps ≡ l.fn.steps + l.group * 32;
 }

@@ -1,4 +1,4 @@
-use Rattle.std.proofs.Common.{◌≡◌, ◌≤◌, ◌∙◌, sym, map, length, vec_len, arith}
+use Rattle.std.proofs.Common.{◌≡◌, ◌≤◌, ◌∙◌, sym, map, length, arith}
 use Rattle.std.proofs.lemmas.List.{length-map}
 use Rattle.bit_words.specs.Bits.{blocks_for}
 use Rattle.bit_words.proofs.MergeLemmas.{merges_of_values}
@@ -8,7 +8,7 @@ use Rattle.bit_words.proofs.summary.merges.merge_union.Goals as goal
 
 pub merge_each-requires-2-clause-fewer : goal.merge_each-requires-2-clause-fewer
 merge_each-requires-2-clause-fewer g c =
-    let le = blocks_for-le g.B.BitBlock.width (length c.args.others.now) (length c.args.blocks.now.items) g.met.B.BitBlock.width_law.positive (omega arith) in
+    let le = blocks_for-le g.B.BitBlock.width (length c.args.others.now) (length c.args.blocks.now) g.met.B.BitBlock.width_law.positive (omega arith) in
     omega (arith, le, c.requires.can.summary.packed.count, c.requires.other_summary.packed.count)
 
 pub returns-clause-has : goal.returns-clause-has
@@ -16,14 +16,14 @@ returns-clause-has g c =
     let w = g.B.BitBlock.width in
     let f = g.B.BitBlock.number in
     let pos = g.met.B.BitBlock.width_law.positive in
-    let xs = c.args.blocks.now.items in
+    let xs = c.args.blocks.now in
     let os = c.args.others.now in
-    let ys = c.merge_each.new.blocks.items in
-    let xsummary = c.args.summary.now.items in
+    let ys = c.merge_each.new.blocks in
+    let xsummary = c.args.summary.now in
     let osummary = c.args.other_summary.now in
-    let ysummary = c.merge_each-2.new.blocks.items in
-    let end : vec_len c.args.blocks.now ≡ length (map f xs) = rw length-map (omega arith) in
-    let end_summary : vec_len c.args.summary.now ≡ length (map f xsummary) = rw length-map (omega arith) in
+    let ysummary = c.merge_each-2.new.blocks in
+    let end : length c.args.blocks.now ≡ length (map f xs) = rw length-map (omega arith) in
+    let end_summary : length c.args.summary.now ≡ length (map f xsummary) = rw length-map (omega arith) in
     let len : length (map f ys) ≡ length (map f xs) = rw (length-map, length-map) (omega arith) in
     let len_summary : length (map f ysummary) ≡ length (map f xsummary) = rw (length-map, length-map) (omega arith) in
     let short : length (map f os) ≤ length (map f xs) = rw (length-map, length-map) (omega arith) in
@@ -33,7 +33,7 @@ returns-clause-has g c =
     let summary = merges_of_values _ w (map f xsummary) (map f osummary) (map f ysummary) pos len_summary short_summary (rw end_summary at c.merge_each-2.ensures.merged) in
     let own_len : length ys ≡ length xs = omega arith in
     let own : length ysummary ≡ blocks_for w (length ys) = rw own_len (omega (arith, c.requires.can.summary.packed.count)) in
-    let count : vec_len c.args.blocks.now ≡ length xs = omega arith in
+    let count : length c.args.blocks.now ≡ length xs = omega arith in
     record {
       merged = rw count at c.merge_each.ensures.merged;
       each = c.merge_each.ensures.each;
