@@ -190,7 +190,9 @@ fn merge_tail<B: BitBlock, O: Operation>(
 }
 
 // Each block becomes its merge with the other of its index, or with zeros where there is none, and the summary is
-// that of what they become.
+// that of what they become. It is a call of its own, so that what picks the merge is short and goes into its caller,
+// which knows the merge.
+#[inline(never)]
 fn merge_with_summary<B: BitBlock, O: Operation>(
     blocks: &mut [B],
     summary: &mut [B],
