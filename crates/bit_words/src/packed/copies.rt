@@ -92,6 +92,22 @@ pub(crate) fn copy_of<B: BitBlock>(alloc: Global, blocks: &[B]) -> Result<Vec<B>
     filled_with(Vec::with_capacity(alloc, blocks.len())?, blocks)
 }
 
+// Fewer blocks than this are copied one by one: a `memcpy` is not worth its call.
+const FEW: usize = 4;
+
+// Appends blocks one by one. There is capacity for them.
+#[inline]
+fn push_each<B: BitBlock>(blocks: &mut Vec<B>, more: &[B])
+    requires { vec_len blocks.old + length more.now ≤ vec_capacity blocks.old }
+    ensures items { blocks.new.items ≡ blocks.old.items ++ more.now }
+    ensures len { vec_len blocks.new ≡ vec_len blocks.old + length more.now }
+    ensures capacity { vec_capacity blocks.new ≡ vec_capacity blocks.old }
+{
+    for block in more {
+        blocks.push_reserved(*block);
+    }
+}
+
 // The blocks become those of `from`. There is capacity for them.
 pub(crate) fn copy_blocks<B: BitBlock>(blocks: &mut Vec<B>, from: &[B])
     requires { length from.now ≤ vec_capacity blocks.old }
@@ -99,9 +115,17 @@ pub(crate) fn copy_blocks<B: BitBlock>(blocks: &mut Vec<B>, from: &[B])
     ensures len { vec_len blocks.new ≡ length from.now }
     ensures capacity { vec_capacity blocks.new ≡ vec_capacity blocks.old }
 {
+    if from.len() < FEW {
+        blocks.clear();
+        push_each(blocks, from);
+        return;
+    }
     blocks.truncate(from.len());
     let kept = blocks.len();
     blocks.copy_from_slice(&from[..kept]);
+    if kept == from.len() {
+        return;
+    }
     let alloc = *blocks.allocator();
     let owned = replace(blocks, Vec::new(alloc));
     *blocks = with_blocks(owned, &from[kept..]);

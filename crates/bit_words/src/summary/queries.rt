@@ -10,9 +10,12 @@ use crate::packed::access::block_at;
 use crate::packed::ones::ones_of;
 use crate::packed::zeros::{used_blocks, zeros_before};
 
+// A summary of so many blocks, or fewer, says too little: to count every block costs no more than to read it.
+const SHORT_SUMMARY: usize = 4;
+
 // How many ones the blocks have, where a summary says which of them are not zero. Counts each run of chunks that
 // have any in one pass, and passes over chunks of zeros, each as many blocks as one has bits, by the summary
-// alone.
+// alone. Where the summary is short it counts every block.
 pub(crate) fn ones_by_summary<B: BitBlock>(blocks: &[B], summary: &[B]) -> usize
     requires each { All B.is_block blocks.now }
     requires summary { All B.is_block summary.now }
@@ -21,6 +24,9 @@ pub(crate) fn ones_by_summary<B: BitBlock>(blocks: &[B], summary: &[B]) -> usize
     requires fits { ones_in B.number blocks.now < 2 ^ 64 }
     ensures { result ≡ ones_in B.number blocks.now }
 {
+    if summary.len() <= SHORT_SUMMARY {
+        return ones_of(blocks);
+    }
     let mut ones = 0;
     let mut q = 0;
     while q < summary.len() {
