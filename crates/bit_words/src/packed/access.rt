@@ -7,6 +7,7 @@ ghost use Rattle.bit_words.specs.Storage.{value_at};
 use crate::block::BitBlock;
 use crate::block::masks::{cut_from, with_bit, with_ones_between, with_ones_from};
 use crate::block::operators::has_one_at;
+use crate::packed::groups::FEW;
 use std::mem::replace;
 
 // How many blocks a list of `len` values has.
@@ -167,6 +168,24 @@ fn filled_blocks<B: BitBlock>(mut blocks: Vec<B>, count: usize, block: B) -> Vec
     blocks
 }
 
+// Each of the first `count` blocks becomes `block`, one by one.
+#[inline]
+fn fill_each<B: BitBlock>(blocks: &mut Vec<B>, count: usize, block: B)
+    requires in_bounds { count ≤ vec_len blocks.old }
+    requires each { All B.is_block blocks.old.items }
+    requires of_block { B.is_block block }
+    ensures filled { (k : ℕ) → k < count → get_or (map B.number blocks.new.items) k 0 ≡ B.number block }
+    ensures others { (k : ℕ) → count ≤ k
+        → get_or (map B.number blocks.new.items) k 0 ≡ get_or (map B.number blocks.old.items) k 0 }
+    ensures each { All B.is_block blocks.new.items }
+    ensures len { vec_len blocks.new ≡ vec_len blocks.old }
+    ensures capacity { vec_capacity blocks.new ≡ vec_capacity blocks.old }
+{
+    for k in 0..count {
+        put_block(blocks, k, block);
+    }
+}
+
 // Each of the first `count` blocks becomes `block`.
 pub(crate) fn fill_blocks<B: BitBlock>(blocks: &mut Vec<B>, count: usize, block: B)
     requires in_bounds { count ≤ vec_len blocks.old }
@@ -179,9 +198,8 @@ pub(crate) fn fill_blocks<B: BitBlock>(blocks: &mut Vec<B>, count: usize, block:
     ensures len { vec_len blocks.new ≡ vec_len blocks.old }
     ensures capacity { vec_capacity blocks.new ≡ vec_capacity blocks.old }
 {
-    // As often as not the summary of a short list, and not worth a `memset`.
-    if count == 1 {
-        put_block(blocks, 0, block);
+    if count < FEW {
+        fill_each(blocks, count, block);
         return;
     }
     let alloc = *blocks.allocator();

@@ -52,7 +52,10 @@ fn same_by_groups<B: BitBlock>(a: &[B], b: &[B], count: usize) -> usize
     let alike = same_groups(a, b, count / LONG_GROUP) * LONG_GROUP;
     let alike = past_same_group(a, b, alike, count, 2 * GROUP);
     let alike = past_same_group(a, b, alike, count, GROUP);
-    if count - alike < GROUP && is_same_group(a, b, count - GROUP, GROUP) {
+    if alike == count || count - alike >= GROUP {
+        return alike;
+    }
+    if is_same_group(a, b, count - GROUP, GROUP) {
         count
     } else {
         alike
