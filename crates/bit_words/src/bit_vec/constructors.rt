@@ -8,6 +8,7 @@ use crate::block::BitBlock;
 use crate::packed::access::block_index;
 use crate::packed::bytes::blocks_of_bytes;
 use crate::packed::copies::copy_of;
+use crate::packed::resizing::repeated_bit;
 use crate::packed::tail_copies::copy_bits_from;
 use crate::summary::copies_of_both::copy_summary_from;
 use crate::summary::summary_of;
@@ -99,10 +100,13 @@ impl<B: BitBlock> BitVec<B> {
         ensures capacity { IfOk result (λ vector. vector.capacity ≡ capacity_of B.width (blocks_for B.width n)) }
         ensures empty { n ≡ 0 → IsOk result }
     {
-        let mut vector = BitVec::new_general(alloc);
-        vector.reserve_exact(n)?;
-        vector.grow(n, bit)?;
-        Ok(vector)
+        let blocks = repeated_bit(alloc, n, bit)?;
+        let summary = repeated_bit(alloc, blocks.len(), bit)?;
+        Ok(BitVec {
+            blocks,
+            summary,
+            len: n,
+        })
     }
 
     /// The bits of each byte in turn, from the highest down. One step a byte. The capacity is that of its

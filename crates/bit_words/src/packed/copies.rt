@@ -3,6 +3,7 @@
 ghost use Rattle.std.specs.Prelude.{◌≡◌, ◌+◌, ◌-◌, ◌<◌, ◌≤◌, ◌++◌, All, IfOk, IsOk, length, map, replicate, vec_len, vec_capacity};
 
 use crate::block::BitBlock;
+use crate::packed::groups::FEW;
 use std::alloc::{AllocError, Global};
 use std::mem::replace;
 
@@ -92,8 +93,22 @@ pub(crate) fn copy_of<B: BitBlock>(alloc: Global, blocks: &[B]) -> Result<Vec<B>
     filled_with(Vec::with_capacity(alloc, blocks.len())?, blocks)
 }
 
-// The blocks become those of `from`. There is capacity for them.
-pub(crate) fn copy_blocks<B: BitBlock>(blocks: &mut Vec<B>, from: &[B])
+// Appends blocks one by one. There is capacity for them.
+#[inline]
+fn push_each<B: BitBlock>(blocks: &mut Vec<B>, more: &[B])
+    requires { vec_len blocks.old + length more.now ≤ vec_capacity blocks.old }
+    ensures items { blocks.new.items ≡ blocks.old.items ++ more.now }
+    ensures len { vec_len blocks.new ≡ vec_len blocks.old + length more.now }
+    ensures capacity { vec_capacity blocks.new ≡ vec_capacity blocks.old }
+{
+    for block in more {
+        blocks.push_reserved(*block);
+    }
+}
+
+// The blocks become those of `from`, which are not as many. There is capacity for them.
+#[inline(never)]
+fn copy_other_count<B: BitBlock>(blocks: &mut Vec<B>, from: &[B])
     requires { length from.now ≤ vec_capacity blocks.old }
     ensures items { blocks.new.items ≡ from.now }
     ensures len { vec_len blocks.new ≡ length from.now }
@@ -105,4 +120,23 @@ pub(crate) fn copy_blocks<B: BitBlock>(blocks: &mut Vec<B>, from: &[B])
     let alloc = *blocks.allocator();
     let owned = replace(blocks, Vec::new(alloc));
     *blocks = with_blocks(owned, &from[kept..]);
+}
+
+// The blocks become those of `from`. There is capacity for them. Where they are as many, which they often are, no
+// block is appended and the vector stays where it is.
+#[inline]
+pub(crate) fn copy_blocks<B: BitBlock>(blocks: &mut Vec<B>, from: &[B])
+    requires { length from.now ≤ vec_capacity blocks.old }
+    ensures items { blocks.new.items ≡ from.now }
+    ensures len { vec_len blocks.new ≡ length from.now }
+    ensures capacity { vec_capacity blocks.new ≡ vec_capacity blocks.old }
+{
+    if from.len() < FEW {
+        blocks.clear();
+        push_each(blocks, from);
+    } else if from.len() == blocks.len() {
+        blocks.copy_from_slice(from);
+    } else {
+        copy_other_count(blocks, from);
+    }
 }

@@ -5,3 +5,7 @@ pub(crate) const GROUP: usize = 8;
 // Where a block of the summary is made of the groups, most often of one or two; and where two lists are compared, most
 // often to their end.
 pub(crate) const LONG_GROUP: usize = 32;
+
+// Fewer blocks than this are written one by one: a `memset` or a `memcpy` of them is not worth its call. The summary of
+// a short list has so few.
+pub(crate) const FEW: usize = 5;

@@ -8,10 +8,10 @@ use crate::block::BitBlock;
 use crate::block::lowest::take_lowest_one;
 use crate::block::operators::{block_or, block_xor, same, shift_right};
 use crate::packed::access::block_at;
-use crate::packed::groups::LONG_GROUP;
+use crate::packed::groups::{GROUP, LONG_GROUP};
 
-/// The first index at which the blocks differ, or `None`. Reads each block once at most, up to the end of the
-/// group of the first that differs.
+/// The first index at which the blocks differ, or `None`. Compares groups of blocks, each by one test, and reads
+/// less than 32 blocks past the first that differs.
 ///
 /// ```
 /// assert_eq!(first_mismatching_block(&[7u8, 1], &[7, 1, 0]), None);
@@ -25,7 +25,7 @@ pub fn first_mismatching_block<B: BitBlock>(a: &[B], b: &[B]) -> Option<usize>
         (IsFirstBlockMismatch (map B.number a.now) (map B.number b.now)) }
 {
     let both = a.len().min(b.len());
-    let alike = same_groups(a, b, both / LONG_GROUP) * LONG_GROUP;
+    let alike = same_by_groups(a, b, both);
     for k in alike..both {
         if !same(block_at(a, k), block_at(b, k)) {
             return Some(k);
@@ -35,7 +35,35 @@ pub fn first_mismatching_block<B: BitBlock>(a: &[B], b: &[B]) -> Option<usize>
     first_nonzero_block(longer, both)
 }
 
+// How many of the first `count` blocks are the same: all of them, or those before a group that has a mismatch. Few
+// blocks make no group. The last group may begin within the one before it, so that no block is left over.
+fn same_by_groups<B: BitBlock>(a: &[B], b: &[B], count: usize) -> usize
+    requires within { count ≤ length a.now }
+    requires within_other { count ≤ length b.now }
+    requires left { All B.is_block a.now }
+    requires right { All B.is_block b.now }
+    ensures within { result ≤ count }
+    ensures same { (k : ℕ) → k < result
+        → get_or (map B.number a.now) k 0 ≡ get_or (map B.number b.now) k 0 }
+{
+    if count < GROUP {
+        return 0;
+    }
+    let alike = same_groups(a, b, count / LONG_GROUP) * LONG_GROUP;
+    let alike = past_same_group(a, b, alike, count, 2 * GROUP);
+    let alike = past_same_group(a, b, alike, count, GROUP);
+    if alike == count || count - alike >= GROUP {
+        return alike;
+    }
+    if is_same_group(a, b, count - GROUP, GROUP) {
+        count
+    } else {
+        alike
+    }
+}
+
 // How many groups of blocks are the same, up to the first that is not.
+#[inline]
 fn same_groups<B: BitBlock>(a: &[B], b: &[B], groups: usize) -> usize
     requires within { groups * LONG_GROUP ≤ length a.now }
     requires within_other { groups * LONG_GROUP ≤ length b.now }
@@ -49,26 +77,49 @@ fn same_groups<B: BitBlock>(a: &[B], b: &[B], groups: usize) -> usize
         → get_or (map B.number a.now) k 0 ≡ get_or (map B.number b.now) k 0) }
 {
     for group in 0..groups {
-        if !is_same_group(a, b, group * LONG_GROUP) {
+        if !is_same_group(a, b, group * LONG_GROUP, LONG_GROUP) {
             return group;
         }
     }
     groups
 }
 
-// Whether the blocks of the group that begins at `start` are the same. One test for all of them.
-#[inline]
-fn is_same_group<B: BitBlock>(a: &[B], b: &[B], start: usize) -> bool
-    requires within { start + LONG_GROUP ≤ length a.now }
-    requires within_other { start + LONG_GROUP ≤ length b.now }
+// The end of the group of `size` blocks that begins at `start`, where they are below `count` and the same, and else
+// its start. The blocks before it are the same.
+#[inline(always)]
+fn past_same_group<B: BitBlock>(a: &[B], b: &[B], start: usize, count: usize, size: usize) -> usize
+    requires forward { start ≤ count }
+    requires within { count ≤ length a.now }
+    requires within_other { count ≤ length b.now }
+    requires left { All B.is_block a.now }
+    requires right { All B.is_block b.now }
+    requires before { (k : ℕ) → k < start
+        → get_or (map B.number a.now) k 0 ≡ get_or (map B.number b.now) k 0 }
+    ensures within { result ≤ count }
+    ensures same { (k : ℕ) → k < result
+        → get_or (map B.number a.now) k 0 ≡ get_or (map B.number b.now) k 0 }
+{
+    if size <= count - start && is_same_group(a, b, start, size) {
+        start + size
+    } else {
+        start
+    }
+}
+
+// Whether the blocks of the group of `size` that begins at `start` are the same. One test for all of them. The
+// compiler makes vector code of it where it knows the size.
+#[inline(always)]
+fn is_same_group<B: BitBlock>(a: &[B], b: &[B], start: usize, size: usize) -> bool
+    requires within { start + size ≤ length a.now }
+    requires within_other { start + size ≤ length b.now }
     requires left { All B.is_block a.now }
     requires right { All B.is_block b.now }
     ensures { IsTrue result
-        ↔ ((k : ℕ) → start ≤ k → k < start + LONG_GROUP
+        ↔ ((k : ℕ) → start ≤ k → k < start + size
         → get_or (map B.number a.now) k 0 ≡ get_or (map B.number b.now) k 0) }
 {
     let mut mismatch = B::zero();
-    for k in start..start + LONG_GROUP {
+    for k in start..start + size {
         mismatch = or_mismatch(mismatch, block_at(a, k), block_at(b, k));
     }
     same(mismatch, B::zero())

@@ -1,12 +1,47 @@
 // How many ones a slice of blocks has, block by block. By a summary it is in `summary`.
-ghost use Rattle.std.specs.Prelude.{◌≡◌, ◌^◌, ◌<◌, All};
+ghost use Rattle.std.specs.Prelude.{◌≡◌, ◌+◌, ◌*◌, ◌^◌, ◌<◌, ◌≤◌, All, drop, length, take};
 ghost use Rattle.bit_words.specs.Nonzero.{ones_in};
 
 use crate::block::BitBlock;
+use crate::packed::groups::GROUP;
 
-// Adds up the ones of each block.
+// Adds up the ones of each block, most of them a group at a time.
 #[inline]
 pub(crate) fn ones_of<B: BitBlock>(blocks: &[B]) -> usize
+    requires each { All B.is_block blocks.now }
+    requires fits { ones_in B.number blocks.now < 2 ^ 64 }
+    ensures { result ≡ ones_in B.number blocks.now }
+{
+    let groups = blocks.len() / GROUP;
+    ones_of_groups(blocks, groups) + ones_of_each(blocks.split_at(groups * GROUP).1)
+}
+
+// The ones of the first groups of blocks. The compiler knows how many blocks a group has, and adds up their ones
+// with no loop.
+#[inline]
+fn ones_of_groups<B: BitBlock>(blocks: &[B], groups: usize) -> usize
+    requires within { groups * GROUP ≤ length blocks.now }
+    requires each { All B.is_block blocks.now }
+    requires fits { ones_in B.number blocks.now < 2 ^ 64 }
+    ensures { result ≡ ones_in B.number (take (groups * GROUP) blocks.now) }
+{
+    let mut ones = 0;
+    for group in 0..groups {
+        ones += ones_of_each(group_from(blocks, group * GROUP));
+    }
+    ones
+}
+
+#[inline]
+fn group_from<B: BitBlock>(blocks: &[B], start: usize) -> &[B]
+    requires { start + GROUP ≤ length blocks.now }
+    ensures { result.now ≡ take GROUP (drop start blocks.now) }
+{
+    blocks.split_at(start).1.split_at(GROUP).0
+}
+
+#[inline]
+fn ones_of_each<B: BitBlock>(blocks: &[B]) -> usize
     requires each { All B.is_block blocks.now }
     requires fits { ones_in B.number blocks.now < 2 ^ 64 }
     ensures { result ≡ ones_in B.number blocks.now }

@@ -1,5 +1,5 @@
 // A list of bits that grows, is cut or is filled: the bits past its length stay 0. Memory is asked for elsewhere.
-ghost use Rattle.std.specs.Prelude.{◌≡◌, ℕ, ◌-◌, ◌/◌, ◌<◌, ◌≤◌, ◌++◌, All, false, nat_lt, map, replicate, take, vec_len, vec_capacity};
+ghost use Rattle.std.specs.Prelude.{◌≡◌, ℕ, ◌-◌, ◌/◌, ◌<◌, ◌≤◌, ◌++◌, All, IfOk, IsOk, false, nat_lt, map, replicate, take, vec_len, vec_capacity};
 ghost use Rattle.bit_words.specs.Bits.{blocks_for};
 ghost use Rattle.bit_words.specs.Storage.{value_at, IsPacked};
 
@@ -9,6 +9,7 @@ use crate::packed::access::{
     bit_index, block_count, block_index, clear_from, fill_blocks, put_block, set_tail,
 };
 use crate::packed::copies::push_copies;
+use std::alloc::{AllocError, Global};
 
 // Appends blocks of ones until there are those of `len` values. There is capacity for them.
 fn push_ones<B: BitBlock>(blocks: &mut Vec<B>, len: usize)
@@ -69,6 +70,24 @@ pub(crate) fn append_bits<B: BitBlock>(blocks: &mut Vec<B>, old: usize, len: usi
     } else {
         push_copies(blocks, block_count::<B>(len), B::zero());
     }
+}
+
+// A new list of `len` times `bit`, with capacity for no more blocks. Fails only where memory runs out, and never for
+// no values.
+#[inline]
+pub(crate) fn repeated_bit<B: BitBlock>(
+    alloc: Global,
+    len: usize,
+    bit: bool,
+) -> Result<Vec<B>, AllocError>
+    ensures filled { IfOk result (λ blocks. (i : ℕ) → i < len → value_at B.width (map B.number blocks.items) i ≡ bit) }
+    ensures packed { IfOk result (λ blocks. IsPacked B.width B.number B.is_block blocks.items len) }
+    ensures capacity { IfOk result (λ blocks. vec_capacity blocks ≡ blocks_for B.width len) }
+    ensures empty { len ≡ 0 → IsOk result }
+{
+    let mut blocks = Vec::with_capacity(alloc, block_count::<B>(len))?;
+    append_bits(&mut blocks, 0, len, bit);
+    Ok(blocks)
 }
 
 // Keeps the first `len` of a list of `old` values.

@@ -10,10 +10,31 @@ use crate::packed::access::block_at;
 use crate::packed::ones::ones_of;
 use crate::packed::zeros::{used_blocks, zeros_before};
 
-// How many ones the blocks have, where a summary says which of them are not zero. Counts each run of chunks that
-// have any in one pass, and passes over chunks of zeros, each as many blocks as one has bits, by the summary
-// alone.
+// A summary of so many blocks, or fewer, says too little: to count every block costs no more than to read it.
+const SHORT_SUMMARY: usize = 4;
+
+// How many ones the blocks have, where a summary says which of them are not zero. Where it is short it counts every
+// block.
+#[inline]
 pub(crate) fn ones_by_summary<B: BitBlock>(blocks: &[B], summary: &[B]) -> usize
+    requires each { All B.is_block blocks.now }
+    requires summary { All B.is_block summary.now }
+    requires enough { length blocks.now ≤ length summary.now * B.width }
+    requires digit { (k : ℕ) → value_at B.width (map B.number summary.now) k ≡ is_used (map B.number blocks.now) k }
+    requires fits { ones_in B.number blocks.now < 2 ^ 64 }
+    ensures { result ≡ ones_in B.number blocks.now }
+{
+    if summary.len() <= SHORT_SUMMARY {
+        ones_of(blocks)
+    } else {
+        ones_of_runs(blocks, summary)
+    }
+}
+
+// The same however long the summary is. Counts each run of chunks that have any ones in one pass, and passes over
+// chunks of zeros, each as many blocks as one has bits, by the summary alone. It is a call of its own, so that a short list saves no registers for it.
+#[inline(never)]
+fn ones_of_runs<B: BitBlock>(blocks: &[B], summary: &[B]) -> usize
     requires each { All B.is_block blocks.now }
     requires summary { All B.is_block summary.now }
     requires enough { length blocks.now ≤ length summary.now * B.width }

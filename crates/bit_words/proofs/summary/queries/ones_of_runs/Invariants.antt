@@ -1,6 +1,6 @@
 use Rattle.std.proofs.Common.{◌≡◌, ◌*◌, ◌-◌, ◌≤◌, length, take}
 use Rattle.bit_words.specs.Nonzero.{ones_in}
-use Rattle.bit_words.proofs.summary.queries.ones_by_summary.Given as goal
+use Rattle.bit_words.proofs.summary.queries.ones_of_runs.Given as goal
 
 -- the chunks that were passed are counted
 abbrev pub invariant-loop-q : goal.invariant-loop-q

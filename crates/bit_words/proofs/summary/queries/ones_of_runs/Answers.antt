@@ -2,7 +2,7 @@ use Rattle.std.proofs.Common.{◌+◌, ◌*◌, length, map, get_or, get_or-drop
 use Rattle.std.proofs.lemmas.List.{drop-map}
 use Rattle.std.proofs.lemmas.List.Sums.{sum_by-take-le}
 use Rattle.bit_words.proofs.CountLemmas.{chunks_counted, chunks_none}
-use Rattle.bit_words.proofs.summary.queries.ones_by_summary.Goals as goal
+use Rattle.bit_words.proofs.summary.queries.ones_of_runs.Goals as goal
 
 pub ones_of-ones-requires-clause-fits : goal.ones_of-ones-requires-clause-fits
 ones_of-ones-requires-clause-fits g c =

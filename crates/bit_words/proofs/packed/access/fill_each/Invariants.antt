@@ -1,5 +1,5 @@
 use Rattle.std.proofs.Common.{◌≡◌, ℕ, ◌<◌, ◌≤◌, All, map, get_or, vec_len, vec_capacity}
-use Rattle.bit_words.proofs.packed.access.fill_blocks.Given as goal
+use Rattle.bit_words.proofs.packed.access.fill_each.Given as goal
 
 abbrev pub invariant-loop-k : goal.invariant-loop-k
 invariant-loop-k g l = record {

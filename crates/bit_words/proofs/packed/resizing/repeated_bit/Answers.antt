@@ -1,0 +1,14 @@
+use Rattle.std.proofs.Common.{sym, ap, arith}
+use Rattle.std.proofs.lemmas.Bool.{true≢false}
+use Rattle.bit_words.specs.Bits.{blocks_for}
+use Rattle.bit_words.proofs.VectorLemmas.{blocks_for-none, packed_nil}
+use Rattle.bit_words.proofs.packed.resizing.repeated_bit.Goals as goal
+
+pub append_bits-requires-clause-packed : goal.append_bits-requires-clause-packed
+append_bits-requires-clause-packed g c = packed_nil _ _ _ _ g.met.B.BitBlock.width_law.positive c.in_ok-blocks.ensures.items
+
+pub returns-in_err-blocks-clause-empty : goal.returns-in_err-blocks-clause-empty
+returns-in_err-blocks-clause-empty g c = λ none.
+    let blocks = ap (blocks_for g.B.BitBlock.width) none in
+    let zero = blocks_for-none g.B.BitBlock.width g.met.B.BitBlock.width_law.positive in
+    absurd (true≢false (sym (c.in_err-blocks.ensures.succeeds (omega (arith, blocks, zero, c.block_count.ensures)))))
