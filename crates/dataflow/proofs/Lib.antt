@@ -2,3 +2,4 @@ pub mod FlowLemmas
 pub mod SettleLemmas
 pub mod TakeLemmas
 pub mod DependentLemmas
+pub mod AnalysisLemmas

@@ -1,2 +1,3 @@
+pub mod Analyses
 pub mod Flow
 pub mod Worklist
