@@ -7,7 +7,7 @@ use Rattle.dataflow.specs.declared.definitions.DefinitionBlock.{DefinitionBlock}
 use Rattle.dataflow.specs.declared.variables.VariableBlock.{VariableBlock}
 
 -- the parts of a block
-block_of : {X : Type 0} (sources generated killed : X → List ℕ) (blocks : List X) (b : ℕ) → block_at (map (λ x. record { sources = sources x; generated = generated x; killed = killed x }) blocks) b
+pub block_of : {X : Type 0} (sources generated killed : X → List ℕ) (blocks : List X) (b : ℕ) → block_at (map (λ x. record { sources = sources x; generated = generated x; killed = killed x }) blocks) b
     ≡ record { sources = get_or (map sources blocks) b []; generated = get_or (map generated blocks) b []; killed = get_or (map killed blocks) b [] }
 block_of sources generated killed [] b = refl
 block_of sources generated killed (x ∷ xs) zero = refl

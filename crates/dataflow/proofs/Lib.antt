@@ -3,3 +3,4 @@ pub mod SettleLemmas
 pub mod TakeLemmas
 pub mod DependentLemmas
 pub mod AnalysisLemmas
+pub mod AvailabilityLemmas

@@ -5,11 +5,13 @@
 mod block;
 mod definitions;
 mod dependents;
+mod expressions;
 mod solver;
 mod variables;
 mod waiting;
 
 pub use block::{Block, FlowBlock};
 pub use definitions::{DefinitionBlock, reaching_definitions};
+pub use expressions::{ExpressionBlock, available_expressions};
 pub use solver::solve;
 pub use variables::{VariableBlock, live_variables};
