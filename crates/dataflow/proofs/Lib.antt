@@ -2,3 +2,5 @@ pub mod FlowLemmas
 pub mod SettleLemmas
 pub mod TakeLemmas
 pub mod DependentLemmas
+pub mod AnalysisLemmas
+pub mod AvailabilityLemmas

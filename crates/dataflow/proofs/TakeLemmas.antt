@@ -135,12 +135,12 @@ grows s t new more is long members =
 
 -- ---- the set of one block
 
-and_true : (a b : Bool) → a ≡ true → b ≡ false → (a && not b) ≡ true
+pub and_true : (a b : Bool) → a ≡ true → b ≡ false → (a && not b) ≡ true
 and_true true false is none = refl
 and_true true true is none = absurd (true≢false none)
 and_true false b is none = absurd (true≢false (sym is))
 
-of_and : (a b : Bool) → (a && not b) ≡ true → (a ≡ true) × (b ≡ false)
+pub of_and : (a b : Bool) → (a && not b) ≡ true → (a ≡ true) × (b ≡ false)
 of_and true false h = (refl, refl)
 of_and true true h = absurd (true≢false (sym h))
 of_and false b h = absurd (true≢false (sym h))

@@ -1,2 +1,4 @@
+pub mod Analyses
+pub mod Availability
 pub mod Flow
 pub mod Worklist

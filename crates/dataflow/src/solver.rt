@@ -6,7 +6,7 @@ ghost use Rattle.dataflow.specs.Worklist.{AreDependents, AreOnTheWay, IsGathered
 
 use crate::Block;
 use crate::dependents::dependents_of;
-use crate::waiting::{all_waiting, flows_back, next_waiting, place, put_back};
+use crate::waiting::{all_below, flows_back, next_waiting, place, put_back};
 use bit_set::laws::{sets_ascend, sizes_of_sets};
 use bit_set::{BitBlock, BitSet};
 use std::alloc::{AllocError, Global};
@@ -74,7 +74,7 @@ fn settle<B: BitBlock, N: Block<B>>(
 {
     let count = blocks.len();
     let from_last = flows_back(blocks);
-    let mut waiting = all_waiting(alloc, count)?;
+    let mut waiting = all_below::<usize>(alloc, count)?;
     let mut spare = BitSet::new_general(alloc);
     let mut from = 0;
     while let Some(next) = next_waiting(&waiting, from) {

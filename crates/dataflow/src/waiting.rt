@@ -30,16 +30,16 @@ pub(crate) fn place(count: usize, from_last: bool, block: usize) -> usize
     if from_last { count - 1 - block } else { block }
 }
 
-// All places below `count`.
-pub(crate) fn all_waiting(alloc: Global, count: usize) -> Result<BitSet<usize>, AllocError>
-    ensures all { IfOk result (λ waiting. (p : ℕ) → IsTrue (has (elements waiting.values) p) ↔ (p < count)) }
-    ensures capacity { IfOk result (λ waiting. count ≤ waiting.capacity) }
+// The set of all numbers below `count`.
+pub(crate) fn all_below<B: BitBlock>(alloc: Global, count: usize) -> Result<BitSet<B>, AllocError>
+    ensures all { IfOk result (λ set. (n : ℕ) → IsTrue (has (elements set.values) n) ↔ (n < count)) }
+    ensures capacity { IfOk result (λ set. count ≤ set.capacity) }
 {
-    let mut waiting = BitSet::with_capacity_general(alloc, count)?;
-    for place in 0..count {
-        waiting.insert(place).unwrap();
+    let mut set = BitSet::with_capacity_general(alloc, count)?;
+    for number in 0..count {
+        set.insert(number).unwrap();
     }
-    Ok(waiting)
+    Ok(set)
 }
 
 // The first place from `from` on that waits, or else the first of all.

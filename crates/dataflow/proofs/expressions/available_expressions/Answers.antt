@@ -1,0 +1,47 @@
+use Rattle.std.proofs.Common.{◌≡◌, ◌++◌, List, drop, length, map, take, ap, arith}
+use Rattle.std.proofs.lemmas.List.{length-map}
+use Rattle.bit_set.specs.Bits.{Bits}
+use Rattle.bit_set.specs.Sets.{elements}
+use Rattle.dataflow.specs.Availability.{AreComplements, flow_of, missing_flow}
+use Rattle.dataflow.specs.Flow.{AreReached, Flow, lists_of}
+use Rattle.dataflow.proofs.AvailabilityLemmas.{AreFound, are_available, are_found, each_available}
+use Rattle.dataflow.proofs.TakeLemmas.{written_back}
+use Rattle.dataflow.proofs.expressions.available_expressions.Goals as goal
+
+pub returns-clause-solution : goal.returns-clause-solution
+returns-clause-solution g c =
+    let blocks = c.args.blocks.now in
+    let all = elements c.in_ok-all.all.values in
+    let missing = c.in_ok-missing.missing.items in
+    let sets = c.in_ok-sets.sets in
+    let new = c.complement_each.new.sets in
+    let as_long = c.complement_each.auto.sets in
+    let len = sets.ok in
+    let value = c.as_mut_slice.ensures.len in
+    let whole : take sets.len (new ++ drop (length new) sets.items) ≡ new = written_back new (drop (length new) sets.items) sets.len (omega (arith, as_long, len, value)) in
+    let same : length (map flow_of missing) ≡ length (map (missing_flow (length blocks) all) blocks) = ap (λ (l : List Flow). length l) c.in_ok-missing.ensures in
+    let solved : length sets.items ≡ length missing = rw c.as_slice.ensures.value at c.in_ok-sets.ensures.long in
+    let long : length (lists_of sets.items) ≡ length blocks = omega (arith, solved, same, length-map missing flow_of, length-map blocks (missing_flow (length blocks) all), length-map sets.items (λ (s : Bits). elements s.values)) in
+    let reached : AreReached (map (missing_flow (length blocks) all) blocks) (lists_of sets.items) = rw (c.as_slice.ensures.value, c.in_ok-missing.ensures) at c.in_ok-sets.ensures.reached in
+    let complements : AreComplements all (lists_of sets.items) (lists_of new) = rw c.as_mut_slice.ensures.value at c.in_ok-complement_each.ensures in
+    let found : AreFound blocks c.args.count (lists_of new) = are_found blocks all c.members_of_merged_sets.ensures.difference c.args.count (lists_of sets.items) (lists_of new) c.in_ok-all.ensures.all long reached complements in
+    rw whole (are_available blocks c.args.count (lists_of new) found)
+
+pub returns-clause-available : goal.returns-clause-available
+returns-clause-available g c =
+    let blocks = c.args.blocks.now in
+    let all = elements c.in_ok-all.all.values in
+    let missing = c.in_ok-missing.missing.items in
+    let sets = c.in_ok-sets.sets in
+    let new = c.complement_each.new.sets in
+    let as_long = c.complement_each.auto.sets in
+    let len = sets.ok in
+    let value = c.as_mut_slice.ensures.len in
+    let whole : take sets.len (new ++ drop (length new) sets.items) ≡ new = written_back new (drop (length new) sets.items) sets.len (omega (arith, as_long, len, value)) in
+    let same : length (map flow_of missing) ≡ length (map (missing_flow (length blocks) all) blocks) = ap (λ (l : List Flow). length l) c.in_ok-missing.ensures in
+    let solved : length sets.items ≡ length missing = rw c.as_slice.ensures.value at c.in_ok-sets.ensures.long in
+    let long : length (lists_of sets.items) ≡ length blocks = omega (arith, solved, same, length-map missing flow_of, length-map blocks (missing_flow (length blocks) all), length-map sets.items (λ (s : Bits). elements s.values)) in
+    let reached : AreReached (map (missing_flow (length blocks) all) blocks) (lists_of sets.items) = rw (c.as_slice.ensures.value, c.in_ok-missing.ensures) at c.in_ok-sets.ensures.reached in
+    let complements : AreComplements all (lists_of sets.items) (lists_of new) = rw c.as_mut_slice.ensures.value at c.in_ok-complement_each.ensures in
+    let found : AreFound blocks c.args.count (lists_of new) = are_found blocks all c.members_of_merged_sets.ensures.difference c.args.count (lists_of sets.items) (lists_of new) c.in_ok-all.ensures.all long reached complements in
+    rw whole (each_available blocks c.args.count (lists_of new) found)

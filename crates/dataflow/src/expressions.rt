@@ -1,0 +1,123 @@
+// Available expressions: those that are not missing, where what is missing flows from the entries and the kills.
+ghost use Rattle.std.specs.Prelude.{◌≡◌, ℕ, ◌<◌, ◌↔◌, IfOk, IsTrue, OnOk, length, map};
+ghost use Rattle.bit_set.specs.Members.{IsDifference};
+ghost use Rattle.bit_set.specs.Sets.{elements, has};
+ghost use Rattle.dataflow.specs.Availability.{AreAvailable, AreComplements, IsMissing, flow_of, missing_flow, starts_with_none};
+ghost use Rattle.dataflow.specs.Flow.{lists_of, set_at};
+
+use crate::waiting::all_below;
+use crate::{Block, solve};
+use bit_set::laws::members_of_merged_sets;
+use bit_set::{BitBlock, BitSet};
+use std::alloc::{AllocError, Global};
+
+/// A block of code, and the expressions that it computes and kills. Expressions are numbers.
+#[derive(Drop)]
+pub struct ExpressionBlock<B: BitBlock> {
+    /// The blocks that may run just before. Where there are none, or one of them is no block, no expression is
+    /// available where the block begins.
+    pub predecessors: Vec<usize>,
+    /// The expressions that the block computes, and of which it assigns no operand after that.
+    pub computed: BitSet<B>,
+    /// The expressions of which the block assigns an operand. Those that it computes after that may be among them.
+    pub killed: BitSet<B>,
+}
+
+// A block in the problem of which expressions are missing.
+#[derive(Drop)]
+struct MissingBlock<'a, B: BitBlock> {
+    block: &'a ExpressionBlock<B>,
+    missing: BitSet<B>,
+}
+
+impl<'a, B: BitBlock> Block<B> for MissingBlock<'a, B> {
+    ghost use Rattle.dataflow.specs.Availability.{flow_of};
+
+    ghost flow = { flow_of };
+
+    #[inline]
+    fn sources(&self) -> &[usize] {
+        self.block.predecessors.as_slice()
+    }
+
+    #[inline]
+    fn generated(&self) -> &BitSet<B> {
+        &self.missing
+    }
+
+    #[inline]
+    fn killed(&self) -> &BitSet<B> {
+        &self.block.computed
+    }
+}
+
+/// For each block the set of the expressions below `count` that are available at its end: on each path from an entry
+/// some block computes the expression, and none kills it after that. They are the greatest sets with
+/// `out[b] = computed[b] ∪ (⋂ out[p] over the predecessors p of b − killed[b])`. An entry is a block with no
+/// predecessor, or a number that is no block. Where no path leads from an entry, all that is not killed is available.
+/// Fails only where memory runs out.
+pub fn available_expressions<B: BitBlock>(
+    alloc: Global,
+    blocks: &[ExpressionBlock<B>],
+    count: usize,
+) -> Result<Vec<BitSet<B>>, AllocError>
+    ensures long { IfOk result (λ out. length out.items ≡ length blocks.now) }
+    ensures solution { IfOk result (λ out. AreAvailable blocks.now count (lists_of out.items)) }
+    ensures available { IfOk result (λ out. (b e : ℕ) → e < count
+        → IsTrue (has (set_at (lists_of out.items) b) e) ↔ (IsMissing blocks.now e b → ⊥)) }
+{
+    members_of_merged_sets();
+    let all = all_below(alloc, count)?;
+    let missing = missing_blocks(alloc, blocks, &all)?;
+    let mut sets = solve(alloc, missing.as_slice())?;
+    complement_each(&all, sets.as_mut_slice())?;
+    Ok(sets)
+}
+
+// For each block what it makes missing.
+fn missing_blocks<'a, B: BitBlock>(
+    alloc: Global,
+    blocks: &'a [ExpressionBlock<B>],
+    all: &BitSet<B>,
+) -> Result<Vec<MissingBlock<'a, B>>, AllocError>
+    ensures { IfOk result (λ missing. map flow_of missing.items
+        ≡ map (missing_flow (length blocks.now) (elements all.now.values)) blocks.now) }
+{
+    let mut missing_blocks = Vec::with_capacity(alloc, blocks.len())?;
+    for block in blocks {
+        let none = starts_empty(block.predecessors.as_slice(), blocks.len());
+        let mut missing = if none {
+            all.clone(alloc)?
+        } else {
+            block.killed.clone(alloc)?
+        };
+        missing.difference_with(&block.computed)?;
+        missing_blocks.push(MissingBlock { block, missing })?;
+    }
+    Ok(missing_blocks)
+}
+
+// Whether no expression is available where a block begins.
+fn starts_empty(predecessors: &[usize], blocks: usize) -> bool
+    ensures { result ≡ starts_with_none predecessors.now blocks }
+{
+    predecessors.is_empty() || predecessors.iter().any(|p| *p >= blocks)
+}
+
+// Each set becomes those of all that it has not.
+fn complement_each<B: BitBlock>(all: &BitSet<B>, sets: &mut [BitSet<B>]) -> Result<(), AllocError>
+    ensures { OnOk result (AreComplements (elements all.now.values) (lists_of sets.old) (lists_of sets.new)) }
+{
+    for index in 0..sets.len() {
+        complement(all, &mut sets[index])?;
+    }
+    Ok(())
+}
+
+// The set becomes those of all that it has not, in place.
+fn complement<B: BitBlock>(all: &BitSet<B>, set: &mut BitSet<B>) -> Result<(), AllocError>
+    ensures { OnOk result (IsDifference (elements all.now.values) (elements set.old.values) (elements set.new.values)) }
+{
+    set.symmetric_difference_with(all)?;
+    set.intersect_with(all)
+}

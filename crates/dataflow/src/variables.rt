@@ -1,0 +1,61 @@
+// Live variables: values that flow back from each use to the assignments before it.
+ghost use Rattle.std.specs.Prelude.{◌≡◌, ℕ, ◌↔◌, IfOk, IsTrue, length};
+ghost use Rattle.bit_set.specs.Sets.{has};
+ghost use Rattle.dataflow.specs.Analyses.{AreLive, IsLive};
+ghost use Rattle.dataflow.specs.Flow.{lists_of, set_at};
+
+use crate::{Block, solve};
+use bit_set::{BitBlock, BitSet};
+use std::alloc::{AllocError, Global};
+
+/// A block of code, and the variables that it uses and assigns. Variables are numbers.
+#[derive(Drop)]
+pub struct VariableBlock<B: BitBlock> {
+    /// The blocks that may run next. At a number that is no block nothing is live.
+    pub successors: Vec<usize>,
+    /// The variables that the block uses before it assigns them.
+    pub used: BitSet<B>,
+    /// The variables that the block assigns.
+    pub assigned: BitSet<B>,
+}
+
+impl<B: BitBlock> Block<B> for VariableBlock<B> {
+    ghost use Rattle.bit_set.specs.Sets.{elements};
+
+    ghost flow = { λ block. record {
+      sources = block.successors.items;
+      generated = elements block.used.values;
+      killed = elements block.assigned.values;
+    } };
+
+    #[inline]
+    fn sources(&self) -> &[usize] {
+        self.successors.as_slice()
+    }
+
+    #[inline]
+    fn generated(&self) -> &BitSet<B> {
+        &self.used
+    }
+
+    #[inline]
+    fn killed(&self) -> &BitSet<B> {
+        &self.assigned
+    }
+}
+
+/// For each block the set of the variables that are live where it begins: a path leads from there to a use of the
+/// variable, with no assignment of it on the way. They are the least sets with
+/// `live_in[b] = used[b] ∪ (⋃ live_in[s] over the successors s of b − assigned[b])`.
+/// Fails only where memory runs out.
+pub fn live_variables<B: BitBlock>(
+    alloc: Global,
+    blocks: &[VariableBlock<B>],
+) -> Result<Vec<BitSet<B>>, AllocError>
+    ensures long { IfOk result (λ live_in. length live_in.items ≡ length blocks.now) }
+    ensures solution { IfOk result (λ live_in. AreLive blocks.now (lists_of live_in.items)) }
+    ensures live { IfOk result (λ live_in. (b v : ℕ) → IsTrue (has (set_at (lists_of live_in.items) b) v)
+        ↔ IsLive blocks.now v b) }
+{
+    solve(alloc, blocks)
+}
