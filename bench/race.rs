@@ -11,6 +11,7 @@ mod automata;
 mod growing;
 mod inputs;
 mod instructions;
+mod live_variables;
 mod pairs;
 mod peers;
 mod single;

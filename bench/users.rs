@@ -2,6 +2,7 @@
 //! and `fixedbitset`, and prints a table.
 use crate::automata;
 use crate::inputs::Density;
+use crate::live_variables;
 use crate::peers::{Set, total};
 use crate::table::{Table, Work};
 use bit_set::BitSet;
@@ -127,6 +128,7 @@ pub fn race() -> bool {
         close_row::<u32>(&mut table, "u32", bench_close_u32, nodes);
         close_row::<u64>(&mut table, "u64", bench_close_u64, nodes);
     }
+    live_variables::rows(&mut table);
     automata::rows(&mut table);
     table.end()
 }

@@ -2,6 +2,18 @@
 #![tactic(auto)]
 
 #[cfg(test)]
+mod differences;
+#[cfg(test)]
+mod edges;
+#[cfg(test)]
+mod equivalence_tests;
+#[cfg(test)]
+mod random_tests;
+#[cfg(test)]
 mod slow_model;
 #[cfg(test)]
+mod textbook;
+#[cfg(test)]
 mod word_tests;
+#[cfg(test)]
+mod words;

@@ -9,6 +9,7 @@ mod filling;
 mod graphs;
 mod input_sets;
 mod inserting;
+mod live_variables;
 mod reading;
 mod slots;
 mod small_changes;

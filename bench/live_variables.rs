@@ -1,0 +1,99 @@
+//! Rows of live variables.
+use crate::inputs::Random;
+use crate::peers::{Set, total};
+use crate::table::{Table, Work};
+use bit_set::BitSet;
+use bit_vec::BitBlock;
+use fixedbitset::FixedBitSet;
+
+type OnBlocks = unsafe extern "C" fn(variables: usize, *const usize, usize, turns: usize) -> usize;
+
+unsafe extern "C" {
+    fn bench_live_variables_u32(variables: usize, numbers: *const usize, n: usize, turns: usize) -> usize;
+    fn bench_live_variables_u64(variables: usize, numbers: *const usize, n: usize, turns: usize) -> usize;
+}
+
+/// How many successors a block has, and how many variables each of its sets.
+const SUCCESSORS: usize = 2;
+const EACH: usize = 8;
+
+/// The numbers of each block: its successors, and the variables that it generates and that it kills. A block is
+/// followed by the next one, and with a chance of a quarter by any, else by the one after the next.
+fn random_numbers(blocks: usize, variables: usize) -> Vec<usize> {
+    let mut random = Random::start();
+    let mut numbers = Vec::new();
+    for block in 0..blocks {
+        let second = if random.below(4) == 0 { random.below(blocks) } else { (block + 2) % blocks };
+        numbers.extend([(block + 1) % blocks, second]);
+        numbers.extend(random.numbers_below(variables, 2 * EACH));
+    }
+    numbers
+}
+
+/// A block: the blocks that follow it, the variables that it reads before it writes them, and those that it writes.
+struct Block<'a, S> {
+    successors: &'a [usize],
+    generated: S,
+    killed: S,
+}
+
+impl<'a, S: Set> Block<'a, S> {
+    fn of(variables: usize, numbers: &'a [usize]) -> Self {
+        let (successors, sets) = numbers.split_at(SUCCESSORS);
+        let (generated, killed) = sets.split_at(EACH);
+        Block { successors, generated: S::of(variables, generated), killed: S::of(variables, killed) }
+    }
+
+    /// Makes `into` the set of the variables that are live at the block's start, by those at its successors' starts.
+    fn gather(&self, live: &[S], into: &mut S) {
+        into.clear();
+        for successor in self.successors {
+            into.union_with(&live[*successor]);
+        }
+        into.difference_with(&self.killed);
+        into.union_with(&self.generated);
+    }
+}
+
+/// The variables that are live at the start of each block. Goes over the blocks from the last to the first, again and
+/// again until no set changes.
+fn solve<S: Set>(variables: usize, blocks: &[Block<S>]) -> Vec<S> {
+    let mut live = vec![S::for_numbers_below(variables); blocks.len()];
+    let mut spare = S::for_numbers_below(variables);
+    let mut has_changed = true;
+    while has_changed {
+        has_changed = false;
+        for (number, block) in blocks.iter().enumerate().rev() {
+            block.gather(&live, &mut spare);
+            if live[number] != spare {
+                live[number].clone_from(&spare);
+                has_changed = true;
+            }
+        }
+    }
+    live
+}
+
+/// Adds up how many variables are live at the starts of the blocks.
+fn count_live<S: Set>(variables: usize, numbers: &[usize], turns: usize) -> usize {
+    let blocks: Vec<Block<S>> =
+        numbers.chunks(SUCCESSORS + 2 * EACH).map(|row| Block::of(variables, row)).collect();
+    total(turns, |_| solve(variables, &blocks).iter().map(S::count).sum())
+}
+
+fn row<B: BitBlock>(table: &mut Table, blocks: &str, here: OnBlocks, count: usize, variables: usize) {
+    let numbers = random_numbers(count, variables);
+    let name = format!("`solve`, live variables, {count} blocks, {variables} variables, `{blocks}`");
+    table.row(&name, Work { unit: "block", units: count, turns: 2, numbers: &[] }, &[
+        &|_, turns| unsafe { here(variables, numbers.as_ptr(), numbers.len(), turns) },
+        &|_, turns| count_live::<BitSet<B>>(variables, &numbers, turns),
+        &|_, turns| count_live::<FixedBitSet>(variables, &numbers, turns),
+    ]);
+}
+
+pub fn rows(table: &mut Table) {
+    for (blocks, variables) in [(2_000, 500), (2_000, 5_000), (300, 50_000)] {
+        row::<u32>(table, "u32", bench_live_variables_u32, blocks, variables);
+        row::<u64>(table, "u64", bench_live_variables_u64, blocks, variables);
+    }
+}
