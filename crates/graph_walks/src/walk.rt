@@ -1,8 +1,8 @@
 // The nodes to which paths lead.
-ghost use Rattle.std.specs.Prelude.{◌≡◌, ◌≢◌, ◌+◌, ◌<◌, ◌^◌, ◌↔◌, ℕ, IfErr, IfOk, IsErrOf, IsOk, IsTrue, List, OnOk, Some, length, slice_index_or};
+ghost use Rattle.std.specs.Prelude.{◌≡◌, ◌≢◌, ◌+◌, ◌<◌, ◌^◌, ◌↔◌, ℕ, IfErr, IfOk, IsErrOf, IsOk, IsTrue, List, OnOk, Some, length, not, slice_index_or};
 ghost use Rattle.std.specs.Iterator.{Drains, IsFinite, YieldsThen};
 ghost use Rattle.std.specs.List.{sum_by};
-ghost use Rattle.bit_set.specs.Sets.{elements, has};
+ghost use Rattle.bit_set.specs.Sets.{elements, has, put};
 ghost use Rattle.graph_walks.specs.Explored.{TakesOn};
 ghost use Rattle.graph_walks.specs.Paths.{Path, successors};
 
@@ -177,11 +177,29 @@ fn take_on<B: BitBlock, I: Iterator<Item = usize> + Drop>(
     sets_are_their_members();
     for item in items {
         edges.tick();
-        if reached.insert(item)? {
+        if put_new(reached, item)? {
             stack.push(item)?;
         }
     }
     Ok(())
+}
+
+// Puts the item in, and returns whether it is new. Most edges lead to what is in already, and the caller branches on
+// the result in any case: so the set is read first, and written only where the item is new.
+#[inline]
+fn put_new<B: BitBlock>(reached: &mut BitSet<B>, item: usize) -> Result<bool, SetError>
+    ensures answer { IfOk result (λ new. new ≡ not (has (elements reached.old.values) item)) }
+    ensures elements { OnOk result (elements reached.new.values ≡ put (elements reached.old.values) item) }
+    ensures unfit { IsErrOf result SetError.Element → item ≡ usize.MAX }
+    ensures fits { IfErr result (λ fault. fault ≢ SetError.Length) }
+{
+    members_of_sets();
+    sets_ascend();
+    sets_are_their_members();
+    if reached.contains(item) {
+        return Ok(false);
+    }
+    reached.insert(item)
 }
 
 // How many elements there can be, and how great.
