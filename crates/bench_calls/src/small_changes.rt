@@ -47,6 +47,8 @@ fn count_all(sets: &[BitSet<u32>]) -> usize {
     sum
 }
 
+// It goes into each of its callers, so that no turn picks the merge.
+#[inline(always)]
 fn merge_turns(
     alloc: Global,
     merge: Merge,

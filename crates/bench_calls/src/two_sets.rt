@@ -36,6 +36,7 @@ fn count_of_merged<B: BitBlock>(merge: Merge, one: &BitSet<B>, other: &BitSet<B>
     }
 }
 
+#[inline(always)]
 pub(crate) fn merge_into<B: BitBlock>(
     merge: Merge,
     one: &mut BitSet<B>,

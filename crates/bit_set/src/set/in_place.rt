@@ -31,8 +31,8 @@ impl<B: BitBlock> BitSet<B> {
     }
 
     // Each value becomes its merge with that of `other`. The shorter list goes on with false, so that
-    // the longer length stays.
-    #[inline]
+    // the longer length stays. It goes into its caller, which knows the merge.
+    #[inline(always)]
     fn merge_with(&mut self, other: &Self, merge: Merge) -> Result<(), AllocError>
         ensures elements { OnOk result (elements self.new.values
             ≡ merge_of_sets merge (elements self.old.values) (elements other.now.values)) }

@@ -12,7 +12,7 @@ use crate::summary::merges::merge_stored;
 impl<B: BitBlock> BitVec<B> {
     /// Each value becomes its merge with that of `other`, which is false past its end. The other must
     /// not be longer. Writes each block once, one step a block, and takes no memory.
-    #[inline]
+    #[inline(always)]
     pub fn merge_blocks(&mut self, other: &Self, merge: Merge, steps: &mut Steps)
         requires { length other.now.values ≤ length self.old.values }
         ensures values { self.new.values ≡ merge_of merge self.old.values other.now.values }

@@ -228,7 +228,7 @@ fn merge_union<B: BitBlock>(
 }
 
 // The same of the merge that is named. Only a union needs the others' summary.
-#[inline]
+#[inline(always)]
 pub(crate) fn merge_stored<B: BitBlock>(
     blocks: &mut [B],
     summary: &mut [B],
