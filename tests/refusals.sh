@@ -89,8 +89,8 @@ judge() {
 # One call of the program `refusals`, which judges it: with all of the call's requests refused, and then with one after
 # another, and one past them. A call that takes no memory makes no request; any other is refused where all are. Past
 # its last request none was refused, and then it made no more than its line allows; one that is refused may be made
-# once more, with less. One of a bit vector makes two at least, so that either of its two growths is refused alone;
-# over u128 one block of the summary tells of more places than there are, so that the summary need not grow.
+# once more, with less. One of a bit vector that may make two does make two, so that either of its growths is refused
+# alone; of few blocks no summary is stored, and then it makes one.
 sweep() {
     local type="$1" call="$2" most_requests="$3" most_bytes="$4" name="$1 $2" ending=refused n line
     [ "$most_requests" -gt 0 ] || ending=answered
@@ -115,7 +115,7 @@ sweep() {
         fail "$name: past its last request: '$line'"
     elif ((requests > most_requests || bytes > most_bytes)); then
         fail "$name: it made $requests requests for $bytes bytes: ${sizes[*]}"
-    elif [[ "$ending" = refused && "$call" = bits_* && "$type" != u128 && "$requests" -lt 2 ]]; then
+    elif [[ "$call" = bits_* && "$most_requests" -eq 2 && "$requests" -lt 2 ]]; then
         fail "$name: the blocks and their summary did not both ask for memory"
     else
         passed=$((passed + 1))
@@ -167,9 +167,10 @@ END
 for word in u8 u32 u64 u128; do
     shimmed "$bitset" "$word" < short
     judge "$word: no request refused" 0 replies '' 'requests > 1 && writes > 0' || continue
-    # The last of them is for the smaller summary of the set that is shrunk. Where it is refused the capacity is that of
-    # the blocks already, so the shrink has done what it is for.
-    all="$requests"
+    # Where a summary is stored, the last of them is for the smaller one of the set that is shrunk. Where it is refused
+    # the capacity is that of the blocks already, so the shrink has done what it is for.
+    all=0
+    [[ "$word" != u@(8|32) ]] || all="$requests"
     for ((n = 1; n <= most; n++)); do
         shimmed SHIM_REFUSE="$n" "$bitset" "$word" < short
         if [ "$requests" -lt "$n" ]; then

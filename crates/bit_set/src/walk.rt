@@ -150,7 +150,8 @@ impl<'a, B: BitBlock> Iterator for Iter<'a, B> {
 
 impl<B: BitBlock> BitSet<B> {
     /// A walk over the elements, in ascending order. Constant time.
-    #[inline]
+    // Where it is a call, the walk that it returns goes through memory.
+    #[inline(always)]
     pub fn iter(&self) -> Iter<'_, B>
         ensures left { result.left ≡ elements self.now.values }
         ensures pulls { result.pulls ≡ 1 }

@@ -1,5 +1,5 @@
 -- Lemmas on a list of truth values and the blocks that store it.
-use Rattle.std.proofs.Common.{◌≡◌, ℕ, zero, suc, ◌+◌, ◌*◌, ◌/◌, ◌%◌, ◌^◌, ◌<◌, ◌≤◌, ◌==◌, min, Bool, true, false, List, [], ◌∷◌, length, get_or, take, drop, refl, sym, ap, ◌∙◌, subst, arith, div-add-mod', mod-lt, pow_pos, length-take, get_or-take, get_or-drop, pow-suc, div-lt_iff_lt-mul, le_of_mul-le-mul_right, lt_of_mul-lt-mul_right, lt_of_lt_of_le, ⊎_elim, mul-le-mul_right, take_all, slice_get, Some}
+use Rattle.std.proofs.Common.{◌≡◌, ℕ, zero, suc, ◌+◌, ◌-◌, ◌*◌, ◌/◌, ◌%◌, ◌^◌, ◌<◌, ◌≤◌, ◌==◌, min, Bool, true, false, List, [], ◌∷◌, length, get_or, take, drop, refl, sym, ap, ◌∙◌, subst, arith, div-add-mod', mod-lt, pow_pos, length-take, get_or-take, get_or-drop, pow-suc, div-lt_iff_lt-mul, le_of_mul-le-mul_right, lt_of_mul-lt-mul_right, lt_of_lt_of_le, ⊎_elim, mul-le-mul_right, take_all, slice_get, Some}
 use Rattle.std.proofs.lemmas.Nat.Bits.{bit_at-suc, bit_at-zero, bit_at_lowest}
 use Rattle.std.proofs.lemmas.List.FromFn.{length-map-range_with_len, get_or-map-range_with_len}
 use Rattle.std.proofs.lemmas.List.{get_or_past, drop_all}
@@ -70,6 +70,22 @@ whole_before w n k pos h =
     (λ (below : k * w < n). below)
     (λ (past : n ≤ k * w). let l = blocks_for-least w n k pos past in absurd (omega arith))
     (cases_lt (k * w) n)
+
+-- those of the values past the first of them
+pub blocks_for-past : (w q n : ℕ) → 0 < w → q * w < n + w → blocks_for w n ≡ q + blocks_for w (n - q * w)
+blocks_for-past w zero n pos before = let same = ap (blocks_for w) (let e : n ≡ n - 0 * w = omega arith in e) in omega (arith, same)
+blocks_for-past w (suc q) n pos before =
+    let left = n - q * w in
+    let rest = blocks_for w (left - w) in
+    let most = blocks_for-least w left (1 + rest) pos (let enough = blocks_for-enough w (left - w) pos in omega (arith, enough)) in
+    let least : 1 + rest ≤ blocks_for w left = one_less (blocks_for w left) (blocks_for-enough w left pos) in
+    let same = ap (blocks_for w) (let e : left - w ≡ n - suc q * w = omega arith in e) in
+    let before_it = blocks_for-past w q n pos (omega (arith, before)) in
+    omega (arith, most, least, same, before_it)
+  where
+    one_less : (c : ℕ) → n - q * w ≤ c * w → 1 + blocks_for w (n - q * w - w) ≤ c
+    one_less zero enough = absurd (omega (arith, enough, before))
+    one_less (suc c) enough = let least = blocks_for-least w (n - q * w - w) c pos (omega (arith, enough)) in omega (arith, least)
 
 -- a place below n is in one of the blocks, and a place past them is not below n
 pub blocks_for-above : (w n i : ℕ) → 0 < w → i < n → i / w < blocks_for w n

@@ -4,7 +4,7 @@ use Rattle.std.proofs.lemmas.Bool.{cases_lt, true≢false}
 use Rattle.std.proofs.lemmas.Bool.Decides.{nat_tests}
 use Rattle.bit_words.specs.Bits.{Bits, blocks_for, capacity_of, true_end, whole_blocks}
 use Rattle.bit_words.specs.Storage.{value_at, values_of, IsZeroFrom}
-use Rattle.bit_words.specs.Summary.{shared_capacity}
+use Rattle.bit_words.specs.Summary.{shared_capacity, short_count, stored_for}
 use Rattle.bit_words.proofs.BitsLemmas.{blocks_for-enough, blocks_for-least, whole_before}
 use Rattle.bit_words.proofs.CompareLemmas.{zero_from_digits, digit_from_zero}
 use Rattle.bit_words.proofs.StorageLemmas.{value_at-is, value_at-past, value_at-index}
@@ -98,17 +98,52 @@ zero_tail_cut w c ms ns len pos e is = record {
 
 -- ---- the capacity that blocks and their summary share
 
-pub shared_for_summary : (w count summary : ℕ) → 0 < w → blocks_for w count ≤ summary → count ≤ summary * w
-shared_for_summary w count summary pos h = let more = mul-le-mul_right w h in omega (arith, blocks_for-enough w count pos)
+pub stored_short : (w count : ℕ) → count ≤ short_count w → stored_for w count ≡ 0
+stored_short w count few =
+    let test : nat_le count (short_count w) ≡ true = grind (arith, nat_tests) in
+    ap (λ t. if t then 0 else blocks_for w count) test
 
-pub shared_enough : (w blocks summary count : ℕ) → 0 < w → count ≤ blocks → blocks_for w count ≤ summary → count ≤ shared_capacity w blocks summary
+pub stored_long : (w count : ℕ) → short_count w < count → stored_for w count ≡ blocks_for w count
+stored_long w count many =
+    let test : nat_le count (short_count w) ≡ false = grind (arith, nat_tests) in
+    ap (λ t. if t then 0 else blocks_for w count) test
+
+pub shared_for_summary : (w count summary : ℕ) → 0 < w → stored_for w count ≤ summary → count ≤ max (short_count w) (summary * w)
+shared_for_summary w count summary pos h =
+    ⊎_elim
+    (λ (many : short_count w < count).
+    let enough : blocks_for w count ≤ summary = rw (stored_long w count many) at h in
+    let more = mul-le-mul_right w enough in
+    omega (arith, blocks_for-enough w count pos))
+    (λ (few : count ≤ short_count w). omega arith)
+    (cases_lt (short_count w) count)
+
+pub shared_past_summary : (w count summary : ℕ) → 0 < w → summary < stored_for w count → max (short_count w) (summary * w) < count
+shared_past_summary w count summary pos h =
+    ⊎_elim
+    (λ (many : short_count w < count).
+    let short : summary < blocks_for w count = rw (stored_long w count many) at h in
+    let less = whole_before w count summary pos short in
+    omega arith)
+    (λ (few : count ≤ short_count w). let none : summary < 0 = rw (stored_short w count few) at h in absurd (omega arith))
+    (cases_lt (short_count w) count)
+
+pub shared_enough : (w blocks summary count : ℕ) → 0 < w → count ≤ blocks → stored_for w count ≤ summary → count ≤ shared_capacity w blocks summary
 shared_enough w blocks summary count pos first second = let more = shared_for_summary w count summary pos second in omega arith
+
+-- and that much of the summary there is room for
+pub stored_from_shared : (w blocks summary count : ℕ) → 0 < w → count ≤ shared_capacity w blocks summary → stored_for w count ≤ summary
+stored_from_shared w blocks summary count pos h =
+    ⊎_elim
+    (λ (short : summary < stored_for w count). let less = shared_past_summary w count summary pos short in absurd (omega arith))
+    (λ (enough : stored_for w count ≤ summary). enough)
+    (cases_lt summary (stored_for w count))
 
 pub shared_short_blocks : (w blocks summary count : ℕ) → blocks < count → shared_capacity w blocks summary < count
 shared_short_blocks w blocks summary count short = omega arith
 
-pub shared_short_summary : (w blocks summary count : ℕ) → 0 < w → summary < blocks_for w count → shared_capacity w blocks summary < count
-shared_short_summary w blocks summary count pos short = let less = whole_before w count summary pos short in omega arith
+pub shared_short_summary : (w blocks summary count : ℕ) → 0 < w → summary < stored_for w count → shared_capacity w blocks summary < count
+shared_short_summary w blocks summary count pos short = let less = shared_past_summary w count summary pos short in omega arith
 
 pub ruleset shared_tests = (shared_enough, shared_short_blocks, shared_short_summary)
 
@@ -116,42 +151,42 @@ pub shared_le : (w blocks summary more_blocks more_summary : ℕ) → blocks ≤
 shared_le w blocks summary more_blocks more_summary first second = let more = mul-le-mul_right w second in omega arith
 
 -- what has less capacity of the two says
-pub shared_by_blocks : (w blocks summary more : ℕ) → 0 < w → blocks_for w blocks ≤ summary → summary ≤ more → shared_capacity w blocks more ≡ shared_capacity w blocks summary
+pub shared_by_blocks : (w blocks summary more : ℕ) → 0 < w → stored_for w blocks ≤ summary → summary ≤ more → shared_capacity w blocks more ≡ shared_capacity w blocks summary
 shared_by_blocks w blocks summary more pos enough le =
     let covered = shared_for_summary w blocks summary pos enough in
     let wider = mul-le-mul_right w le in
     omega arith
 
-pub shared_by_summary : (w blocks summary more : ℕ) → 0 < w → summary < blocks_for w blocks → blocks ≤ more → shared_capacity w more summary ≡ shared_capacity w blocks summary
-shared_by_summary w blocks summary more pos short le = let less = whole_before w blocks summary pos short in omega arith
+pub shared_by_summary : (w blocks summary more : ℕ) → 0 < w → summary < stored_for w blocks → blocks ≤ more → shared_capacity w more summary ≡ shared_capacity w blocks summary
+shared_by_summary w blocks summary more pos short le = let less = shared_past_summary w blocks summary pos short in omega arith
 
 -- capacity reserved for count and no more
-pub shared_exact : (w blocks summary count got got_summary : ℕ) → 0 < w → blocks_for w count ≤ summary → got ≡ max blocks count → got_summary ≡ max summary (blocks_for w count) → shared_capacity w got got_summary ≡ max (shared_capacity w blocks summary) count
+pub shared_exact : (w blocks summary count got got_summary : ℕ) → 0 < w → stored_for w count ≤ summary → got ≡ max blocks count → got_summary ≡ max summary (stored_for w count) → shared_capacity w got got_summary ≡ max (shared_capacity w blocks summary) count
 shared_exact w blocks summary count got got_summary pos enough first second =
     let covered = shared_for_summary w count summary pos enough in
     let same : got_summary ≡ summary = omega arith in
     rw same (omega arith)
 
-pub shared_trimmed : (w blocks summary count trimmed : ℕ) → 0 < w → summary < blocks_for w count → min count blocks ≤ trimmed → trimmed ≤ blocks → shared_capacity w trimmed summary ≡ shared_capacity w blocks summary
-shared_trimmed w blocks summary count trimmed pos short low high = let less = whole_before w count summary pos short in omega arith
+pub shared_trimmed : (w blocks summary count trimmed : ℕ) → 0 < w → summary < stored_for w count → min count blocks ≤ trimmed → trimmed ≤ blocks → shared_capacity w trimmed summary ≡ shared_capacity w blocks summary
+shared_trimmed w blocks summary count trimmed pos short low high = let less = shared_past_summary w count summary pos short in omega arith
 
-pub shared_exact_trimmed : (w blocks summary count trimmed got got_summary : ℕ) → 0 < w → summary < blocks_for w count → trimmed ≤ count → got ≡ max trimmed count → got_summary ≡ max summary (blocks_for w count) → shared_capacity w got got_summary ≡ max (shared_capacity w blocks summary) count
+pub shared_exact_trimmed : (w blocks summary count trimmed got got_summary : ℕ) → 0 < w → summary < stored_for w count → trimmed ≤ count → got ≡ max trimmed count → got_summary ≡ max summary (stored_for w count) → shared_capacity w got got_summary ≡ max (shared_capacity w blocks summary) count
 shared_exact_trimmed w blocks summary count trimmed got got_summary pos short low first second =
-    let less = whole_before w count summary pos short in
-    let enough = blocks_for-enough w count pos in
-    let same : got_summary ≡ blocks_for w count = omega arith in
-    rw same (omega arith)
+    let less = shared_past_summary w count summary pos short in
+    let same : got_summary ≡ stored_for w count = omega arith in
+    let enough = shared_for_summary w count got_summary pos (omega arith) in
+    omega arith
 
 pub capacity_le : (w a b : ℕ) → a ≤ b → capacity_of w a ≤ capacity_of w b
 capacity_le w a b h = let more = mul-le-mul_right w h in omega arith
 
--- the capacity of just so many blocks and their summary
-pub shared_whole : (w count blocks summary : ℕ) → 0 < w → blocks ≡ count → summary ≡ blocks_for w count → shared_capacity w blocks summary ≡ count
+-- the capacity of just so many blocks and what is stored of their summary
+pub shared_whole : (w count blocks summary : ℕ) → 0 < w → blocks ≡ count → summary ≡ stored_for w count → shared_capacity w blocks summary ≡ count
 shared_whole w count blocks summary pos first second =
-    let enough = blocks_for-enough w count pos in
-    rw (first, second) (omega arith)
+    let enough = shared_for_summary w count summary pos (omega arith) in
+    omega arith
 
--- the capacity of a copy, which is that of the blocks and of their summary
-pub capacity_of_copy : (w n r count blocks summary : ℕ) (ms : List ℕ) (v : Bits) → 0 < w → record { values = values_of w ms n; capacity = r } ≡ v → count ≡ blocks_for w n → blocks ≡ count → summary ≡ blocks_for w count → capacity_of w (shared_capacity w blocks summary) ≡ capacity_of w (blocks_for w (length v.values))
+-- the capacity of a copy, which is that of the blocks and of what is stored of their summary
+pub capacity_of_copy : (w n r count blocks summary : ℕ) (ms : List ℕ) (v : Bits) → 0 < w → record { values = values_of w ms n; capacity = r } ≡ v → count ≡ blocks_for w n → blocks ≡ count → summary ≡ stored_for w count → capacity_of w (shared_capacity w blocks summary) ≡ capacity_of w (blocks_for w (length v.values))
 capacity_of_copy w n r count blocks summary ms v pos e is first second =
     rw (length_from_view w n r ms v e) (ap (capacity_of w) (shared_whole w count blocks summary pos first second ∙ is))

@@ -1,25 +1,23 @@
 -- The walk over the blocks that are not 0, by the pending bits of a summary.
-use Rattle.std.proofs.Common.{◌≡◌, ◌≢◌, ℕ, zero, suc, ◌+◌, ◌-◌, ◌*◌, ◌/◌, ◌%◌, ◌^◌, ◌<◌, ◌≤◌, Bool, true, false, not, ◌||◌, nat_lt, if◌then◌else◌, ◌↔◌, ◌==◌, List, [], ◌∷◌, min, map, drop, take, length, get_or, get_or-take, get_or-drop, count_ones, mul-le-mul_right, All, refl, sym, ap, subst, ◌∙◌, arith, ⊎_elim, mod-lt, div-add-mod'}
+use Rattle.std.proofs.Common.{◌≡◌, ◌≢◌, ℕ, zero, suc, ◌+◌, ◌-◌, ◌*◌, ◌/◌, ◌%◌, ◌^◌, ◌<◌, ◌≤◌, Bool, true, false, not, nat_lt, if◌then◌else◌, ◌↔◌, ◌==◌, List, [], ◌∷◌, min, map, drop, take, length, get_or, get_or-take, get_or-drop, count_ones, mul-le-mul_right, All, refl, sym, ap, subst, ◌∙◌, arith, ⊎_elim, mod-lt, div-add-mod'}
 use Rattle.std.proofs.lemmas.Bool.{cases_lt, cases_eq, true≢false}
 use Rattle.std.proofs.lemmas.Bool.Decides.{nat_tests}
 use Rattle.std.proofs.Math.Seq.{drop-drop}
-use Rattle.std.proofs.lemmas.List.{drop_more, drop_all, drop-map, drop-take, get_or_past, length-map, take-map}
+use Rattle.std.proofs.lemmas.List.{drop_more, drop_all, drop-map, drop-take, get_or_past, length-drop, length-map, take-map}
 use Rattle.std.proofs.lemmas.List.Sums.{sum_by-cons, sum_by-take-drop}
-use Rattle.std.proofs.Math.Bool.{or-false, or-true}
-use Rattle.std.proofs.lemmas.Nat.Bits.{bit_at-suc, bit_at-zero, bit_at_lowest}
 use Rattle.bit_words.specs.Bits.{blocks_for}
-use Rattle.bit_words.specs.Digits.{IsEither, is_one}
+use Rattle.bit_words.specs.Digits.{is_one}
 use Rattle.bit_words.specs.Lowest.{IsLowest, IsCleared}
 use Rattle.bit_words.specs.Storage.{value_at}
-use Rattle.bit_words.specs.Summary.{is_used, IsSummary}
+use Rattle.bit_words.specs.Summary.{is_used, short_count, IsSummary}
 use Rattle.bit_words.specs.Pending.{IsPending, pick, is_pending, pending_from}
-use Rattle.bit_words.specs.Nonzero.{nonzero_from, first_and_nonzero, ones_in, ones_left}
+use Rattle.bit_words.specs.Nonzero.{nonzero_from, ones_in, ones_left}
 use Rattle.bit_words.proofs.LowestLemmas.{ones_zero}
-use Rattle.bit_words.proofs.Masks.{is_one-bit, is_one-zero, is_one-either}
-use Rattle.std.proofs.lemmas.List.Elements.{All-nil, All-cons, All-head, All-tail}
-use Rattle.bit_words.proofs.BitsLemmas.{blocks_for-enough, blocks_for-least}
+use Rattle.bit_words.proofs.Masks.{is_one-bit, is_one-zero}
+use Rattle.std.proofs.lemmas.List.Elements.{All-nil, All-cons, All-drop, All-head, All-tail}
+use Rattle.bit_words.proofs.BitsLemmas.{blocks_for-past}
 use Rattle.bit_words.proofs.CompareLemmas.{zero_from_digits}
-use Rattle.bit_words.proofs.StorageLemmas.{value_at-is, value_at-index, value_at-past}
+use Rattle.bit_words.proofs.StorageLemmas.{value_at-is, value_at-index}
 use Rattle.bit_words.proofs.SummaryLemmas.{used_from_zero, zero_from_unused}
 use Rattle.bit_words.proofs.VectorLemmas.{numbers_below}
 
@@ -79,11 +77,12 @@ pub value_at-first : (w m : ℕ) (ms : List ℕ) (k : ℕ) → k < w → value_a
 value_at-first w m ms k within =
     ap (value_at w (m ∷ ms)) (let e : k ≡ 0 * w + k = omega arith in e) ∙ value_at-index w (m ∷ ms) 0 k within
 
-pub value_at-rest : (w m : ℕ) (ms : List ℕ) (k : ℕ) → 0 < w → value_at w (m ∷ ms) (w + k) ≡ value_at w ms k
-value_at-rest w m ms k pos =
-    ap (value_at w (m ∷ ms)) (let e : w + k ≡ suc (k / w) * w + k % w = omega (arith, div-add-mod' k w) in e)
-    ∙ value_at-index w (m ∷ ms) (suc (k / w)) (k % w) (mod-lt k pos)
-    ∙ sym (value_at-is w ms k)
+pub value_at-drop : (w q : ℕ) (ms : List ℕ) (k : ℕ) → 0 < w → value_at w (drop q ms) k ≡ value_at w ms (q * w + k)
+value_at-drop w q ms k pos =
+    value_at-is w (drop q ms) k
+    ∙ ap (λ m. is_one m (k % w)) (get_or-drop q ms (k / w) 0)
+    ∙ sym (value_at-index w ms (q + k / w) (k % w) (mod-lt k pos))
+    ∙ ap (value_at w ms) (let e : (q + k / w) * w + k % w ≡ q * w + k = omega (arith, div-add-mod' k w) in e)
 
 -- what is not 0 is a block
 pub nonzero_inside : {X : Type 0} (number : X → ℕ) (k : ℕ) (xs : List X) → is_used (map number xs) k ≡ true → k < length xs
@@ -164,16 +163,17 @@ module _ {X : Type 0} (w : ℕ) (number : X → ℕ) (is_block : X → Type 0) w
         (cases_lt a i) in
         kept j within (λ e. omega (arith, e))
         ∙ is.exact a j after within (sym (kept a (omega arith) (λ e. omega (arith, e))) ∙ one);
+    short = is.short;
     enough = is.enough;
     few = is.few;
     digit = is.digit;
   }
 
-  -- ---- the next block of the summary is pulled
+  -- ---- the next block of the summary is pulled, or made of the blocks
 
-  pub left-pulled : (index : ℕ) (pending next : X) (xs summary rest : List X) → 0 < w → IsPending w number is_block index pending xs summary → number pending ≡ 0 → summary ≡ next ∷ rest
+  pub left-pulled : (index : ℕ) (pending next : X) (xs : List X) → number pending ≡ 0 → ((j : ℕ) → j < w → is_one (number next) j ≡ is_used (map number xs) (index + w + j))
       → pending_from w number index (number pending) xs ≡ pending_from w number (index + w) (number next) xs
-  left-pulled index pending next xs summary rest pos is used_up more =
+  left-pulled index pending next xs used_up digits =
       let m = number pending in
       let ms = map number xs in
       let f = is_pending w index m ms in
@@ -185,41 +185,49 @@ module _ {X : Type 0} (w : ℕ) (number : X → ℕ) (is_block : X → Type 0) w
       ∙ ⊎_elim
       (λ in_hand.
       let e : index + w + (j - (index + w)) ≡ j = omega arith in
-      sym (
-      pending-within w (index + w) (number next) ms j in_hand
-      ∙ sym (value_at-first w (number next) (map number rest) (j - (index + w)) (omega arith))
-      ∙ ap (λ ys. value_at w (map number ys) (j - (index + w))) (sym more)
-      ∙ is.digit (j - (index + w))
-      ∙ ap (λ k. is_used ms k) e))
+      sym (pending-within w (index + w) (number next) ms j in_hand ∙ digits (j - (index + w)) (omega arith) ∙ ap (is_used ms) e))
       (λ past. sym (pending-past w (index + w) (number next) ms j past))
       (cases_lt j (index + w + w)) in
       pick-tick_by f index w (drop index xs) none
       ∙ ap (pick f (index + w)) (drop-drop w index xs)
       ∙ pick-same f g (index + w) (drop (index + w) xs) after
 
-  pub IsPending-pulled : (index : ℕ) (pending next : X) (xs summary rest : List X) → 0 < w → IsPending w number is_block index pending xs summary → summary ≡ next ∷ rest → is_block next → All is_block rest → IsPending w number is_block (index + w) next xs rest
-  IsPending-pulled index pending next xs summary rest pos is more block blocks =
-      let count : length summary * w ≡ w + length rest * w = ap (λ ys. length ys * w) more ∙ omega arith in
-      let some : 0 < length summary = rw more (omega arith) in
-      let few = is.few some in
-      let digit : (k : ℕ) → value_at w (number next ∷ map number rest) k ≡ is_used (map number xs) (index + w + k) = λ k.
-      ap (λ ys. value_at w (map number ys) k) (sym more) ∙ is.digit k in
+  pub IsPending-pulled : (index : ℕ) (pending next : X) (xs summary : List X) → 0 < w → IsPending w number is_block index pending xs summary → is_block next → ((j : ℕ) → j < w → is_one (number next) j ≡ is_used (map number xs) (index + w + j)) → index + w < length xs
+      → IsPending w number is_block (index + w) next xs (drop 1 summary)
+  IsPending-pulled index pending next xs summary pos is block digits more =
+      let count = length-drop 1 summary in
+      let product : 0 < length summary → length summary * w ≡ w + length (drop 1 summary) * w = λ some.
+      ap (λ n. n * w) (let e : length summary ≡ 1 + length (drop 1 summary) = omega (arith, count, some) in e) ∙ omega arith in
+      let some_left : short_count w < length xs → 0 < length summary = λ long.
+      ⊎_elim
+      (λ some. some)
+      (λ none. absurd (let enough = is.enough long in let product = ap (λ n. n * w) (let e : length summary ≡ 0 = omega (arith, none) in e) in omega (arith, enough, product, more)))
+      (cases_lt 0 (length summary)) in
       record {
         each = is.each;
         in_hand = block;
-        summary_each = blocks;
+        summary_each = All-drop is_block 1 summary is.summary_each;
         fits = is.fits;
-        within = omega (arith, few, count);
-        inside = λ j within one.
-            nonzero_inside number (index + w + j) xs (sym (digit j) ∙ value_at-first w (number next) (map number rest) j within ∙ one);
-        exact = λ i j after within one. sym (value_at-first w (number next) (map number rest) j within) ∙ digit j;
-        enough = omega (arith, is.enough, count);
-        few = λ more_left. omega (arith, few, count);
-        digit = λ k.
-            sym (value_at-rest w (number next) (map number rest) k pos)
-            ∙ digit (w + k)
-            ∙ ap (λ j. is_used (map number xs) j) (let e : index + w + (w + k) ≡ index + w + w + k = omega arith in e);
+        within = omega (arith, more);
+        inside = λ j within one. nonzero_inside number (index + w + j) xs (sym (digits j within) ∙ one);
+        exact = λ i j after within one. digits j within;
+        short = λ few. ap (drop 1) (is.short few);
+        enough = λ long. omega (arith, is.enough long, product (some_left long));
+        few = λ rest.
+            let some : 0 < length summary = omega (arith, rest, count) in
+            omega (arith, is.few some, product some);
+        digit = λ long k.
+            ap (λ ms. value_at w ms k) (sym (drop-map number 1 summary))
+            ∙ value_at-drop w 1 (map number summary) k pos
+            ∙ is.digit long (1 * w + k)
+            ∙ ap (is_used (map number xs)) (let e : index + w + (1 * w + k) ≡ index + w + w + k = omega arith in e);
       }
+
+  -- it is one of those that were to come
+  pub count_pulled : (index count : ℕ) → 0 < w → index + w < count → blocks_for w (count - (index + w)) ≡ 1 + blocks_for w (count - (index + w + w))
+  count_pulled index count pos more =
+      blocks_for-past w 1 (count - (index + w)) pos (omega (arith, more))
+      ∙ ap (λ n. 1 + blocks_for w n) (let e : count - (index + w) - 1 * w ≡ count - (index + w + w) = omega arith in e)
 
   -- other pending bits of the same number
   IsPending-same : (index : ℕ) (a b : X) (xs summary : List X) → IsPending w number is_block index a xs summary → number a ≡ number b → is_block b → IsPending w number is_block index b xs summary
@@ -231,6 +239,7 @@ module _ {X : Type 0} (w : ℕ) (number : X → ℕ) (is_block : X → Type 0) w
     within = is.within;
     inside = λ j within one. is.inside j within (ap (λ m. is_one m j) same ∙ one);
     exact = λ i j after within one. ap (λ m. is_one m j) (sym same) ∙ is.exact i j after within (ap (λ m. is_one m i) same ∙ one);
+    short = is.short;
     enough = is.enough;
     few = is.few;
     digit = is.digit;
@@ -238,7 +247,23 @@ module _ {X : Type 0} (w : ℕ) (number : X → ℕ) (is_block : X → Type 0) w
 
   -- ---- blocks of the summary that are 0 are passed
 
-  pub passed : (n index : ℕ) (pending : X) (xs summary : List X) → 0 < w → IsPending w number is_block index pending xs summary → number pending ≡ 0 → n ≤ length summary → ((k : ℕ) → k < n → get_or (map number summary) k 0 ≡ 0)
+  -- a stored block of the summary is that of many blocks
+  pub long_by_stored : (index : ℕ) (pending : X) (xs summary : List X) → IsPending w number is_block index pending xs summary → 0 < length summary → short_count w < length xs
+  long_by_stored index pending xs summary is some =
+      ⊎_elim
+      (λ long. long)
+      (λ few. absurd (let none = ap length (is.short few) in omega (arith, none, some)))
+      (cases_lt (short_count w) (length xs))
+
+  -- the digits of the next one
+  stored_next : (index j : ℕ) (pending next : X) (xs summary rest : List X) → IsPending w number is_block index pending xs summary → summary ≡ next ∷ rest → j < w → is_one (number next) j ≡ is_used (map number xs) (index + w + j)
+  stored_next index j pending next xs summary rest is more within =
+      let some : 0 < length summary = rw more (omega arith) in
+      sym (value_at-first w (number next) (map number rest) j within)
+      ∙ ap (λ ys. value_at w (map number ys) j) (sym more)
+      ∙ is.digit (long_by_stored index pending xs summary is some) j
+
+  passed : (n index : ℕ) (pending : X) (xs summary : List X) → 0 < w → IsPending w number is_block index pending xs summary → number pending ≡ 0 → n ≤ length summary → ((k : ℕ) → k < n → get_or (map number summary) k 0 ≡ 0)
       → IsPending w number is_block (index + n * w) pending xs (drop n summary) × (pending_from w number index (number pending) xs ≡ pending_from w number (index + n * w) (number pending) xs)
   passed zero index pending xs summary pos is none there zeros =
       let e : index ≡ index + 0 * w = omega arith in
@@ -246,143 +271,50 @@ module _ {X : Type 0} (w : ℕ) (number : X → ℕ) (is_block : X → Type 0) w
   passed (suc n) index pending xs [] pos is none there zeros = absurd (omega (arith, there))
   passed (suc n) index pending xs (next ∷ rest) pos is none there zeros =
       let zero_next : number next ≡ 0 = zeros 0 (omega arith) in
-      let pulled = IsPending-pulled index pending next xs (next ∷ rest) rest pos is refl (All-head is_block next rest is.summary_each) (All-tail is_block next rest is.summary_each) in
+      let digits : (j : ℕ) → j < w → is_one (number next) j ≡ is_used (map number xs) (index + w + j) = λ j within. stored_next index j pending next xs (next ∷ rest) rest is refl within in
+      let more : index + w < length xs = let few = is.few (omega arith) in omega (arith, few) in
+      let pulled = IsPending-pulled index pending next xs (next ∷ rest) pos is (All-head is_block next rest is.summary_each) digits more in
       let here = IsPending-same (index + w) next pending xs rest pulled (zero_next ∙ sym none) is.in_hand in
       let (after, same) = passed n (index + w) pending xs rest pos here none (omega (arith, there)) (λ k within. zeros (suc k) (omega (arith, within))) in
       let e : index + w + n * w ≡ index + suc n * w = omega arith in (
         subst (λ p. IsPending w number is_block p pending xs (drop n rest)) e after,
-        left-pulled index pending next xs (next ∷ rest) rest pos is none refl
+        left-pulled index pending next xs none digits
             ∙ ap (λ m. pending_from w number (index + w) m xs) (zero_next ∙ sym none)
             ∙ same
             ∙ ap (λ p. pending_from w number p (number pending) xs) e,
       )
 
-  pub left-ended : (index : ℕ) (pending : X) (xs summary : List X) → IsPending w number is_block index pending xs summary → number pending ≡ 0 → summary ≡ [] → pending_from w number index (number pending) xs ≡ []
-  left-ended index pending xs summary is used_up none_left =
+  -- they are as many of those that were to come
+  count_passed : (n index : ℕ) (pending : X) (xs summary : List X) → 0 < w → IsPending w number is_block index pending xs summary → n ≤ length summary
+      → blocks_for w (length xs - (index + w)) ≡ n + blocks_for w (length xs - (index + n * w + w))
+  count_passed zero index pending xs summary pos is there =
+      let same = ap (λ k. blocks_for w (length xs - (k + w))) (let e : index ≡ index + 0 * w = omega arith in e) in
+      omega (arith, same)
+  count_passed (suc n) index pending xs summary pos is there =
+      let few = is.few (omega (arith, there)) in
+      let most = mul-le-mul_right w there in
+      blocks_for-past w (suc n) (length xs - (index + w)) pos (omega (arith, few, most))
+      ∙ ap (λ k. suc n + blocks_for w k) (let e : length xs - (index + w) - suc n * w ≡ length xs - (index + suc n * w + w) = omega arith in e)
+
+  pub zeros_passed : (n index : ℕ) (pending : X) (xs summary left : List X) → 0 < w → IsPending w number is_block index pending xs summary → number pending ≡ 0 → n ≤ length summary → ((k : ℕ) → k < n → get_or (map number summary) k 0 ≡ 0) → left ≡ drop n summary
+      → IsPending w number is_block (index + n * w) pending xs left × (pending_from w number index (number pending) xs ≡ pending_from w number (index + n * w) (number pending) xs) × (blocks_for w (length xs - (index + w)) ≡ n + blocks_for w (length xs - (index + n * w + w)))
+  zeros_passed n index pending xs summary left pos is used_up there zeros e =
+      let (walk, same) = passed n index pending xs summary pos is used_up there zeros in
+      (subst (IsPending w number is_block (index + n * w) pending xs) (sym e) walk, same, count_passed n index pending xs summary pos is there)
+
+  pub left-ended : (index : ℕ) (pending : X) (xs : List X) → number pending ≡ 0 → length xs ≤ index + w → pending_from w number index (number pending) xs ≡ []
+  left-ended index pending xs used_up end =
       let m = number pending in
       let f = is_pending w index m (map number xs) in
       let none : (j : ℕ) → index ≤ j → j < index + w → f j ≡ false = λ j from to.
       pending-within w index m (map number xs) j to ∙ ap (λ n. is_one n (j - index)) used_up ∙ is_one-zero (j - index) in
-      let count : length summary * w ≡ 0 = ap (λ ys. length ys * w) none_left ∙ omega arith in
       pick-tick_by f index w (drop index xs) none
-      ∙ ap (pick f (index + w)) (drop-drop w index xs ∙ drop_all (index + w) xs (omega (arith, is.enough, count)))
+      ∙ ap (pick f (index + w)) (drop-drop w index xs ∙ drop_all (index + w) xs end)
 
-  -- ---- the making
-
-  -- the block of the summary that is first in hand, with its lowest digit made 1
-  begun_pending : (pending first : X) (xs summary rest : List X) → 0 < w → IsSummary w number is_block xs summary → summary ≡ first ∷ rest → IsEither w (number first) 1 (number pending)
-      → (j : ℕ) → j < w → is_one (number pending) j ≡ (is_used (map number xs) j || is_one 1 j)
-  begun_pending pending first xs summary rest pos is more either j within =
-      is_one-either w (number first) 1 (number pending) j either within
-      ∙ ap (λ b. b || is_one 1 j) (
-      sym (value_at-first w (number first) (map number rest) j within)
-      ∙ ap (λ ys. value_at w (map number ys) j) (sym more)
-      ∙ is.digit j)
-
-  unit_lowest : is_one 1 0 ≡ true
-  unit_lowest = is_one-bit 1 1 0 (bit_at_lowest 1)
-
-  unit_above : (j : ℕ) → is_one 1 (suc j) ≡ false
-  unit_above j = is_one-bit 0 1 (suc j) (bit_at-suc 1 j ∙ bit_at-zero j)
-
-  some_blocks : (first : X) (xs summary rest : List X) → 0 < w → IsSummary w number is_block xs summary → summary ≡ first ∷ rest → 0 < length xs
-  some_blocks first xs summary rest pos is more =
-      let count : length summary ≡ 1 + length rest = ap length more ∙ omega arith in
-      ⊎_elim (λ some. some) (λ none. absurd (let least = blocks_for-least w (length xs) 0 pos (omega (arith, none)) in omega (arith, least, is.packed.count, count))) (cases_lt 0 (length xs))
-
-  pub IsPending-begun : (pending first : X) (xs summary rest : List X) → 0 < w → All is_block xs → length xs < 2 ^ 64 → IsSummary w number is_block xs summary → summary ≡ first ∷ rest → is_block pending → All is_block rest → IsEither w (number first) 1 (number pending)
-      → IsPending w number is_block 0 pending xs rest
-  IsPending-begun pending first xs summary rest pos each fits is more block blocks either =
-      let count : length summary ≡ 1 + length rest = ap length more ∙ omega arith in
-      let product : length summary * w ≡ w + length rest * w = ap (λ ys. length ys * w) more ∙ omega arith in
-      let enough = blocks_for-enough w (length xs) pos in
-      let whole : blocks_for w (length xs) * w ≡ length summary * w = ap (λ k. k * w) (sym is.packed.count) in
-      record {
-        each = each;
-        in_hand = block;
-        summary_each = blocks;
-        fits = fits;
-        within = omega arith;
-        inside = λ j within tail_set. let e = begun_inside j within tail_set in omega (arith, e);
-        exact = λ i j after within tail_set. begun_digit j within (omega (arith, after)) ∙ ap (is_used (map number xs)) (let e : j ≡ 0 + j = omega arith in e);
-        enough = omega (arith, enough, whole, product);
-        few = λ some.
-            ⊎_elim
-            (λ below. below)
-            (λ not_below. absurd (let least = blocks_for-least w (length xs) (length rest) pos (omega (arith, not_below)) in omega (arith, least, is.packed.count, count)))
-            (cases_lt (0 + length rest * w) (length xs));
-        digit = λ k.
-            sym (value_at-rest w (number first) (map number rest) k pos)
-            ∙ ap (λ ys. value_at w (map number ys) (w + k)) (sym more)
-            ∙ is.digit (w + k)
-            ∙ ap (is_used (map number xs)) (let e : w + k ≡ 0 + w + k = omega arith in e);
-      }
-    where
-      begun_digit : (j : ℕ) → j < w → 0 < j → is_one (number pending) j ≡ is_used (map number xs) j
-      begun_digit zero within above = absurd (omega (arith, above))
-      begun_digit (suc j) within above =
-          begun_pending pending first xs summary rest pos is more either (suc j) within
-          ∙ ap (λ b. is_used (map number xs) (suc j) || b) (unit_above j)
-          ∙ or-false (is_used (map number xs) (suc j))
-
-      begun_inside : (j : ℕ) → j < w → is_one (number pending) j ≡ true → j < length xs
-      begun_inside zero within tail_set = some_blocks first xs summary rest pos is more
-      begun_inside (suc j) within tail_set = nonzero_inside number (suc j) xs (sym (begun_digit (suc j) within (omega arith)) ∙ tail_set)
-
-  pub left-begun : (pending first : X) (xs summary rest : List X) → 0 < w → IsSummary w number is_block xs summary → summary ≡ first ∷ rest → IsEither w (number first) 1 (number pending)
-      → pending_from w number 0 (number pending) xs ≡ first_and_nonzero number xs
-  left-begun pending first [] summary rest pos is more either = refl
-  left-begun pending first (x ∷ xs) summary rest pos is more either =
-      let m = number pending in
-      let ms = map number (x ∷ xs) in
-      let f = is_pending w 0 m ms in
-      let here : f 0 ≡ true =
-      pending-within w 0 m ms 0 (omega arith)
-      ∙ begun_pending pending first (x ∷ xs) summary rest pos is more either 0 pos
-      ∙ ap (λ b. is_used ms 0 || b) unit_lowest
-      ∙ or-true (is_used ms 0) in
-      let tell : (j : ℕ) → f (1 + j) ≡ is_used (map number xs) j = λ j.
-      ⊎_elim
-      (λ within.
-      pending-within w 0 m ms (1 + j) within
-      ∙ ap (is_one m) (let e : 1 + j - 0 ≡ 1 + j = omega arith in e)
-      ∙ begun_pending pending first (x ∷ xs) summary rest pos is more either (1 + j) (omega (arith, within))
-      ∙ ap (λ b. is_used ms (1 + j) || b) (ap (is_one 1) (let e : 1 + j ≡ suc j = omega arith in e) ∙ unit_above j)
-      ∙ or-false (is_used ms (1 + j)))
-      (λ past. pending-past w 0 m ms (1 + j) past)
-      (cases_lt (1 + j) (0 + w))
-      ∙ ap (is_used ms) (let e : 1 + j ≡ suc j = omega arith in e) in
-      ap (λ b. if b then (0, x) ∷ pick f 1 xs else pick f 1 xs) here
-      ∙ ap (λ ys. (0, x) ∷ ys) (pick-nonzero number f 1 xs tell)
-
-  pub IsPending-none : (pending : X) (xs summary : List X) → 0 < w → All is_block xs → length xs < 2 ^ 64 → IsSummary w number is_block xs summary → summary ≡ [] → is_block pending → number pending ≡ 0 → IsPending w number is_block 0 pending xs summary
-  IsPending-none pending xs summary pos each fits is none block zero_there =
-      let count : length summary ≡ 0 = ap length none in
-      let enough = blocks_for-enough w (length xs) pos in
-      let whole : blocks_for w (length xs) * w ≡ 0 = ap (λ k. k * w) (sym is.packed.count ∙ count) ∙ omega arith in
-      record {
-        each = each;
-        in_hand = block;
-        summary_each = is.packed.each;
-        fits = fits;
-        within = omega arith;
-        inside = λ j within one. absurd (true≢false (sym one ∙ ap (λ n. is_one n j) zero_there ∙ is_one-zero j));
-        exact = λ i j after within one. absurd (true≢false (sym one ∙ ap (λ n. is_one n i) zero_there ∙ is_one-zero i));
-        enough = omega (arith, enough, whole);
-        few = λ some. absurd (omega (arith, count));
-        digit = λ k.
-            ap (λ ys. value_at w (map number ys) k) none
-            ∙ value_at-past w [] k (omega arith)
-            ∙ sym (ap (λ m. not (m == 0)) (get_or_past (map number xs) (0 + w + k) 0 (rw length-map (omega (arith, enough, whole)))));
-      }
-
-  pub left-none : (m : ℕ) (xs summary : List X) → 0 < w → IsSummary w number is_block xs summary → summary ≡ [] → pending_from w number 0 m xs ≡ first_and_nonzero number xs
-  left-none m [] summary pos is none = refl
-  left-none m (x ∷ xs) summary pos is none =
-      let count : length summary ≡ 0 = ap length none in
-      let enough = blocks_for-enough w (length (x ∷ xs)) pos in
-      let whole : blocks_for w (length (x ∷ xs)) * w ≡ 0 = ap (λ k. k * w) (sym is.packed.count ∙ count) ∙ omega arith in
-      absurd (omega (arith, enough, whole))
+  -- and then nothing is stored
+  pub summary_ended : (index : ℕ) (pending : X) (xs summary : List X) → 0 < w → IsPending w number is_block index pending xs summary → length xs ≤ index + w → summary ≡ []
+  summary_ended index pending xs [] pos is end = refl
+  summary_ended index pending xs (next ∷ rest) pos is end = absurd (let few = is.few (omega arith) in omega (arith, few, end))
 
 -- ---- the ones of what is left
 
@@ -492,9 +424,9 @@ module _ {X : Type 0} (w : ℕ) (number : X → ℕ) (is_block : X → Type 0) w
       omega (arith, whole, chunk, rest, left)
 
   -- what the blocks of the summary that are left say
-  pub tells_rest : (index : ℕ) (pending : X) (xs summary : List X) → IsPending w number is_block index pending xs summary → (k : ℕ) → value_at w (map number summary) k ≡ is_used (map number (drop w (drop index xs))) k
-  tells_rest index pending xs summary is k =
-      is.digit k
+  pub tells_rest : (index : ℕ) (pending : X) (xs summary : List X) → IsPending w number is_block index pending xs summary → short_count w < length (drop w (drop index xs)) → (k : ℕ) → value_at w (map number summary) k ≡ is_used (map number (drop w (drop index xs))) k
+  tells_rest index pending xs summary is long k =
+      is.digit (let most = length-drop w (drop index xs) in let all = length-drop index xs in omega (arith, long, most, all)) k
       ∙ ap (λ m. not (m == 0)) (sym (dropped number (index + w) k xs))
       ∙ ap (λ ys. is_used (map number ys) k) (sym (drop-drop w index xs))
 

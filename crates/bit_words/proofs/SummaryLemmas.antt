@@ -13,12 +13,12 @@ use Rattle.bit_words.specs.declared.block.merge.Merge.TheVariants.{Union, Inters
 use Rattle.bit_words.specs.Merges.{merge_of_values}
 use Rattle.bit_words.specs.BlockMerges.{IsMergedBetween}
 use Rattle.bit_words.specs.Storage.{value_at, IsPacked}
-use Rattle.bit_words.specs.Summary.{is_used, shared_capacity, IsSummary, IsStored}
+use Rattle.bit_words.specs.Summary.{is_used, shared_capacity, short_count, stored_for, IsSummary, KeepsSummary, IsStored}
+use Rattle.bit_words.proofs.CapacityLemmas.{shared_enough, stored_long, stored_short}
 use Rattle.bit_words.proofs.BitsLemmas.{blocks_for-below, blocks_for-enough, whole_before}
 use Rattle.bit_words.proofs.CompareLemmas.{zero_from_digits, digit_from_zero}
 use Rattle.bit_words.proofs.Masks.{is_one-either, is_one-zero}
 use Rattle.bit_words.proofs.MergeLemmas.{merge_of_values-none}
-use Rattle.bit_words.proofs.CapacityLemmas.{shared_enough}
 use Rattle.bit_words.proofs.StorageLemmas.{digit_of-is_one, value_at-is, value_at-past, value_at-index}
 use Rattle.bit_words.proofs.VectorLemmas.{numbers_below, packed_nil}
 
@@ -276,21 +276,46 @@ rest_updated m w start n ms ss ps ns within e digits merged rest q j from below 
 
 -- ---- kept with the list
 
+-- the test of whether a list of so many blocks stores no summary
+pub short_from_test : (w n : ℕ) (test : Bool) → test ≡ nat_le n (short_count w) → test ≡ true → n ≤ short_count w
+short_from_test w n test e is = grind (arith, nat_tests)
+
+pub long_from_test : (w n : ℕ) (test : Bool) → test ≡ nat_le n (short_count w) → test ≡ false → short_count w < n
+long_from_test w n test e is = grind (arith, nat_tests)
+
+pub keeps_none : {X : Type 0} (w : ℕ) (f : X → ℕ) (P : X → Type 0) (xs summary : List X) → length xs ≤ short_count w → summary ≡ [] → KeepsSummary w f P xs summary
+keeps_none w f P xs summary few none = record {
+  short = λ _. none;
+  long = λ many. absurd (omega arith);
+}
+
+pub keeps_all : {X : Type 0} (w : ℕ) (f : X → ℕ) (P : X → Type 0) (xs summary : List X) → short_count w < length xs → IsSummary w f P xs summary → KeepsSummary w f P xs summary
+keeps_all w f P xs summary many is = record {
+  short = λ few. absurd (omega arith);
+  long = λ _. is;
+}
+
 pub stored_nil : {X : Type 0} (w : ℕ) (f : X → ℕ) (P : X → Type 0) (xs summary : List X) → 0 < w → xs ≡ [] → summary ≡ [] → IsStored w f P xs summary 0
 stored_nil w f P xs summary pos e s = record {
   packed = packed_nil w f P xs pos e;
   summary = record {
-    packed = rw e (packed_nil w f P summary pos s);
-    digit = λ k.
-        value_at-past w (map f summary) k (rw (length-map, ap length s) (omega arith))
-        ∙ sym (used_past (map f xs) k (rw (length-map, ap length e) (omega arith)));
+    short = λ _. s;
+    long = λ many. let none = ap length e in absurd (omega arith);
   };
 }
+
+-- a summary has as many blocks as are stored
+pub stored_length : {X : Type 0} (w : ℕ) (f : X → ℕ) (P : X → Type 0) (xs ss : List X) → KeepsSummary w f P xs ss → length ss ≡ stored_for w (length xs)
+stored_length w f P xs ss kept =
+    ⊎_elim
+    (λ (many : short_count w < length xs). (kept.long many).packed.count ∙ sym (stored_long w (length xs) many))
+    (λ (few : length xs ≤ short_count w). ap length (kept.short few) ∙ sym (stored_short w (length xs) few))
+    (cases_lt (short_count w) (length xs))
 
 -- there is capacity for the blocks that there are
 pub stored_within : {X : Type 0} (w n blocks summary : ℕ) (f : X → ℕ) (P : X → Type 0) (xs ss : List X) → 0 < w → IsStored w f P xs ss n → length xs ≤ blocks → length ss ≤ summary → length xs ≤ shared_capacity w blocks summary
 stored_within w n blocks summary f P xs ss pos stored first second =
-    shared_enough w blocks summary (length xs) pos first (let count = stored.summary.packed.count in omega arith)
+    shared_enough w blocks summary (length xs) pos first (let count = stored_length w f P xs ss stored.summary in omega arith)
 
 in_block : (w k j : ℕ) → j < w → k * w + j < (k + 1) * w
 in_block w k j h = omega arith

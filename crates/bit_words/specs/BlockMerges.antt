@@ -3,7 +3,6 @@ use Rattle.std.specs.Prelude.{◌≡◌, ℕ, ◌<◌, ◌≤◌, true, false, L
 use Rattle.bit_words.specs.Digits.{is_one}
 use Rattle.bit_words.specs.Merges.{merge_of_values}
 use Rattle.bit_words.specs.Storage.{value_at}
-use Rattle.bit_words.specs.Summary.{IsSummary}
 use Rattle.bit_words.specs.declared.block.merge.Merge.{Merge}
 
 -- digit by digit, the first blocks of two lists merge to 0
@@ -28,19 +27,15 @@ pub record IsMergedBetween (merge : Merge) (w start end : ℕ) (ms os ns : List 
   pub before : (k : ℕ) → k < start → get_or ns k 0 ≡ get_or ms k 0
   pub after : (k : ℕ) → end ≤ k → get_or ns k 0 ≡ get_or ms k 0
 
--- The blocks xs, which have this summary, can be merged with the blocks os: these are no more.
-pub record CanMerge {X : Type 0} (w : ℕ) (number : X → ℕ) (is_block : X → Type 0)
-    (xs own_summary os : List X) : Type 0 where
+-- The blocks xs can be merged with the blocks os: these are no more.
+pub record CanMerge {X : Type 0} (number : X → ℕ) (is_block : X → Type 0) (xs os : List X) : Type 0 where
   pub fewer : length os ≤ length xs
   pub each : All is_block xs
   pub others : All is_block os
-  pub summary : IsSummary w number is_block xs own_summary
 
--- The blocks xs became ys, what they merge to with os, or with zeros past its end; and this is the summary of ys.
+-- The blocks xs became ys, what they merge to with os, or with zeros past its end.
 pub record HasMerged {X : Type 0} (merge : Merge) (w : ℕ) (number : X → ℕ) (is_block : X → Type 0)
-    (xs os ys own_summary : List X)
-    : Type 0 where
+    (xs os ys : List X) : Type 0 where
   pub merged : IsMergedBetween merge w 0 (length xs) (map number xs) (map number os) (map number ys)
   pub each : All is_block ys
   pub len : length ys ≡ length xs
-  pub summary : IsSummary w number is_block ys own_summary

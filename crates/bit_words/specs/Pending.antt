@@ -2,7 +2,7 @@
 use Rattle.std.specs.Prelude.{◌≡◌, ℕ, ◌+◌, ◌-◌, ◌*◌, ◌^◌, ◌<◌, ◌≤◌, Bool, true, false, nat_lt, if◌then◌else◌, List, [], ◌∷◌, map, drop, length, All}
 use Rattle.bit_words.specs.Digits.{is_one}
 use Rattle.bit_words.specs.Storage.{value_at}
-use Rattle.bit_words.specs.Summary.{is_used}
+use Rattle.bit_words.specs.Summary.{is_used, short_count}
 
 -- the blocks whose index is pending, each with it, where the first has index k
 abbrev pub pick : {X : Type 0} → (ℕ → Bool) → ℕ → List X → List (ℕ × X)
@@ -18,7 +18,8 @@ is_pending w index m ms k = if nat_lt k (index + w) then is_one m (k - index) el
 abbrev pub pending_from : {X : Type 0} → ℕ → (X → ℕ) → ℕ → ℕ → List X → List (ℕ × X)
 pending_from w number index m xs = pick (is_pending w index m (map number xs)) index (drop index xs)
 
--- The block `pending` of a summary represents w blocks of xs from `index` on, and `summary` for those past them.
+-- The block `pending` of a summary represents w blocks of xs from `index` on, and `summary` is what is stored for those
+-- past them.
 -- From its lowest 1 on it says exactly which of them are not 0.
 pub record IsPending {X : Type 0} (w : ℕ) (number : X → ℕ) (is_block : X → Type 0) (index : ℕ) (pending : X)
     (xs summary : List X) : Type 0 where
@@ -30,9 +31,11 @@ pub record IsPending {X : Type 0} (w : ℕ) (number : X → ℕ) (is_block : X �
   pub inside : (j : ℕ) → j < w → is_one (number pending) j ≡ true → index + j < length xs
   pub exact : (i j : ℕ) → i < j → j < w → is_one (number pending) i ≡ true
       → is_one (number pending) j ≡ is_used (map number xs) (index + j)
-  pub enough : length xs ≤ index + w + length summary * w
+  pub short : length xs ≤ short_count w → summary ≡ []
+  pub enough : short_count w < length xs → length xs ≤ index + w + length summary * w
   pub few : 0 < length summary → index + length summary * w < length xs
-  pub digit : (k : ℕ) → value_at w (map number summary) k ≡ is_used (map number xs) (index + w + k)
+  pub digit : short_count w < length xs → (k : ℕ)
+      → value_at w (map number summary) k ≡ is_used (map number xs) (index + w + k)
 
 -- Of w digits, r has those of m past digit d, and is 1 at d and 0 below it.
 pub record ArePendingFrom (w d m r : ℕ) : Type 0 where

@@ -1,5 +1,5 @@
 -- The summary of a vector of blocks: which of them are not 0. No public clause cites this.
-use Rattle.std.specs.Prelude.{◌≡◌, ℕ, ◌*◌, ◌≤◌, Bool, not, min, max, List, map, length, get_or, ◌==◌, IsTrue, OnErr, OnOk, Result}
+use Rattle.std.specs.Prelude.{◌≡◌, ℕ, ◌*◌, ◌<◌, ◌≤◌, Bool, not, nat_le, if◌then◌else◌, min, max, List, [], map, length, get_or, ◌==◌, IsTrue, OnErr, OnOk, Result}
 use Rattle.bit_words.specs.Bits.{blocks_for}
 use Rattle.bit_words.specs.Storage.{value_at, IsPacked}
 
@@ -13,15 +13,30 @@ pub record IsSummary {X : Type 0} (w : ℕ) (number : X → ℕ) (is_block : X �
   pub packed : IsPacked w number is_block summary (length xs)
   pub digit : (k : ℕ) → value_at w (map number summary) k ≡ is_used (map number xs) k
 
--- The blocks xs hold a list of n values, and this is their summary.
+-- A list of at most so many blocks of w stores no summary: what it would say is soon read off the blocks.
+abbrev pub short_count : ℕ → ℕ
+short_count w = 4 * w
+
+-- how many blocks the summary of that many blocks has, as far as it is stored
+abbrev pub stored_for : ℕ → ℕ → ℕ
+stored_for w count = if nat_le count (short_count w) then 0 else blocks_for w count
+
+-- The blocks xs have this summary, or no stored one where they are few.
+pub record KeepsSummary {X : Type 0} (w : ℕ) (number : X → ℕ) (is_block : X → Type 0) (xs own_summary : List X)
+    : Type 0 where
+  pub short : length xs ≤ short_count w → own_summary ≡ []
+  pub long : short_count w < length xs → IsSummary w number is_block xs own_summary
+
+-- The blocks xs hold a list of n values, and this is the summary that is stored of them.
 pub record IsStored {X : Type 0} (w : ℕ) (number : X → ℕ) (is_block : X → Type 0) (xs own_summary : List X)
     (n : ℕ) : Type 0 where
   pub packed : IsPacked w number is_block xs n
-  pub summary : IsSummary w number is_block xs own_summary
+  pub summary : KeepsSummary w number is_block xs own_summary
 
--- for how many blocks there is capacity, with their summary, where there is capacity for so many blocks of either
+-- for how many blocks there is capacity, with what is stored of their summary, where there is capacity for so many
+-- blocks of either
 abbrev pub shared_capacity : ℕ → ℕ → ℕ → ℕ
-shared_capacity w blocks summary = min blocks (summary * w)
+shared_capacity w blocks summary = min blocks (max (short_count w) (summary * w))
 
 -- A call made capacity for count blocks and their summary, and where that was asked for no more; or it failed. There
 -- was capacity for `blocks` and `summary`, and then for `new_blocks` and `new_summary`.
@@ -29,6 +44,6 @@ pub record MakesSharedCapacity {E : Type 0} (w count : ℕ) (is_exact : Bool) (r
     (blocks summary new_blocks new_summary : ℕ) : Type 0 where
   pub ok : OnOk result (count ≤ shared_capacity w new_blocks new_summary)
   pub exact : IsTrue is_exact → OnOk result (new_blocks ≡ max blocks count)
-  pub exact_summary : IsTrue is_exact → OnOk result (new_summary ≡ max summary (blocks_for w count))
+  pub exact_summary : IsTrue is_exact → OnOk result (new_summary ≡ max summary (stored_for w count))
   pub err : OnErr result (shared_capacity w new_blocks new_summary ≡ shared_capacity w blocks summary)
   pub capacity : shared_capacity w blocks summary ≤ shared_capacity w new_blocks new_summary

@@ -5,8 +5,8 @@ ghost use Rattle.bit_words.specs.Bits.{blocks_for, blocks_of, IsCapacityOfBlocks
 ghost use Rattle.bit_words.specs.Nonzero.{block_and_nonzero, first_and_nonzero};
 
 use crate::packed::access::get_bit;
-use crate::packed::zeros::are_zero;
-use crate::summary::queries::ones_by_summary;
+use crate::summary::queries::{are_zero_by_summary, ones_by_summary};
+use crate::summary::short_limit;
 use std::marker::Model;
 
 mod blocks;
@@ -46,7 +46,7 @@ pub use nonzero::Nonzero;
 #[derive(Drop)]
 pub struct BitVec<B: BitBlock = u32> {
     blocks: Vec<B>,
-    // Which of the blocks are not 0.
+    // Which of the blocks are not 0. Empty where they are few.
     summary: Vec<B>,
     len: usize,
 }
@@ -88,12 +88,12 @@ impl<B: BitBlock> BitVec<B> {
         Some(get_bit(&self.blocks, i))
     }
 
-    /// Whether no value is true. Reads the summary alone: one block of it for as many blocks as a block
-    /// has bits.
+    /// Whether no value is true. Of many blocks it reads the summary alone: one block of it for as many as a block has
+    /// bits.
     pub fn none(&self) -> bool
         ensures { IsTrue result ↔ All (λ bit. bit ≡ false) self.now.values }
     {
-        are_zero(&self.summary)
+        are_zero_by_summary(&self.blocks, &self.summary)
     }
 
     /// How many values are true. Adds up the ones of each block, and passes over as many blocks as a
@@ -112,8 +112,8 @@ impl<B: BitBlock> BitVec<B> {
         ensures fits { IsWithinCapacity self.now }
         ensures whole { IsCapacityOfBlocks B.width self.now }
     {
-        let summarized = self.summary.capacity().saturating_mul(B::bits());
-        let count = self.blocks.capacity().min(summarized);
+        let stored = self.summary.capacity().saturating_mul(B::bits());
+        let count = self.blocks.capacity().min(stored.max(short_limit::<B>()));
         count.saturating_mul(B::bits())
     }
 

@@ -1,18 +1,18 @@
 // The summary of a vector of blocks: a list of bits, one for each block, which says which of them are not 0. It is kept
 // in blocks as well, and so changed by `packed`. This folder is the only code that keeps the two in step.
-ghost use Rattle.std.specs.Prelude.{◌≡◌, ◌≢◌, ℕ, ◌+◌, ◌*◌, ◌/◌, ◌^◌, ◌<◌, ◌≤◌, ◌==◌, ◌&&◌, ◌||◌, All, IfOk, IsOk, get_or, not, nat_lt, length, map, false, true, vec_len, vec_capacity};
+ghost use Rattle.std.specs.Prelude.{◌≡◌, ◌≢◌, ℕ, ◌+◌, ◌-◌, ◌*◌, ◌/◌, ◌^◌, ◌<◌, ◌≤◌, ◌==◌, ◌&&◌, ◌||◌, All, IfOk, IsOk, get_or, not, nat_le, nat_lt, [], length, map, min, false, true, vec_len, vec_capacity};
 ghost use Rattle.bit_words.specs.Bits.{blocks_for};
 ghost use Rattle.bit_words.specs.Digits.{is_one};
 ghost use Rattle.bit_words.specs.Storage.{value_at, IsPacked};
-ghost use Rattle.bit_words.specs.Summary.{is_used, IsSummary};
+ghost use Rattle.bit_words.specs.Summary.{is_used, short_count, stored_for, IsSummary, KeepsSummary};
 
 use crate::block::BitBlock;
-use crate::block::masks::with_bit;
+use crate::block::masks::with_one_if;
 use crate::block::operators::{block_or, same, shift_left};
 use crate::packed::access::{block_at, block_count, put_block, replace_bit, write_bit};
 use crate::packed::copies::push_copies;
-use crate::packed::groups::GROUP;
-use crate::packed::resizing::{append_bits, truncate_bits};
+use crate::packed::groups::{GROUP, LONG_GROUP};
+use crate::packed::resizing::{append_bits, repeated_bit, truncate_bits};
 use std::alloc::{AllocError, Global};
 
 pub(crate) mod copies_of_both;
@@ -84,7 +84,7 @@ fn used_bits<B: BitBlock>(blocks: &[B], start: usize, count: usize) -> B
 {
     let mut digits = B::zero();
     for j in 0..count {
-        digits = with_bit(digits, j, is_nonzero(block_at(blocks, start + j)));
+        digits = with_one_if(digits, j, is_nonzero(block_at(blocks, start + j)));
     }
     digits
 }
@@ -109,17 +109,36 @@ fn bits_of_groups<B: BitBlock>(blocks: &[B], start: usize, groups: usize) -> B
     digits
 }
 
-// Block `q` of the summary.
+// The block of a summary that is about the blocks from `start` on, as many as a block has bits.
 #[inline]
-pub(crate) fn summary_block<B: BitBlock>(blocks: &[B], q: usize) -> B
-    requires in_bounds { q * B.width ≤ length blocks.now }
+pub(crate) fn used_from<B: BitBlock>(blocks: &[B], start: usize) -> B
+    requires in_bounds { start ≤ length blocks.now }
     requires each { All B.is_block blocks.now }
     ensures of_block { B.is_block result }
     ensures digits { (j : ℕ) → j < B.width
-        → is_one (B.number result) j ≡ is_used (map B.number blocks.now) (q * B.width + j) }
+        → is_one (B.number result) j ≡ is_used (map B.number blocks.now) (start + j) }
 {
-    let start = q * B::bits();
     let count = (blocks.len() - start).min(B::bits());
+    if count < GROUP {
+        return used_bits(blocks, start, count);
+    }
+    bits_from(blocks, start, count)
+}
+
+// Which of the `count` blocks from `start` on are not 0, a group at a time.
+#[inline(never)]
+fn bits_from<B: BitBlock>(blocks: &[B], start: usize, count: usize) -> B
+    requires in_bounds { start + count ≤ length blocks.now }
+    requires within { count ≤ B.width }
+    requires each { All B.is_block blocks.now }
+    ensures of_block { B.is_block result }
+    ensures digits { (j : ℕ) → j < B.width
+        → is_one (B.number result) j ≡ (nat_lt j count && is_used (map B.number blocks.now) (start + j)) }
+{
+    // Most often over blocks of 32 bits, and then vector code with nothing left over.
+    if count == LONG_GROUP {
+        return used_bits(blocks, start, LONG_GROUP);
+    }
     let groups = count / GROUP;
     let digits = bits_of_groups(blocks, start, groups);
     let index = groups * GROUP;
@@ -128,6 +147,56 @@ pub(crate) fn summary_block<B: BitBlock>(blocks: &[B], q: usize) -> B
     }
     let rest = used_bits(blocks, start + index, count - index);
     block_or(digits, shift_left(rest, index))
+}
+
+// A list of at most four times as many blocks as one has bits stores no summary: what that would say is soon read off
+// the blocks.
+const SHORT: usize = 4;
+
+// How many blocks such a list has at most.
+#[inline]
+pub(crate) fn short_limit<B: BitBlock>() -> usize
+    ensures { result ≡ min (short_count B.width) (2 ^ 64 - 1) }
+{
+    B::bits().saturating_mul(SHORT)
+}
+
+// Whether a list of so many blocks stores no summary.
+#[inline]
+pub(crate) fn is_short<B: BitBlock>(count: usize) -> bool
+    ensures { result ≡ nat_le count (short_count B.width) }
+{
+    count <= short_limit::<B>()
+}
+
+// How many blocks of a summary a list of so many blocks stores.
+#[inline]
+pub(crate) fn stored_count<B: BitBlock>(count: usize) -> usize
+    ensures { result ≡ stored_for B.width count }
+{
+    if is_short::<B>(count) {
+        0
+    } else {
+        block_count::<B>(count)
+    }
+}
+
+// The summary of blocks of which each is 0, or none is.
+pub(crate) fn uniform_summary<B: BitBlock>(
+    alloc: Global,
+    blocks: &[B],
+    bit: bool,
+) -> Result<Vec<B>, AllocError>
+    requires blocks { All B.is_block blocks.now }
+    requires uniform { (k : ℕ) → k < length blocks.now → is_used (map B.number blocks.now) k ≡ bit }
+    ensures summary { IfOk result (λ summary. KeepsSummary B.width B.number B.is_block blocks.now summary.items) }
+    ensures capacity { IfOk result (λ summary. vec_capacity summary ≡ stored_for B.width (length blocks.now)) }
+    ensures short { length blocks.now ≤ short_count B.width → IsOk result }
+{
+    if is_short::<B>(blocks.len()) {
+        return Ok(Vec::new(alloc));
+    }
+    repeated_bit(alloc, blocks.len(), bit)
 }
 
 // Makes the summary anew, over one that has as many blocks as it takes.
@@ -140,18 +209,21 @@ fn summarize<B: BitBlock>(summary: &mut Vec<B>, blocks: &[B])
     ensures capacity { vec_capacity summary.new ≡ vec_capacity summary.old }
 {
     for q in 0..summary.len() {
-        put_block(summary, q, summary_block(blocks, q));
+        put_block(summary, q, used_from(blocks, q * B::bits()));
     }
 }
 
-// A summary of its own for the blocks. Fails only where memory runs out, and never for none.
+// A summary of its own for the blocks, empty where they are few. Fails only where memory runs out, and never for few.
 pub(crate) fn summary_of<B: BitBlock>(alloc: Global, blocks: &[B]) -> Result<Vec<B>, AllocError>
     requires blocks { All B.is_block blocks.now }
     requires fits { length blocks.now < 2 ^ 64 }
-    ensures summary { IfOk result (λ summary. IsSummary B.width B.number B.is_block blocks.now summary.items) }
-    ensures capacity { IfOk result (λ summary. vec_capacity summary ≡ blocks_for B.width (length blocks.now)) }
-    ensures empty { length blocks.now ≡ 0 → IsOk result }
+    ensures summary { IfOk result (λ summary. KeepsSummary B.width B.number B.is_block blocks.now summary.items) }
+    ensures capacity { IfOk result (λ summary. vec_capacity summary ≡ stored_for B.width (length blocks.now)) }
+    ensures short { length blocks.now ≤ short_count B.width → IsOk result }
 {
+    if is_short::<B>(blocks.len()) {
+        return Ok(Vec::new(alloc));
+    }
     let count = block_count::<B>(blocks.len());
     let mut summary = Vec::with_capacity(alloc, count)?;
     push_copies(&mut summary, count, B::zero());
@@ -159,8 +231,40 @@ pub(crate) fn summary_of<B: BitBlock>(alloc: Global, blocks: &[B]) -> Result<Vec
     Ok(summary)
 }
 
+// The summary of `blocks`, of which there will be `count`, is made where it is to be stored and is not yet. There is
+// capacity for it.
+#[inline]
+pub(crate) fn store_summary<B: BitBlock>(summary: &mut Vec<B>, blocks: &[B], count: usize)
+    requires keeps { KeepsSummary B.width B.number B.is_block blocks.now summary.old.items }
+    requires blocks { All B.is_block blocks.now }
+    requires longer { length blocks.now ≤ count }
+    requires capacity { stored_for B.width count ≤ vec_capacity summary.old }
+    ensures short { count ≤ short_count B.width → summary.new.items ≡ [] }
+    ensures long { short_count B.width < count → IsSummary B.width B.number B.is_block blocks.now summary.new.items }
+    ensures capacity { vec_capacity summary.new ≡ vec_capacity summary.old }
+{
+    if is_short::<B>(blocks.len()) && !is_short::<B>(count) {
+        store_short(summary, blocks);
+    }
+}
+
+// The same where it is. It is rare, and so a call of its own.
+#[cold]
+#[inline(never)]
+fn store_short<B: BitBlock>(summary: &mut Vec<B>, blocks: &[B])
+    requires none { summary.old.items ≡ [] }
+    requires blocks { All B.is_block blocks.now }
+    requires fits { length blocks.now < 2 ^ 64 }
+    requires capacity { blocks_for B.width (length blocks.now) ≤ vec_capacity summary.old }
+    ensures summary { IsSummary B.width B.number B.is_block blocks.now summary.new.items }
+    ensures capacity { vec_capacity summary.new ≡ vec_capacity summary.old }
+{
+    push_copies(summary, block_count::<B>(blocks.len()), B::zero());
+    summarize(summary, blocks);
+}
+
 // The summary of `old` blocks becomes that of the longer list: each of the new ones is 0, or none of them is, and
-// then the last of the old ones may have changed. There is capacity for it.
+// then the last of the old ones may have changed. There is capacity for it. Where they are few, none is stored.
 #[inline]
 pub(crate) fn append_to_summary<B: BitBlock>(
     summary: &mut Vec<B>,
@@ -168,18 +272,23 @@ pub(crate) fn append_to_summary<B: BitBlock>(
     old: usize,
     bit: bool,
 )
-    requires packed { IsPacked B.width B.number B.is_block summary.old.items old }
+    requires none { length blocks.now ≤ short_count B.width → summary.old.items ≡ [] }
+    requires packed { short_count B.width < length blocks.now
+        → IsPacked B.width B.number B.is_block summary.old.items old }
     requires blocks { All B.is_block blocks.now }
     requires longer { old ≤ length blocks.now }
-    requires capacity { blocks_for B.width (length blocks.now) ≤ vec_capacity summary.old }
-    requires before { (k : ℕ) → k + 1 < old
+    requires capacity { stored_for B.width (length blocks.now) ≤ vec_capacity summary.old }
+    requires before { short_count B.width < length blocks.now → (k : ℕ) → k + 1 < old
         → value_at B.width (map B.number summary.old.items) k ≡ is_used (map B.number blocks.now) k }
-    requires last { bit ≡ false → (k : ℕ) → k < old
+    requires last { short_count B.width < length blocks.now → bit ≡ false → (k : ℕ) → k < old
         → value_at B.width (map B.number summary.old.items) k ≡ is_used (map B.number blocks.now) k }
     requires after { (k : ℕ) → old ≤ k → k < length blocks.now → is_used (map B.number blocks.now) k ≡ bit }
-    ensures summary { IsSummary B.width B.number B.is_block blocks.now summary.new.items }
+    ensures summary { KeepsSummary B.width B.number B.is_block blocks.now summary.new.items }
     ensures capacity { vec_capacity summary.new ≡ vec_capacity summary.old }
 {
+    if is_short::<B>(blocks.len()) {
+        return;
+    }
     append_bits(summary, old, blocks.len(), bit);
     if bit && old != 0 {
         update_summary_at(summary, blocks, old - 1);
@@ -187,18 +296,20 @@ pub(crate) fn append_to_summary<B: BitBlock>(
 }
 
 // The summary of `old` blocks becomes that of the first of them that are left, the last of which may
-// have changed.
+// have changed. Where these are few, none is stored.
 pub(crate) fn cut_summary<B: BitBlock>(summary: &mut Vec<B>, blocks: &[B], old: usize)
-    requires packed { IsPacked B.width B.number B.is_block summary.old.items old }
+    requires packed { short_count B.width < old → IsPacked B.width B.number B.is_block summary.old.items old }
     requires blocks { All B.is_block blocks.now }
     requires shorter { length blocks.now ≤ old }
-    requires before { (k : ℕ) → k + 1 < length blocks.now
+    requires before { short_count B.width < old → (k : ℕ) → k + 1 < length blocks.now
         → value_at B.width (map B.number summary.old.items) k ≡ is_used (map B.number blocks.now) k }
-    ensures summary { IsSummary B.width B.number B.is_block blocks.now summary.new.items }
+    ensures summary { KeepsSummary B.width B.number B.is_block blocks.now summary.new.items }
     ensures capacity { vec_capacity summary.new ≡ vec_capacity summary.old }
 {
-    truncate_bits(summary, old, blocks.len());
-    if blocks.len() != 0 {
-        update_summary_at(summary, blocks, blocks.len() - 1);
+    if is_short::<B>(blocks.len()) {
+        summary.clear();
+        return;
     }
+    truncate_bits(summary, old, blocks.len());
+    update_summary_at(summary, blocks, blocks.len() - 1);
 }

@@ -1,6 +1,6 @@
 //! The walk over the blocks that are not zero, and what goes by the summary: at the ends of its blocks.
 use crate::lists::list_of;
-use bit_words::bit_vec::{BitBlock, BitVec, Nonzero};
+use bit_words::bit_vec::{BitBlock, BitVec, Merge, Nonzero, Steps};
 use block24::Block24;
 use std::alloc::{AllocError, AllocFailed, Global};
 use std::fmt::Debug;
@@ -12,6 +12,11 @@ fn put<B: BitBlock>(bits: &mut BitVec<B>, place: usize, bit: bool) {
     if place < bits.len() {
         bits.set(place, bit);
     }
+}
+
+// Appends so many values where a list may be so long.
+fn grow_by<B: BitBlock>(bits: &mut BitVec<B>, n: usize, bit: bool) -> Result<(), AllocError> {
+    bits.grow(n.min(usize::MAX - bits.len()), bit)
 }
 
 fn next_index<B: BitBlock>(walk: &mut Nonzero<'_, B>) -> Option<usize> {
@@ -42,17 +47,19 @@ fn the_first_block_and_those_that_are_not_zero_come(rt: HostRuntime) -> Result<(
 }
 
 // The first and the last blocks that a block of the summary says of: all that lie between are passed over, and
-// each of these is found.
+// each of these is found. One value more, and the summary is stored.
 fn ends_are_found<B: BitBlock>(
     rt: &impl Abort,
     alloc: Global,
     (len, trues): (usize, &[usize]),
     found: [usize; 4],
 ) -> Result<(), AllocError> {
-    let bits = list_of::<B>(alloc, len, trues)?;
-    assert_eq!(rt; indices(&bits), found.map(Some));
-    assert_eq!(rt; bits.count_ones(), trues.len());
-    assert!(rt; !bits.none());
+    for more in 0..2 {
+        let bits = list_of::<B>(alloc, len.saturating_add(more), trues)?;
+        assert_eq!(rt; indices(&bits), found.map(Some));
+        assert_eq!(rt; bits.count_ones(), trues.len());
+        assert!(rt; !bits.none());
+    }
     Ok(())
 }
 
@@ -162,11 +169,38 @@ fn agree_over_summaries<B: BitBlock + Debug>(
     Ok(())
 }
 
+// Over `u8` 256 values are the most whose summary is not stored.
+#[test]
+fn a_list_grows_past_the_limit_and_is_cut_back(rt: HostRuntime) -> Result<(), Fail> {
+    let alloc = rt.alloc();
+    let mut bits = list_of::<u8>(alloc, 256, &[0, 9, 255])?;
+    let few = bits.clone(alloc)?;
+    grow_by(&mut bits, 1, true)?;
+    assert_eq!(rt; indices(&bits), [Some(0), Some(1), Some(31), Some(32)]);
+    bits.truncate(256);
+    assert_eq!(rt; indices(&bits), [Some(0), Some(1), Some(31), None]);
+    grow_by(&mut bits, 64, false)?;
+    bits.fill(false);
+    assert!(rt; bits.none());
+    put(&mut bits, 319, true);
+    if few.len() <= bits.len() {
+        bits.merge_blocks(&few, Merge::Union, &mut Steps::new());
+    }
+    assert_eq!(rt; indices(&bits), [Some(0), Some(1), Some(31), Some(39)]);
+    let mut copy = few.clone(alloc)?;
+    copy.clone_from(&bits)?;
+    assert_eq!(rt; indices(&copy), [Some(0), Some(1), Some(31), Some(39)]);
+    copy.clone_from(&few)?;
+    assert_eq!(rt; indices(&copy), [Some(0), Some(1), Some(31), None]);
+    Ok(())
+}
+
 #[test]
 fn a_walk_is_its_list_at_each_point(rt: HostRuntime) -> Result<(), Fail> {
     let alloc = rt.alloc();
     let narrow: [&[usize]; 6] = [&[], &[0], &[63], &[67], &[0, 127], &[63, 64, 191]];
     agree_over_summaries::<u8>(&rt, alloc, &narrow, 192)?;
+    agree_over_summaries::<u8>(&rt, alloc, &narrow, 320)?;
     let odd: [&[usize]; 6] = [&[], &[0], &[575], &[579], &[0, 1151], &[575, 576, 1727]];
     agree_over_summaries::<Block24>(&rt, alloc, &odd, 1728)?;
     let wide: [&[usize]; 6] = [

@@ -3,7 +3,7 @@
 /// Memory that a call may ask for.
 #[derive(Clone, Copy)]
 pub enum Ask {
-    /// The blocks of a list of this length and their summary, and no more.
+    /// The blocks of a list of this length and their summary, where one is stored, and no more.
     Exact(usize),
     /// The same where they grow: for each of the two twice what it takes, and 8 blocks at least.
     Grown(usize),
@@ -27,14 +27,21 @@ fn asked(blocks: usize, grows: bool) -> usize {
     }
 }
 
-// A list of this length, over blocks of so many bits: its blocks, and a bit for each of them.
+// A list of this length, over blocks of so many bits: its blocks, and a bit for each of them where there are more than
+// four times as many as a block has bits.
 fn bound_of_list(len: usize, width: usize, grows: bool) -> Bound {
     let count = len.div_ceil(width.max(1));
-    let rows = count.div_ceil(width.max(1));
-    let blocks = asked(count, grows).saturating_add(asked(rows, grows));
+    let blocks = asked(count, grows);
+    if count <= width.saturating_mul(4) {
+        return Bound {
+            requests: 1,
+            bytes: blocks.saturating_mul(width / 8),
+        };
+    }
+    let rows = asked(count.div_ceil(width.max(1)), grows);
     Bound {
         requests: 2,
-        bytes: blocks.saturating_mul(width / 8),
+        bytes: blocks.saturating_add(rows).saturating_mul(width / 8),
     }
 }
 

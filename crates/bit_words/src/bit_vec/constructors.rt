@@ -11,7 +11,7 @@ use crate::packed::copies::copy_of;
 use crate::packed::resizing::repeated_bit;
 use crate::packed::tail_copies::copy_bits_from;
 use crate::summary::copies_of_both::copy_summary_from;
-use crate::summary::summary_of;
+use crate::summary::{summary_of, uniform_summary};
 use std::alloc::{AllocError, AllocFailed, Global};
 use thiserror::Error;
 
@@ -101,7 +101,7 @@ impl<B: BitBlock> BitVec<B> {
         ensures empty { n ≡ 0 → IsOk result }
     {
         let blocks = repeated_bit(alloc, n, bit)?;
-        let summary = repeated_bit(alloc, blocks.len(), bit)?;
+        let summary = uniform_summary(alloc, &blocks, bit)?;
         Ok(BitVec {
             blocks,
             summary,

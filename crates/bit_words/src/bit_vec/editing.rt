@@ -4,11 +4,11 @@ ghost use Rattle.bit_words.specs.Bits.{blocks_for, capacity_of};
 
 use crate::bit_vec::BitVec;
 use crate::block::BitBlock;
-use crate::packed::access::{block_at, block_count, block_index, replace_bit};
+use crate::packed::access::{block_at, block_count, block_index, get_bit, replace_bit};
 use crate::packed::resizing::{append_bits, fill_bits, truncate_bits};
 use crate::summary::copies_of_both::take_over;
 use crate::summary::shared_capacity::reserve_shared;
-use crate::summary::{append_to_summary, cut_summary, update_summary_bit};
+use crate::summary::{append_to_summary, cut_summary, is_short, store_summary, update_summary_bit};
 use std::alloc::AllocError;
 
 impl<B: BitBlock> BitVec<B> {
@@ -31,10 +31,16 @@ impl<B: BitBlock> BitVec<B> {
         ensures values { self.new.values ≡ slice_set self.old.values i bit }
         ensures capacity { self.new.capacity ≡ self.old.capacity }
     {
+        // Read where the two ways are one, so that the bit is tested by one instruction.
+        let was = get_bit(&self.blocks, i);
+        if is_short::<B>(self.blocks.len()) {
+            let _same = replace_bit(&mut self.blocks, i, bit);
+            return was;
+        }
         let k = block_index::<B>(i);
         // Read before the block is written, so that a bit of it is set in a register and not in memory.
         let current = block_at(&self.summary, block_index::<B>(k));
-        let was = replace_bit(&mut self.blocks, i, bit);
+        let _same = replace_bit(&mut self.blocks, i, bit);
         let block = block_at(&self.blocks, k);
         update_summary_bit(&mut self.summary, current, k, block, bit);
         was
@@ -46,7 +52,9 @@ impl<B: BitBlock> BitVec<B> {
         ensures capacity { self.new.capacity ≡ self.old.capacity }
     {
         fill_bits(&mut self.blocks, self.len, bit);
-        fill_bits(&mut self.summary, self.blocks.len(), bit);
+        if !is_short::<B>(self.blocks.len()) {
+            fill_bits(&mut self.summary, self.blocks.len(), bit);
+        }
     }
 
     /// Keeps the first `n` values; nothing where there are no more. Writes one block at most.
@@ -112,6 +120,7 @@ impl<B: BitBlock> BitVec<B> {
         let len = self.len + n;
         let count = block_count::<B>(len);
         reserve_shared(&mut self.blocks, &mut self.summary, count, false)?;
+        store_summary(&mut self.summary, &self.blocks, count);
         let old = self.blocks.len();
         append_bits(&mut self.blocks, self.len, len, bit);
         append_to_summary(&mut self.summary, &self.blocks, old, bit);

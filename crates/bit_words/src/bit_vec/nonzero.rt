@@ -1,11 +1,12 @@
 // The walk over the blocks of a bit vector that are not 0, by its summary.
-ghost use Rattle.std.specs.Prelude.{◌≡◌, ◌-◌, ◌/◌, ◌<◌, ◌^◌, min, All, Some, drop, length, slice_get};
+ghost use Rattle.std.specs.Prelude.{◌≡◌, ℕ, ◌+◌, ◌-◌, ◌/◌, ◌<◌, ◌≤◌, ◌^◌, min, All, Some, drop, length, map, slice_get};
 ghost use Rattle.std.specs.Iterator.{item_count};
 ghost use Rattle.bit_words.specs.Bits.{blocks_for};
-ghost use Rattle.bit_words.specs.Digits.{IsEither};
+ghost use Rattle.bit_words.specs.Digits.{IsEither, is_one};
 ghost use Rattle.bit_words.specs.Nonzero.{block_and_nonzero, first_and_nonzero, ones_left};
 ghost use Rattle.bit_words.specs.Pending.{ArePendingFrom};
-ghost use Rattle.bit_words.specs.Summary.{IsSummary};
+ghost use Rattle.bit_words.specs.Storage.{value_at};
+ghost use Rattle.bit_words.specs.Summary.{is_used, KeepsSummary};
 
 use crate::bit_vec::Blocks;
 use crate::block::BitBlock;
@@ -15,14 +16,16 @@ use crate::block::operators::block_or;
 use crate::packed::ones::ones_of;
 use crate::steps::Steps;
 use crate::summary::queries::{first_blocks, ones_by_summary};
+use crate::summary::used_from;
 use std::marker::Model;
 
 /// A walk over the blocks of a bit vector that are not zero, each with its index, in ascending order. The
 /// first block comes in any case, zero or not. It finds them by the summary, and so passes over as many
-/// zero blocks at once as a block has bits.
+/// zero blocks at once as a block has bits. Of few blocks no summary is stored: what its next block would be is made
+/// of the blocks that it is about.
 ///
 /// Contracts see all its blocks, those that are left, `pulls`, how many calls of `next` there were, and how many
-/// times a block of the summary was pulled.
+/// times a block of the summary was pulled, stored or made.
 #[derive(Drop)]
 pub struct Nonzero<'a, B: BitBlock> {
     blocks: &'a [B],
@@ -35,7 +38,8 @@ pub struct Nonzero<'a, B: BitBlock> {
 }
 
 impl<'a, B: BitBlock> Model for Nonzero<'a, B> {
-    ghost use Rattle.std.specs.Prelude.{length, map};
+    ghost use Rattle.std.specs.Prelude.{◌+◌, ◌-◌, length, map};
+    ghost use Rattle.bit_words.specs.Bits.{blocks_for};
     ghost use Rattle.bit_words.specs.Nonzero.{Nonzeros};
     ghost use Rattle.bit_words.specs.Pending.{IsPending, pending_from};
 
@@ -46,7 +50,7 @@ impl<'a, B: BitBlock> Model for Nonzero<'a, B> {
       left = pending_from B.width B.number it.index (B.number it.pending) it.blocks.now;
       pulls = it.steps;
       summary_pulls = it.summary.pulls;
-      summary_left = length it.summary.left;
+      summary_left = blocks_for B.width (length it.blocks.now - (it.index + B.width));
     } };
 
     ghost invariant = { λ it. IsPending B.width B.number B.is_block it.index it.pending it.blocks.now it.summary.left };
@@ -58,22 +62,18 @@ impl<'a, B: BitBlock> Nonzero<'a, B> {
     pub(crate) fn over(blocks: &'a [B], summary: &'a [B]) -> Self
         requires each { All B.is_block blocks.now }
         requires fits { length blocks.now < 2 ^ 64 }
-        requires summary { IsSummary B.width B.number B.is_block blocks.now summary.now }
+        requires summary { KeepsSummary B.width B.number B.is_block blocks.now summary.now }
         ensures blocks { result.blocks ≡ blocks.now }
         ensures left { result.left ≡ first_and_nonzero B.number blocks.now }
         ensures pulls { result.pulls ≡ 0 }
-        ensures summary_pulls { result.summary_pulls ≡ min 1 (length summary.now) }
-        ensures summary_left { result.summary_left ≡ length summary.now - 1 }
+        ensures summary_pulls { result.summary_pulls ≡ min 1 (blocks_for B.width (length blocks.now)) }
+        ensures summary_left { result.summary_left ≡ blocks_for B.width (length blocks.now) - 1 }
     {
         let mut rest = Blocks::over(summary);
-        let first = if summary.is_empty() {
-            None
+        let pending = if blocks.is_empty() {
+            B::zero()
         } else {
-            rest.next()
-        };
-        let pending = match first {
-            Some(first) => with_first_pending(first),
-            None => B::zero(),
+            with_first_pending(pull_used(&mut rest, blocks, 0))
         };
         Nonzero {
             blocks,
@@ -89,25 +89,23 @@ impl<'a, B: BitBlock> Nonzero<'a, B> {
     pub(crate) fn over_from(blocks: &'a [B], summary: &'a [B], from: usize) -> Self
         requires each { All B.is_block blocks.now }
         requires fits { length blocks.now < 2 ^ 64 }
-        requires summary { IsSummary B.width B.number B.is_block blocks.now summary.now }
+        requires summary { KeepsSummary B.width B.number B.is_block blocks.now summary.now }
         requires inside { from < length blocks.now }
         ensures blocks { result.blocks ≡ blocks.now }
         ensures left { result.left ≡ block_and_nonzero B.number from (drop from blocks.now) }
         ensures pulls { result.pulls ≡ 0 }
         ensures summary_pulls { result.summary_pulls ≡ 1 }
-        ensures summary_left { result.summary_left ≡ length summary.now - 1 - from / B.width }
+        ensures summary_left { result.summary_left ≡ blocks_for B.width (length blocks.now) - 1 - from / B.width }
     {
         let chunk = from / B::bits();
-        let mut rest = Blocks::over(summary.split_at(chunk).1);
-        let pending = match rest.next() {
-            Some(chunk_pending) => with_pending_from(chunk_pending, from % B::bits()),
-            None => B::zero(),
-        };
+        let index = chunk * B::bits();
+        let mut rest = Blocks::over(summary.split_at(chunk.min(summary.len())).1);
+        let used = pull_used(&mut rest, blocks, index);
         Nonzero {
             blocks,
             summary: rest,
-            pending,
-            index: chunk * B::bits(),
+            pending: with_pending_from(used, from % B::bits()),
+            index,
             steps: Steps::new(),
         }
     }
@@ -161,18 +159,58 @@ impl<'a, B: BitBlock> Iterator for Nonzero<'a, B> {
     ghost remaining = { item_count (λ walk. walk.left) };
 
     /// The next block that is not zero, or the first block, with its index.
-    #[inline]
+    // Where a walk is made, the compiler knows that the first block comes, and leaves the loop out.
+    #[inline(always)]
     fn next(&mut self) -> Option<(usize, B)> {
         self.steps.tick();
         while self.pending == B::zero() {
             // `index` goes with the block of the summary in hand: on by those that are passed over, and by one more
-            // only where one is pulled. At the end there is none, and `index` must not leave the blocks.
+            // only where there are blocks for it.
             self.index += self.summary.pass_zeros() * B::bits();
-            self.pending = self.summary.next()?;
+            if self.blocks.len() - self.index <= B::bits() {
+                let _end = self.summary.next();
+                return None;
+            }
             self.index += B::bits();
+            self.pending = pull_used(&mut self.summary, self.blocks, self.index);
         }
         let k = self.index + take_lowest_one(&mut self.pending);
         Some((k, at(self.blocks, k)))
+    }
+}
+
+// The block of a summary that would be about the blocks from `start` on. It is rare, and so a call of its own: then a
+// walk stays in registers.
+#[cold]
+#[inline(never)]
+fn made_of<B: BitBlock>(blocks: &[B], start: usize) -> B
+    requires in_bounds { start ≤ length blocks.now }
+    requires each { All B.is_block blocks.now }
+    ensures of_block { B.is_block result }
+    ensures digits { (j : ℕ) → j < B.width
+        → is_one (B.number result) j ≡ is_used (map B.number blocks.now) (start + j) }
+{
+    used_from(blocks, start)
+}
+
+// The next block of the summary, which is about the blocks from `start` on; made of these where none is stored.
+// Counts one pull.
+#[inline]
+fn pull_used<B: BitBlock>(summary: &mut Blocks<'_, B>, blocks: &[B], start: usize) -> B
+    requires in_bounds { start ≤ length blocks.now }
+    requires each { All B.is_block blocks.now }
+    requires each_sum { All B.is_block summary.old.left }
+    requires stored { 0 < length summary.old.left → (k : ℕ)
+        → value_at B.width (map B.number summary.old.left) k ≡ is_used (map B.number blocks.now) (start + k) }
+    ensures of_block { B.is_block result }
+    ensures digits { (j : ℕ) → j < B.width
+        → is_one (B.number result) j ≡ is_used (map B.number blocks.now) (start + j) }
+    ensures left { summary.new.left ≡ drop 1 summary.old.left }
+    ensures pulls { summary.new.pulls ≡ summary.old.pulls + 1 }
+{
+    match summary.next() {
+        Some(used) => used,
+        None => made_of(blocks, start),
     }
 }
 

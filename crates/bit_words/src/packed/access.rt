@@ -8,7 +8,6 @@ use crate::block::BitBlock;
 use crate::block::masks::{cut_from, with_bit, with_ones_between, with_ones_from};
 use crate::block::operators::has_one_at;
 use crate::packed::groups::FEW;
-use std::mem::replace;
 
 // How many blocks a list of `len` values has.
 #[inline]
@@ -163,23 +162,21 @@ pub(crate) fn clear_from<B: BitBlock>(blocks: &mut Vec<B>, len: usize)
     put_block(blocks, k, block);
 }
 
-// The blocks, of which each of the first `count` is now `block`. The loop owns the vector, so that it writes nothing
-// but blocks: it becomes a `memset` or vector code.
-fn filled_blocks<B: BitBlock>(mut blocks: Vec<B>, count: usize, block: B) -> Vec<B>
-    requires in_bounds { count ≤ vec_len blocks }
-    requires each { All B.is_block blocks.items }
+// Each of the first `count` blocks becomes `block`, as they are lent as a slice: it becomes a `memset` or vector code.
+#[inline]
+fn fill_slice<B: BitBlock>(blocks: &mut [B], count: usize, block: B)
+    requires in_bounds { count ≤ length blocks.old }
+    requires each { All B.is_block blocks.old }
     requires of_block { B.is_block block }
-    ensures filled { (k : ℕ) → k < count → get_or (map B.number result.items) k 0 ≡ B.number block }
+    ensures filled { (k : ℕ) → k < count → get_or (map B.number blocks.new) k 0 ≡ B.number block }
     ensures others { (k : ℕ) → count ≤ k
-        → get_or (map B.number result.items) k 0 ≡ get_or (map B.number blocks.items) k 0 }
-    ensures each { All B.is_block result.items }
-    ensures len { vec_len result ≡ vec_len blocks }
-    ensures capacity { vec_capacity result ≡ vec_capacity blocks }
+        → get_or (map B.number blocks.new) k 0 ≡ get_or (map B.number blocks.old) k 0 }
+    ensures each { All B.is_block blocks.new }
+    ensures len { length blocks.new ≡ length blocks.old }
 {
     for k in 0..count {
-        put_block(&mut blocks, k, block);
+        put_in(blocks, k, block);
     }
-    blocks
 }
 
 // Each of the first `count` blocks becomes `block`, one by one.
@@ -216,7 +213,5 @@ pub(crate) fn fill_blocks<B: BitBlock>(blocks: &mut Vec<B>, count: usize, block:
         fill_each(blocks, count, block);
         return;
     }
-    let alloc = *blocks.allocator();
-    let owned = replace(blocks, Vec::new(alloc));
-    *blocks = filled_blocks(owned, count, block);
+    fill_slice(blocks.as_mut_slice(), count, block);
 }

@@ -65,6 +65,7 @@ fn with_blocks<B: BitBlock>(mut blocks: Vec<B>, more: &[B]) -> Vec<B>
 
 // The blocks with `more` after them, which take all the capacity that is left. A `memcpy`, which a loop is not.
 // That it keeps the capacity is so, but std does not say it: so it is tested.
+#[inline]
 pub(crate) fn filled_with<B: BitBlock>(mut blocks: Vec<B>, more: &[B]) -> Result<Vec<B>, AllocError>
     requires { vec_len blocks + length more.now ≡ vec_capacity blocks }
     ensures items { IfOk result (λ filled. filled.items ≡ blocks.items ++ more.now) }
@@ -84,12 +85,16 @@ pub(crate) fn filled_with<B: BitBlock>(mut blocks: Vec<B>, more: &[B]) -> Result
 }
 
 // A new vector of the same blocks, with capacity for no more.
+#[inline]
 pub(crate) fn copy_of<B: BitBlock>(alloc: Global, blocks: &[B]) -> Result<Vec<B>, AllocError>
     ensures items { IfOk result (λ copy. copy.items ≡ blocks.now) }
     ensures len { IfOk result (λ copy. vec_len copy ≡ length blocks.now) }
     ensures capacity { IfOk result (λ copy. vec_capacity copy ≡ length blocks.now) }
     ensures empty { length blocks.now ≡ 0 → IsOk result }
 {
+    if blocks.is_empty() {
+        return Ok(Vec::new(alloc));
+    }
     filled_with(Vec::with_capacity(alloc, blocks.len())?, blocks)
 }
 

@@ -1,14 +1,13 @@
 // Copies of blocks together with their summary, whole or from a block on.
 ghost use Rattle.std.specs.Prelude.{◌≡◌, ◌-◌, ◌<◌, ◌≤◌, All, IfOk, OnErr, OnOk, length, map, max, vec_capacity, ℕ, false};
-ghost use Rattle.bit_words.specs.Bits.{blocks_for};
-ghost use Rattle.bit_words.specs.Summary.{shared_capacity, is_used, IsSummary};
+ghost use Rattle.bit_words.specs.Summary.{shared_capacity, is_used, short_count, stored_for, KeepsSummary};
 ghost use Rattle.bit_words.specs.Storage.{value_at, IsPacked};
 
 use crate::block::BitBlock;
 use crate::packed::copies::{copy_blocks, copy_of};
 use crate::packed::tail_copies::copy_bits_from;
 use crate::summary::shared_capacity::have_capacity;
-use crate::summary::update_summary_at;
+use crate::summary::{is_short, update_summary_at};
 use std::alloc::{AllocError, Global};
 
 // The blocks become those of `from`, and so does their summary. Where capacity for either is missing, both are
@@ -19,7 +18,7 @@ pub(crate) fn take_over<B: BitBlock>(
     from: &[B],
     from_summary: &[B],
 ) -> Result<(), AllocError>
-    requires count { length from_summary.now ≡ blocks_for B.width (length from.now) }
+    requires count { length from_summary.now ≡ stored_for B.width (length from.now) }
     ensures items { OnOk result (blocks.new.items ≡ from.now) }
     ensures summary { OnOk result (summary.new.items ≡ from_summary.now) }
     ensures exact { OnOk result
@@ -40,6 +39,26 @@ pub(crate) fn take_over<B: BitBlock>(
         copy_blocks(summary, from_summary);
         return Ok(());
     }
+    replace_both(blocks, summary, from, from_summary)
+}
+
+// The same where capacity for either is missing. It is a call of its own, so that where it is there no register is
+// saved for what is rare.
+#[cold]
+#[inline(never)]
+fn replace_both<B: BitBlock>(
+    blocks: &mut Vec<B>,
+    summary: &mut Vec<B>,
+    from: &[B],
+    from_summary: &[B],
+) -> Result<(), AllocError>
+    ensures items { OnOk result (blocks.new.items ≡ from.now) }
+    ensures summary { OnOk result (summary.new.items ≡ from_summary.now) }
+    ensures capacity { OnOk result (vec_capacity blocks.new ≡ length from.now) }
+    ensures summary_capacity { OnOk result (vec_capacity summary.new ≡ length from_summary.now) }
+    ensures err { OnErr result (blocks.new ≡ blocks.old) }
+    ensures err_summary { OnErr result (summary.new ≡ summary.old) }
+{
     let alloc = *blocks.allocator();
     let new_blocks = copy_of(alloc, from)?;
     let new_summary = copy_of(alloc, from_summary)?;
@@ -48,22 +67,27 @@ pub(crate) fn take_over<B: BitBlock>(
     Ok(())
 }
 
-// The summary of `blocks`, of which those before block `k` are 0, from one that is right of those past it.
+// The summary of `blocks`, of which those before block `k` are 0, from one that is right of those past it. Where they
+// are few, none is stored.
 pub(crate) fn copy_summary_from<B: BitBlock>(
     alloc: Global,
     summary: &[B],
     blocks: &[B],
     k: usize,
 ) -> Result<Vec<B>, AllocError>
-    requires packed { IsPacked B.width B.number B.is_block summary.now (length blocks.now) }
+    requires packed { short_count B.width < length blocks.now
+        → IsPacked B.width B.number B.is_block summary.now (length blocks.now) }
     requires blocks { All B.is_block blocks.now }
     requires within { k < length blocks.now }
     requires before { (q : ℕ) → q < k → is_used (map B.number blocks.now) q ≡ false }
-    requires after { (q : ℕ) → k < q
+    requires after { short_count B.width < length blocks.now → (q : ℕ) → k < q
         → value_at B.width (map B.number summary.now) q ≡ is_used (map B.number blocks.now) q }
-    ensures summary { IfOk result (λ copy. IsSummary B.width B.number B.is_block blocks.now copy.items) }
-    ensures capacity { IfOk result (λ copy. vec_capacity copy ≡ length summary.now) }
+    ensures summary { IfOk result (λ copy. KeepsSummary B.width B.number B.is_block blocks.now copy.items) }
+    ensures capacity { IfOk result (λ copy. vec_capacity copy ≡ stored_for B.width (length blocks.now)) }
 {
+    if is_short::<B>(blocks.len()) {
+        return Ok(Vec::new(alloc));
+    }
     let mut copy = copy_bits_from(alloc, summary, k)?;
     update_summary_at(&mut copy, blocks, k);
     Ok(copy)

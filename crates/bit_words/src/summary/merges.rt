@@ -4,7 +4,7 @@ ghost use Rattle.std.specs.Prelude.{◌≡◌, ℕ, ◌+◌, ◌*◌, ◌/◌, �
 ghost use Rattle.bit_words.specs.BlockMerges.{CanMerge, HasMerged, IsMergedBetween};
 ghost use Rattle.bit_words.specs.Digits.{is_one};
 ghost use Rattle.bit_words.specs.Storage.{value_at};
-ghost use Rattle.bit_words.specs.Summary.{is_used, IsSummary};
+ghost use Rattle.bit_words.specs.Summary.{is_used, IsSummary, KeepsSummary};
 ghost use Rattle.bit_words.specs.Merges.{merge_of_values};
 ghost use Rattle.bit_words.specs.declared.block.merge.Merge.{Merge};
 
@@ -17,7 +17,7 @@ use crate::packed::access::{block_at, block_index, put_in};
 use crate::packed::block_merges::{merge_block, merge_each, merge_rest};
 use crate::packed::groups::LONG_GROUP;
 use crate::steps::Steps;
-use crate::summary::is_nonzero;
+use crate::summary::{is_nonzero, is_short};
 
 // The `count` blocks from `start` on become their merges with the others of their indexes. Returns which of them
 // are not 0 then, the first of them at the lowest bit. The compiler makes vector code of this where it knows the
@@ -199,9 +199,10 @@ fn merge_with_summary<B: BitBlock, O: Operation>(
     others: &[B],
     steps: &mut Steps,
 )
-    requires can { CanMerge B.width B.number B.is_block blocks.old summary.old others.now }
-    ensures has { HasMerged O.merge B.width B.number B.is_block blocks.old others.now
-        blocks.new summary.new }
+    requires can { CanMerge B.number B.is_block blocks.old others.now }
+    requires summary { IsSummary B.width B.number B.is_block blocks.old summary.old }
+    ensures has { HasMerged O.merge B.width B.number B.is_block blocks.old others.now blocks.new }
+    ensures summary { IsSummary B.width B.number B.is_block blocks.new summary.new }
     ensures steps { steps.new ≡ steps.old + length blocks.old }
 {
     let chunks = block_index::<B>(others.len());
@@ -209,7 +210,29 @@ fn merge_with_summary<B: BitBlock, O: Operation>(
     merge_tail::<B, O>(blocks, summary, others, chunks, steps);
 }
 
-// The same of a union, where the others' summary is given.
+// The same, where no summary is stored of few blocks.
+#[inline]
+fn merge_kept<B: BitBlock, O: Operation>(
+    blocks: &mut [B],
+    summary: &mut [B],
+    others: &[B],
+    steps: &mut Steps,
+)
+    requires can { CanMerge B.number B.is_block blocks.old others.now }
+    requires summary { KeepsSummary B.width B.number B.is_block blocks.old summary.old }
+    ensures has { HasMerged O.merge B.width B.number B.is_block blocks.old others.now blocks.new }
+    ensures summary { KeepsSummary B.width B.number B.is_block blocks.new summary.new }
+    ensures summary_len { length summary.new ≡ length summary.old }
+    ensures steps { steps.new ≡ steps.old + length blocks.old }
+{
+    if is_short::<B>(blocks.len()) {
+        merge_each::<B, O>(blocks, others, 0, steps);
+    } else {
+        merge_with_summary::<B, O>(blocks, summary, others, steps);
+    }
+}
+
+// The same of a union of many blocks, by the summary of both.
 fn merge_union<B: BitBlock>(
     blocks: &mut [B],
     summary: &mut [B],
@@ -217,14 +240,39 @@ fn merge_union<B: BitBlock>(
     other_summary: &[B],
     steps: &mut Steps,
 )
-    requires can { CanMerge B.width B.number B.is_block blocks.old summary.old others.now }
+    requires can { CanMerge B.number B.is_block blocks.old others.now }
+    requires summary { IsSummary B.width B.number B.is_block blocks.old summary.old }
     requires other_summary { IsSummary B.width B.number B.is_block others.now other_summary.now }
-    ensures has { HasMerged Merge.Union B.width B.number B.is_block blocks.old others.now
-        blocks.new summary.new }
+    ensures has { HasMerged Merge.Union B.width B.number B.is_block blocks.old others.now blocks.new }
+    ensures summary { IsSummary B.width B.number B.is_block blocks.new summary.new }
     ensures steps { steps.new ≡ steps.old + length blocks.old }
 {
     merge_each::<B, Union>(blocks, others, 0, steps);
     merge_each::<B, Union>(summary, other_summary, 0, &mut Steps::new());
+}
+
+// The same, where no summary is stored of few blocks. Where only the others are few, what is stored is made anew.
+#[inline]
+fn merge_kept_union<B: BitBlock>(
+    blocks: &mut [B],
+    summary: &mut [B],
+    others: &[B],
+    other_summary: &[B],
+    steps: &mut Steps,
+)
+    requires can { CanMerge B.number B.is_block blocks.old others.now }
+    requires summary { KeepsSummary B.width B.number B.is_block blocks.old summary.old }
+    requires other_summary { KeepsSummary B.width B.number B.is_block others.now other_summary.now }
+    ensures has { HasMerged Merge.Union B.width B.number B.is_block blocks.old others.now blocks.new }
+    ensures summary { KeepsSummary B.width B.number B.is_block blocks.new summary.new }
+    ensures summary_len { length summary.new ≡ length summary.old }
+    ensures steps { steps.new ≡ steps.old + length blocks.old }
+{
+    if is_short::<B>(others.len()) {
+        merge_kept::<B, Union>(blocks, summary, others, steps);
+    } else {
+        merge_union(blocks, summary, others, other_summary, steps);
+    }
 }
 
 // The same of the merge that is named. Only a union needs the others' summary.
@@ -237,18 +285,18 @@ pub(crate) fn merge_stored<B: BitBlock>(
     merge: Merge,
     steps: &mut Steps,
 )
-    requires can { CanMerge B.width B.number B.is_block blocks.old summary.old others.now }
-    requires other_summary { IsSummary B.width B.number B.is_block others.now other_summary.now }
-    ensures has { HasMerged merge B.width B.number B.is_block blocks.old others.now
-        blocks.new summary.new }
+    requires can { CanMerge B.number B.is_block blocks.old others.now }
+    requires summary { KeepsSummary B.width B.number B.is_block blocks.old summary.old }
+    requires other_summary { KeepsSummary B.width B.number B.is_block others.now other_summary.now }
+    ensures has { HasMerged merge B.width B.number B.is_block blocks.old others.now blocks.new }
+    ensures summary { KeepsSummary B.width B.number B.is_block blocks.new summary.new }
+    ensures summary_len { length summary.new ≡ length summary.old }
     ensures steps { steps.new ≡ steps.old + length blocks.old }
 {
     match merge {
-        Merge::Union => merge_union(blocks, summary, others, other_summary, steps),
-        Merge::Intersection => merge_with_summary::<B, Intersection>(
-            blocks, summary, others, steps,
-        ),
-        Merge::Difference => merge_with_summary::<B, Difference>(blocks, summary, others, steps),
-        Merge::Symmetric => merge_with_summary::<B, Symmetric>(blocks, summary, others, steps),
+        Merge::Union => merge_kept_union(blocks, summary, others, other_summary, steps),
+        Merge::Intersection => merge_kept::<B, Intersection>(blocks, summary, others, steps),
+        Merge::Difference => merge_kept::<B, Difference>(blocks, summary, others, steps),
+        Merge::Symmetric => merge_kept::<B, Symmetric>(blocks, summary, others, steps),
     }
 }

@@ -1,38 +1,51 @@
 // What is found faster by a summary: the ones of the blocks, and the last block that is not 0. Changes nothing.
-ghost use Rattle.std.specs.Prelude.{◌≡◌, ℕ, ◌*◌, ◌^◌, ◌<◌, ◌≤◌, All, get_or, length, map, take, drop, ◌≢◌, ◌-◌};
+ghost use Rattle.std.specs.Prelude.{◌≡◌, ℕ, ◌*◌, ◌^◌, ◌<◌, ◌≤◌, ◌↔◌, All, IsTrue, get_or, length, map, take, drop, ◌≢◌, ◌-◌};
 ghost use Rattle.bit_words.specs.Storage.{value_at};
 ghost use Rattle.bit_words.specs.Nonzero.{ones_in};
-ghost use Rattle.bit_words.specs.Summary.{is_used, IsSummary};
+ghost use Rattle.bit_words.specs.Summary.{is_used, short_count, KeepsSummary};
 
 use crate::block::BitBlock;
 use crate::block::operators::same;
 use crate::packed::access::block_at;
 use crate::packed::ones::ones_of;
-use crate::packed::zeros::{used_blocks, zeros_before};
+use crate::packed::zeros::{are_zero, used_blocks, zeros_before};
+use crate::summary::is_short;
 
-// A summary of so many blocks, or fewer, says too little: to count every block costs no more than to read it.
-const SHORT_SUMMARY: usize = 4;
+// Whether all blocks are 0, by the summary where one is stored.
+pub(crate) fn are_zero_by_summary<B: BitBlock>(blocks: &[B], summary: &[B]) -> bool
+    requires each { All B.is_block blocks.now }
+    requires summary { KeepsSummary B.width B.number B.is_block blocks.now summary.now }
+    ensures { IsTrue result ↔ All (λ block. B.number block ≡ 0) blocks.now }
+{
+    if is_short::<B>(blocks.len()) {
+        are_zero(blocks)
+    } else {
+        are_zero(summary)
+    }
+}
 
-// How many ones the blocks have, where a summary says which of them are not zero. Where it is short it counts every
-// block.
+// How many ones the blocks have, where a summary says which of them are not zero. Where none is stored, or there are
+// few blocks, it counts every block.
 #[inline]
 pub(crate) fn ones_by_summary<B: BitBlock>(blocks: &[B], summary: &[B]) -> usize
     requires each { All B.is_block blocks.now }
     requires summary { All B.is_block summary.now }
-    requires enough { length blocks.now ≤ length summary.now * B.width }
-    requires digit { (k : ℕ) → value_at B.width (map B.number summary.now) k ≡ is_used (map B.number blocks.now) k }
+    requires enough { short_count B.width < length blocks.now → length blocks.now ≤ length summary.now * B.width }
+    requires digit { short_count B.width < length blocks.now
+        → (k : ℕ) → value_at B.width (map B.number summary.now) k ≡ is_used (map B.number blocks.now) k }
     requires fits { ones_in B.number blocks.now < 2 ^ 64 }
     ensures { result ≡ ones_in B.number blocks.now }
 {
-    if summary.len() <= SHORT_SUMMARY {
+    if is_short::<B>(blocks.len()) {
         ones_of(blocks)
     } else {
         ones_of_runs(blocks, summary)
     }
 }
 
-// The same however long the summary is. Counts each run of chunks that have any ones in one pass, and passes over
-// chunks of zeros, each as many blocks as one has bits, by the summary alone. It is a call of its own, so that a short list saves no registers for it.
+// The same by a summary, however short. Counts each run of chunks that have any ones in one pass, and passes over
+// chunks of zeros, each as many blocks as one has bits, by the summary alone. It is a
+// call of its own, so that a short list saves no registers for it.
 #[inline(never)]
 fn ones_of_runs<B: BitBlock>(blocks: &[B], summary: &[B]) -> usize
     requires each { All B.is_block blocks.now }
@@ -86,14 +99,17 @@ pub(crate) fn first_blocks<B: BitBlock>(blocks: &[B]) -> (&[B], &[B])
     first_chunks(blocks, 1)
 }
 
-// How many blocks there are up to the last that is not 0. The summary says among which to look.
+// How many blocks there are up to the last that is not 0. Where a summary is stored it says among which to look.
 pub(crate) fn used_by_summary<B: BitBlock>(blocks: &[B], summary: &[B]) -> usize
     requires each { All B.is_block blocks.now }
-    requires summary { IsSummary B.width B.number B.is_block blocks.now summary.now }
+    requires summary { KeepsSummary B.width B.number B.is_block blocks.now summary.now }
     ensures within { result ≤ length blocks.now }
     ensures zeros { (k : ℕ) → result ≤ k → get_or (map B.number blocks.now) k 0 ≡ 0 }
     ensures last { 0 < result → get_or (map B.number blocks.now) (result - 1) 0 ≢ 0 }
 {
+    if is_short::<B>(blocks.len()) {
+        return used_blocks(blocks);
+    }
     let chunks = used_blocks(summary);
     let end = chunks.saturating_mul(B::bits()).min(blocks.len());
     used_blocks(&blocks[..end])

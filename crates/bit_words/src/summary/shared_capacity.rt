@@ -3,7 +3,7 @@ ghost use Rattle.std.specs.Prelude.{◌≡◌, ◌-◌, ◌<◌, ◌≤◌, fals
 ghost use Rattle.bit_words.specs.Summary.{MakesSharedCapacity, shared_capacity};
 
 use crate::block::BitBlock;
-use crate::packed::access::block_count;
+use crate::summary::stored_count;
 use std::alloc::AllocError;
 
 // Reserves capacity for `count` blocks, and for no more where that is asked. Takes no memory where it is there.
@@ -41,7 +41,7 @@ pub(crate) fn have_capacity<B: BitBlock>(blocks: &Vec<B>, summary: &Vec<B>, coun
     ensures yes { IsTrue result → count ≤ shared_capacity B.width (vec_capacity blocks.now) (vec_capacity summary.now) }
     ensures no { result ≡ false → shared_capacity B.width (vec_capacity blocks.now) (vec_capacity summary.now) < count }
 {
-    count <= blocks.capacity() && block_count::<B>(count) <= summary.capacity()
+    count <= blocks.capacity() && stored_count::<B>(count) <= summary.capacity()
 }
 
 // Reserves capacity for `count` blocks and their summary where it is missing. What has more capacity of the two
@@ -62,8 +62,8 @@ fn grow_shared_capacity<B: BitBlock>(
     ensures capacity { MakesSharedCapacity B.width count exact result
         (vec_capacity blocks.old) (vec_capacity summary.old) (vec_capacity blocks.new) (vec_capacity summary.new) }
 {
-    let needed = block_count::<B>(count);
-    if block_count::<B>(blocks.capacity()) <= summary.capacity() {
+    let needed = stored_count::<B>(count);
+    if stored_count::<B>(blocks.capacity()) <= summary.capacity() {
         reserve_blocks(summary, needed, exact)?;
         reserve_blocks(blocks, count, exact)
     } else {
@@ -126,7 +126,7 @@ pub(crate) fn reserve_shared_exact<B: BitBlock>(
         → shared_capacity B.width (vec_capacity blocks.new) (vec_capacity summary.new)
         ≡ shared_capacity B.width (vec_capacity blocks.old) (vec_capacity summary.old) }
 {
-    if block_count::<B>(count) <= summary.capacity() {
+    if stored_count::<B>(count) <= summary.capacity() {
         return reserve_shared(blocks, summary, count, true);
     }
     blocks.shrink_to(count);

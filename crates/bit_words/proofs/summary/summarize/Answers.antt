@@ -11,7 +11,7 @@ loop-q-preserved g c =
     let ss = map f c.loop-q.summary.items in
     let within : c.loop-q.q < length ss = rw length-map (omega arith) in
     record {
-      done = summary_put g.B.BitBlock.width ms ss _ c.loop-q.q _ within c.put_block.ensures.numbers c.summary_block.ensures.digits c.loop-q.invariant.done;
+      done = summary_put g.B.BitBlock.width ms ss _ c.loop-q.q _ within c.put_block.ensures.numbers (rw c.bits.ensures at c.used_from.ensures.digits) c.loop-q.invariant.done;
       each = c.put_block.ensures.each;
       len = omega arith;
       capacity = omega arith;

@@ -9,6 +9,6 @@ loop-j-preserved g c =
     let ms = map g.B.BitBlock.number c.args.blocks.now in
     let used = c.is_nonzero.ensures ∙ ap (λ m. not (m == 0)) c.block_at.ensures.of_number in
     record {
-      of_block = c.with_bit-digits.ensures.of_block;
-      digits = digit_added w c.loop-j.j _ _ (λ q. is_used ms (c.args.start + q)) c.loop-j.invariant.digits (c.with_bit-digits.ensures.same ∙ used) c.with_bit-digits.ensures.others;
+      of_block = c.with_one_if-digits.ensures.of_block;
+      digits = digit_added w c.loop-j.j _ _ (λ q. is_used ms (c.args.start + q)) c.loop-j.invariant.digits (c.with_one_if-digits.ensures.same ∙ used) c.with_one_if-digits.ensures.others;
     }

@@ -1,14 +1,34 @@
-use Rattle.std.proofs.Common.{◌≡◌, ◌+◌, ◌*◌, ◌^◌, ◌<◌, List, [], map, length, sym, ap, ◌∙◌, arith}
+use Rattle.std.proofs.Common.{◌≡◌, ℕ, Bool, true, false, ◌+◌, ◌*◌, ◌^◌, ◌<◌, List, [], map, length, sym, ap, ◌∙◌, arith}
 use Rattle.std.proofs.lemmas.List.{length-map}
 use Rattle.bit_set.specs.Bits.{Bits}
 use Rattle.bit_set.specs.Sets.{elements, has}
 use Rattle.dataflow.specs.Flow.{block_at, lists_of}
 use Rattle.dataflow.specs.Worklist.{TakesIn, place_of, row_at}
 use Rattle.dataflow.proofs.DependentLemmas.{row_read}
-use Rattle.dataflow.proofs.SettleLemmas.{few_after, lacking, nearer, on_the_way, one_less, visited_grown, visited_same, waited}
+use Rattle.dataflow.proofs.SettleLemmas.{all_wait, few_after, lacking, nearer, on_the_way, one_less, visited_grown, visited_same, waited}
 use Rattle.dataflow.proofs.TakeLemmas.{mapped}
 use Rattle.dataflow.proofs.solver.settle.Goals as goal
 use Rattle.dataflow.proofs.solver.settle.Goals.{then-branch, else-branch}
+
+-- a block that there is has a place among those that wait
+place_inside : (count : ℕ) (from_last : Bool) (b : ℕ) → b < count → place_of count from_last b < count
+place_inside count true b inside = omega arith
+place_inside count false b inside = inside
+
+pub loop-next-init : goal.loop-next-init
+loop-next-init g c =
+    let blocks = c.args.blocks.now in
+    let flows = map g.N.Block.flow blocks in
+    let count = length blocks in
+    let from_last = c.flows_back-from_last.result in
+    let long : length flows ≡ count = length-map blocks g.N.Block.flow in
+    let all = c.in_ok-waiting.ensures.all in
+    record {
+      way = c.requires.sets;
+      settled = all_wait flows (place_of count from_last) (lists_of c.args.sets.now) (elements c.in_ok-waiting.waiting.values) (λ b inside. (all (place_of count from_last b)).1 (place_inside count from_last b (omega (arith, inside, long))));
+      below = λ p h. (all p).0 h;
+      capacity = c.in_ok-waiting.ensures.capacity;
+    }
 
 pub put_back-requires-clause-inside : goal.put_back-requires-clause-inside
 put_back-requires-clause-inside g c b h =

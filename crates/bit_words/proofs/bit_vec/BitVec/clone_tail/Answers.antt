@@ -1,4 +1,5 @@
 use Rattle.std.proofs.Common.{◌≡◌, ◌<◌, ◌∙◌, ◌++◌, false, drop, length, map, replicate, ap, arith}
+use Rattle.bit_words.specs.Summary.{stored_for}
 use Rattle.bit_words.proofs.BitsLemmas.{blocks_for-above}
 use Rattle.bit_words.proofs.CapacityLemmas.{capacity_of_copy}
 use Rattle.bit_words.proofs.TailLemmas.{tail_kept, tail_packed, tail_unused, values_of-tail}
@@ -15,7 +16,7 @@ copy_bits_from-requires-clause-within g c =
 pub copy_summary_from-requires-clause-packed : goal.copy_summary_from-requires-clause-packed
 copy_summary_from-requires-clause-packed g c =
     let len : length c.in_ok-blocks.blocks.items ≡ length c.self.inside.blocks.items = omega (arith, c.in_ok-blocks.ensures.len, c.deref.ensures.len) in
-    rw (c.deref-2.ensures.value, c.deref-3.ensures.value, len) c.self.invariant.summary.packed
+    rw (c.deref-2.ensures.value, c.deref-3.ensures.value, len) (λ long. (c.self.invariant.summary.long long).packed)
 
 pub copy_summary_from-requires-clause-within : goal.copy_summary_from-requires-clause-within
 copy_summary_from-requires-clause-within g c =
@@ -33,11 +34,12 @@ copy_summary_from-requires-clause-before g c = λ q before.
     c.in_ok-blocks.ensures.values (omega (arith, before, c.block_index.ensures)))
 
 pub copy_summary_from-requires-clause-after : goal.copy_summary_from-requires-clause-after
-copy_summary_from-requires-clause-after g c = λ q after.
+copy_summary_from-requires-clause-after g c =
     let w = g.B.BitBlock.width in
     let f = g.B.BitBlock.number in
     rw (c.deref-2.ensures.value, c.deref-3.ensures.value)
-    (c.self.invariant.summary.digit q
+    (λ long q after.
+    (c.self.invariant.summary.long (omega (arith, long, c.in_ok-blocks.ensures.len, c.deref.ensures.len))).digit q
     ∙ tail_kept w c.args.at q (map f c.self.inside.blocks.items) (map f c.in_ok-blocks.blocks.items) g.met.B.BitBlock.width_law.positive
     (numbers_below w f _ _ (λ x is. (g.met.B.BitBlock.number_law x is).0) c.self.invariant.packed.each q)
     (numbers_below w f _ _ (λ x is. (g.met.B.BitBlock.number_law x is).0) c.in_ok-blocks.ensures.each q)
@@ -57,6 +59,7 @@ returns-clause-values g c =
 
 pub returns-clause-capacity : goal.returns-clause-capacity
 returns-clause-capacity g c =
+    let len : length c.deref-3.result.now ≡ length c.self.inside.blocks.items = omega (arith, c.in_ok-blocks.ensures.len, c.deref-3.ensures.len, c.deref.ensures.len) in
     capacity_of_copy g.B.BitBlock.width _ _ (length c.self.inside.blocks.items) _ _ _ _ g.met.B.BitBlock.width_law.positive c.self.view_is c.self.invariant.packed.count
     (omega (arith, c.in_ok-blocks.ensures.capacity, c.deref.ensures.len))
-    (omega (arith, c.in_ok-summary.ensures.capacity, c.deref-2.ensures.len, c.self.invariant.summary.packed.count))
+    (c.in_ok-summary.ensures.capacity ∙ ap (stored_for g.B.BitBlock.width) len)

@@ -34,12 +34,12 @@ invariant_of-self g c =
     }
 
 pub cut_summary-requires-clause-before : goal.cut_summary-requires-clause-before
-cut_summary-requires-clause-before g c = λ k.
+cut_summary-requires-clause-before g c = λ long k.
     let f = g.B.BitBlock.number in
     let count = c.used_by_summary-count.result in
     let ms = map f c.self.inside.blocks.items in
     rw c.deref-3.ensures.value (λ before.
-    c.self.invariant.summary.digit k
+    (c.self.invariant.summary.long (omega (arith, long))).digit k
     ∙ ap (λ m. not (m == 0)) (sym (ap (λ xs. get_or xs k 0) c.truncate_blocks.ensures.numbers ∙ get_or-take count ms k 0 (omega (arith, before, c.truncate_blocks.ensures.len)))))
 
 pub returns-clause-true_values : goal.returns-clause-true_values

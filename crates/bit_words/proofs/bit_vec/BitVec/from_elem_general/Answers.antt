@@ -1,17 +1,22 @@
-use Rattle.std.proofs.Common.{◌≡◌, length, arith}
+use Rattle.std.proofs.Common.{map, arith}
 use Rattle.bit_words.proofs.StorageLemmas.{values_of-replicate}
-use Rattle.bit_words.proofs.SummaryLemmas.{filled_summary}
+use Rattle.bit_words.proofs.SummaryLemmas.{use_of_values}
+use Rattle.bit_words.proofs.VectorLemmas.{numbers_below}
 use Rattle.bit_words.proofs.bit_vec.BitVec.from_elem_general.Goals as goal
 
+pub uniform_summary-requires-clause-uniform : goal.uniform_summary-requires-clause-uniform
+uniform_summary-requires-clause-uniform g c =
+    let w = g.B.BitBlock.width in
+    let f = g.B.BitBlock.number in
+    let packed = c.in_ok-blocks.ensures.packed in
+    rw c.deref.ensures.value (λ k within.
+    use_of_values w c.args.n k (map f c.in_ok-blocks.blocks.items) c.args.bit g.met.B.BitBlock.width_law.positive (numbers_below w f _ _ (λ x is. (g.met.B.BitBlock.number_law x is).0) packed.each k) (omega (arith, packed.count)) (λ i from inside. c.in_ok-blocks.ensures.filled i inside) packed.tail.zero_tail)
+
 pub invariant_of-result : goal.invariant_of-result
-invariant_of-result g c =
-    let count : length c.in_ok-blocks.blocks.items ≡ c.len.result = omega arith in
-    record {
-      packed = c.in_ok-blocks.ensures.packed;
-      summary =
-          filled_summary g.B.BitBlock.width _ g.B.BitBlock.number g.B.BitBlock.is_block c.in_ok-blocks.blocks.items c.in_ok-summary.summary.items c.args.bit g.met.B.BitBlock.width_law.positive (λ x is. (g.met.B.BitBlock.number_law x is).0) c.in_ok-blocks.ensures.packed c.in_ok-blocks.ensures.filled
-          (rw (← count) at c.in_ok-summary.ensures.packed) (λ k within. c.in_ok-summary.ensures.filled k (omega arith));
-    }
+invariant_of-result g c = record {
+  packed = c.in_ok-blocks.ensures.packed;
+  summary = rw c.deref.ensures.value at c.in_ok-summary.ensures.summary;
+}
 
 pub returns-clause-values : goal.returns-clause-values
 returns-clause-values g c = values_of-replicate _ _ _ _ c.in_ok-blocks.ensures.filled

@@ -2,10 +2,10 @@ use Rattle.std.proofs.Common.{◌≡◌, ◌<◌, ◌+◌, ◌*◌, ◌++◌, �
 use Rattle.std.proofs.lemmas.Result.{err_from_is_err_and}
 use Rattle.bit_words.specs.Bits.{capacity_of}
 use Rattle.bit_words.specs.Summary.{shared_capacity}
-use Rattle.bit_words.proofs.CapacityLemmas.{capacity_le}
+use Rattle.bit_words.proofs.CapacityLemmas.{capacity_le, stored_from_shared}
 use Rattle.bit_words.proofs.StorageLemmas.{values_of-append}
 use Rattle.bit_words.proofs.SummaryLemmas.{kept_use, kept_with_zeros, same_use, use_of_added}
-use Rattle.bit_words.proofs.BitsLemmas.{blocks_for-le, blocks_for-least}
+use Rattle.bit_words.proofs.BitsLemmas.{blocks_for-le}
 use Rattle.bit_words.proofs.VectorLemmas.{le-capacity_of, length_from_view, capacity_from_view, capacity_for_more, capacity_of-short, numbers_below}
 use Rattle.bit_words.proofs.bit_vec.BitVec.grow_blocks.Goals.{After-from_residual}
 use Rattle.bit_words.proofs.bit_vec.BitVec.grow_blocks.Goals as goal
@@ -30,34 +30,55 @@ returns-in_err-reserve_shared-clause-full g c =
 pub returns-in_err-reserve_shared-clause-succeeds : goal.returns-in_err-reserve_shared-clause-succeeds
 returns-in_err-reserve_shared-clause-succeeds g c = λ enough. let short = refused g c in absurd (omega arith)
 
+pub store_summary-requires-clause-longer : goal.store_summary-requires-clause-longer
+store_summary-requires-clause-longer g c =
+    let le = blocks_for-le g.B.BitBlock.width c.self.inside.len (c.self.inside.len + c.args.n) g.met.B.BitBlock.width_law.positive (omega arith) in
+    let same = ap length c.reserve_shared.ensures.items in
+    rw c.deref.ensures.value (omega (arith, c.self.invariant.packed.count))
+
+pub store_summary-requires-clause-capacity : goal.store_summary-requires-clause-capacity
+store_summary-requires-clause-capacity g c =
+    stored_from_shared g.B.BitBlock.width _ _ _ g.met.B.BitBlock.width_law.positive c.in_ok-reserve_shared.ensures.capacity.ok
+
+pub append_to_summary-requires-clause-none : goal.append_to_summary-requires-clause-none
+append_to_summary-requires-clause-none g c = rw c.deref-2.ensures.value (λ few. c.store_summary.ensures.short (omega (arith, few, c.append_bits.ensures.packed.count)))
+
+pub append_to_summary-requires-clause-packed : goal.append_to_summary-requires-clause-packed
+append_to_summary-requires-clause-packed g c =
+    let w = g.B.BitBlock.width in
+    let f = g.B.BitBlock.number in
+    let old : length c.deref.result.now ≡ c.len-old.result = omega (arith, c.deref.ensures.len) in
+    rw (c.deref-2.ensures.value, ← old) (λ many. (c.store_summary.ensures.long (omega (arith, many, c.append_bits.ensures.packed.count))).packed)
+
 pub append_to_summary-requires-clause-longer : goal.append_to_summary-requires-clause-longer
 append_to_summary-requires-clause-longer g c =
     let le = blocks_for-le g.B.BitBlock.width c.self.inside.len (c.self.inside.len + c.args.n) g.met.B.BitBlock.width_law.positive (omega arith) in
-    rw c.deref.ensures.value (omega (arith, c.append_bits.ensures.packed.count))
+    let same = ap length c.reserve_shared.ensures.items in
+    rw c.deref-2.ensures.value (omega (arith, le, c.append_bits.ensures.packed.count, c.self.invariant.packed.count))
 
 pub append_to_summary-requires-clause-capacity : goal.append_to_summary-requires-clause-capacity
 append_to_summary-requires-clause-capacity g c =
     let w = g.B.BitBlock.width in
     let count : length c.append_bits.new.blocks.items ≡ c.block_count-count.result = omega (arith, c.append_bits.ensures.packed.count) in
-    let enough = blocks_for-least w c.block_count-count.result (vec_capacity c.reserve_shared.new.summary) g.met.B.BitBlock.width_law.positive (omega (arith, c.in_ok-reserve_shared.ensures.capacity.ok)) in
-    rw (c.deref.ensures.value, count) enough
+    let enough = stored_from_shared w _ _ _ g.met.B.BitBlock.width_law.positive c.in_ok-reserve_shared.ensures.capacity.ok in
+    rw (c.deref-2.ensures.value, count) (omega arith)
 
 pub append_to_summary-requires-clause-before : goal.append_to_summary-requires-clause-before
-append_to_summary-requires-clause-before g c = λ k before.
+append_to_summary-requires-clause-before g c =
     let w = g.B.BitBlock.width in
     let f = g.B.BitBlock.number in
     let kept = rw c.reserve_shared.ensures.items at c.append_bits.ensures.kept in
-    rw (c.deref.ensures.value, c.reserve_shared.ensures.summary) (
-    c.self.invariant.summary.digit k
+    rw c.deref-2.ensures.value (λ many k before.
+    (rw (c.deref.ensures.value, c.reserve_shared.ensures.items) at (c.store_summary.ensures.long (omega (arith, many, c.append_bits.ensures.packed.count)))).digit k
     ∙ kept_use w c.self.inside.len k (map f c.self.inside.blocks.items) (map f c.append_bits.new.blocks.items) g.met.B.BitBlock.width_law.positive (numbers_below w f _ _ (λ x is. (g.met.B.BitBlock.number_law x is).0) c.self.invariant.packed.each k) (numbers_below w f _ _ (λ x is. (g.met.B.BitBlock.number_law x is).0) c.append_bits.ensures.packed.each k) kept (omega arith))
 
 pub append_to_summary-requires-clause-last : goal.append_to_summary-requires-clause-last
-append_to_summary-requires-clause-last g c = λ none k _.
+append_to_summary-requires-clause-last g c =
     let w = g.B.BitBlock.width in
     let f = g.B.BitBlock.number in
     let kept = rw c.reserve_shared.ensures.items at c.append_bits.ensures.kept in
-    rw (c.deref.ensures.value, c.reserve_shared.ensures.summary) (
-    c.self.invariant.summary.digit k
+    rw c.deref-2.ensures.value (λ many none k _.
+    (rw (c.deref.ensures.value, c.reserve_shared.ensures.items) at (c.store_summary.ensures.long (omega (arith, many, c.append_bits.ensures.packed.count)))).digit k
     ∙ same_use w (map f c.self.inside.blocks.items) (map f c.append_bits.new.blocks.items) k (numbers_below w f _ _ (λ x is. (g.met.B.BitBlock.number_law x is).0) c.self.invariant.packed.each k) (numbers_below w f _ _ (λ x is. (g.met.B.BitBlock.number_law x is).0) c.append_bits.ensures.packed.each k)
     (λ j _. sym (kept_with_zeros w c.self.inside.len (c.self.inside.len + c.args.n) (k * w + j) c.args.bit (map f c.self.inside.blocks.items) (map f c.append_bits.new.blocks.items) none kept c.self.invariant.packed.tail.zero_tail c.append_bits.ensures.added c.append_bits.ensures.packed.tail.zero_tail)))
 
@@ -65,7 +86,7 @@ pub append_to_summary-requires-clause-after : goal.append_to_summary-requires-cl
 append_to_summary-requires-clause-after g c = λ k from.
     let w = g.B.BitBlock.width in
     let f = g.B.BitBlock.number in
-    rw c.deref.ensures.value (λ inside.
+    rw c.deref-2.ensures.value (λ inside.
     use_of_added w c.self.inside.len (c.self.inside.len + c.args.n) k (map f c.append_bits.new.blocks.items) _ g.met.B.BitBlock.width_law.positive
     (numbers_below w f _ _ (λ x is. (g.met.B.BitBlock.number_law x is).0) c.append_bits.ensures.packed.each k) (omega arith) (omega (arith, inside, c.append_bits.ensures.packed.count)) c.append_bits.ensures.added c.append_bits.ensures.packed.tail.zero_tail)
 
@@ -79,19 +100,19 @@ returns-clause-holds_values g c =
     let w = g.B.BitBlock.width in
     let len = length_from_view _ _ _ _ _ c.self.view_is in
     let capacity = shared_capacity w (vec_capacity c.append_bits.new.blocks) (vec_capacity c.append_to_summary.new.summary) in
-    let kept : shared_capacity w (vec_capacity c.append_bits.new.blocks) (vec_capacity c.append_to_summary.new.summary) ≡ shared_capacity w (vec_capacity c.reserve_shared.new.blocks) (vec_capacity c.reserve_shared.new.summary) = ap₂ (shared_capacity w) c.append_bits.ensures.capacity c.append_to_summary.ensures.capacity in
+    let kept : shared_capacity w (vec_capacity c.append_bits.new.blocks) (vec_capacity c.append_to_summary.new.summary) ≡ shared_capacity w (vec_capacity c.reserve_shared.new.blocks) (vec_capacity c.reserve_shared.new.summary) = ap₂ (shared_capacity w) c.append_bits.ensures.capacity (c.append_to_summary.ensures.capacity ∙ c.store_summary.ensures.capacity) in
     let enough = le-capacity_of w capacity (c.self.inside.len + c.args.n) g.met.B.BitBlock.width_law.positive (omega arith) (omega (arith, kept, c.in_ok-reserve_shared.ensures.capacity.ok)) in
     omega (arith, len, enough)
 
 pub returns-clause-capacity : goal.returns-clause-capacity
 returns-clause-capacity g c =
     let w = g.B.BitBlock.width in
-    let kept : shared_capacity w (vec_capacity c.append_bits.new.blocks) (vec_capacity c.append_to_summary.new.summary) ≡ shared_capacity w (vec_capacity c.reserve_shared.new.blocks) (vec_capacity c.reserve_shared.new.summary) = ap₂ (shared_capacity w) c.append_bits.ensures.capacity c.append_to_summary.ensures.capacity in
+    let kept : shared_capacity w (vec_capacity c.append_bits.new.blocks) (vec_capacity c.append_to_summary.new.summary) ≡ shared_capacity w (vec_capacity c.reserve_shared.new.blocks) (vec_capacity c.reserve_shared.new.summary) = ap₂ (shared_capacity w) c.append_bits.ensures.capacity (c.append_to_summary.ensures.capacity ∙ c.store_summary.ensures.capacity) in
     rw (capacity_from_view _ _ _ c.self.view_is) (capacity_le w _ _ (omega (arith, kept, c.reserve_shared.ensures.capacity.capacity)))
 
 pub returns-clause-within : goal.returns-clause-within
 returns-clause-within g c = λ within.
     let w = g.B.BitBlock.width in
-    let kept : shared_capacity w (vec_capacity c.append_bits.new.blocks) (vec_capacity c.append_to_summary.new.summary) ≡ shared_capacity w (vec_capacity c.reserve_shared.new.blocks) (vec_capacity c.reserve_shared.new.summary) = ap₂ (shared_capacity w) c.append_bits.ensures.capacity c.append_to_summary.ensures.capacity in
+    let kept : shared_capacity w (vec_capacity c.append_bits.new.blocks) (vec_capacity c.append_to_summary.new.summary) ≡ shared_capacity w (vec_capacity c.reserve_shared.new.blocks) (vec_capacity c.reserve_shared.new.summary) = ap₂ (shared_capacity w) c.append_bits.ensures.capacity (c.append_to_summary.ensures.capacity ∙ c.store_summary.ensures.capacity) in
     let enough = capacity_for_more _ _ _ _ _ _ g.met.B.BitBlock.width_law.positive c.self.view_is within in
     ap (capacity_of w) (kept ∙ c.reserve_shared.ensures.within (omega arith)) ∙ sym (capacity_from_view _ _ _ c.self.view_is)

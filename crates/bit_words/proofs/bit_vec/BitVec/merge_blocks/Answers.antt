@@ -9,11 +9,10 @@ use Rattle.bit_words.proofs.bit_vec.BitVec.merge_blocks.Goals as goal
 pub merge_stored-requires-clause-can : goal.merge_stored-requires-clause-can
 merge_stored-requires-clause-can g c =
     let le = blocks_for-le g.B.BitBlock.width c.other.inside.len c.self.inside.len g.met.B.BitBlock.width_law.positive (no_longer_from_views _ _ _ _ _ _ _ _ _ c.self.view_is c.other.view_is c.requires) in
-    rw (c.as_mut_slice.ensures.value, c.as_mut_slice-2.ensures.value, c.deref.ensures.value) (record {
+    rw (c.as_mut_slice.ensures.value, c.deref.ensures.value) (record {
       fewer = omega (arith, le, c.self.invariant.packed.count, c.other.invariant.packed.count);
       each = c.self.invariant.packed.each;
       others = c.other.invariant.packed.each;
-      summary = c.self.invariant.summary;
     })
 
 pub merge_stored-requires-clause-other_summary : goal.merge_stored-requires-clause-other_summary
@@ -45,7 +44,7 @@ invariant_of-self g c =
         tail = merged_zero_tail _ _ _ _ _ _ _ shorter c.self.invariant.packed.tail c.other.invariant.packed.tail each;
         fits = c.self.invariant.packed.fits;
       };
-      summary = c.merge_stored.ensures.has.summary;
+      summary = c.merge_stored.ensures.summary;
     })
 
 pub returns-clause-values : goal.returns-clause-values

@@ -6,9 +6,6 @@ use Rattle.bit_words.proofs.SummaryLemmas.{stored_within}
 use Rattle.bit_words.proofs.VectorLemmas.{numbers_below, is_within_capacity, length_from_view}
 use Rattle.bit_words.proofs.bit_vec.BitVec.nonzero.Goals as goal
 
-pub over-requires-clause-summary : goal.over-requires-clause-summary
-over-requires-clause-summary g c = rw (c.deref.ensures.value, c.deref-2.ensures.value) c.self.invariant.summary
-
 pub returns-clause-blocks : goal.returns-clause-blocks
 returns-clause-blocks g c =
     let w = g.B.BitBlock.width in
@@ -21,16 +18,14 @@ returns-clause-blocks g c =
 pub returns-clause-summary_pulls : goal.returns-clause-summary_pulls
 returns-clause-summary_pulls g c =
     let w = g.B.BitBlock.width in
-    let summary : length c.deref-2.result.now ≡ blocks_for w (length c.self.inside.blocks.items) = rw c.deref-2.ensures.value c.self.invariant.summary.packed.count in
-    let blocks = ap (blocks_for w) (c.self.invariant.packed.count ∙ ap (blocks_for w) (sym (length_from_view _ _ _ _ _ c.self.view_is))) in
-    c.over.ensures.summary_pulls ∙ ap (min 1) (summary ∙ blocks)
+    let blocks = ap length c.deref.ensures.value ∙ c.self.invariant.packed.count ∙ ap (blocks_for w) (sym (length_from_view _ _ _ _ _ c.self.view_is)) in
+    c.over.ensures.summary_pulls ∙ ap (λ n. min 1 (blocks_for w n)) blocks
 
 pub returns-clause-summary_left : goal.returns-clause-summary_left
 returns-clause-summary_left g c =
     let w = g.B.BitBlock.width in
-    let summary : length c.deref-2.result.now ≡ blocks_for w (length c.self.inside.blocks.items) = rw c.deref-2.ensures.value c.self.invariant.summary.packed.count in
-    let blocks = ap (blocks_for w) (c.self.invariant.packed.count ∙ ap (blocks_for w) (sym (length_from_view _ _ _ _ _ c.self.view_is))) in
-    c.over.ensures.summary_left ∙ ap (λ n. n - 1) (summary ∙ blocks)
+    let blocks = ap length c.deref.ensures.value ∙ c.self.invariant.packed.count ∙ ap (blocks_for w) (sym (length_from_view _ _ _ _ _ c.self.view_is)) in
+    c.over.ensures.summary_left ∙ ap (λ n. blocks_for w n - 1) blocks
 
 pub returns-clause-fits : goal.returns-clause-fits
 returns-clause-fits g c =

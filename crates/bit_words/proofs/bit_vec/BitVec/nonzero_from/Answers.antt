@@ -1,4 +1,4 @@
-use Rattle.std.proofs.Common.{◌≡◌, ◌≢◌, ◌-◌, ◌/◌, ◌≤◌, map, length, min, sym, ap, ◌∙◌, arith}
+use Rattle.std.proofs.Common.{◌≡◌, ◌≢◌, ◌-◌, ◌/◌, ◌≤◌, map, length, min, refl, sym, ap, ◌∙◌, arith}
 use Rattle.std.proofs.lemmas.Bool.{eqb-false, eqb-true}
 use Rattle.std.proofs.lemmas.List.{length-map}
 use Rattle.bit_words.specs.Bits.{blocks_for}
@@ -40,29 +40,25 @@ returns-clause-blocks g c =
     let below = numbers_below w f g.B.BitBlock.is_block xs (λ x is. (g.met.B.BitBlock.number_law x is).0) c.self.invariant.packed.each in
     rw (c.over_from.ensures.blocks, c.as_slice-blocks.ensures.value, ← c.self.view_is) (blocks-values_of w (map f xs) c.self.inside.len g.met.B.BitBlock.width_law.positive count below c.self.invariant.packed.tail)
 
--- how many blocks the summary has
-chunks : (g : Over) (c : After-over_from g) → length c.deref.result.now ≡ blocks_for g.B.BitBlock.width (length c.self.inside.blocks.items)
-chunks g c = rw c.deref.ensures.value c.self.invariant.summary.packed.count
-
-chunks_by_length : (g : Over) (c : After-over_from g) → length c.deref.result.now ≡ blocks_for g.B.BitBlock.width (blocks_for g.B.BitBlock.width (length c.args.self.now.values))
-chunks_by_length g c =
-    let w = g.B.BitBlock.width in
-    chunks g c ∙ ap (blocks_for w) (c.self.invariant.packed.count ∙ ap (blocks_for w) (sym (length_from_view _ _ _ _ _ c.self.view_is)))
+-- how many blocks there are
+count_by_length : (g : Over) (c : After-over_from g) → length c.as_slice-blocks.result.now ≡ blocks_for g.B.BitBlock.width (length c.args.self.now.values)
+count_by_length g c =
+    ap length c.as_slice-blocks.ensures.value ∙ c.self.invariant.packed.count ∙ ap (blocks_for g.B.BitBlock.width) (sym (length_from_view _ _ _ _ _ c.self.view_is))
 
 pub returns-clause-summary_pulls : goal.returns-clause-summary_pulls
 returns-clause-summary_pulls g c =
     let w = g.B.BitBlock.width in
-    let count = length c.self.inside.blocks.items in
-    let some : count ≢ 0 = λ none. eqb-false _ _ (sym c.is_empty.ensures ∙ c.if-is_empty.false) (ap length c.as_slice-blocks.ensures.value ∙ none) in
-    let one_chunk = chunk_inside w 0 count (length c.deref.result.now) g.met.B.BitBlock.width_law.positive (omega (arith, some)) (chunks g c) in
-    c.over_from.ensures.summary_pulls ∙ one_of_some _ _ _ one_chunk (chunks_by_length g c)
+    let count = length c.as_slice-blocks.result.now in
+    let some : count ≢ 0 = eqb-false _ _ (sym c.is_empty.ensures ∙ c.if-is_empty.false) in
+    let one_chunk = chunk_inside w 0 count (blocks_for w count) g.met.B.BitBlock.width_law.positive (omega (arith, some)) refl in
+    c.over_from.ensures.summary_pulls ∙ one_of_some _ _ _ one_chunk (ap (blocks_for w) (count_by_length g c))
 
 pub returns-clause-summary_left : goal.returns-clause-summary_left
 returns-clause-summary_left g c =
     let w = g.B.BitBlock.width in
     let last = ap length c.over_from.ensures.blocks in
     let first : c.min.result ≡ min c.args.index (length c.over_from.result.blocks - 1) = c.min.ensures ∙ ap (λ n. min c.args.index (n - 1)) (sym last) in
-    c.over_from.ensures.summary_left ∙ ap (λ n. n - 1 - c.min.result / w) (chunks_by_length g c) ∙ ap (λ k. blocks_for w (blocks_for w (length c.args.self.now.values)) - 1 - k / w) first
+    c.over_from.ensures.summary_left ∙ ap (λ n. blocks_for w n - 1 - c.min.result / w) (count_by_length g c) ∙ ap (λ k. blocks_for w (blocks_for w (length c.args.self.now.values)) - 1 - k / w) first
 
 pub returns-clause-fits : goal.returns-clause-fits
 returns-clause-fits g c =

@@ -2,6 +2,7 @@ use Rattle.std.proofs.Common.{◌≡◌, ◌≤◌, ◌*◌, ◌^◌, ◌-◌, �
 use Rattle.bit_words.specs.Bits.{blocks_for, capacity_of}
 use Rattle.bit_words.specs.Summary.{shared_capacity}
 use Rattle.bit_words.proofs.CapacityLemmas.{shared_enough, capacity_le}
+use Rattle.bit_words.proofs.SummaryLemmas.{stored_length}
 use Rattle.bit_words.proofs.VectorLemmas.{length_from_view, blocks_for-none}
 use Rattle.bit_words.proofs.bit_vec.BitVec.shrink_to_fit.Goals as goal
 
@@ -10,7 +11,7 @@ returns-clause-ok g c =
     let w = g.B.BitBlock.width in
     let shared : ℕ = shared_capacity w (vec_capacity c.shrink_shared_capacity.new.blocks) (vec_capacity c.shrink_shared_capacity.new.summary) in
     let count : length c.self.inside.blocks.items ≡ blocks_for w c.self.inside.len = c.self.invariant.packed.count in
-    let enough : length c.self.inside.blocks.items ≤ shared = shared_enough w (vec_capacity c.shrink_shared_capacity.new.blocks) (vec_capacity c.shrink_shared_capacity.new.summary) (length c.self.inside.blocks.items) g.met.B.BitBlock.width_law.positive c.shrink_shared_capacity.ensures.holds (omega (arith, c.shrink_shared_capacity.ensures.holds_summary, c.self.invariant.summary.packed.count)) in
+    let enough : length c.self.inside.blocks.items ≤ shared = shared_enough w (vec_capacity c.shrink_shared_capacity.new.blocks) (vec_capacity c.shrink_shared_capacity.new.summary) (length c.self.inside.blocks.items) g.met.B.BitBlock.width_law.positive c.shrink_shared_capacity.ensures.holds (omega (arith, c.shrink_shared_capacity.ensures.holds_summary, stored_length _ _ _ _ _ c.self.invariant.summary)) in
     let least = capacity_le w (length c.self.inside.blocks.items) shared enough in
     let len : c.len.result ≡ length c.self.inside.blocks.items = omega (arith, ap length c.shrink_shared_capacity.ensures.items) in
     let most : c.saturating_mul.result ≡ capacity_of w (length c.self.inside.blocks.items) = c.saturating_mul.ensures ∙ ap (λ n. min (n * c.bits.result) (2 ^ 64 - 1)) len ∙ ap (λ n. min (length c.self.inside.blocks.items * n) (2 ^ 64 - 1)) c.bits.ensures in

@@ -19,9 +19,9 @@ cut_summary-requires-clause-shorter g c =
     rw c.deref.ensures.value (omega (arith, le, c.truncate_bits.ensures.packed.count))
 
 pub cut_summary-requires-clause-before : goal.cut_summary-requires-clause-before
-cut_summary-requires-clause-before g c = λ k.
+cut_summary-requires-clause-before g c = λ long k.
     let w = g.B.BitBlock.width in
     let f = g.B.BitBlock.number in
     rw c.deref.ensures.value (λ before.
-    c.self.invariant.summary.digit k
+    (c.self.invariant.summary.long (omega (arith, long))).digit k
     ∙ kept_use w c.args.n k (map f c.self.inside.blocks.items) (map f c.truncate_bits.new.blocks.items) g.met.B.BitBlock.width_law.positive (numbers_below w f _ _ (λ x is. (g.met.B.BitBlock.number_law x is).0) c.self.invariant.packed.each k) (numbers_below w f _ _ (λ x is. (g.met.B.BitBlock.number_law x is).0) c.truncate_bits.ensures.packed.each k) c.truncate_bits.ensures.kept (omega (arith, before, c.truncate_bits.ensures.packed.count)))

@@ -32,7 +32,7 @@ merge_chunks-requires-clause-in_others g c = chunks_inside g.B.BitBlock.width (l
 pub merge_chunks-requires-clause-in_summary : goal.merge_chunks-requires-clause-in_summary
 merge_chunks-requires-clause-in_summary g c =
     let within = chunks_within g.B.BitBlock.width (length c.args.others.now) (length c.args.blocks.now) c.block_index-chunks.result g.met.B.BitBlock.width_law.positive (omega arith) c.block_index-chunks.ensures in
-    omega (arith, within, c.requires.can.summary.packed.count)
+    omega (arith, within, c.requires.summary.packed.count)
 
 pub merge_tail-requires-clause-in_others : goal.merge_tail-requires-clause-in_others
 merge_tail-requires-clause-in_others g c = chunks_inside g.B.BitBlock.width (length c.args.others.now) c.block_index-chunks.result c.block_index-chunks.ensures
@@ -49,35 +49,42 @@ merge_tail-requires-clause-rest g c = λ k from.
     value_at-is w ts k
     ∙ ap (λ n. is_one n (k % w)) (c.merge_chunks.ensures.past (k / w) (chunk_reached w c.block_index-chunks.result k g.met.B.BitBlock.width_law.positive from))
     ∙ sym (value_at-is w ss k)
-    ∙ c.requires.can.summary.digit k
+    ∙ c.requires.summary.digit k
     ∙ ap (λ m. not (m == 0)) (sym (c.merge_chunks.ensures.merged.after k from))
 
 pub returns-clause-has : goal.returns-clause-has
 returns-clause-has g c =
     let w = g.B.BitBlock.width in
-    let f = g.B.BitBlock.number in
     let chunks = c.block_index-chunks.result in
     let xs = c.merge_tail.new.blocks in
-    let summary = c.merge_tail.new.summary in
     let inside = chunks_inside w (length c.args.others.now) chunks c.block_index-chunks.ensures in
     let len : length xs ≡ length c.args.blocks.now = omega arith in
-    let own : length summary ≡ blocks_for w (length xs) = rw len (omega (arith, c.requires.can.summary.packed.count)) in
-    let count : length (map f summary) ≡ blocks_for w (length (map f xs)) = rw (length-map, length-map) own in
     record {
       merged = merged_more _ w 0 (chunks * w) (length c.args.blocks.now) (chunks * w) (length c.merge_chunks.new.blocks) _ _ _ _ (omega arith) (omega (arith, inside, c.requires.can.fewer)) refl (omega arith) c.merge_chunks.ensures.merged c.merge_tail.ensures.merged;
       each = c.merge_tail.ensures.each;
       len = len;
-      summary = summary_of_digits w f _ xs summary c.merge_tail.ensures.each_sum own (omega (arith, c.requires.can.summary.packed.fits))
-          (digits_of_summary w (map f xs) (map f summary) g.met.B.BitBlock.width_law.positive count (λ q j below index.
-          ⊎_elim
-          (λ early.
-          let first : q + 1 ≤ chunks = omega arith in
-          let low = mul-le-mul_right w first in
-          ap (λ n. is_one n j) (c.merge_tail.ensures.before q early)
-          ∙ c.merge_chunks.ensures.digits q j early index
-          ∙ ap (λ m. not (m == 0)) (sym (c.merge_tail.ensures.merged.before (q * w + j) (omega (arith, low)))))
-          (λ late.
-          let inside_summary : q < length summary = rw length-map at below in
-          c.merge_tail.ensures.digits q j late (omega (arith, inside_summary)) index)
-          (cases_lt q chunks)));
     }
+
+pub returns-clause-summary : goal.returns-clause-summary
+returns-clause-summary g c =
+    let w = g.B.BitBlock.width in
+    let f = g.B.BitBlock.number in
+    let chunks = c.block_index-chunks.result in
+    let xs = c.merge_tail.new.blocks in
+    let summary = c.merge_tail.new.summary in
+    let len : length xs ≡ length c.args.blocks.now = omega arith in
+    let own : length summary ≡ blocks_for w (length xs) = rw len (omega (arith, c.requires.summary.packed.count)) in
+    let count : length (map f summary) ≡ blocks_for w (length (map f xs)) = rw (length-map, length-map) own in
+    summary_of_digits w f _ xs summary c.merge_tail.ensures.each_sum own (omega (arith, c.requires.summary.packed.fits))
+    (digits_of_summary w (map f xs) (map f summary) g.met.B.BitBlock.width_law.positive count (λ q j below index.
+    ⊎_elim
+    (λ early.
+    let first : q + 1 ≤ chunks = omega arith in
+    let low = mul-le-mul_right w first in
+    ap (λ n. is_one n j) (c.merge_tail.ensures.before q early)
+    ∙ c.merge_chunks.ensures.digits q j early index
+    ∙ ap (λ m. not (m == 0)) (sym (c.merge_tail.ensures.merged.before (q * w + j) (omega (arith, low)))))
+    (λ late.
+    let inside_summary : q < length summary = rw length-map at below in
+    c.merge_tail.ensures.digits q j late (omega (arith, inside_summary)) index)
+    (cases_lt q chunks)))

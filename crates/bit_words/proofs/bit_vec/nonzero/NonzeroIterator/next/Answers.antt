@@ -1,31 +1,16 @@
-use Rattle.std.proofs.Common.{◌≡◌, ◌+◌, ◌*◌, ◌∷◌, drop, length, All, sym, ap, ◌∙◌, subst, arith}
-use Rattle.std.proofs.lemmas.List.Elements.{All-head, All-tail}
+use Rattle.std.proofs.Common.{◌≡◌, ◌+◌, ◌-◌, ◌*◌, ◌<◌, ◌≤◌, List, [], ◌∷◌, Option, None, Some, length, sym, ap, ◌∙◌, subst, arith}
+use Rattle.std.specs.Iterator.{YieldsFirst}
 use Rattle.std.proofs.lemmas.Option.{get_or_from_slice_get}
+use Rattle.bit_words.specs.Bits.{blocks_for}
 use Rattle.bit_words.specs.Pending.{IsPending, pending_from}
-use Rattle.bit_words.proofs.NonzeroLemmas.{passed, left-taken, IsPending-taken, left-pulled, IsPending-pulled, left-ended}
+use Rattle.bit_words.proofs.NonzeroLemmas.{zeros_passed, left-taken, IsPending-taken, left-pulled, IsPending-pulled, count_pulled, long_by_stored, left-ended, summary_ended}
+use Rattle.bit_words.proofs.NonzeroFromLemmas.{blocks_for-none}
 use Rattle.bit_words.proofs.bit_vec.nonzero.NonzeroIterator.next.Goals as goal
 
-pub returns-in_err-self-inside-clause-steps : goal.returns-in_err-self-inside-clause-steps
-returns-in_err-self-inside-clause-steps g c =
-    let w = g.B.BitBlock.width in
-    let number = g.B.BitBlock.number in
-    let it = c.loop-self.self-inside in
-    let before = c.loop-self.invariant in
-    let zeros = c.pass_zeros.ensures in
-    let pull = c.in_err-self-inside.ensures.steps in
-    let used_up : number it.pending ≡ 0 = (g.met.B.BitBlock.eq_law it.pending c.zero.result before.walk.in_hand c.zero.ensures.of_block).0 (sym c.eq.ensures ∙ c.loop-self-test.true) ∙ c.zero.ensures.of_number in
-    let (walk, same) = passed w number g.B.BitBlock.is_block c.pass_zeros.result it.index it.pending it.blocks.now it.summary.left g.met.B.BitBlock.width_law.positive before.walk used_up zeros.there zeros.zeros in
-    let none_left = sym zeros.left ∙ pull.item.0 in
-    let ended = left-ended w number g.B.BitBlock.is_block (it.index + c.pass_zeros.result * w) it.pending it.blocks.now (drop c.pass_zeros.result it.summary.left) walk used_up none_left in
-    let none = ap length pull.item.0 in
-    let none_after = ap length pull.item.1 in
-    rw (c.from_residual.ensures, c.bits.ensures) (record {
-      item = (sym before.same ∙ same ∙ ended, ended);
-      same = before.kept;
-      counted = before.counted;
-      goes_on = omega (arith, before.goes_on, pull.counted, zeros.pulls);
-      summary = (omega (arith, before.pulled, pull.counted, zeros.pulls, zeros.fewer, none), none_after);
-    })
+-- a pull past the end leaves nothing
+none_past_end : {X : Type 0} (xs ys : List X) (r : Option X) → YieldsFirst (λ zs. zs) xs r ys → xs ≡ [] → ys ≡ []
+none_past_end xs ys None first none = first.1
+none_past_end xs ys (Some x) first none = absurd (let e = ap length (sym none ∙ first) in omega (arith, e))
 
 pub invariant_of-self : goal.invariant_of-self
 invariant_of-self g c =
@@ -33,12 +18,59 @@ invariant_of-self g c =
     let number = g.B.BitBlock.number in
     let is_block = g.B.BitBlock.is_block in
     let it = c.loop-self.self-inside in
+    let xs = it.blocks.now in
     let before = c.loop-self.invariant in
     let zeros = c.pass_zeros.ensures in
-    let pull = c.in_err-self-inside.ensures.steps in
+    let pos = g.met.B.BitBlock.width_law.positive in
+    let index = it.index + c.pass_zeros.result * w in
+    let summary = c.pass_zeros.new.self.left in
     let used_up : number it.pending ≡ 0 = (g.met.B.BitBlock.eq_law it.pending c.zero.result before.walk.in_hand c.zero.ensures.of_block).0 (sym c.eq.ensures ∙ c.loop-self-test.true) ∙ c.zero.ensures.of_number in
-    let (walk, same) = passed w number is_block c.pass_zeros.result it.index it.pending it.blocks.now it.summary.left g.met.B.BitBlock.width_law.positive before.walk used_up zeros.there zeros.zeros in
-    rw c.bits.ensures (subst (IsPending w number is_block (it.index + c.pass_zeros.result * w) it.pending it.blocks.now) (sym zeros.left ∙ pull.item.0 ∙ sym pull.item.1) walk)
+    let (walk, same, count) = zeros_passed w number is_block c.pass_zeros.result it.index it.pending xs it.summary.left summary pos before.walk used_up zeros.there zeros.zeros zeros.left in
+    let end : length xs ≤ index + w = omega (arith, rw (c.bits.ensures, c.bits-in-loop-self.ensures) at c.if-self-bits.true) in
+    let none = summary_ended w number is_block index it.pending xs summary pos walk end in
+    let after : c.next-end.new.self.left ≡ summary = none_past_end summary c.next-end.new.self.left c.next-end.result c.next-end.ensures.steps.item none ∙ sym none in
+    rw c.bits.ensures (subst (IsPending w number is_block index it.pending xs) (sym after) walk)
+
+pub returns-then-self-bits-clause-steps : goal.returns-then-self-bits-clause-steps
+returns-then-self-bits-clause-steps g c =
+    let w = g.B.BitBlock.width in
+    let number = g.B.BitBlock.number in
+    let is_block = g.B.BitBlock.is_block in
+    let it = c.loop-self.self-inside in
+    let xs = it.blocks.now in
+    let before = c.loop-self.invariant in
+    let zeros = c.pass_zeros.ensures in
+    let pos = g.met.B.BitBlock.width_law.positive in
+    let index = it.index + c.pass_zeros.result * w in
+    let summary = c.pass_zeros.new.self.left in
+    let used_up : number it.pending ≡ 0 = (g.met.B.BitBlock.eq_law it.pending c.zero.result before.walk.in_hand c.zero.ensures.of_block).0 (sym c.eq.ensures ∙ c.loop-self-test.true) ∙ c.zero.ensures.of_number in
+    let (walk, same, count) = zeros_passed w number is_block c.pass_zeros.result it.index it.pending xs it.summary.left summary pos before.walk used_up zeros.there zeros.zeros zeros.left in
+    let end : length xs ≤ index + w = omega (arith, rw (c.bits.ensures, c.bits-in-loop-self.ensures) at c.if-self-bits.true) in
+    let ended = left-ended w number is_block index it.pending xs used_up end in
+    let last : blocks_for w (length xs - (index + w)) ≡ 0 = blocks_for-none w (length xs - (index + w)) pos (omega (arith, end)) in
+    rw c.bits.ensures (record {
+      item = (sym before.same ∙ same ∙ ended, ended);
+      same = before.kept;
+      counted = before.counted;
+      goes_on = omega (arith, before.goes_on, c.next-end.ensures.steps.counted, zeros.pulls);
+      summary = (omega (arith, before.pulled, c.next-end.ensures.steps.counted, zeros.pulls, count, last), last);
+    })
+
+pub pull_used-self-inside-requires-clause-stored : goal.pull_used-self-inside-requires-clause-stored
+pull_used-self-inside-requires-clause-stored g c =
+    let w = g.B.BitBlock.width in
+    let number = g.B.BitBlock.number in
+    let is_block = g.B.BitBlock.is_block in
+    let it = c.loop-self.self-inside in
+    let xs = it.blocks.now in
+    let before = c.loop-self.invariant in
+    let zeros = c.pass_zeros.ensures in
+    let pos = g.met.B.BitBlock.width_law.positive in
+    let index = it.index + c.pass_zeros.result * w in
+    let summary = c.pass_zeros.new.self.left in
+    let used_up : number it.pending ≡ 0 = (g.met.B.BitBlock.eq_law it.pending c.zero.result before.walk.in_hand c.zero.ensures.of_block).0 (sym c.eq.ensures ∙ c.loop-self-test.true) ∙ c.zero.ensures.of_number in
+    let (walk, same, count) = zeros_passed w number is_block c.pass_zeros.result it.index it.pending xs it.summary.left summary pos before.walk used_up zeros.there zeros.zeros zeros.left in
+    rw (c.bits.ensures, c.bits-in-loop-self-2.ensures) (λ some. walk.digit (long_by_stored w number is_block index it.pending xs summary walk some))
 
 pub loop-self-preserved : goal.loop-self-preserved
 loop-self-preserved g c =
@@ -49,24 +81,23 @@ loop-self-preserved g c =
     let xs = it.blocks.now in
     let before = c.loop-self.invariant in
     let zeros = c.pass_zeros.ensures in
-    let pull = c.in_ok-self-inside.ensures.steps in
-    let next = c.in_ok-self-inside.field-0 in
-    let rest = c.next.new.self.left in
     let pos = g.met.B.BitBlock.width_law.positive in
     let index = it.index + c.pass_zeros.result * w in
-    let summary = drop c.pass_zeros.result it.summary.left in
+    let summary = c.pass_zeros.new.self.left in
     let used_up : number it.pending ≡ 0 = (g.met.B.BitBlock.eq_law it.pending c.zero.result before.walk.in_hand c.zero.ensures.of_block).0 (sym c.eq.ensures ∙ c.loop-self-test.true) ∙ c.zero.ensures.of_number in
-    let (walk, same) = passed w number is_block c.pass_zeros.result it.index it.pending xs it.summary.left pos before.walk used_up zeros.there zeros.zeros in
-    let item : summary ≡ next ∷ rest = sym zeros.left ∙ pull.item in
-    let each = subst (All is_block) item walk.summary_each in
-    let fewer = ap length pull.item in
-    rw (c.bits.ensures, c.bits-in-loop-self.ensures) (record {
-      walk = IsPending-pulled w number is_block index it.pending next xs summary rest pos walk item (All-head is_block next rest each) (All-tail is_block next rest each);
-      same = sym (same ∙ left-pulled w number is_block index it.pending next xs summary rest pos walk used_up item) ∙ before.same;
+    let (walk, same, count) = zeros_passed w number is_block c.pass_zeros.result it.index it.pending xs it.summary.left summary pos before.walk used_up zeros.there zeros.zeros zeros.left in
+    let pull = c.pull_used-self-inside.ensures in
+    let next = c.pull_used-self-inside.result in
+    let more : index + w < length xs = omega (arith, walk.within, rw (c.bits.ensures, c.bits-in-loop-self.ensures) at c.if-self-bits.false) in
+    let digits = rw (c.bits.ensures, c.bits-in-loop-self-2.ensures) at pull.digits in
+    let pulled = count_pulled w number is_block index (length xs) pos more in
+    rw (c.bits.ensures, c.bits-in-loop-self-2.ensures) (record {
+      walk = subst (IsPending w number is_block (index + w) next xs) (sym pull.left) (IsPending-pulled w number is_block index it.pending next xs summary pos walk pull.of_block digits more);
+      same = sym (same ∙ left-pulled w number is_block index it.pending next xs used_up digits) ∙ before.same;
       kept = before.kept;
       counted = before.counted;
-      pulled = omega (arith, before.pulled, pull.counted, zeros.pulls, zeros.fewer, fewer);
-      goes_on = omega (arith, before.goes_on, pull.counted, zeros.pulls);
+      pulled = omega (arith, before.pulled, pull.pulls, zeros.pulls, count, pulled);
+      goes_on = omega (arith, before.goes_on, pull.pulls, zeros.pulls);
     })
 
 pub at-requires : goal.at-requires

@@ -1,4 +1,5 @@
-use Rattle.std.proofs.Common.{◌≡◌, ◌+◌, ◌≤◌, length}
+use Rattle.std.proofs.Common.{◌≡◌, ◌+◌, ◌-◌, ◌≤◌, length}
+use Rattle.bit_words.specs.Bits.{blocks_for}
 use Rattle.bit_words.specs.Pending.{IsPending, pending_from}
 use Rattle.bit_words.proofs.bit_vec.nonzero.NonzeroIterator.next.Given as goal
 
@@ -13,9 +14,9 @@ invariant-loop-self g l =
       same : pending_from w number it.index (number it.pending) it.blocks.now ≡ l.fn.self.left;
       kept : it.blocks.now ≡ l.fn.self.blocks;
       counted : it.steps ≡ l.fn.self.pulls + 1;
-      pulled : it.summary.pulls + length it.summary.left ≡ l.fn.self.summary_pulls + l.fn.self.summary_left;
+      pulled : it.summary.pulls + blocks_for w (length it.blocks.now - (it.index + w)) ≡ l.fn.self.summary_pulls + l.fn.self.summary_left;
       goes_on : l.fn.self.summary_pulls ≤ it.summary.pulls;
     }
 
 abbrev pub decreases-loop-self : goal.decreases-loop-self
-decreases-loop-self g l = length l.self-inside.summary.left
+decreases-loop-self g l = length l.self-inside.blocks.now - l.self-inside.index
