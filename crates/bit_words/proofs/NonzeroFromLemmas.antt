@@ -1,6 +1,7 @@
 -- The walk over the blocks that are not 0, started at any block.
 use Rattle.std.proofs.Common.{◌≡◌, ℕ, zero, suc, ◌+◌, ◌-◌, ◌*◌, ◌/◌, ◌^◌, ◌<◌, ◌≤◌, Bool, true, false, not, ◌||◌, if◌then◌else◌, ◌==◌, List, [], ◌∷◌, map, drop, length, min, All, refl, sym, ap, subst, ◌∙◌, arith, ⊎_elim, mul-le-mul_right, div-add-mod'}
 use Rattle.std.proofs.lemmas.Bool.{cases_lt, cases_order, true≢false}
+use Rattle.std.proofs.lemmas.Bool.Decides.{nat_tests}
 use Rattle.std.proofs.lemmas.List.{drop-map, drop_all, length-drop}
 use Rattle.std.proofs.lemmas.List.Elements.{All-drop, All-nil}
 use Rattle.std.proofs.lemmas.Nat.Bits.{bit_at-suc, bit_at-zero, bit_at_lowest}
@@ -10,10 +11,10 @@ use Rattle.bit_words.specs.Bits.{blocks_for}
 use Rattle.bit_words.specs.Digits.{IsEither, is_one}
 use Rattle.bit_words.specs.Storage.{value_at}
 use Rattle.bit_words.specs.Summary.{is_used, short_count, KeepsSummary}
-use Rattle.bit_words.specs.Pending.{IsPending, ArePendingFrom, pick, is_pending, pending_from}
+use Rattle.bit_words.specs.Pending.{IsPastFirst, IsPending, ArePendingFrom, CoversUsed, pick, is_pending, pending_from}
 use Rattle.bit_words.specs.Nonzero.{block_and_nonzero, first_and_nonzero}
 use Rattle.bit_words.proofs.BitsLemmas.{blocks_for-enough, blocks_for-least, blocks_for-past}
-use Rattle.bit_words.proofs.NonzeroLemmas.{dropped, pending-past, pending-within, nonzero_inside, pick-nonzero, pick-tick_by, value_at-drop}
+use Rattle.bit_words.proofs.NonzeroLemmas.{dropped, not_pending, pending-covered, pending-here, pending-past, pick-nonzero, pick-tick_by, value_at-drop}
 use Rattle.bit_words.proofs.Masks.{is_one-bit, is_one-either, is_one-zero}
 
 -- the pending bits from the first block on
@@ -28,6 +29,20 @@ pending_from_first w m r pos either = record {
     one_above zero after = absurd (omega (arith, after))
     one_above (suc j) after = is_one-bit 0 1 (suc j) (bit_at-suc 1 j ∙ bit_at-zero j)
 
+-- before the first pull these are about blocks from the first one on
+pub IsPastFirst-from : (w start d first pulls m r : ℕ) → pulls ≡ 0 → first ≡ start + d → ArePendingFrom w d m r → IsPastFirst w start first pulls r
+IsPastFirst-from w start d first pulls m r fresh first_is pending = record {
+  from = λ j to one.
+      ⊎_elim
+      (λ below. absurd (true≢false (sym one ∙ pending.below j below)))
+      (λ reached. omega (arith, reached, first_is))
+      (cases_lt j d);
+  past = λ some. absurd (omega (arith, some, fresh));
+}
+
+pub IsPastFirst-begin : (w pulls m : ℕ) → pulls ≡ 0 → IsPastFirst w 0 0 pulls m
+IsPastFirst-begin w pulls m fresh = record { from = λ j to one. omega arith; past = λ some. absurd (omega (arith, some, fresh)) }
+
 -- a block's bit is in a block of the summary
 pub chunk_inside : (w from blocks summary : ℕ) → 0 < w → from < blocks → summary ≡ blocks_for w blocks → from / w < summary
 chunk_inside w from blocks summary pos inside count =
@@ -40,10 +55,9 @@ chunk_inside w from blocks summary pos inside count =
 
 module _ {X : Type 0} (w : ℕ) (number : X → ℕ) (is_block : X → Type 0) where
   -- what is left of a summary past the block for the blocks from index `start` on, which is q times the width
-  pub IsPending-from : (q start d : ℕ) (pending first : X) (xs summary rest : List X) → 0 < w → All is_block xs → length xs < 2 ^ 64 → KeepsSummary w number is_block xs summary → start ≡ q * w → rest ≡ drop 1 (drop (min q (length summary)) summary)
-      → ((j : ℕ) → j < w → is_one (number first) j ≡ is_used (map number xs) (start + j)) → is_block pending → d < w → start + d < length xs → ArePendingFrom w d (number first) (number pending) → IsPending w number is_block start pending xs rest
-  IsPending-from q start d pending first xs summary rest pos each fits keeps at left digits block within inside from =
-      let past : (j : ℕ) → d < j → j < w → is_one (number pending) j ≡ is_used (map number xs) (start + j) = λ j after to. from.above j after to ∙ digits j to in
+  pub IsPending-from : (q start d first : ℕ) (pending used : X) (xs summary rest : List X) → 0 < w → All is_block xs → length xs < 2 ^ 64 → KeepsSummary w number is_block xs summary → start ≡ q * w → first ≡ start + d → rest ≡ drop 1 (drop (min q (length summary)) summary)
+      → CoversUsed w number xs start (number used) → is_block pending → d < w → start + d < length xs → ArePendingFrom w d (number used) (number pending) → IsPending w number is_block start first pending xs rest
+  IsPending-from q start d first pending used xs summary rest pos each fits keeps at first_is left digits block within inside from =
       let mark_at : (j : ℕ) → is_one (number pending) j ≡ true → d ≤ j = λ j tail_set.
       ⊎_elim (λ below. absurd (true≢false (sym tail_set ∙ from.below j below))) (λ reached. reached) (cases_lt j d) in
       let none : length xs ≤ short_count w → rest ≡ [] = λ few.
@@ -64,21 +78,25 @@ module _ {X : Type 0} (w : ℕ) (number : X → ℕ) (is_block : X → Type 0) w
       let long_by_rest : 0 < length rest → short_count w < length xs = λ more.
       ⊎_elim (λ long. long) (λ few. absurd (let e = ap length (none few) in omega (arith, e, more))) (cases_lt (short_count w) (length xs)) in
       record {
-        each = each;
-        in_hand = block;
+        hand = record {
+          each = each;
+          of_block = block;
+          fits = fits;
+          within = omega (arith, inside);
+          begun = omega (arith, first_is, within);
+          inside = λ j to tail_set.
+              ⊎_elim
+              (λ here. omega (arith, here, inside))
+              (⊎_elim (λ below. absurd (let e = mark_at j tail_set in omega (arith, e, below))) (λ after. digits.inside j to (sym (from.above j after to) ∙ tail_set)))
+              (cases_order j d);
+          covers = λ i j after to tail_set used.
+              from.above j (let e = mark_at i tail_set in omega (arith, e, after)) to ∙ digits.covers j to used;
+        };
         summary_each =
             ⊎_elim
             (λ long. subst (All is_block) (sym (some long)) (All-drop is_block (q + 1) summary (keeps.long long).packed.each))
             (λ few. subst (All is_block) (sym (none few)) (All-nil is_block))
             (cases_lt (short_count w) (length xs));
-        fits = fits;
-        within = omega (arith, inside);
-        inside = λ j to tail_set.
-            ⊎_elim
-            (λ here. omega (arith, here, inside))
-            (⊎_elim (λ below. absurd (let e = mark_at j tail_set in omega (arith, e, below))) (λ after. nonzero_inside number (start + j) xs (sym (past j after to) ∙ tail_set)))
-            (cases_order j d);
-        exact = λ i j after to tail_set. past j (let e = mark_at i tail_set in omega (arith, e, after)) to;
         short = none;
         enough = λ long.
             let enough = blocks_for-enough w (length xs) pos in
@@ -113,25 +131,28 @@ module _ {X : Type 0} (w : ℕ) (number : X → ℕ) (is_block : X → Type 0) w
       ∙ (keeps.long long).digit (q * w + k)
 
   -- the walk over no block
-  pub IsPending-none : (pending : X) (xs summary : List X) → length xs ≡ 0 → All is_block xs → KeepsSummary w number is_block xs summary → is_block pending → number pending ≡ 0 → IsPending w number is_block 0 pending xs summary
-  IsPending-none pending xs summary none each keeps block zero_there =
+  pub IsPending-none : (pending : X) (xs summary : List X) → 0 < w → length xs ≡ 0 → All is_block xs → KeepsSummary w number is_block xs summary → is_block pending → number pending ≡ 0 → IsPending w number is_block 0 0 pending xs summary
+  IsPending-none pending xs summary pos none each keeps block zero_there =
       let empty : summary ≡ [] = keeps.short (omega (arith, none)) in
       let count : length summary ≡ 0 = ap length empty in
       record {
-        each = each;
-        in_hand = block;
+        hand = record {
+          each = each;
+          of_block = block;
+          fits = omega (arith, none);
+          within = omega arith;
+          begun = omega (arith, pos);
+          inside = λ j within one. absurd (true≢false (sym one ∙ ap (λ n. is_one n j) zero_there ∙ is_one-zero j));
+          covers = λ i j after within one used. absurd (true≢false (sym one ∙ ap (λ n. is_one n i) zero_there ∙ is_one-zero i));
+        };
         summary_each = subst (All is_block) (sym empty) (All-nil is_block);
-        fits = omega (arith, none);
-        within = omega arith;
-        inside = λ j within one. absurd (true≢false (sym one ∙ ap (λ n. is_one n j) zero_there ∙ is_one-zero j));
-        exact = λ i j after within one. absurd (true≢false (sym one ∙ ap (λ n. is_one n i) zero_there ∙ is_one-zero i));
         short = λ few. empty;
         enough = λ long. absurd (omega (arith, none, long));
         few = λ some. absurd (omega (arith, count, some));
         digit = λ long. absurd (omega (arith, none, long));
       }
 
-  pub left-none : (m : ℕ) (xs : List X) → length xs ≡ 0 → pending_from w number 0 m xs ≡ first_and_nonzero number xs
+  pub left-none : (m : ℕ) (xs : List X) → length xs ≡ 0 → pending_from w number 0 0 m xs ≡ first_and_nonzero number xs
   left-none m [] none = refl
   left-none m (x ∷ xs) none = absurd (omega (arith, none))
 
@@ -142,28 +163,31 @@ module _ {X : Type 0} (w : ℕ) (number : X → ℕ) (is_block : X → Type 0) w
       ap (λ b. if b then (k, y) ∷ pick f (k + 1) ys else pick f (k + 1) ys) here
       ∙ ap (λ zs. (k, y) ∷ zs) (pick-nonzero number f (k + 1) ys (λ j. ap f (let e : k + 1 + j ≡ k + suc j = omega arith in e) ∙ tell j))
 
-  pub left-from : (start d : ℕ) (pending first : X) (xs : List X) → d < w → ((j : ℕ) → j < w → is_one (number first) j ≡ is_used (map number xs) (start + j)) → ArePendingFrom w d (number first) (number pending)
-      → pending_from w number start (number pending) xs ≡ block_and_nonzero number (start + d) (drop (start + d) xs)
-  left-from start d pending first xs within digits from =
+  pub left-from : (start d first : ℕ) (pending used : X) (xs : List X) → d < w → first ≡ start + d → CoversUsed w number xs start (number used) → ArePendingFrom w d (number used) (number pending)
+      → pending_from w number start first (number pending) xs ≡ block_and_nonzero number first (drop first xs)
+  left-from start d first pending used xs within first_is digits from =
       let m = number pending in
       let ms = map number xs in
-      let f = is_pending w start m ms in
-      let before : (j : ℕ) → start ≤ j → j < start + d → f j ≡ false = λ j low high. pending-within w start m ms j (omega (arith, high, within)) ∙ from.below (j - start) (omega (arith, low, high)) in
-      let here : f (start + d) ≡ true = pending-within w start m ms (start + d) (omega (arith, within)) ∙ ap (is_one m) (let e : start + d - start ≡ d = omega arith in e) ∙ from.here in
-      let tell : (j : ℕ) → f (start + d + suc j) ≡ is_used ms (start + d + suc j) = λ j.
+      let f = is_pending w start first m ms in
+      let before : (j : ℕ) → start ≤ j → j < start + d → f j ≡ false = λ j low high. not_pending w start first m ms j (omega (arith, high, within)) (from.below (j - start) (omega (arith, low, high))) in
+      let here : f first ≡ true =
+      pending-here w start first m ms first (omega (arith, within, first_is)) (ap (is_one m) (let e : first - start ≡ d = omega (arith, first_is) in e) ∙ from.here)
+      ∙ ap (λ b. is_used ms first || b) (let same : (first == first) ≡ true = grind (arith, nat_tests) in same)
+      ∙ or-true (is_used ms first) in
+      let tell : (j : ℕ) → f (first + suc j) ≡ is_used ms (first + suc j) = λ j.
       ⊎_elim
       (λ in_hand.
-      let to : d + suc j < w = omega (arith, in_hand) in
-      pending-within w start m ms (start + d + suc j) in_hand
-      ∙ ap (is_one m) (let e : start + d + suc j - start ≡ d + suc j = omega arith in e)
-      ∙ from.above (d + suc j) (omega arith) to
-      ∙ digits (d + suc j) to
-      ∙ ap (is_used ms) (let e : start + (d + suc j) ≡ start + d + suc j = omega arith in e))
-      (λ past. pending-past w start m ms (start + d + suc j) past)
-      (cases_lt (start + d + suc j) (start + w)) in
+      let to : d + suc j < w = omega (arith, in_hand, first_is) in
+      let e : first + suc j - start ≡ d + suc j = omega (arith, first_is) in
+      pending-covered w start first m ms (first + suc j) in_hand
+      (λ some. ap (is_one m) e ∙ from.above (d + suc j) (omega arith) to ∙ digits.covers (d + suc j) to (ap (is_used ms) (let e : start + (d + suc j) ≡ first + suc j = omega (arith, first_is) in e) ∙ some))
+      (omega arith))
+      (λ past. pending-past w start first m ms (first + suc j) past)
+      (cases_lt (first + suc j) (start + w)) in
       pick-tick_by f start d (drop start xs) before
       ∙ ap (pick f (start + d)) (drop-drop d start xs)
-      ∙ picked f (start + d) (drop (start + d) xs) here (λ j. tell j ∙ ap (λ n. not (n == 0)) (sym (dropped number (start + d) (suc j) xs)))
+      ∙ ap (λ k. pick f k (drop k xs)) (sym first_is)
+      ∙ picked f first (drop first xs) here (λ j. tell j ∙ ap (λ n. not (n == 0)) (sym (dropped number first (suc j) xs)))
 
 -- how many blocks of the summary are past the one for a block
 pub count_from : (w q start blocks : ℕ) → 0 < w → start ≡ q * w → start < blocks → blocks_for w (blocks - (start + w)) ≡ blocks_for w blocks - 1 - q

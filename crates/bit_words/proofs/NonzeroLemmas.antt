@@ -1,16 +1,18 @@
 -- The walk over the blocks that are not 0, by the pending bits of a summary.
-use Rattle.std.proofs.Common.{◌≡◌, ◌≢◌, ℕ, zero, suc, ◌+◌, ◌-◌, ◌*◌, ◌/◌, ◌%◌, ◌^◌, ◌<◌, ◌≤◌, Bool, true, false, not, nat_lt, if◌then◌else◌, ◌↔◌, ◌==◌, List, [], ◌∷◌, min, map, drop, take, length, get_or, get_or-take, get_or-drop, count_ones, mul-le-mul_right, All, refl, sym, ap, subst, ◌∙◌, arith, ⊎_elim, mod-lt, div-add-mod'}
+use Rattle.std.proofs.Common.{◌≡◌, ◌≢◌, ℕ, zero, suc, ◌+◌, ◌-◌, ◌*◌, ◌/◌, ◌%◌, ◌^◌, ◌<◌, ◌≤◌, Bool, true, false, not, nat_lt, ◌&&◌, ◌||◌, if◌then◌else◌, ◌↔◌, ◌==◌, List, [], ◌∷◌, min, map, drop, take, replicate, length, slice_get, Some, get_or, get_or-take, get_or-drop, count_ones, mul-le-mul_right, All, refl, sym, ap, subst, ◌∙◌, arith, ⊎_elim, mod-lt, div-add-mod'}
 use Rattle.std.proofs.lemmas.Bool.{cases_lt, cases_eq, true≢false}
 use Rattle.std.proofs.lemmas.Bool.Decides.{nat_tests}
+use Rattle.std.proofs.Math.Bool.{and-false}
 use Rattle.std.proofs.Math.Seq.{drop-drop}
-use Rattle.std.proofs.lemmas.List.{drop_more, drop_all, drop-map, drop-take, get_or_past, length-drop, length-map, take-map}
+use Rattle.std.proofs.lemmas.Option.{get_or_from_slice_get}
+use Rattle.std.proofs.lemmas.List.{get_or-map, drop_more, drop_all, drop-map, drop-take, get_or_past, length-drop, length-map, length-replicate, take-map}
 use Rattle.std.proofs.lemmas.List.Sums.{sum_by-cons, sum_by-take-drop}
 use Rattle.bit_words.specs.Bits.{blocks_for}
 use Rattle.bit_words.specs.Digits.{is_one}
 use Rattle.bit_words.specs.Lowest.{IsLowest, IsCleared}
 use Rattle.bit_words.specs.Storage.{value_at}
 use Rattle.bit_words.specs.Summary.{is_used, short_count, IsSummary}
-use Rattle.bit_words.specs.Pending.{IsPending, pick, is_pending, pending_from}
+use Rattle.bit_words.specs.Pending.{IsInHand, IsPending, IsPastFirst, CoversUsed, pick, is_pending, pending_from, digits_left, tries_left}
 use Rattle.bit_words.specs.Nonzero.{nonzero_from, ones_in, ones_left}
 use Rattle.bit_words.proofs.LowestLemmas.{ones_zero}
 use Rattle.bit_words.proofs.Masks.{is_one-bit, is_one-zero}
@@ -45,6 +47,11 @@ module _ {X : Type 0} where
       ap (pick f k) (drop_more xs k d inside)
       ∙ ap (λ b. if b then (k, get_or xs k d) ∷ pick f (k + 1) (drop (k + 1) xs) else pick f (k + 1) (drop (k + 1) xs)) here
 
+  pick-passed : (f : ℕ → Bool) (k : ℕ) (xs : List X) (d : X) → k < length xs → f k ≡ false → pick f k (drop k xs) ≡ pick f (k + 1) (drop (k + 1) xs)
+  pick-passed f k xs d inside here =
+      ap (pick f k) (drop_more xs k d inside)
+      ∙ ap (λ b. if b then (k, get_or xs k d) ∷ pick f (k + 1) (drop (k + 1) xs) else pick f (k + 1) (drop (k + 1) xs)) here
+
   -- where the pending bits say which blocks are not 0
   pub pick-nonzero : (number : X → ℕ) (f : ℕ → Bool) (k : ℕ) (xs : List X) → ((j : ℕ) → f (k + j) ≡ is_used (map number xs) j) → pick f k xs ≡ nonzero_from number k xs
   pick-nonzero number f k [] tell = refl
@@ -59,17 +66,50 @@ module _ {X : Type 0} where
 
 -- ---- the pending bits of one block of the summary, and of those past it
 
-pub pending-within : (w index m : ℕ) (ms : List ℕ) (k : ℕ) → k < index + w → is_pending w index m ms k ≡ is_one m (k - index)
+pub pending-within : (w index first m : ℕ) (ms : List ℕ) (k : ℕ) → k < index + w → is_pending w index first m ms k ≡ (is_one m (k - index) && (is_used ms k || k == first))
 unfolding is_pending
-pending-within w index m ms k within =
+pending-within w index first m ms k within =
     let t : nat_lt k (index + w) ≡ true = grind (arith, nat_tests) in
-    ap (λ b. if b then is_one m (k - index) else is_used ms k) t
+    ap (λ b. if b then is_one m (k - index) && (is_used ms k || k == first) else is_used ms k) t
 
-pub pending-past : (w index m : ℕ) (ms : List ℕ) (k : ℕ) → index + w ≤ k → is_pending w index m ms k ≡ is_used ms k
+pub pending-past : (w index first m : ℕ) (ms : List ℕ) (k : ℕ) → index + w ≤ k → is_pending w index first m ms k ≡ is_used ms k
 unfolding is_pending
-pending-past w index m ms k past =
+pending-past w index first m ms k past =
     let t : nat_lt k (index + w) ≡ false = grind (arith, nat_tests) in
-    ap (λ b. if b then is_one m (k - index) else is_used ms k) t
+    ap (λ b. if b then is_one m (k - index) && (is_used ms k || k == first) else is_used ms k) t
+
+-- what has no digit does not come
+pub not_pending : (w index first m : ℕ) (ms : List ℕ) (k : ℕ) → k < index + w → is_one m (k - index) ≡ false → is_pending w index first m ms k ≡ false
+not_pending w index first m ms k within none =
+    pending-within w index first m ms k within ∙ ap (λ b. b && (is_used ms k || k == first)) none
+
+-- what has its digit comes where it is not 0, or is the first
+pub pending-here : (w index first m : ℕ) (ms : List ℕ) (k : ℕ) → k < index + w → is_one m (k - index) ≡ true → is_pending w index first m ms k ≡ (is_used ms k || k == first)
+pending-here w index first m ms k within one =
+    pending-within w index first m ms k within ∙ ap (λ b. b && (is_used ms k || k == first)) one
+
+-- where each that is not 0 has its digit, and the first is another, just these come
+covered : (b u e : Bool) → (u ≡ true → b ≡ true) → e ≡ false → (b && (u || e)) ≡ u
+covered b true e covers none = ap (λ d. d && (true || e)) (covers refl)
+covered true false e covers none = none
+covered false false e covers none = refl
+
+pub pending-covered : (w index first m : ℕ) (ms : List ℕ) (k : ℕ) → k < index + w → (is_used ms k ≡ true → is_one m (k - index) ≡ true) → first < k → is_pending w index first m ms k ≡ is_used ms k
+pending-covered w index first m ms k within covers past =
+    let other : (k == first) ≡ false = grind (arith, nat_tests) in
+    pending-within w index first m ms k within ∙ covered (is_one m (k - index)) (is_used ms k) (k == first) covers other
+
+-- and what does not come is 0
+passed_over : (b u e : Bool) → (u ≡ true → b ≡ true) → (b && (u || e)) ≡ false → u ≡ false
+passed_over b true e covers none = absurd (true≢false (sym (ap (λ d. d && (true || e)) (covers refl)) ∙ none))
+passed_over b false e covers none = refl
+
+pub unused_from : (w index first m : ℕ) (ms : List ℕ) (k : ℕ) → (k < index + w → is_used ms k ≡ true → is_one m (k - index) ≡ true) → is_pending w index first m ms k ≡ false → is_used ms k ≡ false
+unused_from w index first m ms k covers none =
+    ⊎_elim
+    (λ in_hand. passed_over (is_one m (k - index)) (is_used ms k) (k == first) (covers in_hand) (sym (pending-within w index first m ms k in_hand) ∙ none))
+    (λ past. sym (pending-past w index first m ms k past) ∙ none)
+    (cases_lt k (index + w))
 
 -- ---- blocks of a summary, one by one
 
@@ -94,107 +134,202 @@ nonzero_inside number k xs some =
     absurd (true≢false (sym some ∙ ap (λ m. not (m == 0)) none)))
     (cases_lt k (length xs))
 
+-- a block, as the number that its place has
+pub used_here : {X : Type 0} (number : X → ℕ) (xs : List X) (k : ℕ) (x : X) → k < length xs → slice_get xs k ≡ Some x → is_used (map number xs) k ≡ not (number x == 0)
+used_here number xs k x inside at = ap (λ m. not (m == 0)) (get_or-map number xs k x 0 inside ∙ ap number (get_or_from_slice_get xs k x x at))
+
 -- what lies past the first blocks
 pub dropped : {X : Type 0} (number : X → ℕ) (n j : ℕ) (xs : List X) → get_or (map number (drop n xs)) j 0 ≡ get_or (map number xs) (n + j) 0
 dropped number n j xs = ap (λ ms. get_or ms j 0) (sym (drop-map number n xs)) ∙ get_or-drop n (map number xs) j 0
 
+-- one fewer where one is cleared
+pub digits-taken : (w m i r : ℕ) → IsLowest m i → i < w → IsCleared w m i r → digits_left w m ≡ suc (digits_left w r)
+digits-taken w m i r low within cleared =
+    let all : List ℕ = replicate w 0 in
+    let f : ℕ → Bool = λ j. nat_lt j w && is_one m j in
+    let g : ℕ → Bool = λ j. nat_lt j w && is_one r j in
+    let inside : i < length all = let long = length-replicate {A = ℕ} w 0 in omega (arith, long, within) in
+    let test : nat_lt i w ≡ true = grind (arith, nat_tests) in
+    let here : f i ≡ true = ap (λ b. b && is_one m i) test ∙ is_one-bit 1 m i low.one in
+    let before : (j : ℕ) → 0 ≤ j → j < 0 + i → f j ≡ false = λ j from to.
+    ap (λ b. nat_lt j w && b) (is_one-bit 0 m j (low.zeros j (omega (arith, to)))) ∙ and-false (nat_lt j w) in
+    let none : (j : ℕ) → 0 ≤ j → j < 0 + (i + 1) → g j ≡ false = λ j from to.
+    ap (λ b. nat_lt j w && b)
+    (⊎_elim
+    (λ below. is_one-bit 0 r j (cleared.kept j (omega (arith, below, within)) (λ e. omega (arith, e, below)) ∙ low.zeros j below))
+    (λ at. ap (is_one r) (let e : j ≡ i = omega (arith, at, to) in e) ∙ is_one-bit 0 r i cleared.cleared)
+    (cases_lt j i))
+    ∙ and-false (nat_lt j w) in
+    let after : (j : ℕ) → i + 1 ≤ j → f j ≡ g j = λ j from.
+    ⊎_elim
+    (λ to. ap (λ b. nat_lt j w && (b == 1)) (sym (cleared.kept j to (λ e. omega (arith, e, from)))))
+    (λ past. let test : nat_lt j w ≡ false = grind (arith, nat_tests) in ap (λ b. b && is_one m j) test ∙ sym (ap (λ b. b && is_one r j) test))
+    (cases_lt j w) in
+    ap length
+    (pick-tick_by f 0 i all before
+    ∙ ap (λ k. pick f k (drop i all)) (let e : 0 + i ≡ i = omega arith in e)
+    ∙ pick-first f i all 0 inside here
+    ∙ ap (λ ys. (i, get_or all i 0) ∷ ys)
+    (pick-same f g (i + 1) (drop (i + 1) all) after
+    ∙ ap (λ k. pick g k (drop (i + 1) all)) (let e : i + 1 ≡ 0 + (i + 1) = omega arith in e)
+    ∙ sym (pick-tick_by g 0 (i + 1) all none)))
+
+-- and never more than there are
+length-pick : {X : Type 0} (f : ℕ → Bool) (k : ℕ) (xs : List X) → length (pick f k xs) ≤ length xs
+length-pick f k [] = omega arith
+length-pick {X = X} f k (x ∷ xs) = with_or_without (f k) (pick f (k + 1) xs) (length-pick f (k + 1) xs)
+  where
+    with_or_without : (b : Bool) (ys : List (ℕ × X)) → length ys ≤ length xs → length (if b then (k, x) ∷ ys else ys) ≤ length (x ∷ xs)
+    with_or_without true ys fewer = omega (arith, fewer)
+    with_or_without false ys fewer = omega (arith, fewer)
+
+-- a pull leaves fewer to try, whatever its digits are
+pub tries-pulled : (w count index next m r : ℕ) → 0 < w → index + w ≤ next → next < count → tries_left w count next r < tries_left w count index m
+tries-pulled w count index next m r pos on more =
+    let most = length-pick {X = ℕ} (λ j. nat_lt j w && is_one r j) 0 (replicate w 0) in
+    let all = length-replicate {A = ℕ} w 0 in
+    let fewer = mul-le-mul_right (w + 1) (let e : (count - next) + 1 ≤ count - index = omega (arith, on, more, pos) in e) in
+    omega (arith, most, all, fewer)
+
+pub tries-taken : (w count index m i r : ℕ) → IsLowest m i → i < w → IsCleared w m i r → tries_left w count index r < tries_left w count index m
+tries-taken w count index m i r low within cleared =
+    let one_less = digits-taken w m i r low within cleared in
+    omega (arith, one_less)
+
+-- past the first block
+pub IsPastFirst-taken : (w index first pulls later m i r : ℕ) → IsPastFirst w index first pulls m → IsLowest m i → i < w → IsCleared w m i r → IsPastFirst w index first later r
+IsPastFirst-taken w index first pulls later m i r is low within cleared =
+    let here = is.from i within (is_one-bit 1 m i low.one) in
+    let past : (j : ℕ) → j < w → is_one r j ≡ true → first < index + j = λ j to one.
+    ⊎_elim
+    (λ below. absurd (true≢false (sym one ∙ is_one-bit 0 r j (cleared.kept j to (λ e. omega (arith, e, below)) ∙ low.zeros j below))))
+    (λ not_below.
+    ⊎_elim
+    (λ at. absurd (true≢false (sym one ∙ ap (is_one r) at ∙ is_one-bit 0 r i cleared.cleared)))
+    (λ other. omega (arith, here, other, not_below))
+    (cases_eq j i))
+    (cases_lt j i) in
+    record { from = λ j to one. let e = past j to one in omega (arith, e); past = λ some. past }
+
+pub IsPastFirst-later : (w index first m : ℕ) → IsPastFirst w index first 1 m → (pulls : ℕ) → IsPastFirst w index first pulls m
+IsPastFirst-later w index first m is pulls = record { from = is.from; past = λ some. is.past (omega arith) }
+
+pub IsPastFirst-none : (w index first pulls m : ℕ) → m ≡ 0 → IsPastFirst w index first pulls m
+IsPastFirst-none w index first pulls m none =
+    let nothing : (j : ℕ) → is_one m j ≡ true → ⊥ = λ j one. true≢false (sym one ∙ ap (λ n. is_one n j) none ∙ is_one-zero j) in
+    record { from = λ j to one. absurd (nothing j one); past = λ some j to one. absurd (nothing j one) }
+
+pub IsPastFirst-pulled : (w index first pulls next m : ℕ) → first < index + w → index + w ≤ next → IsPastFirst w next first pulls m
+IsPastFirst-pulled w index first pulls next m begun on = record { from = λ j to one. omega (arith, begun, on); past = λ some j to one. omega (arith, begun, on) }
+
 module _ {X : Type 0} (w : ℕ) (number : X → ℕ) (is_block : X → Type 0) where
   -- ---- the lowest pending bit is taken
 
-  pub left-taken : (index i r : ℕ) (pending d : X) (xs summary : List X) → IsPending w number is_block index pending xs summary → IsLowest (number pending) i → i < w → IsCleared w (number pending) i r
-      → (index + i < length xs) × (pending_from w number index (number pending) xs ≡ (index + i, get_or xs (index + i) d) ∷ pending_from w number index r xs)
-  left-taken index i r pending d xs summary is low within cleared =
+  -- The block at it comes where it is not 0, or is the first; else it is passed over.
+  pub left-taken : (index first i r : ℕ) (pending d : X) (xs : List X) → IsInHand w number is_block index first pending xs → IsLowest (number pending) i → i < w → IsCleared w (number pending) i r
+      → (index + i < length xs)
+      × ((is_used (map number xs) (index + i) || index + i == first) ≡ true → pending_from w number index first (number pending) xs ≡ (index + i, get_or xs (index + i) d) ∷ pending_from w number index first r xs)
+      × ((is_used (map number xs) (index + i) || index + i == first) ≡ false → pending_from w number index first (number pending) xs ≡ pending_from w number index first r xs)
+  left-taken index first i r pending d xs is low within cleared =
       let m = number pending in
       let ms = map number xs in
-      let f = is_pending w index m ms in
-      let g = is_pending w index r ms in
+      let f = is_pending w index first m ms in
+      let g = is_pending w index first r ms in
       let one : is_one m i ≡ true = is_one-bit 1 m i low.one in
       let inside : index + i < length xs = is.inside i within one in
-      let here : f (index + i) ≡ true = pending-within w index m ms (index + i) (omega arith) ∙ ap (is_one m) (let e : index + i - index ≡ i = omega arith in e) ∙ one in
+      let here : f (index + i) ≡ (is_used ms (index + i) || index + i == first) = pending-here w index first m ms (index + i) (omega (arith, within)) (ap (is_one m) (let e : index + i - index ≡ i = omega arith in e) ∙ one) in
       let before : (j : ℕ) → index ≤ j → j < index + i → f j ≡ false = λ j from to.
-      pending-within w index m ms j (omega arith) ∙ is_one-bit 0 m (j - index) (low.zeros (j - index) (omega arith)) in
+      not_pending w index first m ms j (omega (arith, to, within)) (is_one-bit 0 m (j - index) (low.zeros (j - index) (omega (arith, from, to)))) in
       let none : (j : ℕ) → index ≤ j → j < index + (i + 1) → g j ≡ false = λ j from to.
-      pending-within w index r ms j (omega arith)
-      ∙ ⊎_elim
-      (λ below. is_one-bit 0 r (j - index) (cleared.kept (j - index) (omega arith) (λ e. omega (arith, e)) ∙ low.zeros (j - index) below))
-      (λ at. ap (is_one r) (let e : j - index ≡ i = omega arith in e) ∙ is_one-bit 0 r i cleared.cleared)
-      (cases_lt (j - index) i) in
+      not_pending w index first r ms j (omega (arith, to, within))
+      (⊎_elim
+      (λ below. is_one-bit 0 r (j - index) (cleared.kept (j - index) (omega (arith, below, within)) (λ e. omega (arith, e, below)) ∙ low.zeros (j - index) below))
+      (λ at. ap (is_one r) (let e : j - index ≡ i = omega (arith, at, from, to) in e) ∙ is_one-bit 0 r i cleared.cleared)
+      (cases_lt (j - index) i)) in
       let after : (j : ℕ) → index + i + 1 ≤ j → f j ≡ g j = λ j from.
       ⊎_elim
       (λ in_hand.
-      pending-within w index m ms j in_hand
-      ∙ ap (λ b. b == 1) (sym (cleared.kept (j - index) (omega arith) (λ e. omega (arith, e))))
-      ∙ sym (pending-within w index r ms j in_hand))
-      (λ past. pending-past w index m ms j past ∙ sym (pending-past w index r ms j past))
-      (cases_lt j (index + w)) in (
+      pending-within w index first m ms j in_hand
+      ∙ ap (λ b. (b == 1) && (is_used ms j || j == first)) (sym (cleared.kept (j - index) (omega (arith, from, in_hand)) (λ e. omega (arith, e, from))))
+      ∙ sym (pending-within w index first r ms j in_hand))
+      (λ past. pending-past w index first m ms j past ∙ sym (pending-past w index first r ms j past))
+      (cases_lt j (index + w)) in
+      let rest : pick f (index + i + 1) (drop (index + i + 1) xs) ≡ pick g index (drop index xs) =
+      pick-same f g (index + i + 1) (drop (index + i + 1) xs) after
+      ∙ ap (λ n. pick g n (drop n xs)) (let e : index + i + 1 ≡ index + (i + 1) = omega arith in e)
+      ∙ ap (pick g (index + (i + 1))) (sym (drop-drop (i + 1) index xs))
+      ∙ sym (pick-tick_by g index (i + 1) (drop index xs) none) in
+      let front : pick f index (drop index xs) ≡ pick f (index + i) (drop (index + i) xs) =
+      pick-tick_by f index i (drop index xs) before ∙ ap (pick f (index + i)) (drop-drop i index xs) in (
         inside,
-        pick-tick_by f index i (drop index xs) before
-            ∙ ap (pick f (index + i)) (drop-drop i index xs)
-            ∙ pick-first f (index + i) xs d inside here
-            ∙ ap (λ ys. (index + i, get_or xs (index + i) d) ∷ ys)
-            (pick-same f g (index + i + 1) (drop (index + i + 1) xs) after
-            ∙ ap (λ n. pick g n (drop n xs)) (let e : index + i + 1 ≡ index + (i + 1) = omega arith in e)
-            ∙ ap (pick g (index + (i + 1))) (sym (drop-drop (i + 1) index xs))
-            ∙ sym (pick-tick_by g index (i + 1) (drop index xs) none)),
+        λ comes. front ∙ pick-first f (index + i) xs d inside (here ∙ comes) ∙ ap (λ ys. (index + i, get_or xs (index + i) d) ∷ ys) rest,
+        λ zero_there. front ∙ pick-passed f (index + i) xs d inside (here ∙ zero_there) ∙ rest,
       )
 
-  pub IsPending-taken : (index i : ℕ) (pending rest : X) (xs summary : List X) → IsPending w number is_block index pending xs summary → is_block rest → IsLowest (number pending) i → IsCleared w (number pending) i (number rest) → IsPending w number is_block index rest xs summary
-  IsPending-taken index i pending rest xs summary is block low cleared = record {
-    each = is.each;
-    in_hand = block;
+  pub IsInHand-taken : (index first i : ℕ) (pending rest : X) (xs : List X) → IsInHand w number is_block index first pending xs → is_block rest → IsLowest (number pending) i → IsCleared w (number pending) i (number rest) → IsInHand w number is_block index first rest xs
+  IsInHand-taken index first i pending rest xs is block low cleared =
+      let kept : (k : ℕ) → k < w → k ≢ i → is_one (number rest) k ≡ is_one (number pending) k = λ k below other. ap (λ b. b == 1) (cleared.kept k below other) in
+      let was : (k : ℕ) → k < w → is_one (number rest) k ≡ true → is_one (number pending) k ≡ true × i < k = λ k within one.
+      ⊎_elim
+      (λ at. absurd (true≢false (sym one ∙ ap (is_one (number rest)) at ∙ is_one-bit 0 (number rest) i cleared.cleared)))
+      (λ other.
+      let one_before : is_one (number pending) k ≡ true = sym (kept k within other) ∙ one in (
+        one_before,
+        ⊎_elim
+            (λ below. absurd (true≢false (sym one_before ∙ is_one-bit 0 (number pending) k (low.zeros k below))))
+            (λ not_below. omega (arith, other, not_below))
+            (cases_lt k i),
+      ))
+      (cases_eq k i) in
+      record {
+        each = is.each;
+        of_block = block;
+        fits = is.fits;
+        within = is.within;
+        begun = is.begun;
+        inside = λ j within one. is.inside j within (was j within one).0;
+        covers = λ a j after within one used.
+            let (one_before, past) = was a (omega (arith, after, within)) one in
+            kept j within (λ e. omega (arith, e, after, past)) ∙ is.covers a j after within one_before used;
+      }
+
+  -- other pending bits of the same blocks
+  pub IsPending-with : (index first : ℕ) (pending rest : X) (xs summary : List X) → IsPending w number is_block index first pending xs summary → IsInHand w number is_block index first rest xs → IsPending w number is_block index first rest xs summary
+  IsPending-with index first pending rest xs summary is hand = record {
+    hand = hand;
     summary_each = is.summary_each;
-    fits = is.fits;
-    within = is.within;
-    inside = λ j within one.
-        ⊎_elim
-        (λ at. absurd (true≢false (sym one ∙ ap (is_one (number rest)) at ∙ is_one-bit 0 (number rest) i cleared.cleared)))
-        (λ other. is.inside j within (ap (λ b. b == 1) (sym (cleared.kept j within other)) ∙ one))
-        (cases_eq j i);
-    exact = λ a j after within one.
-        let kept : (k : ℕ) → k < w → k ≢ i → is_one (number rest) k ≡ is_one (number pending) k = λ k below other. ap (λ b. b == 1) (cleared.kept k below other) in
-        let past : i < a =
-        ⊎_elim
-        (λ below. absurd (true≢false (sym one ∙ kept a (omega arith) (λ e. omega (arith, e)) ∙ is_one-bit 0 (number pending) a (low.zeros a below))))
-        (λ not_below.
-        ⊎_elim
-        (λ at. absurd (true≢false (sym one ∙ ap (is_one (number rest)) at ∙ is_one-bit 0 (number rest) i cleared.cleared)))
-        (λ other. omega (arith, other))
-        (cases_eq a i))
-        (cases_lt a i) in
-        kept j within (λ e. omega (arith, e))
-        ∙ is.exact a j after within (sym (kept a (omega arith) (λ e. omega (arith, e))) ∙ one);
     short = is.short;
     enough = is.enough;
     few = is.few;
     digit = is.digit;
   }
 
-  -- ---- the next block of the summary is pulled, or made of the blocks
+  -- ---- the next block of the summary is pulled, or made up where none is stored
 
-  pub left-pulled : (index : ℕ) (pending next : X) (xs : List X) → number pending ≡ 0 → ((j : ℕ) → j < w → is_one (number next) j ≡ is_used (map number xs) (index + w + j))
-      → pending_from w number index (number pending) xs ≡ pending_from w number (index + w) (number next) xs
-  left-pulled index pending next xs used_up digits =
+  pub left-pulled : (index first : ℕ) (pending next : X) (xs : List X) → number pending ≡ 0 → first < index + w → CoversUsed w number xs (index + w) (number next)
+      → pending_from w number index first (number pending) xs ≡ pending_from w number (index + w) first (number next) xs
+  left-pulled index first pending next xs used_up begun digits =
       let m = number pending in
       let ms = map number xs in
-      let f = is_pending w index m ms in
-      let g = is_pending w (index + w) (number next) ms in
+      let f = is_pending w index first m ms in
+      let g = is_pending w (index + w) first (number next) ms in
       let none : (j : ℕ) → index ≤ j → j < index + w → f j ≡ false = λ j from to.
-      pending-within w index m ms j to ∙ ap (λ n. is_one n (j - index)) used_up ∙ is_one-zero (j - index) in
+      not_pending w index first m ms j to (ap (λ n. is_one n (j - index)) used_up ∙ is_one-zero (j - index)) in
       let after : (j : ℕ) → index + w ≤ j → f j ≡ g j = λ j from.
-      pending-past w index m ms j from
+      pending-past w index first m ms j from
       ∙ ⊎_elim
       (λ in_hand.
-      let e : index + w + (j - (index + w)) ≡ j = omega arith in
-      sym (pending-within w (index + w) (number next) ms j in_hand ∙ digits (j - (index + w)) (omega arith) ∙ ap (is_used ms) e))
-      (λ past. sym (pending-past w (index + w) (number next) ms j past))
+      let e : index + w + (j - (index + w)) ≡ j = omega (arith, from) in
+      sym (pending-covered w (index + w) first (number next) ms j in_hand (λ used. digits.covers (j - (index + w)) (omega (arith, in_hand, from)) (ap (is_used ms) e ∙ used)) (omega (arith, begun, from))))
+      (λ past. sym (pending-past w (index + w) first (number next) ms j past))
       (cases_lt j (index + w + w)) in
       pick-tick_by f index w (drop index xs) none
       ∙ ap (pick f (index + w)) (drop-drop w index xs)
       ∙ pick-same f g (index + w) (drop (index + w) xs) after
 
-  pub IsPending-pulled : (index : ℕ) (pending next : X) (xs summary : List X) → 0 < w → IsPending w number is_block index pending xs summary → is_block next → ((j : ℕ) → j < w → is_one (number next) j ≡ is_used (map number xs) (index + w + j)) → index + w < length xs
-      → IsPending w number is_block (index + w) next xs (drop 1 summary)
-  IsPending-pulled index pending next xs summary pos is block digits more =
+  pub IsPending-pulled : (index first : ℕ) (pending next : X) (xs summary : List X) → 0 < w → IsPending w number is_block index first pending xs summary → is_block next → CoversUsed w number xs (index + w) (number next) → index + w < length xs
+      → IsPending w number is_block (index + w) first next xs (drop 1 summary)
+  IsPending-pulled index first pending next xs summary pos is block digits more =
       let count = length-drop 1 summary in
       let product : 0 < length summary → length summary * w ≡ w + length (drop 1 summary) * w = λ some.
       ap (λ n. n * w) (let e : length summary ≡ 1 + length (drop 1 summary) = omega (arith, count, some) in e) ∙ omega arith in
@@ -204,13 +339,16 @@ module _ {X : Type 0} (w : ℕ) (number : X → ℕ) (is_block : X → Type 0) w
       (λ none. absurd (let enough = is.enough long in let product = ap (λ n. n * w) (let e : length summary ≡ 0 = omega (arith, none) in e) in omega (arith, enough, product, more)))
       (cases_lt 0 (length summary)) in
       record {
-        each = is.each;
-        in_hand = block;
+        hand = record {
+          each = is.hand.each;
+          of_block = block;
+          fits = is.hand.fits;
+          within = omega (arith, more);
+          begun = omega (arith, is.hand.begun, pos);
+          inside = digits.inside;
+          covers = λ i j after within one used. digits.covers j within used;
+        };
         summary_each = All-drop is_block 1 summary is.summary_each;
-        fits = is.fits;
-        within = omega (arith, more);
-        inside = λ j within one. nonzero_inside number (index + w + j) xs (sym (digits j within) ∙ one);
-        exact = λ i j after within one. digits j within;
         short = λ few. ap (drop 1) (is.short few);
         enough = λ long. omega (arith, is.enough long, product (some_left long));
         few = λ rest.
@@ -230,91 +368,108 @@ module _ {X : Type 0} (w : ℕ) (number : X → ℕ) (is_block : X → Type 0) w
       ∙ ap (λ n. 1 + blocks_for w n) (let e : count - (index + w) - 1 * w ≡ count - (index + w + w) = omega arith in e)
 
   -- other pending bits of the same number
-  IsPending-same : (index : ℕ) (a b : X) (xs summary : List X) → IsPending w number is_block index a xs summary → number a ≡ number b → is_block b → IsPending w number is_block index b xs summary
-  IsPending-same index a b xs summary is same block = record {
-    each = is.each;
-    in_hand = block;
-    summary_each = is.summary_each;
-    fits = is.fits;
-    within = is.within;
-    inside = λ j within one. is.inside j within (ap (λ m. is_one m j) same ∙ one);
-    exact = λ i j after within one. ap (λ m. is_one m j) (sym same) ∙ is.exact i j after within (ap (λ m. is_one m i) same ∙ one);
-    short = is.short;
-    enough = is.enough;
-    few = is.few;
-    digit = is.digit;
-  }
+  IsPending-same : (index first : ℕ) (a b : X) (xs summary : List X) → IsPending w number is_block index first a xs summary → number a ≡ number b → is_block b → IsPending w number is_block index first b xs summary
+  IsPending-same index first a b xs summary is same block =
+      let hand = is.hand in
+      IsPending-with index first a b xs summary is (record {
+        each = hand.each;
+        of_block = block;
+        fits = hand.fits;
+        within = hand.within;
+        begun = hand.begun;
+        inside = λ j within one. hand.inside j within (ap (λ m. is_one m j) same ∙ one);
+        covers = λ i j after within one used. ap (λ m. is_one m j) (sym same) ∙ hand.covers i j after within (ap (λ m. is_one m i) same ∙ one) used;
+      })
 
   -- ---- blocks of the summary that are 0 are passed
 
   -- a stored block of the summary is that of many blocks
-  pub long_by_stored : (index : ℕ) (pending : X) (xs summary : List X) → IsPending w number is_block index pending xs summary → 0 < length summary → short_count w < length xs
-  long_by_stored index pending xs summary is some =
+  pub long_by_stored : (index first : ℕ) (pending : X) (xs summary : List X) → IsPending w number is_block index first pending xs summary → 0 < length summary → short_count w < length xs
+  long_by_stored index first pending xs summary is some =
       ⊎_elim
       (λ long. long)
       (λ few. absurd (let none = ap length (is.short few) in omega (arith, none, some)))
       (cases_lt (short_count w) (length xs))
 
+  -- digits that say exactly which blocks are not 0
+  pub CoversUsed-exact : (start m : ℕ) (xs : List X) → ((j : ℕ) → j < w → is_one m j ≡ is_used (map number xs) (start + j)) → CoversUsed w number xs start m
+  CoversUsed-exact start m xs digits = record {
+    inside = λ j within one. nonzero_inside number (start + j) xs (sym (digits j within) ∙ one);
+    covers = λ j within used. digits j within ∙ used;
+  }
+
+  -- digits of as many blocks as there are
+  pub CoversUsed-all : (start m : ℕ) (xs : List X) → start ≤ length xs → ((j : ℕ) → j < w → is_one m j ≡ nat_lt j (length xs - start)) → CoversUsed w number xs start m
+  CoversUsed-all start m xs within digits =
+      let below : (j : ℕ) → nat_lt j (length xs - start) ≡ true → start + j < length xs = λ j one. grind (arith, nat_tests) in
+      record {
+        inside = λ j to one. below j (sym (digits j to) ∙ one);
+        covers = λ j to used.
+            let inside : start + j < length xs = nonzero_inside number (start + j) xs used in
+            let test : nat_lt j (length xs - start) ≡ true = grind (arith, nat_tests) in
+            digits j to ∙ test;
+      }
+
   -- the digits of the next one
-  stored_next : (index j : ℕ) (pending next : X) (xs summary rest : List X) → IsPending w number is_block index pending xs summary → summary ≡ next ∷ rest → j < w → is_one (number next) j ≡ is_used (map number xs) (index + w + j)
-  stored_next index j pending next xs summary rest is more within =
-      let some : 0 < length summary = rw more (omega arith) in
+  pub CoversUsed-stored : (start : ℕ) (next : X) (xs summary rest : List X) → summary ≡ next ∷ rest → ((k : ℕ) → value_at w (map number summary) k ≡ is_used (map number xs) (start + k)) → CoversUsed w number xs start (number next)
+  CoversUsed-stored start next xs summary rest more digit = CoversUsed-exact start (number next) xs (λ j within.
       sym (value_at-first w (number next) (map number rest) j within)
       ∙ ap (λ ys. value_at w (map number ys) j) (sym more)
-      ∙ is.digit (long_by_stored index pending xs summary is some) j
+      ∙ digit j)
 
-  passed : (n index : ℕ) (pending : X) (xs summary : List X) → 0 < w → IsPending w number is_block index pending xs summary → number pending ≡ 0 → n ≤ length summary → ((k : ℕ) → k < n → get_or (map number summary) k 0 ≡ 0)
-      → IsPending w number is_block (index + n * w) pending xs (drop n summary) × (pending_from w number index (number pending) xs ≡ pending_from w number (index + n * w) (number pending) xs)
-  passed zero index pending xs summary pos is none there zeros =
+  passed : (n index first : ℕ) (pending : X) (xs summary : List X) → 0 < w → IsPending w number is_block index first pending xs summary → number pending ≡ 0 → n ≤ length summary → ((k : ℕ) → k < n → get_or (map number summary) k 0 ≡ 0)
+      → IsPending w number is_block (index + n * w) first pending xs (drop n summary) × (pending_from w number index first (number pending) xs ≡ pending_from w number (index + n * w) first (number pending) xs)
+  passed zero index first pending xs summary pos is none there zeros =
       let e : index ≡ index + 0 * w = omega arith in
-      (subst (λ p. IsPending w number is_block p pending xs summary) e is, ap (λ p. pending_from w number p (number pending) xs) e)
-  passed (suc n) index pending xs [] pos is none there zeros = absurd (omega (arith, there))
-  passed (suc n) index pending xs (next ∷ rest) pos is none there zeros =
+      (subst (λ p. IsPending w number is_block p first pending xs summary) e is, ap (λ p. pending_from w number p first (number pending) xs) e)
+  passed (suc n) index first pending xs [] pos is none there zeros = absurd (omega (arith, there))
+  passed (suc n) index first pending xs (next ∷ rest) pos is none there zeros =
       let zero_next : number next ≡ 0 = zeros 0 (omega arith) in
-      let digits : (j : ℕ) → j < w → is_one (number next) j ≡ is_used (map number xs) (index + w + j) = λ j within. stored_next index j pending next xs (next ∷ rest) rest is refl within in
+      let long = long_by_stored index first pending xs (next ∷ rest) is (omega arith) in
+      let digits : CoversUsed w number xs (index + w) (number next) = CoversUsed-stored (index + w) next xs (next ∷ rest) rest refl (is.digit long) in
       let more : index + w < length xs = let few = is.few (omega arith) in omega (arith, few) in
-      let pulled = IsPending-pulled index pending next xs (next ∷ rest) pos is (All-head is_block next rest is.summary_each) digits more in
-      let here = IsPending-same (index + w) next pending xs rest pulled (zero_next ∙ sym none) is.in_hand in
-      let (after, same) = passed n (index + w) pending xs rest pos here none (omega (arith, there)) (λ k within. zeros (suc k) (omega (arith, within))) in
+      let pulled = IsPending-pulled index first pending next xs (next ∷ rest) pos is (All-head is_block next rest is.summary_each) digits more in
+      let here = IsPending-same (index + w) first next pending xs rest pulled (zero_next ∙ sym none) is.hand.of_block in
+      let (after, same) = passed n (index + w) first pending xs rest pos here none (omega (arith, there)) (λ k within. zeros (suc k) (omega (arith, within))) in
       let e : index + w + n * w ≡ index + suc n * w = omega arith in (
-        subst (λ p. IsPending w number is_block p pending xs (drop n rest)) e after,
-        left-pulled index pending next xs none digits
-            ∙ ap (λ m. pending_from w number (index + w) m xs) (zero_next ∙ sym none)
+        subst (λ p. IsPending w number is_block p first pending xs (drop n rest)) e after,
+        left-pulled index first pending next xs none is.hand.begun digits
+            ∙ ap (λ m. pending_from w number (index + w) first m xs) (zero_next ∙ sym none)
             ∙ same
-            ∙ ap (λ p. pending_from w number p (number pending) xs) e,
+            ∙ ap (λ p. pending_from w number p first (number pending) xs) e,
       )
 
   -- they are as many of those that were to come
-  count_passed : (n index : ℕ) (pending : X) (xs summary : List X) → 0 < w → IsPending w number is_block index pending xs summary → n ≤ length summary
+  count_passed : (n index first : ℕ) (pending : X) (xs summary : List X) → 0 < w → IsPending w number is_block index first pending xs summary → n ≤ length summary
       → blocks_for w (length xs - (index + w)) ≡ n + blocks_for w (length xs - (index + n * w + w))
-  count_passed zero index pending xs summary pos is there =
+  count_passed zero index first pending xs summary pos is there =
       let same = ap (λ k. blocks_for w (length xs - (k + w))) (let e : index ≡ index + 0 * w = omega arith in e) in
       omega (arith, same)
-  count_passed (suc n) index pending xs summary pos is there =
+  count_passed (suc n) index first pending xs summary pos is there =
       let few = is.few (omega (arith, there)) in
       let most = mul-le-mul_right w there in
       blocks_for-past w (suc n) (length xs - (index + w)) pos (omega (arith, few, most))
       ∙ ap (λ k. suc n + blocks_for w k) (let e : length xs - (index + w) - suc n * w ≡ length xs - (index + suc n * w + w) = omega arith in e)
 
-  pub zeros_passed : (n index : ℕ) (pending : X) (xs summary left : List X) → 0 < w → IsPending w number is_block index pending xs summary → number pending ≡ 0 → n ≤ length summary → ((k : ℕ) → k < n → get_or (map number summary) k 0 ≡ 0) → left ≡ drop n summary
-      → IsPending w number is_block (index + n * w) pending xs left × (pending_from w number index (number pending) xs ≡ pending_from w number (index + n * w) (number pending) xs) × (blocks_for w (length xs - (index + w)) ≡ n + blocks_for w (length xs - (index + n * w + w)))
-  zeros_passed n index pending xs summary left pos is used_up there zeros e =
-      let (walk, same) = passed n index pending xs summary pos is used_up there zeros in
-      (subst (IsPending w number is_block (index + n * w) pending xs) (sym e) walk, same, count_passed n index pending xs summary pos is there)
+  pub zeros_passed : (n index first : ℕ) (pending : X) (xs summary left : List X) → 0 < w → IsPending w number is_block index first pending xs summary → number pending ≡ 0 → n ≤ length summary → ((k : ℕ) → k < n → get_or (map number summary) k 0 ≡ 0) → left ≡ drop n summary
+      → IsPending w number is_block (index + n * w) first pending xs left × (pending_from w number index first (number pending) xs ≡ pending_from w number (index + n * w) first (number pending) xs) × (blocks_for w (length xs - (index + w)) ≡ n + blocks_for w (length xs - (index + n * w + w)))
+  zeros_passed n index first pending xs summary left pos is used_up there zeros e =
+      let (walk, same) = passed n index first pending xs summary pos is used_up there zeros in
+      (subst (IsPending w number is_block (index + n * w) first pending xs) (sym e) walk, same, count_passed n index first pending xs summary pos is there)
 
-  pub left-ended : (index : ℕ) (pending : X) (xs : List X) → number pending ≡ 0 → length xs ≤ index + w → pending_from w number index (number pending) xs ≡ []
-  left-ended index pending xs used_up end =
+  pub left-ended : (index first : ℕ) (pending : X) (xs : List X) → number pending ≡ 0 → length xs ≤ index + w → pending_from w number index first (number pending) xs ≡ []
+  left-ended index first pending xs used_up end =
       let m = number pending in
-      let f = is_pending w index m (map number xs) in
+      let f = is_pending w index first m (map number xs) in
       let none : (j : ℕ) → index ≤ j → j < index + w → f j ≡ false = λ j from to.
-      pending-within w index m (map number xs) j to ∙ ap (λ n. is_one n (j - index)) used_up ∙ is_one-zero (j - index) in
+      not_pending w index first m (map number xs) j to (ap (λ n. is_one n (j - index)) used_up ∙ is_one-zero (j - index)) in
       pick-tick_by f index w (drop index xs) none
       ∙ ap (pick f (index + w)) (drop-drop w index xs ∙ drop_all (index + w) xs end)
 
   -- and then nothing is stored
-  pub summary_ended : (index : ℕ) (pending : X) (xs summary : List X) → 0 < w → IsPending w number is_block index pending xs summary → length xs ≤ index + w → summary ≡ []
-  summary_ended index pending xs [] pos is end = refl
-  summary_ended index pending xs (next ∷ rest) pos is end = absurd (let few = is.few (omega arith) in omega (arith, few, end))
+  pub summary_ended : (index first : ℕ) (pending : X) (xs summary : List X) → 0 < w → IsPending w number is_block index first pending xs summary → length xs ≤ index + w → summary ≡ []
+  summary_ended index first pending xs [] pos is end = refl
+  summary_ended index first pending xs (next ∷ rest) pos is end = absurd (let few = is.few (omega arith) in omega (arith, few, end))
 
 -- ---- the ones of what is left
 
@@ -353,64 +508,58 @@ module _ {X : Type 0} (w : ℕ) (number : X → ℕ) (is_block : X → Type 0) w
       without false ys = omega arith
 
   -- from the lowest pending bit on, where there is one
-  pub left-ones : (index i : ℕ) (pending : X) (xs summary : List X) → IsPending w number is_block index pending xs summary → IsLowest (number pending) i → i < w
-      → ones_left number (pending_from w number index (number pending) xs) ≡ ones_in number (drop (index + i) xs)
-  left-ones index i pending xs summary is low within =
+  pub left-ones : (index first i : ℕ) (pending : X) (xs : List X) → IsInHand w number is_block index first pending xs → IsLowest (number pending) i → i < w
+      → ones_left number (pending_from w number index first (number pending) xs) ≡ ones_in number (drop (index + i) xs)
+  left-ones index first i pending xs is low within =
       let m = number pending in
       let ms = map number xs in
-      let f = is_pending w index m ms in
+      let f = is_pending w index first m ms in
       let one : is_one m i ≡ true = is_one-bit 1 m i low.one in
       let before : (j : ℕ) → index ≤ j → j < index + i → f j ≡ false = λ j from to.
-      pending-within w index m ms j (omega arith) ∙ is_one-bit 0 m (j - index) (low.zeros (j - index) (omega arith)) in
-      let tell : (j : ℕ) → f (index + i + suc j) ≡ is_used ms (index + i + suc j) = λ j.
-      ⊎_elim
-      (λ in_hand.
-      let e : index + i + suc j - index ≡ i + suc j = omega arith in
-      pending-within w index m ms (index + i + suc j) in_hand
-      ∙ ap (is_one m) e
-      ∙ is.exact i (i + suc j) (omega arith) (omega (arith, in_hand)) one
-      ∙ ap (is_used ms) (let e : index + (i + suc j) ≡ index + i + suc j = omega arith in e))
-      (λ past. pending-past w index m ms (index + i + suc j) past)
-      (cases_lt (index + i + suc j) (index + w)) in
-      let here : f (index + i) ≡ true = pending-within w index m ms (index + i) (omega arith) ∙ ap (is_one m) (let e : index + i - index ≡ i = omega arith in e) ∙ one in
+      not_pending w index first m ms j (omega (arith, to, within)) (is_one-bit 0 m (j - index) (low.zeros (j - index) (omega (arith, from, to)))) in
+      let digit : (j : ℕ) → index + i + j < index + w → is_used ms (index + i + j) ≡ true → is_one m (index + i + j - index) ≡ true = λ j in_hand used.
+      ap (is_one m) (let e : index + i + j - index ≡ i + j = omega arith in e)
+      ∙ digit_from j (omega (arith, in_hand)) one is.covers (ap (is_used ms) (let e : index + (i + j) ≡ index + i + j = omega arith in e) ∙ used) in
       ap (ones_left number) (pick-tick_by f index i (drop index xs) before ∙ ap (pick f (index + i)) (drop-drop i index xs))
-      ∙ ones_picked f (index + i) (drop (index + i) xs) (zeros f here tell)
+      ∙ ones_picked f (index + i) (drop (index + i) xs) (λ j none.
+      dropped number (index + i) j xs ∙ zero_from_unused (get_or ms (index + i + j) 0) (unused_from w index first m ms (index + i + j) (digit j) none))
     where
-      zeros : (f : ℕ → Bool) → f (index + i) ≡ true → ((j : ℕ) → f (index + i + suc j) ≡ is_used (map number xs) (index + i + suc j))
-          → (j : ℕ) → f (index + i + j) ≡ false → get_or (map number (drop (index + i) xs)) j 0 ≡ 0
-      zeros f here tell zero none = absurd (true≢false (sym here ∙ ap f (let e : index + i ≡ index + i + 0 = omega arith in e) ∙ none))
-      zeros f here tell (suc j) none = dropped number (index + i) (suc j) xs ∙ zero_from_unused (get_or (map number xs) (index + i + suc j) 0) (sym (tell j) ∙ none)
+      digit_from : (j : ℕ) → i + j < w → is_one (number pending) i ≡ true
+          → ((a b : ℕ) → a < b → b < w → is_one (number pending) a ≡ true → is_used (map number xs) (index + b) ≡ true → is_one (number pending) b ≡ true)
+          → is_used (map number xs) (index + (i + j)) ≡ true → is_one (number pending) (i + j) ≡ true
+      digit_from zero in_hand one covers used = ap (is_one (number pending)) (let e : i + 0 ≡ i = omega arith in e) ∙ one
+      digit_from (suc j) in_hand one covers used = covers i (i + suc j) (omega arith) in_hand one used
 
   -- past the block of the summary in hand
-  ones_past : (index m : ℕ) (xs : List X) → ones_left number (pick (is_pending w index m (map number xs)) (index + w) (drop w (drop index xs))) ≡ ones_in number (drop w (drop index xs))
-  ones_past index m xs =
+  ones_past : (index first m : ℕ) (xs : List X) → ones_left number (pick (is_pending w index first m (map number xs)) (index + w) (drop w (drop index xs))) ≡ ones_in number (drop w (drop index xs))
+  ones_past index first m xs =
       let ms = map number xs in
-      ones_picked (is_pending w index m ms) (index + w) (drop w (drop index xs)) (λ j not_pending.
+      ones_picked (is_pending w index first m ms) (index + w) (drop w (drop index xs)) (λ j not_pending.
       ap (λ ys. get_or (map number ys) j 0) (drop-drop w index xs)
       ∙ dropped number (index + w) j xs
-      ∙ zero_from_unused (get_or ms (index + w + j) 0) (sym (pending-past w index m ms (index + w + j) (omega arith)) ∙ not_pending))
+      ∙ zero_from_unused (get_or ms (index + w + j) 0) (sym (pending-past w index first m ms (index + w + j) (omega arith)) ∙ not_pending))
 
   -- these are all where it has no pending bit
-  pub left-ones_past : (index : ℕ) (pending : X) (xs : List X) → number pending ≡ 0
-      → ones_left number (pending_from w number index (number pending) xs) ≡ ones_in number (drop w (drop index xs))
-  left-ones_past index pending xs used_up =
+  pub left-ones_past : (index first : ℕ) (pending : X) (xs : List X) → number pending ≡ 0
+      → ones_left number (pending_from w number index first (number pending) xs) ≡ ones_in number (drop w (drop index xs))
+  left-ones_past index first pending xs used_up =
       let m = number pending in
       let ms = map number xs in
-      let f = is_pending w index m ms in
+      let f = is_pending w index first m ms in
       let none : (j : ℕ) → index ≤ j → j < index + w → f j ≡ false = λ j from to.
-      pending-within w index m ms j to ∙ ap (λ n. is_one n (j - index)) used_up ∙ is_one-zero (j - index) in
-      ap (ones_left number) (pick-tick_by f index w (drop index xs) none) ∙ ones_past index m xs
+      not_pending w index first m ms j to (ap (λ n. is_one n (j - index)) used_up ∙ is_one-zero (j - index)) in
+      ap (ones_left number) (pick-tick_by f index w (drop index xs) none) ∙ ones_past index first m xs
 
   -- and they are never more
-  pub left-ones_rest : (index m : ℕ) (xs : List X) → ones_in number (drop w (drop index xs)) ≤ ones_left number (pending_from w number index m xs)
-  left-ones_rest index m xs =
-      let fewer = fewer_picked (is_pending w index m (map number xs)) index w (drop index xs) in
-      omega (arith, fewer, ones_past index m xs)
+  pub left-ones_rest : (index first m : ℕ) (xs : List X) → ones_in number (drop w (drop index xs)) ≤ ones_left number (pending_from w number index first m xs)
+  left-ones_rest index first m xs =
+      let fewer = fewer_picked (is_pending w index first m (map number xs)) index w (drop index xs) in
+      omega (arith, fewer, ones_past index first m xs)
 
   -- those of the blocks of the chunk in hand, and of the ones past it
-  pub left-ones_split : (index i : ℕ) (pending : X) (xs summary : List X) → IsPending w number is_block index pending xs summary → IsLowest (number pending) i → i < w
-      → ones_in number (drop w (drop index xs)) + ones_in number (drop i (take w (drop index xs))) ≡ ones_left number (pending_from w number index (number pending) xs)
-  left-ones_split index i pending xs summary is low within =
+  pub left-ones_split : (index first i : ℕ) (pending : X) (xs : List X) → IsInHand w number is_block index first pending xs → IsLowest (number pending) i → i < w
+      → ones_in number (drop w (drop index xs)) + ones_in number (drop i (take w (drop index xs))) ≡ ones_left number (pending_from w number index first (number pending) xs)
+  left-ones_split index first i pending xs is low within =
       let ys = drop index xs in
       let zs = drop i ys in
       let whole = sum_by-take-drop (λ x. count_ones (number x)) zs (w - i) in
@@ -419,13 +568,13 @@ module _ {X : Type 0} (w : ℕ) (number : X → ℕ) (is_block : X → Type 0) w
       ap (λ n. ones_in number (drop i (take n ys))) (sym e) ∙ ap (ones_in number) (drop-take i (w - i) ys) in
       let rest : ones_in number (drop w ys) ≡ ones_in number (drop (w - i) zs) =
       ap (λ n. ones_in number (drop n ys)) (sym e) ∙ ap (ones_in number) (sym (drop-drop (w - i) i ys)) in
-      let left : ones_left number (pending_from w number index (number pending) xs) ≡ ones_in number zs =
-      left-ones index i pending xs summary is low within ∙ ap (ones_in number) (sym (drop-drop i index xs)) in
+      let left : ones_left number (pending_from w number index first (number pending) xs) ≡ ones_in number zs =
+      left-ones index first i pending xs is low within ∙ ap (ones_in number) (sym (drop-drop i index xs)) in
       omega (arith, whole, chunk, rest, left)
 
   -- what the blocks of the summary that are left say
-  pub tells_rest : (index : ℕ) (pending : X) (xs summary : List X) → IsPending w number is_block index pending xs summary → short_count w < length (drop w (drop index xs)) → (k : ℕ) → value_at w (map number summary) k ≡ is_used (map number (drop w (drop index xs))) k
-  tells_rest index pending xs summary is long k =
+  pub tells_rest : (index first : ℕ) (pending : X) (xs summary : List X) → IsPending w number is_block index first pending xs summary → short_count w < length (drop w (drop index xs)) → (k : ℕ) → value_at w (map number summary) k ≡ is_used (map number (drop w (drop index xs))) k
+  tells_rest index first pending xs summary is long k =
       is.digit (let most = length-drop w (drop index xs) in let all = length-drop index xs in omega (arith, long, most, all)) k
       ∙ ap (λ m. not (m == 0)) (sym (dropped number (index + w) k xs))
       ∙ ap (λ ys. is_used (map number ys) k) (sym (drop-drop w index xs))

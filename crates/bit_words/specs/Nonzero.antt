@@ -1,5 +1,5 @@
 -- A walk over the blocks that are not 0, each with its index.
-use Rattle.std.specs.Prelude.{◌≡◌, ℕ, ◌+◌, ◌==◌, ◌≤◌, if◌then◌else◌, List, [], ◌∷◌, Option, MatchOption}
+use Rattle.std.specs.Prelude.{◌≡◌, ℕ, ◌+◌, ◌*◌, ◌==◌, Bool, true, false, not, None, Some, ◌≤◌, if◌then◌else◌, List, [], ◌∷◌, Option, MatchOption}
 use Rattle.std.specs.Int.RustNames.{count_ones}
 use Rattle.std.specs.Iterator.{YieldsFirst}
 use Rattle.std.specs.List.{sum_by}
@@ -47,3 +47,12 @@ ones_in number xs = sum_by (λ x. count_ones (number x)) xs
 -- how many binary digits are 1 of blocks that are left, each of which comes with its index
 abbrev pub ones_left : {X : Type 0} → (X → ℕ) → List (ℕ × X) → ℕ
 ones_left number left = sum_by (λ entry. count_ones (number entry.1)) left
+
+-- A call of `refill` on s with a block m, which left t and the block x, whose first bit has the index `at`. Where m is
+-- not 0 nothing changed. Else it is a call of `next`, which passes no block that is 0; at the end the block is still 0.
+pub record Refills {X : Type 0} (w : ℕ) (number : X → ℕ) (s : Nonzeros X) (m index : ℕ) (found : Bool) (t : Nonzeros X)
+    (x : X) (at : ℕ) : Type 0 where
+  pub some : found ≡ not (number x == 0)
+  pub stays : not (m == 0) ≡ true → (found ≡ true) × (t ≡ s) × (number x ≡ m) × (at ≡ index)
+  pub next : m ≡ 0 → found ≡ true → (k : ℕ) × (at ≡ k * w) × PullsNonzero s (Some (k, x)) t
+  pub ends : m ≡ 0 → found ≡ false → PullsNonzero s None t

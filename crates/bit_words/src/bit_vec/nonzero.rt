@@ -1,10 +1,10 @@
 // The walk over the blocks of a bit vector that are not 0, by its summary.
-ghost use Rattle.std.specs.Prelude.{◌≡◌, ℕ, ◌+◌, ◌-◌, ◌/◌, ◌<◌, ◌≤◌, ◌^◌, min, All, Some, drop, length, map, slice_get};
+ghost use Rattle.std.specs.Prelude.{◌≡◌, ℕ, ◌+◌, ◌-◌, ◌*◌, ◌/◌, ◌<◌, ◌≤◌, ◌^◌, ◌==◌, ◌||◌, min, not, nat_lt, All, Some, drop, length, map, slice_get};
 ghost use Rattle.std.specs.Iterator.{item_count};
 ghost use Rattle.bit_words.specs.Bits.{blocks_for};
 ghost use Rattle.bit_words.specs.Digits.{IsEither, is_one};
-ghost use Rattle.bit_words.specs.Nonzero.{block_and_nonzero, first_and_nonzero, ones_left};
-ghost use Rattle.bit_words.specs.Pending.{ArePendingFrom};
+ghost use Rattle.bit_words.specs.Nonzero.{block_and_nonzero, first_and_nonzero, ones_left, Refills};
+ghost use Rattle.bit_words.specs.Pending.{ArePendingFrom, CoversUsed, IsPastFirst, IsPending, NextIsPending};
 ghost use Rattle.bit_words.specs.Storage.{value_at};
 ghost use Rattle.bit_words.specs.Summary.{is_used, KeepsSummary};
 
@@ -12,28 +12,29 @@ use crate::bit_vec::Blocks;
 use crate::block::BitBlock;
 use crate::block::lowest::take_lowest_one;
 use crate::block::masks::{cut_below, with_bit};
-use crate::block::operators::block_or;
+use crate::block::operators::{all_ones, block_or, ones_below};
 use crate::packed::ones::ones_of;
 use crate::steps::Steps;
+use crate::summary::is_nonzero;
 use crate::summary::queries::{first_blocks, ones_by_summary};
-use crate::summary::used_from;
 use std::marker::Model;
 
 /// A walk over the blocks of a bit vector that are not zero, each with its index, in ascending order. The
 /// first block comes in any case, zero or not. It finds them by the summary, and so passes over as many
-/// zero blocks at once as a block has bits. Of few blocks no summary is stored: what its next block would be is made
-/// of the blocks that it is about.
+/// zero blocks at once as a block has bits. Of few blocks no summary is stored: then it looks at each block.
 ///
 /// Contracts see all its blocks, those that are left, `pulls`, how many calls of `next` there were, and how many
-/// times a block of the summary was pulled, stored or made.
+/// times a block of the summary was pulled, or made up where none is stored.
 #[derive(Drop)]
 pub struct Nonzero<'a, B: BitBlock> {
     blocks: &'a [B],
     summary: Blocks<'a, B>,
-    // What is left of the summary's block in hand.
+    // What is left of the summary's block in hand. Where none is stored, it has a bit for each block that there is.
     pending: B,
     // The index of the block that its lowest bit is about.
     index: usize,
+    // The index of the first block, which comes in any case.
+    first: usize,
     steps: Steps,
 }
 
@@ -41,19 +42,21 @@ impl<'a, B: BitBlock> Model for Nonzero<'a, B> {
     ghost use Rattle.std.specs.Prelude.{◌+◌, ◌-◌, length, map};
     ghost use Rattle.bit_words.specs.Bits.{blocks_for};
     ghost use Rattle.bit_words.specs.Nonzero.{Nonzeros};
-    ghost use Rattle.bit_words.specs.Pending.{IsPending, pending_from};
+    ghost use Rattle.bit_words.specs.Pending.{IsPastFirst, IsPending, pending_from};
 
     ghost Value = { Nonzeros B };
 
     ghost view = { λ it. record {
       blocks = it.blocks.now;
-      left = pending_from B.width B.number it.index (B.number it.pending) it.blocks.now;
+      left = pending_from B.width B.number it.index it.first (B.number it.pending) it.blocks.now;
       pulls = it.steps;
       summary_pulls = it.summary.pulls;
       summary_left = blocks_for B.width (length it.blocks.now - (it.index + B.width));
     } };
 
-    ghost invariant = { λ it. IsPending B.width B.number B.is_block it.index it.pending it.blocks.now it.summary.left };
+    ghost invariant = { λ it.
+        IsPending B.width B.number B.is_block it.index it.first it.pending it.blocks.now it.summary.left
+        × IsPastFirst B.width it.index it.first it.steps (B.number it.pending) };
 }
 
 impl<'a, B: BitBlock> Nonzero<'a, B> {
@@ -80,6 +83,7 @@ impl<'a, B: BitBlock> Nonzero<'a, B> {
             summary: rest,
             pending,
             index: 0,
+            first: 0,
             steps: Steps::new(),
         }
     }
@@ -106,6 +110,7 @@ impl<'a, B: BitBlock> Nonzero<'a, B> {
             summary: rest,
             pending: with_pending_from(used, from % B::bits()),
             index,
+            first: from,
             steps: Steps::new(),
         }
     }
@@ -128,8 +133,42 @@ impl<'a, B: BitBlock> Nonzero<'a, B> {
             summary: self.summary.clone(),
             pending: self.pending,
             index: self.index,
+            first: self.first,
             steps: self.steps.clone(),
         }
+    }
+
+    /// Where `block` is zero, makes it the next block that is not zero, and `index` that of its first bit. Returns
+    /// whether there was one to find; at the end `block` stays zero. It is the step of a walk over bits that has
+    /// pulled once: of few blocks it looks at each, and the test for zero is that of the walk itself.
+    #[inline(always)]
+    pub fn refill(&mut self, block: &mut B, index: &mut usize) -> bool
+        requires begun { 0 < self.old.pulls }
+        requires of_block { B.is_block block.old }
+        requires fits { (length self.old.blocks - 1) * B.width < 2 ^ 64 }
+        ensures of_block { B.is_block block.new }
+        ensures refills { Refills B.width B.number
+            self.old (B.number block.old) index.old result self.new block.new index.new }
+    {
+        while *block == B::zero() {
+            let found = next_pending(
+                self.blocks,
+                &mut self.summary,
+                &mut self.pending,
+                &mut self.index,
+                self.first,
+            );
+            let Some(k) = found else {
+                self.steps.tick();
+                return false;
+            };
+            *block = at(self.blocks, k);
+            *index = k * B::bits();
+            if is_nonzero(*block) {
+                self.steps.tick();
+            }
+        }
+        true
     }
 
     /// How many ones the blocks that are left have. Adds up those of each, and passes over as many blocks
@@ -163,54 +202,95 @@ impl<'a, B: BitBlock> Iterator for Nonzero<'a, B> {
     #[inline(always)]
     fn next(&mut self) -> Option<(usize, B)> {
         self.steps.tick();
-        while self.pending == B::zero() {
-            // `index` goes with the block of the summary in hand: on by those that are passed over, and by one more
-            // only where there are blocks for it.
-            self.index += self.summary.pass_zeros() * B::bits();
-            if self.blocks.len() - self.index <= B::bits() {
-                let _end = self.summary.next();
+        loop {
+            let found = next_pending(
+                self.blocks,
+                &mut self.summary,
+                &mut self.pending,
+                &mut self.index,
+                self.first,
+            );
+            let Some(k) = found else {
                 return None;
+            };
+            let block = at(self.blocks, k);
+            if comes(block, k == self.first) {
+                return Some((k, block));
             }
-            self.index += B::bits();
-            self.pending = pull_used(&mut self.summary, self.blocks, self.index);
         }
-        let k = self.index + take_lowest_one(&mut self.pending);
-        Some((k, at(self.blocks, k)))
     }
 }
 
-// The block of a summary that would be about the blocks from `start` on. It is rare, and so a call of its own: then a
-// walk stays in registers.
-#[cold]
-#[inline(never)]
-fn made_of<B: BitBlock>(blocks: &[B], start: usize) -> B
-    requires in_bounds { start ≤ length blocks.now }
-    requires each { All B.is_block blocks.now }
-    ensures of_block { B.is_block result }
-    ensures digits { (j : ℕ) → j < B.width
-        → is_one (B.number result) j ≡ is_used (map B.number blocks.now) (start + j) }
+// Takes the lowest pending bit, and returns the index of the block that it is about; where none is left, after the next
+// block of the summary that has one. `first` is for the contracts alone.
+#[inline(always)]
+fn next_pending<B: BitBlock>(
+    blocks: &[B],
+    summary: &mut Blocks<'_, B>,
+    pending: &mut B,
+    index: &mut usize,
+    first: usize,
+) -> Option<usize>
+    requires walk { IsPending B.width B.number B.is_block index.old first pending.old blocks.now summary.old.left }
+    requires from { IsPastFirst B.width index.old first 0 (B.number pending.old) }
+    ensures walk { IsPending B.width B.number B.is_block index.new first pending.new blocks.now summary.new.left }
+    ensures past { IsPastFirst B.width index.new first 1 (B.number pending.new) }
+    ensures found { NextIsPending B.width B.number blocks.now first
+        index.old (B.number pending.old) summary.old.pulls result index.new (B.number pending.new) summary.new.pulls }
 {
-    used_from(blocks, start)
+    while *pending == B::zero() {
+        // `index` goes with the block of the summary in hand: on by those that are passed over, and by one more
+        // only where there are blocks for it.
+        *index += summary.pass_zeros() * B::bits();
+        if blocks.len() - *index <= B::bits() {
+            let _end = summary.next();
+            return None;
+        }
+        *index += B::bits();
+        *pending = pull_used(summary, blocks, *index);
+    }
+    Some(*index + take_lowest_one(pending))
 }
 
-// The next block of the summary, which is about the blocks from `start` on; made of these where none is stored.
-// Counts one pull.
+// Whether a block comes: it is not zero, or it is the first.
+#[inline]
+fn comes<B: BitBlock>(block: B, is_first: bool) -> bool
+    requires { B.is_block block }
+    ensures { result ≡ (not (B.number block == 0) || is_first) }
+{
+    is_nonzero(block) || is_first
+}
+
+// The next block of the summary, which is about the blocks from `start` on. Where none is stored, it has a bit for each
+// of these, zero or not. Counts one pull.
 #[inline]
 fn pull_used<B: BitBlock>(summary: &mut Blocks<'_, B>, blocks: &[B], start: usize) -> B
     requires in_bounds { start ≤ length blocks.now }
-    requires each { All B.is_block blocks.now }
     requires each_sum { All B.is_block summary.old.left }
     requires stored { 0 < length summary.old.left → (k : ℕ)
         → value_at B.width (map B.number summary.old.left) k ≡ is_used (map B.number blocks.now) (start + k) }
     ensures of_block { B.is_block result }
-    ensures digits { (j : ℕ) → j < B.width
-        → is_one (B.number result) j ≡ is_used (map B.number blocks.now) (start + j) }
+    ensures digits { CoversUsed B.width B.number blocks.now start (B.number result) }
     ensures left { summary.new.left ≡ drop 1 summary.old.left }
     ensures pulls { summary.new.pulls ≡ summary.old.pulls + 1 }
 {
     match summary.next() {
         Some(used) => used,
-        None => made_of(blocks, start),
+        None => ones_for(blocks.len() - start),
+    }
+}
+
+// A block with so many bits set, from the lowest on, or all of them.
+#[inline]
+#[tactic(auto, using(crate::proofs::Masks::masks))]
+fn ones_for<B: BitBlock>(count: usize) -> B
+    ensures of_block { B.is_block result }
+    ensures digits { (j : ℕ) → j < B.width → is_one (B.number result) j ≡ nat_lt j count }
+{
+    if count < B::bits() {
+        ones_below(count)
+    } else {
+        all_ones()
     }
 }
 

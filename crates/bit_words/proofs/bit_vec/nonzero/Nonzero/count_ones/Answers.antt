@@ -7,13 +7,13 @@ use Rattle.bit_words.proofs.bit_vec.nonzero.Nonzero.count_ones.Goals as goal
 pub ones_by_summary-ones-requires-clause-digit : goal.ones_by_summary-ones-requires-clause-digit
 ones_by_summary-ones-requires-clause-digit g c =
     let it = c.self.inside in
-    rw (c.as_slice.ensures, c.first_blocks.ensures.rest, c.split_at.ensures.back) (tells_rest g.B.BitBlock.width g.B.BitBlock.number g.B.BitBlock.is_block it.index it.pending it.blocks.now it.summary.left c.self.invariant)
+    rw (c.as_slice.ensures, c.first_blocks.ensures.rest, c.split_at.ensures.back) (tells_rest g.B.BitBlock.width g.B.BitBlock.number g.B.BitBlock.is_block it.index it.first it.pending it.blocks.now it.summary.left c.self.invariant.0)
 
 pub ones_by_summary-ones-requires-clause-fits : goal.ones_by_summary-ones-requires-clause-fits
 ones_by_summary-ones-requires-clause-fits g c =
     let number = g.B.BitBlock.number in
     let it = c.self.inside in
-    let fewer = left-ones_rest g.B.BitBlock.width number g.B.BitBlock.is_block it.index (number it.pending) it.blocks.now in
+    let fewer = left-ones_rest g.B.BitBlock.width number g.B.BitBlock.is_block it.index it.first (number it.pending) it.blocks.now in
     let left = ap (λ walk. ones_left number walk.left) c.self.view_is in
     rw (c.first_blocks.ensures.rest, c.split_at.ensures.back) (omega (arith, fewer, left, c.requires.fits))
 
@@ -21,10 +21,10 @@ pub returns-then-eq : goal.returns-then-eq
 returns-then-eq g c =
     let number = g.B.BitBlock.number in
     let it = c.self.inside in
-    let used_up : number it.pending ≡ 0 = (g.met.B.BitBlock.eq_law it.pending c.zero.result c.self.invariant.in_hand c.zero.ensures.of_block).0 (sym c.eq.ensures ∙ c.if-eq.true) ∙ c.zero.ensures.of_number in
+    let used_up : number it.pending ≡ 0 = (g.met.B.BitBlock.eq_law it.pending c.zero.result c.self.invariant.0.hand.of_block c.zero.ensures.of_block).0 (sym c.eq.ensures ∙ c.if-eq.true) ∙ c.zero.ensures.of_number in
     c.ones_by_summary-ones.ensures
     ∙ ap (ones_in number) (c.first_blocks.ensures.rest ∙ ap (drop g.B.BitBlock.width) c.split_at.ensures.back)
-    ∙ sym (left-ones_past g.B.BitBlock.width number g.B.BitBlock.is_block it.index it.pending it.blocks.now used_up)
+    ∙ sym (left-ones_past g.B.BitBlock.width number g.B.BitBlock.is_block it.index it.first it.pending it.blocks.now used_up)
     ∙ ap (λ walk. ones_left number walk.left) c.self.view_is
 
 pub ones_of-requires-clause-each : goal.ones_of-requires-clause-each
@@ -34,14 +34,14 @@ ones_of-requires-clause-each g c =
     let it = c.self.inside in
     let chunk = drop it.index it.blocks.now in
     rw (c.split_at-2.ensures.back, c.first_blocks.ensures.first, c.split_at.ensures.back)
-    (All-drop is_block c.take_lowest_one.result (take w chunk) (All-take is_block w chunk (All-drop is_block it.index it.blocks.now c.self.invariant.each)))
+    (All-drop is_block c.take_lowest_one.result (take w chunk) (All-take is_block w chunk (All-drop is_block it.index it.blocks.now c.self.invariant.0.hand.each)))
 
 pub ones_of-requires-clause-fits : goal.ones_of-requires-clause-fits
 ones_of-requires-clause-fits g c =
     let number = g.B.BitBlock.number in
     let it = c.self.inside in
     let lowest = c.take_lowest_one.ensures in
-    let all = left-ones_split g.B.BitBlock.width number g.B.BitBlock.is_block it.index c.take_lowest_one.result it.pending it.blocks.now it.summary.left c.self.invariant lowest.lowest lowest.within in
+    let all = left-ones_split g.B.BitBlock.width number g.B.BitBlock.is_block it.index it.first c.take_lowest_one.result it.pending it.blocks.now c.self.invariant.0.hand lowest.lowest lowest.within in
     let left = ap (λ walk. ones_left number walk.left) c.self.view_is in
     rw (c.split_at-2.ensures.back, c.first_blocks.ensures.first, c.split_at.ensures.back) (omega (arith, all, left, c.requires.fits))
 
@@ -51,7 +51,7 @@ overflow_add-result g c =
     let number = g.B.BitBlock.number in
     let it = c.self.inside in
     let lowest = c.take_lowest_one.ensures in
-    let all = left-ones_split w number g.B.BitBlock.is_block it.index c.take_lowest_one.result it.pending it.blocks.now it.summary.left c.self.invariant lowest.lowest lowest.within in
+    let all = left-ones_split w number g.B.BitBlock.is_block it.index it.first c.take_lowest_one.result it.pending it.blocks.now c.self.invariant.0.hand lowest.lowest lowest.within in
     let left = ap (λ walk. ones_left number walk.left) c.self.view_is in
     let rest = c.ones_by_summary-ones.ensures ∙ ap (ones_in number) (c.first_blocks.ensures.rest ∙ ap (drop w) c.split_at.ensures.back) in
     let chunk = c.ones_of.ensures ∙ ap (ones_in number) (c.split_at-2.ensures.back ∙ ap (drop c.take_lowest_one.result) (c.first_blocks.ensures.first ∙ ap (take w) c.split_at.ensures.back)) in
@@ -63,7 +63,7 @@ returns g c =
     let number = g.B.BitBlock.number in
     let it = c.self.inside in
     let lowest = c.take_lowest_one.ensures in
-    let all = left-ones_split w number g.B.BitBlock.is_block it.index c.take_lowest_one.result it.pending it.blocks.now it.summary.left c.self.invariant lowest.lowest lowest.within in
+    let all = left-ones_split w number g.B.BitBlock.is_block it.index it.first c.take_lowest_one.result it.pending it.blocks.now c.self.invariant.0.hand lowest.lowest lowest.within in
     let left = ap (λ walk. ones_left number walk.left) c.self.view_is in
     let rest = c.ones_by_summary-ones.ensures ∙ ap (ones_in number) (c.first_blocks.ensures.rest ∙ ap (drop w) c.split_at.ensures.back) in
     let chunk = c.ones_of.ensures ∙ ap (ones_in number) (c.split_at-2.ensures.back ∙ ap (drop c.take_lowest_one.result) (c.first_blocks.ensures.first ∙ ap (take w) c.split_at.ensures.back)) in

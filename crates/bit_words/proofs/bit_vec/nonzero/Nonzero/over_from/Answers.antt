@@ -1,7 +1,6 @@
 use Rattle.std.proofs.Common.{◌≡◌, ◌*◌, ◌/◌, ◌%◌, min, drop, length, ap, ◌∙◌, arith, mod-lt, div-add-mod'}
 use Rattle.bit_words.specs.Pending.{ArePendingFrom}
-use Rattle.bit_words.specs.Nonzero.{block_and_nonzero}
-use Rattle.bit_words.proofs.NonzeroFromLemmas.{digits_from, IsPending-from, left-from, count_from}
+use Rattle.bit_words.proofs.NonzeroFromLemmas.{digits_from, IsPastFirst-from, IsPending-from, left-from, count_from}
 use Rattle.bit_words.proofs.bit_vec.nonzero.Nonzero.over_from.Goals as goal
 
 pub pull_used-used-requires-clause-stored : goal.pull_used-used-requires-clause-stored
@@ -27,7 +26,7 @@ invariant_of-result g c =
     let whole = div-add-mod' from w in
     let digits = rw (c.bits.ensures, c.bits-2.ensures) at pull.digits in
     let pending : ArePendingFrom w (from % w) (number c.pull_used-used.result) (number c.with_pending_from.result) = rw c.bits-3.ensures at c.with_pending_from.ensures.pending in
-    rw (c.bits.ensures, c.bits-2.ensures) (IsPending-from w number is_block q (q * w) (from % w) c.with_pending_from.result c.pull_used-used.result xs summary c.pull_used-used.new.summary.left pos c.requires.each c.requires.fits c.requires.summary (omega arith) (pull.left ∙ ap (drop 1) all) digits c.with_pending_from.ensures.of_block (mod-lt from pos) (omega (arith, whole, c.requires.inside)) pending)
+    rw (c.bits.ensures, c.bits-2.ensures) ((IsPending-from w number is_block q (q * w) (from % w) from c.with_pending_from.result c.pull_used-used.result xs summary c.pull_used-used.new.summary.left pos c.requires.each c.requires.fits c.requires.summary (omega arith) (omega (arith, whole)) (pull.left ∙ ap (drop 1) all) digits c.with_pending_from.ensures.of_block (mod-lt from pos) (omega (arith, whole, c.requires.inside)) pending), IsPastFirst-from w (q * w) (from % w) from c.new.result (number c.pull_used-used.result) (number c.with_pending_from.result) c.new.ensures (omega (arith, whole)) pending)
 
 pub returns-clause-left : goal.returns-clause-left
 returns-clause-left g c =
@@ -37,7 +36,7 @@ returns-clause-left g c =
     let from = c.args.from in
     let digits = rw (c.bits.ensures, c.bits-2.ensures) at c.pull_used-used.ensures.digits in
     let pending : ArePendingFrom w (from % w) (number c.pull_used-used.result) (number c.with_pending_from.result) = rw c.bits-3.ensures at c.with_pending_from.ensures.pending in
-    rw (c.bits.ensures, c.bits-2.ensures) (left-from w number g.B.BitBlock.is_block (from / w * w) (from % w) c.with_pending_from.result c.pull_used-used.result xs (mod-lt from g.met.B.BitBlock.width_law.positive) digits pending ∙ ap (λ k. block_and_nonzero number k (drop k xs)) (div-add-mod' from w))
+    rw (c.bits.ensures, c.bits-2.ensures) (left-from w number g.B.BitBlock.is_block (from / w * w) (from % w) from c.with_pending_from.result c.pull_used-used.result xs (mod-lt from g.met.B.BitBlock.width_law.positive) (let whole = div-add-mod' from w in omega (arith, whole)) digits pending)
 
 pub returns-clause-summary_left : goal.returns-clause-summary_left
 returns-clause-summary_left g c =
