@@ -198,6 +198,7 @@ module _ {X : Type 0} (w : ℕ) (number : X → ℕ) (is_block : X → Type 0) (
         walk = record {
           in_hand = lawful;
           each = subst (All is_block) (sym pull.same) is.each;
+          begun = omega (arith, pull.counted);
           left = found.2 ∙ ap (nonzero_from number (k + 1)) (sym past) ∙ ap (λ i. nonzero_from number (i + 1) (drop (q * w / w + 1) t.blocks)) (sym index_is);
           whole = ap (λ i. i * w) (found.0 ∙ sym index_is);
           inside = let same = ap length pull.same in omega (arith, index_is, some, same);

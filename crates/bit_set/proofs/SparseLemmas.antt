@@ -1,5 +1,5 @@
 -- A walk that goes by the blocks that are not 0: its making, the step to the next such block, and the end.
-use Rattle.std.proofs.Common.{◌≡◌, ℕ, suc, ◌+◌, ◌-◌, ◌*◌, ◌/◌, ◌^◌, ◌<◌, ◌≤◌, ◌==◌, Bool, true, false, if◌then◌else◌, List, [], ◌∷◌, map, length, drop, get_or, min, max, All, Some, None, count_ones, refl, sym, ap, ◌∙◌, subst, arith, inl, inr, ⊎_elim}
+use Rattle.std.proofs.Common.{◌≡◌, ℕ, suc, ◌+◌, ◌-◌, ◌*◌, ◌/◌, ◌^◌, ◌<◌, ◌≤◌, ◌==◌, Bool, true, false, not, if◌then◌else◌, List, [], ◌∷◌, map, length, drop, get_or, min, max, All, Some, None, count_ones, refl, sym, ap, ◌∙◌, subst, arith, inl, inr, ⊎_elim}
 use Rattle.std.proofs.lemmas.Bool.{cases_eq, cases_lt, true≢false}
 use Rattle.std.proofs.lemmas.Bool.Decides.{nat_tests}
 use Rattle.std.proofs.lemmas.Nat.{div-mul-add, ones_le_self}
@@ -9,10 +9,10 @@ use Rattle.std.proofs.lemmas.List.Sums.{sum_by-cons}
 use Rattle.std.proofs.Math.Seq.{drop-drop}
 use Rattle.bit_words.specs.Lowest.{IsLowest, IsCleared}
 use Rattle.bit_words.specs.Bits.{blocks_for, blocks_of}
-use Rattle.bit_words.specs.Nonzero.{Nonzeros, PullsNonzero, nonzero_from, first_and_nonzero, ones_left}
+use Rattle.bit_words.specs.Nonzero.{Nonzeros, PullsNonzero, Refills, nonzero_from, first_and_nonzero, ones_left}
 use Rattle.bit_words.proofs.BitsLemmas.{blocks_for-enough, blocks_for-least}
 use Rattle.bit_set.specs.Sets.{AscendsFrom, elements_from, elements}
-use Rattle.bit_set.specs.Places.{indexes, past_block, IsSparseWalk}
+use Rattle.bit_set.specs.Places.{indexes, past_block, CanWalk, IsSparseWalk}
 use Rattle.bit_set.specs.Walk.{Walk, Advances, IsAtStart}
 use Rattle.bit_set.proofs.MemberLemmas.{takes_least}
 use Rattle.bit_set.proofs.PlaceLemmas.{AscendsFrom-indexes, indexes-zero, indexes-next, indexes-lowest, length-indexes, length-elements-block}
@@ -182,6 +182,7 @@ module _ {X : Type 0} (w : ℕ) (number : X → ℕ) (is_block : X → Type 0) (
         walk = record {
           in_hand = All-head is_block x (drop (suc next.by) xs) (subst (All is_block) next.here (All-drop is_block next.by xs (All-drop is_block (k + 1) s.blocks is.each)));
           each = subst (All is_block) (sym pull.same) is.each;
+          begun = omega (arith, pull.counted);
           left = next.past ∙ ap (nonzero_from number (q + 1)) past ∙ ap (λ n. nonzero_from number (n + 1) rest) (sym index_is);
           whole = sym (ap (λ n. n * w) index_is);
           inside = omega (arith, fewer, ahead, index_is, next.at, all);
@@ -201,8 +202,8 @@ module _ {X : Type 0} (w : ℕ) (number : X → ℕ) (is_block : X → Type 0) (
         summary = pull.summary;
       }
 
-  pub ends : (index last : ℕ) (block : X) (s t : Nonzeros X) → IsSparseWalk w number is_block index block s → number block ≡ 0 → PullsNonzero s None t → last ≡ (length t.blocks - 1) * w → Ends w number is_block (seen w number is_block index block s) last block t (seen w number is_block last block t)
-  ends index last block s t is used_up pull at =
+  pub ends : (index last : ℕ) (block x : X) (s t : Nonzeros X) → IsSparseWalk w number is_block index block s → number block ≡ 0 → is_block x → number x ≡ 0 → PullsNonzero s None t → last ≡ (length t.blocks - 1) * w → Ends w number is_block (seen w number is_block index block s) last x t (seen w number is_block last x t)
+  ends index last block x s t is used_up lawful nothing pull at =
       let k = index / w in
       let n = length t.blocks - 1 in
       let xs = drop (k + 1) s.blocks in
@@ -215,12 +216,13 @@ module _ {X : Type 0} (w : ℕ) (number : X → ℕ) (is_block : X → Type 0) (
       let further : length xs ≡ length rest + (n - k) = omega (arith, ahead, all, no_block) in
       let at_index : last ≡ (k + (n - k)) * w = at ∙ ap (λ j. j * w) (let e : n ≡ k + (n - k) = omega (arith, is.inside, all) in e) in
       let along = along_by w index last k (n - k) (length xs) (length rest) is.whole at_index further in
-      let ended : indexes w last (number block) (values_of_blocks w number rest) ≡ [] =
-      ap (λ m. indexes w last m (values_of_blocks w number rest)) used_up ∙ indexes-zero w last (values_of_blocks w number rest) ∙ ap (λ ys. elements_from (last + w) (values_of_blocks w number ys)) none in
+      let ended : indexes w last (number x) (values_of_blocks w number rest) ≡ [] =
+      ap (λ m. indexes w last m (values_of_blocks w number rest)) nothing ∙ indexes-zero w last (values_of_blocks w number rest) ∙ ap (λ ys. elements_from (last + w) (values_of_blocks w number ys)) none in
       record {
         walk = record {
-          in_hand = is.in_hand;
+          in_hand = lawful;
           each = subst (All is_block) (sym pull.same) is.each;
+          begun = omega (arith, pull.counted);
           left = pull.item.1 ∙ ap (nonzero_from number (last / w + 1)) (sym none);
           whole = at ∙ ap (λ j. j * w) (sym index_is);
           inside = omega (arith, index_is);
@@ -246,11 +248,66 @@ module _ {X : Type 0} (w : ℕ) (number : X → ℕ) (is_block : X → Type 0) (
         };
       }
 
+  -- another block of the same number
+  alike : (index : ℕ) (block x : X) (s : Nonzeros X) → IsSparseWalk w number is_block index block s → is_block x → number x ≡ number block → IsSparseWalk w number is_block index x s
+  alike index block x s is lawful same = record {
+    in_hand = lawful;
+    each = is.each;
+    begun = is.begun;
+    left = is.left;
+    whole = is.whole;
+    inside = is.inside;
+    can = subst (λ m. CanWalk w index m (past_block w number index s.blocks s.pulls)) (sym same) is.can;
+  }
+
+  stays_alike : (index : ℕ) (block x : X) (s : Nonzeros X) → IsSparseWalk w number is_block index block s → is_block x → number x ≡ number block → 0 < number block → Reaches w number is_block (seen w number is_block index block s) index x s (seen w number is_block index x s)
+  stays_alike index block x s is lawful same some =
+      let to = stays index x s (alike index block x s is lawful same) (omega (arith, some, same)) in
+      record {
+        walk = to.walk;
+        some = to.some;
+        same = ap (λ m. indexes w index m (past_block w number index s.blocks s.pulls).values) same;
+        onward = to.onward;
+        pulls = to.pulls;
+        pulled = to.pulled;
+        along = to.along;
+        summary = to.summary;
+      }
+
+  -- a refill that found a block, or had one
+  pub refilled : (index at : ℕ) (block x : X) (s t : Nonzeros X) → IsSparseWalk w number is_block index block s → is_block x → Refills w number s (number block) index true t x at → Reaches w number is_block (seen w number is_block index block s) at x t (seen w number is_block at x t)
+  refilled index at block x s t is lawful found =
+      elim (cases_eq (number block) 0) [
+        | inl none ↦
+            let (k, at_is, pull) = found.next none refl in
+            subst (λ n. Reaches w number is_block (seen w number is_block index block s) n x t (seen w number is_block n x t)) (sym at_is) (jumps index k block x s t is none pull)
+        | inr there ↦
+            let some : 0 < number block = omega arith in
+            let test : not (number block == 0) ≡ true = grind (arith, nat_tests) in
+            let (same, walk_is, number_is, index_is) = found.stays test in
+            subst (λ n. Reaches w number is_block (seen w number is_block index block s) n x t (seen w number is_block n x t)) (sym index_is)
+            (subst (λ it. Reaches w number is_block (seen w number is_block index block s) index x it (seen w number is_block index x it)) (sym walk_is)
+            (stays_alike index block x s is lawful number_is some))
+      ]
+
+  -- one that found none
+  pub refilled-end : (index at last : ℕ) (block x : X) (s t : Nonzeros X) → IsSparseWalk w number is_block index block s → is_block x → Refills w number s (number block) index false t x at → last ≡ (length t.blocks - 1) * w → Ends w number is_block (seen w number is_block index block s) last x t (seen w number is_block last x t)
+  refilled-end index at last block x s t is lawful found last_is =
+      let nothing : number x ≡ 0 = let test = found.some in grind (arith, nat_tests) in
+      elim (cases_eq (number block) 0) [
+        | inl none ↦ ends index last block x s t is none lawful nothing (found.ends none refl) last_is
+        | inr there ↦
+            let some : 0 < number block = omega arith in
+            let test : not (number block == 0) ≡ true = grind (arith, nat_tests) in
+            absurd (true≢false (sym (found.stays test).0))
+      ]
+
   -- the lowest one of the block that was reached is taken
   pub taken_walk : (index i : ℕ) (block r : X) (it : Nonzeros X) → IsSparseWalk w number is_block index block it → is_block r → IsLowest (number block) i → i < w → IsCleared w (number block) i (number r) → IsSparseWalk w number is_block index r it
   taken_walk index i block r it is lawful low within cleared = record {
     in_hand = lawful;
     each = is.each;
+    begun = is.begun;
     left = is.left;
     whole = is.whole;
     inside = is.inside;
@@ -310,6 +367,7 @@ module _ {X : Type 0} (w : ℕ) (number : X → ℕ) (is_block : X → Type 0) (
         walk = record {
           in_hand = lawful;
           each = subst (All is_block) (sym same) is.each;
+          begun = omega (arith, counted);
           left = left ∙ ap (nonzero_from number 1) (sym past) ∙ ap (λ n. nonzero_from number (n + 1) (drop (0 / w + 1) t.blocks)) (sym index_is);
           whole = (let e : 0 ≡ 0 * w = omega arith in e) ∙ ap (λ n. n * w) (sym index_is);
           inside = omega (arith, index_is);

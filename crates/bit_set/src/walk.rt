@@ -120,15 +120,11 @@ impl<'a, B: BitBlock> Iterator for Iter<'a, B> {
     /// is not zero by the summary; constant time within a block.
     #[inline]
     fn next(&mut self) -> Option<usize> {
-        if self.block == B::zero() {
-            let Some(found) = self.nonzero.next() else {
-                // On to the last block, however far it is: those before it are zeros, and `size_hint` counts the
-                // blocks past `index`.
-                self.index = self.nonzero.as_slice().len().saturating_sub(1) * B::bits();
-                return None;
-            };
-            self.block = found.1;
-            self.index = found.0 * B::bits();
+        if !self.nonzero.refill(&mut self.block, &mut self.index) {
+            // On to the last block, however far it is: those before it are zeros, and `size_hint` counts the
+            // blocks past `index`.
+            self.index = self.nonzero.as_slice().len().saturating_sub(1) * B::bits();
+            return None;
         }
         Some(self.index + take_lowest_one(&mut self.block))
     }
