@@ -46,6 +46,26 @@ fn the_first_block_and_those_that_are_not_zero_come(rt: HostRuntime) -> Result<(
     Ok(())
 }
 
+#[test]
+fn a_refill_passes_zero_blocks(rt: HostRuntime) -> Result<(), Fail> {
+    let bits = list_of::<u32>(rt.alloc(), 401, &[400])?;
+    let mut walk = bits.nonzero();
+    let first = walk.next();
+    assert_eq!(rt; first, Some((0, 0)));
+    if walk.as_slice().len() < 1000 {
+        let mut block = 0;
+        let mut index = 0;
+        assert!(rt; walk.refill(&mut block, &mut index));
+        assert_eq!(rt; (block, index), (0x1_0000, 384));
+        assert!(rt; walk.refill(&mut block, &mut index));
+        assert_eq!(rt; (block, index), (0x1_0000, 384));
+        block = 0;
+        assert!(rt; !walk.refill(&mut block, &mut index));
+        assert_eq!(rt; block, 0);
+    }
+    Ok(())
+}
+
 // The first and the last blocks that a block of the summary says of: all that lie between are passed over, and
 // each of these is found. One value more, and the summary is stored.
 fn ends_are_found<B: BitBlock>(

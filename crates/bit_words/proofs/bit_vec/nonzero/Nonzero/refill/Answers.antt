@@ -37,15 +37,15 @@ loop-self-preserved-then-is_nonzero g c =
       kept = before.kept;
       searching = λ none. absurd (omega (arith, none, some));
       found = λ _ _. (
-          k,
-          ap (λ n. k * n) c.bits.ensures,
-          record {
-            item = sym same ∙ step.comes x c.at.ensures (ap (λ b. b || k == it.first) nonzero);
-            same = before.kept;
-            counted = omega (arith, tick, fresh);
-            goes_on = omega (arith, on, step.goes_on);
-            summary = omega (arith, sums, step.summary);
-          },
+        k,
+        ap (λ n. k * n) c.bits.ensures,
+        record {
+          item = sym same ∙ step.comes x c.at.ensures (ap (λ b. b || k == it.first) nonzero);
+          same = before.kept;
+          counted = omega (arith, tick, fresh);
+          goes_on = omega (arith, on, step.goes_on);
+          summary = omega (arith, sums, step.summary);
+        },
       );
       stays = λ there. absurd (omega (arith, there, used_up));
     }
@@ -75,11 +75,11 @@ loop-self-preserved g c =
       begun = before.begun;
       kept = before.kept;
       searching = λ _. (
-          used_up,
-          sym (step.passed x c.at.ensures (ap (λ b. b || k == it.first) none ∙ other)) ∙ same,
-          fresh,
-          omega (arith, on, step.goes_on),
-          omega (arith, sums, step.summary),
+        used_up,
+        sym (step.passed x c.at.ensures (ap (λ b. b || k == it.first) none ∙ other)) ∙ same,
+        fresh,
+        omega (arith, on, step.goes_on),
+        omega (arith, sums, step.summary),
       );
       found = λ some. absurd (omega (arith, some, nothing));
       stays = λ there. absurd (omega (arith, there, used_up));
