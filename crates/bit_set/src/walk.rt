@@ -21,7 +21,7 @@ pub use intersection::Intersection;
 pub use two_sets::{Difference, SymmetricDifference, TwoSets, Union};
 
 /// The elements of a set in ascending order, each once. Looks at no block of the set that is zero, but at
-/// the first.
+/// the first; where the set has few blocks and stores no summary, at each.
 #[derive(Drop)]
 pub struct Iter<'a, B: BitBlock> {
     nonzero: Nonzero<'a, B>,
