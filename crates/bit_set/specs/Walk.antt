@@ -6,8 +6,8 @@ use Rattle.bit_words.specs.declared.block.merge.Merge.{Merge}
 use Rattle.bit_set.specs.Members.{TakesLeast}
 use Rattle.bit_set.specs.Sets.{elements, merge_of_sets, those_from}
 
--- What contracts see of a walk over a set: the elements that are left, how often it called `next` on its block
--- source, the first number of the block in hand, and how many blocks are past that block; how often a block of
+-- What contracts see of a walk over a set: the elements that are left, how often its block source gave it a block, or
+-- the end, the first number of the block in hand, and how many blocks are past that block; how often a block of
 -- the summary was pulled, and how many of these are left.
 pub record Walk : Type 0 where
   pub left : List ℕ

@@ -138,9 +138,9 @@ impl<'a, B: BitBlock> Nonzero<'a, B> {
         }
     }
 
-    /// Where `block` is zero, makes it the next block that is not zero, and `index` that of its first bit. Returns
-    /// whether there was one to find; at the end `block` stays zero. It is the step of a walk over bits that has
-    /// pulled once: of few blocks it looks at each, and the test for zero is that of the walk itself.
+    /// Where `block` is zero, makes it the next block that is not zero, and `index` that of its first bit; else changes
+    /// nothing. Returns whether `block` is not zero then: at the end it stays zero, and `index` may be any. The walk has
+    /// to have been pulled once. Of few blocks it looks at each, and those that are zero count no pull.
     #[inline(always)]
     pub fn refill(&mut self, block: &mut B, index: &mut usize) -> bool
         requires begun { 0 < self.old.pulls }
@@ -198,7 +198,7 @@ impl<'a, B: BitBlock> Iterator for Nonzero<'a, B> {
     ghost remaining = { item_count (λ walk. walk.left) };
 
     /// The next block that is not zero, or the first block, with its index.
-    // Where a walk is made, the compiler knows that the first block comes, and leaves the loop out.
+    // Where it is a call, the walk that it is called on goes through memory.
     #[inline(always)]
     fn next(&mut self) -> Option<(usize, B)> {
         self.steps.tick();
