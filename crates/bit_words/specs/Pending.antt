@@ -85,4 +85,5 @@ pub record NextIsPending {X : Type 0} (w : ℕ) (number : X → ℕ) (xs : List 
   pub summary : MatchOption found
       ((new_pulls ≡ pulls + blocks_for w (length xs - (index + w)) + 1) × (blocks_for w (length xs - (next + w)) ≡ 0))
       (λ _. new_pulls + blocks_for w (length xs - (next + w)) ≡ pulls + blocks_for w (length xs - (index + w)))
-  pub ended : found ≡ None → (pending_from w number index first m xs ≡ []) × (pending_from w number next first r xs ≡ [])
+  pub ended : found ≡ None
+      → (pending_from w number index first m xs ≡ []) × (pending_from w number next first r xs ≡ [])
