@@ -139,8 +139,8 @@ impl<'a, B: BitBlock> Nonzero<'a, B> {
     }
 
     /// Where `block` is zero, makes it the next block that is not zero, and `index` that of its first bit; else it
-    /// changes nothing. Returns whether `block` is not zero then: at the end it stays zero, and `index` may be any. The walk has
-    /// to have been pulled once. Of few blocks it looks at each, and those that are zero count no pull.
+    /// changes nothing. Returns whether `block` is not zero then: at the end it stays zero, and `index` may be any.
+    /// The walk has to have been pulled once. Of few blocks it looks at each, and those that are zero count no pull.
     #[inline(always)]
     pub fn refill(&mut self, block: &mut B, index: &mut usize) -> bool
         requires begun { 0 < self.old.pulls }
