@@ -7,7 +7,7 @@ ghost use Rattle.bit_words.specs.Bits.{blocks_for};
 ghost use Rattle.bit_set.specs.Sets.{elements, those_from};
 ghost use Rattle.bit_set.specs.Walk.{Advances, IsAtStart, IsAtStartFrom, bound_on_rest};
 
-use crate::bit_vec::{BitVec, Nonzero, clear_below, take_lowest_one};
+use crate::bit_vec::{BitVec, Nonzero, block_or_zero, clear_below, take_lowest_one};
 use crate::{BitBlock, BitSet};
 use std::marker::Model;
 
@@ -56,16 +56,7 @@ impl<'a, B: BitBlock> Iter<'a, B> {
     pub(crate) fn over(bits: &'a BitVec<B>) -> Self
         ensures { IsAtStart B.width bits.now.values result }
     {
-        let mut nonzero = bits.nonzero();
-        let block = match nonzero.next() {
-            Some(first) => first.1,
-            None => B::zero(),
-        };
-        Iter {
-            nonzero,
-            block,
-            index: 0,
-        }
+        Iter::over_from(bits, 0)
     }
 
     // The walk over those of these places that are `from` or above.
@@ -73,17 +64,12 @@ impl<'a, B: BitBlock> Iter<'a, B> {
     pub(crate) fn over_from(bits: &'a BitVec<B>, from: usize) -> Self
         ensures { IsAtStartFrom B.width bits.now.values from result }
     {
-        let mut started = bits.nonzero_from(from / B::bits());
-        let (index, block) = match started.next() {
-            Some(first) => {
-                let index = first.0 * B::bits();
-                (index, clear_below(first.1, from - index))
-            }
-            None => (0, B::zero()),
-        };
+        let blocks = bits.storage();
+        let first = (from / B::bits()).min(blocks.len().saturating_sub(1));
+        let index = first * B::bits();
         Iter {
-            nonzero: started,
-            block,
+            nonzero: bits.nonzero_past(first),
+            block: clear_below(block_or_zero(blocks, first), from - index),
             index,
         }
     }

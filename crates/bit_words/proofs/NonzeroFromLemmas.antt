@@ -1,5 +1,5 @@
 -- The walk over the blocks that are not 0, started at any block.
-use Rattle.std.proofs.Common.{◌≡◌, ℕ, zero, suc, ◌+◌, ◌-◌, ◌*◌, ◌/◌, ◌^◌, ◌<◌, ◌≤◌, Bool, true, false, not, ◌||◌, if◌then◌else◌, ◌==◌, List, [], ◌∷◌, map, drop, length, min, All, refl, sym, ap, subst, ◌∙◌, arith, ⊎_elim, mul-le-mul_right, div-add-mod'}
+use Rattle.std.proofs.Common.{◌≡◌, ℕ, zero, suc, ◌+◌, ◌-◌, ◌*◌, ◌/◌, ◌^◌, ◌<◌, ◌≤◌, Bool, true, false, not, leb, ◌&&◌, ◌||◌, if◌then◌else◌, ◌==◌, List, [], ◌∷◌, map, drop, length, min, All, refl, sym, ap, subst, ◌∙◌, arith, ⊎_elim, mul-le-mul_right, div-add-mod'}
 use Rattle.std.proofs.lemmas.Bool.{cases_lt, cases_order, true≢false}
 use Rattle.std.proofs.lemmas.Bool.Decides.{nat_tests}
 use Rattle.std.proofs.lemmas.List.{drop-map, drop_all, length-drop}
@@ -11,8 +11,8 @@ use Rattle.bit_words.specs.Bits.{blocks_for}
 use Rattle.bit_words.specs.Digits.{IsEither, is_one}
 use Rattle.bit_words.specs.Storage.{value_at}
 use Rattle.bit_words.specs.Summary.{is_used, short_count, KeepsSummary}
-use Rattle.bit_words.specs.Pending.{IsPastFirst, IsPending, ArePendingFrom, CoversUsed, pick, is_pending, pending_from}
-use Rattle.bit_words.specs.Nonzero.{block_and_nonzero, first_and_nonzero}
+use Rattle.bit_words.specs.Pending.{IsPastFirst, IsPending, ArePendingFrom, ArePendingPast, CoversUsed, pick, is_pending, pending_from}
+use Rattle.bit_words.specs.Nonzero.{block_and_nonzero, first_and_nonzero, nonzero_from}
 use Rattle.bit_words.proofs.BitsLemmas.{blocks_for-enough, blocks_for-least, blocks_for-past}
 use Rattle.bit_words.proofs.NonzeroLemmas.{dropped, not_pending, pending-covered, pending-here, pending-past, pick-nonzero, pick-tick_by, value_at-drop}
 use Rattle.bit_words.proofs.Masks.{is_one-bit, is_one-either, is_one-zero}
@@ -43,6 +43,23 @@ IsPastFirst-from w start d first pulls m r fresh first_is pending = record {
 pub IsPastFirst-begin : (w pulls m : ℕ) → pulls ≡ 0 → IsPastFirst w 0 0 pulls m
 IsPastFirst-begin w pulls m fresh = record { from = λ j to one. omega arith; past = λ some. absurd (omega (arith, some, fresh)) }
 
+-- the pending bits past the first block
+pub pending_past : (w d m r : ℕ) → ((j : ℕ) → j < w → is_one r j ≡ (leb (d + 1) j && is_one m j)) → ArePendingPast w d m r
+pending_past w d m r digits = record {
+  beyond = λ j to one.
+      ⊎_elim
+      (λ after. after)
+      (λ not_after. absurd (let t : leb (d + 1) j ≡ false = grind (arith, nat_tests) in true≢false (sym one ∙ digits j to ∙ ap (λ b. b && is_one m j) t)))
+      (cases_lt d j);
+  above = λ j after within. digits j within ∙ ap (λ b. b && is_one m j) (let t : leb (d + 1) j ≡ true = grind (arith, nat_tests) in t);
+}
+
+pub IsPastFirst-past : (w start d first pulls m r : ℕ) → first ≡ start + d → ArePendingPast w d m r → IsPastFirst w start first pulls r
+IsPastFirst-past w start d first pulls m r first_is past = record {
+  from = λ j to one. let e = past.beyond j to one in omega (arith, e, first_is);
+  past = λ some j to one. let e = past.beyond j to one in omega (arith, e, first_is);
+}
+
 -- a block's bit is in a block of the summary
 pub chunk_inside : (w from blocks summary : ℕ) → 0 < w → from < blocks → summary ≡ blocks_for w blocks → from / w < summary
 chunk_inside w from blocks summary pos inside count =
@@ -54,12 +71,11 @@ chunk_inside w from blocks summary pos inside count =
     (cases_lt (from / w) summary)
 
 module _ {X : Type 0} (w : ℕ) (number : X → ℕ) (is_block : X → Type 0) where
-  -- what is left of a summary past the block for the blocks from index `start` on, which is q times the width
-  pub IsPending-from : (q start d first : ℕ) (pending used : X) (xs summary rest : List X) → 0 < w → All is_block xs → length xs < 2 ^ 64 → KeepsSummary w number is_block xs summary → start ≡ q * w → first ≡ start + d → rest ≡ drop 1 (drop (min q (length summary)) summary)
-      → CoversUsed w number xs start (number used) → is_block pending → d < w → start + d < length xs → ArePendingFrom w d (number used) (number pending) → IsPending w number is_block start first pending xs rest
-  IsPending-from q start d first pending used xs summary rest pos each fits keeps at first_is left digits block within inside from =
-      let mark_at : (j : ℕ) → is_one (number pending) j ≡ true → d ≤ j = λ j tail_set.
-      ⊎_elim (λ below. absurd (true≢false (sym tail_set ∙ from.below j below))) (λ reached. reached) (cases_lt j d) in
+  -- What is left of a summary past the block for the blocks from index `start` on, which is q times the width. The
+  -- pending bits are those of that block past digit d, and perhaps that at d.
+  pub IsPending-start : (q start d first : ℕ) (pending used : X) (xs summary rest : List X) → 0 < w → All is_block xs → length xs < 2 ^ 64 → KeepsSummary w number is_block xs summary → start ≡ q * w → first ≡ start + d → rest ≡ drop 1 (drop (min q (length summary)) summary)
+      → CoversUsed w number xs start (number used) → is_block pending → d < w → start ≤ length xs → (0 < length xs → start < length xs) → ((j : ℕ) → j < w → is_one (number pending) j ≡ true → d ≤ j) → (is_one (number pending) d ≡ true → start + d < length xs) → ((j : ℕ) → d < j → j < w → is_one (number pending) j ≡ is_one (number used) j) → IsPending w number is_block start first pending xs rest
+  IsPending-start q start d first pending used xs summary rest pos each fits keeps at first_is left digits block within to_end inside mark_at here_in above =
       let none : length xs ≤ short_count w → rest ≡ [] = λ few.
       left ∙ ap (λ ys. drop 1 (drop (min q (length summary)) ys)) (keeps.short few) ∙ ap (drop 1) (drop_all (min q (length summary)) [] (omega arith)) in
       let stored : short_count w < length xs → q < length summary = λ long.
@@ -67,7 +83,7 @@ module _ {X : Type 0} (w : ℕ) (number : X → ℕ) (is_block : X → Type 0) w
       let whole : length summary * w ≡ blocks_for w (length xs) * w = ap (λ k. k * w) (keeps.long long).packed.count in
       ⊎_elim
       (λ below. below)
-      (λ not_below. absurd (let product = mul-le-mul_right w not_below in omega (arith, product, whole, enough, inside, at)))
+      (λ not_below. absurd (let product = mul-le-mul_right w not_below in omega (arith, product, whole, enough, inside (omega (arith, long)), at)))
       (cases_lt q (length summary)) in
       let some : short_count w < length xs → rest ≡ drop (q + 1) summary = λ long.
       left ∙ drop-drop 1 (min q (length summary)) summary ∙ ap (λ n. drop n summary) (let e : min q (length summary) + 1 ≡ q + 1 = omega (arith, stored long) in e) in
@@ -82,15 +98,15 @@ module _ {X : Type 0} (w : ℕ) (number : X → ℕ) (is_block : X → Type 0) w
           each = each;
           of_block = block;
           fits = fits;
-          within = omega (arith, inside);
+          within = to_end;
           begun = omega (arith, first_is, within);
           inside = λ j to tail_set.
               ⊎_elim
-              (λ here. omega (arith, here, inside))
-              (⊎_elim (λ below. absurd (let e = mark_at j tail_set in omega (arith, e, below))) (λ after. digits.inside j to (sym (from.above j after to) ∙ tail_set)))
+              (λ here. let e = here_in (ap (is_one (number pending)) (sym here) ∙ tail_set) in omega (arith, here, e))
+              (⊎_elim (λ below. absurd (let e = mark_at j to tail_set in omega (arith, e, below))) (λ after. digits.inside j to (sym (above j after to) ∙ tail_set)))
               (cases_order j d);
           covers = λ i j after to tail_set used.
-              from.above j (let e = mark_at i tail_set in omega (arith, e, after)) to ∙ digits.covers j to used;
+              above j (let e = mark_at i (omega (arith, after, to)) tail_set in omega (arith, e, after)) to ∙ digits.covers j to used;
         };
         summary_each =
             ⊎_elim
@@ -116,6 +132,20 @@ module _ {X : Type 0} (w : ℕ) (number : X → ℕ) (is_block : X → Type 0) w
             ∙ (keeps.long long).digit ((q + 1) * w + k)
             ∙ ap (is_used (map number xs)) (let e : (q + 1) * w + k ≡ start + w + k = omega (arith, at) in e);
       }
+
+  -- those from the block at `first` on
+  pub IsPending-from : (q start d first : ℕ) (pending used : X) (xs summary rest : List X) → 0 < w → All is_block xs → length xs < 2 ^ 64 → KeepsSummary w number is_block xs summary → start ≡ q * w → first ≡ start + d → rest ≡ drop 1 (drop (min q (length summary)) summary)
+      → CoversUsed w number xs start (number used) → is_block pending → d < w → start + d < length xs → ArePendingFrom w d (number used) (number pending) → IsPending w number is_block start first pending xs rest
+  IsPending-from q start d first pending used xs summary rest pos each fits keeps at first_is left digits block within inside from =
+      IsPending-start q start d first pending used xs summary rest pos each fits keeps at first_is left digits block within (omega (arith, inside)) (λ some. omega (arith, inside))
+      (λ j to one. ⊎_elim (λ below. absurd (true≢false (sym one ∙ from.below j below))) (λ reached. reached) (cases_lt j d)) (λ one. inside) from.above
+
+  -- those past it
+  pub IsPending-past : (q start d first : ℕ) (pending used : X) (xs summary rest : List X) → 0 < w → All is_block xs → length xs < 2 ^ 64 → KeepsSummary w number is_block xs summary → start ≡ q * w → first ≡ start + d → rest ≡ drop 1 (drop (min q (length summary)) summary)
+      → CoversUsed w number xs start (number used) → is_block pending → d < w → first ≤ length xs - 1 → ArePendingPast w d (number used) (number pending) → IsPending w number is_block start first pending xs rest
+  IsPending-past q start d first pending used xs summary rest pos each fits keeps at first_is left digits block within inside past =
+      IsPending-start q start d first pending used xs summary rest pos each fits keeps at first_is left digits block within (omega (arith, inside, first_is)) (λ some. omega (arith, inside, first_is, some))
+      (λ j to one. let e = past.beyond j to one in omega (arith, e)) (λ one. absurd (let e = past.beyond d within one in omega (arith, e))) past.above
 
   -- what is stored of a summary says the digits of its next block
   pub digits_from : (q : ℕ) (xs summary rest : List X) → 0 < w → KeepsSummary w number is_block xs summary → rest ≡ drop (min q (length summary)) summary → 0 < length rest → (k : ℕ) → value_at w (map number rest) k ≡ is_used (map number xs) (q * w + k)
@@ -189,6 +219,37 @@ module _ {X : Type 0} (w : ℕ) (number : X → ℕ) (is_block : X → Type 0) w
       ∙ ap (λ k. pick f k (drop k xs)) (sym first_is)
       ∙ picked f first (drop first xs) here (λ j. tell j ∙ ap (λ n. not (n == 0)) (sym (dropped number first (suc j) xs)))
 
+  -- where the pending bits past block `first` say which blocks are not 0
+  pub left-past : (start d first : ℕ) (pending used : X) (xs : List X) → d < w → first ≡ start + d → CoversUsed w number xs start (number used) → ArePendingPast w d (number used) (number pending)
+      → pending_from w number start first (number pending) xs ≡ nonzero_from number (first + 1) (drop (first + 1) xs)
+  left-past start d first pending used xs within first_is digits past =
+      let m = number pending in
+      let ms = map number xs in
+      let f = is_pending w start first m ms in
+      let before : (j : ℕ) → start ≤ j → j < start + (d + 1) → f j ≡ false = λ j low high.
+      not_pending w start first m ms j (omega (arith, high, within)) (unset m (j - start) (λ one. let e = past.beyond (j - start) (omega (arith, low, high, within)) one in omega (arith, low, high, e))) in
+      let tell : (j : ℕ) → f (first + 1 + j) ≡ is_used ms (first + 1 + j) = λ j.
+      ⊎_elim
+      (λ in_hand.
+      let to : d + 1 + j < w = omega (arith, in_hand, first_is) in
+      let e : first + 1 + j - start ≡ d + 1 + j = omega (arith, first_is) in
+      pending-covered w start first m ms (first + 1 + j) in_hand
+      (λ some. ap (is_one m) e ∙ past.above (d + 1 + j) (omega arith) to ∙ digits.covers (d + 1 + j) to (ap (is_used ms) (let e : start + (d + 1 + j) ≡ first + 1 + j = omega (arith, first_is) in e) ∙ some))
+      (omega arith))
+      (λ out. pending-past w start first m ms (first + 1 + j) out)
+      (cases_lt (first + 1 + j) (start + w)) in
+      pick-tick_by f start (d + 1) (drop start xs) before
+      ∙ ap (pick f (start + (d + 1))) (drop-drop (d + 1) start xs)
+      ∙ ap (λ k. pick f k (drop k xs)) (let e : start + (d + 1) ≡ first + 1 = omega (arith, first_is) in e)
+      ∙ pick-nonzero number f (first + 1) (drop (first + 1) xs) (λ j. tell j ∙ ap (λ n. not (n == 0)) (sym (dropped number (first + 1) j xs)))
+    where
+      unset : (n j : ℕ) → (is_one n j ≡ true → ⊥) → is_one n j ≡ false
+      unset n j other = not_true (is_one n j) other
+        where
+          not_true : (b : Bool) → (b ≡ true → ⊥) → b ≡ false
+          not_true true other = absurd (other refl)
+          not_true false other = refl
+
 -- how many blocks of the summary are past the one for a block
 pub count_from : (w q start blocks : ℕ) → 0 < w → start ≡ q * w → start < blocks → blocks_for w (blocks - (start + w)) ≡ blocks_for w blocks - 1 - q
 count_from w q start blocks pos at inside =
@@ -200,16 +261,20 @@ count_from w q start blocks pos at inside =
 pub blocks_for-none : (w n : ℕ) → 0 < w → n ≡ 0 → blocks_for w n ≡ 0
 blocks_for-none w n pos none = let least = blocks_for-least w n 0 pos (omega (arith, none)) in omega (arith, least)
 
--- those past the first one
-pub count_past_first : (w blocks : ℕ) → 0 < w → blocks_for w (blocks - (0 + w)) ≡ blocks_for w blocks - 1
-count_past_first w blocks pos =
+-- the same where there may be no block
+pub count_past : (w q start blocks : ℕ) → 0 < w → start ≡ q * w → start ≤ blocks - 1 → blocks_for w (blocks - (start + w)) ≡ blocks_for w blocks - 1 - q
+count_past w q start blocks pos at inside =
     ⊎_elim
-    (λ some. count_from w 0 0 blocks pos (omega arith) some ∙ omega arith)
+    (λ some. count_from w q start blocks pos at (omega (arith, some, inside)))
     (λ none.
     let all = blocks_for-none w blocks pos (omega (arith, none)) in
-    let past = blocks_for-none w (blocks - (0 + w)) pos (omega (arith, none)) in
+    let past = blocks_for-none w (blocks - (start + w)) pos (omega (arith, none)) in
     omega (arith, all, past))
     (cases_lt 0 blocks)
+
+-- those past the first one
+pub count_past_first : (w blocks : ℕ) → 0 < w → blocks_for w (blocks - (0 + w)) ≡ blocks_for w blocks - 1
+count_past_first w blocks pos = count_past w 0 0 blocks pos (omega arith) (omega arith) ∙ omega arith
 
 pub block_from_first : {X : Type 0} (number : X → ℕ) (xs : List X) → block_and_nonzero number 0 (drop 0 xs) ≡ first_and_nonzero number xs
 block_from_first number [] = refl

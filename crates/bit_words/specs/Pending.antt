@@ -50,6 +50,11 @@ pub record ArePendingFrom (w d m r : ℕ) : Type 0 where
   pub here : is_one r d ≡ true
   pub above : (j : ℕ) → d < j → j < w → is_one r j ≡ is_one m j
 
+-- Of w digits, r has those of m past digit d alone.
+pub record ArePendingPast (w d m r : ℕ) : Type 0 where
+  pub beyond : (j : ℕ) → j < w → is_one r j ≡ true → d < j
+  pub above : (j : ℕ) → d < j → j < w → is_one r j ≡ is_one m j
+
 -- The digits of m represent the w blocks of xs from `start` on: each block that is not 0 has its digit, and perhaps
 -- others have.
 pub record CoversUsed {X : Type 0} (w : ℕ) (number : X → ℕ) (xs : List X) (start m : ℕ) : Type 0 where

@@ -1,8 +1,8 @@
 //! Bit vectors over blocks of any lawful type.
-ghost use Rattle.std.specs.Prelude.{◌≡◌, ◌-◌, ◌/◌, ◌↔◌, All, IsTrue, drop, false, length, map, min, slice_get};
+ghost use Rattle.std.specs.Prelude.{◌≡◌, ◌+◌, ◌-◌, ◌/◌, ◌↔◌, All, IsTrue, drop, false, length, map, min, slice_get};
 ghost use Rattle.std.specs.List.{count_by};
 ghost use Rattle.bit_words.specs.Bits.{blocks_for, blocks_of, IsCapacityOfBlocks, IsWithinCapacity};
-ghost use Rattle.bit_words.specs.Nonzero.{block_and_nonzero, first_and_nonzero};
+ghost use Rattle.bit_words.specs.Nonzero.{block_and_nonzero, first_and_nonzero, nonzero_from};
 
 use crate::packed::access::get_bit;
 use crate::summary::queries::{are_zero_by_summary, ones_by_summary};
@@ -186,5 +186,28 @@ impl<B: BitBlock> BitVec<B> {
         }
         let last = blocks.len() - 1;
         Nonzero::over_from(blocks, &self.summary, index.min(last))
+    }
+
+    /// The same past the block with this index, or past the last one where there are fewer: what `nonzero_from` leaves
+    /// after one pull. Constant time, and takes no memory.
+    ///
+    /// ```
+    /// // Of 100 values, over blocks of 32 bits, those at 70 and 71 are true.
+    /// assert!(bits.nonzero_past(1).eq([(2, 0b1100_0000)]));
+    /// ```
+    #[inline]
+    pub fn nonzero_past(&self, index: usize) -> Nonzero<'_, B>
+        ensures blocks { map B.number result.blocks ≡ blocks_of B.width self.now.values }
+        ensures each { All B.is_block result.blocks }
+        ensures left { let first = min index (length result.blocks - 1) in
+            result.left ≡ nonzero_from B.number (first + 1) (drop (first + 1) result.blocks) }
+        ensures pulls { result.pulls ≡ 1 }
+        ensures summary_pulls { result.summary_pulls ≡ 1 }
+        ensures summary_left { result.summary_left ≡ blocks_for B.width
+            (blocks_for B.width (length self.now.values)) - 1 - min index (length result.blocks - 1) / B.width }
+        ensures fits { IsWithinCapacity self.now }
+    {
+        let blocks = self.blocks.as_slice();
+        Nonzero::past(blocks, &self.summary, index.min(blocks.len().saturating_sub(1)))
     }
 }

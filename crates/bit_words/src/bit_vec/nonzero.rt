@@ -3,7 +3,7 @@ ghost use Rattle.std.specs.Prelude.{◌≡◌, ℕ, ◌+◌, ◌-◌, ◌*◌, �
 ghost use Rattle.std.specs.Iterator.{item_count};
 ghost use Rattle.bit_words.specs.Bits.{blocks_for};
 ghost use Rattle.bit_words.specs.Digits.{IsEither, is_one};
-ghost use Rattle.bit_words.specs.Nonzero.{block_and_nonzero, first_and_nonzero, ones_left, Refills};
+ghost use Rattle.bit_words.specs.Nonzero.{block_and_nonzero, first_and_nonzero, nonzero_from, ones_left, Refills};
 ghost use Rattle.bit_words.specs.Pending.{ArePendingFrom, CoversUsed, IsPastFirst, IsPending, NextIsPending};
 ghost use Rattle.bit_words.specs.Storage.{value_at};
 ghost use Rattle.bit_words.specs.Summary.{is_used, KeepsSummary};
@@ -11,9 +11,10 @@ ghost use Rattle.bit_words.specs.Summary.{is_used, KeepsSummary};
 use crate::bit_vec::Blocks;
 use crate::block::BitBlock;
 use crate::block::lowest::take_lowest_one;
-use crate::block::masks::{cut_below, with_bit};
+use crate::block::masks::{clear_below, cut_below, with_bit};
 use crate::block::operators::{all_ones, block_or, ones_below};
 use crate::packed::ones::ones_of;
+use crate::packed::zeros::zeros_before;
 use crate::steps::Steps;
 use crate::summary::is_nonzero;
 use crate::summary::queries::{first_blocks, ones_by_summary};
@@ -112,6 +113,35 @@ impl<'a, B: BitBlock> Nonzero<'a, B> {
             index,
             first: from,
             steps: Steps::new(),
+        }
+    }
+
+    // What is left of the same once its first block, the one at `first`, has come. Where there is no block, its end.
+    #[inline]
+    pub(crate) fn past(blocks: &'a [B], summary: &'a [B], first: usize) -> Self
+        requires each { All B.is_block blocks.now }
+        requires fits { length blocks.now < 2 ^ 64 }
+        requires summary { KeepsSummary B.width B.number B.is_block blocks.now summary.now }
+        requires inside { first ≤ length blocks.now - 1 }
+        ensures blocks { result.blocks ≡ blocks.now }
+        ensures left { result.left ≡ nonzero_from B.number (first + 1) (drop (first + 1) blocks.now) }
+        ensures pulls { result.pulls ≡ 1 }
+        ensures summary_pulls { result.summary_pulls ≡ 1 }
+        ensures summary_left { result.summary_left ≡ blocks_for B.width (length blocks.now) - 1 - first / B.width }
+    {
+        let chunk = first / B::bits();
+        let index = chunk * B::bits();
+        let mut rest = Blocks::over(summary.split_at(chunk.min(summary.len())).1);
+        let used = pull_first_used(&mut rest, blocks, index);
+        let mut steps = Steps::new();
+        steps.tick();
+        Nonzero {
+            blocks,
+            summary: rest,
+            pending: clear_below(used, first % B::bits() + 1),
+            index,
+            first,
+            steps,
         }
     }
 
@@ -278,6 +308,27 @@ fn pull_used<B: BitBlock>(summary: &mut Blocks<'_, B>, blocks: &[B], start: usiz
         Some(used) => used,
         None => ones_for(blocks.len() - start),
     }
+}
+
+// The same. Where none is stored, it has no bits for zero blocks at the beginning, which it passes over in groups.
+#[inline]
+fn pull_first_used<B: BitBlock>(summary: &mut Blocks<'_, B>, blocks: &[B], start: usize) -> B
+    requires in_bounds { start ≤ length blocks.now }
+    requires each { All B.is_block blocks.now }
+    requires each_sum { All B.is_block summary.old.left }
+    requires stored { 0 < length summary.old.left → (k : ℕ)
+        → value_at B.width (map B.number summary.old.left) k ≡ is_used (map B.number blocks.now) (start + k) }
+    ensures of_block { B.is_block result }
+    ensures digits { CoversUsed B.width B.number blocks.now start (B.number result) }
+    ensures left { summary.new.left ≡ drop 1 summary.old.left }
+    ensures pulls { summary.new.pulls ≡ summary.old.pulls + 1 }
+{
+    let is_stored = !summary.as_slice().is_empty();
+    let used = pull_used(summary, blocks, start);
+    if is_stored {
+        return used;
+    }
+    clear_below(used, zeros_before(first_blocks(blocks.split_at(start).1).0))
 }
 
 // A block with so many bits set, from the lowest on, or all of them.
