@@ -1,5 +1,5 @@
 -- A walk that starts at any number: what is left of the first block, and of the blocks past it.
-use Rattle.std.proofs.Common.{◌≡◌, ℕ, zero, suc, ◌+◌, ◌-◌, ◌*◌, ◌/◌, ◌%◌, ◌^◌, ◌<◌, ◌≤◌, ◌==◌, Bool, true, false, not, ◌&&◌, leb, List, [], ◌∷◌, map, length, drop, filter, get_or, get_or-drop, min, max, All, Some, None, refl, sym, ap, ◌∙◌, subst, arith, inl, inr, ⊎_elim, mod-lt, mul-le-mul_right, div-add-mod'}
+use Rattle.std.proofs.Common.{◌≡◌, ℕ, zero, suc, ◌+◌, ◌-◌, ◌*◌, ◌/◌, ◌%◌, ◌^◌, ◌<◌, ◌≤◌, ◌==◌, Bool, true, false, not, if◌then◌else◌, ◌&&◌, leb, List, [], ◌∷◌, map, length, drop, filter, get_or, get_or-drop, min, max, All, Some, None, refl, sym, ap, ◌∙◌, subst, arith, inl, inr, ⊎_elim, mod-lt, mul-le-mul_right, div-add-mod'}
 use Rattle.std.proofs.lemmas.Bool.{cases_lt, le-leb, lt-leb}
 use Rattle.std.proofs.lemmas.List.{drop-map, drop_all, get_or_past, length-drop, length-map}
 use Rattle.std.proofs.lemmas.List.Elements.{All-drop, All-filter, All-head}
@@ -17,7 +17,7 @@ use Rattle.bit_set.specs.Walk.{Walk, IsAtStart, IsAtStartFrom}
 use Rattle.bit_set.proofs.PlaceLemmas.{indexes-next, value_in, values_in-blocks_of}
 use Rattle.bit_set.proofs.SetLaws.{AscendsFrom-filter, has-filter}
 use Rattle.bit_set.proofs.SetLemmas.{AscendsFrom-elements_from, AscendsFrom-lower, IsAscending-elements, has-below, has-elements, has-elements_from, same_members}
-use Rattle.bit_set.proofs.SparseLemmas.{Begins, IsFresh, begins_empty, seen, whole_index}
+use Rattle.bit_set.proofs.SparseLemmas.{seen, whole_index}
 use Rattle.bit_set.proofs.WalkLemmas.{IsWalkable-values_of_blocks, elements-values_of_blocks, values_of_blocks, length-blocks, length-values_of_blocks}
 
 -- Of some blocks, k is the one of `from`, or the last, and m is what that block has from there on.

@@ -88,6 +88,7 @@ fn order_of_holder<B: BitBlock>(other: &BitSet<B>, number: usize) -> Ordering
 }
 
 // The least number that just one of the sets has.
+#[inline]
 fn first_mismatch<B: BitBlock>(a: &BitSet<B>, b: &BitSet<B>) -> Option<usize>
     ensures { MatchOption result
         ((k : ℕ) → has (elements a.now.values) k ≡ has (elements b.now.values) k)

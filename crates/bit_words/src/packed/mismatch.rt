@@ -142,6 +142,7 @@ fn or_mismatch<B: BitBlock>(seen: B, a: B, b: B) -> B
 /// ```
 /// assert_eq!(first_nonzero_block(&[1u8, 0, 4], 1), Some(2));
 /// ```
+#[inline]
 pub fn first_nonzero_block<B: BitBlock>(blocks: &[B], from: usize) -> Option<usize>
     requires { All B.is_block blocks.now }
     ensures { MatchOption result
