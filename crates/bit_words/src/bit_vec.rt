@@ -189,7 +189,8 @@ impl<B: BitBlock> BitVec<B> {
     }
 
     /// The same past the block with this index, or past the last one where there are fewer: what `nonzero_from` leaves
-    /// after one pull. Constant time, and takes no memory.
+    /// after one pull. Takes no memory, and constant time: where no summary is stored, it passes over zero blocks at the
+    /// beginning, as many as a block has bits at most.
     ///
     /// ```
     /// // Of 100 values, over blocks of 32 bits, those at 70 and 71 are true.
