@@ -1,6 +1,6 @@
 -- The walk over the blocks that are not 0, by the pending bits of a summary.
-use Rattle.std.proofs.Common.{◌≡◌, ◌≢◌, ℕ, zero, suc, ◌+◌, ◌-◌, ◌*◌, ◌/◌, ◌%◌, ◌^◌, ◌<◌, ◌≤◌, Bool, true, false, not, leb, nat_lt, ◌&&◌, ◌||◌, if◌then◌else◌, ◌↔◌, ◌==◌, List, [], ◌∷◌, min, map, drop, take, replicate, length, slice_get, Some, get_or, get_or-take, get_or-drop, count_ones, mul-le-mul_right, All, refl, sym, ap, subst, ◌∙◌, arith, ⊎_elim, mod-lt, div-add-mod'}
-use Rattle.std.proofs.lemmas.Bool.{cases_lt, cases_eq, le-leb, true≢false}
+use Rattle.std.proofs.Common.{◌≡◌, ◌≢◌, ℕ, zero, suc, ◌+◌, ◌-◌, ◌*◌, ◌/◌, ◌%◌, ◌^◌, ◌<◌, ◌≤◌, Bool, true, false, not, nat_lt, ◌&&◌, ◌||◌, if◌then◌else◌, ◌↔◌, ◌==◌, List, [], ◌∷◌, min, map, drop, take, replicate, length, slice_get, Some, get_or, get_or-take, get_or-drop, count_ones, mul-le-mul_right, All, refl, sym, ap, subst, ◌∙◌, arith, ⊎_elim, mod-lt, div-add-mod'}
+use Rattle.std.proofs.lemmas.Bool.{cases_lt, cases_eq, true≢false}
 use Rattle.std.proofs.lemmas.Bool.Decides.{nat_tests}
 use Rattle.std.proofs.Math.Bool.{and-false}
 use Rattle.std.proofs.Math.Seq.{drop-drop}
@@ -409,28 +409,6 @@ module _ {X : Type 0} (w : ℕ) (number : X → ℕ) (is_block : X → Type 0) w
             let test : nat_lt j (length xs - start) ≡ true = grind (arith, nat_tests) in
             digits j to ∙ test;
       }
-
-  -- the bits of zero blocks at the beginning are not needed
-  pub CoversUsed-cut : (start z m r : ℕ) (xs first : List X) → CoversUsed w number xs start m → first ≡ take w (drop start xs) → z ≤ length first → ((k : ℕ) → k < z → get_or (map number first) k 0 ≡ 0) → ((j : ℕ) → j < w → is_one r j ≡ (leb z j && is_one m j))
-      → CoversUsed w number xs start r
-  CoversUsed-cut start z m r xs first covered is within zeros digits = record {
-    inside = λ j to one. covered.inside j to (right_of (leb z j) (is_one m j) (sym (digits j to) ∙ one));
-    covers = λ j to used.
-        ⊎_elim
-        (λ below.
-        let here : get_or (map number first) j 0 ≡ get_or (map number xs) (start + j) 0 =
-        ap (λ ys. get_or (map number ys) j 0) is
-        ∙ ap (λ ms. get_or ms j 0) (sym (take-map number w (drop start xs)))
-        ∙ get_or-take w (map number (drop start xs)) j 0 to
-        ∙ dropped number start j xs in
-        absurd (true≢false (sym used ∙ ap (λ n. not (n == 0)) (sym here ∙ zeros j below))))
-        (λ reached. digits j to ∙ ap (λ b. b && is_one m j) (le-leb z j reached) ∙ covered.covers j to used)
-        (cases_lt j z);
-  }
-    where
-      right_of : (b c : Bool) → (b && c) ≡ true → c ≡ true
-      right_of true c both = both
-      right_of false c both = absurd (true≢false (sym both))
 
 
   -- the digits of the next one

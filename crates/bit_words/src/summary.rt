@@ -111,7 +111,7 @@ fn bits_of_groups<B: BitBlock>(blocks: &[B], start: usize, groups: usize) -> B
 
 // The block of a summary that is about the blocks from `start` on, as many as a block has bits.
 #[inline]
-fn used_from<B: BitBlock>(blocks: &[B], start: usize) -> B
+pub(crate) fn used_from<B: BitBlock>(blocks: &[B], start: usize) -> B
     requires in_bounds { start ≤ length blocks.now }
     requires each { All B.is_block blocks.now }
     ensures of_block { B.is_block result }

@@ -13,10 +13,10 @@ use crate::block::BitBlock;
 use crate::block::lowest::take_lowest_one;
 use crate::block::masks::{clear_below, cut_below, with_bit};
 use crate::block::operators::{all_ones, block_or, ones_below};
+use crate::packed::mismatch::block_or_zero;
 use crate::packed::ones::ones_of;
-use crate::packed::zeros::zeros_before;
 use crate::steps::Steps;
-use crate::summary::is_nonzero;
+use crate::summary::{is_nonzero, used_from};
 use crate::summary::queries::{first_blocks, ones_by_summary};
 use std::marker::Model;
 
@@ -310,7 +310,8 @@ fn pull_used<B: BitBlock>(summary: &mut Blocks<'_, B>, blocks: &[B], start: usiz
     }
 }
 
-// The same. Where none is stored, it has no bits for zero blocks at the beginning, which it passes over in groups.
+// The same at the making of a walk. Where none is stored and the block at `start` is zero, it has bits for the blocks
+// that are not zero alone, so that a walk to the first of many zero blocks looks at none of them again.
 #[inline]
 fn pull_first_used<B: BitBlock>(summary: &mut Blocks<'_, B>, blocks: &[B], start: usize) -> B
     requires in_bounds { start ≤ length blocks.now }
@@ -323,12 +324,28 @@ fn pull_first_used<B: BitBlock>(summary: &mut Blocks<'_, B>, blocks: &[B], start
     ensures left { summary.new.left ≡ drop 1 summary.old.left }
     ensures pulls { summary.new.pulls ≡ summary.old.pulls + 1 }
 {
-    let is_stored = !summary.as_slice().is_empty();
-    let used = pull_used(summary, blocks, start);
-    if is_stored {
+    let pulled = summary.next();
+    if let Some(used) = pulled {
         return used;
     }
-    clear_below(used, zeros_before(first_blocks(blocks.split_at(start).1).0))
+    if is_nonzero(block_or_zero(blocks, start)) {
+        ones_for(blocks.len() - start)
+    } else {
+        used_of_few(blocks, start)
+    }
+}
+
+// Which of the blocks from `start` on are not zero, as many as a block has bits. It is a call of its own, since most
+// walks begin at a block that is not zero.
+#[inline(never)]
+fn used_of_few<B: BitBlock>(blocks: &[B], start: usize) -> B
+    requires in_bounds { start ≤ length blocks.now }
+    requires each { All B.is_block blocks.now }
+    ensures of_block { B.is_block result }
+    ensures digits { (j : ℕ) → j < B.width
+        → is_one (B.number result) j ≡ is_used (map B.number blocks.now) (start + j) }
+{
+    used_from(blocks, start)
 }
 
 // A block with so many bits set, from the lowest on, or all of them.

@@ -1,10 +1,9 @@
-use Rattle.std.proofs.Common.{◌∙◌, ap, take}
-use Rattle.bit_words.proofs.NonzeroLemmas.{CoversUsed-cut}
+use Rattle.std.proofs.Common.{◌<◌, length, arith}
+use Rattle.bit_words.proofs.NonzeroLemmas.{CoversUsed-stored}
 use Rattle.bit_words.proofs.bit_vec.nonzero.pull_first_used.Goals as goal
 
-pub returns-clause-digits : goal.returns-clause-digits
-returns-clause-digits g c =
-    let w = g.B.BitBlock.width in
-    let number = g.B.BitBlock.number in
-    let ahead = c.first_blocks.ensures.first ∙ ap (take w) c.split_at.ensures.back in
-    CoversUsed-cut w number g.B.BitBlock.is_block c.args.start c.zeros_before.result (number c.pull_used-used.result) (number c.clear_below.result) c.args.blocks.now c.first_blocks.result.0.now c.pull_used-used.ensures.digits ahead c.zeros_before.ensures.within c.zeros_before.ensures.zeros c.clear_below.ensures.digits
+pub returns-in-Some-clause-digits : goal.returns-in-Some-clause-digits
+returns-in-Some-clause-digits g c =
+    let more = c.in-Some.ensures.steps.item in
+    let some : 0 < length c.args.summary.now.left = rw more (omega arith) in
+    CoversUsed-stored g.B.BitBlock.width g.B.BitBlock.number g.B.BitBlock.is_block c.args.start c.in-Some.used c.args.blocks.now c.args.summary.now.left c.next-pulled.new.self.left more (c.requires.stored some)
