@@ -336,7 +336,8 @@ fn pull_first_used<B: BitBlock>(summary: &mut Blocks<'_, B>, blocks: &[B], start
 }
 
 // Which of the blocks from `start` on are not zero, as many as a block has bits. It is a call of its own, since most
-// walks begin at a block that is not zero.
+// walks begin at a block that is not zero; were it not cold, they would keep in memory what the call does not save.
+#[cold]
 #[inline(never)]
 fn used_of_few<B: BitBlock>(blocks: &[B], start: usize) -> B
     requires in_bounds { start ≤ length blocks.now }

@@ -17,7 +17,25 @@ use crate::packed::groups::{GROUP, LONG_GROUP};
 /// assert_eq!(first_mismatching_block(&[7u8, 1], &[7, 1, 0]), None);
 /// assert_eq!(first_mismatching_block(&[7u8, 1], &[7, 1, 2]), Some(2));
 /// ```
+#[inline]
 pub fn first_mismatching_block<B: BitBlock>(a: &[B], b: &[B]) -> Option<usize>
+    requires left { All B.is_block a.now }
+    requires right { All B.is_block b.now }
+    ensures { MatchOption result
+        ((k : ℕ) → get_or (map B.number a.now) k 0 ≡ get_or (map B.number b.now) k 0)
+        (IsFirstBlockMismatch (map B.number a.now) (map B.number b.now)) }
+{
+    // A search in a map compares sets that mostly differ in their first block: that is not worth a call.
+    if same(block_or_zero(a, 0), block_or_zero(b, 0)) {
+        mismatch_by_groups(a, b)
+    } else {
+        Some(0)
+    }
+}
+
+// The same, a group of blocks at a time.
+#[inline(never)]
+fn mismatch_by_groups<B: BitBlock>(a: &[B], b: &[B]) -> Option<usize>
     requires left { All B.is_block a.now }
     requires right { All B.is_block b.now }
     ensures { MatchOption result

@@ -44,22 +44,10 @@ pub(crate) fn zeros_before<B: BitBlock>(blocks: &[B]) -> usize
     ensures zeros { (k : ℕ) → k < result → get_or (map B.number blocks.now) k 0 ≡ 0 }
     ensures end { result < length blocks.now → get_or (map B.number blocks.now) result 0 ≢ 0 }
 {
-    // Most often it is the first: that is not worth a call.
+    // Most often it is the first: that is not worth a group.
     if !blocks.is_empty() && !same(block_at(blocks, 0), B::zero()) {
         return 0;
     }
-    zeros_by_groups(blocks)
-}
-
-// The same where the first block is 0, or there is none. It is a call of its own, so that the step of a walk is
-// short enough to be inlined.
-#[inline(never)]
-fn zeros_by_groups<B: BitBlock>(blocks: &[B]) -> usize
-    requires each { All B.is_block blocks.now }
-    ensures within { result ≤ length blocks.now }
-    ensures zeros { (k : ℕ) → k < result → get_or (map B.number blocks.now) k 0 ≡ 0 }
-    ensures end { result < length blocks.now → get_or (map B.number blocks.now) result 0 ≢ 0 }
-{
     for k in zero_groups_before(blocks) * GROUP..blocks.len() {
         if !same(block_at(blocks, k), B::zero()) {
             return k;
