@@ -75,7 +75,6 @@ impl<B: BitBlock> Ord for BitSet<B> {
 
 // How a set compares to the other, where it has the least number that just one of them has: it is
 // less where the other goes on past that number.
-#[inline]
 fn order_of_holder<B: BitBlock>(other: &BitSet<B>, number: usize) -> Ordering
     ensures { MatchOrdering result
         ((k : ℕ) × (number ≤ k) × (has (elements other.now.values) k ≡ true)) ⊥
@@ -106,7 +105,6 @@ fn first_mismatch<B: BitBlock>(a: &BitSet<B>, b: &BitSet<B>) -> Option<usize>
 }
 
 // Whether the set has a number that is not below `from`.
-#[inline]
 fn has_from<B: BitBlock>(set: &BitSet<B>, from: usize) -> bool
     ensures some { OnTrue result ((k : ℕ) × (from ≤ k) × (has (elements set.now.values) k ≡ true)) }
     ensures none { OnFalse result ((k : ℕ) → from ≤ k → has (elements set.now.values) k ≡ false) }

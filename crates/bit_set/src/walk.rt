@@ -56,7 +56,11 @@ impl<'a, B: BitBlock> Iter<'a, B> {
     pub(crate) fn over(bits: &'a BitVec<B>) -> Self
         ensures { IsAtStart B.width bits.now.values result }
     {
-        Iter::over_from(bits, 0)
+        Iter {
+            nonzero: bits.nonzero_past_first(),
+            block: block_or_zero(bits.storage(), 0),
+            index: 0,
+        }
     }
 
     // The walk over those of these places that are `from` or above.

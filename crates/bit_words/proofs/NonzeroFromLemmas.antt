@@ -276,6 +276,15 @@ count_past w q start blocks pos at inside =
 pub count_past_first : (w blocks : ℕ) → 0 < w → blocks_for w (blocks - (0 + w)) ≡ blocks_for w blocks - 1
 count_past_first w blocks pos = count_past w 0 0 blocks pos (omega arith) (omega arith) ∙ omega arith
 
+-- block 0 is in the first block of the summary
+pub past_first : (w n : ℕ) → 0 < w → n - 0 / w ≡ n
+past_first w n pos =
+    let whole = div-add-mod' 0 w in
+    ⊎_elim
+    (λ some. absurd (let product = mul-le-mul_right w (let e : 1 ≤ 0 / w = omega (arith, some) in e) in omega (arith, product, whole, pos)))
+    (λ none. omega (arith, none))
+    (cases_lt 0 (0 / w))
+
 pub block_from_first : {X : Type 0} (number : X → ℕ) (xs : List X) → block_and_nonzero number 0 (drop 0 xs) ≡ first_and_nonzero number xs
 block_from_first number [] = refl
 block_from_first number (x ∷ xs) = refl

@@ -410,7 +410,6 @@ module _ {X : Type 0} (w : ℕ) (number : X → ℕ) (is_block : X → Type 0) w
             digits j to ∙ test;
       }
 
-
   -- the digits of the next one
   pub CoversUsed-stored : (start : ℕ) (next : X) (xs summary rest : List X) → summary ≡ next ∷ rest → ((k : ℕ) → value_at w (map number summary) k ≡ is_used (map number xs) (start + k)) → CoversUsed w number xs start (number next)
   CoversUsed-stored start next xs summary rest more digit = CoversUsed-exact start (number next) xs (λ j within.

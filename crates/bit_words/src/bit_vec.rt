@@ -144,6 +144,7 @@ impl<B: BitBlock> BitVec<B> {
     /// ```
     /// // Of 100 values, over blocks of 32 bits, those at 70 and 71 are true.
     /// assert!(bits.nonzero().eq([(0, 0), (2, 0b1100_0000)]));
+    /// assert!(bits.nonzero_past_first().eq([(2, 0b1100_0000)]));
     /// ```
     #[inline]
     pub fn nonzero(&self) -> Nonzero<'_, B>
@@ -188,9 +189,25 @@ impl<B: BitBlock> BitVec<B> {
         Nonzero::over_from(blocks, &self.summary, index.min(last))
     }
 
-    /// The same past the block with this index, or past the last one where there are fewer: what `nonzero_from` leaves
-    /// after one pull. Takes no memory, and constant time: where no summary is stored, it passes over zero blocks at the
-    /// beginning, as many as a block has bits at most.
+    /// What [`nonzero`](Self::nonzero) leaves after one pull: the same past the first block. Constant time, and takes no
+    /// memory.
+    #[inline]
+    pub fn nonzero_past_first(&self) -> Nonzero<'_, B>
+        ensures blocks { map B.number result.blocks ≡ blocks_of B.width self.now.values }
+        ensures each { All B.is_block result.blocks }
+        ensures left { result.left ≡ nonzero_from B.number 1 (drop 1 result.blocks) }
+        ensures pulls { result.pulls ≡ 1 }
+        ensures summary_pulls { result.summary_pulls ≡ 1 }
+        ensures summary_left { result.summary_left
+            ≡ blocks_for B.width (blocks_for B.width (length self.now.values)) - 1 }
+        ensures fits { IsWithinCapacity self.now }
+    {
+        Nonzero::past(&self.blocks, &self.summary, 0, false)
+    }
+
+    /// What [`nonzero_from`](Self::nonzero_from) leaves after one pull: the same past the block with this index, or past
+    /// the last one where there are fewer. Takes no memory, and constant time: where that block is zero and no summary
+    /// is stored, it looks at the blocks past it at once, as many as a block has bits at most.
     ///
     /// ```
     /// // Of 100 values, over blocks of 32 bits, those at 70 and 71 are true.
@@ -209,6 +226,7 @@ impl<B: BitBlock> BitVec<B> {
         ensures fits { IsWithinCapacity self.now }
     {
         let blocks = self.blocks.as_slice();
-        Nonzero::past(blocks, &self.summary, index.min(blocks.len().saturating_sub(1)))
+        let first = index.min(blocks.len().saturating_sub(1));
+        Nonzero::past(blocks, &self.summary, first, true)
     }
 }

@@ -1,5 +1,5 @@
 -- Which slots are free, as the set keeps them.
-use Rattle.std.proofs.Common.{◌≡◌, ℕ, zero, suc, ◌+◌, ◌<◌, ◌≤◌, ◌↔◌, ◌==◌, Bool, true, false, not, ◌||◌, ◌&&◌, leb, ltb, List, [], ◌∷◌, length, max, replicate, slice_get, Some, refl, sym, ap, ◌∙◌, subst, arith, inl, inr, ⊎_elim}
+use Rattle.std.proofs.Common.{◌≡◌, ℕ, zero, suc, ◌+◌, ◌<◌, ◌≤◌, ◌↔◌, ◌==◌, Bool, true, false, not, ◌||◌, ◌&&◌, if◌then◌else◌, leb, ltb, List, [], ◌∷◌, length, max, replicate, slice_get, Some, refl, sym, ap, ◌∙◌, subst, arith, inl, inr, ⊎_elim}
 use Rattle.std.proofs.lemmas.Bool.{and_parts, and_right, cases_eq, cases_lt, eq-eqb, le-leb, le-ltb, leb-true, lt-ltb, ne_eqb, not-false}
 use Rattle.std.proofs.lemmas.List.{length-replicate}
 use Rattle.std.proofs.lemmas.Option.{slice_get_within}
@@ -107,3 +107,8 @@ pub lowest_from : (values : List Bool) (from slot : ℕ) (rest : List ℕ) → (
 lowest_from values from slot rest members ascends places at =
     let least = least_from (elements values) from members slot rest ascends at in
     record { free = least.0; inside = slice_get_within values slot true ((places slot).0 least.0); above = least.1; lowest = least.2 }
+
+-- each slot is one from 0 on
+pub from_all : (s : List ℕ) → those_from s 0 ≡ s
+from_all [] = refl
+from_all (x ∷ xs) = ap (λ b. if b then x ∷ those_from xs 0 else those_from xs 0) (le-leb 0 x (omega arith)) ∙ ap (λ ys. x ∷ ys) (from_all xs)

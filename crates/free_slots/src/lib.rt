@@ -78,7 +78,7 @@ impl<B: BitBlock> Slots<B> {
     {
         members_of_sets();
         sets_ascend();
-        let slot = self.free.iter().next()?;
+        let slot = self.free.iter_from(0).next()?;
         self.free.remove(slot);
         Some(slot)
     }

@@ -16,8 +16,8 @@ use crate::block::operators::{all_ones, block_or, ones_below};
 use crate::packed::mismatch::block_or_zero;
 use crate::packed::ones::ones_of;
 use crate::steps::Steps;
-use crate::summary::{is_nonzero, used_from};
 use crate::summary::queries::{first_blocks, ones_by_summary};
+use crate::summary::{is_nonzero, used_from};
 use std::marker::Model;
 
 /// A walk over the blocks of a bit vector that are not zero, each with its index, in ascending order. The
@@ -117,8 +117,9 @@ impl<'a, B: BitBlock> Nonzero<'a, B> {
     }
 
     // What is left of the same once its first block, the one at `first`, has come. Where there is no block, its end.
+    // Where it is `sparse`, zero blocks at the beginning are passed over at once.
     #[inline]
-    pub(crate) fn past(blocks: &'a [B], summary: &'a [B], first: usize) -> Self
+    pub(crate) fn past(blocks: &'a [B], summary: &'a [B], first: usize, sparse: bool) -> Self
         requires each { All B.is_block blocks.now }
         requires fits { length blocks.now < 2 ^ 64 }
         requires summary { KeepsSummary B.width B.number B.is_block blocks.now summary.now }
@@ -132,7 +133,7 @@ impl<'a, B: BitBlock> Nonzero<'a, B> {
         let chunk = first / B::bits();
         let index = chunk * B::bits();
         let mut rest = Blocks::over(summary.split_at(chunk.min(summary.len())).1);
-        let used = pull_first_used(&mut rest, blocks, index);
+        let used = pull_first_used(&mut rest, blocks, index, sparse);
         let mut steps = Steps::new();
         steps.tick();
         Nonzero {
@@ -310,10 +311,15 @@ fn pull_used<B: BitBlock>(summary: &mut Blocks<'_, B>, blocks: &[B], start: usiz
     }
 }
 
-// The same at the making of a walk. Where none is stored and the block at `start` is zero, it has bits for the blocks
-// that are not zero alone, so that a walk to the first of many zero blocks looks at none of them again.
+// The same at the making of a walk. Where it is `sparse`, none is stored and the block at `start` is zero, it has bits
+// for the blocks that are not zero alone.
 #[inline]
-fn pull_first_used<B: BitBlock>(summary: &mut Blocks<'_, B>, blocks: &[B], start: usize) -> B
+fn pull_first_used<B: BitBlock>(
+    summary: &mut Blocks<'_, B>,
+    blocks: &[B],
+    start: usize,
+    sparse: bool,
+) -> B
     requires in_bounds { start ≤ length blocks.now }
     requires each { All B.is_block blocks.now }
     requires each_sum { All B.is_block summary.old.left }
@@ -328,16 +334,14 @@ fn pull_first_used<B: BitBlock>(summary: &mut Blocks<'_, B>, blocks: &[B], start
     if let Some(used) = pulled {
         return used;
     }
-    if is_nonzero(block_or_zero(blocks, start)) {
-        ones_for(blocks.len() - start)
-    } else {
+    if sparse && !is_nonzero(block_or_zero(blocks, start)) {
         used_of_few(blocks, start)
+    } else {
+        ones_for(blocks.len() - start)
     }
 }
 
-// Which of the blocks from `start` on are not zero, as many as a block has bits. It is a call of its own, since most
-// walks begin at a block that is not zero; were it not cold, they would keep in memory what the call does not save.
-#[cold]
+// Which of the blocks from `start` on are not zero, as many as a block has bits.
 #[inline(never)]
 fn used_of_few<B: BitBlock>(blocks: &[B], start: usize) -> B
     requires in_bounds { start ≤ length blocks.now }

@@ -21,8 +21,8 @@ returns-clause-summary_left g c =
     let last = ap length c.past.ensures.blocks in
     let count : length c.as_slice-blocks.result.now ≡ blocks_for w (length c.args.self.now.values) =
     ap length c.as_slice-blocks.ensures.value ∙ c.self.invariant.packed.count ∙ ap (blocks_for w) (sym (length_from_view _ _ _ _ _ c.self.view_is)) in
-    let first : c.min.result ≡ min c.args.index (length c.past.result.blocks - 1) = c.min.ensures ∙ ap (min c.args.index) (c.saturating_sub.ensures ∙ ap (λ n. n - 1) (sym last)) in
-    c.past.ensures.summary_left ∙ ap (λ n. blocks_for w n - 1 - c.min.result / w) count ∙ ap (λ k. blocks_for w (blocks_for w (length c.args.self.now.values)) - 1 - k / w) first
+    let first : c.min-first.result ≡ min c.args.index (length c.past.result.blocks - 1) = c.min-first.ensures ∙ ap (min c.args.index) (c.saturating_sub.ensures ∙ ap (λ n. n - 1) (sym last)) in
+    c.past.ensures.summary_left ∙ ap (λ n. blocks_for w n - 1 - c.min-first.result / w) count ∙ ap (λ k. blocks_for w (blocks_for w (length c.args.self.now.values)) - 1 - k / w) first
 
 pub returns-clause-fits : goal.returns-clause-fits
 returns-clause-fits g c =
