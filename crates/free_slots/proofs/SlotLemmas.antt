@@ -1,13 +1,14 @@
 -- Which slots are free, as the set keeps them.
-use Rattle.std.proofs.Common.{◌≡◌, ℕ, zero, suc, ◌+◌, ◌<◌, ◌≤◌, ◌↔◌, ◌==◌, Bool, true, false, not, ◌||◌, ◌&&◌, if◌then◌else◌, leb, ltb, List, [], ◌∷◌, length, max, replicate, slice_get, Some, refl, sym, ap, ◌∙◌, subst, arith, inl, inr, ⊎_elim}
-use Rattle.std.proofs.lemmas.Bool.{and_parts, and_right, cases_eq, cases_lt, eq-eqb, le-leb, le-ltb, leb-true, lt-ltb, ne_eqb, not-false}
+use Rattle.std.proofs.Common.{◌≡◌, ℕ, zero, suc, ◌+◌, ◌<◌, ◌≤◌, ◌↔◌, min, ◌==◌, Bool, true, false, not, ◌||◌, ◌&&◌, if◌then◌else◌, leb, ltb, List, [], ◌∷◌, length, max, replicate, slice_get, Some, refl, sym, ap, ◌∙◌, subst, arith, inl, inr, ⊎_elim}
+use Rattle.std.proofs.lemmas.Bool.{and_parts, and_right, cases_eq, cases_lt, eq-eqb, le-leb, le-ltb, leb-true, lt-ltb, ne_eqb, not-false, true≢false}
+use Rattle.std.proofs.Math.Bool.{and-false}
 use Rattle.std.proofs.lemmas.List.{length-replicate}
 use Rattle.std.proofs.lemmas.Option.{slice_get_within}
 use Rattle.std.specs.List.{range_with_len}
-use Rattle.bit_set.specs.Sets.{AscendsFrom, IsAscending, elements, elements_from, has, put, those_from}
+use Rattle.bit_set.specs.Sets.{AscendsFrom, IsAscending, elements, elements_from, has, put, those_from, without}
 use Rattle.free_slots.specs.Runs.{Happens}
 use Rattle.free_slots.specs.Runs.Event.{GiveBack}
-use Rattle.free_slots.specs.Slots.{SlotTable, IsLowestFree, all_free, is_taken}
+use Rattle.free_slots.specs.Slots.{HasNoneBelow, SlotTable, IsLowestFree, all_free, is_taken}
 
 -- what contracts see of the set that keeps these values
 abbrev pub table_of : List Bool → SlotTable
@@ -108,7 +109,28 @@ lowest_from values from slot rest members ascends places at =
     let least = least_from (elements values) from members slot rest ascends at in
     record { free = least.0; inside = slice_get_within values slot true ((places slot).0 least.0); above = least.1; lowest = least.2 }
 
--- each slot is one from 0 on
-pub from_all : (s : List ℕ) → those_from s 0 ≡ s
-from_all [] = refl
-from_all (x ∷ xs) = ap (λ b. if b then x ∷ those_from xs 0 else those_from xs 0) (le-leb 0 x (omega arith)) ∙ ap (λ ys. x ∷ ys) (from_all xs)
+-- ---- where none below a number is free
+
+right_false : (b c : Bool) → (b || c) ≡ false → c ≡ false
+right_false true c none = absurd (true≢false none)
+right_false false c none = none
+
+-- all are from there on
+pub all_from : (s : List ℕ) (from : ℕ) → HasNoneBelow s from → those_from s from ≡ s
+all_from [] from none = refl
+all_from (x ∷ xs) from none =
+    let above : from ≤ x =
+    ⊎_elim (λ (below : x < from). absurd (true≢false (sym (first_is_in (x ∷ xs) x xs refl) ∙ none x below))) (λ (above : from ≤ x). above) (cases_lt x from) in
+    ap (λ b. if b then x ∷ those_from xs from else those_from xs from) (le-leb from x above) ∙ ap (λ ys. x ∷ ys) (all_from xs from (λ n below. right_false (x == n) (has xs n) (none n below)))
+
+-- that one is taken changes nothing
+pub none_below_taken : (s : List ℕ) (from slot : ℕ) → ((m : ℕ) → has (without s slot) m ≡ (not (slot == m) && has s m)) → HasNoneBelow s from → HasNoneBelow (without s slot) from
+none_below_taken s from slot members none n below = members n ∙ ap (λ b. not (slot == n) && b) (none n below) ∙ and-false (not (slot == n))
+
+-- where one is given back, it is none below that
+pub none_below_given : (s : List ℕ) (from slot : ℕ) → ((m : ℕ) → has (put s slot) m ≡ (slot == m || has s m)) → HasNoneBelow s from → HasNoneBelow (put s slot) (min from slot)
+none_below_given s from slot members none n below =
+    members n ∙ ap (λ b. b || has s n) (ne_eqb slot n (λ same. omega (arith, same, below))) ∙ none n (omega (arith, below))
+
+pub none_below_less : (s : List ℕ) (from to : ℕ) → to ≤ from → HasNoneBelow s from → HasNoneBelow s to
+none_below_less s from to less none n below = none n (omega (arith, below, less))

@@ -16,6 +16,10 @@ all_free n = record { len = n; free = range_with_len 0 n }
 abbrev pub is_taken : SlotTable → ℕ → Bool
 is_taken s slot = nat_lt slot s.len && not (has s.free slot)
 
+-- no number below `from` is in s
+abbrev pub HasNoneBelow : List ℕ → ℕ → Type 0
+HasNoneBelow s from = (n : ℕ) → n < from → has s n ≡ false
+
 -- the slot is free, and no slot below it is free, of those from `from` on
 pub record IsLowestFree (s : SlotTable) (from slot : ℕ) : Type 0 where
   pub free : IsTrue (has s.free slot)

@@ -20,18 +20,21 @@ use std::marker::Model;
 pub struct Slots<B: BitBlock> {
     // As long as there are slots, and those that are free are in.
     free: BitSet<B>,
+    // No slot below it is free. So a search for the lowest begins here.
+    lowest: usize,
 }
 
 impl<B: BitBlock> Model for Slots<B> {
     ghost use Rattle.std.specs.Prelude.{◌≤◌, length};
     ghost use Rattle.bit_set.specs.Sets.{elements};
-    ghost use Rattle.free_slots.specs.Slots.{SlotTable};
+    ghost use Rattle.free_slots.specs.Slots.{HasNoneBelow, SlotTable};
 
     ghost Value = { SlotTable };
 
     ghost view = { λ it. record { len = length it.free.values; free = elements it.free.values } };
 
-    ghost invariant = { λ it. length it.free.values ≤ it.free.capacity };
+    ghost invariant = { λ it. (length it.free.values ≤ it.free.capacity)
+        × HasNoneBelow (elements it.free.values) it.lowest };
 }
 
 impl<B: BitBlock> Slots<B> {
@@ -44,6 +47,7 @@ impl<B: BitBlock> Slots<B> {
         let all = BitVec::from_elem_general(alloc, n, true)?;
         Ok(Slots {
             free: BitSet::from_bit_vec_general(all),
+            lowest: 0,
         })
     }
 
@@ -68,7 +72,8 @@ impl<B: BitBlock> Slots<B> {
         self.free.count()
     }
 
-    /// Takes the lowest free slot, and returns it; `None` where all are taken.
+    /// Takes the lowest free slot, and returns it; `None` where all are taken. Constant time where a slot below the one
+    /// that it took last was given back since, or the next one is free; else it searches from there on.
     pub fn take(&mut self) -> Option<usize>
         ensures full { (result ≡ None) ↔ (self.old.free ≡ []) }
         ensures lowest { IfSome result (λ slot. IsLowestFree self.old 0 slot) }
@@ -78,8 +83,9 @@ impl<B: BitBlock> Slots<B> {
     {
         members_of_sets();
         sets_ascend();
-        let slot = self.free.iter_from(0).next()?;
+        let slot = self.free.iter_from(self.lowest).next()?;
         self.free.remove(slot);
+        self.lowest = slot;
         Some(slot)
     }
 
@@ -110,6 +116,7 @@ impl<B: BitBlock> Slots<B> {
         members_of_sets();
         sets_ascend();
         sets_are_their_members();
+        self.lowest = self.lowest.min(slot);
         slot < self.len() && self.free.insert(slot).unwrap()
     }
 }

@@ -1,4 +1,4 @@
-use Rattle.std.proofs.Common.{◌<◌, length, ap, subst}
+use Rattle.std.proofs.Common.{◌<◌, length, ap, subst, arith}
 use Rattle.bit_set.specs.Sets.{elements}
 use Rattle.free_slots.specs.Runs.{Happens}
 use Rattle.free_slots.specs.Runs.Event.{GiveBack}
@@ -14,7 +14,7 @@ happens g c =
     let slot = c.args.slot in
     let s = elements values in
     let ascends = c.sets_ascend.ensures.elements values in
-    let inside : slot < length values = rw (ap (λ (t : SlotTable). t.len) c.self.view_is, ← c.len.ensures) c.if-slot-len.true in
+    let inside : slot < length values = omega (arith, c.len.ensures, c.if-slot-len.true, ap (λ (t : SlotTable). t.len) c.self.view_is) in
     let again = put_again s slot ascends c.sets_are_their_members.ensures.set (c.sets_ascend.ensures.put s slot ascends) (c.members_of_sets.ensures.put s slot) in
     let ok = c.unwrap.ensures in
     subst (λ (t : SlotTable). Happens t (GiveBack slot c.unwrap.result) (table_of c.insert.new.self.values)) c.self.view_is

@@ -1,6 +1,7 @@
-use Rattle.std.proofs.Common.{◌≡◌, [], refl, sym, ◌∙◌}
+use Rattle.std.proofs.Common.{◌≡◌, [], refl, sym, subst, ◌∙◌, arith}
 use Rattle.bit_set.specs.Sets.{elements, those_from, without}
-use Rattle.free_slots.proofs.SlotLemmas.{left, lowest_from, none_free_from}
+use Rattle.free_slots.specs.Slots.{HasNoneBelow}
+use Rattle.free_slots.proofs.SlotLemmas.{left, lowest_from, none_below_taken, none_free_from}
 use Rattle.free_slots.proofs.Slots.take_at_or_above.Goals as goal
 
 pub returns-clause-lowest : goal.returns-clause-lowest
@@ -29,3 +30,12 @@ returns-in_err-taken-clause-happens g c =
     let from = c.args.slot in
     let none : those_from s from ≡ [] = sym c.iter_from.ensures.left ∙ c.in_err-taken.ensures.steps.item.0 in
     rw (c.from_residual.ensures, ← c.self.view_is) (λ n above. none_free_from s from (c.members_of_sets.ensures.those_from s from) none n above, refl)
+
+pub invariant_of-self : goal.invariant_of-self
+invariant_of-self g c =
+    let s = elements c.self.inside.free.values in
+    let taken = c.in_ok-taken.taken in
+    let from = c.self.inside.lowest in (
+      omega (arith, c.remove.ensures.length, c.remove.ensures.capacity, c.self.invariant.0),
+      subst (λ t. HasNoneBelow t from) (sym c.remove.ensures.elements) (none_below_taken s from taken (c.members_of_sets.ensures.without s taken) c.self.invariant.1),
+    )
