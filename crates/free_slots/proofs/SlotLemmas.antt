@@ -1,5 +1,5 @@
 -- Which slots are free, as the set keeps them.
-use Rattle.std.proofs.Common.{◌≡◌, ℕ, zero, suc, ◌+◌, ◌<◌, ◌≤◌, ◌↔◌, min, ◌==◌, Bool, true, false, not, ◌||◌, ◌&&◌, if◌then◌else◌, leb, ltb, List, [], ◌∷◌, length, max, replicate, slice_get, Some, refl, sym, ap, ◌∙◌, subst, arith, inl, inr, ⊎_elim}
+use Rattle.std.proofs.Common.{◌≡◌, ℕ, zero, suc, ◌+◌, ◌<◌, ◌≤◌, ◌↔◌, min, ◌==◌, Bool, true, false, not, ◌||◌, ◌&&◌, if◌then◌else◌, leb, ltb, List, [], ◌∷◌, length, max, replicate, slice_get, Option, None, Some, MatchOption, refl, sym, ap, ◌∙◌, subst, arith, inl, inr, ⊎_elim}
 use Rattle.std.proofs.lemmas.Bool.{and_parts, and_right, cases_eq, cases_lt, eq-eqb, le-leb, le-ltb, leb-true, lt-ltb, ne_eqb, not-false, true≢false}
 use Rattle.std.proofs.Math.Bool.{and-false}
 use Rattle.std.proofs.lemmas.List.{length-replicate}
@@ -68,6 +68,12 @@ lowest_of values slot rest ascends places at =
       above = omega arith;
       lowest = λ other from below. first_is_least (elements values) slot rest ascends at other below;
     }
+
+-- where a walk over all that are free gave r first
+pub first_found : (values : List Bool) (all rest : List ℕ) (r : Option ℕ) → IsAscending (elements values) → ((m : ℕ) → (has (elements values) m ≡ true) ↔ (slice_get values m ≡ Some true)) → all ≡ elements values → MatchOption r ((all ≡ []) × (rest ≡ [])) (λ slot. all ≡ slot ∷ rest)
+    → MatchOption r (elements values ≡ []) (λ slot. IsLowestFree (table_of values) 0 slot)
+first_found values all rest None ascends places is found = sym is ∙ found.0
+first_found values all rest (Some slot) ascends places is found = lowest_of values slot rest ascends places (sym is ∙ found)
 
 pub left : (old new : List Bool) (free : List ℕ) → length new ≡ length old → elements new ≡ free → table_of new ≡ record { len = length old; free = free }
 left old new free long is = same_table (length new) (length old) (elements new) free (table_of new) long is refl

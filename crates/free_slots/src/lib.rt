@@ -1,7 +1,7 @@
 //! Numbered slots, each of them free or taken: for schedulers, and for tables whose entries go by number.
 #![tactic(auto)]
 
-ghost use Rattle.std.specs.Prelude.{◌≡◌, ◌≤◌, ◌<◌, ◌↔◌, false, length, IfOk, IfSome, IsOk, IsTrue, None, [], ℕ};
+ghost use Rattle.std.specs.Prelude.{◌≡◌, ◌≤◌, ◌<◌, ◌↔◌, false, length, IfOk, IfSome, IsOk, IsTrue, MatchOption, None, [], ℕ};
 ghost use Rattle.bit_set.specs.Sets.{IsAscending, has, put, those_from, without};
 ghost use Rattle.free_slots.specs.Runs.{Happens};
 ghost use Rattle.free_slots.specs.Runs.Event.{GiveBack, Take};
@@ -72,8 +72,8 @@ impl<B: BitBlock> Slots<B> {
         self.free.count()
     }
 
-    /// Takes the lowest free slot, and returns it; `None` where all are taken. Constant time where a slot below the one
-    /// that it took last was given back since, or the next one is free; else it searches from there on.
+    /// Takes the lowest free slot, and returns it; `None` where all are taken. Constant time where it is the slot past
+    /// the one that it took last, or the lowest one that was given back since; else it searches from there on.
     pub fn take(&mut self) -> Option<usize>
         ensures full { (result ≡ None) ↔ (self.old.free ≡ []) }
         ensures lowest { IfSome result (λ slot. IsLowestFree self.old 0 slot) }
@@ -83,10 +83,23 @@ impl<B: BitBlock> Slots<B> {
     {
         members_of_sets();
         sets_ascend();
-        let slot = self.free.iter_from(self.lowest).next()?;
+        let slot = self.lowest_free()?;
         self.free.remove(slot);
-        self.lowest = slot;
+        self.lowest = slot.saturating_add(1);
         Some(slot)
+    }
+
+    // The lowest free slot. Most often it is where the search begins.
+    #[inline]
+    fn lowest_free(&self) -> Option<usize>
+        ensures { MatchOption result (self.now.free ≡ []) (λ slot. IsLowestFree self.now 0 slot) }
+    {
+        members_of_sets();
+        sets_ascend();
+        if self.free.contains(self.lowest) {
+            return Some(self.lowest);
+        }
+        self.free.iter_from(self.lowest).next()
     }
 
     /// Takes the lowest free slot that is at or above `slot`, and returns it; `None` where each of these is taken.
