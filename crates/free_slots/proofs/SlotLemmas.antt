@@ -1,5 +1,5 @@
 -- Which slots are free, as the set keeps them.
-use Rattle.std.proofs.Common.{◌≡◌, ℕ, zero, suc, ◌+◌, ◌<◌, ◌≤◌, ◌↔◌, min, ◌==◌, Bool, true, false, not, ◌||◌, ◌&&◌, if◌then◌else◌, leb, ltb, List, [], ◌∷◌, length, max, replicate, slice_get, Option, None, Some, MatchOption, refl, sym, ap, ◌∙◌, subst, arith, inl, inr, ⊎_elim}
+use Rattle.std.proofs.Common.{◌≡◌, ◌≢◌, ℕ, zero, suc, ◌+◌, ◌<◌, ◌≤◌, ◌↔◌, ◌==◌, Bool, true, false, not, ◌||◌, ◌&&◌, if◌then◌else◌, leb, ltb, List, [], ◌∷◌, length, max, replicate, slice_get, Option, None, Some, MatchOption, refl, sym, ap, ◌∙◌, subst, arith, inl, inr, ⊎_elim}
 use Rattle.std.proofs.lemmas.Bool.{and_parts, and_right, cases_eq, cases_lt, eq-eqb, le-leb, le-ltb, leb-true, lt-ltb, ne_eqb, not-false, true≢false}
 use Rattle.std.proofs.Math.Bool.{and-false}
 use Rattle.std.proofs.lemmas.List.{length-replicate}
@@ -8,7 +8,7 @@ use Rattle.std.specs.List.{range_with_len}
 use Rattle.bit_set.specs.Sets.{AscendsFrom, IsAscending, elements, elements_from, has, put, those_from, without}
 use Rattle.free_slots.specs.Runs.{Happens}
 use Rattle.free_slots.specs.Runs.Event.{GiveBack}
-use Rattle.free_slots.specs.Slots.{HasNoneBelow, SlotTable, IsLowestFree, all_free, is_taken}
+use Rattle.free_slots.specs.Slots.{HasNoneBelow, HasNoneBut, SlotTable, IsLowestFree, all_free, is_taken}
 
 -- what contracts see of the set that keeps these values
 abbrev pub table_of : List Bool → SlotTable
@@ -129,14 +129,35 @@ all_from (x ∷ xs) from none =
     ⊎_elim (λ (below : x < from). absurd (true≢false (sym (first_is_in (x ∷ xs) x xs refl) ∙ none x below))) (λ (above : from ≤ x). above) (cases_lt x from) in
     ap (λ b. if b then x ∷ those_from xs from else those_from xs from) (le-leb from x above) ∙ ap (λ ys. x ∷ ys) (all_from xs from (λ n below. right_false (x == n) (has xs n) (none n below)))
 
+-- where the one that may be is not, or lies beyond, there is none
+pub none_below : (s : List ℕ) (given from : ℕ) → HasNoneBut s given from → (given < from → has s given ≡ false) → HasNoneBelow s from
+none_below s given from none not_given n below =
+    elim (cases_eq n given) [
+      | inl same ↦ ap (has s) same ∙ not_given (omega (arith, same, below))
+      | inr other ↦ none n below other
+    ]
+
 -- that one is taken changes nothing
-pub none_below_taken : (s : List ℕ) (from slot : ℕ) → ((m : ℕ) → has (without s slot) m ≡ (not (slot == m) && has s m)) → HasNoneBelow s from → HasNoneBelow (without s slot) from
-none_below_taken s from slot members none n below = members n ∙ ap (λ b. not (slot == n) && b) (none n below) ∙ and-false (not (slot == n))
+pub none_but_taken : (s : List ℕ) (given from slot : ℕ) → ((m : ℕ) → has (without s slot) m ≡ (not (slot == m) && has s m)) → HasNoneBut s given from → HasNoneBut (without s slot) given from
+none_but_taken s given from slot members none n below other = members n ∙ ap (λ b. not (slot == n) && b) (none n below other) ∙ and-false (not (slot == n))
 
--- where one is given back, it is none below that
-pub none_below_given : (s : List ℕ) (from slot : ℕ) → ((m : ℕ) → has (put s slot) m ≡ (slot == m || has s m)) → HasNoneBelow s from → HasNoneBelow (put s slot) (min from slot)
-none_below_given s from slot members none n below =
-    members n ∙ ap (λ b. b || has s n) (ne_eqb slot n (λ same. omega (arith, same, below))) ∙ none n (omega (arith, below))
+-- where the search goes once one is given back, before it is in
+pub none_but_less : (s : List ℕ) (given from slot given_then from_then : ℕ) (is_free : Bool) → HasNoneBut s given from → is_free ≡ has s given → ((n : ℕ) → n < from_then → n ≢ given_then → (n < from) × (n ≢ slot) × (is_free ≡ true → n ≢ given)) → HasNoneBut s given_then from_then
+none_but_less s given from slot given_then from_then is_free none tested apart n below other =
+    let (within, not_slot, not_given) = apart n below other in
+    elim (cases_eq n given) [
+      | inl same ↦ ap (has s) same ∙ sym tested ∙ not_true is_free (λ free. not_given free same)
+      | inr apart ↦ none n within apart
+    ]
+  where
+    not_true : (b : Bool) → (b ≡ true → ⊥) → b ≡ false
+    not_true true wrong = absurd (wrong refl)
+    not_true false wrong = refl
 
-pub none_below_less : (s : List ℕ) (from to : ℕ) → to ≤ from → HasNoneBelow s from → HasNoneBelow s to
-none_below_less s from to less none n below = none n (omega (arith, below, less))
+-- and once it is in
+pub none_but_given : (s : List ℕ) (given from slot given_then from_then : ℕ) (is_free : Bool) → ((m : ℕ) → has (put s slot) m ≡ (slot == m || has s m)) → HasNoneBut s given from → is_free ≡ has s given
+    → ((n : ℕ) → n < from_then → n ≢ given_then → (n < from) × (n ≢ slot) × (is_free ≡ true → n ≢ given)) → HasNoneBut (put s slot) given_then from_then
+none_but_given s given from slot given_then from_then is_free members none tested apart n below other =
+    members n
+    ∙ ap (λ b. b || has s n) (ne_eqb slot n (λ same. (apart n below other).1 (sym same)))
+    ∙ none_but_less s given from slot given_then from_then is_free none tested apart n below other

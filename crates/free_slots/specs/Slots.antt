@@ -1,5 +1,5 @@
 -- Numbered slots, each of them free or taken.
-use Rattle.std.specs.Prelude.{◌≡◌, ℕ, ◌<◌, ◌≤◌, ◌&&◌, nat_lt, not, Bool, false, IsTrue, List}
+use Rattle.std.specs.Prelude.{◌≡◌, ◌≢◌, ℕ, ◌<◌, ◌≤◌, ◌&&◌, nat_lt, not, Bool, false, IsTrue, List}
 use Rattle.std.specs.List.{range_with_len}
 use Rattle.bit_set.specs.Sets.{has}
 
@@ -19,6 +19,10 @@ is_taken s slot = nat_lt slot s.len && not (has s.free slot)
 -- no number below `from` is in s
 abbrev pub HasNoneBelow : List ℕ → ℕ → Type 0
 HasNoneBelow s from = (n : ℕ) → n < from → has s n ≡ false
+
+-- the same, but `given` may be in s
+abbrev pub HasNoneBut : List ℕ → ℕ → ℕ → Type 0
+HasNoneBut s given from = (n : ℕ) → n < from → n ≢ given → has s n ≡ false
 
 -- the slot is free, and no slot below it is free, of those from `from` on
 pub record IsLowestFree (s : SlotTable) (from slot : ℕ) : Type 0 where

@@ -1,7 +1,7 @@
 //! Numbered slots, each of them free or taken: for schedulers, and for tables whose entries go by number.
 #![tactic(auto)]
 
-ghost use Rattle.std.specs.Prelude.{◌≡◌, ◌≤◌, ◌<◌, ◌↔◌, false, length, IfOk, IfSome, IsOk, IsTrue, MatchOption, None, [], ℕ};
+ghost use Rattle.std.specs.Prelude.{◌≡◌, ◌≢◌, ◌≤◌, ◌<◌, ◌↔◌, false, length, IfOk, IfSome, IsOk, IsTrue, MatchOption, None, [], ℕ};
 ghost use Rattle.bit_set.specs.Sets.{IsAscending, has, put, those_from, without};
 ghost use Rattle.free_slots.specs.Runs.{Happens};
 ghost use Rattle.free_slots.specs.Runs.Event.{GiveBack, Take};
@@ -20,21 +20,22 @@ use std::marker::Model;
 pub struct Slots<B: BitBlock> {
     // As long as there are slots, and those that are free are in.
     free: BitSet<B>,
-    // No slot below it is free. So a search for the lowest begins here.
-    lowest: usize,
+    // Of the slots below `searched` none is free, but perhaps `given`.
+    given: usize,
+    searched: usize,
 }
 
 impl<B: BitBlock> Model for Slots<B> {
     ghost use Rattle.std.specs.Prelude.{◌≤◌, length};
     ghost use Rattle.bit_set.specs.Sets.{elements};
-    ghost use Rattle.free_slots.specs.Slots.{HasNoneBelow, SlotTable};
+    ghost use Rattle.free_slots.specs.Slots.{HasNoneBut, SlotTable};
 
     ghost Value = { SlotTable };
 
     ghost view = { λ it. record { len = length it.free.values; free = elements it.free.values } };
 
     ghost invariant = { λ it. (length it.free.values ≤ it.free.capacity)
-        × HasNoneBelow (elements it.free.values) it.lowest };
+        × HasNoneBut (elements it.free.values) it.given it.searched };
 }
 
 impl<B: BitBlock> Slots<B> {
@@ -47,7 +48,8 @@ impl<B: BitBlock> Slots<B> {
         let all = BitVec::from_elem_general(alloc, n, true)?;
         Ok(Slots {
             free: BitSet::from_bit_vec_general(all),
-            lowest: 0,
+            given: 0,
+            searched: 0,
         })
     }
 
@@ -72,8 +74,8 @@ impl<B: BitBlock> Slots<B> {
         self.free.count()
     }
 
-    /// Takes the lowest free slot, and returns it; `None` where all are taken. Constant time where it is the slot past
-    /// the one that it took last, or the lowest one that was given back since; else it searches from there on.
+    /// Takes the lowest free slot, and returns it; `None` where all are taken. Constant time where it is the slot that
+    /// was given back last, or the one past all that were taken; else it searches the set's summary.
     pub fn take(&mut self) -> Option<usize>
         ensures full { (result ≡ None) ↔ (self.old.free ≡ []) }
         ensures lowest { IfSome result (λ slot. IsLowestFree self.old 0 slot) }
@@ -85,21 +87,21 @@ impl<B: BitBlock> Slots<B> {
         sets_ascend();
         let slot = self.lowest_free()?;
         self.free.remove(slot);
-        self.lowest = slot.saturating_add(1);
+        self.searched = self.searched.max(slot.saturating_add(1));
         Some(slot)
     }
 
-    // The lowest free slot. Most often it is where the search begins.
+    // The lowest free slot.
     #[inline]
     fn lowest_free(&self) -> Option<usize>
         ensures { MatchOption result (self.now.free ≡ []) (λ slot. IsLowestFree self.now 0 slot) }
     {
         members_of_sets();
         sets_ascend();
-        if self.free.contains(self.lowest) {
-            return Some(self.lowest);
+        if self.given <= self.searched && self.free.contains(self.given) {
+            return Some(self.given);
         }
-        self.free.iter_from(self.lowest).next()
+        self.free.iter_from(self.searched).next()
     }
 
     /// Takes the lowest free slot that is at or above `slot`, and returns it; `None` where each of these is taken.
@@ -129,7 +131,24 @@ impl<B: BitBlock> Slots<B> {
         members_of_sets();
         sets_ascend();
         sets_are_their_members();
-        self.lowest = self.lowest.min(slot);
+        let is_free = self.free.contains(self.given);
+        (self.given, self.searched) = after_giving(self.given, self.searched, slot, is_free);
         slot < self.len() && self.free.insert(slot).unwrap()
+    }
+}
+
+// Where `given` and `searched` are once `slot` is given back, and before that `given` is free, or is not. Of two slots
+// below `searched` that are free then, the search begins at the higher one.
+#[inline]
+fn after_giving(given: usize, searched: usize, slot: usize, is_free: bool) -> (usize, usize)
+    ensures { (n : ℕ) → n < result.1 → n ≢ result.0
+        → (n < searched) × (n ≢ slot) × (IsTrue is_free → n ≢ given) }
+{
+    if slot >= searched {
+        (given, searched)
+    } else if is_free {
+        (given.min(slot), searched.min(given.max(slot)))
+    } else {
+        (slot, searched)
     }
 }

@@ -1,7 +1,7 @@
 use Rattle.std.proofs.Common.{◌≡◌, [], refl, sym, subst, ◌∙◌, arith}
 use Rattle.bit_set.specs.Sets.{elements, those_from, without}
-use Rattle.free_slots.specs.Slots.{HasNoneBelow}
-use Rattle.free_slots.proofs.SlotLemmas.{left, lowest_from, none_below_taken, none_free_from}
+use Rattle.free_slots.specs.Slots.{HasNoneBut}
+use Rattle.free_slots.proofs.SlotLemmas.{left, lowest_from, none_but_taken, none_free_from}
 use Rattle.free_slots.proofs.Slots.take_at_or_above.Goals as goal
 
 pub returns-clause-lowest : goal.returns-clause-lowest
@@ -35,7 +35,8 @@ pub invariant_of-self : goal.invariant_of-self
 invariant_of-self g c =
     let s = elements c.self.inside.free.values in
     let taken = c.in_ok-taken.taken in
-    let from = c.self.inside.lowest in (
+    let given = c.self.inside.given in
+    let from = c.self.inside.searched in (
       omega (arith, c.remove.ensures.length, c.remove.ensures.capacity, c.self.invariant.0),
-      subst (λ t. HasNoneBelow t from) (sym c.remove.ensures.elements) (none_below_taken s from taken (c.members_of_sets.ensures.without s taken) c.self.invariant.1),
+      subst (λ t. HasNoneBut t given from) (sym c.remove.ensures.elements) (none_but_taken s given from taken (c.members_of_sets.ensures.without s taken) c.self.invariant.1),
     )
