@@ -1,17 +1,20 @@
 -- What the first mismatch of lists of blocks says of the sets that they hold.
-use Rattle.std.proofs.Common.{◌≡◌, ◌≢◌, ℕ, ◌+◌, ◌*◌, ◌/◌, ◌%◌, ◌^◌, ◌<◌, ◌≤◌, Bool, true, false, not, eqb, List, get_or, length, refl, sym, ap, ◌∙◌, subst, inl, inr, arith}
+use Rattle.std.proofs.Common.{◌≡◌, ◌≢◌, ℕ, ◌+◌, ◌*◌, ◌/◌, ◌%◌, ◌^◌, ◌<◌, ◌≤◌, Bool, true, false, not, eqb, List, get_or, length, refl, sym, ap, ◌∙◌, ◌↔◌, subst, inl, inr, arith}
 use Rattle.std.specs.Bool.{OnTrue, OnFalse}
-use Rattle.std.specs.Prelude.{Option, Some, None, MatchOption, is_some}
+use Rattle.std.specs.Cmp.Lexicographic.{bytes_decides}
+use Rattle.std.specs.Prelude.{IsTrue, Option, Some, None, MatchOption, is_some}
 use Rattle.std.specs.Int.{bit_at}
 use Rattle.std.proofs.lemmas.Bool.{cases_lt, cases_eq, true≢false}
-use Rattle.std.proofs.lemmas.Nat.Bits.{bit_at-lt, bit_at-zero}
+use Rattle.std.proofs.lemmas.Nat.Bits.{bit_at-lt, bit_at-zero, same_from_bits_below}
 use Rattle.std.proofs.Math.Nat.{div-add-mod', mod-lt, mul-le-mul_right}
-use Rattle.bit_words.specs.Bits.{blocks_of}
+use Rattle.bit_words.specs.Bits.{blocks_of, digit_of}
 use Rattle.bit_words.specs.Mismatches.{IsFirstBlockMismatch, IsFirstNonzeroBlock, IsLowestMismatch}
 use Rattle.bit_words.proofs.BitsLemmas.{blocks_of-digit, blocks_of-lt, read_back}
 use Rattle.bit_words.proofs.LowestLemmas.{lowest_found}
 use Rattle.bit_set.specs.Sets.{elements, has}
 use Rattle.bit_set.specs.Mismatches.{IsFirstMismatch}
+use Rattle.bit_set.specs.Order.{same_sets}
+use Rattle.bit_set.proofs.OrderLemmas.{same_where_all_agree}
 use Rattle.bit_set.proofs.SetLemmas.{has-elements}
 use Rattle.bit_set.proofs.ValueLemmas.{has-within}
 
@@ -28,13 +31,28 @@ has-number w k values pos =
     ap (has (elements values)) split ∙ has-index w (k / w) (k % w) values (mod-lt k pos)
 
 -- blocks that agree hold the same set
-pub all_alike : (w : ℕ) (ms ns : List ℕ) (xs ys : List Bool) → 0 < w → ms ≡ blocks_of w xs → ns ≡ blocks_of w ys → ((k : ℕ) → get_or ms k 0 ≡ get_or ns k 0) → (k : ℕ) → has (elements xs) k ≡ has (elements ys) k
-all_alike w ms ns xs ys pos left right same k =
+pub all_alike : (w : ℕ) (xs ys : List Bool) → 0 < w → ((k : ℕ) → get_or (blocks_of w xs) k 0 ≡ get_or (blocks_of w ys) k 0) → (k : ℕ) → has (elements xs) k ≡ has (elements ys) k
+all_alike w xs ys pos same k =
     has-number w k xs pos
-    ∙ ap (λ bs. eqb (bit_at (get_or bs (k / w) 0) (k % w)) 1) (sym left)
     ∙ ap (λ m. eqb (bit_at m (k % w)) 1) (same (k / w))
-    ∙ ap (λ bs. eqb (bit_at (get_or bs (k / w) 0) (k % w)) 1) right
     ∙ sym (has-number w k ys pos)
+
+-- and a set has but one list of blocks, up to zeros at its end
+alike_where_same : (w q : ℕ) (xs ys : List Bool) → ((k : ℕ) → has (elements xs) k ≡ has (elements ys) k) → get_or (blocks_of w xs) q 0 ≡ get_or (blocks_of w ys) q 0
+alike_where_same w q xs ys same =
+    same_from_bits_below w _ _ (blocks_of-lt w q xs) (blocks_of-lt w q ys) (λ j within.
+    blocks_of-digit w q j xs within
+    ∙ ap digit_of (sym (has-elements xs (q * w + j)) ∙ same (q * w + j) ∙ has-elements ys (q * w + j))
+    ∙ sym (blocks_of-digit w q j ys within))
+
+-- so a comparison of blocks compares sets
+pub same_by_blocks : (w : ℕ) (xs ys : List Bool) (b : Bool) → 0 < w → IsTrue b ↔ ((k : ℕ) → get_or (blocks_of w xs) k 0 ≡ get_or (blocks_of w ys) k 0) → b ≡ same_sets (elements xs) (elements ys)
+same_by_blocks w xs ys b pos tells = by_cases b (same_sets (elements xs) (elements ys)) refl refl
+  where
+    by_cases : (c d : Bool) → b ≡ c → same_sets (elements xs) (elements ys) ≡ d → b ≡ same_sets (elements xs) (elements ys)
+    by_cases true d is e = is ∙ same_where_all_agree xs ys (all_alike w xs ys pos (tells.0 is))
+    by_cases false false is e = is ∙ sym e
+    by_cases false true is e = absurd (true≢false (sym (tells.1 (λ q. alike_where_same w q xs ys (λ k. ap (λ u. has u k) ((bytes_decides (elements xs) (elements ys)).0 e)))) ∙ is))
 
 -- a number below a place of a block is in an earlier block, or in that block below the place
 earlier : (w at i k : ℕ) → 0 < w → i < w → k < at * w + i → ((k / w) ≢ at → (k / w) < at)
@@ -52,7 +70,7 @@ one_of_two a b small also sum =
     ]
 
 -- the first block that differs, and the lowest digit there, give the first number that differs
-first_mismatch_is : (w at i : ℕ) (xs ys : List Bool) → 0 < w → IsFirstBlockMismatch (blocks_of w xs) (blocks_of w ys) at → IsLowestMismatch w (get_or (blocks_of w xs) at 0) (get_or (blocks_of w ys) at 0) i
+pub first_mismatch_is : (w at i : ℕ) (xs ys : List Bool) → 0 < w → IsFirstBlockMismatch (blocks_of w xs) (blocks_of w ys) at → IsLowestMismatch w (get_or (blocks_of w xs) at 0) (get_or (blocks_of w ys) at 0) i
     → IsFirstMismatch (elements xs) (elements ys) (at * w + i)
 first_mismatch_is w at i xs ys pos first lowest = record {
   below = λ k below.
@@ -67,13 +85,6 @@ first_mismatch_is w at i xs ys pos first lowest = record {
       ∙ one_of_two _ _ (bit_at-lt (get_or (blocks_of w xs) at 0) i) (bit_at-lt (get_or (blocks_of w ys) at 0) i) lowest.here
       ∙ ap not (sym (has-index w at i ys lowest.within));
 }
-
-pub first_difference_is : (w at i m n : ℕ) (ms ns : List ℕ) (xs ys : List Bool) → 0 < w → ms ≡ blocks_of w xs → ns ≡ blocks_of w ys → IsFirstBlockMismatch ms ns at → m ≡ get_or ms at 0 → n ≡ get_or ns at 0 → IsLowestMismatch w m n i
-    → IsFirstMismatch (elements xs) (elements ys) (at * w + i)
-first_difference_is w at i m n ms ns xs ys pos left right first m_is n_is lowest =
-    first_mismatch_is w at i xs ys pos
-    (subst (λ bs. IsFirstBlockMismatch bs (blocks_of w ys) at) left (subst (λ bs. IsFirstBlockMismatch ms bs at) right first))
-    (subst (λ x. IsLowestMismatch w x (get_or (blocks_of w ys) at 0) i) (m_is ∙ ap (λ bs. get_or bs at 0) left) (subst (λ x. IsLowestMismatch w m x i) (n_is ∙ ap (λ bs. get_or bs at 0) right) lowest))
 
 -- it is below one of the lengths
 pub first_within : (xs ys : List Bool) (n : ℕ) → IsFirstMismatch (elements xs) (elements ys) n → length xs < 2 ^ 64 → length ys < 2 ^ 64 → n < 2 ^ 64

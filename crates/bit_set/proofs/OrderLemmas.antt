@@ -137,20 +137,7 @@ pub order-alike : (xs ys : List Bool) → ((k : ℕ) → has (elements xs) k ≡
 order-alike xs ys same =
     sym (order-itself (elements xs)) ∙ ap (order_of_sets (elements xs)) (same_members (elements xs) (elements ys) (IsAscending-elements xs) (IsAscending-elements ys) same)
 
-not_true : (b : Bool) → (b ≡ true → ⊥) → false ≡ b
-not_true true never = absurd (never refl)
-not_true false never = refl
-
-not_itself : (b c : Bool) → b ≡ not c → b ≡ c → ⊥
-not_itself true true e same = true≢false e
-not_itself true false e same = true≢false same
-not_itself false true e same = true≢false (sym same)
-not_itself false false e same = true≢false (sym e)
-
--- a search for the first difference says whether the sets are the same
-pub same_where_none : (xs ys : List Bool) (r : Option ℕ) → MatchOption r ((k : ℕ) → has (elements xs) k ≡ has (elements ys) k) (IsFirstMismatch (elements xs) (elements ys)) → not (is_some r) ≡ same_sets (elements xs) (elements ys)
-same_where_none xs ys None same =
+-- sets with the same members are the same
+pub same_where_all_agree : (xs ys : List Bool) → ((k : ℕ) → has (elements xs) k ≡ has (elements ys) k) → true ≡ same_sets (elements xs) (elements ys)
+same_where_all_agree xs ys same =
     sym ((bytes_decides (elements xs) (elements ys)).1 (same_members (elements xs) (elements ys) (IsAscending-elements xs) (IsAscending-elements ys) same))
-same_where_none xs ys (Some n) d =
-    not_true (same_sets (elements xs) (elements ys)) (λ same.
-    not_itself _ _ d.here (ap (λ s. has s n) ((bytes_decides (elements xs) (elements ys)).0 same)))

@@ -1,11 +1,13 @@
 //! Equality and order of sets: those of the lists of their elements in ascending order, found block
 //! by block.
-ghost use Rattle.std.specs.Prelude.{◌≡◌, ℕ, ◌≤◌, ◌↔◌, IsTrue, MatchOption, Some, true, false};
+ghost use Rattle.std.specs.Prelude.{◌≡◌, ℕ, ◌≤◌, ◌↔◌, IsTrue, MatchOption, Some, get_or, true, false};
 ghost use Rattle.std.specs.Bool.{OnTrue, OnFalse};
 ghost use Rattle.std.specs.Cmp.{on_equiv, on_per, on_po, on_total, partial_equiv_from_equiv};
 ghost use Rattle.std.specs.Ordering.{MatchOrdering};
 ghost use Rattle.std.specs.Cmp.Lexicographic.{nat_list_cmp_total, nat_list_eq_equiv, texts_po, texts_ties};
 ghost use Rattle.std.proofs.Common.{refl};
+ghost use Rattle.bit_words.specs.Bits.{blocks_of};
+ghost use Rattle.bit_words.specs.Mismatches.{IsFirstBlockMismatch};
 ghost use Rattle.bit_set.specs.Members.{IsSameSet};
 ghost use Rattle.bit_set.specs.Sets.{elements, has};
 ghost use Rattle.bit_set.specs.Order.{same_sets, order_of_sets};
@@ -13,9 +15,13 @@ ghost use Rattle.bit_set.specs.Mismatches.{IsFirstMismatch};
 
 use crate::bit_vec::{
     block_or_zero, first_mismatching_block, first_nonzero_block, has_one_from, lowest_mismatch,
+    mismatch_between, same_blocks,
 };
 use crate::{BitBlock, BitSet};
 use std::cmp::Ordering;
+
+// Fewer blocks than this are compared one by one.
+const FEW_BLOCKS: usize = 8;
 
 /// Sets are equal where they have the same elements, whatever their lengths and capacities. Compares the blocks
 /// up to the first that differs.
@@ -29,7 +35,7 @@ impl<B: BitBlock> PartialEq for BitSet<B> {
         ensures lists { result ≡ same_sets (elements self.now.values) (elements other.now.values) }
         ensures members { IsTrue result ↔ IsSameSet (elements self.now.values) (elements other.now.values) }
     {
-        first_mismatch(self, other).is_none()
+        same_blocks(self.get_ref().storage(), other.get_ref().storage())
     }
 }
 
@@ -64,12 +70,54 @@ impl<B: BitBlock> Ord for BitSet<B> {
 
     ghost matches_eq = { λ s t. texts_ties (elements s.values) (elements t.values) };
 
+    // Each call here but the comparisons of blocks comes last, so that none saves registers: a search in a map compares
+    // small sets, or sets that differ in their first block.
     fn cmp(&self, other: &Self) -> Ordering {
-        match first_mismatch(self, other) {
-            None => Ordering::Equal,
-            Some(number) if self.contains(number) => order_of_holder(other, number),
-            Some(number) => order_of_holder(self, number).reverse(),
+        let (left, right) = (self.get_ref().storage(), other.get_ref().storage());
+        if block_or_zero(left, 0) != block_or_zero(right, 0) {
+            return order_by(self, other, Some(0));
         }
+        if left.len() == right.len() && left.len() < FEW_BLOCKS {
+            return order_by(self, other, mismatch_between(left, right, 1, left.len()));
+        }
+        order_by_groups(self, other)
+    }
+}
+
+// The order of two sets, by a search of all their blocks.
+#[inline(never)]
+fn order_by_groups<B: BitBlock>(a: &BitSet<B>, b: &BitSet<B>) -> Ordering
+    ensures { result ≡ order_of_sets (elements a.now.values) (elements b.now.values) }
+{
+    let first = first_mismatching_block(a.get_ref().storage(), b.get_ref().storage());
+    order_by(a, b, first)
+}
+
+// The order of two sets, by the first block at which they differ.
+#[inline(always)]
+fn order_by<B: BitBlock>(a: &BitSet<B>, b: &BitSet<B>, first: Option<usize>) -> Ordering
+    requires { MatchOption first
+        ((k : ℕ) → get_or (blocks_of B.width a.now.values) k 0 ≡ get_or (blocks_of B.width b.now.values) k 0)
+        (IsFirstBlockMismatch (blocks_of B.width a.now.values) (blocks_of B.width b.now.values)) }
+    ensures { result ≡ order_of_sets (elements a.now.values) (elements b.now.values) }
+{
+    match first {
+        None => Ordering::Equal,
+        Some(at) => order_in_block(a, b, at),
+    }
+}
+
+// The order of two sets that first differ in this block.
+#[inline(never)]
+fn order_in_block<B: BitBlock>(a: &BitSet<B>, b: &BitSet<B>, at: usize) -> Ordering
+    requires { IsFirstBlockMismatch (blocks_of B.width a.now.values) (blocks_of B.width b.now.values) at }
+    ensures { result ≡ order_of_sets (elements a.now.values) (elements b.now.values) }
+{
+    let number = first_mismatch(a, b, at);
+    if a.contains(number) {
+        order_of_holder(b, number)
+    } else {
+        order_of_holder(a, number).reverse()
     }
 }
 
@@ -87,21 +135,15 @@ fn order_of_holder<B: BitBlock>(other: &BitSet<B>, number: usize) -> Ordering
     }
 }
 
-// The least number that just one of the sets has.
+// The least number that just one of the sets has, which first differ in this block.
 #[inline]
-fn first_mismatch<B: BitBlock>(a: &BitSet<B>, b: &BitSet<B>) -> Option<usize>
-    ensures { MatchOption result
-        ((k : ℕ) → has (elements a.now.values) k ≡ has (elements b.now.values) k)
-        (IsFirstMismatch (elements a.now.values) (elements b.now.values)) }
+fn first_mismatch<B: BitBlock>(a: &BitSet<B>, b: &BitSet<B>, at: usize) -> usize
+    requires { IsFirstBlockMismatch (blocks_of B.width a.now.values) (blocks_of B.width b.now.values) at }
+    ensures { IsFirstMismatch (elements a.now.values) (elements b.now.values) result }
 {
     let (left, right) = (a.get_ref().storage(), b.get_ref().storage());
-    match first_mismatching_block(left, right) {
-        None => None,
-        Some(at) => {
-            let index = lowest_mismatch(block_or_zero(left, at), block_or_zero(right, at));
-            Some(at * B::bits() + index)
-        }
-    }
+    let index = lowest_mismatch(block_or_zero(left, at), block_or_zero(right, at));
+    at * B::bits() + index
 }
 
 // Whether the set has a number that is not below `from`.

@@ -25,6 +25,7 @@ pub use crate::block::masks::clear_below;
 pub use crate::block::merge::Merge;
 pub use crate::packed::mismatch::{
     block_or_zero, first_mismatching_block, first_nonzero_block, has_one_from, lowest_mismatch,
+    mismatch_between, same_blocks,
 };
 pub use crate::steps::Steps;
 pub use blocks::Blocks;

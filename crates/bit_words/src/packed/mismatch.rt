@@ -10,6 +10,37 @@ use crate::block::operators::{block_or, block_xor, same, shift_right};
 use crate::packed::access::block_at;
 use crate::packed::groups::{GROUP, LONG_GROUP};
 
+/// Whether the lists of blocks are the same, where a block past the end of a list counts as 0. Compares groups of
+/// blocks, each by one test, and stops at the first group that differs.
+///
+/// ```
+/// assert!(same_blocks(&[7u8, 1], &[7, 1, 0]));
+/// assert!(!same_blocks(&[7u8, 1], &[7, 1, 2]));
+/// ```
+// A call that calls nothing where the lengths are the same, so that it saves no registers.
+#[inline(never)]
+pub fn same_blocks<B: BitBlock>(a: &[B], b: &[B]) -> bool
+    requires left { All B.is_block a.now }
+    requires right { All B.is_block b.now }
+    ensures { IsTrue result
+        ↔ ((k : ℕ) → get_or (map B.number a.now) k 0 ≡ get_or (map B.number b.now) k 0) }
+{
+    let count = a.len();
+    if count != b.len() {
+        return first_mismatching_block(a, b).is_none();
+    }
+    if count < GROUP {
+        return mismatch_between(a, b, 0, count).is_none();
+    }
+    if count <= 2 * GROUP {
+        return same_ends(a, b, GROUP);
+    }
+    if count <= LONG_GROUP {
+        return same_ends(a, b, 2 * GROUP);
+    }
+    same_in_long_groups(a, b)
+}
+
 /// The first index at which the blocks differ, or `None`. Compares groups of blocks, each by one test, and reads
 /// less than 32 blocks past the first that differs.
 ///
@@ -17,7 +48,6 @@ use crate::packed::groups::{GROUP, LONG_GROUP};
 /// assert_eq!(first_mismatching_block(&[7u8, 1], &[7, 1, 0]), None);
 /// assert_eq!(first_mismatching_block(&[7u8, 1], &[7, 1, 2]), Some(2));
 /// ```
-#[inline]
 pub fn first_mismatching_block<B: BitBlock>(a: &[B], b: &[B]) -> Option<usize>
     requires left { All B.is_block a.now }
     requires right { All B.is_block b.now }
@@ -25,32 +55,39 @@ pub fn first_mismatching_block<B: BitBlock>(a: &[B], b: &[B]) -> Option<usize>
         ((k : ℕ) → get_or (map B.number a.now) k 0 ≡ get_or (map B.number b.now) k 0)
         (IsFirstBlockMismatch (map B.number a.now) (map B.number b.now)) }
 {
-    // A search in a map compares sets that mostly differ in their first block: that is not worth a call.
-    if same(block_or_zero(a, 0), block_or_zero(b, 0)) {
-        mismatch_by_groups(a, b)
-    } else {
-        Some(0)
+    let both = a.len().min(b.len());
+    let found = mismatch_between(a, b, same_by_groups(a, b, both), both);
+    if found.is_some() {
+        return found;
     }
+    let longer = if a.len() < b.len() { b } else { a };
+    first_nonzero_block(longer, both)
 }
 
-// The same, a group of blocks at a time.
-#[inline(never)]
-fn mismatch_by_groups<B: BitBlock>(a: &[B], b: &[B]) -> Option<usize>
+/// The first index below `end` at which the blocks differ, or `None`, where those before `start` are the same.
+/// Compares them one by one.
+///
+/// ```
+/// assert_eq!(mismatch_between(&[7u8, 1, 3], &[7, 2, 4], 1, 3), Some(1));
+/// ```
+#[inline]
+pub fn mismatch_between<B: BitBlock>(a: &[B], b: &[B], start: usize, end: usize) -> Option<usize>
+    requires within { end ≤ length a.now }
+    requires within_other { end ≤ length b.now }
     requires left { All B.is_block a.now }
     requires right { All B.is_block b.now }
+    requires before { (k : ℕ) → k < start
+        → get_or (map B.number a.now) k 0 ≡ get_or (map B.number b.now) k 0 }
     ensures { MatchOption result
-        ((k : ℕ) → get_or (map B.number a.now) k 0 ≡ get_or (map B.number b.now) k 0)
+        ((k : ℕ) → k < end → get_or (map B.number a.now) k 0 ≡ get_or (map B.number b.now) k 0)
         (IsFirstBlockMismatch (map B.number a.now) (map B.number b.now)) }
 {
-    let both = a.len().min(b.len());
-    let alike = same_by_groups(a, b, both);
-    for k in alike..both {
+    for k in start..end {
         if !same(block_at(a, k), block_at(b, k)) {
             return Some(k);
         }
     }
-    let longer = if a.len() < b.len() { b } else { a };
-    first_nonzero_block(longer, both)
+    None
 }
 
 // How many of the first `count` blocks are the same: all of them, or those before a group that has a mismatch. Few
@@ -141,6 +178,34 @@ fn is_same_group<B: BitBlock>(a: &[B], b: &[B], start: usize, size: usize) -> bo
         mismatch = or_mismatch(mismatch, block_at(a, k), block_at(b, k));
     }
     same(mismatch, B::zero())
+}
+
+// Whether lists of `size` to twice as many blocks are the same: a group at each end, which may overlap.
+#[inline(always)]
+fn same_ends<B: BitBlock>(a: &[B], b: &[B], size: usize) -> bool
+    requires enough { size ≤ length a.now }
+    requires few { length a.now ≤ size + size }
+    requires as_long { length b.now ≡ length a.now }
+    requires left { All B.is_block a.now }
+    requires right { All B.is_block b.now }
+    ensures { IsTrue result
+        ↔ ((k : ℕ) → get_or (map B.number a.now) k 0 ≡ get_or (map B.number b.now) k 0) }
+{
+    is_same_group(a, b, 0, size) && is_same_group(a, b, a.len() - size, size)
+}
+
+// Whether lists of more blocks are the same. The last group may begin within the one before it.
+#[inline(always)]
+fn same_in_long_groups<B: BitBlock>(a: &[B], b: &[B]) -> bool
+    requires enough { LONG_GROUP ≤ length a.now }
+    requires as_long { length b.now ≡ length a.now }
+    requires left { All B.is_block a.now }
+    requires right { All B.is_block b.now }
+    ensures { IsTrue result
+        ↔ ((k : ℕ) → get_or (map B.number a.now) k 0 ≡ get_or (map B.number b.now) k 0) }
+{
+    let groups = a.len() / LONG_GROUP;
+    same_groups(a, b, groups) == groups && is_same_group(a, b, a.len() - LONG_GROUP, LONG_GROUP)
 }
 
 // The digits of `seen`, and those in which the other two differ.

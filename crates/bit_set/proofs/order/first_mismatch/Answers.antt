@@ -1,35 +1,33 @@
-use Rattle.std.proofs.Common.{◌+◌, ◌*◌, ◌<◌, ◌^◌, map, length, ap, ◌∙◌, arith}
+use Rattle.std.proofs.Common.{◌+◌, ◌*◌, ◌<◌, ◌^◌, length, get_or, ap, ◌∙◌, subst, arith}
 use Rattle.bit_words.specs.Bits.{blocks_of}
-use Rattle.bit_set.proofs.MismatchLemmas.{all_alike, first_difference_is, first_within}
+use Rattle.bit_words.specs.Mismatches.{IsLowestMismatch}
+use Rattle.bit_set.specs.Mismatches.{IsFirstMismatch}
+use Rattle.bit_set.specs.Sets.{elements}
+use Rattle.bit_set.proofs.MismatchLemmas.{first_mismatch_is, first_within}
 use Rattle.bit_set.proofs.order.first_mismatch.Given.{Over}
 use Rattle.bit_set.proofs.order.first_mismatch.Goals as goal
 
-pub returns-in-None : goal.returns-in-None
-returns-in-None g c =
+is_first : (g : Over) (c : goal.After-bits g) → IsFirstMismatch (elements c.args.a.now.values) (elements c.args.b.now.values) (c.args.at * g.B.BitBlock.width + c.lowest_mismatch-index.result)
+is_first g c =
     let w = g.B.BitBlock.width in
     let n = g.B.BitBlock.number in
-    all_alike w (map n c.storage-left.result.now) (map n c.storage-right.result.now) c.args.a.now.values c.args.b.now.values g.met.B.BitBlock.width_law.positive
-    (c.storage-left.ensures.numbers ∙ ap (λ s. blocks_of w s.values) c.get_ref.ensures) (c.storage-right.ensures.numbers ∙ ap (λ s. blocks_of w s.values) c.get_ref-2.ensures) c.in-None.ensures
+    let at = c.args.at in
+    let xs = c.args.a.now.values in
+    let ys = c.args.b.now.values in
+    let left = c.block_or_zero.ensures.of_number ∙ ap (λ ms. get_or ms at 0) (c.storage-left.ensures.numbers ∙ ap (λ s. blocks_of w s.values) c.get_ref.ensures) in
+    let right = c.block_or_zero-2.ensures.of_number ∙ ap (λ ms. get_or ms at 0) (c.storage-right.ensures.numbers ∙ ap (λ s. blocks_of w s.values) c.get_ref-2.ensures) in
+    let i = c.lowest_mismatch-index.result in
+    first_mismatch_is w at i xs ys g.met.B.BitBlock.width_law.positive c.requires
+    (subst (λ m. IsLowestMismatch w m (get_or (blocks_of w ys) at 0) i) left (subst (λ m. IsLowestMismatch w (n c.block_or_zero.result) m i) right c.lowest_mismatch-index.ensures))
 
-pub returns-in-Some : goal.returns-in-Some
-returns-in-Some g c =
-    let w = g.B.BitBlock.width in
-    let n = g.B.BitBlock.number in
-    let first = first_difference_is w c.in-Some.at c.lowest_mismatch-index.result (n c.block_or_zero.result) (n c.block_or_zero-in-Some.result) (map n c.storage-left.result.now) (map n c.storage-right.result.now) c.args.a.now.values c.args.b.now.values g.met.B.BitBlock.width_law.positive
-    (c.storage-left.ensures.numbers ∙ ap (λ s. blocks_of w s.values) c.get_ref.ensures) (c.storage-right.ensures.numbers ∙ ap (λ s. blocks_of w s.values) c.get_ref-2.ensures)
-    c.in-Some.ensures c.block_or_zero.ensures.of_number c.block_or_zero-in-Some.ensures.of_number c.lowest_mismatch-index.ensures in
-    rw c.bits.ensures first
-
-fits : (g : Over) (c : goal.After-bits g) → c.in-Some.at * c.bits.result + c.lowest_mismatch-index.result < 2 ^ 64
+fits : (g : Over) (c : goal.After-bits g) → c.args.at * c.bits.result + c.lowest_mismatch-index.result < 2 ^ 64
 fits g c =
-    let w = g.B.BitBlock.width in
-    let n = g.B.BitBlock.number in
-    let first = first_difference_is w c.in-Some.at c.lowest_mismatch-index.result (n c.block_or_zero.result) (n c.block_or_zero-in-Some.result) (map n c.storage-left.result.now) (map n c.storage-right.result.now) c.args.a.now.values c.args.b.now.values g.met.B.BitBlock.width_law.positive
-    (c.storage-left.ensures.numbers ∙ ap (λ s. blocks_of w s.values) c.get_ref.ensures) (c.storage-right.ensures.numbers ∙ ap (λ s. blocks_of w s.values) c.get_ref-2.ensures)
-    c.in-Some.ensures c.block_or_zero.ensures.of_number c.block_or_zero-in-Some.ensures.of_number c.lowest_mismatch-index.ensures in
     let left : length c.args.a.now.values < 2 ^ 64 = omega (arith, ap (λ s. length s.values) c.get_ref.ensures, c.storage-left.ensures.fits.holds_values, c.storage-left.ensures.fits.fits) in
     let right : length c.args.b.now.values < 2 ^ 64 = omega (arith, ap (λ s. length s.values) c.get_ref-2.ensures, c.storage-right.ensures.fits.holds_values, c.storage-right.ensures.fits.fits) in
-    rw c.bits.ensures (first_within c.args.a.now.values c.args.b.now.values _ first left right)
+    rw c.bits.ensures (first_within c.args.a.now.values c.args.b.now.values _ (is_first g c) left right)
+
+pub returns : goal.returns
+returns g c = rw c.bits.ensures (is_first g c)
 
 pub overflow_add-result : goal.overflow_add-result
 overflow_add-result g c = omega (arith, fits g c)
