@@ -1,5 +1,5 @@
 // The walk over the blocks of a bit vector that are not 0, by its summary.
-ghost use Rattle.std.specs.Prelude.{◌≡◌, ℕ, ◌+◌, ◌-◌, ◌*◌, ◌/◌, ◌<◌, ◌≤◌, ◌^◌, ◌==◌, ◌||◌, min, not, nat_lt, All, Some, drop, length, map, slice_get};
+ghost use Rattle.std.specs.Prelude.{◌≡◌, ℕ, ◌+◌, ◌-◌, ◌*◌, ◌/◌, ◌<◌, ◌≤◌, ◌^◌, ◌==◌, ◌||◌, min, not, nat_lt, All, Some, drop, get_or, length, map, slice_get};
 ghost use Rattle.std.specs.Iterator.{item_count};
 ghost use Rattle.bit_words.specs.Bits.{blocks_for};
 ghost use Rattle.bit_words.specs.Digits.{IsEither, is_one};
@@ -272,7 +272,7 @@ fn next_pending<B: BitBlock>(
     while *pending == B::zero() {
         // `index` goes with the block of the summary in hand: on by those that are passed over, and by one more
         // only where there are blocks for it.
-        *index += summary.pass_zeros() * B::bits();
+        *index += pass_zero_chunks(summary, blocks.len() - *index) * B::bits();
         if blocks.len() - *index <= B::bits() {
             let _end = summary.next();
             return None;
@@ -281,6 +281,23 @@ fn next_pending<B: BitBlock>(
         *pending = pull_used(summary, blocks, *index);
     }
     Some(*index + take_lowest_one(pending))
+}
+
+// Pulls the blocks of the summary before the first that is not 0, and returns how many they are. Where only `count`
+// blocks are left from those of the summary's block in hand on, and these are the last, none is looked for.
+#[inline(always)]
+fn pass_zero_chunks<B: BitBlock>(summary: &mut Blocks<'_, B>, count: usize) -> usize
+    requires each { All B.is_block summary.old.left }
+    ensures there { result ≤ length summary.old.left }
+    ensures zeros { (k : ℕ) → k < result → get_or (map B.number summary.old.left) k 0 ≡ 0 }
+    ensures left { summary.new.left ≡ drop result summary.old.left }
+    ensures fewer { length summary.new.left + result ≡ length summary.old.left }
+    ensures pulls { summary.new.pulls ≡ summary.old.pulls + result }
+{
+    if count <= B::bits() {
+        return 0;
+    }
+    summary.pass_zeros()
 }
 
 // Whether a block comes: it is not zero, or it is the first.

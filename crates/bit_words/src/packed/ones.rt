@@ -3,7 +3,9 @@ ghost use Rattle.std.specs.Prelude.{◌≡◌, ◌+◌, ◌*◌, ◌^◌, ◌<�
 ghost use Rattle.bit_words.specs.Nonzero.{ones_in};
 
 use crate::block::BitBlock;
-use crate::packed::groups::GROUP;
+
+// How many blocks are added up with no loop between them.
+const GROUP: usize = 16;
 
 // Adds up the ones of each block, most of them a group at a time.
 #[inline]

@@ -12,7 +12,40 @@ use std::alloc::{AllocError, Global};
 
 // The blocks become those of `from`, and so does their summary. Where capacity for either is missing, both are
 // new vectors.
+#[inline]
 pub(crate) fn take_over<B: BitBlock>(
+    blocks: &mut Vec<B>,
+    summary: &mut Vec<B>,
+    from: &[B],
+    from_summary: &[B],
+) -> Result<(), AllocError>
+    requires count { length from_summary.now ≡ stored_for B.width (length from.now) }
+    ensures items { OnOk result (blocks.new.items ≡ from.now) }
+    ensures summary { OnOk result (summary.new.items ≡ from_summary.now) }
+    ensures exact { OnOk result
+        (shared_capacity B.width (vec_capacity blocks.new) (vec_capacity summary.new)
+        ≡ max (shared_capacity B.width (vec_capacity blocks.old) (vec_capacity summary.old)) (length from.now)) }
+    ensures err { OnErr result (blocks.new ≡ blocks.old) }
+    ensures err_summary { OnErr result (summary.new ≡ summary.old) }
+    ensures full { OnErr result
+        (shared_capacity B.width (vec_capacity blocks.old) (vec_capacity summary.old) < length from.now) }
+    ensures within { length from.now ≤ shared_capacity B.width (vec_capacity blocks.old) (vec_capacity summary.old)
+        → shared_capacity B.width (vec_capacity blocks.new) (vec_capacity summary.new)
+        ≡ shared_capacity B.width (vec_capacity blocks.old) (vec_capacity summary.old) }
+    ensures capacity { shared_capacity B.width (vec_capacity blocks.old) (vec_capacity summary.old)
+        ≤ shared_capacity B.width (vec_capacity blocks.new) (vec_capacity summary.new) }
+{
+    // As many blocks and no summary, as small sets of one length have: that needs no capacity.
+    if from.len() == blocks.len() && from_summary.is_empty() && summary.is_empty() {
+        blocks.copy_from_slice(from);
+        return Ok(());
+    }
+    take_over_any(blocks, summary, from, from_summary)
+}
+
+// The same of any lists. It is a call of its own, so that few registers are saved above.
+#[inline(never)]
+fn take_over_any<B: BitBlock>(
     blocks: &mut Vec<B>,
     summary: &mut Vec<B>,
     from: &[B],

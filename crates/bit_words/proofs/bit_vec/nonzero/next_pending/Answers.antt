@@ -24,12 +24,12 @@ returns-then-blocks-index-clause-walk g c =
     let was = c.loop-summary.index in
     let pending = c.loop-summary.pending in
     let before = c.loop-summary.invariant in
-    let zeros = c.pass_zeros.ensures in
+    let zeros = c.pass_zero_chunks.ensures in
     let pos = g.met.B.BitBlock.width_law.positive in
-    let index = was + c.pass_zeros.result * w in
-    let summary = c.pass_zeros.new.self.left in
+    let index = was + c.pass_zero_chunks.result * w in
+    let summary = c.pass_zero_chunks.new.summary.left in
     let used_up : number pending ≡ 0 = (g.met.B.BitBlock.eq_law pending c.zero.result before.walk.hand.of_block c.zero.ensures.of_block).0 (sym c.eq.ensures ∙ c.loop-summary-test.true) ∙ c.zero.ensures.of_number in
-    let (walk, same, count) = zeros_passed w number is_block c.pass_zeros.result was first pending xs c.loop-summary.summary.left summary pos before.walk used_up zeros.there zeros.zeros zeros.left in
+    let (walk, same, count) = zeros_passed w number is_block c.pass_zero_chunks.result was first pending xs c.loop-summary.summary.left summary pos before.walk used_up zeros.there zeros.zeros zeros.left in
     let end : length xs ≤ index + w = omega (arith, rw (c.bits.ensures, c.bits-in-loop-summary.ensures) at c.if-blocks-index.true) in
     let none = summary_ended w number is_block index first pending xs summary pos walk end in
     let after : c.next-end.new.self.left ≡ summary = none_past_end summary c.next-end.new.self.left c.next-end.result c.next-end.ensures.steps.item none ∙ sym none in
@@ -39,7 +39,7 @@ pub returns-then-blocks-index-clause-past : goal.returns-then-blocks-index-claus
 returns-then-blocks-index-clause-past g c =
     let pending = c.loop-summary.pending in
     let used_up : g.B.BitBlock.number pending ≡ 0 = (g.met.B.BitBlock.eq_law pending c.zero.result c.loop-summary.invariant.walk.hand.of_block c.zero.ensures.of_block).0 (sym c.eq.ensures ∙ c.loop-summary-test.true) ∙ c.zero.ensures.of_number in
-    IsPastFirst-none g.B.BitBlock.width (c.loop-summary.index + c.pass_zeros.result * c.bits.result) c.args.first 1 (g.B.BitBlock.number pending) used_up
+    IsPastFirst-none g.B.BitBlock.width (c.loop-summary.index + c.pass_zero_chunks.result * c.bits.result) c.args.first 1 (g.B.BitBlock.number pending) used_up
 
 pub returns-then-blocks-index-clause-found : goal.returns-then-blocks-index-clause-found
 returns-then-blocks-index-clause-found g c =
@@ -51,12 +51,12 @@ returns-then-blocks-index-clause-found g c =
     let was = c.loop-summary.index in
     let pending = c.loop-summary.pending in
     let before = c.loop-summary.invariant in
-    let zeros = c.pass_zeros.ensures in
+    let zeros = c.pass_zero_chunks.ensures in
     let pos = g.met.B.BitBlock.width_law.positive in
-    let index = was + c.pass_zeros.result * w in
-    let summary = c.pass_zeros.new.self.left in
+    let index = was + c.pass_zero_chunks.result * w in
+    let summary = c.pass_zero_chunks.new.summary.left in
     let used_up : number pending ≡ 0 = (g.met.B.BitBlock.eq_law pending c.zero.result before.walk.hand.of_block c.zero.ensures.of_block).0 (sym c.eq.ensures ∙ c.loop-summary-test.true) ∙ c.zero.ensures.of_number in
-    let (walk, same, count) = zeros_passed w number is_block c.pass_zeros.result was first pending xs c.loop-summary.summary.left summary pos before.walk used_up zeros.there zeros.zeros zeros.left in
+    let (walk, same, count) = zeros_passed w number is_block c.pass_zero_chunks.result was first pending xs c.loop-summary.summary.left summary pos before.walk used_up zeros.there zeros.zeros zeros.left in
     let end : length xs ≤ index + w = omega (arith, rw (c.bits.ensures, c.bits-in-loop-summary.ensures) at c.if-blocks-index.true) in
     let ended = left-ended w number is_block index first pending xs used_up end in
     let last : blocks_for w (length xs - (index + w)) ≡ 0 = blocks_for-none w (length xs - (index + w)) pos (omega (arith, end)) in
@@ -81,12 +81,12 @@ pull_used-requires-clause-stored g c =
     let was = c.loop-summary.index in
     let pending = c.loop-summary.pending in
     let before = c.loop-summary.invariant in
-    let zeros = c.pass_zeros.ensures in
+    let zeros = c.pass_zero_chunks.ensures in
     let pos = g.met.B.BitBlock.width_law.positive in
-    let index = was + c.pass_zeros.result * w in
-    let summary = c.pass_zeros.new.self.left in
+    let index = was + c.pass_zero_chunks.result * w in
+    let summary = c.pass_zero_chunks.new.summary.left in
     let used_up : number pending ≡ 0 = (g.met.B.BitBlock.eq_law pending c.zero.result before.walk.hand.of_block c.zero.ensures.of_block).0 (sym c.eq.ensures ∙ c.loop-summary-test.true) ∙ c.zero.ensures.of_number in
-    let (walk, same, count) = zeros_passed w number is_block c.pass_zeros.result was first pending xs c.loop-summary.summary.left summary pos before.walk used_up zeros.there zeros.zeros zeros.left in
+    let (walk, same, count) = zeros_passed w number is_block c.pass_zero_chunks.result was first pending xs c.loop-summary.summary.left summary pos before.walk used_up zeros.there zeros.zeros zeros.left in
     rw (c.bits.ensures, c.bits-in-loop-summary-2.ensures) (λ some. walk.digit (long_by_stored w number is_block index first pending xs summary walk some))
 
 pub loop-summary-preserved : goal.loop-summary-preserved
@@ -99,12 +99,12 @@ loop-summary-preserved g c =
     let was = c.loop-summary.index in
     let pending = c.loop-summary.pending in
     let before = c.loop-summary.invariant in
-    let zeros = c.pass_zeros.ensures in
+    let zeros = c.pass_zero_chunks.ensures in
     let pos = g.met.B.BitBlock.width_law.positive in
-    let index = was + c.pass_zeros.result * w in
-    let summary = c.pass_zeros.new.self.left in
+    let index = was + c.pass_zero_chunks.result * w in
+    let summary = c.pass_zero_chunks.new.summary.left in
     let used_up : number pending ≡ 0 = (g.met.B.BitBlock.eq_law pending c.zero.result before.walk.hand.of_block c.zero.ensures.of_block).0 (sym c.eq.ensures ∙ c.loop-summary-test.true) ∙ c.zero.ensures.of_number in
-    let (walk, same, count) = zeros_passed w number is_block c.pass_zeros.result was first pending xs c.loop-summary.summary.left summary pos before.walk used_up zeros.there zeros.zeros zeros.left in
+    let (walk, same, count) = zeros_passed w number is_block c.pass_zero_chunks.result was first pending xs c.loop-summary.summary.left summary pos before.walk used_up zeros.there zeros.zeros zeros.left in
     let pull = c.pull_used.ensures in
     let next = c.pull_used.result in
     let more : index + w < length xs = omega (arith, walk.hand.within, rw (c.bits.ensures, c.bits-in-loop-summary.ensures) at c.if-blocks-index.false) in

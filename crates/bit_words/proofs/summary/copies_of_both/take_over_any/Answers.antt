@@ -2,7 +2,7 @@ use Rattle.std.proofs.Common.{◌≡◌, ℕ, ◌<◌, ◌≤◌, length, vec_ca
 use Rattle.std.proofs.lemmas.Result.{on_ok_weaker, on_err_weaker}
 use Rattle.bit_words.specs.Summary.{shared_capacity, stored_for}
 use Rattle.bit_words.proofs.CapacityLemmas.{shared_enough, stored_from_shared}
-use Rattle.bit_words.proofs.summary.copies_of_both.take_over.Goals as goal
+use Rattle.bit_words.proofs.summary.copies_of_both.take_over_any.Goals as goal
 
 -- the capacity of new vectors is that of their blocks, and a failure leaves it
 replaced : {E : Type 0} (w blocks summary new_blocks new_summary count : ℕ) (r : Result Unit E) → 0 < w → shared_capacity w blocks summary < count → OnOk r (new_blocks ≡ count) → OnOk r (new_summary ≡ stored_for w count) → OnErr r (new_blocks ≡ blocks) → OnErr r (new_summary ≡ summary) → shared_capacity w blocks summary ≤ shared_capacity w new_blocks new_summary
