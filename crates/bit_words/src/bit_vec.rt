@@ -207,8 +207,8 @@ impl<B: BitBlock> BitVec<B> {
     }
 
     /// What [`nonzero_from`](Self::nonzero_from) leaves after one pull: the same past the block with this index, or past
-    /// the last one where there are fewer. Takes no memory, and constant time: where that block is zero and no summary
-    /// is stored, it looks at the blocks past it at once, as many as a block has bits at most.
+    /// the last one where there are fewer. Takes no memory, and constant time: it looks at as many blocks at once as a
+    /// block has bits at most, where no summary is stored and the first of these is zero.
     ///
     /// ```
     /// // Of 100 values, over blocks of 32 bits, those at 70 and 71 are true.

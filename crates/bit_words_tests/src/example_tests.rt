@@ -1,7 +1,7 @@
 //! The examples of the doc comments, as they are there.
 use bit_words::bit_vec::{
     BitVec, BitsError, clear_below, first_mismatching_block, first_nonzero_block, lowest_mismatch,
-    take_lowest_one,
+    mismatch_between, same_blocks, take_lowest_one,
 };
 use std::alloc::AllocError;
 use std::process::Abort;
@@ -49,8 +49,11 @@ fn a_block_without_its_lowest_digits(rt: HostRuntime) -> Result<(), Fail> {
 
 #[test]
 fn where_lists_of_blocks_differ(rt: HostRuntime) {
+    assert!(rt; same_blocks(&[7u8, 1], &[7, 1, 0]));
+    assert!(rt; !same_blocks(&[7u8, 1], &[7, 1, 2]));
     assert_eq!(rt; first_mismatching_block(&[7u8, 1], &[7, 1, 0]), None);
     assert_eq!(rt; first_mismatching_block(&[7u8, 1], &[7, 1, 2]), Some(2));
+    assert_eq!(rt; mismatch_between(&[7u8, 1, 3], &[7, 2, 4], 1, 3), Some(1));
     assert_eq!(rt; first_nonzero_block(&[1u8, 0, 4], 1), Some(2));
     assert_eq!(rt; lowest_mismatch(0b0101u8, 0b1001), 2);
 }

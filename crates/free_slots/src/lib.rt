@@ -83,8 +83,6 @@ impl<B: BitBlock> Slots<B> {
         ensures len { self.new.len ≡ self.old.len }
         ensures happens { Happens self.old (Take 0 result) self.new }
     {
-        members_of_sets();
-        sets_ascend();
         let slot = self.lowest_free()?;
         self.free.remove(slot);
         self.searched = self.searched.max(slot.saturating_add(1));
