@@ -17,8 +17,8 @@ use Rattle.bit_set.specs.Members.{IsSameSet}
 use Rattle.bit_set.specs.Order.{order_of_sets}
 use Rattle.bit_set.specs.Sets.{bound_of, elements, has, put_all}
 use Rattle.bit_set.specs.Walk.{Walk, Advances}
-use Rattle.std.proofs.Math.Bool.{and-false, and-true, or-false}
-use Rattle.bit_set.proofs.SetLaws.{has-filter, has-put_all}
+use Rattle.std.proofs.Math.Bool.{and-false, and-true}
+use Rattle.bit_set.proofs.SetLaws.{has-filter}
 use Rattle.bit_set.proofs.SetLemmas.{IsAscending-elements, same_members}
 
 module _ {S V E : Type 0} {steps : S → Option ℕ → S → Type 0} {s : S} {all : List ℕ} where

@@ -1,18 +1,15 @@
 -- A walk that starts at any number: what is left of the first block, and of the blocks past it.
-use Rattle.std.proofs.Common.{◌≡◌, ℕ, zero, suc, ◌+◌, ◌-◌, ◌*◌, ◌/◌, ◌%◌, ◌^◌, ◌<◌, ◌≤◌, ◌==◌, Bool, true, false, not, if◌then◌else◌, ◌&&◌, leb, List, [], ◌∷◌, map, length, drop, filter, get_or, get_or-drop, min, max, All, Some, None, refl, sym, ap, ◌∙◌, subst, arith, inl, inr, ⊎_elim, mod-lt, mul-le-mul_right, div-add-mod'}
+use Rattle.std.proofs.Common.{◌≡◌, ℕ, zero, suc, ◌+◌, ◌-◌, ◌*◌, ◌/◌, ◌%◌, ◌^◌, ◌<◌, ◌≤◌, Bool, true, false, not, if◌then◌else◌, ◌&&◌, leb, List, [], ◌∷◌, map, length, drop, filter, get_or, get_or-drop, min, All, refl, sym, ap, ◌∙◌, subst, arith, ⊎_elim, mod-lt, mul-le-mul_right, div-add-mod'}
 use Rattle.std.proofs.lemmas.Bool.{cases_lt, le-leb, lt-leb}
-use Rattle.std.proofs.lemmas.List.{drop-map, drop_all, get_or_past, length-drop, length-map}
-use Rattle.std.proofs.lemmas.List.Elements.{All-drop, All-filter, All-head}
+use Rattle.std.proofs.lemmas.List.{drop-map, get_or_past, length-drop, length-map}
+use Rattle.std.proofs.lemmas.List.Elements.{All-filter}
 use Rattle.std.proofs.lemmas.List.Filters.{length-filter_both}
-use Rattle.std.proofs.Math.Seq.{drop-drop}
-use Rattle.bit_words.specs.Bits.{Bits, IsWithinCapacity, blocks_for, blocks_of}
-use Rattle.bit_words.specs.Nonzero.{Nonzeros, PullsNonzero, nonzero_from, first_and_nonzero, block_and_nonzero}
+use Rattle.bit_words.specs.Bits.{blocks_for, blocks_of}
+use Rattle.bit_words.specs.Nonzero.{Nonzeros, nonzero_from}
 use Rattle.bit_words.specs.Digits.{is_one}
-use Rattle.bit_words.proofs.BitsLemmas.{blocks_for-least}
 use Rattle.bit_words.proofs.Masks.{is_one-zero}
-use Rattle.bit_words.proofs.NonzeroFromLemmas.{chunk_inside}
 use Rattle.bit_set.specs.Sets.{elements_from, elements, has, those_from}
-use Rattle.bit_set.specs.Places.{indexes, past_block, values_in, IsSparseWalk}
+use Rattle.bit_set.specs.Places.{indexes, values_in, IsSparseWalk}
 use Rattle.bit_set.specs.Walk.{Walk, IsAtStart, IsAtStartFrom}
 use Rattle.bit_set.proofs.PlaceLemmas.{indexes-next, value_in, values_in-blocks_of}
 use Rattle.bit_set.proofs.SetLaws.{AscendsFrom-filter, has-filter}

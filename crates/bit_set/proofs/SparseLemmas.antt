@@ -1,5 +1,5 @@
 -- A walk that goes by the blocks that are not 0: its making, the step to the next such block, and the end.
-use Rattle.std.proofs.Common.{◌≡◌, ℕ, suc, ◌+◌, ◌-◌, ◌*◌, ◌/◌, ◌^◌, ◌<◌, ◌≤◌, ◌==◌, Bool, true, false, not, if◌then◌else◌, List, [], ◌∷◌, map, length, drop, get_or, min, max, All, Some, None, count_ones, refl, sym, ap, ◌∙◌, subst, arith, inl, inr, ⊎_elim}
+use Rattle.std.proofs.Common.{◌≡◌, ℕ, suc, ◌+◌, ◌-◌, ◌*◌, ◌/◌, ◌^◌, ◌<◌, ◌≤◌, ◌==◌, Bool, true, false, not, if◌then◌else◌, List, [], ◌∷◌, length, drop, get_or, All, Some, None, count_ones, refl, sym, ap, ◌∙◌, subst, arith, inl, inr, ⊎_elim}
 use Rattle.std.proofs.lemmas.Bool.{cases_eq, cases_lt, true≢false}
 use Rattle.std.proofs.lemmas.Bool.Decides.{nat_tests}
 use Rattle.std.proofs.lemmas.Nat.{div-mul-add, ones_le_self}
@@ -8,15 +8,15 @@ use Rattle.std.proofs.lemmas.List.Elements.{All-nil, All-drop, All-head, All-tai
 use Rattle.std.proofs.lemmas.List.Sums.{sum_by-cons}
 use Rattle.std.proofs.Math.Seq.{drop-drop}
 use Rattle.bit_words.specs.Lowest.{IsLowest, IsCleared}
-use Rattle.bit_words.specs.Bits.{blocks_for, blocks_of}
-use Rattle.bit_words.specs.Nonzero.{Nonzeros, PullsNonzero, Refills, nonzero_from, first_and_nonzero, ones_left}
-use Rattle.bit_words.proofs.BitsLemmas.{blocks_for-enough, blocks_for-least}
+use Rattle.bit_words.specs.Bits.{blocks_for}
+use Rattle.bit_words.specs.Nonzero.{Nonzeros, PullsNonzero, Refills, nonzero_from, ones_left}
+use Rattle.bit_words.proofs.BitsLemmas.{blocks_for-enough}
 use Rattle.bit_set.specs.Sets.{AscendsFrom, elements_from, elements}
 use Rattle.bit_set.specs.Places.{indexes, past_block, CanWalk, IsSparseWalk}
-use Rattle.bit_set.specs.Walk.{Walk, Advances, IsAtStart}
+use Rattle.bit_set.specs.Walk.{Walk, Advances}
 use Rattle.bit_set.proofs.MemberLemmas.{takes_least}
 use Rattle.bit_set.proofs.PlaceLemmas.{AscendsFrom-indexes, indexes-zero, indexes-next, indexes-lowest, length-indexes, length-elements-block}
-use Rattle.bit_set.proofs.WalkLemmas.{values_of_blocks, length-values_of_blocks, length-blocks, elements-values_of_blocks, IsWalkable-values_of_blocks, CanWalk-taken}
+use Rattle.bit_set.proofs.WalkLemmas.{values_of_blocks, length-values_of_blocks, CanWalk-taken}
 
 -- ---- the first block that is not 0
 

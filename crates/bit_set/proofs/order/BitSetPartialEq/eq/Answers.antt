@@ -1,4 +1,4 @@
-use Rattle.std.proofs.Common.{◌≡◌, sym, ap, ◌∙◌, get_or}
+use Rattle.std.proofs.Common.{sym, ap, ◌∙◌, get_or}
 use Rattle.bit_words.specs.Bits.{blocks_of}
 use Rattle.bit_set.proofs.MismatchLemmas.{same_by_blocks}
 use Rattle.bit_set.proofs.MemberLemmas.{tells_same}

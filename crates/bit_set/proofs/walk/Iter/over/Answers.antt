@@ -1,4 +1,4 @@
-use Rattle.std.proofs.Common.{◌≡◌, ℕ, ◌-◌, ◌*◌, ◌/◌, ◌<◌, ◌&&◌, ◌∙◌, leb, map, min, length, get_or, ap, sym, arith}
+use Rattle.std.proofs.Common.{◌≡◌, ◌-◌, ◌*◌, ◌/◌, ◌&&◌, ◌∙◌, map, get_or, ap, sym, arith}
 use Rattle.std.proofs.lemmas.Bool.{le-leb}
 use Rattle.bit_words.specs.Digits.{is_one}
 use Rattle.bit_words.proofs.NonzeroFromLemmas.{past_first}

@@ -1,9 +1,8 @@
-use Rattle.std.proofs.Common.{◌≡◌, ◌+◌, ◌-◌, ◌*◌, ◌<◌, ◌≤◌, ◌||◌, ◌==◌, ◌∷◌, List, [], Option, None, Some, true, false, length, map, sym, ap, ◌∙◌, subst, arith}
+use Rattle.std.proofs.Common.{◌≡◌, ◌+◌, ◌-◌, ◌*◌, ◌<◌, ◌≤◌, ◌||◌, ◌==◌, ◌∷◌, List, [], Option, None, Some, length, sym, ap, ◌∙◌, subst, arith}
 use Rattle.std.specs.Iterator.{YieldsFirst}
 use Rattle.std.proofs.lemmas.Option.{get_or_from_slice_get}
 use Rattle.bit_words.specs.Bits.{blocks_for}
 use Rattle.bit_words.specs.Pending.{IsPending, pending_from}
-use Rattle.bit_words.specs.Summary.{is_used}
 use Rattle.bit_words.proofs.NonzeroLemmas.{zeros_passed, left-pulled, IsPending-pulled, IsPending-with, IsInHand-taken, IsPastFirst-taken, IsPastFirst-pulled, IsPastFirst-none, left-taken, used_here, tries-taken, tries-pulled, count_pulled, long_by_stored, left-ended, summary_ended}
 use Rattle.bit_words.proofs.Masks.{is_one-bit}
 use Rattle.bit_words.proofs.NonzeroFromLemmas.{blocks_for-none}
