@@ -1,6 +1,6 @@
 -- A walk that goes by the blocks that are not 0: its making, the step to the next such block, and the end.
-use Rattle.std.proofs.Common.{◌≡◌, ℕ, suc, ◌+◌, ◌-◌, ◌*◌, ◌/◌, ◌^◌, ◌<◌, ◌≤◌, ◌==◌, Bool, true, false, not, if◌then◌else◌, List, [], ◌∷◌, length, drop, get_or, All, Some, None, count_ones, refl, sym, ap, ◌∙◌, subst, arith, inl, inr, ⊎_elim}
-use Rattle.std.proofs.lemmas.Bool.{cases_eq, cases_lt, true≢false}
+use Rattle.std.proofs.Common.{◌≡◌, ℕ, suc, ◌+◌, ◌-◌, ◌*◌, ◌/◌, ◌^◌, ◌<◌, ◌≤◌, ◌==◌, Bool, true, false, not, if◌then◌else◌, List, [], ◌∷◌, length, drop, get_or, All, Some, None, count_ones, refl, sym, ap, ◌∙◌, subst, arith, inl, inr}
+use Rattle.std.proofs.lemmas.Bool.{cases_eq, true≢false}
 use Rattle.std.proofs.lemmas.Bool.Decides.{nat_tests}
 use Rattle.std.proofs.lemmas.Nat.{div-mul-add, ones_le_self}
 use Rattle.std.proofs.lemmas.List.{drop_all, length-drop}
@@ -8,9 +8,7 @@ use Rattle.std.proofs.lemmas.List.Elements.{All-nil, All-drop, All-head, All-tai
 use Rattle.std.proofs.lemmas.List.Sums.{sum_by-cons}
 use Rattle.std.proofs.Math.Seq.{drop-drop}
 use Rattle.bit_words.specs.Lowest.{IsLowest, IsCleared}
-use Rattle.bit_words.specs.Bits.{blocks_for}
 use Rattle.bit_words.specs.Nonzero.{Nonzeros, PullsNonzero, Refills, nonzero_from, ones_left}
-use Rattle.bit_words.proofs.BitsLemmas.{blocks_for-enough}
 use Rattle.bit_set.specs.Sets.{AscendsFrom, elements_from, elements}
 use Rattle.bit_set.specs.Places.{indexes, past_block, CanWalk, IsSparseWalk}
 use Rattle.bit_set.specs.Walk.{Walk, Advances}
@@ -128,14 +126,6 @@ pub record Ends {X : Type 0} (w : ℕ) (number : X → ℕ) (is_block : X → Ty
 
 pub whole_index : (w q : ℕ) → 0 < w → q * w / w ≡ q
 whole_index w q pos = ap (λ n. n / w) (let e : q * w ≡ q * w + 0 = omega arith in e) ∙ div-mul-add q w 0 pos
-
--- some values have a block
-blocks_for-some : (w n : ℕ) → 0 < w → 1 ≤ n → 1 ≤ blocks_for w n
-blocks_for-some w n pos some =
-    ⊎_elim
-    (λ there. there)
-    (λ none. absurd (let product = ap (λ b. b * w) (let e : blocks_for w n ≡ 0 = omega arith in e) in omega (arith, blocks_for-enough w n pos, product, some)))
-    (cases_lt 0 (blocks_for w n))
 
 -- by blocks further along
 along_by : (w index at k by b c : ℕ) → index ≡ k * w → at ≡ (k + by) * w → b ≡ c + by → at + w * c ≡ index + w * b
