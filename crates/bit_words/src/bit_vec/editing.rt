@@ -1,7 +1,6 @@
 // Calls that change the list in place.
-ghost use Rattle.std.specs.Prelude.{◌≡◌, ℕ, ◌+◌, ◌<◌, ◌≤◌, [], ◌++◌, length, map, max, replicate, slice_get, slice_set, take, Some, vec_capacity, IsOk, OnErr, OnOk};
+ghost use Rattle.std.specs.Prelude.{◌≡◌, ◌+◌, ◌<◌, ◌≤◌, [], ◌++◌, length, max, replicate, slice_get, slice_set, take, Some, IsOk, OnErr, OnOk};
 ghost use Rattle.bit_words.specs.Bits.{blocks_for, capacity_of};
-ghost use Rattle.bit_words.specs.Storage.{value_at, IsPacked};
 
 use crate::bit_vec::BitVec;
 use crate::block::BitBlock;
@@ -48,17 +47,14 @@ impl<B: BitBlock> BitVec<B> {
     }
 
     /// Makes every value be `bit`. Writes each block once.
-    #[inline]
     pub fn fill(&mut self, bit: bool)
         ensures values { self.new.values ≡ replicate (length self.old.values) bit }
         ensures capacity { self.new.capacity ≡ self.old.capacity }
     {
-        if is_short::<B>(self.blocks.len()) {
-            fill_bits(&mut self.blocks, self.len, bit);
-            return;
+        fill_bits(&mut self.blocks, self.len, bit);
+        if !is_short::<B>(self.blocks.len()) {
+            fill_bits(&mut self.summary, self.blocks.len(), bit);
         }
-        let count = self.blocks.len();
-        fill_both(&mut self.blocks, self.len, &mut self.summary, count, bit);
     }
 
     /// Keeps the first `n` values; nothing where there are no more. Writes one block at most.
@@ -155,27 +151,4 @@ impl<B: BitBlock> BitVec<B> {
         self.len = other.len;
         Ok(())
     }
-}
-
-// The `len` values of the blocks and the `count` of the summary become `bit`. It is a call of its own, so that where
-// no summary is stored no register is saved.
-#[inline(never)]
-fn fill_both<B: BitBlock>(
-    blocks: &mut Vec<B>,
-    len: usize,
-    summary: &mut Vec<B>,
-    count: usize,
-    bit: bool,
-)
-    requires blocks { IsPacked B.width B.number B.is_block blocks.old.items len }
-    requires summary { IsPacked B.width B.number B.is_block summary.old.items count }
-    ensures filled { (i : ℕ) → i < len → value_at B.width (map B.number blocks.new.items) i ≡ bit }
-    ensures filled_summary { (i : ℕ) → i < count → value_at B.width (map B.number summary.new.items) i ≡ bit }
-    ensures packed { IsPacked B.width B.number B.is_block blocks.new.items len }
-    ensures packed_summary { IsPacked B.width B.number B.is_block summary.new.items count }
-    ensures capacity { vec_capacity blocks.new ≡ vec_capacity blocks.old }
-    ensures capacity_summary { vec_capacity summary.new ≡ vec_capacity summary.old }
-{
-    fill_bits(blocks, len, bit);
-    fill_bits(summary, count, bit);
 }

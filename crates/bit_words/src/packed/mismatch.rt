@@ -17,7 +17,7 @@ use crate::packed::groups::{GROUP, LONG_GROUP};
 /// assert!(same_blocks(&[7u8, 1], &[7, 1, 0]));
 /// assert!(!same_blocks(&[7u8, 1], &[7, 1, 2]));
 /// ```
-// A call that calls nothing where the lengths are the same, so that it saves no registers.
+// What it calls comes last, so that it saves no registers.
 #[inline(never)]
 pub fn same_blocks<B: BitBlock>(a: &[B], b: &[B]) -> bool
     requires left { All B.is_block a.now }
@@ -27,7 +27,7 @@ pub fn same_blocks<B: BitBlock>(a: &[B], b: &[B]) -> bool
 {
     let count = a.len();
     if count != b.len() {
-        return first_mismatching_block(a, b).is_none();
+        return same_by_search(a, b);
     }
     if count < GROUP {
         return mismatch_between(a, b, 0, count).is_none();
@@ -195,7 +195,7 @@ fn same_ends<B: BitBlock>(a: &[B], b: &[B], size: usize) -> bool
 }
 
 // Whether lists of more blocks are the same. The last group may begin within the one before it.
-#[inline(always)]
+#[inline(never)]
 fn same_in_long_groups<B: BitBlock>(a: &[B], b: &[B]) -> bool
     requires enough { LONG_GROUP ≤ length a.now }
     requires as_long { length b.now ≡ length a.now }
@@ -205,7 +205,33 @@ fn same_in_long_groups<B: BitBlock>(a: &[B], b: &[B]) -> bool
         ↔ ((k : ℕ) → get_or (map B.number a.now) k 0 ≡ get_or (map B.number b.now) k 0) }
 {
     let groups = a.len() / LONG_GROUP;
-    same_groups(a, b, groups) == groups && is_same_group(a, b, a.len() - LONG_GROUP, LONG_GROUP)
+    same_groups(a, b, groups) == groups && same_last_group(a, b)
+}
+
+// Whether the last blocks are the same, as many as a long group has. The compiler knows how many are compared.
+#[inline]
+fn same_last_group<B: BitBlock>(a: &[B], b: &[B]) -> bool
+    requires enough { LONG_GROUP ≤ length a.now }
+    requires as_long { length b.now ≡ length a.now }
+    requires left { All B.is_block a.now }
+    requires right { All B.is_block b.now }
+    ensures { IsTrue result
+        ↔ ((k : ℕ) → length a.now ≤ k + LONG_GROUP → k < length a.now
+        → get_or (map B.number a.now) k 0 ≡ get_or (map B.number b.now) k 0) }
+{
+    let start = a.len() - LONG_GROUP;
+    is_same_group(a.split_at(start).1, b.split_at(start).1, 0, LONG_GROUP)
+}
+
+// Whether lists of any lengths are the same.
+#[inline(never)]
+fn same_by_search<B: BitBlock>(a: &[B], b: &[B]) -> bool
+    requires left { All B.is_block a.now }
+    requires right { All B.is_block b.now }
+    ensures { IsTrue result
+        ↔ ((k : ℕ) → get_or (map B.number a.now) k 0 ≡ get_or (map B.number b.now) k 0) }
+{
+    first_mismatching_block(a, b).is_none()
 }
 
 // The digits of `seen`, and those in which the other two differ.

@@ -3,9 +3,7 @@ ghost use Rattle.std.specs.Prelude.{◌≡◌, ◌+◌, ◌*◌, ◌^◌, ◌<�
 ghost use Rattle.bit_words.specs.Nonzero.{ones_in};
 
 use crate::block::BitBlock;
-
-// How many blocks are added up with no loop between them.
-const GROUP: usize = 16;
+use crate::packed::groups::GROUP;
 
 // Adds up the ones of each block, most of them a group at a time.
 #[inline]

@@ -8,7 +8,7 @@ pub ones_of_each-requires-clause-fits : goal.ones_of_each-requires-clause-fits
 ones_of_each-requires-clause-fits g c =
     let number = g.B.BitBlock.number in
     let xs = c.args.blocks.now in
-    let n = length xs / 16 * 16 in
+    let n = length xs / 8 * 8 in
     let both = ap (ones_in number) (sym (take-append-drop n xs)) ∙ sum_by-append (λ x. count_ones (number x)) (take n xs) (drop n xs) in
     let rest = ap (ones_in number) c.split_at.ensures.back in
     omega (arith, both, rest, c.requires.fits)
@@ -17,7 +17,7 @@ pub returns : goal.returns
 returns g c =
     let number = g.B.BitBlock.number in
     let xs = c.args.blocks.now in
-    let n = length xs / 16 * 16 in
+    let n = length xs / 8 * 8 in
     let both = ap (ones_in number) (sym (take-append-drop n xs)) ∙ sum_by-append (λ x. count_ones (number x)) (take n xs) (drop n xs) in
     let rest = ap (ones_in number) c.split_at.ensures.back in
     omega (arith, both, rest, c.ones_of_groups.ensures, c.ones_of_each.ensures)

@@ -10,8 +10,8 @@ ones_of_each-ones-requires-clause-fits g c =
     let xs = c.args.blocks.now in
     let i = c.loop-group.group in
     let here = ap (ones_in number) c.group_from.ensures in
-    let most = sum_by-take-le (λ x. count_ones (number x)) xs (i * 16 + 16) in
-    omega (arith, here, ones_in-more number (i * 16) 16 xs, most, c.requires.fits)
+    let most = sum_by-take-le (λ x. count_ones (number x)) xs (i * 8 + 8) in
+    omega (arith, here, ones_in-more number (i * 8) 8 xs, most, c.requires.fits)
 
 pub overflow_add-ones : goal.overflow_add-ones
 overflow_add-ones g c =
@@ -19,8 +19,8 @@ overflow_add-ones g c =
     let xs = c.args.blocks.now in
     let i = c.loop-group.group in
     let here = ap (ones_in number) c.group_from.ensures in
-    let most = sum_by-take-le (λ x. count_ones (number x)) xs (i * 16 + 16) in
-    omega (arith, here, ones_in-more number (i * 16) 16 xs, most, c.ones_of_each-ones.ensures, c.loop-group.invariant, c.requires.fits)
+    let most = sum_by-take-le (λ x. count_ones (number x)) xs (i * 8 + 8) in
+    omega (arith, here, ones_in-more number (i * 8) 8 xs, most, c.ones_of_each-ones.ensures, c.loop-group.invariant, c.requires.fits)
 
 pub loop-group-preserved : goal.loop-group-preserved
 loop-group-preserved g c =
@@ -28,5 +28,5 @@ loop-group-preserved g c =
     let xs = c.args.blocks.now in
     let i = c.loop-group.group in
     let here = ap (ones_in number) c.group_from.ensures in
-    let next : ones_in number (take (i * 16 + 16) xs) ≡ ones_in number (take ((i + 1) * 16) xs) = ap (λ m. ones_in number (take m xs)) (let e : i * 16 + 16 ≡ (i + 1) * 16 = omega arith in e) in
-    omega (arith, here, next, ones_in-more number (i * 16) 16 xs, c.ones_of_each-ones.ensures, c.loop-group.invariant)
+    let next : ones_in number (take (i * 8 + 8) xs) ≡ ones_in number (take ((i + 1) * 8) xs) = ap (λ m. ones_in number (take m xs)) (let e : i * 8 + 8 ≡ (i + 1) * 8 = omega arith in e) in
+    omega (arith, here, next, ones_in-more number (i * 8) 8 xs, c.ones_of_each-ones.ensures, c.loop-group.invariant)
