@@ -75,7 +75,7 @@ impl<B: BitBlock> Slots<B> {
     }
 
     /// Takes the lowest free slot, and returns it; `None` where all are taken. Constant time where it is the slot that
-    /// was given back last, or the one past all that were taken; else it searches the set's summary.
+    /// was given back last, or the one past those that `take` has taken; else it searches the set's summary.
     pub fn take(&mut self) -> Option<usize>
         ensures full { (result ≡ None) ↔ (self.old.free ≡ []) }
         ensures lowest { IfSome result (λ slot. IsLowestFree self.old 0 slot) }
