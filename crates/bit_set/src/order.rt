@@ -70,12 +70,12 @@ impl<B: BitBlock> Ord for BitSet<B> {
 
     ghost matches_eq = { λ s t. texts_ties (elements s.values) (elements t.values) };
 
-    // What is called comes last, so that no register is saved: a search in a map compares small sets, or sets that
-    // differ in their first block.
+    // Each call here but the comparisons of blocks comes last, so that none saves registers: a search in a map compares
+    // small sets, or sets that differ in their first block.
     fn cmp(&self, other: &Self) -> Ordering {
         let (left, right) = (self.get_ref().storage(), other.get_ref().storage());
         if block_or_zero(left, 0) != block_or_zero(right, 0) {
-            return order_in_block(self, other, 0);
+            return order_by(self, other, Some(0));
         }
         if left.len() == right.len() && left.len() < FEW_BLOCKS {
             return order_by(self, other, mismatch_between(left, right, 1, left.len()));
@@ -103,21 +103,12 @@ fn order_by<B: BitBlock>(a: &BitSet<B>, b: &BitSet<B>, first: Option<usize>) -> 
 {
     match first {
         None => Ordering::Equal,
-        Some(at) => order_in_later_block(a, b, at),
+        Some(at) => order_in_block(a, b, at),
     }
 }
 
-// The same as `order_in_block`, as a call.
-#[inline(never)]
-fn order_in_later_block<B: BitBlock>(a: &BitSet<B>, b: &BitSet<B>, at: usize) -> Ordering
-    requires { IsFirstBlockMismatch (blocks_of B.width a.now.values) (blocks_of B.width b.now.values) at }
-    ensures { result ≡ order_of_sets (elements a.now.values) (elements b.now.values) }
-{
-    order_in_block(a, b, at)
-}
-
 // The order of two sets that first differ in this block.
-#[inline(always)]
+#[inline(never)]
 fn order_in_block<B: BitBlock>(a: &BitSet<B>, b: &BitSet<B>, at: usize) -> Ordering
     requires { IsFirstBlockMismatch (blocks_of B.width a.now.values) (blocks_of B.width b.now.values) at }
     ensures { result ≡ order_of_sets (elements a.now.values) (elements b.now.values) }
