@@ -1,7 +1,10 @@
 -- What a write of one block does to the value at every index.
-use Rattle.std.proofs.Common.{◌≡◌, ◌≢◌, ℕ, suc, ◌+◌, ◌*◌, ◌/◌, ◌%◌, ◌<◌, ◌≤◌, Bool, true, false, ◌&&◌, ◌||◌, nat_lt, nat_le, List, length, get_or, set, refl, sym, ap, ap₂, ◌∙◌, arith, ⊎_elim, div-add-mod', mod-lt, div-lt_iff_lt-mul, div-mul-le_self, mul-le-mul_right}
-use Rattle.std.proofs.lemmas.Bool.{cases_lt, cases_eq}
+use Rattle.std.proofs.Common.{◌≡◌, ◌≢◌, ℕ, suc, ◌+◌, ◌*◌, ◌/◌, ◌%◌, ◌^◌, ◌<◌, ◌≤◌, ◌==◌, Bool, true, false, ◌&&◌, ◌||◌, nat_lt, nat_le, List, length, get_or, set, refl, sym, ap, ap₂, ◌∙◌, arith, ⊎_elim, div-add-mod', mod-lt, div-lt_iff_lt-mul, div-mul-le_self, mul-le-mul_right}
+use Rattle.std.specs.Int.{bit_at}
+use mathlib.Core.Bool.{beq}
+use Rattle.std.proofs.lemmas.Bool.{cases_lt, cases_eq, true≢false, false≢true}
 use Rattle.std.proofs.lemmas.Bool.Decides.{nat_tests}
+use Rattle.std.proofs.lemmas.Nat.Bits.{bit_at-lt, same_from_bits_below}
 use Rattle.bit_words.specs.Bits.{blocks_for}
 use Rattle.bit_words.specs.Digits.{is_one}
 use Rattle.bit_words.specs.Storage.{value_at}
@@ -120,3 +123,31 @@ lowered w ms ns len k p m n pos ke pe nz count read e digits i =
     (λ past. past_blocks w ms len i past (let l = div_le w len i pos past in let far : i / w ≢ len / w = λ q. there (q ∙ sym ke) in omega arith))
     (cases_lt i len))
     (cases_eq (i / w) k)
+
+-- ---- what a bit was, by whether its block changed
+
+same_digit : (m n j : ℕ) → is_one n j ≡ is_one m j → bit_at n j ≡ bit_at m j
+same_digit m n j same = grind (arith, bit_at-lt n j, bit_at-lt m j, same)
+
+-- where the bit was the same, so is the block
+kept_block : (w m n p : ℕ) (bit : Bool) → m < 2 ^ w → n < 2 ^ w → is_one n p ≡ bit → ((j : ℕ) → j < w → j ≢ p → is_one n j ≡ is_one m j) → is_one m p ≡ bit → n ≡ m
+kept_block w m n p bit small also digit others was =
+    same_from_bits_below w n m also small (λ j within.
+    same_digit m n j (⊎_elim (λ here. ap (is_one n) here ∙ digit ∙ sym was ∙ sym (ap (is_one m) here)) (λ there. others j within there) (cases_eq j p)))
+
+-- the bit was the one that was written just where the block stays
+was_known : (r bit was : Bool) → (r ≡ true → was ≡ bit) → (was ≡ bit → r ≡ true) → beq r bit ≡ was
+was_known true true true stays back = refl
+was_known true true false stays back = absurd (false≢true (stays refl))
+was_known true false true stays back = absurd (true≢false (stays refl))
+was_known true false false stays back = refl
+was_known false true true stays back = absurd (false≢true (back refl))
+was_known false true false stays back = refl
+was_known false false true stays back = refl
+was_known false false false stays back = absurd (false≢true (back refl))
+
+pub bit_before : (w m n p : ℕ) (bit r : Bool) → m < 2 ^ w → n < 2 ^ w → is_one n p ≡ bit → ((j : ℕ) → j < w → j ≢ p → is_one n j ≡ is_one m j) → r ≡ (n == m) → beq r bit ≡ is_one m p
+bit_before w m n p bit r small also digit others test =
+    was_known r bit (is_one m p)
+    (λ is. let e : n ≡ m = grind (arith, nat_tests, test, is) in ap (λ x. is_one x p) (sym e) ∙ digit)
+    (λ was. let e = kept_block w m n p bit small also digit others was in grind (arith, nat_tests, test, e))

@@ -69,7 +69,7 @@ pub(crate) fn update_summary_bit<B: BitBlock>(
     ensures capacity { vec_capacity summary.new ≡ vec_capacity summary.old }
 {
     let used = bit || is_nonzero(block);
-    write_bit(summary, k, current, used);
+    let _written = write_bit(summary, k, current, used);
 }
 
 // Which of the `count` blocks from `start` on are not 0, the first of them at the lowest bit.

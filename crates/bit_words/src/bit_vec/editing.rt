@@ -4,7 +4,7 @@ ghost use Rattle.bit_words.specs.Bits.{blocks_for, capacity_of};
 
 use crate::bit_vec::BitVec;
 use crate::block::BitBlock;
-use crate::packed::access::{block_at, block_count, block_index, get_bit, replace_bit};
+use crate::packed::access::{block_at, block_count, block_index, replace_bit};
 use crate::packed::resizing::{append_bits, fill_bits, truncate_bits};
 use crate::summary::copies_of_both::take_over;
 use crate::summary::shared_capacity::reserve_shared;
@@ -31,16 +31,13 @@ impl<B: BitBlock> BitVec<B> {
         ensures values { self.new.values ≡ slice_set self.old.values i bit }
         ensures capacity { self.new.capacity ≡ self.old.capacity }
     {
-        // Read where the two ways are one, so that the bit is tested by one instruction.
-        let was = get_bit(&self.blocks, i);
         if is_short::<B>(self.blocks.len()) {
-            let _same = replace_bit(&mut self.blocks, i, bit);
-            return was;
+            return replace_bit(&mut self.blocks, i, bit);
         }
         let k = block_index::<B>(i);
         // Read before the block is written, so that a bit of it is set in a register and not in memory.
         let current = block_at(&self.summary, block_index::<B>(k));
-        let _same = replace_bit(&mut self.blocks, i, bit);
+        let was = replace_bit(&mut self.blocks, i, bit);
         let block = block_at(&self.blocks, k);
         update_summary_bit(&mut self.summary, current, k, block, bit);
         was

@@ -2,11 +2,12 @@
 // capacity unless they say otherwise, and know nothing of how many bits it holds.
 ghost use Rattle.std.specs.Prelude.{◌≡◌, ◌≢◌, ℕ, ◌<◌, ◌≤◌, ◌/◌, ◌%◌, ◌==◌, ◌&&◌, ◌||◌, ◌↔◌, All, IsTrue, length, map, set, get_or, nat_lt, nat_le, vec_len, vec_capacity, true, false};
 ghost use Rattle.bit_words.specs.Bits.{blocks_for};
+ghost use Rattle.bit_words.specs.Digits.{is_one};
 ghost use Rattle.bit_words.specs.Storage.{value_at};
 
 use crate::block::BitBlock;
 use crate::block::masks::{cut_from, with_bit, with_ones_between, with_ones_from};
-use crate::block::operators::has_one_at;
+use crate::block::operators::{has_one_at, same};
 use crate::packed::groups::FEW;
 
 // How many blocks a list of `len` values has.
@@ -80,13 +81,17 @@ pub(crate) fn get_bit<B: BitBlock>(blocks: &[B], i: usize) -> bool
     has_one_at(block, bit_index::<B>(i))
 }
 
-// The value at `i` becomes `bit`, where `block` is the block that it is in.
+// The value at `i` becomes `bit`, where `block` is the block that it is in. What the block becomes is returned.
 #[inline]
-pub(crate) fn write_bit<B: BitBlock>(blocks: &mut Vec<B>, i: usize, block: B, bit: bool)
+pub(crate) fn write_bit<B: BitBlock>(blocks: &mut Vec<B>, i: usize, block: B, bit: bool) -> B
     requires in_bounds { i / B.width < vec_len blocks.old }
     requires each { All B.is_block blocks.old.items }
     requires of_block { B.is_block block }
     requires read { B.number block ≡ get_or (map B.number blocks.old.items) (i / B.width) 0 }
+    ensures of_block { B.is_block result }
+    ensures digit { is_one (B.number result) (i % B.width) ≡ bit }
+    ensures other_digits { (j : ℕ) → j < B.width → j ≢ i % B.width
+        → is_one (B.number result) j ≡ is_one (B.number block) j }
     ensures same { value_at B.width (map B.number blocks.new.items) i ≡ bit }
     ensures others { (j : ℕ) → j ≢ i
         → value_at B.width (map B.number blocks.new.items) j ≡ value_at B.width (map B.number blocks.old.items) j }
@@ -94,11 +99,13 @@ pub(crate) fn write_bit<B: BitBlock>(blocks: &mut Vec<B>, i: usize, block: B, bi
     ensures len { vec_len blocks.new ≡ vec_len blocks.old }
     ensures capacity { vec_capacity blocks.new ≡ vec_capacity blocks.old }
 {
-    let index = bit_index::<B>(i);
-    put_block(blocks, block_index::<B>(i), with_bit(block, index, bit));
+    let written = with_bit(block, bit_index::<B>(i), bit);
+    put_block(blocks, block_index::<B>(i), written);
+    written
 }
 
-// The value at `i` becomes `bit`, and what it was is returned.
+// The value at `i` becomes `bit`, and what it was is returned. It was the other where the block changes: so no bit of
+// the old block is tested.
 #[inline]
 pub(crate) fn replace_bit<B: BitBlock>(blocks: &mut Vec<B>, i: usize, bit: bool) -> bool
     requires in_bounds { i / B.width < vec_len blocks.old }
@@ -112,8 +119,8 @@ pub(crate) fn replace_bit<B: BitBlock>(blocks: &mut Vec<B>, i: usize, bit: bool)
     ensures capacity { vec_capacity blocks.new ≡ vec_capacity blocks.old }
 {
     let block = block_at(blocks, block_index::<B>(i));
-    write_bit(blocks, i, block, bit);
-    has_one_at(block, bit_index::<B>(i))
+    let written = write_bit(blocks, i, block, bit);
+    same(written, block) == bit
 }
 
 // The values from `len` on, up to `end`, become true in the last block; none where it is full.

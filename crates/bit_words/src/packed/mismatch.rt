@@ -17,28 +17,18 @@ use crate::packed::groups::{GROUP, LONG_GROUP};
 /// assert!(same_blocks(&[7u8, 1], &[7, 1, 0]));
 /// assert!(!same_blocks(&[7u8, 1], &[7, 1, 2]));
 /// ```
-// What it calls comes last, so that it saves no registers.
-#[inline(never)]
+#[inline]
 pub fn same_blocks<B: BitBlock>(a: &[B], b: &[B]) -> bool
     requires left { All B.is_block a.now }
     requires right { All B.is_block b.now }
     ensures { IsTrue result
         ↔ ((k : ℕ) → get_or (map B.number a.now) k 0 ≡ get_or (map B.number b.now) k 0) }
 {
-    let count = a.len();
-    if count != b.len() {
-        return same_by_search(a, b);
+    if a.len() == b.len() {
+        same_of_one_length(a, b)
+    } else {
+        same_by_search(a, b)
     }
-    if count < GROUP {
-        return mismatch_between(a, b, 0, count).is_none();
-    }
-    if count <= 2 * GROUP {
-        return same_ends(a, b, GROUP);
-    }
-    if count <= LONG_GROUP {
-        return same_ends(a, b, 2 * GROUP);
-    }
-    same_in_long_groups(a, b)
 }
 
 /// The first index at which the blocks differ, or `None`. Compares groups of blocks, each by one test, and reads
@@ -118,7 +108,7 @@ fn same_by_groups<B: BitBlock>(a: &[B], b: &[B], count: usize) -> usize
 }
 
 // How many groups of blocks are the same, up to the first that is not.
-#[inline]
+#[inline(always)]
 fn same_groups<B: BitBlock>(a: &[B], b: &[B], groups: usize) -> usize
     requires within { groups * LONG_GROUP ≤ length a.now }
     requires within_other { groups * LONG_GROUP ≤ length b.now }
@@ -161,8 +151,7 @@ fn past_same_group<B: BitBlock>(a: &[B], b: &[B], start: usize, count: usize, si
     }
 }
 
-// Whether the blocks of the group of `size` that begins at `start` are the same. One test for all of them. The
-// compiler makes vector code of it where it knows the size.
+// Whether the blocks of the group of `size` that begins at `start` are the same. One test for all of them.
 #[inline(always)]
 fn is_same_group<B: BitBlock>(a: &[B], b: &[B], start: usize, size: usize) -> bool
     requires within { start + size ≤ length a.now }
@@ -173,14 +162,52 @@ fn is_same_group<B: BitBlock>(a: &[B], b: &[B], start: usize, size: usize) -> bo
         ↔ ((k : ℕ) → start ≤ k → k < start + size
         → get_or (map B.number a.now) k 0 ≡ get_or (map B.number b.now) k 0) }
 {
+    same(mismatches(a, b, start, size), B::zero())
+}
+
+// The digits in which blocks of the group of `size` that begins at `start` differ. The compiler makes vector code of it
+// where it knows the size.
+#[inline(always)]
+fn mismatches<B: BitBlock>(a: &[B], b: &[B], start: usize, size: usize) -> B
+    requires within { start + size ≤ length a.now }
+    requires within_other { start + size ≤ length b.now }
+    requires left { All B.is_block a.now }
+    requires right { All B.is_block b.now }
+    ensures of_block { B.is_block result }
+    ensures none { (B.number result ≡ 0)
+        ↔ ((k : ℕ) → start ≤ k → k < start + size
+        → get_or (map B.number a.now) k 0 ≡ get_or (map B.number b.now) k 0) }
+{
     let mut mismatch = B::zero();
     for k in start..start + size {
         mismatch = or_mismatch(mismatch, block_at(a, k), block_at(b, k));
     }
-    same(mismatch, B::zero())
+    mismatch
 }
 
-// Whether lists of `size` to twice as many blocks are the same: a group at each end, which may overlap.
+// Whether lists of one length are the same. It calls nothing, so it saves no registers.
+#[inline(never)]
+fn same_of_one_length<B: BitBlock>(a: &[B], b: &[B]) -> bool
+    requires as_long { length b.now ≡ length a.now }
+    requires left { All B.is_block a.now }
+    requires right { All B.is_block b.now }
+    ensures { IsTrue result
+        ↔ ((k : ℕ) → get_or (map B.number a.now) k 0 ≡ get_or (map B.number b.now) k 0) }
+{
+    let count = a.len();
+    if count < GROUP {
+        return mismatch_between(a, b, 0, count).is_none();
+    }
+    if count <= 2 * GROUP {
+        return same_ends(a, b, GROUP);
+    }
+    if count <= LONG_GROUP {
+        return same_ends(a, b, 2 * GROUP);
+    }
+    same_in_long_groups(a, b)
+}
+
+// Whether lists of `size` to twice as many blocks are the same: a group at each end, which may overlap, and one test.
 #[inline(always)]
 fn same_ends<B: BitBlock>(a: &[B], b: &[B], size: usize) -> bool
     requires enough { size ≤ length a.now }
@@ -191,11 +218,13 @@ fn same_ends<B: BitBlock>(a: &[B], b: &[B], size: usize) -> bool
     ensures { IsTrue result
         ↔ ((k : ℕ) → get_or (map B.number a.now) k 0 ≡ get_or (map B.number b.now) k 0) }
 {
-    is_same_group(a, b, 0, size) && is_same_group(a, b, a.len() - size, size)
+    let first = mismatches(a, b, 0, size);
+    let last = mismatches(a, b, a.len() - size, size);
+    same(either(first, last), B::zero())
 }
 
 // Whether lists of more blocks are the same. The last group may begin within the one before it.
-#[inline(never)]
+#[inline(always)]
 fn same_in_long_groups<B: BitBlock>(a: &[B], b: &[B]) -> bool
     requires enough { LONG_GROUP ≤ length a.now }
     requires as_long { length b.now ≡ length a.now }
@@ -209,7 +238,7 @@ fn same_in_long_groups<B: BitBlock>(a: &[B], b: &[B]) -> bool
 }
 
 // Whether the last blocks are the same, as many as a long group has. The compiler knows how many are compared.
-#[inline]
+#[inline(always)]
 fn same_last_group<B: BitBlock>(a: &[B], b: &[B]) -> bool
     requires enough { LONG_GROUP ≤ length a.now }
     requires as_long { length b.now ≡ length a.now }
@@ -243,7 +272,18 @@ fn or_mismatch<B: BitBlock>(seen: B, a: B, b: B) -> B
     ensures of_block { B.is_block result }
     ensures none { (B.number result ≡ 0) ↔ ((B.number seen ≡ 0) × (B.number a ≡ B.number b)) }
 {
-    block_or(seen, block_xor(a, b))
+    either(seen, block_xor(a, b))
+}
+
+// The digits of two blocks: 0 just where both are.
+#[inline]
+fn either<B: BitBlock>(a: B, b: B) -> B
+    requires left { B.is_block a }
+    requires right { B.is_block b }
+    ensures of_block { B.is_block result }
+    ensures none { (B.number result ≡ 0) ↔ ((B.number a ≡ 0) × (B.number b ≡ 0)) }
+{
+    block_or(a, b)
 }
 
 /// The first index, from `from` on, of a block that is not 0, or `None`. Reads no block past it.

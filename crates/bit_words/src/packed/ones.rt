@@ -13,7 +13,8 @@ pub(crate) fn ones_of<B: BitBlock>(blocks: &[B]) -> usize
     ensures { result ≡ ones_in B.number blocks.now }
 {
     let groups = blocks.len() / GROUP;
-    ones_of_groups(blocks, groups) + ones_of_each(blocks.split_at(groups * GROUP).1)
+    let ones = ones_of_groups(blocks, groups);
+    add_ones(ones, blocks.split_at(groups * GROUP).1)
 }
 
 // The ones of the first groups of blocks. The compiler knows how many blocks a group has, and adds up their ones
@@ -27,7 +28,7 @@ fn ones_of_groups<B: BitBlock>(blocks: &[B], groups: usize) -> usize
 {
     let mut ones = 0;
     for group in 0..groups {
-        ones += ones_of_each(group_from(blocks, group * GROUP));
+        ones = add_ones(ones, group_from(blocks, group * GROUP));
     }
     ones
 }
@@ -40,13 +41,14 @@ fn group_from<B: BitBlock>(blocks: &[B], start: usize) -> &[B]
     blocks.split_at(start).1.split_at(GROUP).0
 }
 
+// A number, and the ones of each block. The sum goes on from the number, so that it stays in one register.
 #[inline]
-fn ones_of_each<B: BitBlock>(blocks: &[B]) -> usize
+fn add_ones<B: BitBlock>(before: usize, blocks: &[B]) -> usize
     requires each { All B.is_block blocks.now }
-    requires fits { ones_in B.number blocks.now < 2 ^ 64 }
-    ensures { result ≡ ones_in B.number blocks.now }
+    requires fits { before + ones_in B.number blocks.now < 2 ^ 64 }
+    ensures { result ≡ before + ones_in B.number blocks.now }
 {
-    let mut ones = 0;
+    let mut ones = before;
     for block in blocks {
         ones += block.count_ones();
     }

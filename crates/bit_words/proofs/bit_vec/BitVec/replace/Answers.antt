@@ -29,14 +29,8 @@ replaced_packed w n i f P xs ys within packed each len others = record {
 used_at : (w : ℕ) (ms : List ℕ) (i k : ℕ) → 0 < w → k ≡ i / w → value_at w ms i ≡ true → is_used ms k ≡ true
 used_at w ms i k pos e is = used_from_true w ms k (i % w) (mod-lt i pos) (ap (λ q. value_at w ms (q * w + i % w)) e ∙ ap (value_at w ms) (div-add-mod' i w) ∙ is)
 
-pub get_bit-was-requires-clause-in_bounds : goal.get_bit-was-requires-clause-in_bounds
-get_bit-was-requires-clause-in_bounds g c =
-    let within : c.args.i < c.self.inside.len = rw (length_from_view _ _ _ _ _ c.self.view_is) at c.requires in
-    let inside = in_blocks g.B.BitBlock.width c.self.inside.len c.args.i (length c.self.inside.blocks.items) g.met.B.BitBlock.width_law.positive c.self.invariant.packed.count within in
-    rw c.deref.ensures.value (omega (arith, inside))
-
-pub replace_bit-same-requires-clause-in_bounds : goal.replace_bit-same-requires-clause-in_bounds
-replace_bit-same-requires-clause-in_bounds g c =
+pub replace_bit-requires-clause-in_bounds : goal.replace_bit-requires-clause-in_bounds
+replace_bit-requires-clause-in_bounds g c =
     let within : c.args.i < c.self.inside.len = rw (length_from_view _ _ _ _ _ c.self.view_is) at c.requires in
     let inside = in_blocks g.B.BitBlock.width c.self.inside.len c.args.i (length c.self.inside.blocks.items) g.met.B.BitBlock.width_law.positive c.self.invariant.packed.count within in
     omega (arith, inside)
@@ -47,19 +41,19 @@ invariant_of-self g c =
     let short = short_from_test g.B.BitBlock.width c.len.result c.is_short.result c.is_short.ensures c.if-is_short.true in
     let few : length c.self.inside.blocks.items ≤ short_count g.B.BitBlock.width = omega arith in
     record {
-      packed = replaced_packed g.B.BitBlock.width c.self.inside.len c.args.i g.B.BitBlock.number g.B.BitBlock.is_block c.self.inside.blocks.items c.replace_bit-same.new.blocks.items within c.self.invariant.packed c.replace_bit-same.ensures.each (omega arith) c.replace_bit-same.ensures.others;
+      packed = replaced_packed g.B.BitBlock.width c.self.inside.len c.args.i g.B.BitBlock.number g.B.BitBlock.is_block c.self.inside.blocks.items c.replace_bit.new.blocks.items within c.self.invariant.packed c.replace_bit.ensures.each (omega arith) c.replace_bit.ensures.others;
       summary = keeps_none _ _ _ _ _ (omega arith) (c.self.invariant.summary.short few);
     }
 
 pub returns-then-is_short-clause-was : goal.returns-then-is_short-clause-was
 returns-then-is_short-clause-was g c =
     let within : c.args.i < c.self.inside.len = rw (length_from_view _ _ _ _ _ c.self.view_is) at c.requires in
-    rw (← c.self.view_is) (slice_get-values_of _ _ _ _ within ∙ ap Some (sym (rw c.deref.ensures.value at c.get_bit-was.ensures)))
+    rw (← c.self.view_is) (slice_get-values_of _ _ _ _ within ∙ ap Some (sym c.replace_bit.ensures.was))
 
 pub returns-then-is_short-clause-values : goal.returns-then-is_short-clause-values
 returns-then-is_short-clause-values g c =
     let within : c.args.i < c.self.inside.len = rw (length_from_view _ _ _ _ _ c.self.view_is) at c.requires in
-    values_of-set _ _ _ _ _ _ within c.replace_bit-same.ensures.same c.replace_bit-same.ensures.others
+    values_of-set _ _ _ _ _ _ within c.replace_bit.ensures.same c.replace_bit.ensures.others
     ∙ ap (λ v. set v.values c.args.i c.args.bit) c.self.view_is
 
 pub block_at-current-requires-clause-in_bounds : goal.block_at-current-requires-clause-in_bounds
@@ -68,10 +62,10 @@ block_at-current-requires-clause-in_bounds g c =
     let long : short_count g.B.BitBlock.width < length c.self.inside.blocks.items = omega arith in
     let within : c.args.i < c.self.inside.len = rw (length_from_view _ _ _ _ _ c.self.view_is) at c.requires in
     let inside = in_chunks g.B.BitBlock.width c.self.inside.len c.args.i (length c.self.inside.blocks.items) (length c.self.inside.summary.items) g.met.B.BitBlock.width_law.positive c.self.invariant.packed.count (c.self.invariant.summary.long long).packed.count within in
-    rw c.deref-2.ensures.value (rw (c.block_index.ensures, c.block_index-k.ensures) inside)
+    rw c.deref.ensures.value (rw (c.block_index.ensures, c.block_index-k.ensures) inside)
 
-pub replace_bit-same-requires-2-clause-in_bounds : goal.replace_bit-same-requires-2-clause-in_bounds
-replace_bit-same-requires-2-clause-in_bounds g c =
+pub replace_bit-was-requires-clause-in_bounds : goal.replace_bit-was-requires-clause-in_bounds
+replace_bit-was-requires-clause-in_bounds g c =
     let within : c.args.i < c.self.inside.len = rw (length_from_view _ _ _ _ _ c.self.view_is) at c.requires in
     let inside = in_blocks g.B.BitBlock.width c.self.inside.len c.args.i (length c.self.inside.blocks.items) g.met.B.BitBlock.width_law.positive c.self.invariant.packed.count within in
     omega (arith, inside)
@@ -80,7 +74,7 @@ pub block_at-block-requires-clause-in_bounds : goal.block_at-block-requires-clau
 block_at-block-requires-clause-in_bounds g c =
     let within : c.args.i < c.self.inside.len = rw (length_from_view _ _ _ _ _ c.self.view_is) at c.requires in
     let inside = in_blocks g.B.BitBlock.width c.self.inside.len c.args.i (length c.self.inside.blocks.items) g.met.B.BitBlock.width_law.positive c.self.invariant.packed.count within in
-    rw c.deref-3.ensures.value (omega (arith, inside))
+    rw c.deref-2.ensures.value (omega (arith, inside))
 
 pub update_summary_bit-requires-clause-in_summary : goal.update_summary_bit-requires-clause-in_summary
 update_summary_bit-requires-clause-in_summary g c =
@@ -91,38 +85,38 @@ update_summary_bit-requires-clause-in_summary g c =
     rw c.block_index-k.ensures (omega (arith, inside))
 
 pub update_summary_bit-requires-clause-read : goal.update_summary_bit-requires-clause-read
-update_summary_bit-requires-clause-read g c = rw (← c.block_index.ensures) (rw c.deref-2.ensures.value at c.block_at-current.ensures.of_number)
+update_summary_bit-requires-clause-read g c = rw (← c.block_index.ensures) (rw c.deref.ensures.value at c.block_at-current.ensures.of_number)
 
 pub update_summary_bit-requires-clause-tail_set : goal.update_summary_bit-requires-clause-tail_set
 update_summary_bit-requires-clause-tail_set g c = λ tail_set.
-    let number = rw c.deref-3.ensures.value at c.block_at-block.ensures.of_number in
+    let number = rw c.deref-2.ensures.value at c.block_at-block.ensures.of_number in
     ap (λ m. not (m == 0)) number
-    ∙ used_at g.B.BitBlock.width _ c.args.i c.block_index-k.result g.met.B.BitBlock.width_law.positive c.block_index-k.ensures (c.replace_bit-same-2.ensures.same ∙ tail_set)
+    ∙ used_at g.B.BitBlock.width _ c.args.i c.block_index-k.result g.met.B.BitBlock.width_law.positive c.block_index-k.ensures (c.replace_bit-was.ensures.same ∙ tail_set)
 
 pub invariant_of-self-2 : goal.invariant_of-self-2
 invariant_of-self-2 g c =
     let within : c.args.i < c.self.inside.len = rw (length_from_view _ _ _ _ _ c.self.view_is) at c.requires in
     let inside = in_blocks g.B.BitBlock.width c.self.inside.len c.args.i (length c.self.inside.blocks.items) g.met.B.BitBlock.width_law.positive c.self.invariant.packed.count within in
     let block = c.block_at-block.ensures.of_number in
-    let used = ap (λ m. not (m == 0)) (rw c.deref-3.ensures.value at block) in
+    let used = ap (λ m. not (m == 0)) (rw c.deref-2.ensures.value at block) in
     let many = long_from_test g.B.BitBlock.width c.len.result c.is_short.result c.is_short.ensures c.if-is_short.false in
     let long : short_count g.B.BitBlock.width < length c.self.inside.blocks.items = omega arith in
     record {
-      packed = replaced_packed g.B.BitBlock.width c.self.inside.len c.args.i g.B.BitBlock.number g.B.BitBlock.is_block c.self.inside.blocks.items c.replace_bit-same-2.new.blocks.items within c.self.invariant.packed c.replace_bit-same-2.ensures.each (omega arith) c.replace_bit-same-2.ensures.others;
+      packed = replaced_packed g.B.BitBlock.width c.self.inside.len c.args.i g.B.BitBlock.number g.B.BitBlock.is_block c.self.inside.blocks.items c.replace_bit-was.new.blocks.items within c.self.invariant.packed c.replace_bit-was.ensures.each (omega arith) c.replace_bit-was.ensures.others;
       summary = keeps_all _ _ _ _ _ (omega arith) (
-          changed_summary g.B.BitBlock.width c.block_index-k.result g.B.BitBlock.number g.B.BitBlock.is_block c.self.inside.blocks.items c.replace_bit-same-2.new.blocks.items c.self.inside.summary.items c.update_summary_bit.new.summary.items g.met.B.BitBlock.width_law.positive (λ x is. (g.met.B.BitBlock.number_law x is).0)
-          c.self.invariant.packed.each c.replace_bit-same-2.ensures.each (omega arith) (omega (arith, inside)) (c.self.invariant.summary.long long)
-          (λ j there. c.replace_bit-same-2.ensures.others j (λ here. there (ap (λ q. q / g.B.BitBlock.width) here ∙ sym c.block_index-k.ensures)))
+          changed_summary g.B.BitBlock.width c.block_index-k.result g.B.BitBlock.number g.B.BitBlock.is_block c.self.inside.blocks.items c.replace_bit-was.new.blocks.items c.self.inside.summary.items c.update_summary_bit.new.summary.items g.met.B.BitBlock.width_law.positive (λ x is. (g.met.B.BitBlock.number_law x is).0)
+          c.self.invariant.packed.each c.replace_bit-was.ensures.each (omega arith) (omega (arith, inside)) (c.self.invariant.summary.long long)
+          (λ j there. c.replace_bit-was.ensures.others j (λ here. there (ap (λ q. q / g.B.BitBlock.width) here ∙ sym c.block_index-k.ensures)))
           (c.update_summary_bit.ensures.same ∙ used) c.update_summary_bit.ensures.others c.update_summary_bit.ensures.each (omega arith));
     }
 
 pub returns-clause-values : goal.returns-clause-values
 returns-clause-values g c =
     let within : c.args.i < c.self.inside.len = rw (length_from_view _ _ _ _ _ c.self.view_is) at c.requires in
-    values_of-set _ _ _ _ _ _ within c.replace_bit-same-2.ensures.same c.replace_bit-same-2.ensures.others
+    values_of-set _ _ _ _ _ _ within c.replace_bit-was.ensures.same c.replace_bit-was.ensures.others
     ∙ ap (λ v. set v.values c.args.i c.args.bit) c.self.view_is
 
 pub returns-clause-was : goal.returns-clause-was
 returns-clause-was g c =
     let within : c.args.i < c.self.inside.len = rw (length_from_view _ _ _ _ _ c.self.view_is) at c.requires in
-    rw (← c.self.view_is) (slice_get-values_of _ _ _ _ within ∙ ap Some (sym (rw c.deref.ensures.value at c.get_bit-was.ensures)))
+    rw (← c.self.view_is) (slice_get-values_of _ _ _ _ within ∙ ap Some (sym c.replace_bit-was.ensures.was))

@@ -4,23 +4,14 @@ use Rattle.bit_words.specs.Nonzero.{ones_in}
 use Rattle.bit_words.proofs.CountLemmas.{ones_in-more}
 use Rattle.bit_words.proofs.packed.ones.ones_of_groups.Goals as goal
 
-pub ones_of_each-ones-requires-clause-fits : goal.ones_of_each-ones-requires-clause-fits
-ones_of_each-ones-requires-clause-fits g c =
+pub add_ones-ones-requires-clause-fits : goal.add_ones-ones-requires-clause-fits
+add_ones-ones-requires-clause-fits g c =
     let number = g.B.BitBlock.number in
     let xs = c.args.blocks.now in
     let i = c.loop-group.group in
     let here = ap (ones_in number) c.group_from.ensures in
     let most = sum_by-take-le (λ x. count_ones (number x)) xs (i * 8 + 8) in
-    omega (arith, here, ones_in-more number (i * 8) 8 xs, most, c.requires.fits)
-
-pub overflow_add-ones : goal.overflow_add-ones
-overflow_add-ones g c =
-    let number = g.B.BitBlock.number in
-    let xs = c.args.blocks.now in
-    let i = c.loop-group.group in
-    let here = ap (ones_in number) c.group_from.ensures in
-    let most = sum_by-take-le (λ x. count_ones (number x)) xs (i * 8 + 8) in
-    omega (arith, here, ones_in-more number (i * 8) 8 xs, most, c.ones_of_each-ones.ensures, c.loop-group.invariant, c.requires.fits)
+    omega (arith, here, ones_in-more number (i * 8) 8 xs, most, c.loop-group.invariant, c.requires.fits)
 
 pub loop-group-preserved : goal.loop-group-preserved
 loop-group-preserved g c =
@@ -29,4 +20,4 @@ loop-group-preserved g c =
     let i = c.loop-group.group in
     let here = ap (ones_in number) c.group_from.ensures in
     let next : ones_in number (take (i * 8 + 8) xs) ≡ ones_in number (take ((i + 1) * 8) xs) = ap (λ m. ones_in number (take m xs)) (let e : i * 8 + 8 ≡ (i + 1) * 8 = omega arith in e) in
-    omega (arith, here, next, ones_in-more number (i * 8) 8 xs, c.ones_of_each-ones.ensures, c.loop-group.invariant)
+    omega (arith, here, next, ones_in-more number (i * 8) 8 xs, c.add_ones-ones.ensures, c.loop-group.invariant)

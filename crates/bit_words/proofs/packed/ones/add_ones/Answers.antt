@@ -1,7 +1,7 @@
-use Rattle.std.proofs.Common.{◌≡◌, count_ones, get_or, take_all, ap, ◌∙◌, arith}
+use Rattle.std.proofs.Common.{◌≡◌, ◌+◌, count_ones, get_or, take_all, ap, ◌∙◌, arith}
 use Rattle.std.proofs.lemmas.List.Sums.{sum_by_more_le}
 use Rattle.bit_words.specs.Nonzero.{ones_in}
-use Rattle.bit_words.proofs.packed.ones.ones_of_each.Goals as goal
+use Rattle.bit_words.proofs.packed.ones.add_ones.Goals as goal
 
 pub overflow_add-ones : goal.overflow_add-ones
 overflow_add-ones g c =
@@ -14,4 +14,6 @@ overflow_add-ones g c =
     omega (arith, most, here, c.count_ones-ones.ensures, c.loop-block.invariant, c.requires.fits)
 
 pub returns : goal.returns
-returns g c = c.loop-block.invariant ∙ ap (ones_in g.B.BitBlock.number) (take_all c.loop-block.block-index c.args.blocks.now (omega (arith, c.loop-block-test.false)))
+returns g c =
+    c.loop-block.invariant
+    ∙ ap (λ ones. c.args.before + ones_in g.B.BitBlock.number ones) (take_all c.loop-block.block-index c.args.blocks.now (omega (arith, c.loop-block-test.false)))
