@@ -8,12 +8,14 @@
   `uses` here.
 - Each clause that a CALLING.md quotes below a line 'fn ..' is a clause of that function.
 - Each example of a doc comment is in a test.
+- docs/SPEED.md has the tables that bench/tables makes of the figures in docs/speed.
 - Each link of a document leads to a file, and to a heading where it names one.
 
 It prints a line for each quote that does not agree, and at the end 'N passed, M failed'.
 """
 
 import re
+import subprocess
 import sys
 from pathlib import Path
 
@@ -177,6 +179,16 @@ def check_links(check, root, document):
             check.expect(agrees, f"{document.relative_to(root)}:{number}", f"no {path}#{anchor}".rstrip("#"))
 
 
+def check_tables(check, root):
+    """The tables of docs/SPEED.md."""
+    made = subprocess.run(
+        [sys.executable, root / "bench/tables", root / "docs/speed"], check=True, capture_output=True, text=True
+    )
+    lines = lines_of((root / "docs/SPEED.md").read_text(encoding="utf-8"))
+    for table in paragraphs(lines_of(made.stdout)):
+        check.expect(is_in(table, lines), "docs/SPEED.md", f"it has no table {table[0]}")
+
+
 def main():
     root = Path(sys.argv[1])
     check = Check()
@@ -195,6 +207,7 @@ def main():
         check_links(check, root, document)
     for source in sources:
         check_comments(check, root, source, tests)
+    check_tables(check, root)
     print(f"{check.passed} passed, {check.failed} failed")
     return 1 if check.failed else 0
 
