@@ -1,5 +1,5 @@
 -- How far a list is true, and the blocks that this takes.
-use Rattle.std.proofs.Common.{◌≡◌, ◌≢◌, ℕ, zero, suc, ◌+◌, ◌-◌, ◌*◌, ◌/◌, ◌%◌, ◌^◌, ◌<◌, ◌≤◌, min, max, Bool, true, false, ◌||◌, nat_lt, nat_le, if◌then◌else◌, List, [], ◌∷◌, length, get_or, take, refl, sym, ap, ◌∙◌, arith, ⊎_elim, length-take, le_of_mul-le-mul_right, div-lt_iff_lt-mul, mul-le-mul_right}
+use Rattle.std.proofs.Common.{◌≡◌, ◌≢◌, ℕ, zero, suc, ◌+◌, ◌-◌, ◌*◌, ◌/◌, ◌%◌, ◌^◌, ◌<◌, ◌≤◌, max, Bool, true, false, ◌||◌, nat_lt, nat_le, if◌then◌else◌, List, [], ◌∷◌, length, get_or, take, refl, sym, ap, ◌∙◌, arith, ⊎_elim, length-take, le_of_mul-le-mul_right, div-lt_iff_lt-mul, mul-le-mul_right}
 use Rattle.std.proofs.lemmas.Bool.{cases_lt, true≢false}
 use Rattle.std.proofs.lemmas.Bool.Decides.{nat_tests}
 use Rattle.bit_words.specs.Bits.{Bits, blocks_for, capacity_of, true_end, whole_blocks}
@@ -131,7 +131,7 @@ shared_past_summary w count summary pos h =
 pub shared_enough : (w blocks summary count : ℕ) → 0 < w → count ≤ blocks → stored_for w count ≤ summary → count ≤ shared_capacity w blocks summary
 shared_enough w blocks summary count pos first second = let more = shared_for_summary w count summary pos second in omega arith
 
--- and that much of the summary there is room for
+-- and the summary has capacity for that many
 pub stored_from_shared : (w blocks summary count : ℕ) → 0 < w → count ≤ shared_capacity w blocks summary → stored_for w count ≤ summary
 stored_from_shared w blocks summary count pos h =
     ⊎_elim
@@ -159,23 +159,6 @@ shared_by_blocks w blocks summary more pos enough le =
 
 pub shared_by_summary : (w blocks summary more : ℕ) → 0 < w → summary < stored_for w blocks → blocks ≤ more → shared_capacity w more summary ≡ shared_capacity w blocks summary
 shared_by_summary w blocks summary more pos short le = let less = shared_past_summary w blocks summary pos short in omega arith
-
--- capacity reserved for count and no more
-pub shared_exact : (w blocks summary count got got_summary : ℕ) → 0 < w → stored_for w count ≤ summary → got ≡ max blocks count → got_summary ≡ max summary (stored_for w count) → shared_capacity w got got_summary ≡ max (shared_capacity w blocks summary) count
-shared_exact w blocks summary count got got_summary pos enough first second =
-    let covered = shared_for_summary w count summary pos enough in
-    let same : got_summary ≡ summary = omega arith in
-    rw same (omega arith)
-
-pub shared_trimmed : (w blocks summary count trimmed : ℕ) → 0 < w → summary < stored_for w count → min count blocks ≤ trimmed → trimmed ≤ blocks → shared_capacity w trimmed summary ≡ shared_capacity w blocks summary
-shared_trimmed w blocks summary count trimmed pos short low high = let less = shared_past_summary w count summary pos short in omega arith
-
-pub shared_exact_trimmed : (w blocks summary count trimmed got got_summary : ℕ) → 0 < w → summary < stored_for w count → trimmed ≤ count → got ≡ max trimmed count → got_summary ≡ max summary (stored_for w count) → shared_capacity w got got_summary ≡ max (shared_capacity w blocks summary) count
-shared_exact_trimmed w blocks summary count trimmed got got_summary pos short low first second =
-    let less = shared_past_summary w count summary pos short in
-    let same : got_summary ≡ stored_for w count = omega arith in
-    let enough = shared_for_summary w count got_summary pos (omega arith) in
-    omega arith
 
 pub capacity_le : (w a b : ℕ) → a ≤ b → capacity_of w a ≤ capacity_of w b
 capacity_le w a b h = let more = mul-le-mul_right w h in omega arith

@@ -1,14 +1,13 @@
 -- What a write of one block does to the value at every index.
 use Rattle.std.proofs.Common.{◌≡◌, ◌≢◌, ℕ, suc, ◌+◌, ◌*◌, ◌/◌, ◌%◌, ◌^◌, ◌<◌, ◌≤◌, ◌==◌, Bool, true, false, ◌&&◌, ◌||◌, nat_lt, nat_le, List, length, get_or, set, refl, sym, ap, ap₂, ◌∙◌, arith, ⊎_elim, div-add-mod', mod-lt, div-lt_iff_lt-mul, div-mul-le_self, mul-le-mul_right}
-use Rattle.std.specs.Int.{bit_at}
 use mathlib.Core.Bool.{beq}
 use Rattle.std.proofs.lemmas.Bool.{cases_lt, cases_eq, true≢false, false≢true}
 use Rattle.std.proofs.lemmas.Bool.Decides.{nat_tests}
-use Rattle.std.proofs.lemmas.Nat.Bits.{bit_at-lt, same_from_bits_below}
+use Rattle.std.proofs.lemmas.Nat.Bits.{same_from_bits_below}
 use Rattle.bit_words.specs.Bits.{blocks_for}
 use Rattle.bit_words.specs.Digits.{is_one}
 use Rattle.bit_words.specs.Storage.{value_at}
-use Rattle.bit_words.proofs.StorageLemmas.{value_at-is, value_at-past, value_at-set_same, value_at-set_other}
+use Rattle.bit_words.proofs.StorageLemmas.{same_digit, value_at-is, value_at-past, value_at-set_same, value_at-set_other}
 
 -- ---- within one block, places follow indexes
 
@@ -126,14 +125,11 @@ lowered w ms ns len k p m n pos ke pe nz count read e digits i =
 
 -- ---- what a bit was, by whether its block changed
 
-same_digit : (m n j : ℕ) → is_one n j ≡ is_one m j → bit_at n j ≡ bit_at m j
-same_digit m n j same = grind (arith, bit_at-lt n j, bit_at-lt m j, same)
-
 -- where the bit was the same, so is the block
 kept_block : (w m n p : ℕ) (bit : Bool) → m < 2 ^ w → n < 2 ^ w → is_one n p ≡ bit → ((j : ℕ) → j < w → j ≢ p → is_one n j ≡ is_one m j) → is_one m p ≡ bit → n ≡ m
 kept_block w m n p bit small also digit others was =
     same_from_bits_below w n m also small (λ j within.
-    same_digit m n j (⊎_elim (λ here. ap (is_one n) here ∙ digit ∙ sym was ∙ sym (ap (is_one m) here)) (λ there. others j within there) (cases_eq j p)))
+    same_digit n m j (⊎_elim (λ here. ap (is_one n) here ∙ digit ∙ sym was ∙ sym (ap (is_one m) here)) (λ there. others j within there) (cases_eq j p)))
 
 -- the bit was the one that was written just where the block stays
 was_known : (r bit was : Bool) → (r ≡ true → was ≡ bit) → (was ≡ bit → r ≡ true) → beq r bit ≡ was

@@ -3,7 +3,7 @@ use Rattle.std.proofs.Common.{◌≡◌, ℕ, zero, suc, ◌+◌, ◌-◌, ◌/�
 use Rattle.std.proofs.Math.Bool.{or-false}
 use Rattle.std.proofs.lemmas.Bool.{cases_lt, cases_eq}
 use Rattle.std.proofs.lemmas.Bool.Decides.{nat_tests}
-use Rattle.std.proofs.lemmas.List.{get_or_append_left, get_or-append_right, get_or_past, get_or-replicate, length-replicate, length-append, map-append, take_all}
+use Rattle.std.proofs.lemmas.List.{get_or_append_left, get_or-append_right, get_or_past, get_or-replicate, length-replicate, length-append, map-append}
 use Rattle.std.proofs.lemmas.Grind.{replicate_next}
 use Rattle.bit_words.specs.Bits.{blocks_for}
 use Rattle.bit_words.specs.Digits.{is_one}
@@ -42,11 +42,6 @@ ones_true w n i pos e = let l = mod-lt i pos in is_one-ones n w (i % w) e ∙ gr
 pub map-replicate : {X : Type 0} (f : X → ℕ) (n : ℕ) (x : X) → map f (replicate n x) ≡ replicate n (f x)
 map-replicate f zero x = refl
 map-replicate f (suc n) x = ap (λ ys. f x ∷ ys) (map-replicate f n x)
-
-pub resized : {X : Type 0} (f : X → ℕ) (xs : List X) (len n : ℕ) (x : X) → len ≡ length xs → len ≤ n → map f (take n xs ++ replicate (n - len) x) ≡ map f xs ++ replicate (n - len) (f x)
-resized f xs len n x e h =
-    map-append f (take n xs) (replicate (n - len) x)
-    ∙ ap₂ (λ a b. map f a ++ b) (take_all n xs (omega arith)) (map-replicate f (n - len) x)
 
 pub map-pushed : {X : Type 0} (f : X → ℕ) (xs ys : List X) (x : X) → ys ≡ xs ++ x ∷ [] → map f ys ≡ map f xs ++ f x ∷ []
 map-pushed f xs ys x e = ap (map f) e ∙ map-append f xs (x ∷ [])

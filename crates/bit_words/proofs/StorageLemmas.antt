@@ -63,6 +63,10 @@ digit_of-is_one zero h = refl
 digit_of-is_one (suc zero) h = refl
 digit_of-is_one (suc (suc d)) h = absurd (omega arith)
 
+-- blocks with the same truth value at an index have the same digit there
+pub same_digit : (m n j : ℕ) → is_one m j ≡ is_one n j → bit_at m j ≡ bit_at n j
+same_digit m n j same = sym (digit_of-is_one _ (bit_at-lt m j)) ∙ ap digit_of same ∙ digit_of-is_one _ (bit_at-lt n j)
+
 pub value_at-index : (w : ℕ) (ms : List ℕ) (k j : ℕ) → j < w → value_at w ms (k * w + j) ≡ is_one (get_or ms k 0) j
 value_at-index w ms k j h = value_at-is w ms (k * w + j) ∙ rw (div-mul-add k w j h, mod-mul-add k w j h) refl
 

@@ -5,8 +5,8 @@ use Rattle.std.proofs.lemmas.Bool.{cases_lt, cases_eq, true≢false, false≢tru
 use Rattle.std.proofs.lemmas.Bool.Decides.{nat_tests}
 use Rattle.std.proofs.lemmas.List.{get_or_past, length-map}
 use Rattle.std.proofs.lemmas.Nat.{div-mul-add}
-use Rattle.std.proofs.lemmas.Nat.Bits.{bit_at-lt, same_from_bits_below}
-use Rattle.bit_words.specs.Bits.{blocks_for, digit_of}
+use Rattle.std.proofs.lemmas.Nat.Bits.{same_from_bits_below}
+use Rattle.bit_words.specs.Bits.{blocks_for}
 use Rattle.bit_words.specs.Digits.{IsEither, IsShiftedLeft, is_one}
 use Rattle.bit_words.specs.declared.block.merge.Merge.{Merge}
 use Rattle.bit_words.specs.declared.block.merge.Merge.TheVariants.{Union, Intersection, Difference, Symmetric}
@@ -19,7 +19,7 @@ use Rattle.bit_words.proofs.BitsLemmas.{blocks_for-below, blocks_for-enough, who
 use Rattle.bit_words.proofs.CompareLemmas.{zero_from_digits, digit_from_zero}
 use Rattle.bit_words.proofs.Masks.{is_one-either, is_one-zero}
 use Rattle.bit_words.proofs.MergeLemmas.{merge_of_values-none}
-use Rattle.bit_words.proofs.StorageLemmas.{digit_of-is_one, value_at-is, value_at-past, value_at-index}
+use Rattle.bit_words.proofs.StorageLemmas.{same_digit, value_at-is, value_at-past, value_at-index}
 use Rattle.bit_words.proofs.VectorLemmas.{numbers_below, packed_nil}
 
 -- ---- whether a block is 0
@@ -50,9 +50,6 @@ unused_from_false w ms k small falses =
 -- and a block that is 0 has none
 pub false_from_unused : (w : ℕ) (ms : List ℕ) (k j : ℕ) → j < w → is_used ms k ≡ false → value_at w ms (k * w + j) ≡ false
 false_from_unused w ms k j index none = value_at-index w ms k j index ∙ digit_from_zero _ j (zero_from_unused _ none)
-
-same_digit : (m n j : ℕ) → is_one m j ≡ is_one n j → m / 2 ^ j % 2 ≡ n / 2 ^ j % 2
-same_digit m n j e = sym (digit_of-is_one _ (bit_at-lt m j)) ∙ ap digit_of e ∙ digit_of-is_one _ (bit_at-lt n j)
 
 -- blocks of the same values are the same
 pub same_block : (w : ℕ) (ms ns : List ℕ) (k : ℕ) → get_or ms k 0 < 2 ^ w → get_or ns k 0 < 2 ^ w → ((j : ℕ) → j < w → value_at w ms (k * w + j) ≡ value_at w ns (k * w + j)) → get_or ms k 0 ≡ get_or ns k 0
@@ -200,10 +197,6 @@ used_kept w start k m ms ns kept digits j index =
     (λ below. digits j index ∙ ap (λ n. nat_lt j k && not (n == 0)) (sym (kept (start + j) (omega arith))))
     (λ past. let test : nat_lt j k ≡ false = grind (arith, nat_tests) in digits j index ∙ ap (λ t. t && is_used ms (start + j)) test ∙ sym (ap (λ t. t && is_used ns (start + j)) test))
     (cases_lt j k)
-
--- all digits of a block
-pub used_whole : (w n start j : ℕ) (ms : List ℕ) → n ≡ w → j < w → (nat_lt j n && is_used ms (start + j)) ≡ is_used ms (start + j)
-used_whole w n start j ms e index = let test : nat_lt j n ≡ true = grind (arith, nat_tests) in ap (λ t. t && is_used ms (start + j)) test
 
 -- a value merged with none
 kept_by_difference : (a : Bool) → merge_of_values Difference a false ≡ a

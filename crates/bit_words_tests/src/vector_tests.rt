@@ -140,7 +140,7 @@ fn a_walk_gives_each_block(rt: HostRuntime) -> Result<(), Fail> {
 }
 
 // How a list fails to take so many values, by each call that takes memory for them.
-fn refusals<B: BitBlock>(bits: &mut BitVec<B>, len: usize) -> [Result<(), AllocError>; 4] {
+fn failures<B: BitBlock>(bits: &mut BitVec<B>, len: usize) -> [Result<(), AllocError>; 4] {
     let more = len.saturating_sub(bits.len());
     let ones = bits.grow(more, true);
     let more = len.saturating_sub(bits.len());
@@ -155,7 +155,7 @@ fn refusals<B: BitBlock>(bits: &mut BitVec<B>, len: usize) -> [Result<(), AllocE
 fn check_greatest<B: BitBlock>(rt: &impl Abort, alloc: Global, number: usize) -> Result<(), Fail> {
     let mut bits = BitVec::<B>::from_bytes_general(alloc, &[0b1010_0000])?;
     let capacity = bits.capacity();
-    assert_eq!(rt; refusals(&mut bits, number), [Err(AllocError); 4]);
+    assert_eq!(rt; failures(&mut bits, number), [Err(AllocError); 4]);
     assert!(rt; BitVec::<B>::from_elem_general(alloc, number, true).is_err());
     assert!(rt; BitVec::<B>::from_elem_general(alloc, number, false).is_err());
     assert_eq!(rt; bits.get(number), None);

@@ -11,7 +11,7 @@ use crate::packed::access::block_at;
 use crate::packed::groups::{GROUP, LONG_GROUP};
 
 /// Whether the lists of blocks are the same, where a block past the end of a list counts as 0. Compares groups of
-/// blocks, each by one test, and stops at the first group that differs.
+/// at most 32 blocks, each by one test, and stops at the first group that differs.
 ///
 /// ```
 /// assert!(same_blocks(&[7u8, 1], &[7, 1, 0]));
@@ -165,8 +165,8 @@ fn is_same_group<B: BitBlock>(a: &[B], b: &[B], start: usize, size: usize) -> bo
     same(mismatches(a, b, start, size), B::zero())
 }
 
-// The digits in which blocks of the group of `size` that begins at `start` differ. The compiler makes vector code of it
-// where it knows the size.
+// A block that is 0 just where the blocks of the group of `size` that begins at `start` are the same. The compiler makes
+// vector code of it where it knows the size.
 #[inline(always)]
 fn mismatches<B: BitBlock>(a: &[B], b: &[B], start: usize, size: usize) -> B
     requires within { start + size ≤ length a.now }
@@ -263,7 +263,7 @@ fn same_by_search<B: BitBlock>(a: &[B], b: &[B]) -> bool
     first_mismatching_block(a, b).is_none()
 }
 
-// The digits of `seen`, and those in which the other two differ.
+// A block that is 0 just where `seen` is and the other two are the same.
 #[inline]
 fn or_mismatch<B: BitBlock>(seen: B, a: B, b: B) -> B
     requires seen { B.is_block seen }
@@ -275,7 +275,7 @@ fn or_mismatch<B: BitBlock>(seen: B, a: B, b: B) -> B
     either(seen, block_xor(a, b))
 }
 
-// The digits of two blocks: 0 just where both are.
+// A block that is 0 just where both are.
 #[inline]
 fn either<B: BitBlock>(a: B, b: B) -> B
     requires left { B.is_block a }
