@@ -124,5 +124,5 @@ pub not_disjoint : (s t : List ℕ) (v : ℕ) → has s v ≡ true → has t v �
 not_disjoint s t v in_s in_t apart = true≢false (sym in_t ∙ apart v in_s)
 
 pub accepted : (moves : List (List (List ℕ))) (starts accepting word s : List ℕ) (apart : Bool) → IsEnd moves starts word s → apart ≡ is_disjoint s accepting → ((apart ≡ true) ↔ IsDisjoint s accepting) → (not apart ≡ true) ↔ Accepts (record { moves = moves; starts = starts; accepting = accepting }) word
-accepted moves starts accepting word s true end answer members = (λ h. absurd (true≢false (sym h)), λ p. absurd (not_disjoint s accepting p.0 ((end p.0).1 p.1) p.2 (members.0 refl)))
-accepted moves starts accepting word s false end answer members = (λ h. let p = shared s accepting (sym answer) in (p.0, (end p.0).0 p.1, p.2), λ p. refl)
+accepted moves starts accepting word s true end value members = (λ h. absurd (true≢false (sym h)), λ p. absurd (not_disjoint s accepting p.0 ((end p.0).1 p.1) p.2 (members.0 refl)))
+accepted moves starts accepting word s false end value members = (λ h. let p = shared s accepting (sym value) in (p.0, (end p.0).0 p.1, p.2), λ p. refl)

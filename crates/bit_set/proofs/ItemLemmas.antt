@@ -4,7 +4,7 @@ use Rattle.bit_set.specs.Members.{IsSameSet}
 use Rattle.bit_set.specs.Sets.{elements, has, put, put_all, bound_of}
 use Rattle.bit_set.specs.Effects.{TakesIn}
 use Rattle.bit_set.specs.Bounds.{greatest}
-use Rattle.bit_set.specs.Faults.{IsRefusal}
+use Rattle.bit_set.specs.Faults.{IsInsertFault}
 use Rattle.bit_set.specs.declared.faults.SetError.{SetError}
 use Rattle.bit_set.specs.declared.faults.SetError.TheVariants.{Element, Length, Memory}
 use Rattle.bit_set.proofs.MemberLemmas.{members_put_all}
@@ -26,11 +26,11 @@ TakesIn-more items n old mid new so_far members long low =
       fit = omega (arith, low, so_far.fit, bound_of-push items n);
     }
 
--- which fault a refusal is
-pub IsRefusal-fault : (fault : SetError) (item capacity : ℕ) → IsRefusal fault item capacity → (fault ≢ Length) × ((fault ≡ Element) ↔ (item ≡ greatest))
-IsRefusal-fault Element item capacity is = (λ e. cc, (λ e. is, λ e. refl))
-IsRefusal-fault Length item capacity is = absurd is
-IsRefusal-fault (Memory fault) item capacity is = (λ e. cc, (λ e. cc, λ e. absurd (omega (arith, e, is.1))))
+-- which fault it is
+pub IsInsertFault-fault : (fault : SetError) (item capacity : ℕ) → IsInsertFault fault item capacity → (fault ≢ Length) × ((fault ≡ Element) ↔ (item ≡ greatest))
+IsInsertFault-fault Element item capacity is = (λ e. cc, (λ e. is, λ e. refl))
+IsInsertFault-fault Length item capacity is = absurd is
+IsInsertFault-fault (Memory fault) item capacity is = (λ e. cc, (λ e. cc, λ e. absurd (omega (arith, e, is.1))))
 
 -- what items make of a list with no value
 pub TakesIn-empty : (items : List ℕ) (old new : List Bool) → old ≡ [] → TakesIn items old new → (elements new ≡ put_all [] items) × (length new ≡ bound_of items) × IsSameSet (elements new) items
@@ -41,7 +41,7 @@ TakesIn-empty items old new is took = (
 )
 
 -- the item that cannot go in lies past all that came in
-pub TakesIn-past : (items : List ℕ) (item : ℕ) (old new : List Bool) (fault : SetError) (capacity : ℕ) → old ≡ [] → TakesIn items old new → length new ≤ item → IsRefusal fault item capacity → (bound_of items ≤ item) × (item ≤ greatest)
+pub TakesIn-past : (items : List ℕ) (item : ℕ) (old new : List Bool) (fault : SetError) (capacity : ℕ) → old ≡ [] → TakesIn items old new → length new ≤ item → IsInsertFault fault item capacity → (bound_of items ≤ item) × (item ≤ greatest)
 TakesIn-past items item old new Element capacity is took past refused = (omega (arith, took.long, past, ap length is), omega (arith, refused))
 TakesIn-past items item old new Length capacity is took past refused = absurd refused
 TakesIn-past items item old new (Memory fault) capacity is took past refused = (omega (arith, took.long, past, ap length is), omega (arith, refused.1))

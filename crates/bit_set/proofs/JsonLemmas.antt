@@ -166,7 +166,7 @@ one_fault w d Blocks (Memory refused) h k = absurd k
 one_fault w d Unclean (Memory refused) h k = absurd k
 one_fault w d (Memory refused) b h k = absurd h
 
--- so a fault that was answered is answered just where it is the first, and none where the value spells something
+-- so a fault is returned just where it is the first, and none where the value spells something
 pub fault_is : {X : Type 0} (w : ℕ) (d : Data) (r : Result X JsonError) (a b : JsonError) → r ≡ Err a → IsFirstFault w d a → (r ≡ Err b) ↔ IsFirstFault w d b
 fault_is w d r a b is h = (λ e. let same : a ≡ b = cc in subst (IsFirstFault w d) same h, λ k. is ∙ ap Err (one_fault w d a b h k))
 

@@ -94,24 +94,24 @@ none_from_members (x ∷ xs) none = absurd (true≢false (sym (ap (λ b. b || ha
 
 -- ---- what a test says
 
-pub tells_empty : (answer : Bool) (s : List ℕ) → (IsTrue answer ↔ (s ≡ [])) → IsTrue answer ↔ HasNone s
-tells_empty answer s tells = (λ is. members_none s (tells.0 is), λ none. tells.1 (none_from_members s none))
+pub tells_empty : (value : Bool) (s : List ℕ) → (IsTrue value ↔ (s ≡ [])) → IsTrue value ↔ HasNone s
+tells_empty value s tells = (λ is. members_none s (tells.0 is), λ none. tells.1 (none_from_members s none))
 
-pub tells_same : (answer : Bool) (a b : List Bool) → answer ≡ same_sets (elements a) (elements b) → IsTrue answer ↔ IsSameSet (elements a) (elements b)
-tells_same answer a b says = (
+pub tells_same : (value : Bool) (a b : List Bool) → value ≡ same_sets (elements a) (elements b) → IsTrue value ↔ IsSameSet (elements a) (elements b)
+tells_same value a b says = (
   λ is n. ap (λ u. has u n) ((bytes_decides (elements a) (elements b)).0 (sym says ∙ is)),
   λ same. says ∙ (bytes_decides (elements a) (elements b)).1 (same_members (elements a) (elements b) (IsAscending-elements a) (IsAscending-elements b) same),
 )
 
-pub tells_subset : (answer : Bool) (s t : List ℕ) → answer ≡ is_subset s t → IsTrue answer ↔ IsSubset s t
-tells_subset answer s t says = (λ is. (is_subset-members s t).0 (sym says ∙ is), λ each. says ∙ (is_subset-members s t).1 each)
+pub tells_subset : (value : Bool) (s t : List ℕ) → value ≡ is_subset s t → IsTrue value ↔ IsSubset s t
+tells_subset value s t says = (λ is. (is_subset-members s t).0 (sym says ∙ is), λ each. says ∙ (is_subset-members s t).1 each)
 
 false_where_not_true : (b : Bool) → (b ≡ true → ⊥) → b ≡ false
 false_where_not_true true no_more = absurd (no_more refl)
 false_where_not_true false no_more = refl
 
-pub tells_disjoint : (answer : Bool) (s t : List ℕ) → answer ≡ is_disjoint s t → IsTrue answer ↔ IsDisjoint s t
-tells_disjoint answer s t says = (
+pub tells_disjoint : (value : Bool) (s t : List ℕ) → value ≡ is_disjoint s t → IsTrue value ↔ IsDisjoint s t
+tells_disjoint value s t says = (
   λ is n in_s. false_where_not_true (has t n) (λ in_t. (is_disjoint-members s t).0 (sym says ∙ is) n in_s in_t),
   λ apart. says ∙ (is_disjoint-members s t).1 (λ n in_s in_t. true≢false (sym in_t ∙ apart n in_s)),
 )

@@ -77,14 +77,14 @@ is_subset-finite s t =
 
 -- ---- the sets that two lists of truth values keep
 
-pub is_subset-elements : (answer : Bool) (a b : List Bool) → ((answer ≡ true) ↔ ((i : ℕ) → slice_get a i ≡ Some true → slice_get b i ≡ Some true)) → answer ≡ is_subset (elements a) (elements b)
-is_subset-elements answer a b each =
+pub is_subset-elements : (value : Bool) (a b : List Bool) → ((value ≡ true) ↔ ((i : ℕ) → slice_get a i ≡ Some true → slice_get b i ≡ Some true)) → value ≡ is_subset (elements a) (elements b)
+is_subset-elements value a b each =
     let members = is_subset-members (elements a) (elements b) in
-    same_tests answer (is_subset (elements a) (elements b)) (λ is. members.1 (λ n in_a. (slice_get-elements b n).1 (each.0 is n ((slice_get-elements a n).0 in_a))))
+    same_tests value (is_subset (elements a) (elements b)) (λ is. members.1 (λ n in_a. (slice_get-elements b n).1 (each.0 is n ((slice_get-elements a n).0 in_a))))
     (λ all. each.1 (λ i at. (slice_get-elements b i).0 (members.0 all i ((slice_get-elements a i).1 at))))
 
-pub is_disjoint-elements : (answer : Bool) (a b : List Bool) → ((answer ≡ true) ↔ ((i : ℕ) → slice_get a i ≡ Some true → slice_get b i ≡ Some true → ⊥)) → answer ≡ is_disjoint (elements a) (elements b)
-is_disjoint-elements answer a b each =
+pub is_disjoint-elements : (value : Bool) (a b : List Bool) → ((value ≡ true) ↔ ((i : ℕ) → slice_get a i ≡ Some true → slice_get b i ≡ Some true → ⊥)) → value ≡ is_disjoint (elements a) (elements b)
+is_disjoint-elements value a b each =
     let members = is_disjoint-members (elements a) (elements b) in
-    same_tests answer (is_disjoint (elements a) (elements b)) (λ is. members.1 (λ n in_a in_b. each.0 is n ((slice_get-elements a n).0 in_a) ((slice_get-elements b n).0 in_b)))
+    same_tests value (is_disjoint (elements a) (elements b)) (λ is. members.1 (λ n in_a in_b. each.0 is n ((slice_get-elements a n).0 in_a) ((slice_get-elements b n).0 in_b)))
     (λ all. each.1 (λ i at_a at_b. members.0 all i ((slice_get-elements a i).1 at_a) ((slice_get-elements b i).1 at_b)))

@@ -13,7 +13,7 @@ of_bits (BitsMemory fault) = Memory fault
 
 -- a set with capacity for this many values did not take the item in: for the item itself, or for a growth that
 -- the item needs
-abbrev pub IsRefusal : SetError → ℕ → ℕ → Type 0
-IsRefusal Element item capacity = item ≡ greatest
-IsRefusal Length item capacity = ⊥
-IsRefusal (Memory fault) item capacity = (capacity ≤ item) × (item < greatest)
+abbrev pub IsInsertFault : SetError → ℕ → ℕ → Type 0
+IsInsertFault Element item capacity = item ≡ greatest
+IsInsertFault Length item capacity = ⊥
+IsInsertFault (Memory fault) item capacity = (capacity ≤ item) × (item < greatest)

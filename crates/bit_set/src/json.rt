@@ -86,7 +86,8 @@ impl<B: JsonBlock> BitSet<B> {
     pub fn from_json(alloc: Global, value: &Value) -> Result<Self, JsonError>
         ensures ok { IfOk result (λ set. Spells B.width (view value.now) (blocks_of B.width set.values)
             (length set.values)) }
-        ensures members { (values : List Bool) → Spells B.width (view value.now) (blocks_of B.width values) (length values)
+        ensures members { (values : List Bool)
+            → Spells B.width (view value.now) (blocks_of B.width values) (length values)
             → IfOk result (λ set. IsSameSet (elements set.values) (elements values)) }
         ensures capacity { IfOk result (λ set. set.capacity
             ≡ capacity_of B.width (blocks_for B.width (length set.values))) }
@@ -94,7 +95,7 @@ impl<B: JsonBlock> BitSet<B> {
         ensures number { IsErrOf result JsonError.Number ↔ IsFirstFault B.width (view value.now) JsonError.Number }
         ensures blocks { IsErrOf result JsonError.Blocks ↔ IsFirstFault B.width (view value.now) JsonError.Blocks }
         ensures unclean { IsErrOf result JsonError.Unclean ↔ IsFirstFault B.width (view value.now) JsonError.Unclean }
-        ensures memory { (refused : AllocError) → IsErrOf result (JsonError.Memory refused)
+        ensures memory { (fault : AllocError) → IsErrOf result (JsonError.Memory fault)
             → (ms : List ℕ) × (n : ℕ) × Spells B.width (view value.now) ms n }
         ensures empty { Spells B.width (view value.now) [] 0 → IsOk result }
     {

@@ -7,7 +7,7 @@ use Rattle.std.proofs.lemmas.Option.{slice_get_read}
 use Rattle.std.proofs.lemmas.Bool.{true≢false}
 use Rattle.bit_set_run.specs.declared.commands.Command.{Command}
 use Rattle.bit_set_run.specs.declared.commands.Reply.{Reply}
-use Rattle.bit_set_run.specs.Run.{Sets, step, run_of, RefusedBy, StoppedAt}
+use Rattle.bit_set_run.specs.Run.{Sets, step, run_of, FailsAt, StoppedAt}
 
 -- a run of commands and of one more
 pub sets-run_of_push : (sets : Sets) (commands : List Command) (command : Command) → (run_of sets (commands ++ command ∷ [])).sets ≡ (step (run_of sets commands).sets command).sets
@@ -49,7 +49,7 @@ pub StoppedAt-here :
     (place : ℕ) (commands : List Command) (capacity : ℕ) (old mid new : Sets) (old_replies mid_replies new_replies : List Reply) (command : Command)
     → HasRun place commands old mid old_replies mid_replies
     → place < length commands → command ≡ get_or commands place command
-    → new_replies ≡ mid_replies → ((capacity ≤ length mid_replies) × (new ≡ mid)) ⊎ RefusedBy mid command new
+    → new_replies ≡ mid_replies → ((capacity ≤ length mid_replies) × (new ≡ mid)) ⊎ FailsAt mid command new
     → StoppedAt place commands capacity old new old_replies new_replies
 StoppedAt-here place commands capacity old mid new old_replies mid_replies new_replies command so_far lt is replies stopped = record {
   within = lt;

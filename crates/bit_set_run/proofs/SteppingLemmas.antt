@@ -17,7 +17,7 @@ use Rattle.bit_set_run.specs.Elements.{elements_of}
 use Rattle.bit_set_run.specs.declared.commands.Command.TheVariants.{Insert}
 use Rattle.bit_set_run.specs.declared.commands.Reply.TheVariants.{Truth, Element}
 use Rattle.bit_set.specs.Bounds.{greatest}
-use Rattle.bit_set_run.specs.Run.{elements_before_greatest, step, answer_with, change_to}
+use Rattle.bit_set_run.specs.Run.{elements_before_greatest, step, reply_with, change_to}
 
 -- a list of truth values is longer than each of its elements
 bound_from : (place : ℕ) (bs : List Bool) → bound_of (elements_from place bs) ≤ place + length bs
@@ -120,7 +120,7 @@ no_change_is sets place d set_now within same =
 -- what an insert leaves, the greatest number included
 pub sets-insert : (sets : List (List ℕ)) (name n : ℕ) → set sets name (if n == greatest then get_or sets name [] else put (get_or sets name []) n) ≡ (step sets (Insert name n)).sets
 sets-insert sets name n =
-    elim (eqb n greatest) as (λ b. set sets name (cond b (get_or sets name []) (put (get_or sets name []) n)) ≡ (cond b (answer_with sets Element) (change_to sets name (put (get_or sets name []) n) (Truth (not (has (get_or sets name []) n))))).sets) [
+    elim (eqb n greatest) as (λ b. set sets name (cond b (get_or sets name []) (put (get_or sets name []) n)) ≡ (cond b (reply_with sets Element) (change_to sets name (put (get_or sets name []) n) (Truth (not (has (get_or sets name []) n))))).sets) [
       | true ↦ set-get_or sets name []
       | false ↦ refl
     ]

@@ -35,7 +35,7 @@ items_first out [] i none below = absurd (omega arith)
 items_first out (x ∷ xs) zero none below = simp (append_assoc, append-nil)
 items_first out (x ∷ xs) (suc i) none below = absurd (omega arith)
 
--- No text of an answer has a byte 10 in it.
+-- No text of a reply has a byte 10 in it.
 either : (b : Bool) (xs ys : List ℕ) → Lacks 10 xs → Lacks 10 ys → Lacks 10 (if b then xs else ys)
 either true xs ys left right = left
 either false xs ys left right = right

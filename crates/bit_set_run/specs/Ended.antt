@@ -1,4 +1,4 @@
--- How the answering of the lines of an input ends: what was read and what was written, at each outcome.
+-- How a run over the lines of an input ends: what was read and what was written, at each outcome.
 use Rattle.std.specs.Prelude.{◌≡◌, ℕ, ◌+◌, List, Option, Result, Ok, Err}
 use Rattle.std.specs.Io.KnownBytes.{Appends}
 use Rattle.bit_set_run.specs.declared.streams.LinesFault.{LinesFault}
@@ -7,7 +7,7 @@ use Rattle.bit_set_run.specs.Output.{output}
 use Rattle.bit_set_run.specs.Streams.{limit, GaveAll, GaveCount, GaveSome, GaveUntil, HoldsBeginning}
 
 -- the reader gave an input, to its end, and its output was written and nothing else
-pub record IsAnswered (remaining remaining_after contents contents_after : Option (List ℕ)) : Type 0 where
+pub record IsWritten (remaining remaining_after contents contents_after : Option (List ℕ)) : Type 0 where
   pub input : List ℕ
   pub read : GaveAll remaining remaining_after input
   pub written : Appends contents contents_after (output input)
@@ -24,7 +24,7 @@ abbrev pub HasEnded :
     {W : Type 0} → Result Unit LinesFault → (remaining remaining_after : Option (List ℕ))
     → (contents : W → Option (List ℕ)) → (writer writer_after : W) → Type 0
 HasEnded (Ok nothing) remaining remaining_after contents writer writer_after =
-    IsAnswered remaining remaining_after (contents writer) (contents writer_after)
+    IsWritten remaining remaining_after (contents writer) (contents writer_after)
 HasEnded (Err Read) remaining remaining_after contents writer writer_after =
     GaveUntil remaining remaining_after limit × (writer_after ≡ writer)
 HasEnded (Err TooLarge) remaining remaining_after contents writer writer_after =

@@ -31,7 +31,7 @@ takes words = is_some (type_of_words words)
 abbrev pub usage : List ℕ
 usage = codes "usage: bitset [u8|u16|u32|u64|usize|u128]"
 
--- the status at each outcome of answering lines, and what is said there
+-- the status at each end of a run over an input, and the text at it
 abbrev pub status_at : {X : Type 0} → Result X LinesFault → ℕ
 status_at (Ok x) = 0
 status_at (Err Memory) = 3

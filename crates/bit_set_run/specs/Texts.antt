@@ -1,4 +1,4 @@
--- The texts that answer lines.
+-- The texts of replies.
 use Rattle.std.specs.Prelude.{ℕ, if◌then◌else◌, List, ◌++◌, codes, decimal}
 use Rattle.std.specs.List.{join_by}
 use Rattle.std.specs.declared.cmp.Ordering.{Ordering}

@@ -5,7 +5,7 @@ ghost use Rattle.bit_set_run.specs.declared.commands.Command.{Command};
 ghost use Rattle.bit_set_run.specs.declared.reading.BadLine.{BadLine};
 ghost use Rattle.bit_set_run.specs.declared.reading.BadLine.TheVariants.{BadCommand};
 ghost use Rattle.bit_set_run.specs.Lines.{lines_of, AreLines};
-ghost use Rattle.bit_set_run.specs.Output.{answer_to, answers_from, output, sets_after, Gives, Line};
+ghost use Rattle.bit_set_run.specs.Output.{line_text, line_texts_from, output, sets_after, Gives, Line};
 ghost use Rattle.bit_set_run.specs.Reading.{is_plain, reading};
 ghost use Rattle.bit_set_run.specs.Run.{no_sets, run_of, Sets};
 ghost use Rattle.bit_set_run.specs.Spelling.{line_of, CanBeHad};
@@ -28,7 +28,7 @@ pub fn words_are_unique()
     ensures only { (line : List ℕ) (words : List (List ℕ)) → AreWords line words → words ≡ words_of line }
 {}
 
-/// What some inputs give, by the definitions alone: each line beside its answer.
+/// What some inputs give, by the definitions alone: each line beside its reply.
 pub fn outputs_are_as_shown()
     ensures sets { Gives (
         ("insert a 3", "true") ∷
@@ -41,7 +41,7 @@ pub fn outputs_are_as_shown()
         ("items a", "{400}") ∷
         ("items b", "{}") ∷
         []) }
-    ensures refusals { Gives (
+    ensures errors { Gives (
         ("insert a 18446744073709551615", "refused element") ∷
         ("frob", "bad command") ∷
         ("frob 99999999999999999999", "bad command") ∷
@@ -240,13 +240,14 @@ pub fn outputs_are_as_shown()
     ensures nothing { output [] ≡ [] }
 {}
 
-/// An output has a line for each line of its input: its answer, on the sets that the lines before it left.
+/// An output has a line for each line of its input: its reply, on the sets that the lines before it left.
 /// A bad line leaves them as they were.
-pub fn each_line_has_one_answer()
+pub fn each_line_has_one_reply()
     ensures as_many { (input : List ℕ) → length (lines_of (output input)) ≡ length (lines_of input) }
-    ensures answers { (input : List ℕ) → lines_of (output input) ≡ answers_from no_sets (map reading (lines_of input)) }
+    ensures replies { (input : List ℕ)
+        → lines_of (output input) ≡ line_texts_from no_sets (map reading (lines_of input)) }
     ensures first { (sets : Sets) (line : Line) (lines : List Line)
-        → answers_from sets (line ∷ lines) ≡ answer_to sets line ∷ answers_from (sets_after sets line) lines }
+        → line_texts_from sets (line ∷ lines) ≡ line_text sets line ∷ line_texts_from (sets_after sets line) lines }
     ensures bad { (sets : Sets) (bad : BadLine) → sets_after sets (Err bad) ≡ sets }
 {}
 

@@ -1,13 +1,13 @@
 //! Commands over a table of sixteen sets, and the program that reads them from lines.
 #![tactic(auto)]
 
-mod answers;
 mod commands;
 mod cutting;
 pub mod laws;
 mod lines;
 mod names;
 mod numbers;
+mod output;
 mod questions;
 mod reading;
 mod reply_texts;

@@ -2,7 +2,7 @@
 ghost use Rattle.bit_set_run.specs.Ended.{HasEnded};
 
 use crate::LinesFault;
-use crate::answers::output;
+use crate::output::output;
 use crate::streams::{read_input, write_output};
 use bit_set::BitBlock;
 use std::alloc::Global;

@@ -1,7 +1,7 @@
 //! The output of an input, a line at a time.
 
 ghost use Rattle.std.specs.Prelude.{◌≡◌, ◌≢◌, [], ◌∷◌, ◌++◌, IfOk, OnOk, OnErr};
-ghost use Rattle.bit_set_run.specs.Output.{answer_to, output, sets_after};
+ghost use Rattle.bit_set_run.specs.Output.{line_text, output, sets_after};
 ghost use Rattle.bit_set_run.specs.Reading.{reading};
 
 use crate::Table;
@@ -15,20 +15,20 @@ use std::alloc::{AllocError, Global};
 /// What the program writes for the input: for each of its lines a text and a newline. An empty input takes no memory.
 pub(crate) fn output<B: BitBlock>(alloc: Global, input: &[u8]) -> Result<Vec<u8>, AllocError>
     ensures text { IfOk result (λ text. text.items ≡ output input.now) }
-    ensures refused { OnErr result (input.now ≢ []) }
+    ensures fails { OnErr result (input.now ≢ []) }
 {
     let mut table = Table::<B>::new(alloc);
     let mut text = Vec::new(alloc);
     let mut rest = input;
     while let Some((line, after)) = next_line(rest) {
-        answer_line(alloc, &mut table, line, &mut text)?;
+        reply_to_line(alloc, &mut table, line, &mut text)?;
         rest = after;
     }
     Ok(text)
 }
 
 // Executes the command of a line and appends the text of its reply.
-fn answer_line<B: BitBlock>(
+fn reply_to_line<B: BitBlock>(
     alloc: Global,
     table: &mut Table<B>,
     line: &[u8],
@@ -36,7 +36,7 @@ fn answer_line<B: BitBlock>(
 ) -> Result<(), AllocError>
     ensures sets { OnOk result (table.new ≡ sets_after table.old (reading line.now)) }
     ensures text { OnOk result (text.new.items ≡ text.old.items
-        ++ (answer_to table.old (reading line.now) ++ 10 ∷ [])) }
+        ++ (line_text table.old (reading line.now) ++ 10 ∷ [])) }
 {
     match read_line(alloc, line)? {
         Err(bad) => text.extend_from_slice(bad_text(bad))?,

@@ -4,7 +4,7 @@ ghost use Rattle.std.specs.Prelude.{◌≡◌, map, IfOk, IsTrue, OnErr};
 ghost use Rattle.bit_set_run.specs.Capacities.{ChangesCapacities, KeepsCapacities};
 ghost use Rattle.bit_set_run.specs.Elements.{elements_of};
 ghost use Rattle.bit_set_run.specs.Questions.{is_question};
-ghost use Rattle.bit_set_run.specs.Run.{step, RefusedBy};
+ghost use Rattle.bit_set_run.specs.Run.{step, FailsAt};
 
 use crate::two_sets::{rest_of_walk, set_of, walk};
 use crate::walking::{items, rest};
@@ -20,7 +20,7 @@ pub(crate) fn reply_to<B: BitBlock>(
 ) -> Result<Reply, AllocError>
     requires { IsTrue (is_question command.now) }
     ensures reply { IfOk result (λ reply. reply ≡ (step (map elements_of sets.now) command.now).reply) }
-    ensures refused { OnErr result (RefusedBy (map elements_of sets.now) command.now (map elements_of sets.now)) }
+    ensures fails { OnErr result (FailsAt (map elements_of sets.now) command.now (map elements_of sets.now)) }
     ensures same_sets { (step (map elements_of sets.now) command.now).sets ≡ map elements_of sets.now }
     ensures capacities { ChangesCapacities B.width sets.now command.now sets.now }
     ensures capacities_left { KeepsCapacities sets.now command.now sets.now }

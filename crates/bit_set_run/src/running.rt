@@ -2,7 +2,7 @@
 ghost use Rattle.std.specs.Prelude.{◌≡◌, ℕ, ◌≤◌, ◌⊎◌, List, ◌++◌, [], ◌∷◌, IfOk, OnOk, OnErr, vec_len, vec_capacity};
 ghost use Rattle.bit_set.specs.Bounds.{greatest};
 ghost use Rattle.bit_set_run.specs.declared.running.RunFault.TheVariants.{Memory};
-ghost use Rattle.bit_set_run.specs.Run.{step, run_of, RefusedBy, StoppedAt};
+ghost use Rattle.bit_set_run.specs.Run.{step, run_of, FailsAt, StoppedAt};
 
 use crate::stepping::step;
 use crate::{Command, Reply, Table};
@@ -24,7 +24,7 @@ pub enum RunFault {
 impl From<AllocError> for RunFault {
     ghost from_gives = { λ _ fault. fault ≡ Memory greatest };
 
-    fn from(_refusal: AllocError) -> Self {
+    fn from(_fault: AllocError) -> Self {
         RunFault::Memory(usize::MAX)
     }
 }
@@ -32,7 +32,7 @@ impl From<AllocError> for RunFault {
 impl<T: Drop> From<AllocFailed<T>> for RunFault {
     ghost from_gives = { λ _ fault. fault ≡ Memory greatest };
 
-    fn from(_refusal: AllocFailed<T>) -> Self {
+    fn from(_fault: AllocFailed<T>) -> Self {
         RunFault::Memory(usize::MAX)
     }
 }
@@ -77,7 +77,7 @@ fn execute<B: BitBlock>(
     ensures kept { OnErr result (replies.new.items ≡ replies.old.items) }
     ensures capacity { vec_capacity replies.old ≤ vec_capacity replies.new }
     ensures stopped { OnErr result (((vec_capacity replies.old ≤ vec_len replies.old) × (table.new ≡ table.old))
-        ⊎ RefusedBy table.old command.now table.new) }
+        ⊎ FailsAt table.old command.now table.new) }
 {
     replies.reserve(1)?;
     let reply = step(alloc, &mut table.sets, command)?;

@@ -7,7 +7,7 @@ ghost use Rattle.bit_set_run.specs.Capacities.{bits_at, Becomes, BecomeTwo, Chan
 ghost use Rattle.bit_set_run.specs.Elements.{elements_of};
 ghost use Rattle.bit_set.specs.Bounds.{greatest};
 ghost use Rattle.bit_set_run.specs.Questions.{is_of_two};
-ghost use Rattle.bit_set_run.specs.Run.{step, elements_before_greatest, RefusedBy};
+ghost use Rattle.bit_set_run.specs.Run.{step, elements_before_greatest, FailsAt};
 ghost use Rattle.bit_set_run.specs.declared.commands.Reply.TheVariants.{Truth, Done, Rest, Element};
 
 use crate::questions::reply_to;
@@ -25,7 +25,7 @@ pub(crate) fn step<B: BitBlock>(
 ) -> Result<Reply, AllocError>
     ensures reply { IfOk result (λ reply. reply ≡ (step (map elements_of sets.old) command.now).reply) }
     ensures sets { OnOk result (map elements_of sets.new ≡ (step (map elements_of sets.old) command.now).sets) }
-    ensures refused { OnErr result (RefusedBy (map elements_of sets.old) command.now (map elements_of sets.new)) }
+    ensures fails { OnErr result (FailsAt (map elements_of sets.old) command.now (map elements_of sets.new)) }
 
     // A table's contract sees no capacities, so these two are of this function alone.
     ensures capacities { OnOk result (ChangesCapacities B.width sets.old command.now sets.new) }
@@ -65,7 +65,7 @@ fn change_by_another<B: BitBlock>(
     requires { IsTrue (is_of_two command.now) }
     ensures reply { IfOk result (λ reply. reply ≡ (step (map elements_of sets.old) command.now).reply) }
     ensures sets { OnOk result (map elements_of sets.new ≡ (step (map elements_of sets.old) command.now).sets) }
-    ensures refused { OnErr result (RefusedBy (map elements_of sets.old) command.now (map elements_of sets.new)) }
+    ensures fails { OnErr result (FailsAt (map elements_of sets.old) command.now (map elements_of sets.new)) }
     ensures capacities { OnOk result (ChangesCapacities B.width sets.old command.now sets.new) }
     ensures capacities_left { OnErr result (KeepsCapacities sets.old command.now sets.new) }
 {
@@ -87,13 +87,13 @@ fn insert<B: BitBlock>(set: &mut BitSet<B>, n: usize) -> Result<Reply, AllocErro
         (not (has (elements_of set.old) n)))) }
     ensures after { OnOk result (elements_of set.new ≡
         (if n == greatest then elements_of set.old else put (elements_of set.old) n)) }
-    ensures refused { OnErr result ((n < greatest) × (has (elements_of set.old) n ≡ false) × (set.new ≡ set.old)) }
+    ensures fails { OnErr result ((n < greatest) × (has (elements_of set.old) n ≡ false) × (set.new ≡ set.old)) }
     ensures grown { OnOk result (GrowsTo (n + 1) set.old set.new) }
     ensures unfit { n ≡ greatest → set.new ≡ set.old }
 {
     match set.insert(n) {
         Ok(new) => Ok(Reply::Truth(new)),
-        Err(SetError::Memory(refusal)) => Err(refusal),
+        Err(SetError::Memory(fault)) => Err(fault),
         Err(_) => Ok(Reply::Element),
     }
 }
@@ -102,7 +102,7 @@ fn extend<B: BitBlock>(set: &mut BitSet<B>, items: &Numbers) -> Result<Reply, Al
     ensures reply { IfOk result (λ reply. reply ≡ (if list_any (λ n. n == greatest) items.now then Element else Done)) }
     ensures after { OnOk result (elements_of set.new ≡ put_all (elements_of set.old)
         (elements_before_greatest items.now)) }
-    ensures refused { OnErr result ((front : List ℕ) × (item : ℕ) × (back : List ℕ)
+    ensures fails { OnErr result ((front : List ℕ) × (item : ℕ) × (back : List ℕ)
         × (elements_before_greatest items.now ≡ front ++ item ∷ back)
         × (has (put_all (elements_of set.old) front) item ≡ false)
         × (elements_of set.new ≡ put_all (elements_of set.old) front)) }
@@ -112,7 +112,7 @@ fn extend<B: BitBlock>(set: &mut BitSet<B>, items: &Numbers) -> Result<Reply, Al
     match set.extend(items.as_slice().iter().copied()) {
         Ok(()) => Ok(Reply::Done),
         Err(SetError::Element) => Ok(Reply::Element),
-        Err(SetError::Memory(refusal)) => Err(refusal),
+        Err(SetError::Memory(fault)) => Err(fault),
         Err(SetError::Length) => unreachable!(),
     }
 }
@@ -121,7 +121,7 @@ fn extend<B: BitBlock>(set: &mut BitSet<B>, items: &Numbers) -> Result<Reply, Al
 fn reserve<B: BitBlock>(set: &mut BitSet<B>, len: usize) -> Result<Reply, AllocError>
     ensures reply { IfOk result (λ reply. reply ≡ Done) }
     ensures after { OnOk result (elements_of set.new ≡ elements_of set.old) }
-    ensures refused { OnErr result ((bound_of (elements_of set.old) < len) × (set.new ≡ set.old)) }
+    ensures fails { OnErr result ((bound_of (elements_of set.old) < len) × (set.new ≡ set.old)) }
     ensures capacity { OnOk result (len ≤ set.new.capacity) }
     ensures grown { OnOk result (GrowsTo len set.old set.new) }
 {
@@ -133,7 +133,7 @@ fn reserve<B: BitBlock>(set: &mut BitSet<B>, len: usize) -> Result<Reply, AllocE
 fn reserve_exact<B: BitBlock>(set: &mut BitSet<B>, len: usize) -> Result<Reply, AllocError>
     ensures reply { IfOk result (λ reply. reply ≡ Done) }
     ensures after { OnOk result (elements_of set.new ≡ elements_of set.old) }
-    ensures refused { OnErr result ((bound_of (elements_of set.old) < len) × (set.new ≡ set.old)) }
+    ensures fails { OnErr result ((bound_of (elements_of set.old) < len) × (set.new ≡ set.old)) }
     ensures grown { OnOk result (GrowsExactlyTo B.width len set.old set.new) }
 {
     set.reserve_len_exact(len)?;
@@ -143,7 +143,7 @@ fn reserve_exact<B: BitBlock>(set: &mut BitSet<B>, len: usize) -> Result<Reply, 
 fn shrink<B: BitBlock>(set: &mut BitSet<B>) -> Result<Reply, AllocError>
     ensures reply { IfOk result (λ reply. reply ≡ Done) }
     ensures after { OnOk result (elements_of set.new ≡ elements_of set.old) }
-    ensures refused { OnErr result ((elements_of set.old ≢ []) × (elements_of set.new ≡ elements_of set.old)) }
+    ensures fails { OnErr result ((elements_of set.old ≢ []) × (elements_of set.new ≡ elements_of set.old)) }
     ensures fitted { OnOk result (Shrinks B.width set.old set.new) }
     ensures capacity { set.new.capacity ≤ set.old.capacity }
 {
@@ -257,7 +257,7 @@ fn split_off<B: BitBlock>(
         ≡ slice_set (slice_set (map elements_of sets.old) from
         (those_below (slice_index_or (map elements_of sets.old) from []) at)) to
         (those_from (slice_index_or (map elements_of sets.old) from []) at)) }
-    ensures refused { OnErr result ((0 < at) × (sets.new ≡ sets.old)) }
+    ensures fails { OnErr result ((0 < at) × (sets.new ≡ sets.old)) }
     ensures parts { OnOk result (BecomeTwo sets.old
         from (IsFront at) to (λ _ part. IsPart B.width at (bits_at sets.old from) part) sets.new) }
 {

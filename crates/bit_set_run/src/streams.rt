@@ -50,7 +50,7 @@ impl Error for LinesFault {}
 impl From<AllocError> for LinesFault {
     ghost from_gives = { λ _ fault. fault ≡ Memory };
 
-    fn from(_refusal: AllocError) -> Self {
+    fn from(_fault: AllocError) -> Self {
         LinesFault::Memory
     }
 }
@@ -58,7 +58,7 @@ impl From<AllocError> for LinesFault {
 impl<T: Drop> From<AllocFailed<T>> for LinesFault {
     ghost from_gives = { λ _ fault. fault ≡ Memory };
 
-    fn from(_refusal: AllocFailed<T>) -> Self {
+    fn from(_fault: AllocFailed<T>) -> Self {
         LinesFault::Memory
     }
 }

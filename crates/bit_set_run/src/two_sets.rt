@@ -30,7 +30,7 @@ pub(crate) fn walk<B: BitBlock>(
 ) -> Result<Reply, AllocError>
     ensures reply { IfOk result (λ reply. reply ≡ Items
         (merge_of_sets merge (set_of (map elements_of sets.now) s) (set_of (map elements_of sets.now) t))) }
-    ensures refused { OnErr result (merge_of_sets merge (set_of (map elements_of sets.now) s)
+    ensures fails { OnErr result (merge_of_sets merge (set_of (map elements_of sets.now) s)
         (set_of (map elements_of sets.now) t) ≢ []) }
 {
     let first = set_of(sets, s);
@@ -54,7 +54,7 @@ pub(crate) fn rest_of_walk<B: BitBlock>(
 ) -> Result<Reply, AllocError>
     ensures reply { IfOk result (λ reply. reply ≡ rest_of taken
         (merge_of_sets merge (set_of (map elements_of sets.now) s) (set_of (map elements_of sets.now) t))) }
-    ensures refused { OnErr result (drop taken (merge_of_sets merge (set_of (map elements_of sets.now) s)
+    ensures fails { OnErr result (drop taken (merge_of_sets merge (set_of (map elements_of sets.now) s)
         (set_of (map elements_of sets.now) t)) ≢ []) }
 {
     let first = set_of(sets, s);

@@ -70,7 +70,7 @@ impl<B: BitBlock> NumberWalk for Intersection<'_, B> {
 // The numbers that are left of a walk. Where there are none it asks for no memory.
 fn numbers_of<W: NumberWalk>(alloc: Global, walk: W) -> Result<Numbers, AllocError>
     ensures all { IfOk result (λ numbers. numbers ≡ W.left walk) }
-    ensures refused { OnErr result (W.left walk ≢ []) }
+    ensures fails { OnErr result (W.left walk ≢ []) }
 {
     let mut numbers = Vec::new(alloc);
     for number in walk {
@@ -82,7 +82,7 @@ fn numbers_of<W: NumberWalk>(alloc: Global, walk: W) -> Result<Numbers, AllocErr
 /// All that is left of a walk.
 pub(crate) fn items<W: NumberWalk>(alloc: Global, walk: W) -> Result<Reply, AllocError>
     ensures reply { IfOk result (λ reply. reply ≡ Items (W.left walk)) }
-    ensures refused { OnErr result (W.left walk ≢ []) }
+    ensures fails { OnErr result (W.left walk ≢ []) }
 {
     Ok(Reply::Items(numbers_of(alloc, walk)?))
 }
@@ -103,7 +103,7 @@ pub(crate) fn rest<W: NumberWalk>(
     taken: usize,
 ) -> Result<Reply, AllocError>
     ensures reply { IfOk result (λ reply. reply ≡ rest_of taken (W.left walk)) }
-    ensures refused { OnErr result (drop taken (W.left walk) ≢ []) }
+    ensures fails { OnErr result (drop taken (W.left walk) ≢ []) }
 {
     pass_over(&mut walk, taken);
     let count = walk.count_left();

@@ -93,7 +93,7 @@ fn started(alloc: Global, words: &[String], input: &[u8]) -> (Exit, Vec<u8>) {
 }
 
 #[test]
-fn answers_rows_under_each_word(rt: HostRuntime) -> Result<(), Fail> {
+fn replies_to_rows_under_each_word(rt: HostRuntime) -> Result<(), Fail> {
     let done = Exit {
         status: 0,
         text: "",
@@ -114,7 +114,7 @@ fn answers_rows_under_each_word(rt: HostRuntime) -> Result<(), Fail> {
 
 // The rows need no program: over blocks that no word names they come out the same.
 #[test]
-fn answers_rows_over_blocks_of_24_bits(rt: HostRuntime) -> Result<(), Fail> {
+fn replies_to_rows_over_blocks_of_24_bits(rt: HostRuntime) -> Result<(), Fail> {
     for (input, output) in ROWS {
         let mut reader = *input;
         let mut writer = Vec::new(rt.alloc());
@@ -127,7 +127,7 @@ fn answers_rows_over_blocks_of_24_bits(rt: HostRuntime) -> Result<(), Fail> {
 
 // Capacity that no memory has.
 #[test]
-fn refuses_capacity_under_each_word(rt: HostRuntime) -> Result<(), Fail> {
+fn fails_for_capacity_under_each_word(rt: HostRuntime) -> Result<(), Fail> {
     let refused = Exit {
         status: 3,
         text: "memory refused",
@@ -149,7 +149,7 @@ fn refuses_capacity_under_each_word(rt: HostRuntime) -> Result<(), Fail> {
 }
 
 #[test]
-fn refuses_other_words(rt: HostRuntime) -> Result<(), Fail> {
+fn rejects_other_words(rt: HostRuntime) -> Result<(), Fail> {
     let wrong = String::from_str(rt.alloc(), "u9")?;
     let first = String::from_str(rt.alloc(), "u8")?;
     let second = String::from_str(rt.alloc(), "u8")?;
@@ -394,7 +394,7 @@ fn kept_name(alloc: Global, name: SetName) -> Result<Vec<SetName>, RunFault> {
     Ok(names)
 }
 
-// Answers lines, and puts a word behind their output.
+// Executes lines, and puts a word behind their output.
 fn output_and_word(alloc: Global, mut lines: &[u8]) -> Result<Vec<u8>, LinesFault> {
     let mut output = Vec::new(alloc);
     run_lines::<u32, _, _>(alloc, &mut lines, &mut output)?;

@@ -234,7 +234,7 @@ fn change_within<B: BitBlock>(set: &mut BitSet<B>, other: &BitSet<B>) -> Result<
 }
 
 #[test]
-fn within_its_capacity_a_set_is_never_refused(rt: HostRuntime) -> Result<(), Fail> {
+fn within_its_capacity_a_set_never_fails(rt: HostRuntime) -> Result<(), Fail> {
     let mut set = BitSet::<Block24>::new_general(rt.alloc());
     let mut other = BitSet::with_capacity_general(rt.alloc(), 99)?;
     other.insert(3)?;

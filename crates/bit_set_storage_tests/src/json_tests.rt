@@ -8,27 +8,27 @@ use std::process::Abort;
 use std::test::Fail;
 
 // What a text gives: a set and its length, or a fault.
-fn answer<B: JsonBlock>(alloc: Global, text: &str) -> Result<String, Fail> {
+fn outcome<B: JsonBlock>(alloc: Global, text: &str) -> Result<String, Fail> {
     let value = Value::from_str(alloc, text)?;
-    let answer = match BitSet::<B>::from_json(alloc, &value) {
+    let outcome = match BitSet::<B>::from_json(alloc, &value) {
         Ok(set) => format!(in alloc; "{set} of {}", set.get_ref().len()),
         Err(fault) => format!(in alloc; "{fault:?}"),
     };
-    Ok(answer?)
+    Ok(outcome?)
 }
 
-fn assert_answer<B: JsonBlock>(
+fn assert_outcome<B: JsonBlock>(
     rt: &impl Abort,
     alloc: Global,
     text: &str,
     wanted: &str,
 ) -> Result<(), Fail> {
-    assert_eq!(rt; answer::<B>(alloc, text)?.as_str(), wanted, "of {text}");
+    assert_eq!(rt; outcome::<B>(alloc, text)?.as_str(), wanted, "of {text}");
     Ok(())
 }
 
-// Each row has the texts of `storage` and `nbits`, and the answer.
-fn assert_answers<B: JsonBlock>(
+// Each row has the texts of `storage` and `nbits`, and the outcome.
+fn assert_outcomes<B: JsonBlock>(
     rt: &impl Abort,
     alloc: Global,
     rows: &[(&str, &str, &str)],
@@ -38,7 +38,7 @@ fn assert_answers<B: JsonBlock>(
         let text = format!(in alloc;
             "{{\"bit_vec\": {{\"storage\": {storage}, \"nbits\": {nbits}}}}}"
         )?;
-        assert_answer::<B>(rt, alloc, text.as_str(), wanted)?;
+        assert_outcome::<B>(rt, alloc, text.as_str(), wanted)?;
     }
     Ok(())
 }
@@ -106,7 +106,7 @@ fn the_shape_is_asked_for(rt: HostRuntime) -> Result<(), Fail> {
         "{\"bit_vec\": {\"blocks\": [8], \"nbits\": 4}}",
         "{\"storage\": [8], \"nbits\": 4}",
     ] {
-        assert_answer::<u32>(&rt, rt.alloc(), text, "Shape")?;
+        assert_outcome::<u32>(&rt, rt.alloc(), text, "Shape")?;
     }
     Ok(())
 }
@@ -128,14 +128,14 @@ fn the_last_of_members_of_one_name_is_read(rt: HostRuntime) -> Result<(), Fail> 
             "{3} of 4",
         ),
     ] {
-        assert_answer::<u32>(&rt, rt.alloc(), text, wanted)?;
+        assert_outcome::<u32>(&rt, rt.alloc(), text, wanted)?;
     }
     Ok(())
 }
 
 #[test]
 fn blocks_of_32_bits_are_read(rt: HostRuntime) -> Result<(), Fail> {
-    assert_answers::<u32>(
+    assert_outcomes::<u32>(
         &rt,
         rt.alloc(),
         &[
@@ -156,7 +156,7 @@ fn blocks_of_32_bits_are_read(rt: HostRuntime) -> Result<(), Fail> {
 
 #[test]
 fn numbers_are_asked_for(rt: HostRuntime) -> Result<(), Fail> {
-    assert_answers::<u32>(
+    assert_outcomes::<u32>(
         &rt,
         rt.alloc(),
         &[
@@ -181,7 +181,7 @@ fn numbers_are_asked_for(rt: HostRuntime) -> Result<(), Fail> {
 
 #[test]
 fn blocks_of_8_bits_are_read(rt: HostRuntime) -> Result<(), Fail> {
-    assert_answers::<u8>(
+    assert_outcomes::<u8>(
         &rt,
         rt.alloc(),
         &[
@@ -197,7 +197,7 @@ fn blocks_of_8_bits_are_read(rt: HostRuntime) -> Result<(), Fail> {
 
 #[test]
 fn blocks_of_16_bits_are_read(rt: HostRuntime) -> Result<(), Fail> {
-    assert_answers::<u16>(
+    assert_outcomes::<u16>(
         &rt,
         rt.alloc(),
         &[
@@ -214,8 +214,8 @@ fn blocks_of_64_bits_are_read(rt: HostRuntime) -> Result<(), Fail> {
         ("[18446744073709551615]", "63", "Unclean"),
         ("[18446744073709551616]", "64", "Number"),
     ];
-    assert_answers::<u64>(&rt, rt.alloc(), &rows)?;
-    assert_answers::<usize>(&rt, rt.alloc(), &rows)
+    assert_outcomes::<u64>(&rt, rt.alloc(), &rows)?;
+    assert_outcomes::<usize>(&rt, rt.alloc(), &rows)
 }
 
 #[test]

@@ -246,7 +246,7 @@ fn the_order_is_that_of_the_walks(rt: HostRuntime) -> Result<(), Fail> {
 }
 
 // {3}, with capacity for 500 at once.
-fn roomy(alloc: Global) -> Result<BitSet, SetError> {
+fn spacious(alloc: Global) -> Result<BitSet, SetError> {
     let mut set = BitSet::with_capacity(alloc, 500)?;
     set.insert(3)?;
     Ok(set)
@@ -270,8 +270,8 @@ fn alike(a: &BitSet, b: &BitSet, lengths: [usize; 2]) -> bool {
 #[test]
 fn lengths_do_not_count(rt: HostRuntime) -> Result<(), Fail> {
     let alloc = rt.alloc();
-    assert!(rt; alike(&set_of(alloc, &[3])?, &roomy(alloc)?, [4, 500]));
-    assert!(rt; alike(&roomy(alloc)?, &lowered(alloc)?, [500, 401]));
+    assert!(rt; alike(&set_of(alloc, &[3])?, &spacious(alloc)?, [4, 500]));
+    assert!(rt; alike(&spacious(alloc)?, &lowered(alloc)?, [500, 401]));
     assert!(rt;
         alike(
             &BitSet::from_bytes(alloc, &[0])?,

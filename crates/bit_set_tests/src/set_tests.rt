@@ -105,7 +105,7 @@ fn a_set_and_a_list_grow_in_one_function(rt: HostRuntime) -> Result<(), Fail> {
 }
 
 #[test]
-fn items_before_a_refused_one_stay_in(rt: HostRuntime) -> Result<(), Fail> {
+fn items_before_one_that_fails_stay_in(rt: HostRuntime) -> Result<(), Fail> {
     let mut set = BitSet::new(rt.alloc());
     let answer = put_all(&mut set, &[7, 18446744073709551615, 9]);
     assert_eq!(rt; answer, Err(SetError::Element));
@@ -185,7 +185,7 @@ fn every_call_succeeds(rt: HostRuntime) -> Result<(), Fail> {
 }
 
 #[test]
-fn too_much_memory_is_refused(rt: HostRuntime) -> Result<(), Fail> {
+fn too_much_memory_fails(rt: HostRuntime) -> Result<(), Fail> {
     let alloc = rt.alloc();
     let refused = Err(SetError::Memory(AllocError));
     let mut set = BitSet::new(alloc);

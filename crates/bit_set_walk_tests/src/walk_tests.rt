@@ -55,8 +55,8 @@ fn the_bound_falls_with_the_blocks(rt: HostRuntime) -> Result<(), Fail> {
     assert_eq!(rt; four_blocks.get_ref().storage().len(), 4);
     let widest = bounds(&four_blocks);
     assert_eq!(rt; widest, [(0, Some(512)), (0, Some(128)), (0, Some(128))]);
-    let roomy = bounds(&set_of_one::<u8>(rt.alloc(), 40, 3)?);
-    assert_eq!(rt; roomy, [(0, Some(40)), (0, Some(40)), (0, Some(8))]);
+    let spacious = bounds(&set_of_one::<u8>(rt.alloc(), 40, 3)?);
+    assert_eq!(rt; spacious, [(0, Some(40)), (0, Some(40)), (0, Some(8))]);
     Ok(())
 }
 
@@ -82,8 +82,8 @@ fn a_walk_stays_at_its_end(rt: HostRuntime) -> Result<(), Fail> {
     assert_eq!(rt; firsts(&wide), [Some(400), None, None, None, None]);
     let widest = BitSet::<u128>::from_iter(rt.alloc(), [128, 127].iter().copied())?;
     assert_eq!(rt; firsts(&widest), [Some(127), Some(128), None, None, None]);
-    let roomy = set_of_one::<u8>(rt.alloc(), 40, 3)?;
-    assert_eq!(rt; firsts(&roomy), [Some(3), None, None, None, None]);
+    let spacious = set_of_one::<u8>(rt.alloc(), 40, 3)?;
+    assert_eq!(rt; firsts(&spacious), [Some(3), None, None, None, None]);
     Ok(())
 }
 

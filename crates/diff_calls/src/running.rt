@@ -144,7 +144,7 @@ fn copy_words(words: &[usize], places: &mut [usize]) {
 }
 
 /// Runs a script over blocks of so many bits, or of `usize` where that is 0. Returns how many words its calls return,
-/// and writes those that find a place; `usize::MAX` where memory is refused.
+/// and writes those that find a place; `usize::MAX` where it finds no memory.
 #[unsafe(no_mangle)]
 pub extern "C" fn diff_run(
     alloc: Global,

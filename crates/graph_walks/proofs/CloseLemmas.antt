@@ -187,13 +187,13 @@ module _ (node : ℕ) (via old new : Bits) where
 
 -- ---- lengths and capacities
 
-pub record Roomy (m : ℕ) (first rows : List Bits) : Type 0 where
+pub record Spacious (m : ℕ) (first rows : List Bits) : Type 0 where
   pub long : (u : ℕ) → u < length first → length (row rows u).values ≤ m
   pub capacity : (u : ℕ) → u < length first → (row rows u).capacity ≡ (row first u).capacity
   pub enough : (u : ℕ) → u < length first → m ≤ (row first u).capacity
 
-pub roomy_first : (m : ℕ) (rows : List Bits) → All (λ row. (length row.values ≤ m) × (m ≤ row.capacity)) rows → Roomy m rows rows
-roomy_first m rows all = record { long = λ u lt. (at u lt).0; capacity = λ u lt. refl; enough = λ u lt. (at u lt).1 }
+pub spacious_first : (m : ℕ) (rows : List Bits) → All (λ row. (length row.values ≤ m) × (m ≤ row.capacity)) rows → Spacious m rows rows
+spacious_first m rows all = record { long = λ u lt. (at u lt).0; capacity = λ u lt. refl; enough = λ u lt. (at u lt).1 }
   where
     at : (u : ℕ) → u < length rows → (length (row rows u).values ≤ m) × (m ≤ (row rows u).capacity)
     at u lt = All-get_or (λ (r : Bits). (length r.values ≤ m) × (m ≤ r.capacity)) rows u (record { values = []; capacity = 0 }) lt all
@@ -205,8 +205,8 @@ long_on limit node via rows new short some u low =
       | inr same ↦ let as_long : length (row new u).values ≡ length (row rows u).values = ap (λ (r : Bits). length r.values) same in omega (arith, low, as_long)
     ]
 
-pub roomy_on : (m node : ℕ) (via : Bits) (first rows new : List Bits) → length via.values ≤ m → ((u : ℕ) → Joins node via (row rows u) (row new u) ⊎ (row new u ≡ row rows u)) → Roomy m first rows → Roomy m first new
-roomy_on m node via first rows new short some r = record {
+pub spacious_on : (m node : ℕ) (via : Bits) (first rows new : List Bits) → length via.values ≤ m → ((u : ℕ) → Joins node via (row rows u) (row new u) ⊎ (row new u ≡ row rows u)) → Spacious m first rows → Spacious m first new
+spacious_on m node via first rows new short some r = record {
   long = λ u lt. long_on m node via rows new short some u (r.long u lt);
   capacity = λ u lt. stays u lt (some u) ∙ r.capacity u lt;
   enough = r.enough;
@@ -216,7 +216,7 @@ roomy_on m node via first rows new short some r = record {
     stays u lt (inl j) = let has_capacity = r.capacity u lt in let enough = r.enough u lt in j.capacity (omega (arith, short, has_capacity, enough))
     stays u lt (inr same) = ap (λ (s : Bits). s.capacity) same
 
-pub same_capacities : (m : ℕ) (first rows : List Bits) → length rows ≡ length first → Roomy m first rows → map (λ (r : Bits). r.capacity) rows ≡ map (λ (r : Bits). r.capacity) first
+pub same_capacities : (m : ℕ) (first rows : List Bits) → length rows ≡ length first → Spacious m first rows → map (λ (r : Bits). r.capacity) rows ≡ map (λ (r : Bits). r.capacity) first
 same_capacities m first rows long r = go first rows long r.capacity
   where
     go : (first rows : List Bits) → length rows ≡ length first → ((u : ℕ) → u < length first → (row rows u).capacity ≡ (row first u).capacity) → map (λ (r : Bits). r.capacity) rows ≡ map (λ (r : Bits). r.capacity) first

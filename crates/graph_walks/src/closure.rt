@@ -11,7 +11,7 @@ use std::alloc::{AllocError, Global};
 /// Makes row `u` the set of all nodes to which a path of at least one edge leads from `u`: Warshall's
 /// algorithm, whole rows at a time. For `n` rows it makes `n * n` tests and at most as many unions. It
 /// takes memory for one spare row first, as long as the longest, and then only for a row whose capacity
-/// is less than that. Fails only where memory is refused. Each row then still has all that it had, and
+/// is less than that. Fails only where it finds no memory. Each row then still has all that it had, and
 /// nothing that the closure does not have, so that the call may be repeated.
 pub fn close<B: BitBlock>(alloc: Global, rows: &mut [BitSet<B>]) -> Result<(), AllocError>
     ensures closure { OnOk result (IsClosureOf (rows_of rows.old) (rows_of rows.new)) }

@@ -37,7 +37,7 @@ impl Effort {
 
 /// The nodes to which a path leads from `start`, itself among them. Each is expanded once, and each edge
 /// from one of them is looked at once. Fails with [`SetError::Element`] only where a path leads to
-/// `usize::MAX`, and else only where memory is refused.
+/// `usize::MAX`, and else only where it finds no memory.
 pub fn reachable<B: BitBlock, G: Graph>(
     alloc: Global,
     graph: G,
@@ -188,7 +188,7 @@ fn take_on<B: BitBlock, I: Iterator<Item = usize> + Drop>(
 // the result in any case: so the set is read first, and written only where the item is new.
 #[inline]
 fn put_new<B: BitBlock>(reached: &mut BitSet<B>, item: usize) -> Result<bool, SetError>
-    ensures answer { IfOk result (λ new. new ≡ not (has (elements reached.old.values) item)) }
+    ensures returned { IfOk result (λ new. new ≡ not (has (elements reached.old.values) item)) }
     ensures elements { OnOk result (elements reached.new.values ≡ put (elements reached.old.values) item) }
     ensures unfit { IsErrOf result SetError.Element → item ≡ usize.MAX }
     ensures fits { IfErr result (λ fault. fault ≢ SetError.Length) }

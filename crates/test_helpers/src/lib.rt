@@ -4,7 +4,7 @@
 use bit_set::{BitBlock, BitSet, SetError};
 use std::alloc::Global;
 
-/// The set of these numbers, over blocks of any type. Fails where memory is refused, and at a number that
+/// The set of these numbers, over blocks of any type. Fails where it finds no memory, and at a number that
 /// cannot be an element.
 pub fn set_of<B: BitBlock>(alloc: Global, numbers: &[usize]) -> Result<BitSet<B>, SetError> {
     BitSet::from_iter(alloc, numbers.iter().copied())

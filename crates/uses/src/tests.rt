@@ -27,10 +27,10 @@ fn sets_are_changed(rt: HostRuntime) -> Result<(), Fail> {
     );
     exchange(&mut set, 300, 2)?;
     assert_eq!(rt; members(rt.alloc(), &set)?.as_slice(), [4, 300].as_slice());
-    let mut roomy = BitSet::<u16>::with_capacity_general(rt.alloc(), 100)?;
-    put_each(&mut roomy, &[99, 4, 99])?;
-    assert_eq!(rt; members(rt.alloc(), &roomy)?.as_slice(), [4, 99].as_slice());
-    let without = either_without(rt.alloc(), &set, &roomy, &evens(rt.alloc(), 6)?)?;
+    let mut spacious = BitSet::<u16>::with_capacity_general(rt.alloc(), 100)?;
+    put_each(&mut spacious, &[99, 4, 99])?;
+    assert_eq!(rt; members(rt.alloc(), &spacious)?.as_slice(), [4, 99].as_slice());
+    let without = either_without(rt.alloc(), &set, &spacious, &evens(rt.alloc(), 6)?)?;
     assert_eq!(rt;
         members(rt.alloc(), &without)?.as_slice(),
         [99, 300].as_slice()

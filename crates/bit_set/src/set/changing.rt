@@ -6,7 +6,7 @@ ghost use Rattle.bit_words.specs.Bits.{blocks_for, capacity_of};
 ghost use Rattle.bit_set.specs.Sets.{elements, has, put, those_below, without};
 ghost use Rattle.bit_set.specs.Members.{HasNone, IsCounted, IsSameSet, KeepsBelow, Updates};
 ghost use Rattle.bit_set.specs.Effects.{TakesIn};
-ghost use Rattle.bit_set.specs.Faults.{IsRefusal};
+ghost use Rattle.bit_set.specs.Faults.{IsInsertFault};
 ghost use Rattle.bit_set.specs.Calls.{Change, Changes, outcome_of_result, outcome_of_insert};
 ghost use Rattle.bit_set.specs.Calls.Outcome.{Done, Returned};
 ghost use Rattle.bit_set.specs.Capacity.{IsPastBlocks, Leaves};
@@ -21,7 +21,7 @@ impl<B: BitBlock> BitSet<B> {
     /// stay.
     #[inline]
     pub fn insert(&mut self, value: usize) -> Result<bool, SetError>
-        ensures answer { IfOk result (λ new. new ≡ not (has (elements self.old.values) value)) }
+        ensures returned { IfOk result (λ new. new ≡ not (has (elements self.old.values) value)) }
         ensures elements { OnOk result (elements self.new.values ≡ put (elements self.old.values) value) }
         ensures members { OnOk result (Updates (elements self.old.values) (elements self.new.values) value true) }
         ensures count { IfOk result (λ new. length (elements self.new.values)
@@ -31,7 +31,7 @@ impl<B: BitBlock> BitSet<B> {
 
         ensures unfit { IsErrOf result SetError.Element ↔ (value ≡ usize.MAX) }
         ensures fit { OnOk result (value < usize.MAX) }
-        ensures refused { IfErr result (λ fault. IsRefusal fault value self.old.capacity) }
+        ensures fails { IfErr result (λ fault. IsInsertFault fault value self.old.capacity) }
         ensures past { OnErr result (length self.old.values ≤ value) }
         ensures err { OnErr result (self.new ≡ self.old) }
         ensures succeeds { value < self.old.capacity → IsOk result }
@@ -58,7 +58,7 @@ impl<B: BitBlock> BitSet<B> {
             ++ replicate (value + 1 - length self.old.values) false) }
         ensures unfit { IsErrOf result SetError.Element ↔ (value ≡ usize.MAX) }
         ensures fit { OnOk result (value < usize.MAX) }
-        ensures refused { IfErr result (λ fault. IsRefusal fault value self.old.capacity) }
+        ensures fails { IfErr result (λ fault. IsInsertFault fault value self.old.capacity) }
         ensures err { OnErr result (self.new ≡ self.old) }
         ensures succeeds { value < self.old.capacity → IsOk result }
         ensures capacity { self.old.capacity ≤ self.new.capacity }
@@ -89,7 +89,7 @@ impl<B: BitBlock> BitSet<B> {
         ensures err { IfErr result (λ fault. (items : List ℕ) × (item : ℕ) × (rest : I)
             × YieldsThen I.next_gives iter items (Some item) rest
             × TakesIn items self.old.values self.new.values × (length self.new.values ≤ item)
-            × IsRefusal fault item self.new.capacity × IsPastBlocks fault B.width (length self.new.values) item) }
+            × IsInsertFault fault item self.new.capacity × IsPastBlocks fault B.width (length self.new.values) item) }
         ensures succeeds { HoldsAlong I.next_gives iter (All (λ item. item < self.old.capacity)) → IsOk result }
         ensures capacity { self.old.capacity ≤ self.new.capacity }
         ensures within { HoldsAlong I.next_gives iter (All (λ item. item < self.old.capacity))
@@ -105,7 +105,7 @@ impl<B: BitBlock> BitSet<B> {
     /// Takes `value` out, and returns whether it was in. Constant time.
     #[inline]
     pub fn remove(&mut self, value: usize) -> bool
-        ensures answer { result ≡ has (elements self.old.values) value }
+        ensures returned { result ≡ has (elements self.old.values) value }
         ensures elements { elements self.new.values ≡ without (elements self.old.values) value }
         ensures members { Updates (elements self.old.values) (elements self.new.values) value false }
         ensures count { length (elements self.new.values) + (if result then 1 else 0)

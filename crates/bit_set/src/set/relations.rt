@@ -11,7 +11,7 @@ impl<B: BitBlock> BitSet<B> {
     /// stops at the one with the first element that `other` lacks.
     #[inline]
     pub fn is_subset(&self, other: &Self) -> bool
-        ensures answer { result ≡ is_subset (elements self.now.values) (elements other.now.values) }
+        ensures returned { result ≡ is_subset (elements self.now.values) (elements other.now.values) }
         ensures members { IsTrue result ↔ IsSubset (elements self.now.values) (elements other.now.values) }
     {
         self.bits.is_subset_of(&other.bits, &mut Steps::new())
@@ -20,7 +20,7 @@ impl<B: BitBlock> BitSet<B> {
     /// Whether every element of `other` is one of this set: [`BitSet::is_subset`], asked of `other`.
     #[inline]
     pub fn is_superset(&self, other: &Self) -> bool
-        ensures answer { result ≡ is_subset (elements other.now.values) (elements self.now.values) }
+        ensures returned { result ≡ is_subset (elements other.now.values) (elements self.now.values) }
         ensures members { IsTrue result ↔ IsSubset (elements other.now.values) (elements self.now.values) }
     {
         other.is_subset(self)
@@ -30,7 +30,7 @@ impl<B: BitBlock> BitSet<B> {
     /// which both have a common one.
     #[inline]
     pub fn is_disjoint(&self, other: &Self) -> bool
-        ensures answer { result ≡ is_disjoint (elements self.now.values) (elements other.now.values) }
+        ensures returned { result ≡ is_disjoint (elements self.now.values) (elements other.now.values) }
         ensures members { IsTrue result ↔ IsDisjoint (elements self.now.values) (elements other.now.values) }
     {
         self.bits.is_disjoint_from(&other.bits, &mut Steps::new())

@@ -273,9 +273,9 @@ fn parts_have_their_capacity(rt: HostRuntime) -> Result<(), Fail> {
     Ok(())
 }
 
-// A set has what it had where capacity is refused, and the replies end there.
+// A set has what it had where no capacity is found, and the replies end there.
 #[test]
-fn keeps_a_set_whose_capacity_is_refused(rt: HostRuntime) -> Result<(), Fail> {
+fn keeps_a_set_that_finds_no_capacity(rt: HostRuntime) -> Result<(), Fail> {
     let a = name(b'a')?;
     let commands = [
         Command::Insert(a, 5),

@@ -9,4 +9,4 @@ returns g c =
     let moves = rows_of_sets c.nfa.inside.moves.items in
     let start : elements c.clone_from.new.self.values ≡ elements c.nfa.inside.starts.values = ap (λ v. elements v) c.in_ok-clone_from.ensures.ok in
     let end : IsEnd moves (elements c.nfa.inside.starts.values) c.args.word.now (elements c.follow.new.states.values) = rw (← start, ← c.as_slice.ensures.value) c.follow.ensures in
-    rw (← c.nfa.view_is) (accepted moves _ (elements c.nfa.inside.accepting.values) c.args.word.now _ c.is_disjoint.result end c.is_disjoint.ensures.answer c.is_disjoint.ensures.members)
+    rw (← c.nfa.view_is) (accepted moves _ (elements c.nfa.inside.accepting.values) c.args.word.now _ c.is_disjoint.result end c.is_disjoint.ensures.returned c.is_disjoint.ensures.members)

@@ -16,7 +16,7 @@ loop-number-preserved g c =
     let it = c.loop-number.invariant in
     elim c.if-not-is_disjoint.branch [
       | then-not-is_disjoint w ↦
-          let apart : false ≡ is_disjoint (set_of sets i) accepting = rw (c.set.ensures, c.accepting.ensures) at w.if-not-is_disjoint.ensures.answer in
+          let apart : false ≡ is_disjoint (set_of sets i) accepting = rw (c.set.ensures, c.accepting.ensures) at w.if-not-is_disjoint.ensures.returned in
           let updates : Updates (elements c.loop-number.numbers.values) (elements w.insert.new.self.values) i true = rw w.unwrap.ensures at w.insert.ensures.members in
           let capacity : w.insert.new.self.capacity ≡ c.loop-number.numbers.capacity = w.insert.ensures.within (omega arith) in
           let larger : length sets ≤ w.insert.new.self.capacity = omega (arith, capacity, it.capacity) in

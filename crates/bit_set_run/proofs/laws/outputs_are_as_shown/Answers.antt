@@ -6,9 +6,9 @@ pub returns-clause-sets : goal.returns-clause-sets
 unfolding digits
 returns-clause-sets c = refl
 
-pub returns-clause-refusals : goal.returns-clause-refusals
+pub returns-clause-errors : goal.returns-clause-errors
 unfolding digits
-returns-clause-refusals c = refl
+returns-clause-errors c = refl
 
 pub returns-clause-edges : goal.returns-clause-edges
 unfolding digits

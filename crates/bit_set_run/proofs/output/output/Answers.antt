@@ -1,7 +1,7 @@
 use Rattle.std.proofs.Common.{rules, arith}
 use Rattle.bit_set_run.specs.Output.{output}
 use Rattle.bit_set_run.proofs.OutputLemmas.{output-end, output-next, output-start}
-use Rattle.bit_set_run.proofs.answers.output.Goals as goal
+use Rattle.bit_set_run.proofs.output.output.Goals as goal
 
 pub loop-line-init : goal.loop-line-init
 loop-line-init g c = record {
@@ -13,8 +13,8 @@ pub loop-line-preserved : goal.loop-line-preserved
 loop-line-preserved g c = record {
   within = omega (arith, c.loop-line.invariant.within, c.in-Some.ensures.shorter);
   done =
-      output-next c.loop-line.text.items c.answer_line.new.text.items c.loop-line.table c.answer_line.new.table c.loop-line.rest.now c.in-Some.line.now c.in-Some.after.now (output c.args.input.now)
-      c.loop-line.invariant.done c.in-Some.ensures.lines c.in_ok-answer_line.ensures.text c.in_ok-answer_line.ensures.sets;
+      output-next c.loop-line.text.items c.reply_to_line.new.text.items c.loop-line.table c.reply_to_line.new.table c.loop-line.rest.now c.in-Some.line.now c.in-Some.after.now (output c.args.input.now)
+      c.loop-line.invariant.done c.in-Some.ensures.lines c.in_ok-reply_to_line.ensures.text c.in_ok-reply_to_line.ensures.sets;
 }
 
 pub returns-clause-text : goal.returns-clause-text

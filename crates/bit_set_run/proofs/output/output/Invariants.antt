@@ -2,7 +2,7 @@ use Rattle.std.proofs.Common.{◌≡◌, ◌≤◌, ◌++◌, length}
 use Rattle.bit_set_run.specs.Lines.{lines_of}
 use Rattle.bit_set_run.specs.Output.{output}
 use Rattle.bit_set_run.proofs.OutputLemmas.{output_from}
-use Rattle.bit_set_run.proofs.answers.output.Given as goal
+use Rattle.bit_set_run.proofs.output.output.Given as goal
 
 abbrev pub invariant-loop-line : goal.invariant-loop-line
 invariant-loop-line g l = record {

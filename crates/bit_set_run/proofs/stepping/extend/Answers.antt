@@ -36,13 +36,13 @@ returns-in-Err-Element g c =
     record {
       reply = rw (whole, some_greatest h.0 (drop (length h.0 + 1) c.args.items.now) h.4.fit) refl;
       after = h.4.members ∙ ap (put_all (elements_of c.args.set.now)) (sym (append-nil h.0) ∙ sym (front_before h.0 (greatest ∷ drop (length h.0 + 1) c.args.items.now) h.4.fit) ∙ ap elements_before_greatest (sym whole));
-      refused = tt;
+      fails = tt;
       grown = (λ below. c.extend.ensures.within (copied_along c.copied.result c.args.items.now (λ n. n < c.args.set.now.capacity) shown below), c.extend.ensures.capacity);
       capacity = c.extend.ensures.capacity;
     }
 
-pub returns-in-Err-Memory-clause-refused : goal.returns-in-Err-Memory-clause-refused
-returns-in-Err-Memory-clause-refused g c =
+pub returns-in-Err-Memory-clause-fails : goal.returns-in-Err-Memory-clause-fails
+returns-in-Err-Memory-clause-fails g c =
     let h = c.in-Err-Memory.ensures.err in
     let shown : c.copied.result.iter.rest.now ≡ c.args.items.now = cc in
     let before = copied_before c.copied.result h.2 c.args.items.now h.0 h.1 shown h.3 in

@@ -13,11 +13,11 @@ returns-in-Insert-clause-sets g c =
     let n = c.in-Insert.n in
     rw c.in-Insert.is (on_ok_weaker c.insert.result (λ after. change_is sets c.place.result c.in-Insert.name c.index-sets-place.result c.insert.new.set (λ s. if n == greatest then s else put s n) c.place.ensures.place (omega (arith, c.told-sets, c.place.ensures.within)) after ∙ sets-insert (map elements_of sets) c.in-Insert.name n) c.insert.ensures.after)
 
-pub returns-in-Insert-clause-refused : goal.returns-in-Insert-clause-refused
-returns-in-Insert-clause-refused g c =
+pub returns-in-Insert-clause-fails : goal.returns-in-Insert-clause-fails
+returns-in-Insert-clause-fails g c =
     let sets = c.args.sets.now in
     let there = set_at sets c.place.result c.in-Insert.name c.index-sets-place.result c.place.ensures.place (omega (arith, c.told-sets, c.place.ensures.within)) in
-    rw c.in-Insert.is (on_err_weaker c.insert.result (λ refused. (refused.0, ap (λ s. has s c.in-Insert.n) there ∙ refused.1, no_change_is sets c.place.result c.index-sets-place.result c.insert.new.set (omega (arith, c.told-sets, c.place.ensures.within)) (ap elements_of refused.2))) c.insert.ensures.refused)
+    rw c.in-Insert.is (on_err_weaker c.insert.result (λ refused. (refused.0, ap (λ s. has s c.in-Insert.n) there ∙ refused.1, no_change_is sets c.place.result c.index-sets-place.result c.insert.new.set (omega (arith, c.told-sets, c.place.ensures.within)) (ap elements_of refused.2))) c.insert.ensures.fails)
 
 pub returns-in-Remove-clause-sets : goal.returns-in-Remove-clause-sets
 returns-in-Remove-clause-sets g c =
@@ -29,11 +29,11 @@ returns-in-Extend-clause-sets g c =
     let sets = c.args.sets.now in
     rw c.in-Extend.is (on_ok_weaker c.extend.result (λ after. change_is sets c.place-in-Extend.result c.in-Extend.name c.index-sets-place-in-Extend.result c.extend.new.set (λ s. put_all s (elements_before_greatest c.in-Extend.items)) c.place-in-Extend.ensures.place (omega (arith, c.told-sets, c.place-in-Extend.ensures.within)) after) c.extend.ensures.after)
 
-pub returns-in-Extend-clause-refused : goal.returns-in-Extend-clause-refused
-returns-in-Extend-clause-refused g c =
+pub returns-in-Extend-clause-fails : goal.returns-in-Extend-clause-fails
+returns-in-Extend-clause-fails g c =
     let sets = c.args.sets.now in
     let there = set_at sets c.place-in-Extend.result c.in-Extend.name c.index-sets-place-in-Extend.result c.place-in-Extend.ensures.place (omega (arith, c.told-sets, c.place-in-Extend.ensures.within)) in
-    rw c.in-Extend.is (on_err_weaker c.extend.result (λ refused. (refused.0, refused.1, refused.2, refused.3, ap (λ s. has (put_all s refused.0) refused.1) there ∙ refused.4, change_is sets c.place-in-Extend.result c.in-Extend.name c.index-sets-place-in-Extend.result c.extend.new.set (λ s. put_all s refused.0) c.place-in-Extend.ensures.place (omega (arith, c.told-sets, c.place-in-Extend.ensures.within)) refused.5)) c.extend.ensures.refused)
+    rw c.in-Extend.is (on_err_weaker c.extend.result (λ refused. (refused.0, refused.1, refused.2, refused.3, ap (λ s. has (put_all s refused.0) refused.1) there ∙ refused.4, change_is sets c.place-in-Extend.result c.in-Extend.name c.index-sets-place-in-Extend.result c.extend.new.set (λ s. put_all s refused.0) c.place-in-Extend.ensures.place (omega (arith, c.told-sets, c.place-in-Extend.ensures.within)) refused.5)) c.extend.ensures.fails)
 
 pub returns-in-Truncate-clause-sets : goal.returns-in-Truncate-clause-sets
 returns-in-Truncate-clause-sets g c =
@@ -55,30 +55,30 @@ returns-in-Reserve-clause-sets g c =
     let sets = c.args.sets.now in
     rw c.in-Reserve.is (on_ok_weaker c.reserve.result (λ after. no_change_is sets c.place-in-Reserve.result c.index-sets-place-in-Reserve.result c.reserve.new.set (omega (arith, c.told-sets, c.place-in-Reserve.ensures.within)) after) c.reserve.ensures.after)
 
-pub returns-in-Reserve-clause-refused : goal.returns-in-Reserve-clause-refused
-returns-in-Reserve-clause-refused g c =
+pub returns-in-Reserve-clause-fails : goal.returns-in-Reserve-clause-fails
+returns-in-Reserve-clause-fails g c =
     let sets = c.args.sets.now in
     let there = set_at sets c.place-in-Reserve.result c.in-Reserve.name c.index-sets-place-in-Reserve.result c.place-in-Reserve.ensures.place (omega (arith, c.told-sets, c.place-in-Reserve.ensures.within)) in
-    rw c.in-Reserve.is (on_err_weaker c.reserve.result (λ refused. (rw there refused.0, no_change_is sets c.place-in-Reserve.result c.index-sets-place-in-Reserve.result c.reserve.new.set (omega (arith, c.told-sets, c.place-in-Reserve.ensures.within)) (ap elements_of refused.1))) c.reserve.ensures.refused)
+    rw c.in-Reserve.is (on_err_weaker c.reserve.result (λ refused. (rw there refused.0, no_change_is sets c.place-in-Reserve.result c.index-sets-place-in-Reserve.result c.reserve.new.set (omega (arith, c.told-sets, c.place-in-Reserve.ensures.within)) (ap elements_of refused.1))) c.reserve.ensures.fails)
 
 pub returns-in-ReserveExact-clause-sets : goal.returns-in-ReserveExact-clause-sets
 returns-in-ReserveExact-clause-sets g c =
     let sets = c.args.sets.now in
     rw c.in-ReserveExact.is (on_ok_weaker c.reserve_exact.result (λ after. no_change_is sets c.place-in-ReserveExact.result c.index-sets-place-in-ReserveExact.result c.reserve_exact.new.set (omega (arith, c.told-sets, c.place-in-ReserveExact.ensures.within)) after) c.reserve_exact.ensures.after)
 
-pub returns-in-ReserveExact-clause-refused : goal.returns-in-ReserveExact-clause-refused
-returns-in-ReserveExact-clause-refused g c =
+pub returns-in-ReserveExact-clause-fails : goal.returns-in-ReserveExact-clause-fails
+returns-in-ReserveExact-clause-fails g c =
     let sets = c.args.sets.now in
     let there = set_at sets c.place-in-ReserveExact.result c.in-ReserveExact.name c.index-sets-place-in-ReserveExact.result c.place-in-ReserveExact.ensures.place (omega (arith, c.told-sets, c.place-in-ReserveExact.ensures.within)) in
-    rw c.in-ReserveExact.is (on_err_weaker c.reserve_exact.result (λ refused. (rw there refused.0, no_change_is sets c.place-in-ReserveExact.result c.index-sets-place-in-ReserveExact.result c.reserve_exact.new.set (omega (arith, c.told-sets, c.place-in-ReserveExact.ensures.within)) (ap elements_of refused.1))) c.reserve_exact.ensures.refused)
+    rw c.in-ReserveExact.is (on_err_weaker c.reserve_exact.result (λ refused. (rw there refused.0, no_change_is sets c.place-in-ReserveExact.result c.index-sets-place-in-ReserveExact.result c.reserve_exact.new.set (omega (arith, c.told-sets, c.place-in-ReserveExact.ensures.within)) (ap elements_of refused.1))) c.reserve_exact.ensures.fails)
 
 pub returns-in-Shrink-clause-sets : goal.returns-in-Shrink-clause-sets
 returns-in-Shrink-clause-sets g c =
     let sets = c.args.sets.now in
     rw c.in-Shrink.is (on_ok_weaker c.shrink.result (λ after. no_change_is sets c.place-in-Shrink.result c.index-sets-place-in-Shrink.result c.shrink.new.set (omega (arith, c.told-sets, c.place-in-Shrink.ensures.within)) after) c.shrink.ensures.after)
 
-pub returns-in-Shrink-clause-refused : goal.returns-in-Shrink-clause-refused
-returns-in-Shrink-clause-refused g c =
+pub returns-in-Shrink-clause-fails : goal.returns-in-Shrink-clause-fails
+returns-in-Shrink-clause-fails g c =
     let sets = c.args.sets.now in
     let there = set_at sets c.place-in-Shrink.result c.in-Shrink.name c.index-sets-place-in-Shrink.result c.place-in-Shrink.ensures.place (omega (arith, c.told-sets, c.place-in-Shrink.ensures.within)) in
-    rw c.in-Shrink.is (on_err_weaker c.shrink.result (λ refused. (rw there refused.0, no_change_is sets c.place-in-Shrink.result c.index-sets-place-in-Shrink.result c.shrink.new.set (omega (arith, c.told-sets, c.place-in-Shrink.ensures.within)) refused.1)) c.shrink.ensures.refused)
+    rw c.in-Shrink.is (on_err_weaker c.shrink.result (λ refused. (rw there refused.0, no_change_is sets c.place-in-Shrink.result c.index-sets-place-in-Shrink.result c.shrink.new.set (omega (arith, c.told-sets, c.place-in-Shrink.ensures.within)) refused.1)) c.shrink.ensures.fails)

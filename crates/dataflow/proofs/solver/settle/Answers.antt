@@ -59,7 +59,7 @@ loop-next-smaller g c =
           omega (arith, less, few)
       | else-branch w ↦
           let same : lacking (lists_of c.take_in.new.sets) ≡ lacking (lists_of c.loop-next.sets) = ap (λ (sets : List Bits). lacking (lists_of sets)) (c.in_ok-take_in.ensures.same w.if-branch.false) in
-          let fewer : length (elements c.remove.new.self.values) + 1 ≡ length (elements c.loop-next.waiting.values) = one_less _ _ c.remove.result c.remove.ensures.count (c.remove.ensures.answer ∙ c.in-Some.ensures.some) in
+          let fewer : length (elements c.remove.new.self.values) + 1 ≡ length (elements c.loop-next.waiting.values) = one_less _ _ c.remove.result c.remove.ensures.count (c.remove.ensures.returned ∙ c.in-Some.ensures.some) in
           let now : length (elements c.if-branch.waiting.values) ≡ length (elements c.remove.new.self.values) = ap (λ (set : Bits). length (elements set.values)) w.waiting-is in
           omega (arith, same, fewer, now)
     ]

@@ -29,7 +29,7 @@ returns-clause-grew g c is_true =
     let spare = elements c.difference_with.new.self.values in
     let before : elements (get_or sets b c.index-sets-number-2.result).values ≡ set_at (lists_of sets) b = read_set sets b _ (get_or_default sets b c.index-sets-number-2.result (record { values = []; capacity = 0 }) c.requires) in
     let tested : elements (get_or sets b c.index-sets-number.result).values ≡ set_at (lists_of sets) b = read_set sets b _ (get_or_default sets b c.index-sets-number.result (record { values = []; capacity = 0 }) c.requires) in
-    let more : is_subset spare (set_at (lists_of sets) b) ≡ false = ap (is_subset spare) (sym tested) ∙ sym c.if-is_subset.ensures.answer in
+    let more : is_subset spare (set_at (lists_of sets) b) ≡ false = ap (is_subset spare) (sym tested) ∙ sym c.if-is_subset.ensures.returned in
     let is : set_at (lists_of (set sets b grown)) b ≡ union (set_at (lists_of sets) b) spare = written sets b grown c.requires ∙ c.in_ok-union_with.ensures.elements ∙ ap (λ s. union s spare) before in
     let long = rw before at (c.sizes_of_sets.ensures.put_all (elements (get_or sets b c.index-sets-number-2.result).values) spare (c.sets_ascend.ensures.elements (get_or sets b c.index-sets-number-2.result).values)) in
     grows (set_at (lists_of sets) b) spare (set_at (lists_of (set sets b grown)) b) more is long (c.sizes_of_sets.ensures.those_new (set_at (lists_of sets) b) spare)

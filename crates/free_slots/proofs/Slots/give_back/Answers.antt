@@ -18,7 +18,7 @@ happens g c =
     let again = put_again s slot ascends c.sets_are_their_members.ensures.set (c.sets_ascend.ensures.put s slot ascends) (c.members_of_sets.ensures.put s slot) in
     let ok = c.unwrap.ensures in
     subst (λ (t : SlotTable). Happens t (GiveBack slot c.unwrap.result) (table_of c.insert.new.self.values)) c.self.view_is
-    (given_back values c.insert.new.self.values slot c.unwrap.result inside (rw ok at c.insert.ensures.answer) (rw ok at c.insert.ensures.elements) (rw ok at c.insert.ensures.length) again)
+    (given_back values c.insert.new.self.values slot c.unwrap.result inside (rw ok at c.insert.ensures.returned) (rw ok at c.insert.ensures.elements) (rw ok at c.insert.ensures.length) again)
 
 pub returns-then-slot-len-clause-happens : goal.returns-then-slot-len-clause-happens
 returns-then-slot-len-clause-happens g c = happens g c

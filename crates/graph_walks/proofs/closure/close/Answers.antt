@@ -4,7 +4,7 @@ use Rattle.bit_set.specs.Bits.{Bits}
 use Rattle.bit_set.specs.Sets.{elements}
 use Rattle.graph_walks.specs.Closed.{row}
 use Rattle.graph_walks.specs.Paths.{rows_of}
-use Rattle.graph_walks.proofs.CloseLemmas.{adds_all, closes_none, closes_on, is_closed, is_closure, long_on, none_on_the_way, on_kept, on_the_way, on_within, passes, read_row, roomy_first, roomy_on, same_capacities}
+use Rattle.graph_walks.proofs.CloseLemmas.{adds_all, closes_none, closes_on, is_closed, is_closure, long_on, none_on_the_way, on_kept, on_the_way, on_within, passes, read_row, spacious_first, spacious_on, same_capacities}
 use Rattle.graph_walks.proofs.closure.close.Goals as goal
 
 pub returns-in_err-via-clause-on_the_way : goal.returns-in_err-via-clause-on_the_way
@@ -14,7 +14,7 @@ pub loop-node-init : goal.loop-node-init
 loop-node-init g c = record {
   closes = closes_none (rows_of c.args.rows.now);
   long = λ u lt. omega (arith, c.longest.ensures u lt, c.in_ok-via.ensures.capacity);
-  roomy = λ m all. roomy_first m c.args.rows.now all;
+  spacious = λ m all. spacious_first m c.args.rows.now all;
 }
 
 pub returns-in_err-clone_from-clause-on_the_way : goal.returns-in_err-clone_from-clause-on_the_way
@@ -29,7 +29,7 @@ returns-in_err-clone_from-clause-spare g c m all =
     absurd (omega (arith, short, as_long, c.in_err-clone_from.ensures.full))
 
 pub returns-in_err-clone_from-clause-capacity : goal.returns-in_err-clone_from-clause-capacity
-returns-in_err-clone_from-clause-capacity g c m all = same_capacities m c.args.rows.now c.loop-node.rows (omega arith) (c.loop-node.invariant.roomy m all)
+returns-in_err-clone_from-clause-capacity g c m all = same_capacities m c.args.rows.now c.loop-node.rows (omega arith) (c.loop-node.invariant.spacious m all)
 
 pub returns-in_err-join_all-clause-on_the_way : goal.returns-in_err-join_all-clause-on_the_way
 returns-in_err-join_all-clause-on_the_way g c =
@@ -42,22 +42,22 @@ pub returns-in_err-join_all-clause-spare : goal.returns-in_err-join_all-clause-s
 returns-in_err-join_all-clause-spare g c m all =
     let inside : c.loop-node.node < length c.loop-node.rows = omega arith in
     let copied : c.clone_from.new.self.values ≡ (row c.loop-node.rows c.loop-node.node).values = c.in_ok-clone_from.ensures.ok ∙ ap (λ (r : Bits). r.values) (read_row c.loop-node.rows c.loop-node.node c.index-rows-node.result inside) in
-    let roomy = c.loop-node.invariant.roomy m all in
+    let spacious = c.loop-node.invariant.spacious m all in
     let full = c.in_err-join_all.ensures.full in
-    let at_most_m = roomy.long c.loop-node.node (omega arith) in
+    let at_most_m = spacious.long c.loop-node.node (omega arith) in
     let as_long : length c.clone_from.new.self.values ≡ length (row c.loop-node.rows c.loop-node.node).values = ap length copied in
-    let same_capacity = roomy.capacity full.0 (omega arith) in
-    let enough = roomy.enough full.0 (omega arith) in
+    let same_capacity = spacious.capacity full.0 (omega arith) in
+    let enough = spacious.enough full.0 (omega arith) in
     absurd (omega (arith, at_most_m, as_long, same_capacity, enough, full.2))
 
 pub returns-in_err-join_all-clause-capacity : goal.returns-in_err-join_all-clause-capacity
 returns-in_err-join_all-clause-capacity g c m all =
     let inside : c.loop-node.node < length c.loop-node.rows = omega arith in
     let copied : c.clone_from.new.self.values ≡ (row c.loop-node.rows c.loop-node.node).values = c.in_ok-clone_from.ensures.ok ∙ ap (λ (r : Bits). r.values) (read_row c.loop-node.rows c.loop-node.node c.index-rows-node.result inside) in
-    let roomy = c.loop-node.invariant.roomy m all in
-    let at_most_m = roomy.long c.loop-node.node (omega arith) in
+    let spacious = c.loop-node.invariant.spacious m all in
+    let at_most_m = spacious.long c.loop-node.node (omega arith) in
     let as_long : length c.clone_from.new.self.values ≡ length (row c.loop-node.rows c.loop-node.node).values = ap length copied in
-    same_capacities m c.args.rows.now c.join_all.new.rows (omega arith) (roomy_on m c.loop-node.node c.clone_from.new.self c.args.rows.now c.loop-node.rows c.join_all.new.rows (omega (arith, at_most_m, as_long)) c.in_err-join_all.ensures.some roomy)
+    same_capacities m c.args.rows.now c.join_all.new.rows (omega arith) (spacious_on m c.loop-node.node c.clone_from.new.self c.args.rows.now c.loop-node.rows c.join_all.new.rows (omega (arith, at_most_m, as_long)) c.in_err-join_all.ensures.some spacious)
 
 pub loop-node-preserved : goal.loop-node-preserved
 loop-node-preserved g c =
@@ -74,10 +74,10 @@ loop-node-preserved g c =
     record {
       closes = closes_on _ _ _ node c.loop-node.invariant.closes passed (adds_all node via c.loop-node.rows c.join_all.new.rows copied c.in_ok-join_all.ensures.each);
       long = λ u lt. rw same_capacity (long_on c.loop-node.via.capacity node via c.loop-node.rows c.join_all.new.rows (omega (arith, short, as_long)) c.in_ok-join_all.ensures.some u (c.loop-node.invariant.long u lt));
-      roomy = λ m all.
-          let roomy = c.loop-node.invariant.roomy m all in
-          let at_most_m = roomy.long node (omega arith) in
-          roomy_on m node via c.args.rows.now c.loop-node.rows c.join_all.new.rows (omega (arith, at_most_m, as_long)) c.in_ok-join_all.ensures.some roomy;
+      spacious = λ m all.
+          let spacious = c.loop-node.invariant.spacious m all in
+          let at_most_m = spacious.long node (omega arith) in
+          spacious_on m node via c.args.rows.now c.loop-node.rows c.join_all.new.rows (omega (arith, at_most_m, as_long)) c.in_ok-join_all.ensures.some spacious;
     }
 
 pub returns-clause-closure : goal.returns-clause-closure
@@ -94,4 +94,4 @@ pub returns-clause-on_the_way : goal.returns-clause-on_the_way
 returns-clause-on_the_way g c = on_the_way _ _ c.loop-node.invariant.closes.kept c.loop-node.invariant.closes.within
 
 pub returns-clause-capacity : goal.returns-clause-capacity
-returns-clause-capacity g c m all = same_capacities m c.args.rows.now c.loop-node.rows (omega arith) (c.loop-node.invariant.roomy m all)
+returns-clause-capacity g c m all = same_capacities m c.args.rows.now c.loop-node.rows (omega arith) (c.loop-node.invariant.spacious m all)

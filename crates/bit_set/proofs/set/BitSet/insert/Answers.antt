@@ -8,8 +8,8 @@ use Rattle.bit_set.proofs.MemberLemmas.{count_put, counted, counted_within, upda
 use Rattle.bit_set.proofs.set.BitSet.insert.Goals as goal
 use Rattle.bit_set.proofs.set.BitSet.insert.Goals.{then-value-len+in_ok-lengthen_past, else-value-len}
 
-pub returns-clause-answer : goal.returns-clause-answer
-returns-clause-answer g c =
+pub returns-clause-returned : goal.returns-clause-returned
+returns-clause-returned g c =
     let values = c.args.self.now.values in
     let value = c.args.value in
     ap not (has-read c.self-2.inside.bits.values value _ c.replace.ensures.was ∙ elim c.if-value-len.branch [
@@ -37,13 +37,13 @@ returns-clause-changes g c =
       | then-value-len+in_ok-lengthen_past w ↦ omega (arith, w.in_ok-lengthen_past.ensures.fit)
       | else-value-len w ↦ omega (arith, c.len.ensures.fits.holds_values, c.len.ensures.fits.fits)
     ] in
-    changes_inserted c.args.value _ c.args.self.now.values c.replace.new.self.values fits (returns-clause-answer g c) (returns-clause-elements g c)
+    changes_inserted c.args.value _ c.args.self.now.values c.replace.new.self.values fits (returns-clause-returned g c) (returns-clause-elements g c)
 
 pub returns-clause-members : goal.returns-clause-members
 returns-clause-members g c = updates_put (elements c.args.self.now.values) (elements c.replace.new.self.values) c.args.value (returns-clause-elements g c)
 
 pub returns-clause-count : goal.returns-clause-count
-returns-clause-count g c = count_put c.args.self.now.values (elements c.replace.new.self.values) c.args.value _ (returns-clause-elements g c) (returns-clause-answer g c)
+returns-clause-count g c = count_put c.args.self.now.values (elements c.replace.new.self.values) c.args.value _ (returns-clause-elements g c) (returns-clause-returned g c)
 
 pub returns-in_err-lengthen_past-clause-counted : goal.returns-in_err-lengthen_past-clause-counted
 returns-in_err-lengthen_past-clause-counted g c = rw (c.in_err-lengthen_past.ensures.err, ← c.self.view_is) (counted_within c.self.inside.bits c.len.ensures.fits)

@@ -3,9 +3,9 @@ use Rattle.bit_set.specs.Sets.{elements}
 use Rattle.bit_set.proofs.MemberLemmas.{tells_subset}
 use Rattle.bit_set.proofs.set.BitSet.is_subset.Goals as goal
 
-pub returns-clause-answer : goal.returns-clause-answer
-returns-clause-answer g c =
+pub returns-clause-returned : goal.returns-clause-returned
+returns-clause-returned g c =
     rw (← c.self.view_is, ← c.other.view_is) (is_subset-elements c.is_subset_of.result c.self.inside.bits.values c.other.inside.bits.values c.is_subset_of.ensures.subset)
 
 pub returns-clause-members : goal.returns-clause-members
-returns-clause-members g c = tells_subset c.is_subset_of.result (elements c.args.self.now.values) (elements c.args.other.now.values) (returns-clause-answer g c)
+returns-clause-members g c = tells_subset c.is_subset_of.result (elements c.args.self.now.values) (elements c.args.other.now.values) (returns-clause-returned g c)
