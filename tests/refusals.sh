@@ -93,7 +93,7 @@ judge() {
 # alone; of few blocks no summary is stored, and then it makes one.
 sweep() {
     local type="$1" call="$2" most_requests="$3" most_bytes="$4" name="$1 $2" ending=refused n line
-    [ "$most_requests" -gt 0 ] || ending=answered
+    [ "$most_requests" -gt 0 ] || ending=returned
     for ((n = 0; n <= most; n++)); do
         shimmed SHIM_CALL=1 SHIM_REFUSE="$n" "$refusals" "$type" "$call"
         line="$(< wrote)"
@@ -111,7 +111,7 @@ sweep() {
         fi
         passed=$((passed + 1))
     done
-    if [ "$n" -gt "$most" ] || [ "${line##* }" != answered ]; then
+    if [ "$n" -gt "$most" ] || [ "${line##* }" != returned ]; then
         fail "$name: past its last request: '$line'"
     elif ((requests > most_requests || bytes > most_bytes)); then
         fail "$name: it made $requests requests for $bytes bytes: ${sizes[*]}"
@@ -124,9 +124,9 @@ sweep() {
 
 known=0
 while read -r type call how; do
-    if [ "$how" = 'without memory: answered' ]; then
+    if [ "$how" = 'without memory: returned' ]; then
         sweep "$type" "$call" 0 0
-    elif [[ "$how" =~ ^'requests<='([1-9][0-9]*)' bytes<='([0-9]+)': answered'$ ]]; then
+    elif [[ "$how" =~ ^'requests<='([1-9][0-9]*)' bytes<='([0-9]+)': returned'$ ]]; then
         sweep "$type" "$call" "${BASH_REMATCH[1]}" "${BASH_REMATCH[2]}"
     else
         fail "the stored run has a line '$type $call $how'"

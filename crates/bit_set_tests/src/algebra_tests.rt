@@ -176,7 +176,7 @@ fn sets_with_no_common_element_are_disjoint(rt: HostRuntime) -> Result<(), Fail>
 
 // Whether a set is in another that has one number more, that one in it, and whether they have nothing in
 // common.
-fn answers<B: BitBlock>(alloc: Global) -> Result<[bool; 3], SetError> {
+fn results<B: BitBlock>(alloc: Global) -> Result<[bool; 3], SetError> {
     let less = set_of::<B>(alloc, &[1, 160])?;
     let more = set_of(alloc, &[1, 160, 24])?;
     Ok([
@@ -202,7 +202,7 @@ fn counts<B: BitBlock>(alloc: Global) -> Result<[usize; 4], SetError> {
 
 fn become_one<B: BitBlock>(rt: &impl Abort, alloc: Global) -> Result<(), SetError> {
     assert_eq!(rt; counts::<B>(alloc)?, [10, 5, 10, 5]);
-    assert_eq!(rt; answers::<B>(alloc)?, [true, false, false]);
+    assert_eq!(rt; results::<B>(alloc)?, [true, false, false]);
     Ok(())
 }
 

@@ -9,7 +9,7 @@ use std::test::Fail;
 use test_helpers::set_of;
 
 #[test]
-fn insert_answers_what_is_new(rt: HostRuntime) -> Result<(), Fail> {
+fn insert_returns_what_is_new(rt: HostRuntime) -> Result<(), Fail> {
     let mut set = BitSet::new(rt.alloc());
     for (value, new) in [
         (3, true),
@@ -107,8 +107,8 @@ fn a_set_and_a_list_grow_in_one_function(rt: HostRuntime) -> Result<(), Fail> {
 #[test]
 fn items_before_one_that_fails_stay_in(rt: HostRuntime) -> Result<(), Fail> {
     let mut set = BitSet::new(rt.alloc());
-    let answer = put_all(&mut set, &[7, 18446744073709551615, 9]);
-    assert_eq!(rt; answer, Err(SetError::Element));
+    let result = put_all(&mut set, &[7, 18446744073709551615, 9]);
+    assert_eq!(rt; result, Err(SetError::Element));
     assert!(rt; set.iter().eq([7]));
     Ok(())
 }

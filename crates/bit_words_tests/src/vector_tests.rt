@@ -106,7 +106,7 @@ fn nones<B: BitBlock>(bits: &mut BitVec<B>) -> [bool; 3] {
 }
 
 #[test]
-fn each_call_answers_at_three_widths(rt: HostRuntime) -> Result<(), Fail> {
+fn each_call_works_at_three_widths(rt: HostRuntime) -> Result<(), Fail> {
     let mut whole = last_of_forty::<u8>(rt.alloc())?;
     assert_eq!(rt; sizes(&whole), [40, 5, 4, 4]);
     assert_eq!(rt; nones(&mut whole), [false, true, true]);

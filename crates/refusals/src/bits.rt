@@ -28,7 +28,7 @@ struct Row {
     call: Call,
     capacity: Capacity,
     asks: &'static [Ask],
-    answered: &'static str,
+    returned: &'static str,
 }
 
 const ROWS: &[Row] = &[
@@ -37,84 +37,84 @@ const ROWS: &[Row] = &[
         call: Call::Grow(false),
         capacity: Capacity::Short,
         asks: &[Ask::Grown(5001)],
-        answered: "{3, 447} of 5001, and 0 past them",
+        returned: "{3, 447} of 5001, and 0 past them",
     },
     Row {
         name: "bits_grow_within",
         call: Call::Grow(false),
         capacity: Capacity::Ample,
         asks: &[],
-        answered: "{3, 447} of 5001, and 0 past them",
+        returned: "{3, 447} of 5001, and 0 past them",
     },
     Row {
         name: "bits_grow_true",
         call: Call::Grow(true),
         capacity: Capacity::Short,
         asks: &[Ask::Grown(5001)],
-        answered: "{3, 447} of 5001, and 4553 past them",
+        returned: "{3, 447} of 5001, and 4553 past them",
     },
     Row {
         name: "bits_grow_true_within",
         call: Call::Grow(true),
         capacity: Capacity::Ample,
         asks: &[],
-        answered: "{3, 447} of 5001, and 4553 past them",
+        returned: "{3, 447} of 5001, and 4553 past them",
     },
     Row {
         name: "bits_reserve",
         call: Call::Reserve,
         capacity: Capacity::Short,
         asks: &[Ask::Grown(5001)],
-        answered: FIRST,
+        returned: FIRST,
     },
     Row {
         name: "bits_reserve_within",
         call: Call::Reserve,
         capacity: Capacity::Ample,
         asks: &[],
-        answered: FIRST,
+        returned: FIRST,
     },
     Row {
         name: "bits_reserve_exact",
         call: Call::ReserveExact,
         capacity: Capacity::Short,
         asks: &[Ask::Exact(5001)],
-        answered: FIRST,
+        returned: FIRST,
     },
     Row {
         name: "bits_reserve_exact_within",
         call: Call::ReserveExact,
         capacity: Capacity::Ample,
         asks: &[],
-        answered: FIRST,
+        returned: FIRST,
     },
     Row {
         name: "bits_clone_from",
         call: Call::CloneFrom,
         capacity: Capacity::Short,
         asks: &[Ask::Exact(5001)],
-        answered: LENT,
+        returned: LENT,
     },
     Row {
         name: "bits_clone_from_within",
         call: Call::CloneFrom,
         capacity: Capacity::Ample,
         asks: &[],
-        answered: LENT,
+        returned: LENT,
     },
     Row {
         name: "bits_shrink_to_fit",
         call: Call::Shrink,
         capacity: Capacity::Ample,
         asks: &[Ask::Exact(448)],
-        answered: FIRST,
+        returned: FIRST,
     },
     Row {
         name: "bits_shrink_to_fit_exact",
         call: Call::Shrink,
         capacity: Capacity::Exact,
         asks: &[],
-        answered: FIRST,
+        returned: FIRST,
     },
 ];
 
@@ -142,7 +142,7 @@ impl Row {
     // Whether this may be where the call ended so.
     fn allows(&self, ended: Result<(), Fault>, now: &str) -> bool {
         match ended {
-            Ok(()) => now == self.answered,
+            Ok(()) => now == self.returned,
             Err(Fault::Memory) => !self.asks.is_empty() && now == FIRST,
             Err(Fault::Other) => false,
         }

@@ -83,7 +83,7 @@ fn tried_fault<B: JsonBlock>(sweep: &Sweep<'_>, row: &Row) -> Result<bool, Fault
         Ok(_) => false,
         Err(fault) => fault == row.fault,
     };
-    Ok(sweep.judge(is_right, "another answer")?)
+    Ok(sweep.judge(is_right, "another result")?)
 }
 
 /// Whether each of these calls goes as it may.

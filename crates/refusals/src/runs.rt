@@ -86,7 +86,7 @@ fn commands(alloc: Global, a: SetName, b: SetName, c: SetName) -> Result<Vec<Com
 }
 
 // Whether so many commands have just their replies.
-fn are_answered(alloc: Global, count: usize, replies: &[Reply]) -> Result<bool, AllocError> {
+fn are_right(alloc: Global, count: usize, replies: &[Reply]) -> Result<bool, AllocError> {
     let mut is_right = replies.len() == count;
     for (reply, wanted) in replies.iter().zip(REPLIES) {
         let text = format!(in alloc; "{reply:?}")?;
@@ -127,7 +127,7 @@ fn tried_run<B: BitBlock>(sweep: &Sweep<'_>, names: [SetName; 3]) -> Result<bool
         Err(RunFault::Memory(place)) => place,
     };
     let now = shown(alloc, table.get(a), table.get(b), table.get(c))?;
-    let is_right = may_stand(place, now.as_str()) && are_answered(alloc, place, &replies)?;
+    let is_right = may_stand(place, now.as_str()) && are_right(alloc, place, &replies)?;
     let works = run(alloc, &mut table, &[Command::Insert(b, 9)], &mut replies).is_ok();
     Ok(sweep.judge(is_right && works, now.as_str())?)
 }
@@ -135,14 +135,14 @@ fn tried_run<B: BitBlock>(sweep: &Sweep<'_>, names: [SetName; 3]) -> Result<bool
 const LINES: &[u8] =
     b"extend a 3 447\ninsert b 5000\ncopy a c\nunion_with a b\nitems a\nintersection a b\nrest iter a 1\nappend c b\nsplit_off c 448 b\nreserve a 9000\nreserve_exact b 9000\nshrink a\n";
 
-const ANSWERS: &[u8] =
+const OUTPUT: &[u8] =
     b"ok\ntrue\nok\nok\n{3, 447, 5000}\n{5000}\n2 {447, 5000}\nok\nok\nok\nok\nok\n";
 
 fn tried_lines<B: BitBlock>(sweep: &Sweep<'_>) -> Result<bool, Fault> {
     let alloc = sweep.alloc();
     let mut reader = LINES;
     // It takes the whole output without memory.
-    let mut written: Vec<u8> = Vec::with_capacity(alloc, ANSWERS.len())?;
+    let mut written: Vec<u8> = Vec::with_capacity(alloc, OUTPUT.len())?;
     let mut asks = Vec::new(alloc);
     asks.extend_from_slice(ASKS)?;
     asks.extend_from_slice(LINES_ASKS)?;
@@ -151,7 +151,7 @@ fn tried_lines<B: BitBlock>(sweep: &Sweep<'_>) -> Result<bool, Fault> {
     let ended = ended.map_err(Fault::from);
     sweep.end(&ended)?;
     let is_right = match ended {
-        Ok(()) => written.as_slice() == ANSWERS,
+        Ok(()) => written.as_slice() == OUTPUT,
         Err(Fault::Memory) => written.is_empty(),
         Err(Fault::Other) => false,
     };

@@ -27,7 +27,7 @@ struct Row {
     call: Call,
     capacity: Capacity,
     asks: &'static [Ask],
-    answered: &'static str,
+    returned: &'static str,
     refused: &'static str,
 }
 
@@ -37,7 +37,7 @@ const ROWS: &[Row] = &[
         call: Call::Insert,
         capacity: Capacity::Short,
         asks: &[Ask::Grown(5001)],
-        answered: "{3, 447, 5000} of 5001",
+        returned: "{3, 447, 5000} of 5001",
         refused: FIRST,
     },
     Row {
@@ -45,7 +45,7 @@ const ROWS: &[Row] = &[
         call: Call::Insert,
         capacity: Capacity::Ample,
         asks: &[],
-        answered: "{3, 447, 5000} of 5001",
+        returned: "{3, 447, 5000} of 5001",
         refused: "",
     },
     Row {
@@ -53,7 +53,7 @@ const ROWS: &[Row] = &[
         call: Call::InsertNext,
         capacity: Capacity::Short,
         asks: &[Ask::Grown(1101)],
-        answered: "{3, 447, 1100} of 1101",
+        returned: "{3, 447, 1100} of 1101",
         refused: FIRST,
     },
     Row {
@@ -61,7 +61,7 @@ const ROWS: &[Row] = &[
         call: Call::Extend,
         capacity: Capacity::Short,
         asks: &[Ask::Grown(5001)],
-        answered: "{3, 9, 447, 450, 5000} of 5001",
+        returned: "{3, 9, 447, 450, 5000} of 5001",
         refused: "{3, 9, 447, 450} of 451",
     },
     Row {
@@ -69,7 +69,7 @@ const ROWS: &[Row] = &[
         call: Call::Extend,
         capacity: Capacity::Ample,
         asks: &[],
-        answered: "{3, 9, 447, 450, 5000} of 5001",
+        returned: "{3, 9, 447, 450, 5000} of 5001",
         refused: "",
     },
     Row {
@@ -77,7 +77,7 @@ const ROWS: &[Row] = &[
         call: Call::Union,
         capacity: Capacity::Short,
         asks: &[Ask::Grown(5001)],
-        answered: "{3, 7, 447, 5000} of 5001",
+        returned: "{3, 7, 447, 5000} of 5001",
         refused: FIRST,
     },
     Row {
@@ -85,7 +85,7 @@ const ROWS: &[Row] = &[
         call: Call::Union,
         capacity: Capacity::Ample,
         asks: &[],
-        answered: "{3, 7, 447, 5000} of 5001",
+        returned: "{3, 7, 447, 5000} of 5001",
         refused: "",
     },
     Row {
@@ -93,7 +93,7 @@ const ROWS: &[Row] = &[
         call: Call::Intersection,
         capacity: Capacity::Short,
         asks: &[Ask::Grown(5001)],
-        answered: "{3} of 5001",
+        returned: "{3} of 5001",
         refused: FIRST,
     },
     Row {
@@ -101,7 +101,7 @@ const ROWS: &[Row] = &[
         call: Call::Intersection,
         capacity: Capacity::Ample,
         asks: &[],
-        answered: "{3} of 5001",
+        returned: "{3} of 5001",
         refused: "",
     },
     Row {
@@ -109,7 +109,7 @@ const ROWS: &[Row] = &[
         call: Call::Difference,
         capacity: Capacity::Short,
         asks: &[Ask::Grown(5001)],
-        answered: "{447} of 5001",
+        returned: "{447} of 5001",
         refused: FIRST,
     },
     Row {
@@ -117,7 +117,7 @@ const ROWS: &[Row] = &[
         call: Call::Difference,
         capacity: Capacity::Ample,
         asks: &[],
-        answered: "{447} of 5001",
+        returned: "{447} of 5001",
         refused: "",
     },
     Row {
@@ -125,7 +125,7 @@ const ROWS: &[Row] = &[
         call: Call::Symmetric,
         capacity: Capacity::Short,
         asks: &[Ask::Grown(5001)],
-        answered: "{7, 447, 5000} of 5001",
+        returned: "{7, 447, 5000} of 5001",
         refused: FIRST,
     },
     Row {
@@ -133,7 +133,7 @@ const ROWS: &[Row] = &[
         call: Call::Symmetric,
         capacity: Capacity::Ample,
         asks: &[],
-        answered: "{7, 447, 5000} of 5001",
+        returned: "{7, 447, 5000} of 5001",
         refused: "",
     },
     Row {
@@ -141,7 +141,7 @@ const ROWS: &[Row] = &[
         call: Call::CloneFrom,
         capacity: Capacity::Short,
         asks: &[Ask::Exact(5001)],
-        answered: LENT,
+        returned: LENT,
         refused: FIRST,
     },
     Row {
@@ -149,7 +149,7 @@ const ROWS: &[Row] = &[
         call: Call::CloneFrom,
         capacity: Capacity::Ample,
         asks: &[],
-        answered: LENT,
+        returned: LENT,
         refused: "",
     },
     Row {
@@ -157,7 +157,7 @@ const ROWS: &[Row] = &[
         call: Call::Reserve,
         capacity: Capacity::Short,
         asks: &[Ask::Grown(5001)],
-        answered: FIRST,
+        returned: FIRST,
         refused: FIRST,
     },
     Row {
@@ -165,7 +165,7 @@ const ROWS: &[Row] = &[
         call: Call::Reserve,
         capacity: Capacity::Ample,
         asks: &[],
-        answered: FIRST,
+        returned: FIRST,
         refused: "",
     },
     Row {
@@ -173,7 +173,7 @@ const ROWS: &[Row] = &[
         call: Call::ReserveExact,
         capacity: Capacity::Short,
         asks: &[Ask::Exact(5001)],
-        answered: FIRST,
+        returned: FIRST,
         refused: FIRST,
     },
     Row {
@@ -181,7 +181,7 @@ const ROWS: &[Row] = &[
         call: Call::ReserveExact,
         capacity: Capacity::Ample,
         asks: &[],
-        answered: FIRST,
+        returned: FIRST,
         refused: "",
     },
     Row {
@@ -189,7 +189,7 @@ const ROWS: &[Row] = &[
         call: Call::Shrink,
         capacity: Capacity::Long,
         asks: &[Ask::Exact(448)],
-        answered: FIRST,
+        returned: FIRST,
         refused: FIRST,
     },
     Row {
@@ -197,7 +197,7 @@ const ROWS: &[Row] = &[
         call: Call::Shrink,
         capacity: Capacity::Exact,
         asks: &[],
-        answered: FIRST,
+        returned: FIRST,
         refused: "",
     },
 ];
@@ -234,7 +234,7 @@ impl Row {
     // Whether this may be where the call ended so, over blocks of so many bits.
     fn allows(&self, width: usize, ended: Result<bool, Fault>, now: &str) -> bool {
         let left = match ended {
-            Ok(true) => self.answered,
+            Ok(true) => self.returned,
             Err(Fault::Memory) if !self.asks.is_empty() => self.refused,
             _ => return false,
         };

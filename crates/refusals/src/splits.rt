@@ -22,7 +22,7 @@ struct Row {
     call: Call,
     capacity: Capacity,
     asks: &'static [Ask],
-    answered: &'static str,
+    returned: &'static str,
 }
 
 const ROWS: &[Row] = &[
@@ -31,42 +31,42 @@ const ROWS: &[Row] = &[
         call: Call::Append,
         capacity: Capacity::Short,
         asks: &[Ask::Grown(5001)],
-        answered: "{3, 7, 447, 5000} of 5001 and {} of 5001",
+        returned: "{3, 7, 447, 5000} of 5001 and {} of 5001",
     },
     Row {
         name: "append_within",
         call: Call::Append,
         capacity: Capacity::Ample,
         asks: &[],
-        answered: "{3, 7, 447, 5000} of 5001 and {} of 5001",
+        returned: "{3, 7, 447, 5000} of 5001 and {} of 5001",
     },
     Row {
         name: "split_off",
         call: Call::SplitOff(3),
         capacity: Capacity::Short,
         asks: &[Ask::Exact(448)],
-        answered: "{} of 3 and {3, 447} of 448",
+        returned: "{} of 3 and {3, 447} of 448",
     },
     Row {
         name: "split_off_last",
         call: Call::SplitOff(447),
         capacity: Capacity::Short,
         asks: &[Ask::Exact(448)],
-        answered: "{3} of 447 and {447} of 448",
+        returned: "{3} of 447 and {447} of 448",
     },
     Row {
         name: "split_off_at_0",
         call: Call::SplitOff(0),
         capacity: Capacity::Short,
         asks: &[],
-        answered: "{} of 0 and {3, 447} of 448",
+        returned: "{} of 0 and {3, 447} of 448",
     },
     Row {
         name: "split_off_at_the_length",
         call: Call::SplitOff(448),
         capacity: Capacity::Short,
         asks: &[],
-        answered: "{3, 447} of 448 and {} of 0",
+        returned: "{3, 447} of 448 and {} of 0",
     },
 ];
 
@@ -88,7 +88,7 @@ impl Row {
     // What the two sets may be where the call ended so.
     fn allowed(&self, ended: Result<(), Fault>) -> Option<&'static str> {
         match ended {
-            Ok(()) => Some(self.answered),
+            Ok(()) => Some(self.returned),
             Err(Fault::Memory) if !self.asks.is_empty() => Some(REFUSED),
             Err(_) => None,
         }

@@ -64,7 +64,7 @@ impl<'a> Sweep<'a> {
     /// Says how the call ended, before anything else is done.
     pub fn end<T>(&self, ended: &Result<T, Fault>) -> io::Result<()> {
         self.rt.print(match ended {
-            Ok(_) => "answered",
+            Ok(_) => "returned",
             Err(Fault::Memory) => "refused",
             Err(Fault::Other) => "failed",
         })

@@ -66,74 +66,74 @@ struct Given<B: BitBlock> {
 struct Row {
     name: &'static str,
     group: Group,
-    answers: [usize; 6],
+    results: [usize; 6],
 }
 
 const ROWS: &[Row] = &[
     Row {
         name: "empty_ones",
         group: Group::Empty,
-        answers: [0, 0, 1, 0, 0, 0],
+        results: [0, 0, 1, 0, 0, 0],
     },
     Row {
         name: "questions",
         group: Group::Questions,
-        answers: [2, 2, 1, 0, 0, 0],
+        results: [2, 2, 1, 0, 0, 0],
     },
     Row {
         name: "comparisons",
         group: Group::Comparisons,
-        answers: [0, 1, 1, 1, 0, 16],
+        results: [0, 1, 1, 1, 0, 16],
     },
     Row {
         name: "walks",
         group: Group::Walks,
-        answers: [450, 1, 5457, 3, 447, 5454],
+        results: [450, 1, 5457, 3, 447, 5454],
     },
     Row {
         name: "hints",
         group: Group::Hints,
-        answers: [1, 1, 5001, 1, 1, 0],
+        results: [1, 1, 5001, 1, 1, 0],
     },
     Row {
         name: "counts",
         group: Group::Counts,
-        answers: [4, 1, 1, 3, 450, 0],
+        results: [4, 1, 1, 3, 450, 0],
     },
     Row {
         name: "moves",
         group: Group::Moves,
-        answers: [2, 5001, 10, 10, 1, 0],
+        results: [2, 5001, 10, 10, 1, 0],
     },
     Row {
         name: "texts",
         group: Group::Texts,
-        answers: [1, 1, 1, 0, 0, 0],
+        results: [1, 1, 1, 0, 0, 0],
     },
     Row {
         name: "changes",
         group: Group::Changes,
-        answers: [1, 1, 0, 100, 0, 0],
+        results: [1, 1, 0, 100, 0, 0],
     },
     Row {
         name: "bits",
         group: Group::Bits,
-        answers: [5001, 1, 1, 0, 0, 0],
+        results: [5001, 1, 1, 0, 0, 0],
     },
     Row {
         name: "bit_walks",
         group: Group::BitWalks,
-        answers: [1, 1, 1, 1, 0, 0],
+        results: [1, 1, 1, 1, 0, 0],
     },
     Row {
         name: "nonzero_walks",
         group: Group::NonzeroWalks,
-        answers: [2, 1, 1, 2, 0, 0],
+        results: [2, 1, 1, 2, 0, 0],
     },
     Row {
         name: "bit_changes",
         group: Group::BitChanges,
-        answers: [1, 1, 448, 1, 0, 0],
+        results: [1, 1, 448, 1, 0, 0],
     },
 ];
 
@@ -355,7 +355,7 @@ fn bit_changes<B: BitBlock>(set: &mut BitSet<B>, lent: &BitVec<B>) -> [usize; 6]
     ]
 }
 
-fn answers<B: BitBlock>(alloc: Global, group: Group, given: &mut Given<B>) -> [usize; 6] {
+fn results<B: BitBlock>(alloc: Global, group: Group, given: &mut Given<B>) -> [usize; 6] {
     let (set, lent) = (&mut given.set, &given.lent);
     match group {
         Group::Empty => empty_ones::<B>(alloc),
@@ -392,11 +392,11 @@ fn tried<B: BitBlock>(sweep: &Sweep<'_>, row: &Row) -> Result<bool, Fault> {
     let alloc = sweep.alloc();
     let mut given = prepared::<B>(alloc)?;
     sweep.begin(row.name, &[])?;
-    let answers = answers(alloc, row.group, &mut given);
+    let results = results(alloc, row.group, &mut given);
     sweep.end(&Ok(()))?;
-    let now = format!(in alloc; "{answers:?}")?;
+    let now = format!(in alloc; "{results:?}")?;
     let is_whole = works(&mut given.set)? && text_of(alloc, &given.lent)?.as_str() == LENT;
-    Ok(sweep.judge(is_whole && answers == row.answers, now.as_str())?)
+    Ok(sweep.judge(is_whole && results == row.results, now.as_str())?)
 }
 
 /// Whether each of these groups returns what it must.
