@@ -29,7 +29,10 @@ fn sets_are_changed(rt: HostRuntime) -> Result<(), Fail> {
     assert_eq!(rt; members(rt.alloc(), &set)?.as_slice(), [4, 300].as_slice());
     let mut spacious = BitSet::<u16>::with_capacity_general(rt.alloc(), 100)?;
     put_each(&mut spacious, &[99, 4, 99])?;
-    assert_eq!(rt; members(rt.alloc(), &spacious)?.as_slice(), [4, 99].as_slice());
+    assert_eq!(rt;
+        members(rt.alloc(), &spacious)?.as_slice(),
+        [4, 99].as_slice()
+    );
     let without = either_without(rt.alloc(), &set, &spacious, &evens(rt.alloc(), 6)?)?;
     assert_eq!(rt;
         members(rt.alloc(), &without)?.as_slice(),
