@@ -2,7 +2,7 @@
 use Rattle.std.proofs.Common.{◌≡◌, ◌≢◌, ℕ, ◌<◌, ◌==◌, not, false, Bool, List, [], ◌∷◌, map, All, Result, Ok, Err, refl, sym, ap, ◌∙◌, arith}
 use Rattle.std.proofs.lemmas.Bool.Decides.{nat_tests}
 use Rattle.std.proofs.lemmas.List.Elements.{All-head, All-tail}
-use Rattle.bit_set.specs.Bounds.{greatest}
+use Rattle.bit_words.specs.Bounds.{greatest}
 use Rattle.bit_set.specs.Calls.{Change, Changes, Event, Happens, Outcome, elements_after, outcome_of_result, outcome_of, outcomes, set_after}
 use Rattle.bit_set.specs.Calls.Change.{Insert, ShrinkToFit}
 use Rattle.bit_set.specs.Calls.Outcome.{Done, NoElement, NoMemory, Returned}

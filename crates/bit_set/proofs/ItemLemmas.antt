@@ -3,7 +3,7 @@ use Rattle.std.proofs.Common.{◌<◌, ◌≤◌, ◌≡◌, ◌≢◌, ℕ, ◌
 use Rattle.bit_set.specs.Members.{IsSameSet}
 use Rattle.bit_set.specs.Sets.{elements, has, put, put_all, bound_of}
 use Rattle.bit_set.specs.Effects.{TakesIn}
-use Rattle.bit_set.specs.Bounds.{greatest}
+use Rattle.bit_words.specs.Bounds.{greatest}
 use Rattle.bit_set.specs.Faults.{IsInsertFault}
 use Rattle.bit_set.specs.declared.faults.SetError.{SetError}
 use Rattle.bit_set.specs.declared.faults.SetError.TheVariants.{Element, Length, Memory}

@@ -5,7 +5,7 @@ use Rattle.std.proofs.lemmas.List.{get_or-set_same, get_or-set_other}
 use Rattle.std.specs.Cmp.Lexicographic.{bytes_decides}
 use Rattle.bit_words.specs.Bits.{Bits, IsWithinCapacity}
 use Rattle.bit_words.specs.declared.block.merge.Merge.{Merge}
-use Rattle.bit_set.specs.Bounds.{greatest}
+use Rattle.bit_words.specs.Bounds.{greatest}
 use Rattle.bit_set.specs.Members.{HasNone, HasTrueOf, IsCounted, IsDisjoint, IsMerged, IsSameSet, IsSubset, IsUnion, KeepsBelow, KeepsFrom, TakesLeast, Updates}
 use Rattle.bit_set.specs.Order.{same_sets}
 use Rattle.bit_set.specs.Sets.{AscendsFrom, IsAscending, elements, has, is_disjoint, is_subset, merge_of_sets, put, put_all, those_below, those_from, without}

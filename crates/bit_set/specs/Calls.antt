@@ -2,7 +2,7 @@
 use Rattle.std.specs.Prelude.{◌≡◌, ℕ, ◌==◌, not, if◌then◌else◌, Bool, List, [], ◌∷◌, Result, Ok, Err}
 use Rattle.bit_set.specs.declared.faults.SetError.{SetError}
 use Rattle.bit_set.specs.declared.faults.SetError.TheVariants.{Element, Length, Memory}
-use Rattle.bit_set.specs.Bounds.{greatest}
+use Rattle.bit_words.specs.Bounds.{greatest}
 use Rattle.bit_set.specs.Sets.{difference, elements, has, intersection, put, put_all, symmetric_difference, those_below, union, without}
 
 -- a call that changes a set, with what it is given: numbers, and of a second set its elements

@@ -1,6 +1,6 @@
 -- What several items do to a list of truth values.
 use Rattle.std.specs.Prelude.{◌≡◌, ℕ, ◌≤◌, max, Bool, List, length}
-use Rattle.bit_set.specs.Bounds.{greatest}
+use Rattle.bit_words.specs.Bounds.{greatest}
 use Rattle.bit_set.specs.Members.{IsUnion}
 use Rattle.bit_set.specs.Sets.{elements, put_all, bound_of}
 

@@ -1,6 +1,6 @@
 -- Why a set does not take a number in.
 use Rattle.std.specs.Prelude.{◌≡◌, ℕ, ◌<◌, ◌≤◌}
-use Rattle.bit_set.specs.Bounds.{greatest}
+use Rattle.bit_words.specs.Bounds.{greatest}
 use Rattle.bit_words.specs.declared.bit_vec.constructors.BitsError.{BitsError}
 use Rattle.bit_words.specs.declared.bit_vec.constructors.BitsError.TheVariants.{Length as BitsLength, Memory as BitsMemory}
 use Rattle.bit_set.specs.declared.faults.SetError.{SetError}

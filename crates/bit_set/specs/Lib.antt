@@ -1,4 +1,4 @@
-pub mod Bounds
+pub use Rattle.bit_words.specs.Bounds
 pub mod Sets
 pub mod Members
 pub mod Faults

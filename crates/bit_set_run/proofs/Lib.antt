@@ -1,11 +1,5 @@
-pub mod CutLemmas
-pub mod LineLemmas
 pub mod OutputLemmas
-pub mod ReadingLemmas
 pub mod RunLemmas
-pub mod SpellingLemmas
-pub mod StrangeLemmas
 pub mod StreamLemmas
-pub mod TextLemmas
 pub mod WalkingLemmas
 pub mod SteppingLemmas

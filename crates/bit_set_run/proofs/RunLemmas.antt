@@ -5,8 +5,8 @@ use Rattle.std.proofs.Common.{Result, Ok, Err, true, false, OnOk, OnErr}
 use Rattle.std.specs.Result.{is_err}
 use Rattle.std.proofs.lemmas.Option.{slice_get_read}
 use Rattle.std.proofs.lemmas.Bool.{true≢false}
-use Rattle.bit_set_run.specs.declared.commands.Command.{Command}
-use Rattle.bit_set_run.specs.declared.commands.Reply.{Reply}
+use Rattle.bit_set_commands.specs.declared.commands.Command.{Command}
+use Rattle.bit_set_commands.specs.declared.commands.Reply.{Reply}
 use Rattle.bit_set_run.specs.Run.{Sets, step, run_of, FailsAt, StoppedAt}
 
 -- a run of commands and of one more

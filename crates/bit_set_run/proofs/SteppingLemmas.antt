@@ -14,8 +14,8 @@ use Rattle.bit_set.specs.Bits.{Bits}
 use Rattle.bit_set.specs.Sets.{bound_of, elements, elements_from, has, put, union}
 use Rattle.bit_set_run.specs.Capacities.{bits_at, Becomes, GrowsTo}
 use Rattle.bit_set_run.specs.Elements.{elements_of}
-use Rattle.bit_set_run.specs.declared.commands.Command.TheVariants.{Insert}
-use Rattle.bit_set_run.specs.declared.commands.Reply.TheVariants.{Truth, Element}
+use Rattle.bit_set_commands.specs.declared.commands.Command.TheVariants.{Insert}
+use Rattle.bit_set_commands.specs.declared.commands.Reply.TheVariants.{Truth, Element}
 use Rattle.bit_set.specs.Bounds.{greatest}
 use Rattle.bit_set_run.specs.Run.{elements_before_greatest, step, reply_with, change_to}
 

@@ -3,8 +3,8 @@ use Rattle.std.specs.Prelude.{◌≡◌, ℕ, ◌+◌, ◌<◌, ◌≤◌, ◌==
 use Rattle.std.specs.List.{All}
 use Rattle.bit_set.specs.Bits.{Bits, blocks_for, capacity_of, whole_blocks}
 use Rattle.bit_set.specs.Bounds.{greatest}
-use Rattle.bit_set_run.specs.declared.commands.Command.{Command}
-use Rattle.bit_set_run.specs.declared.commands.Command.TheVariants.{Insert, Remove, Extend, Truncate, Empty, Reset, Reserve, ReserveExact, Shrink, Copy, InPlace, Append, SplitOff}
+use Rattle.bit_set_commands.specs.declared.commands.Command.{Command}
+use Rattle.bit_set_commands.specs.declared.commands.Command.TheVariants.{Insert, Remove, Extend, Truncate, Empty, Reset, Reserve, ReserveExact, Shrink, Copy, InPlace, Append, SplitOff}
 
 -- the set at a place
 abbrev pub bits_at : List Bits → ℕ → Bits

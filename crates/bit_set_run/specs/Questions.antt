@@ -1,7 +1,7 @@
 -- Which commands change no set, and which change one by another.
 use Rattle.std.specs.Prelude.{Bool, true, false}
-use Rattle.bit_set_run.specs.declared.commands.Command.{Command}
-use Rattle.bit_set_run.specs.declared.commands.Command.TheVariants.{Insert, Remove, Extend, Truncate, Empty, Reset, Reserve, ReserveExact, Shrink, Copy, InPlace, Append, SplitOff}
+use Rattle.bit_set_commands.specs.declared.commands.Command.{Command}
+use Rattle.bit_set_commands.specs.declared.commands.Command.TheVariants.{Insert, Remove, Extend, Truncate, Empty, Reset, Reserve, ReserveExact, Shrink, Copy, InPlace, Append, SplitOff}
 
 -- whether a command leaves every set as it is, whatever the sets are
 abbrev pub is_question : Command → Bool

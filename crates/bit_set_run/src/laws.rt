@@ -1,32 +1,18 @@
 //! What the definitions of the contracts come to, as facts that are proved of them.
 
-ghost use Rattle.std.specs.Prelude.{IfOk, OnOk, ◌≡◌, ℕ, false, List, [], ◌∷◌, codes, length, map, Contains};
-ghost use Rattle.bit_set_run.specs.declared.commands.Command.{Command};
-ghost use Rattle.bit_set_run.specs.declared.reading.BadLine.{BadLine};
-ghost use Rattle.bit_set_run.specs.declared.reading.BadLine.TheVariants.{BadCommand};
-ghost use Rattle.bit_set_run.specs.Lines.{lines_of, AreLines};
+ghost use Rattle.std.specs.Prelude.{IfOk, OnOk, ◌≡◌, ℕ, List, [], ◌∷◌, codes, length, map, Err};
+ghost use Rattle.bit_set_commands.specs.declared.reading.BadLine.{BadLine};
+ghost use Rattle.bit_set_commands.specs.Lines.{lines_of};
 ghost use Rattle.bit_set_run.specs.Output.{line_text, line_texts_from, output, sets_after, Gives, Line};
-ghost use Rattle.bit_set_run.specs.Reading.{is_plain, reading};
+ghost use Rattle.bit_set_commands.specs.Reading.{reading};
 ghost use Rattle.bit_set_run.specs.Run.{no_sets, run_of, Sets};
-ghost use Rattle.bit_set_run.specs.Spelling.{line_of, CanBeHad};
-ghost use Rattle.bit_set_run.specs.Words.{words_of, AreWords};
 
 use crate::{Command, Reply, RunFault, Table, run};
 use bit_set::BitBlock;
+pub use bit_set_commands::laws::{
+    commands_are_read_back, lines_are_unique, strange_lines_are_bad_commands, words_are_unique,
+};
 use std::alloc::Global;
-
-/// Every input has its lines, and has them in one way; an empty input has none.
-pub fn lines_are_unique()
-    ensures are { (input : List ℕ) → AreLines input (lines_of input) }
-    ensures only { (input : List ℕ) (lines : List (List ℕ)) → AreLines input lines → lines ≡ lines_of input }
-    ensures none { lines_of [] ≡ [] }
-{}
-
-/// Every line has its words, and has them in one way.
-pub fn words_are_unique()
-    ensures are { (line : List ℕ) → AreWords line (words_of line) }
-    ensures only { (line : List ℕ) (words : List (List ℕ)) → AreWords line words → words ≡ words_of line }
-{}
 
 /// What some inputs give, by the definitions alone: each line beside its reply.
 pub fn outputs_are_as_shown()
@@ -249,19 +235,6 @@ pub fn each_line_has_one_reply()
     ensures first { (sets : Sets) (line : Line) (lines : List Line)
         → line_texts_from sets (line ∷ lines) ≡ line_text sets line ∷ line_texts_from (sets_after sets line) lines }
     ensures bad { (sets : Sets) (bad : BadLine) → sets_after sets (Err bad) ≡ sets }
-{}
-
-/// Each command has a line that is read as it.
-pub fn commands_are_read_back()
-    ensures { (command : Command) → CanBeHad command → reading (line_of command) ≡ Ok command }
-{}
-
-/// A line with an empty word is a bad command, and so is one with a byte that no command has, as a byte 13,
-/// a tab or one that is not ASCII.
-pub fn strange_lines_are_bad_commands()
-    ensures empty_word { (line : List ℕ) → Contains (words_of line) [] → reading line ≡ Err BadCommand }
-    ensures strange_byte { (line : List ℕ) (b : ℕ) → Contains line b → is_plain b ≡ false
-        → reading line ≡ Err BadCommand }
 {}
 
 /// The same commands on two tables with equal sets, over any two types of blocks: where memory is found, the

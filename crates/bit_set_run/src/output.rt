@@ -2,14 +2,12 @@
 
 ghost use Rattle.std.specs.Prelude.{◌≡◌, ◌≢◌, [], ◌∷◌, ◌++◌, IfOk, OnOk, OnErr};
 ghost use Rattle.bit_set_run.specs.Output.{line_text, output, sets_after};
-ghost use Rattle.bit_set_run.specs.Reading.{reading};
+ghost use Rattle.bit_set_commands.specs.Reading.{reading};
 
 use crate::Table;
-use crate::cutting::next_line;
-use crate::reading::read_line;
-use crate::reply_texts::{append_reply, bad_text};
 use crate::stepping::step;
 use bit_set::BitBlock;
+use bit_set_commands::{append_reply, bad_text, next_line, read_line};
 use std::alloc::{AllocError, Global};
 
 /// What the program writes for the input: for each of its lines a text and a newline. An empty input takes no memory.

@@ -8,7 +8,7 @@ ghost use Rattle.bit_set_run.specs.Elements.{elements_of};
 ghost use Rattle.bit_set.specs.Bounds.{greatest};
 ghost use Rattle.bit_set_run.specs.Questions.{is_of_two};
 ghost use Rattle.bit_set_run.specs.Run.{step, elements_before_greatest, FailsAt};
-ghost use Rattle.bit_set_run.specs.declared.commands.Reply.TheVariants.{Truth, Done, Rest, Element};
+ghost use Rattle.bit_set_commands.specs.declared.commands.Reply.TheVariants.{Truth, Done, Rest, Element};
 
 use crate::questions::reply_to;
 use crate::{Command, Numbers, Reply};

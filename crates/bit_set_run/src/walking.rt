@@ -3,7 +3,7 @@
 ghost use Rattle.std.specs.Prelude.{◌≡◌, ◌≢◌, ℕ, List, [], Option, drop, length, IfOk, OnErr};
 ghost use Rattle.std.specs.Iterator.{IsFinite, YieldsFirst};
 ghost use Rattle.bit_set_run.specs.Run.{rest_of};
-ghost use Rattle.bit_set_run.specs.declared.commands.Reply.TheVariants.{Items};
+ghost use Rattle.bit_set_commands.specs.declared.commands.Reply.TheVariants.{Items};
 
 use crate::{Numbers, Reply};
 use bit_set::bit_vec::operation::Operation;

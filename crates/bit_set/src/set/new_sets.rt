@@ -6,7 +6,7 @@ ghost use Rattle.std.specs.Iterator.Runs.{WholeRun};
 ghost use Rattle.bit_words.specs.Bits.{blocks_for, capacity_of, values_of_bytes};
 ghost use Rattle.bit_set.specs.Sets.{bound_of, elements, has, put_all};
 ghost use Rattle.bit_set.specs.Members.{HasNone, HasTrueOf, IsSameSet};
-ghost use Rattle.bit_set.specs.Bounds.{greatest};
+ghost use Rattle.bit_words.specs.Bounds.{greatest};
 ghost use Rattle.bit_set.specs.Capacity.{IsPastBlocks};
 
 use crate::bit_vec::BitVec;

@@ -1,5 +1,5 @@
 use Rattle.std.proofs.Common.{◌≡◌, ◌≤◌, ◌++◌, length}
-use Rattle.bit_set_run.specs.Lines.{lines_of}
+use Rattle.bit_set_commands.specs.Lines.{lines_of}
 use Rattle.bit_set_run.specs.Output.{output}
 use Rattle.bit_set_run.proofs.OutputLemmas.{output_from}
 use Rattle.bit_set_run.proofs.output.output.Given as goal

@@ -1,7 +1,7 @@
 use Rattle.std.proofs.Common.{◌≡◌, ◌+◌, ◌-◌, ◌<◌, ◌++◌, length, replicate, not, false, ap, ◌∙◌, refl, arith, length-append, ◌≤◌}
 use Rattle.std.proofs.lemmas.List.{length-replicate, length-set}
 use Rattle.bit_set.proofs.ValueLemmas.{has-grown, has-read, elements-grown, elements-raised}
-use Rattle.bit_set.specs.Bounds.{greatest}
+use Rattle.bit_words.specs.Bounds.{greatest}
 use Rattle.bit_set.proofs.CallLemmas.{changes_inserted}
 use Rattle.bit_set.specs.Sets.{elements}
 use Rattle.bit_set.proofs.MemberLemmas.{count_put, counted, counted_within, updates_put}

@@ -1,0 +1,232 @@
+-- Numbers read a digit at a time, and what a line's words come to.
+use Rattle.std.proofs.Common.{◌≡◌, ℕ, zero, suc, ◌+◌, ◌-◌, ◌*◌, ◌<◌, Bool, true, false, not, ◌&&◌, List, [], ◌∷◌, ◌++◌, length, take, get_or, ap, sym, ◌∙◌, refl, arith, eqb, nat_lt, ◌⊎◌, inl, inr, Option, None, Some, Result, Ok, Err, nat_le, if◌then◌else◌, MatchResult, IsOkAnd}
+use Rattle.std.specs.Char.{is_ascii_digit, digit_value, IsAsciiDigit}
+use Rattle.std.specs.Str.{all_ascii_digits}
+use Rattle.std.specs.Str.Parse.{digits_value}
+use Rattle.std.proofs.lemmas.Int.Digits.{digits_value_more}
+use Rattle.std.proofs.lemmas.Str.{digit_value_digit}
+use Rattle.std.proofs.lemmas.Bool.{and_parts, and_right}
+use Rattle.std.proofs.lemmas.Bool.Decides.{eqb_tells}
+use Rattle.std.specs.List.{list_all}
+use Rattle.std.specs.Option.{option_and_then, option_map, option_zip}
+use Rattle.bit_set_commands.specs.Cuts.{Lacks}
+use Rattle.bit_set_commands.specs.declared.commands.Command.{Command}
+use Rattle.bit_set_commands.specs.declared.verbs.Verb.{Verb}
+use Rattle.bit_set_commands.specs.declared.verbs.Verb.TheVariants.{Name, NameAndNumber, TwoNames, Extend, SplitOff, Rest}
+use Rattle.bit_set_commands.specs.declared.verbs.NameVerb.{NameVerb}
+use Rattle.bit_set_commands.specs.declared.verbs.NameVerb.TheVariants.{Empty}
+use Rattle.bit_set_commands.specs.declared.verbs.NumberVerb.{NumberVerb}
+use Rattle.bit_set_commands.specs.declared.verbs.NumberVerb.TheVariants.{Insert}
+use Rattle.bit_set_commands.specs.declared.verbs.PairVerb.{PairVerb}
+use Rattle.bit_set_commands.specs.declared.verbs.PairVerb.TheVariants.{Copy}
+use Rattle.bit_set_commands.specs.declared.verbs.SetWalk.{SetWalk}
+use Rattle.bit_set_commands.specs.declared.verbs.SetWalk.TheVariants.{One, Two}
+use Rattle.bit_set_commands.specs.declared.reading.BadLine.{BadLine}
+use Rattle.bit_set_commands.specs.declared.reading.BadLine.TheVariants.{BadCommand, BadNumber}
+use Rattle.bit_set_commands.specs.Reading.{command_of, fitting_number, name_alone, name_and_number, name_of, names_and_number, names_around_number, number_and_name, number_of, reading, rest_command, rest_of, two_names, within_range}
+use Rattle.bit_set_commands.specs.Spelling.{numbers_of}
+use Rattle.bit_set_commands.specs.Verbs.{name_command, number_command, pair_command, verb_of, walk_of}
+use Rattle.bit_words.specs.Bounds.{greatest}
+use Rattle.bit_set_commands.specs.Words.{words_of}
+use Rattle.bit_set_commands.proofs.CutLemmas.{parts_at-first, parts_at-one, parts_some}
+
+-- a byte that is no digit
+pub not_all_digits : (ds : List ℕ) (i : ℕ) → i < length ds → is_ascii_digit (get_or ds i 0) ≡ false → all_ascii_digits ds ≡ false
+not_all_digits [] i below other = absurd (omega arith)
+not_all_digits (d ∷ ds) zero below other = rw other
+not_all_digits (d ∷ ds) (suc i) below other = and_right (is_ascii_digit d) (all_ascii_digits ds) (not_all_digits ds i (omega arith) other)
+
+-- one more digit
+pub all_digits_more : (ds : List ℕ) (i : ℕ) → i < length ds → all_ascii_digits (take i ds) ≡ true → is_ascii_digit (get_or ds i 0) ≡ true → all_ascii_digits (take (suc i) ds) ≡ true
+all_digits_more [] i below so_far digit = absurd (omega arith)
+all_digits_more (d ∷ ds) zero below so_far digit = rw digit
+all_digits_more (d ∷ ds) (suc i) below so_far digit =
+    let parts : (is_ascii_digit d ≡ true) × (all_ascii_digits (take i ds) ≡ true) = and_parts (is_ascii_digit d) (all_ascii_digits (take i ds)) so_far in
+    rw (parts.0, all_digits_more ds i (omega arith) parts.1 digit)
+
+-- with such a byte a word is no number
+pub number_of-other : (ds : List ℕ) (i : ℕ) → i < length ds → is_ascii_digit (get_or ds i 0) ≡ false → number_of ds ≡ None
+number_of-other ds i below other = rw (and_right (nat_lt 0 (length ds)) (all_ascii_digits ds) (not_all_digits ds i below other))
+
+-- the number so far, with one more digit behind it
+pub fitting_number-more : (ds : List ℕ) (i : ℕ) (number next : Option ℕ) → i < length ds → IsAsciiDigit (get_or ds i 0) → ((n : ℕ) → number ≡ fitting_number n → next ≡ fitting_number (n * 10 + (get_or ds i 0 - 48))) → number ≡ fitting_number (digits_value 10 (take i ds)) → next ≡ fitting_number (digits_value 10 (take (i + 1) ds))
+fitting_number-more ds i number next below digit step so_far =
+    let value : digit_value (get_or ds i 0) + 48 ≡ get_or ds i 0 = digit_value_digit (get_or ds i 0) digit in
+    let same : digits_value 10 (take (i + 1) ds) ≡ digits_value 10 (take i ds) * 10 + (get_or ds i 0 - 48) = omega (arith, digits_value_more 10 ds i below) in
+    step (digits_value 10 (take i ds)) so_far ∙ ap fitting_number (sym same)
+
+-- A line with a space in it has two words or more.
+record IsCut (text : List ℕ) : Type 0 where
+  first : List ℕ
+  second : List ℕ
+  others : List (List ℕ)
+  place : ℕ
+  words : words_of text ≡ first ∷ second ∷ others
+  below : place < length text
+  space : get_or text place 0 ≡ 32
+
+first_space : (b : ℕ) (bs : List ℕ) → eqb b 32 ≡ true → b ≡ 32 → IsCut (b ∷ bs)
+first_space b bs test same = elim (words_of bs) as (λ ws. words_of bs ≡ ws → IsCut (b ∷ bs)) [
+  | [] ↦ λ e. absurd (parts_some 32 bs e)
+  | w ∷ ws ↦ λ e. record { first = []; second = w; others = ws; place = 0; words = rw (test, e); below = omega arith; space = same }
+] refl
+
+-- a text is its one word, or has a space
+one_word : (text : List ℕ) → (words_of text ≡ text ∷ []) ⊎ IsCut text
+one_word [] = inl refl
+one_word (b ∷ bs) = elim (eqb_tells b 32) [
+  | inl same ↦ inr (first_space b bs same.0 same.1)
+  | inr other ↦ elim (one_word bs) [
+    | inl alone ↦ inl (rw (other.0, alone))
+    | inr two ↦ inr record {
+      first = b ∷ two.first;
+      second = two.second;
+      others = two.others;
+      place = suc two.place;
+      words = rw (other.0, two.words);
+      below = omega (arith, two.below);
+      space = two.space;
+    }
+  ]
+]
+
+-- with a space in it a word names no set and is no number
+name_of-cut : (text : List ℕ) (place : ℕ) → place < length text → get_or text place 0 ≡ 32 → name_of text ≡ None
+name_of-cut [] place below space = absurd (omega arith)
+name_of-cut (letter ∷ []) zero below space = rw space
+name_of-cut (letter ∷ []) (suc place) below space = absurd (omega arith)
+name_of-cut (letter ∷ more ∷ others) place below space = refl
+
+number_of-cut : (text : List ℕ) (place : ℕ) → place < length text → get_or text place 0 ≡ 32 → number_of text ≡ None
+number_of-cut text place below space = number_of-other text place below (rw space)
+
+-- a name alone is what the whole text spells
+pub name_alone_words : (text : List ℕ) → name_alone (words_of text) ≡ name_of text
+name_alone_words text = elim (one_word text) [
+  | inl alone ↦ rw alone
+  | inr two ↦ rw (two.words, name_of-cut text two.place two.below two.space)
+]
+
+pub nothing : {X Y : Type 0} (x : Option X) → None ≡ option_zip {U = Y} x None
+nothing None = refl
+nothing (Some x) = refl
+
+-- the text after the first space is the number
+pub name_and_number-words : (name number : List ℕ) → Lacks 32 name → name_and_number (words_of (name ++ 32 ∷ number)) ≡ option_zip (name_of name) (number_of number)
+name_and_number-words name number lacks = rw (parts_at-first 32 name number lacks) (elim (one_word number) [
+  | inl alone ↦ rw alone
+  | inr two ↦ rw (two.words, number_of-cut number two.place two.below two.space) (nothing (name_of name))
+])
+
+-- it is the second name
+pub two_names-words : (first second : List ℕ) → Lacks 32 first → two_names (words_of (first ++ 32 ∷ second)) ≡ option_zip (name_of first) (name_of second)
+two_names-words first second lacks = rw (parts_at-first 32 first second lacks) (elim (one_word second) [
+  | inl alone ↦ rw alone
+  | inr two ↦ rw (two.words, name_of-cut second two.place two.below two.space) (nothing (name_of first))
+])
+
+-- what comes after the first name is the second and the number
+pub names_and_number-words : (first words : List ℕ) → Lacks 32 first → names_and_number (words_of (first ++ 32 ∷ words)) ≡ option_zip (name_of first) (name_and_number (words_of words))
+names_and_number-words first words lacks = rw (parts_at-first 32 first words lacks)
+
+-- the text after the first space is the name
+pub number_and_name-words : (number name : List ℕ) → Lacks 32 number → number_and_name (words_of (number ++ 32 ∷ name)) ≡ option_zip (name_of name) (number_of number)
+number_and_name-words number name lacks = rw (parts_at-first 32 number name lacks) (elim (one_word name) [
+  | inl alone ↦ rw alone
+  | inr two ↦ rw (two.words, name_of-cut name two.place two.below two.space)
+])
+
+-- what comes after the first name is the number and the second
+pub names_around_number-words : (first words : List ℕ) → Lacks 32 first → names_around_number (words_of (first ++ 32 ∷ words)) ≡ option_zip (name_of first) (number_and_name (words_of words))
+names_around_number-words first words lacks = rw (parts_at-first 32 first words lacks)
+
+-- without a space there is no second name
+pub names_and_number-word : (word : List ℕ) → Lacks 32 word → names_and_number (words_of word) ≡ None
+names_and_number-word word lacks = rw (parts_at-one 32 word lacks) (sym (nothing (name_of word)))
+
+pub names_around_number-word : (word : List ℕ) → Lacks 32 word → names_around_number (words_of word) ≡ None
+names_around_number-word word lacks = rw (parts_at-one 32 word lacks) (sym (nothing (name_of word)))
+
+-- a name that was read
+pub named : (name : Option ℕ) (s : ℕ) → Ok s ≡ within_range (λ (s : ℕ). []) name → name ≡ Some s
+named None s is = cc
+named (Some t) s is = cc
+
+by_test : {Y : Type 0} (fits : Bool) (y : Y) (t : ℕ) (e : BadLine) → ◌≡◌ {A = Result Y BadLine} (Err e) (if fits then Ok y else Err BadNumber) → ◌≡◌ {A = Result (ℕ × Y) BadLine} (Err e) (if fits then Ok (t, y) else Err BadNumber)
+by_test true y t e is = cc
+by_test false y t e is = cc
+
+ok_by_test : {Y : Type 0} (fits : Bool) (z : Y) (s : ℕ) (y : Y) → ◌≡◌ {A = Result Y BadLine} (Ok y) (if fits then Ok z else Err BadNumber) → ◌≡◌ {A = Result (ℕ × Y) BadLine} (Ok (s, y)) (if fits then Ok (s, z) else Err BadNumber)
+ok_by_test true z s y is = cc
+ok_by_test false z s y is = cc
+
+-- what is said of a name and another value, by what is said of each
+pub zip-name_err : {Y : Type 0} (numbers : Y → List ℕ) (name : Option ℕ) (other : Option Y) (e : BadLine) → Err e ≡ within_range (λ (s : ℕ). []) name → Err e ≡ within_range (λ (p : ℕ × Y). numbers p.1) (option_zip name other)
+zip-name_err numbers None other e is = cc
+zip-name_err numbers (Some s) other e is = cc
+
+pub zip-other_err : {Y : Type 0} (numbers : Y → List ℕ) (name : Option ℕ) (other : Option Y) (s : ℕ) (e : BadLine) → Ok s ≡ within_range (λ (s : ℕ). []) name → Err e ≡ within_range numbers other → Err e ≡ within_range (λ (p : ℕ × Y). numbers p.1) (option_zip name other)
+zip-other_err numbers name None s e is told = rw (named name s is) (cc)
+zip-other_err numbers name (Some y) s e is told = rw (named name s is) (by_test (list_all (λ m. nat_le m greatest) (numbers y)) y s e told)
+
+pub zip-ok : {Y : Type 0} (numbers : Y → List ℕ) (name : Option ℕ) (other : Option Y) (s : ℕ) (y : Y) → Ok s ≡ within_range (λ (s : ℕ). []) name → Ok y ≡ within_range numbers other → Ok (s, y) ≡ within_range (λ (p : ℕ × Y). numbers p.1) (option_zip name other)
+zip-ok numbers name None s y is told = cc
+zip-ok numbers name (Some z) s y is told = rw (named name s is) (ok_by_test (list_all (λ k. nat_le k greatest) (numbers z)) z s y told)
+
+-- what is said of numbers of which some are read, and whether one of those was too large
+abbrev pub told : List ℕ → Bool → Option (List ℕ) → Result (List ℕ) BadLine
+told read large None = Err BadCommand
+told read large (Some ns) = if not large && list_all (λ n. nat_le n greatest) ns then Ok (read ++ ns) else Err BadNumber
+
+-- the numbers of a command, by the shape of its words: the first verb represents all
+pub numbers-name_command : (verb : NameVerb) (s : ℕ) → numbers_of (name_command verb s) ≡ []
+numbers-name_command Empty s = refl
+numbers-name_command verb s = refl
+
+pub numbers-number_command : (verb : NumberVerb) (p : ℕ × ℕ) → numbers_of (number_command verb p) ≡ p.1 ∷ []
+numbers-number_command Insert p = refl
+numbers-number_command verb p = refl
+
+pub numbers-pair_command : (verb : PairVerb) (p : ℕ × ℕ) → numbers_of (pair_command verb p) ≡ []
+numbers-pair_command Copy p = refl
+numbers-pair_command verb p = refl
+
+made_by_test : {X : Type 0} {Post : X → Command → Type 0} (fits : Bool) (make : X → Command) (x : X) (read : Result X BadLine) (result : Result Command BadLine) → ((x : X) (command : Command) → Post x command → command ≡ make x) → read ≡ (if fits then Ok x else Err BadNumber) → MatchResult read (λ x. IsOkAnd result (Post x)) (λ e. result ≡ Err e) → result ≡ (if fits then Ok (make x) else Err BadNumber)
+made_by_test true make x (Ok y) (Ok command) makes told made = ap Ok (makes y command made ∙ ap make (cc))
+made_by_test true make x (Ok y) (Err e) makes told made = absurd made
+made_by_test true make x (Err e) result makes told made = cc
+made_by_test false make x (Ok y) result makes told made = cc
+made_by_test false make x (Err e) result makes told made = made ∙ ap Err (cc)
+
+-- a command made of the operands that were read, where its numbers are theirs
+pub of_operands : {X : Type 0} {Post : X → Command → Type 0} (make : X → Command) (numbers : X → List ℕ) (operands : Option X) (read : Result X BadLine) (result : Result Command BadLine) → ((x : X) → numbers_of (make x) ≡ numbers x) → read ≡ within_range numbers operands → MatchResult read (λ x. IsOkAnd result (Post x)) (λ e. result ≡ Err e) → ((x : X) (command : Command) → Post x command → command ≡ make x) → result ≡ within_range numbers_of (option_map make operands)
+of_operands make numbers None (Ok x) result same told made makes = cc
+of_operands make numbers None (Err e) result same told made makes = made ∙ ap Err (cc)
+of_operands make numbers (Some x) read result same told made makes =
+    rw (same x) (made_by_test (list_all (λ n. nat_le n greatest) (numbers x)) make x read result makes told made)
+
+-- `rest` and a walk alone
+rest_command-alone : (walk : Option SetWalk) → option_and_then (λ w. rest_command w []) walk ≡ None
+rest_command-alone None = refl
+rest_command-alone (Some One) = refl
+rest_command-alone (Some (Two merge)) = refl
+
+pub rest_of-alone : (word : List ℕ) → rest_of (word ∷ []) ≡ None
+rest_of-alone word = rest_command-alone (walk_of word)
+
+alone : (verb : Option Verb) → within_range numbers_of (option_and_then (λ v. command_of v []) verb) ≡ Err BadCommand
+alone None = refl
+alone (Some (Name verb)) = refl
+alone (Some (NameAndNumber verb)) = refl
+alone (Some (TwoNames verb)) = refl
+alone (Some Extend) = refl
+alone (Some SplitOff) = refl
+alone (Some Rest) = refl
+
+-- a line without a space spells nothing, since each verb wants a name
+pub reading-word : (line : List ℕ) → Lacks 32 line → reading line ≡ Err BadCommand
+reading-word line lacks = rw (parts_at-one 32 line lacks) (alone (verb_of line))
+
+-- a line with one is a verb and the words after the space
+pub reading-words : (word words : List ℕ) → Lacks 32 word → reading (word ++ 32 ∷ words) ≡ within_range numbers_of (option_and_then (λ verb. command_of verb (words_of words)) (verb_of word))
+reading-words word words lacks = rw (parts_at-first 32 word words lacks)

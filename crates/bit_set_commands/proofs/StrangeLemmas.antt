@@ -1,0 +1,213 @@
+-- A line with an empty word, or with a byte that no command has, is a bad command.
+use Rattle.std.proofs.Common.{◌≡◌, ℕ, zero, suc, ◌<◌, Bool, true, false, ◌&&◌, ◌||◌, ◌==◌, nat_lt, nat_le, List, [], ◌∷◌, length, get_or, Option, None, Some, Err, inl, inr, arith, refl, ap, sym, ◌∙◌, leb-true, le-leb}
+use Rattle.std.specs.Char.{is_ascii_digit, is_ascii_lowercase}
+use Rattle.std.specs.Cmp.Lexicographic.{same_text}
+use Rattle.std.specs.Int.{is_in_range}
+use Rattle.std.specs.List.{list_all, onto_first, Contains}
+use Rattle.std.specs.Map.{lookup}
+use Rattle.std.specs.Option.{option_and_then, option_zip}
+use Rattle.std.specs.Str.{all_ascii_digits, bytes_eq}
+use Rattle.std.proofs.lemmas.Bool.{and_parts, and_right}
+use Rattle.std.proofs.lemmas.Bool.Decides.{eqb_tells}
+use Rattle.bit_set_commands.specs.declared.reading.BadLine.TheVariants.{BadCommand}
+use Rattle.bit_set_commands.specs.declared.verbs.Verb.{Verb}
+use Rattle.bit_set_commands.specs.declared.verbs.Verb.TheVariants.{Name, NameAndNumber, TwoNames, Extend, SplitOff, Rest}
+use Rattle.bit_set_commands.specs.declared.verbs.SetWalk.{SetWalk}
+use Rattle.bit_set_commands.specs.declared.verbs.SetWalk.TheVariants.{One, Two}
+use Rattle.bit_set_commands.specs.Reading.{all_numbers, command_of, is_plain, name_alone, name_and_number, name_and_numbers, name_of, names_and_number, names_around_number, number_and_name, number_of, reading, rest_command, rest_of, command_in_words, two_names}
+use Rattle.bit_set_commands.specs.Verbs.{verb_of, verbs, walk_of, walks}
+use Rattle.bit_set_commands.specs.Words.{words_of}
+use Rattle.bit_set_commands.proofs.ReadingLemmas.{nothing}
+
+-- a word that a command can have: not empty, and each byte is plain
+abbrev is_fit : List ℕ → Bool
+is_fit [] = false
+is_fit (b ∷ bs) = is_plain b && list_all is_plain bs
+
+fit_is_plain : (word : List ℕ) → list_all is_plain word ≡ false → is_fit word ≡ false
+fit_is_plain [] strange = cc
+fit_is_plain (b ∷ bs) strange = strange
+
+one_false : (a : Bool) → (a && true) ≡ false → a ≡ false
+one_false true e = e
+one_false false e = refl
+
+swap_false : (a b : Bool) → (a && (b && true)) ≡ false → (b && a) ≡ false
+swap_false true true e = e
+swap_false true false e = refl
+swap_false false true e = refl
+swap_false false false e = refl
+
+middle_false : (a b c d : Bool) → (((a || b) || c) || d) ≡ false → b ≡ false
+middle_false true b c d e = cc
+middle_false false true c d e = cc
+middle_false false false c d e = refl
+
+first_false : (a b c d : Bool) → (((a || b) || c) || d) ≡ false → a ≡ false
+first_false true b c d e = cc
+first_false false b c d e = refl
+
+regroup : (a b c : Bool) → ((a && b) && c) ≡ (a && (b && c))
+regroup true b c = refl
+regroup false b c = refl
+
+not_same : (word text : List ℕ) → is_fit text ≡ true → is_fit word ≡ false → bytes_eq word text ≡ false
+not_same word text fit unfit = elim (bytes_eq word text) as (λ v. v ≡ bytes_eq word text → v ≡ false) [
+  | true ↦ λ e. let same : word ≡ text = same_text word text e in sym fit ∙ ap is_fit (sym same) ∙ unfit
+  | false ↦ λ e. refl
+] refl
+
+lookup-unfit : {V : Type 0} (entries : List (List ℕ × V)) (word : List ℕ) → list_all (λ e. is_fit e.0) entries ≡ true → is_fit word ≡ false → lookup (bytes_eq word) entries ≡ None
+lookup-unfit [] word fit unfit = refl
+lookup-unfit (e ∷ es) word fit unfit =
+    let parts : (is_fit e.0 ≡ true) × (list_all (λ x. is_fit x.0) es ≡ true) = and_parts (is_fit e.0) (list_all (λ x. is_fit x.0) es) fit in
+    rw (not_same word e.0 parts.0 unfit) (lookup-unfit es word parts.1 unfit)
+
+verb_of-unfit : (word : List ℕ) → is_fit word ≡ false → verb_of word ≡ None
+verb_of-unfit word unfit = lookup-unfit verbs word refl unfit
+
+digit_is_plain : (b : ℕ) → is_plain b ≡ false → is_ascii_digit b ≡ false
+digit_is_plain b strange = middle_false (is_ascii_lowercase b) (is_ascii_digit b) (b == 95) (b == 32) strange
+
+name_is_plain : (b : ℕ) → is_plain b ≡ false → is_in_range 97 112 b ≡ false
+name_is_plain b strange = elim (is_in_range 97 112 b) as (λ v. v ≡ is_in_range 97 112 b → v ≡ false) [
+  | true ↦ λ e.
+      let both : (nat_le 97 b ≡ true) × (nat_le b 112 ≡ true) = and_parts (nat_le 97 b) (nat_le b 112) (sym e) in
+      let small : is_ascii_lowercase b ≡ true = rw (both.0, le-leb b 122 (omega (arith, leb-true b 112 both.1))) in
+      sym small ∙ first_false (is_ascii_lowercase b) (is_ascii_digit b) (b == 95) (b == 32) strange
+  | false ↦ λ e. refl
+] refl
+
+name_of-unfit : (word : List ℕ) → is_fit word ≡ false → name_of word ≡ None
+name_of-unfit [] unfit = refl
+name_of-unfit (letter ∷ []) unfit = rw (name_is_plain letter (one_false (is_plain letter) unfit))
+name_of-unfit (letter ∷ more ∷ others) unfit = refl
+
+digits_are_plain : (ds : List ℕ) → list_all is_plain ds ≡ false → all_ascii_digits ds ≡ false
+digits_are_plain [] unfit = cc
+digits_are_plain (d ∷ ds) unfit = elim (is_plain d) as (λ v. v ≡ is_plain d → (v && list_all is_plain ds) ≡ false → all_ascii_digits (d ∷ ds) ≡ false) [
+  | true ↦ λ e rest. and_right (is_ascii_digit d) (all_ascii_digits ds) (digits_are_plain ds rest)
+  | false ↦ λ e rest. rw (digit_is_plain d (sym e))
+] refl unfit
+
+number_of-unfit : (word : List ℕ) → is_fit word ≡ false → number_of word ≡ None
+number_of-unfit [] unfit = refl
+number_of-unfit (d ∷ ds) unfit =
+    rw (and_right (nat_lt 0 (length (d ∷ ds))) (all_ascii_digits (d ∷ ds)) (digits_are_plain (d ∷ ds) unfit))
+
+name_alone-unfit : (words : List (List ℕ)) → list_all is_fit words ≡ false → name_alone words ≡ None
+name_alone-unfit [] unfit = refl
+name_alone-unfit (name ∷ []) unfit = name_of-unfit name (one_false (is_fit name) unfit)
+name_alone-unfit (name ∷ more ∷ others) unfit = refl
+
+zip_none : {X Y : Type 0} (a b : Bool) (x : Option X) (y : Option Y) → (a ≡ false → x ≡ None) → (b ≡ false → y ≡ None) → (a && b) ≡ false → option_zip x y ≡ None
+zip_none true b x y first second unfit = rw (second unfit) (sym (nothing x))
+zip_none false b x y first second unfit = rw (first refl)
+
+name_and_number-unfit : (words : List (List ℕ)) → list_all is_fit words ≡ false → name_and_number words ≡ None
+name_and_number-unfit [] unfit = refl
+name_and_number-unfit (name ∷ []) unfit = refl
+name_and_number-unfit (name ∷ number ∷ []) unfit =
+    zip_none (is_fit name) (is_fit number && true) (name_of name) (number_of number)
+    (name_of-unfit name) (λ e. number_of-unfit number (one_false (is_fit number) e)) unfit
+name_and_number-unfit (name ∷ number ∷ more ∷ others) unfit = refl
+
+two_names-unfit : (words : List (List ℕ)) → list_all is_fit words ≡ false → two_names words ≡ None
+two_names-unfit [] unfit = refl
+two_names-unfit (first ∷ []) unfit = refl
+two_names-unfit (first ∷ second ∷ []) unfit =
+    zip_none (is_fit first) (is_fit second && true) (name_of first) (name_of second)
+    (name_of-unfit first) (λ e. name_of-unfit second (one_false (is_fit second) e)) unfit
+two_names-unfit (first ∷ second ∷ more ∷ others) unfit = refl
+
+names_and_number-unfit : (words : List (List ℕ)) → list_all is_fit words ≡ false → names_and_number words ≡ None
+names_and_number-unfit [] unfit = refl
+names_and_number-unfit (name ∷ words) unfit =
+    zip_none (is_fit name) (list_all is_fit words) (name_of name) (name_and_number words) (name_of-unfit name) (name_and_number-unfit words) unfit
+
+number_and_name-unfit : (words : List (List ℕ)) → list_all is_fit words ≡ false → number_and_name words ≡ None
+number_and_name-unfit [] unfit = refl
+number_and_name-unfit (number ∷ []) unfit = refl
+number_and_name-unfit (number ∷ name ∷ []) unfit =
+    zip_none (is_fit name) (is_fit number) (name_of name) (number_of number)
+    (name_of-unfit name) (number_of-unfit number) (swap_false (is_fit number) (is_fit name) unfit)
+number_and_name-unfit (number ∷ name ∷ more ∷ others) unfit = refl
+
+names_around_number-unfit : (words : List (List ℕ)) → list_all is_fit words ≡ false → names_around_number words ≡ None
+names_around_number-unfit [] unfit = refl
+names_around_number-unfit (name ∷ words) unfit =
+    zip_none (is_fit name) (list_all is_fit words) (name_of name) (number_and_name words) (name_of-unfit name) (number_and_name-unfit words) unfit
+
+all_numbers-unfit : (words : List (List ℕ)) → list_all is_fit words ≡ false → all_numbers words ≡ None
+all_numbers-unfit [] unfit = cc
+all_numbers-unfit (word ∷ words) unfit =
+    rw (zip_none (is_fit word) (list_all is_fit words) (number_of word) (all_numbers words) (number_of-unfit word) (all_numbers-unfit words) unfit)
+
+name_and_numbers-unfit : (words : List (List ℕ)) → list_all is_fit words ≡ false → name_and_numbers words ≡ None
+name_and_numbers-unfit [] unfit = refl
+name_and_numbers-unfit (name ∷ numbers) unfit =
+    zip_none (is_fit name) (list_all is_fit numbers) (name_of name) (all_numbers numbers) (name_of-unfit name) (all_numbers-unfit numbers) unfit
+
+rest_command-unfit : (walk : Option SetWalk) (words : List (List ℕ)) → list_all is_fit words ≡ false → option_and_then (λ w. rest_command w words) walk ≡ None
+rest_command-unfit None words unfit = refl
+rest_command-unfit (Some One) words unfit = rw (name_and_number-unfit words unfit)
+rest_command-unfit (Some (Two merge)) words unfit = rw (names_and_number-unfit words unfit)
+
+rest_of-unfit : (words : List (List ℕ)) → list_all is_fit words ≡ false → rest_of words ≡ None
+rest_of-unfit [] unfit = refl
+rest_of-unfit (word ∷ words) unfit = elim (is_fit word) as (λ v. v ≡ is_fit word → (v && list_all is_fit words) ≡ false → rest_of (word ∷ words) ≡ None) [
+  | true ↦ λ e rest. rest_command-unfit (walk_of word) words rest
+  | false ↦ λ e rest. rw (lookup-unfit walks word refl (sym e))
+] refl unfit
+
+command_of-unfit : (verb : Verb) (words : List (List ℕ)) → list_all is_fit words ≡ false → command_of verb words ≡ None
+command_of-unfit (Name verb) words unfit = rw (name_alone-unfit words unfit)
+command_of-unfit (NameAndNumber verb) words unfit = rw (name_and_number-unfit words unfit)
+command_of-unfit (TwoNames verb) words unfit = rw (two_names-unfit words unfit)
+command_of-unfit Extend words unfit = rw (name_and_numbers-unfit words unfit)
+command_of-unfit SplitOff words unfit = rw (names_around_number-unfit words unfit)
+command_of-unfit Rest words unfit = rest_of-unfit words unfit
+
+arguments_unfit : (v : Option Verb) (words : List (List ℕ)) → list_all is_fit words ≡ false → option_and_then (λ w. command_of w words) v ≡ None
+arguments_unfit None words unfit = refl
+arguments_unfit (Some v) words unfit = command_of-unfit v words unfit
+
+command_in_words-unfit : (words : List (List ℕ)) → list_all is_fit words ≡ false → command_in_words words ≡ None
+command_in_words-unfit [] unfit = refl
+command_in_words-unfit (word ∷ words) unfit = elim (is_fit word) as (λ v. v ≡ is_fit word → (v && list_all is_fit words) ≡ false → command_in_words (word ∷ words) ≡ None) [
+  | true ↦ λ e rest. arguments_unfit (verb_of word) words rest
+  | false ↦ λ e rest. rw (verb_of-unfit word (sym e))
+] refl unfit
+
+contains_false : {X : Type 0} (test : X → Bool) (xs : List X) (x : X) (k : ℕ) → k < length xs → get_or xs k x ≡ x → test x ≡ false → list_all test xs ≡ false
+contains_false test [] x k below at fails = absurd (omega arith)
+contains_false test (y ∷ ys) x zero below at fails = rw (at, fails)
+contains_false test (y ∷ ys) x (suc k) below at fails = and_right (test y) (list_all test ys) (contains_false test ys x k (omega arith) at fails)
+
+reading-unfit : (line : List ℕ) → list_all is_fit (words_of line) ≡ false → reading line ≡ Err BadCommand
+reading-unfit line unfit = rw (command_in_words-unfit (words_of line) unfit)
+
+pub reading-empty_word : (line : List ℕ) → Contains (words_of line) [] → reading line ≡ Err BadCommand
+reading-empty_word line found = reading-unfit line (contains_false is_fit (words_of line) [] found.0 found.1 found.2 refl)
+
+onto_first-plain : (b : ℕ) (parts : List (List ℕ)) → list_all (list_all is_plain) (onto_first b parts) ≡ (is_plain b && list_all (list_all is_plain) parts)
+onto_first-plain b [] = regroup (is_plain b) true true
+onto_first-plain b (part ∷ parts) = regroup (is_plain b) (list_all is_plain part) (list_all (list_all is_plain) parts)
+
+words_of-plain : (line : List ℕ) → list_all (list_all is_plain) (words_of line) ≡ list_all is_plain line
+words_of-plain [] = refl
+words_of-plain (b ∷ bs) = elim (eqb_tells b 32) [
+  | inl same ↦ rw (same.0, same.1, words_of-plain bs)
+  | inr other ↦ rw (other.0, onto_first-plain b (words_of bs), words_of-plain bs, other.0)
+]
+
+plain_to_fit : (words : List (List ℕ)) → list_all (list_all is_plain) words ≡ false → list_all is_fit words ≡ false
+plain_to_fit [] strange = cc
+plain_to_fit (word ∷ words) strange = elim (list_all is_plain word) as (λ v. v ≡ list_all is_plain word → (v && list_all (list_all is_plain) words) ≡ false → list_all is_fit (word ∷ words) ≡ false) [
+  | true ↦ λ e rest. and_right (is_fit word) (list_all is_fit words) (plain_to_fit words rest)
+  | false ↦ λ e rest. rw (fit_is_plain word (sym e))
+] refl strange
+
+pub reading-strange_byte : (line : List ℕ) (b : ℕ) → Contains line b → is_plain b ≡ false → reading line ≡ Err BadCommand
+reading-strange_byte line b found strange =
+    reading-unfit line (plain_to_fit (words_of line) (words_of-plain line ∙ contains_false is_plain line b found.0 found.1 found.2 strange))

@@ -1,0 +1,118 @@
+-- The command that a line spells.
+use Rattle.std.specs.Prelude.{ℕ, ◌-◌, Bool, ◌&&◌, ◌||◌, ◌==◌, nat_lt, nat_le, if◌then◌else◌, List, [], ◌∷◌, length, Option, None, Some, Result, Ok, Err}
+use Rattle.std.specs.Char.{is_ascii_digit, is_ascii_lowercase}
+use Rattle.std.specs.Int.{is_in_range}
+use Rattle.std.specs.List.{list_all}
+use Rattle.std.specs.Option.{option_and_then, option_map, option_zip}
+use Rattle.std.specs.Str.{all_ascii_digits}
+use Rattle.std.specs.Str.Parse.{digits_value}
+use Rattle.bit_set_commands.specs.declared.commands.Command.{Command}
+use Rattle.bit_set_commands.specs.declared.commands.Command.TheVariants as command
+use Rattle.bit_set_commands.specs.declared.reading.BadLine.{BadLine}
+use Rattle.bit_set_commands.specs.declared.reading.BadLine.TheVariants.{BadCommand, BadNumber}
+use Rattle.bit_set_commands.specs.declared.verbs.Verb.{Verb}
+use Rattle.bit_set_commands.specs.declared.verbs.Verb.TheVariants.{Name, NameAndNumber, TwoNames, Extend, SplitOff, Rest}
+use Rattle.bit_set_commands.specs.declared.verbs.SetWalk.{SetWalk}
+use Rattle.bit_set_commands.specs.declared.verbs.SetWalk.TheVariants.{One, Two}
+use Rattle.bit_words.specs.Bounds.{greatest}
+use Rattle.bit_set_commands.specs.Spelling.{numbers_of}
+use Rattle.bit_set_commands.specs.Verbs.{name_command, number_command, pair_command, verb_of, walk_of}
+use Rattle.bit_set_commands.specs.Words.{words_of}
+
+-- the place of the set that a word names: one letter from `a`, the first, to `p`
+abbrev pub name_of : List ℕ → Option ℕ
+name_of [] = None
+name_of (letter ∷ []) = if is_in_range 97 112 letter then Some (letter - 97) else None
+name_of (letter ∷ more ∷ others) = None
+
+-- the number that a word writes, however large: one or more digits, of which the first may be zeros
+abbrev pub number_of : List ℕ → Option ℕ
+number_of word = if nat_lt 0 (length word) && all_ascii_digits word then Some (digits_value 10 word) else None
+
+-- words that are a set's name alone
+abbrev pub name_alone : List (List ℕ) → Option ℕ
+name_alone [] = None
+name_alone (name ∷ []) = name_of name
+name_alone (name ∷ more ∷ others) = None
+
+-- words that are a set's name and a number
+abbrev pub name_and_number : List (List ℕ) → Option (ℕ × ℕ)
+name_and_number [] = None
+name_and_number (name ∷ []) = None
+name_and_number (name ∷ number ∷ []) = option_zip (name_of name) (number_of number)
+name_and_number (name ∷ number ∷ more ∷ others) = None
+
+-- words that are two sets' names
+abbrev pub two_names : List (List ℕ) → Option (ℕ × ℕ)
+two_names [] = None
+two_names (first ∷ []) = None
+two_names (first ∷ second ∷ []) = option_zip (name_of first) (name_of second)
+two_names (first ∷ second ∷ more ∷ others) = None
+
+-- words that are two sets' names and a number
+abbrev pub names_and_number : List (List ℕ) → Option (ℕ × (ℕ × ℕ))
+names_and_number [] = None
+names_and_number (name ∷ words) = option_zip (name_of name) (name_and_number words)
+
+-- words that are a number and a set's name: the name and the number
+abbrev pub number_and_name : List (List ℕ) → Option (ℕ × ℕ)
+number_and_name [] = None
+number_and_name (number ∷ []) = None
+number_and_name (number ∷ name ∷ []) = option_zip (name_of name) (number_of number)
+number_and_name (number ∷ name ∷ more ∷ others) = None
+
+-- words that are two sets' names with a number between them: the names and the number
+abbrev pub names_around_number : List (List ℕ) → Option (ℕ × (ℕ × ℕ))
+names_around_number [] = None
+names_around_number (name ∷ words) = option_zip (name_of name) (number_and_name words)
+
+-- the numbers that words write, where each of them writes one
+abbrev pub all_numbers : List (List ℕ) → Option (List ℕ)
+all_numbers [] = Some []
+all_numbers (word ∷ words) = option_map (λ (n, ns). n ∷ ns) (option_zip (number_of word) (all_numbers words))
+
+-- words that are a set's name and any number of numbers
+abbrev pub name_and_numbers : List (List ℕ) → Option (ℕ × List ℕ)
+name_and_numbers [] = None
+name_and_numbers (name ∷ numbers) = option_zip (name_of name) (all_numbers numbers)
+
+-- the command that a walk and the words after it spell, behind `rest`
+abbrev pub rest_command : SetWalk → List (List ℕ) → Option Command
+rest_command One words = option_map (λ (s, n). command.RestIter s n) (name_and_number words)
+rest_command (Two merge) words = option_map (λ (s, p). command.RestWalk merge s p.0 p.1) (names_and_number words)
+
+abbrev pub rest_of : List (List ℕ) → Option Command
+rest_of [] = None
+rest_of (word ∷ words) = option_and_then (λ walk. rest_command walk words) (walk_of word)
+
+-- the command that a verb and the words after it spell, however large its numbers
+abbrev pub command_of : Verb → List (List ℕ) → Option Command
+command_of (Name verb) words = option_map (name_command verb) (name_alone words)
+command_of (NameAndNumber verb) words = option_map (number_command verb) (name_and_number words)
+command_of (TwoNames verb) words = option_map (pair_command verb) (two_names words)
+command_of Extend words = option_map (λ (s, ns). command.Extend s ns) (name_and_numbers words)
+command_of SplitOff words = option_map (λ (s, p). command.SplitOff s p.1 p.0) (names_around_number words)
+command_of Rest words = rest_of words
+
+-- the command that some words spell, the first of them its verb
+abbrev pub command_in_words : List (List ℕ) → Option Command
+command_in_words [] = None
+command_in_words (word ∷ words) = option_and_then (λ verb. command_of verb words) (verb_of word)
+
+-- what was spelled, where its numbers are none of them too large
+abbrev pub within_range : {X : Type 0} → (X → List ℕ) → Option X → Result X BadLine
+within_range numbers None = Err BadCommand
+within_range numbers (Some x) = if list_all (λ n. nat_le n greatest) (numbers x) then Ok x else Err BadNumber
+
+-- A line whose words spell no command is a bad command; one that spells a command with too large a
+-- number is a bad number.
+abbrev pub reading : List ℕ → Result Command BadLine
+reading line = within_range numbers_of (command_in_words (words_of line))
+
+-- the bytes that a command's line can have: small letters, digits, the low line and the space
+abbrev pub is_plain : ℕ → Bool
+is_plain b = is_ascii_lowercase b || is_ascii_digit b || b == 95 || b == 32
+
+-- The number where a `usize` holds it. No public clause cites this.
+abbrev pub fitting_number : ℕ → Option ℕ
+fitting_number n = if nat_le n greatest then Some n else None

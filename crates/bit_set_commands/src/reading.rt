@@ -1,0 +1,206 @@
+//! A line read as a command.
+
+ghost use Rattle.std.specs.Prelude.{◌≡◌, ℕ, ◌+◌, ◌-◌, ◌*◌, [], ◌∷◌, IfOk, OnErr, slice_get};
+ghost use Rattle.std.specs.Char.{IsAsciiDigit};
+ghost use Rattle.std.specs.Option.{option_and_then};
+ghost use Rattle.bit_set_commands.specs.Reading.{all_numbers, command_of, fitting_number, name_and_number, name_of, names_and_number, names_around_number, number_and_name, number_of, reading, rest_of, two_names, within_range};
+ghost use Rattle.bit_set_commands.specs.Spelling.{numbers_of};
+ghost use Rattle.bit_set_commands.specs.Verbs.{verb_of};
+ghost use Rattle.bit_set_commands.specs.Words.{words_left, words_of};
+
+use crate::cutting::{first_word, split_once};
+use crate::verbs::{SetWalk, Verb, verb_of, walk_of};
+use crate::{Command, Numbers, SetName};
+use std::alloc::{AllocError, Global};
+
+/// Why a line is no command.
+#[derive(Clone, Copy, Debug, PartialEq, Eq)]
+pub enum BadLine {
+    /// Its words spell no command.
+    BadCommand,
+    /// They spell a command with a number that no `usize` holds.
+    BadNumber,
+}
+
+/// The command that the line spells, or why it spells none. A word that does not fit is reported before a number too
+/// large, wherever in the line they are. One pass. Memory is taken for the numbers of an `extend` alone.
+pub fn read_line(alloc: Global, line: &[u8]) -> Result<Result<Command, BadLine>, AllocError>
+    ensures read { IfOk result (λ read. read ≡ reading line.now) }
+    ensures memory { OnErr result (option_and_then verb_of (slice_get (words_of line.now) 0) ≡ Some Verb.Extend) }
+{
+    let Some((word, words)) = split_once(line, b' ') else {
+        return Ok(Err(BadLine::BadCommand));
+    };
+    match verb_of(word) {
+        Some(verb) => read_command(alloc, verb, words),
+        None => Ok(Err(BadLine::BadCommand)),
+    }
+}
+
+// What the verb and the words after it spell.
+fn read_command(
+    alloc: Global,
+    verb: Verb,
+    words: &[u8],
+) -> Result<Result<Command, BadLine>, AllocError>
+    ensures read { IfOk result (λ read. read ≡ within_range numbers_of (command_of verb (words_of words.now))) }
+    ensures memory { OnErr result (verb ≡ Verb.Extend) }
+{
+    match verb {
+        Verb::Name(verb) => Ok(read_name(words).map(|name| verb.command(name))),
+        Verb::NameAndNumber(verb) => {
+            Ok(read_name_and_number(words).map(|(name, number)| verb.command(name, number)))
+        }
+        Verb::TwoNames(verb) => {
+            Ok(read_two_names(words).map(|(first, second)| verb.command(first, second)))
+        }
+        Verb::Extend => read_extend(alloc, words),
+        Verb::SplitOff => Ok(read_names_around_number(words).map(|(
+            first,
+            (second, number),
+        )| Command::SplitOff(first, number, second))),
+        Verb::Rest => Ok(read_rest(words)),
+    }
+}
+
+// A walk and its own words, after `rest`.
+fn read_rest(words: &[u8]) -> Result<Command, BadLine>
+    ensures { result ≡ within_range numbers_of (rest_of (words_of words.now)) }
+{
+    let Some((walk, words)) = split_once(words, b' ') else {
+        return Err(BadLine::BadCommand);
+    };
+    match walk_of(walk) {
+        Some(SetWalk::One) => {
+            read_name_and_number(words).map(|(name, number)| Command::RestIter(name, number))
+        }
+        Some(SetWalk::Two(merge)) => read_names_and_number(words).map(|(
+            first,
+            (second, number),
+        )| Command::RestWalk(merge, first, second, number)),
+        None => Err(BadLine::BadCommand),
+    }
+}
+
+// A set's name and the numbers to put into it.
+fn read_extend(alloc: Global, words: &[u8]) -> Result<Result<Command, BadLine>, AllocError>
+    ensures { IfOk result (λ read. read ≡ within_range numbers_of (command_of Verb.Extend (words_of words.now))) }
+{
+    let (name, numbers) = first_word(words);
+    let name = match read_name(name) {
+        Ok(name) => name,
+        Err(bad) => return Ok(Err(bad)),
+    };
+    let numbers = read_numbers(alloc, numbers)?;
+    Ok(numbers.map(|numbers| Command::Extend(name, numbers)))
+}
+
+// The set that the word names.
+fn read_name(word: &[u8]) -> Result<SetName, BadLine>
+    ensures { result ≡ within_range (λ _. []) (name_of word.now) }
+{
+    match word {
+        [letter] => SetName::from_letter(*letter).ok_or(BadLine::BadCommand),
+        _ => Err(BadLine::BadCommand),
+    }
+}
+
+// A set's name, a space and a number.
+fn read_name_and_number(words: &[u8]) -> Result<(SetName, usize), BadLine>
+    ensures { result ≡ within_range (λ p. p.1 ∷ []) (name_and_number (words_of words.now)) }
+{
+    let Some((name, number)) = split_once(words, b' ') else {
+        return Err(BadLine::BadCommand);
+    };
+    Ok((read_name(name)?, read_number(number)?))
+}
+
+// Two sets' names with a space between them.
+fn read_two_names(words: &[u8]) -> Result<(SetName, SetName), BadLine>
+    ensures { result ≡ within_range (λ _. []) (two_names (words_of words.now)) }
+{
+    let Some((first, second)) = split_once(words, b' ') else {
+        return Err(BadLine::BadCommand);
+    };
+    Ok((read_name(first)?, read_name(second)?))
+}
+
+// Two sets' names and a number, with spaces between them.
+fn read_names_and_number(words: &[u8]) -> Result<(SetName, (SetName, usize)), BadLine>
+    ensures { result ≡ within_range (λ p. p.1.1 ∷ []) (names_and_number (words_of words.now)) }
+{
+    let Some((name, words)) = split_once(words, b' ') else {
+        return Err(BadLine::BadCommand);
+    };
+    Ok((read_name(name)?, read_name_and_number(words)?))
+}
+
+// A number, a space and a set's name: the name and the number.
+fn read_number_and_name(words: &[u8]) -> Result<(SetName, usize), BadLine>
+    ensures { result ≡ within_range (λ p. p.1 ∷ []) (number_and_name (words_of words.now)) }
+{
+    let Some((number, name)) = split_once(words, b' ') else {
+        return Err(BadLine::BadCommand);
+    };
+    Ok((read_name(name)?, read_number(number)?))
+}
+
+// Two sets' names with a number between them, and spaces: the names and the number.
+fn read_names_around_number(words: &[u8]) -> Result<(SetName, (SetName, usize)), BadLine>
+    ensures { result ≡ within_range (λ p. p.1.1 ∷ []) (names_around_number (words_of words.now)) }
+{
+    let Some((name, words)) = split_once(words, b' ') else {
+        return Err(BadLine::BadCommand);
+    };
+    Ok((read_name(name)?, read_number_and_name(words)?))
+}
+
+// The numbers that the words write, one each: a word that writes none is reported before a number too large.
+fn read_numbers(alloc: Global, words: Option<&[u8]>) -> Result<Result<Numbers, BadLine>, AllocError>
+    ensures { IfOk result (λ read. read ≡ within_range (λ ns. ns) (all_numbers (words_left words.entry))) }
+{
+    let mut numbers = Vec::new(alloc);
+    let mut too_large = false;
+    let mut rest = words;
+    'words: while let Some(words) = rest {
+        let (word, after) = first_word(words);
+        match read_number(word) {
+            Ok(number) => numbers.push(number)?,
+            Err(BadLine::BadNumber) => too_large = true,
+            Err(BadLine::BadCommand) => return Ok(Err(BadLine::BadCommand)),
+        }
+        rest = after;
+    }
+    if too_large {
+        return Ok(Err(BadLine::BadNumber));
+    }
+    Ok(Ok(Numbers::from_vec(numbers)))
+}
+
+// The number that the word writes.
+fn read_number(word: &[u8]) -> Result<usize, BadLine>
+    ensures { result ≡ within_range (λ n. n ∷ []) (number_of word.now) }
+{
+    if word.is_empty() {
+        return Err(BadLine::BadCommand);
+    }
+    let mut number = Some(0);
+    for byte in word {
+        if !byte.is_ascii_digit() {
+            return Err(BadLine::BadCommand);
+        }
+        number = with_digit(number, *byte);
+    }
+    number.ok_or(BadLine::BadNumber)
+}
+
+// The number with one more digit behind it, where a `usize` holds both.
+#[inline]
+fn with_digit(number: Option<usize>, digit: u8) -> Option<usize>
+    requires { IsAsciiDigit digit }
+    ensures { (n : ℕ) → number ≡ fitting_number n → result ≡ fitting_number (n * 10 + (digit - 48)) }
+{
+    number?
+        .checked_mul(10)?
+        .checked_add(usize::from(digit - b'0'))
+}

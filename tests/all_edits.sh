@@ -1,0 +1,8 @@
+#!/usr/bin/env bash
+# Tries every must-fail edit of the crates that are named, or of all: those that the gate tries, and those of
+# tests/edits. Over the kept work of a proved checkout an edit takes 10 to 60 seconds. The last line is
+# 'N passed, M failed'.
+set -euo pipefail
+unset CDPATH
+here="$(dirname "$(readlink -f "${BASH_SOURCE[0]}")")"
+exec python3 -B "$here/all_edits.py" "$(dirname "$here")" "$@"

@@ -1,0 +1,129 @@
+"""Copies of crates in which something is tried, and what rt says there.
+
+A copy has the files of the checkout as they are, of a crate and of those below it, with what rt keeps of them.
+"""
+
+import os
+import re
+import shutil
+import subprocess
+from pathlib import Path
+
+PARTS = ("src", "specs", "proofs")
+
+
+def crates_of(root):
+    """The crates by name, lowest first, each with the crates of the repository that it names."""
+    named = {}
+    for line in (root / "crates.txt").read_text().splitlines():
+        name, _, words = line.partition("#")[0].partition(":")
+        if name.strip():
+            named[name.split()[0]] = words.split()
+    below, found = {name: [it for it in words if it in named] for name, words in named.items()}, {}
+
+    def visit(name):
+        if name not in found:
+            for it in below[name]:
+                visit(it)
+            found[name] = below[name]
+
+    for name in below:
+        visit(name)
+    return found
+
+
+def all_below(crates, name):
+    """The crates below this one, lowest first."""
+    found = []
+    for it in crates[name]:
+        found += [other for other in [*all_below(crates, it), it] if other not in found]
+    return found
+
+
+def make_copy(root, crates, name, room, kept):
+    """Copies a crate and those below it to the room; of the crate itself what its checks kept too, where that is wanted."""
+    shutil.copy(root / "crates.txt", room)
+    for it in [*all_below(crates, name), name]:
+        parts = [*PARTS, "out/rlib", *["out/incremental"] * (kept and it == name)]
+        for part in parts:
+            if (root / "crates" / it / part).is_dir():
+                shutil.copytree(root / "crates" / it / part, room / "crates" / it / part)
+    return room / "crates" / name
+
+
+def used_by(group):
+    """The processor seconds of the processes of a session, and of those that they have waited for."""
+    ticks = 0
+    for it in filter(str.isdigit, os.listdir("/proc")):
+        try:
+            words = Path(f"/proc/{it}/stat").read_text().rpartition(")")[2].split()
+        except OSError:
+            continue
+        if int(words[3]) == group:
+            ticks += sum(map(int, words[11:15]))
+    return ticks / os.sysconf("SC_CLK_TCK")
+
+
+def run_rt(folder, *words, at_line=None):
+    """Runs rt there, and returns its status, what it said and its processor seconds. Each line is handed on as it comes."""
+    how = {"stdin": subprocess.DEVNULL, "stdout": subprocess.PIPE, "stderr": subprocess.STDOUT, "text": True, "errors": "replace"}
+    ran = subprocess.Popen(["rt", *words], cwd=folder, start_new_session=True, **how)
+    said = []
+    for line in ran.stdout:
+        said.append(line.rstrip("\n"))
+        if at_line:
+            at_line(said[-1], used_by(ran.pid))
+    _, status, usage = os.wait4(ran.pid, 0)
+    ran.returncode = os.waitstatus_to_exitcode(status)
+    return ran.returncode, said, usage.ru_utime + usage.ru_stime
+
+
+def edits_of(root, name):
+    """The edits of a crate: those that the gate tries, and those that it does not."""
+    folders = (root / "crates" / name / "must-fail", root / "tests" / "edits" / name)
+    return [sorted(it.glob("*.edit")) for it in folders]
+
+
+def texts_of(edit, folder):
+    """The texts that an edit makes of files of the crate in this folder, by their paths."""
+    texts, path, old = {}, None, None
+    for line in edit.read_text().splitlines():
+        key, _, text = line.partition(": ")
+        if key == "file":
+            path = text.strip()
+        elif key == "old":
+            old = text
+        elif key.rstrip(":") == "new":
+            before = texts.get(path) or (folder / path).read_text()
+            if before.count(old) != 1:
+                raise ValueError(f"its old text is in {path} {before.count(old)} times")
+            texts[path] = before.replace(old, text)
+    return texts
+
+
+# What rattle says where a tactic came to the end of what it may take, and so says nothing of the statement.
+LIMITS = re.compile(r"(step|depth|time|memory|size) limit|ran out of|could not tell|no verdict|gave up")
+
+
+def try_edit(edit, folder):
+    """Checks the crate in this folder under the edit. Returns a word, what the first error says, and the processor seconds."""
+    before = {}
+    try:
+        for path, text in texts_of(edit, folder).items():
+            before[path] = (folder / path).read_text()
+            (folder / path).write_text(text)
+        status, said, seconds = run_rt(folder, "check", "--jobs", "1")
+    except (OSError, ValueError) as error:
+        return "BAD", str(error), 0.0
+    finally:
+        for path, text in before.items():
+            (folder / path).write_text(text)
+    errors = [it for it in said if re.match(r"\S+:\d+:\d+: error", it)] or [it for it in said if ": no proof: " in it or ": not proved" in it]
+    first = errors[0][:200] if errors else said[-1][:200]
+    if status == 0:
+        return "NOT REFUSED", "the crate is still proved", seconds
+    if status != 1 or not any(it.startswith("logic=not-proved") for it in said):
+        return "NO VERDICT", first, seconds
+    if any(LIMITS.search(it) for it in said):
+        return "LIMIT", next(it for it in said if LIMITS.search(it))[:200], seconds
+    return "refused", first, seconds

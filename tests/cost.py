@@ -1,0 +1,66 @@
+"""Prints what the proof of each crate costs, in processor seconds.
+
+    cost.py ROOT [--edits] [CRATE ..]
+
+Each crate, and its tests, is proved from nothing with one job, in a copy of the checkout; the libraries below it are those
+that the checkout has built. With --edits the edits that the gate tries are tried too. A row a crate, then the ten slowest
+functions and edits of all.
+"""
+
+import shutil
+import sys
+import tempfile
+from pathlib import Path
+
+from copies import crates_of, edits_of, make_copy, run_rt, try_edit
+
+
+def prove(folder, *words):
+    """Proves the crate from nothing. Returns whether it is proved, the seconds, and those of each function."""
+    shutil.rmtree(folder / "out" / "incremental", ignore_errors=True)
+    rows, last = [], 0.0
+
+    def at_line(line, used):
+        nonlocal last
+        if line.startswith("checked "):
+            rows.append((used - last, line[len("checked ") :].partition(",")[0]))
+        last = max(last, used)
+
+    status, _, seconds = run_rt(folder, "check", "--jobs", "1", "--progress", *words, at_line=at_line)
+    return status == 0, seconds, rows
+
+
+def cost_of(root, crates, name, with_edits):
+    """The seconds of a crate's proof, of that with its tests, and of its edits; and the rows of its functions and edits."""
+    with tempfile.TemporaryDirectory(prefix="cost-") as room:
+        folder = make_copy(root, crates, name, Path(room), kept=False)
+        has_tests = any("#[test]" in it.read_text() for it in folder.glob("src/**/*.rt"))
+        proved, tests, functions = prove(folder, "--test") if has_tests else (True, 0.0, [])
+        is_proved, proof, more = prove(folder)
+        functions += [row for row in more if row[1] not in {it[1] for it in functions}]
+        edits = []
+        for edit in edits_of(root, name)[0] if with_edits else []:
+            word, _, seconds = try_edit(edit, folder)
+            edits.append((seconds, f"{name}/{edit.stem} ({word})"))
+    said = "" if proved and is_proved else "  NOT PROVED"
+    print(f"{name:26}{proof:9.0f}{tests:9.0f}{sum(it[0] for it in edits):9.0f}{len(edits):6}{said}", flush=True)
+    return proof, tests, functions, edits
+
+
+def main():
+    words = sys.argv[2:]
+    root, with_edits = Path(sys.argv[1]), "--edits" in words
+    crates = crates_of(root)
+    names = [it for it in words if it != "--edits"] or list(crates)
+    print(f"{'processor seconds of':26}{'proof':>9}{'tests':>9}{'edits':>9}{'of':>6}")
+    found = [cost_of(root, crates, name, with_edits) for name in names]
+    for title, rows in (("functions", 2), ("edits", 3)):
+        print(f"\nthe slowest {title}:")
+        for seconds, name in sorted((row for it in found for row in it[rows]), reverse=True)[:10]:
+            print(f"{seconds:7.1f} s  {name}")
+    print(f"\nproofs {sum(it[0] for it in found):.0f} s, with tests {sum(it[1] for it in found):.0f} s more")
+    return 0
+
+
+if __name__ == "__main__":
+    sys.exit(main())
