@@ -42,8 +42,10 @@ def all_below(crates, name):
 
 def make_copy(root, crates, name, room, kept):
     """Copies a crate and those below it to the room; of the crate itself what its checks kept too, where that is wanted."""
-    shutil.copy(root / "crates.txt", room)
-    for it in [*all_below(crates, name), name]:
+    copied = [*all_below(crates, name), name]
+    lines = (root / "crates.txt").read_text().splitlines(keepends=True)
+    (room / "crates.txt").write_text("".join(it for it in lines if re.split("[ :]", it)[0] in copied))
+    for it in copied:
         parts = [*PARTS, "out/rlib", *["out/incremental"] * (kept and it == name)]
         for part in parts:
             if (root / "crates" / it / part).is_dir():
