@@ -1,4 +1,4 @@
-use Rattle.std.proofs.Common.{length, ap, arith, ◌≤◌, drop, sym, take, ◌∙◌}
+use Rattle.std.proofs.Common.{length, ap, arith, drop, sym, ◌∙◌}
 use Rattle.bit_set.specs.Sets.{elements}
 use Rattle.bit_set.proofs.PairLemmas.{same_held}
 use Rattle.bit_set.proofs.TallyLemmas.{rows_cut_at, rest_ended}
