@@ -3,12 +3,12 @@ use Rattle.std.proofs.Common.{◌≡◌, ℕ, ◌+◌, ◌*◌, ◌<◌, ◌≤�
 use mathlib.Core.Bool.{beq}
 use Rattle.std.proofs.lemmas.Bool.{true≢false, cases_eq, cases_lt, eq-eqb, ne_eqb, lt-ltb, le-ltb}
 use Rattle.std.proofs.lemmas.List.{get_or_append_left, get_or_default, get_or_push, length_push, reverse-append}
-use Rattle.std.proofs.lemmas.Nat.{row_fits}
+use Rattle.std.proofs.lemmas.Nat.{mul-add-lt, row_fits}
 use Rattle.bit_set.specs.Members.{Updates}
 use Rattle.bit_set.specs.Sets.{has}
 use Rattle.automata.specs.declared.equivalence.Pair.{Pair}
 use Rattle.automata.specs.Pairs.{does_accept, step_of, symbols_of, walk_from}
-use Rattle.automata.specs.Searching.{Explores, IsLinked, IsListed, Spells, first_pair, onward, pair_at, pair_number, start}
+use Rattle.automata.specs.Searching.{Explores, IsLinked, IsListed, Spells, first_pair, onward, pair_at, pair_number, pairs_of, start}
 use Rattle.automata.specs.Tables.{AcceptTheSame, IsAcceptedBy, IsAcceptedByOne, IsTable, IsWordOver, Table, end_from, next_state}
 use Rattle.automata.proofs.BuildLemmas.{one_place, place_inside}
 
@@ -314,3 +314,17 @@ differ_at a b queue met place e i p x y word lt is x_is y_is differ spells table
     let in_a : x ≡ does_accept a (walk_from a 0 word) = rw (ends.0, ← pair_is) x_is in
     let in_b : y ≡ does_accept b (walk_from b 0 word) = rw (ends.1, ← pair_is) y_is in
     one_of (does_accept a (walk_from a 0 word)) (does_accept b (walk_from b 0 word)) (accepted a word table_a) (accepted b word table_b) (rw (← in_a, ← in_b) differ)
+
+-- ---- places in the queue, and numbers of pairs
+
+-- the number of a pair of states is below the number of all pairs
+pub number_inside : (a b : Table) (left right columns : ℕ) → left ≤ a.states → right ≤ b.states → columns ≡ b.states → left * (columns + 1) + right < pairs_of a b
+number_inside a b left right columns left_in right_in is =
+    rw is (let inside = mul-add-lt left (b.states + 1) right (a.states + 1) (omega (arith, left_in)) (omega (arith, right_in)) in omega (arith, inside))
+
+pub explored_none : (a b : Table) (queue : List Pair) (met : List ℕ) (n : ℕ) → Explores a b queue met 0 → Explores a b queue met (0 * n)
+explored_none a b queue met n h = let none : 0 ≡ 0 * n = omega arith in subst (λ place. Explores a b queue met place) none h
+
+-- where each symbol was followed from a pair, the search is at the next one
+pub explored_pair : (a b : Table) (queue : List Pair) (met : List ℕ) (at symbol n : ℕ) → symbol ≡ n → Explores a b queue met (at * n + symbol) → Explores a b queue met ((at + 1) * n)
+explored_pair a b queue met at symbol n is h = let next : at * n + symbol ≡ (at + 1) * n = omega (arith, is) in subst (λ place. Explores a b queue met place) next h

@@ -1,6 +1,6 @@
 -- A set in two parts: those below a number, and the others.
-use Rattle.std.proofs.Common.{◌≡◌, ℕ, ◌-◌, ◌+◌, ◌<◌, ◌≤◌, max, min, Bool, true, false, ◌||◌, ◌&&◌, ltb, if◌then◌else◌, nat_lt, nat_le, List, [], ◌++◌, length, get_or, drop, replicate, refl, sym, ap, ap₂, ◌∙◌, inl, inr, arith, IsTrue}
-use Rattle.std.proofs.lemmas.Bool.{and_parts, cases_lt, true≢false}
+use Rattle.std.proofs.Common.{◌≡◌, ℕ, ◌-◌, ◌+◌, ◌<◌, ◌≤◌, max, min, Bool, true, false, ◌||◌, ◌&&◌, ltb, cond, if◌then◌else◌, nat_lt, nat_le, List, [], ◌++◌, length, get_or, drop, replicate, refl, sym, ap, ap₂, ◌∙◌, inl, inr, arith, IsTrue}
+use Rattle.std.proofs.lemmas.Bool.{and_parts, cases_lt, le-ltb, lt-ltb, true≢false}
 use Rattle.std.proofs.lemmas.Bool.Decides.{nat_tests}
 use Rattle.std.proofs.lemmas.List.{get_or-drop, get_or-replicate, get_or_append_left, get_or-append_right, length-replicate, get_or_past}
 use Rattle.bit_set.specs.Sets.{IsAscending, has, elements, those_below, those_from, union, is_disjoint}
@@ -113,3 +113,11 @@ rejoined a b c d at first first_length second second_length both both_length =
           | inl inside ↦ let test : nat_lt at n ≡ true = grind (arith, nat_tests) in rw test (omega arith)
           | inr past ↦ let test : nat_lt at n ≡ false = grind (arith, nat_tests) in rw test (omega arith)
         ]
+
+-- the length of a whole list that is parted at 0
+pub length_of_whole : (at n : ℕ) → at ≡ 0 → n ≡ cond (ltb at n) n 0
+length_of_whole at n start =
+    elim (cases_lt at n) [
+      | inl lt ↦ ap (λ b. cond b n 0) (sym (lt-ltb at n lt))
+      | inr ge ↦ let none : n ≡ 0 = omega (arith, ge, start) in none ∙ ap (λ b. cond b n 0) (sym (le-ltb at n ge))
+    ]

@@ -1,9 +1,9 @@
-use Rattle.std.proofs.Common.{◌≡◌, ◌<◌, ◌∙◌, length, true, sym, arith}
+use Rattle.std.proofs.Common.{◌≡◌, ◌<◌, ◌∙◌, length, true, sym, arith, add-zero, refl}
 use Rattle.bit_set.specs.Members.{Updates}
 use Rattle.bit_set.specs.Sets.{elements}
 use Rattle.automata.specs.Pairs.{symbols_of}
 use Rattle.automata.specs.Searching.{pair_at, pair_number}
-use Rattle.automata.proofs.PairLemmas.{as_many, pair_on, read, same_pair}
+use Rattle.automata.proofs.PairLemmas.{as_many, pair_on, read, same_pair, explored_pair, number_inside}
 use Rattle.automata.proofs.equivalence.add_successors.Goals as goal
 
 pub loop-symbol-preserved : goal.loop-symbol-preserved
@@ -26,3 +26,39 @@ loop-symbol-preserved g c =
       same = λ i early. same_pair queue _ _ _ i after (omega (arith, early, it.more)) ∙ it.same i early;
       capacity = c.in_ok-add.ensures.capacity ∙ it.capacity;
     }
+
+pub loop-symbol-init : goal.loop-symbol-init
+loop-symbol-init g c = record {
+  end = omega (arith, c.max-symbol-end.ensures, c.symbols.ensures, c.symbols-2.ensures);
+  explores = rw add-zero c.requires.explores;
+  more = omega arith;
+  same = λ i early. refl;
+  capacity = refl;
+}
+
+pub overflow_add-states : goal.overflow_add-states
+overflow_add-states g c = omega (arith, c.states.ensures.value, c.requires.counted)
+
+pub add-requires-clause-fits : goal.add-requires-clause-fits
+add-requires-clause-fits g c =
+    let inside = number_inside c.args.a.now c.args.b.now c.step.result c.step-in-loop-symbol.result c.states.result c.step.ensures.inside c.step-in-loop-symbol.ensures.inside c.states.ensures.value in
+    omega (arith, inside, c.requires.counted)
+
+pub add-requires-clause-inside : goal.add-requires-clause-inside
+add-requires-clause-inside g c =
+    let inside = number_inside c.args.a.now c.args.b.now c.step.result c.step-in-loop-symbol.result c.states.result c.step.ensures.inside c.step-in-loop-symbol.ensures.inside c.states.ensures.value in
+    omega (arith, inside, c.requires.capacity, c.loop-symbol.invariant.capacity)
+
+pub returns-clause-explores : goal.returns-clause-explores
+returns-clause-explores g c =
+    let ended : c.loop-symbol.symbol ≡ c.max-symbol-end.result = omega (arith, c.loop-symbol-test.false, c.loop-symbol.auto.symbol-end) in
+    explored_pair c.args.a.now c.args.b.now c.loop-symbol.queue.items _ c.args.done c.loop-symbol.symbol _ (ended ∙ c.loop-symbol.invariant.end) c.loop-symbol.invariant.explores
+
+pub returns-clause-more : goal.returns-clause-more
+returns-clause-more g c = c.loop-symbol.invariant.more
+
+pub returns-clause-same : goal.returns-clause-same
+returns-clause-same g c = c.loop-symbol.invariant.same
+
+pub returns-clause-capacity : goal.returns-clause-capacity
+returns-clause-capacity g c = c.loop-symbol.invariant.capacity

@@ -1,7 +1,7 @@
 use Rattle.std.proofs.Common.{◌≡◌, ◌*◌, ◌<◌, ap, below_more, length, arith}
 use Rattle.automata.specs.Pairs.{symbols_of}
 use Rattle.automata.specs.Searching.{Spells}
-use Rattle.automata.proofs.PairLemmas.{agree_at, all_the_same, differ_at}
+use Rattle.automata.proofs.PairLemmas.{agree_at, all_the_same, differ_at, explored_none}
 use Rattle.automata.proofs.equivalence.equivalent.Goals as goal
 
 pub returns-then-is_accepting-clause-differ : goal.returns-then-is_accepting-clause-differ
@@ -32,3 +32,44 @@ returns-clause-same g c =
     let queue = c.loop-done.queue.items in
     let ended : c.loop-done.done ≡ length queue = omega (arith, it.inside) in
     all_the_same c.args.a.now c.args.b.now queue _ _ it.explores (ap (λ n. n * symbols_of c.args.a.now c.args.b.now) ended) c.states.ensures.table c.states-2.ensures.table (λ i lt. it.agree i (omega (arith, lt, ended)))
+
+pub first_pairs-requires-clause-none : goal.first_pairs-requires-clause-none
+first_pairs-requires-clause-none g c = c.in_ok-met.ensures.none
+
+pub first_pairs-requires-clause-capacity : goal.first_pairs-requires-clause-capacity
+first_pairs-requires-clause-capacity g c = rw (← c.states.ensures.value, ← c.states-2.ensures.value) c.in_ok-met.ensures.capacity
+
+pub loop-done-init : goal.loop-done-init
+loop-done-init g c = record {
+  inside = omega arith;
+  capacity = rw (c.in_ok-queue.ensures.capacity, ← c.states.ensures.value, ← c.states-2.ensures.value) c.in_ok-met.ensures.capacity;
+  explores = explored_none c.args.a.now c.args.b.now c.in_ok-queue.queue.items _ _ c.in_ok-queue.ensures.explores;
+  agree = λ i none. absurd (omega (arith, none));
+}
+
+pub index-pair-requires : goal.index-pair-requires
+index-pair-requires g c = omega (arith, c.loop-done-test.true, c.len.ensures)
+
+pub word_of-requires-clause-inside : goal.word_of-requires-clause-inside
+word_of-requires-clause-inside g c = omega (arith, c.loop-done-test.true, c.len.ensures, c.as_slice.ensures.len)
+
+pub word_of-requires-clause-before : goal.word_of-requires-clause-before
+word_of-requires-clause-before g c = rw c.as_slice.ensures.value (λ i past inside. (c.loop-done.invariant.explores.linked i past inside).before)
+
+pub add_successors-requires-clause-explores : goal.add_successors-requires-clause-explores
+add_successors-requires-clause-explores g c = c.loop-done.invariant.explores
+
+pub add_successors-requires-clause-inside : goal.add_successors-requires-clause-inside
+add_successors-requires-clause-inside g c = omega (arith, c.loop-done-test.true, c.len.ensures)
+
+pub add_successors-requires-clause-counted : goal.add_successors-requires-clause-counted
+add_successors-requires-clause-counted g c = rw (← c.states.ensures.value, ← c.states-2.ensures.value) c.in_ok-met.ensures.counted
+
+pub add_successors-requires-clause-capacity : goal.add_successors-requires-clause-capacity
+add_successors-requires-clause-capacity g c = c.loop-done.invariant.capacity
+
+pub overflow_add-done : goal.overflow_add-done
+overflow_add-done g c = omega (arith, c.loop-done-test.true, c.len.type_inv)
+
+pub loop-done-smaller : goal.loop-done-smaller
+loop-done-smaller g c = omega (arith, c.loop-done-test.true, c.len.type_inv)

@@ -1,10 +1,11 @@
-use Rattle.std.proofs.Common.{◌≡◌, ◌≤◌, true, false, length, refl, sym, arith}
+use Rattle.std.proofs.Common.{◌≡◌, ◌≤◌, true, false, length, refl, sym, arith, ◌∙◌}
 use Rattle.bit_set.specs.Members.{IsDisjoint, Updates}
 use Rattle.bit_set.specs.Sets.{elements, is_disjoint}
 use Rattle.automata.specs.Building.{Meets}
 use Rattle.automata.specs.Numbering.{set_of}
 use Rattle.automata.proofs.StepLemmas.{not_disjoint, shared}
 use Rattle.automata.proofs.BuildLemmas.{accept_on, accept_past}
+use Rattle.std.proofs.lemmas.Bool.{true≢false}
 use Rattle.automata.proofs.subsets.accepting_numbers.Goals as goal
 use Rattle.automata.proofs.subsets.accepting_numbers.Goals.{then-not-is_disjoint, else-not-is_disjoint}
 
@@ -33,3 +34,21 @@ loop-number-preserved g c =
             members = rw w.numbers-is (accept_past (λ j. Meets (set_of sets j) accepting) _ i (λ m. not_disjoint (set_of sets i) accepting m.0 m.1 m.2 apart) it.members);
           }
     ]
+
+pub loop-number-init : goal.loop-number-init
+loop-number-init g c = record {
+  end = c.len-number-end.ensures;
+  capacity = omega (arith, c.len.ensures, c.in_ok-numbers.ensures.capacity);
+  members = λ i. (λ is_in. absurd (true≢false (sym is_in ∙ c.in_ok-numbers.ensures.members i)), λ p. absurd (omega (arith, p.0)));
+}
+
+pub set-requires : goal.set-requires
+set-requires g c = omega (arith, c.loop-number-test.true, c.len-number-end.ensures)
+
+pub unwrap-requires : goal.unwrap-requires
+unwrap-requires g c = c.insert.ensures.succeeds (omega (arith, c.loop-number-test.true, c.len-number-end.ensures, c.loop-number.invariant.capacity))
+
+pub returns : goal.returns
+returns g c =
+    let ended : length c.args.numbering.now ≡ c.loop-number.number = omega (arith, c.len-number-end.ensures, c.loop-number-test.false, c.loop-number.auto.number-end) in
+    rw ended c.loop-number.invariant.members

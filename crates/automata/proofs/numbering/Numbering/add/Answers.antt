@@ -1,5 +1,5 @@
 use Rattle.std.proofs.Common.{◌≡◌, ◌++◌, ◌∷◌, [], length, ap, arith}
-use Rattle.std.proofs.lemmas.List.{length-map}
+use Rattle.std.proofs.lemmas.List.{length-map, length_push}
 use Rattle.bit_set.specs.Bits.{Bits}
 use Rattle.bit_set.specs.Sets.{elements}
 use Rattle.automata.specs.Numbering.{IsNew, Numbers}
@@ -32,3 +32,13 @@ returns-clause-ok g c =
     let list : row_of_sets c.push_reserved.new.self.items ≡ row_of_sets sets ++ elements c.args.set.now.values ∷ [] = pushed sets c.reserve.new.self.items c.push_reserved.new.self.items c.in_ok-copy.copy (elements c.args.set.now.values) c.push_reserved.ensures.items c.reserve.ensures.items copy in
     let numbered : Numbers (row_of_sets sets) (elements c.args.set.now.values) c.len-number.result (row_of_sets c.push_reserved.new.self.items) = rw list (numbers_new _ _ c.self.invariant c.args.set.now c.len-number.result as_many none) in
     rw (← c.self.view_is) numbered
+
+pub invariant_of-self : goal.invariant_of-self
+invariant_of-self g c = rw c.reserve.ensures.items c.self.invariant
+
+pub returns-clause-limit : goal.returns-clause-limit
+returns-clause-limit g c _ =
+    let list = length-map c.push_reserved.new.self.items (λ (set : Bits). elements set.values) in
+    let kept = ap length c.reserve.ensures.items in
+    let one_more = ap length c.push_reserved.ensures.items in
+    omega (arith, list, kept, one_more, length_push c.reserve.new.self.items c.in_ok-copy.copy, c.len-number.ensures, c.if-number-most.false)

@@ -1,11 +1,13 @@
-use Rattle.std.proofs.Common.{◌≡◌, ◌+◌, ◌*◌, false, length, get_or, take, ap, sym, ◌∙◌, take_all, arith}
+use Rattle.std.proofs.Common.{◌≡◌, ◌+◌, ◌*◌, false, length, get_or, take, ap, sym, ◌∙◌, take_all, arith, subst}
 use Rattle.std.specs.Int.{bit_at}
 use Rattle.std.proofs.lemmas.List.{length-replicate}
 use Rattle.bit_words.specs.Digits.{is_one}
 use Rattle.bit_words.specs.Storage.{value_at}
-use Rattle.bit_set.specs.Entries.{numbers_of}
+use Rattle.bit_set.specs.Entries.{numbers_of, IsEntry}
 use Rattle.bit_set.proofs.JsonLemmas.{below_of_entries, counted, number_at}
-use Rattle.bit_set.proofs.FilledLemmas.{blocks_of_filled, zero_tail_from, filled_more, filled_none, next_is_false, one_is_within}
+use Rattle.bit_set.proofs.FilledLemmas.{blocks_of_filled, zero_tail_from, filled_more, filled_none, next_is_false, one_is_within, block_begins}
+use Rattle.std.proofs.lemmas.Bool.{true≢false}
+use Rattle.std.proofs.lemmas.List.Elements.{All-get_or}
 use Rattle.bit_set.proofs.json.growing.bits_of_entries.Goals as goal
 
 pub loop-k-init : goal.loop-k-init
@@ -58,3 +60,29 @@ returns-clause-blocks g c =
     let all : take c.loop-k.k ms ≡ ms = take_all c.loop-k.k ms (omega (arith, counted vs, c.loop-k-test.false)) in
     blocks_of_filled w c.args.len ms c.loop-k.bits.values g.met.B.BitBlock.width_law.positive c.loop-k.invariant.long (counted vs ∙ c.requires.count) (below_of_entries w vs c.requires.each) c.requires.zero_tail
     (λ i. c.loop-k.invariant.filled i ∙ ap (λ x. value_at w x i) all)
+
+pub overflow_mul-k : goal.overflow_mul-k
+overflow_mul-k g c =
+    let begins = block_begins g.B.BitBlock.width c.args.len (length c.args.entries.now) c.loop-k.k g.met.B.BitBlock.width_law.positive c.requires.count c.loop-k-test.true in
+    let is : c.loop-k.k * c.bits.result ≡ c.loop-k.k * g.B.BitBlock.width = ap (λ x. c.loop-k.k * x) c.bits.ensures in
+    omega (arith, begins, is, c.ranges.len.fits)
+
+pub block_of-requires : goal.block_of-requires
+block_of-requires g c =
+    let is = IsEntry g.B.BitBlock.width in
+    subst is (sym c.index-entries-k.is) (All-get_or is c.args.entries.now c.loop-k.k c.index-entries-k.result c.loop-k-test.true c.requires.each)
+
+pub put_ones-requires-clause-of_block : goal.put_ones-requires-clause-of_block
+put_ones-requires-clause-of_block g c = c.block_of.ensures.of_block
+
+pub put_ones-requires-clause-counted : goal.put_ones-requires-clause-counted
+put_ones-requires-clause-counted g c = omega (arith, c.loop-k.invariant.long, c.ranges.len.fits)
+
+pub returns-clause-length : goal.returns-clause-length
+returns-clause-length g c = c.loop-k.invariant.long
+
+pub returns-clause-capacity : goal.returns-clause-capacity
+returns-clause-capacity g c = c.loop-k.invariant.capacity
+
+pub returns-in_err-bits-clause-empty : goal.returns-in_err-bits-clause-empty
+returns-in_err-bits-clause-empty g c none = absurd (true≢false (sym (c.in_err-bits.ensures.empty none)))

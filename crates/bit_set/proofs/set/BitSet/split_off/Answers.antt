@@ -1,9 +1,11 @@
-use Rattle.std.proofs.Common.{◌≡◌, ◌≤◌, length, refl, arith}
+use Rattle.std.proofs.Common.{◌≡◌, ◌≤◌, length, refl, arith, ap, sym, cond}
 use Rattle.bit_set.specs.Sets.{elements}
 use Rattle.bit_set.proofs.SetLemmas.{IsAscending-elements}
-use Rattle.bit_set.proofs.SplitLemmas.{all_below, all_from, elements-tail, none_below, none_from}
+use Rattle.bit_set.proofs.SplitLemmas.{all_below, all_from, elements-tail, none_below, none_from, length_of_whole}
 use Rattle.bit_set.proofs.ValueLemmas.{elements-take}
 use Rattle.bit_set.proofs.MemberLemmas.{members_below, members_from}
+use Rattle.std.proofs.lemmas.Bool.{le-ltb}
+use Rattle.std.proofs.lemmas.List.{length-take}
 use Rattle.bit_set.proofs.set.BitSet.split_off.Goals as goal
 
 pub returns-then-at-eq0-clause-elements : goal.returns-then-at-eq0-clause-elements
@@ -56,3 +58,43 @@ returns-clause-members g c = members_below (elements c.args.self.now.values) (el
 
 pub returns-clause-part_members : goal.returns-clause-part_members
 returns-clause-part_members g c = members_from (elements c.args.self.now.values) (elements c.in_ok-bits.bits.values) c.args.at (returns-clause-part g c)
+
+pub returns-then-at-eq0-clause-members : goal.returns-then-at-eq0-clause-members
+returns-then-at-eq0-clause-members g c = members_below (elements c.args.self.now.values) (elements c.replace.new.dest.values) c.args.at (returns-then-at-eq0-clause-elements g c)
+
+pub returns-then-at-eq0-clause-part_members : goal.returns-then-at-eq0-clause-part_members
+returns-then-at-eq0-clause-part_members g c = members_from (elements c.args.self.now.values) (elements c.replace.result.values) c.args.at (returns-then-at-eq0-clause-part g c)
+
+pub returns-then-at-eq0-clause-length : goal.returns-then-at-eq0-clause-length
+returns-then-at-eq0-clause-length g c = rw (c.replace.ensures.after, c.new_general.ensures.values) (omega (arith, c.if-at-eq0.true))
+
+pub returns-then-at-eq0-clause-part_length : goal.returns-then-at-eq0-clause-part_length
+returns-then-at-eq0-clause-part_length g c = rw c.replace.ensures.value (length_of_whole c.args.at (length c.args.self.now.values) c.if-at-eq0.true)
+
+pub returns-then-at-len-clause-length : goal.returns-then-at-len-clause-length
+returns-then-at-len-clause-length g c =
+    let end : length c.args.self.now.values ≤ c.args.at = rw (← c.self.view_is) (omega arith) in
+    omega (arith, end)
+
+pub returns-then-at-len-clause-part_length : goal.returns-then-at-len-clause-part_length
+returns-then-at-len-clause-part_length g c =
+    let n = length c.args.self.now.values in
+    let end : n ≤ c.args.at = rw (← c.self.view_is) (omega arith) in
+    rw c.new_general-then-at-len.ensures.values (ap (λ b. cond b n 0) (sym (le-ltb c.args.at n end)))
+
+pub returns-then-at-len-clause-exact : goal.returns-then-at-len-clause-exact
+returns-then-at-len-clause-exact g c _ inside =
+    let end : length c.args.self.now.values ≤ c.args.at = rw (← c.self.view_is) (omega arith) in
+    absurd (omega (arith, end, inside))
+
+pub returns-then-at-len-clause-nothing : goal.returns-then-at-len-clause-nothing
+returns-then-at-len-clause-nothing g c _ _ = c.new_general-then-at-len.ensures.capacity
+
+pub returns-clause-length : goal.returns-clause-length
+returns-clause-length g c = rw (c.truncate.ensures.values, ← c.self.view_is) (let long = length-take c.args.at c.self.inside.bits.values in omega (arith, long))
+
+pub returns-clause-exact : goal.returns-clause-exact
+returns-clause-exact g c _ _ = rw (← c.self.view_is) c.in_ok-bits.ensures.capacity
+
+pub returns-clause-capacity : goal.returns-clause-capacity
+returns-clause-capacity g c _ = rw (← c.self.view_is) c.truncate.ensures.capacity
