@@ -134,6 +134,11 @@ nonzero_inside number k xs some =
     absurd (true≢false (sym some ∙ ap (λ m. not (m == 0)) none)))
     (cases_lt k (length xs))
 
+-- a number that a test for 0 does not find
+pub some_from_test : (m : ℕ) (same : Bool) → (m ≡ 0 → same ≡ true) → same ≡ false → 0 < m
+some_from_test zero same law other = absurd (true≢false (sym (law refl) ∙ other))
+some_from_test (suc m) same law other = omega arith
+
 -- a block, as the number that its place has
 pub used_here : {X : Type 0} (number : X → ℕ) (xs : List X) (k : ℕ) (x : X) → k < length xs → slice_get xs k ≡ Some x → is_used (map number xs) k ≡ not (number x == 0)
 used_here number xs k x inside at = ap (λ m. not (m == 0)) (get_or-map number xs k x 0 inside ∙ ap number (get_or_from_slice_get xs k x x at))
