@@ -1,4 +1,4 @@
-use Rattle.std.proofs.Common.{◌≡◌, ℕ, List, ◌<◌, ◌+◌, ◌*◌, ◌++◌, ◌∙◌, ◌^◌, length, map, vec_capacity, replicate, sym, ap, ap₂, arith}
+use Rattle.std.proofs.Common.{◌≡◌, ℕ, List, ◌<◌, ◌+◌, ◌*◌, ◌++◌, ◌∙◌, length, map, vec_capacity, replicate, sym, ap, ap₂, arith}
 use Rattle.std.proofs.lemmas.Result.{err_from_is_err_and}
 use Rattle.bit_words.specs.Bits.{Bits, capacity_of}
 use Rattle.bit_words.specs.Storage.{values_of}

@@ -1,4 +1,4 @@
-use Rattle.std.proofs.Common.{◌||◌, ◌==◌, sym, ap, subst, ◌∙◌, arith, refl}
+use Rattle.std.proofs.Common.{sym, ap, subst, ◌∙◌, arith, refl}
 use Rattle.std.proofs.lemmas.Option.{get_or_from_slice_get}
 use Rattle.bit_words.proofs.NonzeroLemmas.{IsPastFirst-later}
 use Rattle.bit_words.proofs.bit_vec.nonzero.NonzeroIterator.next.Goals as goal
