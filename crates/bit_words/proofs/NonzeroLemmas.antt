@@ -5,7 +5,7 @@ use Rattle.std.proofs.lemmas.Bool.Decides.{nat_tests}
 use Rattle.std.proofs.Math.Bool.{and-false}
 use Rattle.std.proofs.Math.Seq.{drop-drop}
 use Rattle.std.proofs.lemmas.Option.{get_or_from_slice_get}
-use Rattle.std.proofs.lemmas.List.{get_or-map, drop_more, drop_all, drop-map, drop-take, get_or_past, length-drop, length-map, length-replicate, take-map}
+use Rattle.std.proofs.lemmas.List.{get_or-map, drop_more, drop_all, drop-map, drop-take, get_or_past, length-drop, length-map, length-replicate, length-take, take-map}
 use Rattle.std.proofs.lemmas.List.Sums.{sum_by-cons, sum_by-take-drop}
 use Rattle.bit_words.specs.Bits.{blocks_for}
 use Rattle.bit_words.specs.Digits.{is_one}
@@ -133,6 +133,11 @@ nonzero_inside number k xs some =
     let none : get_or (map number xs) k 0 ≡ 0 = get_or_past (map number xs) k 0 (rw length-map past) in
     absurd (true≢false (sym some ∙ ap (λ m. not (m == 0)) none)))
     (cases_lt k (length xs))
+
+-- a number that a test for 0 does not find
+pub some_from_test : (m : ℕ) (same : Bool) → (m ≡ 0 → same ≡ true) → same ≡ false → 0 < m
+some_from_test zero same law other = absurd (true≢false (sym (law refl) ∙ other))
+some_from_test (suc m) same law other = omega arith
 
 -- a block, as the number that its place has
 pub used_here : {X : Type 0} (number : X → ℕ) (xs : List X) (k : ℕ) (x : X) → k < length xs → slice_get xs k ≡ Some x → is_used (map number xs) k ≡ not (number x == 0)
@@ -578,6 +583,20 @@ module _ {X : Type 0} (w : ℕ) (number : X → ℕ) (is_block : X → Type 0) w
       is.digit (let most = length-drop w (drop index xs) in let all = length-drop index xs in omega (arith, long, most, all)) k
       ∙ ap (λ m. not (m == 0)) (sym (dropped number (index + w) k xs))
       ∙ ap (λ ys. is_used (map number ys) k) (sym (drop-drop w index xs))
+
+  -- and for how many blocks these are
+  pub enough_rest : (index first : ℕ) (pending : X) (xs summary : List X) → IsPending w number is_block index first pending xs summary → short_count w < length (drop w (drop index xs)) → length (drop w (drop index xs)) ≤ length summary * w
+  enough_rest index first pending xs summary is long =
+      let most = length-drop w (drop index xs) in
+      let all = length-drop index xs in
+      let enough = is.enough (omega (arith, long, most, all)) in
+      omega (arith, most, all, enough)
+
+  -- the lowest pending bit is about one of the blocks of the chunk in hand
+  pub lowest_inside : (index first i : ℕ) (pending : X) (xs : List X) → IsInHand w number is_block index first pending xs → IsLowest (number pending) i → i < w → i ≤ length (take w (drop index xs))
+  lowest_inside index first i pending xs is low within =
+      let inside = is.inside i within (is_one-bit 1 (number pending) i low.one) in
+      omega (arith, inside, within, length-take w (drop index xs), length-drop index xs)
 
 -- ---- all blocks are 0 where all of the summary are
 

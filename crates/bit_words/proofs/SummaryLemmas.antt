@@ -4,6 +4,7 @@ use Rattle.std.proofs.Math.Bool.{or-false}
 use Rattle.std.proofs.lemmas.Bool.{cases_lt, cases_eq, true≢false, false≢true}
 use Rattle.std.proofs.lemmas.Bool.Decides.{nat_tests}
 use Rattle.std.proofs.lemmas.List.{get_or_past, length-map}
+use Rattle.std.proofs.lemmas.List.Elements.{All-nil, All-same}
 use Rattle.std.proofs.lemmas.Nat.{div-mul-add}
 use Rattle.std.proofs.lemmas.Nat.Bits.{same_from_bits_below}
 use Rattle.bit_words.specs.Bits.{blocks_for}
@@ -306,6 +307,18 @@ stored_length w f P xs ss kept =
     (cases_lt (short_count w) (length xs))
 
 -- there is capacity for the blocks that there are
+pub stored_each : {X : Type 0} (w : ℕ) (f : X → ℕ) (P : X → Type 0) (xs ss : List X) → KeepsSummary w f P xs ss → All P ss
+stored_each w f P xs ss is =
+    ⊎_elim
+    (λ long. (is.long long).packed.each)
+    (λ few. All-same P ss [] (is.short few) (All-nil P))
+    (cases_lt (short_count w) (length xs))
+
+pub stored_enough : {X : Type 0} (w : ℕ) (f : X → ℕ) (P : X → Type 0) (xs ss : List X) → 0 < w → KeepsSummary w f P xs ss → short_count w < length xs → length xs ≤ length ss * w
+stored_enough w f P xs ss pos is long =
+    let whole = ap (λ k. k * w) (is.long long).packed.count in
+    omega (arith, blocks_for-enough w (length xs) pos, whole)
+
 pub stored_within : {X : Type 0} (w n blocks summary : ℕ) (f : X → ℕ) (P : X → Type 0) (xs ss : List X) → 0 < w → IsStored w f P xs ss n → length xs ≤ blocks → length ss ≤ summary → length xs ≤ shared_capacity w blocks summary
 stored_within w n blocks summary f P xs ss pos stored first second =
     shared_enough w blocks summary (length xs) pos first (let count = stored_length w f P xs ss stored.summary in omega arith)

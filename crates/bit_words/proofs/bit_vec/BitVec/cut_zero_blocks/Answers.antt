@@ -1,7 +1,8 @@
-use Rattle.std.proofs.Common.{◌≡◌, ◌*◌, ◌^◌, ◌<◌, ◌≤◌, ◌==◌, ◌∙◌, not, map, get_or, get_or-take, sym, ap, refl, arith, ⊎_elim}
+use Rattle.std.proofs.Common.{◌≡◌, ◌*◌, ◌^◌, ◌<◌, ◌≤◌, ◌==◌, ◌∙◌, not, map, get_or, get_or-take, sym, ap, ap₂, refl, arith, ⊎_elim}
 use Rattle.std.proofs.lemmas.Bool.{cases_lt}
-use Rattle.bit_words.specs.Bits.{blocks_for}
+use Rattle.bit_words.specs.Bits.{blocks_for, capacity_of}
 use Rattle.bit_words.specs.Storage.{values_of}
+use Rattle.bit_words.specs.Summary.{shared_capacity}
 use Rattle.bit_words.proofs.CompareLemmas.{true_at, value_in_view}
 use Rattle.bit_words.proofs.CapacityLemmas.{used_blocks-true_end, whole_blocks-fits, whole_blocks-past, value_at-cut, zero_tail_cut, blocks_for-whole}
 use Rattle.bit_words.proofs.StorageLemmas.{length-values_of}
@@ -64,3 +65,23 @@ returns-clause-len g c =
     let len : c.in-Some.len ≡ c.used_by_summary-count.result * w = rw c.bits.ensures at c.in-Some.ensures.1 in
     let fits : c.used_by_summary-count.result * w < 2 ^ 64 = rw c.bits.ensures at c.in-Some.ensures.0 in
     length-values_of w _ c.in-Some.len ∙ len ∙ sym (whole_blocks-fits w c.used_by_summary-count.result c.args.self.now.values used fits)
+
+pub used_by_summary-count-requires-clause-each : goal.used_by_summary-count-requires-clause-each
+used_by_summary-count-requires-clause-each g c = rw c.deref.ensures.value c.self.invariant.packed.each
+
+pub used_by_summary-count-requires-clause-summary : goal.used_by_summary-count-requires-clause-summary
+used_by_summary-count-requires-clause-summary g c = rw (c.deref.ensures.value, c.deref-2.ensures.value) c.self.invariant.summary
+
+pub returns-in_default-clause-true_values : goal.returns-in_default-clause-true_values
+returns-in_default-clause-true_values g c = λ i. (λ one. one, λ one. one)
+
+pub truncate_blocks-requires-clause-each : goal.truncate_blocks-requires-clause-each
+truncate_blocks-requires-clause-each g c = c.self.invariant.packed.each
+
+pub cut_summary-requires-clause-blocks : goal.cut_summary-requires-clause-blocks
+cut_summary-requires-clause-blocks g c = rw c.deref-3.ensures.value c.truncate_blocks.ensures.each
+
+pub returns-clause-capacity : goal.returns-clause-capacity
+returns-clause-capacity g c =
+    let w = g.B.BitBlock.width in
+    ap₂ (λ n m. capacity_of w (shared_capacity w n m)) c.truncate_blocks.ensures.capacity c.cut_summary.ensures.capacity ∙ ap (λ v. v.capacity) c.self.view_is

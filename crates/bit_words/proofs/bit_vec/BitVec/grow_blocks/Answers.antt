@@ -1,6 +1,7 @@
-use Rattle.std.proofs.Common.{◌≡◌, ◌<◌, ◌+◌, ◌*◌, ◌++◌, ◌∙◌, ◌^◌, length, map, vec_capacity, replicate, sym, ap, ap₂, arith, rules}
+use Rattle.std.proofs.Common.{◌≡◌, ℕ, List, ◌<◌, ◌+◌, ◌*◌, ◌++◌, ◌∙◌, length, map, vec_capacity, replicate, sym, ap, ap₂, arith}
 use Rattle.std.proofs.lemmas.Result.{err_from_is_err_and}
-use Rattle.bit_words.specs.Bits.{capacity_of}
+use Rattle.bit_words.specs.Bits.{Bits, capacity_of}
+use Rattle.bit_words.specs.Storage.{values_of}
 use Rattle.bit_words.specs.Summary.{shared_capacity}
 use Rattle.bit_words.proofs.CapacityLemmas.{capacity_le, stored_from_shared}
 use Rattle.bit_words.proofs.StorageLemmas.{values_of-append}
@@ -11,9 +12,9 @@ use Rattle.bit_words.proofs.bit_vec.BitVec.grow_blocks.Goals.{After-from_residua
 use Rattle.bit_words.proofs.bit_vec.BitVec.grow_blocks.Goals as goal
 
 pub overflow_add-len : goal.overflow_add-len
-overflow_add-len g c = let len = length_from_view _ _ _ _ _ c.self.view_is in
-    let small : c.self.inside.len + c.args.n < 2 ^ 64 = omega arith in
-    search rules
+overflow_add-len g c =
+    let len = length_from_view _ _ _ _ _ c.self.view_is in
+    record { fits = omega (arith, len, c.requires) }
 
 -- where there is no capacity for the blocks of the longer list, the list has none for the values
 refused : (g : _) (c : After-from_residual g) → c.args.self.now.capacity < length c.args.self.now.values + c.args.n
@@ -23,12 +24,42 @@ refused g c =
     let short = capacity_of-short w capacity (c.self.inside.len + c.args.n) g.met.B.BitBlock.width_law.positive (omega (arith, c.in_err-reserve_shared.ensures.full)) in
     rw (capacity_from_view _ _ _ c.self.view_is, length_from_view _ _ _ _ _ c.self.view_is) short
 
+pub invariant_of-self : goal.invariant_of-self
+invariant_of-self g c = rw (c.reserve_shared.ensures.items, c.reserve_shared.ensures.summary) c.self.invariant
+
+pub returns-in_err-reserve_shared-clause-ok : goal.returns-in_err-reserve_shared-clause-ok
+returns-in_err-reserve_shared-clause-ok g c =
+    let p = err_from_is_err_and c.from_residual.result c.from_residual.ensures.1 in rw p.1 tt
+
+pub returns-in_err-reserve_shared-clause-holds_values : goal.returns-in_err-reserve_shared-clause-holds_values
+returns-in_err-reserve_shared-clause-holds_values g c =
+    let p = err_from_is_err_and c.from_residual.result c.from_residual.ensures.1 in rw p.1 tt
+
+pub returns-in_err-reserve_shared-clause-err : goal.returns-in_err-reserve_shared-clause-err
+returns-in_err-reserve_shared-clause-err g c =
+    let w = g.B.BitBlock.width in
+    let p = err_from_is_err_and c.from_residual.result c.from_residual.ensures.1 in
+    let view : List g.row.B.Denot → ℕ → Bits = λ xs n. record { values = values_of w (map g.B.BitBlock.number xs) c.self.inside.len; capacity = capacity_of w n } in
+    rw p.1 (ap₂ view c.reserve_shared.ensures.items c.in_err-reserve_shared.ensures.capacity.err ∙ c.self.view_is)
+
+pub returns-in_err-reserve_shared-clause-within : goal.returns-in_err-reserve_shared-clause-within
+returns-in_err-reserve_shared-clause-within g c = λ enough. let short = refused g c in absurd (omega (arith, short, enough))
+
+pub returns-in_err-reserve_shared-clause-capacity : goal.returns-in_err-reserve_shared-clause-capacity
+returns-in_err-reserve_shared-clause-capacity g c = rw (capacity_from_view _ _ _ c.self.view_is) (capacity_le g.B.BitBlock.width _ _ c.reserve_shared.ensures.capacity.capacity)
+
 pub returns-in_err-reserve_shared-clause-full : goal.returns-in_err-reserve_shared-clause-full
 returns-in_err-reserve_shared-clause-full g c =
     let p = err_from_is_err_and c.from_residual.result c.from_residual.ensures.1 in rw p.1 (refused g c)
 
 pub returns-in_err-reserve_shared-clause-succeeds : goal.returns-in_err-reserve_shared-clause-succeeds
 returns-in_err-reserve_shared-clause-succeeds g c = λ enough. let short = refused g c in absurd (omega arith)
+
+pub store_summary-requires-clause-keeps : goal.store_summary-requires-clause-keeps
+store_summary-requires-clause-keeps g c = rw (c.deref.ensures.value, c.reserve_shared.ensures.items, c.reserve_shared.ensures.summary) c.self.invariant.summary
+
+pub store_summary-requires-clause-blocks : goal.store_summary-requires-clause-blocks
+store_summary-requires-clause-blocks g c = rw (c.deref.ensures.value, c.reserve_shared.ensures.items) c.self.invariant.packed.each
 
 pub store_summary-requires-clause-longer : goal.store_summary-requires-clause-longer
 store_summary-requires-clause-longer g c =
@@ -39,6 +70,21 @@ store_summary-requires-clause-longer g c =
 pub store_summary-requires-clause-capacity : goal.store_summary-requires-clause-capacity
 store_summary-requires-clause-capacity g c =
     stored_from_shared g.B.BitBlock.width _ _ _ g.met.B.BitBlock.width_law.positive c.in_ok-reserve_shared.ensures.capacity.ok
+
+pub append_bits-requires-clause-packed : goal.append_bits-requires-clause-packed
+append_bits-requires-clause-packed g c = rw c.reserve_shared.ensures.items c.self.invariant.packed
+
+pub append_bits-requires-clause-capacity : goal.append_bits-requires-clause-capacity
+append_bits-requires-clause-capacity g c = omega (arith, c.in_ok-reserve_shared.ensures.capacity.ok, c.block_count-count.ensures)
+
+pub append_to_summary-requires-clause-blocks : goal.append_to_summary-requires-clause-blocks
+append_to_summary-requires-clause-blocks g c = rw c.deref-2.ensures.value c.append_bits.ensures.packed.each
+
+pub invariant_of-self-2 : goal.invariant_of-self-2
+invariant_of-self-2 g c = record {
+  packed = c.append_bits.ensures.packed;
+  summary = rw c.deref-2.ensures.value at c.append_to_summary.ensures.summary;
+}
 
 pub append_to_summary-requires-clause-none : goal.append_to_summary-requires-clause-none
 append_to_summary-requires-clause-none g c = rw c.deref-2.ensures.value (λ few. c.store_summary.ensures.short (omega (arith, few, c.append_bits.ensures.packed.count)))

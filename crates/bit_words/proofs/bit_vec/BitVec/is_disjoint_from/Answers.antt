@@ -22,3 +22,12 @@ returns-clause-most g c = rw (length_from_view _ _ _ _ _ c.self.view_is, length_
 
 pub returns-clause-all : goal.returns-clause-all
 returns-clause-all g c = λ yes. let exact = c.intersection_is_zero.ensures.all yes in rw (length_from_view _ _ _ _ _ c.self.view_is, length_from_view _ _ _ _ _ c.other.view_is) (omega arith)
+
+pub intersection_is_zero-requires-clause-each : goal.intersection_is_zero-requires-clause-each
+intersection_is_zero-requires-clause-each g c = rw c.deref.ensures.value c.self.invariant.packed.each
+
+pub intersection_is_zero-requires-clause-others : goal.intersection_is_zero-requires-clause-others
+intersection_is_zero-requires-clause-others g c = rw c.deref-2.ensures.value c.other.invariant.packed.each
+
+pub returns-clause-fewest : goal.returns-clause-fewest
+returns-clause-fewest g c = c.intersection_is_zero.ensures.fewest

@@ -22,3 +22,12 @@ returns-clause-most g c = rw (length_from_view _ _ _ _ _ c.self.view_is) (omega 
 
 pub returns-clause-all : goal.returns-clause-all
 returns-clause-all g c = λ yes. let exact = c.difference_is_zero.ensures.all yes in rw (length_from_view _ _ _ _ _ c.self.view_is) (omega arith)
+
+pub difference_is_zero-requires-clause-each : goal.difference_is_zero-requires-clause-each
+difference_is_zero-requires-clause-each g c = rw c.deref.ensures.value c.self.invariant.packed.each
+
+pub difference_is_zero-requires-clause-others : goal.difference_is_zero-requires-clause-others
+difference_is_zero-requires-clause-others g c = rw c.deref-2.ensures.value c.other.invariant.packed.each
+
+pub returns-clause-fewest : goal.returns-clause-fewest
+returns-clause-fewest g c = c.difference_is_zero.ensures.fewest

@@ -1,6 +1,7 @@
 use Rattle.std.proofs.Common.{◌≡◌, ◌-◌, map, length, min, sym, ap, ◌∙◌, arith}
 use Rattle.std.proofs.lemmas.List.{length-map}
 use Rattle.bit_words.specs.Bits.{blocks_for}
+use Rattle.bit_words.specs.Nonzero.{first_and_nonzero}
 use Rattle.bit_words.proofs.StorageLemmas.{blocks-values_of}
 use Rattle.bit_words.proofs.SummaryLemmas.{stored_within}
 use Rattle.bit_words.proofs.VectorLemmas.{numbers_below, is_within_capacity, length_from_view}
@@ -30,3 +31,15 @@ returns-clause-summary_left g c =
 pub returns-clause-fits : goal.returns-clause-fits
 returns-clause-fits g c =
     is_within_capacity _ _ _ _ _ _ _ g.met.B.BitBlock.width_law.positive c.self.invariant.packed (stored_within _ _ _ _ _ _ _ _ g.met.B.BitBlock.width_law.positive c.self.invariant (omega arith) (omega arith)) c.self.view_is
+
+pub over-requires-clause-each : goal.over-requires-clause-each
+over-requires-clause-each g c = rw c.deref.ensures.value c.self.invariant.packed.each
+
+pub over-requires-clause-summary : goal.over-requires-clause-summary
+over-requires-clause-summary g c = rw (c.deref.ensures.value, c.deref-2.ensures.value) c.self.invariant.summary
+
+pub returns-clause-each : goal.returns-clause-each
+returns-clause-each g c = rw (c.over.ensures.blocks, c.deref.ensures.value) c.self.invariant.packed.each
+
+pub returns-clause-left : goal.returns-clause-left
+returns-clause-left g c = c.over.ensures.left ∙ ap (first_and_nonzero g.B.BitBlock.number) (sym c.over.ensures.blocks)

@@ -1,6 +1,7 @@
-use Rattle.std.proofs.Common.{◌≡◌, ◌-◌, ◌/◌, map, length, sym, ap, ◌∙◌, arith}
+use Rattle.std.proofs.Common.{◌≡◌, ◌-◌, ◌/◌, drop, map, length, sym, ap, ◌∙◌, arith}
 use Rattle.std.proofs.lemmas.List.{length-map}
 use Rattle.bit_words.specs.Bits.{blocks_for}
+use Rattle.bit_words.specs.Nonzero.{nonzero_from}
 use Rattle.bit_words.proofs.NonzeroFromLemmas.{past_first}
 use Rattle.bit_words.proofs.StorageLemmas.{blocks-values_of}
 use Rattle.bit_words.proofs.SummaryLemmas.{stored_within}
@@ -25,3 +26,15 @@ returns-clause-summary_left g c =
 pub returns-clause-fits : goal.returns-clause-fits
 returns-clause-fits g c =
     is_within_capacity _ _ _ _ _ _ _ g.met.B.BitBlock.width_law.positive c.self.invariant.packed (stored_within _ _ _ _ _ _ _ _ g.met.B.BitBlock.width_law.positive c.self.invariant (omega arith) (omega arith)) c.self.view_is
+
+pub past-requires-clause-each : goal.past-requires-clause-each
+past-requires-clause-each g c = rw c.deref.ensures.value c.self.invariant.packed.each
+
+pub past-requires-clause-summary : goal.past-requires-clause-summary
+past-requires-clause-summary g c = rw (c.deref.ensures.value, c.deref-2.ensures.value) c.self.invariant.summary
+
+pub returns-clause-each : goal.returns-clause-each
+returns-clause-each g c = rw (c.past.ensures.blocks, c.deref.ensures.value) c.self.invariant.packed.each
+
+pub returns-clause-left : goal.returns-clause-left
+returns-clause-left g c = c.past.ensures.left ∙ ap (λ xs. nonzero_from g.B.BitBlock.number 1 (drop 1 xs)) (sym c.past.ensures.blocks)

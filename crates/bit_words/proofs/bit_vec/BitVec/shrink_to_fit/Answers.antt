@@ -1,9 +1,9 @@
 use Rattle.std.proofs.Common.{◌≡◌, ◌≤◌, ◌*◌, ◌^◌, ◌-◌, ℕ, ◌∙◌, length, vec_capacity, min, sym, ap, arith}
 use Rattle.bit_words.specs.Bits.{blocks_for, capacity_of}
 use Rattle.bit_words.specs.Summary.{shared_capacity}
-use Rattle.bit_words.proofs.CapacityLemmas.{shared_enough, capacity_le}
+use Rattle.bit_words.proofs.CapacityLemmas.{shared_enough, shared_le, capacity_le}
 use Rattle.bit_words.proofs.SummaryLemmas.{stored_length}
-use Rattle.bit_words.proofs.VectorLemmas.{length_from_view, blocks_for-none}
+use Rattle.bit_words.proofs.VectorLemmas.{length_from_view, capacity_from_view, blocks_for-none}
 use Rattle.bit_words.proofs.bit_vec.BitVec.shrink_to_fit.Goals as goal
 
 pub returns-clause-ok : goal.returns-clause-ok
@@ -35,3 +35,32 @@ returns-then-capacity-saturating_mul-clause-empty g c = λ none.
     let shared : shared_capacity w (vec_capacity c.shrink_shared_capacity.new.blocks) (vec_capacity c.shrink_shared_capacity.new.summary) ≡ 0 = omega arith in
     let capacity : c.capacity.result ≡ capacity_of w 0 = c.capacity.ensures.value ∙ ap (capacity_of w) shared in
     absurd (omega arith)
+
+pub invariant_of-self : goal.invariant_of-self
+invariant_of-self g c = rw (c.shrink_shared_capacity.ensures.items, c.shrink_shared_capacity.ensures.summary) c.self.invariant
+
+pub invariant_of-self-2 : goal.invariant_of-self-2
+invariant_of-self-2 g c = rw (c.shrink_shared_capacity.ensures.items, c.shrink_shared_capacity.ensures.summary) c.self.invariant
+
+pub invariant_of-self-then-capacity-saturating_mul : goal.invariant_of-self-then-capacity-saturating_mul
+invariant_of-self-then-capacity-saturating_mul g c = rw (c.shrink_shared_capacity.ensures.items, c.shrink_shared_capacity.ensures.summary) c.self.invariant
+
+pub returns-clause-values : goal.returns-clause-values
+returns-clause-values g c = rw c.shrink_shared_capacity.ensures.items (ap (λ v. v.values) c.self.view_is)
+
+pub returns-clause-capacity : goal.returns-clause-capacity
+returns-clause-capacity g c =
+    rw (capacity_from_view _ _ _ c.self.view_is) (capacity_le g.B.BitBlock.width _ _ (shared_le g.B.BitBlock.width _ _ _ _ c.shrink_shared_capacity.ensures.capacity c.shrink_shared_capacity.ensures.summary_capacity))
+
+pub returns-clause-fits : goal.returns-clause-fits
+returns-clause-fits g c = c.capacity.ensures.fits
+
+pub returns-then-capacity-saturating_mul-clause-values : goal.returns-then-capacity-saturating_mul-clause-values
+returns-then-capacity-saturating_mul-clause-values g c = rw c.shrink_shared_capacity.ensures.items (ap (λ v. v.values) c.self.view_is)
+
+pub returns-then-capacity-saturating_mul-clause-capacity : goal.returns-then-capacity-saturating_mul-clause-capacity
+returns-then-capacity-saturating_mul-clause-capacity g c =
+    rw (capacity_from_view _ _ _ c.self.view_is) (capacity_le g.B.BitBlock.width _ _ (shared_le g.B.BitBlock.width _ _ _ _ c.shrink_shared_capacity.ensures.capacity c.shrink_shared_capacity.ensures.summary_capacity))
+
+pub returns-then-capacity-saturating_mul-clause-fits : goal.returns-then-capacity-saturating_mul-clause-fits
+returns-then-capacity-saturating_mul-clause-fits g c = c.capacity.ensures.fits

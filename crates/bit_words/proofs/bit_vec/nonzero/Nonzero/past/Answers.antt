@@ -3,6 +3,21 @@ use Rattle.bit_words.specs.Digits.{is_one}
 use Rattle.bit_words.proofs.NonzeroFromLemmas.{digits_from, pending_past, IsPastFirst-past, IsPending-past, left-past, count_past}
 use Rattle.bit_words.proofs.bit_vec.nonzero.Nonzero.past.Goals as goal
 
+pub nonzero_div-chunk : goal.nonzero_div-chunk
+nonzero_div-chunk g c = rw c.bits.ensures g.met.B.BitBlock.width_law.positive
+
+pub overflow_mul-index : goal.overflow_mul-index
+overflow_mul-index g c = rw (c.bits.ensures, c.bits-2.ensures) (record { fits = omega (arith, div-add-mod' c.args.first g.B.BitBlock.width, c.ranges.first.fits) })
+
+pub split_at-requires : goal.split_at-requires
+split_at-requires g c = omega (arith, c.min.ensures)
+
+pub pull_first_used-used-requires-clause-in_bounds : goal.pull_first_used-used-requires-clause-in_bounds
+pull_first_used-used-requires-clause-in_bounds g c = rw (c.bits.ensures, c.bits-2.ensures) (omega (arith, div-add-mod' c.args.first g.B.BitBlock.width, c.requires.inside))
+
+pub pull_first_used-used-requires-clause-each : goal.pull_first_used-used-requires-clause-each
+pull_first_used-used-requires-clause-each g c = c.requires.each
+
 pub pull_first_used-used-requires-clause-stored : goal.pull_first_used-used-requires-clause-stored
 pull_first_used-used-requires-clause-stored g c =
     let w = g.B.BitBlock.width in
@@ -52,3 +67,17 @@ returns-clause-summary_left g c =
     let first = c.args.first in
     let whole = div-add-mod' first w in
     rw (c.bits.ensures, c.bits-2.ensures) (count_past w (first / w) (first / w * w) (length c.args.blocks.now) g.met.B.BitBlock.width_law.positive (omega arith) (omega (arith, whole, c.requires.inside)))
+
+pub nonzero_rem-first : goal.nonzero_rem-first
+nonzero_rem-first g c = rw c.bits-3.ensures g.met.B.BitBlock.width_law.positive
+
+pub overflow_add-first : goal.overflow_add-first
+overflow_add-first g c =
+    let w = g.met.B.BitBlock.width_law in
+    rw c.bits-3.ensures (record { fits = omega (arith, mod-lt c.args.first w.positive, w.fits) })
+
+pub clear_below-requires : goal.clear_below-requires
+clear_below-requires g c = c.pull_first_used-used.ensures.of_block
+
+pub returns-clause-summary_pulls : goal.returns-clause-summary_pulls
+returns-clause-summary_pulls g c = omega (arith, c.pull_first_used-used.ensures.pulls, c.over-rest.ensures.pulls)

@@ -1,0 +1,42 @@
+use Rattle.std.proofs.Common.{◌≤◌, ◌+◌, drop, length, sym, ap, ◌∙◌, arith}
+use Rattle.std.proofs.lemmas.List.{length-drop}
+use Rattle.std.proofs.Math.Seq.{drop-drop}
+use Rattle.bit_words.proofs.bit_vec.blocks.Blocks.pass_zeros.Given.{Over}
+use Rattle.bit_words.proofs.bit_vec.blocks.Blocks.pass_zeros.Goals.{After-zeros_before-zeros}
+use Rattle.bit_words.proofs.bit_vec.blocks.Blocks.pass_zeros.Goals as goal
+
+within : (g : Over) (c : After-zeros_before-zeros g) → c.self.inside.at + c.zeros_before-zeros.result ≤ length c.self.inside.blocks.now
+within g c =
+    let left = ap length c.as_slice.ensures in
+    let all = ap (λ s. length s.left) c.self.view_is in
+    omega (arith, c.zeros_before-zeros.ensures.within, left, all, length-drop c.self.inside.at c.self.inside.blocks.now, c.self.invariant)
+
+pub zeros_before-zeros-requires : goal.zeros_before-zeros-requires
+zeros_before-zeros-requires g c = record { each = rw c.as_slice.ensures c.requires.each }
+
+pub overflow_add-self : goal.overflow_add-self
+overflow_add-self g c = record { fits = omega (arith, within g (goal.at.overflow_add-self g c).After-zeros_before-zeros, c.self.told) }
+
+pub invariant_of-self : goal.invariant_of-self
+invariant_of-self g c = within g (goal.at.invariant_of-self g c).After-zeros_before-zeros
+
+pub returns-clause-there : goal.returns-clause-there
+returns-clause-there g c = omega (arith, c.zeros_before-zeros.ensures.within, ap length c.as_slice.ensures)
+
+pub returns-clause-zeros : goal.returns-clause-zeros
+returns-clause-zeros g c = rw c.as_slice.ensures at c.zeros_before-zeros.ensures.zeros
+
+pub returns-clause-left : goal.returns-clause-left
+returns-clause-left g c =
+    let zeros = c.zeros_before-zeros.result in
+    sym (drop-drop zeros c.self.inside.at c.self.inside.blocks.now) ∙ ap (λ s. drop zeros s.left) c.self.view_is
+
+pub returns-clause-fewer : goal.returns-clause-fewer
+returns-clause-fewer g c =
+    let at = c.self.inside.at in
+    let xs = c.self.inside.blocks.now in
+    let all = ap (λ s. length s.left) c.self.view_is in
+    omega (arith, all, length-drop at xs, length-drop (at + c.zeros_before-zeros.result) xs, within g (goal.at.returns-clause-fewer g c).After-zeros_before-zeros)
+
+pub returns-clause-pulls : goal.returns-clause-pulls
+returns-clause-pulls g c = omega (arith, c.tick_by.ensures, ap (λ s. s.pulls) c.self.view_is)
