@@ -19,13 +19,17 @@ fn lengths<B: BitBlock>(alloc: Global, numbers: &[usize]) -> Result<[usize; 2], 
 #[test]
 fn a_shrunk_set_is_as_long_as_its_blocks(rt: HostRuntime) -> Result<(), Fail> {
     let alloc = rt.alloc();
-    assert_eq!(rt; lengths::<u32>(alloc, &[3])?, [4, 32]);
-    assert_eq!(rt; lengths::<u8>(alloc, &[3])?, [4, 8]);
-    assert_eq!(rt; lengths::<u32>(alloc, &[40])?, [41, 64]);
-    assert_eq!(rt; lengths::<u8>(alloc, &[40])?, [41, 48]);
-    assert_eq!(rt; lengths::<Block24>(alloc, &[40])?, [41, 48]);
-    assert_eq!(rt; lengths::<u128>(alloc, &[3])?, [4, 128]);
-    assert_eq!(rt; lengths::<u32>(alloc, &[3, 98, 259])?, [260, 288]);
+    for (lengths, wanted) in [
+        (lengths::<u32>(alloc, &[3])?, [4, 32]),
+        (lengths::<u8>(alloc, &[3])?, [4, 8]),
+        (lengths::<u32>(alloc, &[40])?, [41, 64]),
+        (lengths::<u8>(alloc, &[40])?, [41, 48]),
+        (lengths::<Block24>(alloc, &[40])?, [41, 48]),
+        (lengths::<u128>(alloc, &[3])?, [4, 128]),
+        (lengths::<u32>(alloc, &[3, 98, 259])?, [260, 288]),
+    ] {
+        assert_eq!(rt; lengths, wanted);
+    }
     Ok(())
 }
 
@@ -102,34 +106,51 @@ fn the_bit_vector_of_a_union_is_handed_out(rt: HostRuntime) -> Result<(), Fail> 
     Ok(())
 }
 
+// The capacities of a set before and after it is shrunk.
+fn capacities(set: &mut BitSet) -> Result<[usize; 2], SetError> {
+    let before = set.capacity();
+    set.shrink_to_fit()?;
+    Ok([before, set.capacity()])
+}
+
 #[test]
 fn a_new_set_has_no_capacity(rt: HostRuntime) -> Result<(), Fail> {
     let mut set = BitSet::new(rt.alloc());
-    assert_eq!(rt; set.capacity(), 0);
-    set.shrink_to_fit()?;
-    assert_eq!(rt; set.capacity(), 0);
+    assert_eq!(rt; capacities(&mut set)?, [0, 0]);
     set.insert(3)?;
-    assert!(rt; set.capacity() > 0);
-    set.shrink_to_fit()?;
+    let [before, after] = capacities(&mut set)?;
+    assert!(rt; before > 0 && after > 0);
     assert!(rt; set.iter().eq([3]));
-    assert!(rt; set.capacity() > 0);
     Ok(())
 }
 
-// The set {3, 98} with no more capacity than it takes, which is less than {3, 98, 259} took.
-fn shrunk_twice(rt: &impl Abort, alloc: Global) -> Result<BitSet, SetError> {
+// The set {3, 98, 259} with no more capacity than it takes.
+fn shrunk_once(rt: &impl Abort, alloc: Global) -> Result<BitSet, SetError> {
     let mut set = BitSet::new(alloc);
     for value in [259, 98, 3] {
         set.insert(value)?;
     }
     set.shrink_to_fit()?;
     assert_eq!(rt; set.count(), 3);
+    assert!(rt; set.capacity() > 0);
+    Ok(set)
+}
+
+// The set {3, 98} with no more capacity than it takes, which is less than {3, 98, 259} took.
+fn shrunk_twice(rt: &impl Abort, alloc: Global) -> Result<BitSet, SetError> {
+    let mut set = shrunk_once(rt, alloc)?;
     let capacity = set.capacity();
-    assert!(rt; capacity > 0);
     set.remove(259);
     set.shrink_to_fit()?;
     assert!(rt; set.capacity() < capacity);
     Ok(set)
+}
+
+// Takes all elements out. How many there are then, and whether the capacity stays.
+fn emptied(set: &mut BitSet) -> (usize, bool) {
+    let capacity = set.capacity();
+    set.make_empty();
+    (set.count(), set.capacity() == capacity)
 }
 
 #[test]
@@ -137,10 +158,14 @@ fn capacity_is_given_back(rt: HostRuntime) -> Result<(), Fail> {
     let alloc = rt.alloc();
     let mut set = shrunk_twice(&rt, alloc)?;
     assert!(rt; set.iter().eq([3, 98]));
-    let capacity = set.capacity();
+    assert_eq!(rt; emptied(&mut set), (0, true));
+    Ok(())
+}
+
+#[test]
+fn all_capacity_is_given_back_by_an_empty_set(rt: HostRuntime) -> Result<(), Fail> {
+    let mut set = shrunk_twice(&rt, rt.alloc())?;
     set.make_empty();
-    assert_eq!(rt; set.count(), 0);
-    assert_eq!(rt; set.capacity(), capacity);
     set.insert(512)?;
     assert!(rt; set.iter().eq([512]));
     set.remove(512);
@@ -216,6 +241,19 @@ fn put_all_within<B: BitBlock>(set: &mut BitSet<B>, values: &[usize]) -> Result<
     Ok(())
 }
 
+// Calls on a set by itself that want capacity for no more than 100, where it has it: none fails.
+fn change_alone_within<B: BitBlock>(set: &mut BitSet<B>) -> Result<(), SetError>
+    requires { 100 ≤ set.old.capacity }
+    ensures ok { IsOk result }
+    ensures kept { set.new.capacity ≡ set.old.capacity }
+{
+    set.remove(3);
+    set.reserve_len(70)?;
+    set.truncate(80);
+    set.insert(99)?;
+    Ok(())
+}
+
 // Calls that want capacity for no more than 100, on a set that has it: none fails.
 fn change_within<B: BitBlock>(set: &mut BitSet<B>, other: &BitSet<B>) -> Result<(), SetError>
     requires capacity { 100 ≤ set.old.capacity }
@@ -224,10 +262,7 @@ fn change_within<B: BitBlock>(set: &mut BitSet<B>, other: &BitSet<B>) -> Result<
     ensures kept { set.new.capacity ≡ set.old.capacity }
 {
     set.union_with(other)?;
-    set.remove(3);
-    set.reserve_len(70)?;
-    set.truncate(80);
-    set.insert(99)?;
+    change_alone_within(set)?;
     set.symmetric_difference_with(other)?;
     set.clone_from(other)?;
     Ok(())

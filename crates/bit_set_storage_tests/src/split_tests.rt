@@ -73,13 +73,17 @@ fn a_set_is_parted_at_a_number(rt: HostRuntime) -> Result<(), Fail> {
 #[test]
 fn the_upper_part_is_handed_out(rt: HostRuntime) -> Result<(), Fail> {
     let upper = [34, 36, 38, 39, 40, 42, 44, 45, 47];
-    assert!(rt; has_upper_part::<u8>(rt.alloc(), 34, &upper)?);
-    assert!(rt; has_upper_part::<u16>(rt.alloc(), 34, &upper)?);
-    assert!(rt; has_upper_part::<Block24>(rt.alloc(), 34, &upper)?);
-    assert!(rt; has_upper_part::<u32>(rt.alloc(), 34, &upper)?);
-    assert!(rt; has_upper_part::<u64>(rt.alloc(), 34, &upper)?);
-    assert!(rt; has_upper_part::<usize>(rt.alloc(), 34, &upper)?);
-    assert!(rt; has_upper_part::<u128>(rt.alloc(), 34, &upper)?);
+    for has_upper in [
+        has_upper_part::<u8>(rt.alloc(), 34, &upper)?,
+        has_upper_part::<u16>(rt.alloc(), 34, &upper)?,
+        has_upper_part::<Block24>(rt.alloc(), 34, &upper)?,
+        has_upper_part::<u32>(rt.alloc(), 34, &upper)?,
+        has_upper_part::<u64>(rt.alloc(), 34, &upper)?,
+        has_upper_part::<usize>(rt.alloc(), 34, &upper)?,
+        has_upper_part::<u128>(rt.alloc(), 34, &upper)?,
+    ] {
+        assert!(rt; has_upper);
+    }
     Ok(())
 }
 
@@ -88,11 +92,21 @@ fn equals_byte<B: BitBlock>(alloc: Global, set: &BitSet<B>, byte: u8) -> Result<
     Ok(*set == BitSet::from_bytes_general(alloc, &[byte])?)
 }
 
+// Whether a set has just these elements, and is that of a byte.
+fn has_just<B: BitBlock>(
+    alloc: Global,
+    set: &BitSet<B>,
+    elements: &[usize],
+    byte: u8,
+) -> Result<bool, SetError> {
+    Ok(set.iter().eq(elements.iter().copied()) && equals_byte(alloc, set, byte)?)
+}
+
 fn check_append<B: BitBlock>(rt: &impl Abort, alloc: Global) -> Result<(), SetError> {
     let mut set = set_of::<B>(alloc, &[2, 6])?;
     let mut other = set_of::<B>(alloc, &[1, 3, 6])?;
     set.append(&mut other)?;
-    assert!(rt; set.iter().eq([1, 2, 3, 6]) && equals_byte(alloc, &set, 0b0111_0010)?);
+    assert!(rt; has_just(alloc, &set, &[1, 2, 3, 6], 0b0111_0010)?);
     assert!(rt; other.is_empty());
     assert_eq!(rt; other.get_ref().len(), 7);
     Ok(())
@@ -124,15 +138,30 @@ fn split_and_join<B: BitBlock>(
     Ok(part)
 }
 
-fn check_parted<B: BitBlock>(rt: &impl Abort, alloc: Global) -> Result<(), SetError> {
+// {1, 2, 3, 6} in two parts, at 3.
+fn parted<B: BitBlock>(alloc: Global) -> Result<(BitSet<B>, BitSet<B>), SetError> {
     let mut set = set_of::<B>(alloc, &[1, 2, 3, 6])?;
-    let mut part = set.split_off(alloc, 3)?;
-    assert!(rt; set.iter().eq([1, 2]) && equals_byte(alloc, &set, 0b0110_0000)?);
-    assert!(rt; part.iter().eq([3, 6]) && equals_byte(alloc, &part, 0b0001_0010)?);
-    assert_eq!(rt; [set.get_ref().len(), part.get_ref().len()], [3, 7]);
+    let part = set.split_off(alloc, 3)?;
+    Ok((set, part))
+}
+
+fn lengths<B: BitBlock>(a: &BitSet<B>, b: &BitSet<B>) -> [usize; 2] {
+    [a.get_ref().len(), b.get_ref().len()]
+}
+
+fn check_parted<B: BitBlock>(rt: &impl Abort, alloc: Global) -> Result<(), SetError> {
+    let (set, part) = parted::<B>(alloc)?;
+    assert!(rt; has_just(alloc, &set, &[1, 2], 0b0110_0000)?);
+    assert!(rt; has_just(alloc, &part, &[3, 6], 0b0001_0010)?);
+    assert_eq!(rt; lengths(&set, &part), [3, 7]);
+    Ok(())
+}
+
+fn check_joined<B: BitBlock>(rt: &impl Abort, alloc: Global) -> Result<(), SetError> {
+    let (mut set, mut part) = parted::<B>(alloc)?;
     set.append(&mut part)?;
     assert!(rt; set.iter().eq([1, 2, 3, 6]));
-    assert_eq!(rt; [set.get_ref().len(), part.get_ref().len()], [7, 7]);
+    assert_eq!(rt; lengths(&set, &part), [7, 7]);
     assert!(rt; part.capacity() >= 7);
     Ok(())
 }
@@ -147,18 +176,22 @@ fn joined_at_0<B: BitBlock>(alloc: Global) -> Result<[usize; 3], SetError> {
 
 #[test]
 fn a_set_that_was_handed_out_whole_comes_back(rt: HostRuntime) -> Result<(), Fail> {
-    assert_eq!(rt; joined_at_0::<u8>(rt.alloc())?, [4, 0, 7]);
-    assert_eq!(rt; joined_at_0::<u16>(rt.alloc())?, [4, 0, 7]);
-    assert_eq!(rt; joined_at_0::<Block24>(rt.alloc())?, [4, 0, 7]);
-    assert_eq!(rt; joined_at_0::<u32>(rt.alloc())?, [4, 0, 7]);
-    assert_eq!(rt; joined_at_0::<u64>(rt.alloc())?, [4, 0, 7]);
-    assert_eq!(rt; joined_at_0::<usize>(rt.alloc())?, [4, 0, 7]);
-    assert_eq!(rt; joined_at_0::<u128>(rt.alloc())?, [4, 0, 7]);
+    for sizes in [
+        joined_at_0::<u8>(rt.alloc())?,
+        joined_at_0::<u16>(rt.alloc())?,
+        joined_at_0::<Block24>(rt.alloc())?,
+        joined_at_0::<u32>(rt.alloc())?,
+        joined_at_0::<u64>(rt.alloc())?,
+        joined_at_0::<usize>(rt.alloc())?,
+        joined_at_0::<u128>(rt.alloc())?,
+    ] {
+        assert_eq!(rt; sizes, [4, 0, 7]);
+    }
     Ok(())
 }
 
 #[test]
-fn a_parted_set_is_put_together_again(rt: HostRuntime) -> Result<(), Fail> {
+fn a_parted_set_is_in_two_parts(rt: HostRuntime) -> Result<(), Fail> {
     check_parted::<u8>(&rt, rt.alloc())?;
     check_parted::<u16>(&rt, rt.alloc())?;
     check_parted::<Block24>(&rt, rt.alloc())?;
@@ -166,5 +199,17 @@ fn a_parted_set_is_put_together_again(rt: HostRuntime) -> Result<(), Fail> {
     check_parted::<u64>(&rt, rt.alloc())?;
     check_parted::<usize>(&rt, rt.alloc())?;
     check_parted::<u128>(&rt, rt.alloc())?;
+    Ok(())
+}
+
+#[test]
+fn a_parted_set_is_put_together_again(rt: HostRuntime) -> Result<(), Fail> {
+    check_joined::<u8>(&rt, rt.alloc())?;
+    check_joined::<u16>(&rt, rt.alloc())?;
+    check_joined::<Block24>(&rt, rt.alloc())?;
+    check_joined::<u32>(&rt, rt.alloc())?;
+    check_joined::<u64>(&rt, rt.alloc())?;
+    check_joined::<usize>(&rt, rt.alloc())?;
+    check_joined::<u128>(&rt, rt.alloc())?;
     Ok(())
 }

@@ -58,16 +58,25 @@ fn walk_both<A: BitBlock + 'static, B: BitBlock + 'static>(
     (first.0, second.0, left)
 }
 
+// Puts 3, 40 and 77 into both, and 101, which is cut off again.
+fn fill_both<A: BitBlock, B: BitBlock>(a: &mut BitSet<A>, b: &mut BitSet<B>) -> Result<(), SetError>
+    requires { elements a.old.values ≡ elements b.old.values }
+    ensures { OnOk result (elements a.new.values ≡ elements b.new.values) }
+{
+    change_both(a, b, 77)?;
+    change_both(a, b, 3)?;
+    change_both(a, b, 40)?;
+    change_both(a, b, 101)?;
+    Ok(())
+}
+
 // {3, 40, 77} over two block types, with other lengths and capacities.
 fn walked<A: BitBlock + 'static, B: BitBlock + 'static>(
     alloc: Global,
 ) -> Result<(Option<usize>, Option<usize>, usize), SetError> {
     let mut a = BitSet::<A>::with_capacity_general(alloc, 500)?;
     let mut b = BitSet::<B>::new_general(alloc);
-    change_both(&mut a, &mut b, 77)?;
-    change_both(&mut a, &mut b, 3)?;
-    change_both(&mut a, &mut b, 40)?;
-    change_both(&mut a, &mut b, 101)?;
+    fill_both(&mut a, &mut b)?;
     tests_agree(&a, &a, &b, &b, 40);
     Ok(walk_both(&a, &b))
 }

@@ -108,32 +108,24 @@ fn a_difference_has_what_the_first_has(rt: HostRuntime) -> Result<(), Fail> {
     let alloc = rt.alloc();
     let left = BitSet::from_bytes(alloc, &[0b0110_1000])?;
     let right = BitSet::from_bytes(alloc, &[0b1010_0000])?;
-    becomes(
-        &rt,
-        alloc,
-        Merge::Difference,
-        left.clone(alloc)?,
-        &right,
-        (&[1, 4], 8),
-    )?;
-    becomes(
-        &rt,
-        alloc,
-        Merge::Difference,
-        right.clone(alloc)?,
-        &left,
-        (&[0], 8),
-    )?;
-    assert!(rt;
-        is_bytes(
-            alloc,
-            Merge::Difference,
-            left.clone(alloc)?,
-            &right,
-            0b0100_1000
-        )?
-    );
-    assert!(rt; is_bytes(alloc, Merge::Difference, right, &left, 0b1000_0000)?);
+    let copy = left.clone(alloc)?;
+    becomes(&rt, alloc, Merge::Difference, copy, &right, (&[1, 4], 8))?;
+    becomes(&rt, alloc, Merge::Difference, right, &left, (&[0], 8))?;
+    Ok(())
+}
+
+// Whether the set of a byte without that of another is that of a third.
+fn is_difference(alloc: Global, left: u8, right: u8, byte: u8) -> Result<bool, SetError> {
+    let left = BitSet::from_bytes(alloc, &[left])?;
+    let right = BitSet::from_bytes(alloc, &[right])?;
+    is_bytes(alloc, Merge::Difference, left, &right, byte)
+}
+
+#[test]
+fn a_difference_is_the_set_read(rt: HostRuntime) -> Result<(), Fail> {
+    let (left, right) = (0b0110_1000, 0b1010_0000);
+    assert!(rt; is_difference(rt.alloc(), left, right, 0b0100_1000)?);
+    assert!(rt; is_difference(rt.alloc(), right, left, 0b1000_0000)?);
     Ok(())
 }
 
@@ -154,22 +146,33 @@ fn a_symmetric_difference_has_what_just_one_has(rt: HostRuntime) -> Result<(), F
     Ok(())
 }
 
+// Whether the set of some numbers is within that of others.
+fn is_within(alloc: Global, numbers: &[usize], others: &[usize]) -> Result<bool, SetError> {
+    let set = set_of::<u32>(alloc, numbers)?;
+    Ok(set.is_subset(&set_of(alloc, others)?))
+}
+
 #[test]
 fn a_subset_may_be_longer(rt: HostRuntime) -> Result<(), Fail> {
     let alloc = rt.alloc();
-    let both = set_of::<u32>(alloc, &[100, 200])?;
-    assert!(rt; set_of(alloc, &[200])?.is_subset(&both));
-    assert!(rt; !set_of(alloc, &[200, 300])?.is_subset(&both));
+    assert!(rt; is_within(alloc, &[200], &[100, 200])?);
+    assert!(rt; !is_within(alloc, &[200, 300], &[100, 200])?);
     assert!(rt; BitSet::new(alloc).is_subset(&BitSet::new(alloc)));
     Ok(())
+}
+
+// Whether the sets of two bytes have no common element.
+fn are_apart(alloc: Global, byte: u8, other: u8) -> Result<bool, SetError> {
+    let set = BitSet::from_bytes(alloc, &[byte])?;
+    Ok(set.is_disjoint(&BitSet::from_bytes(alloc, &[other])?))
 }
 
 #[test]
 fn sets_with_no_common_element_are_disjoint(rt: HostRuntime) -> Result<(), Fail> {
     let alloc = rt.alloc();
+    assert!(rt; !are_apart(alloc, 0b1010_0010, 0b0011_0000)?);
+    assert!(rt; are_apart(alloc, 0b1010_0010, 0b0100_0000)?);
     let set = BitSet::from_bytes(alloc, &[0b1010_0010])?;
-    assert!(rt; !set.is_disjoint(&BitSet::from_bytes(alloc, &[0b0011_0000])?));
-    assert!(rt; set.is_disjoint(&BitSet::from_bytes(alloc, &[0b0100_0000])?));
     assert!(rt; set.is_disjoint(&BitSet::new(alloc)));
     Ok(())
 }
@@ -186,18 +189,25 @@ fn results<B: BitBlock>(alloc: Global) -> Result<[bool; 3], SetError> {
     ])
 }
 
+// How many elements a set has once it is merged with another.
+fn merged_count<B: BitBlock>(
+    set: &mut BitSet<B>,
+    merge: Merge,
+    other: &BitSet<B>,
+) -> Result<usize, AllocError> {
+    merge_in(set, merge, other)?;
+    Ok(set.count())
+}
+
 // How many elements two sets of numbers become, by one merge after another.
 fn counts<B: BitBlock>(alloc: Global) -> Result<[usize; 4], SetError> {
     let mut set = set_of::<B>(alloc, &[1, 3, 5, 9, 11, 160, 19, 24, 200])?;
     let other = set_of(alloc, &[1, 5, 9, 13, 19])?;
-    set.union_with(&other)?;
-    let either = set.count();
-    set.difference_with(&other)?;
-    let first = set.count();
-    set.symmetric_difference_with(&other)?;
-    let one = set.count();
-    set.intersect_with(&other)?;
-    Ok([either, first, one, set.count()])
+    let either = merged_count(&mut set, Merge::Union, &other)?;
+    let first = merged_count(&mut set, Merge::Difference, &other)?;
+    let one = merged_count(&mut set, Merge::Symmetric, &other)?;
+    let both = merged_count(&mut set, Merge::Intersection, &other)?;
+    Ok([either, first, one, both])
 }
 
 fn become_one<B: BitBlock>(rt: &impl Abort, alloc: Global) -> Result<(), SetError> {

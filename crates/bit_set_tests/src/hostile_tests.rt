@@ -65,17 +65,48 @@ fn assert_walks_agree(
     assert_eq!(rt; a.get_ref().len(), one);
     assert_eq!(rt; counts(&a, &b), [1, 1, 1, 0, 0], "at {one} and {two}");
     assert_eq!(rt; firsts(&a, &b), [Some(3), Some(3), Some(3), None, None]);
-    assert!(rt; a.is_subset(&b) && a.is_superset(&b) && !a.is_disjoint(&b));
-    assert!(rt; a == b && a.cmp(&b) == Ordering::Equal);
-    assert_eq!(rt; feed(&a), feed(&b));
-    assert_eq!(rt; format!(in alloc; "{a}")?.as_str(), "{3}");
     Ok(())
 }
 
 #[test]
-fn walks_and_tests_see_no_length(rt: HostRuntime) -> Result<(), Fail> {
+fn walks_see_no_length(rt: HostRuntime) -> Result<(), Fail> {
     for lengths in LENGTHS {
         assert_walks_agree(&rt, rt.alloc(), lengths)?;
+    }
+    Ok(())
+}
+
+// Whether each is within the other, and they are not apart.
+fn are_within_each_other(a: &BitSet, b: &BitSet) -> bool {
+    a.is_subset(b) && a.is_superset(b) && !a.is_disjoint(b)
+}
+
+// Whether they are equal, in their order and in what they feed too.
+fn are_equal(a: &BitSet, b: &BitSet) -> bool {
+    *a == *b && a.cmp(b) == Ordering::Equal && feed(a) == feed(b)
+}
+
+fn text_of(alloc: Global, set: &BitSet) -> Result<String, AllocError> {
+    format!(in alloc; "{set}")
+}
+
+fn assert_tests_agree(
+    rt: &impl Abort,
+    alloc: Global,
+    (one, two): (usize, usize),
+) -> Result<(), SetError> {
+    let a = three(alloc, one)?;
+    let b = three(alloc, two)?;
+    assert!(rt; are_within_each_other(&a, &b), "at {one} and {two}");
+    assert!(rt; are_equal(&a, &b), "at {one} and {two}");
+    assert_eq!(rt; text_of(alloc, &a)?.as_str(), "{3}");
+    Ok(())
+}
+
+#[test]
+fn tests_and_texts_see_no_length(rt: HostRuntime) -> Result<(), Fail> {
+    for lengths in LENGTHS {
+        assert_tests_agree(&rt, rt.alloc(), lengths)?;
     }
     Ok(())
 }
@@ -197,6 +228,12 @@ fn last_of_union<B: BitBlock>(a: &BitSet<B>, b: &BitSet<B>) -> (usize, Option<us
     (count, last)
 }
 
+// How many elements a set has once another is joined to it, and whether the other is within it.
+fn joined(set: &mut BitSet<u8>, other: &BitSet<u8>) -> Result<(usize, bool), AllocError> {
+    set.union_with(other)?;
+    Ok((set.count(), other.is_subset(set)))
+}
+
 // A body that goes over all blocks once for each item would not end in time.
 #[test]
 fn millions_of_places_are_passed_once(rt: HostRuntime) -> Result<(), Fail> {
@@ -205,8 +242,6 @@ fn millions_of_places_are_passed_once(rt: HostRuntime) -> Result<(), Fail> {
     assert_eq!(rt; last_of(&a), (1048576, Some(8388600)));
     assert_eq!(rt; last_of_union(&a, &b), (2097152, Some(8388607)));
     assert!(rt; a.is_disjoint(&b));
-    a.union_with(&b)?;
-    assert_eq!(rt; a.count(), 2097152);
-    assert!(rt; b.is_subset(&a));
+    assert_eq!(rt; joined(&mut a, &b)?, (2097152, true));
     Ok(())
 }

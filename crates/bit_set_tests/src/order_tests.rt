@@ -121,38 +121,40 @@ impl fmt::Write for Fails {
     }
 }
 
+// Whether a set is shown by so many calls.
+fn is_shown(set: &BitSet<u8>, taken: usize) -> bool {
+    let mut out = Fails { taken };
+    fmt::Write::write_fmt(&mut out, format_args!("{set}")).is_ok()
+}
+
 #[test]
 fn a_text_fails_where_the_formatter_does(rt: HostRuntime) -> Result<(), Fail> {
     let set = set_of::<u8>(rt.alloc(), &[3, 4])?;
     // A brace, a number, a comma, a number and a brace.
     for taken in 0..5 {
-        let mut out = Fails { taken };
-        assert!(rt;
-            fmt::Write::write_fmt(&mut out, format_args!("{set}")).is_err(),
-            "at {taken}"
-        );
+        assert!(rt; !is_shown(&set, taken), "at {taken}");
     }
-    let mut out = Fails { taken: 5 };
-    assert!(rt; fmt::Write::write_fmt(&mut out, format_args!("{set}")).is_ok());
+    assert!(rt; is_shown(&set, 5));
     Ok(())
+}
+
+// Whether the bit vector of a set is shown by so many calls, and how many of them are left.
+fn shown_bits(set: &BitSet<u8>, taken: usize) -> (bool, usize) {
+    let mut out = Fails { taken };
+    let is_shown = fmt::Write::write_fmt(&mut out, format_args!("{set:?}")).is_ok();
+    (is_shown, out.taken)
 }
 
 #[test]
 fn a_debug_text_fails_where_the_formatter_does(rt: HostRuntime) -> Result<(), Fail> {
     let set = set_of::<u8>(rt.alloc(), &[3, 12])?;
-    let mut out = Fails { taken: 100 };
-    assert!(rt; fmt::Write::write_fmt(&mut out, format_args!("{set:?}")).is_ok());
-    let calls = 100usize.saturating_sub(out.taken);
-    assert!(rt; calls > 0);
+    let (is_shown, left) = shown_bits(&set, 100);
+    let calls = 100usize.saturating_sub(left);
+    assert!(rt; is_shown && calls > 0);
     for taken in 0..calls {
-        let mut out = Fails { taken };
-        assert!(rt;
-            fmt::Write::write_fmt(&mut out, format_args!("{set:?}")).is_err(),
-            "at {taken}"
-        );
+        assert!(rt; !shown_bits(&set, taken).0, "at {taken}");
     }
-    let mut out = Fails { taken: calls };
-    assert!(rt; fmt::Write::write_fmt(&mut out, format_args!("{set:?}")).is_ok());
+    assert!(rt; shown_bits(&set, calls).0);
     Ok(())
 }
 
@@ -206,6 +208,11 @@ fn bytes_compare_as_their_sets(rt: HostRuntime) -> Result<(), Fail> {
     assert_eq!(rt; bytes_compare(rt.alloc(), &[], &[0b1010_0010])?, less);
     let equal = (true, Ordering::Equal, Some(Ordering::Equal));
     assert_eq!(rt; bytes_compare(rt.alloc(), &[0], &[])?, equal);
+    Ok(())
+}
+
+#[test]
+fn a_set_comes_after_one_with_no_element(rt: HostRuntime) -> Result<(), Fail> {
     let set = BitSet::from_bytes(rt.alloc(), &[0b1010_0010])?;
     let none = BitSet::new(rt.alloc());
     assert!(rt; set != none);
@@ -272,16 +279,21 @@ fn lengths_do_not_count(rt: HostRuntime) -> Result<(), Fail> {
     let alloc = rt.alloc();
     assert!(rt; alike(&set_of(alloc, &[3])?, &spacious(alloc)?, [4, 500]));
     assert!(rt; alike(&spacious(alloc)?, &lowered(alloc)?, [500, 401]));
-    assert!(rt;
-        alike(
-            &BitSet::from_bytes(alloc, &[0])?,
-            &BitSet::new(alloc),
-            [8, 0]
-        )
-    );
-    assert_eq!(rt; feed(&BitSet::from_bytes(alloc, &[0])?), (0, 0));
-    let lowered = lowered(alloc)?;
-    assert_eq!(rt; format!(in alloc; "{lowered}")?.as_str(), "{3}");
+    Ok(())
+}
+
+#[test]
+fn lengths_do_not_count_without_an_element(rt: HostRuntime) -> Result<(), Fail> {
+    let zeros = BitSet::from_bytes(rt.alloc(), &[0])?;
+    assert!(rt; alike(&zeros, &BitSet::new(rt.alloc()), [8, 0]));
+    assert_eq!(rt; feed(&zeros), (0, 0));
+    Ok(())
+}
+
+#[test]
+fn lengths_are_not_shown(rt: HostRuntime) -> Result<(), Fail> {
+    let lowered = lowered(rt.alloc())?;
+    assert_eq!(rt; format!(in rt.alloc(); "{lowered}")?.as_str(), "{3}");
     Ok(())
 }
 

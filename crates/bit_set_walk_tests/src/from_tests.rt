@@ -1,8 +1,9 @@
 //! The walk that begins at a number: its rows, and from each number over four widths.
 
 use crate::walk_tests::{passes, set_of_one};
-use bit_set::{BitBlock, BitSet};
+use bit_set::{BitBlock, BitSet, SetError};
 use block24::Block24;
+use std::alloc::Global;
 use std::process::Abort;
 use std::test::Fail;
 
@@ -25,10 +26,14 @@ fn the_first_item_is_the_least_from_there_on(rt: HostRuntime) -> Result<(), Fail
     ] {
         assert_eq!(rt; set.iter_from(from).next(), first, "from {from}");
     }
+    Ok(())
+}
+
+#[test]
+fn no_item_comes_from_a_number_on_where_there_is_none(rt: HostRuntime) {
     let empty = BitSet::new(rt.alloc());
     assert_eq!(rt; empty.iter_from(0).next(), None);
     assert_eq!(rt; empty.iter_from(40).next(), None);
-    Ok(())
 }
 
 // A set of length 401 has 13 blocks of 32 bits. The bound is that of the blocks from the one of the number on, and of
@@ -51,28 +56,38 @@ fn the_bound_is_that_of_the_blocks_from_there_on(rt: HostRuntime) -> Result<(), 
     Ok(())
 }
 
-// From each number below `end` on, the walk gives the elements that are no less, and then `None`; a clone of it counts
-// them first.
+// How many of these elements are less than a number.
+fn count_below(elements: &[usize], number: usize) -> usize {
+    let mut below: usize = 0;
+    for element in elements {
+        if *element < number {
+            below = below.saturating_add(1);
+        }
+    }
+    below
+}
+
+// The walk from a number on gives these elements, and then `None`; a clone of it counts them first.
+fn agrees_from<B: BitBlock>(rt: &impl Abort, set: &BitSet<B>, from: usize, left: &[usize]) {
+    let mut walk = set.iter_from(from);
+    assert_eq!(rt; walk.clone().count(), left.len(), "from {from}");
+    passes(rt, &mut walk, left);
+    assert_eq!(rt; [walk.next(), walk.next()], [None, None], "from {from}");
+}
+
+// From each number below `end` on, the walk gives the elements that are no less.
 fn agrees_from_each_number<B: BitBlock>(
     rt: &impl Abort,
-    set: &BitSet<B>,
+    alloc: Global,
     elements: &[usize],
     end: usize,
-) {
+) -> Result<(), SetError> {
+    let set = BitSet::<B>::from_iter(alloc, elements.iter().copied())?;
     for from in 0..end {
-        let mut below: usize = 0;
-        for element in elements {
-            if *element < from {
-                below = below.saturating_add(1);
-            }
-        }
-        let left = elements.get(below..).unwrap_or(&[]);
-        let mut walk = set.iter_from(from);
-        assert_eq!(rt; walk.clone().count(), left.len(), "from {from}");
-        passes(rt, &mut walk, left);
-        assert_eq!(rt; walk.next(), None, "from {from}");
-        assert_eq!(rt; walk.next(), None, "from {from}");
+        let left = elements.get(count_below(elements, from)..).unwrap_or(&[]);
+        agrees_from(rt, &set, from, left);
     }
+    Ok(())
 }
 
 #[test]
@@ -80,14 +95,10 @@ fn walks_from_each_number_are_the_rest_of_the_list(rt: HostRuntime) -> Result<()
     let elements = [
         0, 1, 7, 8, 22, 23, 24, 47, 48, 63, 64, 65, 127, 128, 143, 400, 401,
     ];
-    let narrow = BitSet::<u8>::from_iter(rt.alloc(), elements.iter().copied())?;
-    agrees_from_each_number(&rt, &narrow, &elements, 420);
-    let odd = BitSet::<Block24>::from_iter(rt.alloc(), elements.iter().copied())?;
-    agrees_from_each_number(&rt, &odd, &elements, 420);
-    let wide = BitSet::<u64>::from_iter(rt.alloc(), elements.iter().copied())?;
-    agrees_from_each_number(&rt, &wide, &elements, 470);
-    let widest = BitSet::<u128>::from_iter(rt.alloc(), elements.iter().copied())?;
-    agrees_from_each_number(&rt, &widest, &elements, 530);
+    agrees_from_each_number::<u8>(&rt, rt.alloc(), &elements, 420)?;
+    agrees_from_each_number::<Block24>(&rt, rt.alloc(), &elements, 420)?;
+    agrees_from_each_number::<u64>(&rt, rt.alloc(), &elements, 470)?;
+    agrees_from_each_number::<u128>(&rt, rt.alloc(), &elements, 530)?;
     Ok(())
 }
 
@@ -95,9 +106,7 @@ fn walks_from_each_number_are_the_rest_of_the_list(rt: HostRuntime) -> Result<()
 // 4,096 over `u64`.
 #[test]
 fn walks_from_a_number_pass_over_zeros(rt: HostRuntime) -> Result<(), Fail> {
-    let near = [63, 64, 130, 191];
-    let narrow = BitSet::<u8>::from_iter(rt.alloc(), near.iter().copied())?;
-    agrees_from_each_number(&rt, &narrow, &near, 200);
+    agrees_from_each_number::<u8>(&rt, rt.alloc(), &[63, 64, 130, 191], 200)?;
     let far = [4095, 4096, 8200, 12287];
     let wide = BitSet::<u64>::from_iter(rt.alloc(), far.iter().copied())?;
     for (from, first) in [

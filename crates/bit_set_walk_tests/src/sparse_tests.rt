@@ -43,6 +43,11 @@ fn the_bound_falls_over_zero_blocks(rt: HostRuntime) -> Result<(), Fail> {
         bounds(&far),
         [(0, Some(100032)), (0, Some(100032)), (0, Some(32))]
     );
+    Ok(())
+}
+
+#[test]
+fn the_bound_falls_to_a_block_where_all_are_zero(rt: HostRuntime) -> Result<(), Fail> {
     let empty = BitSet::with_capacity(rt.alloc(), 100)?;
     assert_eq!(rt;
         bounds(&empty),

@@ -33,6 +33,15 @@ pub(crate) fn bounds<B: BitBlock>(set: &BitSet<B>) -> [(usize, Option<usize>); 3
     [made, stepped, walk.size_hint()]
 }
 
+// Those of a set of one element, of at least this length.
+fn bounds_of<B: BitBlock>(
+    alloc: Global,
+    len: usize,
+    element: usize,
+) -> Result<[(usize, Option<usize>); 3], SetError> {
+    Ok(bounds(&set_of_one::<B>(alloc, len, element)?))
+}
+
 // A set of 401 places over `u32` has 13 blocks, and its whole walk makes 14 pulls at most.
 fn pulls_at_401_places()
     ensures { (values : List Bool) (s t : Walk) (items : List ℕ) → length values ≡ 401 → IsAtStart 32 values s
@@ -44,19 +53,31 @@ fn pulls_at_401_places()
 #[test]
 fn the_bound_falls_with_the_blocks(rt: HostRuntime) -> Result<(), Fail> {
     pulls_at_401_places();
-    let wide = bounds(&set_of_one::<u32>(rt.alloc(), 0, 400)?);
+    let alloc = rt.alloc();
+    let wide = bounds_of::<u32>(alloc, 0, 400)?;
     assert_eq!(rt; wide, [(0, Some(416)), (0, Some(32)), (0, Some(32))]);
-    let many_blocks = set_of_one::<u8>(rt.alloc(), 0, 400)?;
-    assert_eq!(rt; many_blocks.get_ref().storage().len(), 51);
-    assert_eq!(rt; many_blocks.get_ref().blocks().count(), 51);
-    let narrow = bounds(&many_blocks);
+    let narrow = bounds_of::<u8>(alloc, 0, 400)?;
     assert_eq!(rt; narrow, [(0, Some(408)), (0, Some(8)), (0, Some(8))]);
-    let four_blocks = set_of_one::<u128>(rt.alloc(), 0, 400)?;
-    assert_eq!(rt; four_blocks.get_ref().storage().len(), 4);
-    let widest = bounds(&four_blocks);
+    let widest = bounds_of::<u128>(alloc, 0, 400)?;
     assert_eq!(rt; widest, [(0, Some(512)), (0, Some(128)), (0, Some(128))]);
-    let spacious = bounds(&set_of_one::<u8>(rt.alloc(), 40, 3)?);
+    let spacious = bounds_of::<u8>(alloc, 40, 3)?;
     assert_eq!(rt; spacious, [(0, Some(40)), (0, Some(40)), (0, Some(8))]);
+    Ok(())
+}
+
+// How many blocks {400} has, and how many a walk over them gives.
+fn blocks_of_400<B: BitBlock>(alloc: Global) -> Result<[usize; 2], SetError> {
+    let set = set_of_one::<B>(alloc, 0, 400)?;
+    Ok([
+        set.get_ref().storage().len(),
+        set.get_ref().blocks().count(),
+    ])
+}
+
+#[test]
+fn a_set_has_the_blocks_of_its_length(rt: HostRuntime) -> Result<(), Fail> {
+    assert_eq!(rt; blocks_of_400::<u8>(rt.alloc())?, [51, 51]);
+    assert_eq!(rt; blocks_of_400::<u128>(rt.alloc())?, [4, 4]);
     Ok(())
 }
 
@@ -73,11 +94,16 @@ fn firsts<B: BitBlock>(set: &BitSet<B>) -> [Option<usize>; 5] {
 }
 
 #[test]
-fn a_walk_stays_at_its_end(rt: HostRuntime) -> Result<(), Fail> {
+fn a_walk_over_a_byte_stays_at_its_end(rt: HostRuntime) -> Result<(), Fail> {
     let bytes = BitSet::from_bytes(rt.alloc(), &[0b0100_1010])?;
     assert_eq!(rt; firsts(&bytes), [Some(1), Some(4), Some(6), None, None]);
     let forty = BitSet::<u8>::from_bytes_general(rt.alloc(), &[0b0001_0100])?;
     assert_eq!(rt; firsts(&forty), [Some(3), Some(5), None, None, None]);
+    Ok(())
+}
+
+#[test]
+fn a_walk_stays_at_its_end(rt: HostRuntime) -> Result<(), Fail> {
     let wide = set_of_one::<u32>(rt.alloc(), 0, 400)?;
     assert_eq!(rt; firsts(&wide), [Some(400), None, None, None, None]);
     let widest = BitSet::<u128>::from_iter(rt.alloc(), [128, 127].iter().copied())?;
@@ -127,6 +153,12 @@ pub(crate) fn passes<B: BitBlock>(rt: &impl Abort, walk: &mut Iter<'_, B>, items
     }
 }
 
+// The walk gives these items, and no more.
+fn gives<B: BitBlock>(rt: &impl Abort, mut walk: Iter<'_, B>, items: &[usize]) {
+    passes(rt, &mut walk, items);
+    assert_eq!(rt; walk.next(), None);
+}
+
 // At each point of the walk over these elements, a clone counts what is left and gives it, and the
 // walk is left there.
 pub(crate) fn agrees_at_each_point<B: BitBlock>(
@@ -139,11 +171,19 @@ pub(crate) fn agrees_at_each_point<B: BitBlock>(
         let mut walk = set.iter();
         passes(rt, &mut walk, passed);
         assert_eq!(rt; walk.clone().count(), left.len(), "at {point}");
-        let mut copy = walk.clone();
-        passes(rt, &mut copy, left);
-        assert_eq!(rt; copy.next(), None);
+        gives(rt, walk.clone(), left);
         assert_eq!(rt; walk.next(), left.first().copied());
     }
+}
+
+fn agrees_over<B: BitBlock>(
+    rt: &impl Abort,
+    alloc: Global,
+    elements: &[usize],
+) -> Result<(), SetError> {
+    let set = BitSet::<B>::from_iter(alloc, elements.iter().copied())?;
+    agrees_at_each_point(rt, &set, elements);
+    Ok(())
 }
 
 #[test]
@@ -151,13 +191,9 @@ fn a_walk_is_its_list_at_each_point(rt: HostRuntime) -> Result<(), Fail> {
     let elements = [
         0, 1, 7, 8, 22, 23, 24, 47, 48, 63, 64, 65, 127, 128, 143, 400, 401,
     ];
-    let narrow = BitSet::<u8>::from_iter(rt.alloc(), elements.iter().copied())?;
-    agrees_at_each_point(&rt, &narrow, &elements);
-    let odd = BitSet::<Block24>::from_iter(rt.alloc(), elements.iter().copied())?;
-    agrees_at_each_point(&rt, &odd, &elements);
-    let wide = BitSet::<u64>::from_iter(rt.alloc(), elements.iter().copied())?;
-    agrees_at_each_point(&rt, &wide, &elements);
-    let widest = BitSet::<u128>::from_iter(rt.alloc(), elements.iter().copied())?;
-    agrees_at_each_point(&rt, &widest, &elements);
+    agrees_over::<u8>(&rt, rt.alloc(), &elements)?;
+    agrees_over::<Block24>(&rt, rt.alloc(), &elements)?;
+    agrees_over::<u64>(&rt, rt.alloc(), &elements)?;
+    agrees_over::<u128>(&rt, rt.alloc(), &elements)?;
     Ok(())
 }

@@ -12,28 +12,36 @@ fn counts<B: BitBlock>(byte: u8) -> [usize; 3] {
 
 #[test]
 fn bits_move_within_the_width(rt: HostRuntime) {
-    assert_eq!(rt; counts::<u8>(0b0100_1011), [4, 4, 2]);
-    assert_eq!(rt; counts::<u16>(0b0100_1011), [4, 12, 2]);
-    assert_eq!(rt; counts::<Block24>(0b0100_1011), [4, 20, 2]);
-    assert_eq!(rt; counts::<u32>(0b0100_1011), [4, 28, 2]);
-    assert_eq!(rt; counts::<u64>(0b0100_1011), [4, 60, 2]);
-    assert_eq!(rt; counts::<usize>(0b0100_1011), [4, 60, 2]);
-    assert_eq!(rt; counts::<u128>(0b0100_1011), [4, 124, 2]);
+    for (counts, wanted) in [
+        (counts::<u8>(0b0100_1011), [4, 4, 2]),
+        (counts::<u16>(0b0100_1011), [4, 12, 2]),
+        (counts::<Block24>(0b0100_1011), [4, 20, 2]),
+        (counts::<u32>(0b0100_1011), [4, 28, 2]),
+        (counts::<u64>(0b0100_1011), [4, 60, 2]),
+        (counts::<usize>(0b0100_1011), [4, 60, 2]),
+        (counts::<u128>(0b0100_1011), [4, 124, 2]),
+    ] {
+        assert_eq!(rt; counts, wanted);
+    }
 }
 
 // The digits on both sides of the middle of a block of 128, which the machine keeps as two words.
 #[test]
 fn digits_pass_the_middle_of_a_wide_block(rt: HostRuntime) {
     let middle = u128::from_byte(0b1100_0000).shift_left(57);
-    assert_eq!(rt; middle, 27670116110564327424);
     assert_eq!(rt;
-        middle.shift_left(64),
-        170141183460469231731687303715884105728
+        [middle, middle.shift_left(64), middle.shift_right(63)],
+        [
+            27670116110564327424,
+            170141183460469231731687303715884105728,
+            3
+        ]
     );
-    assert_eq!(rt; middle.shift_right(63), 3);
     let one = middle & (!middle + u128::one());
-    assert_eq!(rt; one, 9223372036854775808);
-    assert_eq!(rt; middle - one, 18446744073709551616);
+    assert_eq!(rt;
+        [one, middle - one],
+        [9223372036854775808, 18446744073709551616]
+    );
     assert_eq!(rt; BitBlock::count_ones(middle - u128::one()), 64);
 }
 

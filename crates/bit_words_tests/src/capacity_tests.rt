@@ -1,7 +1,7 @@
 use crate::lists::list_of;
 use bit_words::bit_vec::{BitBlock, BitVec};
 use block24::Block24;
-use std::alloc::Global;
+use std::alloc::{AllocError, Global};
 use std::process::Abort;
 use std::test::Fail;
 
@@ -11,7 +11,11 @@ fn capacity_is_reserved(rt: HostRuntime) -> Result<(), Fail> {
     bits.reserve(100)?;
     assert!(rt; bits.capacity() >= 100);
     assert_eq!(rt; bits.len(), 0);
+    Ok(())
+}
 
+#[test]
+fn capacity_is_reserved_exactly(rt: HostRuntime) -> Result<(), Fail> {
     let mut exact = BitVec::<Block24>::new_general(rt.alloc());
     exact.reserve_exact(25)?;
     assert_eq!(rt; exact.capacity(), 48);
@@ -20,20 +24,29 @@ fn capacity_is_reserved(rt: HostRuntime) -> Result<(), Fail> {
     Ok(())
 }
 
-// How long a list with a true value at 40 is once its zero blocks are cut, and its capacity after that.
+// How long a list is once its zero blocks are cut, and its capacity after that.
+fn cut_and_shrunk<B: BitBlock>(bits: &mut BitVec<B>) -> Result<(usize, usize), AllocError> {
+    bits.cut_zero_blocks();
+    let len = bits.len();
+    bits.shrink_to_fit()?;
+    Ok((len, bits.capacity()))
+}
+
+// Whether a list is true at 40, where its zero blocks are cut, and after its capacity is given back.
+fn stays_true<B: BitBlock>(bits: &mut BitVec<B>) -> Result<(bool, bool), AllocError> {
+    bits.cut_zero_blocks();
+    let is_cut_true = bits.get(40) == Some(true);
+    bits.shrink_to_fit()?;
+    Ok((is_cut_true, bits.get(40) == Some(true)))
+}
+
+// A list with a true value at 40, which is then false.
 fn check_shrink<B: BitBlock>(rt: &impl Abort, alloc: Global, len: usize) -> Result<(), Fail> {
     let mut bits = list_of::<B>(alloc, 1000, &[40])?;
-    bits.cut_zero_blocks();
-    assert_eq!(rt; bits.len(), len);
-    assert_eq!(rt; bits.get(40), Some(true));
-    bits.shrink_to_fit()?;
-    assert_eq!(rt; bits.capacity(), len);
-    assert_eq!(rt; bits.get(40), Some(true));
+    assert_eq!(rt; stays_true(&mut bits.clone(alloc)?)?, (true, true));
+    assert_eq!(rt; cut_and_shrunk(&mut bits)?, (len, len));
     bits.fill(false);
-    bits.cut_zero_blocks();
-    assert_eq!(rt; bits.len(), 0);
-    bits.shrink_to_fit()?;
-    assert_eq!(rt; bits.capacity(), 0);
+    assert_eq!(rt; cut_and_shrunk(&mut bits)?, (0, 0));
     Ok(())
 }
 

@@ -16,3 +16,19 @@ pub(crate) fn list_of<B: BitBlock>(
     }
     Ok(bits)
 }
+
+// Makes the value at a place be this, where there is one.
+pub(crate) fn put<B: BitBlock>(bits: &mut BitVec<B>, place: usize, bit: bool) {
+    if place < bits.len() {
+        bits.set(place, bit);
+    }
+}
+
+// Appends so many values where a list may be so long.
+pub(crate) fn grow_by<B: BitBlock>(
+    bits: &mut BitVec<B>,
+    n: usize,
+    bit: bool,
+) -> Result<(), AllocError> {
+    bits.grow(n.min(usize::MAX - bits.len()), bit)
+}

@@ -1,7 +1,7 @@
 use crate::lists::list_of;
 use bit_words::bit_vec::{BitBlock, BitVec, Merge, Steps};
 use block24::Block24;
-use std::alloc::{AllocFailed, Global};
+use std::alloc::{AllocError, AllocFailed, Global};
 use std::process::Abort;
 use std::test::Fail;
 
@@ -19,6 +19,16 @@ fn indices_of<B: BitBlock>(
     Ok(indices)
 }
 
+// Merges a list with another that is no longer. Whether it is none, and the capacity stays.
+fn merge_in<B: BitBlock>(bits: &mut BitVec<B>, other: &BitVec<B>, merge: Merge) -> bool {
+    let capacity = bits.capacity();
+    let is_no_longer = other.len() <= bits.len();
+    if is_no_longer {
+        bits.merge_blocks(other, merge, &mut Steps::new());
+    }
+    is_no_longer && bits.capacity() == capacity
+}
+
 // What a list of 150 values and one of 101 become, which ends within a block at each width.
 fn check_merge<B: BitBlock>(
     rt: &impl Abort,
@@ -28,12 +38,9 @@ fn check_merge<B: BitBlock>(
 ) -> Result<(), Fail> {
     let mut bits = list_of::<B>(alloc, 150, &[0, 3, 31, 32, 64, 100, 149])?;
     let other = list_of(alloc, 101, &[0, 31, 33, 64, 99])?;
-    let capacity = bits.capacity();
-    assert!(rt; other.len() <= bits.len());
-    bits.merge_blocks(&other, merge, &mut Steps::new());
+    assert!(rt; merge_in(&mut bits, &other, merge));
     assert_eq!(rt; indices_of(alloc, &bits)?.as_slice(), wanted);
     assert_eq!(rt; bits.len(), 150);
-    assert_eq!(rt; bits.capacity(), capacity);
     Ok(())
 }
 
@@ -83,29 +90,40 @@ fn relations<B: BitBlock>(first: &BitVec<B>, second: &BitVec<B>) -> (bool, bool)
     (within, first.is_disjoint_from(second, &mut steps))
 }
 
+// Lists that are compared: how long each is, and the indices at which it is true.
+const LOW: (usize, &[usize]) = (400, &[200]);
+
+const BOTH: (usize, &[usize]) = (201, &[100, 200]);
+
+const HIGH: (usize, &[usize]) = (301, &[200, 300]);
+
+const APART: (usize, &[usize]) = (700, &[101, 300, 699]);
+
+// The same of two of these.
+fn relations_of<B: BitBlock>(
+    alloc: Global,
+    (len, indices): (usize, &[usize]),
+    (other_len, other_indices): (usize, &[usize]),
+) -> Result<(bool, bool), AllocError> {
+    let first = list_of::<B>(alloc, len, indices)?;
+    let second = list_of::<B>(alloc, other_len, other_indices)?;
+    Ok(relations(&first, &second))
+}
+
 fn check_relations<B: BitBlock>(rt: &impl Abort, alloc: Global) -> Result<(), Fail> {
-    let empty = BitVec::<B>::new_general(alloc);
-    let low = list_of(alloc, 400, &[200])?;
-    let both = list_of(alloc, 201, &[100, 200])?;
-    let high = list_of(alloc, 301, &[200, 300])?;
-    let apart = list_of(alloc, 700, &[101, 300, 699])?;
-    assert_eq!(rt;
-        relations(&low, &both),
-        (true, false),
-        "the longer is within the shorter"
-    );
-    assert_eq!(rt; relations(&both, &low), (false, false));
-    assert_eq!(rt;
-        relations(&high, &both),
-        (false, false),
-        "300 is past the shorter"
-    );
-    assert_eq!(rt; relations(&both, &apart), (false, true));
-    assert_eq!(rt; relations(&apart, &high), (false, false));
-    assert_eq!(rt; relations(&apart, &apart), (true, false));
-    assert_eq!(rt; relations(&empty, &apart), (true, true));
-    assert_eq!(rt; relations(&apart, &empty), (false, true));
-    assert_eq!(rt; relations(&empty, &empty), (true, true));
+    for (first, second, wanted) in [
+        // The longer is within the shorter.
+        (LOW, BOTH, (true, false)),
+        (BOTH, LOW, (false, false)),
+        // 300 is past the shorter.
+        (HIGH, BOTH, (false, false)),
+        (BOTH, APART, (false, true)),
+        (APART, HIGH, (false, false)),
+        (APART, APART, (true, false)),
+    ] {
+        let found = relations_of::<B>(alloc, first, second)?;
+        assert_eq!(rt; found, wanted, "of {} and {}", first.0, second.0);
+    }
     Ok(())
 }
 
@@ -118,22 +136,55 @@ fn lists_are_within_one_another_or_apart(rt: HostRuntime) -> Result<(), Fail> {
     check_relations::<u128>(&rt, rt.alloc())
 }
 
+fn check_relations_of_none<B: BitBlock>(rt: &impl Abort, alloc: Global) -> Result<(), Fail> {
+    let none = BitVec::<B>::new_general(alloc);
+    let apart = list_of(alloc, 700, &[101, 300, 699])?;
+    assert_eq!(rt;
+        [
+            relations(&none, &apart),
+            relations(&apart, &none),
+            relations(&none, &none)
+        ],
+        [(true, true), (false, true), (true, true)]
+    );
+    Ok(())
+}
+
+#[test]
+fn a_list_of_no_values_is_within_each_and_apart(rt: HostRuntime) -> Result<(), Fail> {
+    check_relations_of_none::<u8>(&rt, rt.alloc())?;
+    check_relations_of_none::<Block24>(&rt, rt.alloc())?;
+    check_relations_of_none::<u32>(&rt, rt.alloc())?;
+    check_relations_of_none::<u64>(&rt, rt.alloc())?;
+    check_relations_of_none::<u128>(&rt, rt.alloc())
+}
+
+fn text_of<B: BitBlock>(alloc: Global, bits: &BitVec<B>) -> Result<String, AllocError> {
+    format!(in alloc; "{bits:?}")
+}
+
 #[test]
 fn a_list_shows_its_bits(rt: HostRuntime) -> Result<(), Fail> {
     let alloc = rt.alloc();
     let bits = list_of::<u8>(alloc, 11, &[1, 10])?;
     assert_eq!(rt;
-        format!(in alloc; "{bits:?}")?.as_str(),
+        text_of(alloc, &bits)?.as_str(),
         "BitVec { storage: \"01000000 001\", nbits: 11 }"
     );
+    Ok(())
+}
+
+#[test]
+fn a_whole_block_and_no_block_show_their_bits(rt: HostRuntime) -> Result<(), Fail> {
+    let alloc = rt.alloc();
     let whole = list_of::<Block24>(alloc, 24, &[0, 23])?;
     assert_eq!(rt;
-        format!(in alloc; "{whole:?}")?.as_str(),
+        text_of(alloc, &whole)?.as_str(),
         "BitVec { storage: \"100000000000000000000001\", nbits: 24 }"
     );
     let empty = BitVec::new(alloc);
     assert_eq!(rt;
-        format!(in alloc; "{empty:?}")?.as_str(),
+        text_of(alloc, &empty)?.as_str(),
         "BitVec { storage: \"\", nbits: 0 }"
     );
     Ok(())

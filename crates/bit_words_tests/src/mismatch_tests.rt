@@ -14,18 +14,15 @@ fn check_mismatch<B: BitBlock>(rt: &impl Abort, alloc: Global, index: usize) -> 
     let short = BitVec::<B>::from_elem_general(alloc, 9000, false)?;
     let long = list_of::<B>(alloc, 9500, &[index])?;
     let block = Some(index / B::bits());
+    let (short, long) = (short.storage(), long.storage());
     assert_eq!(rt;
-        first_mismatching_block(short.storage(), long.storage()),
-        block
-    );
-    assert_eq!(rt;
-        first_mismatching_block(long.storage(), short.storage()),
-        block
-    );
-    assert_eq!(rt; first_nonzero_block(long.storage(), 0), block);
-    assert_eq!(rt;
-        first_mismatching_block(long.storage(), long.storage()),
-        None
+        [
+            first_mismatching_block(short, long),
+            first_mismatching_block(long, short),
+            first_nonzero_block(long, 0),
+            first_mismatching_block(long, long)
+        ],
+        [block, block, block, None]
     );
     Ok(())
 }

@@ -1,23 +1,11 @@
 //! The walk over the blocks that are not zero, and what goes by the summary: at the ends of its blocks.
-use crate::lists::list_of;
+use crate::lists::{grow_by, list_of, put};
 use bit_words::bit_vec::{BitBlock, BitVec, Merge, Nonzero, Steps};
 use block24::Block24;
 use std::alloc::{AllocError, AllocFailed, Global};
 use std::fmt::Debug;
 use std::process::Abort;
 use std::test::Fail;
-
-// Makes the value at a place be this, where there is one.
-fn put<B: BitBlock>(bits: &mut BitVec<B>, place: usize, bit: bool) {
-    if place < bits.len() {
-        bits.set(place, bit);
-    }
-}
-
-// Appends so many values where a list may be so long.
-fn grow_by<B: BitBlock>(bits: &mut BitVec<B>, n: usize, bit: bool) -> Result<(), AllocError> {
-    bits.grow(n.min(usize::MAX - bits.len()), bit)
-}
 
 fn next_index<B: BitBlock>(walk: &mut Nonzero<'_, B>) -> Option<usize> {
     Some(walk.next()?.0)
@@ -34,14 +22,18 @@ fn indices<B: BitBlock>(bits: &BitVec<B>) -> [Option<usize>; 4] {
     ]
 }
 
+// Those of a list that is true at these indices.
+fn indices_of(alloc: Global, n: usize, trues: &[usize]) -> Result<[Option<usize>; 4], AllocError> {
+    Ok(indices(&list_of::<u32>(alloc, n, trues)?))
+}
+
 #[test]
 fn the_first_block_and_those_that_are_not_zero_come(rt: HostRuntime) -> Result<(), Fail> {
-    let far = list_of::<u32>(rt.alloc(), 401, &[400])?;
-    assert_eq!(rt; indices(&far), [Some(0), Some(12), None, None]);
-    let near = list_of::<u32>(rt.alloc(), 401, &[0, 400])?;
-    assert_eq!(rt; indices(&near), [Some(0), Some(12), None, None]);
-    let none = list_of::<u32>(rt.alloc(), 100, &[])?;
-    assert_eq!(rt; indices(&none), [Some(0), None, None, None]);
+    let alloc = rt.alloc();
+    let two = [Some(0), Some(12), None, None];
+    assert_eq!(rt; indices_of(alloc, 401, &[400])?, two);
+    assert_eq!(rt; indices_of(alloc, 401, &[0, 400])?, two);
+    assert_eq!(rt; indices_of(alloc, 100, &[])?, [Some(0), None, None, None]);
     assert_eq!(rt; indices(&BitVec::<u32>::new_general(rt.alloc())), [None; 4]);
     Ok(())
 }
@@ -55,10 +47,10 @@ fn a_refill_passes_zero_blocks(rt: HostRuntime) -> Result<(), Fail> {
     if walk.as_slice().len() < 1000 {
         let mut block = 0;
         let mut index = 0;
-        assert!(rt; walk.refill(&mut block, &mut index));
-        assert_eq!(rt; (block, index), (0x1_0000, 384));
-        assert!(rt; walk.refill(&mut block, &mut index));
-        assert_eq!(rt; (block, index), (0x1_0000, 384));
+        let first = (walk.refill(&mut block, &mut index), block, index);
+        assert_eq!(rt; first, (true, 0x1_0000, 384));
+        let second = (walk.refill(&mut block, &mut index), block, index);
+        assert_eq!(rt; second, (true, 0x1_0000, 384));
         block = 0;
         assert!(rt; !walk.refill(&mut block, &mut index));
         assert_eq!(rt; block, 0);
@@ -107,13 +99,13 @@ fn zero_blocks_are_passed_over(rt: HostRuntime) -> Result<(), Fail> {
 fn a_walk_goes_on_from_its_clone(rt: HostRuntime) -> Result<(), Fail> {
     let bits = list_of::<u8>(rt.alloc(), 200, &[9, 80, 199])?;
     let mut walk = bits.nonzero();
-    assert_eq!(rt; walk.next(), Some((0, 0)));
-    assert_eq!(rt; walk.next(), Some((1, 2)));
+    assert_eq!(rt; [walk.next(), walk.next()], [Some((0, 0)), Some((1, 2))]);
     let mut copy = walk.clone();
     assert_eq!(rt; copy.next(), Some((10, 1)));
-    assert_eq!(rt; walk.next(), Some((10, 1)));
-    assert_eq!(rt; walk.next(), Some((24, 128)));
-    assert_eq!(rt; walk.next(), None);
+    assert_eq!(rt;
+        [walk.next(), walk.next(), walk.next()],
+        [Some((10, 1)), Some((24, 128)), None]
+    );
     assert_eq!(rt; copy.next(), Some((24, 128)));
     assert_eq!(rt; copy.as_slice().len(), 25);
     Ok(())
@@ -183,34 +175,60 @@ fn agree_over_summaries<B: BitBlock + Debug>(
     for places in trues {
         let bits = list_of::<B>(alloc, len, places)?;
         agrees_at_each_point(rt, alloc, &bits)?;
-        assert_eq!(rt; bits.count_ones(), places.len());
-        assert_eq!(rt; bits.none(), places.is_empty());
+        assert_eq!(rt;
+            (bits.count_ones(), bits.none()),
+            (places.len(), places.is_empty())
+        );
     }
     Ok(())
 }
 
 // Over `u8` 256 values are the most whose summary is not stored.
+fn few(alloc: Global) -> Result<BitVec<u8>, AllocError> {
+    list_of(alloc, 256, &[0, 9, 255])
+}
+
 #[test]
 fn a_list_grows_past_the_limit_and_is_cut_back(rt: HostRuntime) -> Result<(), Fail> {
-    let alloc = rt.alloc();
-    let mut bits = list_of::<u8>(alloc, 256, &[0, 9, 255])?;
-    let few = bits.clone(alloc)?;
+    let mut bits = few(rt.alloc())?;
     grow_by(&mut bits, 1, true)?;
     assert_eq!(rt; indices(&bits), [Some(0), Some(1), Some(31), Some(32)]);
     bits.truncate(256);
     assert_eq!(rt; indices(&bits), [Some(0), Some(1), Some(31), None]);
+    Ok(())
+}
+
+// Those values once they were more, and 64 behind them, all of them false.
+fn filled(alloc: Global) -> Result<BitVec<u8>, AllocError> {
+    let mut bits = few(alloc)?;
+    grow_by(&mut bits, 1, true)?;
+    bits.truncate(256);
     grow_by(&mut bits, 64, false)?;
     bits.fill(false);
+    Ok(bits)
+}
+
+// A list past the limit that has a value of its own and those of the few.
+fn many(rt: &impl Abort, alloc: Global) -> Result<BitVec<u8>, AllocError> {
+    let mut bits = filled(alloc)?;
     assert!(rt; bits.none());
     put(&mut bits, 319, true);
+    let few = few(alloc)?;
     if few.len() <= bits.len() {
         bits.merge_blocks(&few, Merge::Union, &mut Steps::new());
     }
+    Ok(bits)
+}
+
+#[test]
+fn a_list_is_copied_over_one_on_the_other_side_of_the_limit(rt: HostRuntime) -> Result<(), Fail> {
+    let alloc = rt.alloc();
+    let bits = many(&rt, alloc)?;
     assert_eq!(rt; indices(&bits), [Some(0), Some(1), Some(31), Some(39)]);
-    let mut copy = few.clone(alloc)?;
+    let mut copy = few(alloc)?;
     copy.clone_from(&bits)?;
     assert_eq!(rt; indices(&copy), [Some(0), Some(1), Some(31), Some(39)]);
-    copy.clone_from(&few)?;
+    copy.clone_from(&few(alloc)?)?;
     assert_eq!(rt; indices(&copy), [Some(0), Some(1), Some(31), None]);
     Ok(())
 }

@@ -2,22 +2,45 @@
 use crate::lists::list_of;
 use bit_words::bit_vec::{BitBlock, BitVec};
 use block24::Block24;
-use std::alloc::Global;
+use std::alloc::{AllocError, Global};
 use std::process::Abort;
 use std::test::Fail;
 
-fn check_tails<B: BitBlock>(rt: &impl Abort, alloc: Global) -> Result<(), Fail> {
-    let bits = BitVec::<B>::from_elem_general(alloc, 100, true)?;
-    for at in 0..bits.len() {
-        let tail = bits.clone_tail(alloc, at)?;
-        assert_eq!(rt; tail.len(), 100);
-        assert_eq!(rt; tail.count_ones(), bits.len() - at, "from {at}");
-        assert_eq!(rt; tail.get(at), Some(true));
+// The tail of a list from an index on that the list has.
+fn tail_of<B: BitBlock>(
+    alloc: Global,
+    bits: &BitVec<B>,
+    at: usize,
+) -> Result<Option<BitVec<B>>, AllocError> {
+    if at < bits.len() {
+        return Ok(Some(bits.clone_tail(alloc, at)?));
     }
-    let one = list_of::<B>(alloc, 100, &[40])?;
-    assert!(rt; one.len() > 41);
-    assert!(rt; !one.clone_tail(alloc, 40)?.none());
-    assert!(rt; one.clone_tail(alloc, 41)?.none());
+    Ok(None)
+}
+
+// The length of the tail of a hundred true values, how many of it are true, and whether the one at its index is.
+fn tail_of_hundred<B: BitBlock>(
+    alloc: Global,
+    at: usize,
+) -> Result<Option<(usize, usize, Option<bool>)>, AllocError> {
+    let bits = BitVec::<B>::from_elem_general(alloc, 100, true)?;
+    let tail = tail_of(alloc, &bits, at)?;
+    Ok(tail.map(|tail| (tail.len(), tail.count_ones(), tail.get(at))))
+}
+
+// Whether the tail of a list that is true at 40 has no true value.
+fn is_none_from<B: BitBlock>(alloc: Global, at: usize) -> Result<Option<bool>, AllocError> {
+    let bits = list_of::<B>(alloc, 100, &[40])?;
+    Ok(tail_of(alloc, &bits, at)?.map(|tail| tail.none()))
+}
+
+fn check_tails<B: BitBlock>(rt: &impl Abort, alloc: Global) -> Result<(), Fail> {
+    for at in 0..100 {
+        let tail = tail_of_hundred::<B>(alloc, at)?;
+        assert_eq!(rt; tail, Some((100, 100 - at, Some(true))), "from {at}");
+    }
+    assert_eq!(rt; is_none_from::<B>(alloc, 40)?, Some(false));
+    assert_eq!(rt; is_none_from::<B>(alloc, 41)?, Some(true));
     Ok(())
 }
 

@@ -1,3 +1,4 @@
+use crate::lists::{grow_by, put};
 use bit_words::bit_vec::{BitBlock, BitVec, BitsError, Steps};
 use block24::Block24;
 use std::alloc::{AllocError, Global};
@@ -27,7 +28,11 @@ fn a_list_fills_wide_blocks(rt: HostRuntime) -> Result<(), Fail> {
     bits.grow(1, true)?;
     assert_eq!(rt; bits.storage(), [36893488147419103231, 2].as_slice());
     assert_eq!(rt; bits.len(), 130);
+    Ok(())
+}
 
+#[test]
+fn bytes_fill_wide_blocks(rt: HostRuntime) -> Result<(), Fail> {
     let bytes = [0, 0, 0, 0, 0, 0, 0, 1, 0b1000_0000, 0, 0, 0, 0, 0, 0, 1, 1];
     let bits = BitVec::<u128>::from_bytes_general(rt.alloc(), &bytes)?;
     let ends = 170141183460469231759357419826448433152;
@@ -35,37 +40,71 @@ fn a_list_fills_wide_blocks(rt: HostRuntime) -> Result<(), Fail> {
     Ok(())
 }
 
-#[test]
-fn a_list_is_cut_grown_and_filled(rt: HostRuntime) -> Result<(), Fail> {
-    let mut bits = BitVec::from_elem(rt.alloc(), 140, true)?;
-    let full = 4_294_967_295;
-    assert_eq!(rt; bits.storage(), [full, full, full, full, 4095].as_slice());
+// Whether a list has these blocks and this length. It has no clause, so that a test that asks often does not carry
+// each answer along.
+fn is(bits: &BitVec, blocks: &[u32], len: usize) -> bool {
+    bits.storage() == blocks && bits.len() == len
+}
 
+// Ten true values, of 140 that there were.
+fn ten(alloc: Global) -> Result<BitVec, AllocError> {
+    let mut bits = BitVec::from_elem(alloc, 140, true)?;
     bits.truncate(10);
-    assert_eq!(rt; bits.storage(), [1023].as_slice());
+    Ok(bits)
+}
 
-    bits.grow(3, true)?;
-    assert_eq!(rt; bits.storage(), [8191].as_slice());
-    assert_eq!(rt; bits.len(), 13);
+// Those, three more and two that are false.
+fn fifteen(alloc: Global) -> Result<BitVec, AllocError> {
+    let mut bits = ten(alloc)?;
+    grow_by(&mut bits, 3, true)?;
+    grow_by(&mut bits, 2, false)?;
+    Ok(bits)
+}
 
-    bits.grow(2, false)?;
-    assert_eq!(rt; bits.storage(), [8191].as_slice());
-    assert_eq!(rt; bits.len(), 15);
-    assert_eq!(rt; bits.get(14), Some(false));
-    assert_eq!(rt; bits.get(15), None);
+#[test]
+fn a_list_is_cut(rt: HostRuntime) -> Result<(), Fail> {
+    let bits = BitVec::from_elem(rt.alloc(), 140, true)?;
+    let full = 4_294_967_295;
+    assert!(rt; is(&bits, &[full, full, full, full, 4095], 140));
+    assert!(rt; is(&ten(rt.alloc())?, &[1023], 10));
+    Ok(())
+}
 
-    bits.set(0, false);
-    assert_eq!(rt; bits.storage(), [8190].as_slice());
-    assert!(rt; !bits.replace(0, true));
-    assert!(rt; bits.replace(0, false));
-    assert_eq!(rt; bits.storage(), [8190].as_slice());
+#[test]
+fn a_list_is_grown(rt: HostRuntime) -> Result<(), Fail> {
+    let mut bits = ten(rt.alloc())?;
+    grow_by(&mut bits, 3, true)?;
+    assert!(rt; is(&bits, &[8191], 13));
+    let bits = fifteen(rt.alloc())?;
+    assert!(rt; is(&bits, &[8191], 15));
+    assert_eq!(rt; [bits.get(14), bits.get(15)], [Some(false), None]);
+    Ok(())
+}
 
+// Makes the first value true and then false. What it was before each.
+fn turn_first(bits: &mut BitVec) -> Option<[bool; 2]> {
+    if bits.len() == 0 {
+        return None;
+    }
+    Some([bits.replace(0, true), bits.replace(0, false)])
+}
+
+#[test]
+fn a_list_is_written(rt: HostRuntime) -> Result<(), Fail> {
+    let mut bits = fifteen(rt.alloc())?;
+    put(&mut bits, 0, false);
+    assert!(rt; is(&bits, &[8190], 15));
+    assert_eq!(rt; turn_first(&mut bits), Some([false, true]));
+    assert!(rt; is(&bits, &[8190], 15));
+    Ok(())
+}
+
+#[test]
+fn a_list_is_filled_and_copied(rt: HostRuntime) -> Result<(), Fail> {
+    let mut bits = fifteen(rt.alloc())?;
     bits.fill(true);
-    assert_eq!(rt; bits.storage(), [32767].as_slice());
-
-    let copy = bits.clone(rt.alloc())?;
-    assert_eq!(rt; copy.storage(), [32767].as_slice());
-    assert_eq!(rt; copy.len(), 15);
+    assert!(rt; is(&bits, &[32767], 15));
+    assert!(rt; is(&bits.clone(rt.alloc())?, &[32767], 15));
     Ok(())
 }
 
@@ -105,24 +144,24 @@ fn nones<B: BitBlock>(bits: &mut BitVec<B>) -> [bool; 3] {
     [whole, cut, bits.none()]
 }
 
+fn check_each_call<B: BitBlock>(
+    rt: &impl Abort,
+    alloc: Global,
+    wanted: [usize; 4],
+) -> Result<(), Fail> {
+    let mut bits = last_of_forty::<B>(alloc)?;
+    assert_eq!(rt; sizes(&bits), wanted);
+    assert_eq!(rt; nones(&mut bits), [false, true, true]);
+    let ends = [Some(false), Some(true), None];
+    assert_eq!(rt; grown::<B>(alloc)?, (ends, true));
+    Ok(())
+}
+
 #[test]
 fn each_call_works_at_three_widths(rt: HostRuntime) -> Result<(), Fail> {
-    let mut whole = last_of_forty::<u8>(rt.alloc())?;
-    assert_eq!(rt; sizes(&whole), [40, 5, 4, 4]);
-    assert_eq!(rt; nones(&mut whole), [false, true, true]);
-    let ends = [Some(false), Some(true), None];
-    assert_eq!(rt; grown::<u8>(rt.alloc())?, (ends, true));
-
-    let mut odd = last_of_forty::<Block24>(rt.alloc())?;
-    assert_eq!(rt; sizes(&odd), [40, 2, 1, 1]);
-    assert_eq!(rt; nones(&mut odd), [false, true, true]);
-    assert_eq!(rt; grown::<Block24>(rt.alloc())?, (ends, true));
-
-    let mut wide = last_of_forty::<u128>(rt.alloc())?;
-    assert_eq!(rt; sizes(&wide), [40, 1, 0, 0]);
-    assert_eq!(rt; nones(&mut wide), [false, true, true]);
-    assert_eq!(rt; grown::<u128>(rt.alloc())?, (ends, true));
-    Ok(())
+    check_each_call::<u8>(&rt, rt.alloc(), [40, 5, 4, 4])?;
+    check_each_call::<Block24>(&rt, rt.alloc(), [40, 2, 1, 1])?;
+    check_each_call::<u128>(&rt, rt.alloc(), [40, 1, 0, 0])
 }
 
 #[test]
@@ -132,9 +171,10 @@ fn a_walk_gives_each_block(rt: HostRuntime) -> Result<(), Fail> {
     assert_eq!(rt; walk.size_hint(), (2, Some(2)));
     assert_eq!(rt; walk.next(), Some(1));
     let mut copy = walk.clone();
-    assert_eq!(rt; walk.next(), Some(2));
-    assert_eq!(rt; walk.next(), None);
-    assert_eq!(rt; copy.next(), Some(2));
+    assert_eq!(rt;
+        [walk.next(), walk.next(), copy.next()],
+        [Some(2), None, Some(2)]
+    );
     assert_eq!(rt; copy.count(), 0);
     Ok(())
 }
@@ -151,20 +191,29 @@ fn failures<B: BitBlock>(bits: &mut BitVec<B>, len: usize) -> [Result<(), AllocE
     [ones, zeros, capacity, bits.reserve_exact(more)]
 }
 
+// Whether no list is made of so many values.
+fn is_too_long<B: BitBlock>(alloc: Global, len: usize) -> bool {
+    BitVec::<B>::from_elem_general(alloc, len, true).is_err()
+        && BitVec::<B>::from_elem_general(alloc, len, false).is_err()
+}
+
+// The first three values and the eighth, and how many are true.
+fn firsts<B: BitBlock>(bits: &BitVec<B>) -> ([Option<bool>; 4], usize) {
+    let firsts = [bits.get(0), bits.get(1), bits.get(2), bits.get(7)];
+    (firsts, bits.count_ones())
+}
+
 // Each call that takes a number, at one for which there is no memory.
 fn check_greatest<B: BitBlock>(rt: &impl Abort, alloc: Global, number: usize) -> Result<(), Fail> {
     let mut bits = BitVec::<B>::from_bytes_general(alloc, &[0b1010_0000])?;
     let capacity = bits.capacity();
     assert_eq!(rt; failures(&mut bits, number), [Err(AllocError); 4]);
-    assert!(rt; BitVec::<B>::from_elem_general(alloc, number, true).is_err());
-    assert!(rt; BitVec::<B>::from_elem_general(alloc, number, false).is_err());
+    assert!(rt; is_too_long::<B>(alloc, number));
     assert_eq!(rt; bits.get(number), None);
     bits.truncate(number);
-    let firsts = [bits.get(0), bits.get(1), bits.get(2), bits.get(7)];
-    assert_eq!(rt; firsts, [Some(true), Some(false), Some(true), Some(false)]);
-    assert_eq!(rt; bits.len(), 8);
-    assert_eq!(rt; bits.count_ones(), 2);
-    assert_eq!(rt; bits.capacity(), capacity);
+    let values = [Some(true), Some(false), Some(true), Some(false)];
+    assert_eq!(rt; firsts(&bits), (values, 2));
+    assert_eq!(rt; [bits.len(), bits.capacity()], [8, capacity]);
     Ok(())
 }
 
@@ -202,6 +251,13 @@ impl fmt::Write for Fails {
     }
 }
 
+// Whether a list is shown by so many calls, and how many of them are left.
+fn shown(bits: &BitVec<u8>, taken: usize) -> (bool, usize) {
+    let mut out = Fails { taken };
+    let is_shown = fmt::Write::write_fmt(&mut out, format_args!("{bits:?}")).is_ok();
+    (is_shown, out.taken)
+}
+
 #[test]
 fn a_text_fails_where_the_formatter_does(rt: HostRuntime) -> Result<(), Fail> {
     let bits = BitVec::<u8>::from_elem_general(rt.alloc(), 10, true)?;
@@ -210,19 +266,13 @@ fn a_text_fails_where_the_formatter_does(rt: HostRuntime) -> Result<(), Fail> {
         text.as_str(),
         "BitVec { storage: \"11111111 11\", nbits: 10 }"
     );
-    let mut out = Fails { taken: 100 };
-    assert!(rt; fmt::Write::write_fmt(&mut out, format_args!("{bits:?}")).is_ok());
-    let calls = 100usize.saturating_sub(out.taken);
-    assert!(rt; calls > 0);
+    let (is_shown, left) = shown(&bits, 100);
+    let calls = 100usize.saturating_sub(left);
+    assert!(rt; is_shown && calls > 0);
     for taken in 0..calls {
-        let mut out = Fails { taken };
-        assert!(rt;
-            fmt::Write::write_fmt(&mut out, format_args!("{bits:?}")).is_err(),
-            "at {taken}"
-        );
+        assert!(rt; !shown(&bits, taken).0, "at {taken}");
     }
-    let mut out = Fails { taken: calls };
-    assert!(rt; fmt::Write::write_fmt(&mut out, format_args!("{bits:?}")).is_ok());
+    assert!(rt; shown(&bits, calls).0);
     Ok(())
 }
 

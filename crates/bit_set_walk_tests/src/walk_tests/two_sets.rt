@@ -78,19 +78,30 @@ fn an_intersection_lowers_its_bound(rt: HostRuntime) -> Result<(), Fail> {
     agrees(&rt, a.intersection(&b), &[3, 5, 11, 77]);
     let mut walk = a.intersection(&b);
     assert_eq!(rt; walk.size_hint(), (0, Some(78)));
-    assert_eq!(rt; walk.next(), Some(3));
-    assert_eq!(rt; walk.next(), Some(5));
+    assert_eq!(rt; [walk.next(), walk.next()], [Some(3), Some(5)]);
     assert_eq!(rt; walk.size_hint(), (0, Some(76)));
     assert_eq!(rt; walk.clone().count(), 2);
     gives(&rt, walk, &[11, 77]);
     Ok(())
 }
 
+// Two sets with four common elements.
+fn two_sets(alloc: Global) -> Result<(BitSet, BitSet), SetError> {
+    let a = set_of(alloc, &[1, 3, 5, 9, 11, 160, 19, 24, 200])?;
+    let b = set_of(alloc, &[1, 5, 9, 13, 19])?;
+    Ok((a, b))
+}
+
+#[test]
+fn a_union_has_what_either_has(rt: HostRuntime) -> Result<(), Fail> {
+    let (a, b) = two_sets(rt.alloc())?;
+    agrees(&rt, a.union(&b), &[1, 3, 5, 9, 11, 13, 19, 24, 160, 200]);
+    Ok(())
+}
+
 #[test]
 fn an_intersection_lowers_its_bound_at_its_end(rt: HostRuntime) -> Result<(), Fail> {
-    let a = set_of::<u32>(rt.alloc(), &[1, 3, 5, 9, 11, 160, 19, 24, 200])?;
-    let b = set_of::<u32>(rt.alloc(), &[1, 5, 9, 13, 19])?;
-    agrees(&rt, a.union(&b), &[1, 3, 5, 9, 11, 13, 19, 24, 160, 200]);
+    let (a, b) = two_sets(rt.alloc())?;
     let mut walk = a.intersection(&b);
     assert_eq!(rt; walk.size_hint(), (0, Some(20)));
     for item in [1, 5, 9, 19] {
@@ -123,21 +134,14 @@ fn what_two_sets_make(rt: HostRuntime) -> Result<(), Fail> {
     let a = set_of::<u32>(rt.alloc(), &[1, 3, 5, 200, 500])?;
     let b = set_of::<u32>(rt.alloc(), &[3, 200])?;
     agrees(&rt, a.difference(&b), &[1, 5, 500]);
-    let a = set_of::<u32>(rt.alloc(), &[1, 3, 5, 9, 11])?;
-    let b = set_of::<u32>(rt.alloc(), &[3, 9, 14, 220])?;
-    agrees(&rt, a.symmetric_difference(&b), &[1, 5, 11, 14, 220]);
     Ok(())
 }
 
 #[test]
-fn what_two_bytes_make(rt: HostRuntime) -> Result<(), Fail> {
-    let a = BitSet::from_bytes(rt.alloc(), &[0b0110_1000])?;
-    let b = BitSet::from_bytes(rt.alloc(), &[0b1010_0000])?;
-    agrees(&rt, a.union(&b), &[0, 1, 2, 4]);
-    agrees(&rt, a.intersection(&b), &[2]);
-    agrees(&rt, a.difference(&b), &[1, 4]);
-    agrees(&rt, b.difference(&a), &[0]);
-    agrees(&rt, a.symmetric_difference(&b), &[0, 1, 4]);
+fn what_just_one_of_two_sets_has(rt: HostRuntime) -> Result<(), Fail> {
+    let a = set_of::<u32>(rt.alloc(), &[1, 3, 5, 9, 11])?;
+    let b = set_of::<u32>(rt.alloc(), &[3, 9, 14, 220])?;
+    agrees(&rt, a.symmetric_difference(&b), &[1, 5, 11, 14, 220]);
     Ok(())
 }
 
@@ -156,6 +160,21 @@ fn agree<B: BitBlock>(rt: &impl Abort, a: &BitSet<B>, b: &BitSet<B>, lists: &Lis
     agrees(rt, a.intersection(b), lists.both);
     agrees(rt, a.difference(b), lists.alone);
     agrees(rt, a.symmetric_difference(b), lists.one);
+}
+
+#[test]
+fn what_two_bytes_make(rt: HostRuntime) -> Result<(), Fail> {
+    let a = BitSet::from_bytes(rt.alloc(), &[0b0110_1000])?;
+    let b = BitSet::from_bytes(rt.alloc(), &[0b1010_0000])?;
+    let lists = Lists {
+        either: &[0, 1, 2, 4],
+        both: &[2],
+        alone: &[1, 4],
+        one: &[0, 1, 4],
+    };
+    agree(&rt, &a, &b, &lists);
+    agrees(&rt, b.difference(&a), &[0]);
+    Ok(())
 }
 
 #[test]
