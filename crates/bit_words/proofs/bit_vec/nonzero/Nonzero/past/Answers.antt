@@ -1,6 +1,8 @@
 use Rattle.std.proofs.Common.{◌≡◌, ℕ, ◌<◌, ◌+◌, ◌*◌, ◌/◌, ◌%◌, ◌&&◌, leb, min, drop, length, ap, ◌∙◌, arith, mod-lt, div-add-mod'}
+use Rattle.std.proofs.lemmas.List.Elements.{All-drop}
 use Rattle.bit_words.specs.Digits.{is_one}
 use Rattle.bit_words.proofs.NonzeroFromLemmas.{digits_from, pending_past, IsPastFirst-past, IsPending-past, left-past, count_past}
+use Rattle.bit_words.proofs.SummaryLemmas.{stored_each}
 use Rattle.bit_words.proofs.bit_vec.nonzero.Nonzero.past.Goals as goal
 
 pub nonzero_div-chunk : goal.nonzero_div-chunk
@@ -17,6 +19,13 @@ pull_first_used-used-requires-clause-in_bounds g c = rw (c.bits.ensures, c.bits-
 
 pub pull_first_used-used-requires-clause-each : goal.pull_first_used-used-requires-clause-each
 pull_first_used-used-requires-clause-each g c = c.requires.each
+
+pub pull_first_used-used-requires-clause-each_sum : goal.pull_first_used-used-requires-clause-each_sum
+pull_first_used-used-requires-clause-each_sum g c =
+    let is_block = g.B.BitBlock.is_block in
+    let summary = c.args.summary.now in
+    rw (c.over-rest.ensures.left, c.split_at.ensures.back)
+    (All-drop is_block c.min.result summary (stored_each g.B.BitBlock.width g.B.BitBlock.number is_block c.args.blocks.now summary c.requires.summary))
 
 pub pull_first_used-used-requires-clause-stored : goal.pull_first_used-used-requires-clause-stored
 pull_first_used-used-requires-clause-stored g c =
@@ -81,3 +90,6 @@ clear_below-requires g c = c.pull_first_used-used.ensures.of_block
 
 pub returns-clause-summary_pulls : goal.returns-clause-summary_pulls
 returns-clause-summary_pulls g c = omega (arith, c.pull_first_used-used.ensures.pulls, c.over-rest.ensures.pulls)
+
+pub returns-clause-pulls : goal.returns-clause-pulls
+returns-clause-pulls g c = omega (arith, c.tick.ensures, c.new-steps.ensures)
