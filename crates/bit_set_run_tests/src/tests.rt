@@ -8,6 +8,7 @@ use block24::Block24;
 use fakes::{EndlessReader, PieceReader, PieceWriter};
 use std::alloc::{AllocError, AllocFailed, Global};
 use std::io::ErrorKind;
+use std::process::Abort;
 use std::test::Fail;
 
 const ELEMENT_COMMANDS: &[u8] =
@@ -92,21 +93,24 @@ fn started(alloc: Global, words: &[String], input: &[u8]) -> (Exit, Vec<u8>) {
     (exit, writer)
 }
 
-#[test]
-fn replies_to_rows_under_each_word(rt: HostRuntime) -> Result<(), Fail> {
+// At these words the program leaves the output of a row.
+fn check_row(rt: &impl Abort, alloc: Global, words: &[String], (input, output): (&[u8], &[u8])) {
+    let (exit, written) = started(alloc, words, input);
     let done = Exit {
         status: 0,
         text: "",
     };
-    for (input, output) in ROWS {
-        let (exit, written) = started(rt.alloc(), &[], input);
-        assert_eq!(rt; exit, done);
-        assert_eq!(rt; written.as_slice(), *output);
+    assert_eq!(rt; exit, done, "{words:?}");
+    assert_eq!(rt; written.as_slice(), output, "{words:?}");
+}
+
+#[test]
+fn replies_to_rows_under_each_word(rt: HostRuntime) -> Result<(), Fail> {
+    for row in ROWS {
+        check_row(&rt, rt.alloc(), &[], *row);
         for word in ["u8", "u16", "u32", "u64", "usize", "u128"] {
             let words = [String::from_str(rt.alloc(), word)?];
-            let (exit, written) = started(rt.alloc(), &words, input);
-            assert_eq!(rt; exit, done, "{word}");
-            assert_eq!(rt; written.as_slice(), *output, "{word}");
+            check_row(&rt, rt.alloc(), &words, *row);
         }
     }
     Ok(())
@@ -175,13 +179,10 @@ fn rejects_other_words(rt: HostRuntime) -> Result<(), Fail> {
     Ok(())
 }
 
+// An element that no memory holds.
 #[test]
-fn says_how_it_ends(rt: HostRuntime) -> Result<(), Fail> {
-    let mut bytes = Vec::new(rt.alloc());
-
-    // An element that no memory holds.
-    let mut input = b"insert a 18446744073709551614\n".as_slice();
-    let exit = start(rt.alloc(), &[], &mut input, &mut bytes);
+fn says_that_memory_is_refused(rt: HostRuntime) {
+    let (exit, bytes) = started(rt.alloc(), &[], b"insert a 18446744073709551614\n");
     assert_eq!(rt;
         exit,
         Exit {
@@ -189,7 +190,12 @@ fn says_how_it_ends(rt: HostRuntime) -> Result<(), Fail> {
             text: "memory refused"
         }
     );
+    assert!(rt; bytes.is_empty());
+}
 
+#[test]
+fn says_that_a_read_failed(rt: HostRuntime) {
+    let mut bytes = Vec::new(rt.alloc());
     let mut broken = reader(ELEMENT_COMMANDS);
     broken.fails_at = 0;
     let exit = start(rt.alloc(), &[], &mut broken, &mut bytes);
@@ -200,7 +206,12 @@ fn says_how_it_ends(rt: HostRuntime) -> Result<(), Fail> {
             text: "read failed"
         }
     );
+    assert!(rt; bytes.is_empty());
+}
 
+#[test]
+fn says_that_an_input_is_too_large(rt: HostRuntime) {
+    let mut bytes = Vec::new(rt.alloc());
     let mut endless = EndlessReader { calls: 0 };
     let exit = start(rt.alloc(), &[], &mut endless, &mut bytes);
     assert_eq!(rt;
@@ -212,7 +223,10 @@ fn says_how_it_ends(rt: HostRuntime) -> Result<(), Fail> {
     );
     assert_eq!(rt; endless.calls, 1_048_577);
     assert!(rt; bytes.is_empty());
+}
 
+#[test]
+fn says_that_a_write_failed(rt: HostRuntime) {
     let mut closed = writer(rt.alloc());
     closed.fails_at = 0;
     let exit = start(rt.alloc(), &[], &mut reader(ELEMENT_COMMANDS), &mut closed);
@@ -223,7 +237,6 @@ fn says_how_it_ends(rt: HostRuntime) -> Result<(), Fail> {
             text: "write failed"
         }
     );
-    Ok(())
 }
 
 // A reader of these bytes, seven at a call, that does not fail.
@@ -250,6 +263,18 @@ fn writer(alloc: Global) -> PieceWriter {
     }
 }
 
+// A read that fails so is not tried again, and nothing is written.
+fn check_read(rt: &impl Abort, alloc: Global, kind: ErrorKind, fails_at: usize) {
+    let mut reader = reader(ELEMENT_COMMANDS);
+    reader.fails_at = fails_at;
+    reader.kind = kind;
+    let mut writer = writer(alloc);
+    let result = run_lines::<u32, _, _>(alloc, &mut reader, &mut writer);
+    assert_eq!(rt; result, Err(LinesFault::Read));
+    assert_eq!(rt; reader.calls.saturating_sub(1), fails_at, "not tried again");
+    assert_eq!(rt; (writer.calls, writer.flushes), (0, 0));
+}
+
 #[test]
 fn leaves_a_read_that_failed(rt: HostRuntime) -> Result<(), Fail> {
     let last = ELEMENT_COMMANDS.len().div_ceil(7);
@@ -262,17 +287,28 @@ fn leaves_a_read_that_failed(rt: HostRuntime) -> Result<(), Fail> {
         ErrorKind::OutOfMemory,
     ] {
         for fails_at in [0, 1, last] {
-            let mut reader = reader(ELEMENT_COMMANDS);
-            reader.fails_at = fails_at;
-            reader.kind = kind;
-            let mut writer = writer(rt.alloc());
-            let result = run_lines::<u32, _, _>(rt.alloc(), &mut reader, &mut writer);
-            assert_eq!(rt; result, Err(LinesFault::Read));
-            assert_eq!(rt; reader.calls.saturating_sub(1), fails_at, "not tried again");
-            assert_eq!(rt; (writer.calls, writer.flushes), (0, 0));
+            check_read(&rt, rt.alloc(), kind, fails_at);
         }
     }
     Ok(())
+}
+
+// A write that fails so is not tried again, and what was written before it stays.
+fn check_write(rt: &impl Abort, alloc: Global, kind: Option<ErrorKind>, fails_at: usize) {
+    let mut writer = writer(alloc);
+    writer.fails_at = fails_at;
+    writer.kind = kind;
+    let mut reader = reader(ELEMENT_COMMANDS);
+    let result = run_lines::<u32, _, _>(alloc, &mut reader, &mut writer);
+    assert_eq!(rt; result, Err(LinesFault::Write));
+    let calls = (writer.calls.saturating_sub(1), writer.flushes);
+    assert_eq!(rt; calls, (fails_at, 0), "not tried again");
+    assert_eq!(rt;
+        writer.bytes.as_slice(),
+        ELEMENT_REPLIES
+            .get(..fails_at.saturating_mul(7))
+            .unwrap_or(b"?")
+    );
 }
 
 #[test]
@@ -287,30 +323,14 @@ fn leaves_a_write_that_failed(rt: HostRuntime) -> Result<(), Fail> {
         None,
     ] {
         for fails_at in [0, 1, last] {
-            let mut writer = writer(rt.alloc());
-            writer.fails_at = fails_at;
-            writer.kind = kind;
-            let result = run_lines::<u32, _, _>(
-                rt.alloc(),
-                &mut reader(ELEMENT_COMMANDS),
-                &mut writer,
-            );
-            assert_eq!(rt; result, Err(LinesFault::Write));
-            assert_eq!(rt; writer.calls.saturating_sub(1), fails_at, "not tried again");
-            assert_eq!(rt; writer.flushes, 0);
-            assert_eq!(rt;
-                writer.bytes.as_slice(),
-                ELEMENT_REPLIES
-                    .get(..fails_at.saturating_mul(7))
-                    .unwrap_or(b"?")
-            );
+            check_write(&rt, rt.alloc(), kind, fails_at);
         }
     }
     Ok(())
 }
 
 #[test]
-fn writes_in_pieces_and_flushes(rt: HostRuntime) -> Result<(), Fail> {
+fn writes_in_pieces_and_flushes(rt: HostRuntime) {
     let mut patient = writer(rt.alloc());
     patient.piece = 1;
     let mut read = reader(ELEMENT_COMMANDS);
@@ -323,20 +343,24 @@ fn writes_in_pieces_and_flushes(rt: HostRuntime) -> Result<(), Fail> {
     );
     assert_eq!(rt; patient.bytes.as_slice(), ELEMENT_REPLIES);
     assert_eq!(rt; patient.flushes, 1);
+}
 
-    // An empty output is flushed too.
+#[test]
+fn flushes_an_empty_output_too(rt: HostRuntime) {
     let mut idle = writer(rt.alloc());
     let result = run_lines::<u32, _, _>(rt.alloc(), &mut reader(b""), &mut idle);
     assert_eq!(rt; result, Ok(()));
     assert_eq!(rt; (idle.calls, idle.flushes), (0, 1));
+}
 
+#[test]
+fn leaves_a_flush_that_failed(rt: HostRuntime) {
     let mut unflushed = writer(rt.alloc());
     unflushed.flush_fails = true;
     let result = run_lines::<u32, _, _>(rt.alloc(), &mut reader(ELEMENT_COMMANDS), &mut unflushed);
     assert_eq!(rt; result, Err(LinesFault::Write));
     assert_eq!(rt; unflushed.bytes.as_slice(), ELEMENT_REPLIES);
     assert_eq!(rt; unflushed.flushes, 1);
-    Ok(())
 }
 
 // Some bytes, in lines of 64 that spell no command.
@@ -352,7 +376,7 @@ fn long_lines(alloc: Global, count: usize) -> Result<Vec<u8>, AllocError> {
 
 #[test]
 fn takes_inputs_up_to_the_limit(rt: HostRuntime) -> Result<(), Fail> {
-    let mut input = long_lines(rt.alloc(), 1_048_576)?;
+    let input = long_lines(rt.alloc(), 1_048_576)?;
     let (exit, output) = started(rt.alloc(), &[], &input);
     assert_eq!(rt; exit.status, 0);
     assert_eq!(rt; output.len(), 196_608);
@@ -362,16 +386,31 @@ fn takes_inputs_up_to_the_limit(rt: HostRuntime) -> Result<(), Fail> {
             b"bad command\nbad command\nbad command\nbad command\n".as_slice()
         );
     }
+    Ok(())
+}
 
+// An input of one byte more.
+fn too_large(alloc: Global) -> Result<Vec<u8>, AllocError> {
+    let mut input = long_lines(alloc, 1_048_576)?;
     input.push(b'\n')?;
+    Ok(input)
+}
+
+#[test]
+fn runs_no_line_of_an_input_past_the_limit(rt: HostRuntime) -> Result<(), Fail> {
+    let input = too_large(rt.alloc())?;
     let mut reader = reader(&input);
     reader.piece = usize::MAX;
     let mut writer = writer(rt.alloc());
     let result = run_lines::<u32, _, _>(rt.alloc(), &mut reader, &mut writer);
     assert_eq!(rt; result, Err(LinesFault::TooLarge));
     assert_eq!(rt; (writer.calls, writer.flushes), (0, 0));
+    Ok(())
+}
 
-    let (exit, output) = started(rt.alloc(), &[], &input);
+#[test]
+fn says_that_an_input_is_past_the_limit(rt: HostRuntime) -> Result<(), Fail> {
+    let (exit, output) = started(rt.alloc(), &[], &too_large(rt.alloc())?);
     assert_eq!(rt;
         exit,
         Exit {
@@ -404,7 +443,7 @@ fn output_and_word(alloc: Global, mut lines: &[u8]) -> Result<Vec<u8>, LinesFaul
 
 // A run never comes to the place `usize::MAX`: there is no such command.
 #[test]
-fn allocation_errors_become_faults(rt: HostRuntime) -> Result<(), Fail> {
+fn allocation_errors_become_faults(rt: HostRuntime) {
     assert_eq!(rt;
         RunFault::from(AllocFailed { value: 3u8 }),
         RunFault::Memory(usize::MAX)
@@ -415,7 +454,10 @@ fn allocation_errors_become_faults(rt: HostRuntime) -> Result<(), Fail> {
         LinesFault::Memory
     );
     assert_eq!(rt; LinesFault::from(AllocError), LinesFault::Memory);
+}
 
+#[test]
+fn a_run_and_a_vector_share_their_faults(rt: HostRuntime) -> Result<(), Fail> {
     let name = SetName::from_letter(b'c').ok_or("c")?;
     assert_eq!(rt; kept_name(rt.alloc(), name)?.as_slice(), [name].as_slice());
     assert_eq!(rt;

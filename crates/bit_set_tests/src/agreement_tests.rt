@@ -86,8 +86,12 @@ fn sets_over_two_block_types_agree(rt: HostRuntime) -> Result<(), Fail> {
     calls_are_set_algebra();
     full_walks::<u8>();
     let items = (Some(3), Some(40), 1);
-    assert_eq!(rt; walked::<u8, u128>(rt.alloc())?, items);
-    assert_eq!(rt; walked::<Block24, u32>(rt.alloc())?, items);
-    assert_eq!(rt; walked::<usize, Block24>(rt.alloc())?, items);
+    for walked in [
+        walked::<u8, u128>(rt.alloc())?,
+        walked::<Block24, u32>(rt.alloc())?,
+        walked::<usize, Block24>(rt.alloc())?,
+    ] {
+        assert_eq!(rt; walked, items);
+    }
     Ok(())
 }

@@ -64,6 +64,12 @@ fn a_union_has_the_greater_length(rt: HostRuntime) -> Result<(), Fail> {
         &five,
         (&[0, 5], 6),
     )?;
+    Ok(())
+}
+
+#[test]
+fn a_union_has_the_length_of_a_byte(rt: HostRuntime) -> Result<(), Fail> {
+    let alloc = rt.alloc();
     let byte = BitSet::from_bytes(alloc, &[0b1000_0100])?;
     becomes(
         &rt,
@@ -141,6 +147,13 @@ fn a_symmetric_difference_has_what_just_one_has(rt: HostRuntime) -> Result<(), F
         &ends,
         (&[0, 5], 6),
     )?;
+    Ok(())
+}
+
+#[test]
+fn a_symmetric_difference_is_the_set_read(rt: HostRuntime) -> Result<(), Fail> {
+    let alloc = rt.alloc();
+    let ends = set_of(alloc, &[1, 5])?;
     let both = set_of(alloc, &[0, 1])?;
     assert!(rt; is_bytes(alloc, Merge::Symmetric, both, &ends, 0b1000_0100)?);
     Ok(())

@@ -8,6 +8,12 @@ use std::process::Abort;
 use std::test::Fail;
 use test_helpers::set_of;
 
+// How many elements a set has, its length, and how many blocks.
+fn sizes(set: &BitSet) -> [usize; 3] {
+    let bits = set.get_ref();
+    [set.count(), bits.len(), bits.storage().len()]
+}
+
 #[test]
 fn insert_returns_what_is_new(rt: HostRuntime) -> Result<(), Fail> {
     let mut set = BitSet::new(rt.alloc());
@@ -21,9 +27,7 @@ fn insert_returns_what_is_new(rt: HostRuntime) -> Result<(), Fail> {
     ] {
         assert_eq!(rt; set.insert(value)?, new, "at {value}");
     }
-    assert_eq!(rt; set.count(), 3);
-    assert_eq!(rt; set.get_ref().len(), 401);
-    assert_eq!(rt; set.get_ref().storage().len(), 13);
+    assert_eq!(rt; sizes(&set), [3, 401, 13]);
     Ok(())
 }
 
@@ -58,8 +62,11 @@ fn truncate_keeps_what_is_below(rt: HostRuntime) -> Result<(), Fail> {
     let mut set = BitSet::from_bytes(rt.alloc(), &[0xFF; 6])?;
     for (len, left) in [(40, 40), (32, 32), (40, 32), (8, 8), (0, 0)] {
         set.truncate(len);
-        assert_eq!(rt; set.count(), left, "at {len}");
-        assert_eq!(rt; set.get_ref().len(), left, "at {len}");
+        assert_eq!(rt;
+            [set.count(), set.get_ref().len()],
+            [left, left],
+            "at {len}"
+        );
     }
     Ok(())
 }
