@@ -3,6 +3,7 @@
 mod fakes;
 mod tables;
 
+use crate::expect::{expect, expect_eq};
 use bit_set_run::{Command, Exit, LinesFault, RunFault, SetName, Table, run, run_lines, start};
 use block24::Block24;
 use fakes::{EndlessReader, PieceReader, PieceWriter};
@@ -123,8 +124,8 @@ fn replies_to_rows_over_blocks_of_24_bits(rt: HostRuntime) -> Result<(), Fail> {
         let mut reader = *input;
         let mut writer = Vec::new(rt.alloc());
         let result = run_lines::<Block24, _, _>(rt.alloc(), &mut reader, &mut writer);
-        assert_eq!(rt; result, Ok(()));
-        assert_eq!(rt; writer.as_slice(), *output);
+        expect_eq(&rt, &result, &Ok(()));
+        expect_eq(&rt, &writer.as_slice(), &*output);
     }
     Ok(())
 }
@@ -167,14 +168,19 @@ fn rejects_other_words(rt: HostRuntime) -> Result<(), Fail> {
         let mut reader = reader(ELEMENT_COMMANDS);
         let mut writer = writer(rt.alloc());
         let exit = start(rt.alloc(), words, &mut reader, &mut writer);
-        assert_eq!(rt;
-            exit,
-            Exit {
+        expect_eq(
+            &rt,
+            &exit,
+            &Exit {
                 status: 2,
-                text: "usage: bitset [u8|u16|u32|u64|usize|u128]"
-            }
+                text: "usage: bitset [u8|u16|u32|u64|usize|u128]",
+            },
         );
-        assert_eq!(rt; (reader.calls, writer.calls, writer.flushes), (0, 0, 0));
+        expect_eq(
+            &rt,
+            &(reader.calls, writer.calls, writer.flushes),
+            &(0, 0, 0),
+        );
     }
     Ok(())
 }
@@ -183,14 +189,15 @@ fn rejects_other_words(rt: HostRuntime) -> Result<(), Fail> {
 #[test]
 fn says_that_memory_is_refused(rt: HostRuntime) {
     let (exit, bytes) = started(rt.alloc(), &[], b"insert a 18446744073709551614\n");
-    assert_eq!(rt;
-        exit,
-        Exit {
+    expect_eq(
+        &rt,
+        &exit,
+        &Exit {
             status: 3,
-            text: "memory refused"
-        }
+            text: "memory refused",
+        },
     );
-    assert!(rt; bytes.is_empty());
+    expect(&rt, bytes.is_empty());
 }
 
 #[test]
@@ -199,14 +206,15 @@ fn says_that_a_read_failed(rt: HostRuntime) {
     let mut broken = reader(ELEMENT_COMMANDS);
     broken.fails_at = 0;
     let exit = start(rt.alloc(), &[], &mut broken, &mut bytes);
-    assert_eq!(rt;
-        exit,
-        Exit {
+    expect_eq(
+        &rt,
+        &exit,
+        &Exit {
             status: 4,
-            text: "read failed"
-        }
+            text: "read failed",
+        },
     );
-    assert!(rt; bytes.is_empty());
+    expect(&rt, bytes.is_empty());
 }
 
 #[test]
@@ -214,15 +222,16 @@ fn says_that_an_input_is_too_large(rt: HostRuntime) {
     let mut bytes = Vec::new(rt.alloc());
     let mut endless = EndlessReader { calls: 0 };
     let exit = start(rt.alloc(), &[], &mut endless, &mut bytes);
-    assert_eq!(rt;
-        exit,
-        Exit {
+    expect_eq(
+        &rt,
+        &exit,
+        &Exit {
             status: 5,
-            text: "input too large"
-        }
+            text: "input too large",
+        },
     );
-    assert_eq!(rt; endless.calls, 1_048_577);
-    assert!(rt; bytes.is_empty());
+    expect_eq(&rt, &endless.calls, &1_048_577);
+    expect(&rt, bytes.is_empty());
 }
 
 #[test]
@@ -230,12 +239,13 @@ fn says_that_a_write_failed(rt: HostRuntime) {
     let mut closed = writer(rt.alloc());
     closed.fails_at = 0;
     let exit = start(rt.alloc(), &[], &mut reader(ELEMENT_COMMANDS), &mut closed);
-    assert_eq!(rt;
-        exit,
-        Exit {
+    expect_eq(
+        &rt,
+        &exit,
+        &Exit {
             status: 4,
-            text: "write failed"
-        }
+            text: "write failed",
+        },
     );
 }
 
@@ -270,9 +280,9 @@ fn check_read(rt: &impl Abort, alloc: Global, kind: ErrorKind, fails_at: usize) 
     reader.kind = kind;
     let mut writer = writer(alloc);
     let result = run_lines::<u32, _, _>(alloc, &mut reader, &mut writer);
-    assert_eq!(rt; result, Err(LinesFault::Read));
+    expect_eq(rt, &result, &Err(LinesFault::Read));
     assert_eq!(rt; reader.calls.saturating_sub(1), fails_at, "not tried again");
-    assert_eq!(rt; (writer.calls, writer.flushes), (0, 0));
+    expect_eq(rt, &(writer.calls, writer.flushes), &(0, 0));
 }
 
 #[test]
@@ -300,14 +310,15 @@ fn check_write(rt: &impl Abort, alloc: Global, kind: Option<ErrorKind>, fails_at
     writer.kind = kind;
     let mut reader = reader(ELEMENT_COMMANDS);
     let result = run_lines::<u32, _, _>(alloc, &mut reader, &mut writer);
-    assert_eq!(rt; result, Err(LinesFault::Write));
+    expect_eq(rt, &result, &Err(LinesFault::Write));
     let calls = (writer.calls.saturating_sub(1), writer.flushes);
     assert_eq!(rt; calls, (fails_at, 0), "not tried again");
-    assert_eq!(rt;
-        writer.bytes.as_slice(),
-        ELEMENT_REPLIES
+    expect_eq(
+        rt,
+        &writer.bytes.as_slice(),
+        &ELEMENT_REPLIES
             .get(..fails_at.saturating_mul(7))
-            .unwrap_or(b"?")
+            .unwrap_or(b"?"),
     );
 }
 
@@ -335,22 +346,22 @@ fn writes_in_pieces_and_flushes(rt: HostRuntime) {
     patient.piece = 1;
     let mut read = reader(ELEMENT_COMMANDS);
     let result = run_lines::<u32, _, _>(rt.alloc(), &mut read, &mut patient);
-    assert_eq!(rt; result, Ok(()));
+    expect_eq(&rt, &result, &Ok(()));
     assert_eq!(rt;
         read.calls,
         ELEMENT_COMMANDS.len().div_ceil(7).saturating_add(1),
         "none after the end"
     );
-    assert_eq!(rt; patient.bytes.as_slice(), ELEMENT_REPLIES);
-    assert_eq!(rt; patient.flushes, 1);
+    expect_eq(&rt, &patient.bytes.as_slice(), &ELEMENT_REPLIES);
+    expect_eq(&rt, &patient.flushes, &1);
 }
 
 #[test]
 fn flushes_an_empty_output_too(rt: HostRuntime) {
     let mut idle = writer(rt.alloc());
     let result = run_lines::<u32, _, _>(rt.alloc(), &mut reader(b""), &mut idle);
-    assert_eq!(rt; result, Ok(()));
-    assert_eq!(rt; (idle.calls, idle.flushes), (0, 1));
+    expect_eq(&rt, &result, &Ok(()));
+    expect_eq(&rt, &(idle.calls, idle.flushes), &(0, 1));
 }
 
 #[test]
@@ -358,9 +369,9 @@ fn leaves_a_flush_that_failed(rt: HostRuntime) {
     let mut unflushed = writer(rt.alloc());
     unflushed.flush_fails = true;
     let result = run_lines::<u32, _, _>(rt.alloc(), &mut reader(ELEMENT_COMMANDS), &mut unflushed);
-    assert_eq!(rt; result, Err(LinesFault::Write));
-    assert_eq!(rt; unflushed.bytes.as_slice(), ELEMENT_REPLIES);
-    assert_eq!(rt; unflushed.flushes, 1);
+    expect_eq(&rt, &result, &Err(LinesFault::Write));
+    expect_eq(&rt, &unflushed.bytes.as_slice(), &ELEMENT_REPLIES);
+    expect_eq(&rt, &unflushed.flushes, &1);
 }
 
 // Some bytes, in lines of 64 that spell no command.
@@ -378,12 +389,13 @@ fn long_lines(alloc: Global, count: usize) -> Result<Vec<u8>, AllocError> {
 fn takes_inputs_up_to_the_limit(rt: HostRuntime) -> Result<(), Fail> {
     let input = long_lines(rt.alloc(), 1_048_576)?;
     let (exit, output) = started(rt.alloc(), &[], &input);
-    assert_eq!(rt; exit.status, 0);
-    assert_eq!(rt; output.len(), 196_608);
+    expect_eq(&rt, &exit.status, &0);
+    expect_eq(&rt, &output.len(), &196_608);
     for lines in output.chunks(48) {
-        assert_eq!(rt;
-            lines,
-            b"bad command\nbad command\nbad command\nbad command\n".as_slice()
+        expect_eq(
+            &rt,
+            &lines,
+            &b"bad command\nbad command\nbad command\nbad command\n".as_slice(),
         );
     }
     Ok(())
@@ -403,22 +415,23 @@ fn runs_no_line_of_an_input_past_the_limit(rt: HostRuntime) -> Result<(), Fail> 
     reader.piece = usize::MAX;
     let mut writer = writer(rt.alloc());
     let result = run_lines::<u32, _, _>(rt.alloc(), &mut reader, &mut writer);
-    assert_eq!(rt; result, Err(LinesFault::TooLarge));
-    assert_eq!(rt; (writer.calls, writer.flushes), (0, 0));
+    expect_eq(&rt, &result, &Err(LinesFault::TooLarge));
+    expect_eq(&rt, &(writer.calls, writer.flushes), &(0, 0));
     Ok(())
 }
 
 #[test]
 fn says_that_an_input_is_past_the_limit(rt: HostRuntime) -> Result<(), Fail> {
     let (exit, output) = started(rt.alloc(), &[], &too_large(rt.alloc())?);
-    assert_eq!(rt;
-        exit,
-        Exit {
+    expect_eq(
+        &rt,
+        &exit,
+        &Exit {
             status: 5,
-            text: "input too large"
-        }
+            text: "input too large",
+        },
     );
-    assert!(rt; output.is_empty());
+    expect(&rt, output.is_empty());
     Ok(())
 }
 
@@ -444,25 +457,36 @@ fn output_and_word(alloc: Global, mut lines: &[u8]) -> Result<Vec<u8>, LinesFaul
 // A run never comes to the place `usize::MAX`: there is no such command.
 #[test]
 fn allocation_errors_become_faults(rt: HostRuntime) {
-    assert_eq!(rt;
-        RunFault::from(AllocFailed { value: 3u8 }),
-        RunFault::Memory(usize::MAX)
+    expect_eq(
+        &rt,
+        &RunFault::from(AllocFailed { value: 3u8 }),
+        &RunFault::Memory(usize::MAX),
     );
-    assert_eq!(rt; RunFault::from(AllocError), RunFault::Memory(usize::MAX));
-    assert_eq!(rt;
-        LinesFault::from(AllocFailed { value: 3u8 }),
-        LinesFault::Memory
+    expect_eq(
+        &rt,
+        &RunFault::from(AllocError),
+        &RunFault::Memory(usize::MAX),
     );
-    assert_eq!(rt; LinesFault::from(AllocError), LinesFault::Memory);
+    expect_eq(
+        &rt,
+        &LinesFault::from(AllocFailed { value: 3u8 }),
+        &LinesFault::Memory,
+    );
+    expect_eq(&rt, &LinesFault::from(AllocError), &LinesFault::Memory);
 }
 
 #[test]
 fn a_run_and_a_vector_share_their_faults(rt: HostRuntime) -> Result<(), Fail> {
     let name = SetName::from_letter(b'c').ok_or("c")?;
-    assert_eq!(rt; kept_name(rt.alloc(), name)?.as_slice(), [name].as_slice());
-    assert_eq!(rt;
-        output_and_word(rt.alloc(), b"count a")?.as_slice(),
-        b"0\n.".as_slice()
+    expect_eq(
+        &rt,
+        &kept_name(rt.alloc(), name)?.as_slice(),
+        &[name].as_slice(),
+    );
+    expect_eq(
+        &rt,
+        &output_and_word(rt.alloc(), b"count a")?.as_slice(),
+        &b"0\n.".as_slice(),
     );
     Ok(())
 }
@@ -478,11 +502,16 @@ fn says_its_faults(rt: HostRuntime) -> Result<(), Fail> {
         LinesFault::Write,
         RunFault::Memory(3)
     )?;
-    assert_eq!(rt;
-        text.as_str(),
-        "read failed, input too large, memory refused, write failed, memory refused"
+    expect_eq(
+        &rt,
+        &text.as_str(),
+        &"read failed, input too large, memory refused, write failed, memory refused",
     );
     let shown = format!(in rt.alloc(); "{:?} {:?}", Command::Count(name), RunFault::Memory(3))?;
-    assert_eq!(rt; shown.as_str(), "Count(SetName { place: 2 }) Memory(3)");
+    expect_eq(
+        &rt,
+        &shown.as_str(),
+        &"Count(SetName { place: 2 }) Memory(3)",
+    );
     Ok(())
 }

@@ -1,6 +1,7 @@
 //! Capacity and length, and the bit vector in hand: rows with their exact results.
 ghost use Rattle.std.specs.Prelude.{◌≡◌, ◌<◌, ◌≤◌, All, IsOk, length, slice_set, true};
 
+use crate::expect::{expect, expect_eq};
 use bit_set::{BitBlock, BitSet, SetError};
 use block24::Block24;
 use std::alloc::{AllocError, Global};
@@ -28,7 +29,7 @@ fn a_shrunk_set_is_as_long_as_its_blocks(rt: HostRuntime) -> Result<(), Fail> {
         (lengths::<u128>(alloc, &[3])?, [4, 128]),
         (lengths::<u32>(alloc, &[3, 98, 259])?, [260, 288]),
     ] {
-        assert_eq!(rt; lengths, wanted);
+        expect_eq(&rt, &lengths, &wanted);
     }
     Ok(())
 }
@@ -49,9 +50,13 @@ fn length_without<B: BitBlock>(
 #[test]
 fn blocks_of_zeros_are_cut(rt: HostRuntime) -> Result<(), Fail> {
     let alloc = rt.alloc();
-    assert_eq!(rt; length_without::<u32>(alloc, &[3], 3)?, 0);
-    assert_eq!(rt; length_without::<u8>(alloc, &[3], 3)?, 0);
-    assert_eq!(rt; length_without::<u32>(alloc, &[3, 98, 259], 259)?, 128);
+    expect_eq(&rt, &length_without::<u32>(alloc, &[3], 3)?, &0);
+    expect_eq(&rt, &length_without::<u8>(alloc, &[3], 3)?, &0);
+    expect_eq(
+        &rt,
+        &length_without::<u32>(alloc, &[3, 98, 259], 259)?,
+        &128,
+    );
     Ok(())
 }
 
@@ -65,9 +70,9 @@ fn filled<B: BitBlock>(alloc: Global) -> Result<usize, SetError> {
 
 #[test]
 fn a_fill_fills_whole_blocks(rt: HostRuntime) -> Result<(), Fail> {
-    assert_eq!(rt; filled::<u8>(rt.alloc())?, 8);
-    assert_eq!(rt; filled::<u64>(rt.alloc())?, 64);
-    assert_eq!(rt; filled::<u128>(rt.alloc())?, 128);
+    expect_eq(&rt, &filled::<u8>(rt.alloc())?, &8);
+    expect_eq(&rt, &filled::<u64>(rt.alloc())?, &64);
+    expect_eq(&rt, &filled::<u128>(rt.alloc())?, &128);
     Ok(())
 }
 
@@ -85,15 +90,15 @@ fn what_is_written_is_the_set(rt: HostRuntime) -> Result<(), Fail> {
     set.insert(0)?;
     set.insert(3)?;
     raise_at_one(&mut set);
-    assert!(rt; set.iter().eq([0, 1, 3]));
+    expect(&rt, set.iter().eq([0, 1, 3]));
     Ok(())
 }
 
 #[test]
 fn the_bit_vector_is_handed_out(rt: HostRuntime) -> Result<(), Fail> {
     let bits = set_of::<u32>(rt.alloc(), &[0, 3])?.into_bit_vec();
-    assert_eq!(rt; bits.get(3), Some(true));
-    assert_eq!(rt; bits.get(4), None);
+    expect_eq(&rt, &bits.get(3), &Some(true));
+    expect_eq(&rt, &bits.get(4), &None);
     Ok(())
 }
 
@@ -102,7 +107,7 @@ fn the_bit_vector_of_a_union_is_handed_out(rt: HostRuntime) -> Result<(), Fail> 
     let mut set = set_of(rt.alloc(), &[0, 3, 7])?;
     set.remove(7);
     set.union_with(&BitSet::from_bytes(rt.alloc(), &[0b1101_0000])?)?;
-    assert_eq!(rt; set.into_bit_vec().get(3), Some(true));
+    expect_eq(&rt, &set.into_bit_vec().get(3), &Some(true));
     Ok(())
 }
 
@@ -116,11 +121,11 @@ fn capacities(set: &mut BitSet) -> Result<[usize; 2], SetError> {
 #[test]
 fn a_new_set_has_no_capacity(rt: HostRuntime) -> Result<(), Fail> {
     let mut set = BitSet::new(rt.alloc());
-    assert_eq!(rt; capacities(&mut set)?, [0, 0]);
+    expect_eq(&rt, &capacities(&mut set)?, &[0, 0]);
     set.insert(3)?;
     let [before, after] = capacities(&mut set)?;
-    assert!(rt; before > 0 && after > 0);
-    assert!(rt; set.iter().eq([3]));
+    expect(&rt, before > 0 && after > 0);
+    expect(&rt, set.iter().eq([3]));
     Ok(())
 }
 
@@ -131,8 +136,8 @@ fn shrunk_once(rt: &impl Abort, alloc: Global) -> Result<BitSet, SetError> {
         set.insert(value)?;
     }
     set.shrink_to_fit()?;
-    assert_eq!(rt; set.count(), 3);
-    assert!(rt; set.capacity() > 0);
+    expect_eq(rt, &set.count(), &3);
+    expect(rt, set.capacity() > 0);
     Ok(set)
 }
 
@@ -142,7 +147,7 @@ fn shrunk_twice(rt: &impl Abort, alloc: Global) -> Result<BitSet, SetError> {
     let capacity = set.capacity();
     set.remove(259);
     set.shrink_to_fit()?;
-    assert!(rt; set.capacity() < capacity);
+    expect(rt, set.capacity() < capacity);
     Ok(set)
 }
 
@@ -157,8 +162,8 @@ fn emptied(set: &mut BitSet) -> (usize, bool) {
 fn capacity_is_given_back(rt: HostRuntime) -> Result<(), Fail> {
     let alloc = rt.alloc();
     let mut set = shrunk_twice(&rt, alloc)?;
-    assert!(rt; set.iter().eq([3, 98]));
-    assert_eq!(rt; emptied(&mut set), (0, true));
+    expect(&rt, set.iter().eq([3, 98]));
+    expect_eq(&rt, &emptied(&mut set), &(0, true));
     Ok(())
 }
 
@@ -167,11 +172,11 @@ fn all_capacity_is_given_back_by_an_empty_set(rt: HostRuntime) -> Result<(), Fai
     let mut set = shrunk_twice(&rt, rt.alloc())?;
     set.make_empty();
     set.insert(512)?;
-    assert!(rt; set.iter().eq([512]));
+    expect(&rt, set.iter().eq([512]));
     set.remove(512);
     set.shrink_to_fit()?;
-    assert!(rt; set.is_empty());
-    assert_eq!(rt; set.capacity(), 0);
+    expect(&rt, set.is_empty());
+    expect_eq(&rt, &set.capacity(), &0);
     Ok(())
 }
 
@@ -193,8 +198,8 @@ fn capacity_is_reserved(rt: HostRuntime) -> Result<(), Fail> {
         (reserved::<Block24>(alloc)?, 48),
         (reserved::<u32>(alloc)?, 64),
     ] {
-        assert!(rt; capacity[0] >= 41);
-        assert_eq!(rt; capacity[1], exact);
+        expect(&rt, capacity[0] >= 41);
+        expect_eq(&rt, &capacity[1], &exact);
     }
     Ok(())
 }
@@ -202,10 +207,10 @@ fn capacity_is_reserved(rt: HostRuntime) -> Result<(), Fail> {
 #[test]
 fn no_capacity_past_all_memory(rt: HostRuntime) -> Result<(), Fail> {
     let mut set = set_of::<u32>(rt.alloc(), &[5])?;
-    assert!(rt; set.reserve_len(18446744073709551615).is_err());
-    assert!(rt; set.reserve_len_exact(18446744073709551615).is_err());
-    assert!(rt; set.iter().eq([5]));
-    assert_eq!(rt; set.get_ref().len(), 6);
+    expect(&rt, set.reserve_len(18446744073709551615).is_err());
+    expect(&rt, set.reserve_len_exact(18446744073709551615).is_err());
+    expect(&rt, set.iter().eq([5]));
+    expect_eq(&rt, &set.get_ref().len(), &6);
     Ok(())
 }
 
@@ -222,9 +227,9 @@ fn put_one_after_zero(set: &mut BitSet) -> Result<bool, SetError>
 fn a_block_that_is_there_is_enough(rt: HostRuntime) -> Result<(), Fail> {
     let mut set = BitSet::new(rt.alloc());
     set.insert(0)?;
-    assert!(rt; put_one_after_zero(&mut set)?);
+    expect(&rt, put_one_after_zero(&mut set)?);
     let bytes = BitSet::<u8>::from_bytes_general(rt.alloc(), &[7; 5])?;
-    assert_eq!(rt; bytes.capacity(), 40);
+    expect_eq(&rt, &bytes.capacity(), &40);
     Ok(())
 }
 
@@ -278,7 +283,7 @@ fn within_its_capacity_a_set_never_fails(rt: HostRuntime) -> Result<(), Fail> {
     let capacity = set.capacity();
     put_all_within(&mut set, &[99, 0, 41])?;
     change_within(&mut set, &other)?;
-    assert!(rt; set.iter().eq([3, 98]));
-    assert_eq!(rt; set.capacity(), capacity);
+    expect(&rt, set.iter().eq([3, 98]));
+    expect_eq(&rt, &set.capacity(), &capacity);
     Ok(())
 }

@@ -1,5 +1,6 @@
 //! The JSON form: rows with their exact results, from texts that `serde_json` reads, and each call over each type
 //! of blocks.
+use crate::expect::{expect, expect_eq};
 use bit_set::bit_vec::BitVec;
 use bit_set::{BitSet, JsonBlock, JsonError};
 use serde_json::Value;
@@ -57,8 +58,8 @@ fn assert_goes_round<B: JsonBlock>(
     let text = text_of(alloc, set)?;
     let value = Value::from_str(alloc, text.as_str())?;
     let back = BitSet::from_json(alloc, &value)?;
-    assert!(rt; back == *set);
-    assert_eq!(rt; back.get_ref().len(), set.get_ref().len());
+    expect(rt, back == *set);
+    expect_eq(rt, &back.get_ref().len(), &set.get_ref().len());
     Ok(())
 }
 
@@ -73,9 +74,10 @@ fn a_set_is_spelt(rt: HostRuntime) -> Result<(), Fail> {
     let numbers: [usize; 4] = [11, 42, 100, 101];
     let set: BitSet<u32> = BitSet::from_iter(alloc, numbers.iter().copied())?;
     let text = text_of(alloc, &set)?;
-    assert_eq!(rt;
-        text.as_str(),
-        "{\"bit_vec\":{\"nbits\":102,\"storage\":[2048,1024,0,48]}}"
+    expect_eq(
+        &rt,
+        &text.as_str(),
+        &"{\"bit_vec\":{\"nbits\":102,\"storage\":[2048,1024,0,48]}}",
     );
     assert_goes_round(&rt, alloc, &set)
 }
@@ -83,7 +85,11 @@ fn a_set_is_spelt(rt: HostRuntime) -> Result<(), Fail> {
 #[test]
 fn the_empty_set_is_spelt(rt: HostRuntime) -> Result<(), Fail> {
     let text = text_of(rt.alloc(), &BitSet::new(rt.alloc()))?;
-    assert_eq!(rt; text.as_str(), "{\"bit_vec\":{\"nbits\":0,\"storage\":[]}}");
+    expect_eq(
+        &rt,
+        &text.as_str(),
+        &"{\"bit_vec\":{\"nbits\":0,\"storage\":[]}}",
+    );
     Ok(())
 }
 
@@ -249,7 +255,7 @@ fn faults_have_texts(rt: HostRuntime) -> Result<(), Fail> {
         (JsonError::Unclean, "a bit past the length"),
         (JsonError::Memory(AllocError), "memory refused"),
     ] {
-        assert_eq!(rt; format!(in rt.alloc(); "{fault}")?.as_str(), text);
+        expect_eq(&rt, &format!(in rt.alloc(); "{fault}")?.as_str(), &text);
     }
     Ok(())
 }
@@ -271,7 +277,7 @@ fn a_set_is_read_and_a_list_grows_in_one_function(rt: HostRuntime) -> Result<(),
     let value = Value::from_str(alloc, "{\"bit_vec\": {\"storage\": [5], \"nbits\": 3}}")?;
     let mut lengths = Vec::new(alloc);
     let set = keep_length(alloc, &mut lengths, &value)?;
-    assert!(rt; set.iter().eq([0, 2]));
-    assert_eq!(rt; lengths.as_slice(), [3].as_slice());
+    expect(&rt, set.iter().eq([0, 2]));
+    expect_eq(&rt, &lengths.as_slice(), &[3].as_slice());
     Ok(())
 }

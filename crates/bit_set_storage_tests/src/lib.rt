@@ -5,6 +5,8 @@
 #[cfg(test)]
 mod capacity_tests;
 #[cfg(test)]
+mod expect;
+#[cfg(test)]
 mod json_tests;
 #[cfg(test)]
 mod split_tests;

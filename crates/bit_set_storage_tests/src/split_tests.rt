@@ -2,6 +2,7 @@
 //! blocks and over 24 bits.
 ghost use Rattle.std.specs.Prelude.{◌≡◌, OnOk};
 
+use crate::expect::{expect, expect_eq};
 use bit_set::laws::parted_sets;
 use bit_set::{BitBlock, BitSet, SetError};
 use block24::Block24;
@@ -82,7 +83,7 @@ fn the_upper_part_is_handed_out(rt: HostRuntime) -> Result<(), Fail> {
         has_upper_part::<usize>(rt.alloc(), 34, &upper)?,
         has_upper_part::<u128>(rt.alloc(), 34, &upper)?,
     ] {
-        assert!(rt; has_upper);
+        expect(&rt, has_upper);
     }
     Ok(())
 }
@@ -106,9 +107,9 @@ fn check_append<B: BitBlock>(rt: &impl Abort, alloc: Global) -> Result<(), SetEr
     let mut set = set_of::<B>(alloc, &[2, 6])?;
     let mut other = set_of::<B>(alloc, &[1, 3, 6])?;
     set.append(&mut other)?;
-    assert!(rt; has_just(alloc, &set, &[1, 2, 3, 6], 0b0111_0010)?);
-    assert!(rt; other.is_empty());
-    assert_eq!(rt; other.get_ref().len(), 7);
+    expect(rt, has_just(alloc, &set, &[1, 2, 3, 6], 0b0111_0010)?);
+    expect(rt, other.is_empty());
+    expect_eq(rt, &other.get_ref().len(), &7);
     Ok(())
 }
 
@@ -151,18 +152,18 @@ fn lengths<B: BitBlock>(a: &BitSet<B>, b: &BitSet<B>) -> [usize; 2] {
 
 fn check_parted<B: BitBlock>(rt: &impl Abort, alloc: Global) -> Result<(), SetError> {
     let (set, part) = parted::<B>(alloc)?;
-    assert!(rt; has_just(alloc, &set, &[1, 2], 0b0110_0000)?);
-    assert!(rt; has_just(alloc, &part, &[3, 6], 0b0001_0010)?);
-    assert_eq!(rt; lengths(&set, &part), [3, 7]);
+    expect(rt, has_just(alloc, &set, &[1, 2], 0b0110_0000)?);
+    expect(rt, has_just(alloc, &part, &[3, 6], 0b0001_0010)?);
+    expect_eq(rt, &lengths(&set, &part), &[3, 7]);
     Ok(())
 }
 
 fn check_joined<B: BitBlock>(rt: &impl Abort, alloc: Global) -> Result<(), SetError> {
     let (mut set, mut part) = parted::<B>(alloc)?;
     set.append(&mut part)?;
-    assert!(rt; set.iter().eq([1, 2, 3, 6]));
-    assert_eq!(rt; lengths(&set, &part), [7, 7]);
-    assert!(rt; part.capacity() >= 7);
+    expect(rt, set.iter().eq([1, 2, 3, 6]));
+    expect_eq(rt, &lengths(&set, &part), &[7, 7]);
+    expect(rt, part.capacity() >= 7);
     Ok(())
 }
 
@@ -185,7 +186,7 @@ fn a_set_that_was_handed_out_whole_comes_back(rt: HostRuntime) -> Result<(), Fai
         joined_at_0::<usize>(rt.alloc())?,
         joined_at_0::<u128>(rt.alloc())?,
     ] {
-        assert_eq!(rt; sizes, [4, 0, 7]);
+        expect_eq(&rt, &sizes, &[4, 0, 7]);
     }
     Ok(())
 }

@@ -2,6 +2,7 @@
 ghost use Rattle.std.specs.Prelude.{◌≡◌, OnOk};
 ghost use Rattle.bit_set.specs.Sets.{elements};
 
+use crate::expect::expect_eq;
 use bit_set::laws::{calls_are_set_algebra, full_walks, tests_agree, walks_agree};
 use bit_set::{BitBlock, BitSet, Iter, SetError};
 use block24::Block24;
@@ -91,7 +92,7 @@ fn sets_over_two_block_types_agree(rt: HostRuntime) -> Result<(), Fail> {
         walked::<Block24, u32>(rt.alloc())?,
         walked::<usize, Block24>(rt.alloc())?,
     ] {
-        assert_eq!(rt; walked, items);
+        expect_eq(&rt, &walked, &items);
     }
     Ok(())
 }

@@ -3,6 +3,7 @@
 ghost use Rattle.std.specs.Prelude.{◌≡◌, IfOk};
 ghost use Rattle.bit_set.specs.Sets.{elements};
 
+use crate::expect::{expect, expect_eq};
 use bit_set::bit_vec::Merge;
 use bit_set::laws::collected_walks;
 use bit_set::{BitBlock, BitSet, SetError};
@@ -35,8 +36,8 @@ fn becomes(
     (elements, len): (&[usize], usize),
 ) -> Result<(), AllocError> {
     merge_in(&mut set, merge, other)?;
-    assert!(rt; set.iter().eq(elements.iter().copied()));
-    assert_eq!(rt; set.get_ref().len(), len);
+    expect(rt, set.iter().eq(elements.iter().copied()));
+    expect_eq(rt, &set.get_ref().len(), &len);
     Ok(())
 }
 
@@ -86,7 +87,7 @@ fn a_union_has_the_length_of_a_byte(rt: HostRuntime) -> Result<(), Fail> {
 fn a_union_after_a_removal(rt: HostRuntime) -> Result<(), Fail> {
     let alloc = rt.alloc();
     let mut set = set_of(alloc, &[0, 3, 7])?;
-    assert!(rt; set.remove(7));
+    expect(&rt, set.remove(7));
     let byte = BitSet::from_bytes(alloc, &[0b1101_0000])?;
     becomes(&rt, alloc, Merge::Union, set, &byte, (&[0, 1, 3], 8))?;
     Ok(())
@@ -130,8 +131,8 @@ fn is_difference(alloc: Global, left: u8, right: u8, byte: u8) -> Result<bool, S
 #[test]
 fn a_difference_is_the_set_read(rt: HostRuntime) -> Result<(), Fail> {
     let (left, right) = (0b0110_1000, 0b1010_0000);
-    assert!(rt; is_difference(rt.alloc(), left, right, 0b0100_1000)?);
-    assert!(rt; is_difference(rt.alloc(), right, left, 0b1000_0000)?);
+    expect(&rt, is_difference(rt.alloc(), left, right, 0b0100_1000)?);
+    expect(&rt, is_difference(rt.alloc(), right, left, 0b1000_0000)?);
     Ok(())
 }
 
@@ -155,7 +156,10 @@ fn a_symmetric_difference_is_the_set_read(rt: HostRuntime) -> Result<(), Fail> {
     let alloc = rt.alloc();
     let ends = set_of(alloc, &[1, 5])?;
     let both = set_of(alloc, &[0, 1])?;
-    assert!(rt; is_bytes(alloc, Merge::Symmetric, both, &ends, 0b1000_0100)?);
+    expect(
+        &rt,
+        is_bytes(alloc, Merge::Symmetric, both, &ends, 0b1000_0100)?,
+    );
     Ok(())
 }
 
@@ -168,9 +172,9 @@ fn is_within(alloc: Global, numbers: &[usize], others: &[usize]) -> Result<bool,
 #[test]
 fn a_subset_may_be_longer(rt: HostRuntime) -> Result<(), Fail> {
     let alloc = rt.alloc();
-    assert!(rt; is_within(alloc, &[200], &[100, 200])?);
-    assert!(rt; !is_within(alloc, &[200, 300], &[100, 200])?);
-    assert!(rt; BitSet::new(alloc).is_subset(&BitSet::new(alloc)));
+    expect(&rt, is_within(alloc, &[200], &[100, 200])?);
+    expect(&rt, !is_within(alloc, &[200, 300], &[100, 200])?);
+    expect(&rt, BitSet::new(alloc).is_subset(&BitSet::new(alloc)));
     Ok(())
 }
 
@@ -183,10 +187,10 @@ fn are_apart(alloc: Global, byte: u8, other: u8) -> Result<bool, SetError> {
 #[test]
 fn sets_with_no_common_element_are_disjoint(rt: HostRuntime) -> Result<(), Fail> {
     let alloc = rt.alloc();
-    assert!(rt; !are_apart(alloc, 0b1010_0010, 0b0011_0000)?);
-    assert!(rt; are_apart(alloc, 0b1010_0010, 0b0100_0000)?);
+    expect(&rt, !are_apart(alloc, 0b1010_0010, 0b0011_0000)?);
+    expect(&rt, are_apart(alloc, 0b1010_0010, 0b0100_0000)?);
     let set = BitSet::from_bytes(alloc, &[0b1010_0010])?;
-    assert!(rt; set.is_disjoint(&BitSet::new(alloc)));
+    expect(&rt, set.is_disjoint(&BitSet::new(alloc)));
     Ok(())
 }
 
@@ -224,8 +228,8 @@ fn counts<B: BitBlock>(alloc: Global) -> Result<[usize; 4], SetError> {
 }
 
 fn become_one<B: BitBlock>(rt: &impl Abort, alloc: Global) -> Result<(), SetError> {
-    assert_eq!(rt; counts::<B>(alloc)?, [10, 5, 10, 5]);
-    assert_eq!(rt; results::<B>(alloc)?, [true, false, false]);
+    expect_eq(rt, &counts::<B>(alloc)?, &[10, 5, 10, 5]);
+    expect_eq(rt, &results::<B>(alloc)?, &[true, false, false]);
     Ok(())
 }
 
@@ -258,7 +262,7 @@ fn a_walk_collects_what_is_left_in_place(rt: HostRuntime) -> Result<(), Fail> {
     let alloc = rt.alloc();
     let mut set = set_of::<u32>(alloc, &[11, 1, 3])?;
     let collected = collect_and_unite(alloc, &mut set, &set_of(alloc, &[2, 11])?)?;
-    assert!(rt; collected.iter().eq([1, 2, 3, 11]));
-    assert!(rt; set.iter().eq([1, 2, 3, 11]));
+    expect(&rt, collected.iter().eq([1, 2, 3, 11]));
+    expect(&rt, set.iter().eq([1, 2, 3, 11]));
     Ok(())
 }

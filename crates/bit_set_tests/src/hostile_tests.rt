@@ -1,6 +1,7 @@
 //! Sets of one element and other lengths, numbers at the end of their range, odd blocks and sets of millions of
 //! places: rows with their exact results.
 use crate::algebra_tests::merge_in;
+use crate::expect::{expect, expect_eq};
 use crate::order_tests::feed;
 use bit_set::bit_vec::Merge;
 use bit_set::{BitBlock, BitSet, SetError};
@@ -62,9 +63,13 @@ fn assert_walks_agree(
 ) -> Result<(), SetError> {
     let a = three(alloc, one)?;
     let b = three(alloc, two)?;
-    assert_eq!(rt; a.get_ref().len(), one);
+    expect_eq(rt, &a.get_ref().len(), &one);
     assert_eq!(rt; counts(&a, &b), [1, 1, 1, 0, 0], "at {one} and {two}");
-    assert_eq!(rt; firsts(&a, &b), [Some(3), Some(3), Some(3), None, None]);
+    expect_eq(
+        rt,
+        &firsts(&a, &b),
+        &[Some(3), Some(3), Some(3), None, None],
+    );
     Ok(())
 }
 
@@ -99,7 +104,7 @@ fn assert_tests_agree(
     let b = three(alloc, two)?;
     assert!(rt; are_within_each_other(&a, &b), "at {one} and {two}");
     assert!(rt; are_equal(&a, &b), "at {one} and {two}");
-    assert_eq!(rt; text_of(alloc, &a)?.as_str(), "{3}");
+    expect_eq(rt, &text_of(alloc, &a)?.as_str(), &"{3}");
     Ok(())
 }
 
@@ -133,7 +138,7 @@ fn the_greater_length_stays(rt: HostRuntime) -> Result<(), Fail> {
             merged(alloc, Merge::Difference, lengths)?,
             merged(alloc, Merge::Symmetric, lengths)?,
         ];
-        assert_eq!(rt; sizes, [(1, len), (1, len), (0, len), (0, len)]);
+        expect_eq(&rt, &sizes, &[(1, len), (1, len), (0, len), (0, len)]);
     }
     Ok(())
 }
@@ -150,18 +155,21 @@ fn fault_of(alloc: Global, number: usize) -> Option<SetError> {
 fn no_set_is_made_of_the_greatest_numbers(rt: HostRuntime) {
     let alloc = rt.alloc();
     let refused = SetError::Memory(AllocError);
-    assert_eq!(rt; fault_of(alloc, GREATEST), Some(SetError::Element));
-    assert_eq!(rt; fault_of(alloc, GREATEST - 1), Some(refused));
-    assert_eq!(rt; fault_of(alloc, 5), None);
+    expect_eq(&rt, &fault_of(alloc, GREATEST), &Some(SetError::Element));
+    expect_eq(&rt, &fault_of(alloc, GREATEST - 1), &Some(refused));
+    expect_eq(&rt, &fault_of(alloc, 5), &None);
 }
 
 // Each call with a number that no set has, and that is no element or asks for more memory than there is.
 fn try_each_call(rt: &impl Abort, set: &mut BitSet, number: usize, fault: SetError) {
-    assert!(rt; !set.contains(number) && !set.remove(number));
+    expect(rt, !set.contains(number) && !set.remove(number));
     set.truncate(number);
-    assert_eq!(rt; set.insert(number), Err(fault));
-    assert_eq!(rt; set.extend([number].iter().copied()), Err(fault));
-    assert!(rt; set.reserve_len(number).is_err() && set.reserve_len_exact(number).is_err());
+    expect_eq(rt, &set.insert(number), &Err(fault));
+    expect_eq(rt, &set.extend([number].iter().copied()), &Err(fault));
+    expect(
+        rt,
+        set.reserve_len(number).is_err() && set.reserve_len_exact(number).is_err(),
+    );
 }
 
 #[test]
@@ -170,16 +178,19 @@ fn the_greatest_numbers_change_nothing(rt: HostRuntime) -> Result<(), Fail> {
     set.insert(5)?;
     try_each_call(&rt, &mut set, GREATEST, SetError::Element);
     try_each_call(&rt, &mut set, GREATEST - 1, SetError::Memory(AllocError));
-    assert!(rt; set.iter().eq([5]));
-    assert_eq!(rt; set.get_ref().len(), 6);
+    expect(&rt, set.iter().eq([5]));
+    expect_eq(&rt, &set.get_ref().len(), &6);
     Ok(())
 }
 
 #[test]
 fn no_set_has_capacity_for_the_greatest_numbers(rt: HostRuntime) {
     for number in [GREATEST, GREATEST - 1] {
-        assert!(rt; BitSet::with_capacity(rt.alloc(), number).is_err());
-        assert!(rt; BitSet::<Block24>::with_capacity_general(rt.alloc(), number).is_err());
+        expect(&rt, BitSet::with_capacity(rt.alloc(), number).is_err());
+        expect(
+            &rt,
+            BitSet::<Block24>::with_capacity_general(rt.alloc(), number).is_err(),
+        );
     }
 }
 
@@ -187,10 +198,10 @@ fn no_set_has_capacity_for_the_greatest_numbers(rt: HostRuntime) {
 fn bytes_fill_odd_blocks(rt: HostRuntime) -> Result<(), Fail> {
     let bytes = [0b1000_0000, 0, 0b0000_0001, 0b1000_0000];
     let set = BitSet::<Block24>::from_bytes_general(rt.alloc(), &bytes)?;
-    assert!(rt; set.iter().eq([0, 23, 24]));
+    expect(&rt, set.iter().eq([0, 23, 24]));
     let blocks = [Block24(8388609), Block24(1)];
-    assert_eq!(rt; set.get_ref().storage(), blocks.as_slice());
-    assert_eq!(rt; set.get_ref().len(), 32);
+    expect_eq(&rt, &set.get_ref().storage(), &blocks.as_slice());
+    expect_eq(&rt, &set.get_ref().len(), &32);
     Ok(())
 }
 
@@ -198,8 +209,8 @@ fn bytes_fill_odd_blocks(rt: HostRuntime) -> Result<(), Fail> {
 fn odd_blocks_bound_a_walk(rt: HostRuntime) -> Result<(), Fail> {
     let mut set = BitSet::<Block24>::new_general(rt.alloc());
     set.insert(400)?;
-    assert_eq!(rt; set.get_ref().storage().len(), 17);
-    assert_eq!(rt; set.iter().size_hint(), (0, Some(408)));
+    expect_eq(&rt, &set.get_ref().storage().len(), &17);
+    expect_eq(&rt, &set.iter().size_hint(), &(0, Some(408)));
     Ok(())
 }
 
@@ -242,8 +253,8 @@ fn joined(set: &mut BitSet<u8>, other: &BitSet<u8>) -> Result<(usize, bool), All
 fn millions_of_places_are_passed_once(rt: HostRuntime) -> Result<(), Fail> {
     let a = set_of_bytes(rt.alloc(), 0x80)?;
     let b = set_of_bytes(rt.alloc(), 0x01)?;
-    assert_eq!(rt; last_of(&a), (1048576, Some(8388600)));
-    assert_eq!(rt; last_of_union(&a, &b), (2097152, Some(8388607)));
+    expect_eq(&rt, &last_of(&a), &(1048576, Some(8388600)));
+    expect_eq(&rt, &last_of_union(&a, &b), &(2097152, Some(8388607)));
     Ok(())
 }
 
@@ -251,7 +262,7 @@ fn millions_of_places_are_passed_once(rt: HostRuntime) -> Result<(), Fail> {
 fn millions_of_places_are_joined(rt: HostRuntime) -> Result<(), Fail> {
     let mut a = set_of_bytes(rt.alloc(), 0x80)?;
     let b = set_of_bytes(rt.alloc(), 0x01)?;
-    assert!(rt; a.is_disjoint(&b));
-    assert_eq!(rt; joined(&mut a, &b)?, (2097152, true));
+    expect(&rt, a.is_disjoint(&b));
+    expect_eq(&rt, &joined(&mut a, &b)?, &(2097152, true));
     Ok(())
 }

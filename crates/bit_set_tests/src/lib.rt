@@ -8,6 +8,8 @@ mod algebra_tests;
 #[cfg(test)]
 mod example_tests;
 #[cfg(test)]
+mod expect;
+#[cfg(test)]
 mod hostile_tests;
 #[cfg(test)]
 mod order_tests;

@@ -1,6 +1,7 @@
 //! The rows of equality, order, hash and texts, with their exact results.
 ghost use Rattle.std.specs.Prelude.{◌+◌, ◌*◌, ◌%◌, ◌^◌, fold};
 
+use crate::expect::{expect, expect_eq};
 use bit_set::{BitBlock, BitSet, SetError};
 use block24::Block24;
 use std::alloc::Global;
@@ -54,10 +55,10 @@ fn feed_of<B: BitBlock>(alloc: Global, numbers: &[usize]) -> Result<(u64, u128),
 fn each_element_is_fed_once(rt: HostRuntime) -> Result<(), Fail> {
     // 1 and 10, each as eight bytes, the lowest first.
     let fed = (2, 0x0100_0000_0000_0000_0a00_0000_0000_0000);
-    assert_eq!(rt; feed_of::<u8>(rt.alloc(), &[1, 10])?, fed);
-    assert_eq!(rt; feed_of::<u64>(rt.alloc(), &[10, 1])?, fed);
-    assert_eq!(rt; feed_of::<Block24>(rt.alloc(), &[1, 10])?, fed);
-    assert_eq!(rt; feed_of::<u128>(rt.alloc(), &[10, 1])?, fed);
+    expect_eq(&rt, &feed_of::<u8>(rt.alloc(), &[1, 10])?, &fed);
+    expect_eq(&rt, &feed_of::<u64>(rt.alloc(), &[10, 1])?, &fed);
+    expect_eq(&rt, &feed_of::<Block24>(rt.alloc(), &[1, 10])?, &fed);
+    expect_eq(&rt, &feed_of::<u128>(rt.alloc(), &[10, 1])?, &fed);
     Ok(())
 }
 
@@ -68,14 +69,16 @@ fn text_of<B: BitBlock>(alloc: Global, numbers: &[usize]) -> Result<String, SetE
 
 #[test]
 fn sets_show_their_elements(rt: HostRuntime) -> Result<(), Fail> {
-    assert_eq!(rt;
-        text_of::<u32>(rt.alloc(), &[1, 10, 50, 2])?.as_str(),
-        "{1, 2, 10, 50}"
+    expect_eq(
+        &rt,
+        &text_of::<u32>(rt.alloc(), &[1, 10, 50, 2])?.as_str(),
+        &"{1, 2, 10, 50}",
     );
-    assert_eq!(rt; text_of::<u32>(rt.alloc(), &[])?.as_str(), "{}");
-    assert_eq!(rt;
-        text_of::<Block24>(rt.alloc(), &[18446744])?.as_str(),
-        "{18446744}"
+    expect_eq(&rt, &text_of::<u32>(rt.alloc(), &[])?.as_str(), &"{}");
+    expect_eq(
+        &rt,
+        &text_of::<Block24>(rt.alloc(), &[18446744])?.as_str(),
+        &"{18446744}",
     );
     Ok(())
 }
@@ -88,19 +91,22 @@ fn bits_of<B: BitBlock>(alloc: Global, numbers: &[usize]) -> Result<String, SetE
 #[test]
 fn sets_show_their_bit_vectors(rt: HostRuntime) -> Result<(), Fail> {
     let words = bits_of::<u32>(rt.alloc(), &[1, 10, 50, 2])?;
-    assert_eq!(rt;
-        words.as_str(),
-        "BitSet { bit_vec: BitVec { storage: \"01100000001000000000000000000000 0000000000000000001\", nbits: 51 } }"
+    expect_eq(
+        &rt,
+        &words.as_str(),
+        &"BitSet { bit_vec: BitVec { storage: \"01100000001000000000000000000000 0000000000000000001\", nbits: 51 } }",
     );
     let none = bits_of::<u32>(rt.alloc(), &[])?;
-    assert_eq!(rt;
-        none.as_str(),
-        "BitSet { bit_vec: BitVec { storage: \"\", nbits: 0 } }"
+    expect_eq(
+        &rt,
+        &none.as_str(),
+        &"BitSet { bit_vec: BitVec { storage: \"\", nbits: 0 } }",
     );
     let bytes = bits_of::<u8>(rt.alloc(), &[1, 10])?;
-    assert_eq!(rt;
-        bytes.as_str(),
-        "BitSet { bit_vec: BitVec { storage: \"01000000 001\", nbits: 11 } }"
+    expect_eq(
+        &rt,
+        &bytes.as_str(),
+        &"BitSet { bit_vec: BitVec { storage: \"01000000 001\", nbits: 11 } }",
     );
     Ok(())
 }
@@ -134,7 +140,7 @@ fn a_text_fails_where_the_formatter_does(rt: HostRuntime) -> Result<(), Fail> {
     for taken in 0..5 {
         assert!(rt; !is_shown(&set, taken), "at {taken}");
     }
-    assert!(rt; is_shown(&set, 5));
+    expect(&rt, is_shown(&set, 5));
     Ok(())
 }
 
@@ -150,11 +156,11 @@ fn a_debug_text_fails_where_the_formatter_does(rt: HostRuntime) -> Result<(), Fa
     let set = set_of::<u8>(rt.alloc(), &[3, 12])?;
     let (is_shown, left) = shown_bits(&set, 100);
     let calls = 100usize.saturating_sub(left);
-    assert!(rt; is_shown && calls > 0);
+    expect(&rt, is_shown && calls > 0);
     for taken in 0..calls {
         assert!(rt; !shown_bits(&set, taken).0, "at {taken}");
     }
-    assert!(rt; shown_bits(&set, calls).0);
+    expect(&rt, shown_bits(&set, calls).0);
     Ok(())
 }
 
@@ -180,7 +186,7 @@ fn sets_compare_as_lists(rt: HostRuntime) -> Result<(), Fail> {
         orders::<u8>(rt.alloc(), &[3, 90], &[4])?,
         orders::<Block24>(rt.alloc(), &[3, 23, 24], &[3, 24])?,
     ] {
-        assert_eq!(rt; orders, first);
+        expect_eq(&rt, &orders, &first);
     }
     Ok(())
 }
@@ -201,14 +207,19 @@ fn bytes_compare(
 fn bytes_compare_as_their_sets(rt: HostRuntime) -> Result<(), Fail> {
     let less = (false, Ordering::Less, Some(Ordering::Less));
     let greater = (false, Ordering::Greater, Some(Ordering::Greater));
-    assert_eq!(rt;
-        bytes_compare(rt.alloc(), &[0b1100_0000], &[0b0100_0000])?,
-        less
+    expect_eq(
+        &rt,
+        &bytes_compare(rt.alloc(), &[0b1100_0000], &[0b0100_0000])?,
+        &less,
     );
-    assert_eq!(rt; bytes_compare(rt.alloc(), &[0b1010_0010], &[])?, greater);
-    assert_eq!(rt; bytes_compare(rt.alloc(), &[], &[0b1010_0010])?, less);
+    expect_eq(
+        &rt,
+        &bytes_compare(rt.alloc(), &[0b1010_0010], &[])?,
+        &greater,
+    );
+    expect_eq(&rt, &bytes_compare(rt.alloc(), &[], &[0b1010_0010])?, &less);
     let equal = (true, Ordering::Equal, Some(Ordering::Equal));
-    assert_eq!(rt; bytes_compare(rt.alloc(), &[0], &[])?, equal);
+    expect_eq(&rt, &bytes_compare(rt.alloc(), &[0], &[])?, &equal);
     Ok(())
 }
 
@@ -216,10 +227,11 @@ fn bytes_compare_as_their_sets(rt: HostRuntime) -> Result<(), Fail> {
 fn a_set_comes_after_one_with_no_element(rt: HostRuntime) -> Result<(), Fail> {
     let set = BitSet::from_bytes(rt.alloc(), &[0b1010_0010])?;
     let none = BitSet::new(rt.alloc());
-    assert!(rt; set != none);
-    assert_eq!(rt;
-        (set.cmp(&none), none.cmp(&set)),
-        (Ordering::Greater, Ordering::Less)
+    expect(&rt, set != none);
+    expect_eq(
+        &rt,
+        &(set.cmp(&none), none.cmp(&set)),
+        &(Ordering::Greater, Ordering::Less),
     );
     Ok(())
 }
@@ -278,23 +290,26 @@ fn alike(a: &BitSet, b: &BitSet, lengths: [usize; 2]) -> bool {
 #[test]
 fn lengths_do_not_count(rt: HostRuntime) -> Result<(), Fail> {
     let alloc = rt.alloc();
-    assert!(rt; alike(&set_of(alloc, &[3])?, &spacious(alloc)?, [4, 500]));
-    assert!(rt; alike(&spacious(alloc)?, &lowered(alloc)?, [500, 401]));
+    expect(
+        &rt,
+        alike(&set_of(alloc, &[3])?, &spacious(alloc)?, [4, 500]),
+    );
+    expect(&rt, alike(&spacious(alloc)?, &lowered(alloc)?, [500, 401]));
     Ok(())
 }
 
 #[test]
 fn lengths_do_not_count_without_an_element(rt: HostRuntime) -> Result<(), Fail> {
     let zeros = BitSet::from_bytes(rt.alloc(), &[0])?;
-    assert!(rt; alike(&zeros, &BitSet::new(rt.alloc()), [8, 0]));
-    assert_eq!(rt; feed(&zeros), (0, 0));
+    expect(&rt, alike(&zeros, &BitSet::new(rt.alloc()), [8, 0]));
+    expect_eq(&rt, &feed(&zeros), &(0, 0));
     Ok(())
 }
 
 #[test]
 fn lengths_are_not_shown(rt: HostRuntime) -> Result<(), Fail> {
     let lowered = lowered(rt.alloc())?;
-    assert_eq!(rt; format!(in rt.alloc(); "{lowered}")?.as_str(), "{3}");
+    expect_eq(&rt, &format!(in rt.alloc(); "{lowered}")?.as_str(), &"{3}");
     Ok(())
 }
 
@@ -302,12 +317,13 @@ fn lengths_are_not_shown(rt: HostRuntime) -> Result<(), Fail> {
 fn a_merged_set_is_the_set_read(rt: HostRuntime) -> Result<(), Fail> {
     let mut merged = set_of::<u32>(rt.alloc(), &[0])?;
     merged.union_with(&set_of(rt.alloc(), &[5])?)?;
-    assert!(rt;
+    expect(
+        &rt,
         alike(
             &merged,
             &BitSet::from_bytes(rt.alloc(), &[0b1000_0100])?,
-            [6, 8]
-        )
+            [6, 8],
+        ),
     );
     Ok(())
 }
@@ -335,7 +351,7 @@ fn hashed(alloc: Global) -> Result<(usize, Option<char>), Fail> {
 
 #[test]
 fn sets_are_keys(rt: HostRuntime) -> Result<(), Fail> {
-    assert_eq!(rt; sorted(rt.alloc())?, (2, Some('c')));
-    assert_eq!(rt; hashed(rt.alloc())?, (2, Some('c')));
+    expect_eq(&rt, &sorted(rt.alloc())?, &(2, Some('c')));
+    expect_eq(&rt, &hashed(rt.alloc())?, &(2, Some('c')));
     Ok(())
 }

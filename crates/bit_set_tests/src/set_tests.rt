@@ -1,6 +1,7 @@
 //! Rows with their exact results, each generic call once over two block types, and the texts of the faults.
 ghost use Rattle.std.specs.Prelude.{IsErrOf};
 
+use crate::expect::{expect, expect_eq};
 use bit_set::bit_vec::BitVec;
 use bit_set::{BitBlock, BitSet, SetError};
 use std::alloc::{AllocError, Global};
@@ -27,33 +28,41 @@ fn insert_returns_what_is_new(rt: HostRuntime) -> Result<(), Fail> {
     ] {
         assert_eq!(rt; set.insert(value)?, new, "at {value}");
     }
-    assert_eq!(rt; sizes(&set), [3, 401, 13]);
+    expect_eq(&rt, &sizes(&set), &[3, 401, 13]);
     Ok(())
 }
 
 #[test]
 fn insert_past_the_length_keeps_what_lies_between_out(rt: HostRuntime) -> Result<(), Fail> {
     let mut set = BitSet::from_bit_vec(BitVec::from_elem(rt.alloc(), 140, true)?);
-    assert!(rt; set.contains(139));
-    assert!(rt; !set.contains(140));
-    assert!(rt; set.insert(150)?);
+    expect(&rt, set.contains(139));
+    expect(&rt, !set.contains(140));
+    expect(&rt, set.insert(150)?);
     for (value, has) in [(140, false), (149, false), (150, true), (151, false)] {
         assert_eq!(rt; set.contains(value), has, "at {value}");
     }
-    assert_eq!(rt; set.get_ref().len(), 151);
+    expect_eq(&rt, &set.get_ref().len(), &151);
     Ok(())
 }
 
 #[test]
 fn the_greatest_number_is_no_element(rt: HostRuntime) -> Result<(), Fail> {
     let mut set = BitSet::new(rt.alloc());
-    assert_eq!(rt; set.insert(18446744073709551615), Err(SetError::Element));
-    assert!(rt; set.is_empty());
-    assert_eq!(rt; set.get_ref().len(), 0);
+    expect_eq(
+        &rt,
+        &set.insert(18446744073709551615),
+        &Err(SetError::Element),
+    );
+    expect(&rt, set.is_empty());
+    expect_eq(&rt, &set.get_ref().len(), &0);
     set.insert(5)?;
-    assert_eq!(rt; set.insert(18446744073709551615), Err(SetError::Element));
-    assert!(rt; set.iter().eq([5]));
-    assert_eq!(rt; set.get_ref().len(), 6);
+    expect_eq(
+        &rt,
+        &set.insert(18446744073709551615),
+        &Err(SetError::Element),
+    );
+    expect(&rt, set.iter().eq([5]));
+    expect_eq(&rt, &set.get_ref().len(), &6);
     Ok(())
 }
 
@@ -74,9 +83,9 @@ fn truncate_keeps_what_is_below(rt: HostRuntime) -> Result<(), Fail> {
 #[test]
 fn items_go_in_one_by_one(rt: HostRuntime) -> Result<(), Fail> {
     let set = set_of::<u32>(rt.alloc(), &[0, 2, 2, 3])?;
-    assert!(rt; set.iter().eq([0, 2, 3]));
-    assert_eq!(rt; set.count(), 3);
-    assert_eq!(rt; set.get_ref().len(), 4);
+    expect(&rt, set.iter().eq([0, 2, 3]));
+    expect_eq(&rt, &set.count(), &3);
+    expect_eq(&rt, &set.get_ref().len(), &4);
     Ok(())
 }
 
@@ -87,7 +96,7 @@ fn put_all(set: &mut BitSet, numbers: &[usize]) -> Result<(), SetError> {
 #[test]
 fn no_items_need_no_memory(rt: HostRuntime) -> Result<(), Fail> {
     let set = set_of::<u32>(rt.alloc(), &[])?;
-    assert_eq!(rt; (set.get_ref().len(), set.capacity()), (0, 0));
+    expect_eq(&rt, &(set.get_ref().len(), set.capacity()), &(0, 0));
     Ok(())
 }
 
@@ -106,8 +115,8 @@ fn a_set_and_a_list_grow_in_one_function(rt: HostRuntime) -> Result<(), Fail> {
     let mut list = Vec::new(rt.alloc());
     put_in_both(&mut set, &mut list, 7)?;
     put_in_both(&mut set, &mut list, 3)?;
-    assert!(rt; set.iter().eq([3, 7]));
-    assert_eq!(rt; list.as_slice(), [7, 3].as_slice());
+    expect(&rt, set.iter().eq([3, 7]));
+    expect_eq(&rt, &list.as_slice(), &[7, 3].as_slice());
     Ok(())
 }
 
@@ -115,24 +124,24 @@ fn a_set_and_a_list_grow_in_one_function(rt: HostRuntime) -> Result<(), Fail> {
 fn items_before_one_that_fails_stay_in(rt: HostRuntime) -> Result<(), Fail> {
     let mut set = BitSet::new(rt.alloc());
     let result = put_all(&mut set, &[7, 18446744073709551615, 9]);
-    assert_eq!(rt; result, Err(SetError::Element));
-    assert!(rt; set.iter().eq([7]));
+    expect_eq(&rt, &result, &Err(SetError::Element));
+    expect(&rt, set.iter().eq([7]));
     Ok(())
 }
 
 #[test]
 fn sets_have_lengths(rt: HostRuntime) -> Result<(), Fail> {
     let empty = BitSet::with_capacity(rt.alloc(), 100)?;
-    assert_eq!(rt; empty.get_ref().len(), 100);
-    assert!(rt; empty.is_empty());
+    expect_eq(&rt, &empty.get_ref().len(), &100);
+    expect(&rt, empty.is_empty());
     Ok(())
 }
 
 #[test]
 fn a_clone_has_the_items_and_the_length(rt: HostRuntime) -> Result<(), Fail> {
     let copy = set_of::<u32>(rt.alloc(), &[400, 1])?.clone(rt.alloc())?;
-    assert!(rt; copy.iter().eq([1, 400]));
-    assert_eq!(rt; copy.get_ref().len(), 401);
+    expect(&rt, copy.iter().eq([1, 400]));
+    expect_eq(&rt, &copy.get_ref().len(), &401);
     Ok(())
 }
 
@@ -176,10 +185,10 @@ fn cut<B: BitBlock>(alloc: Global) -> Result<(bool, [usize; 3]), SetError> {
 }
 
 fn each_succeeds<B: BitBlock>(rt: &impl Abort, alloc: Global) -> Result<(), SetError> {
-    assert_eq!(rt; counts::<B>(alloc)?, [4, 3, 0, 24]);
-    assert_eq!(rt; copied::<B>(alloc)?, [4, 16, 0]);
-    assert!(rt; has_nine::<B>(alloc)?);
-    assert_eq!(rt; cut::<B>(alloc)?, (true, [10, 5, 65]));
+    expect_eq(rt, &counts::<B>(alloc)?, &[4, 3, 0, 24]);
+    expect_eq(rt, &copied::<B>(alloc)?, &[4, 16, 0]);
+    expect(rt, has_nine::<B>(alloc)?);
+    expect_eq(rt, &cut::<B>(alloc)?, &(true, [10, 5, 65]));
     Ok(())
 }
 
@@ -197,10 +206,13 @@ fn too_much_memory_fails(rt: HostRuntime) -> Result<(), Fail> {
     let refused = Err(SetError::Memory(AllocError));
     let mut set = BitSet::new(alloc);
     set.insert(5)?;
-    assert_eq!(rt; set.insert(18446744073709551614), refused);
-    assert!(rt; set.iter().eq([5]));
-    assert_eq!(rt; set.get_ref().len(), 6);
-    assert!(rt; BitSet::<u8>::with_capacity_general(alloc, 18446744073709551615).is_err());
+    expect_eq(&rt, &set.insert(18446744073709551614), &refused);
+    expect(&rt, set.iter().eq([5]));
+    expect_eq(&rt, &set.get_ref().len(), &6);
+    expect(
+        &rt,
+        BitSet::<u8>::with_capacity_general(alloc, 18446744073709551615).is_err(),
+    );
     Ok(())
 }
 
@@ -212,7 +224,7 @@ fn faults_have_texts(rt: HostRuntime) -> Result<(), Fail> {
         (SetError::Memory(AllocError), "memory refused"),
     ] {
         let said = format!(in rt.alloc(); "{fault}")?;
-        assert_eq!(rt; said.as_str(), text);
+        expect_eq(&rt, &said.as_str(), &text);
     }
     Ok(())
 }

@@ -1,5 +1,6 @@
 //! The walk that begins at a number: its rows, and from each number over four widths.
 
+use crate::expect::expect_eq;
 use crate::walk_tests::{passes, set_of_one};
 use bit_set::{BitBlock, BitSet, SetError};
 use block24::Block24;
@@ -32,8 +33,8 @@ fn the_first_item_is_the_least_from_there_on(rt: HostRuntime) -> Result<(), Fail
 #[test]
 fn no_item_comes_from_a_number_on_where_there_is_none(rt: HostRuntime) {
     let empty = BitSet::new(rt.alloc());
-    assert_eq!(rt; empty.iter_from(0).next(), None);
-    assert_eq!(rt; empty.iter_from(40).next(), None);
+    expect_eq(&rt, &empty.iter_from(0).next(), &None);
+    expect_eq(&rt, &empty.iter_from(40).next(), &None);
 }
 
 // A set of length 401 has 13 blocks of 32 bits. The bound is that of the blocks from the one of the number on, and of

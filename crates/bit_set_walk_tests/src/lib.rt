@@ -2,6 +2,8 @@
 #![tactic(auto)]
 
 #[cfg(test)]
+mod expect;
+#[cfg(test)]
 mod from_tests;
 #[cfg(test)]
 mod sparse_tests;

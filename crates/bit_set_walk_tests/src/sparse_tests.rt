@@ -5,6 +5,7 @@ ghost use Rattle.bit_words.specs.Bits.{blocks_for};
 ghost use Rattle.bit_set.specs.Sets.{elements};
 ghost use Rattle.bit_set.specs.Walk.{Walk, IsAtStart};
 
+use crate::expect::{expect, expect_eq};
 use crate::walk_tests::{agrees_at_each_point, bounds, set_of_one};
 use bit_set::laws::sparse_walks;
 use bit_set::{BitBlock, BitSet, Iter};
@@ -37,11 +38,12 @@ fn the_bound_falls_over_zero_blocks(rt: HostRuntime) -> Result<(), Fail> {
     pulls_of_sparse_sets();
     let mut far = set_of_one::<u32>(rt.alloc(), 0, 0)?;
     far.insert(100000)?;
-    assert_eq!(rt; far.get_ref().storage().len(), 3126);
-    assert_eq!(rt; far.get_ref().blocks().count(), 3126);
-    assert_eq!(rt;
-        bounds(&far),
-        [(0, Some(100032)), (0, Some(100032)), (0, Some(32))]
+    expect_eq(&rt, &far.get_ref().storage().len(), &3126);
+    expect_eq(&rt, &far.get_ref().blocks().count(), &3126);
+    expect_eq(
+        &rt,
+        &bounds(&far),
+        &[(0, Some(100032)), (0, Some(100032)), (0, Some(32))],
     );
     Ok(())
 }
@@ -49,23 +51,24 @@ fn the_bound_falls_over_zero_blocks(rt: HostRuntime) -> Result<(), Fail> {
 #[test]
 fn the_bound_falls_to_a_block_where_all_are_zero(rt: HostRuntime) -> Result<(), Fail> {
     let empty = BitSet::with_capacity(rt.alloc(), 100)?;
-    assert_eq!(rt;
-        bounds(&empty),
-        [(0, Some(128)), (0, Some(32)), (0, Some(32))]
+    expect_eq(
+        &rt,
+        &bounds(&empty),
+        &[(0, Some(128)), (0, Some(32)), (0, Some(32))],
     );
-    assert_eq!(rt; empty.iter().next(), None);
+    expect_eq(&rt, &empty.iter().next(), &None);
     Ok(())
 }
 
 #[test]
 fn a_removed_element_leaves_nothing(rt: HostRuntime) -> Result<(), Fail> {
     let mut set = set_of_one::<u32>(rt.alloc(), 0, 400)?;
-    assert!(rt; !set.is_empty());
+    expect(&rt, !set.is_empty());
     set.remove(400);
-    assert!(rt; set.is_empty());
-    assert_eq!(rt; set.iter().next(), None);
+    expect(&rt, set.is_empty());
+    expect_eq(&rt, &set.iter().next(), &None);
     set.shrink_to_fit()?;
-    assert_eq!(rt; set.get_ref().len(), 0);
+    expect_eq(&rt, &set.get_ref().len(), &0);
     Ok(())
 }
 
@@ -74,8 +77,8 @@ fn a_removed_element_leaves_nothing(rt: HostRuntime) -> Result<(), Fail> {
 fn agree<B: BitBlock>(rt: &impl Abort, alloc: Global, rows: &[&[usize]]) -> Result<(), Fail> {
     for elements in rows {
         let set = BitSet::<B>::from_iter(alloc, elements.iter().copied())?;
-        assert_eq!(rt; set.count(), elements.len());
-        assert_eq!(rt; set.is_empty(), elements.is_empty());
+        expect_eq(rt, &set.count(), &elements.len());
+        expect_eq(rt, &set.is_empty(), &elements.is_empty());
         agrees_at_each_point(rt, &set, elements);
     }
     Ok(())

@@ -5,6 +5,7 @@ ghost use Rattle.bit_set.specs.Walk.{Walk, IsAtStart};
 
 mod two_sets;
 
+use crate::expect::expect_eq;
 use bit_set::laws::whole_walks;
 use bit_set::{BitBlock, BitSet, Iter, SetError};
 use block24::Block24;
@@ -55,13 +56,21 @@ fn the_bound_falls_with_the_blocks(rt: HostRuntime) -> Result<(), Fail> {
     pulls_at_401_places();
     let alloc = rt.alloc();
     let wide = bounds_of::<u32>(alloc, 0, 400)?;
-    assert_eq!(rt; wide, [(0, Some(416)), (0, Some(32)), (0, Some(32))]);
+    expect_eq(&rt, &wide, &[(0, Some(416)), (0, Some(32)), (0, Some(32))]);
     let narrow = bounds_of::<u8>(alloc, 0, 400)?;
-    assert_eq!(rt; narrow, [(0, Some(408)), (0, Some(8)), (0, Some(8))]);
+    expect_eq(&rt, &narrow, &[(0, Some(408)), (0, Some(8)), (0, Some(8))]);
     let widest = bounds_of::<u128>(alloc, 0, 400)?;
-    assert_eq!(rt; widest, [(0, Some(512)), (0, Some(128)), (0, Some(128))]);
+    expect_eq(
+        &rt,
+        &widest,
+        &[(0, Some(512)), (0, Some(128)), (0, Some(128))],
+    );
     let spacious = bounds_of::<u8>(alloc, 40, 3)?;
-    assert_eq!(rt; spacious, [(0, Some(40)), (0, Some(40)), (0, Some(8))]);
+    expect_eq(
+        &rt,
+        &spacious,
+        &[(0, Some(40)), (0, Some(40)), (0, Some(8))],
+    );
     Ok(())
 }
 
@@ -76,8 +85,8 @@ fn blocks_of_400<B: BitBlock>(alloc: Global) -> Result<[usize; 2], SetError> {
 
 #[test]
 fn a_set_has_the_blocks_of_its_length(rt: HostRuntime) -> Result<(), Fail> {
-    assert_eq!(rt; blocks_of_400::<u8>(rt.alloc())?, [51, 51]);
-    assert_eq!(rt; blocks_of_400::<u128>(rt.alloc())?, [4, 4]);
+    expect_eq(&rt, &blocks_of_400::<u8>(rt.alloc())?, &[51, 51]);
+    expect_eq(&rt, &blocks_of_400::<u128>(rt.alloc())?, &[4, 4]);
     Ok(())
 }
 
@@ -96,29 +105,37 @@ fn firsts<B: BitBlock>(set: &BitSet<B>) -> [Option<usize>; 5] {
 #[test]
 fn a_walk_over_a_byte_stays_at_its_end(rt: HostRuntime) -> Result<(), Fail> {
     let bytes = BitSet::from_bytes(rt.alloc(), &[0b0100_1010])?;
-    assert_eq!(rt; firsts(&bytes), [Some(1), Some(4), Some(6), None, None]);
+    expect_eq(
+        &rt,
+        &firsts(&bytes),
+        &[Some(1), Some(4), Some(6), None, None],
+    );
     let forty = BitSet::<u8>::from_bytes_general(rt.alloc(), &[0b0001_0100])?;
-    assert_eq!(rt; firsts(&forty), [Some(3), Some(5), None, None, None]);
+    expect_eq(&rt, &firsts(&forty), &[Some(3), Some(5), None, None, None]);
     Ok(())
 }
 
 #[test]
 fn a_walk_stays_at_its_end(rt: HostRuntime) -> Result<(), Fail> {
     let wide = set_of_one::<u32>(rt.alloc(), 0, 400)?;
-    assert_eq!(rt; firsts(&wide), [Some(400), None, None, None, None]);
+    expect_eq(&rt, &firsts(&wide), &[Some(400), None, None, None, None]);
     let widest = BitSet::<u128>::from_iter(rt.alloc(), [128, 127].iter().copied())?;
-    assert_eq!(rt; firsts(&widest), [Some(127), Some(128), None, None, None]);
+    expect_eq(
+        &rt,
+        &firsts(&widest),
+        &[Some(127), Some(128), None, None, None],
+    );
     let spacious = set_of_one::<u8>(rt.alloc(), 40, 3)?;
-    assert_eq!(rt; firsts(&spacious), [Some(3), None, None, None, None]);
+    expect_eq(&rt, &firsts(&spacious), &[Some(3), None, None, None, None]);
     Ok(())
 }
 
 #[test]
 fn an_empty_set_has_no_item(rt: HostRuntime) {
     let set = BitSet::new(rt.alloc());
-    assert_eq!(rt; set.iter().size_hint(), (0, Some(32)));
-    assert_eq!(rt; firsts(&set), [None; 5]);
-    assert_eq!(rt; set.iter().count(), 0);
+    expect_eq(&rt, &set.iter().size_hint(), &(0, Some(32)));
+    expect_eq(&rt, &firsts(&set), &[None; 5]);
+    expect_eq(&rt, &set.iter().count(), &0);
 }
 
 // What generic code counts.
@@ -136,27 +153,27 @@ fn even_numbers(alloc: Global) -> Result<BitSet, SetError> {
 #[test]
 fn even_numbers_are_counted(rt: HostRuntime) -> Result<(), Fail> {
     let set = even_numbers(rt.alloc())?;
-    assert_eq!(rt; set.iter().count(), 5000);
-    assert_eq!(rt; counted(set.iter()), 5000);
+    expect_eq(&rt, &set.iter().count(), &5000);
+    expect_eq(&rt, &counted(set.iter()), &5000);
     let mut walk = set.iter();
     for half in 0..5000 {
-        assert_eq!(rt; walk.next(), Some(half * 2));
+        expect_eq(&rt, &walk.next(), &Some(half * 2));
     }
-    assert_eq!(rt; walk.next(), None);
+    expect_eq(&rt, &walk.next(), &None);
     Ok(())
 }
 
 // The walk gives these items first.
 pub(crate) fn passes<B: BitBlock>(rt: &impl Abort, walk: &mut Iter<'_, B>, items: &[usize]) {
     for item in items {
-        assert_eq!(rt; walk.next(), Some(*item));
+        expect_eq(rt, &walk.next(), &Some(*item));
     }
 }
 
 // The walk gives these items, and no more.
 fn gives<B: BitBlock>(rt: &impl Abort, mut walk: Iter<'_, B>, items: &[usize]) {
     passes(rt, &mut walk, items);
-    assert_eq!(rt; walk.next(), None);
+    expect_eq(rt, &walk.next(), &None);
 }
 
 // At each point of the walk over these elements, a clone counts what is left and gives it, and the
@@ -172,7 +189,7 @@ pub(crate) fn agrees_at_each_point<B: BitBlock>(
         passes(rt, &mut walk, passed);
         assert_eq!(rt; walk.clone().count(), left.len(), "at {point}");
         gives(rt, walk.clone(), left);
-        assert_eq!(rt; walk.next(), left.first().copied());
+        expect_eq(rt, &walk.next(), &left.first().copied());
     }
 }
 

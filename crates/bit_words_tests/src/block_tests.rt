@@ -1,3 +1,4 @@
+use crate::expect::expect_eq;
 use bit_words::bit_vec::{BitBlock, take_lowest_one};
 use block24::Block24;
 
@@ -21,7 +22,7 @@ fn bits_move_within_the_width(rt: HostRuntime) {
         (counts::<usize>(0b0100_1011), [4, 60, 2]),
         (counts::<u128>(0b0100_1011), [4, 124, 2]),
     ] {
-        assert_eq!(rt; counts, wanted);
+        expect_eq(&rt, &counts, &wanted);
     }
 }
 
@@ -29,20 +30,22 @@ fn bits_move_within_the_width(rt: HostRuntime) {
 #[test]
 fn digits_pass_the_middle_of_a_wide_block(rt: HostRuntime) {
     let middle = u128::from_byte(0b1100_0000).shift_left(57);
-    assert_eq!(rt;
-        [middle, middle.shift_left(64), middle.shift_right(63)],
-        [
+    expect_eq(
+        &rt,
+        &[middle, middle.shift_left(64), middle.shift_right(63)],
+        &[
             27670116110564327424,
             170141183460469231731687303715884105728,
-            3
-        ]
+            3,
+        ],
     );
     let one = middle & (!middle + u128::one());
-    assert_eq!(rt;
-        [one, middle - one],
-        [9223372036854775808, 18446744073709551616]
+    expect_eq(
+        &rt,
+        &[one, middle - one],
+        &[9223372036854775808, 18446744073709551616],
     );
-    assert_eq!(rt; BitBlock::count_ones(middle - u128::one()), 64);
+    expect_eq(&rt, &BitBlock::count_ones(middle - u128::one()), &64);
 }
 
 #[test]
@@ -52,22 +55,22 @@ fn forty_gives_up_its_lowest_one(rt: HostRuntime) {
     let low = block & wrapping_neg;
     let below = low - u8::one();
     let rest = block & (block - u8::one());
-    assert_eq!(rt; [wrapping_neg, low, below, rest], [216, 8, 7, 32]);
-    assert_eq!(rt; BitBlock::count_ones(below), 3);
-    assert_eq!(rt; low | rest, block);
-    assert_eq!(rt; block ^ rest, low);
+    expect_eq(&rt, &[wrapping_neg, low, below, rest], &[216, 8, 7, 32]);
+    expect_eq(&rt, &BitBlock::count_ones(below), &3);
+    expect_eq(&rt, &(low | rest), &block);
+    expect_eq(&rt, &(block ^ rest), &low);
 }
 
 // The highest digit of an odd block is its own complement and one, so that it is the lowest one too.
 #[test]
 fn the_highest_digit_of_an_odd_block(rt: HostRuntime) {
-    assert_eq!(rt; !Block24::zero(), Block24(16777215));
+    expect_eq(&rt, &!Block24::zero(), &Block24(16777215));
     let block = Block24(8388608);
     let wrapping_neg = !block + Block24(1);
-    assert_eq!(rt; wrapping_neg, block);
+    expect_eq(&rt, &wrapping_neg, &block);
     let below = (block & wrapping_neg) - Block24(1);
-    assert_eq!(rt; BitBlock::count_ones(below), 23);
+    expect_eq(&rt, &BitBlock::count_ones(below), &23);
     let mut rest = block;
-    assert_eq!(rt; take_lowest_one(&mut rest), 23);
-    assert_eq!(rt; rest, Block24(0));
+    expect_eq(&rt, &take_lowest_one(&mut rest), &23);
+    expect_eq(&rt, &rest, &Block24(0));
 }

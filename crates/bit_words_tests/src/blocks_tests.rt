@@ -1,4 +1,5 @@
 //! The walk over the blocks of a bit vector.
+use crate::expect::expect_eq;
 use bit_words::bit_vec::{BitBlock, BitVec, Blocks};
 use block24::Block24;
 use std::test::Fail;
@@ -12,16 +13,16 @@ fn next_if<B: BitBlock>(walk: &mut Blocks<'_, B>, wanted: bool) -> Option<B> {
 fn a_block_comes_where_it_is_wanted(rt: HostRuntime) -> Result<(), Fail> {
     let bits = BitVec::<u8>::from_bytes_general(rt.alloc(), &[0b1000_0000, 0b0000_0001])?;
     let mut walk = bits.blocks();
-    assert_eq!(rt; next_if(&mut walk, false), Some(0));
-    assert_eq!(rt; walk.size_hint(), (2, Some(2)));
-    assert_eq!(rt; next_if(&mut walk, true), Some(1));
+    expect_eq(&rt, &next_if(&mut walk, false), &Some(0));
+    expect_eq(&rt, &walk.size_hint(), &(2, Some(2)));
+    expect_eq(&rt, &next_if(&mut walk, true), &Some(1));
     let rest = [
         next_if(&mut walk, false),
         walk.next(),
         next_if(&mut walk, false),
         next_if(&mut walk, true),
     ];
-    assert_eq!(rt; rest, [Some(0), Some(128), Some(0), None]);
+    expect_eq(&rt, &rest, &[Some(0), Some(128), Some(0), None]);
     Ok(())
 }
 
@@ -29,19 +30,20 @@ fn a_block_comes_where_it_is_wanted(rt: HostRuntime) -> Result<(), Fail> {
 fn a_block_of_24_bits_comes_where_it_is_wanted(rt: HostRuntime) -> Result<(), Fail> {
     let odd = BitVec::<Block24>::from_elem_general(rt.alloc(), 25, true)?;
     let mut walk = odd.blocks();
-    assert_eq!(rt;
-        [
+    expect_eq(
+        &rt,
+        &[
             next_if(&mut walk, true),
             next_if(&mut walk, false),
             next_if(&mut walk, true),
-            next_if(&mut walk, true)
+            next_if(&mut walk, true),
         ],
-        [
+        &[
             Some(Block24(16777215)),
             Some(Block24(0)),
             Some(Block24(1)),
-            None
-        ]
+            None,
+        ],
     );
     Ok(())
 }

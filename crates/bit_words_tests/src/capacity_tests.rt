@@ -1,3 +1,4 @@
+use crate::expect::{expect, expect_eq};
 use crate::lists::list_of;
 use bit_words::bit_vec::{BitBlock, BitVec};
 use block24::Block24;
@@ -9,8 +10,8 @@ use std::test::Fail;
 fn capacity_is_reserved(rt: HostRuntime) -> Result<(), Fail> {
     let mut bits = BitVec::new(rt.alloc());
     bits.reserve(100)?;
-    assert!(rt; bits.capacity() >= 100);
-    assert_eq!(rt; bits.len(), 0);
+    expect(&rt, bits.capacity() >= 100);
+    expect_eq(&rt, &bits.len(), &0);
     Ok(())
 }
 
@@ -18,7 +19,7 @@ fn capacity_is_reserved(rt: HostRuntime) -> Result<(), Fail> {
 fn capacity_is_reserved_exactly(rt: HostRuntime) -> Result<(), Fail> {
     let mut exact = BitVec::<Block24>::new_general(rt.alloc());
     exact.reserve_exact(25)?;
-    assert_eq!(rt; exact.capacity(), 48);
+    expect_eq(&rt, &exact.capacity(), &48);
     exact.reserve_exact(3)?;
     assert_eq!(rt; exact.capacity(), 48, "there was capacity");
     Ok(())
@@ -43,10 +44,10 @@ fn stays_true<B: BitBlock>(bits: &mut BitVec<B>) -> Result<(bool, bool), AllocEr
 // A list with a true value at 40, which is then false.
 fn check_shrink<B: BitBlock>(rt: &impl Abort, alloc: Global, len: usize) -> Result<(), Fail> {
     let mut bits = list_of::<B>(alloc, 1000, &[40])?;
-    assert_eq!(rt; stays_true(&mut bits.clone(alloc)?)?, (true, true));
-    assert_eq!(rt; cut_and_shrunk(&mut bits)?, (len, len));
+    expect_eq(rt, &stays_true(&mut bits.clone(alloc)?)?, &(true, true));
+    expect_eq(rt, &cut_and_shrunk(&mut bits)?, &(len, len));
     bits.fill(false);
-    assert_eq!(rt; cut_and_shrunk(&mut bits)?, (0, 0));
+    expect_eq(rt, &cut_and_shrunk(&mut bits)?, &(0, 0));
     Ok(())
 }
 
@@ -64,9 +65,9 @@ fn a_shrunk_list_has_the_capacity_of_its_blocks(rt: HostRuntime) -> Result<(), F
     let mut bits = BitVec::<u8>::new_general(rt.alloc());
     bits.reserve(100)?;
     bits.grow(72, true)?;
-    assert!(rt; bits.capacity() >= 100);
+    expect(&rt, bits.capacity() >= 100);
     bits.shrink_to_fit()?;
-    assert_eq!(rt; (bits.len(), bits.capacity()), (72, 72));
+    expect_eq(&rt, &(bits.len(), bits.capacity()), &(72, 72));
     Ok(())
 }
 
@@ -74,6 +75,6 @@ fn a_shrunk_list_has_the_capacity_of_its_blocks(rt: HostRuntime) -> Result<(), F
 fn a_cut_can_lengthen(rt: HostRuntime) -> Result<(), Fail> {
     let mut bits = list_of::<u32>(rt.alloc(), 41, &[40])?;
     bits.cut_zero_blocks();
-    assert_eq!(rt; bits.len(), 64);
+    expect_eq(&rt, &bits.len(), &64);
     Ok(())
 }

@@ -10,6 +10,8 @@ mod capacity_tests;
 #[cfg(test)]
 mod example_tests;
 #[cfg(test)]
+mod expect;
+#[cfg(test)]
 mod lists;
 #[cfg(test)]
 mod merge_tests;

@@ -1,3 +1,4 @@
+use crate::expect::{expect, expect_eq};
 use crate::lists::list_of;
 use bit_words::bit_vec::{BitBlock, BitVec, Merge, Steps};
 use block24::Block24;
@@ -38,9 +39,9 @@ fn check_merge<B: BitBlock>(
 ) -> Result<(), Fail> {
     let mut bits = list_of::<B>(alloc, 150, &[0, 3, 31, 32, 64, 100, 149])?;
     let other = list_of(alloc, 101, &[0, 31, 33, 64, 99])?;
-    assert!(rt; merge_in(&mut bits, &other, merge));
-    assert_eq!(rt; indices_of(alloc, &bits)?.as_slice(), wanted);
-    assert_eq!(rt; bits.len(), 150);
+    expect(rt, merge_in(&mut bits, &other, merge));
+    expect_eq(rt, &indices_of(alloc, &bits)?.as_slice(), &wanted);
+    expect_eq(rt, &bits.len(), &150);
     Ok(())
 }
 
@@ -68,18 +69,25 @@ fn merge_of_bytes<B: BitBlock>(merge: Merge, a: u8, b: u8) -> B {
 
 #[test]
 fn two_blocks_merge(rt: HostRuntime) {
-    assert_eq!(rt; merge_of_bytes::<u8>(Merge::Union, 0b1100, 0b1010), 0b1110);
-    assert_eq!(rt;
-        merge_of_bytes::<u32>(Merge::Intersection, 0b1100, 0b1010),
-        0b1000
+    expect_eq(
+        &rt,
+        &merge_of_bytes::<u8>(Merge::Union, 0b1100, 0b1010),
+        &0b1110,
     );
-    assert_eq!(rt;
-        merge_of_bytes::<u64>(Merge::Difference, 0b1100, 0b1010),
-        0b0100
+    expect_eq(
+        &rt,
+        &merge_of_bytes::<u32>(Merge::Intersection, 0b1100, 0b1010),
+        &0b1000,
     );
-    assert_eq!(rt;
-        merge_of_bytes::<u16>(Merge::Symmetric, 0b1100, 0b1010),
-        0b0110
+    expect_eq(
+        &rt,
+        &merge_of_bytes::<u64>(Merge::Difference, 0b1100, 0b1010),
+        &0b0100,
+    );
+    expect_eq(
+        &rt,
+        &merge_of_bytes::<u16>(Merge::Symmetric, 0b1100, 0b1010),
+        &0b0110,
     );
 }
 
@@ -139,13 +147,14 @@ fn lists_are_within_one_another_or_apart(rt: HostRuntime) -> Result<(), Fail> {
 fn check_relations_of_none<B: BitBlock>(rt: &impl Abort, alloc: Global) -> Result<(), Fail> {
     let none = BitVec::<B>::new_general(alloc);
     let apart = list_of(alloc, 700, &[101, 300, 699])?;
-    assert_eq!(rt;
-        [
+    expect_eq(
+        rt,
+        &[
             relations(&none, &apart),
             relations(&apart, &none),
-            relations(&none, &none)
+            relations(&none, &none),
         ],
-        [(true, true), (false, true), (true, true)]
+        &[(true, true), (false, true), (true, true)],
     );
     Ok(())
 }
@@ -167,9 +176,10 @@ fn text_of<B: BitBlock>(alloc: Global, bits: &BitVec<B>) -> Result<String, Alloc
 fn a_list_shows_its_bits(rt: HostRuntime) -> Result<(), Fail> {
     let alloc = rt.alloc();
     let bits = list_of::<u8>(alloc, 11, &[1, 10])?;
-    assert_eq!(rt;
-        text_of(alloc, &bits)?.as_str(),
-        "BitVec { storage: \"01000000 001\", nbits: 11 }"
+    expect_eq(
+        &rt,
+        &text_of(alloc, &bits)?.as_str(),
+        &"BitVec { storage: \"01000000 001\", nbits: 11 }",
     );
     Ok(())
 }
@@ -178,14 +188,16 @@ fn a_list_shows_its_bits(rt: HostRuntime) -> Result<(), Fail> {
 fn a_whole_block_and_no_block_show_their_bits(rt: HostRuntime) -> Result<(), Fail> {
     let alloc = rt.alloc();
     let whole = list_of::<Block24>(alloc, 24, &[0, 23])?;
-    assert_eq!(rt;
-        text_of(alloc, &whole)?.as_str(),
-        "BitVec { storage: \"100000000000000000000001\", nbits: 24 }"
+    expect_eq(
+        &rt,
+        &text_of(alloc, &whole)?.as_str(),
+        &"BitVec { storage: \"100000000000000000000001\", nbits: 24 }",
     );
     let empty = BitVec::new(alloc);
-    assert_eq!(rt;
-        text_of(alloc, &empty)?.as_str(),
-        "BitVec { storage: \"\", nbits: 0 }"
+    expect_eq(
+        &rt,
+        &text_of(alloc, &empty)?.as_str(),
+        &"BitVec { storage: \"\", nbits: 0 }",
     );
     Ok(())
 }

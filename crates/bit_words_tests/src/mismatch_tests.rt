@@ -1,4 +1,5 @@
 //! Where two lists of blocks differ: in a group, in the rest behind the groups, past the end of one of them.
+use crate::expect::{expect, expect_eq};
 use crate::lists::list_of;
 use bit_words::bit_vec::{
     BitBlock, BitVec, block_or_zero, first_mismatching_block, first_nonzero_block, has_one_from,
@@ -15,14 +16,15 @@ fn check_mismatch<B: BitBlock>(rt: &impl Abort, alloc: Global, index: usize) -> 
     let long = list_of::<B>(alloc, 9500, &[index])?;
     let block = Some(index / B::bits());
     let (short, long) = (short.storage(), long.storage());
-    assert_eq!(rt;
-        [
+    expect_eq(
+        rt,
+        &[
             first_mismatching_block(short, long),
             first_mismatching_block(long, short),
             first_nonzero_block(long, 0),
-            first_mismatching_block(long, long)
+            first_mismatching_block(long, long),
         ],
-        [block, block, block, None]
+        &[block, block, block, None],
     );
     Ok(())
 }
@@ -39,18 +41,23 @@ fn lists_differ_in_the_block_of_the_first_mismatch(rt: HostRuntime) -> Result<()
 
 #[test]
 fn past_the_end_a_block_is_zero(rt: HostRuntime) {
-    assert_eq!(rt; first_mismatching_block(&[7u8, 1, 0, 4], &[7, 1]), Some(3));
-    assert_eq!(rt; first_nonzero_block(&[1u8, 0, 4], 3), None);
-    assert_eq!(rt;
-        [block_or_zero(&[7u8], 0), block_or_zero(&[7u8], 1)],
-        [7, 0]
+    expect_eq(
+        &rt,
+        &first_mismatching_block(&[7u8, 1, 0, 4], &[7, 1]),
+        &Some(3),
+    );
+    expect_eq(&rt, &first_nonzero_block(&[1u8, 0, 4], 3), &None);
+    expect_eq(
+        &rt,
+        &[block_or_zero(&[7u8], 0), block_or_zero(&[7u8], 1)],
+        &[7, 0],
     );
 }
 
 #[test]
 fn blocks_differ_from_their_lowest_mismatch_on(rt: HostRuntime) {
-    assert_eq!(rt; lowest_mismatch(Block24(0x80_0000), Block24(0)), 23);
-    assert!(rt; has_one_from(Block24(0x80_0000), 23));
-    assert!(rt; has_one_from(0b0100u8, 2));
-    assert!(rt; !has_one_from(0b0100u8, 3));
+    expect_eq(&rt, &lowest_mismatch(Block24(0x80_0000), Block24(0)), &23);
+    expect(&rt, has_one_from(Block24(0x80_0000), 23));
+    expect(&rt, has_one_from(0b0100u8, 2));
+    expect(&rt, !has_one_from(0b0100u8, 3));
 }

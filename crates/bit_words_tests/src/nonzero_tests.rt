@@ -1,4 +1,5 @@
 //! The walk over the blocks that are not zero, and what goes by the summary: at the ends of its blocks.
+use crate::expect::{expect, expect_eq};
 use crate::lists::{grow_by, list_of, put};
 use bit_words::bit_vec::{BitBlock, BitVec, Merge, Nonzero, Steps};
 use block24::Block24;
@@ -31,10 +32,18 @@ fn indices_of(alloc: Global, n: usize, trues: &[usize]) -> Result<[Option<usize>
 fn the_first_block_and_those_that_are_not_zero_come(rt: HostRuntime) -> Result<(), Fail> {
     let alloc = rt.alloc();
     let two = [Some(0), Some(12), None, None];
-    assert_eq!(rt; indices_of(alloc, 401, &[400])?, two);
-    assert_eq!(rt; indices_of(alloc, 401, &[0, 400])?, two);
-    assert_eq!(rt; indices_of(alloc, 100, &[])?, [Some(0), None, None, None]);
-    assert_eq!(rt; indices(&BitVec::<u32>::new_general(rt.alloc())), [None; 4]);
+    expect_eq(&rt, &indices_of(alloc, 401, &[400])?, &two);
+    expect_eq(&rt, &indices_of(alloc, 401, &[0, 400])?, &two);
+    expect_eq(
+        &rt,
+        &indices_of(alloc, 100, &[])?,
+        &[Some(0), None, None, None],
+    );
+    expect_eq(
+        &rt,
+        &indices(&BitVec::<u32>::new_general(rt.alloc())),
+        &[None; 4],
+    );
     Ok(())
 }
 
@@ -43,17 +52,17 @@ fn a_refill_passes_zero_blocks(rt: HostRuntime) -> Result<(), Fail> {
     let bits = list_of::<u32>(rt.alloc(), 401, &[400])?;
     let mut walk = bits.nonzero();
     let first = walk.next();
-    assert_eq!(rt; first, Some((0, 0)));
+    expect_eq(&rt, &first, &Some((0, 0)));
     if walk.as_slice().len() < 1000 {
         let mut block = 0;
         let mut index = 0;
         let first = (walk.refill(&mut block, &mut index), block, index);
-        assert_eq!(rt; first, (true, 0x1_0000, 384));
+        expect_eq(&rt, &first, &(true, 0x1_0000, 384));
         let second = (walk.refill(&mut block, &mut index), block, index);
-        assert_eq!(rt; second, (true, 0x1_0000, 384));
+        expect_eq(&rt, &second, &(true, 0x1_0000, 384));
         block = 0;
-        assert!(rt; !walk.refill(&mut block, &mut index));
-        assert_eq!(rt; block, 0);
+        expect(&rt, !walk.refill(&mut block, &mut index));
+        expect_eq(&rt, &block, &0);
     }
     Ok(())
 }
@@ -68,9 +77,9 @@ fn ends_are_found<B: BitBlock>(
 ) -> Result<(), AllocError> {
     for more in 0..2 {
         let bits = list_of::<B>(alloc, len.saturating_add(more), trues)?;
-        assert_eq!(rt; indices(&bits), found.map(Some));
-        assert_eq!(rt; bits.count_ones(), trues.len());
-        assert!(rt; !bits.none());
+        expect_eq(rt, &indices(&bits), &found.map(Some));
+        expect_eq(rt, &bits.count_ones(), &trues.len());
+        expect(rt, !bits.none());
     }
     Ok(())
 }
@@ -99,15 +108,20 @@ fn zero_blocks_are_passed_over(rt: HostRuntime) -> Result<(), Fail> {
 fn a_walk_goes_on_from_its_clone(rt: HostRuntime) -> Result<(), Fail> {
     let bits = list_of::<u8>(rt.alloc(), 200, &[9, 80, 199])?;
     let mut walk = bits.nonzero();
-    assert_eq!(rt; [walk.next(), walk.next()], [Some((0, 0)), Some((1, 2))]);
-    let mut copy = walk.clone();
-    assert_eq!(rt; copy.next(), Some((10, 1)));
-    assert_eq!(rt;
-        [walk.next(), walk.next(), walk.next()],
-        [Some((10, 1)), Some((24, 128)), None]
+    expect_eq(
+        &rt,
+        &[walk.next(), walk.next()],
+        &[Some((0, 0)), Some((1, 2))],
     );
-    assert_eq!(rt; copy.next(), Some((24, 128)));
-    assert_eq!(rt; copy.as_slice().len(), 25);
+    let mut copy = walk.clone();
+    expect_eq(&rt, &copy.next(), &Some((10, 1)));
+    expect_eq(
+        &rt,
+        &[walk.next(), walk.next(), walk.next()],
+        &[Some((10, 1)), Some((24, 128)), None],
+    );
+    expect_eq(&rt, &copy.next(), &Some((24, 128)));
+    expect_eq(&rt, &copy.as_slice().len(), &25);
     Ok(())
 }
 
@@ -115,13 +129,13 @@ fn a_walk_goes_on_from_its_clone(rt: HostRuntime) -> Result<(), Fail> {
 fn a_removed_value_leaves_the_summary(rt: HostRuntime) -> Result<(), Fail> {
     let mut bits = list_of::<u32>(rt.alloc(), 401, &[0, 400])?;
     put(&mut bits, 400, false);
-    assert_eq!(rt; indices(&bits), [Some(0), None, None, None]);
-    assert!(rt; !bits.none());
+    expect_eq(&rt, &indices(&bits), &[Some(0), None, None, None]);
+    expect(&rt, !bits.none());
     put(&mut bits, 0, false);
-    assert!(rt; bits.none());
-    assert_eq!(rt; bits.count_ones(), 0);
+    expect(&rt, bits.none());
+    expect_eq(&rt, &bits.count_ones(), &0);
     bits.cut_zero_blocks();
-    assert_eq!(rt; bits.len(), 0);
+    expect_eq(&rt, &bits.len(), &0);
     Ok(())
 }
 
@@ -142,10 +156,10 @@ fn entries<B: BitBlock>(
 // The walk gives these blocks, and then none for good.
 fn gives<B: BitBlock + Debug>(rt: &impl Abort, mut walk: Nonzero<'_, B>, entries: &[(usize, B)]) {
     for entry in entries {
-        assert_eq!(rt; walk.next(), Some(*entry));
+        expect_eq(rt, &walk.next(), &Some(*entry));
     }
-    assert_eq!(rt; walk.next(), None);
-    assert_eq!(rt; walk.next(), None);
+    expect_eq(rt, &walk.next(), &None);
+    expect_eq(rt, &walk.next(), &None);
 }
 
 // At each point of the walk a clone gives what is left.
@@ -159,7 +173,7 @@ fn agrees_at_each_point<B: BitBlock + Debug>(
     for point in 0..entries.len() + 1 {
         let (_, left) = entries.split_at(point);
         gives(rt, walk.clone(), left);
-        assert_eq!(rt; walk.next(), left.first().copied());
+        expect_eq(rt, &walk.next(), &left.first().copied());
     }
     Ok(())
 }
@@ -175,9 +189,10 @@ fn agree_over_summaries<B: BitBlock + Debug>(
     for places in trues {
         let bits = list_of::<B>(alloc, len, places)?;
         agrees_at_each_point(rt, alloc, &bits)?;
-        assert_eq!(rt;
-            (bits.count_ones(), bits.none()),
-            (places.len(), places.is_empty())
+        expect_eq(
+            rt,
+            &(bits.count_ones(), bits.none()),
+            &(places.len(), places.is_empty()),
         );
     }
     Ok(())
@@ -192,9 +207,13 @@ fn few(alloc: Global) -> Result<BitVec<u8>, AllocError> {
 fn a_list_grows_past_the_limit_and_is_cut_back(rt: HostRuntime) -> Result<(), Fail> {
     let mut bits = few(rt.alloc())?;
     grow_by(&mut bits, 1, true)?;
-    assert_eq!(rt; indices(&bits), [Some(0), Some(1), Some(31), Some(32)]);
+    expect_eq(
+        &rt,
+        &indices(&bits),
+        &[Some(0), Some(1), Some(31), Some(32)],
+    );
     bits.truncate(256);
-    assert_eq!(rt; indices(&bits), [Some(0), Some(1), Some(31), None]);
+    expect_eq(&rt, &indices(&bits), &[Some(0), Some(1), Some(31), None]);
     Ok(())
 }
 
@@ -211,7 +230,7 @@ fn filled(alloc: Global) -> Result<BitVec<u8>, AllocError> {
 // A list past the limit that has a value of its own and those of the few.
 fn many(rt: &impl Abort, alloc: Global) -> Result<BitVec<u8>, AllocError> {
     let mut bits = filled(alloc)?;
-    assert!(rt; bits.none());
+    expect(rt, bits.none());
     put(&mut bits, 319, true);
     let few = few(alloc)?;
     if few.len() <= bits.len() {
@@ -224,12 +243,20 @@ fn many(rt: &impl Abort, alloc: Global) -> Result<BitVec<u8>, AllocError> {
 fn a_list_is_copied_over_one_on_the_other_side_of_the_limit(rt: HostRuntime) -> Result<(), Fail> {
     let alloc = rt.alloc();
     let bits = many(&rt, alloc)?;
-    assert_eq!(rt; indices(&bits), [Some(0), Some(1), Some(31), Some(39)]);
+    expect_eq(
+        &rt,
+        &indices(&bits),
+        &[Some(0), Some(1), Some(31), Some(39)],
+    );
     let mut copy = few(alloc)?;
     copy.clone_from(&bits)?;
-    assert_eq!(rt; indices(&copy), [Some(0), Some(1), Some(31), Some(39)]);
+    expect_eq(
+        &rt,
+        &indices(&copy),
+        &[Some(0), Some(1), Some(31), Some(39)],
+    );
     copy.clone_from(&few(alloc)?)?;
-    assert_eq!(rt; indices(&copy), [Some(0), Some(1), Some(31), None]);
+    expect_eq(&rt, &indices(&copy), &[Some(0), Some(1), Some(31), None]);
     Ok(())
 }
 

@@ -1,4 +1,5 @@
 //! The tail of a list, copied: its values, and what its summary says of them.
+use crate::expect::expect_eq;
 use crate::lists::list_of;
 use bit_words::bit_vec::{BitBlock, BitVec};
 use block24::Block24;
@@ -39,8 +40,8 @@ fn check_tails<B: BitBlock>(rt: &impl Abort, alloc: Global) -> Result<(), Fail> 
         let tail = tail_of_hundred::<B>(alloc, at)?;
         assert_eq!(rt; tail, Some((100, 100 - at, Some(true))), "from {at}");
     }
-    assert_eq!(rt; is_none_from::<B>(alloc, 40)?, Some(false));
-    assert_eq!(rt; is_none_from::<B>(alloc, 41)?, Some(true));
+    expect_eq(rt, &is_none_from::<B>(alloc, 40)?, &Some(false));
+    expect_eq(rt, &is_none_from::<B>(alloc, 41)?, &Some(true));
     Ok(())
 }
 

@@ -1,3 +1,4 @@
+use crate::expect::{expect, expect_eq};
 use crate::lists::{grow_by, put};
 use bit_words::bit_vec::{BitBlock, BitVec, BitsError, Steps};
 use block24::Block24;
@@ -9,11 +10,11 @@ use std::test::Fail;
 #[test]
 fn bytes_begin_with_their_highest_bit(rt: HostRuntime) -> Result<(), Fail> {
     let byte = BitVec::<u8>::from_bytes_general(rt.alloc(), &[0b0100_1010])?;
-    assert_eq!(rt; byte.storage(), [82].as_slice());
+    expect_eq(&rt, &byte.storage(), &[82].as_slice());
 
     let bytes = BitVec::from_bytes(rt.alloc(), &[0b0100_1010, 0b1000_0000])?;
-    assert_eq!(rt; bytes.storage(), [338].as_slice());
-    assert_eq!(rt; bytes.len(), 16);
+    expect_eq(&rt, &bytes.storage(), &[338].as_slice());
+    expect_eq(&rt, &bytes.len(), &16);
     Ok(())
 }
 
@@ -21,13 +22,13 @@ fn bytes_begin_with_their_highest_bit(rt: HostRuntime) -> Result<(), Fail> {
 fn a_list_fills_wide_blocks(rt: HostRuntime) -> Result<(), Fail> {
     let mut bits = BitVec::<u128>::from_elem_general(rt.alloc(), 140, true)?;
     let full = 340282366920938463463374607431768211455;
-    assert_eq!(rt; bits.storage(), [full, 4095].as_slice());
+    expect_eq(&rt, &bits.storage(), &[full, 4095].as_slice());
     bits.truncate(65);
-    assert_eq!(rt; bits.storage(), [36893488147419103231].as_slice());
+    expect_eq(&rt, &bits.storage(), &[36893488147419103231].as_slice());
     bits.grow(64, false)?;
     bits.grow(1, true)?;
-    assert_eq!(rt; bits.storage(), [36893488147419103231, 2].as_slice());
-    assert_eq!(rt; bits.len(), 130);
+    expect_eq(&rt, &bits.storage(), &[36893488147419103231, 2].as_slice());
+    expect_eq(&rt, &bits.len(), &130);
     Ok(())
 }
 
@@ -36,7 +37,7 @@ fn bytes_fill_wide_blocks(rt: HostRuntime) -> Result<(), Fail> {
     let bytes = [0, 0, 0, 0, 0, 0, 0, 1, 0b1000_0000, 0, 0, 0, 0, 0, 0, 1, 1];
     let bits = BitVec::<u128>::from_bytes_general(rt.alloc(), &bytes)?;
     let ends = 170141183460469231759357419826448433152;
-    assert_eq!(rt; bits.storage(), [ends, 128].as_slice());
+    expect_eq(&rt, &bits.storage(), &[ends, 128].as_slice());
     Ok(())
 }
 
@@ -65,8 +66,8 @@ fn fifteen(alloc: Global) -> Result<BitVec, AllocError> {
 fn a_list_is_cut(rt: HostRuntime) -> Result<(), Fail> {
     let bits = BitVec::from_elem(rt.alloc(), 140, true)?;
     let full = 4_294_967_295;
-    assert!(rt; is(&bits, &[full, full, full, full, 4095], 140));
-    assert!(rt; is(&ten(rt.alloc())?, &[1023], 10));
+    expect(&rt, is(&bits, &[full, full, full, full, 4095], 140));
+    expect(&rt, is(&ten(rt.alloc())?, &[1023], 10));
     Ok(())
 }
 
@@ -74,10 +75,10 @@ fn a_list_is_cut(rt: HostRuntime) -> Result<(), Fail> {
 fn a_list_is_grown(rt: HostRuntime) -> Result<(), Fail> {
     let mut bits = ten(rt.alloc())?;
     grow_by(&mut bits, 3, true)?;
-    assert!(rt; is(&bits, &[8191], 13));
+    expect(&rt, is(&bits, &[8191], 13));
     let bits = fifteen(rt.alloc())?;
-    assert!(rt; is(&bits, &[8191], 15));
-    assert_eq!(rt; [bits.get(14), bits.get(15)], [Some(false), None]);
+    expect(&rt, is(&bits, &[8191], 15));
+    expect_eq(&rt, &[bits.get(14), bits.get(15)], &[Some(false), None]);
     Ok(())
 }
 
@@ -93,9 +94,9 @@ fn turn_first(bits: &mut BitVec) -> Option<[bool; 2]> {
 fn a_list_is_written(rt: HostRuntime) -> Result<(), Fail> {
     let mut bits = fifteen(rt.alloc())?;
     put(&mut bits, 0, false);
-    assert!(rt; is(&bits, &[8190], 15));
-    assert_eq!(rt; turn_first(&mut bits), Some([false, true]));
-    assert!(rt; is(&bits, &[8190], 15));
+    expect(&rt, is(&bits, &[8190], 15));
+    expect_eq(&rt, &turn_first(&mut bits), &Some([false, true]));
+    expect(&rt, is(&bits, &[8190], 15));
     Ok(())
 }
 
@@ -103,8 +104,8 @@ fn a_list_is_written(rt: HostRuntime) -> Result<(), Fail> {
 fn a_list_is_filled_and_copied(rt: HostRuntime) -> Result<(), Fail> {
     let mut bits = fifteen(rt.alloc())?;
     bits.fill(true);
-    assert!(rt; is(&bits, &[32767], 15));
-    assert!(rt; is(&bits.clone(rt.alloc())?, &[32767], 15));
+    expect(&rt, is(&bits, &[32767], 15));
+    expect(&rt, is(&bits.clone(rt.alloc())?, &[32767], 15));
     Ok(())
 }
 
@@ -150,10 +151,10 @@ fn check_each_call<B: BitBlock>(
     wanted: [usize; 4],
 ) -> Result<(), Fail> {
     let mut bits = last_of_forty::<B>(alloc)?;
-    assert_eq!(rt; sizes(&bits), wanted);
-    assert_eq!(rt; nones(&mut bits), [false, true, true]);
+    expect_eq(rt, &sizes(&bits), &wanted);
+    expect_eq(rt, &nones(&mut bits), &[false, true, true]);
     let ends = [Some(false), Some(true), None];
-    assert_eq!(rt; grown::<B>(alloc)?, (ends, true));
+    expect_eq(rt, &grown::<B>(alloc)?, &(ends, true));
     Ok(())
 }
 
@@ -168,14 +169,15 @@ fn each_call_works_at_three_widths(rt: HostRuntime) -> Result<(), Fail> {
 fn a_walk_gives_each_block(rt: HostRuntime) -> Result<(), Fail> {
     let bits = BitVec::<u8>::from_bytes_general(rt.alloc(), &[0b1000_0000, 0b0100_0000])?;
     let mut walk = bits.blocks();
-    assert_eq!(rt; walk.size_hint(), (2, Some(2)));
-    assert_eq!(rt; walk.next(), Some(1));
+    expect_eq(&rt, &walk.size_hint(), &(2, Some(2)));
+    expect_eq(&rt, &walk.next(), &Some(1));
     let mut copy = walk.clone();
-    assert_eq!(rt;
-        [walk.next(), walk.next(), copy.next()],
-        [Some(2), None, Some(2)]
+    expect_eq(
+        &rt,
+        &[walk.next(), walk.next(), copy.next()],
+        &[Some(2), None, Some(2)],
     );
-    assert_eq!(rt; copy.count(), 0);
+    expect_eq(&rt, &copy.count(), &0);
     Ok(())
 }
 
@@ -207,13 +209,13 @@ fn firsts<B: BitBlock>(bits: &BitVec<B>) -> ([Option<bool>; 4], usize) {
 fn check_greatest<B: BitBlock>(rt: &impl Abort, alloc: Global, number: usize) -> Result<(), Fail> {
     let mut bits = BitVec::<B>::from_bytes_general(alloc, &[0b1010_0000])?;
     let capacity = bits.capacity();
-    assert_eq!(rt; failures(&mut bits, number), [Err(AllocError); 4]);
-    assert!(rt; is_too_long::<B>(alloc, number));
-    assert_eq!(rt; bits.get(number), None);
+    expect_eq(rt, &failures(&mut bits, number), &[Err(AllocError); 4]);
+    expect(rt, is_too_long::<B>(alloc, number));
+    expect_eq(rt, &bits.get(number), &None);
     bits.truncate(number);
     let values = [Some(true), Some(false), Some(true), Some(false)];
-    assert_eq!(rt; firsts(&bits), (values, 2));
-    assert_eq!(rt; [bits.len(), bits.capacity()], [8, capacity]);
+    expect_eq(rt, &firsts(&bits), &(values, 2));
+    expect_eq(rt, &[bits.len(), bits.capacity()], &[8, capacity]);
     Ok(())
 }
 
@@ -229,7 +231,7 @@ fn the_greatest_numbers_change_nothing(rt: HostRuntime) -> Result<(), Fail> {
 
 #[test]
 fn nothing_needs_no_memory(rt: HostRuntime) {
-    assert!(rt; BitVec::new(rt.alloc()).none());
+    expect(&rt, BitVec::new(rt.alloc()).none());
     let mut steps = Steps::new();
     steps.tick();
     let _same = steps.clone();
@@ -262,17 +264,18 @@ fn shown(bits: &BitVec<u8>, taken: usize) -> (bool, usize) {
 fn a_text_fails_where_the_formatter_does(rt: HostRuntime) -> Result<(), Fail> {
     let bits = BitVec::<u8>::from_elem_general(rt.alloc(), 10, true)?;
     let text = format!(in rt.alloc(); "{bits:?}")?;
-    assert_eq!(rt;
-        text.as_str(),
-        "BitVec { storage: \"11111111 11\", nbits: 10 }"
+    expect_eq(
+        &rt,
+        &text.as_str(),
+        &"BitVec { storage: \"11111111 11\", nbits: 10 }",
     );
     let (is_shown, left) = shown(&bits, 100);
     let calls = 100usize.saturating_sub(left);
-    assert!(rt; is_shown && calls > 0);
+    expect(&rt, is_shown && calls > 0);
     for taken in 0..calls {
         assert!(rt; !shown(&bits, taken).0, "at {taken}");
     }
-    assert!(rt; shown(&bits, calls).0);
+    expect(&rt, shown(&bits, calls).0);
     Ok(())
 }
 
@@ -287,20 +290,22 @@ fn keep_byte(alloc: Global, list: &mut Vec<u8>, byte: u8) -> Result<BitVec, Bits
 fn a_vector_and_a_list_are_made_in_one_function(rt: HostRuntime) -> Result<(), Fail> {
     let mut list = Vec::new(rt.alloc());
     let bits = keep_byte(rt.alloc(), &mut list, 0b1010_0000)?;
-    assert_eq!(rt; bits.storage(), [5].as_slice());
-    assert_eq!(rt; list.as_slice(), [0b1010_0000].as_slice());
+    expect_eq(&rt, &bits.storage(), &[5].as_slice());
+    expect_eq(&rt, &list.as_slice(), &[0b1010_0000].as_slice());
     Ok(())
 }
 
 #[test]
 fn faults_have_their_texts(rt: HostRuntime) -> Result<(), Fail> {
-    assert_eq!(rt;
-        format!(in rt.alloc(); "{}", BitsError::Length)?.as_str(),
-        "too many bits"
+    expect_eq(
+        &rt,
+        &format!(in rt.alloc(); "{}", BitsError::Length)?.as_str(),
+        &"too many bits",
     );
-    assert_eq!(rt;
-        format!(in rt.alloc(); "{}", BitsError::Memory(AllocError))?.as_str(),
-        "memory refused"
+    expect_eq(
+        &rt,
+        &format!(in rt.alloc(); "{}", BitsError::Memory(AllocError))?.as_str(),
+        &"memory refused",
     );
     Ok(())
 }

@@ -1,5 +1,6 @@
 //! Commands executed on a table by hand. What came of them is compared as the text that Debug shows.
 
+use crate::expect::expect_eq;
 use bit_set::bit_vec::Merge;
 use bit_set_run::laws::replies_agree;
 use bit_set_run::{Command, Numbers, SetName, Table, run};
@@ -30,7 +31,7 @@ fn ran(alloc: Global, commands: &[Command], shown: SetName) -> Result<String, Fa
 
 #[test]
 fn runs_commands_by_hand(rt: HostRuntime) -> Result<(), Fail> {
-    assert_eq!(rt; SetName::from_letter(b'q'), None);
+    expect_eq(&rt, &SetName::from_letter(b'q'), &None);
     let a = name(b'a')?;
     let commands = [
         Command::Insert(a, 5),
@@ -43,9 +44,10 @@ fn runs_commands_by_hand(rt: HostRuntime) -> Result<(), Fail> {
         Command::Count(a),
     ];
     let text = ran(rt.alloc(), &commands, a)?;
-    assert_eq!(rt;
-        text.as_str(),
-        "Err(Memory(6)) [Truth(true), Truth(false), Truth(true), Number(1), Items(Numbers { items: [5] }), Element, Items(Numbers { items: [5] })]"
+    expect_eq(
+        &rt,
+        &text.as_str(),
+        &"Err(Memory(6)) [Truth(true), Truth(false), Truth(true), Number(1), Items(Numbers { items: [5] }), Element, Items(Numbers { items: [5] })]",
     );
     Ok(())
 }
@@ -59,9 +61,10 @@ fn keeps_a_front_of_an_extend(rt: HostRuntime) -> Result<(), Fail> {
         Command::Count(a),
     ];
     let text = ran(rt.alloc(), &commands, a)?;
-    assert_eq!(rt;
-        text.as_str(),
-        "Err(Memory(1)) [Number(0), Items(Numbers { items: [5] })]"
+    expect_eq(
+        &rt,
+        &text.as_str(),
+        &"Err(Memory(1)) [Number(0), Items(Numbers { items: [5] })]",
     );
     Ok(())
 }
@@ -96,9 +99,10 @@ fn sets_have_their_lengths(rt: HostRuntime) -> Result<(), Fail> {
         Command::Copy(a, b),
     ];
     let text = lengths(rt.alloc(), &commands, a, b)?;
-    assert_eq!(rt;
-        text.as_str(),
-        "0 0, 401 0, 401 0, 501 0, 450 0, 450 0, 450 0, 450 450, 0 450, 0 0, "
+    expect_eq(
+        &rt,
+        &text.as_str(),
+        &"0 0, 401 0, 401 0, 501 0, 450 0, 450 0, 450 0, 450 450, 0 450, 0 0, ",
     );
     Ok(())
 }
@@ -120,9 +124,10 @@ fn parts_have_their_lengths(rt: HostRuntime) -> Result<(), Fail> {
         Command::SplitOff(a, 0, a),
     ];
     let text = lengths(rt.alloc(), &commands, a, b)?;
-    assert_eq!(rt;
-        text.as_str(),
-        "7 0, 7 41, 41 41, 3 41, 3 41, 0 41, 41 0, 41 0, "
+    expect_eq(
+        &rt,
+        &text.as_str(),
+        &"7 0, 7 41, 41 41, 3 41, 3 41, 0 41, 41 0, 41 0, ",
     );
     Ok(())
 }
@@ -154,9 +159,10 @@ fn sets_have_their_capacity(rt: HostRuntime) -> Result<(), Fail> {
         Command::Shrink(a),
     ];
     let text = capacities_of_two(rt.alloc(), &commands, a)?;
-    assert_eq!(rt;
-        text.as_str(),
-        "0 0, 0 128, 4 128, 4 128, 32 32, 32 32, 0 0, "
+    expect_eq(
+        &rt,
+        &text.as_str(),
+        &"0 0, 0 128, 4 128, 4 128, 32 32, 32 32, 0 0, ",
     );
     Ok(())
 }
@@ -187,7 +193,7 @@ fn sets_grow_as_they_are_asked(rt: HostRuntime) -> Result<(), Fail> {
     let b = name(b'b')?;
     let empty = [Command::Reserve(a, 1000), Command::ReserveExact(b, 1000)];
     let text = capacities(rt.alloc(), &empty, a, b)?;
-    assert_eq!(rt; text.as_str(), "1024 0, 1024 1024, ");
+    expect_eq(&rt, &text.as_str(), &"1024 0, 1024 1024, ");
 
     let full = [
         Command::Extend(a, below_900(rt.alloc())?),
@@ -198,9 +204,10 @@ fn sets_grow_as_they_are_asked(rt: HostRuntime) -> Result<(), Fail> {
         Command::Shrink(b),
     ];
     let text = capacities(rt.alloc(), &full, a, b)?;
-    assert_eq!(rt;
-        text.as_str(),
-        "928 0, 928 928, 1856 928, 1856 1024, 928 1024, 928 928, "
+    expect_eq(
+        &rt,
+        &text.as_str(),
+        &"928 0, 928 928, 1856 928, 1856 1024, 928 1024, 928 928, ",
     );
     Ok(())
 }
@@ -243,7 +250,7 @@ fn sets_keep_their_capacity(rt: HostRuntime) -> Result<(), Fail> {
     let text = capacities(rt.alloc(), &commands, a, b)?;
     let kept = "512 128, ".repeat(rt.alloc(), 27)?;
     let expected = format!(in rt.alloc(); "512 0, {kept}")?;
-    assert_eq!(rt; text.as_str(), expected.as_str());
+    expect_eq(&rt, &text.as_str(), &expected.as_str());
     Ok(())
 }
 
@@ -266,9 +273,10 @@ fn parts_have_their_capacity(rt: HostRuntime) -> Result<(), Fail> {
         Command::SplitOff(a, 5, b),
     ];
     let text = capacities(rt.alloc(), &commands, a, b)?;
-    assert_eq!(rt;
-        text.as_str(),
-        "512 0, 512 0, 512 64, 512 64, 512 0, 512 64, 0 512, 0 512, 512 0, 512 0, "
+    expect_eq(
+        &rt,
+        &text.as_str(),
+        &"512 0, 512 0, 512 64, 512 64, 512 0, 512 64, 0 512, 0 512, 512 0, 512 0, ",
     );
     Ok(())
 }
@@ -285,9 +293,10 @@ fn keeps_a_set_that_finds_no_capacity(rt: HostRuntime) -> Result<(), Fail> {
         Command::Insert(a, 6),
     ];
     let text = ran(rt.alloc(), &commands, a)?;
-    assert_eq!(rt;
-        text.as_str(),
-        "Err(Memory(3)) [Truth(true), Done, Done, Items(Numbers { items: [5] })]"
+    expect_eq(
+        &rt,
+        &text.as_str(),
+        &"Err(Memory(3)) [Truth(true), Done, Done, Items(Numbers { items: [5] })]",
     );
     Ok(())
 }
@@ -315,9 +324,10 @@ fn two_types_of_blocks_agree(rt: HostRuntime) -> Result<(), Fail> {
         Command::Items(a),
     ];
     let text = agreed(rt.alloc(), &commands)?;
-    assert_eq!(rt;
-        text.as_str(),
-        "([Element, Done, Same, Done, Rest(1, Numbers { items: [200] }), Done, Done, Items(Numbers { items: [9, 200] })], [Element, Done, Same, Done, Rest(1, Numbers { items: [200] }), Done, Done, Items(Numbers { items: [9, 200] })])"
+    expect_eq(
+        &rt,
+        &text.as_str(),
+        &"([Element, Done, Same, Done, Rest(1, Numbers { items: [200] }), Done, Done, Items(Numbers { items: [9, 200] })], [Element, Done, Same, Done, Rest(1, Numbers { items: [200] }), Done, Done, Items(Numbers { items: [9, 200] })])",
     );
     Ok(())
 }

@@ -4,6 +4,7 @@ ghost use Rattle.std.specs.Iterator.{YieldsThen};
 ghost use Rattle.bit_set.specs.Sets.{elements, union, difference};
 ghost use Rattle.bit_set.specs.Walk.{TwoSetWalk, StartsOverTwo};
 
+use crate::expect::expect_eq;
 use bit_set::bit_vec::operation::Operation;
 use bit_set::laws::whole_walks_over_two_sets;
 use bit_set::{BitBlock, BitSet, Difference, Intersection, SetError, TwoSets, Union};
@@ -54,10 +55,10 @@ impl<'a, B: BitBlock> AnyWalk for Intersection<'a, B> {
 fn gives<W: AnyWalk>(rt: &impl Abort, walk: W, items: &[usize]) {
     let mut walk = walk;
     for item in items {
-        assert_eq!(rt; walk.step(), Some(*item));
+        expect_eq(rt, &walk.step(), &Some(*item));
     }
-    assert_eq!(rt; walk.step(), None);
-    assert_eq!(rt; walk.step(), None);
+    expect_eq(rt, &walk.step(), &None);
+    expect_eq(rt, &walk.step(), &None);
 }
 
 // At each point of the walk a clone counts what is left, and another one gives it.
@@ -67,7 +68,7 @@ fn agrees<W: AnyWalk>(rt: &impl Abort, walk: W, items: &[usize]) {
         let (_, left) = items.split_at(point);
         assert_eq!(rt; walk.another().left(), left.len(), "at {point}");
         gives(rt, walk.another(), left);
-        assert_eq!(rt; walk.step(), left.first().copied());
+        expect_eq(rt, &walk.step(), &left.first().copied());
     }
 }
 
@@ -77,10 +78,10 @@ fn an_intersection_lowers_its_bound(rt: HostRuntime) -> Result<(), Fail> {
     let b = set_of::<u32>(rt.alloc(), &[2, 11, 77, 5, 3])?;
     agrees(&rt, a.intersection(&b), &[3, 5, 11, 77]);
     let mut walk = a.intersection(&b);
-    assert_eq!(rt; walk.size_hint(), (0, Some(78)));
-    assert_eq!(rt; [walk.next(), walk.next()], [Some(3), Some(5)]);
-    assert_eq!(rt; walk.size_hint(), (0, Some(76)));
-    assert_eq!(rt; walk.clone().count(), 2);
+    expect_eq(&rt, &walk.size_hint(), &(0, Some(78)));
+    expect_eq(&rt, &[walk.next(), walk.next()], &[Some(3), Some(5)]);
+    expect_eq(&rt, &walk.size_hint(), &(0, Some(76)));
+    expect_eq(&rt, &walk.clone().count(), &2);
     gives(&rt, walk, &[11, 77]);
     Ok(())
 }
@@ -103,13 +104,13 @@ fn a_union_has_what_either_has(rt: HostRuntime) -> Result<(), Fail> {
 fn an_intersection_lowers_its_bound_at_its_end(rt: HostRuntime) -> Result<(), Fail> {
     let (a, b) = two_sets(rt.alloc())?;
     let mut walk = a.intersection(&b);
-    assert_eq!(rt; walk.size_hint(), (0, Some(20)));
+    expect_eq(&rt, &walk.size_hint(), &(0, Some(20)));
     for item in [1, 5, 9, 19] {
-        assert_eq!(rt; walk.next(), Some(item));
+        expect_eq(&rt, &walk.next(), &Some(item));
     }
-    assert_eq!(rt; walk.size_hint(), (0, Some(16)));
-    assert_eq!(rt; walk.next(), None);
-    assert_eq!(rt; walk.size_hint(), (0, Some(15)));
+    expect_eq(&rt, &walk.size_hint(), &(0, Some(16)));
+    expect_eq(&rt, &walk.next(), &None);
+    expect_eq(&rt, &walk.size_hint(), &(0, Some(15)));
     Ok(())
 }
 
