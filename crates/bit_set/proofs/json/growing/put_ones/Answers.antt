@@ -40,3 +40,27 @@ loop-block-preserved g c =
       put = rw c.set.ensures.values (put_lowest w p whole m r i old new put taken.lowest taken.within taken.cleared inside);
       capacity = c.set.ensures.capacity ∙ c.loop-block.invariant.capacity;
     }
+
+pub take_lowest_one-lowest-requires-clause-of_block : goal.take_lowest_one-lowest-requires-clause-of_block
+take_lowest_one-lowest-requires-clause-of_block g c = c.loop-block.invariant.of_block
+
+pub set-requires : goal.set-requires
+set-requires g c =
+    let number = g.B.BitBlock.number in
+    let i = c.take_lowest_one-lowest.result in
+    let taken = c.take_lowest_one-lowest.ensures in
+    let put = c.loop-block.invariant.put in
+    let one = lowest_is_one g.B.BitBlock.width c.args.index (number c.args.block) (number c.loop-block.block) i c.args.bits.now.values c.loop-block.bits.values put taken.lowest taken.within in
+    omega (arith, c.requires.within i taken.within one, put.long)
+
+pub overflow_add-index : goal.overflow_add-index
+overflow_add-index g c = omega (arith, set-requires g c, c.loop-block.invariant.put.long, c.requires.counted)
+
+pub returns-clause-others : goal.returns-clause-others
+returns-clause-others g c = c.loop-block.invariant.put.others
+
+pub returns-clause-length : goal.returns-clause-length
+returns-clause-length g c = c.loop-block.invariant.put.long
+
+pub returns-clause-capacity : goal.returns-clause-capacity
+returns-clause-capacity g c = c.loop-block.invariant.capacity
