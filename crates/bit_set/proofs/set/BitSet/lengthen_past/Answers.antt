@@ -1,4 +1,4 @@
-use Rattle.std.proofs.Common.{◌≡◌, ◌≤◌, ◌++◌, length, replicate, false, ap, ◌∙◌, arith}
+use Rattle.std.proofs.Common.{◌≡◌, ◌+◌, ◌-◌, length, ap, arith}
 use Rattle.bit_set.proofs.set.BitSet.lengthen_past.Goals as goal
 
 pub overflow_sub-value : goal.overflow_sub-value
@@ -14,9 +14,9 @@ overflow_add-value g c = omega (arith, c.ranges.value.fits, c.if-value-eq1844674
 
 pub returns-clause-values : goal.returns-clause-values
 returns-clause-values g c =
-    let old = c.self.inside.bits.values in
     let same = ap (λ bits. length bits.values) c.self.view_is in
-    rw (← c.self.view_is) (c.in_ok-grow.ensures.ok ∙ ap (λ n. old ++ replicate n false) (omega (arith, same, c.len-len.ensures.value, c.requires)))
+    let count : c.args.value - c.len-len.result + 1 ≡ c.args.value + 1 - length c.self.inside.bits.values = omega (arith, same, c.len-len.ensures.value, c.requires) in
+    rw (← c.self.view_is) (rw count at c.in_ok-grow.ensures.ok)
 
 pub returns-clause-fit : goal.returns-clause-fit
 returns-clause-fit g c = omega (arith, c.ranges.value.fits, c.if-value-eq18446744073709551615.false)
