@@ -1,6 +1,9 @@
 use Rattle.std.proofs.Common.{◌≡◌, ◌+◌, ◌-◌, length, ap, arith}
 use Rattle.bit_set.proofs.set.BitSet.lengthen_past.Goals as goal
 
+pub prove-unreachable-requires : goal.prove-unreachable-requires
+prove-unreachable-requires g c = omega (arith, c.if-prove.true, c.len-len.ensures.value, c.capacity.ensures.value, c.capacity.ensures.fits.holds_values)
+
 pub overflow_sub-value : goal.overflow_sub-value
 overflow_sub-value g c =
     let same = ap (λ bits. length bits.values) c.self.view_is in
