@@ -29,6 +29,14 @@ put_nothing w index m values falses = record {
   long = refl;
 }
 
+or_none : (b c : Bool) → c ≡ false → b ≡ (b || c)
+or_none true c h = refl
+or_none false c h = sym h
+
+-- where no digit is left, the whole block is put
+pub put_all : (w index whole left : ℕ) (old new : List Bool) → IsPartlyPut w index whole left old new → left ≡ 0 → (j : ℕ) → j < w → get_or new (index + j) false ≡ is_one whole j
+put_all w index whole left old new put none j within = or_none (get_or new (index + j) false) (is_one left j) (ap (λ m. is_one m j) none ∙ is_one-zero j) ∙ put.values j within
+
 -- the lowest digit that is left is one of the whole block
 pub lowest_is_one : (w index whole left i : ℕ) (old new : List Bool) → IsPartlyPut w index whole left old new → IsLowest left i → i < w → bit_at whole i ≡ 1
 lowest_is_one w index whole left i old new put low within =

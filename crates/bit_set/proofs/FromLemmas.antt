@@ -17,6 +17,14 @@ use Rattle.bit_set.proofs.SetLemmas.{AscendsFrom-elements_from, AscendsFrom-lowe
 use Rattle.bit_set.proofs.SparseLemmas.{seen, whole_index}
 use Rattle.bit_set.proofs.WalkLemmas.{IsWalkable-values_of_blocks, elements-values_of_blocks, values_of_blocks, length-blocks, length-values_of_blocks}
 
+-- the block of a number, or one before, begins at the number or before
+pub begins_by : (w u from n k : ℕ) → u ≡ w → k ≡ min (from / w) n → k * u ≤ from
+begins_by w u from n k same at =
+    let before : k ≤ from / w = omega (arith, at) in
+    let product = mul-le-mul_right w before in
+    let whole = div-add-mod' from w in
+    rw same (omega (arith, product, whole))
+
 -- Of some blocks, k is the one of `from`, or the last, and m is what that block has from there on.
 pub record IsCut {X : Type 0} (w : ℕ) (number : X → ℕ) (blocks : List X) (from k m : ℕ) : Type 0 where
   pub at : k ≡ min (from / w) (length blocks - 1)

@@ -1,8 +1,10 @@
-use Rattle.std.proofs.Common.{◌≡◌, ◌≢◌, ◌↔◌, ◌-◌, ◌%◌, length, get_or, ap, sym, ◌∙◌, subst}
+use Rattle.std.proofs.Common.{◌≡◌, ◌≢◌, ◌↔◌, ◌-◌, ◌%◌, length, get_or, ap, sym, ◌∙◌, subst, arith}
 use Rattle.bit_words.specs.Digits.{IsShiftedRight}
 use Rattle.bit_set.specs.Json.{HasZeroTail}
-use Rattle.bit_set.specs.Entries.{numbers_of}
+use Rattle.bit_set.specs.Entries.{numbers_of, IsEntry}
 use Rattle.bit_set.proofs.JsonLemmas.{blocks_for_some, zero_tail_by_shift, counted, number_at}
+use Rattle.std.proofs.Math.Nat.{mod-lt}
+use Rattle.std.proofs.lemmas.List.Elements.{All-get_or}
 use Rattle.bit_set.proofs.json.checking.has_zero_tail.Goals as goal
 
 pub returns : goal.returns
@@ -27,3 +29,24 @@ returns g c =
       λ yes. zero_tail.0 (same.0 (sym c.eq.ensures ∙ yes) ∙ c.zero.ensures.of_number),
       λ is. c.eq.ensures ∙ same.1 (zero_tail.1 is ∙ sym c.zero.ensures.of_number),
     )
+
+pub bounds-entries-entries : goal.bounds-entries-entries
+bounds-entries-entries g c =
+    let part : c.args.len % g.B.BitBlock.width ≢ 0 = λ e. c.if-used-eq0.false (ap (λ x. c.args.len % x) c.bits.ensures ∙ e) in
+    blocks_for_some g.B.BitBlock.width c.args.len (length c.args.entries.now) part c.requires.count
+
+pub overflow_sub-entries : goal.overflow_sub-entries
+overflow_sub-entries g c = omega (arith, bounds-entries-entries g c)
+
+pub block_of-last-requires : goal.block_of-last-requires
+block_of-last-requires g c =
+    let is = IsEntry g.B.BitBlock.width in
+    let part : c.args.len % g.B.BitBlock.width ≢ 0 = λ e. c.if-used-eq0.false (ap (λ x. c.args.len % x) c.bits.ensures ∙ e) in
+    let some = blocks_for_some g.B.BitBlock.width c.args.len (length c.args.entries.now) part c.requires.count in
+    subst is (sym c.index-entries-entries.is) (All-get_or is c.args.entries.now (length c.args.entries.now - 1) c.index-entries-entries.result some c.requires.each)
+
+pub shift_right-requires-clause-of_block : goal.shift_right-requires-clause-of_block
+shift_right-requires-clause-of_block g c = c.block_of-last.ensures.of_block
+
+pub shift_right-requires-clause-within : goal.shift_right-requires-clause-within
+shift_right-requires-clause-within g c = rw c.bits.ensures (mod-lt c.args.len g.met.B.BitBlock.width_law.positive)

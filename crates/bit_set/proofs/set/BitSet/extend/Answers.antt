@@ -1,4 +1,4 @@
-use Rattle.std.proofs.Common.{[], ◌∷◌, ◌++◌, ◌<◌, refl, sym, ◌∙◌, arith}
+use Rattle.std.proofs.Common.{[], ◌∷◌, ◌++◌, ◌<◌, length, refl, ap, sym, ◌∙◌, arith}
 use Rattle.std.proofs.lemmas.Bool.{true≢false}
 use Rattle.std.specs.declared.option.Option.TheVariants.{Some}
 use Rattle.std.proofs.iter.Next.{Yields-more}
@@ -34,3 +34,32 @@ returns-clause-runs g c =
     let next_gives = g.I.Iterator.next_gives in
     let calls = rw c.into_iter-item-iterator.ensures.into_iter_gives at c.loop-item.yielded_by in
     run_of_calls next_gives _ _ c.loop-item.item-iterator c.next.new.self c.loop-item.yielded calls c.in-None.ensures.steps c.loop-item.invariant.taken
+
+pub returns-in_err-insert-clause-capacity : goal.returns-in_err-insert-clause-capacity
+returns-in_err-insert-clause-capacity g c = omega (arith, c.loop-item.invariant.capacity, c.insert.ensures.capacity)
+
+pub returns-in_err-insert-clause-within : goal.returns-in_err-insert-clause-within
+returns-in_err-insert-clause-within g c along =
+    let calls = rw c.into_iter-item-iterator.ensures.into_iter_gives at c.loop-item.yielded_by in
+    ap (λ bits. bits.capacity) c.in_err-insert.ensures.err ∙ c.loop-item.invariant.within (along c.loop-item.yielded c.loop-item.item-iterator calls)
+
+pub returns-in_err-insert-clause-kept : goal.returns-in_err-insert-clause-kept
+returns-in_err-insert-clause-kept g c short =
+    let same = c.in_err-insert.ensures.err in
+    ap (λ bits. bits.capacity) same ∙ c.loop-item.invariant.kept (omega (arith, short, ap (λ bits. length bits.values) same))
+
+pub returns-clause-ok : goal.returns-clause-ok
+returns-clause-ok g c =
+    let calls = rw c.into_iter-item-iterator.ensures.into_iter_gives at c.loop-item.yielded_by in
+    (c.loop-item.yielded, (c.next.new.self, (c.loop-item.item-iterator, calls, c.in-None.ensures.steps)), c.loop-item.invariant.taken)
+
+pub returns-clause-capacity : goal.returns-clause-capacity
+returns-clause-capacity g c = c.loop-item.invariant.capacity
+
+pub returns-clause-within : goal.returns-clause-within
+returns-clause-within g c along =
+    let calls = rw c.into_iter-item-iterator.ensures.into_iter_gives at c.loop-item.yielded_by in
+    c.loop-item.invariant.within (along c.loop-item.yielded c.loop-item.item-iterator calls)
+
+pub returns-clause-kept : goal.returns-clause-kept
+returns-clause-kept g c = c.loop-item.invariant.kept
