@@ -1,7 +1,8 @@
-use Rattle.std.proofs.Common.{◌≡◌, ◌<◌, map, length, arith}
+use Rattle.std.proofs.Common.{◌≡◌, ◌<◌, map, length, arith, ◌*◌, ap}
 use Rattle.std.proofs.lemmas.List.{length-map}
 use Rattle.bit_words.specs.Bits.{blocks_for}
 use Rattle.bit_words.proofs.SummaryLemmas.{summary_put, summary_of_digits, digits_of_summary}
+use Rattle.bit_words.proofs.BitsLemmas.{whole_before}
 use Rattle.bit_words.proofs.summary.summarize.Goals as goal
 
 pub loop-q-preserved : goal.loop-q-preserved
@@ -26,3 +27,23 @@ returns-clause-summary g c =
     let count : length ss ≡ blocks_for w (length ms) = rw (length-map, length-map) (omega arith) in
     summary_of_digits w f _ c.args.blocks.now c.loop-q.summary.items c.loop-q.invariant.each (omega arith) c.requires.fits
     (digits_of_summary w ms ss g.met.B.BitBlock.width_law.positive count (λ q j below index. let inside : q < length c.loop-q.summary.items = rw length-map at below in c.loop-q.invariant.done q j (omega arith) index))
+
+pub overflow_mul-q : goal.overflow_mul-q
+overflow_mul-q g c =
+    let w = g.B.BitBlock.width in
+    let start = whole_before w (length c.args.blocks.now) c.loop-q.q g.met.B.BitBlock.width_law.positive (omega arith) in
+    let begin = ap (λ x. c.loop-q.q * x) c.bits.ensures in
+    omega (arith, start, begin)
+
+pub used_from-requires-clause-in_bounds : goal.used_from-requires-clause-in_bounds
+used_from-requires-clause-in_bounds g c =
+    let w = g.B.BitBlock.width in
+    let start = whole_before w (length c.args.blocks.now) c.loop-q.q g.met.B.BitBlock.width_law.positive (omega arith) in
+    let begin = ap (λ x. c.loop-q.q * x) c.bits.ensures in
+    omega (arith, start, begin)
+
+pub put_block-requires-clause-in_bounds : goal.put_block-requires-clause-in_bounds
+put_block-requires-clause-in_bounds g c = omega arith
+
+pub loop-q-smaller : goal.loop-q-smaller
+loop-q-smaller g c = omega arith

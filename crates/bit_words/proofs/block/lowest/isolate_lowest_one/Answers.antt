@@ -1,6 +1,12 @@
 use Rattle.bit_words.proofs.LowestStep.{isolated}
 use Rattle.bit_words.proofs.block.lowest.isolate_lowest_one.Goals as goal
 
+pub bitand-requires : goal.bitand-requires
+bitand-requires g c = g.met.B.BitBlock.can_and c.args.block c.wrapping_neg.result c.requires.of_block c.wrapping_neg.ensures.of_block
+
+pub returns-clause-of_block : goal.returns-clause-of_block
+returns-clause-of_block g c = (g.met.B.BitBlock.and_law c.args.block c.wrapping_neg.result c.bitand.result c.requires.of_block c.wrapping_neg.ensures.of_block c.bitand.ensures).0
+
 pub returns-clause-isolated : goal.returns-clause-isolated
 returns-clause-isolated g c =
     let law = g.met.B.BitBlock in

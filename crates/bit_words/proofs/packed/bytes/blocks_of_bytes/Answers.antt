@@ -1,8 +1,39 @@
-use Rattle.std.proofs.Common.{◌≡◌, ◌*◌, map, length, arith}
-use Rattle.std.proofs.lemmas.List.{length-map}
+use Rattle.std.proofs.Common.{◌≡◌, ℕ, ◌+◌, ◌-◌, ◌*◌, ◌<◌, ◌++◌, List, [], ◌∷◌, get_or, map, length, ap, ◌∙◌, arith, ⊎_elim}
+use Rattle.std.proofs.lemmas.Bool.{cases_lt}
+use Rattle.std.proofs.lemmas.List.{length-map, get_or_append_left, get_or-append_right}
+use Rattle.std.proofs.lemmas.List.Elements.{All-same, All-push}
 use Rattle.bit_words.specs.Bits.{blocks_for}
+use Rattle.bit_words.specs.Bytes.{byte_value}
+use Rattle.bit_words.specs.Digits.{is_one}
 use Rattle.bit_words.proofs.ByteLemmas.{blocks-byte_value}
+use Rattle.bit_words.proofs.PackedLemmas.{map-pushed}
 use Rattle.bit_words.proofs.packed.bytes.blocks_of_bytes.Goals as goal
+
+-- one block more, after k of them
+block_pushed : (w : ℕ) (ms ns : List ℕ) (m k : ℕ) (bytes : List ℕ) → length ms ≡ k → ns ≡ ms ++ m ∷ [] → ((j : ℕ) → j < w → is_one m j ≡ byte_value bytes (k * w + j)) → ((q j : ℕ) → q < k → j < w → is_one (get_or ms q 0) j ≡ byte_value bytes (q * w + j)) → (q j : ℕ) → q < k + 1 → j < w → is_one (get_or ns q 0) j ≡ byte_value bytes (q * w + j)
+block_pushed w ms ns m k bytes len e digits before q j below index =
+    ap (λ xs. is_one (get_or xs q 0) j) e
+    ∙ ⊎_elim
+    (λ early. ap (λ x. is_one x j) (get_or_append_left ms (m ∷ []) 0 q (omega arith)) ∙ before q j early index)
+    (λ last.
+    let here : k ≡ q = omega arith in
+    let first : q - k ≡ 0 = omega arith in
+    ap (λ x. is_one x j) (get_or-append_right ms (m ∷ []) k q 0 len last ∙ ap (λ p. get_or (m ∷ []) p 0) first)
+    ∙ digits j index
+    ∙ ap (λ p. byte_value bytes (p * w + j)) here)
+    (cases_lt q k)
+
+pub loop-k-preserved : goal.loop-k-preserved
+loop-k-preserved g c =
+    let f = g.B.BitBlock.number in
+    let is_block = g.B.BitBlock.is_block in
+    let count : length (map f c.loop-k.blocks.items) ≡ c.loop-k.k = rw length-map (omega arith) in
+    record {
+      count = omega arith;
+      capacity = omega arith;
+      each = All-same is_block _ _ c.push_reserved.ensures.items (All-push is_block _ _ c.loop-k.invariant.each c.block_of_bytes.ensures.of_block);
+      digits = block_pushed g.B.BitBlock.width (map f c.loop-k.blocks.items) _ (f c.block_of_bytes.result) c.loop-k.k c.args.bytes.now count (map-pushed f _ _ _ c.push_reserved.ensures.items) (λ j index. c.block_of_bytes.ensures.digits j index ∙ c.bytes_of_block.ensures.values j index) c.loop-k.invariant.digits;
+    }
 
 pub returns-clause-values : goal.returns-clause-values
 returns-clause-values g c =

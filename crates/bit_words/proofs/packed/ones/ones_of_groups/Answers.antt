@@ -1,8 +1,16 @@
-use Rattle.std.proofs.Common.{◌≡◌, ◌+◌, ◌*◌, count_ones, take, ap, arith}
+use Rattle.std.proofs.Common.{◌≡◌, ◌+◌, ◌*◌, count_ones, take, drop, ap, arith}
+use Rattle.std.proofs.lemmas.List.Elements.{All-same, All-take, All-drop}
 use Rattle.std.proofs.lemmas.List.Sums.{sum_by-take-le}
 use Rattle.bit_words.specs.Nonzero.{ones_in}
 use Rattle.bit_words.proofs.CountLemmas.{ones_in-more}
 use Rattle.bit_words.proofs.packed.ones.ones_of_groups.Goals as goal
+
+pub add_ones-ones-requires-clause-each : goal.add_ones-ones-requires-clause-each
+add_ones-ones-requires-clause-each g c =
+    let is_block = g.B.BitBlock.is_block in
+    let xs = c.args.blocks.now in
+    let start = c.loop-group.group * 8 in
+    All-same is_block c.group_from.result.now (take 8 (drop start xs)) c.group_from.ensures (All-take is_block 8 (drop start xs) (All-drop is_block start xs c.requires.each))
 
 pub add_ones-ones-requires-clause-fits : goal.add_ones-ones-requires-clause-fits
 add_ones-ones-requires-clause-fits g c =

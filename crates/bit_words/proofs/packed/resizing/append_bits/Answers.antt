@@ -54,3 +54,8 @@ returns-else-bit-clause-packed g c = record {
   tail = record { zero_tail = λ i past. let longer = c.requires.longer in zeros_added _ _ _ _ _ _ c.requires.packed.tail c.zero.ensures.of_number c.push_copies.ensures.numbers i (omega arith) };
   fits = c.ranges.len.fits;
 }
+
+pub push_copies-requires-clause-more : goal.push_copies-requires-clause-more
+push_copies-requires-clause-more g c =
+    let le = blocks_for-le g.B.BitBlock.width c.args.old c.args.len g.met.B.BitBlock.width_law.positive c.requires.longer in
+    omega (arith, le, c.requires.packed.count, c.block_count.ensures)

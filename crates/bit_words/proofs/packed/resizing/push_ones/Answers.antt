@@ -1,5 +1,6 @@
 use Rattle.std.proofs.Common.{◌≡◌, ◌%◌, ◌/◌, ◌-◌, ◌+◌, ◌∙◌, map, length, vec_len, arith}
 use Rattle.std.proofs.lemmas.List.{length-map}
+use Rattle.std.proofs.lemmas.List.Elements.{All-same, All-push}
 use Rattle.bit_words.proofs.PackedLemmas.{none_pushed, whole_pushed, cut_pushed, kept_below, map-pushed}
 use Rattle.bit_words.proofs.packed.resizing.push_ones.Goals as goal
 
@@ -31,3 +32,7 @@ returns-else-index-ne0-clause-added g c = λ i past.
     let total : length (map f xs) + (c.block_index-whole.result - vec_len c.args.blocks.now) ≡ c.args.len / g.B.BitBlock.width = rw length-map (omega arith) in
     let whole : c.args.len % g.B.BitBlock.width ≡ 0 = omega arith in
     whole_pushed _ (map f xs) _ _ _ _ i g.met.B.BitBlock.width_law.positive whole total c.all_ones.ensures.of_number c.push_copies.ensures.numbers (rw length-map (omega arith))
+
+pub returns-then-index-ne0-clause-each : goal.returns-then-index-ne0-clause-each
+returns-then-index-ne0-clause-each g c =
+    All-same g.B.BitBlock.is_block _ _ c.push_reserved.ensures.items (All-push g.B.BitBlock.is_block _ _ c.push_copies.ensures.each c.ones_below.ensures.of_block)

@@ -53,3 +53,9 @@ pub returns-clause-merged : goal.returns-clause-merged
 returns-clause-merged g c =
     let end : c.loop-q.q ≡ c.args.chunks = omega arith in
     rw end at c.loop-q.invariant.merged
+
+pub put_in-requires-clause-in_bounds : goal.put_in-requires-clause-in_bounds
+put_in-requires-clause-in_bounds g c = omega arith
+
+pub loop-q-smaller : goal.loop-q-smaller
+loop-q-smaller g c = omega arith

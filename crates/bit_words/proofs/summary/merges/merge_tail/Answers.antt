@@ -60,3 +60,33 @@ returns-then-chunks-summary-clause-digits g c =
     let inside : q < length ss = rw length-map (omega (arith, below)) in
     let end : length c.put_in.new.blocks ≡ length ss = rw length-map (omega arith) in
     rest_updated m w chunks _ ns ss _ _ within c.put_in.ensures.numbers put (rw end at c.merge_rest-then-chunks-summary.ensures.merged) (λ k past. rest k (omega (arith, past, begin, c.requires.last))) q j from inside index
+
+pub overflow_mul-start : goal.overflow_mul-start
+overflow_mul-start g c = let begin = ap (λ x. c.args.chunks * x) c.bits.ensures in omega (arith, begin, c.requires.in_others)
+
+pub overflow_sub-count : goal.overflow_sub-count
+overflow_sub-count g c = let begin = ap (λ x. c.args.chunks * x) c.bits.ensures in omega (arith, begin, c.requires.in_others)
+
+pub merge_group-digits-requires-clause-in_others : goal.merge_group-digits-requires-clause-in_others
+merge_group-digits-requires-clause-in_others g c = let begin = ap (λ x. c.args.chunks * x) c.bits.ensures in omega (arith, begin, c.requires.in_others)
+
+pub merge_group-digits-requires-clause-within : goal.merge_group-digits-requires-clause-within
+merge_group-digits-requires-clause-within g c = let begin = ap (λ x. c.args.chunks * x) c.bits.ensures in omega (arith, begin, c.requires.last)
+
+pub merge_rest-requires-clause-within : goal.merge_rest-requires-clause-within
+merge_rest-requires-clause-within g c = omega (arith, c.requires.fewer, c.merge_group-digits.ensures.len)
+
+pub block_at-requires-clause-in_bounds : goal.block_at-requires-clause-in_bounds
+block_at-requires-clause-in_bounds g c = c.if-chunks-summary.true
+
+pub cut_below-requires-clause-within : goal.cut_below-requires-clause-within
+cut_below-requires-clause-within g c = let begin = ap (λ x. c.args.chunks * x) c.bits.ensures in omega (arith, begin, c.requires.last)
+
+pub put_in-requires-clause-in_bounds : goal.put_in-requires-clause-in_bounds
+put_in-requires-clause-in_bounds g c = c.if-chunks-summary.true
+
+pub overflow_add-chunks : goal.overflow_add-chunks
+overflow_add-chunks g c = omega (arith, c.if-chunks-summary.true)
+
+pub merge_rest-requires-then-chunks-summary-clause-within : goal.merge_rest-requires-then-chunks-summary-clause-within
+merge_rest-requires-then-chunks-summary-clause-within g c = omega (arith, c.if-chunks-summary.true, c.put_in.ensures.len)
