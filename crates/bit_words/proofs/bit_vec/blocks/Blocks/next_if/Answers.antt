@@ -2,13 +2,24 @@ use Rattle.std.proofs.Common.{ℕ, suc, ◌≡◌, ◌+◌, ◌<◌, ◌≤◌, 
 use Rattle.std.proofs.lemmas.Bool.{true≢false}
 use Rattle.std.proofs.lemmas.List.{length-drop, get_or-drop, drop_all}
 use Rattle.std.specs.Bool.{then_some}
+use Rattle.bit_words.proofs.bit_vec.blocks.Blocks.next_if.Given.{Over}
 use Rattle.bit_words.proofs.bit_vec.blocks.Blocks.next_if.Goals as goal
-use Rattle.bit_words.proofs.bit_vec.blocks.Blocks.next_if.Goals.{then-wanted, else-wanted, then-wanted-2, else-wanted-2}
+use Rattle.bit_words.proofs.bit_vec.blocks.Blocks.next_if.Goals.{Joined-wanted, then-wanted, else-wanted, then-wanted-2, else-wanted-2}
 use mir.Val.{bool_byte}
 
 at_most_1 : (b : Bool) → bool_byte b ≤ 1
 at_most_1 true = omega arith
 at_most_1 false = omega arith
+
+-- what the pull, where the block is wanted, leaves as it was
+place_kept : (g : Over) (c : Joined-wanted g) → (c.if-wanted.self-inside.at ≡ c.self.inside.at) × (c.if-wanted.self-inside.blocks.now ≡ c.self.inside.blocks.now)
+place_kept g c = elim c.if-wanted.branch [ then-wanted w ↦ (ap (λ s. s.at) w.self-inside-is, ap (λ s. s.blocks.now) w.self-inside-is) | else-wanted w ↦ (ap (λ s. s.at) w.self-inside-is, ap (λ s. s.blocks.now) w.self-inside-is) ]
+
+pull_counted : (g : Over) (c : Joined-wanted g) → c.args.wanted ≡ true → c.if-wanted.self-inside.steps ≡ c.self.inside.steps + 1
+pull_counted g c = elim c.if-wanted.branch [ then-wanted w ↦ λ on. ap (λ s. s.steps) w.self-inside-is ∙ w.tick.ensures | else-wanted w ↦ λ on. absurd (true≢false (sym on ∙ w.if-wanted.false)) ]
+
+all_kept : (g : Over) (c : Joined-wanted g) → c.args.wanted ≡ false → c.if-wanted.self-inside ≡ c.self.inside
+all_kept g c = elim c.if-wanted.branch [ then-wanted w ↦ λ off. absurd (true≢false (sym w.if-wanted.true ∙ off)) | else-wanted w ↦ λ off. w.self-inside-is ]
 
 pub overflow_add-self : goal.overflow_add-self
 overflow_add-self g c =
@@ -33,19 +44,19 @@ from_first i k xs ys x rest some first one =
 
 pub returns : goal.returns
 returns g c =
+    let joined = (goal.at.returns g c).Joined-wanted in
+    let place = place_kept g joined in
+    let counted = pull_counted g joined in
+    let still = all_kept g joined in
     let i = c.if-wanted.self-inside.at in
     let xs = c.if-wanted.self-inside.blocks.now in
-    let at : i ≡ c.self.inside.at = elim c.if-wanted.branch [ then-wanted w ↦ ap (λ s. s.at) w.self-inside-is | else-wanted w ↦ ap (λ s. s.at) w.self-inside-is ] in
-    let of : xs ≡ c.self.inside.blocks.now = elim c.if-wanted.branch [ then-wanted w ↦ ap (λ s. s.blocks.now) w.self-inside-is | else-wanted w ↦ ap (λ s. s.blocks.now) w.self-inside-is ] in
-    let counted : c.args.wanted ≡ true → c.if-wanted.self-inside.steps ≡ c.self.inside.steps + 1 = elim c.if-wanted.branch [ then-wanted w ↦ λ on. ap (λ s. s.steps) w.self-inside-is ∙ w.tick.ensures | else-wanted w ↦ λ on. absurd (true≢false (sym on ∙ w.if-wanted.false)) ] in
-    let still : c.args.wanted ≡ false → c.if-wanted.self-inside ≡ c.self.inside = elim c.if-wanted.branch [ then-wanted w ↦ λ off. absurd (true≢false (sym w.if-wanted.true ∙ off)) | else-wanted w ↦ λ off. w.self-inside-is ] in
     let given : c.args.wanted ≡ true → c.if-wanted-2.result ≡ c.in-Some.next.now = elim c.if-wanted-2.branch [ then-wanted-2 w ↦ λ on. w.result-is | else-wanted-2 w ↦ λ on. absurd (true≢false (sym on ∙ w.if-wanted-2.false)) ] in
     let zero : c.args.wanted ≡ false → g.B.BitBlock.is_block c.if-wanted-2.result × (g.B.BitBlock.number c.if-wanted-2.result ≡ 0) = elim c.if-wanted-2.branch [ then-wanted-2 w ↦ λ off. absurd (true≢false (sym w.if-wanted-2.true ∙ off)) | else-wanted-2 w ↦ λ off. rw w.result-is (w.zero-else-wanted-2.ensures.of_block, w.zero-else-wanted-2.ensures.of_number) ] in
     record {
       pulled = λ on.
       let one : c.from.result ≡ 1 = c.from.ensures ∙ ap bool_byte on in
       record {
-        item = rw (given on) (sym (ap (λ s. s.left) c.self.view_is) ∙ sym (ap₂ drop at of) ∙ sym c.as_slice.ensures ∙ from_first i c.from.result xs c.as_slice.result.now _ c.as_slice.ensures c.in-Some.ensures.item.3.0 c.in-Some.ensures.item.1 one);
+        item = rw (given on) (sym (ap (λ s. s.left) c.self.view_is) ∙ sym (ap₂ drop place.0 place.1) ∙ sym c.as_slice.ensures ∙ from_first i c.from.result xs c.as_slice.result.now _ c.as_slice.ensures c.in-Some.ensures.item.3.0 c.in-Some.ensures.item.1 one);
         counted = omega (arith, counted on, ap (λ s. s.pulls) c.self.view_is);
       };
       zeros = λ off. zero off;
@@ -56,16 +67,16 @@ returns g c =
 
 pub returns-in_default : goal.returns-in_default
 returns-in_default g c =
-    let at : c.if-wanted.self-inside.at ≡ c.self.inside.at = elim c.if-wanted.branch [ then-wanted w ↦ ap (λ s. s.at) w.self-inside-is | else-wanted w ↦ ap (λ s. s.at) w.self-inside-is ] in
-    let of : c.if-wanted.self-inside.blocks.now ≡ c.self.inside.blocks.now = elim c.if-wanted.branch [ then-wanted w ↦ ap (λ s. s.blocks.now) w.self-inside-is | else-wanted w ↦ ap (λ s. s.blocks.now) w.self-inside-is ] in
-    let counted : c.args.wanted ≡ true → c.if-wanted.self-inside.steps ≡ c.self.inside.steps + 1 = elim c.if-wanted.branch [ then-wanted w ↦ λ on. ap (λ s. s.steps) w.self-inside-is ∙ w.tick.ensures | else-wanted w ↦ λ on. absurd (true≢false (sym on ∙ w.if-wanted.false)) ] in
-    let still : c.args.wanted ≡ false → c.if-wanted.self-inside ≡ c.self.inside = elim c.if-wanted.branch [ then-wanted w ↦ λ off. absurd (true≢false (sym w.if-wanted.true ∙ off)) | else-wanted w ↦ λ off. w.self-inside-is ] in
+    let joined = (goal.at.returns-in_default g c).Joined-wanted in
+    let place = place_kept g joined in
+    let counted = pull_counted g joined in
+    let still = all_kept g joined in
     let none : c.as_slice.result.now ≡ [] = drop_all 0 c.as_slice.result.now c.in_default.ensures.item.3 in
     record {
       pulled = λ on.
       let nothing : c.then_some.result ≡ None = c.then_some.ensures ∙ ap (λ b. then_some (not b) c.zero.result) on in
       rw nothing (record {
-        item = (sym (ap (λ s. s.left) c.self.view_is) ∙ sym (ap₂ drop at of) ∙ sym c.as_slice.ensures ∙ none, sym c.as_slice.ensures ∙ none);
+        item = (sym (ap (λ s. s.left) c.self.view_is) ∙ sym (ap₂ drop place.0 place.1) ∙ sym c.as_slice.ensures ∙ none, sym c.as_slice.ensures ∙ none);
         counted = omega (arith, counted on, ap (λ s. s.pulls) c.self.view_is);
       });
       zeros = λ off.
