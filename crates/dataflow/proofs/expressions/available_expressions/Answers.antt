@@ -45,3 +45,18 @@ returns-clause-available g c =
     let complements : AreComplements all (lists_of sets.items) (lists_of new) = rw c.as_mut_slice.ensures.value at c.in_ok-complement_each.ensures in
     let found : AreFound blocks c.args.count (lists_of new) = are_found blocks all c.members_of_merged_sets.ensures.difference c.args.count (lists_of sets.items) (lists_of new) c.in_ok-all.ensures.all long reached complements in
     rw whole (each_available blocks c.args.count (lists_of new) found)
+
+pub returns-clause-long : goal.returns-clause-long
+returns-clause-long g c =
+    let blocks = c.args.blocks.now in
+    let all = elements c.in_ok-all.all.values in
+    let missing = c.in_ok-missing.missing.items in
+    let sets = c.in_ok-sets.sets in
+    let new = c.complement_each.new.sets in
+    let as_long = c.complement_each.auto.sets in
+    let len = sets.ok in
+    let value = c.as_mut_slice.ensures.len in
+    let whole : take sets.len (new ++ drop (length new) sets.items) ≡ new = written_back new (drop (length new) sets.items) sets.len (omega (arith, as_long, len, value)) in
+    let same : length (map flow_of missing) ≡ length (map (missing_flow (length blocks) all) blocks) = ap (λ (l : List Flow). length l) c.in_ok-missing.ensures in
+    let solved : length sets.items ≡ length missing = rw c.as_slice.ensures.value at c.in_ok-sets.ensures.long in
+    rw whole (omega (arith, as_long, len, value, solved, same, length-map missing flow_of, length-map blocks (missing_flow (length blocks) all)))

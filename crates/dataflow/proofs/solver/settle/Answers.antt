@@ -5,7 +5,7 @@ use Rattle.bit_set.specs.Sets.{elements, has}
 use Rattle.dataflow.specs.Flow.{block_at, lists_of}
 use Rattle.dataflow.specs.Worklist.{TakesIn, place_of, row_at}
 use Rattle.dataflow.proofs.DependentLemmas.{row_read}
-use Rattle.dataflow.proofs.SettleLemmas.{all_wait, few_after, lacking, nearer, on_the_way, one_less, visited_grown, visited_same, waited}
+use Rattle.dataflow.proofs.SettleLemmas.{all_wait, few_after, lacking, nearer, none_waits, on_the_way, one_less, visited_grown, visited_same, waited}
 use Rattle.dataflow.proofs.TakeLemmas.{mapped}
 use Rattle.dataflow.proofs.solver.settle.Goals as goal
 use Rattle.dataflow.proofs.solver.settle.Goals.{then-branch, else-branch}
@@ -110,3 +110,15 @@ loop-next-preserved g c =
             capacity = omega (arith, capacity, enough);
           })
     ]
+
+pub take_in-requires : goal.take_in-requires
+take_in-requires g c =
+    let long = c.loop-next.invariant.way.long in
+    let inside = c.place-number.ensures.inside in
+    omega (arith, long, inside, length-map c.loop-next.sets (λ (set : Bits). elements set.values), length-map c.args.blocks.now g.N.Block.flow)
+
+pub returns-clause-sets : goal.returns-clause-sets
+returns-clause-sets g c = c.loop-next.invariant.way
+
+pub returns-clause-settled : goal.returns-clause-settled
+returns-clause-settled g c = none_waits _ _ _ _ c.loop-next.invariant.settled c.in_default.ensures.none c.loop-next.invariant.way.generated
