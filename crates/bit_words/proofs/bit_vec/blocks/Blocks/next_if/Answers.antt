@@ -54,15 +54,15 @@ returns g c =
     let zero : c.args.wanted ≡ false → g.B.BitBlock.is_block c.if-wanted-2.result × (g.B.BitBlock.number c.if-wanted-2.result ≡ 0) = elim c.if-wanted-2.branch [ then-wanted-2 w ↦ λ off. absurd (true≢false (sym w.if-wanted-2.true ∙ off)) | else-wanted-2 w ↦ λ off. rw w.result-is (w.zero-else-wanted-2.ensures.of_block, w.zero-else-wanted-2.ensures.of_number) ] in
     record {
       pulled = λ on.
-      let one : c.from.result ≡ 1 = c.from.ensures ∙ ap bool_byte on in
-      record {
-        item = rw (given on) (sym (ap (λ s. s.left) c.self.view_is) ∙ sym (ap₂ drop place.0 place.1) ∙ sym c.as_slice.ensures ∙ from_first i c.from.result xs c.as_slice.result.now _ c.as_slice.ensures c.in-Some.ensures.item.3.0 c.in-Some.ensures.item.1 one);
-        counted = omega (arith, counted on, ap (λ s. s.pulls) c.self.view_is);
-      };
+          let one : c.from.result ≡ 1 = c.from.ensures ∙ ap bool_byte on in
+          record {
+            item = rw (given on) (sym (ap (λ s. s.left) c.self.view_is) ∙ sym (ap₂ drop place.0 place.1) ∙ sym c.as_slice.ensures ∙ from_first i c.from.result xs c.as_slice.result.now _ c.as_slice.ensures c.in-Some.ensures.item.3.0 c.in-Some.ensures.item.1 one);
+            counted = omega (arith, counted on, ap (λ s. s.pulls) c.self.view_is);
+          };
       zeros = λ off. zero off;
       same = λ off.
-      let none : i + c.from.result ≡ i = omega (arith, c.from.ensures ∙ ap bool_byte off) in
-      rw (none, still off) c.self.view_is;
+          let none : i + c.from.result ≡ i = omega (arith, c.from.ensures ∙ ap bool_byte off) in
+          rw (none, still off) c.self.view_is;
     }
 
 pub returns-in_default : goal.returns-in_default
@@ -74,13 +74,13 @@ returns-in_default g c =
     let none : c.as_slice.result.now ≡ [] = drop_all 0 c.as_slice.result.now c.in_default.ensures.item.3 in
     record {
       pulled = λ on.
-      let nothing : c.then_some.result ≡ None = c.then_some.ensures ∙ ap (λ b. then_some (not b) c.zero.result) on in
-      rw nothing (record {
-        item = (sym (ap (λ s. s.left) c.self.view_is) ∙ sym (ap₂ drop place.0 place.1) ∙ sym c.as_slice.ensures ∙ none, sym c.as_slice.ensures ∙ none);
-        counted = omega (arith, counted on, ap (λ s. s.pulls) c.self.view_is);
-      });
+          let nothing : c.then_some.result ≡ None = c.then_some.ensures ∙ ap (λ b. then_some (not b) c.zero.result) on in
+          rw nothing (record {
+            item = (sym (ap (λ s. s.left) c.self.view_is) ∙ sym (ap₂ drop place.0 place.1) ∙ sym c.as_slice.ensures ∙ none, sym c.as_slice.ensures ∙ none);
+            counted = omega (arith, counted on, ap (λ s. s.pulls) c.self.view_is);
+          });
       zeros = λ off.
-      let some : c.then_some.result ≡ Some c.zero.result = c.then_some.ensures ∙ ap (λ b. then_some (not b) c.zero.result) off in
-      rw some (c.zero.ensures.of_block, c.zero.ensures.of_number);
+          let some : c.then_some.result ≡ Some c.zero.result = c.then_some.ensures ∙ ap (λ b. then_some (not b) c.zero.result) off in
+          rw some (c.zero.ensures.of_block, c.zero.ensures.of_number);
       same = λ off. rw (still off) c.self.view_is;
     }
