@@ -19,3 +19,4 @@ pub mod TailLemmas
 pub mod NonzeroLemmas
 pub mod NonzeroFromLemmas
 pub mod CountLemmas
+pub mod GrowthLemmas

@@ -13,3 +13,4 @@ pub mod Nonzero
 pub mod Merges
 pub mod BlockMerges
 pub mod Mismatches
+pub mod Growth

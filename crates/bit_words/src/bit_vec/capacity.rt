@@ -1,6 +1,7 @@
 // Calls that change for how many values there is capacity, or how many blocks there are.
 ghost use Rattle.std.specs.Prelude.{◌≡◌, ℕ, ◌+◌, ◌*◌, ◌<◌, ◌≤◌, ◌↔◌, IsOk, OnErr, OnOk, Some, if◌then◌else◌, length, max, nat_le, slice_get, true};
 ghost use Rattle.bit_words.specs.Bits.{blocks_for, capacity_of, whole_blocks, IsWithinCapacity};
+ghost use Rattle.bit_words.specs.Growth.{Grows};
 
 use crate::bit_vec::BitVec;
 use crate::block::BitBlock;
@@ -20,12 +21,7 @@ impl<B: BitBlock> BitVec<B> {
     pub fn reserve(&mut self, n: usize) -> Result<(), AllocError>
         requires { length self.old.values + n ≤ usize.MAX }
         ensures values { self.new.values ≡ self.old.values }
-        ensures ok { OnOk result (length self.old.values + n ≤ self.new.capacity) }
-        ensures err { OnErr result (self.new ≡ self.old) }
-        ensures full { OnErr result (self.old.capacity < length self.old.values + n) }
-        ensures succeeds { length self.old.values + n ≤ self.old.capacity → IsOk result }
-        ensures within { length self.old.values + n ≤ self.old.capacity → self.new.capacity ≡ self.old.capacity }
-        ensures capacity { self.old.capacity ≤ self.new.capacity }
+        ensures grows { Grows (length self.old.values + n) result self.old self.new }
     {
         let count = block_count::<B>(self.len + n);
         reserve_shared(&mut self.blocks, &mut self.summary, count, false)
@@ -37,15 +33,10 @@ impl<B: BitBlock> BitVec<B> {
     pub fn reserve_exact(&mut self, n: usize) -> Result<(), AllocError>
         requires { length self.old.values + n ≤ usize.MAX }
         ensures values { self.new.values ≡ self.old.values }
-        ensures ok { OnOk result (length self.old.values + n ≤ self.new.capacity) }
-        ensures err { OnErr result (self.new ≡ self.old) }
-        ensures full { OnErr result (self.old.capacity < length self.old.values + n) }
-        ensures succeeds { length self.old.values + n ≤ self.old.capacity → IsOk result }
-        ensures within { length self.old.values + n ≤ self.old.capacity → self.new.capacity ≡ self.old.capacity }
+        ensures grows { Grows (length self.old.values + n) result self.old self.new }
         ensures exact { OnOk result
             (self.new.capacity
             ≡ max self.old.capacity (capacity_of B.width (blocks_for B.width (length self.old.values + n)))) }
-        ensures capacity { self.old.capacity ≤ self.new.capacity }
     {
         let count = block_count::<B>(self.len + n);
         reserve_shared_exact(&mut self.blocks, &mut self.summary, count)

@@ -1,6 +1,7 @@
 // Calls that change the list in place.
-ghost use Rattle.std.specs.Prelude.{◌≡◌, ◌+◌, ◌<◌, ◌≤◌, [], ◌++◌, length, max, replicate, slice_get, slice_set, take, Some, IsOk, OnErr, OnOk};
+ghost use Rattle.std.specs.Prelude.{◌≡◌, ◌+◌, ◌<◌, ◌≤◌, [], ◌++◌, length, max, replicate, slice_get, slice_set, take, Some, OnOk};
 ghost use Rattle.bit_words.specs.Bits.{blocks_for, capacity_of};
+ghost use Rattle.bit_words.specs.Growth.{Grows};
 
 use crate::bit_vec::BitVec;
 use crate::block::BitBlock;
@@ -86,12 +87,7 @@ impl<B: BitBlock> BitVec<B> {
     pub fn grow(&mut self, n: usize, bit: bool) -> Result<(), AllocError>
         requires { length self.old.values + n ≤ usize.MAX }
         ensures ok { OnOk result (self.new.values ≡ self.old.values ++ replicate n bit) }
-        ensures holds_values { OnOk result (length self.old.values + n ≤ self.new.capacity) }
-        ensures err { OnErr result (self.new ≡ self.old) }
-        ensures full { OnErr result (self.old.capacity < length self.old.values + n) }
-        ensures succeeds { length self.old.values + n ≤ self.old.capacity → IsOk result }
-        ensures within { length self.old.values + n ≤ self.old.capacity → self.new.capacity ≡ self.old.capacity }
-        ensures capacity { self.old.capacity ≤ self.new.capacity }
+        ensures grows { Grows (length self.old.values + n) result self.old self.new }
     {
         let len = self.len + n;
         if !bit && block_count::<B>(len) == self.blocks.len() {
@@ -107,12 +103,7 @@ impl<B: BitBlock> BitVec<B> {
     fn grow_blocks(&mut self, n: usize, bit: bool) -> Result<(), AllocError>
         requires { length self.old.values + n ≤ usize.MAX }
         ensures ok { OnOk result (self.new.values ≡ self.old.values ++ replicate n bit) }
-        ensures holds_values { OnOk result (length self.old.values + n ≤ self.new.capacity) }
-        ensures err { OnErr result (self.new ≡ self.old) }
-        ensures full { OnErr result (self.old.capacity < length self.old.values + n) }
-        ensures succeeds { length self.old.values + n ≤ self.old.capacity → IsOk result }
-        ensures within { length self.old.values + n ≤ self.old.capacity → self.new.capacity ≡ self.old.capacity }
-        ensures capacity { self.old.capacity ≤ self.new.capacity }
+        ensures grows { Grows (length self.old.values + n) result self.old self.new }
     {
         let len = self.len + n;
         let count = block_count::<B>(len);
@@ -130,14 +121,10 @@ impl<B: BitBlock> BitVec<B> {
     /// Fails only there, and then nothing changed.
     pub fn clone_from(&mut self, other: &Self) -> Result<(), AllocError>
         ensures ok { OnOk result (self.new.values ≡ other.now.values) }
-        ensures err { OnErr result (self.new ≡ self.old) }
-        ensures full { OnErr result (self.old.capacity < length other.now.values) }
-        ensures succeeds { length other.now.values ≤ self.old.capacity → IsOk result }
-        ensures within { length other.now.values ≤ self.old.capacity → self.new.capacity ≡ self.old.capacity }
+        ensures grows { Grows (length other.now.values) result self.old self.new }
         ensures exact { OnOk result
             (self.new.capacity
             ≡ max self.old.capacity (capacity_of B.width (blocks_for B.width (length other.now.values)))) }
-        ensures capacity { self.old.capacity ≤ self.new.capacity }
     {
         take_over(
             &mut self.blocks,

@@ -29,11 +29,6 @@ pub(crate) fn take_over<B: BitBlock>(
     ensures err_summary { OnErr result (summary.new ≡ summary.old) }
     ensures full { OnErr result
         (shared_capacity B.width (vec_capacity blocks.old) (vec_capacity summary.old) < length from.now) }
-    ensures within { length from.now ≤ shared_capacity B.width (vec_capacity blocks.old) (vec_capacity summary.old)
-        → shared_capacity B.width (vec_capacity blocks.new) (vec_capacity summary.new)
-        ≡ shared_capacity B.width (vec_capacity blocks.old) (vec_capacity summary.old) }
-    ensures capacity { shared_capacity B.width (vec_capacity blocks.old) (vec_capacity summary.old)
-        ≤ shared_capacity B.width (vec_capacity blocks.new) (vec_capacity summary.new) }
 {
     // As many blocks and no summary, as small sets of one length have: that needs no capacity.
     if from.len() == blocks.len() && from_summary.is_empty() && summary.is_empty() {
@@ -61,11 +56,6 @@ fn take_over_any<B: BitBlock>(
     ensures err_summary { OnErr result (summary.new ≡ summary.old) }
     ensures full { OnErr result
         (shared_capacity B.width (vec_capacity blocks.old) (vec_capacity summary.old) < length from.now) }
-    ensures within { length from.now ≤ shared_capacity B.width (vec_capacity blocks.old) (vec_capacity summary.old)
-        → shared_capacity B.width (vec_capacity blocks.new) (vec_capacity summary.new)
-        ≡ shared_capacity B.width (vec_capacity blocks.old) (vec_capacity summary.old) }
-    ensures capacity { shared_capacity B.width (vec_capacity blocks.old) (vec_capacity summary.old)
-        ≤ shared_capacity B.width (vec_capacity blocks.new) (vec_capacity summary.new) }
 {
     if have_capacity(blocks, summary, from.len()) {
         copy_blocks(blocks, from);

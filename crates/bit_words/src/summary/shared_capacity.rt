@@ -1,6 +1,7 @@
 // Capacity for blocks and their summary at once, and what is left where one of the two fails. No bit changes here.
-ghost use Rattle.std.specs.Prelude.{◌≡◌, ◌-◌, ◌<◌, ◌≤◌, false, IsOk, IsTrue, OnErr, OnOk, length, max, vec_len, vec_capacity};
-ghost use Rattle.bit_words.specs.Summary.{MakesSharedCapacity, shared_capacity};
+ghost use Rattle.std.specs.Prelude.{◌≡◌, ◌-◌, ◌<◌, ◌≤◌, false, IsTrue, OnErr, OnOk, length, max, vec_len, vec_capacity};
+ghost use Rattle.bit_words.specs.Growth.{Reserves, ReservesShared};
+ghost use Rattle.bit_words.specs.Summary.{shared_capacity};
 
 use crate::block::BitBlock;
 use crate::summary::stored_count;
@@ -15,13 +16,8 @@ fn reserve_blocks<B: BitBlock>(
 ) -> Result<(), AllocError>
     ensures items { blocks.new.items ≡ blocks.old.items }
     ensures len { vec_len blocks.new ≡ vec_len blocks.old }
-    ensures ok { OnOk result (count ≤ vec_capacity blocks.new) }
     ensures exact { IsTrue exact → OnOk result (vec_capacity blocks.new ≡ max (vec_capacity blocks.old) count) }
-    ensures err { OnErr result (vec_capacity blocks.new ≡ vec_capacity blocks.old) }
-    ensures full { OnErr result (vec_capacity blocks.old < count) }
-    ensures succeeds { count ≤ vec_capacity blocks.old → IsOk result }
-    ensures capacity { vec_capacity blocks.old ≤ vec_capacity blocks.new }
-    ensures within { count ≤ vec_capacity blocks.old → vec_capacity blocks.new ≡ vec_capacity blocks.old }
+    ensures capacity { Reserves count result (vec_capacity blocks.old) (vec_capacity blocks.new) }
 {
     if count <= blocks.capacity() {
         return Ok(());
@@ -59,7 +55,7 @@ fn grow_shared_capacity<B: BitBlock>(
     ensures summary { summary.new.items ≡ summary.old.items }
     ensures len { vec_len blocks.new ≡ vec_len blocks.old }
     ensures summary_len { vec_len summary.new ≡ vec_len summary.old }
-    ensures capacity { MakesSharedCapacity B.width count exact result
+    ensures capacity { ReservesShared B.width count exact result
         (vec_capacity blocks.old) (vec_capacity summary.old) (vec_capacity blocks.new) (vec_capacity summary.new) }
 {
     let needed = stored_count::<B>(count);
@@ -84,14 +80,8 @@ pub(crate) fn reserve_shared<B: BitBlock>(
     ensures summary { summary.new.items ≡ summary.old.items }
     ensures len { vec_len blocks.new ≡ vec_len blocks.old }
     ensures summary_len { vec_len summary.new ≡ vec_len summary.old }
-    ensures capacity { MakesSharedCapacity B.width count exact result
+    ensures capacity { ReservesShared B.width count exact result
         (vec_capacity blocks.old) (vec_capacity summary.old) (vec_capacity blocks.new) (vec_capacity summary.new) }
-    ensures full { OnErr result (shared_capacity B.width (vec_capacity blocks.old) (vec_capacity summary.old) < count) }
-    ensures succeeds { count ≤ shared_capacity B.width (vec_capacity blocks.old) (vec_capacity summary.old)
-        → IsOk result }
-    ensures within { count ≤ shared_capacity B.width (vec_capacity blocks.old) (vec_capacity summary.old)
-        → shared_capacity B.width (vec_capacity blocks.new) (vec_capacity summary.new)
-        ≡ shared_capacity B.width (vec_capacity blocks.old) (vec_capacity summary.old) }
 {
     if have_capacity(blocks, summary, count) {
         return Ok(());
@@ -111,20 +101,13 @@ pub(crate) fn reserve_shared_exact<B: BitBlock>(
     ensures summary { summary.new.items ≡ summary.old.items }
     ensures len { vec_len blocks.new ≡ vec_len blocks.old }
     ensures summary_len { vec_len summary.new ≡ vec_len summary.old }
-    ensures ok { OnOk result
+    ensures exact { OnOk result
         (shared_capacity B.width (vec_capacity blocks.new) (vec_capacity summary.new)
         ≡ max (shared_capacity B.width (vec_capacity blocks.old) (vec_capacity summary.old)) count) }
     ensures err { OnErr result
         (shared_capacity B.width (vec_capacity blocks.new) (vec_capacity summary.new)
         ≡ shared_capacity B.width (vec_capacity blocks.old) (vec_capacity summary.old)) }
     ensures full { OnErr result (shared_capacity B.width (vec_capacity blocks.old) (vec_capacity summary.old) < count) }
-    ensures succeeds { count ≤ shared_capacity B.width (vec_capacity blocks.old) (vec_capacity summary.old)
-        → IsOk result }
-    ensures capacity { shared_capacity B.width (vec_capacity blocks.old) (vec_capacity summary.old)
-        ≤ shared_capacity B.width (vec_capacity blocks.new) (vec_capacity summary.new) }
-    ensures within { count ≤ shared_capacity B.width (vec_capacity blocks.old) (vec_capacity summary.old)
-        → shared_capacity B.width (vec_capacity blocks.new) (vec_capacity summary.new)
-        ≡ shared_capacity B.width (vec_capacity blocks.old) (vec_capacity summary.old) }
 {
     if stored_count::<B>(count) <= summary.capacity() {
         return reserve_shared(blocks, summary, count, true);

@@ -1,36 +1,31 @@
-use Rattle.std.proofs.Common.{◌≡◌, ◌<◌, ◌∙◌, length, max, vec_capacity, sym, ap, arith}
+use Rattle.std.proofs.Common.{◌≡◌, ◌∙◌, length, max, vec_capacity, refl, sym, ap, ap₂, arith, Err}
 use Rattle.std.proofs.lemmas.Result.{err_from_is_err_and}
 use Rattle.bit_words.specs.Bits.{blocks_for, capacity_of}
 use Rattle.bit_words.specs.Summary.{shared_capacity}
-use Rattle.bit_words.proofs.CapacityLemmas.{capacity_le}
-use Rattle.bit_words.proofs.VectorLemmas.{length_from_view, capacity_from_view, capacity_of-max, capacity_of-short, blocks_from_capacity}
-use Rattle.bit_words.proofs.bit_vec.BitVec.clone_from.Goals.{After-from_residual}
+use Rattle.bit_words.proofs.GrowthLemmas.{Grows-blocks, Grows-kept, Reserves-exact, stored_within_capacity}
+use Rattle.bit_words.proofs.VectorLemmas.{length_from_view, capacity_from_view, capacity_of-max}
 use Rattle.bit_words.proofs.bit_vec.BitVec.clone_from.Goals as goal
 
--- where there is no capacity for the blocks of the other, the list has none for its values
-refused : (g : _) (c : After-from_residual g) → c.args.self.now.capacity < length c.args.other.now.values
-refused g c =
+pub returns-in_err-take_over-clause-grows : goal.returns-in_err-take_over-clause-grows
+returns-in_err-take_over-clause-grows g c =
     let w = g.B.BitBlock.width in
-    let capacity = shared_capacity w (vec_capacity c.self.inside.blocks) (vec_capacity c.self.inside.summary) in
-    let short = capacity_of-short w capacity c.other.inside.len g.met.B.BitBlock.width_law.positive (omega (arith, c.in_err-take_over.ensures.full)) in
-    rw (capacity_from_view _ _ _ c.self.view_is, length_from_view _ _ _ _ _ c.other.view_is) short
+    let pos = g.met.B.BitBlock.width_law.positive in
+    let p = err_from_is_err_and c.from_residual.result c.from_residual.ensures.1 in
+    let left = c.in_err-take_over.ensures in
+    let inside = stored_within_capacity _ _ _ _ _ _ _ _ _ pos c.self.invariant (omega arith) (omega arith) c.self.view_is in
+    let len = length_from_view _ _ _ _ _ c.other.view_is in
+    let count : length c.deref.result.now ≡ blocks_for w (length c.args.other.now.values) = omega (arith, c.deref.ensures.len, c.other.invariant.packed.count) ∙ ap (blocks_for w) (sym len) in
+    let kept = ap₂ (shared_capacity w) (ap vec_capacity left.err) (ap vec_capacity left.err_summary) in
+    rw (p.1, p.2) (Grows-kept w (length c.args.other.now.values) _ _ _ _ _ _ _ _ _ pos (omega arith) count c.self.view_is inside.holds_values (ap (λ b. b.items) left.err) (Reserves-exact _ _ _ (Err c.in_err-take_over.field-0.0) tt left.full kept))
 
-pub returns-in_err-take_over-clause-full : goal.returns-in_err-take_over-clause-full
-returns-in_err-take_over-clause-full g c =
-    let p = err_from_is_err_and c.from_residual.result c.from_residual.ensures.1 in rw p.1 (refused g c)
-
-pub returns-in_err-take_over-clause-succeeds : goal.returns-in_err-take_over-clause-succeeds
-returns-in_err-take_over-clause-succeeds g c = λ enough. let short = refused g c in absurd (omega arith)
-
-pub returns-clause-capacity : goal.returns-clause-capacity
-returns-clause-capacity g c = rw (capacity_from_view _ _ _ c.self.view_is) (capacity_le g.B.BitBlock.width _ _ c.take_over.ensures.capacity)
-
-pub returns-clause-within : goal.returns-clause-within
-returns-clause-within g c = λ within.
+pub returns-clause-grows : goal.returns-clause-grows
+returns-clause-grows g c =
     let w = g.B.BitBlock.width in
-    let capacity = shared_capacity w (vec_capacity c.self.inside.blocks) (vec_capacity c.self.inside.summary) in
-    let enough = blocks_from_capacity w capacity c.other.inside.len g.met.B.BitBlock.width_law.positive (rw (capacity_from_view _ _ _ c.self.view_is, length_from_view _ _ _ _ _ c.other.view_is) at within) in
-    ap (capacity_of w) (c.take_over.ensures.within (omega arith)) ∙ sym (capacity_from_view _ _ _ c.self.view_is)
+    let pos = g.met.B.BitBlock.width_law.positive in
+    let inside = stored_within_capacity _ _ _ _ _ _ _ _ _ pos c.self.invariant (omega arith) (omega arith) c.self.view_is in
+    let len = length_from_view _ _ _ _ _ c.other.view_is in
+    let count : length c.deref.result.now ≡ blocks_for w (length c.args.other.now.values) = omega (arith, c.deref.ensures.len, c.other.invariant.packed.count) ∙ ap (blocks_for w) (sym len) in
+    Grows-blocks w (length c.args.other.now.values) _ _ _ _ c.args.self.now _ pos (omega arith) count (capacity_from_view _ _ _ c.self.view_is) refl inside.holds_values tt (Reserves-exact _ _ _ _ c.in_ok-take_over.ensures.exact tt tt)
 
 pub returns-clause-exact : goal.returns-clause-exact
 returns-clause-exact g c =

@@ -1,28 +1,19 @@
-use Rattle.std.proofs.Common.{◌≡◌, ℕ, List, ◌<◌, ◌+◌, ◌*◌, ◌++◌, ◌∙◌, length, map, vec_capacity, replicate, sym, ap, ap₂, arith}
+use Rattle.std.proofs.Common.{◌≡◌, ◌+◌, ◌*◌, ◌++◌, ◌∙◌, length, map, vec_capacity, replicate, sym, ap, ap₂, arith}
 use Rattle.std.proofs.lemmas.Result.{err_from_is_err_and}
-use Rattle.bit_words.specs.Bits.{Bits, capacity_of}
-use Rattle.bit_words.specs.Storage.{values_of}
+use Rattle.bit_words.specs.Bits.{blocks_for, capacity_of}
 use Rattle.bit_words.specs.Summary.{shared_capacity}
-use Rattle.bit_words.proofs.CapacityLemmas.{capacity_le, stored_from_shared}
+use Rattle.bit_words.proofs.CapacityLemmas.{stored_from_shared}
+use Rattle.bit_words.proofs.GrowthLemmas.{Grows-blocks, Grows-kept, stored_within_capacity}
 use Rattle.bit_words.proofs.StorageLemmas.{values_of-append}
 use Rattle.bit_words.proofs.SummaryLemmas.{kept_use, kept_with_zeros, same_use, use_of_added}
 use Rattle.bit_words.proofs.BitsLemmas.{blocks_for-le}
-use Rattle.bit_words.proofs.VectorLemmas.{le-capacity_of, length_from_view, capacity_from_view, capacity_for_more, capacity_of-short, numbers_below}
-use Rattle.bit_words.proofs.bit_vec.BitVec.grow_blocks.Goals.{After-from_residual}
+use Rattle.bit_words.proofs.VectorLemmas.{length_from_view, capacity_from_view, numbers_below}
 use Rattle.bit_words.proofs.bit_vec.BitVec.grow_blocks.Goals as goal
 
 pub overflow_add-len : goal.overflow_add-len
 overflow_add-len g c =
     let len = length_from_view _ _ _ _ _ c.self.view_is in
     record { fits = omega (arith, len, c.requires) }
-
--- where there is no capacity for the blocks of the longer list, the list has none for the values
-refused : (g : _) (c : After-from_residual g) → c.args.self.now.capacity < length c.args.self.now.values + c.args.n
-refused g c =
-    let w = g.B.BitBlock.width in
-    let capacity = shared_capacity w (vec_capacity c.self.inside.blocks) (vec_capacity c.self.inside.summary) in
-    let short = capacity_of-short w capacity (c.self.inside.len + c.args.n) g.met.B.BitBlock.width_law.positive (omega (arith, c.in_err-reserve_shared.ensures.full)) in
-    rw (capacity_from_view _ _ _ c.self.view_is, length_from_view _ _ _ _ _ c.self.view_is) short
 
 pub invariant_of-self : goal.invariant_of-self
 invariant_of-self g c = rw (c.reserve_shared.ensures.items, c.reserve_shared.ensures.summary) c.self.invariant
@@ -31,29 +22,14 @@ pub returns-in_err-reserve_shared-clause-ok : goal.returns-in_err-reserve_shared
 returns-in_err-reserve_shared-clause-ok g c =
     let p = err_from_is_err_and c.from_residual.result c.from_residual.ensures.1 in rw p.1 tt
 
-pub returns-in_err-reserve_shared-clause-holds_values : goal.returns-in_err-reserve_shared-clause-holds_values
-returns-in_err-reserve_shared-clause-holds_values g c =
-    let p = err_from_is_err_and c.from_residual.result c.from_residual.ensures.1 in rw p.1 tt
-
-pub returns-in_err-reserve_shared-clause-err : goal.returns-in_err-reserve_shared-clause-err
-returns-in_err-reserve_shared-clause-err g c =
+pub returns-in_err-reserve_shared-clause-grows : goal.returns-in_err-reserve_shared-clause-grows
+returns-in_err-reserve_shared-clause-grows g c =
     let w = g.B.BitBlock.width in
+    let pos = g.met.B.BitBlock.width_law.positive in
     let p = err_from_is_err_and c.from_residual.result c.from_residual.ensures.1 in
-    let view : List g.row.B.Denot → ℕ → Bits = λ xs n. record { values = values_of w (map g.B.BitBlock.number xs) c.self.inside.len; capacity = capacity_of w n } in
-    rw p.1 (ap₂ view c.reserve_shared.ensures.items c.in_err-reserve_shared.ensures.capacity.err ∙ c.self.view_is)
-
-pub returns-in_err-reserve_shared-clause-within : goal.returns-in_err-reserve_shared-clause-within
-returns-in_err-reserve_shared-clause-within g c = λ enough. let short = refused g c in absurd (omega (arith, short, enough))
-
-pub returns-in_err-reserve_shared-clause-capacity : goal.returns-in_err-reserve_shared-clause-capacity
-returns-in_err-reserve_shared-clause-capacity g c = rw (capacity_from_view _ _ _ c.self.view_is) (capacity_le g.B.BitBlock.width _ _ c.reserve_shared.ensures.capacity.capacity)
-
-pub returns-in_err-reserve_shared-clause-full : goal.returns-in_err-reserve_shared-clause-full
-returns-in_err-reserve_shared-clause-full g c =
-    let p = err_from_is_err_and c.from_residual.result c.from_residual.ensures.1 in rw p.1 (refused g c)
-
-pub returns-in_err-reserve_shared-clause-succeeds : goal.returns-in_err-reserve_shared-clause-succeeds
-returns-in_err-reserve_shared-clause-succeeds g c = λ enough. let short = refused g c in absurd (omega arith)
+    let inside = stored_within_capacity _ _ _ _ _ _ _ _ _ pos c.self.invariant (omega arith) (omega arith) c.self.view_is in
+    let count = c.block_count-count.ensures ∙ ap (λ len. blocks_for w (len + c.args.n)) (sym (length_from_view _ _ _ _ _ c.self.view_is)) in
+    rw (p.1, p.2) (Grows-kept w (length c.args.self.now.values + c.args.n) _ _ _ _ _ _ _ _ _ pos (omega (arith, c.requires)) count c.self.view_is inside.holds_values c.reserve_shared.ensures.items c.in_err-reserve_shared.ensures.capacity.reserves)
 
 pub store_summary-requires-clause-keeps : goal.store_summary-requires-clause-keeps
 store_summary-requires-clause-keeps g c = rw (c.deref.ensures.value, c.reserve_shared.ensures.items, c.reserve_shared.ensures.summary) c.self.invariant.summary
@@ -69,13 +45,13 @@ store_summary-requires-clause-longer g c =
 
 pub store_summary-requires-clause-capacity : goal.store_summary-requires-clause-capacity
 store_summary-requires-clause-capacity g c =
-    stored_from_shared g.B.BitBlock.width _ _ _ g.met.B.BitBlock.width_law.positive c.in_ok-reserve_shared.ensures.capacity.ok
+    stored_from_shared g.B.BitBlock.width _ _ _ g.met.B.BitBlock.width_law.positive c.in_ok-reserve_shared.ensures.capacity.reserves.ok
 
 pub append_bits-requires-clause-packed : goal.append_bits-requires-clause-packed
 append_bits-requires-clause-packed g c = rw c.reserve_shared.ensures.items c.self.invariant.packed
 
 pub append_bits-requires-clause-capacity : goal.append_bits-requires-clause-capacity
-append_bits-requires-clause-capacity g c = omega (arith, c.in_ok-reserve_shared.ensures.capacity.ok, c.block_count-count.ensures)
+append_bits-requires-clause-capacity g c = omega (arith, c.in_ok-reserve_shared.ensures.capacity.reserves.ok, c.block_count-count.ensures)
 
 pub append_to_summary-requires-clause-blocks : goal.append_to_summary-requires-clause-blocks
 append_to_summary-requires-clause-blocks g c = rw c.deref-2.ensures.value c.append_bits.ensures.packed.each
@@ -106,7 +82,7 @@ pub append_to_summary-requires-clause-capacity : goal.append_to_summary-requires
 append_to_summary-requires-clause-capacity g c =
     let w = g.B.BitBlock.width in
     let count : length c.append_bits.new.blocks.items ≡ c.block_count-count.result = omega (arith, c.append_bits.ensures.packed.count) in
-    let enough = stored_from_shared w _ _ _ g.met.B.BitBlock.width_law.positive c.in_ok-reserve_shared.ensures.capacity.ok in
+    let enough = stored_from_shared w _ _ _ g.met.B.BitBlock.width_law.positive c.in_ok-reserve_shared.ensures.capacity.reserves.ok in
     rw (c.deref-2.ensures.value, count) (omega arith)
 
 pub append_to_summary-requires-clause-before : goal.append_to_summary-requires-clause-before
@@ -141,24 +117,11 @@ returns-clause-ok g c =
     values_of-append _ _ _ _ _ _ (rw c.reserve_shared.ensures.items at c.append_bits.ensures.kept) c.append_bits.ensures.added
     ∙ ap (λ v. v.values ++ replicate c.args.n c.args.bit) c.self.view_is
 
-pub returns-clause-holds_values : goal.returns-clause-holds_values
-returns-clause-holds_values g c =
+pub returns-clause-grows : goal.returns-clause-grows
+returns-clause-grows g c =
     let w = g.B.BitBlock.width in
-    let len = length_from_view _ _ _ _ _ c.self.view_is in
-    let capacity = shared_capacity w (vec_capacity c.append_bits.new.blocks) (vec_capacity c.append_to_summary.new.summary) in
+    let pos = g.met.B.BitBlock.width_law.positive in
+    let inside = stored_within_capacity _ _ _ _ _ _ _ _ _ pos c.self.invariant (omega arith) (omega arith) c.self.view_is in
+    let count = c.block_count-count.ensures ∙ ap (λ len. blocks_for w (len + c.args.n)) (sym (length_from_view _ _ _ _ _ c.self.view_is)) in
     let kept : shared_capacity w (vec_capacity c.append_bits.new.blocks) (vec_capacity c.append_to_summary.new.summary) ≡ shared_capacity w (vec_capacity c.reserve_shared.new.blocks) (vec_capacity c.reserve_shared.new.summary) = ap₂ (shared_capacity w) c.append_bits.ensures.capacity (c.append_to_summary.ensures.capacity ∙ c.store_summary.ensures.capacity) in
-    let enough = le-capacity_of w capacity (c.self.inside.len + c.args.n) g.met.B.BitBlock.width_law.positive (omega arith) (omega (arith, kept, c.in_ok-reserve_shared.ensures.capacity.ok)) in
-    omega (arith, len, enough)
-
-pub returns-clause-capacity : goal.returns-clause-capacity
-returns-clause-capacity g c =
-    let w = g.B.BitBlock.width in
-    let kept : shared_capacity w (vec_capacity c.append_bits.new.blocks) (vec_capacity c.append_to_summary.new.summary) ≡ shared_capacity w (vec_capacity c.reserve_shared.new.blocks) (vec_capacity c.reserve_shared.new.summary) = ap₂ (shared_capacity w) c.append_bits.ensures.capacity (c.append_to_summary.ensures.capacity ∙ c.store_summary.ensures.capacity) in
-    rw (capacity_from_view _ _ _ c.self.view_is) (capacity_le w _ _ (omega (arith, kept, c.reserve_shared.ensures.capacity.capacity)))
-
-pub returns-clause-within : goal.returns-clause-within
-returns-clause-within g c = λ within.
-    let w = g.B.BitBlock.width in
-    let kept : shared_capacity w (vec_capacity c.append_bits.new.blocks) (vec_capacity c.append_to_summary.new.summary) ≡ shared_capacity w (vec_capacity c.reserve_shared.new.blocks) (vec_capacity c.reserve_shared.new.summary) = ap₂ (shared_capacity w) c.append_bits.ensures.capacity (c.append_to_summary.ensures.capacity ∙ c.store_summary.ensures.capacity) in
-    let enough = capacity_for_more _ _ _ _ _ _ g.met.B.BitBlock.width_law.positive c.self.view_is within in
-    ap (capacity_of w) (kept ∙ c.reserve_shared.ensures.within (omega arith)) ∙ sym (capacity_from_view _ _ _ c.self.view_is)
+    Grows-blocks w (length c.args.self.now.values + c.args.n) _ _ _ _ _ _ pos (omega (arith, c.requires)) count (capacity_from_view _ _ _ c.self.view_is) (ap (capacity_of w) kept) inside.holds_values tt c.in_ok-reserve_shared.ensures.capacity.reserves

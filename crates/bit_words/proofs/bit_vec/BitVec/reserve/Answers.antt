@@ -1,8 +1,7 @@
-use Rattle.std.proofs.Common.{◌+◌, ◌^◌, ◌<◌, ◌≤◌, ◌∙◌, vec_capacity, sym, ap, arith, rules}
-use Rattle.std.proofs.lemmas.Result.{on_ok_weaker, on_err_weaker}
-use Rattle.bit_words.specs.Bits.{blocks_for, capacity_of}
-use Rattle.bit_words.specs.Summary.{shared_capacity}
-use Rattle.bit_words.proofs.VectorLemmas.{length_from_view, capacity_from_view, capacity_for_more, no_capacity_for_more, capacity_got}
+use Rattle.std.proofs.Common.{◌+◌, ◌^◌, ◌<◌, length, sym, ap, ◌∙◌, arith, rules}
+use Rattle.bit_words.specs.Bits.{blocks_for}
+use Rattle.bit_words.proofs.GrowthLemmas.{Grows-kept, stored_within_capacity}
+use Rattle.bit_words.proofs.VectorLemmas.{length_from_view}
 use Rattle.bit_words.proofs.bit_vec.BitVec.reserve.Goals as goal
 
 pub overflow_add-self-inside : goal.overflow_add-self-inside
@@ -11,21 +10,10 @@ overflow_add-self-inside g c =
     let small : c.self.inside.len + c.args.n < 2 ^ 64 = omega arith in
     search rules
 
-pub returns-clause-ok : goal.returns-clause-ok
-returns-clause-ok g c =
-    let len = length_from_view _ _ _ _ _ c.self.view_is in
-    on_ok_weaker _ (λ (enough : blocks_for g.B.BitBlock.width (c.self.inside.len + c.args.n) ≤ shared_capacity g.B.BitBlock.width (vec_capacity c.reserve_shared.new.blocks) (vec_capacity c.reserve_shared.new.summary)). capacity_got _ _ _ _ _ _ _ g.met.B.BitBlock.width_law.positive c.self.view_is (omega arith) enough) (rw c.block_count-count.ensures at c.reserve_shared.ensures.capacity.ok)
-
-pub returns-clause-full : goal.returns-clause-full
-returns-clause-full g c =
-    on_err_weaker _ (no_capacity_for_more _ _ _ _ _ _ g.met.B.BitBlock.width_law.positive c.self.view_is) (rw c.block_count-count.ensures at c.reserve_shared.ensures.full)
-
-pub returns-clause-succeeds : goal.returns-clause-succeeds
-returns-clause-succeeds g c = λ within.
-    let enough = capacity_for_more _ _ _ _ _ _ g.met.B.BitBlock.width_law.positive c.self.view_is within in
-    c.reserve_shared.ensures.succeeds (omega arith)
-
-pub returns-clause-within : goal.returns-clause-within
-returns-clause-within g c = λ within.
-    let enough = capacity_for_more _ _ _ _ _ _ g.met.B.BitBlock.width_law.positive c.self.view_is within in
-    ap (capacity_of g.B.BitBlock.width) (c.reserve_shared.ensures.within (omega arith)) ∙ sym (capacity_from_view _ _ _ c.self.view_is)
+pub returns-clause-grows : goal.returns-clause-grows
+returns-clause-grows g c =
+    let w = g.B.BitBlock.width in
+    let pos = g.met.B.BitBlock.width_law.positive in
+    let inside = stored_within_capacity _ _ _ _ _ _ _ _ _ pos c.self.invariant (omega arith) (omega arith) c.self.view_is in
+    let count = c.block_count-count.ensures ∙ ap (λ len. blocks_for w (len + c.args.n)) (sym (length_from_view _ _ _ _ _ c.self.view_is)) in
+    Grows-kept w (length c.args.self.now.values + c.args.n) _ _ _ _ _ _ _ _ _ pos (omega (arith, c.requires)) count c.self.view_is inside.holds_values c.reserve_shared.ensures.items c.reserve_shared.ensures.capacity.reserves

@@ -1,0 +1,66 @@
+-- What a growth in blocks makes of a list and its capacity for values.
+use Rattle.std.proofs.Common.{◌≡◌, ℕ, ◌+◌, ◌^◌, ◌<◌, ◌≤◌, max, List, map, length, refl, sym, ap, ap₂, ◌∙◌, arith, ⊎_elim, Ok, Err, Result, OnErr, OnOk}
+use Rattle.std.proofs.lemmas.Bool.{cases_lt}
+use Rattle.std.proofs.lemmas.Result.{on_err_weaker}
+use Rattle.bit_words.specs.Bits.{Bits, IsWithinCapacity, blocks_for, capacity_of}
+use Rattle.bit_words.specs.Growth.{Grows, Reserves}
+use Rattle.bit_words.specs.Storage.{values_of}
+use Rattle.bit_words.specs.Summary.{shared_capacity, IsStored}
+use Rattle.bit_words.proofs.CapacityLemmas.{capacity_le}
+use Rattle.bit_words.proofs.SummaryLemmas.{stored_within}
+use Rattle.bit_words.proofs.VectorLemmas.{blocks_from_capacity, capacity_from_view, capacity_of-short, is_within_capacity, le-capacity_of}
+
+-- ---- capacity for blocks
+
+pub Reserves-le : {E : Type 0} (count old new : ℕ) (r : Result Unit E) → Reserves count r old new → old ≤ new
+Reserves-le count old new (Ok _) is = ⊎_elim (λ (short : old < count). omega (arith, is.ok)) (λ (enough : count ≤ old). omega (arith, is.within enough)) (cases_lt old count)
+Reserves-le count old new (Err _) is = omega (arith, is.err)
+
+-- where it is there, nothing is asked for
+pub Reserves-within : {E : Type 0} (count old : ℕ) → count ≤ old → Reserves {E = E} count (Ok tt) old old
+Reserves-within count old enough = record { ok = enough; full = tt; err = tt; within = λ _. refl }
+
+-- where it is missing, just so much is asked for
+pub Reserves-exact : {E : Type 0} (count old new : ℕ) (r : Result Unit E) → OnOk r (new ≡ max old count) → OnErr r (old < count) → OnErr r (new ≡ old) → Reserves count r old new
+Reserves-exact count old new (Ok _) most full same = record { ok = omega arith; full = tt; err = tt; within = λ enough. omega arith }
+Reserves-exact count old new (Err _) most full same = record { ok = tt; full = full; err = same; within = λ _. same }
+
+-- ---- and for values
+
+pub stored_within_capacity : {X : Type 0} (w n blocks summary : ℕ) (f : X → ℕ) (P : X → Type 0) (xs ss : List X) (v : Bits) → 0 < w → IsStored w f P xs ss n → length xs ≤ blocks → length ss ≤ summary → record { values = values_of w (map f xs) n; capacity = capacity_of w (shared_capacity w blocks summary) } ≡ v → IsWithinCapacity v
+stored_within_capacity w n blocks summary f P xs ss v pos stored first second e =
+    is_within_capacity w n (shared_capacity w blocks summary) f P xs v pos stored.packed (stored_within w n blocks summary f P xs ss pos stored first second) e
+
+-- a list that grew to n values, in as many blocks as they take
+pub Grows-blocks : {E : Type 0} (w n count blocks new_blocks : ℕ) (r : Result Unit E) (old new : Bits) → 0 < w → n < 2 ^ 64 → count ≡ blocks_for w n → old.capacity ≡ capacity_of w blocks → new.capacity ≡ capacity_of w new_blocks → length old.values ≤ old.capacity → OnErr r (new ≡ old) → Reserves count r blocks new_blocks → Grows n r old new
+Grows-blocks w n count blocks new_blocks (Ok _) old new pos fits is was becomes holds same made =
+    let more = Reserves-le count blocks new_blocks (Ok tt) made in
+    record {
+      succeeds = λ _. refl;
+      within = λ enough.
+          let least = blocks_from_capacity w blocks n pos (rw was at enough) in
+          becomes ∙ ap (capacity_of w) (made.within (omega (arith, is, least))) ∙ sym was;
+      ok = rw becomes (le-capacity_of w new_blocks n pos fits (omega (arith, is, made.ok)));
+      full = tt;
+      err = tt;
+      capacity = rw (was, becomes) (capacity_le w blocks new_blocks more);
+      holds_values = holds;
+    }
+Grows-blocks w n count blocks new_blocks (Err _) old new pos fits is was becomes holds same made =
+    let short : old.capacity < n = rw was (capacity_of-short w blocks n pos (omega (arith, is, made.full))) in
+    record {
+      succeeds = λ enough. absurd (omega (arith, short, enough));
+      within = λ _. ap (λ v. v.capacity) same;
+      ok = tt;
+      full = short;
+      err = same;
+      capacity = omega (arith, ap (λ (v : Bits). v.capacity) same);
+      holds_values = holds;
+    }
+
+-- one whose blocks stay
+pub Grows-kept : {X E : Type 0} (w n m count blocks new_blocks : ℕ) (r : Result Unit E) (f : X → ℕ) (xs ys : List X) (old : Bits) → 0 < w → n < 2 ^ 64 → count ≡ blocks_for w n → record { values = values_of w (map f xs) m; capacity = capacity_of w blocks } ≡ old → length old.values ≤ old.capacity → ys ≡ xs → Reserves count r blocks new_blocks → Grows n r old (record { values = values_of w (map f ys) m; capacity = capacity_of w new_blocks })
+Grows-kept {X} w n m count blocks new_blocks r f xs ys old pos fits is view holds same made =
+    let bits : List X → ℕ → Bits = λ zs capacity. record { values = values_of w (map f zs) m; capacity = capacity_of w capacity } in
+    Grows-blocks w n count blocks new_blocks r old (bits ys new_blocks) pos fits is (capacity_from_view _ _ _ view) refl holds
+    (on_err_weaker r (λ (stays : new_blocks ≡ blocks). ap₂ bits same stays ∙ view) made.err) made
