@@ -1,13 +1,14 @@
 -- How many blocks and how much capacity a set takes.
-use Rattle.std.proofs.Common.{◌≡◌, ℕ, ◌+◌, ◌-◌, ◌*◌, ◌^◌, ◌<◌, ◌≤◌, ◌↔◌, max, Bool, true, false, nat_lt, if◌then◌else◌, All, IsTrue, List, [], ◌∷◌, length, slice_get, Some, zero, suc, refl, ap, ◌∙◌, ⊎_elim, arith, mul-le-mul_right}
+use Rattle.std.proofs.Common.{◌≡◌, ℕ, ◌+◌, ◌-◌, ◌*◌, ◌^◌, ◌<◌, ◌≤◌, ◌↔◌, max, Bool, true, false, nat_lt, if◌then◌else◌, All, IsTrue, List, [], ◌∷◌, length, slice_get, Some, zero, suc, refl, ap, ◌∙◌, ⊎_elim, arith, mul-le-mul_right, Ok, Err}
 use Rattle.std.proofs.lemmas.List.Elements.{All-nil, All-cons, All-head, All-tail}
 use Rattle.std.proofs.lemmas.Bool.{cases_lt, cases_Bool}
 use Rattle.std.proofs.lemmas.Bool.Decides.{nat_tests}
 use Rattle.bit_words.specs.Bits.{Bits, IsCapacityOfBlocks, blocks_for, capacity_of, true_end, whole_blocks}
 use Rattle.bit_words.proofs.BitsLemmas.{blocks_for-le, blocks_for-least}
 use Rattle.bit_words.proofs.CapacityLemmas.{whole_blocks-fits, whole_blocks-past}
+use Rattle.bit_words.specs.Growth.{Grows}
 use Rattle.bit_set.specs.Sets.{elements, elements_from, bound_of}
-use Rattle.bit_set.specs.Capacity.{Call, Run, capacity_wanted}
+use Rattle.bit_set.specs.Capacity.{Run}
 use Rattle.bit_set.proofs.SetLaws.{slice_get-elements}
 use Rattle.bit_set.proofs.SubsetLemmas.{same_tests}
 use Rattle.bit_set.proofs.SetLemmas.{IsAscending-elements, same_members}
@@ -83,16 +84,54 @@ whole_blocks-cut w bs fits = whole_blocks-fits w (blocks_for w (bound_of (elemen
 pub whole_blocks-top : (w : ℕ) (bs : List Bool) → 2 ^ 64 ≤ blocks_for w (bound_of (elements bs)) * w → whole_blocks w bs ≡ length bs
 whole_blocks-top w bs past = whole_blocks-past w (blocks_for w (bound_of (elements bs))) bs (ap (blocks_for w) (true_end-bound bs)) past
 
+-- ---- growths
+
+-- the capacity was there
+pub Grows-there : {T E : Type 0} (n : ℕ) (x : T) (old new : Bits) → n ≤ old.capacity → length old.values ≤ old.capacity → new.capacity ≡ old.capacity → Grows {E = E} n (Ok x) old new
+Grows-there n x old new enough holds same = record {
+  succeeds = λ _. refl;
+  within = λ _. same;
+  ok = omega arith;
+  full = tt;
+  err = tt;
+  capacity = omega arith;
+  holds_values = holds;
+}
+
+-- what changes after the growth keeps the capacity
+pub Grows-changed : {T E U F : Type 0} (n : ℕ) (x : T) (y : U) (old mid new : Bits) → new.capacity ≡ mid.capacity → Grows {E = E} n (Ok x) old mid → Grows {E = F} n (Ok y) old new
+Grows-changed n x y old mid new same grows = record {
+  succeeds = λ _. refl;
+  within = λ enough. same ∙ grows.within enough;
+  ok = omega (arith, grows.ok);
+  full = tt;
+  err = tt;
+  capacity = omega (arith, grows.capacity);
+  holds_values = grows.holds_values;
+}
+
+-- the same failure, as another error
+pub Grows-failed : {T E U F : Type 0} (n : ℕ) (e : E) (f : F) (old new : Bits) → Grows {T = T} n (Err e) old new → Grows {T = U} n (Err f) old new
+Grows-failed n e f old new grows = record {
+  succeeds = grows.succeeds;
+  within = grows.within;
+  ok = tt;
+  full = grows.full;
+  err = grows.err;
+  capacity = grows.capacity;
+  holds_values = grows.holds_values;
+}
+
 -- ---- runs of calls
 
--- calls that want no more capacity than there is go through, and leave it
-pub runs-within : (capacity old new : ℕ) (calls : List (Call × Bool)) → capacity ≤ old → All (λ call. capacity_wanted call.0 ≤ capacity) calls → Run old calls new → All (λ call. IsTrue call.1) calls × (new ≡ old)
+-- calls that need no more capacity than there is go through, and leave it
+pub runs-within : (capacity old new : ℕ) (calls : List (ℕ × Bool)) → capacity ≤ old → All (λ call. call.0 ≤ capacity) calls → Run old calls new → All (λ call. IsTrue call.1) calls × (new ≡ old)
 runs-within capacity old new [] enough each run = (All-nil _, run)
 runs-within capacity old new (call ∷ calls) enough each run =
-    let wanted = All-head (λ (c : Call × Bool). capacity_wanted c.0 ≤ capacity) call calls each in
-    let here = run.1.within (omega (arith, wanted)) in
-    let rest = runs-within capacity run.0 new calls (omega (arith, here.1)) (All-tail (λ (c : Call × Bool). capacity_wanted c.0 ≤ capacity) call calls each) run.2 in
-    (All-cons (λ (c : Call × Bool). IsTrue c.1) call calls here.0 rest.0, rest.1 ∙ here.1)
+    let needed = All-head (λ (c : ℕ × Bool). c.0 ≤ capacity) call calls each in
+    let here = run.1 (omega (arith, needed)) in
+    let rest = runs-within capacity run.0 new calls (omega (arith, here.1)) (All-tail (λ (c : ℕ × Bool). c.0 ≤ capacity) call calls each) run.2 in
+    (All-cons (λ (c : ℕ × Bool). IsTrue c.1) call calls here.0 rest.0, rest.1 ∙ here.1)
 
 -- ---- capacity in whole blocks
 

@@ -3,7 +3,8 @@ use Rattle.std.proofs.Common.{◌≡◌, ℕ, ◌<◌, ◌≤◌, Bool, true, fa
 use Rattle.std.specs.Option.{unwrap_or}
 use Rattle.std.specs.List.{All}
 use Rattle.std.proofs.lemmas.Bool.{lt-ltb, le-ltb, cases_lt}
-use Rattle.std.proofs.lemmas.List.{get_or-take, get_or_past}
+use Rattle.std.proofs.lemmas.List.{get_or-take, get_or_past, set-get_or}
+use Rattle.std.proofs.lemmas.Option.{get_or_from_slice_get}
 use Rattle.bit_set.specs.Sets.{has, put, without, elements, those_below}
 use Rattle.bit_set.proofs.SetLemmas.{IsAscending-elements, has-elements, elements-by_members, elements-set_true, elements-set_false, get_or_padded}
 use Rattle.bit_set.proofs.SetLaws.{IsAscending-those_below, has-those_below}
@@ -83,3 +84,7 @@ empty_where_all_false bs = (
     get_or-any [] k d within = absurd (omega arith)
     get_or-any (b ∷ bs) zero d within = refl
     get_or-any (b ∷ bs) (suc k) d within = get_or-any bs k d (omega arith)
+
+-- a value that is written again changes nothing
+pub written_again : (bs : List Bool) (i : ℕ) (b : Bool) → slice_get bs i ≡ Some b → set bs i b ≡ bs
+written_again bs i b is = ap (set bs i) (sym (get_or_from_slice_get bs i b false is)) ∙ set-get_or bs i false

@@ -15,3 +15,4 @@ pub mod Json
 pub mod Entries
 pub mod Lends
 pub use Rattle.bit_words.specs.Bits
+pub use Rattle.bit_words.specs.Growth

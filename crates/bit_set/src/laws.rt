@@ -12,7 +12,7 @@ ghost use Rattle.bit_set.specs.Calls.{Change, Changes, Event, Happens, outcomes,
 ghost use Rattle.bit_set.specs.Calls.Outcome.{Done, NoMemory};
 ghost use Rattle.bit_set.specs.Effects.{TakesIn};
 ghost use Rattle.bit_set.specs.Members.{TakesLeast};
-ghost use Rattle.bit_set.specs.Capacity.{Call, Run, capacity_wanted};
+ghost use Rattle.bit_set.specs.Capacity.{Run};
 ghost use Rattle.bit_set.specs.Json.{IsFirstFault, Spells};
 ghost use Rattle.bit_set.specs.declared.json.JsonError.{JsonError};
 ghost use Rattle.bit_set.specs.Walk.{Walk, TwoSetWalk, BoundedWalk, IsWalkedOut, IsAtStart, IsAtStartFrom, StartsOverTwo, WalksOverTwo, blocks_past};
@@ -291,16 +291,15 @@ pub fn whole_walks_ascend<B: BitBlock + 'static>()
 {}
 
 /// Capacity that is there is enough. Where a set has capacity for `capacity` values, as after
-/// `reserve_len(capacity)`, any run of calls that want no more never fails, and the capacity stays: that of
+/// `reserve_len(capacity)`, any run of calls that need no more never fails, and the capacity stays: that of
 /// insertions below `capacity`, of removals, of `truncate`, `make_empty` and `reset`, of reservations of at most
 /// `capacity`, and of `clone_from`, `append` and operations in place with sets no longer than `capacity`. The
-/// clause `leaves` of each call says what it does to the capacity.
+/// clause `grows` or `capacity` of each call says what it does to the capacity.
 pub fn runs_within_capacity()
-    ensures each { (capacity old new : ℕ) (calls : List (Call × Bool)) → capacity ≤ old
-        → All (λ call. capacity_wanted call.0 ≤ capacity) calls → Run old calls new
-        → All (λ call. IsTrue call.1) calls }
-    ensures stays { (capacity old new : ℕ) (calls : List (Call × Bool)) → capacity ≤ old
-        → All (λ call. capacity_wanted call.0 ≤ capacity) calls → Run old calls new → new ≡ old }
+    ensures each { (capacity old new : ℕ) (calls : List (ℕ × Bool)) → capacity ≤ old
+        → All (λ call. call.0 ≤ capacity) calls → Run old calls new → All (λ call. IsTrue call.1) calls }
+    ensures stays { (capacity old new : ℕ) (calls : List (ℕ × Bool)) → capacity ≤ old
+        → All (λ call. call.0 ≤ capacity) calls → Run old calls new → new ≡ old }
 {}
 
 /// How long a shrunk set is. A list of truth values is true up to the bound of its elements, and as many

@@ -1,6 +1,6 @@
 // A set, and the calls that read it. Those that make or change one are in the folder; walks, order, texts and JSON
 // are beside it.
-ghost use Rattle.std.specs.Prelude.{◌≡◌, ◌≤◌, ◌↔◌, IsTrue, [], length};
+ghost use Rattle.std.specs.Prelude.{◌≡◌, ◌<◌, ◌≤◌, ◌↔◌, IsTrue, [], length};
 ghost use Rattle.bit_words.specs.Bits.{IsCapacityOfBlocks};
 ghost use Rattle.bit_set.specs.Members.{HasNone, IsCounted};
 ghost use Rattle.bit_set.specs.Sets.{elements, has};
@@ -46,8 +46,10 @@ impl<B: BitBlock> BitSet<B> {
     /// Whether `value` is an element. Constant time.
     #[inline]
     pub fn contains(&self, value: usize) -> bool
-        ensures { result ≡ has (elements self.now.values) value }
+        ensures value { result ≡ has (elements self.now.values) value }
+        ensures within { IsTrue result → (value < length self.now.values) × (value < usize.MAX) }
     {
+        prove!(self.bits.len() <= usize::MAX);
         self.bits.get(value).unwrap_or(false)
     }
 

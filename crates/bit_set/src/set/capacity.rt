@@ -1,12 +1,11 @@
 // Calls that change the capacity, or return the bit vector.
-ghost use Rattle.std.specs.Prelude.{◌≡◌, ℕ, ◌*◌, ◌<◌, ◌≤◌, Bool, IsOk, is_ok, OnErr, OnOk, [], length, max, slice_set};
+ghost use Rattle.std.specs.Prelude.{◌≡◌, ℕ, ◌*◌, ◌<◌, ◌≤◌, Bool, IsOk, OnErr, OnOk, [], length, max, slice_set};
 ghost use Rattle.std.specs.Borrow.{sem};
 ghost use Rattle.bit_words.specs.Bits.{blocks_for, capacity_of, whole_blocks, IsWithinCapacity};
+ghost use Rattle.bit_words.specs.Growth.{Grows};
 ghost use Rattle.bit_set.specs.Members.{IsSameSet, Updates};
 ghost use Rattle.bit_set.specs.Sets.{bound_of, elements};
 ghost use Rattle.bit_set.specs.Calls.{Change, Changes, outcome_of_result};
-ghost use Rattle.bit_set.specs.Capacity.{Leaves};
-ghost use Rattle.bit_set.specs.Capacity.Call.{ReserveLen, ReserveLenExact};
 ghost use Rattle.bit_set.specs.Lends.{lends_bits};
 
 use crate::bit_vec::BitVec;
@@ -24,14 +23,7 @@ impl<B: BitBlock> BitSet<B> {
     /// ```
     pub fn reserve_len(&mut self, len: usize) -> Result<(), AllocError>
         ensures values { self.new.values ≡ self.old.values }
-        ensures ok { OnOk result (len ≤ self.new.capacity) }
-        ensures err { OnErr result (self.new ≡ self.old) }
-        ensures full { OnErr result (self.old.capacity < len) }
-        ensures past { OnErr result (length self.old.values < len) }
-        ensures succeeds { len ≤ self.old.capacity → IsOk result }
-        ensures within { len ≤ self.old.capacity → self.new.capacity ≡ self.old.capacity }
-        ensures capacity { self.old.capacity ≤ self.new.capacity }
-        ensures leaves { Leaves (ReserveLen len) self.old.capacity (is_ok result) self.new.capacity }
+        ensures grows { Grows len result self.old self.new }
         ensures changes { Changes (Change.ReserveLen len) self.old.values (outcome_of_result result) self.new.values }
     {
         let missing = len.saturating_sub(self.bits.len());
@@ -43,16 +35,9 @@ impl<B: BitBlock> BitSet<B> {
     /// and the capacity then stays.
     pub fn reserve_len_exact(&mut self, len: usize) -> Result<(), AllocError>
         ensures values { self.new.values ≡ self.old.values }
-        ensures ok { OnOk result (len ≤ self.new.capacity) }
-        ensures err { OnErr result (self.new ≡ self.old) }
-        ensures full { OnErr result (self.old.capacity < len) }
-        ensures past { OnErr result (length self.old.values < len) }
-        ensures succeeds { len ≤ self.old.capacity → IsOk result }
-        ensures within { len ≤ self.old.capacity → self.new.capacity ≡ self.old.capacity }
+        ensures grows { Grows len result self.old self.new }
         ensures exact { OnOk result (self.new.capacity ≡ max self.old.capacity
             (capacity_of B.width (blocks_for B.width len))) }
-        ensures capacity { self.old.capacity ≤ self.new.capacity }
-        ensures leaves { Leaves (ReserveLenExact len) self.old.capacity (is_ok result) self.new.capacity }
         ensures changes { Changes (Change.ReserveLenExact len)
             self.old.values (outcome_of_result result) self.new.values }
     {

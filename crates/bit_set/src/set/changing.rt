@@ -1,16 +1,16 @@
 // Calls that change a set in place.
-ghost use Rattle.std.specs.Prelude.{◌≡◌, ℕ, ◌+◌, ◌-◌, ◌<◌, ◌≤◌, ◌↔◌, if◌then◌else◌, max, min, not, IfOk, IfErr, OnOk, OnErr, IsOk, is_ok, IsErrOf, All, List, [], ◌++◌, length, replicate, false, true, Some};
+ghost use Rattle.std.specs.Prelude.{◌≡◌, ℕ, ◌+◌, ◌-◌, ◌<◌, ◌≤◌, ◌↔◌, if◌then◌else◌, max, min, not, IfOk, IfErr, OnOk, OnErr, IsOk, IsErrOf, All, List, [], ◌++◌, length, replicate, false, true, Some};
 ghost use Rattle.std.specs.Iterator.{Drains, HoldsAlong, IsFinite, YieldsThen};
 ghost use Rattle.std.specs.Iterator.Runs.{WholeRun};
 ghost use Rattle.bit_words.specs.Bits.{blocks_for, capacity_of};
+ghost use Rattle.bit_words.specs.Growth.{Grows};
 ghost use Rattle.bit_set.specs.Sets.{elements, has, put, those_below, without};
 ghost use Rattle.bit_set.specs.Members.{HasNone, IsCounted, IsSameSet, KeepsBelow, Updates};
 ghost use Rattle.bit_set.specs.Effects.{TakesIn};
 ghost use Rattle.bit_set.specs.Faults.{IsInsertFault};
 ghost use Rattle.bit_set.specs.Calls.{Change, Changes, outcome_of_result, outcome_of_insert};
 ghost use Rattle.bit_set.specs.Calls.Outcome.{Done, Returned};
-ghost use Rattle.bit_set.specs.Capacity.{IsPastBlocks, Leaves};
-ghost use Rattle.bit_set.specs.Capacity.Call.{CloneFrom, Insert, MakeEmpty, Remove, Reset, Truncate};
+ghost use Rattle.bit_set.specs.Capacity.{IsPastBlocks};
 
 use crate::{BitBlock, BitSet, SetError};
 use std::alloc::AllocError;
@@ -27,19 +27,15 @@ impl<B: BitBlock> BitSet<B> {
         ensures count { IfOk result (λ new. length (elements self.new.values)
             ≡ length (elements self.old.values) + (if new then 1 else 0)) }
         ensures length { OnOk result (length self.new.values ≡ max (length self.old.values) (value + 1)) }
+        ensures unchanged { IfOk result (λ new. new ≡ false → self.new.values ≡ self.old.values) }
         ensures counted { IsCounted self.new.values }
 
         ensures unfit { IsErrOf result SetError.Element ↔ (value ≡ usize.MAX) }
         ensures fit { OnOk result (value < usize.MAX) }
         ensures fails { IfErr result (λ fault. IsInsertFault fault value self.old.capacity) }
         ensures past { OnErr result (length self.old.values ≤ value) }
-        ensures err { OnErr result (self.new ≡ self.old) }
-        ensures succeeds { value < self.old.capacity → IsOk result }
-        ensures capacity { self.old.capacity ≤ self.new.capacity }
-        ensures kept { value < length self.old.values → self.new.capacity ≡ self.old.capacity }
-        ensures within { value < self.old.capacity → self.new.capacity ≡ self.old.capacity }
+        ensures grows { Grows (value + 1) result self.old self.new }
         ensures past_blocks { IfErr result (λ fault. IsPastBlocks fault B.width (length self.old.values) value) }
-        ensures leaves { Leaves (Insert value) self.old.capacity (is_ok result) self.new.capacity }
         ensures changes { Changes (Change.Insert value) self.old.values (outcome_of_insert result) self.new.values }
     {
         if value >= self.bits.len() {
@@ -59,10 +55,7 @@ impl<B: BitBlock> BitSet<B> {
         ensures unfit { IsErrOf result SetError.Element ↔ (value ≡ usize.MAX) }
         ensures fit { OnOk result (value < usize.MAX) }
         ensures fails { IfErr result (λ fault. IsInsertFault fault value self.old.capacity) }
-        ensures err { OnErr result (self.new ≡ self.old) }
-        ensures succeeds { value < self.old.capacity → IsOk result }
-        ensures capacity { self.old.capacity ≤ self.new.capacity }
-        ensures within { value < self.old.capacity → self.new.capacity ≡ self.old.capacity }
+        ensures grows { Grows (value + 1) result self.old self.new }
         ensures past_blocks { IfErr result (λ fault. IsPastBlocks fault B.width (length self.old.values) value) }
     {
         let len = self.bits.len();
@@ -111,8 +104,8 @@ impl<B: BitBlock> BitSet<B> {
         ensures count { length (elements self.new.values) + (if result then 1 else 0)
             ≡ length (elements self.old.values) }
         ensures length { length self.new.values ≡ length self.old.values }
+        ensures unchanged { result ≡ false → self.new ≡ self.old }
         ensures capacity { self.new.capacity ≡ self.old.capacity }
-        ensures leaves { Leaves (Remove value) self.old.capacity true self.new.capacity }
         ensures changes { Changes (Change.Remove value) self.old.values (Returned result) self.new.values }
     {
         if value >= self.bits.len() {
@@ -127,7 +120,6 @@ impl<B: BitBlock> BitSet<B> {
         ensures members { KeepsBelow (elements self.old.values) (elements self.new.values) len }
         ensures length { length self.new.values ≡ min (length self.old.values) len }
         ensures capacity { self.new.capacity ≡ self.old.capacity }
-        ensures leaves { Leaves (Truncate len) self.old.capacity true self.new.capacity }
         ensures changes { Changes (Change.Truncate len) self.old.values Done self.new.values }
     {
         self.bits.truncate(len);
@@ -139,7 +131,6 @@ impl<B: BitBlock> BitSet<B> {
         ensures members { HasNone (elements self.new.values) }
         ensures length { length self.new.values ≡ length self.old.values }
         ensures capacity { self.new.capacity ≡ self.old.capacity }
-        ensures leaves { Leaves MakeEmpty self.old.capacity true self.new.capacity }
         ensures changes { Changes Change.MakeEmpty self.old.values Done self.new.values }
     {
         self.bits.fill(false);
@@ -152,7 +143,6 @@ impl<B: BitBlock> BitSet<B> {
         ensures members { HasNone (elements self.new.values) }
         ensures length { length self.new.values ≡ length self.old.values }
         ensures capacity { self.new.capacity ≡ self.old.capacity }
-        ensures leaves { Leaves MakeEmpty self.old.capacity true self.new.capacity }
         ensures changes { Changes Change.MakeEmpty self.old.values Done self.new.values }
     {
         self.make_empty();
@@ -163,7 +153,6 @@ impl<B: BitBlock> BitSet<B> {
         ensures values { self.new.values ≡ [] }
         ensures members { HasNone (elements self.new.values) }
         ensures capacity { self.new.capacity ≡ self.old.capacity }
-        ensures leaves { Leaves Reset self.old.capacity true self.new.capacity }
         ensures changes { Changes Change.Reset self.old.values Done self.new.values }
     {
         self.bits.remove_all();
@@ -174,15 +163,9 @@ impl<B: BitBlock> BitSet<B> {
     pub fn clone_from(&mut self, other: &Self) -> Result<(), AllocError>
         ensures ok { OnOk result (self.new.values ≡ other.now.values) }
         ensures members { OnOk result (IsSameSet (elements self.new.values) (elements other.now.values)) }
-        ensures err { OnErr result (self.new ≡ self.old) }
-        ensures full { OnErr result (self.old.capacity < length other.now.values) }
-        ensures succeeds { length other.now.values ≤ self.old.capacity → IsOk result }
+        ensures grows { Grows (length other.now.values) result self.old self.new }
         ensures exact { OnOk result (self.new.capacity ≡ max self.old.capacity
             (capacity_of B.width (blocks_for B.width (length other.now.values)))) }
-        ensures capacity { self.old.capacity ≤ self.new.capacity }
-        ensures within { length other.now.values ≤ self.old.capacity → self.new.capacity ≡ self.old.capacity }
-        ensures leaves { Leaves (CloneFrom (length other.now.values)) self.old.capacity
-            (is_ok result) self.new.capacity }
         ensures changes { Changes (Change.CloneFrom (elements other.now.values))
             self.old.values (outcome_of_result result) self.new.values }
     {

@@ -1,11 +1,10 @@
 // Calls that make a set, in place, what it and another become.
-ghost use Rattle.std.specs.Prelude.{◌≡◌, ◌-◌, ◌<◌, ◌≤◌, ◌++◌, max, OnOk, OnErr, IsOk, is_ok, length, replicate, false};
+ghost use Rattle.std.specs.Prelude.{◌≡◌, ◌-◌, ◌++◌, max, OnOk, length, replicate, false};
+ghost use Rattle.bit_words.specs.Growth.{Grows};
 ghost use Rattle.bit_words.specs.Merges.{merge_of};
 ghost use Rattle.bit_set.specs.Members.{IsDifference, IsIntersection, IsMerged, IsSymmetricDifference, IsUnion};
 ghost use Rattle.bit_set.specs.Sets.{elements, union, intersection, difference, symmetric_difference, merge_of_sets};
 ghost use Rattle.bit_set.specs.Calls.{Change, Changes, outcome_of_result};
-ghost use Rattle.bit_set.specs.Capacity.{Leaves};
-ghost use Rattle.bit_set.specs.Capacity.Call.{UnionWith, IntersectWith, DifferenceWith, SymmetricDifferenceWith};
 
 use crate::bit_vec::{Merge, Steps};
 use crate::{BitBlock, BitSet};
@@ -16,12 +15,7 @@ impl<B: BitBlock> BitSet<B> {
     #[inline]
     fn lengthen(&mut self, len: usize) -> Result<(), AllocError>
         ensures ok { OnOk result (self.new.values ≡ self.old.values ++ replicate (len - length self.old.values) false) }
-        ensures err { OnErr result (self.new ≡ self.old) }
-        ensures full { OnErr result (self.old.capacity < len) }
-        ensures succeeds { len ≤ self.old.capacity → IsOk result }
-        ensures capacity { self.old.capacity ≤ self.new.capacity }
-        ensures kept { len ≤ length self.old.values → self.new.capacity ≡ self.old.capacity }
-        ensures within { len ≤ self.old.capacity → self.new.capacity ≡ self.old.capacity }
+        ensures grows { Grows len result self.old self.new }
     {
         let old = self.bits.len();
         if len > old {
@@ -39,12 +33,7 @@ impl<B: BitBlock> BitSet<B> {
         ensures members { OnOk result (IsMerged merge (elements self.old.values) (elements other.now.values)
             (elements self.new.values)) }
         ensures length { OnOk result (length self.new.values ≡ max (length self.old.values) (length other.now.values)) }
-        ensures err { OnErr result (self.new ≡ self.old) }
-        ensures full { OnErr result (self.old.capacity < length other.now.values) }
-        ensures succeeds { length other.now.values ≤ self.old.capacity → IsOk result }
-        ensures capacity { self.old.capacity ≤ self.new.capacity }
-        ensures kept { length other.now.values ≤ length self.old.values → self.new.capacity ≡ self.old.capacity }
-        ensures within { length other.now.values ≤ self.old.capacity → self.new.capacity ≡ self.old.capacity }
+        ensures grows { Grows (length other.now.values) result self.old self.new }
     {
         self.lengthen(other.bits.len())?;
         self.bits
@@ -61,14 +50,7 @@ impl<B: BitBlock> BitSet<B> {
         ensures members { OnOk result (IsUnion (elements self.old.values) (elements other.now.values)
             (elements self.new.values)) }
         ensures length { OnOk result (length self.new.values ≡ max (length self.old.values) (length other.now.values)) }
-        ensures err { OnErr result (self.new ≡ self.old) }
-        ensures full { OnErr result (self.old.capacity < length other.now.values) }
-        ensures succeeds { length other.now.values ≤ self.old.capacity → IsOk result }
-        ensures capacity { self.old.capacity ≤ self.new.capacity }
-        ensures kept { length other.now.values ≤ length self.old.values → self.new.capacity ≡ self.old.capacity }
-        ensures within { length other.now.values ≤ self.old.capacity → self.new.capacity ≡ self.old.capacity }
-        ensures leaves { Leaves (UnionWith (length other.now.values)) self.old.capacity
-            (is_ok result) self.new.capacity }
+        ensures grows { Grows (length other.now.values) result self.old self.new }
         ensures changes { Changes (Change.UnionWith (elements other.now.values))
             self.old.values (outcome_of_result result) self.new.values }
     {
@@ -84,14 +66,7 @@ impl<B: BitBlock> BitSet<B> {
         ensures members { OnOk result (IsIntersection (elements self.old.values) (elements other.now.values)
             (elements self.new.values)) }
         ensures length { OnOk result (length self.new.values ≡ max (length self.old.values) (length other.now.values)) }
-        ensures err { OnErr result (self.new ≡ self.old) }
-        ensures full { OnErr result (self.old.capacity < length other.now.values) }
-        ensures succeeds { length other.now.values ≤ self.old.capacity → IsOk result }
-        ensures capacity { self.old.capacity ≤ self.new.capacity }
-        ensures kept { length other.now.values ≤ length self.old.values → self.new.capacity ≡ self.old.capacity }
-        ensures within { length other.now.values ≤ self.old.capacity → self.new.capacity ≡ self.old.capacity }
-        ensures leaves { Leaves (IntersectWith (length other.now.values)) self.old.capacity
-            (is_ok result) self.new.capacity }
+        ensures grows { Grows (length other.now.values) result self.old self.new }
         ensures changes { Changes (Change.IntersectWith (elements other.now.values))
             self.old.values (outcome_of_result result) self.new.values }
     {
@@ -107,14 +82,7 @@ impl<B: BitBlock> BitSet<B> {
         ensures members { OnOk result (IsDifference (elements self.old.values) (elements other.now.values)
             (elements self.new.values)) }
         ensures length { OnOk result (length self.new.values ≡ max (length self.old.values) (length other.now.values)) }
-        ensures err { OnErr result (self.new ≡ self.old) }
-        ensures full { OnErr result (self.old.capacity < length other.now.values) }
-        ensures succeeds { length other.now.values ≤ self.old.capacity → IsOk result }
-        ensures capacity { self.old.capacity ≤ self.new.capacity }
-        ensures kept { length other.now.values ≤ length self.old.values → self.new.capacity ≡ self.old.capacity }
-        ensures within { length other.now.values ≤ self.old.capacity → self.new.capacity ≡ self.old.capacity }
-        ensures leaves { Leaves (DifferenceWith (length other.now.values)) self.old.capacity
-            (is_ok result) self.new.capacity }
+        ensures grows { Grows (length other.now.values) result self.old self.new }
         ensures changes { Changes (Change.DifferenceWith (elements other.now.values))
             self.old.values (outcome_of_result result) self.new.values }
     {
@@ -130,14 +98,7 @@ impl<B: BitBlock> BitSet<B> {
         ensures members { OnOk result (IsSymmetricDifference (elements self.old.values) (elements other.now.values)
             (elements self.new.values)) }
         ensures length { OnOk result (length self.new.values ≡ max (length self.old.values) (length other.now.values)) }
-        ensures err { OnErr result (self.new ≡ self.old) }
-        ensures full { OnErr result (self.old.capacity < length other.now.values) }
-        ensures succeeds { length other.now.values ≤ self.old.capacity → IsOk result }
-        ensures capacity { self.old.capacity ≤ self.new.capacity }
-        ensures kept { length other.now.values ≤ length self.old.values → self.new.capacity ≡ self.old.capacity }
-        ensures within { length other.now.values ≤ self.old.capacity → self.new.capacity ≡ self.old.capacity }
-        ensures leaves { Leaves (SymmetricDifferenceWith (length other.now.values)) self.old.capacity
-            (is_ok result) self.new.capacity }
+        ensures grows { Grows (length other.now.values) result self.old self.new }
         ensures changes { Changes (Change.SymmetricDifferenceWith (elements other.now.values))
             self.old.values (outcome_of_result result) self.new.values }
     {

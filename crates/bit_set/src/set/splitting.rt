@@ -1,11 +1,10 @@
 // Calls that move elements from one set to another.
-ghost use Rattle.std.specs.Prelude.{◌≡◌, ◌<◌, ◌≤◌, if◌then◌else◌, nat_lt, max, min, IfOk, OnOk, OnErr, IsOk, is_ok, [], length};
+ghost use Rattle.std.specs.Prelude.{◌≡◌, ◌<◌, ◌≤◌, if◌then◌else◌, nat_lt, max, min, IfOk, OnOk, OnErr, IsOk, [], length};
 ghost use Rattle.bit_words.specs.Bits.{blocks_for, capacity_of};
+ghost use Rattle.bit_words.specs.Growth.{Grows};
 ghost use Rattle.bit_set.specs.Sets.{elements, those_below, those_from, union};
 ghost use Rattle.bit_set.specs.Members.{HasNone, IsUnion, KeepsBelow, KeepsFrom};
 ghost use Rattle.bit_set.specs.Calls.{Change, Changes, outcome_of_result};
-ghost use Rattle.bit_set.specs.Capacity.{Leaves};
-ghost use Rattle.bit_set.specs.Capacity.Call.{Append};
 
 use crate::{BitBlock, BitSet};
 use std::alloc::{AllocError, Global};
@@ -33,14 +32,8 @@ impl<B: BitBlock> BitSet<B> {
         ensures other_members { OnOk result (HasNone (elements other.new.values)) }
         ensures other_length { length other.new.values ≡ length other.old.values }
         ensures other_capacity { other.new.capacity ≡ other.old.capacity }
-        ensures err { OnErr result (self.new ≡ self.old) }
         ensures err_other { OnErr result (other.new ≡ other.old) }
-        ensures full { OnErr result (self.old.capacity < length other.old.values) }
-        ensures succeeds { length other.old.values ≤ self.old.capacity → IsOk result }
-        ensures capacity { self.old.capacity ≤ self.new.capacity }
-        ensures kept { length other.old.values ≤ length self.old.values → self.new.capacity ≡ self.old.capacity }
-        ensures within { length other.old.values ≤ self.old.capacity → self.new.capacity ≡ self.old.capacity }
-        ensures leaves { Leaves (Append (length other.old.values)) self.old.capacity (is_ok result) self.new.capacity }
+        ensures grows { Grows (length other.old.values) result self.old self.new }
         ensures changes { Changes (Change.Append (elements other.old.values))
             self.old.values (outcome_of_result result) self.new.values }
     {

@@ -7,13 +7,5 @@ returns-clause-other_members g c = c.make_empty.ensures.members
 pub returns-clause-length : goal.returns-clause-length
 returns-clause-length g c = c.in_ok-union_with.ensures.length
 
-pub returns-clause-within : goal.returns-clause-within
-returns-clause-within g c = c.in_ok-union_with.ensures.within
-
-pub returns-clause-leaves : goal.returns-clause-leaves
-returns-clause-leaves g c =
-    let taken = c.in_ok-union_with.ensures.leaves in
-    record { within = taken.within; more = taken.more }
-
 pub returns-clause-changes : goal.returns-clause-changes
 returns-clause-changes g c = (c.in_ok-union_with.ensures.elements, refl)

@@ -1,12 +1,18 @@
-use Rattle.std.proofs.Common.{◌≡◌, ◌+◌, ◌-◌, ◌<◌, ◌++◌, length, replicate, not, false, ap, ◌∙◌, refl, arith, length-append, ◌≤◌}
+use Rattle.std.proofs.Common.{◌≡◌, ◌+◌, ◌-◌, ◌<◌, ◌++◌, length, replicate, Bool, not, true, false, sym, ap, ◌∙◌, refl, arith, length-append, ◌≤◌}
 use Rattle.std.proofs.lemmas.List.{length-replicate, length-set}
-use Rattle.bit_set.proofs.ValueLemmas.{has-grown, has-read, elements-grown, elements-raised}
+use Rattle.bit_set.proofs.ValueLemmas.{has-grown, has-past, has-read, elements-grown, elements-raised, written_again}
 use Rattle.bit_words.specs.Bounds.{greatest}
+use Rattle.std.proofs.lemmas.Result.{err_from_is_err_and}
 use Rattle.bit_set.proofs.CallLemmas.{changes_inserted}
+use Rattle.bit_set.proofs.CapacityLemmas.{Grows-changed, Grows-failed, Grows-there}
 use Rattle.bit_set.specs.Sets.{elements}
 use Rattle.bit_set.proofs.MemberLemmas.{count_put, counted, counted_within, updates_put}
 use Rattle.bit_set.proofs.set.BitSet.insert.Goals as goal
 use Rattle.bit_set.proofs.set.BitSet.insert.Goals.{then-value-len+in_ok-lengthen_past, else-value-len}
+
+was_in : (b : Bool) → not b ≡ false → b ≡ true
+was_in true _ = refl
+was_in false known = sym known
 
 pub returns-clause-returned : goal.returns-clause-returned
 returns-clause-returned g c =
@@ -46,7 +52,7 @@ pub returns-clause-count : goal.returns-clause-count
 returns-clause-count g c = count_put c.args.self.now.values (elements c.replace.new.self.values) c.args.value _ (returns-clause-elements g c) (returns-clause-returned g c)
 
 pub returns-in_err-lengthen_past-clause-counted : goal.returns-in_err-lengthen_past-clause-counted
-returns-in_err-lengthen_past-clause-counted g c = rw (c.in_err-lengthen_past.ensures.err, ← c.self.view_is) (counted_within c.self.inside.bits c.len.ensures.fits)
+returns-in_err-lengthen_past-clause-counted g c = rw (c.in_err-lengthen_past.ensures.grows.err, ← c.self.view_is) (counted_within c.self.inside.bits c.len.ensures.fits)
 
 pub returns-clause-counted : goal.returns-clause-counted
 returns-clause-counted g c =
@@ -61,3 +67,35 @@ returns-clause-counted g c =
         | else-value-len w ↦ rw w.self-is (omega (arith, old, c.len.ensures.fits.holds_values, c.len.ensures.fits.fits))
       ],
     ))
+
+pub returns-clause-grows : goal.returns-clause-grows
+returns-clause-grows g c =
+    let same = c.replace.ensures.capacity ∙ ap (λ bits. bits.capacity) c.self-2.view_is in
+    elim c.if-value-len.branch [
+      | then-value-len+in_ok-lengthen_past w ↦
+          Grows-changed _ _ _ _ _ _ (same ∙ ap (λ bits. bits.capacity) w.self-is) w.in_ok-lengthen_past.ensures.grows
+      | else-value-len w ↦
+          let long = ap (λ bits. length bits.values) c.self.view_is in
+          let capacity = ap (λ bits. bits.capacity) c.self.view_is in
+          let fits = c.len.ensures.fits.holds_values in
+          Grows-there _ _ _ _ (omega (arith, capacity, fits)) (omega (arith, long, capacity, fits)) (same ∙ ap (λ bits. bits.capacity) w.self-is)
+    ]
+
+pub returns-in_err-lengthen_past-clause-grows : goal.returns-in_err-lengthen_past-clause-grows
+returns-in_err-lengthen_past-clause-grows g c =
+    let p = err_from_is_err_and c.from_residual.result c.from_residual.ensures.1 in
+    rw p.1 (Grows-failed _ _ _ _ _ c.in_err-lengthen_past.ensures.grows)
+
+pub returns-clause-unchanged : goal.returns-clause-unchanged
+returns-clause-unchanged g c known =
+    let values = c.args.self.now.values in
+    let value = c.args.value in
+    elim c.if-value-len.branch [
+      | then-value-len+in_ok-lengthen_past w ↦
+          let long = ap (λ bits. length bits.values) c.self.view_is in
+          let none = has-past values value (omega (arith, long)) in
+          absurd (cc (returns-clause-returned g c, known, ap not none))
+      | else-value-len w ↦
+          let read = rw (was_in _ known) at c.replace.ensures.was in
+          c.replace.ensures.values ∙ written_again c.self-2.inside.bits.values value true read ∙ ap (λ bits. bits.values) (c.self-2.view_is ∙ w.self-is)
+    ]

@@ -1,5 +1,6 @@
-use Rattle.std.proofs.Common.{◌≡◌, ◌+◌, ◌-◌, ◌≤◌, length, ap, ◌∙◌, arith, mul-le-mul_right}
+use Rattle.std.proofs.Common.{◌≡◌, ◌+◌, ◌-◌, ◌≤◌, length, refl, ap, arith, mul-le-mul_right}
 use Rattle.std.proofs.lemmas.Result.{err_from_is_err_and}
+use Rattle.bit_set.proofs.CapacityLemmas.{Grows-changed, Grows-failed}
 use Rattle.bit_set.proofs.set.BitSet.lengthen_past.Given.{Over}
 use Rattle.bit_set.proofs.set.BitSet.lengthen_past.Goals.{After-from_residual}
 use Rattle.bit_set.proofs.set.BitSet.lengthen_past.Goals as goal
@@ -27,24 +28,12 @@ returns-clause-values g c =
 pub returns-clause-fit : goal.returns-clause-fit
 returns-clause-fit g c = omega (arith, c.ranges.value.fits, c.if-value-eq18446744073709551615.false)
 
-pub returns-clause-capacity : goal.returns-clause-capacity
-returns-clause-capacity g c = rw (← c.self.view_is) c.grow.ensures.capacity
-
-pub returns-clause-within : goal.returns-clause-within
-returns-clause-within g c = rw (← c.self.view_is) (λ low. c.grow.ensures.within (let same = ap (λ bits. length bits.values) c.self.view_is in omega (arith, same, c.len-len.ensures.value, c.requires, low)))
-
-pub returns-in_err-grow-clause-capacity : goal.returns-in_err-grow-clause-capacity
-returns-in_err-grow-clause-capacity g c = rw (← c.self.view_is) c.grow.ensures.capacity
-
-pub returns-in_err-grow-clause-within : goal.returns-in_err-grow-clause-within
-returns-in_err-grow-clause-within g c = rw (← c.self.view_is) (λ low. c.grow.ensures.within (let same = ap (λ bits. length bits.values) c.self.view_is in omega (arith, same, c.len-len.ensures.value, c.requires, low)))
-
 -- where no memory was found, the value is past the capacity
 missing : (g : Over) (c : After-from_residual g) → c.args.self.now.capacity ≤ c.args.value
 missing g c =
     let same = ap (λ bits. length bits.values) c.self.view_is in
     let capacity = ap (λ bits. bits.capacity) c.self.view_is in
-    omega (arith, same, capacity, c.len-len.ensures.value, c.requires, c.in_err-grow.ensures.full)
+    omega (arith, same, capacity, c.len-len.ensures.value, c.requires, c.in_err-grow.ensures.grows.full)
 
 pub returns-in_err-grow-clause-values : goal.returns-in_err-grow-clause-values
 returns-in_err-grow-clause-values g c = let p = err_from_is_err_and c.from_residual.result c.from_residual.ensures.1 in rw p.1 tt
@@ -57,13 +46,18 @@ returns-in_err-grow-clause-fails g c =
     let p = err_from_is_err_and c.from_residual.result c.from_residual.ensures.1 in
     rw (p.1, p.2) (missing g c, omega (arith, c.ranges.value.fits, c.if-value-eq18446744073709551615.false))
 
-pub returns-in_err-grow-clause-err : goal.returns-in_err-grow-clause-err
-returns-in_err-grow-clause-err g c =
+pub returns-in_err-grow-clause-grows : goal.returns-in_err-grow-clause-grows
+returns-in_err-grow-clause-grows g c =
     let p = err_from_is_err_and c.from_residual.result c.from_residual.ensures.1 in
-    rw p.1 (c.in_err-grow.ensures.err ∙ c.self.view_is)
+    let same = ap (λ bits. length bits.values) c.self.view_is in
+    let len : length c.self.inside.bits.values + (c.args.value - c.len-len.result + 1) ≡ c.args.value + 1 = omega (arith, same, c.len-len.ensures.value, c.requires) in
+    rw (p.1, ← c.self.view_is) (Grows-failed _ _ _ _ _ (rw len at c.in_err-grow.ensures.grows))
 
-pub returns-in_err-grow-clause-succeeds : goal.returns-in_err-grow-clause-succeeds
-returns-in_err-grow-clause-succeeds g c low = absurd (omega (arith, low, missing g c))
+pub returns-clause-grows : goal.returns-clause-grows
+returns-clause-grows g c =
+    let same = ap (λ bits. length bits.values) c.self.view_is in
+    let len : length c.self.inside.bits.values + (c.args.value - c.len-len.result + 1) ≡ c.args.value + 1 = omega (arith, same, c.len-len.ensures.value, c.requires) in
+    rw (← c.self.view_is) (Grows-changed _ _ _ _ _ _ refl (rw len at c.in_ok-grow.ensures.grows))
 
 pub returns-in_err-grow-clause-past_blocks : goal.returns-in_err-grow-clause-past_blocks
 returns-in_err-grow-clause-past_blocks g c =

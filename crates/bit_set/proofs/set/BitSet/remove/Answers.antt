@@ -1,7 +1,8 @@
-use Rattle.std.proofs.Common.{sym, ap, arith}
+use Rattle.std.proofs.Common.{ℕ, Bool, false, List, sym, ap, ap₂, ◌∙◌, arith}
+use Rattle.bit_words.specs.Bits.{Bits}
 use Rattle.bit_set.specs.Sets.{elements}
 use Rattle.bit_set.proofs.SetLemmas.{IsAscending-elements, without_absent}
-use Rattle.bit_set.proofs.ValueLemmas.{elements-lowered, has-past, has-read}
+use Rattle.bit_set.proofs.ValueLemmas.{elements-lowered, has-past, has-read, written_again}
 use Rattle.bit_set.specs.Calls.Outcome.{Returned}
 use Rattle.bit_set.proofs.MemberLemmas.{count_without, updates_without}
 use Rattle.bit_set.proofs.set.BitSet.remove.Goals as goal
@@ -36,3 +37,9 @@ returns-clause-members g c = updates_without (elements c.args.self.now.values) (
 
 pub returns-clause-count : goal.returns-clause-count
 returns-clause-count g c = count_without c.args.self.now.values (elements c.replace.new.self.values) c.args.value c.replace.result (returns-clause-elements g c) (returns-clause-returned g c)
+
+pub returns-clause-unchanged : goal.returns-clause-unchanged
+returns-clause-unchanged g c none =
+    let read = rw none at c.replace.ensures.was in
+    let bits : List Bool → ℕ → Bits = λ values capacity. record { values = values; capacity = capacity } in
+    ap₂ bits (c.replace.ensures.values ∙ written_again c.self.inside.bits.values c.args.value false read) c.replace.ensures.capacity ∙ c.self.view_is
