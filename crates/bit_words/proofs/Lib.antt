@@ -15,6 +15,8 @@ pub mod CompareLemmas
 pub mod MismatchLemmas
 pub mod CapacityLemmas
 pub mod SummaryLemmas
+pub mod UsedLemmas
+pub mod SummaryMergeLemmas
 pub mod TailLemmas
 pub mod NonzeroLemmas
 pub mod NonzeroFromLemmas

@@ -12,4 +12,5 @@ pub mod Pending
 pub mod Nonzero
 pub mod Merges
 pub mod BlockMerges
+pub mod Comparisons
 pub mod Mismatches

@@ -1,14 +1,13 @@
 // Where lists of blocks differ. A block past the end of a list counts as 0.
 ghost use Rattle.std.specs.Prelude.{◌≡◌, ◌≢◌, ℕ, ◌+◌, ◌*◌, ◌<◌, ◌≤◌, ◌==◌, ◌↔◌, All, IsTrue, MatchOption, get_or, length, map};
-ghost use Rattle.std.specs.Bool.{OnTrue, OnFalse};
-ghost use Rattle.std.specs.Int.{bit_at};
-ghost use Rattle.bit_words.specs.Mismatches.{IsFirstBlockMismatch, IsFirstNonzeroBlock, IsLowestMismatch};
+ghost use Rattle.bit_words.specs.Mismatches.{IsFirstBlockMismatch, IsLowestMismatch};
 
 use crate::block::BitBlock;
 use crate::block::lowest::take_lowest_one;
-use crate::block::operators::{block_or, block_xor, same, shift_right};
+use crate::block::operators::{block_or, block_xor, same};
 use crate::packed::access::block_at;
 use crate::packed::groups::{GROUP, LONG_GROUP};
+use crate::packed::searching::first_nonzero_block;
 
 /// Whether the lists of blocks are the same, where a block past the end of a list counts as 0. Compares groups of
 /// at most 32 blocks, each by one test, and stops at the first group that differs.
@@ -286,40 +285,6 @@ fn either<B: BitBlock>(a: B, b: B) -> B
     block_or(a, b)
 }
 
-/// The first index, from `from` on, of a block that is not 0, or `None`. Reads no block past it.
-///
-/// ```
-/// assert_eq!(first_nonzero_block(&[1u8, 0, 4], 1), Some(2));
-/// ```
-#[inline]
-pub fn first_nonzero_block<B: BitBlock>(blocks: &[B], from: usize) -> Option<usize>
-    requires { All B.is_block blocks.now }
-    ensures { MatchOption result
-        ((k : ℕ) → from ≤ k → get_or (map B.number blocks.now) k 0 ≡ 0)
-        (IsFirstNonzeroBlock (map B.number blocks.now) from) }
-{
-    for k in from..blocks.len() {
-        if !same(block_at(blocks, k), B::zero()) {
-            return Some(k);
-        }
-    }
-    None
-}
-
-/// The block with this index, or 0 past the end. Constant time.
-#[inline]
-pub fn block_or_zero<B: BitBlock>(blocks: &[B], k: usize) -> B
-    requires { All B.is_block blocks.now }
-    ensures of_block { B.is_block result }
-    ensures of_number { B.number result ≡ get_or (map B.number blocks.now) k 0 }
-{
-    if k < blocks.len() {
-        block_at(blocks, k)
-    } else {
-        B::zero()
-    }
-}
-
 /// The lowest index at which the bits of two blocks differ, which are not the same. Constant time.
 ///
 /// ```
@@ -334,15 +299,4 @@ pub fn lowest_mismatch<B: BitBlock>(a: B, b: B) -> usize
 {
     let mut mismatch = block_xor(a, b);
     take_lowest_one(&mut mismatch)
-}
-
-/// Whether the block has a 1 at an index or above it. Constant time.
-#[inline]
-pub fn has_one_from<B: BitBlock>(block: B, index: usize) -> bool
-    requires of_block { B.is_block block }
-    requires within { index < B.width }
-    ensures some { OnTrue result ((j : ℕ) × (index ≤ j) × (j < B.width) × (bit_at (B.number block) j ≡ 1)) }
-    ensures none { OnFalse result ((j : ℕ) → index ≤ j → bit_at (B.number block) j ≡ 0) }
-{
-    !same(shift_right(block, index), B::zero())
 }

@@ -1,6 +1,6 @@
 use Rattle.std.proofs.Common.{◌∙◌, sym}
 use Rattle.bit_words.proofs.MismatchLemmas.{some_moved, none_moved, on_mismatch, on_alike}
-use Rattle.bit_words.proofs.packed.mismatch.has_one_from.Goals as goal
+use Rattle.bit_words.proofs.packed.searching.has_one_from.Goals as goal
 
 pub returns-clause-some : goal.returns-clause-some
 returns-clause-some g c =
