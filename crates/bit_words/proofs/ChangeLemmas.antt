@@ -8,6 +8,7 @@ use Rattle.bit_words.specs.Bits.{blocks_for}
 use Rattle.bit_words.specs.Digits.{is_one}
 use Rattle.bit_words.specs.Storage.{value_at, WritesValue}
 use Rattle.bit_words.proofs.StorageLemmas.{same_digit, value_at-is, value_at-past, value_at-set_same, value_at-set_other}
+use Rattle.bit_words.proofs.TestLemmas.{above_and, before_false, below_and}
 
 -- ---- within one block, places follow indexes
 
@@ -54,10 +55,10 @@ or_and_false false false = refl
 
 -- in a block other than the one at which the values end, the index says on which side it is
 kept_before : (w : ℕ) (ms : List ℕ) (len i : ℕ) → i < len → value_at w ms i ≡ (nat_lt i len && value_at w ms i)
-kept_before w ms len i h = let test : nat_lt i len ≡ true = grind (arith, nat_tests) in ap (λ t. t && value_at w ms i) (sym test)
+kept_before w ms len i h = sym (below_and len i (value_at w ms i) h)
 
 past_blocks : (w : ℕ) (ms : List ℕ) (len i : ℕ) → len ≤ i → length ms ≤ i / w → value_at w ms i ≡ (nat_lt i len && value_at w ms i)
-past_blocks w ms len i h p = let test : nat_lt i len ≡ false = grind (arith, nat_tests) in value_at-past w ms i p ∙ ap (λ t. t && value_at w ms i) (sym test)
+past_blocks w ms len i h p = value_at-past w ms i p ∙ sym (above_and len i (value_at w ms i) h)
 
 pub div_lt : (w i j : ℕ) → 0 < w → i / w < j / w → i < j
 div_lt w i j pos h = let a = (div-lt_iff_lt-mul pos).0 h in omega (arith, div-mul-le_self j w)
@@ -93,10 +94,9 @@ tail_set w ms ns s t k p m n pos ke pe nz count read e digits i within =
     ∙ ap₂ (λ a b. a || b) (sym (read_at w ms k m i read here)) (ap₂ (λ a b. nat_lt a t && b) index (ap (λ q. nat_le q (i % w)) pe ∙ sym (nat_le-indexes w s i (here ∙ ke)))))
     (λ there.
     let before = div_lt w i s pos (omega arith) in
-    let test : nat_le s i ≡ false = grind (arith, nat_tests) in
     written_other w ms ns k n i e there
     ∙ or_and_false (value_at w ms i) (nat_lt i t)
-    ∙ ap (λ x. value_at w ms i || (nat_lt i t && x)) (sym test))
+    ∙ ap (λ x. value_at w ms i || (nat_lt i t && x)) (sym (before_false s i before)))
     (cases_eq (i / w) k)
 
 -- ---- zeros from the end of the values on

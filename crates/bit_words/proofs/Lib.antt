@@ -5,6 +5,7 @@ pub mod LowestStep
 pub mod OnesLemmas
 pub mod StorageLemmas
 pub mod Masks
+pub mod TestLemmas
 pub mod ChangeLemmas
 pub mod VectorLemmas
 pub mod PackedLemmas

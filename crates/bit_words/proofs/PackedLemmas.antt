@@ -1,6 +1,6 @@
 -- What appending, keeping and filling whole blocks does to the value at every index.
-use Rattle.std.proofs.Common.{◌≡◌, ℕ, ◌+◌, ◌-◌, ◌/◌, ◌%◌, ◌^◌, ◌<◌, ◌≤◌, Bool, true, false, ◌&&◌, ◌||◌, nat_lt, nat_le, List, [], ◌∷◌, ◌++◌, map, length, get_or, take, replicate, refl, sym, ap, ap₂, ◌∙◌, arith, ⊎_elim, append_assoc, mod-lt, get_or-take, set, ◌≢◌, get_or-set_same, get_or-set_other}
-use Rattle.std.proofs.Math.Bool.{or-false}
+use Rattle.std.proofs.Common.{◌≡◌, ℕ, ◌+◌, ◌-◌, ◌/◌, ◌%◌, ◌^◌, ◌<◌, ◌≤◌, true, false, ◌&&◌, ◌||◌, nat_lt, nat_le, List, [], ◌∷◌, ◌++◌, map, length, get_or, take, replicate, refl, sym, ap, ap₂, ◌∙◌, arith, ⊎_elim, append_assoc, mod-lt, get_or-take, set, ◌≢◌, get_or-set_same, get_or-set_other}
+use Rattle.std.proofs.Math.Bool.{and-true, or-false}
 use Rattle.std.proofs.lemmas.Bool.{cases_lt, cases_eq}
 use Rattle.std.proofs.lemmas.Bool.Decides.{nat_tests}
 use Rattle.std.proofs.lemmas.List.{get_or_append_left, get_or-append_right, get_or_past, get_or-replicate, length-replicate, length-append, map-append, take_more}
@@ -12,6 +12,7 @@ use Rattle.bit_words.proofs.Masks.{is_one-ones, is_one-zero}
 use Rattle.bit_words.proofs.BitsLemmas.{blocks_for-above}
 use Rattle.bit_words.proofs.StorageLemmas.{value_at-is, value_at-past}
 use Rattle.bit_words.proofs.ChangeLemmas.{div_lt, nat_lt-indexes}
+use Rattle.bit_words.proofs.TestLemmas.{above_false, below_and, below_true, from_true}
 
 -- ---- whole blocks
 
@@ -37,7 +38,7 @@ value_at-append_zeros w ms m n i e past =
     (cases_lt (i / w) (length ms + m))
 
 ones_true : (w n i : ℕ) → 0 < w → n ≡ 2 ^ w - 1 → is_one n (i % w) ≡ true
-ones_true w n i pos e = let l = mod-lt i pos in is_one-ones n w (i % w) e ∙ grind (arith, nat_tests)
+ones_true w n i pos e = let l = mod-lt i pos in is_one-ones n w (i % w) e ∙ below_true w (i % w) l
 
 pub map-pushed : {X : Type 0} (f : X → ℕ) (xs ys : List X) (x : X) → ys ≡ xs ++ x ∷ [] → map f ys ≡ map f xs ++ f x ∷ []
 map-pushed f xs ys x e = ap (map f) e ∙ map-append f xs (x ∷ [])
@@ -59,14 +60,10 @@ block_pushed old more xs ys i x within is before pushed =
     ∙ append_assoc old (take i more) (x ∷ [])
     ∙ ap (λ zs. old ++ zs) (ap (λ y. take i more ++ y ∷ []) is ∙ sym (take_more more i x within))
 
-and_true : (a : Bool) → (false || (a && true)) ≡ a
-and_true true = refl
-and_true false = refl
-
 -- ---- blocks of ones up to a length
 
 past_the_end : (w len i : ℕ) → 0 < w → len / w < i / w → nat_lt i len ≡ false
-past_the_end w len i pos h = let l = div_lt w len i pos h in grind (arith, nat_tests)
+past_the_end w len i pos h = let l = div_lt w len i pos h in above_false len i (omega arith)
 
 -- the whole blocks are ones, the block at which the values end has those below its place, and there are zeros past it
 ones_up_to : (w : ℕ) (rs : List ℕ) (len i : ℕ) → 0 < w → (i / w < len / w → get_or rs (i / w) 0 ≡ 2 ^ w - 1) → (i / w ≡ len / w → get_or rs (i / w) 0 ≡ 2 ^ (len % w) - 1) → (len / w < i / w → get_or rs (i / w) 0 ≡ 0) → value_at w rs i ≡ nat_lt i len
@@ -74,8 +71,7 @@ ones_up_to w rs len i pos whole cut past =
     ⊎_elim
     (λ before.
     let l = div_lt w i len pos before in
-    let test : nat_lt i len ≡ true = grind (arith, nat_tests) in
-    value_at-block w rs i _ (whole before) ∙ ones_true w _ i pos refl ∙ sym test)
+    value_at-block w rs i _ (whole before) ∙ ones_true w _ i pos refl ∙ sym (below_true len i (omega (arith, l))))
     (λ from.
     ⊎_elim
     (λ here. value_at-block w rs i _ (cut here) ∙ is_one-ones _ (len % w) (i % w) refl ∙ sym (nat_lt-indexes w i len here))
@@ -135,11 +131,10 @@ pub ones_added : (w : ℕ) (ms rs us : List ℕ) (old len size : ℕ) → IsZero
 ones_added w ms rs us old len size tail tail_set kept added i after =
     ⊎_elim
     (λ within.
-    let reached : nat_le old i ≡ true = grind (arith, nat_tests) in
     kept i within
     ∙ tail_set i within
-    ∙ ap₂ (λ a t. a || (nat_lt i len && t)) (tail.zero_tail i after) reached
-    ∙ and_true (nat_lt i len))
+    ∙ ap₂ (λ a t. a || (nat_lt i len && t)) (tail.zero_tail i after) (from_true old i after)
+    ∙ and-true (nat_lt i len))
     (λ past. added i past)
     (cases_lt (i / w) size)
 
@@ -162,10 +157,9 @@ zeros_added w ms rs old m n tail z e i after =
 
 pub cut_kept : (w : ℕ) (ms rs us : List ℕ) (len c : ℕ) → 0 < w → c ≡ blocks_for w len → rs ≡ take c ms → ((i : ℕ) → value_at w us i ≡ (nat_lt i len && value_at w rs i)) → (i : ℕ) → i < len → value_at w us i ≡ value_at w ms i
 cut_kept w ms rs us len c pos count e lowered i below =
-    let inside : nat_lt i len ≡ true = grind (arith, nat_tests) in
     let block = blocks_for-above w len i pos below in
     lowered i
-    ∙ ap (λ t. t && value_at w rs i) inside
+    ∙ below_and len i (value_at w rs i) below
     ∙ ap (λ xs. value_at w xs i) e
     ∙ value_at-take w c ms i (omega arith)
 
@@ -200,10 +194,3 @@ zeros_filled w ms rs n z fills i =
     (λ past. unwritten ms rs (length ms) n (i / w) fills past past)
     (cases_lt (i / w) (length ms)))
     ∙ is_one-zero (i % w)
-
--- what a test of the index says of it
-pub below_true : (len i : ℕ) → i < len → nat_lt i len ≡ true
-below_true len i h = grind (arith, nat_tests)
-
-pub above_false : (len i : ℕ) → len ≤ i → nat_lt i len ≡ false
-above_false len i h = grind (arith, nat_tests)

@@ -1,8 +1,7 @@
 -- The summary of what the blocks of two lists merge to.
-use Rattle.std.proofs.Common.{◌≡◌, ℕ, ◌+◌, ◌*◌, ◌^◌, ◌<◌, ◌≤◌, Bool, true, false, not, ◌&&◌, ◌||◌, ◌==◌, nat_lt, nat_le, List, [], map, length, get_or, set, All, refl, sym, ap, ap₂, ◌∙◌, arith, ⊎_elim, get_or-set_same, get_or-set_other, mul-le-mul_right}
-use Rattle.std.proofs.Math.Bool.{or-false}
+use Rattle.std.proofs.Common.{◌≡◌, ℕ, ◌+◌, ◌*◌, ◌^◌, ◌<◌, ◌≤◌, Bool, true, false, not, ◌&&◌, ◌||◌, ◌==◌, nat_le, List, [], map, length, get_or, set, All, refl, sym, ap, ap₂, ◌∙◌, arith, ⊎_elim, get_or-set_same, get_or-set_other, mul-le-mul_right}
+use Rattle.std.proofs.Math.Bool.{and-false, and-true, or-false}
 use Rattle.std.proofs.lemmas.Bool.{cases_lt, cases_eq, true≢false}
-use Rattle.std.proofs.lemmas.Bool.Decides.{nat_tests}
 use Rattle.std.proofs.lemmas.List.{get_or_past, length-map}
 use Rattle.std.proofs.lemmas.Nat.Bits.{same_from_bits_below}
 use Rattle.bit_words.specs.Digits.{IsEither, is_one}
@@ -17,6 +16,7 @@ use Rattle.bit_words.proofs.Masks.{is_one-either, is_one-zero}
 use Rattle.bit_words.proofs.MergeLemmas.{merge_of_values-none}
 use Rattle.bit_words.proofs.StorageLemmas.{same_digit, value_at-index}
 use Rattle.bit_words.proofs.SummaryLemmas.{false_from_unused, unused_from_false, used_from_zero, used_past}
+use Rattle.bit_words.proofs.TestLemmas.{above_and, before_and, below_and, from_and}
 use Rattle.bit_words.proofs.VectorLemmas.{numbers_below}
 
 -- ---- of a union, by the summaries of both
@@ -53,17 +53,9 @@ union_use w k f P xs os ys xsummary osummary below each_x each_o each_y first se
 -- ---- of the others, made while the blocks are merged
 
 -- a value merged with none
-kept_by_difference : (a : Bool) → merge_of_values Difference a false ≡ a
-kept_by_difference true = refl
-kept_by_difference false = refl
-
 kept_by_symmetric : (a : Bool) → merge_of_values Symmetric a false ≡ a
 kept_by_symmetric true = refl
 kept_by_symmetric false = refl
-
-both_none : (a : Bool) → (a && false) ≡ false
-both_none true = refl
-both_none false = refl
 
 stays : (m : Merge) (w a b : ℕ) → ((x : Bool) → merge_of_values m x false ≡ x) → a < 2 ^ w → b < 2 ^ w → ((j : ℕ) → j < w → is_one b j ≡ merge_of_values m (is_one a j) false) → not (b == 0) ≡ merge_of_values m (not (a == 0)) false
 stays m w a b same small also digits =
@@ -74,8 +66,8 @@ stays m w a b same small also digits =
 used_isolated : (m : Merge) (w a b : ℕ) → a < 2 ^ w → b < 2 ^ w → ((j : ℕ) → j < w → is_one b j ≡ merge_of_values m (is_one a j) false) → not (b == 0) ≡ merge_of_values m (not (a == 0)) false
 used_isolated Union w a b small also digits = stays Union w a b or-false small also digits
 used_isolated Intersection w a b small also digits =
-    used_from_zero b (zero_from_digits w b also (λ j index. digits j index ∙ both_none (is_one a j))) ∙ sym (both_none (not (a == 0)))
-used_isolated Difference w a b small also digits = stays Difference w a b kept_by_difference small also digits
+    used_from_zero b (zero_from_digits w b also (λ j index. digits j index ∙ and-false (is_one a j))) ∙ sym (and-false (not (a == 0)))
+used_isolated Difference w a b small also digits = stays Difference w a b and-true small also digits
 used_isolated Symmetric w a b small also digits = stays Symmetric w a b kept_by_symmetric small also digits
 
 module _ {X : Type 0} (m : Merge) (w : ℕ) (f : X → ℕ) (P : X → Type 0) where
@@ -97,14 +89,10 @@ module _ {X : Type 0} (m : Merge) (w : ℕ) (f : X → ℕ) (P : X → Type 0) w
       is_one-either w (f made) cut (f whole) j either index
       ∙ ⊎_elim
       (λ below.
-      let test : nat_lt j count ≡ true = grind (arith, nat_tests) in
-      let none : nat_le count j ≡ false = grind (arith, nat_tests) in
-      ap₂ (λ x y. x || y) (says.digit j index ∙ ap (λ t. t && used) test) (kept j index ∙ ap (λ t. t && is_one alone j) none)
+      ap₂ (λ x y. x || y) (says.digit j index ∙ below_and count j used below) (kept j index ∙ before_and count j (is_one alone j) below)
       ∙ or-false used)
       (λ from.
-      let test : nat_lt j count ≡ false = grind (arith, nat_tests) in
-      let all : nat_le count j ≡ true = grind (arith, nat_tests) in
-      ap₂ (λ x y. x || y) (says.digit j index ∙ ap (λ t. t && used) test) (kept j index ∙ ap (λ t. t && is_one alone j) all ∙ past j index)
+      ap₂ (λ x y. x || y) (says.digit j index ∙ above_and count j used from) (kept j index ∙ from_and count j (is_one alone j) from ∙ past j index)
       ∙ ap (λ b. merge_of_values m b false) (sym (value_at-index w (map f ss) q j index))
       ∙ sym (rest (q * w + j) (omega (arith, from))))
       (cases_lt j count)

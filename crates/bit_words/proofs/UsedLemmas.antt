@@ -1,5 +1,5 @@
 -- Which of the blocks of a list a block of its summary says are not 0, as it is made.
-use Rattle.std.proofs.Common.{◌≡◌, ◌≢◌, ℕ, ◌+◌, ◌-◌, ◌<◌, ◌≤◌, Bool, true, false, not, ◌&&◌, ◌||◌, ◌==◌, nat_lt, List, map, length, get_or, sym, ap, ap₂, subst, ◌∙◌, arith, ⊎_elim}
+use Rattle.std.proofs.Common.{◌≡◌, ◌≢◌, ℕ, ◌+◌, ◌-◌, ◌<◌, ◌≤◌, Bool, false, not, ◌&&◌, ◌||◌, ◌==◌, nat_lt, List, map, length, get_or, sym, ap, ap₂, subst, ◌∙◌, arith, ⊎_elim}
 use Rattle.std.proofs.Math.Bool.{or-false}
 use Rattle.std.proofs.lemmas.Bool.{cases_lt, cases_eq}
 use Rattle.std.proofs.lemmas.Bool.Decides.{nat_tests}
@@ -8,17 +8,16 @@ use Rattle.bit_words.specs.Digits.{IsEither, IsShiftedLeft, is_one}
 use Rattle.bit_words.specs.Summary.{is_used, SaysUsed}
 use Rattle.bit_words.proofs.Masks.{is_one-either, is_one-zero}
 use Rattle.bit_words.proofs.SummaryLemmas.{used_past}
+use Rattle.bit_words.proofs.TestLemmas.{above_and, below_and}
 
 pub not_yet : (j : ℕ) (used : Bool) → (nat_lt j j && used) ≡ false
-not_yet j used = let none : nat_lt j j ≡ false = grind (arith, nat_tests) in ap (λ t. t && used) none
+not_yet j used = above_and j j used (omega arith)
 
 module _ {X : Type 0} (w : ℕ) (f : X → ℕ) (P : X → Type 0) where
   pub says_none : (start : ℕ) (xs : List X) (m : X) → P m → f m ≡ 0 → SaysUsed w f P xs start 0 m
   says_none start xs m of_block z = record {
     of_block = of_block;
-    digit = λ q index.
-        let none : nat_lt q 0 ≡ false = grind (arith, nat_tests) in
-        ap (λ n. is_one n q) z ∙ is_one-zero q ∙ sym (ap (λ t. t && is_used (map f xs) (start + q)) none);
+    digit = λ q index. ap (λ n. is_one n q) z ∙ is_one-zero q ∙ sym (above_and 0 q (is_used (map f xs) (start + q)) (omega arith));
   }
 
   -- of one block more
@@ -29,9 +28,7 @@ module _ {X : Type 0} (w : ℕ) (f : X → ℕ) (P : X → Type 0) where
         of_block = of_block;
         digit = λ q within.
             ⊎_elim
-            (λ e.
-            let reached : nat_lt q (k + 1) ≡ true = grind (arith, nat_tests) in
-            ap (is_one (f n)) e ∙ here ∙ sym (ap used e) ∙ sym (ap (λ t. t && used q) reached))
+            (λ e. ap (is_one (f n)) e ∙ here ∙ sym (ap used e) ∙ sym (below_and (k + 1) q (used q) (omega arith)))
             (λ ne.
             let same : nat_lt q k ≡ nat_lt q (k + 1) = grind (arith, nat_tests) in
             others q within ne ∙ before.digit q within ∙ ap (λ t. t && used q) same)
@@ -48,18 +45,15 @@ module _ {X : Type 0} (w : ℕ) (f : X → ℕ) (P : X → Type 0) where
             is_one-either w (f m) (f s) (f r) j either within
             ∙ ⊎_elim
             (λ low.
-            let first : nat_lt j k ≡ true = grind (arith, nat_tests) in
-            let both : nat_lt j d ≡ true = grind (arith, nat_tests) in
-            ap₂ (λ x y. x || y) (before.digit j within ∙ ap (λ t. t && used (start + j)) first) (ap (λ x. x == 1) (moved.zeros j low))
+            ap₂ (λ x y. x || y) (before.digit j within ∙ below_and k j (used (start + j)) low) (ap (λ x. x == 1) (moved.zeros j low))
             ∙ or-false (used (start + j))
-            ∙ sym (ap (λ t. t && used (start + j)) both))
+            ∙ sym (below_and d j (used (start + j)) (omega arith)))
             (λ high.
-            let past : nat_lt j k ≡ false = grind (arith, nat_tests) in
             let back : j - k + k ≡ j = omega arith in
             let same : nat_lt (j - k) c ≡ nat_lt j d = grind (arith, nat_tests) in
             let index : from + (j - k) ≡ start + j = omega arith in
             let digit : is_one (f s) j ≡ is_one (f p) (j - k) = subst (λ x. is_one (f s) x ≡ is_one (f p) (j - k)) back (ap (λ x. x == 1) (moved.moved (j - k) (omega arith))) in
-            ap₂ (λ x y. x || y) (before.digit j within ∙ ap (λ t. t && used (start + j)) past) (digit ∙ group.digit (j - k) (omega arith) ∙ ap₂ (λ t x. t && used x) same index))
+            ap₂ (λ x y. x || y) (before.digit j within ∙ above_and k j (used (start + j)) high) (digit ∙ group.digit (j - k) (omega arith) ∙ ap₂ (λ t x. t && used x) same index))
             (cases_lt j k);
       }
 
@@ -70,7 +64,7 @@ module _ {X : Type 0} (w : ℕ) (f : X → ℕ) (P : X → Type 0) where
     digit = λ j index.
         ⊎_elim
         (λ below. says.digit j index ∙ ap (λ n. nat_lt j k && not (n == 0)) (sym (kept (start + j) (omega arith))))
-        (λ past. let test : nat_lt j k ≡ false = grind (arith, nat_tests) in says.digit j index ∙ ap (λ t. t && is_used (map f xs) (start + j)) test ∙ sym (ap (λ t. t && is_used (map f ys) (start + j)) test))
+        (λ past. says.digit j index ∙ above_and k j (is_used (map f xs) (start + j)) past ∙ sym (above_and k j (is_used (map f ys) (start + j)) past))
         (cases_lt j k);
   }
 
@@ -79,7 +73,7 @@ module _ {X : Type 0} (w : ℕ) (f : X → ℕ) (P : X → Type 0) where
   says_all start count from xs m e ended says j index =
       says.digit j index
       ∙ ⊎_elim
-      (λ below. let test : nat_lt j count ≡ true = grind (arith, nat_tests) in ap (λ t. t && is_used (map f xs) (start + j)) test)
-      (λ (past : count ≤ j). let test : nat_lt j count ≡ false = grind (arith, nat_tests) in ap (λ t. t && is_used (map f xs) (start + j)) test ∙ sym (used_past (map f xs) (start + j) (rw length-map (ended j index past))))
+      (λ below. below_and count j (is_used (map f xs) (start + j)) below)
+      (λ (past : count ≤ j). above_and count j (is_used (map f xs) (start + j)) past ∙ sym (used_past (map f xs) (start + j) (rw length-map (ended j index past))))
       (cases_lt j count)
       ∙ ap (λ p. is_used (map f xs) (p + j)) (sym e)

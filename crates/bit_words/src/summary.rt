@@ -81,8 +81,8 @@ fn used_bits<B: BitBlock>(blocks: &[B], start: usize, count: usize) -> B
     digits
 }
 
-// The same of the first groups of blocks from `start` on. The compiler makes vector code of a group,
-// whose count it knows.
+// Which of the blocks of the first groups from `start` on are not 0. The compiler makes vector code of a group, whose
+// count it knows.
 #[inline]
 fn bits_of_groups<B: BitBlock>(blocks: &[B], start: usize, groups: usize) -> B
     requires in_bounds { start + groups * GROUP ≤ length blocks.now }
@@ -236,7 +236,7 @@ pub(crate) fn store_summary<B: BitBlock>(summary: &mut Vec<B>, blocks: &[B], cou
     }
 }
 
-// The same where it is. It is rare, and so a call of its own.
+// The summary of blocks of which none was stored yet. It is rare, and so a call of its own.
 #[cold]
 #[inline(never)]
 fn store_short<B: BitBlock>(summary: &mut Vec<B>, blocks: &[B])

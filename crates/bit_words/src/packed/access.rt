@@ -55,8 +55,8 @@ pub(crate) fn put_block<B: BitBlock>(blocks: &mut Vec<B>, k: usize, block: B)
     blocks[k] = block;
 }
 
-// The same of blocks that are lent as a slice. Its address is in a register, so that a loop of these becomes vector
-// code.
+// Writes a block of those that are lent as a slice. Its address is in a register, so that a loop of these becomes
+// vector code.
 #[inline]
 pub(crate) fn put_in<B: BitBlock>(blocks: &mut [B], k: usize, block: B)
     requires in_bounds { k < length blocks.old }

@@ -45,7 +45,7 @@ fn merge_group<B: BitBlock, O: Operation>(
     digits
 }
 
-// The same of the first groups of blocks from `start` on.
+// Groups of blocks from `start` on become their merges, with what `merge_group` returns of each in its place.
 #[inline]
 fn merge_groups<B: BitBlock, O: Operation>(
     blocks: &mut [B],
@@ -98,7 +98,7 @@ fn merge_chunk<B: BitBlock, O: Operation>(
     }
 }
 
-// The same for the first `chunks` blocks of the summary, which are written.
+// The blocks that the first `chunks` blocks of the summary are about become their merges, and these are made anew.
 fn merge_chunks<B: BitBlock, O: Operation>(
     blocks: &mut [B],
     summary: &mut [B],
@@ -127,8 +127,8 @@ fn merge_chunks<B: BitBlock, O: Operation>(
     }
 }
 
-// The same from chunk `chunks` on, the first that the others do not fill: the blocks that are left become their merges
-// with the others, or with zeros where there are none, and the blocks of the summary from that one on follow them.
+// From chunk `chunks` on, the first that the others do not fill, the blocks become their merges with the others, or with
+// zeros where there are none, and the blocks of the summary from that one on follow them.
 fn merge_tail<B: BitBlock, O: Operation>(
     blocks: &mut [B],
     summary: &mut [B],
@@ -185,7 +185,7 @@ fn merge_long<B: BitBlock, O: Operation>(
     merge_tail::<B, O>(blocks, summary, others, chunks, steps);
 }
 
-// The same, where no summary is stored of few blocks.
+// Each block becomes its merge, of a list of any length: of a short one no summary is stored.
 #[inline]
 fn merge_any_length<B: BitBlock, O: Operation>(
     blocks: &mut [B],
@@ -208,7 +208,7 @@ fn merge_any_length<B: BitBlock, O: Operation>(
     }
 }
 
-// The same of a union of many blocks, by the summary of both.
+// A union of two long lists: its summary is the union of theirs.
 fn unite_long<B: BitBlock>(
     blocks: &mut [B],
     summary: &mut [B],
@@ -228,7 +228,7 @@ fn unite_long<B: BitBlock>(
     merge_each::<B, Union>(summary, other_summary, 0, &mut Steps::new());
 }
 
-// The same, where no summary is stored of few blocks. Where only the others are few, what is stored is made anew.
+// A union of lists of any length. Where only the others are short, the summary is made as for the other merges.
 #[inline]
 fn unite_any_length<B: BitBlock>(
     blocks: &mut [B],
@@ -253,7 +253,7 @@ fn unite_any_length<B: BitBlock>(
     }
 }
 
-// The same of the merge that is named. Only a union needs the others' summary.
+// The merge that is named, of lists of any length. Only a union needs the others' summary.
 #[inline(always)]
 pub(crate) fn merge_chosen<B: BitBlock>(
     blocks: &mut [B],

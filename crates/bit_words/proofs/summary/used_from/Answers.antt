@@ -1,4 +1,4 @@
-use Rattle.std.proofs.Common.{◌≡◌, ℕ, ◌+◌, ◌-◌, ◌<◌, ◌≤◌, min, refl, length, arith}
+use Rattle.std.proofs.Common.{◌≡◌, ℕ, ◌+◌, ◌-◌, ◌<◌, ◌≤◌, min, refl, arith}
 use Rattle.bit_words.proofs.UsedLemmas.{says_all}
 use Rattle.bit_words.proofs.summary.used_from.Goals as goal
 

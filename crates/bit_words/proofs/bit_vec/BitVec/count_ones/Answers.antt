@@ -1,8 +1,7 @@
-use Rattle.std.proofs.Common.{◌≡◌, map, length, ◌∙◌, arith}
+use Rattle.std.proofs.Common.{◌≡◌, map, ◌∙◌, arith}
 use Rattle.std.proofs.lemmas.List.{length-map}
 use Rattle.std.proofs.lemmas.List.Sums.{count_by-le-length}
 use Rattle.std.specs.List.{count_by}
-use Rattle.bit_words.specs.Bits.{blocks_for}
 use Rattle.bit_words.specs.Nonzero.{ones_in}
 use Rattle.bit_words.specs.Storage.{values_of}
 use Rattle.bit_words.proofs.CountLemmas.{ones_in-values}

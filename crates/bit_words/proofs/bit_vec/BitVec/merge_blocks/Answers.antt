@@ -1,4 +1,4 @@
-use Rattle.std.proofs.Common.{◌≡◌, ℕ, ◌≤◌, ◌∙◌, ap₂, ◌++◌, map, drop, length, take, arith}
+use Rattle.std.proofs.Common.{◌≡◌, ℕ, ◌∙◌, ap₂, ◌++◌, map, drop, length, take, arith}
 use Rattle.std.proofs.lemmas.List.{take_at}
 use Rattle.bit_words.specs.Merges.{merge_of, merge_of_values}
 use Rattle.bit_words.specs.Storage.{value_at}

@@ -1,4 +1,4 @@
-use Rattle.std.proofs.Common.{◌∙◌, ap, ◌+◌, arith}
+use Rattle.std.proofs.Common.{arith}
 use Rattle.bit_words.proofs.CompareLemmas.{first_is_within, intersection_of_blocks, shorter_end}
 use Rattle.bit_words.proofs.packed.inclusion.intersection_is_zero.Goals as goal
 

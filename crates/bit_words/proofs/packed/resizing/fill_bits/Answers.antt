@@ -1,5 +1,5 @@
 use Rattle.std.proofs.Common.{◌∙◌, sym, arith}
-use Rattle.bit_words.proofs.PackedLemmas.{below_true, above_false}
+use Rattle.bit_words.proofs.TestLemmas.{above_false, below_true}
 use Rattle.bit_words.proofs.packed.resizing.fill_bits.Goals as goal
 
 pub returns-then-bit : goal.returns-then-bit
