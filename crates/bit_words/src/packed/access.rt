@@ -8,7 +8,7 @@ ghost use Rattle.bit_words.specs.Storage.{value_at, FillsFirst, WritesInPlace, W
 use crate::block::BitBlock;
 use crate::block::masks::{cut_from, with_bit, with_ones_between, with_ones_from};
 use crate::block::operators::{has_one_at, same};
-use crate::packed::groups::FEW;
+use crate::packed::groups::BULK_WRITE;
 
 // How many blocks a list of `len` values has.
 #[inline]
@@ -192,7 +192,7 @@ pub(crate) fn fill_blocks<B: BitBlock>(blocks: &mut Vec<B>, count: usize, block:
     ensures fills { FillsFirst (map B.number blocks.old.items) (map B.number blocks.new.items) count (B.number block) }
     ensures in_place { WritesInPlace B.is_block blocks.old blocks.new }
 {
-    if count < FEW {
+    if count < BULK_WRITE {
         fill_each(blocks, count, block);
         return;
     }

@@ -2,7 +2,7 @@
 ghost use Rattle.std.specs.Prelude.{◌≡◌, ◌≢◌, ℕ, ◌+◌, ◌/◌, ◌<◌, ◌≤◌, ◌↔◌, All, IsTrue, length, map, get_or, min};
 ghost use Rattle.bit_words.specs.declared.block.merge.Merge.{Merge};
 ghost use Rattle.bit_words.specs.BlockMerges.{IsFirstMerged, MergesToFalse, MergesToZero};
-ghost use Rattle.bit_words.specs.Comparisons.{TakesSteps};
+ghost use Rattle.bit_words.specs.Comparisons.{CanCompare, TakesSteps};
 
 use crate::block::BitBlock;
 use crate::block::operation::{Difference, Intersection, Operation};
@@ -17,10 +17,7 @@ fn first_merge_to_zero<B: BitBlock, O: Operation>(
     count: usize,
     steps: &mut Steps,
 ) -> bool
-    requires within { count ≤ length blocks.now }
-    requires within_others { count ≤ length others.now }
-    requires each { All B.is_block blocks.now }
-    requires others { All B.is_block others.now }
+    requires can { CanCompare B.is_block blocks.now others.now count }
     ensures zero { IsTrue result
         ↔ MergesToZero O.merge B.width (map B.number blocks.now) (map B.number others.now) count }
     ensures steps { TakesSteps

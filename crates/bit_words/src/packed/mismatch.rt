@@ -1,5 +1,6 @@
 // Where lists of blocks differ. A block past the end of a list counts as 0.
 ghost use Rattle.std.specs.Prelude.{◌≡◌, ◌≢◌, ℕ, ◌+◌, ◌*◌, ◌<◌, ◌≤◌, ◌==◌, ◌↔◌, All, IsTrue, MatchOption, get_or, length, map};
+ghost use Rattle.bit_words.specs.Comparisons.{CanCompare};
 ghost use Rattle.bit_words.specs.Mismatches.{IsFirstBlockMismatch, IsLowestMismatch};
 
 use crate::block::BitBlock;
@@ -82,10 +83,7 @@ pub fn mismatch_between<B: BitBlock>(a: &[B], b: &[B], start: usize, end: usize)
 // How many of the first `count` blocks are the same: all of them, or those before a group that has a mismatch. Few
 // blocks make no group. The last group may begin within the one before it, so that no block is left over.
 fn same_by_groups<B: BitBlock>(a: &[B], b: &[B], count: usize) -> usize
-    requires within { count ≤ length a.now }
-    requires within_other { count ≤ length b.now }
-    requires left { All B.is_block a.now }
-    requires right { All B.is_block b.now }
+    requires can { CanCompare B.is_block a.now b.now count }
     ensures within { result ≤ count }
     ensures same { (k : ℕ) → k < result
         → get_or (map B.number a.now) k 0 ≡ get_or (map B.number b.now) k 0 }
@@ -109,10 +107,7 @@ fn same_by_groups<B: BitBlock>(a: &[B], b: &[B], count: usize) -> usize
 // How many groups of blocks are the same, up to the first that is not.
 #[inline(always)]
 fn same_groups<B: BitBlock>(a: &[B], b: &[B], groups: usize) -> usize
-    requires within { groups * LONG_GROUP ≤ length a.now }
-    requires within_other { groups * LONG_GROUP ≤ length b.now }
-    requires left { All B.is_block a.now }
-    requires right { All B.is_block b.now }
+    requires can { CanCompare B.is_block a.now b.now (groups * LONG_GROUP) }
     ensures within { result ≤ groups }
     ensures same { (k : ℕ) → k < result * LONG_GROUP
         → get_or (map B.number a.now) k 0 ≡ get_or (map B.number b.now) k 0 }
@@ -133,10 +128,7 @@ fn same_groups<B: BitBlock>(a: &[B], b: &[B], groups: usize) -> usize
 #[inline(always)]
 fn past_same_group<B: BitBlock>(a: &[B], b: &[B], start: usize, count: usize, size: usize) -> usize
     requires forward { start ≤ count }
-    requires within { count ≤ length a.now }
-    requires within_other { count ≤ length b.now }
-    requires left { All B.is_block a.now }
-    requires right { All B.is_block b.now }
+    requires can { CanCompare B.is_block a.now b.now count }
     requires before { (k : ℕ) → k < start
         → get_or (map B.number a.now) k 0 ≡ get_or (map B.number b.now) k 0 }
     ensures within { result ≤ count }
@@ -153,10 +145,7 @@ fn past_same_group<B: BitBlock>(a: &[B], b: &[B], start: usize, count: usize, si
 // Whether the blocks of the group of `size` that begins at `start` are the same. One test for all of them.
 #[inline(always)]
 fn is_same_group<B: BitBlock>(a: &[B], b: &[B], start: usize, size: usize) -> bool
-    requires within { start + size ≤ length a.now }
-    requires within_other { start + size ≤ length b.now }
-    requires left { All B.is_block a.now }
-    requires right { All B.is_block b.now }
+    requires can { CanCompare B.is_block a.now b.now (start + size) }
     ensures { IsTrue result
         ↔ ((k : ℕ) → start ≤ k → k < start + size
         → get_or (map B.number a.now) k 0 ≡ get_or (map B.number b.now) k 0) }
@@ -168,10 +157,7 @@ fn is_same_group<B: BitBlock>(a: &[B], b: &[B], start: usize, size: usize) -> bo
 // vector code of it where it knows the size.
 #[inline(always)]
 fn mismatches<B: BitBlock>(a: &[B], b: &[B], start: usize, size: usize) -> B
-    requires within { start + size ≤ length a.now }
-    requires within_other { start + size ≤ length b.now }
-    requires left { All B.is_block a.now }
-    requires right { All B.is_block b.now }
+    requires can { CanCompare B.is_block a.now b.now (start + size) }
     ensures of_block { B.is_block result }
     ensures none { (B.number result ≡ 0)
         ↔ ((k : ℕ) → start ≤ k → k < start + size
@@ -210,7 +196,7 @@ fn same_of_one_length<B: BitBlock>(a: &[B], b: &[B]) -> bool
 #[inline(always)]
 fn same_ends<B: BitBlock>(a: &[B], b: &[B], size: usize) -> bool
     requires enough { size ≤ length a.now }
-    requires few { length a.now ≤ size + size }
+    requires at_most_twice { length a.now ≤ size + size }
     requires as_long { length b.now ≡ length a.now }
     requires left { All B.is_block a.now }
     requires right { All B.is_block b.now }
