@@ -1,8 +1,7 @@
 -- The values of bytes: a byte turned round, one moved into its place in a block, and the list of all.
-use Rattle.std.proofs.Common.{◌≡◌, ℕ, zero, suc, ◌+◌, ◌-◌, ◌*◌, ◌/◌, ◌%◌, ◌^◌, ◌<◌, ◌≤◌, true, false, ◌&&◌, ◌||◌, ◌==◌, nat_lt, List, [], ◌∷◌, length, get_or, drop, refl, sym, ap, ap₂, ◌∙◌, arith, ⊎_elim, mod-lt, div-add-mod', w8, min, slice_range, get_or-take, get_or-drop, length-take, length-append}
+use Rattle.std.proofs.Common.{◌≡◌, ℕ, zero, suc, ◌+◌, ◌-◌, ◌*◌, ◌/◌, ◌%◌, ◌^◌, ◌<◌, ◌≤◌, false, ◌&&◌, ◌||◌, ◌==◌, nat_lt, List, [], ◌∷◌, length, get_or, drop, refl, sym, ap, ap₂, ◌∙◌, arith, ⊎_elim, mod-lt, div-add-mod', w8, min, slice_range, get_or-take, get_or-drop, length-take, length-append}
 use Rattle.std.proofs.Math.Bool.{or-false}
 use Rattle.std.proofs.lemmas.Bool.{cases_lt}
-use Rattle.std.proofs.lemmas.Bool.Decides.{nat_tests}
 use Rattle.std.proofs.lemmas.Nat.Bits.{bit_at-suc, bit_at_lowest, bit_at_above}
 use Rattle.std.proofs.lemmas.List.{get_or_past, get_or_append_left, get_or-append_right}
 use Rattle.std.proofs.lemmas.List.FromFn.{get_or-map-range_with_len}
@@ -14,6 +13,7 @@ use Rattle.bit_words.specs.Digits.{IsWidth, IsEither, IsShiftedLeft, is_one}
 use Rattle.bit_words.specs.Bytes.{byte_value}
 use Rattle.bit_words.specs.Storage.{value_at}
 use Rattle.bit_words.proofs.Masks.{is_one-either, is_one-zero}
+use Rattle.bit_words.proofs.TestLemmas.{above_and, below_and}
 
 -- ---- a byte turned round
 
@@ -78,26 +78,20 @@ byte_added w m n d r q p bytes old turn small index moved either j within =
     ∙ ap (λ a. a || is_one r j) (old j within)
     ∙ ⊎_elim
     (λ before.
-    let here : nat_lt j (8 * p) ≡ true = grind (arith, nat_tests) in
-    let inside : nat_lt j (8 * (p + 1)) ≡ true = grind (arith, nat_tests) in
-    ap₂ (λ t b. (t && byte_value bytes j) || b) here (moved_below w n d r j moved (omega arith))
+    ap₂ (λ a b. a || b) (below_and (8 * p) j (byte_value bytes j) before) (moved_below w n d r j moved (omega arith))
     ∙ or-false (byte_value bytes j)
-    ∙ ap (λ t. t && byte_value bytes j) (sym inside))
+    ∙ sym (below_and (8 * (p + 1)) j (byte_value bytes j) (omega arith)))
     (λ from.
-    let here : nat_lt j (8 * p) ≡ false = grind (arith, nat_tests) in
-    ap₂ (λ t b. (t && byte_value bytes j) || b) here (moved_from w n d r j moved (omega arith) within)
+    ap₂ (λ a b. a || b) (above_and (8 * p) j (byte_value bytes j) from) (moved_from w n d r j moved (omega arith) within)
     ∙ ⊎_elim
     (λ in_byte.
-    let inside : nat_lt j (8 * (p + 1)) ≡ true = grind (arith, nat_tests) in
     let e : 7 - (j - d) ≡ 7 - (j - 8 * p) = omega arith in
     ap (λ x. is_one x (j - d)) turn
     ∙ is_one-turned (get_or bytes p 0) (j - d) (omega arith)
     ∙ ap (is_one (get_or bytes p 0)) e
     ∙ sym (byte_value-is bytes j p (j - 8 * p) (omega arith) (omega arith))
-    ∙ ap (λ t. t && byte_value bytes j) (sym inside))
-    (λ past.
-    let inside : nat_lt j (8 * (p + 1)) ≡ false = grind (arith, nat_tests) in
-    is_one-above n (j - d) small (omega arith) ∙ ap (λ t. t && byte_value bytes j) (sym inside))
+    ∙ sym (below_and (8 * (p + 1)) j (byte_value bytes j) in_byte))
+    (λ past. is_one-above n (j - d) small (omega arith) ∙ sym (above_and (8 * (p + 1)) j (byte_value bytes j) past))
     (cases_lt j (8 * (p + 1))))
     (cases_lt j (8 * p))
 
@@ -105,8 +99,8 @@ pub bytes_ended : (w m n : ℕ) (bytes : List ℕ) → length bytes ≤ n → ((
 bytes_ended w m n bytes h digits j within =
     digits j within
     ∙ ⊎_elim
-    (λ inside. let t : nat_lt j (8 * n) ≡ true = grind (arith, nat_tests) in ap (λ b. b && byte_value bytes j) t)
-    (λ past. let t : nat_lt j (8 * n) ≡ false = grind (arith, nat_tests) in ap (λ b. b && byte_value bytes j) t ∙ sym (byte_value-past bytes j (omega arith)))
+    (λ inside. below_and (8 * n) j (byte_value bytes j) inside)
+    (λ (past : 8 * n ≤ j). above_and (8 * n) j (byte_value bytes j) past ∙ sym (byte_value-past bytes j (omega arith)))
     (cases_lt j (8 * n))
 
 -- ---- the bytes of one block: w is the width, s bytes, and there are n bytes in all

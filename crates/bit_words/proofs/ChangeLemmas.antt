@@ -6,8 +6,9 @@ use Rattle.std.proofs.lemmas.Bool.Decides.{nat_tests}
 use Rattle.std.proofs.lemmas.Nat.Bits.{same_from_bits_below}
 use Rattle.bit_words.specs.Bits.{blocks_for}
 use Rattle.bit_words.specs.Digits.{is_one}
-use Rattle.bit_words.specs.Storage.{value_at}
+use Rattle.bit_words.specs.Storage.{value_at, WritesValue}
 use Rattle.bit_words.proofs.StorageLemmas.{same_digit, value_at-is, value_at-past, value_at-set_same, value_at-set_other}
+use Rattle.bit_words.proofs.TestLemmas.{above_and, before_false, below_and}
 
 -- ---- within one block, places follow indexes
 
@@ -35,17 +36,17 @@ read_at w ms k m i e p = value_at-is w ms i ∙ ap (λ x. is_one x (i % w)) (ap 
 pub value_read : (w : ℕ) (ms : List ℕ) (i k p m : ℕ) → k ≡ i / w → p ≡ i % w → m ≡ get_or ms k 0 → is_one m p ≡ value_at w ms i
 value_read w ms i k p m ke pe read = ap (is_one m) pe ∙ sym (read_at w ms k m i read (sym ke))
 
-pub put_same : (w : ℕ) (ms ns : List ℕ) (i k p n : ℕ) (b : Bool) → k ≡ i / w → p ≡ i % w → k < length ms → ns ≡ set ms k n → is_one n p ≡ b → value_at w ns i ≡ b
-put_same w ms ns i k p n b ke pe h e digit = written_same w ms ns k n i e h (sym ke) ∙ ap (is_one n) (sym pe) ∙ digit
-
-pub put_others : (w : ℕ) (ms ns : List ℕ) (i k p m n : ℕ) → 0 < w → k ≡ i / w → p ≡ i % w → k < length ms → m ≡ get_or ms k 0 → ns ≡ set ms k n → ((j : ℕ) → j < w → j ≢ p → is_one n j ≡ is_one m j) → (j : ℕ) → j ≢ i → value_at w ns j ≡ value_at w ms j
-put_others w ms ns i k p m n pos ke pe h read e digits j ne =
-    ⊎_elim
-    (λ here. written_same w ms ns k n j e h here
-    ∙ digits (j % w) (mod-lt j pos) (λ q. ne (same_index w j i (here ∙ ke) (q ∙ pe)))
-    ∙ sym (read_at w ms k m j read here))
-    (λ there. written_other w ms ns k n j e there)
-    (cases_eq (j / w) k)
+-- one bit of a block
+pub put_bit : (w : ℕ) (ms ns : List ℕ) (i k p m n : ℕ) (b : Bool) → 0 < w → k ≡ i / w → p ≡ i % w → k < length ms → m ≡ get_or ms k 0 → ns ≡ set ms k n → is_one n p ≡ b → ((j : ℕ) → j < w → j ≢ p → is_one n j ≡ is_one m j) → WritesValue w ms ns i b
+put_bit w ms ns i k p m n b pos ke pe h read e digit digits = record {
+  same = written_same w ms ns k n i e h (sym ke) ∙ ap (is_one n) (sym pe) ∙ digit;
+  others = λ j ne. ⊎_elim
+      (λ here. written_same w ms ns k n j e h here
+      ∙ digits (j % w) (mod-lt j pos) (λ q. ne (same_index w j i (here ∙ ke) (q ∙ pe)))
+      ∙ sym (read_at w ms k m j read here))
+      (λ there. written_other w ms ns k n j e there)
+      (cases_eq (j / w) k);
+}
 
 or_and_false : (a b : Bool) → a ≡ (a || (b && false))
 or_and_false true b = refl
@@ -54,10 +55,10 @@ or_and_false false false = refl
 
 -- in a block other than the one at which the values end, the index says on which side it is
 kept_before : (w : ℕ) (ms : List ℕ) (len i : ℕ) → i < len → value_at w ms i ≡ (nat_lt i len && value_at w ms i)
-kept_before w ms len i h = let test : nat_lt i len ≡ true = grind (arith, nat_tests) in ap (λ t. t && value_at w ms i) (sym test)
+kept_before w ms len i h = sym (below_and len i (value_at w ms i) h)
 
 past_blocks : (w : ℕ) (ms : List ℕ) (len i : ℕ) → len ≤ i → length ms ≤ i / w → value_at w ms i ≡ (nat_lt i len && value_at w ms i)
-past_blocks w ms len i h p = let test : nat_lt i len ≡ false = grind (arith, nat_tests) in value_at-past w ms i p ∙ ap (λ t. t && value_at w ms i) (sym test)
+past_blocks w ms len i h p = value_at-past w ms i p ∙ sym (above_and len i (value_at w ms i) h)
 
 pub div_lt : (w i j : ℕ) → 0 < w → i / w < j / w → i < j
 div_lt w i j pos h = let a = (div-lt_iff_lt-mul pos).0 h in omega (arith, div-mul-le_self j w)
@@ -93,10 +94,9 @@ tail_set w ms ns s t k p m n pos ke pe nz count read e digits i within =
     ∙ ap₂ (λ a b. a || b) (sym (read_at w ms k m i read here)) (ap₂ (λ a b. nat_lt a t && b) index (ap (λ q. nat_le q (i % w)) pe ∙ sym (nat_le-indexes w s i (here ∙ ke)))))
     (λ there.
     let before = div_lt w i s pos (omega arith) in
-    let test : nat_le s i ≡ false = grind (arith, nat_tests) in
     written_other w ms ns k n i e there
     ∙ or_and_false (value_at w ms i) (nat_lt i t)
-    ∙ ap (λ x. value_at w ms i || (nat_lt i t && x)) (sym test))
+    ∙ ap (λ x. value_at w ms i || (nat_lt i t && x)) (sym (before_false s i before)))
     (cases_eq (i / w) k)
 
 -- ---- zeros from the end of the values on

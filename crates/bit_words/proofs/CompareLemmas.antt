@@ -1,5 +1,6 @@
 -- When the blocks of two lists merge to zeros, and what that says of the lists.
 use Rattle.std.proofs.Common.{◌≡◌, ◌≢◌, ℕ, zero, suc, ◌+◌, ◌*◌, ◌/◌, ◌%◌, ◌^◌, ◌<◌, ◌≤◌, ◌↔◌, ◌==◌, Bool, true, false, List, [], ◌∷◌, length, map, get_or, slice_get, Some, refl, ◌⊎◌, inl, inr, min, sym, ap, ap₂, ◌∙◌, arith, ⊎_elim, mod-lt, div-add-mod', mul-le-mul_right, pow_pos}
+use Rattle.std.proofs.Math.Bool.{and-false, and-true}
 use Rattle.std.proofs.lemmas.Bool.{cases_lt, eq-eqb, false≢true}
 use Rattle.std.proofs.lemmas.List.{get_or_past, length-map}
 use Rattle.std.proofs.lemmas.Nat.Bits.{bit_at-zero, same_from_bits_below}
@@ -98,16 +99,10 @@ shorter_end f xs ys c e =
     (cases_lt (length xs) (length ys)))
 
 difference_of_false : (b : Bool) → merge_of_values Difference false b ≡ false
-difference_of_false true = refl
-difference_of_false false = refl
+difference_of_false b = refl
 
 difference_past : (a : Bool) → merge_of_values Difference a false ≡ false → a ≡ false
-difference_past true e = e
-difference_past false e = e
-
-intersection_past : (a : Bool) → merge_of_values Intersection a false ≡ false
-intersection_past true = refl
-intersection_past false = refl
+difference_past a e = sym (and-true a) ∙ e
 
 -- a difference: where both have blocks, and past those
 pub difference_of_blocks : (w : ℕ) (ms ns : List ℕ) (count : ℕ) → 0 < w → ((k : ℕ) → get_or ms k 0 < 2 ^ w) → (count ≡ length ns) ⊎ (count ≡ length ms) → (MergesToZero Difference w ms ns count × ((k : ℕ) → count ≤ k → get_or ms k 0 ≡ 0)) ↔ MergesToFalse Difference w ms ns
@@ -130,7 +125,7 @@ pub intersection_of_blocks : (w : ℕ) (ms ns : List ℕ) (count : ℕ) → 0 < 
 intersection_of_blocks w ms ns count pos ends = (
   λ zeros. false_from_zero Intersection w ms ns count pos zeros (λ k j past index.
       ⊎_elim
-      (λ other. ap (merge_of_values Intersection (is_one (get_or ms k 0) j)) (digit_from_zero _ j (get_or_past ns k 0 (omega arith))) ∙ intersection_past (is_one (get_or ms k 0) j))
+      (λ other. ap (merge_of_values Intersection (is_one (get_or ms k 0) j)) (digit_from_zero _ j (get_or_past ns k 0 (omega arith))) ∙ and-false (is_one (get_or ms k 0) j))
       (λ own. ap (λ x. merge_of_values Intersection x (is_one (get_or ns k 0) j)) (digit_from_zero _ j (get_or_past ms k 0 (omega arith))))
       ends),
   λ falses. record { digit = λ k j within index. zero_from_false Intersection w ms ns falses k j index },
@@ -159,7 +154,7 @@ first_is_within w ms ns count i ends first =
     (λ within. within)
     (λ past. absurd (false≢true (
     sym (⊎_elim
-    (λ other. ap (merge_of_values Intersection (value_at w ms i)) (value_at-past w ns i (omega arith)) ∙ intersection_past (value_at w ms i))
+    (λ other. ap (merge_of_values Intersection (value_at w ms i)) (value_at-past w ns i (omega arith)) ∙ and-false (value_at w ms i))
     (λ own. ap (λ x. merge_of_values Intersection x (value_at w ns i)) (value_at-past w ms i (omega arith)))
     ends)
     ∙ first.is_true)))

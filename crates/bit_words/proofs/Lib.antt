@@ -5,6 +5,7 @@ pub mod LowestStep
 pub mod OnesLemmas
 pub mod StorageLemmas
 pub mod Masks
+pub mod TestLemmas
 pub mod ChangeLemmas
 pub mod VectorLemmas
 pub mod PackedLemmas
@@ -15,6 +16,8 @@ pub mod CompareLemmas
 pub mod MismatchLemmas
 pub mod CapacityLemmas
 pub mod SummaryLemmas
+pub mod UsedLemmas
+pub mod SummaryMergeLemmas
 pub mod TailLemmas
 pub mod NonzeroLemmas
 pub mod NonzeroFromLemmas

@@ -1,17 +1,18 @@
 -- What appending, keeping and filling whole blocks does to the value at every index.
-use Rattle.std.proofs.Common.{◌≡◌, ℕ, zero, suc, ◌+◌, ◌-◌, ◌/◌, ◌%◌, ◌^◌, ◌<◌, ◌≤◌, Bool, true, false, ◌&&◌, ◌||◌, nat_lt, nat_le, List, [], ◌∷◌, ◌++◌, map, length, get_or, take, replicate, refl, sym, ap, ap₂, ◌∙◌, arith, ⊎_elim, append_assoc, mod-lt, get_or-take, set, ◌≢◌, get_or-set_same, get_or-set_other}
-use Rattle.std.proofs.Math.Bool.{or-false}
+use Rattle.std.proofs.Common.{◌≡◌, ℕ, ◌+◌, ◌-◌, ◌/◌, ◌%◌, ◌^◌, ◌<◌, ◌≤◌, true, false, ◌&&◌, ◌||◌, nat_lt, nat_le, List, [], ◌∷◌, ◌++◌, map, length, get_or, take, replicate, refl, sym, ap, ap₂, ◌∙◌, arith, ⊎_elim, append_assoc, mod-lt, get_or-take, set, ◌≢◌, get_or-set_same, get_or-set_other}
+use Rattle.std.proofs.Math.Bool.{and-true, or-false}
 use Rattle.std.proofs.lemmas.Bool.{cases_lt, cases_eq}
 use Rattle.std.proofs.lemmas.Bool.Decides.{nat_tests}
-use Rattle.std.proofs.lemmas.List.{get_or_append_left, get_or-append_right, get_or_past, get_or-replicate, length-replicate, length-append, map-append}
+use Rattle.std.proofs.lemmas.List.{get_or_append_left, get_or-append_right, get_or_past, get_or-replicate, length-replicate, length-append, map-append, take_more}
 use Rattle.std.proofs.lemmas.Grind.{replicate_next}
 use Rattle.bit_words.specs.Bits.{blocks_for}
 use Rattle.bit_words.specs.Digits.{is_one}
-use Rattle.bit_words.specs.Storage.{value_at, IsZeroFrom}
+use Rattle.bit_words.specs.Storage.{value_at, FillsFirst, IsZeroFrom}
 use Rattle.bit_words.proofs.Masks.{is_one-ones, is_one-zero}
 use Rattle.bit_words.proofs.BitsLemmas.{blocks_for-above}
 use Rattle.bit_words.proofs.StorageLemmas.{value_at-is, value_at-past}
 use Rattle.bit_words.proofs.ChangeLemmas.{div_lt, nat_lt-indexes}
+use Rattle.bit_words.proofs.TestLemmas.{above_false, below_and, below_true, from_true}
 
 -- ---- whole blocks
 
@@ -37,11 +38,7 @@ value_at-append_zeros w ms m n i e past =
     (cases_lt (i / w) (length ms + m))
 
 ones_true : (w n i : ℕ) → 0 < w → n ≡ 2 ^ w - 1 → is_one n (i % w) ≡ true
-ones_true w n i pos e = let l = mod-lt i pos in is_one-ones n w (i % w) e ∙ grind (arith, nat_tests)
-
-pub map-replicate : {X : Type 0} (f : X → ℕ) (n : ℕ) (x : X) → map f (replicate n x) ≡ replicate n (f x)
-map-replicate f zero x = refl
-map-replicate f (suc n) x = ap (λ ys. f x ∷ ys) (map-replicate f n x)
+ones_true w n i pos e = let l = mod-lt i pos in is_one-ones n w (i % w) e ∙ below_true w (i % w) l
 
 pub map-pushed : {X : Type 0} (f : X → ℕ) (xs ys : List X) (x : X) → ys ≡ xs ++ x ∷ [] → map f ys ≡ map f xs ++ f x ∷ []
 map-pushed f xs ys x e = ap (map f) e ∙ map-append f xs (x ∷ [])
@@ -55,14 +52,18 @@ copy_pushed f xs ys zs len k x h before e =
     ∙ append_assoc (map f xs) (replicate (k - len) (f x)) (f x ∷ [])
     ∙ ap (λ ns. map f xs ++ ns) (sym (replicate_next (k - len) (f x)) ∙ ap (λ n. replicate n (f x)) (sym one_more))
 
-and_true : (a : Bool) → (false || (a && true)) ≡ a
-and_true true = refl
-and_true false = refl
+-- one block more of those of another list, after i of them
+pub block_pushed : {X : Type 0} (old more xs ys : List X) (i : ℕ) (x : X) → i < length more → x ≡ get_or more i x → xs ≡ old ++ take i more → ys ≡ xs ++ x ∷ [] → ys ≡ old ++ take (i + 1) more
+block_pushed old more xs ys i x within is before pushed =
+    pushed
+    ∙ ap (λ zs. zs ++ x ∷ []) before
+    ∙ append_assoc old (take i more) (x ∷ [])
+    ∙ ap (λ zs. old ++ zs) (ap (λ y. take i more ++ y ∷ []) is ∙ sym (take_more more i x within))
 
 -- ---- blocks of ones up to a length
 
 past_the_end : (w len i : ℕ) → 0 < w → len / w < i / w → nat_lt i len ≡ false
-past_the_end w len i pos h = let l = div_lt w len i pos h in grind (arith, nat_tests)
+past_the_end w len i pos h = let l = div_lt w len i pos h in above_false len i (omega arith)
 
 -- the whole blocks are ones, the block at which the values end has those below its place, and there are zeros past it
 ones_up_to : (w : ℕ) (rs : List ℕ) (len i : ℕ) → 0 < w → (i / w < len / w → get_or rs (i / w) 0 ≡ 2 ^ w - 1) → (i / w ≡ len / w → get_or rs (i / w) 0 ≡ 2 ^ (len % w) - 1) → (len / w < i / w → get_or rs (i / w) 0 ≡ 0) → value_at w rs i ≡ nat_lt i len
@@ -70,8 +71,7 @@ ones_up_to w rs len i pos whole cut past =
     ⊎_elim
     (λ before.
     let l = div_lt w i len pos before in
-    let test : nat_lt i len ≡ true = grind (arith, nat_tests) in
-    value_at-block w rs i _ (whole before) ∙ ones_true w _ i pos refl ∙ sym test)
+    value_at-block w rs i _ (whole before) ∙ ones_true w _ i pos refl ∙ sym (below_true len i (omega (arith, l))))
     (λ from.
     ⊎_elim
     (λ here. value_at-block w rs i _ (cut here) ∙ is_one-ones _ (len % w) (i % w) refl ∙ sym (nat_lt-indexes w i len here))
@@ -131,11 +131,10 @@ pub ones_added : (w : ℕ) (ms rs us : List ℕ) (old len size : ℕ) → IsZero
 ones_added w ms rs us old len size tail tail_set kept added i after =
     ⊎_elim
     (λ within.
-    let reached : nat_le old i ≡ true = grind (arith, nat_tests) in
     kept i within
     ∙ tail_set i within
-    ∙ ap₂ (λ a t. a || (nat_lt i len && t)) (tail.zero_tail i after) reached
-    ∙ and_true (nat_lt i len))
+    ∙ ap₂ (λ a t. a || (nat_lt i len && t)) (tail.zero_tail i after) (from_true old i after)
+    ∙ and-true (nat_lt i len))
     (λ past. added i past)
     (cases_lt (i / w) size)
 
@@ -158,48 +157,40 @@ zeros_added w ms rs old m n tail z e i after =
 
 pub cut_kept : (w : ℕ) (ms rs us : List ℕ) (len c : ℕ) → 0 < w → c ≡ blocks_for w len → rs ≡ take c ms → ((i : ℕ) → value_at w us i ≡ (nat_lt i len && value_at w rs i)) → (i : ℕ) → i < len → value_at w us i ≡ value_at w ms i
 cut_kept w ms rs us len c pos count e lowered i below =
-    let inside : nat_lt i len ≡ true = grind (arith, nat_tests) in
     let block = blocks_for-above w len i pos below in
     lowered i
-    ∙ ap (λ t. t && value_at w rs i) inside
+    ∙ below_and len i (value_at w rs i) below
     ∙ ap (λ xs. value_at w xs i) e
     ∙ value_at-take w c ms i (omega arith)
 
 -- ---- every value written in place
 
 -- past the blocks there was nothing, and nothing comes
-unwritten : (w : ℕ) (ms rs : List ℕ) (c q : ℕ) → ((k : ℕ) → c ≤ k → get_or rs k 0 ≡ get_or ms k 0) → c ≤ q → length ms ≤ q → get_or rs q 0 ≡ 0
-unwritten w ms rs c q others from past = others q from ∙ get_or_past ms q 0 past
+unwritten : (ms rs : List ℕ) (c n q : ℕ) → FillsFirst ms rs c n → c ≤ q → length ms ≤ q → get_or rs q 0 ≡ 0
+unwritten ms rs c n q fills from past = fills.others q from ∙ get_or_past ms q 0 past
 
-pub whole_filled : (w : ℕ) (ms rs : List ℕ) (len n : ℕ) → 0 < w → length ms ≡ blocks_for w len → len % w ≡ 0 → n ≡ 2 ^ w - 1 → ((k : ℕ) → k < len / w → get_or rs k 0 ≡ n) → ((k : ℕ) → len / w ≤ k → get_or rs k 0 ≡ get_or ms k 0) → (i : ℕ) → value_at w rs i ≡ nat_lt i len
-whole_filled w ms rs len n pos count z ones filled others i =
+pub whole_filled : (w : ℕ) (ms rs : List ℕ) (len n : ℕ) → 0 < w → length ms ≡ blocks_for w len → len % w ≡ 0 → n ≡ 2 ^ w - 1 → FillsFirst ms rs (len / w) n → (i : ℕ) → value_at w rs i ≡ nat_lt i len
+whole_filled w ms rs len n pos count z ones fills i =
     ones_up_to w rs len i pos
-    (λ before. filled (i / w) before ∙ ones)
-    (λ here. unwritten w ms rs (len / w) (i / w) others (omega arith) (omega arith) ∙ sym (ap (λ p. 2 ^ p - 1) z))
-    (λ beyond. unwritten w ms rs (len / w) (i / w) others (omega arith) (omega arith))
+    (λ before. fills.filled (i / w) before ∙ ones)
+    (λ here. unwritten ms rs (len / w) n (i / w) fills (omega arith) (omega arith) ∙ sym (ap (λ p. 2 ^ p - 1) z))
+    (λ beyond. unwritten ms rs (len / w) n (i / w) fills (omega arith) (omega arith))
 
-pub cut_filled : (w : ℕ) (ms rs us : List ℕ) (len m n : ℕ) → 0 < w → length ms ≡ blocks_for w len → length rs ≡ length ms → len % w ≢ 0 → n ≡ 2 ^ w - 1 → ((k : ℕ) → k < len / w → get_or rs k 0 ≡ n) → ((k : ℕ) → len / w ≤ k → get_or rs k 0 ≡ get_or ms k 0) → m ≡ 2 ^ (len % w) - 1 → us ≡ set rs (len / w) m → (i : ℕ) → value_at w us i ≡ nat_lt i len
-cut_filled w ms rs us len m n pos count size nz ones filled others cut e i =
+pub cut_filled : (w : ℕ) (ms rs us : List ℕ) (len m n : ℕ) → 0 < w → length ms ≡ blocks_for w len → length rs ≡ length ms → len % w ≢ 0 → n ≡ 2 ^ w - 1 → FillsFirst ms rs (len / w) n → m ≡ 2 ^ (len % w) - 1 → us ≡ set rs (len / w) m → (i : ℕ) → value_at w us i ≡ nat_lt i len
+cut_filled w ms rs us len m n pos count size nz ones fills cut e i =
     ones_up_to w us len i pos
-    (λ before. other (omega arith) ∙ filled (i / w) before ∙ ones)
+    (λ before. other (omega arith) ∙ fills.filled (i / w) before ∙ ones)
     (λ here. ap (λ xs. get_or xs (i / w) 0) e ∙ ap (λ q. get_or (set rs (len / w) m) q 0) here ∙ get_or-set_same rs (len / w) m 0 (omega arith) ∙ cut)
-    (λ beyond. other (omega arith) ∙ unwritten w ms rs (len / w) (i / w) others (omega arith) (omega arith))
+    (λ beyond. other (omega arith) ∙ unwritten ms rs (len / w) n (i / w) fills (omega arith) (omega arith))
   where
     other : i / w ≢ len / w → get_or us (i / w) 0 ≡ get_or rs (i / w) 0
     other ne = ap (λ xs. get_or xs (i / w) 0) e ∙ get_or-set_other rs (len / w) (i / w) m 0 ne
 
-pub zeros_filled : (w : ℕ) (ms rs : List ℕ) (n : ℕ) → n ≡ 0 → ((k : ℕ) → k < length ms → get_or rs k 0 ≡ n) → ((k : ℕ) → length ms ≤ k → get_or rs k 0 ≡ get_or ms k 0) → (i : ℕ) → value_at w rs i ≡ false
-zeros_filled w ms rs n z filled others i =
+pub zeros_filled : (w : ℕ) (ms rs : List ℕ) (n : ℕ) → n ≡ 0 → FillsFirst ms rs (length ms) n → (i : ℕ) → value_at w rs i ≡ false
+zeros_filled w ms rs n z fills i =
     value_at-block w rs i 0
     (⊎_elim
-    (λ within. filled (i / w) within ∙ z)
-    (λ past. unwritten w ms rs (length ms) (i / w) others past past)
+    (λ within. fills.filled (i / w) within ∙ z)
+    (λ past. unwritten ms rs (length ms) n (i / w) fills past past)
     (cases_lt (i / w) (length ms)))
     ∙ is_one-zero (i % w)
-
--- what a test of the index says of it
-pub below_true : (len i : ℕ) → i < len → nat_lt i len ≡ true
-below_true len i h = grind (arith, nat_tests)
-
-pub above_false : (len i : ℕ) → len ≤ i → nat_lt i len ≡ false
-above_false len i h = grind (arith, nat_tests)

@@ -1,5 +1,6 @@
 -- What a copy of the tail of a list holds, by index, and what its summary says.
-use Rattle.std.proofs.Common.{◌≡◌, ◌≢◌, ℕ, ◌+◌, ◌-◌, ◌/◌, ◌%◌, ◌^◌, ◌<◌, ◌≤◌, Bool, true, false, ◌&&◌, nat_le, List, [], ◌++◌, map, length, get_or, set, take, drop, replicate, All, refl, sym, ap, ap₂, ◌∙◌, arith, ⊎_elim, mod-lt, length-append, take_all, div-lt_iff_lt-mul, div-mul-le_self, mul-le-mul_right, ◌*◌}
+use Rattle.std.proofs.Common.{◌≡◌, ◌≢◌, ℕ, ◌+◌, ◌-◌, ◌/◌, ◌%◌, ◌^◌, ◌<◌, ◌≤◌, true, false, ◌&&◌, nat_le, List, [], ◌++◌, map, length, get_or, set, take, drop, replicate, All, sym, ap, ap₂, ◌∙◌, arith, ⊎_elim, mod-lt, length-append, take_all, div-lt_iff_lt-mul, div-mul-le_self, mul-le-mul_right, ◌*◌}
+use Rattle.std.proofs.Math.Bool.{and-false}
 use Rattle.std.proofs.lemmas.Bool.{cases_lt, cases_eq}
 use Rattle.std.proofs.lemmas.Bool.Decides.{nat_tests}
 use Rattle.std.proofs.lemmas.List.Elements.{All-same, All-append, All-drop}
@@ -11,6 +12,7 @@ use Rattle.bit_words.proofs.ChangeLemmas.{nat_le-indexes, div_lt, read_at, writt
 use Rattle.bit_words.proofs.Masks.{is_one-zero}
 use Rattle.bit_words.proofs.StorageLemmas.{value_at-is, values_of-same, length-values_of, get_or-values_of}
 use Rattle.bit_words.proofs.SummaryLemmas.{same_use, unused_from_false}
+use Rattle.bit_words.proofs.TestLemmas.{before_and, from_and}
 
 -- a slice from an index to the end
 rest_sliced : {X : Type 0} (n : ℕ) (xs : List X) → take (length xs - n) (drop n xs) ≡ drop n xs
@@ -47,8 +49,7 @@ block_from ms ns count k e h =
 value_before : (w : ℕ) (ms ns : List ℕ) (count at i : ℕ) → 0 < w → ns ≡ replicate count 0 ++ drop count ms → count ≡ at / w → i / w < count → value_at w ns i ≡ (nat_le at i && value_at w ms i)
 value_before w ms ns count at i pos e c h =
     let below = div_lt w i at pos (omega arith) in
-    let test : nat_le at i ≡ false = grind (arith, nat_tests) in
-    value_at-is w ns i ∙ ap (λ m. is_one m (i % w)) (block_before ms ns count (i / w) e h) ∙ is_one-zero (i % w) ∙ ap (λ t. t && value_at w ms i) (sym test)
+    value_at-is w ns i ∙ ap (λ m. is_one m (i % w)) (block_before ms ns count (i / w) e h) ∙ is_one-zero (i % w) ∙ sym (before_and at i (value_at w ms i) below)
 
 value_from : (w : ℕ) (ms ns : List ℕ) (count i : ℕ) → ns ≡ replicate count 0 ++ drop count ms → count ≤ i / w → value_at w ns i ≡ value_at w ms i
 value_from w ms ns count i e h =
@@ -57,8 +58,7 @@ value_from w ms ns count i e h =
 value_past : (w : ℕ) (ms ns : List ℕ) (count at i : ℕ) → 0 < w → ns ≡ replicate count 0 ++ drop count ms → count ≡ at / w → at / w < i / w → value_at w ns i ≡ (nat_le at i && value_at w ms i)
 value_past w ms ns count at i pos e c h =
     let above = div_lt w at i pos h in
-    let test : nat_le at i ≡ true = grind (arith, nat_tests) in
-    value_from w ms ns count i e (omega arith) ∙ ap (λ t. t && value_at w ms i) (sym test)
+    value_from w ms ns count i e (omega arith) ∙ sym (from_and at i (value_at w ms i) (omega (arith, above)))
 
 -- where the tail begins with a whole block
 pub tail_whole : (w : ℕ) (ms ns : List ℕ) (count at : ℕ) → 0 < w → ns ≡ replicate count 0 ++ drop count ms → count ≡ at / w → at % w ≡ 0 → (i : ℕ) → value_at w ns i ≡ (nat_le at i && value_at w ms i)
@@ -93,15 +93,11 @@ tail_cut w ms ns rs k at p m n pos e ke pe within read put digits i =
 
 -- ---- the copy of a list
 
-and_false : (a b : Bool) → b ≡ false → (a && b) ≡ false
-and_false true b e = e
-and_false false b e = refl
-
 pub tail_packed : {X : Type 0} (w n at : ℕ) (f : X → ℕ) (P : X → Type 0) (xs ys : List X) → IsPacked w f P xs n → All P ys → length ys ≡ length xs → ((i : ℕ) → value_at w (map f ys) i ≡ (nat_le at i && value_at w (map f xs) i)) → IsPacked w f P ys n
 tail_packed w n at f P xs ys packed each len values = record {
   each = each;
   count = len ∙ packed.count;
-  tail = record { zero_tail = λ i past. values i ∙ and_false (nat_le at i) _ (packed.tail.zero_tail i past) };
+  tail = record { zero_tail = λ i past. values i ∙ ap (λ b. nat_le at i && b) (packed.tail.zero_tail i past) ∙ and-false (nat_le at i) };
   fits = packed.fits;
 }
 
@@ -110,15 +106,13 @@ values_of-tail w ms ns n at h values =
     values_of-same w ns n _ (omega (arith, h, length-append (replicate at false) (drop at (values_of w ms n)), length-replicate at false, length-drop at (values_of w ms n), length-values_of w ms n)) (λ i below.
     ⊎_elim
     (λ before.
-    let test : nat_le at i ≡ false = grind (arith, nat_tests) in
     values i
-    ∙ ap (λ t. t && value_at w ms i) test
+    ∙ before_and at i (value_at w ms i) before
     ∙ sym (get_or_append_left (replicate at false) (drop at (values_of w ms n)) false i (rw length-replicate before) ∙ get_or-replicate at i false false before))
     (λ from.
-    let test : nat_le at i ≡ true = grind (arith, nat_tests) in
     let index : at + (i - at) ≡ i = omega arith in
     values i
-    ∙ ap (λ t. t && value_at w ms i) test
+    ∙ from_and at i (value_at w ms i) from
     ∙ sym (get_or-append_right (replicate at false) (drop at (values_of w ms n)) at i false (length-replicate at false) from
     ∙ get_or-drop at (values_of w ms n) (i - at) false
     ∙ ap (λ q. get_or (values_of w ms n) q false) index
@@ -138,25 +132,19 @@ pub tail_unused : (w at q : ℕ) (ms ns : List ℕ) → get_or ns q 0 < 2 ^ w �
 tail_unused w at q ms ns small values before =
     unused_from_false w ns q small (λ j index.
     let below = block_below w q at j index before in
-    let test : nat_le at (q * w + j) ≡ false = grind (arith, nat_tests) in
-    values (q * w + j) ∙ ap (λ t. t && value_at w ms (q * w + j)) test)
+    values (q * w + j) ∙ before_and at (q * w + j) (value_at w ms (q * w + j)) below)
 
 -- those past it are as they were
 pub tail_kept : (w at q : ℕ) (ms ns : List ℕ) → 0 < w → get_or ms q 0 < 2 ^ w → get_or ns q 0 < 2 ^ w → ((i : ℕ) → value_at w ns i ≡ (nat_le at i && value_at w ms i)) → at / w < q → is_used ms q ≡ is_used ns q
 tail_kept w at q ms ns pos small also values after =
     same_use w ms ns q small also (λ j index.
     let above = block_above w q at j pos after in
-    let test : nat_le at (q * w + j) ≡ true = grind (arith, nat_tests) in
-    sym (values (q * w + j) ∙ ap (λ t. t && value_at w ms (q * w + j)) test))
+    sym (values (q * w + j) ∙ from_and at (q * w + j) (value_at w ms (q * w + j)) (omega (arith, above))))
 
 -- what a copy of a summary's tail says of the blocks
 pub tail_use : (w k q : ℕ) (ms ss cs : List ℕ) → ((i : ℕ) → value_at w cs i ≡ (nat_le k i && value_at w ss i)) → ((p : ℕ) → p < k → is_used ms p ≡ false) → ((p : ℕ) → k < p → value_at w ss p ≡ is_used ms p) → q ≢ k → value_at w cs q ≡ is_used ms q
 tail_use w k q ms ss cs values before after other =
     ⊎_elim
-    (λ below.
-    let test : nat_le k q ≡ false = grind (arith, nat_tests) in
-    values q ∙ ap (λ t. t && value_at w ss q) test ∙ sym (before q below))
-    (λ from.
-    let test : nat_le k q ≡ true = grind (arith, nat_tests) in
-    values q ∙ ap (λ t. t && value_at w ss q) test ∙ after q (omega arith))
+    (λ below. values q ∙ before_and k q (value_at w ss q) below ∙ sym (before q below))
+    (λ from. values q ∙ from_and k q (value_at w ss q) from ∙ after q (omega arith))
     (cases_lt q k)

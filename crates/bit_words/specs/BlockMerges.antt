@@ -33,9 +33,9 @@ pub record CanMerge {X : Type 0} (number : X → ℕ) (is_block : X → Type 0) 
   pub each : All is_block xs
   pub others : All is_block os
 
--- The blocks xs became ys, what they merge to with os, or with zeros past its end.
-pub record HasMerged {X : Type 0} (merge : Merge) (w : ℕ) (number : X → ℕ) (is_block : X → Type 0)
+-- The blocks xs became ys: those from start to before end are what they merge to with os, or with zeros past its end.
+pub record HasMerged {X : Type 0} (merge : Merge) (w : ℕ) (number : X → ℕ) (is_block : X → Type 0) (start end : ℕ)
     (xs os ys : List X) : Type 0 where
-  pub merged : IsMergedBetween merge w 0 (length xs) (map number xs) (map number os) (map number ys)
+  pub merged : IsMergedBetween merge w start end (map number xs) (map number os) (map number ys)
   pub each : All is_block ys
   pub len : length ys ≡ length xs

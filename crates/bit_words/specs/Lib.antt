@@ -12,5 +12,6 @@ pub mod Pending
 pub mod Nonzero
 pub mod Merges
 pub mod BlockMerges
+pub mod Comparisons
 pub mod Mismatches
 pub mod Growth

@@ -1,5 +1,6 @@
 -- How a vector of blocks holds a list of truth values. No public clause cites this.
-use Rattle.std.specs.Prelude.{◌≡◌, ℕ, ◌^◌, ◌/◌, ◌%◌, ◌<◌, ◌≤◌, Bool, false, List, map, length, get_or, All}
+use Rattle.std.specs.Prelude.{◌≡◌, ◌≢◌, ℕ, ◌^◌, ◌/◌, ◌%◌, ◌<◌, ◌≤◌, Bool, false, List, map, length, get_or, All, vec_len, vec_capacity}
+use Rattle.std.specs.Global.{Vec}
 use Rattle.std.specs.List.{range_with_len}
 use Rattle.bit_words.specs.Bits.{blocks_for}
 use Rattle.bit_words.specs.Digits.{is_one}
@@ -23,3 +24,19 @@ pub record IsPacked {X : Type 0} (w : ℕ) (number : X → ℕ) (is_block : X �
   pub count : length xs ≡ blocks_for w n
   pub tail : IsZeroFrom w (map number xs) n
   pub fits : n < 2 ^ 64
+
+-- Some blocks of a vector were written: each is a block value, and there are as many, with the same capacity.
+pub record WritesInPlace {X : Type 0} (is_block : X → Type 0) (old new : Vec X) : Type 0 where
+  pub each : All is_block new.items
+  pub len : vec_len new ≡ vec_len old
+  pub capacity : vec_capacity new ≡ vec_capacity old
+
+-- The value at i of the blocks ms became b, and no other changed.
+pub record WritesValue (w : ℕ) (ms ns : List ℕ) (i : ℕ) (b : Bool) : Type 0 where
+  pub same : value_at w ns i ≡ b
+  pub others : (j : ℕ) → j ≢ i → value_at w ns j ≡ value_at w ms j
+
+-- The first `count` blocks became n, and no other changed.
+pub record FillsFirst (ms ns : List ℕ) (count n : ℕ) : Type 0 where
+  pub filled : (k : ℕ) → k < count → get_or ns k 0 ≡ n
+  pub others : (k : ℕ) → count ≤ k → get_or ns k 0 ≡ get_or ms k 0

@@ -1,11 +1,20 @@
 -- The summary of a vector of blocks: which of them are not 0. No public clause cites this.
-use Rattle.std.specs.Prelude.{◌≡◌, ℕ, ◌*◌, ◌<◌, ◌≤◌, Bool, not, nat_le, if◌then◌else◌, min, max, List, [], map, length, get_or, ◌==◌, IsTrue, OnErr, OnOk, Result}
+use Rattle.std.specs.Prelude.{◌≡◌, ℕ, ◌+◌, ◌*◌, ◌<◌, ◌≤◌, ◌&&◌, Bool, not, nat_lt, nat_le, if◌then◌else◌, min, max, List, [], map, length, get_or, ◌==◌, IsTrue, OnErr, OnOk, Result}
 use Rattle.bit_words.specs.Bits.{blocks_for}
+use Rattle.bit_words.specs.Digits.{is_one}
 use Rattle.bit_words.specs.Storage.{value_at, IsPacked}
 
 -- whether block k is not 0
 abbrev pub is_used : List ℕ → ℕ → Bool
 is_used ms k = not (get_or ms k 0 == 0)
+
+-- The block says of each of the `count` blocks of xs from `start` on whether it is not 0, the first of them at the lowest
+-- bit; its other bits are 0.
+pub record SaysUsed {X : Type 0} (w : ℕ) (number : X → ℕ) (is_block : X → Type 0) (xs : List X) (start count : ℕ)
+    (block : X) : Type 0 where
+  pub of_block : is_block block
+  pub digit : (j : ℕ) → j < w
+      → is_one (number block) j ≡ (nat_lt j count && is_used (map number xs) (start + j))
 
 -- The blocks of the summary hold a list of truth values, one for each block of xs, and value k says whether block k
 -- is not 0.

@@ -17,16 +17,15 @@ mod debug;
 mod editing;
 mod merging;
 mod nonzero;
-pub mod operation;
 
-pub use crate::block::BitBlock;
 pub use crate::block::lowest::take_lowest_one;
 pub use crate::block::masks::clear_below;
 pub use crate::block::merge::Merge;
+pub use crate::block::{BitBlock, operation};
 pub use crate::packed::mismatch::{
-    block_or_zero, first_mismatching_block, first_nonzero_block, has_one_from, lowest_mismatch,
-    mismatch_between, same_blocks,
+    first_mismatching_block, lowest_mismatch, mismatch_between, same_blocks,
 };
+pub use crate::packed::searching::{block_or_zero, first_nonzero_block, has_one_from};
 pub use crate::steps::Steps;
 pub use blocks::Blocks;
 pub use constructors::BitsError;

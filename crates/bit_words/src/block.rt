@@ -10,6 +10,7 @@ pub(crate) mod integers;
 pub(crate) mod lowest;
 pub(crate) mod masks;
 pub(crate) mod merge;
+pub mod operation;
 pub(crate) mod operators;
 
 /// A block of bits: a value that represents a whole number below `2 ^ bits()`.
@@ -43,14 +44,22 @@ pub trait BitBlock: Copy
         ensures { result ≡ width };
 
     /// The block whose bits are all 0.
+    #[inline]
     fn zero() -> Self
         ensures of_block { is_block result }
-        ensures of_number { number result ≡ 0 };
+        ensures of_number { number result ≡ 0 }
+    {
+        Self::from_byte(0)
+    }
 
     /// The block with the lowest bit alone.
+    #[inline]
     fn one() -> Self
         ensures of_block { is_block result }
-        ensures of_number { number result ≡ 1 };
+        ensures of_number { number result ≡ 1 }
+    {
+        Self::from_byte(1)
+    }
 
     /// How many bits are 1.
     fn count_ones(self) -> usize

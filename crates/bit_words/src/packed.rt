@@ -9,5 +9,6 @@ pub(crate) mod inclusion;
 pub(crate) mod mismatch;
 pub(crate) mod ones;
 pub(crate) mod resizing;
+pub(crate) mod searching;
 pub(crate) mod tail_copies;
 pub(crate) mod zeros;

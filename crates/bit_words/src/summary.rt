@@ -3,8 +3,8 @@
 ghost use Rattle.std.specs.Prelude.{◌≡◌, ◌≢◌, ℕ, ◌+◌, ◌-◌, ◌*◌, ◌/◌, ◌^◌, ◌<◌, ◌≤◌, ◌==◌, ◌&&◌, ◌||◌, All, IfOk, IsOk, get_or, not, nat_le, nat_lt, [], length, map, min, false, true, vec_len, vec_capacity};
 ghost use Rattle.bit_words.specs.Bits.{blocks_for};
 ghost use Rattle.bit_words.specs.Digits.{is_one};
-ghost use Rattle.bit_words.specs.Storage.{value_at, IsPacked};
-ghost use Rattle.bit_words.specs.Summary.{is_used, short_count, stored_for, IsSummary, KeepsSummary};
+ghost use Rattle.bit_words.specs.Storage.{value_at, IsPacked, WritesInPlace, WritesValue};
+ghost use Rattle.bit_words.specs.Summary.{is_used, short_count, stored_for, IsSummary, KeepsSummary, SaysUsed};
 
 use crate::block::BitBlock;
 use crate::block::masks::with_one_if;
@@ -35,12 +35,9 @@ pub(crate) fn update_summary_at<B: BitBlock>(summary: &mut Vec<B>, blocks: &[B],
     requires in_summary { k / B.width < vec_len summary.old }
     requires each { All B.is_block summary.old.items }
     requires blocks { All B.is_block blocks.now }
-    ensures same { value_at B.width (map B.number summary.new.items) k ≡ is_used (map B.number blocks.now) k }
-    ensures others { (j : ℕ) → j ≢ k
-        → value_at B.width (map B.number summary.new.items) j ≡ value_at B.width (map B.number summary.old.items) j }
-    ensures each { All B.is_block summary.new.items }
-    ensures len { vec_len summary.new ≡ vec_len summary.old }
-    ensures capacity { vec_capacity summary.new ≡ vec_capacity summary.old }
+    ensures value { WritesValue B.width (map B.number summary.old.items) (map B.number summary.new.items) k
+        (is_used (map B.number blocks.now) k) }
+    ensures in_place { WritesInPlace B.is_block summary.old summary.new }
 {
     let _was = replace_bit(summary, k, is_nonzero(block_at(blocks, k)));
 }
@@ -61,12 +58,9 @@ pub(crate) fn update_summary_bit<B: BitBlock>(
     requires read { B.number current ≡ get_or (map B.number summary.old.items) (k / B.width) 0 }
     requires of_block { B.is_block block }
     requires tail_set { bit ≡ true → not (B.number block == 0) ≡ true }
-    ensures same { value_at B.width (map B.number summary.new.items) k ≡ not (B.number block == 0) }
-    ensures others { (j : ℕ) → j ≢ k
-        → value_at B.width (map B.number summary.new.items) j ≡ value_at B.width (map B.number summary.old.items) j }
-    ensures each { All B.is_block summary.new.items }
-    ensures len { vec_len summary.new ≡ vec_len summary.old }
-    ensures capacity { vec_capacity summary.new ≡ vec_capacity summary.old }
+    ensures value { WritesValue B.width (map B.number summary.old.items) (map B.number summary.new.items) k
+        (not (B.number block == 0)) }
+    ensures in_place { WritesInPlace B.is_block summary.old summary.new }
 {
     let used = bit || is_nonzero(block);
     let _written = write_bit(summary, k, current, used);
@@ -78,9 +72,7 @@ fn used_bits<B: BitBlock>(blocks: &[B], start: usize, count: usize) -> B
     requires in_bounds { start + count ≤ length blocks.now }
     requires within { count ≤ B.width }
     requires each { All B.is_block blocks.now }
-    ensures of_block { B.is_block result }
-    ensures digits { (j : ℕ) → j < B.width
-        → is_one (B.number result) j ≡ (nat_lt j count && is_used (map B.number blocks.now) (start + j)) }
+    ensures { SaysUsed B.width B.number B.is_block blocks.now start count result }
 {
     let mut digits = B::zero();
     for j in 0..count {
@@ -89,16 +81,14 @@ fn used_bits<B: BitBlock>(blocks: &[B], start: usize, count: usize) -> B
     digits
 }
 
-// The same of the first groups of blocks from `start` on. The compiler makes vector code of a group,
-// whose count it knows.
+// Which of the blocks of the first groups from `start` on are not 0. The compiler makes vector code of a group, whose
+// count it knows.
 #[inline]
 fn bits_of_groups<B: BitBlock>(blocks: &[B], start: usize, groups: usize) -> B
     requires in_bounds { start + groups * GROUP ≤ length blocks.now }
     requires within { groups * GROUP ≤ B.width }
     requires each { All B.is_block blocks.now }
-    ensures of_block { B.is_block result }
-    ensures digits { (j : ℕ) → j < B.width
-        → is_one (B.number result) j ≡ (nat_lt j (groups * GROUP) && is_used (map B.number blocks.now) (start + j)) }
+    ensures { SaysUsed B.width B.number B.is_block blocks.now start (groups * GROUP) result }
 {
     let mut digits = B::zero();
     for group in 0..groups {
@@ -131,9 +121,7 @@ fn bits_from<B: BitBlock>(blocks: &[B], start: usize, count: usize) -> B
     requires in_bounds { start + count ≤ length blocks.now }
     requires within { count ≤ B.width }
     requires each { All B.is_block blocks.now }
-    ensures of_block { B.is_block result }
-    ensures digits { (j : ℕ) → j < B.width
-        → is_one (B.number result) j ≡ (nat_lt j count && is_used (map B.number blocks.now) (start + j)) }
+    ensures { SaysUsed B.width B.number B.is_block blocks.now start count result }
 {
     // Most often over blocks of 32 bits, and then vector code with nothing left over.
     if count == LONG_GROUP {
@@ -248,7 +236,7 @@ pub(crate) fn store_summary<B: BitBlock>(summary: &mut Vec<B>, blocks: &[B], cou
     }
 }
 
-// The same where it is. It is rare, and so a call of its own.
+// The summary of blocks of which none was stored yet. It is rare, and so a call of its own.
 #[cold]
 #[inline(never)]
 fn store_short<B: BitBlock>(summary: &mut Vec<B>, blocks: &[B])

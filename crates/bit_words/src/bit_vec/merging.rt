@@ -7,7 +7,7 @@ use crate::bit_vec::BitVec;
 use crate::block::BitBlock;
 use crate::block::merge::Merge;
 use crate::steps::Steps;
-use crate::summary::merges::merge_stored;
+use crate::summary::merges::merge_chosen;
 
 impl<B: BitBlock> BitVec<B> {
     /// Each value becomes its merge with that of `other`, which is false past its end. The other must
@@ -19,7 +19,7 @@ impl<B: BitBlock> BitVec<B> {
         ensures capacity { self.new.capacity ≡ self.old.capacity }
         ensures steps { steps.new ≡ steps.old + blocks_for B.width (length self.old.values) }
     {
-        merge_stored(
+        merge_chosen(
             self.blocks.as_mut_slice(),
             self.summary.as_mut_slice(),
             &other.blocks,

@@ -22,16 +22,6 @@ impl BitBlock for u8 {
     }
 
     #[inline]
-    fn zero() -> u8 {
-        0
-    }
-
-    #[inline]
-    fn one() -> u8 {
-        1
-    }
-
-    #[inline]
     fn count_ones(self) -> usize {
         u8::count_ones(self) as usize
     }
@@ -98,16 +88,6 @@ impl BitBlock for u16 {
     #[inline]
     fn bits() -> usize {
         u16::BITS as usize
-    }
-
-    #[inline]
-    fn zero() -> u16 {
-        0
-    }
-
-    #[inline]
-    fn one() -> u16 {
-        1
     }
 
     #[inline]
@@ -180,16 +160,6 @@ impl BitBlock for u32 {
     }
 
     #[inline]
-    fn zero() -> u32 {
-        0
-    }
-
-    #[inline]
-    fn one() -> u32 {
-        1
-    }
-
-    #[inline]
     fn count_ones(self) -> usize {
         u32::count_ones(self) as usize
     }
@@ -256,16 +226,6 @@ impl BitBlock for u64 {
     #[inline]
     fn bits() -> usize {
         u64::BITS as usize
-    }
-
-    #[inline]
-    fn zero() -> u64 {
-        0
-    }
-
-    #[inline]
-    fn one() -> u64 {
-        1
     }
 
     #[inline]
@@ -338,16 +298,6 @@ impl BitBlock for u128 {
     }
 
     #[inline]
-    fn zero() -> u128 {
-        0
-    }
-
-    #[inline]
-    fn one() -> u128 {
-        1
-    }
-
-    #[inline]
     fn count_ones(self) -> usize {
         u128::count_ones(self) as usize
     }
@@ -414,16 +364,6 @@ impl BitBlock for usize {
     #[inline]
     fn bits() -> usize {
         usize::BITS as usize
-    }
-
-    #[inline]
-    fn zero() -> usize {
-        0
-    }
-
-    #[inline]
-    fn one() -> usize {
-        1
     }
 
     #[inline]

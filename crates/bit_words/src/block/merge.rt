@@ -4,7 +4,7 @@ ghost use Rattle.std.specs.Int.{bit_at};
 ghost use Rattle.bit_words.specs.Merges.{merge_of_values};
 
 use crate::block::BitBlock;
-use crate::block::operators::{block_and, block_not, block_or, block_xor};
+use crate::block::operation::{Difference, Intersection, Operation, Symmetric, Union};
 
 /// How two sets, or two bit vectors, are made one.
 #[derive(Clone, Copy, Debug, PartialEq, Eq)]
@@ -22,7 +22,6 @@ pub enum Merge {
 impl Merge {
     /// What two blocks become, bit by bit. Constant time.
     #[inline]
-    #[tactic(auto, using(crate::proofs::Masks::masks))]
     pub fn of_blocks<B: BitBlock>(self, a: B, b: B) -> B
         requires left { B.is_block a }
         requires right { B.is_block b }
@@ -32,10 +31,10 @@ impl Merge {
             ≡ merge_of_values self (bit_at (B.number a) i == 1) (bit_at (B.number b) i == 1) }
     {
         match self {
-            Merge::Union => block_or(a, b),
-            Merge::Intersection => block_and(a, b),
-            Merge::Difference => block_and(a, block_not(b)),
-            Merge::Symmetric => block_xor(a, b),
+            Merge::Union => Union::of_blocks(a, b),
+            Merge::Intersection => Intersection::of_blocks(a, b),
+            Merge::Difference => Difference::of_blocks(a, b),
+            Merge::Symmetric => Symmetric::of_blocks(a, b),
         }
     }
 }

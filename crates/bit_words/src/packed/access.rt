@@ -3,12 +3,12 @@
 ghost use Rattle.std.specs.Prelude.{◌≡◌, ◌≢◌, ℕ, ◌<◌, ◌≤◌, ◌/◌, ◌%◌, ◌==◌, ◌&&◌, ◌||◌, ◌↔◌, All, IsTrue, length, map, set, get_or, nat_lt, nat_le, vec_len, vec_capacity, true, false};
 ghost use Rattle.bit_words.specs.Bits.{blocks_for};
 ghost use Rattle.bit_words.specs.Digits.{is_one};
-ghost use Rattle.bit_words.specs.Storage.{value_at};
+ghost use Rattle.bit_words.specs.Storage.{value_at, FillsFirst, WritesInPlace, WritesValue};
 
 use crate::block::BitBlock;
 use crate::block::masks::{cut_from, with_bit, with_ones_between, with_ones_from};
 use crate::block::operators::{has_one_at, same};
-use crate::packed::groups::FEW;
+use crate::packed::groups::BULK_WRITE;
 
 // How many blocks a list of `len` values has.
 #[inline]
@@ -50,15 +50,13 @@ pub(crate) fn put_block<B: BitBlock>(blocks: &mut Vec<B>, k: usize, block: B)
     requires each { All B.is_block blocks.old.items }
     requires of_block { B.is_block block }
     ensures numbers { map B.number blocks.new.items ≡ set (map B.number blocks.old.items) k (B.number block) }
-    ensures each { All B.is_block blocks.new.items }
-    ensures len { vec_len blocks.new ≡ vec_len blocks.old }
-    ensures capacity { vec_capacity blocks.new ≡ vec_capacity blocks.old }
+    ensures in_place { WritesInPlace B.is_block blocks.old blocks.new }
 {
     blocks[k] = block;
 }
 
-// The same of blocks that are lent as a slice. Its address is in a register, so that a loop of these becomes vector
-// code.
+// Writes a block of those that are lent as a slice. Its address is in a register, so that a loop of these becomes
+// vector code.
 #[inline]
 pub(crate) fn put_in<B: BitBlock>(blocks: &mut [B], k: usize, block: B)
     requires in_bounds { k < length blocks.old }
@@ -92,12 +90,8 @@ pub(crate) fn write_bit<B: BitBlock>(blocks: &mut Vec<B>, i: usize, block: B, bi
     ensures digit { is_one (B.number result) (i % B.width) ≡ bit }
     ensures other_digits { (j : ℕ) → j < B.width → j ≢ i % B.width
         → is_one (B.number result) j ≡ is_one (B.number block) j }
-    ensures same { value_at B.width (map B.number blocks.new.items) i ≡ bit }
-    ensures others { (j : ℕ) → j ≢ i
-        → value_at B.width (map B.number blocks.new.items) j ≡ value_at B.width (map B.number blocks.old.items) j }
-    ensures each { All B.is_block blocks.new.items }
-    ensures len { vec_len blocks.new ≡ vec_len blocks.old }
-    ensures capacity { vec_capacity blocks.new ≡ vec_capacity blocks.old }
+    ensures value { WritesValue B.width (map B.number blocks.old.items) (map B.number blocks.new.items) i bit }
+    ensures in_place { WritesInPlace B.is_block blocks.old blocks.new }
 {
     let written = with_bit(block, bit_index::<B>(i), bit);
     put_block(blocks, block_index::<B>(i), written);
@@ -111,12 +105,8 @@ pub(crate) fn replace_bit<B: BitBlock>(blocks: &mut Vec<B>, i: usize, bit: bool)
     requires in_bounds { i / B.width < vec_len blocks.old }
     requires each { All B.is_block blocks.old.items }
     ensures was { result ≡ value_at B.width (map B.number blocks.old.items) i }
-    ensures same { value_at B.width (map B.number blocks.new.items) i ≡ bit }
-    ensures others { (j : ℕ) → j ≢ i
-        → value_at B.width (map B.number blocks.new.items) j ≡ value_at B.width (map B.number blocks.old.items) j }
-    ensures each { All B.is_block blocks.new.items }
-    ensures len { vec_len blocks.new ≡ vec_len blocks.old }
-    ensures capacity { vec_capacity blocks.new ≡ vec_capacity blocks.old }
+    ensures value { WritesValue B.width (map B.number blocks.old.items) (map B.number blocks.new.items) i bit }
+    ensures in_place { WritesInPlace B.is_block blocks.old blocks.new }
 {
     let block = block_at(blocks, block_index::<B>(i));
     let written = write_bit(blocks, i, block, bit);
@@ -131,9 +121,7 @@ pub(crate) fn set_tail<B: BitBlock>(blocks: &mut Vec<B>, len: usize, end: usize)
     ensures values { (i : ℕ) → i / B.width < vec_len blocks.old
         → value_at B.width (map B.number blocks.new.items) i
         ≡ (value_at B.width (map B.number blocks.old.items) i || (nat_lt i end && nat_le len i)) }
-    ensures each { All B.is_block blocks.new.items }
-    ensures len { vec_len blocks.new ≡ vec_len blocks.old }
-    ensures capacity { vec_capacity blocks.new ≡ vec_capacity blocks.old }
+    ensures in_place { WritesInPlace B.is_block blocks.old blocks.new }
 {
     let index = bit_index::<B>(len);
     if index == 0 {
@@ -156,9 +144,7 @@ pub(crate) fn clear_from<B: BitBlock>(blocks: &mut Vec<B>, len: usize)
     ensures values { (i : ℕ)
         → value_at B.width (map B.number blocks.new.items) i
         ≡ (nat_lt i len && value_at B.width (map B.number blocks.old.items) i) }
-    ensures each { All B.is_block blocks.new.items }
-    ensures len { vec_len blocks.new ≡ vec_len blocks.old }
-    ensures capacity { vec_capacity blocks.new ≡ vec_capacity blocks.old }
+    ensures in_place { WritesInPlace B.is_block blocks.old blocks.new }
 {
     let index = bit_index::<B>(len);
     if index == 0 {
@@ -175,9 +161,7 @@ fn fill_slice<B: BitBlock>(blocks: &mut [B], count: usize, block: B)
     requires in_bounds { count ≤ length blocks.old }
     requires each { All B.is_block blocks.old }
     requires of_block { B.is_block block }
-    ensures filled { (k : ℕ) → k < count → get_or (map B.number blocks.new) k 0 ≡ B.number block }
-    ensures others { (k : ℕ) → count ≤ k
-        → get_or (map B.number blocks.new) k 0 ≡ get_or (map B.number blocks.old) k 0 }
+    ensures fills { FillsFirst (map B.number blocks.old) (map B.number blocks.new) count (B.number block) }
     ensures each { All B.is_block blocks.new }
     ensures len { length blocks.new ≡ length blocks.old }
 {
@@ -192,12 +176,8 @@ fn fill_each<B: BitBlock>(blocks: &mut Vec<B>, count: usize, block: B)
     requires in_bounds { count ≤ vec_len blocks.old }
     requires each { All B.is_block blocks.old.items }
     requires of_block { B.is_block block }
-    ensures filled { (k : ℕ) → k < count → get_or (map B.number blocks.new.items) k 0 ≡ B.number block }
-    ensures others { (k : ℕ) → count ≤ k
-        → get_or (map B.number blocks.new.items) k 0 ≡ get_or (map B.number blocks.old.items) k 0 }
-    ensures each { All B.is_block blocks.new.items }
-    ensures len { vec_len blocks.new ≡ vec_len blocks.old }
-    ensures capacity { vec_capacity blocks.new ≡ vec_capacity blocks.old }
+    ensures fills { FillsFirst (map B.number blocks.old.items) (map B.number blocks.new.items) count (B.number block) }
+    ensures in_place { WritesInPlace B.is_block blocks.old blocks.new }
 {
     for k in 0..count {
         put_block(blocks, k, block);
@@ -209,14 +189,10 @@ pub(crate) fn fill_blocks<B: BitBlock>(blocks: &mut Vec<B>, count: usize, block:
     requires in_bounds { count ≤ vec_len blocks.old }
     requires each { All B.is_block blocks.old.items }
     requires of_block { B.is_block block }
-    ensures filled { (k : ℕ) → k < count → get_or (map B.number blocks.new.items) k 0 ≡ B.number block }
-    ensures others { (k : ℕ) → count ≤ k
-        → get_or (map B.number blocks.new.items) k 0 ≡ get_or (map B.number blocks.old.items) k 0 }
-    ensures each { All B.is_block blocks.new.items }
-    ensures len { vec_len blocks.new ≡ vec_len blocks.old }
-    ensures capacity { vec_capacity blocks.new ≡ vec_capacity blocks.old }
+    ensures fills { FillsFirst (map B.number blocks.old.items) (map B.number blocks.new.items) count (B.number block) }
+    ensures in_place { WritesInPlace B.is_block blocks.old blocks.new }
 {
-    if count < FEW {
+    if count < BULK_WRITE {
         fill_each(blocks, count, block);
         return;
     }

@@ -1,9 +1,9 @@
 // Merges of the blocks of two lists, each by the digits of every block. Summaries are merged in `summary`.
 ghost use Rattle.std.specs.Prelude.{◌≡◌, ◌+◌, ◌<◌, ◌≤◌, [], All, get_or, length, map};
-ghost use Rattle.bit_words.specs.BlockMerges.{IsMergedBetween};
+ghost use Rattle.bit_words.specs.BlockMerges.{CanMerge, HasMerged};
 
-use crate::bit_vec::operation::Operation;
 use crate::block::BitBlock;
+use crate::block::operation::Operation;
 use crate::packed::access::{block_at, put_in};
 use crate::steps::Steps;
 
@@ -15,16 +15,11 @@ pub(crate) fn merge_block<B: BitBlock, O: Operation>(
     k: usize,
     steps: &mut Steps,
 ) -> B
-    requires in_bounds { k < length blocks.old }
+    requires can { CanMerge B.number B.is_block blocks.old others.now }
     requires in_others { k < length others.now }
-    requires each { All B.is_block blocks.old }
-    requires others { All B.is_block others.now }
-    ensures merged { IsMergedBetween O.merge B.width k (k + 1) (map B.number blocks.old) (map B.number others.now)
-        (map B.number blocks.new) }
+    ensures has { HasMerged O.merge B.width B.number B.is_block k (k + 1) blocks.old others.now blocks.new }
     ensures of_block { B.is_block result }
     ensures of_number { B.number result ≡ get_or (map B.number blocks.new) k 0 }
-    ensures each { All B.is_block blocks.new }
-    ensures len { length blocks.new ≡ length blocks.old }
     ensures steps { steps.new ≡ steps.old + 1 }
 {
     steps.tick();
@@ -40,14 +35,10 @@ fn merge_first<B: BitBlock, O: Operation>(
     start: usize,
     steps: &mut Steps,
 )
-    requires fewer { length others.now ≤ length blocks.old }
+    requires can { CanMerge B.number B.is_block blocks.old others.now }
     requires from { start ≤ length others.now }
-    requires each { All B.is_block blocks.old }
-    requires others { All B.is_block others.now }
-    ensures merged { IsMergedBetween O.merge B.width start (length others.now) (map B.number blocks.old)
-        (map B.number others.now) (map B.number blocks.new) }
-    ensures each { All B.is_block blocks.new }
-    ensures len { length blocks.new ≡ length blocks.old }
+    ensures has { HasMerged O.merge B.width B.number B.is_block start (length others.now) blocks.old others.now
+        blocks.new }
     ensures steps { steps.new + start ≡ steps.old + length others.now }
 {
     for k in start..others.len() {
@@ -64,10 +55,7 @@ pub(crate) fn merge_rest<B: BitBlock, O: Operation>(
 )
     requires within { start ≤ length blocks.old }
     requires each { All B.is_block blocks.old }
-    ensures merged { IsMergedBetween O.merge B.width start (length blocks.old) (map B.number blocks.old) []
-        (map B.number blocks.new) }
-    ensures each { All B.is_block blocks.new }
-    ensures len { length blocks.new ≡ length blocks.old }
+    ensures has { HasMerged O.merge B.width B.number B.is_block start (length blocks.old) blocks.old [] blocks.new }
     ensures steps { steps.new + start ≡ steps.old + length blocks.old }
 {
     let zero = B::zero();
@@ -86,14 +74,10 @@ pub(crate) fn merge_each<B: BitBlock, O: Operation>(
     start: usize,
     steps: &mut Steps,
 )
-    requires fewer { length others.now ≤ length blocks.old }
+    requires can { CanMerge B.number B.is_block blocks.old others.now }
     requires from { start ≤ length others.now }
-    requires each { All B.is_block blocks.old }
-    requires others { All B.is_block others.now }
-    ensures merged { IsMergedBetween O.merge B.width start (length blocks.old) (map B.number blocks.old)
-        (map B.number others.now) (map B.number blocks.new) }
-    ensures each { All B.is_block blocks.new }
-    ensures len { length blocks.new ≡ length blocks.old }
+    ensures has { HasMerged O.merge B.width B.number B.is_block start (length blocks.old) blocks.old others.now
+        blocks.new }
     ensures steps { steps.new + start ≡ steps.old + length blocks.old }
 {
     merge_first::<B, O>(blocks, others, start, steps);

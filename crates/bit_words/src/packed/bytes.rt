@@ -34,7 +34,7 @@ pub(crate) fn blocks_of_bytes<B: BitBlock>(
 // The bytes of block `k`: as many as a block holds, or those that are left.
 #[inline]
 fn bytes_of_block<B: BitBlock>(bytes: &[u8], k: usize) -> &[u8]
-    requires few { 8 * length bytes.now < 2 ^ 64 }
+    requires fits { 8 * length bytes.now < 2 ^ 64 }
     requires in_bounds { k < blocks_for B.width (8 * length bytes.now) }
     ensures len { 8 * length result.now ≤ B.width }
     ensures values { (j : ℕ) → j < B.width → byte_value result.now j ≡ byte_value bytes.now (k * B.width + j) }

@@ -3,7 +3,7 @@
 ghost use Rattle.std.specs.Prelude.{◌≡◌, ◌+◌, ◌-◌, ◌<◌, ◌≤◌, ◌++◌, All, IfOk, IsOk, length, map, replicate, vec_len, vec_capacity};
 
 use crate::block::BitBlock;
-use crate::packed::groups::FEW;
+use crate::packed::groups::BULK_WRITE;
 use std::alloc::{AllocError, Global};
 use std::mem::replace;
 
@@ -136,7 +136,7 @@ pub(crate) fn copy_blocks<B: BitBlock>(blocks: &mut Vec<B>, from: &[B])
     ensures len { vec_len blocks.new ≡ length from.now }
     ensures capacity { vec_capacity blocks.new ≡ vec_capacity blocks.old }
 {
-    if from.len() < FEW {
+    if from.len() < BULK_WRITE {
         blocks.clear();
         push_each(blocks, from);
     } else if from.len() == blocks.len() {

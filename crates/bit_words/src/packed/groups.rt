@@ -8,4 +8,4 @@ pub(crate) const LONG_GROUP: usize = 32;
 
 // Fewer blocks than this are written one by one: a `memset` or a `memcpy` of them is not worth its call. The summary of
 // a short list has so few.
-pub(crate) const FEW: usize = 5;
+pub(crate) const BULK_WRITE: usize = 5;

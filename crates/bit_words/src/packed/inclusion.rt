@@ -2,9 +2,10 @@
 ghost use Rattle.std.specs.Prelude.{◌≡◌, ◌≢◌, ℕ, ◌+◌, ◌/◌, ◌<◌, ◌≤◌, ◌↔◌, All, IsTrue, length, map, get_or, min};
 ghost use Rattle.bit_words.specs.declared.block.merge.Merge.{Merge};
 ghost use Rattle.bit_words.specs.BlockMerges.{IsFirstMerged, MergesToFalse, MergesToZero};
+ghost use Rattle.bit_words.specs.Comparisons.{CanCompare, TakesSteps};
 
-use crate::bit_vec::operation::{Difference, Intersection, Operation};
 use crate::block::BitBlock;
+use crate::block::operation::{Difference, Intersection, Operation};
 use crate::block::operators::same;
 use crate::packed::access::block_at;
 use crate::steps::Steps;
@@ -16,17 +17,12 @@ fn first_merge_to_zero<B: BitBlock, O: Operation>(
     count: usize,
     steps: &mut Steps,
 ) -> bool
-    requires within { count ≤ length blocks.now }
-    requires within_others { count ≤ length others.now }
-    requires each { All B.is_block blocks.now }
-    requires others { All B.is_block others.now }
+    requires can { CanCompare B.is_block blocks.now others.now count }
     ensures zero { IsTrue result
         ↔ MergesToZero O.merge B.width (map B.number blocks.now) (map B.number others.now) count }
-    ensures stops { (i : ℕ) → IsFirstMerged O.merge B.width (map B.number blocks.now) (map B.number others.now) i
-        → i / B.width < count → steps.new ≡ steps.old + i / B.width + 1 }
-    ensures fewest { steps.old ≤ steps.new }
-    ensures most { steps.new ≤ steps.old + count }
-    ensures all { IsTrue result → steps.new ≡ steps.old + count }
+    ensures steps { TakesSteps
+        (λ i. IsFirstMerged O.merge B.width (map B.number blocks.now) (map B.number others.now) i × (i / B.width < count))
+        B.width count steps.old steps.new result }
 {
     for k in 0..count {
         steps.tick();
@@ -65,12 +61,8 @@ pub(crate) fn difference_is_zero<B: BitBlock>(blocks: &[B], others: &[B], steps:
     requires others { All B.is_block others.now }
     ensures zero { IsTrue result
         ↔ MergesToFalse Merge.Difference B.width (map B.number blocks.now) (map B.number others.now) }
-    ensures stops { (i : ℕ)
-        → IsFirstMerged Merge.Difference B.width (map B.number blocks.now) (map B.number others.now) i
-        → steps.new ≡ steps.old + i / B.width + 1 }
-    ensures fewest { steps.old ≤ steps.new }
-    ensures most { steps.new ≤ steps.old + length blocks.now }
-    ensures all { IsTrue result → steps.new ≡ steps.old + length blocks.now }
+    ensures steps { TakesSteps (IsFirstMerged Merge.Difference B.width (map B.number blocks.now) (map B.number others.now))
+        B.width (length blocks.now) steps.old steps.new result }
 {
     let count = blocks.len().min(others.len());
     first_merge_to_zero::<B, Difference>(blocks, others, count, steps)
@@ -87,12 +79,8 @@ pub(crate) fn intersection_is_zero<B: BitBlock>(
     requires others { All B.is_block others.now }
     ensures zero { IsTrue result
         ↔ MergesToFalse Merge.Intersection B.width (map B.number blocks.now) (map B.number others.now) }
-    ensures stops { (i : ℕ)
-        → IsFirstMerged Merge.Intersection B.width (map B.number blocks.now) (map B.number others.now) i
-        → steps.new ≡ steps.old + i / B.width + 1 }
-    ensures fewest { steps.old ≤ steps.new }
-    ensures most { steps.new ≤ steps.old + min (length blocks.now) (length others.now) }
-    ensures all { IsTrue result → steps.new ≡ steps.old + min (length blocks.now) (length others.now) }
+    ensures steps { TakesSteps (IsFirstMerged Merge.Intersection B.width (map B.number blocks.now) (map B.number others.now))
+        B.width (min (length blocks.now) (length others.now)) steps.old steps.new result }
 {
     let count = blocks.len().min(others.len());
     first_merge_to_zero::<B, Intersection>(blocks, others, count, steps)

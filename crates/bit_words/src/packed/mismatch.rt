@@ -1,14 +1,14 @@
 // Where lists of blocks differ. A block past the end of a list counts as 0.
 ghost use Rattle.std.specs.Prelude.{◌≡◌, ◌≢◌, ℕ, ◌+◌, ◌*◌, ◌<◌, ◌≤◌, ◌==◌, ◌↔◌, All, IsTrue, MatchOption, get_or, length, map};
-ghost use Rattle.std.specs.Bool.{OnTrue, OnFalse};
-ghost use Rattle.std.specs.Int.{bit_at};
-ghost use Rattle.bit_words.specs.Mismatches.{IsFirstBlockMismatch, IsFirstNonzeroBlock, IsLowestMismatch};
+ghost use Rattle.bit_words.specs.Comparisons.{CanCompare};
+ghost use Rattle.bit_words.specs.Mismatches.{IsFirstBlockMismatch, IsLowestMismatch};
 
 use crate::block::BitBlock;
 use crate::block::lowest::take_lowest_one;
-use crate::block::operators::{block_or, block_xor, same, shift_right};
+use crate::block::operators::{block_or, block_xor, same};
 use crate::packed::access::block_at;
 use crate::packed::groups::{GROUP, LONG_GROUP};
+use crate::packed::searching::first_nonzero_block;
 
 /// Whether the lists of blocks are the same, where a block past the end of a list counts as 0. Compares groups of
 /// at most 32 blocks, each by one test, and stops at the first group that differs.
@@ -83,10 +83,7 @@ pub fn mismatch_between<B: BitBlock>(a: &[B], b: &[B], start: usize, end: usize)
 // How many of the first `count` blocks are the same: all of them, or those before a group that has a mismatch. Few
 // blocks make no group. The last group may begin within the one before it, so that no block is left over.
 fn same_by_groups<B: BitBlock>(a: &[B], b: &[B], count: usize) -> usize
-    requires within { count ≤ length a.now }
-    requires within_other { count ≤ length b.now }
-    requires left { All B.is_block a.now }
-    requires right { All B.is_block b.now }
+    requires can { CanCompare B.is_block a.now b.now count }
     ensures within { result ≤ count }
     ensures same { (k : ℕ) → k < result
         → get_or (map B.number a.now) k 0 ≡ get_or (map B.number b.now) k 0 }
@@ -110,10 +107,7 @@ fn same_by_groups<B: BitBlock>(a: &[B], b: &[B], count: usize) -> usize
 // How many groups of blocks are the same, up to the first that is not.
 #[inline(always)]
 fn same_groups<B: BitBlock>(a: &[B], b: &[B], groups: usize) -> usize
-    requires within { groups * LONG_GROUP ≤ length a.now }
-    requires within_other { groups * LONG_GROUP ≤ length b.now }
-    requires left { All B.is_block a.now }
-    requires right { All B.is_block b.now }
+    requires can { CanCompare B.is_block a.now b.now (groups * LONG_GROUP) }
     ensures within { result ≤ groups }
     ensures same { (k : ℕ) → k < result * LONG_GROUP
         → get_or (map B.number a.now) k 0 ≡ get_or (map B.number b.now) k 0 }
@@ -134,10 +128,7 @@ fn same_groups<B: BitBlock>(a: &[B], b: &[B], groups: usize) -> usize
 #[inline(always)]
 fn past_same_group<B: BitBlock>(a: &[B], b: &[B], start: usize, count: usize, size: usize) -> usize
     requires forward { start ≤ count }
-    requires within { count ≤ length a.now }
-    requires within_other { count ≤ length b.now }
-    requires left { All B.is_block a.now }
-    requires right { All B.is_block b.now }
+    requires can { CanCompare B.is_block a.now b.now count }
     requires before { (k : ℕ) → k < start
         → get_or (map B.number a.now) k 0 ≡ get_or (map B.number b.now) k 0 }
     ensures within { result ≤ count }
@@ -154,10 +145,7 @@ fn past_same_group<B: BitBlock>(a: &[B], b: &[B], start: usize, count: usize, si
 // Whether the blocks of the group of `size` that begins at `start` are the same. One test for all of them.
 #[inline(always)]
 fn is_same_group<B: BitBlock>(a: &[B], b: &[B], start: usize, size: usize) -> bool
-    requires within { start + size ≤ length a.now }
-    requires within_other { start + size ≤ length b.now }
-    requires left { All B.is_block a.now }
-    requires right { All B.is_block b.now }
+    requires can { CanCompare B.is_block a.now b.now (start + size) }
     ensures { IsTrue result
         ↔ ((k : ℕ) → start ≤ k → k < start + size
         → get_or (map B.number a.now) k 0 ≡ get_or (map B.number b.now) k 0) }
@@ -169,10 +157,7 @@ fn is_same_group<B: BitBlock>(a: &[B], b: &[B], start: usize, size: usize) -> bo
 // vector code of it where it knows the size.
 #[inline(always)]
 fn mismatches<B: BitBlock>(a: &[B], b: &[B], start: usize, size: usize) -> B
-    requires within { start + size ≤ length a.now }
-    requires within_other { start + size ≤ length b.now }
-    requires left { All B.is_block a.now }
-    requires right { All B.is_block b.now }
+    requires can { CanCompare B.is_block a.now b.now (start + size) }
     ensures of_block { B.is_block result }
     ensures none { (B.number result ≡ 0)
         ↔ ((k : ℕ) → start ≤ k → k < start + size
@@ -211,7 +196,7 @@ fn same_of_one_length<B: BitBlock>(a: &[B], b: &[B]) -> bool
 #[inline(always)]
 fn same_ends<B: BitBlock>(a: &[B], b: &[B], size: usize) -> bool
     requires enough { size ≤ length a.now }
-    requires few { length a.now ≤ size + size }
+    requires at_most_twice { length a.now ≤ size + size }
     requires as_long { length b.now ≡ length a.now }
     requires left { All B.is_block a.now }
     requires right { All B.is_block b.now }
@@ -286,40 +271,6 @@ fn either<B: BitBlock>(a: B, b: B) -> B
     block_or(a, b)
 }
 
-/// The first index, from `from` on, of a block that is not 0, or `None`. Reads no block past it.
-///
-/// ```
-/// assert_eq!(first_nonzero_block(&[1u8, 0, 4], 1), Some(2));
-/// ```
-#[inline]
-pub fn first_nonzero_block<B: BitBlock>(blocks: &[B], from: usize) -> Option<usize>
-    requires { All B.is_block blocks.now }
-    ensures { MatchOption result
-        ((k : ℕ) → from ≤ k → get_or (map B.number blocks.now) k 0 ≡ 0)
-        (IsFirstNonzeroBlock (map B.number blocks.now) from) }
-{
-    for k in from..blocks.len() {
-        if !same(block_at(blocks, k), B::zero()) {
-            return Some(k);
-        }
-    }
-    None
-}
-
-/// The block with this index, or 0 past the end. Constant time.
-#[inline]
-pub fn block_or_zero<B: BitBlock>(blocks: &[B], k: usize) -> B
-    requires { All B.is_block blocks.now }
-    ensures of_block { B.is_block result }
-    ensures of_number { B.number result ≡ get_or (map B.number blocks.now) k 0 }
-{
-    if k < blocks.len() {
-        block_at(blocks, k)
-    } else {
-        B::zero()
-    }
-}
-
 /// The lowest index at which the bits of two blocks differ, which are not the same. Constant time.
 ///
 /// ```
@@ -334,15 +285,4 @@ pub fn lowest_mismatch<B: BitBlock>(a: B, b: B) -> usize
 {
     let mut mismatch = block_xor(a, b);
     take_lowest_one(&mut mismatch)
-}
-
-/// Whether the block has a 1 at an index or above it. Constant time.
-#[inline]
-pub fn has_one_from<B: BitBlock>(block: B, index: usize) -> bool
-    requires of_block { B.is_block block }
-    requires within { index < B.width }
-    ensures some { OnTrue result ((j : ℕ) × (index ≤ j) × (j < B.width) × (bit_at (B.number block) j ≡ 1)) }
-    ensures none { OnFalse result ((j : ℕ) → index ≤ j → bit_at (B.number block) j ≡ 0) }
-{
-    !same(shift_right(block, index), B::zero())
 }

@@ -1,7 +1,7 @@
 // A list of bits that grows, is cut or is filled: the bits past its length stay 0. Memory is asked for elsewhere.
 ghost use Rattle.std.specs.Prelude.{◌≡◌, ℕ, ◌-◌, ◌/◌, ◌<◌, ◌≤◌, ◌++◌, All, IfOk, IsOk, false, nat_lt, map, replicate, take, vec_len, vec_capacity};
 ghost use Rattle.bit_words.specs.Bits.{blocks_for};
-ghost use Rattle.bit_words.specs.Storage.{value_at, IsPacked};
+ghost use Rattle.bit_words.specs.Storage.{value_at, IsPacked, WritesInPlace};
 
 use crate::block::BitBlock;
 use crate::block::operators::{all_ones, ones_below};
@@ -108,9 +108,7 @@ fn fill_ones<B: BitBlock>(blocks: &mut Vec<B>, len: usize)
     requires count { vec_len blocks.old ≡ blocks_for B.width len }
     requires each { All B.is_block blocks.old.items }
     ensures values { (i : ℕ) → value_at B.width (map B.number blocks.new.items) i ≡ nat_lt i len }
-    ensures each { All B.is_block blocks.new.items }
-    ensures len { vec_len blocks.new ≡ vec_len blocks.old }
-    ensures capacity { vec_capacity blocks.new ≡ vec_capacity blocks.old }
+    ensures in_place { WritesInPlace B.is_block blocks.old blocks.new }
 {
     let whole = block_index::<B>(len);
     fill_blocks(blocks, whole, all_ones());
@@ -124,9 +122,7 @@ fn fill_ones<B: BitBlock>(blocks: &mut Vec<B>, len: usize)
 fn fill_zeros<B: BitBlock>(blocks: &mut Vec<B>)
     requires { All B.is_block blocks.old.items }
     ensures values { (i : ℕ) → value_at B.width (map B.number blocks.new.items) i ≡ false }
-    ensures each { All B.is_block blocks.new.items }
-    ensures len { vec_len blocks.new ≡ vec_len blocks.old }
-    ensures capacity { vec_capacity blocks.new ≡ vec_capacity blocks.old }
+    ensures in_place { WritesInPlace B.is_block blocks.old blocks.new }
 {
     fill_blocks(blocks, blocks.len(), B::zero());
 }

@@ -1,17 +1,16 @@
 // Merges of the blocks of two lists that have summaries: of a union it is the union of the summaries, and of the
 // others each block of it is made while the blocks that it is about are merged.
-ghost use Rattle.std.specs.Prelude.{◌≡◌, ℕ, ◌+◌, ◌*◌, ◌/◌, ◌<◌, ◌≤◌, ◌&&◌, All, false, get_or, nat_lt, length, map};
-ghost use Rattle.bit_words.specs.BlockMerges.{CanMerge, HasMerged, IsMergedBetween};
+ghost use Rattle.std.specs.Prelude.{◌≡◌, ℕ, ◌+◌, ◌*◌, ◌/◌, ◌<◌, ◌≤◌, All, get_or, length, map};
+ghost use Rattle.bit_words.specs.BlockMerges.{CanMerge, HasMerged};
 ghost use Rattle.bit_words.specs.Digits.{is_one};
 ghost use Rattle.bit_words.specs.Storage.{value_at};
-ghost use Rattle.bit_words.specs.Summary.{is_used, IsSummary, KeepsSummary};
-ghost use Rattle.bit_words.specs.Merges.{merge_of_values};
+ghost use Rattle.bit_words.specs.Summary.{is_used, IsSummary, KeepsSummary, SaysUsed};
 ghost use Rattle.bit_words.specs.declared.block.merge.Merge.{Merge};
 
-use crate::bit_vec::operation::{Difference, Intersection, Operation, Symmetric, Union};
 use crate::block::BitBlock;
 use crate::block::masks::{cut_below, with_one_if};
 use crate::block::merge::Merge;
+use crate::block::operation::{Difference, Intersection, Operation, Symmetric, Union};
 use crate::block::operators::{block_or, shift_left};
 use crate::packed::access::{block_at, block_index, put_in};
 use crate::packed::block_merges::{merge_block, merge_each, merge_rest};
@@ -30,18 +29,12 @@ fn merge_group<B: BitBlock, O: Operation>(
     count: usize,
     steps: &mut Steps,
 ) -> B
-    requires fewer { length others.now ≤ length blocks.old }
+    requires can { CanMerge B.number B.is_block blocks.old others.now }
     requires in_others { start + count ≤ length others.now }
     requires within { count ≤ B.width }
-    requires each { All B.is_block blocks.old }
-    requires others { All B.is_block others.now }
-    ensures merged { IsMergedBetween O.merge B.width start (start + count) (map B.number blocks.old)
-        (map B.number others.now) (map B.number blocks.new) }
-    ensures of_block { B.is_block result }
-    ensures digits { (j : ℕ) → j < B.width
-        → is_one (B.number result) j ≡ (nat_lt j count && is_used (map B.number blocks.new) (start + j)) }
-    ensures each { All B.is_block blocks.new }
-    ensures len { length blocks.new ≡ length blocks.old }
+    ensures has { HasMerged O.merge B.width B.number B.is_block start (start + count) blocks.old
+        others.now blocks.new }
+    ensures says { SaysUsed B.width B.number B.is_block blocks.new start count result }
     ensures steps { steps.new ≡ steps.old + count }
 {
     let mut digits = B::zero();
@@ -52,7 +45,7 @@ fn merge_group<B: BitBlock, O: Operation>(
     digits
 }
 
-// The same of the first groups of blocks from `start` on.
+// Groups of blocks from `start` on become their merges, with what `merge_group` returns of each in its place.
 #[inline]
 fn merge_groups<B: BitBlock, O: Operation>(
     blocks: &mut [B],
@@ -61,19 +54,12 @@ fn merge_groups<B: BitBlock, O: Operation>(
     groups: usize,
     steps: &mut Steps,
 ) -> B
-    requires fewer { length others.now ≤ length blocks.old }
+    requires can { CanMerge B.number B.is_block blocks.old others.now }
     requires in_others { start + groups * LONG_GROUP ≤ length others.now }
     requires within { groups * LONG_GROUP ≤ B.width }
-    requires each { All B.is_block blocks.old }
-    requires others { All B.is_block others.now }
-    ensures merged { IsMergedBetween O.merge B.width start (start + groups * LONG_GROUP) (map B.number blocks.old)
-        (map B.number others.now) (map B.number blocks.new) }
-    ensures of_block { B.is_block result }
-    ensures digits { (j : ℕ) → j < B.width
-        → is_one (B.number result) j
-        ≡ (nat_lt j (groups * LONG_GROUP) && is_used (map B.number blocks.new) (start + j)) }
-    ensures each { All B.is_block blocks.new }
-    ensures len { length blocks.new ≡ length blocks.old }
+    ensures has { HasMerged O.merge B.width B.number B.is_block start (start + groups * LONG_GROUP) blocks.old
+        others.now blocks.new }
+    ensures says { SaysUsed B.width B.number B.is_block blocks.new start (groups * LONG_GROUP) result }
     ensures steps { steps.new ≡ steps.old + groups * LONG_GROUP }
 {
     let mut digits = B::zero();
@@ -94,17 +80,13 @@ fn merge_chunk<B: BitBlock, O: Operation>(
     q: usize,
     steps: &mut Steps,
 ) -> B
-    requires fewer { length others.now ≤ length blocks.old }
+    requires can { CanMerge B.number B.is_block blocks.old others.now }
     requires in_others { (q + 1) * B.width ≤ length others.now }
-    requires each { All B.is_block blocks.old }
-    requires others { All B.is_block others.now }
-    ensures merged { IsMergedBetween O.merge B.width (q * B.width) ((q + 1) * B.width) (map B.number blocks.old)
-        (map B.number others.now) (map B.number blocks.new) }
+    ensures has { HasMerged O.merge B.width B.number B.is_block (q * B.width) ((q + 1) * B.width) blocks.old
+        others.now blocks.new }
     ensures of_block { B.is_block result }
     ensures digits { (j : ℕ) → j < B.width
         → is_one (B.number result) j ≡ is_used (map B.number blocks.new) (q * B.width + j) }
-    ensures each { All B.is_block blocks.new }
-    ensures len { length blocks.new ≡ length blocks.old }
     ensures steps { steps.new ≡ steps.old + B.width }
 {
     let width = B::bits();
@@ -116,7 +98,7 @@ fn merge_chunk<B: BitBlock, O: Operation>(
     }
 }
 
-// The same for the first `chunks` blocks of the summary, which are written.
+// The blocks that the first `chunks` blocks of the summary are about become their merges, and these are made anew.
 fn merge_chunks<B: BitBlock, O: Operation>(
     blocks: &mut [B],
     summary: &mut [B],
@@ -124,22 +106,18 @@ fn merge_chunks<B: BitBlock, O: Operation>(
     chunks: usize,
     steps: &mut Steps,
 )
-    requires fewer { length others.now ≤ length blocks.old }
+    requires can { CanMerge B.number B.is_block blocks.old others.now }
     requires in_others { chunks * B.width ≤ length others.now }
     requires in_summary { chunks ≤ length summary.old }
-    requires each { All B.is_block blocks.old }
     requires each_sum { All B.is_block summary.old }
-    requires others { All B.is_block others.now }
-    ensures merged { IsMergedBetween O.merge B.width 0 (chunks * B.width) (map B.number blocks.old)
-        (map B.number others.now) (map B.number blocks.new) }
+    ensures has { HasMerged O.merge B.width B.number B.is_block 0 (chunks * B.width) blocks.old
+        others.now blocks.new }
     ensures digits { (q j : ℕ) → q < chunks → j < B.width
         → is_one (get_or (map B.number summary.new) q 0) j
         ≡ is_used (map B.number blocks.new) (q * B.width + j) }
     ensures past { (q : ℕ) → chunks ≤ q
         → get_or (map B.number summary.new) q 0 ≡ get_or (map B.number summary.old) q 0 }
-    ensures each { All B.is_block blocks.new }
     ensures each_sum { All B.is_block summary.new }
-    ensures len { length blocks.new ≡ length blocks.old }
     ensures summary_len { length summary.new ≡ length summary.old }
     ensures steps { steps.new ≡ steps.old + chunks * B.width }
 {
@@ -149,8 +127,8 @@ fn merge_chunks<B: BitBlock, O: Operation>(
     }
 }
 
-// The same from chunk `chunks` on, the first that the others do not fill: the blocks that are left become their merges
-// with the others, or with zeros where there are none, and the blocks of the summary from that one on follow them.
+// From chunk `chunks` on, the first that the others do not fill, the blocks become their merges with the others, or with
+// zeros where there are none, and the blocks of the summary from that one on follow them.
 fn merge_tail<B: BitBlock, O: Operation>(
     blocks: &mut [B],
     summary: &mut [B],
@@ -158,23 +136,19 @@ fn merge_tail<B: BitBlock, O: Operation>(
     chunks: usize,
     steps: &mut Steps,
 )
-    requires fewer { length others.now ≤ length blocks.old }
+    requires can { CanMerge B.number B.is_block blocks.old others.now }
     requires in_others { chunks * B.width ≤ length others.now }
     requires last { length others.now < (chunks + 1) * B.width }
-    requires each { All B.is_block blocks.old }
     requires each_sum { All B.is_block summary.old }
-    requires others { All B.is_block others.now }
     requires rest { (k : ℕ) → chunks * B.width ≤ k
         → value_at B.width (map B.number summary.old) k ≡ is_used (map B.number blocks.old) k }
-    ensures merged { IsMergedBetween O.merge B.width (chunks * B.width) (length blocks.old) (map B.number blocks.old)
-        (map B.number others.now) (map B.number blocks.new) }
+    ensures has { HasMerged O.merge B.width B.number B.is_block (chunks * B.width) (length blocks.old) blocks.old
+        others.now blocks.new }
     ensures before { (q : ℕ) → q < chunks
         → get_or (map B.number summary.new) q 0 ≡ get_or (map B.number summary.old) q 0 }
     ensures digits { (q j : ℕ) → chunks ≤ q → q < length summary.old → j < B.width
         → is_one (get_or (map B.number summary.new) q 0) j ≡ is_used (map B.number blocks.new) (q * B.width + j) }
-    ensures each { All B.is_block blocks.new }
     ensures each_sum { All B.is_block summary.new }
-    ensures len { length blocks.new ≡ length blocks.old }
     ensures summary_len { length summary.new ≡ length summary.old }
     ensures steps { steps.new + chunks * B.width ≡ steps.old + length blocks.old }
 {
@@ -193,7 +167,7 @@ fn merge_tail<B: BitBlock, O: Operation>(
 // that of what they become. It is a call of its own, so that what picks the merge is short and goes into its caller,
 // which knows the merge.
 #[inline(never)]
-fn merge_with_summary<B: BitBlock, O: Operation>(
+fn merge_long<B: BitBlock, O: Operation>(
     blocks: &mut [B],
     summary: &mut [B],
     others: &[B],
@@ -201,7 +175,8 @@ fn merge_with_summary<B: BitBlock, O: Operation>(
 )
     requires can { CanMerge B.number B.is_block blocks.old others.now }
     requires summary { IsSummary B.width B.number B.is_block blocks.old summary.old }
-    ensures has { HasMerged O.merge B.width B.number B.is_block blocks.old others.now blocks.new }
+    ensures has { HasMerged O.merge B.width B.number B.is_block 0 (length blocks.old) blocks.old others.now
+        blocks.new }
     ensures summary { IsSummary B.width B.number B.is_block blocks.new summary.new }
     ensures steps { steps.new ≡ steps.old + length blocks.old }
 {
@@ -210,9 +185,9 @@ fn merge_with_summary<B: BitBlock, O: Operation>(
     merge_tail::<B, O>(blocks, summary, others, chunks, steps);
 }
 
-// The same, where no summary is stored of few blocks.
+// Each block becomes its merge, of a list of any length: of a short one no summary is stored.
 #[inline]
-fn merge_kept<B: BitBlock, O: Operation>(
+fn merge_any_length<B: BitBlock, O: Operation>(
     blocks: &mut [B],
     summary: &mut [B],
     others: &[B],
@@ -220,7 +195,8 @@ fn merge_kept<B: BitBlock, O: Operation>(
 )
     requires can { CanMerge B.number B.is_block blocks.old others.now }
     requires summary { KeepsSummary B.width B.number B.is_block blocks.old summary.old }
-    ensures has { HasMerged O.merge B.width B.number B.is_block blocks.old others.now blocks.new }
+    ensures has { HasMerged O.merge B.width B.number B.is_block 0 (length blocks.old) blocks.old others.now
+        blocks.new }
     ensures summary { KeepsSummary B.width B.number B.is_block blocks.new summary.new }
     ensures summary_len { length summary.new ≡ length summary.old }
     ensures steps { steps.new ≡ steps.old + length blocks.old }
@@ -228,12 +204,12 @@ fn merge_kept<B: BitBlock, O: Operation>(
     if is_short::<B>(blocks.len()) {
         merge_each::<B, O>(blocks, others, 0, steps);
     } else {
-        merge_with_summary::<B, O>(blocks, summary, others, steps);
+        merge_long::<B, O>(blocks, summary, others, steps);
     }
 }
 
-// The same of a union of many blocks, by the summary of both.
-fn merge_union<B: BitBlock>(
+// A union of two long lists: its summary is the union of theirs.
+fn unite_long<B: BitBlock>(
     blocks: &mut [B],
     summary: &mut [B],
     others: &[B],
@@ -243,7 +219,8 @@ fn merge_union<B: BitBlock>(
     requires can { CanMerge B.number B.is_block blocks.old others.now }
     requires summary { IsSummary B.width B.number B.is_block blocks.old summary.old }
     requires other_summary { IsSummary B.width B.number B.is_block others.now other_summary.now }
-    ensures has { HasMerged Merge.Union B.width B.number B.is_block blocks.old others.now blocks.new }
+    ensures has { HasMerged Merge.Union B.width B.number B.is_block 0 (length blocks.old) blocks.old others.now
+        blocks.new }
     ensures summary { IsSummary B.width B.number B.is_block blocks.new summary.new }
     ensures steps { steps.new ≡ steps.old + length blocks.old }
 {
@@ -251,9 +228,9 @@ fn merge_union<B: BitBlock>(
     merge_each::<B, Union>(summary, other_summary, 0, &mut Steps::new());
 }
 
-// The same, where no summary is stored of few blocks. Where only the others are few, what is stored is made anew.
+// A union of lists of any length. Where only the others are short, the summary is made as for the other merges.
 #[inline]
-fn merge_kept_union<B: BitBlock>(
+fn unite_any_length<B: BitBlock>(
     blocks: &mut [B],
     summary: &mut [B],
     others: &[B],
@@ -263,21 +240,22 @@ fn merge_kept_union<B: BitBlock>(
     requires can { CanMerge B.number B.is_block blocks.old others.now }
     requires summary { KeepsSummary B.width B.number B.is_block blocks.old summary.old }
     requires other_summary { KeepsSummary B.width B.number B.is_block others.now other_summary.now }
-    ensures has { HasMerged Merge.Union B.width B.number B.is_block blocks.old others.now blocks.new }
+    ensures has { HasMerged Merge.Union B.width B.number B.is_block 0 (length blocks.old) blocks.old others.now
+        blocks.new }
     ensures summary { KeepsSummary B.width B.number B.is_block blocks.new summary.new }
     ensures summary_len { length summary.new ≡ length summary.old }
     ensures steps { steps.new ≡ steps.old + length blocks.old }
 {
     if is_short::<B>(others.len()) {
-        merge_kept::<B, Union>(blocks, summary, others, steps);
+        merge_any_length::<B, Union>(blocks, summary, others, steps);
     } else {
-        merge_union(blocks, summary, others, other_summary, steps);
+        unite_long(blocks, summary, others, other_summary, steps);
     }
 }
 
-// The same of the merge that is named. Only a union needs the others' summary.
+// The merge that is named, of lists of any length. Only a union needs the others' summary.
 #[inline(always)]
-pub(crate) fn merge_stored<B: BitBlock>(
+pub(crate) fn merge_chosen<B: BitBlock>(
     blocks: &mut [B],
     summary: &mut [B],
     others: &[B],
@@ -288,15 +266,16 @@ pub(crate) fn merge_stored<B: BitBlock>(
     requires can { CanMerge B.number B.is_block blocks.old others.now }
     requires summary { KeepsSummary B.width B.number B.is_block blocks.old summary.old }
     requires other_summary { KeepsSummary B.width B.number B.is_block others.now other_summary.now }
-    ensures has { HasMerged merge B.width B.number B.is_block blocks.old others.now blocks.new }
+    ensures has { HasMerged merge B.width B.number B.is_block 0 (length blocks.old) blocks.old others.now
+        blocks.new }
     ensures summary { KeepsSummary B.width B.number B.is_block blocks.new summary.new }
     ensures summary_len { length summary.new ≡ length summary.old }
     ensures steps { steps.new ≡ steps.old + length blocks.old }
 {
     match merge {
-        Merge::Union => merge_kept_union(blocks, summary, others, other_summary, steps),
-        Merge::Intersection => merge_kept::<B, Intersection>(blocks, summary, others, steps),
-        Merge::Difference => merge_kept::<B, Difference>(blocks, summary, others, steps),
-        Merge::Symmetric => merge_kept::<B, Symmetric>(blocks, summary, others, steps),
+        Merge::Union => unite_any_length(blocks, summary, others, other_summary, steps),
+        Merge::Intersection => merge_any_length::<B, Intersection>(blocks, summary, others, steps),
+        Merge::Difference => merge_any_length::<B, Difference>(blocks, summary, others, steps),
+        Merge::Symmetric => merge_any_length::<B, Symmetric>(blocks, summary, others, steps),
     }
 }

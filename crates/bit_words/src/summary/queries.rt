@@ -43,9 +43,9 @@ pub(crate) fn ones_by_summary<B: BitBlock>(blocks: &[B], summary: &[B]) -> usize
     }
 }
 
-// The same by a summary, however short. Counts each run of chunks that have any ones in one pass, and passes over
-// chunks of zeros, each as many blocks as one has bits, by the summary alone. It is a
-// call of its own, so that a short list saves no registers for it.
+// How many ones the blocks have, by a summary. Counts each run of chunks that have any in one pass, and passes over
+// chunks of zeros, each as many blocks as one has bits, by the summary alone. It is a call of its own, so that a short
+// list saves no registers for it.
 #[inline(never)]
 fn ones_of_runs<B: BitBlock>(blocks: &[B], summary: &[B]) -> usize
     requires each { All B.is_block blocks.now }

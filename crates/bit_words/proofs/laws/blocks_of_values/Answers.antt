@@ -2,17 +2,13 @@ use Rattle.std.proofs.Common.{◌∙◌, sym, length, ◌+◌, ◌*◌}
 use Rattle.bit_words.proofs.BitsLemmas.{blocks_of-digit, blocks_of-lt, length-blocks_of, blocks_for-enough, blocks_for-least, true_from_slice_get, slice_get_from_true}
 use Rattle.bit_words.proofs.laws.blocks_of_values.Goals as goal
 
-pub returns-clause-digits : goal.returns-clause-digits
-returns-clause-digits c = λ w k j values h. (
-  λ one. slice_get_from_true values (k * w + j) (sym (blocks_of-digit w k j values h) ∙ one),
-  λ true_there. blocks_of-digit w k j values h ∙ true_from_slice_get values (k * w + j) true_there,
-)
-
-pub returns-clause-below : goal.returns-clause-below
-returns-clause-below c = λ w k values. blocks_of-lt w k values
-
-pub returns-clause-enough : goal.returns-clause-enough
-returns-clause-enough c = λ w values h. rw length-blocks_of (blocks_for-enough w (length values) h)
-
-pub returns-clause-least : goal.returns-clause-least
-returns-clause-least c = λ w n values h e. rw length-blocks_of (blocks_for-least w (length values) n h e)
+pub returns : goal.returns
+returns c = record {
+  digits = λ w k j values h. (
+    λ one. slice_get_from_true values (k * w + j) (sym (blocks_of-digit w k j values h) ∙ one),
+    λ true_there. blocks_of-digit w k j values h ∙ true_from_slice_get values (k * w + j) true_there,
+  );
+  below = λ w k values. blocks_of-lt w k values;
+  enough = λ w values h. rw length-blocks_of (blocks_for-enough w (length values) h);
+  least = λ w n values h e. rw length-blocks_of (blocks_for-least w (length values) n h e);
+}

@@ -4,11 +4,11 @@ use Rattle.bit_words.specs.Bits.{values_of_bytes}
 use Rattle.bit_words.proofs.ByteLemmas.{length-values_of_bytes, get_or-values_of_bytes, byte_value-is}
 use Rattle.bit_words.proofs.laws.values_of_each_byte.Goals as goal
 
-pub returns-clause-len : goal.returns-clause-len
-returns-clause-len c = length-values_of_bytes
-
-pub returns-clause-values : goal.returns-clause-values
-returns-clause-values c = λ bytes i j below within.
-    let inside : 8 * i + j < length (values_of_bytes bytes) = rw length-values_of_bytes (omega arith) in
-    slice_get-get_or (values_of_bytes bytes) (8 * i + j) false inside
-    ∙ ap Some (get_or-values_of_bytes bytes (8 * i + j) ∙ byte_value-is bytes (8 * i + j) i j (omega arith) (omega arith))
+pub returns : goal.returns
+returns c = record {
+  len = length-values_of_bytes;
+  values = λ bytes i j below within.
+      let inside : 8 * i + j < length (values_of_bytes bytes) = rw length-values_of_bytes (omega arith) in
+      slice_get-get_or (values_of_bytes bytes) (8 * i + j) false inside
+      ∙ ap Some (get_or-values_of_bytes bytes (8 * i + j) ∙ byte_value-is bytes (8 * i + j) i j (omega arith) (omega arith));
+}

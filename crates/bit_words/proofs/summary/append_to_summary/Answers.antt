@@ -20,13 +20,13 @@ returns-then-old-ne0-clause-summary g c =
     let longer = c.requires.longer in
     let long = long_from_test g.B.BitBlock.width (length c.args.blocks.now) c.is_short.result c.is_short.ensures c.if-is_short.false in
     keeps_all _ _ _ _ _ long
-    (summary_updated _ _ _ _ c.append_bits.new.blocks.items _ _ (omega arith) c.append_bits.ensures.packed
+    (summary_updated _ _ _ _ c.append_bits.new.blocks _ (c.args.old - 1) (omega arith) c.append_bits.ensures.packed
     (λ k within other.
     ⊎_elim
     (λ first. c.append_bits.ensures.kept k first ∙ c.requires.before long k (omega arith))
     (λ added. c.append_bits.ensures.added k added within ∙ sym (c.requires.after k added within))
     (cases_lt k c.args.old))
-    c.update_summary_at.ensures.same c.update_summary_at.ensures.others c.update_summary_at.ensures.each (omega arith))
+    c.update_summary_at.ensures.value c.update_summary_at.ensures.in_place)
 
 pub returns-else-bit-clause-summary : goal.returns-else-bit-clause-summary
 returns-else-bit-clause-summary g c =

@@ -19,6 +19,6 @@ returns-clause-summary g c =
     let long = long_from_test g.B.BitBlock.width (length c.args.blocks.now) c.is_short.result c.is_short.ensures c.if-is_short.false in
     let before = c.requires.before (omega arith) in
     keeps_all _ _ _ _ _ long
-    (summary_updated _ _ _ _ c.truncate_bits.new.blocks.items _ _ (omega arith) c.truncate_bits.ensures.packed
+    (summary_updated _ _ _ _ c.truncate_bits.new.blocks _ (length c.args.blocks.now - 1) (omega arith) c.truncate_bits.ensures.packed
     (λ k within other. c.truncate_bits.ensures.kept k within ∙ before k (omega arith))
-    c.update_summary_at.ensures.same c.update_summary_at.ensures.others c.update_summary_at.ensures.each (omega arith))
+    c.update_summary_at.ensures.value c.update_summary_at.ensures.in_place)

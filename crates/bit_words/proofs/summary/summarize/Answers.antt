@@ -13,7 +13,7 @@ loop-q-preserved g c =
     let within : c.loop-q.q < length ss = rw length-map (omega arith) in
     record {
       done = summary_put g.B.BitBlock.width ms ss _ c.loop-q.q _ within c.put_block.ensures.numbers (rw c.bits.ensures at c.used_from.ensures.digits) c.loop-q.invariant.done;
-      each = c.put_block.ensures.each;
+      each = c.put_block.ensures.in_place.each;
       len = omega arith;
       capacity = omega arith;
     }

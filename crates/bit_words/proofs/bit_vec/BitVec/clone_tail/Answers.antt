@@ -1,4 +1,4 @@
-use Rattle.std.proofs.Common.{◌≡◌, ◌<◌, ◌∙◌, ◌++◌, false, drop, length, map, replicate, ap, arith}
+use Rattle.std.proofs.Common.{◌≡◌, ◌<◌, ◌^◌, ◌∙◌, ◌++◌, false, drop, length, map, replicate, ap, arith}
 use Rattle.bit_words.specs.Summary.{stored_for}
 use Rattle.bit_words.proofs.BitsLemmas.{blocks_for-above}
 use Rattle.bit_words.proofs.CapacityLemmas.{capacity_of_copy}
@@ -13,37 +13,27 @@ copy_bits_from-requires-clause-within g c =
     let le = blocks_for-le g.B.BitBlock.width c.args.at c.self.inside.len g.met.B.BitBlock.width_law.positive (omega arith) in
     rw c.deref.ensures.value (omega (arith, le, c.self.invariant.packed.count))
 
-pub copy_summary_from-requires-clause-packed : goal.copy_summary_from-requires-clause-packed
-copy_summary_from-requires-clause-packed g c =
-    let len : length c.in_ok-blocks.blocks.items ≡ length c.self.inside.blocks.items = omega (arith, c.in_ok-blocks.ensures.len, c.deref.ensures.len) in
-    rw (c.deref-2.ensures.value, c.deref-3.ensures.value, len) (λ long. (c.self.invariant.summary.long long).packed)
-
-pub copy_summary_from-requires-clause-within : goal.copy_summary_from-requires-clause-within
-copy_summary_from-requires-clause-within g c =
+pub copy_summary_from-requires : goal.copy_summary_from-requires
+copy_summary_from-requires g c =
+    let w = g.B.BitBlock.width in
+    let f = g.B.BitBlock.number in
+    let pos = g.met.B.BitBlock.width_law.positive in
+    let below = numbers_below w f g.B.BitBlock.is_block in
+    let law : (x : _) → g.B.BitBlock.is_block x → f x < 2 ^ w = λ x is. (g.met.B.BitBlock.number_law x is).0 in
+    let copied = c.in_ok-blocks.ensures in
+    let kept = rw c.deref.ensures.value at copied.values in
     let at : c.args.at < c.self.inside.len = rw (length_from_view _ _ _ _ _ c.self.view_is) at c.requires in
-    let above = blocks_for-above g.B.BitBlock.width c.self.inside.len c.args.at g.met.B.BitBlock.width_law.positive at in
-    omega (arith, above, c.block_index.ensures, c.self.invariant.packed.count, c.in_ok-blocks.ensures.len, c.deref-3.ensures.len, c.deref.ensures.len)
-
-pub copy_summary_from-requires-clause-before : goal.copy_summary_from-requires-clause-before
-copy_summary_from-requires-clause-before g c = λ q before.
-    let w = g.B.BitBlock.width in
-    let f = g.B.BitBlock.number in
-    rw c.deref-3.ensures.value
-    (tail_unused w c.args.at q _ (map f c.in_ok-blocks.blocks.items)
-    (numbers_below w f _ _ (λ x is. (g.met.B.BitBlock.number_law x is).0) c.in_ok-blocks.ensures.each q)
-    c.in_ok-blocks.ensures.values (omega (arith, before, c.block_index.ensures)))
-
-pub copy_summary_from-requires-clause-after : goal.copy_summary_from-requires-clause-after
-copy_summary_from-requires-clause-after g c =
-    let w = g.B.BitBlock.width in
-    let f = g.B.BitBlock.number in
-    rw (c.deref-2.ensures.value, c.deref-3.ensures.value)
-    (λ long q after.
-    (c.self.invariant.summary.long (omega (arith, long, c.in_ok-blocks.ensures.len, c.deref.ensures.len))).digit q
-    ∙ tail_kept w c.args.at q (map f c.self.inside.blocks.items) (map f c.in_ok-blocks.blocks.items) g.met.B.BitBlock.width_law.positive
-    (numbers_below w f _ _ (λ x is. (g.met.B.BitBlock.number_law x is).0) c.self.invariant.packed.each q)
-    (numbers_below w f _ _ (λ x is. (g.met.B.BitBlock.number_law x is).0) c.in_ok-blocks.ensures.each q)
-    (rw c.deref.ensures.value at c.in_ok-blocks.ensures.values) (omega (arith, after, c.block_index.ensures)))
+    let len : length c.in_ok-blocks.blocks.items ≡ length c.self.inside.blocks.items = omega (arith, copied.len, c.deref.ensures.len) in
+    rw (c.deref-2.ensures.value, c.deref-3.ensures.value) (record {
+      packed = rw len (λ long. (c.self.invariant.summary.long long).packed);
+      blocks = copied.each;
+      within = omega (arith, len, blocks_for-above w c.self.inside.len c.args.at pos at, c.block_index.ensures, c.self.invariant.packed.count);
+      before = λ q before.
+          tail_unused w c.args.at q _ (map f c.in_ok-blocks.blocks.items) (below _ law copied.each q) copied.values (omega (arith, before, c.block_index.ensures));
+      after = λ long q after.
+          (c.self.invariant.summary.long (omega (arith, long, len))).digit q
+          ∙ tail_kept w c.args.at q (map f c.self.inside.blocks.items) (map f c.in_ok-blocks.blocks.items) pos (below _ law c.self.invariant.packed.each q) (below _ law copied.each q) kept (omega (arith, after, c.block_index.ensures));
+    })
 
 pub invariant_of-result : goal.invariant_of-result
 invariant_of-result g c = record {

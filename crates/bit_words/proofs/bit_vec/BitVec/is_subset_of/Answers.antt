@@ -5,29 +5,24 @@ use Rattle.bit_words.proofs.CompareLemmas.{first_of_lists, subset_lists}
 use Rattle.bit_words.proofs.VectorLemmas.{length_from_view}
 use Rattle.bit_words.proofs.bit_vec.BitVec.is_subset_of.Goals as goal
 
-pub returns-clause-subset : goal.returns-clause-subset
-returns-clause-subset g c =
+pub difference_is_zero-requires : goal.difference_is_zero-requires
+difference_is_zero-requires g c = record {
+  each = rw c.deref.ensures.value c.self.invariant.packed.each;
+  others = rw c.deref-2.ensures.value c.other.invariant.packed.each;
+}
+
+pub returns : goal.returns
+returns g c =
     let f = g.B.BitBlock.number in
     let zero : IsTrue c.difference_is_zero.result ↔ MergesToFalse Difference g.B.BitBlock.width (map f c.self.inside.blocks.items) (map f c.other.inside.blocks.items) = rw (c.deref.ensures.value, c.deref-2.ensures.value) at c.difference_is_zero.ensures.zero in
     let both = subset_lists _ _ _ _ _ _ _ _ _ c.self.view_is c.other.view_is c.self.invariant.packed.tail c.other.invariant.packed.tail in
-    (λ yes. both.0 (zero.0 yes), λ each. zero.1 (both.1 each))
-
-pub returns-clause-stops : goal.returns-clause-stops
-returns-clause-stops g c = λ i first.
-    let stop = rw (c.deref.ensures.value, c.deref-2.ensures.value) at c.difference_is_zero.ensures.stops i in
-    stop (first_of_lists _ _ _ _ _ _ _ _ _ _ c.self.view_is c.other.view_is c.self.invariant.packed.tail c.other.invariant.packed.tail i first)
-
-pub returns-clause-most : goal.returns-clause-most
-returns-clause-most g c = rw (length_from_view _ _ _ _ _ c.self.view_is) (omega arith)
-
-pub returns-clause-all : goal.returns-clause-all
-returns-clause-all g c = λ yes. let exact = c.difference_is_zero.ensures.all yes in rw (length_from_view _ _ _ _ _ c.self.view_is) (omega arith)
-
-pub difference_is_zero-requires-clause-each : goal.difference_is_zero-requires-clause-each
-difference_is_zero-requires-clause-each g c = rw c.deref.ensures.value c.self.invariant.packed.each
-
-pub difference_is_zero-requires-clause-others : goal.difference_is_zero-requires-clause-others
-difference_is_zero-requires-clause-others g c = rw c.deref-2.ensures.value c.other.invariant.packed.each
-
-pub returns-clause-fewest : goal.returns-clause-fewest
-returns-clause-fewest g c = c.difference_is_zero.ensures.fewest
+    let steps = c.difference_is_zero.ensures.steps in
+    record {
+      subset = (λ yes. both.0 (zero.0 yes), λ each. zero.1 (both.1 each));
+      stops = λ i first.
+          let stop = rw (c.deref.ensures.value, c.deref-2.ensures.value) at steps.stops i in
+          stop (first_of_lists _ _ _ _ _ _ _ _ _ _ c.self.view_is c.other.view_is c.self.invariant.packed.tail c.other.invariant.packed.tail i first);
+      fewest = steps.fewest;
+      most = rw (length_from_view _ _ _ _ _ c.self.view_is) (omega (arith, steps.at_most));
+      all = λ yes. let exact = steps.all yes in rw (length_from_view _ _ _ _ _ c.self.view_is) (omega (arith, exact));
+    }

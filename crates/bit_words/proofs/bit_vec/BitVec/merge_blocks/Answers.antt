@@ -1,13 +1,16 @@
-use Rattle.std.proofs.Common.{◌≡◌, ◌≤◌, ◌∙◌, refl, ap₂, ◌++◌, map, drop, length, take, arith}
-use Rattle.std.proofs.lemmas.List.{length-map, take_at}
-use Rattle.bit_words.specs.Merges.{merge_of}
+use Rattle.std.proofs.Common.{◌≡◌, ℕ, ◌∙◌, ap₂, ◌++◌, map, drop, length, take, arith}
+use Rattle.std.proofs.lemmas.List.{take_at}
+use Rattle.bit_words.specs.Merges.{merge_of, merge_of_values}
+use Rattle.bit_words.specs.Storage.{value_at}
 use Rattle.bit_words.proofs.BitsLemmas.{blocks_for-le}
 use Rattle.bit_words.proofs.MergeLemmas.{merged_lists, merged_zero_tail, merges_of_values}
 use Rattle.bit_words.proofs.VectorLemmas.{length_from_view, no_longer_from_views}
+use Rattle.bit_words.proofs.bit_vec.BitVec.merge_blocks.Given.{Over}
+use Rattle.bit_words.proofs.bit_vec.BitVec.merge_blocks.Goals.{After-merge_chosen}
 use Rattle.bit_words.proofs.bit_vec.BitVec.merge_blocks.Goals as goal
 
-pub merge_stored-requires-clause-can : goal.merge_stored-requires-clause-can
-merge_stored-requires-clause-can g c =
+pub merge_chosen-requires-clause-can : goal.merge_chosen-requires-clause-can
+merge_chosen-requires-clause-can g c =
     let le = blocks_for-le g.B.BitBlock.width c.other.inside.len c.self.inside.len g.met.B.BitBlock.width_law.positive (no_longer_from_views _ _ _ _ _ _ _ _ _ c.self.view_is c.other.view_is c.requires) in
     rw (c.as_mut_slice.ensures.value, c.deref.ensures.value) (record {
       fewer = omega (arith, le, c.self.invariant.packed.count, c.other.invariant.packed.count);
@@ -15,56 +18,43 @@ merge_stored-requires-clause-can g c =
       others = c.other.invariant.packed.each;
     })
 
-pub merge_stored-requires-clause-other_summary : goal.merge_stored-requires-clause-other_summary
-merge_stored-requires-clause-other_summary g c = rw (c.deref.ensures.value, c.deref-2.ensures.value) c.other.invariant.summary
+pub merge_chosen-requires-clause-other_summary : goal.merge_chosen-requires-clause-other_summary
+merge_chosen-requires-clause-other_summary g c = rw (c.deref.ensures.value, c.deref-2.ensures.value) c.other.invariant.summary
+
+-- what each value became
+each : (g : Over) (c : After-merge_chosen g) → (i : ℕ) → value_at g.B.BitBlock.width (map g.B.BitBlock.number c.merge_chosen.new.blocks) i ≡ merge_of_values c.args.merge (value_at g.B.BitBlock.width (map g.B.BitBlock.number c.self.inside.blocks.items) i) (value_at g.B.BitBlock.width (map g.B.BitBlock.number c.other.inside.blocks.items) i)
+each g c =
+    let pos = g.met.B.BitBlock.width_law.positive in
+    let le = blocks_for-le g.B.BitBlock.width c.other.inside.len c.self.inside.len pos (no_longer_from_views _ _ _ _ _ _ _ _ _ c.self.view_is c.other.view_is c.requires) in
+    merges_of_values _ _ _ _ c.self.inside.blocks.items c.other.inside.blocks.items _ pos (omega (arith, le, c.self.invariant.packed.count, c.other.invariant.packed.count)) (rw (c.as_mut_slice.ensures.value, c.deref.ensures.value) at c.merge_chosen.ensures.has)
 
 pub invariant_of-self : goal.invariant_of-self
 invariant_of-self g c =
-    let w = g.B.BitBlock.width in
-    let f = g.B.BitBlock.number in
-    let pos = g.met.B.BitBlock.width_law.positive in
-    let xs = c.self.inside.blocks.items in
-    let os = c.other.inside.blocks.items in
-    let ys = c.merge_stored.new.blocks in
     let shorter = no_longer_from_views _ _ _ _ _ _ _ _ _ c.self.view_is c.other.view_is c.requires in
-    let le = blocks_for-le w c.other.inside.len c.self.inside.len pos shorter in
-    let len : length (map f ys) ≡ length (map f xs) = rw (length-map, length-map) (omega arith) in
-    let short : length (map f os) ≤ length (map f xs) = rw (length-map, length-map) (omega (arith, le, c.self.invariant.packed.count, c.other.invariant.packed.count)) in
-    let end : length xs ≡ length (map f xs) = rw length-map refl in
-    let each = merges_of_values c.args.merge w (map f xs) (map f os) (map f ys) pos len short (rw (c.as_mut_slice.ensures.value, c.deref.ensures.value, end) at c.merge_stored.ensures.has.merged) in
+    let ys = c.merge_chosen.new.blocks in
+    let summary = c.merge_chosen.new.summary in
     let old = c.self.inside.blocks in
     let old_summary = c.self.inside.summary in
-    let summary = c.merge_stored.new.summary in
     let back : take old.len (ys ++ drop (length ys) old.items) ≡ ys = take_at ys _ old.len (omega arith) in
     let back_summary : take old_summary.len (summary ++ drop (length summary) old_summary.items) ≡ summary = take_at summary _ old_summary.len (omega arith) in
     rw (back, back_summary) (record {
       packed = record {
-        each = c.merge_stored.ensures.has.each;
+        each = c.merge_chosen.ensures.has.each;
         count = omega (arith, c.self.invariant.packed.count);
-        tail = merged_zero_tail _ _ _ _ _ _ _ shorter c.self.invariant.packed.tail c.other.invariant.packed.tail each;
+        tail = merged_zero_tail _ _ _ _ _ _ _ shorter c.self.invariant.packed.tail c.other.invariant.packed.tail (each g (goal.at.invariant_of-self g c).After-merge_chosen);
         fits = c.self.invariant.packed.fits;
       };
-      summary = c.merge_stored.ensures.summary;
+      summary = c.merge_chosen.ensures.summary;
     })
 
 pub returns-clause-values : goal.returns-clause-values
 returns-clause-values g c =
-    let w = g.B.BitBlock.width in
-    let f = g.B.BitBlock.number in
-    let pos = g.met.B.BitBlock.width_law.positive in
-    let xs = c.self.inside.blocks.items in
-    let os = c.other.inside.blocks.items in
-    let ys = c.merge_stored.new.blocks in
     let shorter = no_longer_from_views _ _ _ _ _ _ _ _ _ c.self.view_is c.other.view_is c.requires in
-    let le = blocks_for-le w c.other.inside.len c.self.inside.len pos shorter in
-    let len : length (map f ys) ≡ length (map f xs) = rw (length-map, length-map) (omega arith) in
-    let short : length (map f os) ≤ length (map f xs) = rw (length-map, length-map) (omega (arith, le, c.self.invariant.packed.count, c.other.invariant.packed.count)) in
-    let end : length xs ≡ length (map f xs) = rw length-map refl in
-    let each = merges_of_values c.args.merge w (map f xs) (map f os) (map f ys) pos len short (rw (c.as_mut_slice.ensures.value, c.deref.ensures.value, end) at c.merge_stored.ensures.has.merged) in
+    let ys = c.merge_chosen.new.blocks in
     let old = c.self.inside.blocks in
     let back : take old.len (ys ++ drop (length ys) old.items) ≡ ys = take_at ys _ old.len (omega arith) in
     rw back
-    (merged_lists _ _ _ _ _ _ _ shorter c.self.invariant.packed.tail c.other.invariant.packed.tail each
+    (merged_lists _ _ _ _ _ _ _ shorter c.self.invariant.packed.tail c.other.invariant.packed.tail (each g (goal.at.returns-clause-values g c).After-merge_chosen)
     ∙ ap₂ (λ v u. merge_of c.args.merge v.values u.values) c.self.view_is c.other.view_is)
 
 pub returns-clause-steps : goal.returns-clause-steps

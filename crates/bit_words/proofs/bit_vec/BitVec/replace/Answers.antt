@@ -1,6 +1,7 @@
-use Rattle.std.proofs.Common.{◌≡◌, ℕ, ◌≤◌, ◌+◌, ◌*◌, ◌/◌, ◌%◌, ◌<◌, ◌≢◌, ◌∙◌, ◌==◌, true, List, not, sym, ap, ap₂, length, vec_capacity, set, Some, arith, map, All, mod-lt, div-add-mod'}
-use Rattle.bit_words.specs.Bits.{blocks_for, capacity_of}
-use Rattle.bit_words.specs.Storage.{value_at, IsPacked}
+use Rattle.std.proofs.Common.{◌≡◌, ℕ, ◌≤◌, ◌+◌, ◌*◌, ◌/◌, ◌%◌, ◌<◌, ◌∙◌, ◌==◌, Bool, true, List, not, sym, ap, ap₂, length, vec_capacity, set, Some, arith, map, mod-lt, div-add-mod'}
+use Rattle.std.specs.Global.{Vec}
+use Rattle.bit_words.specs.Bits.{capacity_of}
+use Rattle.bit_words.specs.Storage.{value_at, IsPacked, WritesInPlace, WritesValue}
 use Rattle.bit_words.specs.Summary.{is_used, shared_capacity, short_count}
 use Rattle.bit_words.proofs.BitsLemmas.{blocks_for-above}
 use Rattle.bit_words.proofs.StorageLemmas.{values_of-set}
@@ -10,20 +11,12 @@ use Rattle.bit_words.proofs.bit_vec.BitVec.replace.Given.{Over}
 use Rattle.bit_words.proofs.bit_vec.BitVec.replace.Goals.{After-self, Else-is_short}
 use Rattle.bit_words.proofs.bit_vec.BitVec.replace.Goals as goal
 
--- the index is in one of the blocks
-in_blocks : (w len i count : ℕ) → 0 < w → count ≡ blocks_for w len → i < len → i / w < count
-in_blocks w len i count pos is within = let above = blocks_for-above w len i pos within in omega arith
-
--- and that block in one of the summary
-in_chunks : (w len i count chunks : ℕ) → 0 < w → count ≡ blocks_for w len → chunks ≡ blocks_for w count → i < len → i / w / w < chunks
-in_chunks w len i count chunks pos is summary within = let above = blocks_for-above w count (i / w) pos (in_blocks w len i count pos is within) in omega arith
-
 -- a list of which one value is written
-replaced_packed : {X : Type 0} (w n i : ℕ) (f : X → ℕ) (P : X → Type 0) (xs ys : List X) → i < n → IsPacked w f P xs n → All P ys → length ys ≡ length xs → ((j : ℕ) → j ≢ i → value_at w (map f ys) j ≡ value_at w (map f xs) j) → IsPacked w f P ys n
-replaced_packed w n i f P xs ys within packed each len others = record {
-  each = each;
-  count = len ∙ packed.count;
-  tail = record { zero_tail = λ j past. others j (λ e. omega arith) ∙ packed.tail.zero_tail j past };
+replaced_packed : {X : Type 0} (w n i : ℕ) (f : X → ℕ) (P : X → Type 0) (xs ys : Vec X) (b : Bool) → i < n → IsPacked w f P xs.items n → WritesValue w (map f xs.items) (map f ys.items) i b → WritesInPlace P xs ys → IsPacked w f P ys.items n
+replaced_packed w n i f P xs ys b within packed value in_place = record {
+  each = in_place.each;
+  count = omega (arith, xs.ok.0, ys.ok.0, in_place.len, packed.count);
+  tail = record { zero_tail = λ j past. value.others j (λ e. omega arith) ∙ packed.tail.zero_tail j past };
   fits = packed.fits;
 }
 
@@ -34,129 +27,111 @@ used_at w ms i k pos e is = used_from_true w ms k (i % w) (mod-lt i pos) (ap (λ
 in_list : (g : Over) (c : After-self g) → c.args.i < c.self.inside.len
 in_list g c = rw (length_from_view _ _ _ _ _ c.self.view_is) at c.requires
 
+-- the index is in one of the blocks
+in_blocks : (g : Over) (c : After-self g) → c.args.i / g.B.BitBlock.width < length c.self.inside.blocks.items
+in_blocks g c =
+    let above = blocks_for-above g.B.BitBlock.width c.self.inside.len c.args.i g.met.B.BitBlock.width_law.positive (in_list g c) in
+    omega (arith, above, c.self.invariant.packed.count)
+
 -- where the list is not short a summary is stored
 many : (g : Over) (c : Else-is_short g) → short_count g.B.BitBlock.width < length c.self.inside.blocks.items
 many g c =
     let long = long_from_test g.B.BitBlock.width c.len.result c.is_short.result c.is_short.ensures c.if-is_short.false in
     omega (arith, long)
 
-pub replace_bit-requires-clause-each : goal.replace_bit-requires-clause-each
-replace_bit-requires-clause-each g c = c.self.invariant.packed.each
+-- and the block is in one of its blocks
+in_chunks : (g : Over) (c : Else-is_short g) → c.args.i / g.B.BitBlock.width < length c.self.inside.blocks.items → c.args.i / g.B.BitBlock.width / g.B.BitBlock.width < length c.self.inside.summary.items
+in_chunks g c inside =
+    let above = blocks_for-above g.B.BitBlock.width (length c.self.inside.blocks.items) (c.args.i / g.B.BitBlock.width) g.met.B.BitBlock.width_law.positive inside in
+    omega (arith, above, (c.self.invariant.summary.long (many g c)).packed.count)
 
-pub replace_bit-requires-clause-in_bounds : goal.replace_bit-requires-clause-in_bounds
-replace_bit-requires-clause-in_bounds g c =
-    let within = in_list g (goal.at.replace_bit-requires-clause-in_bounds g c).After-self in
-    let inside = in_blocks g.B.BitBlock.width c.self.inside.len c.args.i (length c.self.inside.blocks.items) g.met.B.BitBlock.width_law.positive c.self.invariant.packed.count within in
-    omega (arith, inside)
+pub replace_bit-requires : goal.replace_bit-requires
+replace_bit-requires g c = record {
+  in_bounds = let inside = in_blocks g (goal.at.replace_bit-requires g c).After-self in omega (arith, inside);
+  each = c.self.invariant.packed.each;
+}
 
 pub invariant_of-self : goal.invariant_of-self
 invariant_of-self g c =
-    let within = in_list g (goal.at.invariant_of-self g c).After-self in
     let short = short_from_test g.B.BitBlock.width c.len.result c.is_short.result c.is_short.ensures c.if-is_short.true in
     let few : length c.self.inside.blocks.items ≤ short_count g.B.BitBlock.width = omega arith in
+    let value = c.replace_bit.ensures.value in
+    let in_place = c.replace_bit.ensures.in_place in
     record {
-      packed = replaced_packed g.B.BitBlock.width c.self.inside.len c.args.i g.B.BitBlock.number g.B.BitBlock.is_block c.self.inside.blocks.items c.replace_bit.new.blocks.items within c.self.invariant.packed c.replace_bit.ensures.each (omega arith) c.replace_bit.ensures.others;
+      packed = replaced_packed g.B.BitBlock.width c.self.inside.len c.args.i g.B.BitBlock.number g.B.BitBlock.is_block c.self.inside.blocks c.replace_bit.new.blocks _ (in_list g (goal.at.invariant_of-self g c).After-self) c.self.invariant.packed value in_place;
       summary = keeps_none _ _ _ _ _ (omega arith) (c.self.invariant.summary.short few);
     }
 
-pub returns-then-is_short-clause-was : goal.returns-then-is_short-clause-was
-returns-then-is_short-clause-was g c =
-    let within = in_list g (goal.at.returns-then-is_short-clause-was g c).After-self in
-    rw (← c.self.view_is) (slice_get-values_of _ _ _ _ within ∙ ap Some (sym c.replace_bit.ensures.was))
-
-pub returns-then-is_short-clause-values : goal.returns-then-is_short-clause-values
-returns-then-is_short-clause-values g c =
-    let within = in_list g (goal.at.returns-then-is_short-clause-values g c).After-self in
-    values_of-set _ _ _ _ _ _ within c.replace_bit.ensures.same c.replace_bit.ensures.others
-    ∙ ap (λ v. set v.values c.args.i c.args.bit) c.self.view_is
-
-pub returns-then-is_short-clause-capacity : goal.returns-then-is_short-clause-capacity
-returns-then-is_short-clause-capacity g c =
+pub returns-then-is_short : goal.returns-then-is_short
+returns-then-is_short g c =
     let w = g.B.BitBlock.width in
-    ap (λ n. capacity_of w (shared_capacity w n (vec_capacity c.self.inside.summary))) c.replace_bit.ensures.capacity ∙ ap (λ v. v.capacity) c.self.view_is
+    let within = in_list g (goal.at.returns-then-is_short g c).After-self in
+    let value = c.replace_bit.ensures.value in
+    record {
+      was = rw (← c.self.view_is) (slice_get-values_of _ _ _ _ within ∙ ap Some (sym c.replace_bit.ensures.was));
+      values = values_of-set _ _ _ _ _ _ within value.same value.others ∙ ap (λ v. set v.values c.args.i c.args.bit) c.self.view_is;
+      capacity = ap (λ n. capacity_of w (shared_capacity w n (vec_capacity c.self.inside.summary))) c.replace_bit.ensures.in_place.capacity ∙ ap (λ v. v.capacity) c.self.view_is;
+    }
 
-pub block_at-current-requires-clause-each : goal.block_at-current-requires-clause-each
-block_at-current-requires-clause-each g c =
-    rw c.deref.ensures.value (c.self.invariant.summary.long (many g (goal.at.block_at-current-requires-clause-each g c).Else-is_short)).packed.each
+pub block_at-current-requires : goal.block_at-current-requires
+block_at-current-requires g c =
+    let at = goal.at.block_at-current-requires g c in
+    let long = many g at.Else-is_short in
+    rw c.deref.ensures.value (record {
+      in_bounds = rw (c.block_index.ensures, c.block_index-k.ensures) (in_chunks g at.Else-is_short (in_blocks g at.After-self));
+      each = (c.self.invariant.summary.long long).packed.each;
+    })
 
-pub block_at-current-requires-clause-in_bounds : goal.block_at-current-requires-clause-in_bounds
-block_at-current-requires-clause-in_bounds g c =
-    let long = many g (goal.at.block_at-current-requires-clause-in_bounds g c).Else-is_short in
-    let within = in_list g (goal.at.block_at-current-requires-clause-in_bounds g c).After-self in
-    let inside = in_chunks g.B.BitBlock.width c.self.inside.len c.args.i (length c.self.inside.blocks.items) (length c.self.inside.summary.items) g.met.B.BitBlock.width_law.positive c.self.invariant.packed.count (c.self.invariant.summary.long long).packed.count within in
-    rw c.deref.ensures.value (rw (c.block_index.ensures, c.block_index-k.ensures) inside)
+pub replace_bit-was-requires : goal.replace_bit-was-requires
+replace_bit-was-requires g c = record {
+  in_bounds = let inside = in_blocks g (goal.at.replace_bit-was-requires g c).After-self in omega (arith, inside);
+  each = c.self.invariant.packed.each;
+}
 
-pub replace_bit-was-requires-clause-each : goal.replace_bit-was-requires-clause-each
-replace_bit-was-requires-clause-each g c = c.self.invariant.packed.each
+pub block_at-block-requires : goal.block_at-block-requires
+block_at-block-requires g c = rw c.deref-2.ensures.value (record {
+  in_bounds = let inside = in_blocks g (goal.at.block_at-block-requires g c).After-self in omega (arith, inside);
+  each = c.replace_bit-was.ensures.in_place.each;
+})
 
-pub replace_bit-was-requires-clause-in_bounds : goal.replace_bit-was-requires-clause-in_bounds
-replace_bit-was-requires-clause-in_bounds g c =
-    let within = in_list g (goal.at.replace_bit-was-requires-clause-in_bounds g c).After-self in
-    let inside = in_blocks g.B.BitBlock.width c.self.inside.len c.args.i (length c.self.inside.blocks.items) g.met.B.BitBlock.width_law.positive c.self.invariant.packed.count within in
-    omega (arith, inside)
-
-pub block_at-block-requires-clause-each : goal.block_at-block-requires-clause-each
-block_at-block-requires-clause-each g c = rw c.deref-2.ensures.value c.replace_bit-was.ensures.each
-
-pub block_at-block-requires-clause-in_bounds : goal.block_at-block-requires-clause-in_bounds
-block_at-block-requires-clause-in_bounds g c =
-    let within = in_list g (goal.at.block_at-block-requires-clause-in_bounds g c).After-self in
-    let inside = in_blocks g.B.BitBlock.width c.self.inside.len c.args.i (length c.self.inside.blocks.items) g.met.B.BitBlock.width_law.positive c.self.invariant.packed.count within in
-    rw c.deref-2.ensures.value (omega (arith, inside))
-
-pub update_summary_bit-requires-clause-in_summary : goal.update_summary_bit-requires-clause-in_summary
-update_summary_bit-requires-clause-in_summary g c =
-    let long = many g (goal.at.update_summary_bit-requires-clause-in_summary g c).Else-is_short in
-    let within = in_list g (goal.at.update_summary_bit-requires-clause-in_summary g c).After-self in
-    let inside = in_chunks g.B.BitBlock.width c.self.inside.len c.args.i (length c.self.inside.blocks.items) (length c.self.inside.summary.items) g.met.B.BitBlock.width_law.positive c.self.invariant.packed.count (c.self.invariant.summary.long long).packed.count within in
-    rw c.block_index-k.ensures (omega (arith, inside))
-
-pub update_summary_bit-requires-clause-each : goal.update_summary_bit-requires-clause-each
-update_summary_bit-requires-clause-each g c = (c.self.invariant.summary.long (many g (goal.at.update_summary_bit-requires-clause-each g c).Else-is_short)).packed.each
-
-pub update_summary_bit-requires-clause-of_current : goal.update_summary_bit-requires-clause-of_current
-update_summary_bit-requires-clause-of_current g c = c.block_at-current.ensures.of_block
-
-pub update_summary_bit-requires-clause-of_block : goal.update_summary_bit-requires-clause-of_block
-update_summary_bit-requires-clause-of_block g c = c.block_at-block.ensures.of_block
-
-pub update_summary_bit-requires-clause-read : goal.update_summary_bit-requires-clause-read
-update_summary_bit-requires-clause-read g c = rw (← c.block_index.ensures) (rw c.deref.ensures.value at c.block_at-current.ensures.of_number)
-
-pub update_summary_bit-requires-clause-tail_set : goal.update_summary_bit-requires-clause-tail_set
-update_summary_bit-requires-clause-tail_set g c = λ tail_set.
+pub update_summary_bit-requires : goal.update_summary_bit-requires
+update_summary_bit-requires g c =
+    let at = goal.at.update_summary_bit-requires g c in
+    let inside = in_chunks g at.Else-is_short (in_blocks g at.After-self) in
     let number = rw c.deref-2.ensures.value at c.block_at-block.ensures.of_number in
-    ap (λ m. not (m == 0)) number
-    ∙ used_at g.B.BitBlock.width _ c.args.i c.block_index-k.result g.met.B.BitBlock.width_law.positive c.block_index-k.ensures (c.replace_bit-was.ensures.same ∙ tail_set)
+    record {
+      in_summary = rw c.block_index-k.ensures (omega (arith, inside));
+      each = (c.self.invariant.summary.long (many g at.Else-is_short)).packed.each;
+      of_current = c.block_at-current.ensures.of_block;
+      read = rw (← c.block_index.ensures) (rw c.deref.ensures.value at c.block_at-current.ensures.of_number);
+      of_block = c.block_at-block.ensures.of_block;
+      tail_set = λ tail_set.
+          ap (λ m. not (m == 0)) number
+          ∙ used_at g.B.BitBlock.width _ c.args.i c.block_index-k.result g.met.B.BitBlock.width_law.positive c.block_index-k.ensures (c.replace_bit-was.ensures.value.same ∙ tail_set);
+    }
 
 pub invariant_of-self-2 : goal.invariant_of-self-2
 invariant_of-self-2 g c =
-    let within = in_list g (goal.at.invariant_of-self-2 g c).After-self in
-    let inside = in_blocks g.B.BitBlock.width c.self.inside.len c.args.i (length c.self.inside.blocks.items) g.met.B.BitBlock.width_law.positive c.self.invariant.packed.count within in
-    let block = c.block_at-block.ensures.of_number in
-    let used = ap (λ m. not (m == 0)) (rw c.deref-2.ensures.value at block) in
-    let long = many g (goal.at.invariant_of-self-2 g c).Else-is_short in
+    let w = g.B.BitBlock.width in
+    let at = goal.at.invariant_of-self-2 g c in
+    let inside = in_blocks g at.After-self in
+    let number = rw c.deref-2.ensures.value at c.block_at-block.ensures.of_number in
+    let long = many g at.Else-is_short in
+    let was = c.replace_bit-was.ensures in
     record {
-      packed = replaced_packed g.B.BitBlock.width c.self.inside.len c.args.i g.B.BitBlock.number g.B.BitBlock.is_block c.self.inside.blocks.items c.replace_bit-was.new.blocks.items within c.self.invariant.packed c.replace_bit-was.ensures.each (omega arith) c.replace_bit-was.ensures.others;
+      packed = replaced_packed w c.self.inside.len c.args.i g.B.BitBlock.number g.B.BitBlock.is_block c.self.inside.blocks c.replace_bit-was.new.blocks _ (in_list g at.After-self) c.self.invariant.packed was.value was.in_place;
       summary = keeps_all _ _ _ _ _ (omega arith) (
-          changed_summary g.B.BitBlock.width c.block_index-k.result g.B.BitBlock.number g.B.BitBlock.is_block c.self.inside.blocks.items c.replace_bit-was.new.blocks.items c.self.inside.summary.items c.update_summary_bit.new.summary.items g.met.B.BitBlock.width_law.positive (λ x is. (g.met.B.BitBlock.number_law x is).0)
-          c.self.invariant.packed.each c.replace_bit-was.ensures.each (omega arith) (omega (arith, inside)) (c.self.invariant.summary.long long)
-          (λ j there. c.replace_bit-was.ensures.others j (λ here. there (ap (λ q. q / g.B.BitBlock.width) here ∙ sym c.block_index-k.ensures)))
-          (c.update_summary_bit.ensures.same ∙ used) c.update_summary_bit.ensures.others c.update_summary_bit.ensures.each (omega arith));
+          changed_summary w c.args.i c.block_index-k.result _ _ g.B.BitBlock.number g.B.BitBlock.is_block c.self.inside.blocks c.replace_bit-was.new.blocks c.self.inside.summary c.update_summary_bit.new.summary g.met.B.BitBlock.width_law.positive (λ x is. (g.met.B.BitBlock.number_law x is).0)
+          c.self.invariant.packed.each c.block_index-k.ensures (omega (arith, inside)) was.value was.in_place (c.self.invariant.summary.long long) (ap (λ m. not (m == 0)) number) c.update_summary_bit.ensures.value c.update_summary_bit.ensures.in_place);
     }
 
-pub returns-clause-values : goal.returns-clause-values
-returns-clause-values g c =
-    let within = in_list g (goal.at.returns-clause-values g c).After-self in
-    values_of-set _ _ _ _ _ _ within c.replace_bit-was.ensures.same c.replace_bit-was.ensures.others
-    ∙ ap (λ v. set v.values c.args.i c.args.bit) c.self.view_is
-
-pub returns-clause-was : goal.returns-clause-was
-returns-clause-was g c =
-    let within = in_list g (goal.at.returns-clause-was g c).After-self in
-    rw (← c.self.view_is) (slice_get-values_of _ _ _ _ within ∙ ap Some (sym c.replace_bit-was.ensures.was))
-
-pub returns-clause-capacity : goal.returns-clause-capacity
-returns-clause-capacity g c =
+pub returns : goal.returns
+returns g c =
     let w = g.B.BitBlock.width in
-    ap₂ (λ n m. capacity_of w (shared_capacity w n m)) c.replace_bit-was.ensures.capacity c.update_summary_bit.ensures.capacity ∙ ap (λ v. v.capacity) c.self.view_is
+    let within = in_list g (goal.at.returns g c).After-self in
+    let was = c.replace_bit-was.ensures in
+    record {
+      was = rw (← c.self.view_is) (slice_get-values_of _ _ _ _ within ∙ ap Some (sym was.was));
+      values = values_of-set _ _ _ _ _ _ within was.value.same was.value.others ∙ ap (λ v. set v.values c.args.i c.args.bit) c.self.view_is;
+      capacity = ap₂ (λ n m. capacity_of w (shared_capacity w n m)) was.in_place.capacity c.update_summary_bit.ensures.in_place.capacity ∙ ap (λ v. v.capacity) c.self.view_is;
+    }

@@ -1,40 +1,22 @@
-use Rattle.std.proofs.Common.{◌≡◌, ◌≤◌, ◌*◌, ◌^◌, ◌-◌, ℕ, ◌∙◌, length, vec_capacity, min, sym, ap, arith}
+use Rattle.std.proofs.Common.{◌≡◌, ◌≤◌, ◌*◌, ◌^◌, ◌-◌, ℕ, ◌∙◌, length, vec_capacity, min, refl, sym, ap, arith}
 use Rattle.bit_words.specs.Bits.{blocks_for, capacity_of}
 use Rattle.bit_words.specs.Summary.{shared_capacity}
 use Rattle.bit_words.proofs.CapacityLemmas.{shared_enough, shared_le, capacity_le}
 use Rattle.bit_words.proofs.SummaryLemmas.{stored_length}
 use Rattle.bit_words.proofs.VectorLemmas.{length_from_view, capacity_from_view, blocks_for-none}
+use Rattle.bit_words.proofs.bit_vec.BitVec.shrink_to_fit.Given.{Over}
+use Rattle.bit_words.proofs.bit_vec.BitVec.shrink_to_fit.Goals.{After-shrink_shared_capacity, After-saturating_mul}
 use Rattle.bit_words.proofs.bit_vec.BitVec.shrink_to_fit.Goals as goal
 
-pub returns-clause-ok : goal.returns-clause-ok
-returns-clause-ok g c =
-    let w = g.B.BitBlock.width in
-    let shared : ℕ = shared_capacity w (vec_capacity c.shrink_shared_capacity.new.blocks) (vec_capacity c.shrink_shared_capacity.new.summary) in
-    let count : length c.self.inside.blocks.items ≡ blocks_for w c.self.inside.len = c.self.invariant.packed.count in
-    let enough : length c.self.inside.blocks.items ≤ shared = shared_enough w (vec_capacity c.shrink_shared_capacity.new.blocks) (vec_capacity c.shrink_shared_capacity.new.summary) (length c.self.inside.blocks.items) g.met.B.BitBlock.width_law.positive c.shrink_shared_capacity.ensures.holds (omega (arith, c.shrink_shared_capacity.ensures.holds_summary, stored_length _ _ _ _ _ c.self.invariant.summary)) in
-    let least = capacity_le w (length c.self.inside.blocks.items) shared enough in
-    let len : c.len.result ≡ length c.self.inside.blocks.items = omega (arith, ap length c.shrink_shared_capacity.ensures.items) in
-    let most : c.saturating_mul.result ≡ capacity_of w (length c.self.inside.blocks.items) = c.saturating_mul.ensures ∙ ap (λ n. min (n * c.bits.result) (2 ^ 64 - 1)) len ∙ ap (λ n. min (length c.self.inside.blocks.items * n) (2 ^ 64 - 1)) c.bits.ensures in
-    rw (length_from_view _ _ _ _ _ c.self.view_is)
-    (let same : capacity_of w shared ≡ capacity_of w (length c.self.inside.blocks.items) = omega (arith, c.capacity.ensures.value) in same ∙ ap (capacity_of w) count)
+-- the capacity of the blocks of the list
+own_capacity : (g : Over) (c : After-saturating_mul g) → c.saturating_mul.result ≡ capacity_of g.B.BitBlock.width (blocks_for g.B.BitBlock.width c.self.inside.len)
+own_capacity g c =
+    let count = blocks_for g.B.BitBlock.width c.self.inside.len in
+    let len : c.len.result ≡ count = omega (arith, ap length c.shrink_shared_capacity.ensures.items, c.self.invariant.packed.count) in
+    c.saturating_mul.ensures ∙ ap (λ n. min (n * c.bits.result) (2 ^ 64 - 1)) len ∙ ap (λ n. min (count * n) (2 ^ 64 - 1)) c.bits.ensures
 
-pub returns-then-capacity-saturating_mul-clause-err : goal.returns-then-capacity-saturating_mul-clause-err
-returns-then-capacity-saturating_mul-clause-err g c =
-    let w = g.B.BitBlock.width in
-    let len : c.len.result ≡ blocks_for w c.self.inside.len = omega (arith, ap length c.shrink_shared_capacity.ensures.items, c.self.invariant.packed.count) in
-    let most : c.saturating_mul.result ≡ capacity_of w (blocks_for w c.self.inside.len) = c.saturating_mul.ensures ∙ ap (λ n. min (n * c.bits.result) (2 ^ 64 - 1)) len ∙ ap (λ n. min (blocks_for w c.self.inside.len * n) (2 ^ 64 - 1)) c.bits.ensures in
-    rw (length_from_view _ _ _ _ _ c.self.view_is) (omega (arith, c.capacity.ensures.value))
-
-pub returns-then-capacity-saturating_mul-clause-empty : goal.returns-then-capacity-saturating_mul-clause-empty
-returns-then-capacity-saturating_mul-clause-empty g c = λ none.
-    let w = g.B.BitBlock.width in
-    let len : c.self.inside.len ≡ 0 = rw (length_from_view _ _ _ _ _ c.self.view_is) at none in
-    let zero = blocks_for-none w g.met.B.BitBlock.width_law.positive in
-    let blocks : length c.self.inside.blocks.items ≡ 0 = c.self.invariant.packed.count ∙ ap (blocks_for w) len ∙ sym zero in
-    let none_left : vec_capacity c.shrink_shared_capacity.new.blocks ≡ 0 = c.shrink_shared_capacity.ensures.empty blocks in
-    let shared : shared_capacity w (vec_capacity c.shrink_shared_capacity.new.blocks) (vec_capacity c.shrink_shared_capacity.new.summary) ≡ 0 = omega arith in
-    let capacity : c.capacity.result ≡ capacity_of w 0 = c.capacity.ensures.value ∙ ap (capacity_of w) shared in
-    absurd (omega arith)
+lowered : (g : Over) (c : After-shrink_shared_capacity g) → capacity_of g.B.BitBlock.width (shared_capacity g.B.BitBlock.width (vec_capacity c.shrink_shared_capacity.new.blocks) (vec_capacity c.shrink_shared_capacity.new.summary)) ≤ c.args.self.now.capacity
+lowered g c = rw (capacity_from_view _ _ _ c.self.view_is) (capacity_le g.B.BitBlock.width _ _ (shared_le g.B.BitBlock.width _ _ _ _ c.shrink_shared_capacity.ensures.capacity c.shrink_shared_capacity.ensures.summary_capacity))
 
 pub invariant_of-self : goal.invariant_of-self
 invariant_of-self g c = rw (c.shrink_shared_capacity.ensures.items, c.shrink_shared_capacity.ensures.summary) c.self.invariant
@@ -45,22 +27,40 @@ invariant_of-self-2 g c = rw (c.shrink_shared_capacity.ensures.items, c.shrink_s
 pub invariant_of-self-then-capacity-saturating_mul : goal.invariant_of-self-then-capacity-saturating_mul
 invariant_of-self-then-capacity-saturating_mul g c = rw (c.shrink_shared_capacity.ensures.items, c.shrink_shared_capacity.ensures.summary) c.self.invariant
 
-pub returns-clause-values : goal.returns-clause-values
-returns-clause-values g c = rw c.shrink_shared_capacity.ensures.items (ap (λ v. v.values) c.self.view_is)
+pub returns : goal.returns
+returns g c =
+    let at = goal.at.returns g c in
+    let w = g.B.BitBlock.width in
+    let shrunk = c.shrink_shared_capacity in
+    let count = blocks_for w c.self.inside.len in
+    let shared : ℕ = shared_capacity w (vec_capacity shrunk.new.blocks) (vec_capacity shrunk.new.summary) in
+    let enough : length c.self.inside.blocks.items ≤ shared = shared_enough w (vec_capacity shrunk.new.blocks) (vec_capacity shrunk.new.summary) (length c.self.inside.blocks.items) g.met.B.BitBlock.width_law.positive shrunk.ensures.holds (omega (arith, shrunk.ensures.holds_summary, stored_length _ _ _ _ _ c.self.invariant.summary)) in
+    let least = capacity_le w count shared (omega (arith, enough, c.self.invariant.packed.count)) in
+    record {
+      values = rw shrunk.ensures.items (ap (λ v. v.values) c.self.view_is);
+      ok = rw (length_from_view _ _ _ _ _ c.self.view_is)
+          (let same : capacity_of w shared ≡ capacity_of w count = omega (arith, own_capacity g at.After-saturating_mul, least, c.capacity.ensures.value) in same);
+      err = tt;
+      capacity = lowered g at.After-shrink_shared_capacity;
+      fits = c.capacity.ensures.fits;
+      empty = λ _. refl;
+    }
 
-pub returns-clause-capacity : goal.returns-clause-capacity
-returns-clause-capacity g c =
-    rw (capacity_from_view _ _ _ c.self.view_is) (capacity_le g.B.BitBlock.width _ _ (shared_le g.B.BitBlock.width _ _ _ _ c.shrink_shared_capacity.ensures.capacity c.shrink_shared_capacity.ensures.summary_capacity))
-
-pub returns-clause-fits : goal.returns-clause-fits
-returns-clause-fits g c = c.capacity.ensures.fits
-
-pub returns-then-capacity-saturating_mul-clause-values : goal.returns-then-capacity-saturating_mul-clause-values
-returns-then-capacity-saturating_mul-clause-values g c = rw c.shrink_shared_capacity.ensures.items (ap (λ v. v.values) c.self.view_is)
-
-pub returns-then-capacity-saturating_mul-clause-capacity : goal.returns-then-capacity-saturating_mul-clause-capacity
-returns-then-capacity-saturating_mul-clause-capacity g c =
-    rw (capacity_from_view _ _ _ c.self.view_is) (capacity_le g.B.BitBlock.width _ _ (shared_le g.B.BitBlock.width _ _ _ _ c.shrink_shared_capacity.ensures.capacity c.shrink_shared_capacity.ensures.summary_capacity))
-
-pub returns-then-capacity-saturating_mul-clause-fits : goal.returns-then-capacity-saturating_mul-clause-fits
-returns-then-capacity-saturating_mul-clause-fits g c = c.capacity.ensures.fits
+pub returns-then-capacity-saturating_mul : goal.returns-then-capacity-saturating_mul
+returns-then-capacity-saturating_mul g c =
+    let at = goal.at.returns-then-capacity-saturating_mul g c in
+    let w = g.B.BitBlock.width in
+    let most = own_capacity g at.After-saturating_mul in
+    record {
+      values = rw c.shrink_shared_capacity.ensures.items (ap (λ v. v.values) c.self.view_is);
+      ok = tt;
+      err = rw (length_from_view _ _ _ _ _ c.self.view_is) (omega (arith, most, c.capacity.ensures.value));
+      capacity = lowered g at.After-shrink_shared_capacity;
+      fits = c.capacity.ensures.fits;
+      empty = λ none.
+          let len : c.self.inside.len ≡ 0 = rw (length_from_view _ _ _ _ _ c.self.view_is) at none in
+          let blocks : length c.self.inside.blocks.items ≡ 0 = c.self.invariant.packed.count ∙ ap (blocks_for w) len ∙ sym (blocks_for-none w g.met.B.BitBlock.width_law.positive) in
+          let none_left = c.shrink_shared_capacity.ensures.empty blocks in
+          let capacity : c.capacity.result ≡ capacity_of w 0 = c.capacity.ensures.value ∙ ap (capacity_of w) (let shared : shared_capacity w (vec_capacity c.shrink_shared_capacity.new.blocks) (vec_capacity c.shrink_shared_capacity.new.summary) ≡ 0 = omega (arith, none_left) in shared) in
+          absurd (omega (arith, capacity));
+    }

@@ -29,17 +29,33 @@ loop-k-preserved g c = record {
   steps = omega arith;
 }
 
-pub returns-then-not-same-clause-zero : goal.returns-then-not-same-clause-zero
-returns-then-not-same-clause-zero g c = (
-  λ yes. absurd (false≢true yes),
-  λ zeros. let none = merge_of_zeros _ _ _ _ _ c.loop-k.k _ _ _ (g.met.B.BitBlock.number_law _ c.of_blocks-merged.ensures.of_block).0 c.block_at.ensures.of_number c.block_at-in-loop-k.ensures.of_number c.of_blocks-merged.ensures.digits c.loop-k-test.true zeros in
-      absurd (mismatch_zero _ _ c.same.result c.same.ensures c.if-not-same.true c.zero.ensures.of_number none),
-)
+pub returns-then-not-same : goal.returns-then-not-same
+returns-then-not-same g c =
+    let small = (g.met.B.BitBlock.number_law _ c.of_blocks-merged.ensures.of_block).0 in
+    let some = mismatch_zero _ _ c.same.result c.same.ensures c.if-not-same.true c.zero.ensures.of_number in
+    record {
+      zero = (
+        λ yes. absurd (false≢true yes),
+        λ zeros. absurd (some (merge_of_zeros _ _ _ _ _ c.loop-k.k _ _ _ small c.block_at.ensures.of_number c.block_at-in-loop-k.ensures.of_number c.of_blocks-merged.ensures.digits c.loop-k-test.true zeros)),
+      );
+      steps = record {
+        stops = λ i first.
+            let here = first_is_here _ _ _ _ c.loop-k.k _ _ _ i g.met.B.BitBlock.width_law.positive small c.block_at.ensures.of_number c.block_at-in-loop-k.ensures.of_number c.of_blocks-merged.ensures.digits some c.loop-k.invariant.zero first.0 in
+            omega (arith, here);
+        fewest = omega arith;
+        at_most = omega arith;
+        all = λ yes. absurd (false≢true yes);
+      };
+    }
 
-pub returns-then-not-same-clause-stops : goal.returns-then-not-same-clause-stops
-returns-then-not-same-clause-stops g c = λ i first within.
-    let here = first_is_here _ _ _ _ c.loop-k.k _ _ _ i g.met.B.BitBlock.width_law.positive (g.met.B.BitBlock.number_law _ c.of_blocks-merged.ensures.of_block).0 c.block_at.ensures.of_number c.block_at-in-loop-k.ensures.of_number c.of_blocks-merged.ensures.digits (mismatch_zero _ _ c.same.result c.same.ensures c.if-not-same.true c.zero.ensures.of_number) c.loop-k.invariant.zero first in omega arith
-
-pub returns-clause-stops : goal.returns-clause-stops
-returns-clause-stops g c = λ i first within.
-    let past = first_is_past _ _ _ _ _ i g.met.B.BitBlock.width_law.positive c.loop-k.invariant.zero first in absurd (omega arith)
+pub returns-clause-steps : goal.returns-clause-steps
+returns-clause-steps g c =
+    let end : c.loop-k.k ≡ c.args.count = omega arith in
+    record {
+      stops = λ i first.
+          let past = first_is_past _ _ _ _ _ i g.met.B.BitBlock.width_law.positive c.loop-k.invariant.zero first.0 in
+          absurd (omega (arith, past, end, first.1));
+      fewest = omega arith;
+      at_most = omega (arith, end);
+      all = λ _. omega (arith, end);
+    }

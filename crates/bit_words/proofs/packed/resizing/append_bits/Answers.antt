@@ -2,60 +2,52 @@ use Rattle.std.proofs.Common.{◌≡◌, ◌∙◌, sym, map, length, vec_len, a
 use Rattle.std.proofs.lemmas.List.{length-map}
 use Rattle.bit_words.specs.Bits.{blocks_for}
 use Rattle.bit_words.proofs.BitsLemmas.{blocks_for-le}
-use Rattle.bit_words.proofs.PackedLemmas.{ones_kept, ones_added, below_true, above_false, zeros_kept, zeros_added}
+use Rattle.bit_words.proofs.PackedLemmas.{ones_kept, ones_added, zeros_kept, zeros_added}
+use Rattle.bit_words.proofs.TestLemmas.{above_false, below_true}
 use Rattle.bit_words.proofs.packed.resizing.append_bits.Goals as goal
 
 pub push_ones-requires-clause-more : goal.push_ones-requires-clause-more
 push_ones-requires-clause-more g c =
     let le = blocks_for-le g.B.BitBlock.width c.args.old c.args.len g.met.B.BitBlock.width_law.positive c.requires.longer in omega arith
 
-pub returns-then-old-len-clause-packed : goal.returns-then-old-len-clause-packed
-returns-then-old-len-clause-packed g c = rw (← c.if-old-len.true) c.requires.packed
-
-pub returns-then-bit-clause-kept : goal.returns-then-bit-clause-kept
-returns-then-bit-clause-kept g c =
-    let count : vec_len c.args.blocks.now ≡ blocks_for g.B.BitBlock.width c.args.old = omega arith in
-    ones_kept _ _ _ _ _ _ _ g.met.B.BitBlock.width_law.positive count c.set_tail.ensures.values (λ i within. c.push_ones.ensures.kept i (omega arith))
-
-pub returns-then-bit-clause-added : goal.returns-then-bit-clause-added
-returns-then-bit-clause-added g c = λ i after below.
-    ones_added _ _ _ _ _ _ _ c.requires.packed.tail c.set_tail.ensures.values (λ i within. c.push_ones.ensures.kept i (omega arith)) (λ i past. c.push_ones.ensures.added i (omega arith)) i after
-    ∙ below_true c.args.len i below
-    ∙ sym c.if-bit.true
-
-pub returns-then-bit-clause-packed : goal.returns-then-bit-clause-packed
-returns-then-bit-clause-packed g c = record {
-  each = c.push_ones.ensures.each;
-  count = omega arith;
-  tail = record {
-    zero_tail = λ i past.
-        let longer = c.requires.longer in
-        ones_added _ _ _ _ _ _ _ c.requires.packed.tail c.set_tail.ensures.values (λ i within. c.push_ones.ensures.kept i (omega arith)) (λ i past. c.push_ones.ensures.added i (omega arith)) i (omega arith)
-        ∙ above_false c.args.len i past;
-  };
-  fits = c.ranges.len.fits;
-}
-
-pub returns-else-bit-clause-kept : goal.returns-else-bit-clause-kept
-returns-else-bit-clause-kept g c =
-    let f = g.B.BitBlock.number in
-    let xs = c.args.blocks.now.items in
-    let count : length (map f xs) ≡ blocks_for g.B.BitBlock.width c.args.old = rw length-map c.requires.packed.count in
-    zeros_kept _ _ _ _ _ _ g.met.B.BitBlock.width_law.positive count c.push_copies.ensures.numbers
-
-pub returns-else-bit-clause-added : goal.returns-else-bit-clause-added
-returns-else-bit-clause-added g c = λ i after below.
-    zeros_added _ _ _ _ _ _ c.requires.packed.tail c.zero.ensures.of_number c.push_copies.ensures.numbers i after ∙ sym c.if-bit.false
-
-pub returns-else-bit-clause-packed : goal.returns-else-bit-clause-packed
-returns-else-bit-clause-packed g c = record {
-  each = c.push_copies.ensures.each;
-  count = omega arith;
-  tail = record { zero_tail = λ i past. let longer = c.requires.longer in zeros_added _ _ _ _ _ _ c.requires.packed.tail c.zero.ensures.of_number c.push_copies.ensures.numbers i (omega arith) };
-  fits = c.ranges.len.fits;
-}
-
 pub push_copies-requires-clause-more : goal.push_copies-requires-clause-more
 push_copies-requires-clause-more g c =
     let le = blocks_for-le g.B.BitBlock.width c.args.old c.args.len g.met.B.BitBlock.width_law.positive c.requires.longer in
     omega (arith, le, c.requires.packed.count, c.block_count.ensures)
+
+pub returns-then-old-len-clause-packed : goal.returns-then-old-len-clause-packed
+returns-then-old-len-clause-packed g c = rw (← c.if-old-len.true) c.requires.packed
+
+pub returns-then-bit : goal.returns-then-bit
+returns-then-bit g c =
+    let longer = c.requires.longer in
+    let count : vec_len c.args.blocks.now ≡ blocks_for g.B.BitBlock.width c.args.old = omega arith in
+    let added = ones_added _ _ _ _ _ _ _ c.requires.packed.tail c.set_tail.ensures.values (λ i within. c.push_ones.ensures.kept i (omega (arith, c.set_tail.ensures.in_place.len, within))) (λ i past. c.push_ones.ensures.added i (omega (arith, c.set_tail.ensures.in_place.len, past))) in
+    record {
+      kept = ones_kept _ _ _ _ _ _ _ g.met.B.BitBlock.width_law.positive count c.set_tail.ensures.values (λ i within. c.push_ones.ensures.kept i (omega (arith, c.set_tail.ensures.in_place.len, within)));
+      added = λ i after below. added i after ∙ below_true c.args.len i below ∙ sym c.if-bit.true;
+      packed = record {
+        each = c.push_ones.ensures.each;
+        count = omega arith;
+        tail = record { zero_tail = λ i past. added i (omega (arith, longer, past)) ∙ above_false c.args.len i past };
+        fits = c.ranges.len.fits;
+      };
+      capacity = c.push_ones.ensures.capacity ∙ c.set_tail.ensures.in_place.capacity;
+    }
+
+pub returns-else-bit : goal.returns-else-bit
+returns-else-bit g c =
+    let longer = c.requires.longer in
+    let count : length (map g.B.BitBlock.number c.args.blocks.now.items) ≡ blocks_for g.B.BitBlock.width c.args.old = rw length-map c.requires.packed.count in
+    let added = zeros_added _ _ _ _ _ _ c.requires.packed.tail c.zero.ensures.of_number c.push_copies.ensures.numbers in
+    record {
+      kept = zeros_kept _ _ _ _ _ _ g.met.B.BitBlock.width_law.positive count c.push_copies.ensures.numbers;
+      added = λ i after below. added i after ∙ sym c.if-bit.false;
+      packed = record {
+        each = c.push_copies.ensures.each;
+        count = omega arith;
+        tail = record { zero_tail = λ i past. added i (omega (arith, longer, past)) };
+        fits = c.ranges.len.fits;
+      };
+      capacity = c.push_copies.ensures.capacity;
+    }

@@ -23,7 +23,7 @@ returns-clause-summary g c =
     let w = g.B.BitBlock.width in
     let f = g.B.BitBlock.number in
     keeps_all _ _ _ _ _ long
-    (summary_updated w f _ c.args.blocks.now c.in_ok-copy.copy.items _ c.args.k (omega arith)
+    (summary_updated w f _ c.args.blocks.now c.in_ok-copy.copy _ c.args.k (omega arith)
     (tail_packed w _ c.args.k f _ c.args.summary.now c.in_ok-copy.copy.items (c.requires.packed long) c.in_ok-copy.ensures.each (omega (arith, c.in_ok-copy.ensures.len)) c.in_ok-copy.ensures.values)
     (λ q within other. tail_use w c.args.k q _ _ _ c.in_ok-copy.ensures.values c.requires.before (c.requires.after long) other)
-    c.update_summary_at.ensures.same c.update_summary_at.ensures.others c.update_summary_at.ensures.each (omega arith))
+    c.update_summary_at.ensures.value c.update_summary_at.ensures.in_place)

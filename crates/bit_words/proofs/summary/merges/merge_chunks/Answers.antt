@@ -8,12 +8,10 @@ use Rattle.bit_words.proofs.summary.merges.merge_chunks.Goals as goal
 
 pub loop-q-init : goal.loop-q-init
 loop-q-init g c = record {
-  merged = merged_none _ _ _ _ _ _ (omega arith);
+  has = merged_none _ _ _ _ _ _ _ _ c.requires.can.each (omega arith);
   done = λ p j below index. absurd (omega arith);
   past = λ p from. refl;
-  each = c.requires.each;
   each_sum = c.requires.each_sum;
-  len = omega arith;
   summary_len = omega arith;
   steps = omega arith;
 }
@@ -32,27 +30,25 @@ loop-q-preserved g c =
     let ns = map f c.merge_chunk-digits.new.blocks in
     let ss = map f c.loop-q.summary in
     let within : q < length ss = rw length-map (omega arith) in
-    let chunk = c.merge_chunk-digits.ensures.merged in
+    let chunk = c.merge_chunk-digits.ensures.has in
     let put = c.put_in.ensures.numbers in
     let done : (p j : ℕ) → p < q → j < w → is_one (get_or ss p 0) j ≡ is_used ns (p * w + j) = λ p j below index.
     let first : p + 1 ≤ q = omega arith in
     let le = mul-le-mul_right w first in
-    c.loop-q.invariant.done p j below index ∙ ap (λ m. not (m == 0)) (sym (chunk.before (p * w + j) (omega (arith, le)))) in
+    c.loop-q.invariant.done p j below index ∙ ap (λ m. not (m == 0)) (sym (chunk.merged.before (p * w + j) (omega (arith, le)))) in
     record {
-      merged = merged_more _ w 0 (q * w) ((q + 1) * w) (q * w) ((q + 1) * w) _ _ _ _ (omega arith) (omega arith) refl refl c.loop-q.invariant.merged chunk;
+      has = merged_more _ _ _ _ 0 (q * w) ((q + 1) * w) _ _ _ _ _ _ (omega arith) (omega arith) refl refl c.loop-q.invariant.has chunk;
       done = summary_put w ns ss _ q _ within put c.merge_chunk-digits.ensures.digits done;
       past = λ p from. let other : p ≢ q = omega arith in ap (λ xs. get_or xs p 0) put ∙ get_or-set_other ss q p _ 0 other ∙ c.loop-q.invariant.past p (omega arith);
-      each = c.merge_chunk-digits.ensures.each;
       each_sum = c.put_in.ensures.each;
-      len = omega arith;
       summary_len = omega arith;
       steps = omega arith;
     }
 
-pub returns-clause-merged : goal.returns-clause-merged
-returns-clause-merged g c =
+pub returns-clause-has : goal.returns-clause-has
+returns-clause-has g c =
     let end : c.loop-q.q ≡ c.args.chunks = omega arith in
-    rw end at c.loop-q.invariant.merged
+    rw end at c.loop-q.invariant.has
 
 pub put_in-requires-clause-in_bounds : goal.put_in-requires-clause-in_bounds
 put_in-requires-clause-in_bounds g c = omega arith

@@ -1,17 +1,15 @@
 use Rattle.std.proofs.Common.{◌≡◌, ℕ, ◌+◌, ◌*◌, ◌<◌, ◌≤◌, All, get_or, map, length}
-use Rattle.bit_words.specs.BlockMerges.{IsMergedBetween}
+use Rattle.bit_words.specs.BlockMerges.{HasMerged}
 use Rattle.bit_words.specs.Digits.{is_one}
 use Rattle.bit_words.specs.Summary.{is_used}
 use Rattle.bit_words.proofs.summary.merges.merge_chunks.Given as goal
 
 abbrev pub invariant-loop-q : goal.invariant-loop-q
 invariant-loop-q g l = record {
-  merged : IsMergedBetween g.O.Operation.merge g.B.BitBlock.width 0 (l.q * g.B.BitBlock.width) (map g.B.BitBlock.number l.fn.blocks) (map g.B.BitBlock.number l.others) (map g.B.BitBlock.number l.blocks);
+  has : HasMerged g.O.Operation.merge g.B.BitBlock.width g.B.BitBlock.number g.B.BitBlock.is_block 0 (l.q * g.B.BitBlock.width) l.fn.blocks l.others l.blocks;
   done : (p j : ℕ) → p < l.q → j < g.B.BitBlock.width → is_one (get_or (map g.B.BitBlock.number l.summary) p 0) j ≡ is_used (map g.B.BitBlock.number l.blocks) (p * g.B.BitBlock.width + j);
   past : (p : ℕ) → l.q ≤ p → get_or (map g.B.BitBlock.number l.summary) p 0 ≡ get_or (map g.B.BitBlock.number l.fn.summary) p 0;
-  each : All g.B.BitBlock.is_block l.blocks;
   each_sum : All g.B.BitBlock.is_block l.summary;
-  len : length l.blocks ≡ length l.fn.blocks;
   summary_len : length l.summary ≡ length l.fn.summary;
   steps : l.steps ≡ l.fn.steps + l.q * g.B.BitBlock.width;
 }

@@ -1,6 +1,5 @@
-use Rattle.std.proofs.Common.{◌≡◌, ℕ, ◌+◌, ◌-◌, ◌*◌, ◌<◌, ◌≤◌, ◌∙◌, ◌&&◌, nat_lt, false, List, [], refl, sym, ap, ap₂, map, get_or, length, arith}
-use Rattle.std.proofs.lemmas.List.{length-map}
-use Rattle.bit_words.specs.BlockMerges.{IsMergedBetween}
+use Rattle.std.proofs.Common.{◌≡◌, ℕ, ◌+◌, ◌-◌, ◌*◌, ◌<◌, ◌≤◌, ◌∙◌, false, List, [], refl, sym, ap, ap₂, map, get_or, length, arith}
+use Rattle.bit_words.specs.BlockMerges.{HasMerged}
 use Rattle.bit_words.specs.Digits.{is_one}
 use Rattle.bit_words.specs.Merges.{merge_of_values}
 use Rattle.bit_words.specs.Summary.{is_used}
@@ -8,25 +7,28 @@ use Rattle.bit_words.specs.declared.block.merge.Merge.{Merge}
 use Rattle.bit_words.specs.Storage.{value_at}
 use Rattle.bit_words.proofs.Masks.{is_one-zero}
 use Rattle.bit_words.proofs.MergeLemmas.{merged_more, merged_with_none}
-use Rattle.bit_words.proofs.SummaryLemmas.{digits_of_part, rest_updated, use_past_others, used_kept}
-use Rattle.bit_words.proofs.VectorLemmas.{numbers_below}
+use Rattle.bit_words.proofs.SummaryMergeLemmas.{tail_digits, use_past_others}
+use Rattle.bit_words.proofs.UsedLemmas.{says_kept}
 use Rattle.bit_words.proofs.summary.merges.merge_tail.Goals as goal
 
+-- where the blocks begin that are left
+begin : (w chunks bits : ℕ) → bits ≡ w → chunks * bits ≡ chunks * w
+begin w chunks bits e = ap (λ x. chunks * x) e
+
 -- the part that the others reach, and the rest
-tail_merged : (m : Merge) (w chunks bits start short long end : ℕ) (ms os ns ps : List ℕ) → bits ≡ w → start ≡ chunks * bits → length os ≡ short → chunks * w ≤ short → short ≤ long → end ≡ long → IsMergedBetween m w start (start + (short - start)) ms os ns → IsMergedBetween m w short end ns [] ps → IsMergedBetween m w (chunks * w) long ms os ps
-tail_merged m w chunks bits start short long end ms os ns ps e s len from within last part rest =
-    let begin : start ≡ chunks * w = s ∙ ap (λ x. chunks * x) e in
-    let inside : start ≤ short = omega (arith, begin, from) in
-    let reach : start + (short - start) ≡ short = omega (arith, inside) in
-    merged_more m w (chunks * w) short long short end ms os ns ps from within refl last (rw (sym begin, sym reach) part) (merged_with_none m w short end ns os ps (omega (arith, len)) rest)
+tail_merged : {X : Type 0} (m : Merge) (w : ℕ) (f : X → ℕ) (P : X → Type 0) (chunks bits short long : ℕ) (xs os ys zs : List X) → bits ≡ w → length os ≡ short → chunks * w ≤ short → length os ≤ length xs → long ≡ length xs → HasMerged m w f P (chunks * bits) (chunks * bits + (short - chunks * bits)) xs os ys → HasMerged m w f P short (length ys) ys [] zs → HasMerged m w f P (chunks * w) long xs os zs
+tail_merged m w f P chunks bits short long xs os ys zs e len from fewer all part rest =
+    let from_there = begin w chunks bits e in
+    let reach : chunks * bits + (short - chunks * bits) ≡ short = omega (arith, from_there, from) in
+    merged_more m w f P (chunks * w) short long short (length ys) xs os ys zs from (omega arith) refl (omega (arith, part.len)) (rw (sym from_there, sym reach) part) (merged_with_none m w f P short (length ys) ys os zs (omega (arith, len)) rest)
 
-pub returns-then-chunks-summary-clause-merged : goal.returns-then-chunks-summary-clause-merged
-returns-then-chunks-summary-clause-merged g c =
-    tail_merged _ g.B.BitBlock.width c.args.chunks c.bits.result (c.args.chunks * c.bits.result) (length c.args.others.now) (length c.args.blocks.now) _ _ _ _ _ c.bits.ensures refl (length-map _ _) c.requires.in_others c.requires.fewer (omega arith) c.merge_group-digits.ensures.merged c.merge_rest.ensures.merged
+pub returns-then-chunks-summary-clause-has : goal.returns-then-chunks-summary-clause-has
+returns-then-chunks-summary-clause-has g c =
+    tail_merged _ g.B.BitBlock.width _ _ c.args.chunks c.bits.result (length c.args.others.now) _ _ c.args.others.now _ _ c.bits.ensures refl c.requires.in_others c.requires.can.fewer refl c.merge_group-digits.ensures.has c.merge_rest.ensures.has
 
-pub returns-else-chunks-summary-clause-merged : goal.returns-else-chunks-summary-clause-merged
-returns-else-chunks-summary-clause-merged g c =
-    tail_merged _ g.B.BitBlock.width c.args.chunks c.bits.result (c.args.chunks * c.bits.result) (length c.args.others.now) (length c.args.blocks.now) _ _ _ _ _ c.bits.ensures refl (length-map _ _) c.requires.in_others c.requires.fewer (omega arith) c.merge_group-digits.ensures.merged c.merge_rest.ensures.merged
+pub returns-else-chunks-summary-clause-has : goal.returns-else-chunks-summary-clause-has
+returns-else-chunks-summary-clause-has g c =
+    tail_merged _ g.B.BitBlock.width _ _ c.args.chunks c.bits.result (length c.args.others.now) _ _ c.args.others.now _ _ c.bits.ensures refl c.requires.in_others c.requires.can.fewer refl c.merge_group-digits.ensures.has c.merge_rest.ensures.has
 
 pub returns-then-chunks-summary-clause-digits : goal.returns-then-chunks-summary-clause-digits
 returns-then-chunks-summary-clause-digits g c =
@@ -34,53 +36,39 @@ returns-then-chunks-summary-clause-digits g c =
     let f = g.B.BitBlock.number in
     let m = g.O.Operation.merge in
     let chunks = c.args.chunks in
-    let count = length c.args.others.now - chunks * c.bits.result in
-    let ms = map f c.args.blocks.now in
-    let os = map f c.args.others.now in
-    let ns = map f c.merge_rest.new.blocks in
-    let ss = map f c.args.summary.now in
-    let begin : chunks * c.bits.result ≡ chunks * w = ap (λ x. chunks * x) c.bits.ensures in
-    let len : length ns ≡ length ms = rw (length-map, length-map) (omega arith) in
-    let long : length c.args.blocks.now ≡ length ms = rw length-map refl in
-    let merged = tail_merged m w chunks c.bits.result (chunks * c.bits.result) (length c.args.others.now) (length c.args.blocks.now) _ ms os _ ns c.bits.ensures refl (length-map _ _) c.requires.in_others c.requires.fewer (omega arith) c.merge_group-digits.ensures.merged c.merge_rest.ensures.merged in
-    let rest : (k : ℕ) → chunks * w + count ≤ k → is_used ns k ≡ merge_of_values m (value_at w ss k) false = λ k from.
-    let past : length os ≤ k = rw length-map (omega (arith, begin, from, c.requires.in_others)) in
-    let reached : chunks * w ≤ k = omega (arith, from) in
-    use_past_others m w (chunks * w) k ms os ns len past reached (rw long at merged) (numbers_below w f _ _ (λ x is. (g.met.B.BitBlock.number_law x is).0) c.requires.each k) (numbers_below w f _ _ (λ x is. (g.met.B.BitBlock.number_law x is).0) c.merge_rest.ensures.each k)
-    ∙ ap (λ used. merge_of_values m used false) (sym (c.requires.rest k reached)) in
-    let made : (j : ℕ) → j < w → is_one (f c.merge_group-digits.result) j ≡ (nat_lt j count && is_used ns (chunks * w + j)) = λ j index.
-    used_kept w (chunks * c.bits.result) count _ (map f c.merge_group-digits.new.blocks) ns (λ q below. c.merge_rest.ensures.merged.before q (omega (arith, below, begin, c.requires.in_others))) c.merge_group-digits.ensures.digits j index
-    ∙ ap (λ s. nat_lt j count && is_used ns (s + j)) begin in
-    let alone : (j : ℕ) → j < w → is_one (f c.of_blocks-alone.result) j ≡ merge_of_values m (is_one (get_or ss chunks 0) j) false = λ j index.
+    let count = length c.args.others.now - chunks * w in
+    let ss = c.args.summary.now in
+    let start = begin w chunks c.bits.result c.bits.ensures in
+    let merged = tail_merged m w f _ chunks c.bits.result (length c.args.others.now) _ _ c.args.others.now _ _ c.bits.ensures refl c.requires.in_others c.requires.can.fewer refl c.merge_group-digits.ensures.has c.merge_rest.ensures.has in
+    let rest : (k : ℕ) → chunks * w + count ≤ k → is_used (map f c.merge_rest.new.blocks) k ≡ merge_of_values m (value_at w (map f ss) k) false = λ k from.
+    use_past_others m w f _ (chunks * w) k _ c.args.others.now _ (λ x is. (g.met.B.BitBlock.number_law x is).0) c.requires.can.each (omega (arith, from, c.requires.in_others)) (omega (arith, from)) merged
+    ∙ ap (λ used. merge_of_values m used false) (sym (c.requires.rest k (omega (arith, from)))) in
+    let made = says_kept w f _ (chunks * c.bits.result) _ _ _ _ (λ q below. c.merge_rest.ensures.has.merged.before q (omega (arith, below, start, c.requires.in_others))) c.merge_group-digits.ensures.says in
+    let alone : (j : ℕ) → j < w → is_one (f c.of_blocks-alone.result) j ≡ merge_of_values m (is_one (get_or (map f ss) chunks 0) j) false = λ j index.
     c.of_blocks-alone.ensures.digits j index
     ∙ ap₂ (merge_of_values m) (ap (λ n. is_one n j) c.block_at.ensures.of_number) (ap (λ n. is_one n j) c.zero.ensures.of_number ∙ is_one-zero j) in
-    let put : (j : ℕ) → j < w → is_one (f c.block_or.result) j ≡ is_used ns (chunks * w + j) = digits_of_part m w chunks count _ _ _ _ ss ns made alone c.cut_below.ensures.digits c.block_or.ensures.of_digits rest in
-    λ q j from below index.
-    let within : chunks < length ss = rw length-map (omega arith) in
-    let inside : q < length ss = rw length-map (omega (arith, below)) in
-    let end : length c.put_in.new.blocks ≡ length ss = rw length-map (omega arith) in
-    rest_updated m w chunks _ ns ss _ _ within c.put_in.ensures.numbers put (rw end at c.merge_rest-then-chunks-summary.ensures.merged) (λ k past. rest k (omega (arith, past, begin, c.requires.last))) q j from inside index
+    tail_digits m w f _ chunks count _ _ ss c.put_in.new.blocks _ _ _ _ c.if-chunks-summary.true (rw start at made) alone (rw start at c.cut_below.ensures.digits) c.block_or.ensures.of_digits c.put_in.ensures.numbers c.put_in.ensures.len c.merge_rest-then-chunks-summary.ensures.has (omega (arith, c.requires.last)) rest
 
 pub overflow_mul-start : goal.overflow_mul-start
-overflow_mul-start g c = let begin = ap (λ x. c.args.chunks * x) c.bits.ensures in omega (arith, begin, c.requires.in_others)
+overflow_mul-start g c = omega (arith, begin _ c.args.chunks _ c.bits.ensures, c.requires.in_others)
 
 pub overflow_sub-count : goal.overflow_sub-count
-overflow_sub-count g c = let begin = ap (λ x. c.args.chunks * x) c.bits.ensures in omega (arith, begin, c.requires.in_others)
+overflow_sub-count g c = omega (arith, begin _ c.args.chunks _ c.bits.ensures, c.requires.in_others)
 
 pub merge_group-digits-requires-clause-in_others : goal.merge_group-digits-requires-clause-in_others
-merge_group-digits-requires-clause-in_others g c = let begin = ap (λ x. c.args.chunks * x) c.bits.ensures in omega (arith, begin, c.requires.in_others)
+merge_group-digits-requires-clause-in_others g c = omega (arith, begin _ c.args.chunks _ c.bits.ensures, c.requires.in_others)
 
 pub merge_group-digits-requires-clause-within : goal.merge_group-digits-requires-clause-within
-merge_group-digits-requires-clause-within g c = let begin = ap (λ x. c.args.chunks * x) c.bits.ensures in omega (arith, begin, c.requires.last)
+merge_group-digits-requires-clause-within g c = omega (arith, begin _ c.args.chunks _ c.bits.ensures, c.requires.last)
 
 pub merge_rest-requires-clause-within : goal.merge_rest-requires-clause-within
-merge_rest-requires-clause-within g c = omega (arith, c.requires.fewer, c.merge_group-digits.ensures.len)
+merge_rest-requires-clause-within g c = omega (arith, c.requires.can.fewer, c.merge_group-digits.ensures.has.len)
 
 pub block_at-requires-clause-in_bounds : goal.block_at-requires-clause-in_bounds
 block_at-requires-clause-in_bounds g c = c.if-chunks-summary.true
 
 pub cut_below-requires-clause-within : goal.cut_below-requires-clause-within
-cut_below-requires-clause-within g c = let begin = ap (λ x. c.args.chunks * x) c.bits.ensures in omega (arith, begin, c.requires.last)
+cut_below-requires-clause-within g c = omega (arith, begin _ c.args.chunks _ c.bits.ensures, c.requires.last)
 
 pub put_in-requires-clause-in_bounds : goal.put_in-requires-clause-in_bounds
 put_in-requires-clause-in_bounds g c = c.if-chunks-summary.true

@@ -8,27 +8,17 @@ use Rattle.bit_words.proofs.summary.queries.ones_of_runs.Goals as goal
 
 pub ones_of-ones-requires-clause-fits : goal.ones_of-ones-requires-clause-fits
 ones_of-ones-requires-clause-fits g c =
-    let number = g.B.BitBlock.number in
-    let w = g.B.BitBlock.width in
     let xs = c.args.blocks.now in
-    let i = c.loop-q.q in
-    let n = c.chunks_before_zero-used.result in
-    let front = c.first_chunks-in-loop-q.result.0.now in
-    let back = c.first_chunks.result.1.now in
-    let more = chunks_counted number w i n c.loop-q.ones xs back front c.loop-q.invariant.counted c.first_chunks-in-loop-q.ensures.first c.first_chunks.ensures.rest in
-    omega (arith, more, sum_by-take-le (λ x. count_ones (number x)) xs ((i + n) * w), c.requires.fits)
+    let end = (c.loop-q.q + c.chunks_before_zero-used.result) * g.B.BitBlock.width in
+    let more = chunks_counted g.B.BitBlock.number _ _ c.chunks_before_zero-used.result _ xs _ c.first_chunks-in-loop-q.result.0.now c.loop-q.invariant.counted c.first_chunks-in-loop-q.ensures.first c.first_chunks.ensures.rest in
+    omega (arith, more, sum_by-take-le (λ x. count_ones (g.B.BitBlock.number x)) xs end, c.requires.fits)
 
 pub overflow_add-ones : goal.overflow_add-ones
 overflow_add-ones g c =
-    let number = g.B.BitBlock.number in
-    let w = g.B.BitBlock.width in
     let xs = c.args.blocks.now in
-    let i = c.loop-q.q in
-    let n = c.chunks_before_zero-used.result in
-    let front = c.first_chunks-in-loop-q.result.0.now in
-    let back = c.first_chunks.result.1.now in
-    let more = chunks_counted number w i n c.loop-q.ones xs back front c.loop-q.invariant.counted c.first_chunks-in-loop-q.ensures.first c.first_chunks.ensures.rest in
-    omega (arith, more, c.ones_of-ones.ensures, sum_by-take-le (λ x. count_ones (number x)) xs ((i + n) * w), c.requires.fits)
+    let end = (c.loop-q.q + c.chunks_before_zero-used.result) * g.B.BitBlock.width in
+    let more = chunks_counted g.B.BitBlock.number _ _ c.chunks_before_zero-used.result _ xs _ c.first_chunks-in-loop-q.result.0.now c.loop-q.invariant.counted c.first_chunks-in-loop-q.ensures.first c.first_chunks.ensures.rest in
+    omega (arith, more, c.ones_of-ones.ensures, sum_by-take-le (λ x. count_ones (g.B.BitBlock.number x)) xs end, c.requires.fits)
 
 pub loop-q-preserved : goal.loop-q-preserved
 loop-q-preserved g c =

@@ -20,23 +20,16 @@ overflow_add-self g c = record { fits = omega (arith, within g (goal.at.overflow
 pub invariant_of-self : goal.invariant_of-self
 invariant_of-self g c = within g (goal.at.invariant_of-self g c).After-zeros_before-zeros
 
-pub returns-clause-there : goal.returns-clause-there
-returns-clause-there g c = omega (arith, c.zeros_before-zeros.ensures.within, ap length c.as_slice.ensures)
-
-pub returns-clause-zeros : goal.returns-clause-zeros
-returns-clause-zeros g c = rw c.as_slice.ensures at c.zeros_before-zeros.ensures.zeros
-
-pub returns-clause-left : goal.returns-clause-left
-returns-clause-left g c =
-    let zeros = c.zeros_before-zeros.result in
-    sym (drop-drop zeros c.self.inside.at c.self.inside.blocks.now) ∙ ap (λ s. drop zeros s.left) c.self.view_is
-
-pub returns-clause-fewer : goal.returns-clause-fewer
-returns-clause-fewer g c =
+pub returns : goal.returns
+returns g c =
     let at = c.self.inside.at in
     let xs = c.self.inside.blocks.now in
+    let zeros = c.zeros_before-zeros.result in
     let all = ap (λ s. length s.left) c.self.view_is in
-    omega (arith, all, length-drop at xs, length-drop (at + c.zeros_before-zeros.result) xs, within g (goal.at.returns-clause-fewer g c).After-zeros_before-zeros)
-
-pub returns-clause-pulls : goal.returns-clause-pulls
-returns-clause-pulls g c = omega (arith, c.tick_by.ensures, ap (λ s. s.pulls) c.self.view_is)
+    record {
+      there = omega (arith, c.zeros_before-zeros.ensures.within, ap length c.as_slice.ensures);
+      zeros = rw c.as_slice.ensures at c.zeros_before-zeros.ensures.zeros;
+      left = sym (drop-drop zeros at xs) ∙ ap (λ s. drop zeros s.left) c.self.view_is;
+      fewer = omega (arith, all, length-drop at xs, length-drop (at + zeros) xs, within g (goal.at.returns g c).After-zeros_before-zeros);
+      pulls = omega (arith, c.tick_by.ensures, ap (λ s. s.pulls) c.self.view_is);
+    }

@@ -7,7 +7,7 @@ use Rattle.bit_words.proofs.ChangeLemmas.{div_le}
 use Rattle.bit_words.proofs.MergeLemmas.{merged_more}
 use Rattle.bit_words.proofs.StorageLemmas.{value_at-is}
 use Rattle.bit_words.proofs.SummaryLemmas.{digits_of_summary, summary_of_digits}
-use Rattle.bit_words.proofs.summary.merges.merge_with_summary.Goals as goal
+use Rattle.bit_words.proofs.summary.merges.merge_long.Goals as goal
 
 -- the blocks of whole chunks are among the others, and those of the chunk after them are the last
 chunks_inside : (w len chunks : ℕ) → chunks ≡ len / w → chunks * w ≤ len
@@ -50,20 +50,13 @@ merge_tail-requires-clause-rest g c = λ k from.
     ∙ ap (λ n. is_one n (k % w)) (c.merge_chunks.ensures.past (k / w) (chunk_reached w c.block_index-chunks.result k g.met.B.BitBlock.width_law.positive from))
     ∙ sym (value_at-is w ss k)
     ∙ c.requires.summary.digit k
-    ∙ ap (λ m. not (m == 0)) (sym (c.merge_chunks.ensures.merged.after k from))
+    ∙ ap (λ m. not (m == 0)) (sym (c.merge_chunks.ensures.has.merged.after k from))
 
 pub returns-clause-has : goal.returns-clause-has
 returns-clause-has g c =
-    let w = g.B.BitBlock.width in
     let chunks = c.block_index-chunks.result in
-    let xs = c.merge_tail.new.blocks in
-    let inside = chunks_inside w (length c.args.others.now) chunks c.block_index-chunks.ensures in
-    let len : length xs ≡ length c.args.blocks.now = omega arith in
-    record {
-      merged = merged_more _ w 0 (chunks * w) (length c.args.blocks.now) (chunks * w) (length c.merge_chunks.new.blocks) _ _ _ _ (omega arith) (omega (arith, inside, c.requires.can.fewer)) refl (omega arith) c.merge_chunks.ensures.merged c.merge_tail.ensures.merged;
-      each = c.merge_tail.ensures.each;
-      len = len;
-    }
+    let inside = chunks_inside g.B.BitBlock.width (length c.args.others.now) chunks c.block_index-chunks.ensures in
+    merged_more _ _ _ _ 0 (chunks * g.B.BitBlock.width) (length c.args.blocks.now) _ _ _ _ _ _ (omega arith) (omega (arith, inside, c.requires.can.fewer)) refl c.merge_chunks.ensures.has.len c.merge_chunks.ensures.has c.merge_tail.ensures.has
 
 pub returns-clause-summary : goal.returns-clause-summary
 returns-clause-summary g c =
@@ -83,7 +76,7 @@ returns-clause-summary g c =
     let low = mul-le-mul_right w first in
     ap (λ n. is_one n j) (c.merge_tail.ensures.before q early)
     ∙ c.merge_chunks.ensures.digits q j early index
-    ∙ ap (λ m. not (m == 0)) (sym (c.merge_tail.ensures.merged.before (q * w + j) (omega (arith, low)))))
+    ∙ ap (λ m. not (m == 0)) (sym (c.merge_tail.ensures.has.merged.before (q * w + j) (omega (arith, low)))))
     (λ late.
     let inside_summary : q < length summary = rw length-map at below in
     c.merge_tail.ensures.digits q j late (omega (arith, inside_summary)) index)

@@ -1,7 +1,7 @@
 use Rattle.std.proofs.Common.{map, arith, ⊎_elim}
 use Rattle.std.proofs.lemmas.Bool.{cases_lt}
 use Rattle.std.proofs.lemmas.List.{get_or_past, length-map}
-use Rattle.bit_words.proofs.packed.mismatch.first_nonzero_block.Goals as goal
+use Rattle.bit_words.proofs.packed.searching.first_nonzero_block.Goals as goal
 
 pub returns : goal.returns
 returns g c = λ k from.

@@ -5,13 +5,13 @@ ghost use Rattle.bit_words.specs.Merges.{merge_of_values};
 ghost use Rattle.bit_words.specs.declared.block.merge.Merge.{Merge};
 
 use crate::block::BitBlock;
-use crate::block::merge::Merge;
+use crate::block::operators::{block_and, block_not, block_or, block_xor};
 
-/// A [`Merge`] by a type. Generic code is then built once for each, with no choice inside.
+/// A `Merge` by a type. Generic code is then built once for each, with no choice inside.
 pub trait Operation {
     ghost merge: { Merge };
 
-    /// What two blocks become, bit by bit, as [`Merge::of_blocks`] has it. Constant time.
+    /// What two blocks become, bit by bit, as `Merge::of_blocks` has it. Constant time.
     fn of_blocks<B: BitBlock>(a: B, b: B) -> B
         requires left { B.is_block a }
         requires right { B.is_block b }
@@ -21,16 +21,16 @@ pub trait Operation {
             ≡ merge_of_values merge (bit_at (B.number a) i == 1) (bit_at (B.number b) i == 1) };
 }
 
-/// [`Merge::Union`].
+/// `Merge::Union`.
 pub struct Union;
 
-/// [`Merge::Intersection`].
+/// `Merge::Intersection`.
 pub struct Intersection;
 
-/// [`Merge::Difference`].
+/// `Merge::Difference`.
 pub struct Difference;
 
-/// [`Merge::Symmetric`].
+/// `Merge::Symmetric`.
 pub struct Symmetric;
 
 impl Operation for Union {
@@ -38,7 +38,7 @@ impl Operation for Union {
 
     #[inline]
     fn of_blocks<B: BitBlock>(a: B, b: B) -> B {
-        Merge::Union.of_blocks(a, b)
+        block_or(a, b)
     }
 }
 
@@ -47,7 +47,7 @@ impl Operation for Intersection {
 
     #[inline]
     fn of_blocks<B: BitBlock>(a: B, b: B) -> B {
-        Merge::Intersection.of_blocks(a, b)
+        block_and(a, b)
     }
 }
 
@@ -56,7 +56,7 @@ impl Operation for Difference {
 
     #[inline]
     fn of_blocks<B: BitBlock>(a: B, b: B) -> B {
-        Merge::Difference.of_blocks(a, b)
+        block_and(a, block_not(b))
     }
 }
 
@@ -65,6 +65,6 @@ impl Operation for Symmetric {
 
     #[inline]
     fn of_blocks<B: BitBlock>(a: B, b: B) -> B {
-        Merge::Symmetric.of_blocks(a, b)
+        block_xor(a, b)
     }
 }

@@ -1,0 +1,116 @@
+-- The summary of what the blocks of two lists merge to.
+use Rattle.std.proofs.Common.{◌≡◌, ℕ, ◌+◌, ◌*◌, ◌^◌, ◌<◌, ◌≤◌, Bool, true, false, not, ◌&&◌, ◌||◌, ◌==◌, nat_le, List, [], map, length, get_or, set, All, refl, sym, ap, ap₂, ◌∙◌, arith, ⊎_elim, get_or-set_same, get_or-set_other, mul-le-mul_right}
+use Rattle.std.proofs.Math.Bool.{and-false, and-true, or-false}
+use Rattle.std.proofs.lemmas.Bool.{cases_lt, cases_eq, true≢false}
+use Rattle.std.proofs.lemmas.List.{get_or_past, length-map}
+use Rattle.std.proofs.lemmas.Nat.Bits.{same_from_bits_below}
+use Rattle.bit_words.specs.Digits.{IsEither, is_one}
+use Rattle.bit_words.specs.declared.block.merge.Merge.{Merge}
+use Rattle.bit_words.specs.declared.block.merge.Merge.TheVariants.{Union, Intersection, Difference, Symmetric}
+use Rattle.bit_words.specs.Merges.{merge_of_values}
+use Rattle.bit_words.specs.BlockMerges.{HasMerged}
+use Rattle.bit_words.specs.Storage.{value_at}
+use Rattle.bit_words.specs.Summary.{is_used, IsSummary, SaysUsed}
+use Rattle.bit_words.proofs.CompareLemmas.{zero_from_digits}
+use Rattle.bit_words.proofs.Masks.{is_one-either, is_one-zero}
+use Rattle.bit_words.proofs.MergeLemmas.{merge_of_values-none}
+use Rattle.bit_words.proofs.StorageLemmas.{same_digit, value_at-index}
+use Rattle.bit_words.proofs.SummaryLemmas.{false_from_unused, unused_from_false, used_from_zero, used_past}
+use Rattle.bit_words.proofs.TestLemmas.{above_and, before_and, below_and, from_and}
+use Rattle.bit_words.proofs.VectorLemmas.{numbers_below}
+
+-- ---- of a union, by the summaries of both
+
+-- a union is 0 where both are
+or_false_left : (a b : Bool) → (a || b) ≡ false → a ≡ false
+or_false_left true b e = e
+or_false_left false b e = refl
+
+or_false_right : (a b : Bool) → (a || b) ≡ false → b ≡ false
+or_false_right true b e = absurd (true≢false e)
+or_false_right false b e = e
+
+used_union : (w : ℕ) (ms os ns : List ℕ) (k : ℕ) → get_or ms k 0 < 2 ^ w → get_or os k 0 < 2 ^ w → get_or ns k 0 < 2 ^ w → ((i : ℕ) → value_at w ns i ≡ (value_at w ms i || value_at w os i)) → is_used ns k ≡ (is_used ms k || is_used os k)
+used_union w ms os ns k small also merged each = union (is_used ns k) (is_used ms k) (is_used os k) refl refl refl
+  where
+    union : (c a b : Bool) → is_used ns k ≡ c → is_used ms k ≡ a → is_used os k ≡ b → c ≡ (a || b)
+    union false a b none e f =
+        let falses : (j : ℕ) → j < w → (value_at w ms (k * w + j) || value_at w os (k * w + j)) ≡ false = λ j index. sym (each (k * w + j)) ∙ false_from_unused w ns k j index none in
+        let first = unused_from_false w ms k small (λ j index. or_false_left _ _ (falses j index)) in
+        let second = unused_from_false w os k also (λ j index. or_false_right _ _ (falses j index)) in
+        sym (ap₂ (λ x y. x || y) (sym e ∙ first) (sym f ∙ second))
+    union true true b some e f = refl
+    union true false true some e f = refl
+    union true false false some e f =
+        let none = unused_from_false w ns k merged (λ j index. each (k * w + j) ∙ ap₂ (λ x y. x || y) (false_from_unused w ms k j index e) (false_from_unused w os k j index f)) in
+        absurd (true≢false (sym some ∙ none))
+
+pub union_use : {X : Type 0} (w k : ℕ) (f : X → ℕ) (P : X → Type 0) (xs os ys xsummary osummary : List X) → ((x : X) → P x → f x < 2 ^ w) → All P xs → All P os → All P ys → IsSummary w f P xs xsummary → IsSummary w f P os osummary → ((i : ℕ) → value_at w (map f ys) i ≡ (value_at w (map f xs) i || value_at w (map f os) i)) → is_used (map f ys) k ≡ (value_at w (map f xsummary) k || value_at w (map f osummary) k)
+union_use w k f P xs os ys xsummary osummary below each_x each_o each_y first second each =
+    used_union w (map f xs) (map f os) (map f ys) k (numbers_below w f P xs below each_x k) (numbers_below w f P os below each_o k) (numbers_below w f P ys below each_y k) each
+    ∙ sym (ap₂ (λ a b. a || b) (first.digit k) (second.digit k))
+
+-- ---- of the others, made while the blocks are merged
+
+-- a value merged with none
+kept_by_symmetric : (a : Bool) → merge_of_values Symmetric a false ≡ a
+kept_by_symmetric true = refl
+kept_by_symmetric false = refl
+
+stays : (m : Merge) (w a b : ℕ) → ((x : Bool) → merge_of_values m x false ≡ x) → a < 2 ^ w → b < 2 ^ w → ((j : ℕ) → j < w → is_one b j ≡ merge_of_values m (is_one a j) false) → not (b == 0) ≡ merge_of_values m (not (a == 0)) false
+stays m w a b same small also digits =
+    ap (λ n. not (n == 0)) (same_from_bits_below w b a also small (λ j index. same_digit b a j (digits j index ∙ same (is_one a j))))
+    ∙ sym (same (not (a == 0)))
+
+-- whether a block that was merged with none is 0
+used_isolated : (m : Merge) (w a b : ℕ) → a < 2 ^ w → b < 2 ^ w → ((j : ℕ) → j < w → is_one b j ≡ merge_of_values m (is_one a j) false) → not (b == 0) ≡ merge_of_values m (not (a == 0)) false
+used_isolated Union w a b small also digits = stays Union w a b or-false small also digits
+used_isolated Intersection w a b small also digits =
+    used_from_zero b (zero_from_digits w b also (λ j index. digits j index ∙ and-false (is_one a j))) ∙ sym (and-false (not (a == 0)))
+used_isolated Difference w a b small also digits = stays Difference w a b and-true small also digits
+used_isolated Symmetric w a b small also digits = stays Symmetric w a b kept_by_symmetric small also digits
+
+module _ {X : Type 0} (m : Merge) (w : ℕ) (f : X → ℕ) (P : X → Type 0) where
+  -- past the others, whether a block is not 0 is merged with none
+  pub use_past_others : (start k : ℕ) (xs os ys : List X) → ((x : X) → P x → f x < 2 ^ w) → All P xs → length os ≤ k → start ≤ k → HasMerged m w f P start (length xs) xs os ys → is_used (map f ys) k ≡ merge_of_values m (is_used (map f xs) k) false
+  use_past_others start k xs os ys below each past from is =
+      let ms = map f xs in
+      ⊎_elim
+      (λ within. used_isolated m w _ _ (numbers_below w f P xs below each k) (numbers_below w f P ys below is.each k) (λ j index.
+      is.merged.digit k j from within index
+      ∙ ap (merge_of_values m (is_one (get_or ms k 0) j)) (ap (λ n. is_one n j) (get_or_past (map f os) k 0 (rw length-map past)) ∙ is_one-zero j)))
+      (λ (outside : length xs ≤ k). used_past (map f ys) k (rw length-map (omega (arith, is.len))) ∙ sym (ap (λ b. merge_of_values m b false) (used_past ms k (rw length-map outside)) ∙ merge_of_values-none m))
+      (cases_lt k (length xs))
+
+  -- a block of the summary whose first digits were made while blocks were merged, and whose others were merged with none
+  digits_of_part : (q count alone cut : ℕ) (ss ys : List X) (made whole : X) → SaysUsed w f P ys (q * w) count made → ((j : ℕ) → j < w → is_one alone j ≡ merge_of_values m (is_one (get_or (map f ss) q 0) j) false) → ((j : ℕ) → j < w → is_one cut j ≡ (nat_le count j && is_one alone j)) → IsEither w (f made) cut (f whole) → ((k : ℕ) → q * w + count ≤ k → is_used (map f ys) k ≡ merge_of_values m (value_at w (map f ss) k) false) → (j : ℕ) → j < w → is_one (f whole) j ≡ is_used (map f ys) (q * w + j)
+  digits_of_part q count alone cut ss ys made whole says past kept either rest j index =
+      let used : Bool = is_used (map f ys) (q * w + j) in
+      is_one-either w (f made) cut (f whole) j either index
+      ∙ ⊎_elim
+      (λ below.
+      ap₂ (λ x y. x || y) (says.digit j index ∙ below_and count j used below) (kept j index ∙ before_and count j (is_one alone j) below)
+      ∙ or-false used)
+      (λ from.
+      ap₂ (λ x y. x || y) (says.digit j index ∙ above_and count j used from) (kept j index ∙ from_and count j (is_one alone j) from ∙ past j index)
+      ∙ ap (λ b. merge_of_values m b false) (sym (value_at-index w (map f ss) q j index))
+      ∙ sym (rest (q * w + j) (omega (arith, from))))
+      (cases_lt j count)
+
+  -- such a block is written, and those past it are merged with none
+  pub tail_digits : (start count alone cut : ℕ) (ss ts us ys : List X) (made whole : X) → start < length ss → SaysUsed w f P ys (start * w) count made → ((j : ℕ) → j < w → is_one alone j ≡ merge_of_values m (is_one (get_or (map f ss) start 0) j) false) → ((j : ℕ) → j < w → is_one cut j ≡ (nat_le count j && is_one alone j)) → IsEither w (f made) cut (f whole) → map f ts ≡ set (map f ss) start (f whole) → length ts ≡ length ss → HasMerged m w f P (start + 1) (length ts) ts [] us → count ≤ w → ((k : ℕ) → start * w + count ≤ k → is_used (map f ys) k ≡ merge_of_values m (value_at w (map f ss) k) false) → (q j : ℕ) → start ≤ q → q < length ss → j < w → is_one (get_or (map f us) q 0) j ≡ is_used (map f ys) (q * w + j)
+  tail_digits start count alone cut ss ts us ys made whole within says past kept either e len rest_merged few rest q j from below index =
+      let olds = map f ss in
+      let merged = rest_merged.merged in
+      ⊎_elim
+      (λ here.
+      ap (λ x. is_one x j) (merged.before q (omega arith) ∙ ap (λ ns. get_or ns q 0) e ∙ ap (λ x. get_or (set olds start (f whole)) x 0) here ∙ get_or-set_same olds start (f whole) 0 (rw length-map within))
+      ∙ digits_of_part start count alone cut ss ys made whole says past kept either rest j index
+      ∙ ap (λ x. is_used (map f ys) (x * w + j)) (sym here))
+      (λ there.
+      let later = mul-le-mul_right w (let l : start + 1 ≤ q = omega arith in l) in
+      let old : get_or (map f ts) q 0 ≡ get_or olds q 0 = ap (λ ns. get_or ns q 0) e ∙ get_or-set_other olds start q (f whole) 0 there in
+      merged.digit q j (omega arith) (omega arith) index
+      ∙ ap₂ (merge_of_values m) (ap (λ x. is_one x j) old ∙ sym (value_at-index w olds q j index)) (ap (λ x. is_one x j) (get_or_past [] q 0 (omega arith)) ∙ is_one-zero j)
+      ∙ sym (rest (q * w + j) (omega (arith, later))))
+      (cases_eq q start)

@@ -1,0 +1,34 @@
+use Rattle.std.proofs.Common.{◌≤◌, ◌∙◌, sym, length, arith}
+use Rattle.bit_words.proofs.BitsLemmas.{blocks_for-le}
+use Rattle.bit_words.proofs.MergeLemmas.{merges_of_values}
+use Rattle.bit_words.proofs.SummaryLemmas.{summary_of_digits}
+use Rattle.bit_words.proofs.SummaryMergeLemmas.{union_use}
+use Rattle.bit_words.proofs.summary.merges.unite_long.Given.{Over}
+use Rattle.bit_words.proofs.summary.merges.unite_long.Goals.{After-merge_each}
+use Rattle.bit_words.proofs.summary.merges.unite_long.Goals as goal
+
+-- the other summary has no more blocks
+fewer : (g : Over) (c : After-merge_each g) → length c.args.other_summary.now ≤ length c.args.summary.now
+fewer g c =
+    let le = blocks_for-le g.B.BitBlock.width (length c.args.others.now) (length c.args.blocks.now) g.met.B.BitBlock.width_law.positive c.requires.can.fewer in
+    omega (arith, le, c.requires.summary.packed.count, c.requires.other_summary.packed.count)
+
+pub merge_each-requires-2-clause-can : goal.merge_each-requires-2-clause-can
+merge_each-requires-2-clause-can g c = record {
+  fewer = fewer g (goal.at.merge_each-requires-2-clause-can g c).After-merge_each;
+  each = c.requires.summary.packed.each;
+  others = c.requires.other_summary.packed.each;
+}
+
+pub returns-clause-summary : goal.returns-clause-summary
+returns-clause-summary g c =
+    let w = g.B.BitBlock.width in
+    let f = g.B.BitBlock.number in
+    let pos = g.met.B.BitBlock.width_law.positive in
+    let own = c.merge_each.ensures.has in
+    let made = c.merge_each-2.ensures.has in
+    let each = merges_of_values _ w f _ _ _ _ pos c.requires.can.fewer own in
+    let summary = merges_of_values _ w f _ _ _ _ pos (fewer g (goal.at.returns-clause-summary g c).After-merge_each) made in
+    summary_of_digits w f _ c.merge_each.new.blocks c.merge_each-2.new.blocks made.each (rw own.len (omega (arith, made.len, c.requires.summary.packed.count))) (omega (arith, own.len, c.requires.summary.packed.fits)) (λ k.
+    summary k
+    ∙ sym (union_use w k f g.B.BitBlock.is_block c.args.blocks.now c.args.others.now c.merge_each.new.blocks c.args.summary.now c.args.other_summary.now (λ x is. (g.met.B.BitBlock.number_law x is).0) c.requires.can.each c.requires.can.others own.each c.requires.summary c.requires.other_summary each))
