@@ -1,5 +1,5 @@
 -- Which slots are free, as the set keeps them.
-use Rattle.std.proofs.Common.{◌≡◌, ◌≢◌, ℕ, zero, suc, ◌+◌, ◌<◌, ◌≤◌, ◌↔◌, ◌==◌, Bool, true, false, not, ◌||◌, ◌&&◌, if◌then◌else◌, leb, ltb, List, [], ◌∷◌, length, max, replicate, slice_get, Option, None, Some, MatchOption, refl, sym, ap, ◌∙◌, subst, arith, inl, inr, ⊎_elim}
+use Rattle.std.proofs.Common.{◌≡◌, ◌≢◌, ℕ, zero, suc, ◌+◌, ◌<◌, ◌≤◌, ◌↔◌, ◌==◌, Bool, true, false, not, ◌||◌, ◌&&◌, if◌then◌else◌, leb, ltb, List, [], ◌∷◌, length, max, replicate, slice_get, Option, None, Some, MatchOption, refl, sym, ap, ◌∙◌, subst, arith, inl, inr, ⊎_elim, ◌⊎◌}
 use Rattle.std.proofs.lemmas.Bool.{and_parts, and_right, cases_eq, cases_lt, eq-eqb, le-leb, le-ltb, leb-true, lt-ltb, ne_eqb, not-false, true≢false}
 use Rattle.std.proofs.Math.Bool.{and-false}
 use Rattle.std.proofs.lemmas.List.{length-replicate}
@@ -137,9 +137,16 @@ none_below s given from none not_given n below =
       | inr other ↦ none n below other
     ]
 
--- that one is taken changes nothing
-pub none_but_taken : (s : List ℕ) (given from slot : ℕ) → ((m : ℕ) → has (without s slot) m ≡ (not (slot == m) && has s m)) → HasNoneBut s given from → HasNoneBut (without s slot) given from
-none_but_taken s given from slot members none n below other = members n ∙ ap (λ b. not (slot == n) && b) (none n below other) ∙ and-false (not (slot == n))
+-- where the search goes once one is taken, and no other from there up to it is free
+pub none_but_taken : (s : List ℕ) (given from slot from_then taken : ℕ) → ((m : ℕ) → has (without s taken) m ≡ (not (taken == m) && has s m)) → HasNoneBut s given from → ((n : ℕ) → slot ≤ n → n < taken → has s n ≡ false) → ((n : ℕ) → n < from_then → from ≤ n → (slot ≤ n) × (n ≤ taken)) → HasNoneBut (without s taken) given from_then
+none_but_taken s given from slot from_then taken members none lowest between n below other = members n ∙ elim (cases_eq taken n) [
+  | inl same ↦ rw (eq-eqb taken n same) refl
+  | inr apart ↦ ap (λ b. not (taken == n) && b) (absent apart (cases_lt n from)) ∙ and-false (not (taken == n))
+]
+  where
+    absent : taken ≢ n → (n < from) ⊎ (from ≤ n) → has s n ≡ false
+    absent apart (inl before) = none n before other
+    absent apart (inr past) = let at = between n below past in lowest n at.0 (omega (arith, at.1, apart))
 
 -- where the search goes once one is given back, before it is in
 pub none_but_less : (s : List ℕ) (given from slot given_then from_then : ℕ) (is_free : Bool) → HasNoneBut s given from → is_free ≡ has s given → ((n : ℕ) → n < from_then → n ≢ given_then → (n < from) × (n ≢ slot) × (is_free ≡ true → n ≢ given)) → HasNoneBut s given_then from_then

@@ -15,7 +15,8 @@ use bit_set::{BitBlock, BitSet};
 use std::alloc::{AllocError, Global};
 use std::marker::Model;
 
-/// So many slots, numbered from 0 on, each of them free or taken. Only the making of them takes memory.
+/// So many slots, numbered from 0 on, each of them free or taken. Only the making of them takes memory, which no
+/// clause says: it is tested.
 #[derive(Drop)]
 pub struct Slots<B: BitBlock> {
     // As long as there are slots, and those that are free are in.
@@ -55,8 +56,12 @@ impl<B: BitBlock> Slots<B> {
 
     /// How many slots there are, free and taken. Constant time.
     pub fn len(&self) -> usize
-        ensures { result ≡ self.now.len }
+        ensures value { result ≡ self.now.len }
+        ensures ascending { IsAscending self.now.free }
+        ensures inside { (slot : ℕ) → IsTrue (has self.now.free slot) → slot < self.now.len }
     {
+        members_of_sets();
+        sets_ascend();
         self.free.get_ref().len()
     }
 
@@ -74,8 +79,9 @@ impl<B: BitBlock> Slots<B> {
         self.free.count()
     }
 
-    /// Takes the lowest free slot, and returns it; `None` where all are taken. Constant time where it is the slot that
-    /// was given back last, or the one past those that `take` has taken; else it searches the set's summary.
+    /// Takes the lowest free slot, and returns it; `None` where all are taken. It keeps a number below which all slots
+    /// are taken, but perhaps one that was given back. That one takes constant time, and any other a search of the
+    /// set's summary from the number on, which then goes past it.
     pub fn take(&mut self) -> Option<usize>
         ensures full { (result ≡ None) ↔ (self.old.free ≡ []) }
         ensures lowest { IfSome result (λ slot. IsLowestFree self.old 0 slot) }
@@ -103,6 +109,7 @@ impl<B: BitBlock> Slots<B> {
     }
 
     /// Takes the lowest free slot that is at or above `slot`, and returns it; `None` where each of these is taken.
+    /// Searches the set's summary from `slot` on.
     pub fn take_at_or_above(&mut self, slot: usize) -> Option<usize>
         ensures full { (result ≡ None) ↔ (those_from self.old.free slot ≡ []) }
         ensures lowest { IfSome result (λ taken. IsLowestFree self.old slot taken) }
@@ -114,6 +121,7 @@ impl<B: BitBlock> Slots<B> {
         sets_ascend();
         let taken = self.free.iter_from(slot).next()?;
         self.free.remove(taken);
+        self.searched = after_taking(self.searched, slot, taken);
         Some(taken)
     }
 
@@ -132,6 +140,19 @@ impl<B: BitBlock> Slots<B> {
         let is_free = self.free.contains(self.given);
         (self.given, self.searched) = after_giving(self.given, self.searched, slot, is_free);
         slot < self.len() && self.free.insert(slot).unwrap()
+    }
+}
+
+// Where `searched` is once the slot is taken that was the lowest free one from `slot` on: past it, where no slot lies
+// between.
+#[inline]
+fn after_taking(searched: usize, slot: usize, taken: usize) -> usize
+    ensures { (n : ℕ) → n < result → searched ≤ n → (slot ≤ n) × (n ≤ taken) }
+{
+    if slot <= searched {
+        searched.max(taken.saturating_add(1))
+    } else {
+        searched
     }
 }
 

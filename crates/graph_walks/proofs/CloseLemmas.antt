@@ -3,7 +3,7 @@ use Rattle.std.proofs.Common.{◌≡◌, ℕ, ◌+◌, ◌<◌, ◌≤◌, Bool,
 use Rattle.std.proofs.lemmas.Bool.{true≢false, cases_eq, cases_lt, eq-eqb, or_cases, or_left, or_right}
 use Rattle.std.proofs.lemmas.List.{get_or_default, get_or_past}
 use Rattle.std.proofs.Math.ListN.{get_or-map}
-use Rattle.std.proofs.lemmas.List.Elements.{All-get_or}
+use Rattle.std.proofs.lemmas.List.Elements.{All-get_or, All-weaker}
 use Rattle.bit_set.specs.Bits.{Bits}
 use Rattle.bit_set.specs.Sets.{elements, has, union}
 use Rattle.graph_walks.specs.Closed.{IsClosed, IsClosureOf, IsOnTheWay, Joins, row}
@@ -227,6 +227,18 @@ same_capacities m first rows long r = go first rows long r.capacity
         let head : y.capacity ≡ x.capacity = each 0 (omega arith) in
         let tail : map (λ (r : Bits). r.capacity) ys ≡ map (λ (r : Bits). r.capacity) xs = go xs ys (omega (arith, long)) (λ u lt. each (suc u) (omega (arith, lt))) in
         cc
+
+-- with the capacity for m none is full
+pub no_row_is_full : (m node : ℕ) (via : Bits) (first rows : List Bits) → via.values ≡ (row rows node).values → Spacious m first rows → node < length first → (u : ℕ) → u < length first → (row rows u).capacity < length via.values → ⊥
+no_row_is_full m node via first rows copied r inside u lt full =
+    let long = r.long node inside in
+    let as_long : length via.values ≡ length (row rows node).values = ap length copied in
+    let same = r.capacity u lt in
+    let enough = r.enough u lt in
+    omega (arith, long, as_long, same, enough, full)
+
+pub without_length : (rows : List Bits) → All (λ row. length row.values ≡ 0) rows → All (λ row. (length row.values ≤ 0) × (0 ≤ row.capacity)) rows
+without_length rows none = All-weaker (λ (row : Bits). length row.values ≡ 0) (λ (row : Bits). (length row.values ≤ 0) × (0 ≤ row.capacity)) (λ row h. (omega (arith, h), omega arith)) rows none
 
 -- ---- a row beside none
 

@@ -1,5 +1,5 @@
 // The transitive closure of a graph of sets.
-ghost use Rattle.std.specs.Prelude.{◌≡◌, ◌<◌, ◌≤◌, ◌⊎◌, ℕ, All, OnErr, OnOk, length, map};
+ghost use Rattle.std.specs.Prelude.{◌≡◌, ◌<◌, ◌≤◌, ◌⊎◌, ℕ, All, IsOk, OnErr, OnOk, length, map};
 ghost use Rattle.bit_set.specs.Sets.{elements};
 ghost use Rattle.graph_walks.specs.Closed.{IsClosed, IsClosureOf, IsOnTheWay, Joins, row};
 ghost use Rattle.graph_walks.specs.Paths.{rows_of};
@@ -11,8 +11,9 @@ use std::alloc::{AllocError, Global};
 /// Makes row `u` the set of all nodes to which a path of at least one edge leads from `u`: Warshall's
 /// algorithm, whole rows at a time. For `n` rows it makes `n * n` tests and at most as many unions. It
 /// takes memory for one spare row first, as long as the longest, and then only for a row whose capacity
-/// is less than that. Fails only where it finds no memory. Each row then still has all that it had, and
-/// nothing that the closure does not have, so that the call may be repeated.
+/// is less than that. Fails only where it finds no memory, and never where all rows have length 0. Each row
+/// then still has all that it had, and nothing that the closure does not have, so that the call may be
+/// repeated.
 pub fn close<B: BitBlock>(alloc: Global, rows: &mut [BitSet<B>]) -> Result<(), AllocError>
     ensures closure { OnOk result (IsClosureOf (rows_of rows.old) (rows_of rows.new)) }
     ensures closed { OnOk result (IsClosed (rows_of rows.new)) }
@@ -21,20 +22,23 @@ pub fn close<B: BitBlock>(alloc: Global, rows: &mut [BitSet<B>]) -> Result<(), A
         → OnErr result (rows.new ≡ rows.old) }
     ensures capacity { (m : ℕ) → All (λ row. (length row.values ≤ m) × (m ≤ row.capacity)) rows.old
         → map (λ row. row.capacity) rows.new ≡ map (λ row. row.capacity) rows.old }
+    ensures no_length { All (λ row. length row.values ≡ 0) rows.old → IsOk result }
 {
     let mut via = BitSet::with_capacity_general(alloc, longest(rows))?;
     for node in 0..rows.len() {
-        via.clone_from(&rows[node])?;
+        // It has the capacity for the longest row.
+        via.clone_from(&rows[node]).unwrap();
         join_all(rows, node, &via)?;
     }
     Ok(())
 }
 
-// The greatest length of a row.
+// The greatest length of a row, and 0 of no rows.
 fn longest<B: BitBlock>(rows: &[BitSet<B>]) -> usize
-    ensures { (u : ℕ) → u < length rows.now → length (row rows.now u).values ≤ result }
+    ensures all { (u : ℕ) → u < length rows.now → length (row rows.now u).values ≤ result }
+    ensures least { (m : ℕ) → ((u : ℕ) → u < length rows.now → length (row rows.now u).values ≤ m) → result ≤ m }
 {
-    let mut longest = 0;
+    let mut longest: usize = 0;
     for row in rows {
         longest = longest.max(row.get_ref().len());
     }
@@ -47,8 +51,10 @@ fn join_all<B: BitBlock>(
     node: usize,
     via: &BitSet<B>,
 ) -> Result<(), AllocError>
-    ensures each { OnOk result ((u : ℕ) → u < length rows.old → Joins node via.now (row rows.old u) (row rows.new u)) }
-    ensures some { (u : ℕ) → Joins node via.now (row rows.old u) (row rows.new u) ⊎ (row rows.new u ≡ row rows.old u) }
+    ensures each { OnOk result ((u : ℕ) → u < length rows.old
+        → Joins node via.now (row rows.old u) (row rows.new u)) }
+    ensures some { (u : ℕ) → Joins node via.now (row rows.old u) (row rows.new u)
+        ⊎ (row rows.new u ≡ row rows.old u) }
     ensures full { OnErr result ((u : ℕ) × (u < length rows.old)
         × ((row rows.old u).capacity < length via.now.values)) }
 {

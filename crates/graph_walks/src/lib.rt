@@ -2,14 +2,14 @@
 #![tactic(auto)]
 
 mod closure;
-mod dominance;
 mod graph;
+mod inclusion;
 pub mod laws;
 mod walk;
 
 pub use closure::close;
-pub use dominance::dominates;
 pub use graph::Graph;
+pub use inclusion::reaches_all_of;
 pub use walk::{
     Effort, reachable, reachable_counted, reachable_from_any, reachable_from_any_counted,
 };

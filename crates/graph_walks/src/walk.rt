@@ -1,7 +1,8 @@
 // The nodes to which paths lead.
-ghost use Rattle.std.specs.Prelude.{◌≡◌, ◌≢◌, ◌+◌, ◌<◌, ◌^◌, ◌↔◌, ℕ, IfErr, IfOk, IsErrOf, IsOk, IsTrue, List, OnOk, Some, length, not, slice_index_or};
+ghost use Rattle.std.specs.Prelude.{◌≡◌, ◌≢◌, ◌+◌, ◌<◌, ◌^◌, ◌↔◌, ℕ, IfErr, IfOk, IsErrOf, IsOk, IsTrue, List, OnOk, Some, [], length, not, slice_index_or};
 ghost use Rattle.std.specs.Iterator.{Drains, IsFinite, YieldsThen};
 ghost use Rattle.std.specs.List.{sum_by};
+ghost use Rattle.bit_set.specs.Faults.{IsInsertFault};
 ghost use Rattle.bit_set.specs.Sets.{elements, has, put};
 ghost use Rattle.graph_walks.specs.Explored.{TakesOn};
 ghost use Rattle.graph_walks.specs.Paths.{Path, successors};
@@ -37,7 +38,7 @@ impl Effort {
 
 /// The nodes to which a path leads from `start`, itself among them. Each is expanded once, and each edge
 /// from one of them is looked at once. Fails with [`SetError::Element`] only where a path leads to
-/// `usize::MAX`, and else only where it finds no memory.
+/// `usize::MAX`, at once where that is `start`, and else only where it finds no memory.
 pub fn reachable<B: BitBlock, G: Graph>(
     alloc: Global,
     graph: G,
@@ -47,6 +48,7 @@ pub fn reachable<B: BitBlock, G: Graph>(
     ensures element { IsErrOf result SetError.Element → Path (G.rows graph) start usize.MAX }
     ensures no_element { IsOk result → ¬ Path (G.rows graph) start usize.MAX }
     ensures fits { IfErr result (λ fault. fault ≢ SetError.Length) }
+    ensures start { start ≡ usize.MAX → IsErrOf result SetError.Element }
 {
     reachable_counted(alloc, graph, start, &mut Effort::new())
 }
@@ -62,6 +64,7 @@ pub fn reachable_counted<B: BitBlock, G: Graph>(
     ensures element { IsErrOf result SetError.Element → Path (G.rows graph) start usize.MAX }
     ensures no_element { IsOk result → ¬ Path (G.rows graph) start usize.MAX }
     ensures fits { IfErr result (λ fault. fault ≢ SetError.Length) }
+    ensures start { start ≡ usize.MAX → IsErrOf result SetError.Element }
     ensures nodes { IfOk result (λ set. effort.new.nodes ≡ effort.old.nodes + length (elements set.values)) }
     ensures edges { IfOk result (λ set. effort.new.edges ≡ effort.old.edges
         + sum_by (λ v. length (successors (G.rows graph) v)) (elements set.values)) }
@@ -76,7 +79,7 @@ pub fn reachable_counted<B: BitBlock, G: Graph>(
 }
 
 /// The nodes to which a path leads from any of `starts`, these among them. As [`reachable`]: of each node
-/// the edges are looked at once, from however many starts it is reached.
+/// the edges are looked at once, from however many starts it is reached. Of no starts it takes no memory, and succeeds.
 pub fn reachable_from_any<B: BitBlock, G: Graph>(
     alloc: Global,
     graph: G,
@@ -89,6 +92,7 @@ pub fn reachable_from_any<B: BitBlock, G: Graph>(
     ensures no_element { IsOk result
         → (s : ℕ) → IsTrue (has (elements starts.now.values) s) → ¬ Path (G.rows graph) s usize.MAX }
     ensures fits { IfErr result (λ fault. fault ≢ SetError.Length) }
+    ensures none { elements starts.now.values ≡ [] → IsOk result }
 {
     reachable_from_any_counted(alloc, graph, starts, &mut Effort::new())
 }
@@ -110,7 +114,11 @@ pub fn reachable_from_any_counted<B: BitBlock, G: Graph>(
     ensures nodes { IfOk result (λ set. effort.new.nodes ≡ effort.old.nodes + length (elements set.values)) }
     ensures edges { IfOk result (λ set. effort.new.edges ≡ effort.old.edges
         + sum_by (λ v. length (successors (G.rows graph) v)) (elements set.values)) }
+    ensures none { elements starts.now.values ≡ [] → IsOk result }
 {
+    if starts.is_empty() {
+        return Ok(BitSet::new_general(alloc));
+    }
     let mut reached = starts.clone(alloc)?;
     let stack = listed(alloc, starts)?;
     explore(graph, &mut reached, stack, effort)?;
@@ -190,8 +198,7 @@ fn take_on<B: BitBlock, I: Iterator<Item = usize> + Drop>(
 fn put_new<B: BitBlock>(reached: &mut BitSet<B>, item: usize) -> Result<bool, SetError>
     ensures returned { IfOk result (λ new. new ≡ not (has (elements reached.old.values) item)) }
     ensures elements { OnOk result (elements reached.new.values ≡ put (elements reached.old.values) item) }
-    ensures unfit { IsErrOf result SetError.Element → item ≡ usize.MAX }
-    ensures fits { IfErr result (λ fault. fault ≢ SetError.Length) }
+    ensures fails { IfErr result (λ fault. IsInsertFault fault item reached.old.capacity) }
 {
     members_of_sets();
     sets_ascend();

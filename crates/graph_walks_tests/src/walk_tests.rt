@@ -1,7 +1,7 @@
 //! The walks and the closure beside a slow model that has no set and no stack, over graphs of lists and of sets.
 
 use bit_set::{BitBlock, BitSet, SetError};
-use graph_walks::{close, dominates, reachable, reachable_from_any};
+use graph_walks::{close, reachable, reachable_from_any, reaches_all_of};
 use std::alloc::{AllocError, Global};
 use std::process::Abort;
 use std::test::Fail;
@@ -122,7 +122,7 @@ fn check_closure<B: BitBlock>(
                     reaches,
                     "from {node} to {successor}"
                 );
-                let within = dominates(sets.as_slice(), node, successor);
+                let within = reaches_all_of(sets.as_slice(), node, successor);
                 assert!(rt; within || !reaches, "{node} reaches {successor}");
             }
         }
@@ -203,7 +203,7 @@ fn a_small_closure(rt: HostRuntime) -> Result<(), Fail> {
         (70, 2, false),
         (70, 71, true),
     ] {
-        assert_eq!(rt; dominates(rows.as_slice(), a, b), wanted, "{a} and {b}");
+        assert_eq!(rt; reaches_all_of(rows.as_slice(), a, b), wanted, "{a} and {b}");
     }
     Ok(())
 }

@@ -6,7 +6,7 @@ use crate::states::works;
 use crate::sweep::Sweep;
 use bit_set::{BitBlock, BitSet};
 use free_slots::Slots;
-use graph_walks::{close, dominates, reachable, reachable_from_any};
+use graph_walks::{close, reachable, reachable_from_any, reaches_all_of};
 use std::alloc::{AllocError, Global};
 
 // The ends of the edges of four nodes, and where paths of at least one edge lead. Two ends are past the last node.
@@ -206,7 +206,7 @@ fn try_quiet<B: BitBlock>(sweep: &Sweep<'_>, name: &str) -> Result<bool, Fault> 
     let is_right = if name == "slots" {
         uses_slots(&mut slots)
     } else {
-        dominates(rows.as_slice(), 0, 3) && !dominates(rows.as_slice(), 0, 1)
+        reaches_all_of(rows.as_slice(), 0, 3) && !reaches_all_of(rows.as_slice(), 0, 1)
     };
     sweep.end(&Ok(()))?;
     Ok(sweep.judge(is_right, "other results")?)
@@ -228,7 +228,7 @@ pub fn all<B: BitBlock>(sweep: &Sweep<'_>) -> Result<bool, Fault> {
     if sweep.has("with_slots") {
         is_right &= try_slots::<B>(sweep)?;
     }
-    for name in ["slots", "dominates"] {
+    for name in ["slots", "reaches_all_of"] {
         if sweep.has(name) {
             is_right &= try_quiet::<B>(sweep, name)?;
         }

@@ -14,7 +14,7 @@ happens g c =
     let slot = c.args.slot in
     let s = elements values in
     let ascends = c.sets_ascend.ensures.elements values in
-    let inside : slot < length values = omega (arith, c.len.ensures, c.if-slot-len.true, ap (λ (t : SlotTable). t.len) c.self.view_is) in
+    let inside : slot < length values = omega (arith, c.len.ensures.value, c.if-slot-len.true, ap (λ (t : SlotTable). t.len) c.self.view_is) in
     let again = put_again s slot ascends c.sets_are_their_members.ensures.set (c.sets_ascend.ensures.put s slot ascends) (c.members_of_sets.ensures.put s slot) in
     let ok = c.unwrap.ensures in
     subst (λ (t : SlotTable). Happens t (GiveBack slot c.unwrap.result) (table_of c.insert.new.self.values)) c.self.view_is
@@ -45,7 +45,7 @@ invariant_of-self-then-slot-len g c =
     let slot = c.args.slot in
     let then = c.after_giving.result in
     let ok = c.unwrap.ensures in
-    let inside : slot < length values = omega (arith, c.len.ensures, c.if-slot-len.true, ap (λ (t : SlotTable). t.len) c.self.view_is) in
+    let inside : slot < length values = omega (arith, c.len.ensures.value, c.if-slot-len.true, ap (λ (t : SlotTable). t.len) c.self.view_is) in
     let long = rw ok at c.insert.ensures.length in
     let added = rw ok at c.insert.ensures.elements in (
       omega (arith, long, inside, c.insert.ensures.capacity, c.self.invariant.0),

@@ -1,7 +1,7 @@
 use Rattle.std.proofs.Common.{◌≡◌, [], refl, sym, subst, ◌∙◌, arith}
 use Rattle.bit_set.specs.Sets.{elements, those_from, without}
 use Rattle.free_slots.specs.Slots.{HasNoneBut}
-use Rattle.free_slots.proofs.SlotLemmas.{left, lowest_from, none_but_taken, none_free_from}
+use Rattle.free_slots.proofs.SlotLemmas.{least_from, left, lowest_from, none_but_taken, none_free_from}
 use Rattle.free_slots.proofs.Slots.take_at_or_above.Goals as goal
 
 pub returns-clause-lowest : goal.returns-clause-lowest
@@ -33,10 +33,13 @@ returns-in_err-taken-clause-happens g c =
 
 pub invariant_of-self : goal.invariant_of-self
 invariant_of-self g c =
-    let s = elements c.self.inside.free.values in
+    let values = c.self.inside.free.values in
+    let s = elements values in
     let taken = c.in_ok-taken.taken in
     let given = c.self.inside.given in
-    let from = c.self.inside.searched in (
+    let from = c.args.slot in
+    let at = sym c.iter_from.ensures.left ∙ c.in_ok-taken.ensures.steps.item in
+    let least = least_from s from (c.members_of_sets.ensures.those_from s from) taken _ (c.sets_ascend.ensures.those_from s from (c.sets_ascend.ensures.elements values)) at in (
       omega (arith, c.remove.ensures.length, c.remove.ensures.capacity, c.self.invariant.0),
-      subst (λ t. HasNoneBut t given from) (sym c.remove.ensures.elements) (none_but_taken s given from taken (c.members_of_sets.ensures.without s taken) c.self.invariant.1),
+      subst (λ t. HasNoneBut t given c.after_taking-self-inside.result) (sym c.remove.ensures.elements) (none_but_taken s given c.self.inside.searched from c.after_taking-self-inside.result taken (c.members_of_sets.ensures.without s taken) c.self.invariant.1 least.2 c.after_taking-self-inside.ensures),
     )
