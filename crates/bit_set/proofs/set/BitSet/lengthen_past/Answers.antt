@@ -1,6 +1,5 @@
 use Rattle.std.proofs.Common.{◌≡◌, ◌+◌, ◌-◌, ◌≤◌, length, ap, ◌∙◌, arith, mul-le-mul_right}
 use Rattle.std.proofs.lemmas.Result.{err_from_is_err_and}
-use Rattle.bit_set.proofs.set.BitSet.lengthen_past.Given.{Over}
 use Rattle.bit_set.proofs.set.BitSet.lengthen_past.Goals.{After-from_residual}
 use Rattle.bit_set.proofs.set.BitSet.lengthen_past.Goals as goal
 
@@ -40,7 +39,7 @@ pub returns-in_err-grow-clause-within : goal.returns-in_err-grow-clause-within
 returns-in_err-grow-clause-within g c = rw (← c.self.view_is) (λ low. c.grow.ensures.within (let same = ap (λ bits. length bits.values) c.self.view_is in omega (arith, same, c.len-len.ensures.value, c.requires, low)))
 
 -- where no memory was found, the value is past the capacity
-missing : (g : Over) (c : After-from_residual g) → c.args.self.now.capacity ≤ c.args.value
+missing : (g : _) (c : After-from_residual g) → c.args.self.now.capacity ≤ c.args.value
 missing g c =
     let same = ap (λ bits. length bits.values) c.self.view_is in
     let capacity = ap (λ bits. bits.capacity) c.self.view_is in
