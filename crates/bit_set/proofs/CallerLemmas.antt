@@ -17,7 +17,7 @@ use Rattle.bit_set.specs.Members.{IsSameSet}
 use Rattle.bit_set.specs.Order.{order_of_sets}
 use Rattle.bit_set.specs.Sets.{bound_of, elements, has, put_all}
 use Rattle.bit_set.specs.Walk.{Walk, Advances}
-use Rattle.std.proofs.Math.Bool.{and-false, and-true}
+use Rattle.std.proofs.Math.Bool.{and-false, and_comm}
 use Rattle.bit_set.proofs.SetLaws.{has-filter}
 use Rattle.bit_set.proofs.SetLemmas.{IsAscending-elements, same_members}
 
@@ -54,16 +54,12 @@ has-range a (suc n) m =
     same_end : (a n : ℕ) → a + 1 + n ≡ a + suc n
     same_end a n = omega arith
 
-and_swap : (a b : Bool) → (a && b) ≡ (b && a)
-and_swap true b = sym (and-true b)
-and_swap false b = sym (and-false b)
-
 -- the numbers below n that pass a test
 has-passing : (test : ℕ → Bool) (n m : ℕ) → has (filter test (range_with_len 0 n)) m ≡ (ltb m n && test m)
 has-passing test n m =
     has-filter test (range_with_len 0 n) m
     ∙ ap (λ b. test m && b) (has-range 0 n m ∙ ap (λ b. not b && ltb m (0 + n)) (le-ltb m 0 (omega arith)) ∙ ap (ltb m) (from_zero n))
-    ∙ and_swap (test m) (ltb m n)
+    ∙ and_comm (test m) (ltb m n)
   where
     from_zero : (n : ℕ) → 0 + n ≡ n
     from_zero n = omega arith

@@ -1,7 +1,8 @@
 -- Lemmas on bits that are filled block by block, and on the last of some blocks.
 use Rattle.std.proofs.Common.{◌≡◌, ◌≢◌, ◌==◌, ◌||◌, ℕ, ◌+◌, ◌-◌, ◌*◌, ◌/◌, ◌%◌, ◌^◌, ◌<◌, Bool, true, false, List, length, get_or, set, take, replicate, All, refl, sym, ap, ◌∙◌, ⊎_elim, pow_pos, length-take, length-set, get_or-take, get_or-set_same, get_or-set_other, arith}
+use Rattle.std.proofs.Math.Bool.{or-false}
 use Rattle.std.specs.Int.{bit_at}
-use Rattle.std.proofs.lemmas.Bool.{eqb-true, eq-eqb, cases_lt, cases_eq}
+use Rattle.std.proofs.lemmas.Bool.{eqb-true, eq-eqb, or_right, cases_lt, cases_eq}
 use Rattle.std.proofs.lemmas.List.{get_or_past, get_or-replicate, length-replicate}
 use Rattle.std.proofs.lemmas.List.Elements.{All-get_or}
 use Rattle.std.proofs.lemmas.Nat.{div-mul-add}
@@ -18,10 +19,6 @@ use Rattle.bit_set.specs.Entries.{IsPartlyPut}
 
 -- ---- one block
 
-or_true : (b c : Bool) → c ≡ true → (b || c) ≡ true
-or_true true c h = refl
-or_true false c h = h
-
 pub put_nothing : (w index m : ℕ) (values : List Bool) → ((j : ℕ) → j < w → get_or values (index + j) false ≡ false) → IsPartlyPut w index m m values values
 put_nothing w index m values falses = record {
   values = λ j within. ap (λ b. b || is_one m j) (falses j within);
@@ -30,8 +27,7 @@ put_nothing w index m values falses = record {
 }
 
 or_none : (b c : Bool) → c ≡ false → b ≡ (b || c)
-or_none true c h = refl
-or_none false c h = sym h
+or_none b c h = sym (ap (λ d. b || d) h ∙ or-false b)
 
 -- where no digit is left, the whole block is put
 pub put_all : (w index whole left : ℕ) (old new : List Bool) → IsPartlyPut w index whole left old new → left ≡ 0 → (j : ℕ) → j < w → get_or new (index + j) false ≡ is_one whole j
@@ -41,7 +37,7 @@ put_all w index whole left old new put none j within = or_none (get_or new (inde
 pub lowest_is_one : (w index whole left i : ℕ) (old new : List Bool) → IsPartlyPut w index whole left old new → IsLowest left i → i < w → bit_at whole i ≡ 1
 lowest_is_one w index whole left i old new put low within =
     let one : is_one left i ≡ true = eq-eqb (bit_at left i) 1 low.one in
-    eqb-true (bit_at whole i) 1 (sym (put.values i within) ∙ or_true (get_or new (index + i) false) (is_one left i) one)
+    eqb-true (bit_at whole i) 1 (sym (put.values i within) ∙ or_right (get_or new (index + i) false) (is_one left i) one)
 
 pub put_lowest : (w index whole left rest i : ℕ) (old new : List Bool) → IsPartlyPut w index whole left old new → IsLowest left i → i < w → IsCleared w left i rest → index + i < length new
     → IsPartlyPut w index whole rest old (set new (index + i) true)
@@ -53,7 +49,7 @@ put_lowest w index whole left rest i old new put low within cleared inside =
           (λ here.
           ap (λ x. get_or (set new (index + i) true) (index + x) false || is_one rest x) here
           ∙ ap (λ b. b || is_one rest i) (get_or-set_same new (index + i) true false inside)
-          ∙ sym (or_true (get_or new (index + i) false) (is_one left i) one)
+          ∙ sym (or_right (get_or new (index + i) false) (is_one left i) one)
           ∙ put.values i within
           ∙ ap (is_one whole) (sym here))
           (λ apart.

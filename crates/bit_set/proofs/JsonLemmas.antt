@@ -20,7 +20,7 @@ use Rattle.bit_set.proofs.PlaceLemmas.{values_in-blocks_of}
 use Rattle.bit_set.proofs.FilledLemmas.{blocks_of_zero_tail}
 use Rattle.bit_set.specs.declared.json.JsonError.{JsonError}
 use Rattle.bit_set.specs.declared.json.JsonError.TheVariants.{Shape, Number, Blocks, Unclean, Memory}
-use Rattle.bit_set.specs.Json.{HasNumbers, HasZeroTail, IsFirstFault, Spells, members_in, number_in, numbers_in, bit_vec_in, storage_in, nbits_in}
+use Rattle.bit_set.specs.Json.{HasNumbers, HasZeroTail, IsFault, IsFirstFault, Spells, members_in, number_in, numbers_in, bit_vec_in, storage_in, nbits_in}
 use Rattle.bit_set.specs.Entries.{AreNumbers, AreParts, HasLength, IsEntry, number_of_entry, numbers_of}
 use Rattle.serde_json.specs.Find.{as_object}
 
@@ -144,34 +144,23 @@ two_counts w d ms ns n m numbers found other count =
 
 -- and what has a fault has no other
 pub one_fault : (w : ℕ) (d : Data) (a b : JsonError) → IsFirstFault w d a → IsFirstFault w d b → a ≡ b
-one_fault w d Shape Shape h k = refl
-one_fault w d Shape Number h k = absurd (h k.0)
-one_fault w d Shape Blocks h k = absurd (h k.0)
-one_fault w d Shape Unclean h k = absurd (h k.0)
-one_fault w d Number Shape h k = absurd (k h.0)
-one_fault w d Number Number h k = refl
-one_fault w d Number Blocks h (shape, (ms, n, numbers, other)) = absurd (h.1 ms n numbers)
-one_fault w d Number Unclean h (shape, (ms, n, numbers, count, unclean)) = absurd (h.1 ms n numbers)
-one_fault w d Blocks Shape h k = absurd (k h.0)
-one_fault w d Blocks Number (shape, (ms, n, numbers, other)) k = absurd (k.1 ms n numbers)
-one_fault w d Blocks Blocks h k = refl
-one_fault w d Blocks Unclean (shape, (ms, n, numbers, other)) (also, (ns, m, found, count, unclean)) = absurd (two_counts w d ms ns n m numbers found other count)
-one_fault w d Unclean Shape h k = absurd (k h.0)
-one_fault w d Unclean Number (shape, (ms, n, numbers, count, unclean)) k = absurd (k.1 ms n numbers)
-one_fault w d Unclean Blocks (shape, (ns, m, found, count, unclean)) (also, (ms, n, numbers, other)) = absurd (two_counts w d ms ns n m numbers found other count)
-one_fault w d Unclean Unclean h k = refl
-one_fault w d Shape (Memory refused) h k = absurd k
-one_fault w d Number (Memory refused) h k = absurd k
-one_fault w d Blocks (Memory refused) h k = absurd k
-one_fault w d Unclean (Memory refused) h k = absurd k
 one_fault w d (Memory refused) b h k = absurd h
+one_fault w d a (Memory refused) h k = absurd k
+one_fault w d Shape Shape h k = refl
+one_fault w d Number Number h k = refl
+one_fault w d Blocks Blocks h k = refl
+one_fault w d Unclean Unclean h k = refl
+one_fault w d Shape b h k = absurd (h k.0)
+one_fault w d a Shape h k = absurd (k h.0)
+one_fault w d Number b h k = absurd (h.1 k.1.0 k.1.1 k.1.2)
+one_fault w d a Number h k = absurd (k.1 h.1.0 h.1.1 h.1.2)
+one_fault w d Blocks Unclean h k = absurd (two_counts w d h.1.0 k.1.0 h.1.1 k.1.1 h.1.2 k.1.2 h.1.3 k.1.3)
+one_fault w d Unclean Blocks h k = absurd (two_counts w d k.1.0 h.1.0 k.1.1 h.1.1 k.1.2 h.1.2 k.1.3 h.1.3)
 
--- so a fault is returned just where it is the first, and none where the value spells something
-pub fault_is : {X : Type 0} (w : ℕ) (d : Data) (r : Result X JsonError) (a b : JsonError) → r ≡ Err a → IsFirstFault w d a → (r ≡ Err b) ↔ IsFirstFault w d b
-fault_is w d r a b is h = (λ e. let same : a ≡ b = cc in subst (IsFirstFault w d) same h, λ k. is ∙ ap Err (one_fault w d a b h k))
-
-pub no_fault_is : {X : Type 0} (w : ℕ) (d : Data) (ms : List ℕ) (n : ℕ) (r : Result X JsonError) (b : JsonError) → Spells w d ms n → (r ≡ Err b → ⊥) → (r ≡ Err b) ↔ IsFirstFault w d b
-no_fault_is w d ms n r b spelt other = (λ e. absurd (other e), λ k. absurd (spelt_has_no_fault w d ms n b spelt k))
+-- so it is why there is no set
+pub fault_of_first : (w : ℕ) (d : Data) (fault : JsonError) → IsFirstFault w d fault → IsFault w d fault
+fault_of_first w d (Memory refused) h = absurd h
+fault_of_first w d fault h = h
 
 pub one_reading : (w : ℕ) (d : Data) (ms ns : List ℕ) (m n : ℕ) → Spells w d ms m → Spells w d ns n → (ms ≡ ns) × (m ≡ n)
 one_reading w d ms ns m n one other = same_numbers w d ms ns m n one.numbers other.numbers

@@ -5,7 +5,6 @@ pub mod SizeLemmas
 pub mod SplitLemmas
 pub mod SubsetLemmas
 pub mod MemberLemmas
-pub mod CollectLemmas
 pub mod ValueLemmas
 pub mod CapacityLemmas
 pub mod ItemLemmas
@@ -24,5 +23,4 @@ pub mod OrderLemmas
 pub mod JsonLemmas
 pub mod FilledLemmas
 pub mod CallLemmas
-pub mod AgreementLaws
 pub mod CallerLemmas

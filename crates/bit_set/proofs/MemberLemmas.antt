@@ -1,6 +1,6 @@
 -- What calls make of a set, as of every number whether it is in, and of how many there are.
 use Rattle.std.proofs.Common.{◌≡◌, ℕ, ◌+◌, ◌≤◌, Bool, true, false, not, ◌&&◌, ◌||◌, ◌↔◌, cond, eqb, List, [], ◌∷◌, length, set, refl, sym, ap, subst, ◌∙◌, arith, inl, inr, ◌<◌, IsTrue}
-use Rattle.std.proofs.lemmas.Bool.{true≢false, cases_eq, eq-eqb, ne_eqb}
+use Rattle.std.proofs.lemmas.Bool.{true≢false, cases_eq, eq-eqb, false_from_ne_true, ne_eqb}
 use Rattle.std.proofs.lemmas.List.{get_or-set_same, get_or-set_other}
 use Rattle.std.specs.Cmp.Lexicographic.{bytes_decides}
 use Rattle.bit_words.specs.Bits.{Bits, IsWithinCapacity}
@@ -106,13 +106,9 @@ tells_same value a b says = (
 pub tells_subset : (value : Bool) (s t : List ℕ) → value ≡ is_subset s t → IsTrue value ↔ IsSubset s t
 tells_subset value s t says = (λ is. (is_subset-members s t).0 (sym says ∙ is), λ each. says ∙ (is_subset-members s t).1 each)
 
-false_where_not_true : (b : Bool) → (b ≡ true → ⊥) → b ≡ false
-false_where_not_true true no_more = absurd (no_more refl)
-false_where_not_true false no_more = refl
-
 pub tells_disjoint : (value : Bool) (s t : List ℕ) → value ≡ is_disjoint s t → IsTrue value ↔ IsDisjoint s t
 tells_disjoint value s t says = (
-  λ is n in_s. false_where_not_true (has t n) (λ in_t. (is_disjoint-members s t).0 (sym says ∙ is) n in_s in_t),
+  λ is n in_s. false_from_ne_true (has t n) (λ in_t. (is_disjoint-members s t).0 (sym says ∙ is) n in_s in_t),
   λ apart. says ∙ (is_disjoint-members s t).1 (λ n in_s in_t. true≢false (sym in_t ∙ apart n in_s)),
 )
 

@@ -1,6 +1,7 @@
 -- How two sets compare, from the least number that just one of them has.
 use Rattle.std.proofs.Common.{◌≡◌, ℕ, zero, suc, ◌+◌, ◌<◌, ◌≤◌, Bool, true, false, not, ltb, List, [], ◌∷◌, get_or, refl, sym, ap, ◌∙◌, arith}
-use Rattle.std.proofs.lemmas.Bool.{true≢false, lt-ltb}
+use Rattle.std.proofs.Math.Bool.{not-not}
+use Rattle.std.proofs.lemmas.Bool.{true≢false, lt-ltb, not-false, not-true}
 use Rattle.std.specs.Cmp.{nat_cmp_total, tied_itself}
 use Rattle.std.specs.Cmp.Lexicographic.{nat_list_cmp_total, bytes_decides}
 use Rattle.std.specs.Ordering.{nat_cmp, ordering_then, ordering_reverse, MatchOrdering}
@@ -78,30 +79,19 @@ order-goes_on p (suc n) (suc j) (false ∷ xs) (false ∷ ys) same one none past
 agree : (xs ys : List Bool) (n : ℕ) → IsFirstMismatch (elements xs) (elements ys) n → (k : ℕ) → k < n → get_or xs k false ≡ get_or ys k false
 agree xs ys n d k below = sym (has-elements xs k) ∙ d.below k below ∙ has-elements ys k
 
-turned : (b c : Bool) → b ≡ not c → b ≡ true → c ≡ false
-turned true true e is = e
-turned b false e is = refl
-turned false true e is = absurd (true≢false (sym is))
-
 -- The set that has the first number that differs is less where the other goes on past it.
 pub holder_first : (xs ys : List Bool) (n k : ℕ) → IsFirstMismatch (elements xs) (elements ys) n → has (elements xs) n ≡ true → n ≤ k → has (elements ys) k ≡ true → order_of_sets (elements xs) (elements ys) ≡ Less
-holder_first xs ys n k d values_of_blocks past is =
-    order-goes_on 0 n k xs ys (agree xs ys n d) (sym (has-elements xs n) ∙ values_of_blocks) (sym (has-elements ys n) ∙ turned _ _ d.here values_of_blocks) past (sym (has-elements ys k) ∙ is)
+holder_first xs ys n k d holds past is =
+    order-goes_on 0 n k xs ys (agree xs ys n d) (sym (has-elements xs n) ∙ holds) (sym (has-elements ys n) ∙ not-true (has (elements ys) n) (sym d.here ∙ holds)) past (sym (has-elements ys k) ∙ is)
 
 -- It is greater where the other ends before it.
 pub holder_last : (xs ys : List Bool) (n : ℕ) → IsFirstMismatch (elements xs) (elements ys) n → has (elements xs) n ≡ true → ((k : ℕ) → n ≤ k → has (elements ys) k ≡ false) → order_of_sets (elements xs) (elements ys) ≡ Greater
-holder_last xs ys n d values_of_blocks none =
-    order-ends 0 n n xs ys (agree xs ys n d) (λ k from. sym (has-elements ys k) ∙ none k from) (omega arith) (sym (has-elements xs n) ∙ values_of_blocks)
-
-pub twice : (b c : Bool) → b ≡ not c → c ≡ not b
-twice true true e = e
-twice true false e = refl
-twice false true e = refl
-twice false false e = e
+holder_last xs ys n d holds none =
+    order-ends 0 n n xs ys (agree xs ys n d) (λ k from. sym (has-elements ys k) ∙ none k from) (omega arith) (sym (has-elements xs n) ∙ holds)
 
 -- the same difference, seen from the other set
 pub swapped : (s t : List ℕ) (n : ℕ) → IsFirstMismatch s t n → IsFirstMismatch t s n
-swapped s t n d = record { below = λ k below. sym (d.below k below); here = twice (has s n) (has t n) d.here }
+swapped s t n d = record { below = λ k below. sym (d.below k below); here = sym (not-not (has t n)) ∙ ap not (sym d.here) }
 
 pub order-swapped : (s t : List ℕ) → order_of_sets s t ≡ ordering_reverse (order_of_sets t s)
 order-swapped s t = nat_list_cmp_total.antisymm s t
@@ -116,20 +106,16 @@ order-itself s = tied_itself nat_list_cmp_total s
 pub by_holder : (xs ys : List Bool) (n : ℕ) (r : Ordering) → IsFirstMismatch (elements xs) (elements ys) n → has (elements xs) n ≡ true
     → MatchOrdering r ((k : ℕ) × (n ≤ k) × (has (elements ys) k ≡ true)) ⊥ ((k : ℕ) → n ≤ k → has (elements ys) k ≡ false)
     → r ≡ order_of_sets (elements xs) (elements ys)
-by_holder xs ys n Less d values_of_blocks found = sym (holder_first xs ys n found.0 d values_of_blocks found.1 found.2)
-by_holder xs ys n Equal d values_of_blocks found = absurd found
-by_holder xs ys n Greater d values_of_blocks found = sym (holder_last xs ys n d values_of_blocks found)
-
-other_holds : (b c : Bool) → b ≡ not c → b ≡ false → c ≡ true
-other_holds b true e is = refl
-other_holds b false e is = absurd (true≢false (sym e ∙ is))
+by_holder xs ys n Less d holds found = sym (holder_first xs ys n found.0 d holds found.1 found.2)
+by_holder xs ys n Equal d holds found = absurd found
+by_holder xs ys n Greater d holds found = sym (holder_last xs ys n d holds found)
 
 -- the same, where the other set has the number
 pub by_other_holder : (xs ys : List Bool) (n : ℕ) (r : Ordering) → IsFirstMismatch (elements xs) (elements ys) n → has (elements xs) n ≡ false
     → MatchOrdering r ((k : ℕ) × (n ≤ k) × (has (elements xs) k ≡ true)) ⊥ ((k : ℕ) → n ≤ k → has (elements xs) k ≡ false)
     → ordering_reverse r ≡ order_of_sets (elements xs) (elements ys)
 by_other_holder xs ys n r d lacks found =
-    ap ordering_reverse (by_holder ys xs n r (swapped _ _ n d) (other_holds _ _ d.here lacks) found) ∙ sym (order-swapped (elements xs) (elements ys))
+    ap ordering_reverse (by_holder ys xs n r (swapped _ _ n d) (not-false (has (elements ys) n) (sym d.here ∙ lacks)) found) ∙ sym (order-swapped (elements xs) (elements ys))
 
 -- sets with the same members compare as equal
 pub order-alike : (xs ys : List Bool) → ((k : ℕ) → has (elements xs) k ≡ has (elements ys) k) → Equal ≡ order_of_sets (elements xs) (elements ys)

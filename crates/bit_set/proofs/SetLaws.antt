@@ -1,20 +1,13 @@
 -- What `those_below`, `put_all` and `bound_of` do, and the sets of `specs/Sets.antt` as finite sets of std.
 use Rattle.std.proofs.Common.{◌≡◌, ℕ, ◌+◌, ◌<◌, ◌≤◌, Bool, true, false, not, ◌||◌, ◌&&◌, cond, eqb, ltb, List, [], ◌∷◌, length, get_or, filter, slice_get, zero, suc, IsTrue, ◌↔◌, Some, refl, sym, ap, ◌∙◌, inl, inr, arith}
+use Rattle.std.proofs.Math.Bool.{and-false, and_comm, or_assoc, or_comm}
 use Rattle.std.proofs.lemmas.Bool.{eqb-true, eq-eqb, ne_eqb, true≢false, cases_eq}
 use Rattle.std.proofs.lemmas.List.{ext_get_or}
 use Rattle.std.specs.Cmp.{nat_cmp_total, unsigned_tied, nat_eq_equiv}
 use Rattle.std.specs.Ordering.{nat_cmp, eq_by_cmp, is_eq}
 use Rattle.std.specs.FinSet as set
 use Rattle.bit_set.specs.Sets.{AscendsFrom, IsAscending, has, put, without, elements, those_below, put_all, bound_of}
-use Rattle.bit_set.proofs.SetLemmas.{AscendsFrom-lower, AscendsFrom-put, has-below, has-put, has-without, has-elements, or_swap}
-
-or_assoc : (a b c : Bool) → ((a || b) || c) ≡ (a || (b || c))
-or_assoc true b c = refl
-or_assoc false b c = refl
-
-and-false : (a : Bool) → false ≡ (a && false)
-and-false true = refl
-and-false false = refl
+use Rattle.bit_set.proofs.SetLemmas.{AscendsFrom-lower, AscendsFrom-put, has-below, has-put, has-without, has-elements, or_swap, at_cond}
 
 -- which numbers a test keeps
 kept : (p : ℕ → Bool) (x m : ℕ) (rest : Bool) (b : Bool) → p x ≡ b → cond b (eqb x m || (p m && rest)) (p m && rest) ≡ (p m && (eqb x m || rest))
@@ -24,14 +17,10 @@ kept p x m rest b is =
       | inr other ↦ rw (ne_eqb x m other) (elim b as (λ t. cond t (p m && rest) (p m && rest) ≡ (p m && rest)) [ true ↦ refl | false ↦ refl ])
     ]
 
-has-cond : (b : Bool) (xs ys : List ℕ) (m : ℕ) → has (cond b xs ys) m ≡ cond b (has xs m) (has ys m)
-has-cond true xs ys m = refl
-has-cond false xs ys m = refl
-
 pub has-filter : (p : ℕ → Bool) (xs : List ℕ) (m : ℕ) → has (filter p xs) m ≡ (p m && has xs m)
-has-filter p [] m = and-false (p m)
+has-filter p [] m = sym (and-false (p m))
 has-filter p (x ∷ xs) m =
-    has-cond (p x) (x ∷ filter p xs) (filter p xs) m
+    at_cond (λ s. has s m) (p x) (x ∷ filter p xs) (filter p xs)
     ∙ ap (λ rest. cond (p x) (eqb x m || rest) rest) (has-filter p xs m)
     ∙ kept p x m (has xs m) (p x) refl
 
@@ -116,23 +105,11 @@ finite-without s n =
 
 pub finite-put_all : (s items : List ℕ) → finite (put_all s items) ≡ set.union (finite s) (finite items)
 finite-put_all s items =
-    same_finite (put_all s items) _ (λ m. has-put_all s items m ∙ or_flip (has items m) (has s m) ∙ sym (set.contains-union nat_cmp_total (finite s) (finite items) m ∙ ap (λ b. b || set.contains (finite items) m) (contains-has s m) ∙ ap (λ b. has s m || b) (contains-has items m)))
-  where
-    or_flip : (a b : Bool) → (a || b) ≡ (b || a)
-    or_flip true true = refl
-    or_flip true false = refl
-    or_flip false true = refl
-    or_flip false false = refl
+    same_finite (put_all s items) _ (λ m. has-put_all s items m ∙ or_comm (has items m) (has s m) ∙ sym (set.contains-union nat_cmp_total (finite s) (finite items) m ∙ ap (λ b. b || set.contains (finite items) m) (contains-has s m) ∙ ap (λ b. has s m || b) (contains-has items m)))
 
 pub finite-filter : (p : ℕ → Bool) (s : List ℕ) → finite (filter p s) ≡ set.retain (finite s) p
 finite-filter p s =
-    same_finite (filter p s) _ (λ m. has-filter p s m ∙ and_flip (p m) (has s m) ∙ sym (set.contains-retain (finite s) p m (λ x e. ap p (sym (eqb-true m x (sym (unsigned_tied m x) ∙ ap is_eq e)))) ∙ ap (λ b. b && p m) (contains-has s m)))
-  where
-    and_flip : (a b : Bool) → (a && b) ≡ (b && a)
-    and_flip true true = refl
-    and_flip true false = refl
-    and_flip false true = refl
-    and_flip false false = refl
+    same_finite (filter p s) _ (λ m. has-filter p s m ∙ and_comm (p m) (has s m) ∙ sym (set.contains-retain (finite s) p m (λ x e. ap p (sym (eqb-true m x (sym (unsigned_tied m x) ∙ ap is_eq e)))) ∙ ap (λ b. b && p m) (contains-has s m)))
 
 -- an ascending list has as many members as it is long
 pub len-finite : (low : ℕ) (s : List ℕ) → AscendsFrom low s → set.len (finite s) ≡ length s

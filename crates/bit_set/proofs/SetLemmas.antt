@@ -53,6 +53,11 @@ same_members_from low (x ∷ xs) (y ∷ ys) hx hy same =
 pub same_members : (xs ys : List ℕ) → IsAscending xs → IsAscending ys → ((n : ℕ) → has xs n ≡ has ys n) → xs ≡ ys
 same_members xs ys = same_members_from 0 xs ys
 
+-- a function goes into a choice
+pub at_cond : {A B : Type 0} (f : A → B) (b : Bool) (x y : A) → f (cond b x y) ≡ cond b (f x) (f y)
+at_cond f true x y = refl
+at_cond f false x y = refl
+
 pub or_swap : (a b c : Bool) → (a || (b || c)) ≡ (b || (a || c))
 or_swap true true c = refl
 or_swap true false c = refl

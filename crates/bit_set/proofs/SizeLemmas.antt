@@ -1,8 +1,9 @@
 -- How many numbers a set has after a call, which items were new, and what a first member is.
 use Rattle.std.proofs.Common.{◌≡◌, ℕ, ◌+◌, ◌≤◌, Bool, true, false, not, ◌&&◌, ◌||◌, cond, eqb, List, [], ◌∷◌, ◌++◌, length, refl, sym, ap, ◌∙◌, inl, inr, arith, IsTrue}
+use Rattle.std.proofs.Math.Bool.{and-false}
 use Rattle.std.proofs.lemmas.Bool.{eq-eqb, ne_eqb, true≢false, eqb-true, cases_lt}
 use Rattle.bit_set.specs.Sets.{AscendsFrom, IsAscending, has, put, without, put_all, those_new}
-use Rattle.bit_set.proofs.SetLemmas.{AscendsFrom-lower, AscendsFrom-put, has-below, has-put, put_cases, without_cases, without_absent}
+use Rattle.bit_set.proofs.SetLemmas.{AscendsFrom-lower, AscendsFrom-put, has-below, has-put, put_cases, without_cases, without_absent, at_cond}
 
 -- ---- how many there are
 
@@ -58,15 +59,11 @@ length-those_new s (n ∷ ns) =
     let most : cond (has s n) 0 1 ≤ 1 = elim (has s n) as (λ b. cond b 0 1 ≤ 1) [ true ↦ omega arith | false ↦ omega arith ] in
     omega (arith, rest, most, length-cond (has s n) n (those_new (put s n) ns))
 
-append-cond : (b : Bool) (n : ℕ) (xs ys : List ℕ) → cond b (xs ++ ys) (n ∷ (xs ++ ys)) ≡ cond b xs (n ∷ xs) ++ ys
-append-cond true n xs ys = refl
-append-cond false n xs ys = refl
-
 pub those_new-append : (s xs ys : List ℕ) → those_new s (xs ++ ys) ≡ those_new s xs ++ those_new (put_all s xs) ys
 those_new-append s [] ys = refl
 those_new-append s (x ∷ xs) ys =
     ap (λ t. cond (has s x) t (x ∷ t)) (those_new-append (put s x) xs ys)
-    ∙ append-cond (has s x) x (those_new (put s x) xs) (those_new (put_all (put s x) xs) ys)
+    ∙ sym (at_cond (λ t. t ++ those_new (put_all (put s x) xs) ys) (has s x) (those_new (put s x) xs) (x ∷ those_new (put s x) xs))
 
 -- of the items after n those that are in are not n, if n is new
 one_more : (b n_is m_in in_rest : Bool) → (n_is ≡ true → m_in ≡ b) → cond b (not (n_is || m_in) && in_rest) (n_is || (not (n_is || m_in) && in_rest)) ≡ (not m_in && (n_is || in_rest))
@@ -75,18 +72,10 @@ one_more false true m_in in_rest same = rw (same refl) refl
 one_more true false m_in in_rest same = refl
 one_more false false m_in in_rest same = refl
 
-has-cond_more : (b : Bool) (n : ℕ) (ns : List ℕ) (m : ℕ) → has (cond b ns (n ∷ ns)) m ≡ cond b (has ns m) (eqb n m || has ns m)
-has-cond_more true n ns m = refl
-has-cond_more false n ns m = refl
-
-both_false : (b : Bool) → false ≡ (b && false)
-both_false true = refl
-both_false false = refl
-
 pub has-those_new : (s items : List ℕ) (m : ℕ) → has (those_new s items) m ≡ (not (has s m) && has items m)
-has-those_new s [] m = both_false (not (has s m))
+has-those_new s [] m = sym (and-false (not (has s m)))
 has-those_new s (n ∷ ns) m =
-    has-cond_more (has s n) n (those_new (put s n) ns) m
+    at_cond (λ t. has t m) (has s n) (those_new (put s n) ns) (n ∷ those_new (put s n) ns)
     ∙ ap (λ b. cond (has s n) b (eqb n m || b)) (has-those_new (put s n) ns m ∙ ap (λ b. not b && has ns m) (has-put s n m))
     ∙ one_more (has s n) (eqb n m) (has s m) (has ns m) (λ same. ap (has s) (sym (eqb-true n m same)))
 

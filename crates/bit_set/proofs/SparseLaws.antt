@@ -1,11 +1,13 @@
 -- How often whole walks over a set pull, and which blocks they pass.
 use Rattle.std.proofs.Common.{◌≡◌, ℕ, ◌+◌, ◌*◌, ◌/◌, ◌<◌, ◌≤◌, ◌==◌, ◌||◌, ◌&&◌, Bool, true, false, nat_lt, if◌then◌else◌, List, [], ◌∷◌, map, length, None, refl, sym, ap, ◌∙◌, inl, inr, arith, div-add-mod'}
+use Rattle.std.proofs.Math.Bool.{and-false}
 use Rattle.std.specs.Iterator.{YieldsThen}
 use Rattle.std.proofs.lemmas.Bool.{eq-eqb, ne_eqb, lt-ltb, le-ltb, cases_eq, cases_lt, cases_order}
 use Rattle.std.proofs.lemmas.Nat.{le-div}
 use Rattle.bit_set.specs.Sets.{AscendsFrom, has, elements}
 use Rattle.bit_set.specs.Walk.{Walk, Advances, IsAtStart, blocks_past}
 use Rattle.bit_set.proofs.SparseLemmas.{whole_index}
+use Rattle.bit_set.proofs.WalkLaws.{stays}
 
 -- ---- the blocks past a block
 
@@ -31,13 +33,9 @@ none_before w low (x ∷ xs) q pos up before =
     let next : x / w ≤ (x + 1) / w = le-div (x / w) (x + 1) w pos (omega (arith, div-add-mod' x w)) in
     rw (ne_eqb (x / w) q (λ e. omega (arith, e, first, before))) (none_before w (x + 1) xs q pos up.1 (omega (arith, first, next, before)))
 
-and_false : (b : Bool) → (b && false) ≡ false
-and_false true = refl
-and_false false = refl
-
 -- they are those past it that a number is in
 pub has-blocks_past : (w k low : ℕ) (xs : List ℕ) (q : ℕ) → 0 < w → AscendsFrom low xs → has (blocks_past w k xs) q ≡ (nat_lt k q && has (map (λ n. n / w) xs) q)
-has-blocks_past w k low [] q pos up = sym (and_false (nat_lt k q))
+has-blocks_past w k low [] q pos up = sym (and-false (nat_lt k q))
 has-blocks_past w k low (x ∷ xs) q pos up =
     let others = has (map (λ n. n / w) xs) q in
     elim (cases_lt k (x / w)) [
@@ -50,7 +48,7 @@ has-blocks_past w k low (x ∷ xs) q pos up =
             | inr (inr before) ↦
                 let next : x / w ≤ (x + 1) / w = le-div (x / w) (x + 1) w pos (omega (arith, div-add-mod' x w)) in
                 rw (ne_eqb (x / w) q (λ e. omega (arith, e, before)), le-ltb (x / w) q (omega (arith, before)), none_before w (x + 1) xs q pos up.1 (omega (arith, next, before)))
-                (sym (and_false (nat_lt k q)))
+                (sym (and-false (nat_lt k q)))
           ]
       | inr within ↦
           ap (λ ys. has ys q) (past_same w k x xs within)
@@ -97,9 +95,6 @@ pulled_whole w values s t items pos start run =
 
 -- the summary's blocks are pulled once each, and once more at the end
 pub summary_pulled : (w : ℕ) (s t : Walk) (items : List ℕ) → YieldsThen (Advances w) s items None t → t.summary_pulls ≡ s.summary_pulls + s.summary_left + 1
-summary_pulled w s t [] run =
-    let pulls = ap (λ walk. walk.summary_pulls) run.1 in
-    let left = ap (λ walk. walk.summary_left) run.1 in
-    omega (arith, run.2.summary.0, pulls, left)
-summary_pulled w s t (x ∷ xs) run =
-    let rest = summary_pulled w run.1.0 t xs (run.0, run.1.2, run.2) in omega (arith, rest, run.1.1.summary)
+summary_pulled w s t items run =
+    let passed = stays (Advances w) (λ u. u.summary_pulls + u.summary_left) (λ u v x step. step.summary) s run.0 items run.1 in
+    omega (arith, run.2.summary.0, passed)

@@ -132,11 +132,20 @@ along_by : (w index at k by b c : ℕ) → index ≡ k * w → at ≡ (k + by) *
 along_by w index at k by b c from to fewer = let product = ap (λ n. w * n) fewer in omega (arith, from, to, product)
 
 module _ {X : Type 0} (w : ℕ) (number : X → ℕ) (is_block : X → Type 0) (pos : 0 < w) where
-  pub stays : (index : ℕ) (block : X) (s : Nonzeros X) → IsSparseWalk w number is_block index block s → 0 < number block → Reaches w number is_block (seen w number is_block index block s) index block s (seen w number is_block index block s)
-  stays index block s is some = record {
-    walk = is;
-    some = some;
-    same = refl;
+  -- the block in hand stays, maybe as another block of the same number
+  stays : (index : ℕ) (block x : X) (s : Nonzeros X) → IsSparseWalk w number is_block index block s → is_block x → number x ≡ number block → 0 < number block → Reaches w number is_block (seen w number is_block index block s) index x s (seen w number is_block index x s)
+  stays index block x s is lawful same some = record {
+    walk = record {
+      in_hand = lawful;
+      each = is.each;
+      begun = is.begun;
+      left = is.left;
+      whole = is.whole;
+      inside = is.inside;
+      can = subst (λ m. CanWalk w index m (past_block w number index s.blocks s.pulls)) (sym same) is.can;
+    };
+    some = omega (arith, some, same);
+    same = ap (λ m. indexes w index m (past_block w number index s.blocks s.pulls).values) same;
     onward = omega arith;
     pulls = let t : (index / w == index / w) ≡ true = grind (arith, nat_tests) in (let e : s.pulls ≡ s.pulls + 0 = omega arith in e) ∙ ap (λ b. s.pulls + (if b then 0 else 1)) (sym t);
     pulled = omega arith;
@@ -238,32 +247,6 @@ module _ {X : Type 0} (w : ℕ) (number : X → ℕ) (is_block : X → Type 0) (
         };
       }
 
-  -- another block of the same number
-  alike : (index : ℕ) (block x : X) (s : Nonzeros X) → IsSparseWalk w number is_block index block s → is_block x → number x ≡ number block → IsSparseWalk w number is_block index x s
-  alike index block x s is lawful same = record {
-    in_hand = lawful;
-    each = is.each;
-    begun = is.begun;
-    left = is.left;
-    whole = is.whole;
-    inside = is.inside;
-    can = subst (λ m. CanWalk w index m (past_block w number index s.blocks s.pulls)) (sym same) is.can;
-  }
-
-  stays_alike : (index : ℕ) (block x : X) (s : Nonzeros X) → IsSparseWalk w number is_block index block s → is_block x → number x ≡ number block → 0 < number block → Reaches w number is_block (seen w number is_block index block s) index x s (seen w number is_block index x s)
-  stays_alike index block x s is lawful same some =
-      let to = stays index x s (alike index block x s is lawful same) (omega (arith, some, same)) in
-      record {
-        walk = to.walk;
-        some = to.some;
-        same = ap (λ m. indexes w index m (past_block w number index s.blocks s.pulls).values) same;
-        onward = to.onward;
-        pulls = to.pulls;
-        pulled = to.pulled;
-        along = to.along;
-        summary = to.summary;
-      }
-
   -- a refill that found a block, or had one
   pub refilled : (index at : ℕ) (block x : X) (s t : Nonzeros X) → IsSparseWalk w number is_block index block s → is_block x → Refills w number s (number block) index true t x at → Reaches w number is_block (seen w number is_block index block s) at x t (seen w number is_block at x t)
   refilled index at block x s t is lawful found =
@@ -277,7 +260,7 @@ module _ {X : Type 0} (w : ℕ) (number : X → ℕ) (is_block : X → Type 0) (
             let (same, walk_is, number_is, index_is) = found.stays test in
             subst (λ n. Reaches w number is_block (seen w number is_block index block s) n x t (seen w number is_block n x t)) (sym index_is)
             (subst (λ it. Reaches w number is_block (seen w number is_block index block s) index x it (seen w number is_block index x it)) (sym walk_is)
-            (stays_alike index block x s is lawful number_is some))
+            (stays index block x s is lawful number_is some))
       ]
 
   -- one that found none

@@ -1,13 +1,13 @@
 -- A set in two parts: those below a number, and the others.
 use Rattle.std.proofs.Common.{◌≡◌, ℕ, ◌-◌, ◌+◌, ◌<◌, ◌≤◌, max, min, Bool, true, false, ◌||◌, ◌&&◌, ltb, cond, if◌then◌else◌, nat_lt, nat_le, List, [], ◌++◌, length, get_or, drop, replicate, refl, sym, ap, ap₂, ◌∙◌, inl, inr, arith, IsTrue}
-use Rattle.std.proofs.lemmas.Bool.{and_parts, cases_lt, le-ltb, lt-ltb, true≢false}
+use Rattle.std.proofs.Math.Bool.{and-or_distrib_right}
+use Rattle.std.proofs.lemmas.Bool.{and_parts, cases_lt, le-ltb, lt-ltb}
 use Rattle.std.proofs.lemmas.Bool.Decides.{nat_tests}
 use Rattle.std.proofs.lemmas.List.{get_or-drop, get_or-replicate, get_or_append_left, get_or-append_right, length-replicate, get_or_past}
-use Rattle.bit_set.specs.Sets.{IsAscending, has, elements, those_below, those_from, union, is_disjoint}
+use Rattle.bit_set.specs.Sets.{IsAscending, has, elements, those_below, those_from, union}
 use Rattle.bit_set.proofs.AlgebraLemmas.{has-union}
 use Rattle.bit_set.proofs.SetLemmas.{IsAscending-elements, has-elements, elements-by_members, same_members}
 use Rattle.bit_set.proofs.SetLaws.{AscendsFrom-filter, IsAscending-put_all, IsAscending-those_below, has-filter, has-those_below, same_values}
-use Rattle.bit_set.proofs.SubsetLemmas.{is_disjoint-members}
 
 pub has-those_from : (s : List ℕ) (n m : ℕ) → has (those_from s n) m ≡ (nat_le n m && has s m)
 has-those_from s n m = has-filter (λ x. nat_le n x) s m
@@ -70,12 +70,7 @@ all_from s up =
 -- ---- the two parts
 
 in_either : (a b c : Bool) → (a || b) ≡ true → ((a && c) || (b && c)) ≡ c
-in_either true true true e = refl
-in_either true true false e = refl
-in_either true false true e = refl
-in_either true false false e = refl
-in_either false true c e = refl
-in_either false false c e = absurd (true≢false (sym e))
+in_either a b c e = sym (and-or_distrib_right a b c) ∙ ap (λ t. t && c) e
 
 pub joined : (s : List ℕ) (at : ℕ) → IsAscending s → union (those_below s at) (those_from s at) ≡ s
 joined s at up =
@@ -96,9 +91,6 @@ apart s at m n low high =
 
     is_above : nat_le at n ≡ true → at ≤ n
     is_above test = grind (arith, nat_tests)
-
-pub disjoint : (s : List ℕ) (at : ℕ) → IsTrue (is_disjoint (those_below s at) (those_from s at))
-disjoint s at = (is_disjoint-members (those_below s at) (those_from s at)).1 (λ n low high. let l = apart s at n n low high in absurd (omega arith))
 
 -- the list is as it was once what was returned is put in again
 pub rejoined : (a b c d : List Bool) (at : ℕ) → elements b ≡ those_below (elements a) at → length b ≡ min (length a) at → elements c ≡ those_from (elements a) at → length c ≡ (if nat_lt at (length a) then length a else 0) → elements d ≡ union (elements b) (elements c) → length d ≡ max (length b) (length c) → d ≡ a

@@ -1,5 +1,6 @@
 -- Which sets are in which, and which have nothing in common.
 use Rattle.std.proofs.Common.{◌≡◌, ℕ, Bool, true, false, not, ◌↔◌, cond, eqb, List, [], ◌∷◌, filter, slice_get, Some, refl, sym, ap, ◌∙◌, ⊎_elim}
+use Rattle.std.proofs.Math.Bool.{not-not}
 use Rattle.std.proofs.lemmas.Bool.{true≢false, eq-eqb, eqb-true, and_parts, and_from, or_cases, or_left, or_right, not-true, not_from_false, cases_Bool}
 use Rattle.std.specs.List.{list_all}
 use Rattle.std.specs.Cmp.{nat_cmp_total}
@@ -50,12 +51,8 @@ is_disjoint-members s t = (
 pub is_subset-no_difference : (s t : List ℕ) → (is_subset s t ≡ true) ↔ (difference s t ≡ [])
 is_subset-no_difference s t = (none_fails (λ n. has t n) (λ n. not (has t n)) s (λ n. refl), none_kept (λ n. has t n) (λ n. not (has t n)) s (λ n. refl))
 
-twice_not : (b : Bool) → b ≡ not (not b)
-twice_not true = refl
-twice_not false = refl
-
 pub is_disjoint-no_intersection : (s t : List ℕ) → (is_disjoint s t ≡ true) ↔ (intersection s t ≡ [])
-is_disjoint-no_intersection s t = (none_fails (λ n. not (has t n)) (λ n. has t n) s (λ n. twice_not (has t n)), none_kept (λ n. not (has t n)) (λ n. has t n) s (λ n. twice_not (has t n)))
+is_disjoint-no_intersection s t = (none_fails (λ n. not (has t n)) (λ n. has t n) s (λ n. sym (not-not (has t n))), none_kept (λ n. not (has t n)) (λ n. has t n) s (λ n. sym (not-not (has t n))))
 
 -- two tests that are true together are one
 pub same_tests : (a b : Bool) → (a ≡ true → b ≡ true) → (b ≡ true → a ≡ true) → a ≡ b

@@ -1,106 +1,143 @@
 -- What whole walks give, by one step after another.
 use Rattle.std.proofs.Common.{◌≡◌, ℕ, ◌+◌, ◌-◌, ◌*◌, ◌/◌, ◌<◌, ◌≤◌, max, Bool, List, [], ◌∷◌, length, Option, Some, None, refl, sym, ap, ◌∙◌, arith}
 use Rattle.std.specs.Iterator.{Yields, YieldsFirst, YieldsThen, Drains}
+use Rattle.std.proofs.Math.Bool.{or-false}
 use Rattle.std.proofs.Math.Nat.{le_of_mul-le-mul_left, mul-sub, mul_comm}
 use Rattle.std.proofs.lemmas.Nat.{div-mul-add}
 use Rattle.bit_words.specs.Bits.{blocks_for}
-use Rattle.bit_set.specs.Sets.{elements}
-use Rattle.bit_set.specs.Walk.{Walk, TwoSetWalk, Advances, AdvancesByEach, IsWalkedOut, IsWalkedOutByEach, IsAtStart, WalksOverTwo}
 use Rattle.bit_words.specs.declared.block.merge.Merge.{Merge}
+use Rattle.bit_set.specs.Agreement.{WalksAgree}
+use Rattle.bit_set.specs.Sets.{IsAscending, has, elements, put_all, merge_of_sets}
+use Rattle.bit_set.specs.Walk.{Walk, TwoSetWalk, Advances, AdvancesByEach, IsWalkedOut, IsWalkedOutByEach, IsAtStart, StartsOverTwo, WalksOverTwo}
+use Rattle.bit_set.proofs.SetLemmas.{same_members, IsAscending-elements}
+use Rattle.bit_set.proofs.SetLaws.{has-put_all, IsAscending-put_all}
+use Rattle.bit_set.proofs.AlgebraLemmas.{IsAscending-merge_of_sets}
 
-pub walked_out : (w : ℕ) (s t : Walk) (items : List ℕ) → YieldsThen (Advances w) s items None t → IsWalkedOut s items t
-walked_out w s t [] run =
-    let pulls = ap (λ walk. walk.pulls) run.1 in
-    let blocks = ap (λ walk. walk.blocks) run.1 in
-    record {
-      all = sym (ap (λ walk. walk.left) run.1 ∙ run.2.item.0);
-      ended = run.2.item.1;
-      pulled = omega (arith, run.2.pulled, pulls, blocks);
-    }
-walked_out w s t (x ∷ xs) run =
-    let step = run.1.1 in
-    let rest = walked_out w run.1.0 t xs (run.0, run.1.2, run.2) in
-    record {
-      all = ap (λ ys. x ∷ ys) rest.all ∙ sym step.item;
-      ended = rest.ended;
-      pulled = omega (arith, rest.pulled, step.pulled);
-    }
+-- ---- calls of any kind
 
-pub walked_whole : (w : ℕ) (values : List Bool) (s t : Walk) (items : List ℕ) → IsAtStart w values s → YieldsThen (Advances w) s items None t → (items ≡ elements values) × (t.pulls ≤ max 1 (blocks_for w (length values)) + 1)
-walked_whole w values s t items start run =
-    let out = walked_out w s t items run in
-    (out.all ∙ start.left, omega (arith, out.pulled, start.pulls, start.blocks))
+module _ {S : Type 0} (steps : S → Option ℕ → S → Type 0) (f : S → ℕ) where
+  -- a number that each call leaves as it was
+  pub stays : ((s t : S) (x : ℕ) → steps s (Some x) t → f t ≡ f s) → (s t : S) (items : List ℕ) → Yields steps s items t → f t ≡ f s
+  stays each s t [] run = sym (ap f run)
+  stays each s t (x ∷ xs) run = stays each run.0 t xs run.2 ∙ each s run.0 x run.1
 
-none_after : {S : Type 0} (left : S → List ℕ) (s t : S) (r : Option ℕ) → left s ≡ [] → YieldsFirst left s r t → (r ≡ None) × (left t ≡ [])
-none_after left s t None ended item = (refl, item.1)
-none_after left s t (Some x) ended item = absurd (let e = sym ended ∙ item in cc)
+  -- one that no call raises
+  falls : ((s t : S) (x : ℕ) → steps s (Some x) t → f t ≤ f s) → (s t : S) (items : List ℕ) → Yields steps s items t → f t ≤ f s
+  falls each s t [] run = let same = ap f run in omega (arith, same)
+  falls each s t (x ∷ xs) run = let rest = falls each run.0 t xs run.2 in let here = each s run.0 x run.1 in omega (arith, rest, here)
 
-pub none_for_good : (w : ℕ) (s t : Walk) (r : Option ℕ) → s.left ≡ [] → Advances w s r t → (r ≡ None) × (t.left ≡ [])
-none_for_good w s t r ended step = none_after (λ walk. walk.left) s t r ended step.item
+-- the items of a set, put in one by one, are that set
+pub put_all-items : (s : List ℕ) → IsAscending s → put_all [] s ≡ s
+put_all-items s up = same_members (put_all [] s) s (IsAscending-put_all [] s tt) up (λ n. has-put_all [] s n ∙ or-false (has s n))
 
-pub counted : (w : ℕ) (s : Walk) (items : List ℕ) → Drains (Advances w) s items → length items ≡ length s.left
-counted w s items run = ap length (walked_out w s run.0 items run.1).all
+-- each call gives the first of what is left
+module _ {S : Type 0} (left : S → List ℕ) (steps : S → Option ℕ → S → Type 0) (first : (s t : S) (r : Option ℕ) → steps s r t → YieldsFirst left s r t) where
+  all_left : (s t : S) (items : List ℕ) → YieldsThen steps s items None t → (items ≡ left s) × (left t ≡ [])
+  all_left s t [] run = let last = first run.0 t None run.2 in (sym (ap left run.1 ∙ last.0), last.1)
+  all_left s t (x ∷ xs) run =
+      let rest = all_left run.1.0 t xs (run.0, run.1.2, run.2) in
+      (ap (λ ys. x ∷ ys) rest.0 ∙ sym (first s run.1.0 (Some x) run.1.1), rest.1)
 
--- ---- the block in hand
+  none_after : (s t : S) (r : Option ℕ) → left s ≡ [] → steps s r t → (r ≡ None) × (left t ≡ [])
+  none_after s t r ended step = by_item r (first s t r step)
+    where
+      by_item : (q : Option ℕ) → YieldsFirst left s q t → (q ≡ None) × (left t ≡ [])
+      by_item None item = (refl, item.1)
+      by_item (Some x) item = absurd (let e = sym ended ∙ item in cc)
 
--- of walks of any kind, each call of which goes along the blocks
+  pub collected : (merge : Merge) (a b c : List Bool) (s : S) (items : List ℕ) → left s ≡ merge_of_sets merge (elements a) (elements b) → Drains steps s items → elements c ≡ put_all [] items → elements c ≡ merge_of_sets merge (elements a) (elements b)
+  collected merge a b c s items over run puts =
+      puts
+      ∙ ap (put_all []) ((all_left s run.0 items run.1).0 ∙ over)
+      ∙ put_all-items (merge_of_sets merge (elements a) (elements b)) (IsAscending-merge_of_sets merge (elements a) (elements b) (IsAscending-elements a))
+
+-- each call goes along the blocks
 module _ {S : Type 0} (w : ℕ) (index blocks : S → ℕ) (steps : S → Option ℕ → S → Type 0) (each : (s t : S) (r : Option ℕ) → steps s r t → index t + w * blocks t ≡ index s + w * blocks s) where
-  along : (s t : S) (items : List ℕ) → Yields steps s items t → index t + w * blocks t ≡ index s + w * blocks s
-  along s t [] run = sym (ap (λ walk. index walk + w * blocks walk) run)
-  along s t (x ∷ xs) run = along run.0 t xs run.2 ∙ each s run.0 (Some x) run.1
-
   -- after an item the block in hand is the one that has it
   in_hand_of : ((s t : S) (x : ℕ) → steps s (Some x) t → (index t ≤ x) × (x < index t + w)) → (past : ℕ) (s t : S) (items : List ℕ) (x : ℕ) → 0 < w → index s ≡ 0 → blocks s ≡ past → YieldsThen steps s items (Some x) t → blocks t ≡ past - x / w
   in_hand_of has_item past s t items x pos start ahead run =
       let at = has_item run.0 t x run.2 in
-      let whole : index t + w * blocks t ≡ w * past = each run.0 t (Some x) run.2 ∙ along s run.0 items run.1 ∙ omega (arith, start, ap (λ k. w * k) ahead) in
+      let along = stays steps (λ u. index u + w * blocks u) (λ u v y step. each u v (Some y) step) s run.0 items run.1 in
+      let whole : index t + w * blocks t ≡ w * past = each run.0 t (Some x) run.2 ∙ along ∙ omega (arith, start, ap (λ k. w * k) ahead) in
       let few : blocks t ≤ past = le_of_mul-le-mul_left (omega (arith, whole)) pos in
       let first : index t ≡ (past - blocks t) * w = omega (arith, whole, mul-sub w past (blocks t), mul_comm w (past - blocks t)) in
       let number : (past - blocks t) * w + (x - index t) ≡ x = omega (arith, first, at.0) in
       let block : x / w ≡ past - blocks t = ap (λ n. n / w) (sym number) ∙ div-mul-add (past - blocks t) w (x - index t) (omega (arith, at)) in
       omega (arith, few, block)
 
-pub in_hand : (w : ℕ) (values : List Bool) (s t : Walk) (items : List ℕ) (x : ℕ) → 0 < w → IsAtStart w values s → YieldsThen (Advances w) s items (Some x) t → t.blocks ≡ blocks_for w (length values) - 1 - x / w
-in_hand w values s t items x pos start run =
-    in_hand_of w (λ walk. walk.index) (λ walk. walk.blocks) (Advances w) (λ u v r step. step.along) (λ u v y step. step.at) (blocks_for w (length values) - 1) s t items x pos start.index start.blocks run
+-- ---- walks over one set
+
+module _ (w : ℕ) where
+  pub walked_out : (s t : Walk) (items : List ℕ) → YieldsThen (Advances w) s items None t → IsWalkedOut s items t
+  walked_out s t items run =
+      let all = all_left (λ u. u.left) (Advances w) (λ u v r step. step.item) s t items run in
+      let passed = falls (Advances w) (λ u. u.pulls + u.blocks) (λ u v x step. step.pulled) s run.0 items run.1 in
+      record { all = all.0; ended = all.1; pulled = let last = run.2.pulled in omega (arith, last, passed) }
+
+  pub walked_whole : (values : List Bool) (s t : Walk) (items : List ℕ) → IsAtStart w values s → YieldsThen (Advances w) s items None t → (items ≡ elements values) × (t.pulls ≤ max 1 (blocks_for w (length values)) + 1)
+  walked_whole values s t items start run =
+      let out = walked_out s t items run in
+      (out.all ∙ start.left, omega (arith, out.pulled, start.pulls, start.blocks))
+
+  pub none_for_good : (s t : Walk) (r : Option ℕ) → s.left ≡ [] → Advances w s r t → (r ≡ None) × (t.left ≡ [])
+  none_for_good = none_after (λ u. u.left) (Advances w) (λ u v r step. step.item)
+
+  pub counted : (s : Walk) (items : List ℕ) → Drains (Advances w) s items → length items ≡ length s.left
+  counted s items run = ap length (walked_out s run.0 items run.1).all
+
+  pub in_hand : 0 < w → (values : List Bool) (s t : Walk) (items : List ℕ) (x : ℕ) → IsAtStart w values s → YieldsThen (Advances w) s items (Some x) t → t.blocks ≡ blocks_for w (length values) - 1 - x / w
+  in_hand pos values s t items x start run =
+      in_hand_of w (λ u. u.index) (λ u. u.blocks) (Advances w) (λ u v r step. step.along) (λ u v y step. step.at) (blocks_for w (length values) - 1) s t items x pos start.index start.blocks run
+
+  pub full_walk : (a : List Bool) (s t : Walk) (items : List ℕ) → IsAtStart w a s → YieldsThen (Advances w) s items None t → t.pulls ≤ blocks_for w (length a) + 2
+  full_walk a s t items start run = let whole = (walked_whole a s t items start run).1 in omega arith
 
 -- ---- walks over two sets
 
-module _ {S T : Type 0} (f : S → T) (steps : S → Option ℕ → S → Type 0) (same : T → Option ℕ → T → Type 0) (each : (s : S) (r : Option ℕ) (t : S) → steps s r t → same (f s) r (f t)) where
-  -- the calls on one walk, seen as those on another
-  seen : (s t : S) (items : List ℕ) → Yields steps s items t → Yields same (f s) items (f t)
-  seen s t [] run = ap f run
-  seen s t (x ∷ xs) run = (f run.0, each s (Some x) run.0 run.1, seen run.0 t xs run.2)
+module _ {S : Type 0} (w : ℕ) (walk : S → TwoSetWalk) (next : S → Option ℕ → S → Type 0) (pos : 0 < w) (each : (s t : S) (r : Option ℕ) → next s r t → AdvancesByEach w (walk s) r (walk t)) where
+  out : (s t : S) (items : List ℕ) → YieldsThen next s items None t → IsWalkedOutByEach (walk s) items (walk t)
+  out s t items run =
+      let all = all_left (λ u. (walk u).left) next (λ u v r step. (each u v r step).item) s t items run in
+      let passed = stays next (λ u. (walk u).pulls + (walk u).blocks) (λ u v x step. (each u v (Some x) step).pulled) s run.0 items run.1 in
+      record { all = all.0; ended = all.1; pulled = let last = (each run.0 t None run.2).pulled in omega (arith, last, passed) }
 
-  seen_then : (s t : S) (items : List ℕ) (r : Option ℕ) → YieldsThen steps s items r t → YieldsThen same (f s) items r (f t)
-  seen_then s t items r run = (f run.0, seen s run.0 items run.1, each run.0 r t run.2)
+  pub over_two : (merge : Merge) → WalksOverTwo w merge walk next
+  over_two merge = record {
+    rest = out;
+    whole = λ a b s t items left start run. let ended = out s t items run in (ended.all ∙ left, omega (arith, ended.pulled, start.pulls, start.blocks));
+    in_hand = λ a b s t items x start run.
+        in_hand_of w (λ u. (walk u).index) (λ u. (walk u).blocks) next (λ u v r step. (each u v r step).along) (λ u v y step. (each u v (Some y) step).at) (max (blocks_for w (length a)) (blocks_for w (length b)) - 1) s t items x pos start.index start.blocks run;
+    for_good = λ s t r. none_after (λ u. (walk u).left) next (λ u v q step. (each u v q step).item) s t r;
+    count = λ s items run. ap length (out s run.0 items run.1).all;
+  }
 
-walked_out_by_each : (w : ℕ) (s t : TwoSetWalk) (items : List ℕ) → YieldsThen (AdvancesByEach w) s items None t → IsWalkedOutByEach s items t
-walked_out_by_each w s t [] run =
-    let pulls = ap (λ walk. walk.pulls) run.1 in
-    let blocks = ap (λ walk. walk.blocks) run.1 in
-    record {
-      all = sym (ap (λ walk. walk.left) run.1 ∙ run.2.item.0);
-      ended = run.2.item.1;
-      pulled = omega (arith, run.2.pulled, pulls, blocks);
-    }
-walked_out_by_each w s t (x ∷ xs) run =
-    let step = run.1.1 in
-    let rest = walked_out_by_each w run.1.0 t xs (run.0, run.1.2, run.2) in
-    record {
-      all = ap (λ ys. x ∷ ys) rest.all ∙ sym step.item;
-      ended = rest.ended;
-      pulled = omega (arith, rest.pulled, step.pulled);
-    }
+  pub full_walk_by_each : (a b : List Bool) (s t : S) (items : List ℕ) → StartsOverTwo w a b (walk s) → YieldsThen next s items None t → (walk t).pulls ≤ max (blocks_for w (length a)) (blocks_for w (length b)) + 2
+  full_walk_by_each a b s t items start run = let ended = out s t items run in omega (arith, ended.pulled, start.pulls, start.blocks)
 
-pub over_two : {S : Type 0} (w : ℕ) (merge : Merge) (walk : S → TwoSetWalk) (next : S → Option ℕ → S → Type 0) → 0 < w → ((s : S) (r : Option ℕ) (t : S) → next s r t → AdvancesByEach w (walk s) r (walk t)) → WalksOverTwo w merge walk next
-over_two w merge walk next pos each =
-    let out = λ (s : _) (t : _) (items : List ℕ) (run : YieldsThen next s items None t). walked_out_by_each w (walk s) (walk t) items (seen_then walk next (AdvancesByEach w) each s t items None run) in
-    record {
-      rest = out;
-      whole = λ a b s t items left start run. let ended = out s t items run in (ended.all ∙ left, omega (arith, ended.pulled, start.pulls, start.blocks));
-      in_hand = λ a b s t items x start run.
-          in_hand_of w (λ u. (walk u).index) (λ u. (walk u).blocks) next (λ u v r step. (each u r v step).along) (λ u v y step. (each u (Some y) v step).at) (max (blocks_for w (length a)) (blocks_for w (length b)) - 1) s t items x pos start.index start.blocks run;
-      for_good = λ s t r ended step. none_after (λ u. u.left) (walk s) (walk t) r ended (each s r t step).item;
-      count = λ s items run. ap length (out s run.0 items run.1).all;
-    }
+-- ---- walks over two block types
+
+module _ {S T : Type 0} (left : S → List ℕ) (next : S → Option ℕ → S → Type 0) (left_too : T → List ℕ) (next_too : T → Option ℕ → T → Type 0) (first : (s u : S) (r : Option ℕ) → next s r u → YieldsFirst left s r u) (first_too : (t v : T) (r : Option ℕ) → next_too t r v → YieldsFirst left_too t r v) where
+  step_agrees : (s u : S) (t v : T) (r q : Option ℕ) → left s ≡ left_too t → next s r u → next_too t q v → (r ≡ q) × (left u ≡ left_too v)
+  step_agrees s u t v r q same run other = by_items r q (first s u r run) (first_too t v q other)
+    where
+      by_items : (r q : Option ℕ) → YieldsFirst left s r u → YieldsFirst left_too t q v → (r ≡ q) × (left u ≡ left_too v)
+      by_items None None item its = (refl, item.1 ∙ sym its.1)
+      by_items None (Some y) item its = absurd (let e = sym item.0 ∙ same ∙ its in cc)
+      by_items (Some x) None item its = absurd (let e = sym item ∙ same ∙ its.0 in cc)
+      by_items (Some x) (Some y) item its = let e = sym item ∙ same ∙ its in ((cc), (cc))
+
+  steps_agree : (s u : S) (t v : T) (xs ys : List ℕ) → left s ≡ left_too t → length xs ≡ length ys → Yields next s xs u → Yields next_too t ys v → (xs ≡ ys) × (left u ≡ left_too v)
+  steps_agree s u t v [] [] same long run other = (refl, sym (ap left run) ∙ same ∙ ap left_too other)
+  steps_agree s u t v [] (y ∷ ys) same long run other = absurd (omega arith)
+  steps_agree s u t v (x ∷ xs) [] same long run other = absurd (omega arith)
+  steps_agree s u t v (x ∷ xs) (y ∷ ys) same long run other =
+      let here = step_agrees s run.0 t other.0 (Some x) (Some y) same run.1 other.1 in
+      let rest = steps_agree run.0 u other.0 v xs ys here.1 (omega arith) run.2 other.2 in
+      ((cc), rest.1)
+
+  pub walks-agree : WalksAgree left next left_too next_too
+  walks-agree = record {
+    step = step_agrees;
+    steps = steps_agree;
+    rest = λ s u t v xs ys same run other. (all_left left next first s u xs run).0 ∙ same ∙ sym (all_left left_too next_too first_too t v ys other).0;
+  }

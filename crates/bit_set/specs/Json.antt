@@ -64,3 +64,8 @@ IsFirstFault w d Blocks = HasShape d × ((ms : List ℕ) × (n : ℕ) × HasNumb
 IsFirstFault w d Unclean =
     HasShape d × ((ms : List ℕ) × (n : ℕ) × HasNumbers w d ms n × (length ms ≡ blocks_for w n) × ¬ HasZeroTail w ms n)
 IsFirstFault w d (Memory _) = ⊥
+
+-- The value gave no set: for its first fault, or for want of memory for the set that it spells.
+abbrev pub IsFault : ℕ → Data → JsonError → Type 0
+IsFault w d (Memory _) = (ms : List ℕ) × (n : ℕ) × Spells w d ms n
+IsFault w d fault = IsFirstFault w d fault

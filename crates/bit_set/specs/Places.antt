@@ -53,10 +53,14 @@ IsMergedPull w number merge None (Some b) r = IsSomeAnd r (λ x. IsMergedBlock w
 IsMergedPull w number merge (Some a) (Some b) r =
     IsSomeAnd r (λ x. IsMergedBlock w merge (number a) (number b) (number x))
 
--- how many ones two slices of blocks become from one block on
+-- how many ones two slices of blocks become
+abbrev pub ones_of_merged : {X : Type 0} → ℕ → (X → ℕ) → Merge → List X → List X → ℕ
+ones_of_merged w number merge xs ys =
+    length (elements (merge_of merge (values_in w (map number xs)) (values_in w (map number ys))))
+
+-- the same from one block on
 abbrev pub ones_from : {X : Type 0} → ℕ → (X → ℕ) → Merge → List X → List X → ℕ → ℕ
-ones_from w number merge xs ys i =
-    length (elements (merge_of merge (values_in w (map number (drop i xs))) (values_in w (map number (drop i ys)))))
+ones_from w number merge xs ys i = ones_of_merged w number merge (drop i xs) (drop i ys)
 
 -- A walk can go over the ones of all that is ahead, the first digit having index 0.
 pub record IsWalkable (w : ℕ) (ahead : Ahead) : Type 0 where

@@ -1,12 +1,12 @@
 //! The JSON form of sets: an object with the one member `bit_vec`, an object with the members
 //! `storage`, the numbers of the blocks, and `nbits`, the length.
-ghost use Rattle.std.specs.Prelude.{◌≡◌, ◌↔◌, ℕ, Bool, List, [], alloc_error, IfOk, IsErrOf, IsOk, length, map};
+ghost use Rattle.std.specs.Prelude.{◌≡◌, Bool, List, [], alloc_error, IfErr, IfOk, IsErrOf, IsOk, length};
 ghost use Rattle.bit_words.specs.Bits.{blocks_for, blocks_of, capacity_of};
 ghost use Rattle.serde_json.specs.View.{view};
-ghost use Rattle.bit_set.specs.Json.{IsFirstFault, Spells};
+ghost use Rattle.bit_set.specs.Json.{IsFault, IsFirstFault, Spells};
+ghost use Rattle.bit_set.specs.declared.json.JsonError.{JsonError};
 ghost use Rattle.bit_set.specs.Members.{IsSameSet};
 ghost use Rattle.bit_set.specs.Sets.{elements};
-ghost use Rattle.std.specs.declared.alloc.AllocError.{AllocError};
 
 use crate::BitSet;
 use serde_json::Value;
@@ -91,12 +91,8 @@ impl<B: JsonBlock> BitSet<B> {
             → IfOk result (λ set. IsSameSet (elements set.values) (elements values)) }
         ensures capacity { IfOk result (λ set. set.capacity
             ≡ capacity_of B.width (blocks_for B.width (length set.values))) }
-        ensures shape { IsErrOf result JsonError.Shape ↔ IsFirstFault B.width (view value.now) JsonError.Shape }
-        ensures number { IsErrOf result JsonError.Number ↔ IsFirstFault B.width (view value.now) JsonError.Number }
-        ensures blocks { IsErrOf result JsonError.Blocks ↔ IsFirstFault B.width (view value.now) JsonError.Blocks }
-        ensures unclean { IsErrOf result JsonError.Unclean ↔ IsFirstFault B.width (view value.now) JsonError.Unclean }
-        ensures memory { (fault : AllocError) → IsErrOf result (JsonError.Memory fault)
-            → (ms : List ℕ) × (n : ℕ) × Spells B.width (view value.now) ms n }
+        ensures err { IfErr result (IsFault B.width (view value.now)) }
+        ensures fault { (fault : JsonError) → IsFirstFault B.width (view value.now) fault → IsErrOf result fault }
         ensures empty { Spells B.width (view value.now) [] 0 → IsOk result }
     {
         let (entries, len) = entries_and_len::<B>(value)?;

@@ -1,6 +1,6 @@
 //! Laws of sets of numbers, as the contracts of functions that do nothing; one of them is in a body too,
 //! which proves it and does nothing else. A set is the list of its members in strictly ascending order.
-ghost use Rattle.std.specs.Prelude.{◌≡◌, ◌≢◌, ℕ, ◌+◌, ◌-◌, ◌*◌, ◌/◌, ◌<◌, ◌≤◌, ◌↔◌, ◌++◌, ◌∷◌, ◌==◌, ◌&&◌, ◌||◌, max, min, not, nat_lt, nat_le, if◌then◌else◌, Bool, true, All, IsTrue, Some, None, Option, List, [], length, map, slice_get};
+ghost use Rattle.std.specs.Prelude.{◌≡◌, ◌≢◌, ℕ, ◌+◌, ◌-◌, ◌*◌, ◌/◌, ◌<◌, ◌≤◌, ◌↔◌, ◌++◌, ◌∷◌, ◌==◌, ◌&&◌, ◌||◌, max, min, not, nat_lt, nat_le, if◌then◌else◌, Bool, true, All, IsTrue, Some, None, Option, List, [], length, map, slice_get, filter};
 ghost use Rattle.std.specs.FinSet as set;
 ghost use Rattle.std.specs.Cmp.{IsEquivalence, IsTotalOrder};
 ghost use Rattle.std.specs.Ordering.{nat_cmp};
@@ -15,14 +15,14 @@ ghost use Rattle.bit_set.specs.Members.{TakesLeast};
 ghost use Rattle.bit_set.specs.Capacity.{Run};
 ghost use Rattle.bit_set.specs.Json.{IsFirstFault, Spells};
 ghost use Rattle.bit_set.specs.declared.json.JsonError.{JsonError};
-ghost use Rattle.bit_set.specs.Walk.{Walk, TwoSetWalk, BoundedWalk, IsWalkedOut, IsAtStart, IsAtStartFrom, StartsOverTwo, WalksOverTwo, blocks_past};
+ghost use Rattle.bit_set.specs.Walk.{Walk, TwoSetWalk, BoundedWalk, Advances, AdvancesByEach, AdvancesWithBound, IsWalkedOut, IsAtStart, IsAtStartFrom, StartsOverTwo, WalksOverTwo, blocks_past};
 ghost use Rattle.bit_words.specs.Merges.{merge_of_values, merge_of};
 ghost use Rattle.bit_words.specs.declared.block.merge.Merge.{Merge};
 ghost use Rattle.bit_set.specs.Sets.{IsAscending, has, put, put_all, without, those_below, those_from, those_new, elements, bound_of, union, intersection, difference, symmetric_difference, merge_of_sets, is_subset, is_disjoint};
 ghost use Rattle.bit_set.specs.Order.{same_sets, order_of_sets, fed_of_set};
 
 use crate::bit_vec::Merge;
-use crate::{BitBlock, BitSet, Difference, Intersection, Iter, SymmetricDifference, Union};
+use crate::{BitBlock, BitSet};
 use std::cmp::Ordering;
 use std::fmt::Display;
 use std::hash::Hash;
@@ -61,18 +61,16 @@ pub fn items_in_two_parts()
 
 /// The first of a set whose list ascends is the least, and the others are the set without it.
 pub fn first_of_a_set()
-    ensures least { (x : ℕ) (xs : List ℕ) (n : ℕ) → IsAscending (x ∷ xs) → IsTrue (has (x ∷ xs) n) → x ≤ n }
-    ensures rest { (x : ℕ) (xs : List ℕ) → IsAscending (x ∷ xs) → without (x ∷ xs) x ≡ xs }
     ensures taken { (s t : List ℕ) (x : ℕ) → IsAscending s → s ≡ x ∷ t → TakesLeast s x t }
 {}
 
-/// What each operation gives is strictly ascending.
+/// What each operation gives is strictly ascending. A test says what `without`, `those_below`, `those_from`,
+/// `intersection` and `difference` keep, and `union` puts all in.
 pub fn sets_ascend()
     ensures put { (s : List ℕ) (n : ℕ) → IsAscending s → IsAscending (put s n) }
-    ensures without { (s : List ℕ) (n : ℕ) → IsAscending s → IsAscending (without s n) }
-    ensures those_below { (s : List ℕ) (n : ℕ) → IsAscending s → IsAscending (those_below s n) }
-    ensures those_from { (s : List ℕ) (n : ℕ) → IsAscending s → IsAscending (those_from s n) }
+    ensures filter { (test : ℕ → Bool) (s : List ℕ) → IsAscending s → IsAscending (filter test s) }
     ensures put_all { (s items : List ℕ) → IsAscending s → IsAscending (put_all s items) }
+    ensures merged { (merge : Merge) (s t : List ℕ) → IsAscending s → IsAscending (merge_of_sets merge s t) }
     ensures elements { (values : List Bool) → IsAscending (elements values) }
 {}
 
@@ -86,17 +84,14 @@ pub fn sets_are_their_members()
         → bound_of numbers ≤ bound }
 {}
 
-/// The same operations are those of finite sets.
+/// The operations are those of finite sets. `those_below` and `those_from` are each what a test keeps;
+/// `put_all` is `union`, of which `merged_sets_are_finite_sets` says the same.
 pub fn sets_are_finite_sets()
     ensures contains { (s : List ℕ) (n : ℕ) → set.contains (set.from_list {R = nat_cmp} s) n ≡ has s n }
     ensures insert { (s : List ℕ) (n : ℕ) → set.from_list {R = nat_cmp} (put s n) ≡ set.insert (set.from_list s) n }
     ensures remove { (s : List ℕ) (n : ℕ) → set.from_list {R = nat_cmp} (without s n) ≡ set.remove (set.from_list s) n }
-    ensures retain { (s : List ℕ) (n : ℕ) → set.from_list {R = nat_cmp} (those_below s n)
-        ≡ set.retain (set.from_list s) (λ m. nat_lt m n) }
-    ensures retain_from { (s : List ℕ) (n : ℕ) → set.from_list {R = nat_cmp} (those_from s n)
-        ≡ set.retain (set.from_list s) (λ m. nat_le n m) }
-    ensures union { (s items : List ℕ) → set.from_list {R = nat_cmp} (put_all s items)
-        ≡ set.union (set.from_list s) (set.from_list items) }
+    ensures retain { (test : ℕ → Bool) (s : List ℕ) → set.from_list {R = nat_cmp} (filter test s)
+        ≡ set.retain (set.from_list s) test }
     ensures len { (s : List ℕ) → IsAscending s → set.len (set.from_list {R = nat_cmp} s) ≡ length s }
 {}
 
@@ -109,15 +104,6 @@ pub fn members_of_merged_sets()
         ≡ ((has s n && not (has t n)) || (not (has s n) && has t n)) }
     ensures merged { (merge : Merge) (s t : List ℕ) (n : ℕ)
         → has (merge_of_sets merge s t) n ≡ merge_of_values merge (has s n) (has t n) }
-{}
-
-/// What two sets become is strictly ascending.
-pub fn merged_sets_ascend()
-    ensures union { (s t : List ℕ) → IsAscending s → IsAscending (union s t) }
-    ensures intersection { (s t : List ℕ) → IsAscending s → IsAscending (intersection s t) }
-    ensures difference { (s t : List ℕ) → IsAscending s → IsAscending (difference s t) }
-    ensures symmetric_difference { (s t : List ℕ) → IsAscending s → IsAscending (symmetric_difference s t) }
-    ensures merged { (merge : Merge) (s t : List ℕ) → IsAscending s → IsAscending (merge_of_sets merge s t) }
 {}
 
 /// What two sets become is what two finite sets become. What is in just one of them is what the first
@@ -137,13 +123,6 @@ pub fn merged_sets_are_finite_sets()
 /// Where two lists of truth values become one value by value, the shorter one going on with false, the
 /// sets that they keep become one.
 pub fn merged_lists_keep_merged_sets()
-    ensures union { (a b : List Bool) → elements (merge_of Merge.Union a b) ≡ union (elements a) (elements b) }
-    ensures intersection { (a b : List Bool) → elements (merge_of Merge.Intersection a b)
-        ≡ intersection (elements a) (elements b) }
-    ensures difference { (a b : List Bool) → elements (merge_of Merge.Difference a b)
-        ≡ difference (elements a) (elements b) }
-    ensures symmetric_difference { (a b : List Bool) → elements (merge_of Merge.Symmetric a b)
-        ≡ symmetric_difference (elements a) (elements b) }
     ensures merged { (merge : Merge) (a b : List Bool)
         → elements (merge_of merge a b) ≡ merge_of_sets merge (elements a) (elements b) }
     ensures length { (merge : Merge) (a b : List Bool) → length (merge_of merge a b) ≡ max (length a) (length b) }
@@ -161,13 +140,12 @@ pub fn sets_in_one_another()
         (set.from_list t) }
 {}
 
-/// What a set in two parts is, as `split_off` parts one: its members below a number, and the others. The two have
-/// nothing in common, each of the first is below each of the second, and together they are the set. So `append`
+/// What a set in two parts is, as `split_off` parts one: its members below a number, and the others. Each of the
+/// first is below each of the second, so that they have nothing in common, and together they are the set. So `append`
 /// of the part that was returned leaves the list of truth values as it was before: the old elements, and the old
 /// length.
 pub fn parted_sets()
     ensures joined { (s : List ℕ) (at : ℕ) → IsAscending s → union (those_below s at) (those_from s at) ≡ s }
-    ensures disjoint { (s : List ℕ) (at : ℕ) → IsTrue (is_disjoint (those_below s at) (those_from s at)) }
     ensures below { (s : List ℕ) (at m n : ℕ) → IsTrue (has (those_below s at) m) → IsTrue (has (those_from s at) n)
         → m < n }
     ensures rejoined { (old first part new : List Bool) (at : ℕ) → elements first ≡ those_below (elements old) at
@@ -180,23 +158,14 @@ pub fn parted_sets()
 
 /// What `from_iter` collects of a whole walk over what two sets become is what the operation in place
 /// leaves. The items of a set, put into the empty set one by one, are that set.
-pub fn collected_walks<B: BitBlock + 'static>()
+pub fn collected_walks<B: BitBlock>()
     ensures set { (s : List ℕ) → IsAscending s → put_all [] s ≡ s }
-    ensures union { (a b c : List Bool) (s : TwoSetWalk) (items : List ℕ) → s.left ≡ union (elements a) (elements b)
-        → Drains ⟦<Union<'static, B> as Iterator>⟧.next_gives s items → elements c ≡ put_all [] items
-        → elements c ≡ union (elements a) (elements b) }
+    ensures two_sets { (merge : Merge) (a b c : List Bool) (s : TwoSetWalk) (items : List ℕ)
+        → s.left ≡ merge_of_sets merge (elements a) (elements b) → Drains (AdvancesByEach B.width) s items
+        → elements c ≡ put_all [] items → elements c ≡ merge_of_sets merge (elements a) (elements b) }
     ensures intersection { (a b c : List Bool) (s : BoundedWalk) (items : List ℕ)
-        → s.walk.left ≡ intersection (elements a) (elements b)
-        → Drains ⟦<Intersection<'static, B> as Iterator>⟧.next_gives s items → elements c ≡ put_all [] items
-        → elements c ≡ intersection (elements a) (elements b) }
-    ensures difference { (a b c : List Bool) (s : TwoSetWalk) (items : List ℕ)
-        → s.left ≡ difference (elements a) (elements b)
-        → Drains ⟦<Difference<'static, B> as Iterator>⟧.next_gives s items → elements c ≡ put_all [] items
-        → elements c ≡ difference (elements a) (elements b) }
-    ensures symmetric_difference { (a b c : List Bool) (s : TwoSetWalk) (items : List ℕ)
-        → s.left ≡ symmetric_difference (elements a) (elements b)
-        → Drains ⟦<SymmetricDifference<'static, B> as Iterator>⟧.next_gives s items → elements c ≡ put_all [] items
-        → elements c ≡ symmetric_difference (elements a) (elements b) }
+        → s.walk.left ≡ intersection (elements a) (elements b) → Drains (AdvancesWithBound B.width) s items
+        → elements c ≡ put_all [] items → elements c ≡ intersection (elements a) (elements b) }
 {}
 
 /// How sets compare. Sets are the same where their lists are one list. The order is total, and gives `Equal` for
@@ -220,19 +189,22 @@ pub fn sets_compare()
 /// block in hand. After it there are `None`s alone. After an item the block in hand is the one that has
 /// it, which fixes the blocks that `size_hint` counts. From the making on there is at most one pull more
 /// than there are blocks, and two where there is none. However `next` is called, it is these calls, so the
-/// number of items that generic code counts is the number of elements left.
-pub fn whole_walks<B: BitBlock + 'static>()
-    ensures rest { (s t : Walk) (items : List ℕ) → YieldsThen ⟦<Iter<'static, B> as Iterator>⟧.next_gives s items None t
+/// number of items that generic code counts is the number of elements left. By `sets_ascend` the items ascend.
+///
+/// In this law and the others on walks, a call of `next` is `Advances` of an `Iter`, `AdvancesByEach` of each
+/// `TwoSets`, and `AdvancesWithBound` of an `Intersection`.
+pub fn whole_walks<B: BitBlock>()
+    ensures rest { (s t : Walk) (items : List ℕ) → YieldsThen (Advances B.width) s items None t
         → IsWalkedOut s items t }
     ensures whole { (values : List Bool) (s t : Walk) (items : List ℕ) → IsAtStart B.width values s
-        → YieldsThen ⟦<Iter<'static, B> as Iterator>⟧.next_gives s items None t
+        → YieldsThen (Advances B.width) s items None t
         → (items ≡ elements values) × (t.pulls ≤ max 1 (blocks_for B.width (length values)) + 1) }
     ensures in_hand { (values : List Bool) (s t : Walk) (items : List ℕ) (x : ℕ) → IsAtStart B.width values s
-        → YieldsThen ⟦<Iter<'static, B> as Iterator>⟧.next_gives s items (Some x) t
+        → YieldsThen (Advances B.width) s items (Some x) t
         → t.blocks ≡ blocks_for B.width (length values) - 1 - x / B.width }
-    ensures for_good { (s t : Walk) (r : Option ℕ) → s.left ≡ [] → ⟦<Iter<'static, B> as Iterator>⟧.next_gives s r t
+    ensures for_good { (s t : Walk) (r : Option ℕ) → s.left ≡ [] → Advances B.width s r t
         → (r ≡ None) × (t.left ≡ []) }
-    ensures count { (s : Walk) (items : List ℕ) → Drains ⟦<Iter<'static, B> as Iterator>⟧.next_gives s items
+    ensures count { (s : Walk) (items : List ℕ) → Drains (Advances B.width) s items
         → length items ≡ length s.left }
 {}
 
@@ -242,17 +214,17 @@ pub fn whole_walks<B: BitBlock + 'static>()
 /// The blocks of the summary are pulled once each, and once more at the end.
 /// The nonzero blocks past block `k` are the blocks past it that an element which is left lies in, each once
 /// and in ascending order.
-pub fn sparse_walks<B: BitBlock + 'static>()
-    ensures rest { (s t : Walk) (items : List ℕ) → YieldsThen ⟦<Iter<'static, B> as Iterator>⟧.next_gives s items None t
+pub fn sparse_walks<B: BitBlock>()
+    ensures rest { (s t : Walk) (items : List ℕ) → YieldsThen (Advances B.width) s items None t
         → t.pulls ≡ s.pulls + length (blocks_past B.width (s.index / B.width) s.left) + 1 }
     ensures whole { (values : List Bool) (s t : Walk) (items : List ℕ) → IsAtStart B.width values s
-        → YieldsThen ⟦<Iter<'static, B> as Iterator>⟧.next_gives s items None t
+        → YieldsThen (Advances B.width) s items None t
         → t.pulls ≡ length (blocks_past B.width 0 (elements values)) + 2 }
     ensures summary { (values : List Bool) (s t : Walk) (items : List ℕ) → IsAtStart B.width values s
-        → YieldsThen ⟦<Iter<'static, B> as Iterator>⟧.next_gives s items None t
+        → YieldsThen (Advances B.width) s items None t
         → t.summary_pulls ≡ max 1 (blocks_for B.width (blocks_for B.width (length values))) + 1 }
     ensures whole_from { (values : List Bool) (from : ℕ) (s t : Walk) (items : List ℕ)
-        → IsAtStartFrom B.width values from s → YieldsThen ⟦<Iter<'static, B> as Iterator>⟧.next_gives s items None t
+        → IsAtStartFrom B.width values from s → YieldsThen (Advances B.width) s items None t
         → (items ≡ those_from (elements values) from)
         × (t.pulls ≡ length (blocks_past B.width (s.index / B.width) (those_from (elements values) from)) + 2) }
     ensures members { (k q : ℕ) (numbers : List ℕ) → IsAscending numbers
@@ -260,34 +232,12 @@ pub fn sparse_walks<B: BitBlock + 'static>()
     ensures ascend { (k : ℕ) (numbers : List ℕ) → IsAscending (blocks_past B.width k numbers) }
 {}
 
-/// What whole walks over two sets give, for each of the four. As above, but the pulls are exact: from any
+/// What whole walks over two sets give, for each of the four merges. As above, but the pulls are exact: from any
 /// point up to the first `None` there is just one more than there are blocks past the block in hand, and
 /// from the making on one more than the set with more blocks has, and two where both have none.
-pub fn whole_walks_over_two_sets<B: BitBlock + 'static>()
-    ensures union { WalksOverTwo B.width Merge.Union (λ walk. walk) ⟦<Union<'static, B> as Iterator>⟧.next_gives }
-    ensures intersection { WalksOverTwo B.width Merge.Intersection
-        (λ it. it.walk) ⟦<Intersection<'static, B> as Iterator>⟧.next_gives }
-    ensures difference { WalksOverTwo B.width Merge.Difference
-        (λ walk. walk) ⟦<Difference<'static, B> as Iterator>⟧.next_gives }
-    ensures symmetric_difference { WalksOverTwo B.width Merge.Symmetric
-        (λ walk. walk) ⟦<SymmetricDifference<'static, B> as Iterator>⟧.next_gives }
-{}
-
-/// What each of the five walks gives up to the first `None` is strictly ascending.
-pub fn whole_walks_ascend<B: BitBlock + 'static>()
-    ensures iter { (a : List Bool) (s t : Walk) (items : List ℕ) → s.left ≡ elements a
-        → YieldsThen ⟦<Iter<'static, B> as Iterator>⟧.next_gives s items None t → IsAscending items }
-    ensures union { (a b : List Bool) (s t : TwoSetWalk) (items : List ℕ) → s.left ≡ union (elements a) (elements b)
-        → YieldsThen ⟦<Union<'static, B> as Iterator>⟧.next_gives s items None t → IsAscending items }
-    ensures intersection { (a b : List Bool) (s t : BoundedWalk) (items : List ℕ)
-        → s.walk.left ≡ intersection (elements a) (elements b)
-        → YieldsThen ⟦<Intersection<'static, B> as Iterator>⟧.next_gives s items None t → IsAscending items }
-    ensures difference { (a b : List Bool) (s t : TwoSetWalk) (items : List ℕ)
-        → s.left ≡ difference (elements a) (elements b)
-        → YieldsThen ⟦<Difference<'static, B> as Iterator>⟧.next_gives s items None t → IsAscending items }
-    ensures symmetric_difference { (a b : List Bool) (s t : TwoSetWalk) (items : List ℕ)
-        → s.left ≡ symmetric_difference (elements a) (elements b)
-        → YieldsThen ⟦<SymmetricDifference<'static, B> as Iterator>⟧.next_gives s items None t → IsAscending items }
+pub fn whole_walks_over_two_sets<B: BitBlock>()
+    ensures two_sets { (merge : Merge) → WalksOverTwo B.width merge (λ walk. walk) (AdvancesByEach B.width) }
+    ensures intersection { WalksOverTwo B.width Merge.Intersection (λ it. it.walk) (AdvancesWithBound B.width) }
 {}
 
 /// Capacity that is there is enough. Where a set has capacity for `capacity` values, as after
@@ -318,8 +268,6 @@ pub fn values_have_one_reading()
         → (ms ≡ ns) × (m ≡ n) }
     ensures values { (w : ℕ) (value : Data) (a b : List Bool) → 0 < w → Spells w value (blocks_of w a) (length a)
         → Spells w value (blocks_of w b) (length b) → a ≡ b }
-    ensures elements { (w : ℕ) (value : Data) (a b : List Bool) → 0 < w → Spells w value (blocks_of w a) (length a)
-        → Spells w value (blocks_of w b) (length b) → elements a ≡ elements b }
     ensures no_fault { (w : ℕ) (value : Data) (ms : List ℕ) (n : ℕ) (fault : JsonError) → Spells w value ms n
         → ¬ IsFirstFault w value fault }
     ensures one_fault { (w : ℕ) (value : Data) (a b : JsonError) → IsFirstFault w value a → IsFirstFault w value b
@@ -377,37 +325,23 @@ pub fn tests_agree<A: BitBlock, B: BitBlock>(
 /// kind that have the same elements left give the same from there on, step by step and up to the first
 /// `None`. They have so where they were made of sets of the same elements, after as many items, and where
 /// one is a `clone`; and `count` is the number of elements left.
-pub fn walks_agree<A: BitBlock + 'static, B: BitBlock + 'static>()
-    ensures iter { WalksAgree (λ walk. walk.left) ⟦<Iter<'static, A> as Iterator>⟧.next_gives
-        (λ walk. walk.left) ⟦<Iter<'static, B> as Iterator>⟧.next_gives }
-    ensures union { WalksAgree (λ walk. walk.left) ⟦<Union<'static, A> as Iterator>⟧.next_gives
-        (λ walk. walk.left) ⟦<Union<'static, B> as Iterator>⟧.next_gives }
-    ensures intersection { WalksAgree (λ it. it.walk.left) ⟦<Intersection<'static, A> as Iterator>⟧.next_gives
-        (λ it. it.walk.left) ⟦<Intersection<'static, B> as Iterator>⟧.next_gives }
-    ensures difference { WalksAgree (λ walk. walk.left) ⟦<Difference<'static, A> as Iterator>⟧.next_gives
-        (λ walk. walk.left) ⟦<Difference<'static, B> as Iterator>⟧.next_gives }
-    ensures symmetric_difference { WalksAgree
-        (λ walk. walk.left) ⟦<SymmetricDifference<'static, A> as Iterator>⟧.next_gives
-        (λ walk. walk.left) ⟦<SymmetricDifference<'static, B> as Iterator>⟧.next_gives }
+pub fn walks_agree<A: BitBlock, B: BitBlock>()
+    ensures iter { WalksAgree (λ walk. walk.left) (Advances A.width) (λ walk. walk.left) (Advances B.width) }
+    ensures two_sets { WalksAgree (λ walk. walk.left) (AdvancesByEach A.width)
+        (λ walk. walk.left) (AdvancesByEach B.width) }
+    ensures intersection { WalksAgree (λ it. it.walk.left) (AdvancesWithBound A.width)
+        (λ it. it.walk.left) (AdvancesWithBound B.width) }
 {}
 
 /// How often a full walk pulls, from its making up to its first `None`: at most two more than there are
 /// blocks, over two sets of the one that has more.
-pub fn full_walks<B: BitBlock + 'static>()
+pub fn full_walks<B: BitBlock>()
     ensures iter { (a : List Bool) (s t : Walk) (items : List ℕ) → IsAtStart B.width a s
-        → YieldsThen ⟦<Iter<'static, B> as Iterator>⟧.next_gives s items None t
-        → t.pulls ≤ blocks_for B.width (length a) + 2 }
-    ensures union { (a b : List Bool) (s t : TwoSetWalk) (items : List ℕ) → StartsOverTwo B.width a b s
-        → YieldsThen ⟦<Union<'static, B> as Iterator>⟧.next_gives s items None t
+        → YieldsThen (Advances B.width) s items None t → t.pulls ≤ blocks_for B.width (length a) + 2 }
+    ensures two_sets { (a b : List Bool) (s t : TwoSetWalk) (items : List ℕ) → StartsOverTwo B.width a b s
+        → YieldsThen (AdvancesByEach B.width) s items None t
         → t.pulls ≤ max (blocks_for B.width (length a)) (blocks_for B.width (length b)) + 2 }
     ensures intersection { (a b : List Bool) (s t : BoundedWalk) (items : List ℕ) → StartsOverTwo B.width a b s.walk
-        → YieldsThen ⟦<Intersection<'static, B> as Iterator>⟧.next_gives s items None t
+        → YieldsThen (AdvancesWithBound B.width) s items None t
         → t.walk.pulls ≤ max (blocks_for B.width (length a)) (blocks_for B.width (length b)) + 2 }
-    ensures difference { (a b : List Bool) (s t : TwoSetWalk) (items : List ℕ) → StartsOverTwo B.width a b s
-        → YieldsThen ⟦<Difference<'static, B> as Iterator>⟧.next_gives s items None t
-        → t.pulls ≤ max (blocks_for B.width (length a)) (blocks_for B.width (length b)) + 2 }
-    ensures symmetric_difference { (a b : List Bool) (s t : TwoSetWalk) (items : List ℕ)
-        → StartsOverTwo B.width a b s
-        → YieldsThen ⟦<SymmetricDifference<'static, B> as Iterator>⟧.next_gives s items None t
-        → t.pulls ≤ max (blocks_for B.width (length a)) (blocks_for B.width (length b)) + 2 }
 {}

@@ -1,9 +1,8 @@
 //! The walks over a set's elements, and over what two sets make.
-ghost use Rattle.std.specs.Prelude.{◌≡◌, ◌+◌, ◌-◌, ◌*◌, ◌/◌, ◌<◌, ◌^◌, max, min, IfSome, length};
+ghost use Rattle.std.specs.Prelude.{◌≡◌, IfSome, length};
 ghost use Rattle.std.specs.Iterator.{UpTo, item_count};
 ghost use Rattle.std.specs.Iterator.Runs.{YieldsInOrder};
 ghost use Rattle.std.specs.Iterator.SizeHint.{IsWithinCount};
-ghost use Rattle.bit_words.specs.Bits.{blocks_for};
 ghost use Rattle.bit_set.specs.Sets.{elements, those_from};
 ghost use Rattle.bit_set.specs.Walk.{Advances, IsAtStart, IsAtStartFrom, bound_on_rest};
 
@@ -140,12 +139,7 @@ impl<B: BitBlock> BitSet<B> {
     #[inline(always)]
     pub fn iter(&self) -> Iter<'_, B>
         ensures left { result.left ≡ elements self.now.values }
-        ensures pulls { result.pulls ≡ 1 }
-        ensures index { result.index ≡ 0 }
-        ensures blocks { result.blocks ≡ blocks_for B.width (length self.now.values) - 1 }
-        ensures summary { result.summary_pulls + result.summary_left
-            ≡ max 1 (blocks_for B.width (blocks_for B.width (length self.now.values))) }
-        ensures fits { length result.left < 2 ^ 64 }
+        ensures start { IsAtStart B.width self.now.values result }
         ensures runs { YieldsInOrder (Advances B.width) (λ walk. walk.left) }
     {
         Iter::over(self.get_ref())
@@ -160,14 +154,7 @@ impl<B: BitBlock> BitSet<B> {
     #[inline]
     pub fn iter_from(&self, from: usize) -> Iter<'_, B>
         ensures left { result.left ≡ those_from (elements self.now.values) from }
-        ensures pulls { result.pulls ≡ 1 }
-        ensures index { result.index ≡ min (from / B.width)
-            (blocks_for B.width (length self.now.values) - 1) * B.width }
-        ensures blocks { result.blocks ≡ blocks_for B.width (length self.now.values) - 1 - from / B.width }
-        ensures summary { result.summary_pulls + result.summary_left
-            ≡ max 1 (blocks_for B.width (blocks_for B.width (length self.now.values)) - min (from / B.width)
-            (blocks_for B.width (length self.now.values) - 1) / B.width) }
-        ensures fits { length result.left < 2 ^ 64 }
+        ensures start { IsAtStartFrom B.width self.now.values from result }
         ensures runs { YieldsInOrder (Advances B.width) (λ walk. walk.left) }
     {
         Iter::over_from(self.get_ref(), from)

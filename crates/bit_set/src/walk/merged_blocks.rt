@@ -1,9 +1,8 @@
 // The blocks of two sets, merged.
-ghost use Rattle.std.specs.Prelude.{◌≡◌, ◌+◌, ◌-◌, ◌<◌, ◌≤◌, ◌^◌, ◌⊎◌, max, IfSome, All, [], length, map};
+ghost use Rattle.std.specs.Prelude.{◌≡◌, ◌+◌, ◌-◌, ◌<◌, ◌≤◌, ◌^◌, ◌⊎◌, max, IfSome, All, [], length};
 ghost use Rattle.bit_words.specs.Bits.{blocks_for};
 ghost use Rattle.bit_set.specs.Sets.{elements, merge_of_sets};
-ghost use Rattle.bit_set.specs.Places.{IsMergedPull, values_in, ones_from};
-ghost use Rattle.bit_words.specs.Merges.{merge_of};
+ghost use Rattle.bit_set.specs.Places.{IsMergedPull, ones_from, ones_of_merged};
 ghost use Rattle.bit_set.specs.Walk.{StartsOverTwo};
 
 use super::block_source::BlockSource;
@@ -159,10 +158,8 @@ fn ones_of_both<B: BitBlock, O: Operation>(first: &[B], second: &[B]) -> usize
     requires long { length first.now ≡ length second.now }
     requires first { All B.is_block first.now }
     requires second { All B.is_block second.now }
-    requires fits { length (elements (merge_of O.merge (values_in B.width (map B.number first.now))
-        (values_in B.width (map B.number second.now)))) < 2 ^ 64 }
-    ensures { result ≡ length (elements (merge_of O.merge (values_in B.width (map B.number first.now))
-        (values_in B.width (map B.number second.now)))) }
+    requires fits { ones_of_merged B.width B.number O.merge first.now second.now < 2 ^ 64 }
+    ensures { result ≡ ones_of_merged B.width B.number O.merge first.now second.now }
 {
     let groups = first.len() / GROUP;
     let mut ones = 0;
@@ -179,10 +176,8 @@ fn ones_of_rest<B: BitBlock, O: Operation>(first: &[B], second: &[B]) -> usize
     requires ended { (first.now ≡ []) ⊎ (second.now ≡ []) }
     requires first { All B.is_block first.now }
     requires second { All B.is_block second.now }
-    requires fits { length (elements (merge_of O.merge (values_in B.width (map B.number first.now))
-        (values_in B.width (map B.number second.now)))) < 2 ^ 64 }
-    ensures { result ≡ length (elements (merge_of O.merge (values_in B.width (map B.number first.now))
-        (values_in B.width (map B.number second.now)))) }
+    requires fits { ones_of_merged B.width B.number O.merge first.now second.now < 2 ^ 64 }
+    ensures { result ≡ ones_of_merged B.width B.number O.merge first.now second.now }
 {
     ones_of_first::<B, O>(first) + ones_of_second::<B, O>(second)
 }
@@ -191,8 +186,8 @@ fn ones_of_rest<B: BitBlock, O: Operation>(first: &[B], second: &[B]) -> usize
 #[inline]
 fn ones_of_first<B: BitBlock, O: Operation>(blocks: &[B]) -> usize
     requires each { All B.is_block blocks.now }
-    requires fits { length (elements (merge_of O.merge (values_in B.width (map B.number blocks.now)) [])) < 2 ^ 64 }
-    ensures { result ≡ length (elements (merge_of O.merge (values_in B.width (map B.number blocks.now)) [])) }
+    requires fits { ones_of_merged B.width B.number O.merge blocks.now [] < 2 ^ 64 }
+    ensures { result ≡ ones_of_merged B.width B.number O.merge blocks.now [] }
 {
     let zero = B::zero();
     let mut ones = 0;
@@ -202,12 +197,12 @@ fn ones_of_first<B: BitBlock, O: Operation>(blocks: &[B]) -> usize
     ones
 }
 
-// The same of the second side.
+// How many ones a slice of the second side has, merged with zeros.
 #[inline]
 fn ones_of_second<B: BitBlock, O: Operation>(blocks: &[B]) -> usize
     requires each { All B.is_block blocks.now }
-    requires fits { length (elements (merge_of O.merge [] (values_in B.width (map B.number blocks.now)))) < 2 ^ 64 }
-    ensures { result ≡ length (elements (merge_of O.merge [] (values_in B.width (map B.number blocks.now)))) }
+    requires fits { ones_of_merged B.width B.number O.merge [] blocks.now < 2 ^ 64 }
+    ensures { result ≡ ones_of_merged B.width B.number O.merge [] blocks.now }
 {
     let zero = B::zero();
     let mut ones = 0;

@@ -4,10 +4,9 @@ use Rattle.bit_words.specs.Mismatches.{IsLowestMismatch}
 use Rattle.bit_set.specs.Mismatches.{IsFirstMismatch}
 use Rattle.bit_set.specs.Sets.{elements}
 use Rattle.bit_set.proofs.MismatchLemmas.{first_mismatch_is, first_within}
-use Rattle.bit_set.proofs.order.first_mismatch.Given.{Over}
 use Rattle.bit_set.proofs.order.first_mismatch.Goals as goal
 
-is_first : (g : Over) (c : goal.After-bits g) → IsFirstMismatch (elements c.args.a.now.values) (elements c.args.b.now.values) (c.args.at * g.B.BitBlock.width + c.lowest_mismatch-index.result)
+is_first : (g : _) (c : goal.After-bits g) → IsFirstMismatch (elements c.args.a.now.values) (elements c.args.b.now.values) (c.args.at * g.B.BitBlock.width + c.lowest_mismatch-index.result)
 is_first g c =
     let w = g.B.BitBlock.width in
     let n = g.B.BitBlock.number in
@@ -20,7 +19,7 @@ is_first g c =
     first_mismatch_is w at i xs ys g.met.B.BitBlock.width_law.positive c.requires
     (subst (λ m. IsLowestMismatch w m (get_or (blocks_of w ys) at 0) i) left (subst (λ m. IsLowestMismatch w (n c.block_or_zero.result) m i) right c.lowest_mismatch-index.ensures))
 
-fits : (g : Over) (c : goal.After-bits g) → c.args.at * c.bits.result + c.lowest_mismatch-index.result < 2 ^ 64
+fits : (g : _) (c : goal.After-bits g) → c.args.at * c.bits.result + c.lowest_mismatch-index.result < 2 ^ 64
 fits g c =
     let left : length c.args.a.now.values < 2 ^ 64 = omega (arith, ap (λ s. length s.values) c.get_ref.ensures, c.storage-left.ensures.fits.holds_values, c.storage-left.ensures.fits.fits) in
     let right : length c.args.b.now.values < 2 ^ 64 = omega (arith, ap (λ s. length s.values) c.get_ref-2.ensures, c.storage-right.ensures.fits.holds_values, c.storage-right.ensures.fits.fits) in

@@ -1,11 +1,20 @@
-use Rattle.std.proofs.Common.{◌≡◌, ◌≢◌, ◌↔◌, ◌-◌, ◌%◌, length, get_or, ap, sym, ◌∙◌, subst, arith}
+use Rattle.std.proofs.Common.{◌≡◌, ◌≢◌, ◌↔◌, ◌-◌, ◌%◌, ◌<◌, length, get_or, ap, sym, ◌∙◌, subst, arith}
 use Rattle.bit_words.specs.Digits.{IsShiftedRight}
 use Rattle.bit_set.specs.Json.{HasZeroTail}
 use Rattle.bit_set.specs.Entries.{numbers_of, IsEntry}
 use Rattle.bit_set.proofs.JsonLemmas.{blocks_for_some, zero_tail_by_shift, counted, number_at}
 use Rattle.std.proofs.Math.Nat.{mod-lt}
 use Rattle.std.proofs.lemmas.List.Elements.{All-get_or}
+use Rattle.bit_set.proofs.json.checking.has_zero_tail.Goals.{Else-used-eq0}
 use Rattle.bit_set.proofs.json.checking.has_zero_tail.Goals as goal
+
+-- the last block is not full
+part : (g : _) (c : Else-used-eq0 g) → c.args.len % g.B.BitBlock.width ≢ 0
+part g c e = c.if-used-eq0.false (ap (λ x. c.args.len % x) c.bits.ensures ∙ e)
+
+-- so there is one
+some : (g : _) (c : Else-used-eq0 g) → length c.args.entries.now - 1 < length c.args.entries.now
+some g c = blocks_for_some g.B.BitBlock.width c.args.len (length c.args.entries.now) (part g c) c.requires.count
 
 pub returns : goal.returns
 returns g c =
@@ -16,34 +25,29 @@ returns g c =
     let n = c.args.len in
     let r = number c.shift_right.result in
     let width = c.bits.ensures in
-    let part : n % w ≢ 0 = λ e. c.if-used-eq0.false (ap (λ x. n % x) width ∙ e) in
-    let some = blocks_for_some w n (length vs) part c.requires.count in
+    let at = (goal.at.returns g c).Else-used-eq0 in
     let last : number c.block_of-last.result ≡ get_or (numbers_of vs) (length (numbers_of vs) - 1) 0 =
-    number_at vs (length vs - 1) c.index-entries-entries.result (number c.block_of-last.result) some c.index-entries-entries.is c.block_of-last.ensures.of_number
+    number_at vs (length vs - 1) c.index-entries-entries.result (number c.block_of-last.result) (some g at) c.index-entries-entries.is c.block_of-last.ensures.of_number
     ∙ ap (λ k. get_or (numbers_of vs) (k - 1) 0) (sym (counted vs)) in
     let shifted : IsShiftedRight w (get_or (numbers_of vs) (length (numbers_of vs) - 1) 0) (n % w) r =
     subst (λ m. IsShiftedRight w m (n % w) r) last (subst (λ x. IsShiftedRight w (number c.block_of-last.result) (n % x) r) width c.shift_right.ensures.of_digits) in
     let zero_tail : (r ≡ 0) ↔ HasZeroTail w (numbers_of vs) n =
-    zero_tail_by_shift w n r (numbers_of vs) law.width_law.positive part (counted vs ∙ c.requires.count) (law.number_law c.shift_right.result c.shift_right.ensures.of_block).0 shifted in
+    zero_tail_by_shift w n r (numbers_of vs) law.width_law.positive (part g at) (counted vs ∙ c.requires.count) (law.number_law c.shift_right.result c.shift_right.ensures.of_block).0 shifted in
     let same = law.eq_law c.shift_right.result c.zero.result c.shift_right.ensures.of_block c.zero.ensures.of_block in (
       λ yes. zero_tail.0 (same.0 (sym c.eq.ensures ∙ yes) ∙ c.zero.ensures.of_number),
       λ is. c.eq.ensures ∙ same.1 (zero_tail.1 is ∙ sym c.zero.ensures.of_number),
     )
 
 pub bounds-entries-entries : goal.bounds-entries-entries
-bounds-entries-entries g c =
-    let part : c.args.len % g.B.BitBlock.width ≢ 0 = λ e. c.if-used-eq0.false (ap (λ x. c.args.len % x) c.bits.ensures ∙ e) in
-    blocks_for_some g.B.BitBlock.width c.args.len (length c.args.entries.now) part c.requires.count
+bounds-entries-entries g c = some g (goal.at.bounds-entries-entries g c).Else-used-eq0
 
 pub overflow_sub-entries : goal.overflow_sub-entries
-overflow_sub-entries g c = omega (arith, bounds-entries-entries g c)
+overflow_sub-entries g c = omega (arith, some g (goal.at.overflow_sub-entries g c).Else-used-eq0)
 
 pub block_of-last-requires : goal.block_of-last-requires
 block_of-last-requires g c =
     let is = IsEntry g.B.BitBlock.width in
-    let part : c.args.len % g.B.BitBlock.width ≢ 0 = λ e. c.if-used-eq0.false (ap (λ x. c.args.len % x) c.bits.ensures ∙ e) in
-    let some = blocks_for_some g.B.BitBlock.width c.args.len (length c.args.entries.now) part c.requires.count in
-    subst is (sym c.index-entries-entries.is) (All-get_or is c.args.entries.now (length c.args.entries.now - 1) c.index-entries-entries.result some c.requires.each)
+    subst is (sym c.index-entries-entries.is) (All-get_or is c.args.entries.now _ _ (some g (goal.at.block_of-last-requires g c).Else-used-eq0) c.requires.each)
 
 pub shift_right-requires-clause-of_block : goal.shift_right-requires-clause-of_block
 shift_right-requires-clause-of_block g c = c.block_of-last.ensures.of_block

@@ -8,7 +8,12 @@ use Rattle.bit_set.proofs.JsonLemmas.{below_of_entries, counted, number_at}
 use Rattle.bit_set.proofs.FilledLemmas.{blocks_of_filled, zero_tail_from, filled_more, filled_none, next_is_false, one_is_within, block_begins}
 use Rattle.std.proofs.lemmas.Bool.{true≢false}
 use Rattle.std.proofs.lemmas.List.Elements.{All-get_or}
+use Rattle.bit_set.proofs.json.growing.bits_of_entries.Goals.{After-block_of}
 use Rattle.bit_set.proofs.json.growing.bits_of_entries.Goals as goal
+
+-- the number of the entry in hand, and where its block begins
+entry : (g : _) (c : After-block_of g) → (g.B.BitBlock.number c.block_of.result ≡ get_or (numbers_of c.args.entries.now) c.loop-k.k 0) × (c.loop-k.k * c.bits.result ≡ c.loop-k.k * g.B.BitBlock.width)
+entry g c = (number_at c.args.entries.now c.loop-k.k _ _ c.loop-k-test.true c.index-entries-k.is c.block_of.ensures.of_number, ap (λ x. c.loop-k.k * x) c.bits.ensures)
 
 pub loop-k-init : goal.loop-k-init
 loop-k-init g c =
@@ -22,13 +27,10 @@ loop-k-init g c =
 pub put_ones-requires-clause-within : goal.put_ones-requires-clause-within
 put_ones-requires-clause-within g c = λ j within one.
     let w = g.B.BitBlock.width in
-    let vs = c.args.entries.now in
-    let k = c.loop-k.k in
-    let number = number_at vs k c.index-entries-k.result (g.B.BitBlock.number c.block_of.result) c.loop-k-test.true c.index-entries-k.is c.block_of.ensures.of_number in
-    let zero_tail = zero_tail_from w c.args.len (numbers_of vs) g.met.B.BitBlock.width_law.positive (counted vs ∙ c.requires.count) c.requires.zero_tail in
-    let below = one_is_within w c.args.len k j (numbers_of vs) zero_tail within (sym (ap (λ m. bit_at m j) number) ∙ one) in
-    let begins : k * c.bits.result ≡ k * w = ap (λ x. k * x) c.bits.ensures in
-    omega (arith, below, begins, c.loop-k.invariant.long)
+    let at = entry g (goal.at.put_ones-requires-clause-within g c).After-block_of in
+    let zero_tail = zero_tail_from w c.args.len _ g.met.B.BitBlock.width_law.positive (counted c.args.entries.now ∙ c.requires.count) c.requires.zero_tail in
+    let below = one_is_within w c.args.len c.loop-k.k j _ zero_tail within (sym (ap (λ m. bit_at m j) at.0) ∙ one) in
+    omega (arith, below, at, c.loop-k.invariant.long)
 
 pub put_ones-requires-clause-falses : goal.put_ones-requires-clause-falses
 put_ones-requires-clause-falses g c = λ j within.
@@ -38,16 +40,11 @@ put_ones-requires-clause-falses g c = λ j within.
 
 pub loop-k-preserved : goal.loop-k-preserved
 loop-k-preserved g c =
-    let w = g.B.BitBlock.width in
-    let vs = c.args.entries.now in
-    let k = c.loop-k.k in
-    let new = c.put_ones.new.bits.values in
-    let number = number_at vs k c.index-entries-k.result (g.B.BitBlock.number c.block_of.result) c.loop-k-test.true c.index-entries-k.is c.block_of.ensures.of_number in
-    let begins : k * c.bits.result ≡ k * w = ap (λ x. k * x) c.bits.ensures in
+    let at = entry g (goal.at.loop-k-preserved g c).After-block_of in
     record {
-      filled = filled_more w k (numbers_of vs) c.loop-k.bits.values new g.met.B.BitBlock.width_law.positive c.loop-k.invariant.filled
-          (λ j within. ap (λ p. get_or new (p + j) false) (sym begins) ∙ c.put_ones.ensures.values j within ∙ ap (λ m. is_one m j) number)
-          (λ i apart. c.put_ones.ensures.others i (λ j within at. apart j within (at ∙ ap (λ p. p + j) begins)));
+      filled = filled_more g.B.BitBlock.width c.loop-k.k _ c.loop-k.bits.values _ g.met.B.BitBlock.width_law.positive c.loop-k.invariant.filled
+          (λ j within. ap (λ p. get_or c.put_ones.new.bits.values (p + j) false) (sym at.1) ∙ c.put_ones.ensures.values j within ∙ ap (λ m. is_one m j) at.0)
+          (λ i apart. c.put_ones.ensures.others i (λ j within is. apart j within (is ∙ ap (λ p. p + j) at.1)));
       long = c.put_ones.ensures.length ∙ c.loop-k.invariant.long;
       capacity = c.put_ones.ensures.capacity ∙ c.loop-k.invariant.capacity;
     }

@@ -2,7 +2,16 @@ use Rattle.std.proofs.Common.{◌≡◌, ◌+◌, ◌∙◌, ◌<◌, [], ap, le
 use Rattle.std.proofs.lemmas.Bool.{cases_lt, not-false, true≢false}
 use Rattle.bit_set.proofs.PlaceLemmas.{indexes-lowest}
 use Rattle.bit_set.proofs.FilledLemmas.{put_all, put_nothing, put_lowest, lowest_is_one}
+use Rattle.bit_set.proofs.json.growing.put_ones.Goals.{After-take_lowest_one-lowest}
 use Rattle.bit_set.proofs.json.growing.put_ones.Goals as goal
+
+-- the index of the one that was taken is within the list
+inside : (g : _) (c : After-take_lowest_one-lowest g) → c.args.index + c.take_lowest_one-lowest.result < length c.loop-block.bits.values
+inside g c =
+    let taken = c.take_lowest_one-lowest.ensures in
+    let put = c.loop-block.invariant.put in
+    let one = lowest_is_one _ _ _ _ _ _ _ put taken.lowest taken.within in
+    omega (arith, c.requires.within _ taken.within one, put.long)
 
 pub loop-block-init : goal.loop-block-init
 loop-block-init g c = record {
@@ -13,32 +22,17 @@ loop-block-init g c = record {
 
 pub loop-block-smaller : goal.loop-block-smaller
 loop-block-smaller g c =
-    let w = g.B.BitBlock.width in
-    let number = g.B.BitBlock.number in
-    let m = number c.loop-block.block in
-    let r = number c.take_lowest_one-lowest.new.block in
     let taken = c.take_lowest_one-lowest.ensures in
-    let one_less = ap length (indexes-lowest w 0 m r c.take_lowest_one-lowest.result [] taken.lowest taken.within taken.cleared) in
+    let number = g.B.BitBlock.number in
+    let one_less = ap length (indexes-lowest g.B.BitBlock.width 0 (number c.loop-block.block) (number c.take_lowest_one-lowest.new.block) _ [] taken.lowest taken.within taken.cleared) in
     omega (arith, one_less)
 
 pub loop-block-preserved : goal.loop-block-preserved
 loop-block-preserved g c =
-    let w = g.B.BitBlock.width in
-    let number = g.B.BitBlock.number in
-    let p = c.args.index in
-    let whole = number c.args.block in
-    let m = number c.loop-block.block in
-    let r = number c.take_lowest_one-lowest.new.block in
-    let i = c.take_lowest_one-lowest.result in
     let taken = c.take_lowest_one-lowest.ensures in
-    let put = c.loop-block.invariant.put in
-    let old = c.args.bits.now.values in
-    let new = c.loop-block.bits.values in
-    let one = lowest_is_one w p whole m i old new put taken.lowest taken.within in
-    let inside : p + i < length new = omega (arith, c.requires.within i taken.within one, put.long) in
     record {
       of_block = taken.of_block;
-      put = rw c.set.ensures.values (put_lowest w p whole m r i old new put taken.lowest taken.within taken.cleared inside);
+      put = rw c.set.ensures.values (put_lowest _ _ _ _ _ _ _ _ c.loop-block.invariant.put taken.lowest taken.within taken.cleared (inside g (goal.at.loop-block-preserved g c).After-take_lowest_one-lowest));
       capacity = c.set.ensures.capacity ∙ c.loop-block.invariant.capacity;
     }
 
@@ -46,16 +40,10 @@ pub take_lowest_one-lowest-requires-clause-of_block : goal.take_lowest_one-lowes
 take_lowest_one-lowest-requires-clause-of_block g c = c.loop-block.invariant.of_block
 
 pub set-requires : goal.set-requires
-set-requires g c =
-    let number = g.B.BitBlock.number in
-    let i = c.take_lowest_one-lowest.result in
-    let taken = c.take_lowest_one-lowest.ensures in
-    let put = c.loop-block.invariant.put in
-    let one = lowest_is_one g.B.BitBlock.width c.args.index (number c.args.block) (number c.loop-block.block) i c.args.bits.now.values c.loop-block.bits.values put taken.lowest taken.within in
-    omega (arith, c.requires.within i taken.within one, put.long)
+set-requires g c = inside g (goal.at.set-requires g c).After-take_lowest_one-lowest
 
 pub overflow_add-index : goal.overflow_add-index
-overflow_add-index g c = omega (arith, set-requires g c, c.loop-block.invariant.put.long, c.requires.counted)
+overflow_add-index g c = omega (arith, inside g (goal.at.overflow_add-index g c).After-take_lowest_one-lowest, c.loop-block.invariant.put.long, c.requires.counted)
 
 pub take_lowest_one-lowest-requires-clause-not_zero : goal.take_lowest_one-lowest-requires-clause-not_zero
 take_lowest_one-lowest-requires-clause-not_zero g c =

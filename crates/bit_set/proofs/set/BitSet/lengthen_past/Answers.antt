@@ -1,7 +1,6 @@
 use Rattle.std.proofs.Common.{◌≡◌, ◌+◌, ◌-◌, ◌≤◌, length, refl, ap, arith, mul-le-mul_right}
 use Rattle.std.proofs.lemmas.Result.{err_from_is_err_and}
 use Rattle.bit_set.proofs.CapacityLemmas.{Grows-changed, Grows-failed}
-use Rattle.bit_set.proofs.set.BitSet.lengthen_past.Given.{Over}
 use Rattle.bit_set.proofs.set.BitSet.lengthen_past.Goals.{After-from_residual}
 use Rattle.bit_set.proofs.set.BitSet.lengthen_past.Goals as goal
 
@@ -29,7 +28,7 @@ pub returns-clause-fit : goal.returns-clause-fit
 returns-clause-fit g c = omega (arith, c.ranges.value.fits, c.if-value-eq18446744073709551615.false)
 
 -- where no memory was found, the value is past the capacity
-missing : (g : Over) (c : After-from_residual g) → c.args.self.now.capacity ≤ c.args.value
+missing : (g : _) (c : After-from_residual g) → c.args.self.now.capacity ≤ c.args.value
 missing g c =
     let same = ap (λ bits. length bits.values) c.self.view_is in
     let capacity = ap (λ bits. bits.capacity) c.self.view_is in

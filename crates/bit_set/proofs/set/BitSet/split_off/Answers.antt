@@ -6,29 +6,27 @@ use Rattle.bit_set.proofs.ValueLemmas.{elements-take}
 use Rattle.bit_set.proofs.MemberLemmas.{members_below, members_from}
 use Rattle.std.proofs.lemmas.Bool.{le-ltb}
 use Rattle.std.proofs.lemmas.List.{length-take}
+use Rattle.bit_set.proofs.set.BitSet.split_off.Goals.{After-new_general-then-at-len}
 use Rattle.bit_set.proofs.set.BitSet.split_off.Goals as goal
+
+past : (g : _) (c : After-new_general-then-at-len g) → length c.args.self.now.values ≤ c.args.at
+past g c = rw (← c.self.view_is) (omega arith)
 
 pub returns-then-at-eq0-clause-elements : goal.returns-then-at-eq0-clause-elements
 returns-then-at-eq0-clause-elements g c =
     let values = c.args.self.now.values in
-    let start : c.args.at ≡ 0 = omega arith in
-    rw (start, c.replace.ensures.after, c.new_general.ensures.values) (none_below (elements values) (IsAscending-elements values))
+    rw (c.if-at-eq0.true, c.replace.ensures.after, c.new_general.ensures.values) (none_below (elements values) (IsAscending-elements values))
 
 pub returns-then-at-eq0-clause-part : goal.returns-then-at-eq0-clause-part
 returns-then-at-eq0-clause-part g c =
     let values = c.args.self.now.values in
-    let start : c.args.at ≡ 0 = omega arith in
-    rw (start, c.replace.ensures.value) (all_from (elements values) (IsAscending-elements values))
+    rw (c.if-at-eq0.true, c.replace.ensures.value) (all_from (elements values) (IsAscending-elements values))
 
 pub returns-then-at-len-clause-elements : goal.returns-then-at-len-clause-elements
-returns-then-at-len-clause-elements g c =
-    let end : length c.args.self.now.values ≤ c.args.at = rw (← c.self.view_is) (omega arith) in
-    all_below c.args.self.now.values c.args.at end
+returns-then-at-len-clause-elements g c = all_below c.args.self.now.values c.args.at (past g (goal.at.returns-then-at-len-clause-elements g c).After-new_general-then-at-len)
 
 pub returns-then-at-len-clause-part : goal.returns-then-at-len-clause-part
-returns-then-at-len-clause-part g c =
-    let end : length c.args.self.now.values ≤ c.args.at = rw (← c.self.view_is) (omega arith) in
-    rw c.new_general-then-at-len.ensures.values (none_from c.args.self.now.values c.args.at end)
+returns-then-at-len-clause-part g c = rw c.new_general-then-at-len.ensures.values (none_from c.args.self.now.values c.args.at (past g (goal.at.returns-then-at-len-clause-part g c).After-new_general-then-at-len))
 
 pub returns-clause-elements : goal.returns-clause-elements
 returns-clause-elements g c = rw (c.truncate.ensures.values, ← c.self.view_is) (elements-take c.self.inside.bits.values c.args.at)
@@ -72,20 +70,15 @@ pub returns-then-at-eq0-clause-part_length : goal.returns-then-at-eq0-clause-par
 returns-then-at-eq0-clause-part_length g c = rw c.replace.ensures.value (length_of_whole c.args.at (length c.args.self.now.values) c.if-at-eq0.true)
 
 pub returns-then-at-len-clause-length : goal.returns-then-at-len-clause-length
-returns-then-at-len-clause-length g c =
-    let end : length c.args.self.now.values ≤ c.args.at = rw (← c.self.view_is) (omega arith) in
-    omega (arith, end)
+returns-then-at-len-clause-length g c = omega (arith, past g (goal.at.returns-then-at-len-clause-length g c).After-new_general-then-at-len)
 
 pub returns-then-at-len-clause-part_length : goal.returns-then-at-len-clause-part_length
 returns-then-at-len-clause-part_length g c =
     let n = length c.args.self.now.values in
-    let end : n ≤ c.args.at = rw (← c.self.view_is) (omega arith) in
-    rw c.new_general-then-at-len.ensures.values (ap (λ b. cond b n 0) (sym (le-ltb c.args.at n end)))
+    rw c.new_general-then-at-len.ensures.values (ap (λ b. cond b n 0) (sym (le-ltb c.args.at n (past g (goal.at.returns-then-at-len-clause-part_length g c).After-new_general-then-at-len))))
 
 pub returns-then-at-len-clause-exact : goal.returns-then-at-len-clause-exact
-returns-then-at-len-clause-exact g c _ inside =
-    let end : length c.args.self.now.values ≤ c.args.at = rw (← c.self.view_is) (omega arith) in
-    absurd (omega (arith, end, inside))
+returns-then-at-len-clause-exact g c _ inside = absurd (omega (arith, past g (goal.at.returns-then-at-len-clause-exact g c).After-new_general-then-at-len, inside))
 
 pub returns-then-at-len-clause-nothing : goal.returns-then-at-len-clause-nothing
 returns-then-at-len-clause-nothing g c _ _ = c.new_general-then-at-len.ensures.capacity

@@ -1,21 +1,23 @@
-use Rattle.std.proofs.Common.{length, ap, arith}
+use Rattle.std.proofs.Common.{◌≡◌, ◌+◌, ◌<◌, ◌^◌, count_ones, length, ap, ◌∙◌, arith}
+use Rattle.bit_words.specs.Nonzero.{ones_left}
 use Rattle.bit_set.proofs.SparseLemmas.{ones_ahead}
+use Rattle.bit_set.proofs.walk.Iter.count.Goals.{After-self}
 use Rattle.bit_set.proofs.walk.Iter.count.Goals as goal
 
-pub count_ones-requires-2 : goal.count_ones-requires-2
-count_ones-requires-2 g c =
+-- the ones of the block in hand and those past it are all, and can be counted
+all : (g : _) (c : After-self g) → (count_ones (g.B.BitBlock.number c.self.inside.block) + ones_left g.B.BitBlock.number c.self.inside.nonzero.left ≡ length c.args.self.left) × (length c.args.self.left < 2 ^ 64)
+all g c =
     let it = c.self.inside in
-    let all = ones_ahead g.B.BitBlock.width g.B.BitBlock.number g.B.BitBlock.is_block (λ x is. (g.met.B.BitBlock.number_law x is).0) it.index it.block it.nonzero c.self.invariant in
-    omega (arith, all, c.self.invariant.can.few)
+    let left = ap (λ walk. length walk.left) c.self.view_is in (
+      ones_ahead g.B.BitBlock.width g.B.BitBlock.number g.B.BitBlock.is_block (λ x is. (g.met.B.BitBlock.number_law x is).0) it.index it.block it.nonzero c.self.invariant ∙ left,
+      omega (arith, left, c.self.invariant.can.few),
+    )
+
+pub count_ones-requires-2 : goal.count_ones-requires-2
+count_ones-requires-2 g c = let most = all g (goal.at.count_ones-requires-2 g c).After-self in omega (arith, most)
 
 pub overflow_add-result : goal.overflow_add-result
-overflow_add-result g c =
-    let it = c.self.inside in
-    let all = ones_ahead g.B.BitBlock.width g.B.BitBlock.number g.B.BitBlock.is_block (λ x is. (g.met.B.BitBlock.number_law x is).0) it.index it.block it.nonzero c.self.invariant in
-    omega (arith, all, c.self.invariant.can.few, c.count_ones.ensures, c.count_ones-2.ensures)
+overflow_add-result g c = let most = all g (goal.at.overflow_add-result g c).After-self in omega (arith, most, c.count_ones.ensures, c.count_ones-2.ensures)
 
 pub returns : goal.returns
-returns g c =
-    let it = c.self.inside in
-    let all = ones_ahead g.B.BitBlock.width g.B.BitBlock.number g.B.BitBlock.is_block (λ x is. (g.met.B.BitBlock.number_law x is).0) it.index it.block it.nonzero c.self.invariant in
-    omega (arith, all, c.count_ones.ensures, c.count_ones-2.ensures, ap (λ walk. length walk.left) c.self.view_is)
+returns g c = let most = all g (goal.at.returns g c).After-self in omega (arith, most, c.count_ones.ensures, c.count_ones-2.ensures)

@@ -4,12 +4,11 @@ use Rattle.bit_words.specs.Digits.{is_one}
 use Rattle.bit_words.proofs.NonzeroFromLemmas.{past_first}
 use Rattle.bit_set.proofs.FromLemmas.{BeginsFrom, IsCut, IsPast, begins_from, starts_at_all}
 use Rattle.bit_set.proofs.SparseLemmas.{seen, whole_index}
-use Rattle.bit_set.proofs.walk.Iter.over.Given.{Over}
 use Rattle.bit_set.proofs.walk.Iter.over.Goals.{After-block_or_zero}
 use Rattle.bit_set.proofs.walk.Iter.over.Goals as goal
 
 -- the walk as it is made
-begun : (g : Over) (c : After-block_or_zero g) → BeginsFrom g.B.BitBlock.width g.B.BitBlock.number g.B.BitBlock.is_block c.args.bits.now.values 0 0 c.block_or_zero.result c.nonzero_past_first.result
+begun : (g : _) (c : After-block_or_zero g) → BeginsFrom g.B.BitBlock.width g.B.BitBlock.number g.B.BitBlock.is_block c.args.bits.now.values 0 0 c.block_or_zero.result c.nonzero_past_first.result
     (seen g.B.BitBlock.width g.B.BitBlock.number g.B.BitBlock.is_block 0 c.block_or_zero.result c.nonzero_past_first.result)
 begun g c =
     let w = g.B.BitBlock.width in

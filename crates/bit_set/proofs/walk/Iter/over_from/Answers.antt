@@ -5,12 +5,11 @@ use Rattle.bit_words.specs.Digits.{is_one}
 use Rattle.bit_words.specs.Nonzero.{nonzero_from}
 use Rattle.bit_set.proofs.FromLemmas.{BeginsFrom, IsCut, IsPast, begins_from, begins_by}
 use Rattle.bit_set.proofs.SparseLemmas.{seen}
-use Rattle.bit_set.proofs.walk.Iter.over_from.Given.{Over}
 use Rattle.bit_set.proofs.walk.Iter.over_from.Goals.{After-clear_below}
 use Rattle.bit_set.proofs.walk.Iter.over_from.Goals as goal
 
 -- the walk as it is made
-begun : (g : Over) (c : After-clear_below g) → BeginsFrom g.B.BitBlock.width g.B.BitBlock.number g.B.BitBlock.is_block c.args.bits.now.values c.args.from (c.min-first.result * c.bits-2.result) c.clear_below.result c.nonzero_past.result
+begun : (g : _) (c : After-clear_below g) → BeginsFrom g.B.BitBlock.width g.B.BitBlock.number g.B.BitBlock.is_block c.args.bits.now.values c.args.from (c.min-first.result * c.bits-2.result) c.clear_below.result c.nonzero_past.result
     (seen g.B.BitBlock.width g.B.BitBlock.number g.B.BitBlock.is_block (c.min-first.result * c.bits-2.result) c.clear_below.result c.nonzero_past.result)
 begun g c =
     let w = g.B.BitBlock.width in

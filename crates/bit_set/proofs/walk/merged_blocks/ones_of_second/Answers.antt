@@ -1,20 +1,17 @@
-use Rattle.std.proofs.Common.{arith}
+use Rattle.std.proofs.Common.{◌≡◌, ◌+◌, [], drop, arith}
+use Rattle.bit_set.specs.Places.{ones_of_merged}
 use Rattle.bit_set.proofs.TallyLemmas.{second_counted}
+use Rattle.bit_set.proofs.walk.merged_blocks.ones_of_second.Goals.{After-count_ones-ones}
 use Rattle.bit_set.proofs.walk.merged_blocks.ones_of_second.Goals as goal
 
+counted : (g : _) (c : After-count_ones-ones g) → c.loop-block.ones + c.count_ones-ones.result + ones_of_merged g.B.BitBlock.width g.B.BitBlock.number g.O.Operation.merge [] (drop (c.loop-block.block-index + 1) c.args.blocks.now)
+    ≡ ones_of_merged g.B.BitBlock.width g.B.BitBlock.number g.O.Operation.merge [] c.args.blocks.now
+counted g c =
+    second_counted g.B.BitBlock.width g.B.BitBlock.number g.O.Operation.merge c.args.blocks.now c.loop-block.block-index c.block-item.result _ (g.B.BitBlock.number c.of_blocks.result) c.loop-block.ones c.count_ones-ones.result _ c.loop-block-test.true c.block-item.is c.zero-zero.ensures.of_number
+    (record { digit = c.of_blocks.ensures.digits }) c.loop-block.invariant (g.met.B.BitBlock.number_law c.of_blocks.result c.of_blocks.ensures.of_block).0 c.count_ones-ones.ensures
+
 pub overflow_add-ones : goal.overflow_add-ones
-overflow_add-ones g c =
-    let is = g.B.BitBlock.is_block in
-    let block = c.block-item.result in
-    let i = c.loop-block.block-index in
-    let r = c.of_blocks.result in
-    let more = second_counted g.B.BitBlock.width g.B.BitBlock.number g.O.Operation.merge c.args.blocks.now i block _ (g.B.BitBlock.number r) c.loop-block.ones c.count_ones-ones.result _ c.loop-block-test.true c.block-item.is c.zero-zero.ensures.of_number (record { digit = c.of_blocks.ensures.digits }) c.loop-block.invariant (g.met.B.BitBlock.number_law r c.of_blocks.ensures.of_block).0 c.count_ones-ones.ensures in
-    omega (arith, more, c.requires.fits)
+overflow_add-ones g c = let more = counted g (goal.at.overflow_add-ones g c).After-count_ones-ones in omega (arith, more, c.requires.fits)
 
 pub loop-block-preserved : goal.loop-block-preserved
-loop-block-preserved g c =
-    let is = g.B.BitBlock.is_block in
-    let block = c.block-item.result in
-    let i = c.loop-block.block-index in
-    let r = c.of_blocks.result in
-    second_counted g.B.BitBlock.width g.B.BitBlock.number g.O.Operation.merge c.args.blocks.now i block _ (g.B.BitBlock.number r) c.loop-block.ones c.count_ones-ones.result _ c.loop-block-test.true c.block-item.is c.zero-zero.ensures.of_number (record { digit = c.of_blocks.ensures.digits }) c.loop-block.invariant (g.met.B.BitBlock.number_law r c.of_blocks.ensures.of_block).0 c.count_ones-ones.ensures
+loop-block-preserved g c = counted g (goal.at.loop-block-preserved g c).After-count_ones-ones
