@@ -14,14 +14,11 @@ ghost use Rattle.bit_set.specs.Order.{same_sets, order_of_sets};
 ghost use Rattle.bit_set.specs.Mismatches.{IsFirstMismatch};
 
 use crate::bit_vec::{
-    block_or_zero, first_mismatching_block, first_nonzero_block, has_one_from, lowest_mismatch,
-    mismatch_between, same_blocks,
+    GROUP, block_or_zero, first_mismatching_block, first_nonzero_block, has_one_from,
+    lowest_mismatch, mismatch_between, same_blocks,
 };
 use crate::{BitBlock, BitSet};
 use std::cmp::Ordering;
-
-// Fewer blocks than this are compared one by one.
-const FEW_BLOCKS: usize = 8;
 
 /// Sets are equal where they have the same elements, whatever their lengths and capacities. Compares the blocks
 /// up to the first that differs.
@@ -77,7 +74,7 @@ impl<B: BitBlock> Ord for BitSet<B> {
         if block_or_zero(left, 0) != block_or_zero(right, 0) {
             return order_by(self, other, Some(0));
         }
-        if left.len() == right.len() && left.len() < FEW_BLOCKS {
+        if left.len() == right.len() && left.len() < GROUP {
             return order_by(self, other, mismatch_between(left, right, 1, left.len()));
         }
         order_by_groups(self, other)

@@ -94,6 +94,17 @@ blocks_for-above w n i h e = (div-lt_iff_lt-mul h).1 (lt_of_lt_of_le e (blocks_f
 pub blocks_for-below : (w n i : ℕ) → 0 < w → blocks_for w n ≤ i / w → n ≤ i
 blocks_for-below w n i h e = ⊎_elim (λ below. let b = blocks_for-above w n i h below in absurd (omega arith)) (λ past. past) (cases_lt i n)
 
+-- an index from that of a block on is in it or past it, and one in a block before is below
+pub block_past : (w c i : ℕ) → 0 < w → c * w ≤ i → c ≤ i / w
+block_past w c i pos past =
+    ⊎_elim
+    (λ (less : i / w < c). let below = (div-lt_iff_lt-mul pos).0 less in absurd (omega arith))
+    (λ (reached : c ≤ i / w). reached)
+    (cases_lt (i / w) c)
+
+pub index_below : (w k j i : ℕ) → j < w → k < i / w → k * w + j < i
+index_below w k j i index below = let more = mul-le-mul_right w (let le : k + 1 ≤ i / w = omega arith in le) in omega (arith, div-add-mod' i w)
+
 -- ---- the blocks of a list
 
 pub length-blocks_of : (w : ℕ) (values : List Bool) → length (blocks_of w values) ≡ blocks_for w (length values)

@@ -1,11 +1,11 @@
 -- How far a list is true, and the blocks that this takes.
-use Rattle.std.proofs.Common.{◌≡◌, ◌≢◌, ℕ, zero, suc, ◌+◌, ◌-◌, ◌*◌, ◌/◌, ◌%◌, ◌^◌, ◌<◌, ◌≤◌, max, Bool, true, false, ◌||◌, nat_lt, nat_le, if◌then◌else◌, List, [], ◌∷◌, length, get_or, take, refl, sym, ap, ◌∙◌, arith, ⊎_elim, length-take, le_of_mul-le-mul_right, div-lt_iff_lt-mul, mul-le-mul_right}
+use Rattle.std.proofs.Common.{◌≡◌, ◌≢◌, ℕ, zero, suc, ◌+◌, ◌-◌, ◌*◌, ◌/◌, ◌%◌, ◌^◌, ◌<◌, ◌≤◌, max, Bool, true, false, ◌||◌, nat_lt, nat_le, if◌then◌else◌, List, [], ◌∷◌, length, get_or, take, refl, sym, ap, ◌∙◌, arith, ⊎_elim, length-take, le_of_mul-le-mul_right, mul-le-mul_right}
 use Rattle.std.proofs.lemmas.Bool.{cases_lt, true≢false}
 use Rattle.std.proofs.lemmas.Bool.Decides.{nat_tests}
 use Rattle.bit_words.specs.Bits.{Bits, blocks_for, capacity_of, true_end, whole_blocks}
 use Rattle.bit_words.specs.Storage.{value_at, values_of, IsZeroFrom}
 use Rattle.bit_words.specs.Summary.{shared_capacity, short_count, stored_for}
-use Rattle.bit_words.proofs.BitsLemmas.{blocks_for-enough, blocks_for-least, whole_before}
+use Rattle.bit_words.proofs.BitsLemmas.{block_past, blocks_for-enough, blocks_for-least, whole_before}
 use Rattle.bit_words.proofs.CompareLemmas.{zero_from_digits, digit_from_zero}
 use Rattle.bit_words.proofs.StorageLemmas.{value_at-is, value_at-past, value_at-index}
 use Rattle.bit_words.proofs.PackedLemmas.{value_at-take}
@@ -46,13 +46,6 @@ blocks_for-whole w c pos =
     let low = blocks_for-least w (c * w) c pos (omega arith) in
     let high = le_of_mul-le-mul_right (blocks_for-enough w (c * w) pos) pos in
     omega arith
-
-block_past : (w c i : ℕ) → 0 < w → c * w ≤ i → c ≤ i / w
-block_past w c i pos past =
-    ⊎_elim
-    (λ (less : i / w < c). let below = (div-lt_iff_lt-mul pos).0 less in absurd (omega arith))
-    (λ (reached : c ≤ i / w). reached)
-    (cases_lt (i / w) c)
 
 -- the last block that is not 0 holds the last true value
 pub used_blocks-true_end : (w : ℕ) (ms : List ℕ) (count : ℕ) (xs : List Bool) → 0 < w → ((k : ℕ) → get_or ms k 0 < 2 ^ w) → ((i : ℕ) → get_or xs i false ≡ value_at w ms i) → ((k : ℕ) → count ≤ k → get_or ms k 0 ≡ 0) → (0 < count → get_or ms (count - 1) 0 ≢ 0) → blocks_for w (true_end xs) ≡ count

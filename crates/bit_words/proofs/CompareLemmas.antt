@@ -1,5 +1,5 @@
 -- When the blocks of two lists merge to zeros, and what that says of the lists.
-use Rattle.std.proofs.Common.{◌≡◌, ◌≢◌, ℕ, zero, suc, ◌+◌, ◌*◌, ◌/◌, ◌%◌, ◌^◌, ◌<◌, ◌≤◌, ◌↔◌, ◌==◌, Bool, true, false, List, [], ◌∷◌, length, map, get_or, slice_get, Some, refl, ◌⊎◌, inl, inr, min, sym, ap, ap₂, ◌∙◌, arith, ⊎_elim, mod-lt, div-add-mod', mul-le-mul_right, pow_pos}
+use Rattle.std.proofs.Common.{◌≡◌, ◌≢◌, ℕ, zero, suc, ◌+◌, ◌*◌, ◌/◌, ◌%◌, ◌^◌, ◌<◌, ◌≤◌, ◌↔◌, ◌==◌, Bool, true, false, List, [], ◌∷◌, length, map, get_or, slice_get, Some, refl, ◌⊎◌, inl, inr, min, sym, ap, ap₂, ◌∙◌, arith, ⊎_elim, mod-lt, pow_pos}
 use Rattle.std.proofs.Math.Bool.{and-false, and-true}
 use Rattle.std.proofs.lemmas.Bool.{cases_lt, eq-eqb, false≢true}
 use Rattle.std.proofs.lemmas.List.{get_or_past, length-map}
@@ -12,7 +12,7 @@ use Rattle.bit_words.specs.Merges.{merge_of_values, merge_of}
 use Rattle.bit_words.specs.BlockMerges.{MergesToZero, MergesToFalse, IsFirstMerged}
 use Rattle.bit_words.specs.Digits.{is_one}
 use Rattle.bit_words.specs.Storage.{value_at, values_of, IsZeroFrom}
-use Rattle.bit_words.proofs.BitsLemmas.{slice_get_from_true}
+use Rattle.bit_words.proofs.BitsLemmas.{index_below, slice_get_from_true}
 use Rattle.bit_words.proofs.Masks.{is_one-zero}
 use Rattle.bit_words.proofs.StorageLemmas.{value_at-is, value_at-index, value_at-past, get_or-values_of_zero_tail}
 use Rattle.bit_words.proofs.MergeLemmas.{get_or-merged}
@@ -52,9 +52,6 @@ first_is_past m w ms ns count i pos zeros first =
     ∙ first.is_true)))
     (λ past. past)
     (cases_lt (i / w) count)
-
-index_below : (w k j i : ℕ) → j < w → k < i / w → k * w + j < i
-index_below w k j i index below = let more = mul-le-mul_right w (let le : k + 1 ≤ i / w = omega arith in le) in omega (arith, div-add-mod' i w)
 
 -- the blocks before its own merge to 0
 pub zero_before_first : (m : Merge) (w : ℕ) (ms ns : List ℕ) (count i : ℕ) → count ≤ i / w → IsFirstMerged m w ms ns i → MergesToZero m w ms ns count

@@ -165,13 +165,10 @@ pub stored_within : {X : Type 0} (w n blocks summary : ℕ) (f : X → ℕ) (P :
 stored_within w n blocks summary f P xs ss pos stored first second =
     shared_enough w blocks summary (length xs) pos first (let count = stored_length w f P xs ss stored.summary in omega arith)
 
-in_block : (w k j : ℕ) → j < w → k * w + j < (k + 1) * w
-in_block w k j h = omega arith
-
 pub kept_use : (w n k : ℕ) (ms ns : List ℕ) → 0 < w → get_or ms k 0 < 2 ^ w → get_or ns k 0 < 2 ^ w → ((i : ℕ) → i < n → value_at w ns i ≡ value_at w ms i) → k + 1 < blocks_for w n → is_used ms k ≡ is_used ns k
 kept_use w n k ms ns pos small also kept before =
     let whole = whole_before w n (k + 1) pos before in
-    same_use w ms ns k small also (λ j index. let inside = in_block w k j index in sym (kept (k * w + j) (omega arith)))
+    same_use w ms ns k small also (λ j index. sym (kept (k * w + j) (omega (arith, whole, index))))
 
 -- a list that goes on with false values is at each index what it was
 pub kept_with_zeros : (w n m i : ℕ) (bit : Bool) (ms ns : List ℕ) → bit ≡ false → ((i : ℕ) → i < n → value_at w ns i ≡ value_at w ms i) → ((i : ℕ) → n ≤ i → value_at w ms i ≡ false) → ((i : ℕ) → n ≤ i → i < m → value_at w ns i ≡ bit) → ((i : ℕ) → m ≤ i → value_at w ns i ≡ false) → value_at w ns i ≡ value_at w ms i

@@ -1,5 +1,5 @@
 -- What a copy of the tail of a list holds, by index, and what its summary says.
-use Rattle.std.proofs.Common.{◌≡◌, ◌≢◌, ℕ, ◌+◌, ◌-◌, ◌/◌, ◌%◌, ◌^◌, ◌<◌, ◌≤◌, true, false, ◌&&◌, nat_le, List, [], ◌++◌, map, length, get_or, set, take, drop, replicate, All, sym, ap, ap₂, ◌∙◌, arith, ⊎_elim, mod-lt, length-append, take_all, div-lt_iff_lt-mul, div-mul-le_self, mul-le-mul_right, ◌*◌}
+use Rattle.std.proofs.Common.{◌≡◌, ◌≢◌, ℕ, ◌+◌, ◌-◌, ◌/◌, ◌%◌, ◌^◌, ◌<◌, ◌≤◌, true, false, ◌&&◌, nat_le, List, [], ◌++◌, map, length, get_or, set, take, drop, replicate, All, sym, ap, ap₂, ◌∙◌, arith, ⊎_elim, mod-lt, length-append, take_all, div-lt_iff_lt-mul, ◌*◌}
 use Rattle.std.proofs.Math.Bool.{and-false}
 use Rattle.std.proofs.lemmas.Bool.{cases_lt, cases_eq}
 use Rattle.std.proofs.lemmas.Bool.Decides.{nat_tests}
@@ -8,6 +8,7 @@ use Rattle.std.proofs.lemmas.List.{drop-map, map-append, get_or-drop, get_or-rep
 use Rattle.bit_words.specs.Digits.{is_one}
 use Rattle.bit_words.specs.Storage.{value_at, values_of, IsPacked}
 use Rattle.bit_words.specs.Summary.{is_used}
+use Rattle.bit_words.proofs.BitsLemmas.{index_below}
 use Rattle.bit_words.proofs.ChangeLemmas.{nat_le-indexes, div_lt, read_at, written_same, written_other}
 use Rattle.bit_words.proofs.Masks.{is_one-zero}
 use Rattle.bit_words.proofs.StorageLemmas.{value_at-is, values_of-same, length-values_of, get_or-values_of}
@@ -124,14 +125,11 @@ values_of-tail w ms ns n at h values =
 block_above : (w q at j : ℕ) → 0 < w → at / w < q → at < q * w + j
 block_above w q at j pos h = let a = (div-lt_iff_lt-mul pos).0 h in omega arith
 
-block_below : (w q at j : ℕ) → j < w → q < at / w → q * w + j < at
-block_below w q at j index h = let a = mul-le-mul_right w (let l : q + 1 ≤ at / w = omega arith in l) in omega (arith, div-mul-le_self at w)
-
 -- the blocks before that of the index are 0
 pub tail_unused : (w at q : ℕ) (ms ns : List ℕ) → get_or ns q 0 < 2 ^ w → ((i : ℕ) → value_at w ns i ≡ (nat_le at i && value_at w ms i)) → q < at / w → is_used ns q ≡ false
 tail_unused w at q ms ns small values before =
     unused_from_false w ns q small (λ j index.
-    let below = block_below w q at j index before in
+    let below = index_below w q j at index before in
     values (q * w + j) ∙ before_and at (q * w + j) (value_at w ms (q * w + j)) below)
 
 -- those past it are as they were

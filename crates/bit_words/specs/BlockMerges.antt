@@ -28,7 +28,7 @@ pub record IsMergedBetween (merge : Merge) (w start end : ℕ) (ms os ns : List 
   pub after : (k : ℕ) → end ≤ k → get_or ns k 0 ≡ get_or ms k 0
 
 -- The blocks xs can be merged with the blocks os: these are no more.
-pub record CanMerge {X : Type 0} (number : X → ℕ) (is_block : X → Type 0) (xs os : List X) : Type 0 where
+pub record CanMerge {X : Type 0} (is_block : X → Type 0) (xs os : List X) : Type 0 where
   pub fewer : length os ≤ length xs
   pub each : All is_block xs
   pub others : All is_block os

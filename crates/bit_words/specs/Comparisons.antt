@@ -8,8 +8,8 @@ pub record CanCompare {X : Type 0} (is_block : X → Type 0) (xs ys : List X) (c
   pub each : All is_block xs
   pub others : All is_block ys
 
--- A comparison took these steps: up to the block of the first index that decides, of at most so many blocks of w digits, or all
--- where none does.
+-- A comparison took these steps, one for each block of w digits: up to the block of the first index that decides, or
+-- `most` where none does.
 pub record TakesSteps (decides : ℕ → Type 0) (w most old new : ℕ) (result : Bool) : Type 0 where
   pub stops : (i : ℕ) → decides i → new ≡ old + i / w + 1
   pub fewest : old ≤ new

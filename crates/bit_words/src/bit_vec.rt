@@ -22,6 +22,7 @@ pub use crate::block::lowest::take_lowest_one;
 pub use crate::block::masks::clear_below;
 pub use crate::block::merge::Merge;
 pub use crate::block::{BitBlock, operation};
+pub use crate::packed::groups::GROUP;
 pub use crate::packed::mismatch::{
     first_mismatching_block, lowest_mismatch, mismatch_between, same_blocks,
 };

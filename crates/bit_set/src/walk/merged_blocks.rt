@@ -9,11 +9,8 @@ use super::block_source::BlockSource;
 use super::ones::Ones;
 use crate::BitBlock;
 use crate::bit_vec::operation::Operation;
-use crate::bit_vec::{BitVec, Blocks};
+use crate::bit_vec::{BitVec, Blocks, GROUP};
 use std::marker::PhantomData;
-
-// How many pairs of blocks are counted at a time.
-const GROUP: usize = 8;
 
 // Up to so many ones a block, the branch that leaves a block costs more than steps without one.
 const FEW: usize = 6;

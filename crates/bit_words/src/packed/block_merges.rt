@@ -15,7 +15,7 @@ pub(crate) fn merge_block<B: BitBlock, O: Operation>(
     k: usize,
     steps: &mut Steps,
 ) -> B
-    requires can { CanMerge B.number B.is_block blocks.old others.now }
+    requires can { CanMerge B.is_block blocks.old others.now }
     requires in_others { k < length others.now }
     ensures has { HasMerged O.merge B.width B.number B.is_block k (k + 1) blocks.old others.now blocks.new }
     ensures of_block { B.is_block result }
@@ -35,7 +35,7 @@ fn merge_first<B: BitBlock, O: Operation>(
     start: usize,
     steps: &mut Steps,
 )
-    requires can { CanMerge B.number B.is_block blocks.old others.now }
+    requires can { CanMerge B.is_block blocks.old others.now }
     requires from { start ≤ length others.now }
     ensures has { HasMerged O.merge B.width B.number B.is_block start (length others.now) blocks.old others.now
         blocks.new }
@@ -74,7 +74,7 @@ pub(crate) fn merge_each<B: BitBlock, O: Operation>(
     start: usize,
     steps: &mut Steps,
 )
-    requires can { CanMerge B.number B.is_block blocks.old others.now }
+    requires can { CanMerge B.is_block blocks.old others.now }
     requires from { start ≤ length others.now }
     ensures has { HasMerged O.merge B.width B.number B.is_block start (length blocks.old) blocks.old others.now
         blocks.new }

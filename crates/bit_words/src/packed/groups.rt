@@ -1,6 +1,6 @@
-// How many blocks a loop takes at once, so that the compiler makes vector code of it.
-// Where a group is left at the first block that decides: a short one leaves little to read in vain.
-pub(crate) const GROUP: usize = 8;
+/// How many blocks a loop takes at once, so that the compiler makes vector code of it; fewer are taken one by one. Where
+/// a loop stops at the block that decides, a short group leaves little to read in vain.
+pub const GROUP: usize = 8;
 
 // Where a block of the summary is made of the groups, most often of one or two; and where two lists are compared, most
 // often to their end.

@@ -29,7 +29,7 @@ fn merge_group<B: BitBlock, O: Operation>(
     count: usize,
     steps: &mut Steps,
 ) -> B
-    requires can { CanMerge B.number B.is_block blocks.old others.now }
+    requires can { CanMerge B.is_block blocks.old others.now }
     requires in_others { start + count ≤ length others.now }
     requires within { count ≤ B.width }
     ensures has { HasMerged O.merge B.width B.number B.is_block start (start + count) blocks.old
@@ -54,7 +54,7 @@ fn merge_groups<B: BitBlock, O: Operation>(
     groups: usize,
     steps: &mut Steps,
 ) -> B
-    requires can { CanMerge B.number B.is_block blocks.old others.now }
+    requires can { CanMerge B.is_block blocks.old others.now }
     requires in_others { start + groups * LONG_GROUP ≤ length others.now }
     requires within { groups * LONG_GROUP ≤ B.width }
     ensures has { HasMerged O.merge B.width B.number B.is_block start (start + groups * LONG_GROUP) blocks.old
@@ -80,7 +80,7 @@ fn merge_chunk<B: BitBlock, O: Operation>(
     q: usize,
     steps: &mut Steps,
 ) -> B
-    requires can { CanMerge B.number B.is_block blocks.old others.now }
+    requires can { CanMerge B.is_block blocks.old others.now }
     requires in_others { (q + 1) * B.width ≤ length others.now }
     ensures has { HasMerged O.merge B.width B.number B.is_block (q * B.width) ((q + 1) * B.width) blocks.old
         others.now blocks.new }
@@ -106,7 +106,7 @@ fn merge_chunks<B: BitBlock, O: Operation>(
     chunks: usize,
     steps: &mut Steps,
 )
-    requires can { CanMerge B.number B.is_block blocks.old others.now }
+    requires can { CanMerge B.is_block blocks.old others.now }
     requires in_others { chunks * B.width ≤ length others.now }
     requires in_summary { chunks ≤ length summary.old }
     requires each_sum { All B.is_block summary.old }
@@ -136,7 +136,7 @@ fn merge_tail<B: BitBlock, O: Operation>(
     chunks: usize,
     steps: &mut Steps,
 )
-    requires can { CanMerge B.number B.is_block blocks.old others.now }
+    requires can { CanMerge B.is_block blocks.old others.now }
     requires in_others { chunks * B.width ≤ length others.now }
     requires last { length others.now < (chunks + 1) * B.width }
     requires each_sum { All B.is_block summary.old }
@@ -173,7 +173,7 @@ fn merge_long<B: BitBlock, O: Operation>(
     others: &[B],
     steps: &mut Steps,
 )
-    requires can { CanMerge B.number B.is_block blocks.old others.now }
+    requires can { CanMerge B.is_block blocks.old others.now }
     requires summary { IsSummary B.width B.number B.is_block blocks.old summary.old }
     ensures has { HasMerged O.merge B.width B.number B.is_block 0 (length blocks.old) blocks.old others.now
         blocks.new }
@@ -193,7 +193,7 @@ fn merge_any_length<B: BitBlock, O: Operation>(
     others: &[B],
     steps: &mut Steps,
 )
-    requires can { CanMerge B.number B.is_block blocks.old others.now }
+    requires can { CanMerge B.is_block blocks.old others.now }
     requires summary { KeepsSummary B.width B.number B.is_block blocks.old summary.old }
     ensures has { HasMerged O.merge B.width B.number B.is_block 0 (length blocks.old) blocks.old others.now
         blocks.new }
@@ -216,7 +216,7 @@ fn unite_long<B: BitBlock>(
     other_summary: &[B],
     steps: &mut Steps,
 )
-    requires can { CanMerge B.number B.is_block blocks.old others.now }
+    requires can { CanMerge B.is_block blocks.old others.now }
     requires summary { IsSummary B.width B.number B.is_block blocks.old summary.old }
     requires other_summary { IsSummary B.width B.number B.is_block others.now other_summary.now }
     ensures has { HasMerged Merge.Union B.width B.number B.is_block 0 (length blocks.old) blocks.old others.now
@@ -237,7 +237,7 @@ fn unite_any_length<B: BitBlock>(
     other_summary: &[B],
     steps: &mut Steps,
 )
-    requires can { CanMerge B.number B.is_block blocks.old others.now }
+    requires can { CanMerge B.is_block blocks.old others.now }
     requires summary { KeepsSummary B.width B.number B.is_block blocks.old summary.old }
     requires other_summary { KeepsSummary B.width B.number B.is_block others.now other_summary.now }
     ensures has { HasMerged Merge.Union B.width B.number B.is_block 0 (length blocks.old) blocks.old others.now
@@ -263,7 +263,7 @@ pub(crate) fn merge_chosen<B: BitBlock>(
     merge: Merge,
     steps: &mut Steps,
 )
-    requires can { CanMerge B.number B.is_block blocks.old others.now }
+    requires can { CanMerge B.is_block blocks.old others.now }
     requires summary { KeepsSummary B.width B.number B.is_block blocks.old summary.old }
     requires other_summary { KeepsSummary B.width B.number B.is_block others.now other_summary.now }
     ensures has { HasMerged merge B.width B.number B.is_block 0 (length blocks.old) blocks.old others.now

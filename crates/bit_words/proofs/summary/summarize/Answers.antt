@@ -1,4 +1,4 @@
-use Rattle.std.proofs.Common.{◌≡◌, ◌<◌, map, length, arith, ◌*◌, ap}
+use Rattle.std.proofs.Common.{◌≡◌, ℕ, ◌<◌, map, length, arith, ◌*◌}
 use Rattle.std.proofs.lemmas.List.{length-map}
 use Rattle.bit_words.specs.Bits.{blocks_for}
 use Rattle.bit_words.proofs.SummaryLemmas.{summary_put, summary_of_digits, digits_of_summary}
@@ -28,19 +28,19 @@ returns-clause-summary g c =
     summary_of_digits w f _ c.args.blocks.now c.loop-q.summary.items c.loop-q.invariant.each (omega arith) c.requires.fits
     (digits_of_summary w ms ss g.met.B.BitBlock.width_law.positive count (λ q j below index. let inside : q < length c.loop-q.summary.items = rw length-map at below in c.loop-q.invariant.done q j (omega arith) index))
 
+-- where the blocks begin that block q of the summary is about
+begun : (w bits n q : ℕ) → 0 < w → bits ≡ w → q < blocks_for w n → q * bits < n
+begun w bits n q pos e within = rw e (whole_before w n q pos within)
+
 pub overflow_mul-q : goal.overflow_mul-q
 overflow_mul-q g c =
-    let w = g.B.BitBlock.width in
-    let start = whole_before w (length c.args.blocks.now) c.loop-q.q g.met.B.BitBlock.width_law.positive (omega arith) in
-    let begin = ap (λ x. c.loop-q.q * x) c.bits.ensures in
-    omega (arith, start, begin)
+    let begin = begun g.B.BitBlock.width c.bits.result (length c.args.blocks.now) c.loop-q.q g.met.B.BitBlock.width_law.positive c.bits.ensures (omega arith) in
+    omega (arith, begin, c.requires.fits)
 
 pub used_from-requires-clause-in_bounds : goal.used_from-requires-clause-in_bounds
 used_from-requires-clause-in_bounds g c =
-    let w = g.B.BitBlock.width in
-    let start = whole_before w (length c.args.blocks.now) c.loop-q.q g.met.B.BitBlock.width_law.positive (omega arith) in
-    let begin = ap (λ x. c.loop-q.q * x) c.bits.ensures in
-    omega (arith, start, begin)
+    let begin = begun g.B.BitBlock.width c.bits.result (length c.args.blocks.now) c.loop-q.q g.met.B.BitBlock.width_law.positive c.bits.ensures (omega arith) in
+    omega (arith, begin)
 
 pub put_block-requires-clause-in_bounds : goal.put_block-requires-clause-in_bounds
 put_block-requires-clause-in_bounds g c = omega arith

@@ -38,8 +38,8 @@ mismatch_between-requires-clause-before g c k low =
     let first : k ≡ 0 = omega (arith, low) in
     rw first (sym c.block_or_zero.ensures.of_number ∙ same.0 (not-false _ (sym c.ne.ensures ∙ c.if-ne.false)) ∙ c.block_or_zero-2.ensures.of_number)
 
-pub returns-then-left-lt-FEW_BLOCKS : goal.returns-then-left-lt-FEW_BLOCKS
-returns-then-left-lt-FEW_BLOCKS g c = c.order_by-then-left-lt-FEW_BLOCKS.ensures
+pub returns-then-left-lt-GROUP : goal.returns-then-left-lt-GROUP
+returns-then-left-lt-GROUP g c = c.order_by-then-left-lt-GROUP.ensures
 
 pub returns : goal.returns
 returns g c = c.order_by_groups.ensures

@@ -1,8 +1,9 @@
-use Rattle.std.proofs.Common.{◌≡◌, ℕ, ◌+◌, ◌*◌, ◌/◌, ◌%◌, ◌<◌, ◌≤◌, ◌∙◌, ◌==◌, not, refl, sym, ap, map, length, arith, ⊎_elim, mod-lt, div-add-mod', div-lt_iff_lt-mul, div-mul-le_self, mul-le-mul_right}
+use Rattle.std.proofs.Common.{◌≡◌, ℕ, ◌+◌, ◌*◌, ◌/◌, ◌%◌, ◌<◌, ◌≤◌, ◌∙◌, ◌==◌, not, refl, sym, ap, map, length, arith, ⊎_elim, mod-lt, div-add-mod', div-mul-le_self, mul-le-mul_right}
 use Rattle.std.proofs.lemmas.Bool.{cases_lt}
 use Rattle.std.proofs.lemmas.List.{length-map}
 use Rattle.bit_words.specs.Bits.{blocks_for}
 use Rattle.bit_words.specs.Digits.{is_one}
+use Rattle.bit_words.proofs.BitsLemmas.{block_past}
 use Rattle.bit_words.proofs.ChangeLemmas.{div_le}
 use Rattle.bit_words.proofs.MergeLemmas.{merged_more}
 use Rattle.bit_words.proofs.StorageLemmas.{value_at-is}
@@ -18,13 +19,6 @@ chunks_within w len more chunks pos le e = let d = div_le w len more pos le in o
 
 last_chunk : (w len chunks : ℕ) → 0 < w → chunks ≡ len / w → len < (chunks + 1) * w
 last_chunk w len chunks pos e = let q = ap (λ x. x * w) e in omega (arith, q, div-add-mod' len w, mod-lt len pos)
-
-chunk_reached : (w chunks k : ℕ) → 0 < w → chunks * w ≤ k → chunks ≤ k / w
-chunk_reached w chunks k pos from =
-    ⊎_elim
-    (λ below. let low = (div-lt_iff_lt-mul pos).0 below in absurd (omega (arith, low, from)))
-    (λ reached. reached)
-    (cases_lt (k / w) chunks)
 
 pub merge_chunks-requires-clause-in_others : goal.merge_chunks-requires-clause-in_others
 merge_chunks-requires-clause-in_others g c = chunks_inside g.B.BitBlock.width (length c.args.others.now) c.block_index-chunks.result c.block_index-chunks.ensures
@@ -47,7 +41,7 @@ merge_tail-requires-clause-rest g c = λ k from.
     let ts = map f c.merge_chunks.new.summary in
     let ss = map f c.args.summary.now in
     value_at-is w ts k
-    ∙ ap (λ n. is_one n (k % w)) (c.merge_chunks.ensures.past (k / w) (chunk_reached w c.block_index-chunks.result k g.met.B.BitBlock.width_law.positive from))
+    ∙ ap (λ n. is_one n (k % w)) (c.merge_chunks.ensures.past (k / w) (block_past w c.block_index-chunks.result k g.met.B.BitBlock.width_law.positive from))
     ∙ sym (value_at-is w ss k)
     ∙ c.requires.summary.digit k
     ∙ ap (λ m. not (m == 0)) (sym (c.merge_chunks.ensures.has.merged.after k from))
