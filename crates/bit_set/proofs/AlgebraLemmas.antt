@@ -51,7 +51,7 @@ elements-merged merge xs ys =
     ∙ ap (λ b. merge_of_values merge (has (elements xs) k) b) (sym (has-elements ys k))
     ∙ sym (has-merge_of_sets merge (elements xs) (elements ys) k))
 
--- the same where the first list was lengthened with false
+-- the set that is kept where the first list was lengthened with false
 pub elements-lengthened : (merge : Merge) (xs ys : List Bool) (n : ℕ) → elements (merge_of merge (xs ++ replicate n false) ys) ≡ merge_of_sets merge (elements xs) (elements ys)
 elements-lengthened merge xs ys n =
     elements-merged merge (xs ++ replicate n false) ys ∙ ap (λ s. merge_of_sets merge s (elements ys)) (elements-alike xs (xs ++ replicate n false) (get_or_padded xs n))

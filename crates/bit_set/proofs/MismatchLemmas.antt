@@ -126,7 +126,7 @@ has_none w from m ms values pos are is in_block past k above =
           ]
     ])
 
--- the same, by what a search past the block found
+-- what a search past the block says of the set
 pub some_past : (w from : ℕ) (ms : List ℕ) (values : List Bool) (r : Option ℕ) (b : Bool) → 0 < w → ms ≡ blocks_of w values → MatchOption r ((q : ℕ) → from / w + 1 ≤ q → get_or ms q 0 ≡ 0) (IsFirstNonzeroBlock ms (from / w + 1)) → b ≡ is_some r
     → OnTrue b ((k : ℕ) × (from ≤ k) × (has (elements values) k ≡ true))
 some_past w from ms values None b pos are found is = subst (λ t. OnTrue t ((k : ℕ) × (from ≤ k) × (has (elements values) k ≡ true))) (sym is) tt

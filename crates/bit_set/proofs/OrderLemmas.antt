@@ -12,7 +12,7 @@ use Rattle.bit_set.specs.Order.{order_of_sets, same_sets}
 use Rattle.bit_set.specs.Mismatches.{IsFirstMismatch}
 use Rattle.bit_set.proofs.SetLemmas.{has-elements, has-elements_from, AscendsFrom-elements_from, IsAscending-elements, same_members}
 
--- the same first number leaves it to the others
+-- lists with one first number compare as the others do
 pub order-cons : (p : ℕ) (s t : List ℕ) → order_of_sets (p ∷ s) (p ∷ t) ≡ order_of_sets s t
 order-cons p s t = ap (λ o. ordering_then o (order_of_sets s t)) (tied_itself nat_cmp_total p)
 
@@ -89,7 +89,7 @@ pub holder_last : (xs ys : List Bool) (n : ℕ) → IsFirstMismatch (elements xs
 holder_last xs ys n d holds none =
     order-ends 0 n n xs ys (agree xs ys n d) (λ k from. sym (has-elements ys k) ∙ none k from) (omega arith) (sym (has-elements xs n) ∙ holds)
 
--- the same difference, seen from the other set
+-- where two sets first differ is seen from either
 pub swapped : (s t : List ℕ) (n : ℕ) → IsFirstMismatch s t n → IsFirstMismatch t s n
 swapped s t n d = record { below = λ k below. sym (d.below k below); here = sym (not-not (has t n)) ∙ ap not (sym d.here) }
 
@@ -110,7 +110,7 @@ by_holder xs ys n Less d holds found = sym (holder_first xs ys n found.0 d holds
 by_holder xs ys n Equal d holds found = absurd found
 by_holder xs ys n Greater d holds found = sym (holder_last xs ys n d holds found)
 
--- the same, where the other set has the number
+-- the other side of the order, where the other set has the number
 pub by_other_holder : (xs ys : List Bool) (n : ℕ) (r : Ordering) → IsFirstMismatch (elements xs) (elements ys) n → has (elements xs) n ≡ false
     → MatchOrdering r ((k : ℕ) × (n ≤ k) × (has (elements xs) k ≡ true)) ⊥ ((k : ℕ) → n ≤ k → has (elements xs) k ≡ false)
     → ordering_reverse r ≡ order_of_sets (elements xs) (elements ys)

@@ -6,7 +6,7 @@ use Rattle.bit_words.specs.declared.bit_vec.constructors.BitsError.TheVariants.{
 use Rattle.bit_set.specs.declared.faults.SetError.{SetError}
 use Rattle.bit_set.specs.declared.faults.SetError.TheVariants.{Element, Length, Memory}
 
--- the same fault of the bit vector
+-- the fault of a set where its bit vector has this one
 abbrev pub of_bits : BitsError → SetError
 of_bits BitsLength = Length
 of_bits (BitsMemory fault) = Memory fault

@@ -20,8 +20,8 @@ values_in w ms = flat_map (λ m. digits_from m 0 w) ms
 unfoldable pub indexes : ℕ → ℕ → ℕ → List Bool → List ℕ
 indexes w index m values = elements_from index (digits_from m 0 w ++ values)
 
--- What lies ahead in a source of blocks: the values of the blocks that are not yet pulled, how many these are, and
--- how often the source was pulled.
+-- What lies ahead of a walk: the values of the blocks that are not yet pulled, how many these are, and how often it
+-- pulled.
 pub record Ahead : Type 0 where
   pub values : List Bool
   pub blocks : ℕ
@@ -58,7 +58,7 @@ abbrev pub ones_of_merged : {X : Type 0} → ℕ → (X → ℕ) → Merge → L
 ones_of_merged w number merge xs ys =
     length (elements (merge_of merge (values_in w (map number xs)) (values_in w (map number ys))))
 
--- the same from one block on
+-- how many they become from one block on
 abbrev pub ones_from : {X : Type 0} → ℕ → (X → ℕ) → Merge → List X → List X → ℕ → ℕ
 ones_from w number merge xs ys i = ones_of_merged w number merge (drop i xs) (drop i ys)
 
@@ -78,10 +78,9 @@ pub record CanWalk (w index m : ℕ) (ahead : Ahead) : Type 0 where
   pub below : All (λ n. n < 2 ^ 64) (indexes w index m ahead.values)
   pub few : length (indexes w index m ahead.values) < 2 ^ 64
 
--- The fields of a walk: the block in hand is a block value, the source is sound, and the walk can go on.
-pub record IsWalk (is_block is_sound : Type 0) (w index m : ℕ) (ahead : Ahead) : Type 0 where
+-- The fields of a walk: the block in hand is a block value, and the walk can go on.
+pub record IsWalk (is_block : Type 0) (w index m : ℕ) (ahead : Ahead) : Type 0 where
   pub in_hand : is_block
-  pub sound : is_sound
   pub can : CanWalk w index m ahead
 
 -- Of all these blocks, what lies past the one whose first digit has index `index`.

@@ -82,7 +82,8 @@ pub record IsWalkedOut (s : Walk) (items : List ℕ) (t : Walk) : Type 0 where
   pub ended : t.left ≡ []
   pub pulled : t.pulls ≤ s.pulls + s.blocks + 1
 
--- The same, of a walk over two sets, which pulls each block that it passes just once.
+-- From s, the calls of `next` on a walk over two sets up to the first None gave the items and left t. They pulled each
+-- block that they passed just once.
 pub record IsWalkedOutByEach (s : TwoSetWalk) (items : List ℕ) (t : TwoSetWalk) : Type 0 where
   pub all : items ≡ s.left
   pub ended : t.left ≡ []

@@ -10,10 +10,8 @@ use crate::bit_vec::{BitVec, Nonzero, block_or_zero, clear_below, take_lowest_on
 use crate::{BitBlock, BitSet};
 use std::marker::Model;
 
-mod block_source;
 mod intersection;
 mod merged_blocks;
-mod ones;
 mod two_sets;
 
 pub use intersection::Intersection;

@@ -198,9 +198,6 @@ module _ {B : Type 0} (blocks : List (ExpressionBlock B)) (all : List ℕ) (law 
 
 -- ---- one set after another
 
-pub complements_none : (all : List ℕ) (sets : List (List ℕ)) → IsComplementedBelow all 0 sets sets
-complements_none all sets = record { long = refl; done = λ b e lt. absurd (omega (arith, lt)); rest = λ b from. refl }
-
 pub complements_on : (all : List ℕ) (i : ℕ) (first old new : List (List ℕ)) → IsComplementedBelow all i first old → length new ≡ length old → ((c : ℕ) → c ≢ i → set_at new c ≡ set_at old c) → IsDifference all (set_at old i) (set_at new i) → IsComplementedBelow all (i + 1) first new
 complements_on all i first old new c long others here = record {
   long = long ∙ c.long;
@@ -210,6 +207,3 @@ complements_on all i first old new c long others here = record {
   ];
   rest = λ b from. others b (λ is. omega (arith, is, from)) ∙ c.rest b (omega (arith, from));
 }
-
-pub complements_all : (all : List ℕ) (first new : List (List ℕ)) → IsComplementedBelow all (length first) first new → AreComplements all first new
-complements_all all first new c = record { long = c.long; each = λ b e lt. c.done b e lt }

@@ -22,14 +22,6 @@ row_read rows x row lt is = mapped (λ (r : Vec ℕ). r.items) rows x row [] lt 
 
 -- ---- one block, source by source
 
-pub adds_none : (b : ℕ) (rows : List (Vec ℕ)) → AddsDependent [] b rows rows
-adds_none b rows = record {
-  long = refl;
-  kept = λ c s h. h;
-  adds = λ s lt none. absurd (true≢false (sym none));
-  only = λ c s h. inl h;
-}
-
 module _ (sources : List ℕ) (b x : ℕ) (first old new : List (Vec ℕ)) (a : AddsDependent sources b first old) where
   -- a source that is a block
   pub adds_on : length new ≡ length old → ((s : ℕ) → s ≢ x → row_at new s ≡ row_at old s) → row_at new x ≡ row_at old x ++ b ∷ [] → AddsDependent (sources ++ x ∷ []) b first new
@@ -77,30 +69,3 @@ pub record Depends (blocks : List Flow) (count : ℕ) (rows : List (Vec ℕ)) : 
   pub long : length rows ≡ length blocks
   pub all : (b s : ℕ) → b < count → s < length blocks → has (block_at blocks b).sources s ≡ true → has (row_at rows s) b ≡ true
   pub inside : (b s : ℕ) → has (row_at rows s) b ≡ true → b < count
-
-pub depends_none : (blocks : List Flow) (rows : List (Vec ℕ)) → length rows ≡ length blocks → ((s : ℕ) → row_at rows s ≡ []) → Depends blocks 0 rows
-depends_none blocks rows long none = record {
-  long = long;
-  all = λ b s lt low source. absurd (omega (arith, lt));
-  inside = λ b s h. absurd (true≢false (sym h ∙ ap (λ r. has r b) (none s)));
-}
-
-pub depends_on : (blocks : List Flow) (n : ℕ) (sources : List ℕ) (old new : List (Vec ℕ)) → sources ≡ (block_at blocks n).sources → Depends blocks n old → AddsDependent sources n old new → Depends blocks (n + 1) new
-depends_on blocks n sources old new is d a = record {
-  long = a.long ∙ d.long;
-  all = λ b s lt low source. elim (cases_eq b n) [
-    | inl same ↦ ap (has (row_at new s)) same ∙ a.adds s (let long = d.long in omega (arith, low, long)) (ap (λ l. has l s) is ∙ ap (λ m. has (block_at blocks m).sources s) (sym same) ∙ source)
-    | inr other ↦ a.kept b s (d.all b s (omega (arith, lt, other)) low source)
-  ];
-  inside = λ b s h. elim (a.only b s h) [
-    | inl before ↦ let lt = d.inside b s before in omega (arith, lt)
-    | inr same ↦ omega (arith, same)
-  ];
-}
-
-pub depends_all : (blocks : List Flow) (rows : List (Vec ℕ)) → Depends blocks (length blocks) rows → AreDependents blocks rows
-depends_all blocks rows d = record {
-  long = d.long;
-  all = λ b s low source. d.all b s (with_source blocks b s source) low source;
-  inside = d.inside;
-}

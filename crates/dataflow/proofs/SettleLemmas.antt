@@ -43,9 +43,6 @@ module _ (old new : List ℕ) (p : ℕ) (updates : Updates old new p false) wher
 
 -- ---- blocks that wait again
 
-pub puts_none : (place : ℕ → ℕ) (count : ℕ) (waiting : List ℕ) → PutsBack [] place count waiting waiting
-puts_none place count waiting = record { kept = λ p h. h; adds = λ b none. absurd (true≢false (sym none)); below = λ each. each }
-
 module _ (place : ℕ → ℕ) (count : ℕ) (dependents old mid new : List ℕ) (b : ℕ) (puts : PutsBack dependents place count old mid) (updates : Updates mid new (place b) true) where
   waits_now : has new (place b) ≡ true
   waits_now = updates (place b) ∙ ap (λ it. cond it true (has mid (place b))) (eq-eqb (place b) (place b) refl)

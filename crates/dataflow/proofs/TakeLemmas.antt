@@ -88,18 +88,6 @@ in_push (y ∷ ys) x n = ap (λ b. eqb y n || b) (in_push ys x n) ∙ shift (eqb
     shift true b c = refl
     shift false b c = refl
 
-pub gathered_none : (sets : List (List ℕ)) (into : List ℕ) → ((v : ℕ) → has into v ≡ false) → IsGathered [] sets into
-gathered_none sets into none v = (λ h. absurd (true≢false (sym h ∙ none v)), λ p. absurd (true≢false (sym p.1)))
-
-pub gathered_one : (sets : List (List ℕ)) (s : ℕ) (into : List ℕ) → into ≡ set_at sets s → IsGathered (s ∷ []) sets into
-gathered_one sets s into is v = (
-  λ h. (s, or_left (eqb s s) false (eq-eqb s s refl), ap (λ l. has l v) (sym is) ∙ h),
-  λ p. elim (or_cases (eqb s p.0) false p.1) [
-    | inl same ↦ ap (λ l. has l v) is ∙ ap (λ n. has (set_at sets n) v) (eqb-true s p.0 same) ∙ p.2
-    | inr none ↦ absurd (true≢false (sym none))
-  ],
-)
-
 pub gathered_on : (sources : List ℕ) (sets : List (List ℕ)) (s : ℕ) (into new : List ℕ) → IsGathered sources sets into → IsUnion into (set_at sets s) new → IsGathered (sources ++ s ∷ []) sets new
 gathered_on sources sets s into new g members v = (
   λ h. elim (or_cases (has into v) (has (set_at sets s) v) (sym (members v) ∙ h)) [
@@ -151,16 +139,6 @@ module _ (block : Flow) (b : ℕ) (old : List (List ℕ)) (gathered spare : List
 
   entered : (v : ℕ) → Enters block old v → has block.killed v ≡ false → has spare v ≡ true
   entered v p passes = difference v ∙ and_true (has gathered v) (has block.killed v) ((g v).1 p) passes
-
-  -- all of it was in
-  pub takes_none : ((n : ℕ) → has spare n ≡ true → has (set_at old b) n ≡ true) → TakesIn block b old old
-  takes_none subset = record {
-    long = refl;
-    others = λ c other. refl;
-    kept = λ v h. h;
-    takes = λ v p passes. subset v (entered v p passes);
-    only = λ v h. inl h;
-  }
 
   pub takes_union : (new : List (List ℕ)) → length new ≡ length old → ((c : ℕ) → c ≢ b → set_at new c ≡ set_at old c) → IsUnion (set_at old b) spare (set_at new b) → TakesIn block b old new
   takes_union new long others members = record {

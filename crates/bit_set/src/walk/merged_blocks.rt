@@ -1,16 +1,13 @@
 // The blocks of two sets, merged.
-ghost use Rattle.std.specs.Prelude.{◌≡◌, ◌+◌, ◌-◌, ◌<◌, ◌≤◌, ◌^◌, ◌⊎◌, max, IfSome, All, [], length};
+ghost use Rattle.std.specs.Prelude.{◌≡◌, ◌+◌, ◌<◌, ◌≤◌, ◌^◌, ◌⊎◌, max, IfSome, All, [], length};
 ghost use Rattle.bit_words.specs.Bits.{blocks_for};
 ghost use Rattle.bit_set.specs.Sets.{elements, merge_of_sets};
-ghost use Rattle.bit_set.specs.Places.{IsMergedPull, ones_from, ones_of_merged};
-ghost use Rattle.bit_set.specs.Walk.{StartsOverTwo};
+ghost use Rattle.bit_set.specs.Places.{IsMergedPull, IsWalkable, PullsBlock, PullsBlockIf, ones_from, ones_of_merged};
 
-use super::block_source::BlockSource;
-use super::ones::Ones;
 use crate::BitBlock;
 use crate::bit_vec::operation::Operation;
 use crate::bit_vec::{BitVec, Blocks, GROUP};
-use std::marker::PhantomData;
+use std::marker::{Model, PhantomData};
 
 // Up to so many ones a block, the branch that leaves a block costs more than steps without one.
 const FEW: usize = 6;
@@ -23,28 +20,57 @@ pub(crate) struct Pairs<'a, B: BitBlock, O: Operation> {
     operation: PhantomData<O>,
 }
 
-impl<'a, B: BitBlock, O: Operation> BlockSource<B> for Pairs<'a, B, O> {
+impl<'a, B: BitBlock, O: Operation> Model for Pairs<'a, B, O> {
     ghost use Rattle.std.specs.Prelude.{◌≡◌, map, max, length, All};
     ghost use Rattle.bit_words.specs.Merges.{merge_of};
-    ghost use Rattle.bit_set.specs.Places.{values_in};
+    ghost use Rattle.bit_set.specs.Places.{Ahead, values_in};
 
-    ghost ahead = { λ pairs. record {
+    ghost Value = { Ahead };
+
+    ghost view = { λ pairs. record {
       values = merge_of O.merge (values_in B.width (map B.number pairs.first.left))
           (values_in B.width (map B.number pairs.second.left));
       blocks = max (length pairs.first.left) (length pairs.second.left);
       pulls = pairs.first.pulls;
     } };
 
-    ghost is_sound = { λ pairs. (All B.is_block pairs.first.left) × (All B.is_block pairs.second.left)
+    ghost invariant = { λ pairs. (All B.is_block pairs.first.left) × (All B.is_block pairs.second.left)
         × (pairs.second.pulls ≡ pairs.first.pulls) };
+}
 
+impl<'a, B: BitBlock, O: Operation> Pairs<'a, B, O> {
+    // The blocks of two bit vectors, none pulled yet.
     #[inline]
-    fn pull(&mut self) -> Option<B> {
+    pub(crate) fn over(first: &'a BitVec<B>, second: &'a BitVec<B>) -> Self
+        ensures can { IsWalkable B.width result }
+        ensures values { elements result.values
+            ≡ merge_of_sets O.merge (elements first.now.values) (elements second.now.values) }
+        ensures blocks { result.blocks
+            ≡ max (blocks_for B.width (length first.now.values)) (blocks_for B.width (length second.now.values)) }
+        ensures pulls { result.pulls ≡ 0 }
+    {
+        Pairs {
+            first: first.blocks(),
+            second: second.blocks(),
+            operation: PhantomData,
+        }
+    }
+
+    // The next block. `None` stays.
+    #[inline]
+    pub(crate) fn pull(&mut self) -> Option<B>
+        ensures steps { PullsBlock B.width B.number self.old result self.new }
+        ensures given { IfSome result B.is_block }
+    {
         self.pull_with_kind().0
     }
 
+    // The next block, and whether the walk is taken to be over blocks with few ones, from what was pulled.
     #[inline]
-    fn pull_with_kind(&mut self) -> (Option<B>, bool) {
+    pub(crate) fn pull_with_kind(&mut self) -> (Option<B>, bool)
+        ensures steps { PullsBlock B.width B.number self.old result.0 self.new }
+        ensures given { IfSome result.0 B.is_block }
+    {
         let first = self.first.next();
         let second = self.second.next();
         let block = merge_of_blocks::<B, O>(first, second);
@@ -53,26 +79,37 @@ impl<'a, B: BitBlock, O: Operation> BlockSource<B> for Pairs<'a, B, O> {
         (block, is_sparse)
     }
 
-    // Once a side has ended, `pull` alone goes on: a pull that finds the end of both is then counted once. That test is
-    // a branch too, but one that is predicted.
+    // The next block where it is wanted; else some block, and nothing is pulled. `None`, and nothing pulled, once a side
+    // has ended, where `pull` alone goes on: a pull that finds the end of both is then counted once. That test is a
+    // branch too, but one that is predicted.
     #[inline(always)]
-    fn pull_if(&mut self, wanted: bool) -> Option<B> {
+    pub(crate) fn pull_if(&mut self, wanted: bool) -> Option<B>
+        ensures steps { PullsBlockIf B.width B.number wanted self.old result self.new }
+        ensures given { IfSome result B.is_block }
+    {
         if self.first.size_hint().0 == 0 || self.second.size_hint().0 == 0 {
             return None;
         }
-        match (self.first.next_if(wanted), self.second.next_if(wanted)) {
-            (Some(a), Some(b)) => Some(O::of_blocks(a, b)),
-            _ => None,
-        }
+        let (Some(a), Some(b)) = (self.first.next_if(wanted), self.second.next_if(wanted)) else {
+            return None;
+        };
+        Some(O::of_blocks(a, b))
     }
 
+    // How many blocks are ahead.
     #[inline]
-    fn blocks_left(&self) -> usize {
+    pub(crate) fn blocks_left(&self) -> usize
+        ensures { result ≡ self.now.blocks }
+    {
         self.first.size_hint().0.max(self.second.size_hint().0)
     }
 
+    // How many ones are ahead.
     #[inline]
-    fn count_ones(self) -> usize {
+    pub(crate) fn count_ones(self) -> usize
+        requires { length (elements self.values) < 2 ^ 64 }
+        ensures { result ≡ length (elements self.entry.values) }
+    {
         let first = self.first.as_slice();
         let second = self.second.as_slice();
         let both = first.len().min(second.len());
@@ -80,8 +117,11 @@ impl<'a, B: BitBlock, O: Operation> BlockSource<B> for Pairs<'a, B, O> {
             + ones_of_rest::<B, O>(&first[both..], &second[both..])
     }
 
+    // What is ahead, the pulls going on.
     #[inline]
-    fn copy(&self) -> Self {
+    pub(crate) fn clone(&self) -> Self
+        ensures { result ≡ self.now }
+    {
         Pairs {
             first: self.first.clone(),
             second: self.second.clone(),
@@ -207,20 +247,4 @@ fn ones_of_second<B: BitBlock, O: Operation>(blocks: &[B]) -> usize
         ones += O::of_blocks(zero, *block).count_ones();
     }
     ones
-}
-
-// The walk over what two bit vectors become.
-#[inline]
-pub(crate) fn ones_of_two<'a, B: BitBlock, O: Operation>(
-    first: &'a BitVec<B>,
-    second: &'a BitVec<B>,
-) -> Ones<Pairs<'a, B, O>, B>
-    ensures left { result.left ≡ merge_of_sets O.merge (elements first.now.values) (elements second.now.values) }
-    ensures start { StartsOverTwo B.width first.now.values second.now.values result }
-{
-    Ones::over(Pairs {
-        first: first.blocks(),
-        second: second.blocks(),
-        operation: PhantomData,
-    })
 }

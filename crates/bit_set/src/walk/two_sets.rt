@@ -5,18 +5,24 @@ ghost use Rattle.std.specs.Iterator.Runs.{YieldsInOrder};
 ghost use Rattle.std.specs.Iterator.SizeHint.{IsWithinCount};
 ghost use Rattle.bit_set.specs.Members.{IsDifference, IsMerged, IsSymmetricDifference, IsUnion};
 ghost use Rattle.bit_set.specs.Sets.{elements, merge_of_sets, union, difference, symmetric_difference};
-ghost use Rattle.bit_set.specs.Walk.{AdvancesByEach, StartsOverTwo, bound_on_rest};
+ghost use Rattle.bit_set.specs.Walk.{AdvancesByEach, GoesOn, StartsOverTwo, bound_on_rest};
 
-use super::merged_blocks::{Pairs, ones_of_two};
-use super::ones::Ones;
+use super::merged_blocks::Pairs;
 use crate::bit_vec::operation::{self, Operation};
+use crate::bit_vec::take_lowest_one;
 use crate::{BitBlock, BitSet};
 use std::marker::Model;
 
 /// What two sets become by an operation, in ascending order, each once. Pulls each block of both sets once.
 #[derive(Drop)]
 pub struct TwoSets<'a, B: BitBlock, O: Operation> {
-    ones: Ones<Pairs<'a, B, O>, B>,
+    source: Pairs<'a, B, O>,
+    // What is left of the block in hand.
+    block: B,
+    // The index of its lowest bit.
+    index: usize,
+    // Whether blocks are taken to have few ones, as the first one does. It changes no result.
+    sparse: bool,
 }
 
 /// What is in either of two sets, in ascending order, each once. Pulls each block of both sets once.
@@ -30,10 +36,18 @@ pub type SymmetricDifference<'a, B> = TwoSets<'a, B, operation::Symmetric>;
 
 impl<'a, B: BitBlock, O: Operation> Model for TwoSets<'a, B, O> {
     ghost use Rattle.bit_set.specs.Walk.{TwoSetWalk};
+    ghost use Rattle.bit_set.specs.Places.{indexes, IsWalk};
 
     ghost Value = { TwoSetWalk };
 
-    ghost view = { λ it. it.ones };
+    ghost view = { λ it. record {
+      left = indexes B.width it.index (B.number it.block) it.source.values;
+      pulls = it.source.pulls;
+      index = it.index;
+      blocks = it.source.blocks;
+    } };
+
+    ghost invariant = { λ it. IsWalk (B.is_block it.block) B.width it.index (B.number it.block) it.source };
 }
 
 impl<'a, B: BitBlock, O: Operation> TwoSets<'a, B, O> {
@@ -44,8 +58,44 @@ impl<'a, B: BitBlock, O: Operation> TwoSets<'a, B, O> {
         ensures members { IsMerged O.merge (elements first.now.values) (elements second.now.values) result.left }
         ensures start { StartsOverTwo B.width first.now.values second.now.values result }
     {
+        let mut source = Pairs::over(first.get_ref(), second.get_ref());
+        let pulled = source.pull_with_kind();
+        let block = pulled.0.unwrap_or(B::zero());
         TwoSets {
-            ones: ones_of_two(first.get_ref(), second.get_ref()),
+            source,
+            block,
+            index: 0,
+            sparse: pulled.1,
+        }
+    }
+
+    // The index of the next one.
+    #[inline(always)]
+    fn next_index(&mut self) -> Option<usize>
+        ensures { AdvancesByEach B.width self.old result self.new }
+    {
+        if self.sparse {
+            self.advance_branchless();
+        }
+        while self.block == B::zero() {
+            // At the end `index` stays with the last block.
+            self.block = self.source.pull()?;
+            self.index += B::bits();
+        }
+        // `index` is a multiple of the width, so where the width is a power of two this adds as an or does.
+        Some(self.index + take_lowest_one(&mut self.block))
+    }
+
+    // Goes on to the next block where the one in hand is used up and the source has it without a branch. How many ones
+    // a block has is random, so that a processor predicts the branch badly.
+    #[inline(always)]
+    fn advance_branchless(&mut self)
+        ensures { GoesOn B.width self.old self.new }
+    {
+        let used_up = self.block == B::zero();
+        if let Some(next) = self.source.pull_if(used_up) {
+            self.block = if used_up { next } else { self.block };
+            self.index += usize::from(used_up) * B::bits();
         }
     }
 
@@ -53,7 +103,7 @@ impl<'a, B: BitBlock, O: Operation> TwoSets<'a, B, O> {
     pub fn count(self) -> usize
         ensures { result ≡ length self.entry.left }
     {
-        self.ones.count()
+        self.block.count_ones() + self.source.count_ones()
     }
 
     /// Another walk over what is left. It counts its pulls on from this one's. Constant time.
@@ -62,7 +112,10 @@ impl<'a, B: BitBlock, O: Operation> TwoSets<'a, B, O> {
         ensures { result ≡ self.now }
     {
         TwoSets {
-            ones: self.ones.clone(),
+            source: self.source.clone(),
+            block: self.block,
+            index: self.index,
+            sparse: self.sparse,
         }
     }
 }
@@ -78,7 +131,7 @@ impl<'a, B: BitBlock, O: Operation> Iterator for TwoSets<'a, B, O> {
     /// passes, of both sets, once; constant time within a block.
     #[inline]
     fn next(&mut self) -> Option<usize> {
-        self.ones.next()
+        self.next_index()
     }
 
     /// From 0 up to the bits of the block in hand and of the blocks past it, as [`Iter`](crate::Iter) has
@@ -89,7 +142,8 @@ impl<'a, B: BitBlock, O: Operation> Iterator for TwoSets<'a, B, O> {
         ensures lower { IsWithinCount result.0 (item_count (λ walk. walk.left) self.now) }
         ensures upper { IfSome result.1 (UpTo (item_count (λ walk. walk.left) self.now)) }
     {
-        (0, self.ones.bound())
+        let blocks = 1 + self.source.blocks_left();
+        (0, blocks.checked_mul(B::bits()))
     }
 }
 

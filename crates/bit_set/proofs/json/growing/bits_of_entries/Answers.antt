@@ -1,4 +1,4 @@
-use Rattle.std.proofs.Common.{◌≡◌, ◌+◌, ◌*◌, false, length, get_or, take, ap, sym, ◌∙◌, take_all, arith, subst}
+use Rattle.std.proofs.Common.{◌≡◌, ◌+◌, ◌*◌, false, length, get_or, take, ap, sym, ◌∙◌, take_all, arith, refl, subst}
 use Rattle.std.specs.Int.{bit_at}
 use Rattle.std.proofs.lemmas.List.{length-replicate}
 use Rattle.bit_words.specs.Digits.{is_one}
@@ -24,19 +24,20 @@ loop-k-init g c =
       capacity = c.in_ok-bits.ensures.capacity;
     }
 
-pub put_ones-requires-clause-within : goal.put_ones-requires-clause-within
-put_ones-requires-clause-within g c = λ j within one.
+pub put_ones-requires : goal.put_ones-requires
+put_ones-requires g c =
     let w = g.B.BitBlock.width in
-    let at = entry g (goal.at.put_ones-requires-clause-within g c).After-block_of in
-    let zero_tail = zero_tail_from w c.args.len _ g.met.B.BitBlock.width_law.positive (counted c.args.entries.now ∙ c.requires.count) c.requires.zero_tail in
-    let below = one_is_within w c.args.len c.loop-k.k j _ zero_tail within (sym (ap (λ m. bit_at m j) at.0) ∙ one) in
-    omega (arith, below, at, c.loop-k.invariant.long)
-
-pub put_ones-requires-clause-falses : goal.put_ones-requires-clause-falses
-put_ones-requires-clause-falses g c = λ j within.
-    let values = c.loop-k.bits.values in
-    ap (λ x. get_or values (c.loop-k.k * x + j) false) c.bits.ensures
-    ∙ next_is_false g.B.BitBlock.width c.loop-k.k j (numbers_of c.args.entries.now) values c.loop-k.invariant.filled within
+    let at = entry g (goal.at.put_ones-requires g c).After-block_of in
+    let invariant = c.loop-k.invariant in
+    record {
+      of_block = c.block_of.ensures.of_block;
+      counted = omega (arith, invariant.long, c.ranges.len.fits);
+      within = λ j within one.
+          let zero_tail = zero_tail_from w c.args.len _ g.met.B.BitBlock.width_law.positive (counted c.args.entries.now ∙ c.requires.count) c.requires.zero_tail in
+          let below = one_is_within w c.args.len c.loop-k.k j _ zero_tail within (sym (ap (λ m. bit_at m j) at.0) ∙ one) in
+          omega (arith, below, at, invariant.long);
+      falses = λ j within. ap (λ x. get_or c.loop-k.bits.values (x + j) false) at.1 ∙ next_is_false w c.loop-k.k j (numbers_of c.args.entries.now) c.loop-k.bits.values invariant.filled within;
+    }
 
 pub loop-k-preserved : goal.loop-k-preserved
 loop-k-preserved g c =
@@ -49,14 +50,19 @@ loop-k-preserved g c =
       capacity = c.put_ones.ensures.capacity ∙ c.loop-k.invariant.capacity;
     }
 
-pub returns-clause-blocks : goal.returns-clause-blocks
-returns-clause-blocks g c =
+pub returns : goal.returns
+returns g c =
     let w = g.B.BitBlock.width in
     let vs = c.args.entries.now in
-    let ms = numbers_of vs in
-    let all : take c.loop-k.k ms ≡ ms = take_all c.loop-k.k ms (omega (arith, counted vs, c.loop-k-test.false)) in
-    blocks_of_filled w c.args.len ms c.loop-k.bits.values g.met.B.BitBlock.width_law.positive c.loop-k.invariant.long (counted vs ∙ c.requires.count) (below_of_entries w vs c.requires.each) c.requires.zero_tail
-    (λ i. c.loop-k.invariant.filled i ∙ ap (λ x. value_at w x i) all)
+    let all : take c.loop-k.k (numbers_of vs) ≡ numbers_of vs = take_all c.loop-k.k (numbers_of vs) (omega (arith, counted vs, c.loop-k-test.false)) in
+    let invariant = c.loop-k.invariant in
+    record {
+      blocks = blocks_of_filled w c.args.len (numbers_of vs) c.loop-k.bits.values g.met.B.BitBlock.width_law.positive invariant.long (counted vs ∙ c.requires.count) (below_of_entries w vs c.requires.each) c.requires.zero_tail
+          (λ i. invariant.filled i ∙ ap (λ x. value_at w x i) all);
+      length = invariant.long;
+      capacity = invariant.capacity;
+      empty = λ none. refl;
+    }
 
 pub overflow_mul-k : goal.overflow_mul-k
 overflow_mul-k g c =
@@ -68,18 +74,6 @@ pub block_of-requires : goal.block_of-requires
 block_of-requires g c =
     let is = IsEntry g.B.BitBlock.width in
     subst is (sym c.index-entries-k.is) (All-get_or is c.args.entries.now c.loop-k.k c.index-entries-k.result c.loop-k-test.true c.requires.each)
-
-pub put_ones-requires-clause-of_block : goal.put_ones-requires-clause-of_block
-put_ones-requires-clause-of_block g c = c.block_of.ensures.of_block
-
-pub put_ones-requires-clause-counted : goal.put_ones-requires-clause-counted
-put_ones-requires-clause-counted g c = omega (arith, c.loop-k.invariant.long, c.ranges.len.fits)
-
-pub returns-clause-length : goal.returns-clause-length
-returns-clause-length g c = c.loop-k.invariant.long
-
-pub returns-clause-capacity : goal.returns-clause-capacity
-returns-clause-capacity g c = c.loop-k.invariant.capacity
 
 pub returns-in_err-bits-clause-empty : goal.returns-in_err-bits-clause-empty
 returns-in_err-bits-clause-empty g c none = absurd (true≢false (sym (c.in_err-bits.ensures.empty none)))

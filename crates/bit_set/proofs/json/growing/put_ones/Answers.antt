@@ -36,38 +36,35 @@ loop-block-preserved g c =
       capacity = c.set.ensures.capacity ∙ c.loop-block.invariant.capacity;
     }
 
-pub take_lowest_one-lowest-requires-clause-of_block : goal.take_lowest_one-lowest-requires-clause-of_block
-take_lowest_one-lowest-requires-clause-of_block g c = c.loop-block.invariant.of_block
-
 pub set-requires : goal.set-requires
 set-requires g c = inside g (goal.at.set-requires g c).After-take_lowest_one-lowest
 
 pub overflow_add-index : goal.overflow_add-index
 overflow_add-index g c = omega (arith, inside g (goal.at.overflow_add-index g c).After-take_lowest_one-lowest, c.loop-block.invariant.put.long, c.requires.counted)
 
-pub take_lowest_one-lowest-requires-clause-not_zero : goal.take_lowest_one-lowest-requires-clause-not_zero
-take_lowest_one-lowest-requires-clause-not_zero g c =
+pub take_lowest_one-lowest-requires : goal.take_lowest_one-lowest-requires
+take_lowest_one-lowest-requires g c =
     let number = g.B.BitBlock.number in
     let same = g.met.B.BitBlock.eq_law c.loop-block.block c.zero.result c.loop-block.invariant.of_block c.zero.ensures.of_block in
-    elim (cases_lt 0 (number c.loop-block.block)) [
-      | inl some ↦ some
-      | inr none ↦
-          let both : number c.loop-block.block ≡ number c.zero.result = omega (arith, none, c.zero.ensures.of_number) in
-          absurd (true≢false (sym c.loop-block-test.true ∙ c.ne.ensures ∙ ap not (same.1 both)))
-    ]
+    record {
+      of_block = c.loop-block.invariant.of_block;
+      not_zero = elim (cases_lt 0 (number c.loop-block.block)) [
+        | inl some ↦ some
+        | inr none ↦
+            let both : number c.loop-block.block ≡ number c.zero.result = omega (arith, none, c.zero.ensures.of_number) in
+            absurd (true≢false (sym c.loop-block-test.true ∙ c.ne.ensures ∙ ap not (same.1 both)))
+      ];
+    }
 
-pub returns-clause-values : goal.returns-clause-values
-returns-clause-values g c =
+pub returns : goal.returns
+returns g c =
     let number = g.B.BitBlock.number in
     let same = g.met.B.BitBlock.eq_law c.loop-block.block c.zero.result c.loop-block.invariant.of_block c.zero.ensures.of_block in
     let none : number c.loop-block.block ≡ 0 = same.0 (not-false _ (sym c.ne.ensures ∙ c.loop-block-test.false)) ∙ c.zero.ensures.of_number in
-    put_all g.B.BitBlock.width c.args.index (number c.args.block) (number c.loop-block.block) c.args.bits.now.values c.loop-block.bits.values c.loop-block.invariant.put none
-
-pub returns-clause-others : goal.returns-clause-others
-returns-clause-others g c = c.loop-block.invariant.put.others
-
-pub returns-clause-length : goal.returns-clause-length
-returns-clause-length g c = c.loop-block.invariant.put.long
-
-pub returns-clause-capacity : goal.returns-clause-capacity
-returns-clause-capacity g c = c.loop-block.invariant.capacity
+    let put = c.loop-block.invariant.put in
+    record {
+      values = put_all g.B.BitBlock.width c.args.index (number c.args.block) (number c.loop-block.block) c.args.bits.now.values c.loop-block.bits.values put none;
+      others = put.others;
+      length = put.long;
+      capacity = c.loop-block.invariant.capacity;
+    }

@@ -1,14 +1,14 @@
 use Rattle.std.proofs.Common.{◌≡◌, ◌+◌, ◌*◌, ◌⊎◌, true, false, inl, inr, sym, ap, subst, ◌∙◌}
 use mir.Val.{bool_byte}
 use Rattle.bit_set.proofs.WalkLemmas.{WentOn, went_on}
-use Rattle.bit_set.proofs.walk.ones.Ones.advance_branchless.Goals as goal
-use Rattle.bit_set.proofs.walk.ones.Ones.advance_branchless.Goals.{After-bits, then-used_up, else-used_up}
+use Rattle.bit_set.proofs.walk.two_sets.TwoSets.advance_branchless.Goals as goal
+use Rattle.bit_set.proofs.walk.two_sets.TwoSets.advance_branchless.Goals.{After-bits, then-used_up, else-used_up}
 
 -- the block that was pulled is in hand, or the old one
 taken : (g : _) (c : After-bits g) → ((c.eq-used_up.result ≡ true) × (c.if-used_up.self ≡ c.in-Some.next)) ⊎ ((c.eq-used_up.result ≡ false) × (c.if-used_up.self ≡ c.self.inside.block))
 taken g c = elim c.if-used_up.branch [ then-used_up at ↦ inl (at.if-used_up.true, at.self-is) | else-used_up at ↦ inr (at.if-used_up.false, at.self-is) ]
 
-went : (g : _) (c : After-bits g) → WentOn g.B.BitBlock.width c.self.inside.index (c.self.inside.index + c.from.result * c.bits.result) (g.B.BitBlock.number c.self.inside.block) (g.B.BitBlock.number c.if-used_up.self) (g.S.BlockSource.ahead c.self.inside.source) (g.S.BlockSource.ahead c.pull_if.new.self)
+went : (g : _) (c : After-bits g) → WentOn g.B.BitBlock.width c.self.inside.index (c.self.inside.index + c.from.result * c.bits.result) (g.B.BitBlock.number c.self.inside.block) (g.B.BitBlock.number c.if-used_up.self) (c.self.inside.source) (c.pull_if.new.self)
 went g c =
     let it = c.self.inside in
     let zero : c.eq-used_up.result ≡ true → g.B.BitBlock.number it.block ≡ 0 = λ wanted. (g.met.B.BitBlock.eq_law it.block c.zero.result c.self.invariant.in_hand c.zero.ensures.of_block).0 (sym c.eq-used_up.ensures ∙ wanted) ∙ c.zero.ensures.of_number in
@@ -20,7 +20,7 @@ invariant_of-self g c =
     let at = (goal.at.invariant_of-self g c).After-bits in
     let is = g.B.BitBlock.is_block in
     let in_hand : is c.if-used_up.self = elim (taken g at) [ inl used ↦ subst is (sym used.1) c.in-Some.ensures.given | inr kept ↦ subst is (sym kept.1) c.self.invariant.in_hand ] in
-    record { in_hand = in_hand; sound = c.pull_if.ensures.sound; can = (went g at).can }
+    record { in_hand = in_hand; can = (went g at).can }
 
 pub returns-after-used_up : goal.returns-after-used_up
 returns-after-used_up g c =
