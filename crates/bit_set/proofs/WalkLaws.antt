@@ -95,7 +95,7 @@ module _ (w : ℕ) where
 -- ---- walks over two sets
 
 module _ {S : Type 0} (w : ℕ) (walk : S → TwoSetWalk) (next : S → Option ℕ → S → Type 0) (pos : 0 < w) (each : (s t : S) (r : Option ℕ) → next s r t → AdvancesByEach w (walk s) r (walk t)) where
-  out : (s t : S) (items : List ℕ) → YieldsThen next s items None t → IsWalkedOutByEach (walk s) items (walk t)
+  pub out : (s t : S) (items : List ℕ) → YieldsThen next s items None t → IsWalkedOutByEach (walk s) items (walk t)
   out s t items run =
       let all = all_left (λ u. (walk u).left) next (λ u v r step. (each u v r step).item) s t items run in
       let passed = stays next (λ u. (walk u).pulls + (walk u).blocks) (λ u v x step. (each u v (Some x) step).pulled) s run.0 items run.1 in

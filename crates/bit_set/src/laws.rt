@@ -15,14 +15,14 @@ ghost use Rattle.bit_set.specs.Members.{TakesLeast};
 ghost use Rattle.bit_set.specs.Capacity.{Run};
 ghost use Rattle.bit_set.specs.Json.{IsFirstFault, Spells};
 ghost use Rattle.bit_set.specs.declared.json.JsonError.{JsonError};
-ghost use Rattle.bit_set.specs.Walk.{Walk, TwoSetWalk, BoundedWalk, Advances, AdvancesByEach, AdvancesWithBound, IsWalkedOut, IsAtStart, IsAtStartFrom, StartsOverTwo, WalksOverTwo, blocks_past};
+ghost use Rattle.bit_set.specs.Walk.{Walk, TwoSetWalk, BoundedWalk, IsWalkedOut, IsAtStart, IsAtStartFrom, StartsOverTwo, WalksOverTwo, blocks_past};
 ghost use Rattle.bit_words.specs.Merges.{merge_of_values, merge_of};
 ghost use Rattle.bit_words.specs.declared.block.merge.Merge.{Merge};
 ghost use Rattle.bit_set.specs.Sets.{IsAscending, has, put, put_all, without, those_below, those_from, those_new, elements, bound_of, union, intersection, difference, symmetric_difference, merge_of_sets, is_subset, is_disjoint};
 ghost use Rattle.bit_set.specs.Order.{same_sets, order_of_sets, fed_of_set};
 
 use crate::bit_vec::Merge;
-use crate::{BitBlock, BitSet};
+use crate::{BitBlock, BitSet, Difference, Intersection, Iter, SymmetricDifference, Union};
 use std::cmp::Ordering;
 use std::fmt::Display;
 use std::hash::Hash;
@@ -158,14 +158,23 @@ pub fn parted_sets()
 
 /// What `from_iter` collects of a whole walk over what two sets become is what the operation in place
 /// leaves. The items of a set, put into the empty set one by one, are that set.
-pub fn collected_walks<B: BitBlock>()
+pub fn collected_walks<B: BitBlock + 'static>()
     ensures set { (s : List ℕ) → IsAscending s → put_all [] s ≡ s }
-    ensures two_sets { (merge : Merge) (a b c : List Bool) (s : TwoSetWalk) (items : List ℕ)
-        → s.left ≡ merge_of_sets merge (elements a) (elements b) → Drains (AdvancesByEach B.width) s items
-        → elements c ≡ put_all [] items → elements c ≡ merge_of_sets merge (elements a) (elements b) }
+    ensures union { (a b c : List Bool) (s : TwoSetWalk) (items : List ℕ) → s.left ≡ union (elements a) (elements b)
+        → Drains ⟦<Union<'static, B> as Iterator>⟧.next_gives s items → elements c ≡ put_all [] items
+        → elements c ≡ union (elements a) (elements b) }
     ensures intersection { (a b c : List Bool) (s : BoundedWalk) (items : List ℕ)
-        → s.walk.left ≡ intersection (elements a) (elements b) → Drains (AdvancesWithBound B.width) s items
-        → elements c ≡ put_all [] items → elements c ≡ intersection (elements a) (elements b) }
+        → s.walk.left ≡ intersection (elements a) (elements b)
+        → Drains ⟦<Intersection<'static, B> as Iterator>⟧.next_gives s items → elements c ≡ put_all [] items
+        → elements c ≡ intersection (elements a) (elements b) }
+    ensures difference { (a b c : List Bool) (s : TwoSetWalk) (items : List ℕ)
+        → s.left ≡ difference (elements a) (elements b)
+        → Drains ⟦<Difference<'static, B> as Iterator>⟧.next_gives s items → elements c ≡ put_all [] items
+        → elements c ≡ difference (elements a) (elements b) }
+    ensures symmetric_difference { (a b c : List Bool) (s : TwoSetWalk) (items : List ℕ)
+        → s.left ≡ symmetric_difference (elements a) (elements b)
+        → Drains ⟦<SymmetricDifference<'static, B> as Iterator>⟧.next_gives s items → elements c ≡ put_all [] items
+        → elements c ≡ symmetric_difference (elements a) (elements b) }
 {}
 
 /// How sets compare. Sets are the same where their lists are one list. The order is total, and gives `Equal` for
@@ -189,22 +198,19 @@ pub fn sets_compare()
 /// block in hand. After it there are `None`s alone. After an item the block in hand is the one that has
 /// it, which fixes the blocks that `size_hint` counts. From the making on there is at most one pull more
 /// than there are blocks, and two where there is none. However `next` is called, it is these calls, so the
-/// number of items that generic code counts is the number of elements left. By `sets_ascend` the items ascend.
-///
-/// In this law and the others on walks, a call of `next` is `Advances` of an `Iter`, `AdvancesByEach` of each
-/// `TwoSets`, and `AdvancesWithBound` of an `Intersection`.
-pub fn whole_walks<B: BitBlock>()
-    ensures rest { (s t : Walk) (items : List ℕ) → YieldsThen (Advances B.width) s items None t
+/// number of items that generic code counts is the number of elements left.
+pub fn whole_walks<B: BitBlock + 'static>()
+    ensures rest { (s t : Walk) (items : List ℕ) → YieldsThen ⟦<Iter<'static, B> as Iterator>⟧.next_gives s items None t
         → IsWalkedOut s items t }
     ensures whole { (values : List Bool) (s t : Walk) (items : List ℕ) → IsAtStart B.width values s
-        → YieldsThen (Advances B.width) s items None t
+        → YieldsThen ⟦<Iter<'static, B> as Iterator>⟧.next_gives s items None t
         → (items ≡ elements values) × (t.pulls ≤ max 1 (blocks_for B.width (length values)) + 1) }
     ensures in_hand { (values : List Bool) (s t : Walk) (items : List ℕ) (x : ℕ) → IsAtStart B.width values s
-        → YieldsThen (Advances B.width) s items (Some x) t
+        → YieldsThen ⟦<Iter<'static, B> as Iterator>⟧.next_gives s items (Some x) t
         → t.blocks ≡ blocks_for B.width (length values) - 1 - x / B.width }
-    ensures for_good { (s t : Walk) (r : Option ℕ) → s.left ≡ [] → Advances B.width s r t
+    ensures for_good { (s t : Walk) (r : Option ℕ) → s.left ≡ [] → ⟦<Iter<'static, B> as Iterator>⟧.next_gives s r t
         → (r ≡ None) × (t.left ≡ []) }
-    ensures count { (s : Walk) (items : List ℕ) → Drains (Advances B.width) s items
+    ensures count { (s : Walk) (items : List ℕ) → Drains ⟦<Iter<'static, B> as Iterator>⟧.next_gives s items
         → length items ≡ length s.left }
 {}
 
@@ -214,17 +220,17 @@ pub fn whole_walks<B: BitBlock>()
 /// The blocks of the summary are pulled once each, and once more at the end.
 /// The nonzero blocks past block `k` are the blocks past it that an element which is left lies in, each once
 /// and in ascending order.
-pub fn sparse_walks<B: BitBlock>()
-    ensures rest { (s t : Walk) (items : List ℕ) → YieldsThen (Advances B.width) s items None t
+pub fn sparse_walks<B: BitBlock + 'static>()
+    ensures rest { (s t : Walk) (items : List ℕ) → YieldsThen ⟦<Iter<'static, B> as Iterator>⟧.next_gives s items None t
         → t.pulls ≡ s.pulls + length (blocks_past B.width (s.index / B.width) s.left) + 1 }
     ensures whole { (values : List Bool) (s t : Walk) (items : List ℕ) → IsAtStart B.width values s
-        → YieldsThen (Advances B.width) s items None t
+        → YieldsThen ⟦<Iter<'static, B> as Iterator>⟧.next_gives s items None t
         → t.pulls ≡ length (blocks_past B.width 0 (elements values)) + 2 }
     ensures summary { (values : List Bool) (s t : Walk) (items : List ℕ) → IsAtStart B.width values s
-        → YieldsThen (Advances B.width) s items None t
+        → YieldsThen ⟦<Iter<'static, B> as Iterator>⟧.next_gives s items None t
         → t.summary_pulls ≡ max 1 (blocks_for B.width (blocks_for B.width (length values))) + 1 }
     ensures whole_from { (values : List Bool) (from : ℕ) (s t : Walk) (items : List ℕ)
-        → IsAtStartFrom B.width values from s → YieldsThen (Advances B.width) s items None t
+        → IsAtStartFrom B.width values from s → YieldsThen ⟦<Iter<'static, B> as Iterator>⟧.next_gives s items None t
         → (items ≡ those_from (elements values) from)
         × (t.pulls ≡ length (blocks_past B.width (s.index / B.width) (those_from (elements values) from)) + 2) }
     ensures members { (k q : ℕ) (numbers : List ℕ) → IsAscending numbers
@@ -232,12 +238,34 @@ pub fn sparse_walks<B: BitBlock>()
     ensures ascend { (k : ℕ) (numbers : List ℕ) → IsAscending (blocks_past B.width k numbers) }
 {}
 
-/// What whole walks over two sets give, for each of the four merges. As above, but the pulls are exact: from any
+/// What whole walks over two sets give, for each of the four. As above, but the pulls are exact: from any
 /// point up to the first `None` there is just one more than there are blocks past the block in hand, and
 /// from the making on one more than the set with more blocks has, and two where both have none.
-pub fn whole_walks_over_two_sets<B: BitBlock>()
-    ensures two_sets { (merge : Merge) → WalksOverTwo B.width merge (λ walk. walk) (AdvancesByEach B.width) }
-    ensures intersection { WalksOverTwo B.width Merge.Intersection (λ it. it.walk) (AdvancesWithBound B.width) }
+pub fn whole_walks_over_two_sets<B: BitBlock + 'static>()
+    ensures union { WalksOverTwo B.width Merge.Union (λ walk. walk) ⟦<Union<'static, B> as Iterator>⟧.next_gives }
+    ensures intersection { WalksOverTwo B.width Merge.Intersection
+        (λ it. it.walk) ⟦<Intersection<'static, B> as Iterator>⟧.next_gives }
+    ensures difference { WalksOverTwo B.width Merge.Difference
+        (λ walk. walk) ⟦<Difference<'static, B> as Iterator>⟧.next_gives }
+    ensures symmetric_difference { WalksOverTwo B.width Merge.Symmetric
+        (λ walk. walk) ⟦<SymmetricDifference<'static, B> as Iterator>⟧.next_gives }
+{}
+
+/// What each of the five walks gives up to the first `None` is strictly ascending.
+pub fn whole_walks_ascend<B: BitBlock + 'static>()
+    ensures iter { (a : List Bool) (s t : Walk) (items : List ℕ) → s.left ≡ elements a
+        → YieldsThen ⟦<Iter<'static, B> as Iterator>⟧.next_gives s items None t → IsAscending items }
+    ensures union { (a b : List Bool) (s t : TwoSetWalk) (items : List ℕ) → s.left ≡ union (elements a) (elements b)
+        → YieldsThen ⟦<Union<'static, B> as Iterator>⟧.next_gives s items None t → IsAscending items }
+    ensures intersection { (a b : List Bool) (s t : BoundedWalk) (items : List ℕ)
+        → s.walk.left ≡ intersection (elements a) (elements b)
+        → YieldsThen ⟦<Intersection<'static, B> as Iterator>⟧.next_gives s items None t → IsAscending items }
+    ensures difference { (a b : List Bool) (s t : TwoSetWalk) (items : List ℕ)
+        → s.left ≡ difference (elements a) (elements b)
+        → YieldsThen ⟦<Difference<'static, B> as Iterator>⟧.next_gives s items None t → IsAscending items }
+    ensures symmetric_difference { (a b : List Bool) (s t : TwoSetWalk) (items : List ℕ)
+        → s.left ≡ symmetric_difference (elements a) (elements b)
+        → YieldsThen ⟦<SymmetricDifference<'static, B> as Iterator>⟧.next_gives s items None t → IsAscending items }
 {}
 
 /// Capacity that is there is enough. Where a set has capacity for `capacity` values, as after
@@ -325,23 +353,37 @@ pub fn tests_agree<A: BitBlock, B: BitBlock>(
 /// kind that have the same elements left give the same from there on, step by step and up to the first
 /// `None`. They have so where they were made of sets of the same elements, after as many items, and where
 /// one is a `clone`; and `count` is the number of elements left.
-pub fn walks_agree<A: BitBlock, B: BitBlock>()
-    ensures iter { WalksAgree (λ walk. walk.left) (Advances A.width) (λ walk. walk.left) (Advances B.width) }
-    ensures two_sets { WalksAgree (λ walk. walk.left) (AdvancesByEach A.width)
-        (λ walk. walk.left) (AdvancesByEach B.width) }
-    ensures intersection { WalksAgree (λ it. it.walk.left) (AdvancesWithBound A.width)
-        (λ it. it.walk.left) (AdvancesWithBound B.width) }
+pub fn walks_agree<A: BitBlock + 'static, B: BitBlock + 'static>()
+    ensures iter { WalksAgree (λ walk. walk.left) ⟦<Iter<'static, A> as Iterator>⟧.next_gives
+        (λ walk. walk.left) ⟦<Iter<'static, B> as Iterator>⟧.next_gives }
+    ensures union { WalksAgree (λ walk. walk.left) ⟦<Union<'static, A> as Iterator>⟧.next_gives
+        (λ walk. walk.left) ⟦<Union<'static, B> as Iterator>⟧.next_gives }
+    ensures intersection { WalksAgree (λ it. it.walk.left) ⟦<Intersection<'static, A> as Iterator>⟧.next_gives
+        (λ it. it.walk.left) ⟦<Intersection<'static, B> as Iterator>⟧.next_gives }
+    ensures difference { WalksAgree (λ walk. walk.left) ⟦<Difference<'static, A> as Iterator>⟧.next_gives
+        (λ walk. walk.left) ⟦<Difference<'static, B> as Iterator>⟧.next_gives }
+    ensures symmetric_difference { WalksAgree
+        (λ walk. walk.left) ⟦<SymmetricDifference<'static, A> as Iterator>⟧.next_gives
+        (λ walk. walk.left) ⟦<SymmetricDifference<'static, B> as Iterator>⟧.next_gives }
 {}
 
 /// How often a full walk pulls, from its making up to its first `None`: at most two more than there are
 /// blocks, over two sets of the one that has more.
-pub fn full_walks<B: BitBlock>()
+pub fn full_walks<B: BitBlock + 'static>()
     ensures iter { (a : List Bool) (s t : Walk) (items : List ℕ) → IsAtStart B.width a s
-        → YieldsThen (Advances B.width) s items None t → t.pulls ≤ blocks_for B.width (length a) + 2 }
-    ensures two_sets { (a b : List Bool) (s t : TwoSetWalk) (items : List ℕ) → StartsOverTwo B.width a b s
-        → YieldsThen (AdvancesByEach B.width) s items None t
+        → YieldsThen ⟦<Iter<'static, B> as Iterator>⟧.next_gives s items None t
+        → t.pulls ≤ blocks_for B.width (length a) + 2 }
+    ensures union { (a b : List Bool) (s t : TwoSetWalk) (items : List ℕ) → StartsOverTwo B.width a b s
+        → YieldsThen ⟦<Union<'static, B> as Iterator>⟧.next_gives s items None t
         → t.pulls ≤ max (blocks_for B.width (length a)) (blocks_for B.width (length b)) + 2 }
     ensures intersection { (a b : List Bool) (s t : BoundedWalk) (items : List ℕ) → StartsOverTwo B.width a b s.walk
-        → YieldsThen (AdvancesWithBound B.width) s items None t
+        → YieldsThen ⟦<Intersection<'static, B> as Iterator>⟧.next_gives s items None t
         → t.walk.pulls ≤ max (blocks_for B.width (length a)) (blocks_for B.width (length b)) + 2 }
+    ensures difference { (a b : List Bool) (s t : TwoSetWalk) (items : List ℕ) → StartsOverTwo B.width a b s
+        → YieldsThen ⟦<Difference<'static, B> as Iterator>⟧.next_gives s items None t
+        → t.pulls ≤ max (blocks_for B.width (length a)) (blocks_for B.width (length b)) + 2 }
+    ensures symmetric_difference { (a b : List Bool) (s t : TwoSetWalk) (items : List ℕ)
+        → StartsOverTwo B.width a b s
+        → YieldsThen ⟦<SymmetricDifference<'static, B> as Iterator>⟧.next_gives s items None t
+        → t.pulls ≤ max (blocks_for B.width (length a)) (blocks_for B.width (length b)) + 2 }
 {}

@@ -1,11 +1,15 @@
 use Rattle.bit_set.specs.Walk.{AdvancesByEach, AdvancesWithBound}
-use Rattle.bit_words.specs.declared.block.merge.Merge.TheVariants.{Intersection}
+use Rattle.bit_words.specs.declared.block.merge.Merge.TheVariants.{Union, Intersection, Difference, Symmetric}
 use Rattle.bit_set.proofs.WalkLaws.{put_all-items, collected}
 use Rattle.bit_set.proofs.laws.collected_walks.Goals as goal
 
 pub returns : goal.returns
-returns g c = record {
-  set = put_all-items;
-  two_sets = collected (λ walk. walk.left) (AdvancesByEach g.B.BitBlock.width) (λ s t r step. step.item);
-  intersection = collected (λ it. it.walk.left) (AdvancesWithBound g.B.BitBlock.width) (λ s t r step. step.walk.item) Intersection;
-}
+returns g c =
+    let by_each = collected (λ walk. walk.left) (AdvancesByEach g.B.BitBlock.width) (λ s t r step. step.item) in
+    record {
+      set = put_all-items;
+      union = by_each Union;
+      intersection = collected (λ it. it.walk.left) (AdvancesWithBound g.B.BitBlock.width) (λ s t r step. step.walk.item) Intersection;
+      difference = by_each Difference;
+      symmetric_difference = by_each Symmetric;
+    }

@@ -5,5 +5,5 @@ use Rattle.bit_set_tests.proofs.algebra_tests.collect_and_unite.Goals as goal
 pub returns : goal.returns
 returns g c =
     let done = c.in_ok-collected.ensures.ok in
-    c.collected_walks.ensures.two_sets Union c.args.set.now.values c.args.other.now.values c.in_ok-collected.collected.values c.union.result done.0 c.union.ensures.left done.1 done.2
+    c.collected_walks.ensures.union c.args.set.now.values c.args.other.now.values c.in_ok-collected.collected.values c.union.result done.0 c.union.ensures.left done.1 done.2
     ∙ sym c.in_ok-union_with.ensures.elements

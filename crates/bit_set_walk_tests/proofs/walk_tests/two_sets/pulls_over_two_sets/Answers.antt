@@ -7,10 +7,10 @@ pub returns-clause-wide : goal.returns-clause-wide
 returns-clause-wide c = λ a b s t items first second left start run.
     let sixteen : blocks_for 32 (length a) ≡ 16 = ap (blocks_for 32) first in
     let seven : blocks_for 32 (length b) ≡ 7 = ap (blocks_for 32) second in
-    let pulls = ((c.whole_walks_over_two_sets.ensures.two_sets Difference).whole a b s t items left start run).1 in
+    let pulls = (c.whole_walks_over_two_sets.ensures.difference.whole a b s t items left start run).1 in
     omega (arith, pulls, sixteen, seven)
 
 pub returns-clause-narrow : goal.returns-clause-narrow
 returns-clause-narrow c = λ a b s t items first second left start run.
-    let pulls = ((c.whole_walks_over_two_sets.ensures.two_sets Union).whole a b s t items left start run).1 in
+    let pulls = (c.whole_walks_over_two_sets.ensures.union.whole a b s t items left start run).1 in
     omega (arith, pulls, first, second)
