@@ -16,6 +16,8 @@ pub mod MismatchLemmas
 pub mod CapacityLemmas
 pub mod SummaryLemmas
 pub mod TailLemmas
-pub mod NonzeroLemmas
-pub mod NonzeroFromLemmas
+pub mod ZeroLemmas
+pub mod NextAtLemmas
+pub mod PendingLemmas
+pub mod PendingOnes
 pub mod CountLemmas
