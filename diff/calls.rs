@@ -117,7 +117,6 @@ calls! {
         BitsBlocks "bits.blocks" "snm"
         BitsNextIf "bits.next_if" "sn"
         BitsNonzero "bits.nonzero" "sn"
-        BitsNonzeroFrom "bits.nonzero_from" "snm"
         BitsIsSubsetOf "bits.is_subset_of" "st"
         BitsIsDisjointFrom "bits.is_disjoint_from" "st"
         BitsDebug "bits.debug" "s"

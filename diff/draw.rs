@@ -91,10 +91,6 @@ impl Draw {
                 self.steps(line, set.elements.len());
                 line.first = self.element(set);
             }
-            Call::BitsNonzeroFrom => {
-                self.steps(line, set.blocks());
-                line.first = self.random.below(set.blocks() + 2);
-            }
             _ if line.call.group() == Group::Walk => self.steps(line, set.elements.len()),
             Call::FromIter | Call::Extend => line.numbers = self.elements(set, is_far),
             _ if line.call.form().contains('*') => line.numbers = self.bytes(),

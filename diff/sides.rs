@@ -267,8 +267,7 @@ fn look<S: Set>(set: &S, other: &S, line: &Line, answers: &mut Answers) {
         Call::BitsStorage => answers.storage(&set.bits_storage()),
         Call::BitsBlocks => blocks(set, line, answers),
         Call::BitsNextIf => next_if(set, line.first, answers),
-        Call::BitsNonzero => nonzero(set, 0, line.first, answers),
-        Call::BitsNonzeroFrom => nonzero(set, line.first, line.second, answers),
+        Call::BitsNonzero => nonzero(set, line.first, answers),
         Call::BitsIsSubsetOf => answers.truth(set.bits_is_subset_of(other)),
         Call::BitsIsDisjointFrom => answers.truth(set.bits_is_disjoint_from(other)),
         _ => answers.text(&set.bits_debug()),
@@ -303,11 +302,10 @@ fn next_if<S: Set>(set: &S, steps: usize, answers: &mut Answers) {
     answers.number(walk.bounds().0);
 }
 
-/// The block with this index comes, or the last where there are fewer, and each one after it that is not 0.
-fn nonzero<S: Set>(set: &S, from: usize, steps: usize, answers: &mut Answers) {
+/// The first block comes, and each one after it that is not 0.
+fn nonzero<S: Set>(set: &S, steps: usize, answers: &mut Answers) {
     let storage = set.bits_storage();
-    let first = from.min(storage.len().saturating_sub(1));
-    let mut walk = storage.iter().enumerate().skip(first).filter(|(place, block)| *place == first || **block != 0);
+    let mut walk = storage.iter().enumerate().filter(|(place, block)| *place == 0 || **block != 0);
     for _ in 0..steps {
         let next = walk.next();
         answers.item(next.map(|entry| entry.0));

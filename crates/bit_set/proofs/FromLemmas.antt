@@ -5,7 +5,7 @@ use Rattle.std.proofs.lemmas.List.{drop-map, get_or_past, length-drop, length-ma
 use Rattle.std.proofs.lemmas.List.Elements.{All-filter}
 use Rattle.std.proofs.lemmas.List.Filters.{length-filter_both}
 use Rattle.bit_words.specs.Bits.{blocks_for, blocks_of}
-use Rattle.bit_words.specs.Nonzero.{Nonzeros, nonzero_from}
+use Rattle.bit_words.specs.Nonzero.{Nonzeros, StartsPast, nonzero_from}
 use Rattle.bit_words.specs.Digits.{is_one}
 use Rattle.bit_words.proofs.Masks.{is_one-zero}
 use Rattle.bit_set.specs.Sets.{elements_from, elements, has, those_from}
@@ -123,10 +123,7 @@ module _ {X : Type 0} (w : ℕ) (number : X → ℕ) (pos : 0 < w) where
 pub record IsPast {X : Type 0} (w : ℕ) (number : X → ℕ) (is_block : X → Type 0) (values : List Bool) (k : ℕ) (it : Nonzeros X) : Type 0 where
   pub numbers : map number it.blocks ≡ blocks_of w values
   pub each : All is_block it.blocks
-  pub left : it.left ≡ nonzero_from number (k + 1) (drop (k + 1) it.blocks)
-  pub pulls : it.pulls ≡ 1
-  pub summary_pulls : it.summary_pulls ≡ 1
-  pub summary_left : it.summary_left ≡ blocks_for w (blocks_for w (length values)) - 1 - k / w
+  pub start : StartsPast w number k it
   pub fits : length values < 2 ^ 64
 
 -- With this block in hand at `index` a walk over the blocks of these values is at its start.
@@ -157,8 +154,7 @@ begins_from w number is_block values from k block it pos is lawful cut =
       walk = record {
         in_hand = lawful;
         each = is.each;
-        begun = omega (arith, is.pulls);
-        left = is.left ∙ ap (nonzero_from number (k + 1)) (sym past) ∙ ap (λ i. nonzero_from number (i + 1) (drop (k * w / w + 1) it.blocks)) (sym index_is);
+        left = is.start.left ∙ ap (nonzero_from number (k + 1)) (sym past) ∙ ap (λ i. nonzero_from number (i + 1) (drop (k * w / w + 1) it.blocks)) (sym index_is);
         whole = ap (λ i. i * w) (sym index_is);
         inside = omega (arith, index_is, cut.at);
         can = record {
@@ -173,10 +169,10 @@ begins_from w number is_block values from k block it pos is lawful cut =
       };
       start = record {
         left = left;
-        pulls = is.pulls;
+        pulls = is.start.pulls;
         index = ap (λ i. i * w) first;
         blocks = omega (arith, count, many, cut.at);
-        summary = let at = ap (λ i. i / w) first in omega (arith, is.summary_pulls, is.summary_left, at);
+        summary = let at = ap (λ i. i / w) first in let chunks = ap (blocks_for w) many in omega (arith, is.start.summary_pulls, is.start.summary_left, at, chunks);
         few = few_left;
       };
     }

@@ -181,7 +181,6 @@ module _ {X : Type 0} (w : ℕ) (number : X → ℕ) (is_block : X → Type 0) (
         walk = record {
           in_hand = All-head is_block x (drop (suc next.by) xs) (subst (All is_block) next.here (All-drop is_block next.by xs (All-drop is_block (k + 1) s.blocks is.each)));
           each = subst (All is_block) (sym pull.same) is.each;
-          begun = omega (arith, pull.counted);
           left = next.past ∙ ap (nonzero_from number (q + 1)) past ∙ ap (λ n. nonzero_from number (n + 1) rest) (sym index_is);
           whole = sym (ap (λ n. n * w) index_is);
           inside = omega (arith, fewer, ahead, index_is, next.at, all);
@@ -221,7 +220,6 @@ module _ {X : Type 0} (w : ℕ) (number : X → ℕ) (is_block : X → Type 0) (
         walk = record {
           in_hand = lawful;
           each = subst (All is_block) (sym pull.same) is.each;
-          begun = omega (arith, pull.counted);
           left = pull.item.1 ∙ ap (nonzero_from number (last / w + 1)) (sym none);
           whole = at ∙ ap (λ j. j * w) (sym index_is);
           inside = omega (arith, index_is);
@@ -280,7 +278,6 @@ module _ {X : Type 0} (w : ℕ) (number : X → ℕ) (is_block : X → Type 0) (
   taken_walk index i block r it is lawful low within cleared = record {
     in_hand = lawful;
     each = is.each;
-    begun = is.begun;
     left = is.left;
     whole = is.whole;
     inside = is.inside;

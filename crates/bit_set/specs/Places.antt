@@ -97,7 +97,6 @@ pub record IsSparseWalk {X : Type 0} (w : ℕ) (number : X → ℕ) (is_block : 
     (it : Nonzeros X) : Type 0 where
   pub in_hand : is_block block
   pub each : All is_block it.blocks
-  pub begun : 0 < it.pulls
   pub left : it.left ≡ nonzero_from number (index / w + 1) (drop (index / w + 1) it.blocks)
   pub whole : index ≡ index / w * w
   pub inside : index / w ≤ length it.blocks - 1

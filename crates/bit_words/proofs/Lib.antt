@@ -19,7 +19,9 @@ pub mod SummaryLemmas
 pub mod UsedLemmas
 pub mod SummaryMergeLemmas
 pub mod TailLemmas
-pub mod NonzeroLemmas
-pub mod NonzeroFromLemmas
+pub mod ZeroLemmas
+pub mod NextAtLemmas
+pub mod PendingLemmas
+pub mod PendingOnes
 pub mod CountLemmas
 pub mod GrowthLemmas

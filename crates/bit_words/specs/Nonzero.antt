@@ -1,8 +1,9 @@
 -- A walk over the blocks that are not 0, each with its index.
-use Rattle.std.specs.Prelude.{◌≡◌, ℕ, ◌+◌, ◌*◌, ◌==◌, Bool, true, false, not, None, Some, ◌≤◌, if◌then◌else◌, List, [], ◌∷◌, Option, MatchOption}
+use Rattle.std.specs.Prelude.{◌≡◌, ℕ, ◌+◌, ◌-◌, ◌*◌, ◌/◌, ◌==◌, Bool, true, false, not, None, Some, ◌≤◌, if◌then◌else◌, min, List, [], ◌∷◌, Option, MatchOption, drop, length}
 use Rattle.std.specs.Int.RustNames.{count_ones}
 use Rattle.std.specs.Iterator.{YieldsFirst}
 use Rattle.std.specs.List.{sum_by}
+use Rattle.bit_words.specs.Bits.{blocks_for}
 
 -- What contracts see of such a walk: all blocks that it goes over; those that are left, each with its
 -- index; how often it was pulled; how often it pulled a block of the summary, and how many of these it
@@ -14,8 +15,8 @@ pub record Nonzeros (X : Type 0) : Type 0 where
   pub summary_pulls : ℕ
   pub summary_left : ℕ
 
--- A call of `next` that gave r: the first of what was left, and one more pull, at the end too. Each block
--- of the summary is pulled once at most, and once more where the end was found.
+-- A pull that gave r: the first of what was left, or the end found. Each block of the summary is pulled once at most,
+-- and once more where the end was found.
 pub record PullsNonzero {X : Type 0} (s : Nonzeros X) (r : Option (ℕ × X)) (t : Nonzeros X) : Type 0 where
   pub item : YieldsFirst (λ walk. walk.left) s r t
   pub same : t.blocks ≡ s.blocks
@@ -35,10 +36,22 @@ abbrev pub first_and_nonzero : {X : Type 0} → (X → ℕ) → List X → List 
 first_and_nonzero number [] = []
 first_and_nonzero number (x ∷ xs) = (0, x) ∷ nonzero_from number 1 xs
 
--- the same from block k on, the first of these in any case
-abbrev pub block_and_nonzero : {X : Type 0} → (X → ℕ) → ℕ → List X → List (ℕ × X)
-block_and_nonzero number k [] = []
-block_and_nonzero number k (x ∷ xs) = (k, x) ∷ nonzero_from number (k + 1) xs
+-- A walk made past block k, which is one pull. It pulled the block of the summary that says of block k.
+pub record StartsPast {X : Type 0} (w : ℕ) (number : X → ℕ) (k : ℕ) (it : Nonzeros X) : Type 0 where
+  pub left : it.left ≡ nonzero_from number (k + 1) (drop (k + 1) it.blocks)
+  pub pulls : it.pulls ≡ 1
+  pub summary_pulls : it.summary_pulls ≡ 1
+  pub summary_left : it.summary_left ≡ blocks_for w (length it.blocks) - 1 - k / w
+
+-- the walk past the first block as it was before that was pulled
+abbrev pub before_first : {X : Type 0} → ℕ → (X → ℕ) → Nonzeros X → Nonzeros X
+before_first w number it = record {
+  blocks = it.blocks;
+  left = first_and_nonzero number it.blocks;
+  pulls = 0;
+  summary_pulls = min 1 (blocks_for w (length it.blocks));
+  summary_left = blocks_for w (length it.blocks) - 1;
+}
 
 -- how many binary digits of blocks are 1
 abbrev pub ones_in : {X : Type 0} → (X → ℕ) → List X → ℕ
@@ -49,7 +62,7 @@ abbrev pub ones_left : {X : Type 0} → (X → ℕ) → List (ℕ × X) → ℕ
 ones_left number left = sum_by (λ entry. count_ones (number entry.1)) left
 
 -- A call of `refill` on s with a block m, which left t and the block x, whose first bit has the index `at`. Where m is
--- not 0 nothing changed. Else it is a call of `next`, which passes no block that is 0; at the end the block is still 0.
+-- not 0 nothing changed. Else it is a pull; at the end the block is still 0.
 pub record Refills {X : Type 0} (w : ℕ) (number : X → ℕ) (s : Nonzeros X) (m index : ℕ) (found : Bool) (t : Nonzeros X)
     (x : X) (at : ℕ) : Type 0 where
   pub some : found ≡ not (number x == 0)

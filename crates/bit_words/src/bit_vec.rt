@@ -2,8 +2,9 @@
 ghost use Rattle.std.specs.Prelude.{◌≡◌, ◌+◌, ◌-◌, ◌/◌, ◌↔◌, All, IsTrue, drop, false, length, map, min, slice_get};
 ghost use Rattle.std.specs.List.{count_by};
 ghost use Rattle.bit_words.specs.Bits.{blocks_for, blocks_of, IsCapacityOfBlocks, IsWithinCapacity};
-ghost use Rattle.bit_words.specs.Nonzero.{block_and_nonzero, first_and_nonzero, nonzero_from};
+ghost use Rattle.bit_words.specs.Nonzero.{before_first, StartsPast};
 
+use crate::bit_vec::pending::Unstored;
 use crate::packed::access::get_bit;
 use crate::summary::queries::{are_zero_by_summary, ones_by_summary};
 use crate::summary::short_limit;
@@ -15,8 +16,10 @@ mod comparing;
 mod constructors;
 mod debug;
 mod editing;
+mod first_and_nonzero;
 mod merging;
 mod nonzero;
+mod pending;
 
 pub use crate::block::lowest::take_lowest_one;
 pub use crate::block::masks::clear_below;
@@ -30,6 +33,7 @@ pub use crate::packed::searching::{block_or_zero, first_nonzero_block, has_one_f
 pub use crate::steps::Steps;
 pub use blocks::Blocks;
 pub use constructors::BitsError;
+pub use first_and_nonzero::FirstAndNonzero;
 pub use nonzero::Nonzero;
 
 /// A list of truth values, kept as bits in a vector of blocks.
@@ -139,7 +143,7 @@ impl<B: BitBlock> BitVec<B> {
         Blocks::over(self.storage())
     }
 
-    /// A walk over the blocks that are not zero, each with its index; the first block comes in any case.
+    /// A walk over the first block, zero or not, and then the blocks that are not zero, each with its index.
     /// Constant time, and takes no memory.
     ///
     /// ```
@@ -148,67 +152,30 @@ impl<B: BitBlock> BitVec<B> {
     /// assert!(bits.nonzero_past_first().eq([(2, 0b1100_0000)]));
     /// ```
     #[inline]
-    pub fn nonzero(&self) -> Nonzero<'_, B>
+    pub fn nonzero(&self) -> FirstAndNonzero<'_, B>
         ensures blocks { map B.number result.blocks ≡ blocks_of B.width self.now.values }
         ensures each { All B.is_block result.blocks }
-        ensures left { result.left ≡ first_and_nonzero B.number result.blocks }
-        ensures pulls { result.pulls ≡ 0 }
-        ensures summary_pulls { result.summary_pulls
-            ≡ min 1 (blocks_for B.width (blocks_for B.width (length self.now.values))) }
-        ensures summary_left { result.summary_left
-            ≡ blocks_for B.width (blocks_for B.width (length self.now.values)) - 1 }
+        ensures start { result ≡ before_first B.width B.number result }
         ensures fits { IsWithinCapacity self.now }
     {
-        Nonzero::over(&self.blocks, &self.summary)
+        FirstAndNonzero::before(self.nonzero_past_first())
     }
 
-    /// The same from the block with this index on, which comes in any case, zero or not. Where there are fewer
-    /// blocks it is the last one. Constant time, and takes no memory.
-    ///
-    /// ```
-    /// // Of 100 values, over blocks of 32 bits, those at 70 and 71 are true.
-    /// assert!(bits.nonzero_from(1).eq([(1, 0), (2, 0b1100_0000)]));
-    /// ```
-    #[inline]
-    pub fn nonzero_from(&self, index: usize) -> Nonzero<'_, B>
-        ensures blocks { map B.number result.blocks ≡ blocks_of B.width self.now.values }
-        ensures each { All B.is_block result.blocks }
-        ensures left { let first = min index (length result.blocks - 1) in
-            result.left ≡ block_and_nonzero B.number first (drop first result.blocks) }
-        ensures pulls { result.pulls ≡ 0 }
-        ensures summary_pulls { result.summary_pulls ≡ min 1 (blocks_for B.width
-            (blocks_for B.width (length self.now.values))) }
-        ensures summary_left { result.summary_left ≡ blocks_for B.width
-            (blocks_for B.width (length self.now.values)) - 1 - min index (length result.blocks - 1) / B.width }
-        ensures fits { IsWithinCapacity self.now }
-    {
-        let blocks = self.blocks.as_slice();
-        if blocks.is_empty() {
-            return self.nonzero();
-        }
-        let last = blocks.len() - 1;
-        Nonzero::over_from(blocks, &self.summary, index.min(last))
-    }
-
-    /// What [`nonzero`](Self::nonzero) leaves after one pull: the same past the first block. Constant time, and takes no
-    /// memory.
+    /// What [`nonzero`](Self::nonzero) leaves after one pull: the blocks past the first that are not zero. Constant time,
+    /// and takes no memory.
     #[inline]
     pub fn nonzero_past_first(&self) -> Nonzero<'_, B>
         ensures blocks { map B.number result.blocks ≡ blocks_of B.width self.now.values }
         ensures each { All B.is_block result.blocks }
-        ensures left { result.left ≡ nonzero_from B.number 1 (drop 1 result.blocks) }
-        ensures pulls { result.pulls ≡ 1 }
-        ensures summary_pulls { result.summary_pulls ≡ 1 }
-        ensures summary_left { result.summary_left
-            ≡ blocks_for B.width (blocks_for B.width (length self.now.values)) - 1 }
+        ensures start { StartsPast B.width B.number 0 result }
         ensures fits { IsWithinCapacity self.now }
     {
-        Nonzero::past(&self.blocks, &self.summary, 0, false)
+        Nonzero::past(self, 0, Unstored::Each)
     }
 
-    /// What [`nonzero_from`](Self::nonzero_from) leaves after one pull: the same past the block with this index, or past
-    /// the last one where there are fewer. Takes no memory, and constant time: it looks at as many blocks at once as a
-    /// block has bits at most, where no summary is stored and the first of these is zero.
+    /// A walk over the blocks past the one with this index, or past the last one where there are fewer, that are not
+    /// zero. Takes no memory, and constant time: it looks at as many blocks at once as a block has bits at most, where no
+    /// summary is stored and the first of these is zero.
     ///
     /// ```
     /// // Of 100 values, over blocks of 32 bits, those at 70 and 71 are true.
@@ -218,16 +185,10 @@ impl<B: BitBlock> BitVec<B> {
     pub fn nonzero_past(&self, index: usize) -> Nonzero<'_, B>
         ensures blocks { map B.number result.blocks ≡ blocks_of B.width self.now.values }
         ensures each { All B.is_block result.blocks }
-        ensures left { let first = min index (length result.blocks - 1) in
-            result.left ≡ nonzero_from B.number (first + 1) (drop (first + 1) result.blocks) }
-        ensures pulls { result.pulls ≡ 1 }
-        ensures summary_pulls { result.summary_pulls ≡ 1 }
-        ensures summary_left { result.summary_left ≡ blocks_for B.width
-            (blocks_for B.width (length self.now.values)) - 1 - min index (length result.blocks - 1) / B.width }
+        ensures start { StartsPast B.width B.number (min index (length result.blocks - 1)) result }
         ensures fits { IsWithinCapacity self.now }
     {
-        let blocks = self.blocks.as_slice();
-        let first = index.min(blocks.len().saturating_sub(1));
-        Nonzero::past(blocks, &self.summary, first, true)
+        let last = self.storage().len().saturating_sub(1);
+        Nonzero::past(self, index.min(last), Unstored::NonzeroPastZero)
     }
 }

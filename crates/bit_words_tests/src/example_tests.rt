@@ -34,8 +34,6 @@ fn blocks_that_are_not_zero(rt: HostRuntime) -> Result<(), Fail> {
     assert!(rt; bits.nonzero().eq([(0, 0), (2, 0b1100_0000)]));
     assert!(rt; bits.nonzero_past_first().eq([(2, 0b1100_0000)]));
     // Of 100 values, over blocks of 32 bits, those at 70 and 71 are true.
-    assert!(rt; bits.nonzero_from(1).eq([(1, 0), (2, 0b1100_0000)]));
-    // Of 100 values, over blocks of 32 bits, those at 70 and 71 are true.
     assert!(rt; bits.nonzero_past(1).eq([(2, 0b1100_0000)]));
     Ok(())
 }

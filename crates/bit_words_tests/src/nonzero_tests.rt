@@ -1,14 +1,14 @@
 //! The walk over the blocks that are not zero, and what goes by the summary: at the ends of its blocks.
 use crate::expect::{expect, expect_eq};
 use crate::lists::{grow_by, list_of, put};
-use bit_words::bit_vec::{BitBlock, BitVec, Merge, Nonzero, Steps};
+use bit_words::bit_vec::{BitBlock, BitVec, FirstAndNonzero, Merge, Steps};
 use block24::Block24;
 use std::alloc::{AllocError, AllocFailed, Global};
 use std::fmt::Debug;
 use std::process::Abort;
 use std::test::Fail;
 
-fn next_index<B: BitBlock>(walk: &mut Nonzero<'_, B>) -> Option<usize> {
+fn next_index<B: BitBlock>(walk: &mut FirstAndNonzero<'_, B>) -> Option<usize> {
     Some(walk.next()?.0)
 }
 
@@ -50,9 +50,8 @@ fn the_first_block_and_those_that_are_not_zero_come(rt: HostRuntime) -> Result<(
 #[test]
 fn a_refill_passes_zero_blocks(rt: HostRuntime) -> Result<(), Fail> {
     let bits = list_of::<u32>(rt.alloc(), 401, &[400])?;
-    let mut walk = bits.nonzero();
-    let first = walk.next();
-    expect_eq(&rt, &first, &Some((0, 0)));
+    let mut walk = bits.nonzero_past_first();
+    expect_eq(&rt, &walk.as_slice().len(), &13);
     if walk.as_slice().len() < 1000 {
         let mut block = 0;
         let mut index = 0;
@@ -121,7 +120,6 @@ fn a_walk_goes_on_from_its_clone(rt: HostRuntime) -> Result<(), Fail> {
         &[Some((10, 1)), Some((24, 128)), None],
     );
     expect_eq(&rt, &copy.next(), &Some((24, 128)));
-    expect_eq(&rt, &copy.as_slice().len(), &25);
     Ok(())
 }
 
@@ -154,7 +152,11 @@ fn entries<B: BitBlock>(
 }
 
 // The walk gives these blocks, and then none for good.
-fn gives<B: BitBlock + Debug>(rt: &impl Abort, mut walk: Nonzero<'_, B>, entries: &[(usize, B)]) {
+fn gives<B: BitBlock + Debug>(
+    rt: &impl Abort,
+    mut walk: FirstAndNonzero<'_, B>,
+    entries: &[(usize, B)],
+) {
     for entry in entries {
         expect_eq(rt, &walk.next(), &Some(*entry));
     }

@@ -3,7 +3,7 @@ use crate::answers::Answers;
 use crate::calls::Looking;
 use crate::lines::Line;
 use crate::widths::Width;
-use bit_set::bit_vec::{BitVec, Blocks, Nonzero, Steps};
+use bit_set::bit_vec::{BitVec, Blocks, Steps};
 use std::alloc::{AllocError, Global};
 
 fn block<B: Width>(block: B, answers: &mut Answers) -> Result<(), AllocError> {
@@ -69,18 +69,19 @@ fn next_if<B: Width>(
     answers.number(walk.count())
 }
 
-// So many steps of a walk over a block and those after it that are not 0, and how many blocks there are.
+// So many steps of a walk over the first block and those after it that are not 0, and how many blocks there are.
 fn nonzero<B: Width>(
-    mut walk: Nonzero<'_, B>,
+    bits: &BitVec<B>,
     steps: usize,
     answers: &mut Answers,
 ) -> Result<(), AllocError> {
+    let mut walk = bits.nonzero();
     for _ in 0..steps {
         let next = walk.next();
         answers.item(next.map(|entry| entry.0))?;
         next_block(next.map(|entry| entry.1), answers)?;
     }
-    answers.number(walk.as_slice().len())
+    answers.number(bits.nonzero_past_first().as_slice().len())
 }
 
 pub(crate) fn look<B: Width>(
@@ -99,8 +100,7 @@ pub(crate) fn look<B: Width>(
         Looking::Storage => storage(bits, answers),
         Looking::Blocks => blocks(bits, (line.first, line.second), answers),
         Looking::NextIf => next_if(bits, line.first, answers),
-        Looking::Nonzero => nonzero(bits.nonzero(), line.first, answers),
-        Looking::NonzeroFrom => nonzero(bits.nonzero_from(line.first), line.second, answers),
+        Looking::Nonzero => nonzero(bits, line.first, answers),
         Looking::IsSubsetOf => answers.truth(bits.is_subset_of(other, &mut Steps::new())),
         Looking::IsDisjointFrom => {
             answers.truth(bits.is_disjoint_from(other, &mut Steps::new()))

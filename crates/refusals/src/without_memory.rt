@@ -316,7 +316,7 @@ fn nonzero_walks<B: BitBlock>(bits: &BitVec<B>) -> [usize; 6] {
     for _ in walk.clone() {
         left = left.saturating_add(1);
     }
-    let blocks = walk.as_slice().len();
+    let blocks = bits.nonzero_past_first().as_slice().len();
     [
         bits.count_ones(),
         number(first.is_some()),

@@ -11,8 +11,8 @@ use std::marker::Model;
 
 /// A walk over the blocks of a bit vector, from the first to the last.
 ///
-/// Contracts see the blocks that are left, and `pulls`. A pull is a call of `next`, or of `next_if` where
-/// the block is wanted; the one that found the end counts too.
+/// Contracts see the blocks that are left, and `pulls`. A pull is a block that the walk takes, or the end that it finds:
+/// a call of `next`, or of `next_if` where the block is wanted.
 #[derive(Drop)]
 pub struct Blocks<'a, B: BitBlock> {
     blocks: &'a [B],

@@ -1,7 +1,6 @@
 use Rattle.std.proofs.Common.{◌≡◌, ◌-◌, ◌*◌, ◌/◌, ◌&&◌, ◌∙◌, map, get_or, ap, sym, arith}
 use Rattle.std.proofs.lemmas.Bool.{le-leb}
 use Rattle.bit_words.specs.Digits.{is_one}
-use Rattle.bit_words.proofs.NonzeroFromLemmas.{past_first}
 use Rattle.bit_set.proofs.FromLemmas.{BeginsFrom, IsCut, IsPast, begins_from, starts_at_all}
 use Rattle.bit_set.proofs.SparseLemmas.{seen, whole_index}
 use Rattle.bit_set.proofs.walk.Iter.over.Goals.{After-block_or_zero}
@@ -22,10 +21,7 @@ begun g c =
     let past : IsPast w number is_block values 0 t = record {
       numbers = made.blocks;
       each = made.each;
-      left = made.left;
-      pulls = made.pulls;
-      summary_pulls = made.summary_pulls;
-      summary_left = made.summary_left ∙ sym (past_first w _ pos);
+      start = made.start;
       fits = omega (arith, made.fits.holds_values, made.fits.fits);
     } in
     let here : number block ≡ get_or (map number t.blocks) 0 0 = c.block_or_zero.ensures.of_number ∙ ap (λ ms. get_or ms 0 0) (c.storage.ensures.numbers ∙ sym made.blocks) in

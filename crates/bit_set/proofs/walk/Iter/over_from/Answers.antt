@@ -1,8 +1,7 @@
-use Rattle.std.proofs.Common.{◌≡◌, ℕ, ◌+◌, ◌-◌, ◌*◌, ◌/◌, ◌<◌, ◌&&◌, leb, map, min, drop, length, get_or, ap, sym, ◌∙◌, arith}
+use Rattle.std.proofs.Common.{◌≡◌, ℕ, ◌+◌, ◌-◌, ◌*◌, ◌/◌, ◌<◌, ◌&&◌, leb, map, min, length, get_or, ap, sym, subst, ◌∙◌, arith}
 use Rattle.std.proofs.lemmas.List.{length-map}
-use Rattle.bit_words.specs.Bits.{blocks_for}
 use Rattle.bit_words.specs.Digits.{is_one}
-use Rattle.bit_words.specs.Nonzero.{nonzero_from}
+use Rattle.bit_words.specs.Nonzero.{StartsPast}
 use Rattle.bit_set.proofs.FromLemmas.{BeginsFrom, IsCut, IsPast, begins_from, begins_by}
 use Rattle.bit_set.proofs.SparseLemmas.{seen}
 use Rattle.bit_set.proofs.walk.Iter.over_from.Goals.{After-clear_below}
@@ -30,10 +29,7 @@ begun g c =
     let past : IsPast w number is_block values k t = record {
       numbers = made.blocks;
       each = made.each;
-      left = made.left ∙ ap (λ i. nonzero_from number (i + 1) (drop (i + 1) t.blocks)) first;
-      pulls = made.pulls;
-      summary_pulls = made.summary_pulls;
-      summary_left = made.summary_left ∙ ap (λ i. blocks_for w (blocks_for w (length values)) - 1 - i / w) first;
+      start = subst (λ i. StartsPast w number i t) first made.start;
       fits = omega (arith, made.fits.holds_values, made.fits.fits);
     } in
     let here : number c.block_or_zero.result ≡ get_or (map number t.blocks) k 0 = c.block_or_zero.ensures.of_number ∙ ap (λ ms. get_or ms k 0) (sym same) in

@@ -1,7 +1,7 @@
 use Rattle.std.proofs.Common.{length, map, ⊎_elim, arith}
 use Rattle.std.proofs.lemmas.Bool.{cases_lt, eqb-true, eq-eqb}
 use Rattle.std.proofs.lemmas.List.{get_or_past, length-map}
-use Rattle.bit_words.proofs.NonzeroLemmas.{all_zero, zero_at}
+use Rattle.bit_words.proofs.ZeroLemmas.{all_zero, zero_at}
 use Rattle.bit_words.proofs.packed.zeros.are_zero.Goals as goal
 
 pub returns : goal.returns

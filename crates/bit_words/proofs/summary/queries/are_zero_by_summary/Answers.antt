@@ -1,5 +1,5 @@
 use Rattle.std.proofs.Common.{length}
-use Rattle.bit_words.proofs.NonzeroLemmas.{zero_by_summary}
+use Rattle.bit_words.proofs.ZeroLemmas.{zero_by_summary}
 use Rattle.bit_words.proofs.SummaryLemmas.{long_from_test}
 use Rattle.bit_words.proofs.summary.queries.are_zero_by_summary.Goals as goal
 

@@ -1,6 +1,6 @@
 use Rattle.std.proofs.Common.{◌≡◌, ◌*◌, ◌^◌, ◌-◌, min, length, length-take, sym, ap, ◌∙◌, ⊎_elim, arith}
 use Rattle.std.proofs.lemmas.Bool.{cases_lt}
-use Rattle.bit_words.proofs.NonzeroLemmas.{front_read, zero_past_chunks}
+use Rattle.bit_words.proofs.ZeroLemmas.{front_read, zero_past_chunks}
 use Rattle.bit_words.proofs.SummaryLemmas.{long_from_test}
 use Rattle.bit_words.proofs.summary.queries.used_by_summary.Goals as goal
 

@@ -1,7 +1,7 @@
 use Rattle.std.proofs.Common.{◌≡◌, ◌≤◌, true, nat_lt, sym, ◌∙◌, arith}
 use Rattle.std.proofs.lemmas.Bool.Decides.{nat_tests}
 use Rattle.bit_words.proofs.Masks.{is_one-ones}
-use Rattle.bit_words.proofs.bit_vec.nonzero.ones_for.Goals as goal
+use Rattle.bit_words.proofs.bit_vec.pending.ones_for.Goals as goal
 
 pub returns-else-count-bits-clause-digits : goal.returns-else-count-bits-clause-digits
 returns-else-count-bits-clause-digits g c = λ j within.

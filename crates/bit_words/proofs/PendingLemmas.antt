@@ -1,0 +1,296 @@
+-- The walk over the blocks that are not 0, by the pending bits of a summary.
+use Rattle.std.proofs.Common.{◌≡◌, ◌≢◌, ℕ, zero, suc, ◌+◌, ◌-◌, ◌*◌, ◌/◌, ◌%◌, ◌^◌, ◌<◌, ◌≤◌, Bool, true, false, not, leb, nat_lt, ◌&&◌, if◌then◌else◌, ◌==◌, List, [], ◌∷◌, min, map, drop, length, slice_get, Some, get_or, All, refl, sym, ap, subst, ◌∙◌, arith, ⊎_elim, mul-le-mul_right, div-add-mod'}
+use Rattle.std.proofs.lemmas.Bool.{cases_lt, cases_eq, true≢false}
+use Rattle.std.proofs.lemmas.Bool.Decides.{nat_tests}
+use Rattle.std.proofs.lemmas.List.{drop_more, drop_all, drop-map, length-drop}
+use Rattle.std.proofs.lemmas.List.Elements.{All-drop}
+use Rattle.std.proofs.lemmas.Option.{get_or_from_slice_get}
+use Rattle.std.proofs.Math.Seq.{drop-drop}
+use Rattle.bit_words.specs.Bits.{blocks_for}
+use Rattle.bit_words.specs.Digits.{is_one}
+use Rattle.bit_words.specs.Lowest.{IsLowest, IsCleared}
+use Rattle.bit_words.specs.Nonzero.{nonzero_from}
+use Rattle.bit_words.specs.Pending.{CoversUsed, IsInHand, IsStoredFrom, left_from, next_at}
+use Rattle.bit_words.specs.Storage.{value_at}
+use Rattle.bit_words.specs.Summary.{is_used, short_count, KeepsSummary}
+use Rattle.bit_words.proofs.BitsLemmas.{blocks_for-least, blocks_for-past, whole_before}
+use Rattle.bit_words.proofs.Masks.{is_one-bit, is_one-zero}
+use Rattle.bit_words.proofs.NextAtLemmas.{before_first, first_least, first_most}
+use Rattle.bit_words.proofs.StorageLemmas.{value_at-is, value_at-index}
+use Rattle.bit_words.proofs.SummaryLemmas.{stored_each, stored_enough, zero_from_unused}
+use Rattle.bit_words.proofs.ZeroLemmas.{dropped, nonzero_inside, value_at-drop}
+
+not_true : (b : Bool) → (b ≡ true → ⊥) → b ≡ false
+not_true true other = absurd (other refl)
+not_true false other = refl
+
+-- ---- blocks that are 0 are passed
+
+module _ {X : Type 0} (number : X → ℕ) where
+  none_first : (k n : ℕ) (xs : List X) → ((j : ℕ) → j < n → is_used (map number xs) j ≡ false) → nonzero_from number k xs ≡ nonzero_from number (k + n) (drop n xs)
+  none_first k zero xs none = ap (λ j. nonzero_from number j xs) (let e : k ≡ k + zero = omega arith in e)
+  none_first k (suc n) [] none = refl
+  none_first k (suc n) (x ∷ xs) none =
+      let test : (number x == 0) ≡ true = ap (λ m. m == 0) (zero_from_unused (number x) (none 0 (omega arith))) in
+      ap (λ b. if b then nonzero_from number (k + 1) xs else (k, x) ∷ nonzero_from number (k + 1) xs) test
+      ∙ none_first (k + 1) n xs (λ j within. none (suc j) (omega (arith, within)))
+      ∙ ap (λ j. nonzero_from number j (drop n xs)) (let e : k + 1 + n ≡ k + suc n = omega arith in e)
+
+  pub left-passed : (a b : ℕ) (xs : List X) → a ≤ b → ((k : ℕ) → a ≤ k → k < b → is_used (map number xs) k ≡ false) → left_from number a xs ≡ left_from number b xs
+  left-passed a b xs on none =
+      let e : a + (b - a) ≡ b = omega (arith, on) in
+      none_first a (b - a) (drop a xs) (λ j within. ap (λ m. not (m == 0)) (dropped number a j xs) ∙ none (a + j) (omega arith) (omega (arith, within)))
+      ∙ ap (nonzero_from number (a + (b - a))) (drop-drop (b - a) a xs)
+      ∙ ap (λ p. left_from number p xs) e
+
+  -- a block that comes, or is 0
+  pub left-here : (k : ℕ) (x : X) (xs : List X) → k < length xs → slice_get xs k ≡ Some x → left_from number k xs ≡ (if number x == 0 then left_from number (k + 1) xs else (k, x) ∷ left_from number (k + 1) xs)
+  left-here k x xs inside at = ap (nonzero_from number k) (drop_more xs k x inside ∙ ap (λ y. y ∷ drop (k + 1) xs) (get_or_from_slice_get xs k x x at))
+
+  pub left-end : (k : ℕ) (xs : List X) → length xs ≤ k → left_from number k xs ≡ []
+  left-end k xs end = ap (nonzero_from number k) (drop_all k xs end)
+
+-- ---- the block of the summary in hand
+
+module _ {X : Type 0} (w : ℕ) (number : X → ℕ) (is_block : X → Type 0) where
+  -- The digits of m are about the blocks from `start` on, and have none of a block before the one at `from`.
+  pub left-covered : (start from m : ℕ) (xs : List X) → start ≤ from → from ≤ start + w → ((j : ℕ) → j < from - start → is_one m j ≡ false) → ((j : ℕ) → j < w → from ≤ start + j → is_used (map number xs) (start + j) ≡ true → is_one m j ≡ true)
+      → left_from number (next_at w start m) xs ≡ left_from number from xs
+  left-covered start from m xs on to none covers =
+      let least = first_least (is_one m) w (from - start) (omega (arith, to)) none in
+      let most = first_most (is_one m) w in
+      sym (left-passed number from (next_at w start m) xs (omega (arith, least, on)) (λ k reached below.
+      let e : start + (k - start) ≡ k = omega (arith, reached, on) in
+      let unset = before_first (is_one m) w (k - start) (omega (arith, below, reached, on)) in
+      not_true (is_used (map number xs) k) (λ used.
+      true≢false (sym (covers (k - start) (omega (arith, below, most, reached, on)) (omega (arith, reached, on)) (ap (is_used (map number xs)) e ∙ used)) ∙ unset))))
+
+  -- the lowest 1 is taken
+  pub left-taken : (index i r : ℕ) (pending : X) (xs : List X) → IsInHand w number is_block index pending xs → IsLowest (number pending) i → i < w → IsCleared w (number pending) i r
+      → (index + i < next_at w index r) × (left_from number (next_at w index r) xs ≡ left_from number (index + i + 1) xs)
+  left-taken index i r pending xs is low within cleared =
+      let m = number pending in
+      let none : (j : ℕ) → j < i + 1 → is_one r j ≡ false = λ j to.
+      ⊎_elim
+      (λ below. is_one-bit 0 r j (cleared.kept j (omega (arith, below, within)) (λ e. omega (arith, e, below)) ∙ low.zeros j below))
+      (λ at. ap (is_one r) (let e : j ≡ i = omega (arith, at, to) in e) ∙ is_one-bit 0 r i cleared.cleared)
+      (cases_lt j i) in
+      let least = first_least (is_one r) w (i + 1) (omega (arith, within)) none in (
+        omega (arith, least),
+        left-covered index (index + i + 1) r xs (omega arith) (omega (arith, within)) (λ j below. none j (omega (arith, below))) (λ j to past used.
+            ap (λ b. b == 1) (cleared.kept j to (λ e. omega (arith, e, past))) ∙ is.covers i j (omega (arith, past)) to (is_one-bit 1 m i low.one) used),
+      )
+
+  pub IsInHand-taken : (index i : ℕ) (pending rest : X) (xs : List X) → IsInHand w number is_block index pending xs → is_block rest → IsLowest (number pending) i → IsCleared w (number pending) i (number rest) → IsInHand w number is_block index rest xs
+  IsInHand-taken index i pending rest xs is block low cleared =
+      let kept : (k : ℕ) → k < w → k ≢ i → is_one (number rest) k ≡ is_one (number pending) k = λ k below other. ap (λ b. b == 1) (cleared.kept k below other) in
+      let was : (k : ℕ) → k < w → is_one (number rest) k ≡ true → is_one (number pending) k ≡ true × i < k = λ k within one.
+      ⊎_elim
+      (λ at. absurd (true≢false (sym one ∙ ap (is_one (number rest)) at ∙ is_one-bit 0 (number rest) i cleared.cleared)))
+      (λ other.
+      let one_before : is_one (number pending) k ≡ true = sym (kept k within other) ∙ one in (
+        one_before,
+        ⊎_elim
+            (λ below. absurd (true≢false (sym one_before ∙ is_one-bit 0 (number pending) k (low.zeros k below))))
+            (λ not_below. omega (arith, other, not_below))
+            (cases_lt k i),
+      ))
+      (cases_eq k i) in
+      record {
+        each = is.each;
+        of_block = block;
+        fits = is.fits;
+        within = is.within;
+        inside = λ j within one. is.inside j within (was j within one).0;
+        covers = λ a j after within one used.
+            let (one_before, past) = was a (omega (arith, after, within)) one in
+            kept j within (λ e. omega (arith, e, after, past)) ∙ is.covers a j after within one_before used;
+      }
+
+  -- a used up block is about any blocks
+  pub IsInHand-zero : (index : ℕ) (pending : X) (xs : List X) → All is_block xs → length xs < 2 ^ 64 → is_block pending → number pending ≡ 0 → index ≤ length xs → IsInHand w number is_block index pending xs
+  IsInHand-zero index pending xs each fits block none within =
+      let nothing : (j : ℕ) → is_one (number pending) j ≡ true → ⊥ = λ j one. true≢false (sym one ∙ ap (λ n. is_one n j) none ∙ is_one-zero j) in
+      record {
+        each = each;
+        of_block = block;
+        fits = fits;
+        within = within;
+        inside = λ j to one. absurd (nothing j one);
+        covers = λ i j after to one used. absurd (nothing i one);
+      }
+
+  -- ---- what is stored of the summary
+
+  pub long_by_stored : (start : ℕ) (xs summary : List X) → IsStoredFrom w number is_block start xs summary → 0 < length summary → short_count w < length xs
+  long_by_stored start xs summary is some =
+      ⊎_elim
+      (λ long. long)
+      (λ few. absurd (let none = ap length (is.short few) in omega (arith, none, some)))
+      (cases_lt (short_count w) (length xs))
+
+  pub stored_from_all : (xs summary : List X) → 0 < w → KeepsSummary w number is_block xs summary → IsStoredFrom w number is_block 0 xs summary
+  stored_from_all xs summary pos keeps = record {
+    each = stored_each w number is_block xs summary keeps;
+    short = keeps.short;
+    enough = λ long. let enough = stored_enough w number is_block xs summary pos keeps long in omega (arith, enough);
+    few = λ some.
+        let long : short_count w < length xs = ⊎_elim (λ long. long) (λ few. absurd (let none = ap length (keeps.short few) in omega (arith, none, some))) (cases_lt (short_count w) (length xs)) in
+        let n = length summary in
+        let last = whole_before w (length xs) (n - 1) pos (let count = (keeps.long long).packed.count in omega (arith, count, some)) in
+        let whole : n * w ≡ (n - 1) * w + w = ap (λ k. k * w) (let e : n ≡ (n - 1) + 1 = omega (arith, some) in e) ∙ omega arith in
+        omega (arith, last, whole);
+    digit = λ long k. (keeps.long long).digit k ∙ ap (is_used (map number xs)) (let e : k ≡ 0 + k = omega arith in e);
+  }
+
+  -- its first blocks are pulled
+  pub stored_past : (n start : ℕ) (xs summary left : List X) → 0 < w → IsStoredFrom w number is_block start xs summary → (short_count w < length xs → n ≤ length summary) → left ≡ drop n summary → IsStoredFrom w number is_block (start + n * w) xs left
+  stored_past n start xs summary left pos is there left_is =
+      let count : length left ≡ length summary - n = ap length left_is ∙ length-drop n summary in
+      let whole : n ≤ length summary → length summary * w ≡ n * w + length left * w = λ within.
+      ap (λ k. k * w) (let e : length summary ≡ n + length left = omega (arith, count, within) in e) ∙ omega arith in
+      record {
+        each = subst (All is_block) (sym left_is) (All-drop is_block n summary is.each);
+        short = λ few. left_is ∙ ap (drop n) (is.short few) ∙ drop_all n [] (omega arith);
+        enough = λ long. omega (arith, is.enough long, whole (there long));
+        few = λ some.
+            let within : n ≤ length summary = omega (arith, some, count) in
+            omega (arith, is.few (omega (arith, some, count)), whole within);
+        digit = λ long k.
+            ap (λ ys. value_at w (map number ys) k) left_is
+            ∙ ap (λ ms. value_at w ms k) (sym (drop-map number n summary))
+            ∙ value_at-drop w n (map number summary) k pos
+            ∙ is.digit long (n * w + k)
+            ∙ ap (is_used (map number xs)) (let e : start + (n * w + k) ≡ start + n * w + k = omega arith in e);
+      }
+
+  count_by : (n start count : ℕ) → 0 < w → n * w < count - start + w → blocks_for w (count - start) ≡ n + blocks_for w (count - (start + n * w))
+  count_by n start count pos within =
+      blocks_for-past w n (count - start) pos within
+      ∙ ap (λ k. n + blocks_for w k) (let e : count - start - n * w ≡ count - (start + n * w) = omega arith in e)
+
+  -- they are so many of those that were to come
+  pub count_past : (n start : ℕ) (xs summary : List X) → 0 < w → IsStoredFrom w number is_block start xs summary → n ≤ length summary → blocks_for w (length xs - start) ≡ n + blocks_for w (length xs - (start + n * w))
+  count_past n start xs summary pos is there =
+      let most = mul-le-mul_right w there in
+      count_by n start (length xs) pos
+      (⊎_elim
+      (λ some. omega (arith, is.few (omega (arith, some, there)), most))
+      (λ none. let zero : n * w ≡ 0 * w = ap (λ k. k * w) (let e : n ≡ 0 = omega (arith, none) in e) in omega (arith, zero, pos))
+      (cases_lt 0 n))
+
+  -- one is, stored or not
+  pub count_pulled : (start count : ℕ) → 0 < w → start < count → blocks_for w (count - start) ≡ 1 + blocks_for w (count - (start + w))
+  count_pulled start count pos more =
+      count_by 1 start count pos (omega (arith, more))
+      ∙ ap (λ k. 1 + blocks_for w (count - k)) (let e : start + 1 * w ≡ start + w = omega arith in e)
+
+  -- blocks of it that are 0 are about blocks that are
+  pub zeros_passed : (n start : ℕ) (xs summary : List X) → 0 < w → IsStoredFrom w number is_block start xs summary → n ≤ length summary → ((k : ℕ) → k < n → get_or (map number summary) k 0 ≡ 0) → left_from number start xs ≡ left_from number (start + n * w) xs
+  zeros_passed n start xs summary pos is there zeros = left-passed number start (start + n * w) xs (omega arith) (λ k reached below.
+      let j = k - start in
+      let whole = div-add-mod' j w in
+      let chunk : j / w < n =
+      ⊎_elim
+      (λ less. less)
+      (λ not_less. absurd (let product = mul-le-mul_right w not_less in omega (arith, product, whole, below, reached)))
+      (cases_lt (j / w) n) in
+      ap (is_used (map number xs)) (let e : k ≡ start + j = omega (arith, reached) in e)
+      ∙ sym (is.digit (long_by_stored start xs summary is (omega (arith, chunk, there))) j)
+      ∙ value_at-is w (map number summary) j
+      ∙ ap (λ m. is_one m (j % w)) (zeros (j / w) chunk)
+      ∙ is_one-zero (j % w))
+
+  -- none is stored where no blocks are left
+  pub stored_ended : (start : ℕ) (xs summary : List X) → IsStoredFrom w number is_block start xs summary → length xs ≤ start → summary ≡ []
+  stored_ended start xs [] is end = refl
+  stored_ended start xs (next ∷ rest) is end = absurd (let few = is.few (omega arith) in omega (arith, few, end))
+
+  -- some are stored of many blocks
+  pub stored_some : (start : ℕ) (xs summary : List X) → IsStoredFrom w number is_block start xs summary → start < length xs → short_count w < length xs → 1 ≤ length summary
+  stored_some start xs summary is more long =
+      ⊎_elim
+      (λ some. some)
+      (λ none. absurd (let enough = is.enough long in let product = ap (λ n. n * w) (let e : length summary ≡ 0 = omega (arith, none) in e) in omega (arith, enough, product, more)))
+      (cases_lt 0 (length summary))
+
+  -- ---- digits that cover the blocks that are not 0
+
+  -- digits that say exactly which blocks are not 0
+  pub CoversUsed-exact : (start m : ℕ) (xs : List X) → ((j : ℕ) → j < w → is_one m j ≡ is_used (map number xs) (start + j)) → CoversUsed w number xs start m
+  CoversUsed-exact start m xs digits = record {
+    inside = λ j within one. nonzero_inside number (start + j) xs (sym (digits j within) ∙ one);
+    covers = λ j within used. digits j within ∙ used;
+  }
+
+  -- digits of as many blocks as there are
+  pub CoversUsed-all : (start m : ℕ) (xs : List X) → start ≤ length xs → ((j : ℕ) → j < w → is_one m j ≡ nat_lt j (length xs - start)) → CoversUsed w number xs start m
+  CoversUsed-all start m xs within digits =
+      let below : (j : ℕ) → nat_lt j (length xs - start) ≡ true → start + j < length xs = λ j one. grind (arith, nat_tests) in
+      record {
+        inside = λ j to one. below j (sym (digits j to) ∙ one);
+        covers = λ j to used.
+            let inside : start + j < length xs = nonzero_inside number (start + j) xs used in
+            let test : nat_lt j (length xs - start) ≡ true = grind (arith, nat_tests) in
+            digits j to ∙ test;
+      }
+
+  -- the digits of the next stored block
+  pub CoversUsed-stored : (start : ℕ) (next : X) (xs summary rest : List X) → summary ≡ next ∷ rest → IsStoredFrom w number is_block start xs summary → CoversUsed w number xs start (number next)
+  CoversUsed-stored start next xs summary rest more is = CoversUsed-exact start (number next) xs (λ j within.
+      sym (value_at-index w (map number (next ∷ rest)) 0 j within)
+      ∙ ap (λ ys. value_at w (map number ys) (0 * w + j)) (sym more)
+      ∙ is.digit (long_by_stored start xs summary is (rw more (omega arith))) (0 * w + j)
+      ∙ ap (λ k. is_used (map number xs) (start + k)) (let e : 0 * w + j ≡ j = omega arith in e))
+
+  -- ---- the making of a walk
+
+  -- The digits past digit d, of those of the blocks from `start` on
+  pub record IsCutPast (start d : ℕ) (used pending : X) (xs : List X) : Type 0 where
+    pub covers : CoversUsed w number xs start (number used)
+    pub of_block : is_block pending
+    pub cut : (j : ℕ) → j < w → is_one (number pending) j ≡ (leb (d + 1) j && is_one (number used) j)
+
+  beyond : (m d j : ℕ) → (leb (d + 1) j && is_one m j) ≡ true → (d < j) × (is_one m j ≡ true)
+  beyond m d j one = grind (arith, nat_tests)
+
+  pub IsInHand-cut : (start d : ℕ) (used pending : X) (xs : List X) → All is_block xs → length xs < 2 ^ 64 → start ≤ length xs → IsCutPast start d used pending xs → IsInHand w number is_block start pending xs
+  IsInHand-cut start d used pending xs each fits to_end is = record {
+    each = each;
+    of_block = is.of_block;
+    fits = fits;
+    within = to_end;
+    inside = λ j to one. is.covers.inside j to (beyond (number used) d j (sym (is.cut j to) ∙ one)).1;
+    covers = λ i j after to one some.
+        let (past, _) = beyond (number used) d i (sym (is.cut i (omega (arith, after, to))) ∙ one) in
+        let test : leb (d + 1) j ≡ true = grind (arith, nat_tests) in
+        is.cut j to ∙ ap (λ b. b && is_one (number used) j) test ∙ is.covers.covers j to some;
+  }
+
+  pub left-cut : (start d first : ℕ) (used pending : X) (xs : List X) → d < w → first ≡ start + d → IsCutPast start d used pending xs → left_from number (next_at w start (number pending)) xs ≡ left_from number (first + 1) xs
+  left-cut start d first used pending xs within first_is is =
+      left-covered start (first + 1) (number pending) xs (omega (arith, first_is)) (omega (arith, first_is, within))
+      (λ j below. is.cut j (omega (arith, below, first_is, within)) ∙ ap (λ b. b && is_one (number used) j) (let test : leb (d + 1) j ≡ false = grind (arith, nat_tests) in test))
+      (λ j to past some. is.cut j to ∙ ap (λ b. b && is_one (number used) j) (let test : leb (d + 1) j ≡ true = grind (arith, nat_tests) in test) ∙ is.covers.covers j to some)
+
+-- how many blocks of the summary are past the one for a block
+pub count_from : (w q start blocks : ℕ) → 0 < w → start ≡ q * w → start ≤ blocks - 1 → blocks_for w (blocks - (start + w)) ≡ blocks_for w blocks - 1 - q
+count_from w q start blocks pos at inside =
+    ⊎_elim
+    (λ some.
+    let left = blocks_for-past w (suc q) blocks pos (omega (arith, inside, at, some)) in
+    let same = ap (blocks_for w) (let e : blocks - suc q * w ≡ blocks - (start + w) = omega (arith, at) in e) in
+    omega (arith, left, same))
+    (λ none.
+    let all = blocks_for-least w blocks 0 pos (omega (arith, none)) in
+    let past = blocks_for-least w (blocks - (start + w)) 0 pos (omega (arith, none)) in
+    omega (arith, all, past))
+    (cases_lt 0 blocks)
+
+-- so many stored blocks are passed, or all
+pub dropped_most : {X : Type 0} (q : ℕ) (xs : List X) → drop (min q (length xs)) xs ≡ drop q xs
+dropped_most q xs =
+    ⊎_elim
+    (λ few. ap (λ n. drop n xs) (let e : min q (length xs) ≡ q = omega (arith, few) in e))
+    (λ most. drop_all (min q (length xs)) xs (omega (arith, most)) ∙ sym (drop_all q xs most))
+    (cases_lt q (length xs))

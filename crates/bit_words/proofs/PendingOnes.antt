@@ -1,0 +1,84 @@
+-- The ones of the blocks that a walk has left.
+use Rattle.std.proofs.Common.{◌≡◌, ℕ, ◌+◌, ◌-◌, ◌*◌, ◌<◌, ◌≤◌, Bool, true, false, not, if◌then◌else◌, ◌==◌, List, [], ◌∷◌, map, drop, take, length, count_ones, refl, sym, ap, ◌∙◌, arith}
+use Rattle.std.proofs.lemmas.Bool.{eqb-true}
+use Rattle.std.proofs.lemmas.List.{drop-take, length-drop, length-take}
+use Rattle.std.proofs.lemmas.List.Sums.{sum_by-cons, sum_by-take-drop}
+use Rattle.std.proofs.Math.Seq.{drop-drop}
+use Rattle.bit_words.specs.Digits.{is_one}
+use Rattle.bit_words.specs.Lowest.{IsLowest}
+use Rattle.bit_words.specs.Nonzero.{nonzero_from, ones_in, ones_left}
+use Rattle.bit_words.specs.Pending.{IsInHand, IsStoredFrom, left_from, next_at}
+use Rattle.bit_words.specs.Storage.{value_at}
+use Rattle.bit_words.specs.Summary.{is_used, short_count}
+use Rattle.bit_words.proofs.LowestLemmas.{ones_zero}
+use Rattle.bit_words.proofs.Masks.{is_one-bit}
+use Rattle.bit_words.proofs.NextAtLemmas.{first_most, next_at-lowest, next_at-zero}
+use Rattle.bit_words.proofs.ZeroLemmas.{dropped}
+
+module _ {X : Type 0} (w : ℕ) (number : X → ℕ) (is_block : X → Type 0) where
+  ones_nonzero : (k : ℕ) (xs : List X) → ones_left number (nonzero_from number k xs) ≡ ones_in number xs
+  ones_nonzero k [] = refl
+  ones_nonzero k (x ∷ xs) = with_first (number x == 0) refl (ones_nonzero (k + 1) xs) ∙ sym (sum_by-cons (λ y. count_ones (number y)) x xs)
+    where
+      with_first : (b : Bool) → (number x == 0) ≡ b → ones_left number (nonzero_from number (k + 1) xs) ≡ ones_in number xs
+          → ones_left number (if b then nonzero_from number (k + 1) xs else (k, x) ∷ nonzero_from number (k + 1) xs) ≡ count_ones (number x) + ones_in number xs
+      with_first true e rest = let none : count_ones (number x) ≡ 0 = ap count_ones (eqb-true _ _ e) ∙ ones_zero in omega (arith, rest, none)
+      with_first false e rest = sum_by-cons (λ entry. count_ones (number entry.1)) (k, x) (nonzero_from number (k + 1) xs) ∙ ap (λ n. count_ones (number x) + n) rest
+
+  -- these are all where there is no pending bit
+  pub left-ones_past : (index m : ℕ) (xs : List X) → m ≡ 0 → ones_left number (left_from number (next_at w index m) xs) ≡ ones_in number (drop w (drop index xs))
+  left-ones_past index m xs none =
+      ones_nonzero (next_at w index m) (drop (next_at w index m) xs)
+      ∙ ap (λ p. ones_in number (drop p xs)) (next_at-zero w index m none)
+      ∙ ap (ones_in number) (sym (drop-drop w index xs))
+
+  -- and they are never more
+  pub left-ones_rest : (index m : ℕ) (xs : List X) → ones_in number (drop w (drop index xs)) ≤ ones_left number (left_from number (next_at w index m) xs)
+  left-ones_rest index m xs =
+      let p = next_at w index m in
+      let most = first_most (is_one m) w in
+      let all = ones_nonzero p (drop p xs) in
+      let whole = sum_by-take-drop (λ x. count_ones (number x)) (drop p xs) (index + w - p) in
+      let rest : drop (index + w - p) (drop p xs) ≡ drop w (drop index xs) =
+      drop-drop (index + w - p) p xs ∙ ap (λ n. drop n xs) (let e : p + (index + w - p) ≡ index + w = omega (arith, most) in e) ∙ sym (drop-drop w index xs) in
+      let same = ap (ones_in number) rest in
+      omega (arith, all, whole, same)
+
+  -- those of the blocks of the chunk in hand, and of the ones past it
+  pub left-ones_split : (index i m : ℕ) (xs : List X) → IsLowest m i → i < w
+      → ones_in number (drop w (drop index xs)) + ones_in number (drop i (take w (drop index xs))) ≡ ones_left number (left_from number (next_at w index m) xs)
+  left-ones_split index i m xs low within =
+      let ys = drop index xs in
+      let zs = drop i ys in
+      let whole = sum_by-take-drop (λ x. count_ones (number x)) zs (w - i) in
+      let e : i + (w - i) ≡ w = omega (arith, within) in
+      let chunk : ones_in number (drop i (take w ys)) ≡ ones_in number (take (w - i) zs) =
+      ap (λ n. ones_in number (drop i (take n ys))) (sym e) ∙ ap (ones_in number) (drop-take i (w - i) ys) in
+      let rest : ones_in number (drop w ys) ≡ ones_in number (drop (w - i) zs) =
+      ap (λ n. ones_in number (drop n ys)) (sym e) ∙ ap (ones_in number) (sym (drop-drop (w - i) i ys)) in
+      let left : ones_left number (left_from number (next_at w index m) xs) ≡ ones_in number zs =
+      ones_nonzero (next_at w index m) (drop (next_at w index m) xs)
+      ∙ ap (λ p. ones_in number (drop p xs)) (next_at-lowest w index m i low within)
+      ∙ ap (ones_in number) (sym (drop-drop i index xs)) in
+      omega (arith, whole, chunk, rest, left)
+
+  -- what the blocks of the summary that are left say
+  pub tells_rest : (index : ℕ) (xs summary : List X) → IsStoredFrom w number is_block (index + w) xs summary → short_count w < length (drop w (drop index xs)) → (k : ℕ) → value_at w (map number summary) k ≡ is_used (map number (drop w (drop index xs))) k
+  tells_rest index xs summary is long k =
+      is.digit (let most = length-drop w (drop index xs) in let all = length-drop index xs in omega (arith, long, most, all)) k
+      ∙ ap (λ m. not (m == 0)) (sym (dropped number (index + w) k xs))
+      ∙ ap (λ ys. is_used (map number ys) k) (sym (drop-drop w index xs))
+
+  -- and for how many blocks these are
+  pub enough_rest : (index : ℕ) (xs summary : List X) → IsStoredFrom w number is_block (index + w) xs summary → short_count w < length (drop w (drop index xs)) → length (drop w (drop index xs)) ≤ length summary * w
+  enough_rest index xs summary is long =
+      let most = length-drop w (drop index xs) in
+      let all = length-drop index xs in
+      let enough = is.enough (omega (arith, long, most, all)) in
+      omega (arith, most, all, enough)
+
+  -- the lowest pending bit is about one of the blocks of the chunk in hand
+  pub lowest_inside : (index i : ℕ) (pending : X) (xs : List X) → IsInHand w number is_block index pending xs → IsLowest (number pending) i → i < w → i ≤ length (take w (drop index xs))
+  lowest_inside index i pending xs is low within =
+      let inside = is.inside i within (is_one-bit 1 (number pending) i low.one) in
+      omega (arith, inside, within, length-take w (drop index xs), length-drop index xs)

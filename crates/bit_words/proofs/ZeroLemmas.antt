@@ -1,0 +1,84 @@
+-- Blocks that are 0, by themselves and by a summary.
+use Rattle.std.proofs.Common.{◌≡◌, ℕ, zero, suc, ◌+◌, ◌-◌, ◌*◌, ◌/◌, ◌%◌, ◌^◌, ◌<◌, ◌≤◌, ◌↔◌, ◌==◌, Bool, not, true, false, List, [], ◌∷◌, min, map, drop, take, length, get_or, get_or-take, get_or-drop, All, refl, sym, ap, ◌∙◌, arith, ⊎_elim, mod-lt, div-add-mod', mul-le-mul_right}
+use Rattle.std.proofs.lemmas.Bool.{cases_lt, true≢false}
+use Rattle.std.proofs.lemmas.List.{get_or_past, length-map, drop-map, take-map}
+use Rattle.std.proofs.lemmas.List.Elements.{All-nil, All-cons, All-head, All-tail}
+use Rattle.bit_words.specs.Digits.{is_one}
+use Rattle.bit_words.specs.Storage.{value_at}
+use Rattle.bit_words.specs.Summary.{is_used, IsSummary}
+use Rattle.bit_words.proofs.CompareLemmas.{zero_from_digits}
+use Rattle.bit_words.proofs.Masks.{is_one-zero}
+use Rattle.bit_words.proofs.StorageLemmas.{value_at-is, value_at-index}
+use Rattle.bit_words.proofs.SummaryLemmas.{used_from_zero, zero_from_unused}
+use Rattle.bit_words.proofs.VectorLemmas.{numbers_below}
+
+-- what is not 0 is a block
+pub nonzero_inside : {X : Type 0} (number : X → ℕ) (k : ℕ) (xs : List X) → is_used (map number xs) k ≡ true → k < length xs
+nonzero_inside number k xs some =
+    ⊎_elim
+    (λ inside. inside)
+    (λ past.
+    let none : get_or (map number xs) k 0 ≡ 0 = get_or_past (map number xs) k 0 (rw length-map past) in
+    absurd (true≢false (sym some ∙ ap (λ m. not (m == 0)) none)))
+    (cases_lt k (length xs))
+
+-- what lies past the first blocks
+pub dropped : {X : Type 0} (number : X → ℕ) (n j : ℕ) (xs : List X) → get_or (map number (drop n xs)) j 0 ≡ get_or (map number xs) (n + j) 0
+dropped number n j xs = ap (λ ms. get_or ms j 0) (sym (drop-map number n xs)) ∙ get_or-drop n (map number xs) j 0
+
+-- past the first blocks of a summary
+pub value_at-drop : (w q : ℕ) (ms : List ℕ) (k : ℕ) → 0 < w → value_at w (drop q ms) k ≡ value_at w ms (q * w + k)
+value_at-drop w q ms k pos =
+    value_at-is w (drop q ms) k
+    ∙ ap (λ m. is_one m (k % w)) (get_or-drop q ms (k / w) 0)
+    ∙ sym (value_at-index w ms (q + k / w) (k % w) (mod-lt k pos))
+    ∙ ap (value_at w ms) (let e : (q + k / w) * w + k % w ≡ q * w + k = omega (arith, div-add-mod' k w) in e)
+
+-- the number of a block that a test for 0 does not find
+pub some_from_test : (m : ℕ) (same : Bool) → (m ≡ 0 → same ≡ true) → same ≡ false → 0 < m
+some_from_test zero same law other = absurd (true≢false (sym (law refl) ∙ other))
+some_from_test (suc m) same law other = omega arith
+
+module _ {X : Type 0} (w : ℕ) (number : X → ℕ) (is_block : X → Type 0) where
+  pub all_zero : (xs : List X) → ((k : ℕ) → get_or (map number xs) k 0 ≡ 0) → All (λ x. number x ≡ 0) xs
+  all_zero [] zeros = All-nil (λ x. number x ≡ 0)
+  all_zero (x ∷ xs) zeros = All-cons (λ y. number y ≡ 0) x xs (zeros 0) (all_zero xs (λ k. zeros (suc k)))
+
+  pub zero_at : (xs : List X) → All (λ x. number x ≡ 0) xs → (k : ℕ) → get_or (map number xs) k 0 ≡ 0
+  zero_at [] all k = refl
+  zero_at (x ∷ xs) all zero = All-head (λ y. number y ≡ 0) x xs all
+  zero_at (x ∷ xs) all (suc k) = zero_at xs (All-tail (λ y. number y ≡ 0) x xs all) k
+
+  -- a summary's block that is 0 has no block that is not
+  pub zero_from_chunk : (xs summary : List X) → IsSummary w number is_block xs summary → (k : ℕ) → get_or (map number summary) (k / w) 0 ≡ 0 → get_or (map number xs) k 0 ≡ 0
+  zero_from_chunk xs summary is k none =
+      zero_from_unused (get_or (map number xs) k 0) (sym (is.digit k) ∙ value_at-is w (map number summary) k ∙ ap (λ m. is_one m (k % w)) none ∙ is_one-zero (k % w))
+
+  pub zero_by_summary : ((x : X) → is_block x → number x < 2 ^ w) → (xs summary : List X) → IsSummary w number is_block xs summary → All (λ x. number x ≡ 0) summary ↔ All (λ x. number x ≡ 0) xs
+  zero_by_summary below xs summary is = (
+    λ none. all_zero xs (λ k. zero_from_chunk xs summary is k (zero_at summary none (k / w))),
+    λ none. all_zero summary (λ q. zero_from_digits w (get_or (map number summary) q 0) (numbers_below w number is_block summary below is.packed.each q) (λ j within.
+        sym (value_at-index w (map number summary) q j within) ∙ is.digit (q * w + j) ∙ used_from_zero (get_or (map number xs) (q * w + j) 0) (zero_at xs none (q * w + j)))),
+  )
+
+  -- ---- up to where there are blocks that are not 0
+
+  pub front_read : (xs : List X) (end k : ℕ) → k < end → get_or (map number (take end xs)) k 0 ≡ get_or (map number xs) k 0
+  front_read xs end k within = ap (λ ms. get_or ms k 0) (sym (take-map number end xs)) ∙ get_or-take end (map number xs) k 0 within
+
+  -- past the chunks of which the summary has a bit
+  pub zero_past_chunks : (xs summary : List X) (chunks end k : ℕ) → 0 < w → IsSummary w number is_block xs summary → ((q : ℕ) → chunks ≤ q → get_or (map number summary) q 0 ≡ 0) → end ≡ min (min (chunks * w) (2 ^ 64 - 1)) (length xs) → end ≤ k → get_or (map number xs) k 0 ≡ 0
+  zero_past_chunks xs summary chunks end k pos is none at past =
+      ⊎_elim
+      (λ inside.
+      let from : chunks * w ≤ k = omega (arith, at, is.packed.fits) in
+      let whole = div-add-mod' k w in
+      let rest = mod-lt k pos in
+      let chunk : chunks ≤ k / w =
+      ⊎_elim
+      (λ below. absurd (let under = mul-le-mul_right w (let e : k / w + 1 ≤ chunks = omega arith in e) in omega (arith, under, from, whole, rest)))
+      (λ not_below. not_below)
+      (cases_lt (k / w) chunks) in
+      zero_from_chunk xs summary is k (none (k / w) chunk))
+      (λ outside. get_or_past (map number xs) k 0 (rw length-map outside))
+      (cases_lt k (length xs))

@@ -1,0 +1,222 @@
+use Rattle.std.proofs.Common.{◌≡◌, ℕ, ◌+◌, ◌-◌, ◌*◌, ◌<◌, ◌≤◌, ◌==◌, ◌∷◌, if◌then◌else◌, List, [], Option, None, Some, length, refl, sym, ap, ◌∙◌, subst, arith, ⊎_elim, mul-le-mul_right}
+use Rattle.std.proofs.lemmas.Bool.{cases_lt}
+use Rattle.std.specs.Iterator.{YieldsFirst}
+use Rattle.bit_words.specs.Bits.{blocks_for}
+use Rattle.bit_words.specs.Pending.{IsPending, IsStoredFrom, left_from, next_at}
+use Rattle.bit_words.proofs.BitsLemmas.{blocks_for-least}
+use Rattle.bit_words.proofs.Masks.{is_one-bit}
+use Rattle.bit_words.proofs.NextAtLemmas.{next_at-lowest, next_at-zero}
+use Rattle.bit_words.proofs.PendingLemmas.{IsInHand-taken, IsInHand-zero, count_past, count_pulled, left-covered, left-end, left-here, left-taken, stored_ended, stored_past, stored_some, zeros_passed}
+use Rattle.bit_words.proofs.ZeroLemmas.{some_from_test}
+use Rattle.bit_words.proofs.bit_vec.pending.Pending.next_block.Given.{Over}
+use Rattle.bit_words.proofs.bit_vec.pending.Pending.next_block.Goals.{After-bits}
+use Rattle.bit_words.proofs.bit_vec.pending.Pending.next_block.Goals as goal
+
+-- a pull past the end leaves nothing
+none_past_end : {X : Type 0} (xs ys : List X) (r : Option X) → YieldsFirst (λ zs. zs) xs r ys → xs ≡ [] → ys ≡ []
+none_past_end xs ys None first none = first.1
+none_past_end xs ys (Some x) first none = absurd (let e = ap length (sym none ∙ first) in omega (arith, e))
+
+some_is : {A : Type 0} {x : A} → Some x ≡ None → ⊥
+some_is none = absurd (let e = none in cc)
+
+-- where the blocks of the summary that are 0 lead
+abbrev reached : (g : Over) → After-bits g → ℕ
+reached g c = c.loop-self.self.index + c.pass_zero_chunks.result * c.bits.result
+
+-- the block in hand is used up, and those that are 0 are passed
+record IsPassed (g : Over) (c : After-bits g) : Type 0 where
+  used_up : g.B.BitBlock.number c.loop-self.self.bits ≡ 0
+  walk : IsPending g.B.BitBlock.width g.B.BitBlock.number g.B.BitBlock.is_block (reached g c) c.loop-self.self.bits c.args.blocks.now c.pass_zero_chunks.new.summary.left
+  at : next_at g.B.BitBlock.width c.loop-self.self.index (g.B.BitBlock.number c.loop-self.self.bits) ≤ reached g c + g.B.BitBlock.width
+  same : left_from g.B.BitBlock.number (next_at g.B.BitBlock.width c.loop-self.self.index (g.B.BitBlock.number c.loop-self.self.bits)) c.args.blocks.now ≡ left_from g.B.BitBlock.number (reached g c + g.B.BitBlock.width) c.args.blocks.now
+  count : blocks_for g.B.BitBlock.width (length c.args.blocks.now - (c.loop-self.self.index + g.B.BitBlock.width)) ≡ c.pass_zero_chunks.result + blocks_for g.B.BitBlock.width (length c.args.blocks.now - (reached g c + g.B.BitBlock.width))
+
+passed : (g : Over) (c : After-bits g) → IsPassed g c
+passed g c =
+    let w = g.B.BitBlock.width in
+    let number = g.B.BitBlock.number in
+    let is_block = g.B.BitBlock.is_block in
+    let pos = g.met.B.BitBlock.width_law.positive in
+    let xs = c.args.blocks.now in
+    let it = c.loop-self.self in
+    let before = c.loop-self.invariant in
+    let n = c.pass_zero_chunks.result in
+    let zeros = c.pass_zero_chunks.ensures in
+    let start = it.index + w in
+    let used_up : number it.bits ≡ 0 = (g.met.B.BitBlock.eq_law it.bits c.zero.result before.walk.hand.of_block c.zero.ensures.of_block).0 (sym c.eq.ensures ∙ c.loop-self-test.true) ∙ c.zero.ensures.of_number in
+    let at_end = next_at-zero w it.index (number it.bits) used_up in
+    let e : start + n * w ≡ reached g c + w = let product = ap (λ b. n * b) c.bits.ensures in omega (arith, product) in
+    let within : reached g c ≤ length xs =
+    let most = mul-le-mul_right w zeros.there in
+    let product = ap (λ b. n * b) c.bits.ensures in
+    ⊎_elim
+    (λ some. let few = before.walk.stored.few (omega (arith, some, zeros.there)) in omega (arith, few, most, product))
+    (λ none. let zero : n * w ≡ 0 * w = ap (λ k. k * w) (let e : n ≡ 0 = omega (arith, none) in e) in omega (arith, zero, product, before.walk.hand.within))
+    (cases_lt 0 n) in
+    record {
+      used_up = used_up;
+      walk = record {
+        hand = IsInHand-zero w number is_block (reached g c) it.bits xs before.walk.hand.each before.walk.hand.fits before.walk.hand.of_block used_up within;
+        stored = subst (λ p. IsStoredFrom w number is_block p xs c.pass_zero_chunks.new.summary.left) e (stored_past w number is_block n start xs it.summary.left c.pass_zero_chunks.new.summary.left pos before.walk.stored (λ _. zeros.there) zeros.left);
+      };
+      at = omega (arith, at_end, e);
+      same =
+          ap (λ p. left_from number p xs) at_end
+          ∙ zeros_passed w number is_block n start xs it.summary.left pos before.walk.stored zeros.there zeros.zeros
+          ∙ ap (λ p. left_from number p xs) e;
+      count =
+          count_past w number is_block n start xs it.summary.left pos before.walk.stored zeros.there
+          ∙ ap (λ p. n + blocks_for w (length xs - p)) e;
+    }
+
+pub returns-then-blocks-self-clause-walk : goal.returns-then-blocks-self-clause-walk
+returns-then-blocks-self-clause-walk g c =
+    let at = (goal.at.returns-then-blocks-self-clause-walk g c).After-bits in
+    let w = g.B.BitBlock.width in
+    let is_stored = IsStoredFrom w g.B.BitBlock.number g.B.BitBlock.is_block (reached g at + w) c.args.blocks.now in
+    let to = passed g at in
+    let end : length c.args.blocks.now ≤ reached g at + w = omega (arith, c.if-blocks-self.true, c.bits-in-loop-self.ensures) in
+    let none = stored_ended w g.B.BitBlock.number g.B.BitBlock.is_block (reached g at + w) c.args.blocks.now c.pass_zero_chunks.new.summary.left to.walk.stored end in
+    record {
+      hand = to.walk.hand;
+      stored = subst is_stored (none ∙ sym (none_past_end c.pass_zero_chunks.new.summary.left c.next-end.new.self.left c.next-end.result c.next-end.ensures.steps.item none)) to.walk.stored;
+    }
+
+pub returns-then-blocks-self-clause-found : goal.returns-then-blocks-self-clause-found
+returns-then-blocks-self-clause-found g c =
+    let at = (goal.at.returns-then-blocks-self-clause-found g c).After-bits in
+    let w = g.B.BitBlock.width in
+    let number = g.B.BitBlock.number in
+    let xs = c.args.blocks.now in
+    let before = c.loop-self.invariant in
+    let to = passed g at in
+    let zeros = c.pass_zero_chunks.ensures in
+    let pull = c.next-end.ensures.steps.counted in
+    let end : length xs ≤ reached g at + w = omega (arith, c.if-blocks-self.true, c.bits-in-loop-self.ensures) in
+    let ended = left-end number (reached g at + w) xs end in
+    let last : blocks_for w (length xs - (reached g at + w)) ≤ 0 = blocks_for-least w (length xs - (reached g at + w)) 0 g.met.B.BitBlock.width_law.positive (omega (arith, end)) in
+    record {
+      inside = tt;
+      item = tt;
+      onward = tt;
+      goes_on = omega (arith, before.goes_on, pull, zeros.pulls);
+      summary = (omega (arith, before.pulled, pull, zeros.pulls, to.count, last), omega (arith, last));
+      ended = λ _. (before.same ∙ to.same ∙ ended, ap (λ p. left_from number p xs) (next_at-zero w (reached g at) (number c.loop-self.self.bits) to.used_up) ∙ ended);
+    }
+
+pub pull_used-self-requires-clause-stored : goal.pull_used-self-requires-clause-stored
+pull_used-self-requires-clause-stored g c = rw c.bits-in-loop-self-2.ensures (passed g (goal.at.pull_used-self-requires-clause-stored g c).After-bits).walk.stored
+
+pub loop-self-preserved : goal.loop-self-preserved
+loop-self-preserved g c =
+    let at = (goal.at.loop-self-preserved g c).After-bits in
+    let w = g.B.BitBlock.width in
+    let number = g.B.BitBlock.number in
+    let is_block = g.B.BitBlock.is_block in
+    let pos = g.met.B.BitBlock.width_law.positive in
+    let xs = c.args.blocks.now in
+    let before = c.loop-self.invariant in
+    let to = passed g at in
+    let start = reached g at + w in
+    let pull = c.pull_used-self.ensures in
+    let next = c.pull_used-self.result in
+    let more : start < length xs = omega (arith, c.if-blocks-self.false, c.bits-in-loop-self.ensures) in
+    let digits = rw c.bits-in-loop-self-2.ensures at pull.digits in
+    let e : start + 1 * w ≡ start + w = omega arith in
+    rw c.bits-in-loop-self-2.ensures (record {
+      walk = record {
+        hand = record {
+          each = before.walk.hand.each;
+          of_block = pull.of_block;
+          fits = before.walk.hand.fits;
+          within = omega (arith, more);
+          inside = digits.inside;
+          covers = λ i j after to one used. digits.covers j to used;
+        };
+        stored = subst (λ p. IsStoredFrom w number is_block p xs c.pull_used-self.new.summary.left) e
+            (stored_past w number is_block 1 start xs c.pass_zero_chunks.new.summary.left c.pull_used-self.new.summary.left pos to.walk.stored (stored_some w number is_block start xs c.pass_zero_chunks.new.summary.left to.walk.stored more) pull.left);
+      };
+      same = before.same ∙ to.same ∙ sym (left-covered w number is_block start start (number next) xs (omega arith) (omega arith) (λ j below. absurd (omega (arith, below))) (λ j to _ used. digits.covers j to used));
+      onward = omega (arith, before.onward, to.at);
+      pulled = omega (arith, before.pulled, pull.pulls, c.pass_zero_chunks.ensures.pulls, to.count, count_pulled w number is_block start (length xs) pos more);
+      goes_on = omega (arith, before.goes_on, pull.pulls, c.pass_zero_chunks.ensures.pulls);
+    })
+
+pub loop-self-init : goal.loop-self-init
+loop-self-init g c = record {
+  walk = c.requires.walk;
+  same = refl;
+  onward = omega arith;
+  pulled = refl;
+  goes_on = omega arith;
+}
+
+pub overflow_sub-blocks : goal.overflow_sub-blocks
+overflow_sub-blocks g c = c.loop-self.invariant.walk.hand.within
+
+pub pass_zero_chunks-requires : goal.pass_zero_chunks-requires
+pass_zero_chunks-requires g c = record { each = c.loop-self.invariant.walk.stored.each }
+
+pub overflow_mul-self : goal.overflow_mul-self
+overflow_mul-self g c = let hand = (passed g c).walk.hand in record { fits = omega (arith, hand.within, hand.fits) }
+
+pub overflow_add-self : goal.overflow_add-self
+overflow_add-self g c = let hand = (passed g c).walk.hand in record { fits = omega (arith, hand.within, hand.fits) }
+
+pub overflow_sub-blocks-in-loop-self : goal.overflow_sub-blocks-in-loop-self
+overflow_sub-blocks-in-loop-self g c = (passed g (goal.at.overflow_sub-blocks-in-loop-self g c).After-bits).walk.hand.within
+
+pub loop-self-smaller : goal.loop-self-smaller
+loop-self-smaller g c = omega (arith, c.if-blocks-self.false, c.bits-in-loop-self.ensures, c.bits-in-loop-self-2.ensures, g.met.B.BitBlock.width_law.positive)
+
+pub take_lowest_one-requires-clause-of_block : goal.take_lowest_one-requires-clause-of_block
+take_lowest_one-requires-clause-of_block g c = c.loop-self.invariant.walk.hand.of_block
+
+pub take_lowest_one-requires-clause-not_zero : goal.take_lowest_one-requires-clause-not_zero
+take_lowest_one-requires-clause-not_zero g c =
+    let bits = c.loop-self.self.bits in
+    let law = (g.met.B.BitBlock.eq_law bits c.zero.result c.loop-self.invariant.walk.hand.of_block c.zero.ensures.of_block).1 in
+    some_from_test (g.B.BitBlock.number bits) _ (λ none. law (none ∙ sym c.zero.ensures.of_number)) (sym c.eq.ensures ∙ c.loop-self-test.false)
+
+pub overflow_add-result : goal.overflow_add-result
+overflow_add-result g c =
+    let hand = c.loop-self.invariant.walk.hand in
+    let taken = c.take_lowest_one.ensures in
+    let inside = hand.inside c.take_lowest_one.result taken.within (is_one-bit 1 (g.B.BitBlock.number c.loop-self.self.bits) c.take_lowest_one.result taken.lowest.one) in
+    record { fits = omega (arith, inside, hand.fits) }
+
+pub returns-clause-walk : goal.returns-clause-walk
+returns-clause-walk g c =
+    let taken = c.take_lowest_one.ensures in
+    let walk = c.loop-self.invariant.walk in
+    record {
+      hand = IsInHand-taken g.B.BitBlock.width g.B.BitBlock.number g.B.BitBlock.is_block c.loop-self.self.index c.take_lowest_one.result c.loop-self.self.bits c.take_lowest_one.new.block c.args.blocks.now walk.hand taken.of_block taken.lowest taken.cleared;
+      stored = walk.stored;
+    }
+
+pub returns-clause-found : goal.returns-clause-found
+returns-clause-found g c =
+    let w = g.B.BitBlock.width in
+    let number = g.B.BitBlock.number in
+    let xs = c.args.blocks.now in
+    let it = c.loop-self.self in
+    let i = c.take_lowest_one.result in
+    let k = it.index + i in
+    let before = c.loop-self.invariant in
+    let taken = c.take_lowest_one.ensures in
+    let at = next_at-lowest w it.index (number it.bits) i taken.lowest taken.within in
+    let (past, rest) = left-taken w number g.B.BitBlock.is_block it.index i (number c.take_lowest_one.new.block) it.bits xs before.walk.hand taken.lowest taken.within taken.cleared in
+    let inside = before.walk.hand.inside i taken.within (is_one-bit 1 (number it.bits) i taken.lowest.one) in
+    record {
+      inside = inside;
+      item = λ x here.
+          before.same
+          ∙ ap (λ p. left_from number p xs) at
+          ∙ left-here number k x xs inside here
+          ∙ ap (λ ys. if number x == 0 then ys else (k, x) ∷ ys) (sym rest);
+      onward = (omega (arith, before.onward, at), past);
+      goes_on = before.goes_on;
+      summary = before.pulled;
+      ended = λ none. absurd (some_is none);
+    }

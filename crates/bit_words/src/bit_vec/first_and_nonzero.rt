@@ -1,0 +1,76 @@
+// The walk over the first block of a bit vector, and then those that are not 0.
+ghost use Rattle.std.specs.Prelude.{◌≡◌};
+ghost use Rattle.std.specs.Iterator.{item_count};
+ghost use Rattle.bit_words.specs.Nonzero.{before_first, StartsPast};
+
+use crate::bit_vec::Nonzero;
+use crate::block::BitBlock;
+use std::marker::Model;
+
+/// A walk over the first block of a bit vector, zero or not, and then its blocks that are not zero, each with its index,
+/// in ascending order.
+///
+/// Contracts see what they see of [`Nonzero`], the walk past the first block.
+#[derive(Drop)]
+pub struct FirstAndNonzero<'a, B: BitBlock> {
+    past: Nonzero<'a, B>,
+    // Whether the first block is still to come.
+    at_first: bool,
+}
+
+impl<'a, B: BitBlock> Model for FirstAndNonzero<'a, B> {
+    ghost use Rattle.std.specs.Prelude.{◌≡◌, true, if◌then◌else◌};
+    ghost use Rattle.bit_words.specs.Nonzero.{before_first, Nonzeros, StartsPast};
+
+    ghost Value = { Nonzeros B };
+
+    ghost view = { λ it. if it.at_first then before_first B.width B.number it.past else it.past };
+
+    ghost invariant = { λ it. it.at_first ≡ true → StartsPast B.width B.number 0 it.past };
+}
+
+impl<'a, B: BitBlock> FirstAndNonzero<'a, B> {
+    // The walk with the first block before this one.
+    #[inline]
+    pub(crate) fn before(past: Nonzero<'a, B>) -> Self
+        requires { StartsPast B.width B.number 0 past }
+        ensures { result ≡ before_first B.width B.number past.entry }
+    {
+        FirstAndNonzero {
+            past,
+            at_first: true,
+        }
+    }
+
+    /// A walk from the same place, whose counts go on from this one's. Constant time.
+    #[inline]
+    pub fn clone(&self) -> Self
+        ensures { result ≡ self.now }
+    {
+        FirstAndNonzero {
+            past: self.past.clone(),
+            at_first: self.at_first,
+        }
+    }
+}
+
+impl<'a, B: BitBlock> Iterator for FirstAndNonzero<'a, B> {
+    ghost use Rattle.bit_words.specs.Nonzero.{PullsNonzero};
+
+    type Item = (usize, B);
+
+    ghost next_gives = { PullsNonzero };
+
+    ghost remaining = { item_count (λ walk. walk.left) };
+
+    /// The first block, or the next block that is not zero, with its index.
+    #[inline]
+    fn next(&mut self) -> Option<(usize, B)> {
+        if self.at_first {
+            self.at_first = false;
+            let block = *self.past.as_slice().first()?;
+            return Some((0, block));
+        }
+        self.past.next()
+    }
+}
