@@ -26,7 +26,7 @@ returns-in_err-clone_from-clause-spare g c m all =
     let inside : c.loop-node.node < length c.loop-node.rows = omega arith in
     let short = c.loop-node.invariant.long c.loop-node.node (omega arith) in
     let as_long : length (get_or c.loop-node.rows c.loop-node.node c.index-rows-node.result).values ≡ length (row c.loop-node.rows c.loop-node.node).values = ap (λ (r : Bits). length r.values) (read_row c.loop-node.rows c.loop-node.node c.index-rows-node.result inside) in
-    absurd (omega (arith, short, as_long, c.in_err-clone_from.ensures.full))
+    absurd (omega (arith, short, as_long, c.in_err-clone_from.ensures.grows.full))
 
 pub returns-in_err-clone_from-clause-capacity : goal.returns-in_err-clone_from-clause-capacity
 returns-in_err-clone_from-clause-capacity g c m all = same_capacities m c.args.rows.now c.loop-node.rows (omega arith) (c.loop-node.invariant.spacious m all)
@@ -69,7 +69,7 @@ loop-node-preserved g c =
     let as_long : length via.values ≡ length (row c.loop-node.rows node).values = ap length copied in
     let short = c.loop-node.invariant.long node (omega arith) in
     let read_long : length (get_or c.loop-node.rows node c.index-rows-node.result).values ≡ length (row c.loop-node.rows node).values = ap (λ (r : Bits). length r.values) read in
-    let same_capacity : via.capacity ≡ c.loop-node.via.capacity = c.in_ok-clone_from.ensures.within (omega (arith, short, read_long)) in
+    let same_capacity : via.capacity ≡ c.loop-node.via.capacity = c.in_ok-clone_from.ensures.grows.within (omega (arith, short, read_long)) in
     let passed = passes node via c.loop-node.rows c.join_all.new.rows copied c.in_ok-join_all.ensures.some in
     record {
       closes = closes_on _ _ _ node c.loop-node.invariant.closes passed (adds_all node via c.loop-node.rows c.join_all.new.rows copied c.in_ok-join_all.ensures.each);
