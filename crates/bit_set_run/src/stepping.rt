@@ -2,6 +2,7 @@
 
 ghost use Rattle.std.specs.Prelude.{◌≡◌, ◌≢◌, ℕ, ◌+◌, ◌<◌, ◌≤◌, ◌==◌, ◌∷◌, false, not, map, List, length, drop, [], ◌++◌, IfOk, OnOk, OnErr, IsTrue, slice_index_or, slice_set, if◌then◌else◌};
 ghost use Rattle.std.specs.List.{list_any};
+ghost use Rattle.bit_set.specs.Growth.{Grows};
 ghost use Rattle.bit_set.specs.Sets.{bound_of, has, merge_of_sets, put, put_all, those_below, those_from, union};
 ghost use Rattle.bit_set_run.specs.Capacities.{bits_at, Becomes, BecomeTwo, ChangesCapacities, GrowsExactlyTo, GrowsPast, GrowsTo, IsFront, IsPart, KeepsCapacities, SameCapacity, Shrinks};
 ghost use Rattle.bit_set_run.specs.Elements.{elements_of};
@@ -206,8 +207,7 @@ fn merge_with<B: BitBlock>(
     other: &BitSet<B>,
 ) -> Result<(), AllocError>
     ensures ok { OnOk result (elements_of set.new ≡ merge_of_sets merge (elements_of set.old) (elements_of other.now)) }
-    ensures grown { OnOk result (GrowsTo (length other.now.values) set.old set.new) }
-    ensures err { OnErr result (set.new ≡ set.old) }
+    ensures grows { Grows (length other.now.values) result set.old set.new }
 {
     match merge {
         Merge::Union => set.union_with(other),

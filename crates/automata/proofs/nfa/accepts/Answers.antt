@@ -12,7 +12,7 @@ returns g c =
     rw (← c.nfa.view_is) (accepted moves _ (elements c.nfa.inside.accepting.values) c.args.word.now _ c.is_disjoint.result end c.is_disjoint.ensures.returned c.is_disjoint.ensures.members)
 
 pub follow-requires-clause-states : goal.follow-requires-clause-states
-follow-requires-clause-states g c = rw c.as_slice.ensures.value (λ symbol u. omega (arith, c.nfa.invariant.0 symbol u, c.in_ok-states.ensures.capacity, c.clone_from.ensures.capacity))
+follow-requires-clause-states g c = rw c.as_slice.ensures.value (λ symbol u. omega (arith, c.nfa.invariant.0 symbol u, c.in_ok-states.ensures.capacity, c.clone_from.ensures.grows.capacity))
 
 pub follow-requires-clause-next : goal.follow-requires-clause-next
 follow-requires-clause-next g c = rw c.as_slice.ensures.value (λ symbol u. omega (arith, c.nfa.invariant.0 symbol u, c.in_ok-next.ensures.capacity))

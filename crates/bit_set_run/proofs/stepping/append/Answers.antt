@@ -14,7 +14,7 @@ returns-clause-after g c =
 pub returns-in_err-appended-clause-left : goal.returns-in_err-appended-clause-left
 returns-in_err-appended-clause-left g c =
     let sets = c.args.sets.now in
-    let first : c.append-appended.new.self ≡ c.index-sets-to.result = cc (c.in_err-appended.ensures.err) in
+    let first : c.append-appended.new.self ≡ c.index-sets-to.result = cc (c.in_err-appended.ensures.grows.err) in
     let second : c.append-appended.new.other ≡ c.index-sets-from.result = cc (c.in_err-appended.ensures.err_other, c.replace-other.ensures.value) in
     let p = err_from_is_err_and c.from_residual.result c.from_residual.ensures.1 in
     rw p.1 (put_back_both sets c.args.to c.args.from c.replace-other.new.dest c.append-appended.new.self c.append-appended.new.other c.requires.apart
@@ -30,6 +30,6 @@ returns-clause-grown g c =
       _,
       _,
       put_back_beside sets c.args.to c.args.from c.replace-other.new.dest first c.append-appended.new.other c.requires.apart,
-      grows_along _ _ _ _ first own other (c.append-appended.ensures.within, c.append-appended.ensures.capacity),
+      grows_along _ _ _ _ first own other (c.append-appended.ensures.grows.within, c.append-appended.ensures.grows.capacity),
       c.append-appended.ensures.other_capacity ∙ ap (λ s. s.capacity) other,
     )

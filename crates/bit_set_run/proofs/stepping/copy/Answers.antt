@@ -14,7 +14,7 @@ returns-clause-after g c =
 pub returns-in_err-copied-clause-left : goal.returns-in_err-copied-clause-left
 returns-in_err-copied-clause-left g c =
     let sets = c.args.sets.now in
-    let kept_whole : c.clone_from-copied.new.self ≡ c.index-sets-to.result = cc (c.in_err-copied.ensures.err) in
+    let kept_whole : c.clone_from-copied.new.self ≡ c.index-sets-to.result = cc (c.in_err-copied.ensures.grows.err) in
     let p = err_from_is_err_and c.from_residual.result c.from_residual.ensures.1 in
     rw p.1 (put_back sets c.args.to c.replace-set.new.dest c.clone_from-copied.new.self (kept_whole ∙ c.index-sets-to.is ∙ ap (λ d. get_or sets c.args.to d) (sym kept_whole)))
 

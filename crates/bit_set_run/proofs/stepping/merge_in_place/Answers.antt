@@ -16,7 +16,7 @@ returns-clause-after g c =
 pub returns-in_err-merged-clause-left : goal.returns-in_err-merged-clause-left
 returns-in_err-merged-clause-left g c =
     let sets = c.args.sets.now in
-    let kept_whole : c.merge_with-merged.new.set ≡ c.index-sets-to.result = cc (c.in_err-merged.ensures.err) in
+    let kept_whole : c.merge_with-merged.new.set ≡ c.index-sets-to.result = cc (c.in_err-merged.ensures.grows.err) in
     let p = err_from_is_err_and c.from_residual.result c.from_residual.ensures.1 in
     rw p.1 (put_back sets c.args.to c.replace-set.new.dest c.merge_with-merged.new.set (kept_whole ∙ c.index-sets-to.is ∙ ap (λ d. get_or sets c.args.to d) (sym kept_whole)))
 
@@ -26,4 +26,4 @@ returns-clause-grown g c =
     let was : c.replace-set.result ≡ c.index-sets-to.result = cc (c.replace-set.ensures.value) in
     let source = sym c.index-sets-other.is ∙ read_beside sets c.args.other c.args.to c.replace-set.new.dest c.index-sets-other.result (omega (arith, c.told-sets)) (λ e. c.requires.apart (sym e)) c.index-sets-other.is in
     changed_outside sets c.args.to c.replace-set.new.dest c.index-sets-to.result c.merge_with-merged.new.set (GrowsTo (length (bits_at sets c.args.other).values)) (omega (arith, c.told-sets)) c.index-sets-to.is
-    (grows_along _ _ _ _ c.merge_with-merged.new.set was source c.in_ok-merged.ensures.grown)
+    (grows_along _ _ _ _ c.merge_with-merged.new.set was source (c.in_ok-merged.ensures.grows.within, c.in_ok-merged.ensures.grows.capacity))

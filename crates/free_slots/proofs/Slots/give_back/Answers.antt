@@ -30,13 +30,13 @@ pub invariant_of-self : goal.invariant_of-self
 invariant_of-self g c =
     let s = elements c.self.inside.free.values in
     let then = c.after_giving.result in
-    (c.self.invariant.0, none_but_less s c.self.inside.given c.self.inside.searched c.args.slot then.0 then.1 c.contains-is_free.result c.self.invariant.1 c.contains-is_free.ensures c.after_giving.ensures)
+    (c.self.invariant.0, none_but_less s c.self.inside.given c.self.inside.searched c.args.slot then.0 then.1 c.contains-is_free.result c.self.invariant.1 c.contains-is_free.ensures.value c.after_giving.ensures)
 
 pub invariant_of-self-else-slot-len : goal.invariant_of-self-else-slot-len
 invariant_of-self-else-slot-len g c =
     let s = elements c.self.inside.free.values in
     let then = c.after_giving.result in
-    (c.self.invariant.0, none_but_less s c.self.inside.given c.self.inside.searched c.args.slot then.0 then.1 c.contains-is_free.result c.self.invariant.1 c.contains-is_free.ensures c.after_giving.ensures)
+    (c.self.invariant.0, none_but_less s c.self.inside.given c.self.inside.searched c.args.slot then.0 then.1 c.contains-is_free.result c.self.invariant.1 c.contains-is_free.ensures.value c.after_giving.ensures)
 
 pub invariant_of-self-then-slot-len : goal.invariant_of-self-then-slot-len
 invariant_of-self-then-slot-len g c =
@@ -48,6 +48,6 @@ invariant_of-self-then-slot-len g c =
     let inside : slot < length values = omega (arith, c.len.ensures.value, c.if-slot-len.true, ap (λ (t : SlotTable). t.len) c.self.view_is) in
     let long = rw ok at c.insert.ensures.length in
     let added = rw ok at c.insert.ensures.elements in (
-      omega (arith, long, inside, c.insert.ensures.capacity, c.self.invariant.0),
-      subst (λ t. HasNoneBut t then.0 then.1) (sym added) (none_but_given s c.self.inside.given c.self.inside.searched slot then.0 then.1 c.contains-is_free.result (c.members_of_sets.ensures.put s slot) c.self.invariant.1 c.contains-is_free.ensures c.after_giving.ensures),
+      omega (arith, long, inside, c.insert.ensures.grows.capacity, c.self.invariant.0),
+      subst (λ t. HasNoneBut t then.0 then.1) (sym added) (none_but_given s c.self.inside.given c.self.inside.searched slot then.0 then.1 c.contains-is_free.result (c.members_of_sets.ensures.put s slot) c.self.invariant.1 c.contains-is_free.ensures.value c.after_giving.ensures),
     )

@@ -12,7 +12,7 @@ returns g c =
     let searched = c.self.inside.searched in
     let not_given : given < searched → has s given ≡ false =
     elim c.else-self.branch [
-      | else-self-via-then-self+else-contains at ↦ λ below. sym at.contains.ensures ∙ at.if-contains.false
+      | else-self-via-then-self+else-contains at ↦ λ below. sym at.contains.ensures.value ∙ at.if-contains.false
       | else-self-via-else-self at ↦ λ below. absurd (omega (arith, below, at.if-self.false))
     ] in
     let all = c.iter_from.ensures.left ∙ all_from s searched (none_below s given searched c.self.invariant.1 not_given) in

@@ -32,7 +32,7 @@ unwrap-requires g c =
     let inside : node < length c.loop-node.rows = omega arith in
     let short = c.loop-node.invariant.long node (omega arith) in
     let as_long : length (get_or c.loop-node.rows node c.index-rows-node.result).values ≡ length (row c.loop-node.rows node).values = ap (λ (r : Bits). length r.values) (read_row c.loop-node.rows node c.index-rows-node.result inside) in
-    c.clone_from.ensures.succeeds (omega (arith, short, as_long))
+    c.clone_from.ensures.grows.succeeds (omega (arith, short, as_long))
 
 pub returns-in_err-join_all-clause-on_the_way : goal.returns-in_err-join_all-clause-on_the_way
 returns-in_err-join_all-clause-on_the_way g c =
@@ -74,7 +74,7 @@ loop-node-preserved g c =
     let as_long : length via.values ≡ length (row c.loop-node.rows node).values = ap length copied in
     let short = c.loop-node.invariant.long node (omega arith) in
     let read_long : length (get_or c.loop-node.rows node c.index-rows-node.result).values ≡ length (row c.loop-node.rows node).values = ap (λ (r : Bits). length r.values) read in
-    let same_capacity : via.capacity ≡ c.loop-node.via.capacity = c.clone_from.ensures.within (omega (arith, short, read_long)) in
+    let same_capacity : via.capacity ≡ c.loop-node.via.capacity = c.clone_from.ensures.grows.within (omega (arith, short, read_long)) in
     let passed = passes node via c.loop-node.rows c.join_all.new.rows copied c.in_ok-join_all.ensures.some in
     record {
       closes = closes_on _ _ _ node c.loop-node.invariant.closes passed (adds_all node via c.loop-node.rows c.join_all.new.rows copied c.in_ok-join_all.ensures.each);
