@@ -1,5 +1,5 @@
 -- A walk that starts at any number: what is left of the first block, and of the blocks past it.
-use Rattle.std.proofs.Common.{◌≡◌, ℕ, zero, suc, ◌+◌, ◌-◌, ◌*◌, ◌/◌, ◌%◌, ◌^◌, ◌<◌, ◌≤◌, Bool, true, false, not, if◌then◌else◌, ◌&&◌, leb, List, [], ◌∷◌, map, length, drop, filter, get_or, get_or-drop, min, All, refl, sym, ap, ◌∙◌, subst, arith, ⊎_elim, mod-lt, mul-le-mul_right, div-add-mod'}
+use Rattle.std.proofs.Common.{◌≡◌, ℕ, zero, suc, ◌+◌, ◌-◌, ◌*◌, ◌/◌, ◌%◌, ◌^◌, ◌<◌, ◌≤◌, Bool, true, false, not, ◌&&◌, leb, List, ◌∷◌, map, length, drop, filter, get_or, get_or-drop, min, All, refl, sym, ap, ◌∙◌, subst, arith, ⊎_elim, mod-lt, mul-le-mul_right, div-add-mod'}
 use Rattle.std.proofs.lemmas.Bool.{cases_lt, le-leb, lt-leb}
 use Rattle.std.proofs.lemmas.List.{drop-map, get_or_past, length-drop, length-map}
 use Rattle.std.proofs.lemmas.List.Elements.{All-filter}

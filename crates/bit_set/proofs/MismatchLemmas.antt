@@ -1,10 +1,11 @@
 -- What the first mismatch of lists of blocks says of the sets that they hold.
-use Rattle.std.proofs.Common.{◌≡◌, ◌≢◌, ℕ, ◌+◌, ◌*◌, ◌/◌, ◌%◌, ◌^◌, ◌<◌, ◌≤◌, Bool, true, false, not, eqb, List, get_or, length, refl, sym, ap, ◌∙◌, ◌↔◌, subst, inl, inr, arith, ⊎_elim}
+use Rattle.std.proofs.Common.{◌≡◌, ◌≢◌, ℕ, ◌+◌, ◌*◌, ◌/◌, ◌%◌, ◌^◌, ◌<◌, ◌≤◌, Bool, true, false, not, eqb, List, get_or, length, sym, ap, ◌∙◌, ◌↔◌, subst, inl, inr, arith, ⊎_elim}
 use Rattle.std.specs.Bool.{OnTrue, OnFalse}
 use Rattle.std.specs.Cmp.Lexicographic.{bytes_decides}
 use Rattle.std.specs.Prelude.{IsTrue, Option, Some, None, MatchOption, is_some}
 use Rattle.std.specs.Int.{bit_at}
-use Rattle.std.proofs.lemmas.Bool.{cases_lt, cases_eq, true≢false, cases_Bool, not-false}
+use Rattle.std.proofs.lemmas.Bool.{cases_lt, cases_eq, cases_Bool, not-false}
+use Rattle.std.proofs.lemmas.Bool.Decides.{nat_tests}
 use Rattle.std.proofs.lemmas.Nat.Bits.{bit_at-lt, bit_at-zero, same_from_bits_below}
 use Rattle.std.proofs.Math.Nat.{div-add-mod', mod-lt, mul-le-mul_right}
 use Rattle.bit_words.specs.Bits.{blocks_of, digit_of}
@@ -61,11 +62,7 @@ earlier w at i k pos within below other =
     ]
 
 one_of_two : (a b : ℕ) → a < 2 → b < 2 → a + b ≡ 1 → eqb a 1 ≡ not (eqb b 1)
-one_of_two a b small also sum =
-    elim (cases_eq a 1) [
-      | inl one ↦ let none : b ≡ 0 = omega arith in rw (one, none) refl
-      | inr other ↦ let none : a ≡ 0 = omega (arith, other) in let one : b ≡ 1 = omega arith in rw (one, none) refl
-    ]
+one_of_two a b small also sum = grind (arith, nat_tests)
 
 -- the first block that differs, and the lowest digit there, give the first number that differs
 pub first_mismatch_is : (w at i : ℕ) (xs ys : List Bool) → 0 < w → IsFirstBlockMismatch (blocks_of w xs) (blocks_of w ys) at → IsLowestMismatch w (get_or (blocks_of w xs) at 0) (get_or (blocks_of w ys) at 0) i

@@ -3,7 +3,7 @@ use Rattle.std.proofs.Common.{◌≡◌, ℕ, ◌-◌, ◌+◌, ◌<◌, ◌≤�
 use Rattle.std.proofs.Math.Bool.{and-or_distrib_right}
 use Rattle.std.proofs.lemmas.Bool.{and_parts, cases_lt, le-ltb, lt-ltb, le-leb, lt-leb, or_right}
 use Rattle.std.proofs.lemmas.Bool.Decides.{nat_tests}
-use Rattle.std.proofs.lemmas.List.{get_or-drop, get_or-replicate, get_or_append_left, get_or-append_right, length-replicate, get_or_past}
+use Rattle.std.proofs.lemmas.List.{get_or-drop, get_or-replicate, get_or_append_left, get_or-append_right, length-replicate}
 use Rattle.bit_set.specs.Sets.{IsAscending, has, elements, those_below, those_from, union}
 use Rattle.bit_set.proofs.AlgebraLemmas.{has-union}
 use Rattle.bit_set.proofs.SetLemmas.{IsAscending-elements, has-elements, elements-by_members, same_members, has-first}

@@ -1,5 +1,5 @@
 -- What whole walks give, by one step after another, how often they pull, and which blocks they pass.
-use Rattle.std.proofs.Common.{◌≡◌, ℕ, ◌+◌, ◌-◌, ◌*◌, ◌/◌, ◌<◌, ◌≤◌, max, Bool, List, [], ◌∷◌, length, Option, Some, None, refl, sym, ap, ◌∙◌, arith, ◌==◌, ◌||◌, ◌&&◌, true, false, nat_lt, if◌then◌else◌, map, inl, inr, div-add-mod'}
+use Rattle.std.proofs.Common.{◌≡◌, ℕ, ◌+◌, ◌-◌, ◌*◌, ◌/◌, ◌<◌, ◌≤◌, max, Bool, List, [], ◌∷◌, length, Option, Some, None, refl, sym, ap, ◌∙◌, arith, ◌==◌, ◌||◌, ◌&&◌, false, nat_lt, if◌then◌else◌, map, inl, inr, div-add-mod'}
 use Rattle.std.specs.Iterator.{Yields, YieldsFirst, YieldsThen, Drains}
 use Rattle.std.proofs.Math.Bool.{or-false, and-false}
 use Rattle.std.proofs.Math.Nat.{le_of_mul-le-mul_left, mul-sub, mul_comm}

@@ -1,4 +1,4 @@
-use Rattle.std.proofs.Common.{◌≡◌, ◌≤◌, length, refl, arith, ap, sym, cond}
+use Rattle.std.proofs.Common.{◌≤◌, length, refl, arith, ap, sym, cond}
 use Rattle.bit_set.specs.Sets.{elements}
 use Rattle.bit_set.proofs.SplitLemmas.{all_below, all_from, elements-tail, none_below, none_from, length_of_whole}
 use Rattle.bit_set.proofs.ValueLemmas.{elements-take}
