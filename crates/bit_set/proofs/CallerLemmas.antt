@@ -1,5 +1,5 @@
 -- What a caller cites of sets that are made of chains.
-use Rattle.std.proofs.Common.{◌≡◌, ℕ, ◌+◌, Bool, true, false, not, ◌&&◌, ◌||◌, ltb, filter, Option, List, [], Result, Bor, refl, sym, ap, ◌∙◌, inl, inr, zero, suc, arith, length, subst}
+use Rattle.std.proofs.Common.{◌≡◌, ℕ, ◌+◌, Bool, not, ◌&&◌, ltb, filter, Option, List, [], Result, Bor, refl, sym, ap, ◌∙◌, zero, suc, arith, length, subst}
 use Rattle.std.specs.Prelude.{IfOk}
 use Rattle.std.specs.BTreeMap.{BTreeMap, get_by}
 use Rattle.std.specs.Fn.{Mut, CalledAt}
@@ -7,7 +7,8 @@ use Rattle.std.specs.Iterator.{Drains}
 use Rattle.std.specs.Iterator.Adapters.{filter_source, filter_callee, filter_steps}
 use Rattle.std.specs.List.{range_with_len}
 use Rattle.std.proofs.iter.Yields.{nat_range_steps}
-use Rattle.std.proofs.lemmas.Bool.{eq-eqb, ne_eqb, lt-ltb, le-ltb, cases_lt, cases_order}
+use Rattle.std.proofs.lemmas.Bool.{le-ltb}
+use Rattle.std.proofs.lemmas.Bool.Decides.{nat_tests}
 use Rattle.std.proofs.lemmas.Iterator.{YieldsList, YieldsList-from_range}
 use Rattle.std.proofs.lemmas.Iterator.Adapters.{fact_from_collect}
 use Rattle.std.proofs.lemmas.Iterator.Consumers.{YieldsList-at, YieldsList-from_filter, YieldsList-from_shown}
@@ -17,7 +18,7 @@ use Rattle.bit_set.specs.Members.{IsSameSet}
 use Rattle.bit_set.specs.Order.{order_of_sets}
 use Rattle.bit_set.specs.Sets.{bound_of, elements, has, put_all}
 use Rattle.bit_set.specs.Walk.{Walk, Advances}
-use Rattle.std.proofs.Math.Bool.{and-false, and_comm}
+use Rattle.std.proofs.Math.Bool.{and_comm}
 use Rattle.bit_set.proofs.SetLaws.{has-filter}
 use Rattle.bit_set.proofs.SetLemmas.{IsAscending-elements, same_members}
 
@@ -28,31 +29,8 @@ module _ {S V E : Type 0} {steps : S → Option ℕ → S → Type 0} {s : S} {a
 
 -- the members of numbers that count up
 has-range : (a n m : ℕ) → has (range_with_len a n) m ≡ (not (ltb m a) && ltb m (a + n))
-has-range a zero m =
-    elim (cases_lt m a) [
-      | inl lt ↦ sym (ap (λ b. not b && ltb m (a + zero)) (lt-ltb m a lt))
-      | inr ge ↦ sym (ap (λ b. not (ltb m a) && b) (le-ltb m (a + zero) (omega arith)) ∙ and-false (not (ltb m a)))
-    ]
-has-range a (suc n) m =
-    elim (cases_order a m) [
-      | inl e ↦
-          ap (λ b. b || has (range_with_len (a + 1) n) m) (eq-eqb a m e)
-          ∙ sym (ap (λ b. not b && ltb m (a + suc n)) (le-ltb m a (omega arith)) ∙ lt-ltb m (a + suc n) (omega arith))
-      | inr (inl above) ↦
-          ap (λ b. b || has (range_with_len (a + 1) n) m) (ne_eqb a m (λ e. omega arith))
-          ∙ has-range (a + 1) n m
-          ∙ ap (λ b. not b && ltb m (a + 1 + n)) (le-ltb m (a + 1) (omega arith))
-          ∙ ap (ltb m) (same_end a n)
-          ∙ sym (ap (λ b. not b && ltb m (a + suc n)) (le-ltb m a (omega arith)))
-      | inr (inr below) ↦
-          ap (λ b. b || has (range_with_len (a + 1) n) m) (ne_eqb a m (λ e. omega arith))
-          ∙ has-range (a + 1) n m
-          ∙ ap (λ b. not b && ltb m (a + 1 + n)) (lt-ltb m (a + 1) (omega arith))
-          ∙ sym (ap (λ b. not b && ltb m (a + suc n)) (lt-ltb m a below))
-    ]
-  where
-    same_end : (a n : ℕ) → a + 1 + n ≡ a + suc n
-    same_end a n = omega arith
+has-range a zero m = grind (arith, nat_tests)
+has-range a (suc n) m = let rest = has-range (a + 1) n m in grind (arith, nat_tests)
 
 -- the numbers below n that pass a test
 has-passing : (test : ℕ → Bool) (n m : ℕ) → has (filter test (range_with_len 0 n)) m ≡ (ltb m n && test m)

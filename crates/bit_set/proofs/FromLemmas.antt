@@ -1,5 +1,5 @@
 -- A walk that starts at any number: what is left of the first block, and of the blocks past it.
-use Rattle.std.proofs.Common.{◌≡◌, ℕ, zero, suc, ◌+◌, ◌-◌, ◌*◌, ◌/◌, ◌%◌, ◌^◌, ◌<◌, ◌≤◌, Bool, true, false, not, if◌then◌else◌, ◌&&◌, leb, List, [], ◌∷◌, map, length, drop, filter, get_or, get_or-drop, min, All, refl, sym, ap, ◌∙◌, subst, arith, ⊎_elim, mod-lt, mul-le-mul_right, div-add-mod'}
+use Rattle.std.proofs.Common.{◌≡◌, ℕ, zero, suc, ◌+◌, ◌-◌, ◌*◌, ◌/◌, ◌%◌, ◌^◌, ◌<◌, ◌≤◌, Bool, true, false, not, ◌&&◌, leb, List, ◌∷◌, map, length, drop, filter, get_or, get_or-drop, min, All, refl, sym, ap, ◌∙◌, subst, arith, ⊎_elim, mod-lt, mul-le-mul_right, div-add-mod'}
 use Rattle.std.proofs.lemmas.Bool.{cases_lt, le-leb, lt-leb}
 use Rattle.std.proofs.lemmas.List.{drop-map, get_or_past, length-drop, length-map}
 use Rattle.std.proofs.lemmas.List.Elements.{All-filter}
@@ -15,6 +15,7 @@ use Rattle.bit_set.proofs.PlaceLemmas.{indexes-next, value_in, values_in-blocks_
 use Rattle.bit_set.proofs.SetLaws.{AscendsFrom-filter, has-filter}
 use Rattle.bit_set.proofs.SetLemmas.{AscendsFrom-elements_from, AscendsFrom-lower, IsAscending-elements, has-below, has-elements, has-elements_from, same_members}
 use Rattle.bit_set.proofs.SparseLemmas.{seen, whole_index}
+use Rattle.bit_set.proofs.SplitLemmas.{all_from}
 use Rattle.bit_set.proofs.WalkLemmas.{IsWalkable-values_of_blocks, elements-values_of_blocks, values_of_blocks, length-blocks, length-values_of_blocks}
 
 -- the block of a number, or one before, begins at the number or before
@@ -180,7 +181,7 @@ begins_from w number is_block values from k block it pos is lawful cut =
 -- from 0 on it is the walk over all
 pub starts_at_all : (w : ℕ) (values : List Bool) (t : Walk) → 0 < w → IsAtStartFrom w values 0 t → IsAtStart w values t
 starts_at_all w values t pos start =
-    let all : those_from (elements values) 0 ≡ elements values = every (elements values) in
+    let all : those_from (elements values) 0 ≡ elements values = sym (all_from (elements values)) in
     let zero_index : 0 / w ≡ 0 = ap (λ n. n / w) (let e : 0 ≡ 0 * w = omega arith in e) ∙ whole_index w 0 pos in
     let first : min (0 / w) (blocks_for w (length values) - 1) ≡ 0 = omega (arith, zero_index) in
     record {
@@ -191,7 +192,3 @@ starts_at_all w values t pos start =
       summary = let at = ap (λ i. i / w) first ∙ zero_index in omega (arith, start.summary, at);
       few = start.few;
     }
-  where
-    every : (xs : List ℕ) → those_from xs 0 ≡ xs
-    every [] = refl
-    every (x ∷ xs) = ap (λ b. if b then x ∷ those_from xs 0 else those_from xs 0) (le-leb 0 x (omega arith)) ∙ ap (λ ys. x ∷ ys) (every xs)

@@ -17,7 +17,6 @@ pub mod SparseLemmas
 pub mod ChainLemmas
 pub mod FromLemmas
 pub mod WalkLaws
-pub mod SparseLaws
 pub mod MismatchLemmas
 pub mod OrderLemmas
 pub mod JsonLemmas

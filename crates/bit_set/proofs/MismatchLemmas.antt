@@ -1,10 +1,11 @@
 -- What the first mismatch of lists of blocks says of the sets that they hold.
-use Rattle.std.proofs.Common.{◌≡◌, ◌≢◌, ℕ, ◌+◌, ◌*◌, ◌/◌, ◌%◌, ◌^◌, ◌<◌, ◌≤◌, Bool, true, false, not, eqb, List, get_or, length, refl, sym, ap, ◌∙◌, ◌↔◌, subst, inl, inr, arith}
+use Rattle.std.proofs.Common.{◌≡◌, ◌≢◌, ℕ, ◌+◌, ◌*◌, ◌/◌, ◌%◌, ◌^◌, ◌<◌, ◌≤◌, Bool, true, false, not, eqb, List, get_or, length, sym, ap, ◌∙◌, ◌↔◌, subst, inl, inr, arith, ⊎_elim}
 use Rattle.std.specs.Bool.{OnTrue, OnFalse}
 use Rattle.std.specs.Cmp.Lexicographic.{bytes_decides}
 use Rattle.std.specs.Prelude.{IsTrue, Option, Some, None, MatchOption, is_some}
 use Rattle.std.specs.Int.{bit_at}
-use Rattle.std.proofs.lemmas.Bool.{cases_lt, cases_eq, true≢false}
+use Rattle.std.proofs.lemmas.Bool.{cases_lt, cases_eq, cases_Bool, not-false}
+use Rattle.std.proofs.lemmas.Bool.Decides.{nat_tests}
 use Rattle.std.proofs.lemmas.Nat.Bits.{bit_at-lt, bit_at-zero, same_from_bits_below}
 use Rattle.std.proofs.Math.Nat.{div-add-mod', mod-lt, mul-le-mul_right}
 use Rattle.bit_words.specs.Bits.{blocks_of, digit_of}
@@ -16,6 +17,7 @@ use Rattle.bit_set.specs.Mismatches.{IsFirstMismatch}
 use Rattle.bit_set.specs.Order.{same_sets}
 use Rattle.bit_set.proofs.OrderLemmas.{same_where_all_agree}
 use Rattle.bit_set.proofs.SetLemmas.{has-elements}
+use Rattle.bit_set.proofs.SubsetLemmas.{same_tests}
 use Rattle.bit_set.proofs.ValueLemmas.{has-within}
 
 -- ---- the blocks of a list of truth values
@@ -47,12 +49,9 @@ alike_where_same w q xs ys same =
 
 -- so a comparison of blocks compares sets
 pub same_by_blocks : (w : ℕ) (xs ys : List Bool) (b : Bool) → 0 < w → IsTrue b ↔ ((k : ℕ) → get_or (blocks_of w xs) k 0 ≡ get_or (blocks_of w ys) k 0) → b ≡ same_sets (elements xs) (elements ys)
-same_by_blocks w xs ys b pos tells = by_cases b (same_sets (elements xs) (elements ys)) refl refl
-  where
-    by_cases : (c d : Bool) → b ≡ c → same_sets (elements xs) (elements ys) ≡ d → b ≡ same_sets (elements xs) (elements ys)
-    by_cases true d is e = is ∙ same_where_all_agree xs ys (all_alike w xs ys pos (tells.0 is))
-    by_cases false false is e = is ∙ sym e
-    by_cases false true is e = absurd (true≢false (sym (tells.1 (λ q. alike_where_same w q xs ys (λ k. ap (λ u. has u k) ((bytes_decides (elements xs) (elements ys)).0 e)))) ∙ is))
+same_by_blocks w xs ys b pos tells =
+    same_tests b (same_sets (elements xs) (elements ys)) (λ is. sym (same_where_all_agree xs ys (all_alike w xs ys pos (tells.0 is))))
+    (λ same. tells.1 (λ q. alike_where_same w q xs ys (λ k. ap (λ u. has u k) ((bytes_decides (elements xs) (elements ys)).0 same))))
 
 -- a number below a place of a block is in an earlier block, or in that block below the place
 earlier : (w at i k : ℕ) → 0 < w → i < w → k < at * w + i → ((k / w) ≢ at → (k / w) < at)
@@ -63,11 +62,7 @@ earlier w at i k pos within below other =
     ]
 
 one_of_two : (a b : ℕ) → a < 2 → b < 2 → a + b ≡ 1 → eqb a 1 ≡ not (eqb b 1)
-one_of_two a b small also sum =
-    elim (cases_eq a 1) [
-      | inl one ↦ let none : b ≡ 0 = omega arith in rw (one, none) refl
-      | inr other ↦ let none : a ≡ 0 = omega (arith, other) in let one : b ≡ 1 = omega arith in rw (one, none) refl
-    ]
+one_of_two a b small also sum = grind (arith, nat_tests)
 
 -- the first block that differs, and the lowest digit there, give the first number that differs
 pub first_mismatch_is : (w at i : ℕ) (xs ys : List Bool) → 0 < w → IsFirstBlockMismatch (blocks_of w xs) (blocks_of w ys) at → IsLowestMismatch w (get_or (blocks_of w xs) at 0) (get_or (blocks_of w ys) at 0) i
@@ -88,12 +83,9 @@ first_mismatch_is w at i xs ys pos first lowest = record {
 
 -- it is below one of the lengths
 pub first_within : (xs ys : List Bool) (n : ℕ) → IsFirstMismatch (elements xs) (elements ys) n → length xs < 2 ^ 64 → length ys < 2 ^ 64 → n < 2 ^ 64
-first_within xs ys n first left right = by_cases (has (elements xs) n) (has (elements ys) n) refl refl first.here
-  where
-    by_cases : (b c : Bool) → has (elements xs) n ≡ b → has (elements ys) n ≡ c → b ≡ not c → n < 2 ^ 64
-    by_cases true c is it e = (let below = has-within xs n is in omega (arith, below, left))
-    by_cases false true is it e = (let below = has-within ys n it in omega (arith, below, right))
-    by_cases false false is it e = absurd (true≢false (sym e))
+first_within xs ys n first left right =
+    ⊎_elim (λ is. let below = has-within xs n is in omega (arith, below, left))
+    (λ no. let below = has-within ys n (not-false (has (elements ys) n) (sym first.here ∙ no)) in omega (arith, below, right)) (cases_Bool (has (elements xs) n))
 
 -- ---- what a set has from a number on
 

@@ -96,10 +96,6 @@ swapped s t n d = record { below = λ k below. sym (d.below k below); here = sym
 pub order-swapped : (s t : List ℕ) → order_of_sets s t ≡ ordering_reverse (order_of_sets t s)
 order-swapped s t = nat_list_cmp_total.antisymm s t
 
--- a set compares as equal to itself
-pub order-itself : (s : List ℕ) → order_of_sets s s ≡ Equal
-order-itself s = tied_itself nat_list_cmp_total s
-
 -- ---- what the walk over the blocks found
 
 -- the holder's side of the order, as found
@@ -120,7 +116,7 @@ by_other_holder xs ys n r d lacks found =
 -- sets with the same members compare as equal
 pub order-alike : (xs ys : List Bool) → ((k : ℕ) → has (elements xs) k ≡ has (elements ys) k) → Equal ≡ order_of_sets (elements xs) (elements ys)
 order-alike xs ys same =
-    sym (order-itself (elements xs)) ∙ ap (order_of_sets (elements xs)) (same_members (elements xs) (elements ys) (IsAscending-elements xs) (IsAscending-elements ys) same)
+    sym (tied_itself nat_list_cmp_total (elements xs)) ∙ ap (order_of_sets (elements xs)) (same_members (elements xs) (elements ys) (IsAscending-elements xs) (IsAscending-elements ys) same)
 
 -- sets with the same members are the same
 pub same_where_all_agree : (xs ys : List Bool) → ((k : ℕ) → has (elements xs) k ≡ has (elements ys) k) → true ≡ same_sets (elements xs) (elements ys)

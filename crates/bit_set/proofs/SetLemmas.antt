@@ -18,7 +18,7 @@ has-below low (x ∷ xs) n h lt =
     rw other (has-below (x + 1) xs n h.1 (omega (arith, h.0, lt)))
 
 -- a first member is a member
-has-first : (x : ℕ) (xs : List ℕ) → has (x ∷ xs) x ≡ true
+pub has-first : (x : ℕ) (xs : List ℕ) → has (x ∷ xs) x ≡ true
 has-first x xs = rw (eq-eqb x x refl) refl
 
 -- where the members agree, the least ones do

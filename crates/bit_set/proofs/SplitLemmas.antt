@@ -1,13 +1,14 @@
 -- A set in two parts: those below a number, and the others.
-use Rattle.std.proofs.Common.{◌≡◌, ℕ, ◌-◌, ◌+◌, ◌<◌, ◌≤◌, max, min, Bool, true, false, ◌||◌, ◌&&◌, ltb, cond, if◌then◌else◌, nat_lt, nat_le, List, [], ◌++◌, length, get_or, drop, replicate, refl, sym, ap, ap₂, ◌∙◌, inl, inr, arith, IsTrue}
+use Rattle.std.proofs.Common.{◌≡◌, ℕ, ◌-◌, ◌+◌, ◌<◌, ◌≤◌, max, min, Bool, true, false, ◌||◌, ◌&&◌, ltb, cond, if◌then◌else◌, nat_lt, nat_le, List, [], ◌++◌, length, get_or, drop, replicate, refl, sym, ap, ap₂, ◌∙◌, inl, inr, arith, IsTrue, ◌∷◌, filter, eqb}
 use Rattle.std.proofs.Math.Bool.{and-or_distrib_right}
-use Rattle.std.proofs.lemmas.Bool.{and_parts, cases_lt, le-ltb, lt-ltb}
+use Rattle.std.proofs.lemmas.Bool.{and_parts, cases_lt, le-ltb, lt-ltb, le-leb, lt-leb, or_right}
 use Rattle.std.proofs.lemmas.Bool.Decides.{nat_tests}
-use Rattle.std.proofs.lemmas.List.{get_or-drop, get_or-replicate, get_or_append_left, get_or-append_right, length-replicate, get_or_past}
+use Rattle.std.proofs.lemmas.List.{get_or-drop, get_or-replicate, get_or_append_left, get_or-append_right, length-replicate}
 use Rattle.bit_set.specs.Sets.{IsAscending, has, elements, those_below, those_from, union}
 use Rattle.bit_set.proofs.AlgebraLemmas.{has-union}
-use Rattle.bit_set.proofs.SetLemmas.{IsAscending-elements, has-elements, elements-by_members, same_members}
+use Rattle.bit_set.proofs.SetLemmas.{IsAscending-elements, has-elements, elements-by_members, same_members, has-first}
 use Rattle.bit_set.proofs.SetLaws.{AscendsFrom-filter, IsAscending-put_all, IsAscending-those_below, has-filter, has-those_below, same_values}
+use Rattle.bit_set.proofs.ValueLemmas.{has-within}
 
 pub has-those_from : (s : List ℕ) (n m : ℕ) → has (those_from s n) m ≡ (nat_le n m && has s m)
 has-those_from s n m = has-filter (λ x. nat_le n x) s m
@@ -39,33 +40,32 @@ elements-tail bs n =
     elements-by_members _ (those_from (elements bs) n) (IsAscending-those_from (elements bs) n (IsAscending-elements bs))
     (λ k. get_or-tail bs n k ∙ ap (λ b. nat_le n k && b) (sym (has-elements bs k)) ∙ sym (has-those_from (elements bs) n k))
 
--- a number below which all of the set is, and one below which none is
+-- a test that each member passes keeps all, and one that none passes keeps none
+filter-all : (p : ℕ → Bool) (xs : List ℕ) → ((n : ℕ) → has xs n ≡ true → p n ≡ true) → filter p xs ≡ xs
+filter-all p [] each = refl
+filter-all p (x ∷ xs) each =
+    ap (λ b. cond b (x ∷ filter p xs) (filter p xs)) (each x (has-first x xs))
+    ∙ ap (λ ys. x ∷ ys) (filter-all p xs (λ n is. each n (or_right (eqb x n) (has xs n) is)))
+
+filter-none : (p : ℕ → Bool) (xs : List ℕ) → ((n : ℕ) → has xs n ≡ true → p n ≡ false) → filter p xs ≡ []
+filter-none p [] each = refl
+filter-none p (x ∷ xs) each =
+    ap (λ b. cond b (x ∷ filter p xs) (filter p xs)) (each x (has-first x xs))
+    ∙ filter-none p xs (λ n is. each n (or_right (eqb x n) (has xs n) is))
+
+-- a number below which all of the set is, and at or above which none is
 pub all_below : (bs : List Bool) (n : ℕ) → length bs ≤ n → elements bs ≡ those_below (elements bs) n
-all_below bs n past =
-    elements-by_members bs (those_below (elements bs) n) (IsAscending-those_below (elements bs) n (IsAscending-elements bs))
-    (λ k. elim (cases_lt k n) [
-      | inl below ↦ let test : ltb k n ≡ true = grind (arith, nat_tests) in sym (has-those_below (elements bs) n k ∙ ap (λ t. t && has (elements bs) k) test ∙ has-elements bs k)
-      | inr above ↦ let test : ltb k n ≡ false = grind (arith, nat_tests) in get_or_past bs k false (omega arith) ∙ sym (has-those_below (elements bs) n k ∙ ap (λ t. t && has (elements bs) k) test)
-    ])
+all_below bs n past = sym (filter-all (λ x. ltb x n) (elements bs) (λ k is. lt-ltb k n (let below = has-within bs k is in omega (arith, below, past))))
 
 pub none_from : (bs : List Bool) (n : ℕ) → length bs ≤ n → [] ≡ those_from (elements bs) n
-none_from bs n past =
-    same_members [] (those_from (elements bs) n) tt (IsAscending-those_from (elements bs) n (IsAscending-elements bs))
-    (λ k. elim (cases_lt k n) [
-      | inl below ↦ let test : nat_le n k ≡ false = grind (arith, nat_tests) in sym (has-those_from (elements bs) n k ∙ ap (λ t. t && has (elements bs) k) test)
-      | inr above ↦ let test : nat_le n k ≡ true = grind (arith, nat_tests) in sym (has-those_from (elements bs) n k ∙ ap (λ t. t && has (elements bs) k) test ∙ has-elements bs k ∙ get_or_past bs k false (omega arith))
-    ])
+none_from bs n past = sym (filter-none (λ x. nat_le n x) (elements bs) (λ k is. lt-leb n k (let below = has-within bs k is in omega (arith, below, past))))
 
 -- all are at or above 0
-pub none_below : (s : List ℕ) → IsAscending s → [] ≡ those_below s 0
-none_below s up =
-    same_members [] (those_below s 0) tt (IsAscending-those_below s 0 up)
-    (λ k. let test : ltb k 0 ≡ false = grind (arith, nat_tests) in sym (has-those_below s 0 k ∙ ap (λ t. t && has s k) test))
+pub none_below : (s : List ℕ) → [] ≡ those_below s 0
+none_below s = sym (filter-none (λ x. ltb x 0) s (λ k is. le-ltb k 0 (omega arith)))
 
-pub all_from : (s : List ℕ) → IsAscending s → s ≡ those_from s 0
-all_from s up =
-    same_members s (those_from s 0) up (IsAscending-those_from s 0 up)
-    (λ k. let test : nat_le 0 k ≡ true = grind (arith, nat_tests) in sym (has-those_from s 0 k ∙ ap (λ t. t && has s k) test))
+pub all_from : (s : List ℕ) → s ≡ those_from s 0
+all_from s = sym (filter-all (λ x. nat_le 0 x) s (λ k is. le-leb 0 k (omega arith)))
 
 -- ---- the two parts
 

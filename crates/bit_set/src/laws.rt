@@ -64,11 +64,12 @@ pub fn first_of_a_set()
     ensures taken { (s t : List ℕ) (x : ℕ) → IsAscending s → s ≡ x ∷ t → TakesLeast s x t }
 {}
 
-/// What each operation gives is strictly ascending. A test says what `without`, `those_below`, `those_from`,
-/// `intersection` and `difference` keep, and `union` puts all in.
+/// What each operation gives is strictly ascending. A test says what `without`, `those_below`, `intersection` and
+/// `difference` keep, and `union` puts all in.
 pub fn sets_ascend()
     ensures put { (s : List ℕ) (n : ℕ) → IsAscending s → IsAscending (put s n) }
     ensures filter { (test : ℕ → Bool) (s : List ℕ) → IsAscending s → IsAscending (filter test s) }
+    ensures those_from { (s : List ℕ) (n : ℕ) → IsAscending s → IsAscending (those_from s n) }
     ensures put_all { (s items : List ℕ) → IsAscending s → IsAscending (put_all s items) }
     ensures merged { (merge : Merge) (s t : List ℕ) → IsAscending s → IsAscending (merge_of_sets merge s t) }
     ensures elements { (values : List Bool) → IsAscending (elements values) }

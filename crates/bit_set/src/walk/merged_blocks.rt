@@ -79,9 +79,9 @@ impl<'a, B: BitBlock, O: Operation> Pairs<'a, B, O> {
         (block, is_sparse)
     }
 
-    // The next block where it is wanted; else some block, and nothing is pulled. `None`, and nothing pulled, once a side
-    // has ended, where `pull` alone goes on: a pull that finds the end of both is then counted once. That test is a
-    // branch too, but one that is predicted.
+    // The next block where it is wanted; else some block, and nothing is pulled. `None`, and nothing pulled, once a
+    // side has ended. There `pull` alone goes on: a pull that finds the end of both is then counted once. That test
+    // is a branch too, but one that is predicted.
     #[inline(always)]
     pub(crate) fn pull_if(&mut self, wanted: bool) -> Option<B>
         ensures steps { PullsBlockIf B.width B.number wanted self.old result self.new }

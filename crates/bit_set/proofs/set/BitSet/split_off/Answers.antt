@@ -1,6 +1,5 @@
-use Rattle.std.proofs.Common.{◌≡◌, ◌≤◌, length, refl, arith, ap, sym, cond}
+use Rattle.std.proofs.Common.{◌≤◌, length, refl, arith, ap, sym, cond}
 use Rattle.bit_set.specs.Sets.{elements}
-use Rattle.bit_set.proofs.SetLemmas.{IsAscending-elements}
 use Rattle.bit_set.proofs.SplitLemmas.{all_below, all_from, elements-tail, none_below, none_from, length_of_whole}
 use Rattle.bit_set.proofs.ValueLemmas.{elements-take}
 use Rattle.bit_set.proofs.MemberLemmas.{members_below, members_from}
@@ -15,12 +14,12 @@ past g c = rw (← c.self.view_is) (omega arith)
 pub returns-then-at-eq0-clause-elements : goal.returns-then-at-eq0-clause-elements
 returns-then-at-eq0-clause-elements g c =
     let values = c.args.self.now.values in
-    rw (c.if-at-eq0.true, c.replace.ensures.after, c.new_general.ensures.values) (none_below (elements values) (IsAscending-elements values))
+    rw (c.if-at-eq0.true, c.replace.ensures.after, c.new_general.ensures.values) (none_below (elements values))
 
 pub returns-then-at-eq0-clause-part : goal.returns-then-at-eq0-clause-part
 returns-then-at-eq0-clause-part g c =
     let values = c.args.self.now.values in
-    rw (c.if-at-eq0.true, c.replace.ensures.value) (all_from (elements values) (IsAscending-elements values))
+    rw (c.if-at-eq0.true, c.replace.ensures.value) (all_from (elements values))
 
 pub returns-then-at-len-clause-elements : goal.returns-then-at-len-clause-elements
 returns-then-at-len-clause-elements g c = all_below c.args.self.now.values c.args.at (past g (goal.at.returns-then-at-len-clause-elements g c).After-new_general-then-at-len)

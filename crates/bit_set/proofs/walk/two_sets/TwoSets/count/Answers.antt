@@ -1,4 +1,4 @@
-use Rattle.std.proofs.Common.{◌≡◌, ◌+◌, ◌<◌, ◌^◌, count_ones, length, ap, ◌∙◌, arith}
+use Rattle.std.proofs.Common.{◌≡◌, ◌+◌, ◌<◌, ◌^◌, length, ap, arith}
 use Rattle.bit_set.specs.Sets.{elements}
 use Rattle.bit_set.proofs.PlaceLemmas.{length-indexes}
 use Rattle.bit_set.proofs.walk.two_sets.TwoSets.count.Goals.{After-count_ones}

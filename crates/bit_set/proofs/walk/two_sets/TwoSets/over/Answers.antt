@@ -1,4 +1,4 @@
-use Rattle.std.proofs.Common.{◌≡◌, ◌-◌, max, length, refl, ap, ap₂, ◌∙◌, arith}
+use Rattle.std.proofs.Common.{◌-◌, max, length, refl, ap, ap₂, ◌∙◌, arith}
 use Rattle.std.specs.Option.{unwrap_or}
 use Rattle.bit_words.specs.Bits.{Bits, blocks_for}
 use Rattle.bit_set.specs.Sets.{elements, merge_of_sets}
