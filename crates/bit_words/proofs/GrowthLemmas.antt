@@ -1,5 +1,5 @@
 -- What a growth in blocks makes of a list and its capacity for values.
-use Rattle.std.proofs.Common.{◌≡◌, ℕ, ◌+◌, ◌^◌, ◌<◌, ◌≤◌, max, List, map, length, refl, sym, ap, ap₂, ◌∙◌, arith, ⊎_elim, Ok, Err, Result, OnErr, OnOk}
+use Rattle.std.proofs.Common.{◌≡◌, ℕ, ◌^◌, ◌<◌, ◌≤◌, max, List, map, length, refl, sym, ap, ap₂, ◌∙◌, arith, ⊎_elim, Ok, Err, Result, OnErr, OnOk}
 use Rattle.std.proofs.lemmas.Bool.{cases_lt}
 use Rattle.std.proofs.lemmas.Result.{on_err_weaker}
 use Rattle.bit_words.specs.Bits.{Bits, IsWithinCapacity, blocks_for, capacity_of}

@@ -51,18 +51,6 @@ capacity_from_max w n m cap got count ms v e is most =
     rw (length_from_view w n _ ms v e, capacity_from_view (capacity_of w cap) (values_of w ms n) v e)
     (ap (capacity_of w) (most ∙ ap (max cap) is) ∙ capacity_of-max w cap (blocks_for w (n + m)))
 
--- the same, of a list that is to have m values more
-pub capacity_for_more : (w n m cap : ℕ) (ms : List ℕ) (v : Bits) → 0 < w → record { values = values_of w ms n; capacity = capacity_of w cap } ≡ v → length v.values + m ≤ v.capacity → blocks_for w (n + m) ≤ cap
-capacity_for_more w n m cap ms v pos e h =
-    blocks_from_capacity w cap (n + m) pos (rw (length_from_view w n _ ms v e, capacity_from_view (capacity_of w cap) (values_of w ms n) v e) at h)
-
-pub no_capacity_for_more : (w n m cap : ℕ) (ms : List ℕ) (v : Bits) → 0 < w → record { values = values_of w ms n; capacity = capacity_of w cap } ≡ v → cap < blocks_for w (n + m) → v.capacity < length v.values + m
-no_capacity_for_more w n m cap ms v pos e h =
-    rw (length_from_view w n _ ms v e, capacity_from_view (capacity_of w cap) (values_of w ms n) v e) (capacity_of-short w cap (n + m) pos h)
-
-pub capacity_got : (w n m cap : ℕ) (ms : List ℕ) (v : Bits) (r : ℕ) → 0 < w → record { values = values_of w ms n; capacity = r } ≡ v → n + m < 2 ^ 64 → blocks_for w (n + m) ≤ cap → length v.values + m ≤ capacity_of w cap
-capacity_got w n m cap ms v r pos e fits h = rw (length_from_view w n r ms v e) (le-capacity_of w cap (n + m) pos fits h)
-
 pub is_within_capacity : {X : Type 0} (w n cap : ℕ) (f : X → ℕ) (P : X → Type 0) (xs : List X) (v : Bits) → 0 < w → IsPacked w f P xs n → length xs ≤ cap → record { values = values_of w (map f xs) n; capacity = capacity_of w cap } ≡ v → IsWithinCapacity v
 is_within_capacity w n cap f P xs v pos packed h e = record {
   holds_values = rw (length_from_view w n (capacity_of w cap) (map f xs) v e, capacity_from_view (capacity_of w cap) (values_of w (map f xs) n) v e)

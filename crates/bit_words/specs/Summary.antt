@@ -1,5 +1,5 @@
 -- The summary of a vector of blocks: which of them are not 0. No public clause cites this.
-use Rattle.std.specs.Prelude.{◌≡◌, ℕ, ◌+◌, ◌*◌, ◌<◌, ◌≤◌, ◌&&◌, Bool, not, nat_lt, nat_le, if◌then◌else◌, min, max, List, [], map, length, get_or, ◌==◌, IsTrue, OnErr, OnOk, Result}
+use Rattle.std.specs.Prelude.{◌≡◌, ℕ, ◌+◌, ◌*◌, ◌<◌, ◌≤◌, ◌&&◌, Bool, not, nat_lt, nat_le, if◌then◌else◌, min, max, List, [], map, length, get_or, ◌==◌}
 use Rattle.bit_words.specs.Bits.{blocks_for}
 use Rattle.bit_words.specs.Digits.{is_one}
 use Rattle.bit_words.specs.Storage.{value_at, IsPacked}
@@ -46,13 +46,3 @@ pub record IsStored {X : Type 0} (w : ℕ) (number : X → ℕ) (is_block : X �
 -- blocks of either
 abbrev pub shared_capacity : ℕ → ℕ → ℕ → ℕ
 shared_capacity w blocks summary = min blocks (max (short_count w) (summary * w))
-
--- A call made capacity for count blocks and their summary, and where that was asked for no more; or it failed. There
--- was capacity for `blocks` and `summary`, and then for `new_blocks` and `new_summary`.
-pub record MakesSharedCapacity {E : Type 0} (w count : ℕ) (is_exact : Bool) (result : Result Unit E)
-    (blocks summary new_blocks new_summary : ℕ) : Type 0 where
-  pub ok : OnOk result (count ≤ shared_capacity w new_blocks new_summary)
-  pub exact : IsTrue is_exact → OnOk result (new_blocks ≡ max blocks count)
-  pub exact_summary : IsTrue is_exact → OnOk result (new_summary ≡ max summary (stored_for w count))
-  pub err : OnErr result (shared_capacity w new_blocks new_summary ≡ shared_capacity w blocks summary)
-  pub capacity : shared_capacity w blocks summary ≤ shared_capacity w new_blocks new_summary

@@ -1,5 +1,5 @@
 // Copies of blocks together with their summary, whole or from a block on.
-ghost use Rattle.std.specs.Prelude.{◌≡◌, ◌-◌, ◌<◌, ◌≤◌, All, IfOk, OnErr, OnOk, length, map, max, vec_capacity, ℕ, false};
+ghost use Rattle.std.specs.Prelude.{◌≡◌, ◌-◌, ◌<◌, All, IfOk, OnErr, OnOk, length, map, max, vec_capacity, ℕ, false};
 ghost use Rattle.bit_words.specs.Summary.{shared_capacity, is_used, short_count, stored_for, KeepsSummary};
 ghost use Rattle.bit_words.specs.Storage.{value_at, IsPacked};
 

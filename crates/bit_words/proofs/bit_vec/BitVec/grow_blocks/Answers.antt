@@ -1,4 +1,4 @@
-use Rattle.std.proofs.Common.{◌≡◌, ◌+◌, ◌*◌, ◌++◌, ◌∙◌, length, map, vec_capacity, replicate, sym, ap, ap₂, arith}
+use Rattle.std.proofs.Common.{◌≡◌, ℕ, ◌+◌, ◌*◌, ◌^◌, ◌<◌, ◌++◌, ◌∙◌, All, List, get_or, length, map, vec_capacity, replicate, sym, ap, ap₂, arith}
 use Rattle.std.proofs.lemmas.Result.{err_from_is_err_and}
 use Rattle.bit_words.specs.Bits.{blocks_for, capacity_of}
 use Rattle.bit_words.specs.Summary.{shared_capacity}
@@ -8,7 +8,11 @@ use Rattle.bit_words.proofs.StorageLemmas.{values_of-append}
 use Rattle.bit_words.proofs.SummaryLemmas.{kept_use, kept_with_zeros, same_use, use_of_added}
 use Rattle.bit_words.proofs.BitsLemmas.{blocks_for-le}
 use Rattle.bit_words.proofs.VectorLemmas.{length_from_view, capacity_from_view, numbers_below}
+use Rattle.bit_words.proofs.bit_vec.BitVec.grow_blocks.Given.{Over}
 use Rattle.bit_words.proofs.bit_vec.BitVec.grow_blocks.Goals as goal
+
+small : (g : Over) (xs : List g.row.B.Denot) → All g.B.BitBlock.is_block xs → (k : ℕ) → get_or (map g.B.BitBlock.number xs) k 0 < 2 ^ g.B.BitBlock.width
+small g xs each = numbers_below _ _ _ xs (λ x is. (g.met.B.BitBlock.number_law x is).0) each
 
 pub overflow_add-len : goal.overflow_add-len
 overflow_add-len g c =
@@ -92,7 +96,7 @@ append_to_summary-requires-clause-before g c =
     let kept = rw c.reserve_shared.ensures.items at c.append_bits.ensures.kept in
     rw c.deref-2.ensures.value (λ many k before.
     (rw (c.deref.ensures.value, c.reserve_shared.ensures.items) at (c.store_summary.ensures.long (omega (arith, many, c.append_bits.ensures.packed.count)))).digit k
-    ∙ kept_use w c.self.inside.len k (map f c.self.inside.blocks.items) (map f c.append_bits.new.blocks.items) g.met.B.BitBlock.width_law.positive (numbers_below w f _ _ (λ x is. (g.met.B.BitBlock.number_law x is).0) c.self.invariant.packed.each k) (numbers_below w f _ _ (λ x is. (g.met.B.BitBlock.number_law x is).0) c.append_bits.ensures.packed.each k) kept (omega arith))
+    ∙ kept_use w c.self.inside.len k (map f c.self.inside.blocks.items) (map f c.append_bits.new.blocks.items) g.met.B.BitBlock.width_law.positive (small g _ c.self.invariant.packed.each k) (small g _ c.append_bits.ensures.packed.each k) kept (omega arith))
 
 pub append_to_summary-requires-clause-last : goal.append_to_summary-requires-clause-last
 append_to_summary-requires-clause-last g c =
@@ -101,7 +105,7 @@ append_to_summary-requires-clause-last g c =
     let kept = rw c.reserve_shared.ensures.items at c.append_bits.ensures.kept in
     rw c.deref-2.ensures.value (λ many none k _.
     (rw (c.deref.ensures.value, c.reserve_shared.ensures.items) at (c.store_summary.ensures.long (omega (arith, many, c.append_bits.ensures.packed.count)))).digit k
-    ∙ same_use w (map f c.self.inside.blocks.items) (map f c.append_bits.new.blocks.items) k (numbers_below w f _ _ (λ x is. (g.met.B.BitBlock.number_law x is).0) c.self.invariant.packed.each k) (numbers_below w f _ _ (λ x is. (g.met.B.BitBlock.number_law x is).0) c.append_bits.ensures.packed.each k)
+    ∙ same_use w (map f c.self.inside.blocks.items) (map f c.append_bits.new.blocks.items) k (small g _ c.self.invariant.packed.each k) (small g _ c.append_bits.ensures.packed.each k)
     (λ j _. sym (kept_with_zeros w c.self.inside.len (c.self.inside.len + c.args.n) (k * w + j) c.args.bit (map f c.self.inside.blocks.items) (map f c.append_bits.new.blocks.items) none kept c.self.invariant.packed.tail.zero_tail c.append_bits.ensures.added c.append_bits.ensures.packed.tail.zero_tail)))
 
 pub append_to_summary-requires-clause-after : goal.append_to_summary-requires-clause-after
@@ -110,7 +114,7 @@ append_to_summary-requires-clause-after g c = λ k from.
     let f = g.B.BitBlock.number in
     rw c.deref-2.ensures.value (λ inside.
     use_of_added w c.self.inside.len (c.self.inside.len + c.args.n) k (map f c.append_bits.new.blocks.items) _ g.met.B.BitBlock.width_law.positive
-    (numbers_below w f _ _ (λ x is. (g.met.B.BitBlock.number_law x is).0) c.append_bits.ensures.packed.each k) (omega arith) (omega (arith, inside, c.append_bits.ensures.packed.count)) c.append_bits.ensures.added c.append_bits.ensures.packed.tail.zero_tail)
+    (small g _ c.append_bits.ensures.packed.each k) (omega arith) (omega (arith, inside, c.append_bits.ensures.packed.count)) c.append_bits.ensures.added c.append_bits.ensures.packed.tail.zero_tail)
 
 pub returns-clause-ok : goal.returns-clause-ok
 returns-clause-ok g c =

@@ -20,15 +20,12 @@ made_exact w blocks summary count cut new_blocks new_summary (Err _) pos short f
 
 pub returns-then-count-capacity-clause-full : goal.returns-then-count-capacity-clause-full
 returns-then-count-capacity-clause-full g c =
-    let short : vec_capacity c.args.summary.now < stored_for g.B.BitBlock.width c.args.count = omega arith in
-    shared_short_summary g.B.BitBlock.width (vec_capacity c.args.blocks.now) (vec_capacity c.args.summary.now) c.args.count g.met.B.BitBlock.width_law.positive short
+    shared_short_summary g.B.BitBlock.width (vec_capacity c.args.blocks.now) (vec_capacity c.args.summary.now) c.args.count g.met.B.BitBlock.width_law.positive (omega arith)
 
 pub returns-then-count-capacity-clause-err : goal.returns-then-count-capacity-clause-err
 returns-then-count-capacity-clause-err g c =
-    let short : vec_capacity c.args.summary.now < stored_for g.B.BitBlock.width c.args.count = omega arith in
-    shared_cut g.B.BitBlock.width (vec_capacity c.args.blocks.now) (vec_capacity c.args.summary.now) c.args.count (vec_capacity c.shrink_to.new.self) g.met.B.BitBlock.width_law.positive short c.shrink_to.ensures.lower_bound c.shrink_to.ensures.capacity
+    shared_cut g.B.BitBlock.width (vec_capacity c.args.blocks.now) (vec_capacity c.args.summary.now) c.args.count (vec_capacity c.shrink_to.new.self) g.met.B.BitBlock.width_law.positive (omega arith) c.shrink_to.ensures.lower_bound c.shrink_to.ensures.capacity
 
 pub returns-clause-exact : goal.returns-clause-exact
 returns-clause-exact g c =
-    let short : vec_capacity c.args.summary.now < stored_for g.B.BitBlock.width c.args.count = omega arith in
-    made_exact g.B.BitBlock.width (vec_capacity c.args.blocks.now) (vec_capacity c.args.summary.now) c.args.count (vec_capacity c.shrink_to.new.self) _ _ _ g.met.B.BitBlock.width_law.positive short (omega arith) c.reserve_shared-2.ensures.capacity
+    made_exact g.B.BitBlock.width (vec_capacity c.args.blocks.now) (vec_capacity c.args.summary.now) c.args.count (vec_capacity c.shrink_to.new.self) _ _ _ g.met.B.BitBlock.width_law.positive (omega arith) (omega arith) c.reserve_shared-2.ensures.capacity
