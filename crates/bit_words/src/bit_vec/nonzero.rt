@@ -15,9 +15,9 @@ use crate::summary::is_nonzero;
 use crate::summary::queries::{first_blocks, ones_by_summary};
 use std::marker::Model;
 
-/// A walk over the blocks of a bit vector past one of them that are not zero, each with its index, in ascending order.
-/// It finds them by the summary, and so passes over as many zero blocks at once as a block has bits. Of few blocks no
-/// summary is stored: then it looks at each block.
+/// A walk over the blocks of a bit vector that are not zero, past the one at which it was made, each with its index, in
+/// ascending order. It finds them by the summary, and so passes over as many zero blocks at once as a block has bits.
+/// Of few blocks no summary is stored: then it looks at each block.
 ///
 /// Contracts see all its blocks, those that are left, `pulls`, and how many times a block of the summary was pulled, or
 /// made up where none is stored. A pull is a block that the walk takes, or the end that it finds, and the block that it
