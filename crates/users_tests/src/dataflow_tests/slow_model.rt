@@ -1,6 +1,6 @@
 //! The least and the greatest solution of the equations by rounds over all blocks, on masks, with no set and no list of
 //! blocks that wait.
-use crate::masks::Row;
+use super::masks::Row;
 use std::alloc::{AllocError, Global};
 
 // What a neighbour has.

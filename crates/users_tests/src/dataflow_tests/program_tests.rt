@@ -1,5 +1,5 @@
 //! Programs of textbooks, with the results worked out by hand, and problems at the edge.
-use crate::masks::{Row, available, live, reaching, solved};
+use super::masks::{Row, available, live, reaching, solved};
 use std::process::Abort;
 use std::test::Fail;
 

@@ -1,7 +1,7 @@
 //! Whether automata of textbooks accept the same words, worked out by hand.
-use crate::differences::{are_equivalent, differ_by};
-use crate::edges::Edges;
-use crate::textbook::{EMPTY_WORD, NOTHING, THIRD_FROM_END, ZEROS};
+use super::differences::{are_equivalent, differ_by};
+use super::edges::Edges;
+use super::textbook::{EMPTY_WORD, NOTHING, THIRD_FROM_END, ZEROS};
 use std::process::Abort;
 use std::test::Fail;
 

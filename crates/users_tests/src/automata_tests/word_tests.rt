@@ -1,7 +1,7 @@
 //! Automata of textbooks, worked out by hand.
-use crate::edges::Edges;
-use crate::textbook::{EMPTY_WORD, NOTHING, THIRD_FROM_END, ZEROS};
-use crate::words::{accept_as_expected, accept_as_marked, all_agree, has_more_states, symbols};
+use super::edges::Edges;
+use super::textbook::{EMPTY_WORD, NOTHING, THIRD_FROM_END, ZEROS};
+use super::words::{accept_as_expected, accept_as_marked, all_agree, has_more_states, symbols};
 use std::process::Abort;
 use std::test::Fail;
 

@@ -1,7 +1,7 @@
 //! Words that just one of two automata accepts.
-use crate::edges::{Edges, deterministic};
-use crate::slow_model::slowly_accepts;
-use crate::words::word_of;
+use super::edges::{Edges, deterministic};
+use super::slow_model::slowly_accepts;
+use super::words::word_of;
 use automata::{DfaError, equivalent};
 use bit_set::BitBlock;
 use std::alloc::{AllocError, Global};

@@ -1,8 +1,8 @@
 //! Words that automata are asked for.
 ghost use Rattle.std.specs.Prelude.{◌<◌};
 
-use crate::edges::{Edges, automaton, deterministic};
-use crate::slow_model::slowly_accepts;
+use super::edges::{Edges, automaton, deterministic};
+use super::slow_model::slowly_accepts;
 use automata::{Dfa, DfaError, Nfa, accepts, determinize};
 use bit_set::BitBlock;
 use std::alloc::{AllocError, Global};

@@ -1,9 +1,9 @@
 //! Random automata beside the slow model.
 ghost use Rattle.std.specs.Prelude.{◌<◌};
 
-use crate::differences::slow_model_confirms;
-use crate::edges::Edges;
-use crate::words::all_agree;
+use super::differences::slow_model_confirms;
+use super::edges::Edges;
+use super::words::all_agree;
 use automata::DfaError;
 use std::alloc::{AllocError, Global};
 use std::process::Abort;

@@ -1,5 +1,5 @@
 //! Automata of textbooks.
-use crate::edges::Edges;
+use super::edges::Edges;
 
 /// The words of 0 and 1 whose third symbol from the end is 1.
 pub(crate) const THIRD_FROM_END: Edges<'static> = Edges {

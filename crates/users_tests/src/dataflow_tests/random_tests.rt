@@ -1,6 +1,6 @@
 //! Random problems beside the slow model, and a chain of 10,000 blocks.
-use crate::masks::{Row, available, live, reaching, solved};
-use crate::slow_model::{slowly_greatest, slowly_least};
+use super::masks::{Row, available, live, reaching, solved};
+use super::slow_model::{slowly_greatest, slowly_least};
 use bit_set::{BitBlock, BitSet, SetError};
 use dataflow::{VariableBlock, live_variables};
 use std::alloc::Global;

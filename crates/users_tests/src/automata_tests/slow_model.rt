@@ -1,5 +1,5 @@
 //! What automata accept, by flags alone.
-use crate::edges::Edges;
+use super::edges::Edges;
 use std::alloc::{AllocError, Global};
 
 /// Whether the word is accepted.
