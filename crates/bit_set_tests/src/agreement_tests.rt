@@ -7,7 +7,7 @@ use bit_set::laws::{calls_are_set_algebra, full_walks, tests_agree, walks_agree}
 use bit_set::{BitBlock, BitSet, Iter, SetError};
 use block24::Block24;
 use std::alloc::Global;
-use std::test::Fail;
+use std::process::Abort;
 
 // The same calls on two sets of the same elements: they have the same elements again.
 fn change_both<A: BitBlock, B: BitBlock>(
@@ -21,10 +21,17 @@ fn change_both<A: BitBlock, B: BitBlock>(
     a.reserve_len(200)?;
     a.insert(value)?;
     b.insert(value)?;
-    a.truncate(100);
-    b.truncate(100);
+    cut_both(a, b);
     b.shrink_to_fit()?;
     Ok(())
+}
+
+fn cut_both<A: BitBlock, B: BitBlock>(a: &mut BitSet<A>, b: &mut BitSet<B>)
+    requires { elements a.old.values ≡ elements b.old.values }
+    ensures { elements a.new.values ≡ elements b.new.values }
+{
+    a.truncate(100);
+    b.truncate(100);
 }
 
 // The next item of two walks that have the same elements left.
@@ -64,35 +71,33 @@ fn fill_both<A: BitBlock, B: BitBlock>(a: &mut BitSet<A>, b: &mut BitSet<B>) -> 
     requires { elements a.old.values ≡ elements b.old.values }
     ensures { OnOk result (elements a.new.values ≡ elements b.new.values) }
 {
-    change_both(a, b, 77)?;
-    change_both(a, b, 3)?;
-    change_both(a, b, 40)?;
-    change_both(a, b, 101)?;
+    for value in [77, 3, 40, 101] {
+        change_both(a, b, value)?;
+    }
     Ok(())
 }
 
 // {3, 40, 77} over two block types, with other lengths and capacities.
 fn walked<A: BitBlock + 'static, B: BitBlock + 'static>(
+    rt: &impl Abort,
     alloc: Global,
-) -> Result<(Option<usize>, Option<usize>, usize), SetError> {
-    let mut a = BitSet::<A>::with_capacity_general(alloc, 500)?;
+) -> (Option<usize>, Option<usize>, usize) {
+    let mut a = BitSet::<A>::with_capacity_general(alloc, 500).expect(rt, "the call fails");
     let mut b = BitSet::<B>::new_general(alloc);
-    fill_both(&mut a, &mut b)?;
+    fill_both(&mut a, &mut b).expect(rt, "the call fails");
     tests_agree(&a, &a, &b, &b, 40);
-    Ok(walk_both(&a, &b))
+    walk_both(&a, &b)
 }
 
 #[test]
-fn sets_over_two_block_types_agree(rt: HostRuntime) -> Result<(), Fail> {
+fn sets_over_two_block_types_agree(rt: HostRuntime) {
     calls_are_set_algebra();
     full_walks::<u8>();
-    let items = (Some(3), Some(40), 1);
     for walked in [
-        walked::<u8, u128>(rt.alloc())?,
-        walked::<Block24, u32>(rt.alloc())?,
-        walked::<usize, Block24>(rt.alloc())?,
+        walked::<u8, u128>(&rt, rt.alloc()),
+        walked::<Block24, u32>(&rt, rt.alloc()),
+        walked::<usize, Block24>(&rt, rt.alloc()),
     ] {
-        expect_eq(&rt, &walked, &items);
+        expect_eq(&rt, &walked, &(Some(3), Some(40), 1));
     }
-    Ok(())
 }

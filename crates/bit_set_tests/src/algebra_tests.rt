@@ -3,14 +3,13 @@
 ghost use Rattle.std.specs.Prelude.{◌≡◌, IfOk};
 ghost use Rattle.bit_set.specs.Sets.{elements};
 
-use crate::expect::{expect, expect_eq};
+use crate::expect::{expect, expect_eq, ok};
+use crate::sets::{set_of, set_of_bytes};
 use bit_set::bit_vec::Merge;
 use bit_set::laws::collected_walks;
 use bit_set::{BitBlock, BitSet, SetError};
 use std::alloc::{AllocError, Global};
 use std::process::Abort;
-use std::test::Fail;
-use test_helpers::set_of;
 
 // Makes the set what it and another become.
 pub(crate) fn merge_in<B: BitBlock>(
@@ -26,220 +25,166 @@ pub(crate) fn merge_in<B: BitBlock>(
     }
 }
 
-// A set has these elements and this length once it is merged with another.
+// What a set is made of: bytes, and then numbers.
+type Parts = (&'static [u8], &'static [usize]);
+
+fn made(rt: &impl Abort, alloc: Global, (bytes, numbers): Parts) -> BitSet {
+    let mut set = set_of_bytes(rt, alloc, bytes);
+    ok(rt, set.extend(numbers.iter().copied()));
+    set
+}
+
+// A set that is merged with another is the set of a byte, and has these elements and this length.
 fn becomes(
     rt: &impl Abort,
-    alloc: Global,
-    merge: Merge,
-    mut set: BitSet,
-    other: &BitSet,
-    (elements, len): (&[usize], usize),
-) -> Result<(), AllocError> {
-    merge_in(&mut set, merge, other)?;
+    set: &mut BitSet,
+    (merge, other): (Merge, &BitSet),
+    (same, elements, len): (&BitSet, &[usize], usize),
+) {
+    ok(rt, merge_in(set, merge, other));
     expect(rt, set.iter().eq(elements.iter().copied()));
+    expect(rt, *set == *same);
     expect_eq(rt, &set.get_ref().len(), &len);
-    Ok(())
 }
 
-// Whether a set that is merged with another is equal to that of a byte.
-fn is_bytes(
-    alloc: Global,
-    merge: Merge,
-    mut set: BitSet,
-    other: &BitSet,
-    byte: u8,
-) -> Result<bool, SetError> {
-    merge_in(&mut set, merge, other)?;
-    Ok(set == BitSet::from_bytes(alloc, &[byte])?)
-}
-
-#[test]
-fn a_union_has_the_greater_length(rt: HostRuntime) -> Result<(), Fail> {
-    let alloc = rt.alloc();
-    let five = set_of(alloc, &[5])?;
-    becomes(
-        &rt,
-        alloc,
+// Two sets that are merged, the byte of the set that the first becomes, and its elements and length.
+const MERGES: &[(Merge, Parts, Parts, (u8, &[usize], usize))] = &[
+    // A union has the greater length, also that of a byte.
+    (
         Merge::Union,
-        set_of(alloc, &[0])?,
-        &five,
-        (&[0, 5], 6),
-    )?;
-    Ok(())
-}
-
-#[test]
-fn a_union_has_the_length_of_a_byte(rt: HostRuntime) -> Result<(), Fail> {
-    let alloc = rt.alloc();
-    let byte = BitSet::from_bytes(alloc, &[0b1000_0100])?;
-    becomes(
-        &rt,
-        alloc,
+        (&[], &[0]),
+        (&[], &[5]),
+        (0b1000_0100, &[0, 5], 6),
+    ),
+    (
         Merge::Union,
-        set_of(alloc, &[0])?,
-        &byte,
-        (&[0, 5], 8),
-    )?;
-    Ok(())
-}
-
-#[test]
-fn a_union_after_a_removal(rt: HostRuntime) -> Result<(), Fail> {
-    let alloc = rt.alloc();
-    let mut set = set_of(alloc, &[0, 3, 7])?;
-    expect(&rt, set.remove(7));
-    let byte = BitSet::from_bytes(alloc, &[0b1101_0000])?;
-    becomes(&rt, alloc, Merge::Union, set, &byte, (&[0, 1, 3], 8))?;
-    Ok(())
-}
-
-#[test]
-fn an_intersection_has_the_greater_length(rt: HostRuntime) -> Result<(), Fail> {
-    let alloc = rt.alloc();
-    let none = BitSet::new(alloc);
-    let byte = BitSet::from_bytes(alloc, &[0b1010_0010])?;
-    becomes(
-        &rt,
-        alloc,
+        (&[], &[0]),
+        (&[0b1000_0100], &[]),
+        (0b1000_0100, &[0, 5], 8),
+    ),
+    // So has an intersection.
+    (
         Merge::Intersection,
-        BitSet::new(alloc),
-        &byte,
-        (&[], 8),
-    )?;
-    becomes(&rt, alloc, Merge::Intersection, byte, &none, (&[], 8))?;
-    Ok(())
-}
-
-#[test]
-fn a_difference_has_what_the_first_has(rt: HostRuntime) -> Result<(), Fail> {
-    let alloc = rt.alloc();
-    let left = BitSet::from_bytes(alloc, &[0b0110_1000])?;
-    let right = BitSet::from_bytes(alloc, &[0b1010_0000])?;
-    let copy = left.clone(alloc)?;
-    becomes(&rt, alloc, Merge::Difference, copy, &right, (&[1, 4], 8))?;
-    becomes(&rt, alloc, Merge::Difference, right, &left, (&[0], 8))?;
-    Ok(())
-}
-
-// Whether the set of a byte without that of another is that of a third.
-fn is_difference(alloc: Global, left: u8, right: u8, byte: u8) -> Result<bool, SetError> {
-    let left = BitSet::from_bytes(alloc, &[left])?;
-    let right = BitSet::from_bytes(alloc, &[right])?;
-    is_bytes(alloc, Merge::Difference, left, &right, byte)
-}
-
-#[test]
-fn a_difference_is_the_set_read(rt: HostRuntime) -> Result<(), Fail> {
-    let (left, right) = (0b0110_1000, 0b1010_0000);
-    expect(&rt, is_difference(rt.alloc(), left, right, 0b0100_1000)?);
-    expect(&rt, is_difference(rt.alloc(), right, left, 0b1000_0000)?);
-    Ok(())
-}
-
-#[test]
-fn a_symmetric_difference_has_what_just_one_has(rt: HostRuntime) -> Result<(), Fail> {
-    let alloc = rt.alloc();
-    let ends = set_of(alloc, &[1, 5])?;
-    becomes(
-        &rt,
-        alloc,
+        (&[], &[]),
+        (&[0b1010_0010], &[]),
+        (0, &[], 8),
+    ),
+    (
+        Merge::Intersection,
+        (&[0b1010_0010], &[]),
+        (&[], &[]),
+        (0, &[], 8),
+    ),
+    // A difference has what the first has.
+    (
+        Merge::Difference,
+        (&[0b0110_1000], &[]),
+        (&[0b1010_0000], &[]),
+        (0b0100_1000, &[1, 4], 8),
+    ),
+    (
+        Merge::Difference,
+        (&[0b1010_0000], &[]),
+        (&[0b0110_1000], &[]),
+        (0b1000_0000, &[0], 8),
+    ),
+    // A symmetric difference has what just one has.
+    (
         Merge::Symmetric,
-        set_of(alloc, &[0, 1])?,
-        &ends,
-        (&[0, 5], 6),
-    )?;
-    Ok(())
+        (&[], &[0, 1]),
+        (&[], &[1, 5]),
+        (0b1000_0100, &[0, 5], 6),
+    ),
+];
+
+#[test]
+fn sets_become_one_in_place(rt: HostRuntime) {
+    for row in MERGES {
+        let (merge, first, second, (byte, elements, len)) = *row;
+        let mut set = made(&rt, rt.alloc(), first);
+        let other = made(&rt, rt.alloc(), second);
+        let same = set_of_bytes(&rt, rt.alloc(), &[byte]);
+        becomes(&rt, &mut set, (merge, &other), (&same, elements, len));
+    }
 }
 
 #[test]
-fn a_symmetric_difference_is_the_set_read(rt: HostRuntime) -> Result<(), Fail> {
-    let alloc = rt.alloc();
-    let ends = set_of(alloc, &[1, 5])?;
-    let both = set_of(alloc, &[0, 1])?;
-    expect(
-        &rt,
-        is_bytes(alloc, Merge::Symmetric, both, &ends, 0b1000_0100)?,
-    );
-    Ok(())
+fn a_union_after_a_removal(rt: HostRuntime) {
+    let mut set = set_of(&rt, rt.alloc(), &[0, 3, 7]);
+    expect(&rt, set.remove(7));
+    let byte = set_of_bytes(&rt, rt.alloc(), &[0b1101_0000]);
+    becomes(&rt, &mut set, (Merge::Union, &byte), (&byte, &[0, 1, 3], 8));
 }
 
-// Whether the set of some numbers is within that of others.
-fn is_within(alloc: Global, numbers: &[usize], others: &[usize]) -> Result<bool, SetError> {
-    let set = set_of::<u32>(alloc, numbers)?;
-    Ok(set.is_subset(&set_of(alloc, others)?))
-}
-
-#[test]
-fn a_subset_may_be_longer(rt: HostRuntime) -> Result<(), Fail> {
-    let alloc = rt.alloc();
-    expect(&rt, is_within(alloc, &[200], &[100, 200])?);
-    expect(&rt, !is_within(alloc, &[200, 300], &[100, 200])?);
-    expect(&rt, BitSet::new(alloc).is_subset(&BitSet::new(alloc)));
-    Ok(())
-}
-
-// Whether the sets of two bytes have no common element.
-fn are_apart(alloc: Global, byte: u8, other: u8) -> Result<bool, SetError> {
-    let set = BitSet::from_bytes(alloc, &[byte])?;
-    Ok(set.is_disjoint(&BitSet::from_bytes(alloc, &[other])?))
-}
+// Two sets, and whether the first is within the second and apart from it.
+const RELATIONS: &[(Parts, Parts, [bool; 2])] = &[
+    // A subset may be longer.
+    ((&[], &[200]), (&[], &[100, 200]), [true, false]),
+    ((&[], &[200, 300]), (&[], &[100, 200]), [false, false]),
+    ((&[], &[]), (&[], &[]), [true, true]),
+    // Sets with no common element are disjoint.
+    ((&[0b1010_0010], &[]), (&[0b0011_0000], &[]), [false, false]),
+    ((&[0b1010_0010], &[]), (&[0b0100_0000], &[]), [false, true]),
+    ((&[0b1010_0010], &[]), (&[], &[]), [false, true]),
+];
 
 #[test]
-fn sets_with_no_common_element_are_disjoint(rt: HostRuntime) -> Result<(), Fail> {
-    let alloc = rt.alloc();
-    expect(&rt, !are_apart(alloc, 0b1010_0010, 0b0011_0000)?);
-    expect(&rt, are_apart(alloc, 0b1010_0010, 0b0100_0000)?);
-    let set = BitSet::from_bytes(alloc, &[0b1010_0010])?;
-    expect(&rt, set.is_disjoint(&BitSet::new(alloc)));
-    Ok(())
+fn sets_are_compared(rt: HostRuntime) {
+    for row in RELATIONS {
+        let (first, second, wanted) = *row;
+        let set = made(&rt, rt.alloc(), first);
+        let other = made(&rt, rt.alloc(), second);
+        expect_eq(
+            &rt,
+            &[set.is_subset(&other), set.is_disjoint(&other)],
+            &wanted,
+        );
+    }
 }
 
 // Whether a set is in another that has one number more, that one in it, and whether they have nothing in
 // common.
-fn results<B: BitBlock>(alloc: Global) -> Result<[bool; 3], SetError> {
-    let less = set_of::<B>(alloc, &[1, 160])?;
-    let more = set_of(alloc, &[1, 160, 24])?;
-    Ok([
+fn results<B: BitBlock>(rt: &impl Abort, alloc: Global) -> [bool; 3] {
+    let less = set_of::<B>(rt, alloc, &[1, 160]);
+    let more = set_of(rt, alloc, &[1, 160, 24]);
+    [
         less.is_subset(&more),
         less.is_superset(&more),
         less.is_disjoint(&more),
-    ])
-}
-
-// How many elements a set has once it is merged with another.
-fn merged_count<B: BitBlock>(
-    set: &mut BitSet<B>,
-    merge: Merge,
-    other: &BitSet<B>,
-) -> Result<usize, AllocError> {
-    merge_in(set, merge, other)?;
-    Ok(set.count())
+    ]
 }
 
 // How many elements two sets of numbers become, by one merge after another.
-fn counts<B: BitBlock>(alloc: Global) -> Result<[usize; 4], SetError> {
-    let mut set = set_of::<B>(alloc, &[1, 3, 5, 9, 11, 160, 19, 24, 200])?;
-    let other = set_of(alloc, &[1, 5, 9, 13, 19])?;
-    let either = merged_count(&mut set, Merge::Union, &other)?;
-    let first = merged_count(&mut set, Merge::Difference, &other)?;
-    let one = merged_count(&mut set, Merge::Symmetric, &other)?;
-    let both = merged_count(&mut set, Merge::Intersection, &other)?;
-    Ok([either, first, one, both])
+fn counts<B: BitBlock>(rt: &impl Abort, alloc: Global) -> [usize; 4] {
+    let mut set = set_of::<B>(rt, alloc, &[1, 3, 5, 9, 11, 160, 19, 24, 200]);
+    let other = set_of(rt, alloc, &[1, 5, 9, 13, 19]);
+    let mut counts = [0; 4];
+    for (place, merge) in [
+        Merge::Union,
+        Merge::Difference,
+        Merge::Symmetric,
+        Merge::Intersection,
+    ]
+    .iter()
+    .enumerate()
+    {
+        ok(rt, merge_in(&mut set, *merge, &other));
+        counts[place] = set.count();
+    }
+    counts
 }
 
-fn become_one<B: BitBlock>(rt: &impl Abort, alloc: Global) -> Result<(), SetError> {
-    expect_eq(rt, &counts::<B>(alloc)?, &[10, 5, 10, 5]);
-    expect_eq(rt, &results::<B>(alloc)?, &[true, false, false]);
-    Ok(())
+fn become_one<B: BitBlock>(rt: &impl Abort, alloc: Global) {
+    expect_eq(rt, &counts::<B>(rt, alloc), &[10, 5, 10, 5]);
+    expect_eq(rt, &results::<B>(rt, alloc), &[true, false, false]);
 }
 
 #[test]
-fn sets_become_one_over_each_block(rt: HostRuntime) -> Result<(), Fail> {
-    become_one::<u8>(&rt, rt.alloc())?;
-    become_one::<u32>(&rt, rt.alloc())?;
-    become_one::<u64>(&rt, rt.alloc())?;
-    become_one::<u128>(&rt, rt.alloc())?;
-    Ok(())
+fn sets_become_one_over_each_block(rt: HostRuntime) {
+    become_one::<u8>(&rt, rt.alloc());
+    become_one::<u32>(&rt, rt.alloc());
+    become_one::<u64>(&rt, rt.alloc());
+    become_one::<u128>(&rt, rt.alloc());
 }
 
 // What the walk over a union collects, and the set that becomes the union in place: they have the same
@@ -258,11 +203,10 @@ fn collect_and_unite<B: BitBlock + 'static>(
 }
 
 #[test]
-fn a_walk_collects_what_is_left_in_place(rt: HostRuntime) -> Result<(), Fail> {
-    let alloc = rt.alloc();
-    let mut set = set_of::<u32>(alloc, &[11, 1, 3])?;
-    let collected = collect_and_unite(alloc, &mut set, &set_of(alloc, &[2, 11])?)?;
+fn a_walk_collects_what_is_left_in_place(rt: HostRuntime) {
+    let mut set = set_of::<u32>(&rt, rt.alloc(), &[11, 1, 3]);
+    let other = set_of(&rt, rt.alloc(), &[2, 11]);
+    let collected = ok(&rt, collect_and_unite(rt.alloc(), &mut set, &other));
     expect(&rt, collected.iter().eq([1, 2, 3, 11]));
     expect(&rt, set.iter().eq([1, 2, 3, 11]));
-    Ok(())
 }

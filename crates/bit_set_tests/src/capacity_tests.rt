@@ -1,0 +1,260 @@
+//! Capacity and length, and the bit vector in hand: rows with their exact results.
+ghost use Rattle.std.specs.Prelude.{◌≡◌, ◌<◌, ◌≤◌, All, IsOk, length, slice_set, true};
+
+use crate::expect::{expect, expect_eq, ok};
+use crate::sets::{set_of, set_of_bytes};
+use bit_set::{BitBlock, BitSet, SetError};
+use block24::Block24;
+use std::alloc::Global;
+use std::process::Abort;
+use std::test::Fail;
+
+// The length of the set of some numbers, and that once it is shrunk.
+fn has_lengths<B: BitBlock>(rt: &impl Abort, alloc: Global, numbers: &[usize], wanted: [usize; 2]) {
+    let mut set = set_of::<B>(rt, alloc, numbers);
+    let before = set.get_ref().len();
+    ok(rt, set.shrink_to_fit());
+    expect_eq(rt, &[before, set.get_ref().len()], &wanted);
+}
+
+#[test]
+fn a_shrunk_set_is_as_long_as_its_blocks(rt: HostRuntime) {
+    has_lengths::<u32>(&rt, rt.alloc(), &[3], [4, 32]);
+    has_lengths::<u8>(&rt, rt.alloc(), &[3], [4, 8]);
+    has_lengths::<u32>(&rt, rt.alloc(), &[40], [41, 64]);
+    has_lengths::<u8>(&rt, rt.alloc(), &[40], [41, 48]);
+    has_lengths::<Block24>(&rt, rt.alloc(), &[40], [41, 48]);
+    has_lengths::<u128>(&rt, rt.alloc(), &[3], [4, 128]);
+    has_lengths::<u32>(&rt, rt.alloc(), &[3, 98, 259], [260, 288]);
+}
+
+// The length of the set of some numbers without one of them, once it is shrunk.
+fn has_length_without<B: BitBlock>(
+    rt: &impl Abort,
+    alloc: Global,
+    (numbers, gone): (&[usize], usize),
+    len: usize,
+) {
+    let mut set = set_of::<B>(rt, alloc, numbers);
+    ok(rt, set.shrink_to_fit());
+    set.remove(gone);
+    ok(rt, set.shrink_to_fit());
+    expect_eq(rt, &set.get_ref().len(), &len);
+}
+
+#[test]
+fn blocks_of_zeros_are_cut(rt: HostRuntime) {
+    has_length_without::<u32>(&rt, rt.alloc(), (&[3], 3), 0);
+    has_length_without::<u8>(&rt, rt.alloc(), (&[3], 3), 0);
+    has_length_without::<u32>(&rt, rt.alloc(), (&[3, 98, 259], 259), 128);
+}
+
+// {3} has so many elements once it is shrunk and filled.
+fn fills<B: BitBlock>(rt: &impl Abort, alloc: Global, count: usize) {
+    let mut set = set_of::<B>(rt, alloc, &[3]);
+    ok(rt, set.shrink_to_fit());
+    set.get_mut().fill(true);
+    expect_eq(rt, &set.count(), &count);
+}
+
+#[test]
+fn a_fill_fills_whole_blocks(rt: HostRuntime) {
+    fills::<u8>(&rt, rt.alloc(), 8);
+    fills::<u64>(&rt, rt.alloc(), 64);
+    fills::<u128>(&rt, rt.alloc(), 128);
+}
+
+// Makes the bit vector true at 1: what is written through it is the set.
+fn raise_at_one<B: BitBlock>(set: &mut BitSet<B>)
+    requires { 1 < length set.old.values }
+    ensures { set.new.values ≡ slice_set set.old.values 1 true }
+{
+    set.get_mut().set(1, true);
+}
+
+#[test]
+fn what_is_written_is_the_set(rt: HostRuntime) -> Result<(), Fail> {
+    let mut set = BitSet::new(rt.alloc());
+    set.insert(0)?;
+    set.insert(3)?;
+    raise_at_one(&mut set);
+    expect(&rt, set.iter().eq([0, 1, 3]));
+    Ok(())
+}
+
+#[test]
+fn the_bit_vector_is_handed_out(rt: HostRuntime) {
+    let bits = set_of::<u32>(&rt, rt.alloc(), &[0, 3]).into_bit_vec();
+    expect_eq(&rt, &[bits.get(3), bits.get(4)], &[Some(true), None]);
+}
+
+#[test]
+fn the_bit_vector_of_a_union_is_handed_out(rt: HostRuntime) {
+    let mut set = set_of::<u32>(&rt, rt.alloc(), &[0, 3, 7]);
+    set.remove(7);
+    let byte = set_of_bytes(&rt, rt.alloc(), &[0b1101_0000]);
+    ok(&rt, set.union_with(&byte));
+    expect_eq(&rt, &set.into_bit_vec().get(3), &Some(true));
+}
+
+// The capacities of a set before and after it is shrunk.
+fn capacities(rt: &impl Abort, set: &mut BitSet) -> [usize; 2] {
+    let before = set.capacity();
+    ok(rt, set.shrink_to_fit());
+    [before, set.capacity()]
+}
+
+#[test]
+fn a_new_set_has_no_capacity(rt: HostRuntime) {
+    let mut set = BitSet::new(rt.alloc());
+    expect_eq(&rt, &capacities(&rt, &mut set), &[0, 0]);
+    ok(&rt, set.insert(3));
+    let [before, after] = capacities(&rt, &mut set);
+    expect(&rt, before > 0 && after > 0);
+    expect(&rt, set.iter().eq([3]));
+}
+
+// The set {3, 98, 259} with no more capacity than it takes.
+fn shrunk_once(rt: &impl Abort, alloc: Global) -> BitSet {
+    let mut set = set_of(rt, alloc, &[259, 98, 3]);
+    ok(rt, set.shrink_to_fit());
+    expect_eq(rt, &set.count(), &3);
+    expect(rt, set.capacity() > 0);
+    set
+}
+
+// The set {3, 98} with no more capacity than it takes, which is less than {3, 98, 259} took.
+fn shrunk_twice(rt: &impl Abort, alloc: Global) -> BitSet {
+    let mut set = shrunk_once(rt, alloc);
+    let capacity = set.capacity();
+    set.remove(259);
+    ok(rt, set.shrink_to_fit());
+    expect(rt, set.capacity() < capacity);
+    set
+}
+
+// Takes all elements out. How many there are then, and whether the capacity stays.
+fn emptied(set: &mut BitSet) -> (usize, bool) {
+    let capacity = set.capacity();
+    set.make_empty();
+    (set.count(), set.capacity() == capacity)
+}
+
+#[test]
+fn capacity_is_given_back(rt: HostRuntime) {
+    let mut set = shrunk_twice(&rt, rt.alloc());
+    expect(&rt, set.iter().eq([3, 98]));
+    expect_eq(&rt, &emptied(&mut set), &(0, true));
+}
+
+#[test]
+fn all_capacity_is_given_back_by_an_empty_set(rt: HostRuntime) {
+    let mut set = shrunk_twice(&rt, rt.alloc());
+    set.make_empty();
+    ok(&rt, set.insert(512));
+    expect(&rt, set.iter().eq([512]));
+    set.remove(512);
+    ok(&rt, set.shrink_to_fit());
+    expect_eq(&rt, &(set.is_empty(), set.capacity()), &(true, 0));
+}
+
+// A new set has at least capacity for 41 once that is reserved, and this much once it is reserved exactly.
+fn reserves<B: BitBlock>(rt: &impl Abort, alloc: Global, exactly: usize) {
+    let mut set = BitSet::<B>::new_general(alloc);
+    ok(rt, set.reserve_len(41));
+    expect(rt, set.capacity() >= 41);
+    let mut exact = BitSet::<B>::new_general(alloc);
+    ok(rt, exact.reserve_len_exact(41));
+    ok(rt, exact.reserve_len_exact(7));
+    expect_eq(rt, &exact.capacity(), &exactly);
+}
+
+#[test]
+fn capacity_is_reserved(rt: HostRuntime) {
+    reserves::<u8>(&rt, rt.alloc(), 48);
+    reserves::<Block24>(&rt, rt.alloc(), 48);
+    reserves::<u32>(&rt, rt.alloc(), 64);
+}
+
+#[test]
+fn no_capacity_past_all_memory(rt: HostRuntime) {
+    let mut set = set_of::<u32>(&rt, rt.alloc(), &[5]);
+    expect(&rt, set.reserve_len(18446744073709551615).is_err());
+    expect(&rt, set.reserve_len_exact(18446744073709551615).is_err());
+    expect(&rt, set.iter().eq([5]));
+    expect_eq(&rt, &set.get_ref().len(), &6);
+}
+
+// Once 0 is in, 1 goes in for sure: they share a block.
+fn put_one_after_zero(set: &mut BitSet) -> Result<bool, SetError>
+    requires { 0 < length set.old.values }
+    ensures { IsOk result }
+{
+    prove!(set.capacity() > 1);
+    set.insert(1)
+}
+
+#[test]
+fn a_block_that_is_there_is_enough(rt: HostRuntime) -> Result<(), Fail> {
+    let mut set = BitSet::new(rt.alloc());
+    set.insert(0)?;
+    expect(&rt, put_one_after_zero(&mut set)?);
+    let bytes = BitSet::<u8>::from_bytes_general(rt.alloc(), &[7; 5])?;
+    expect_eq(&rt, &bytes.capacity(), &40);
+    Ok(())
+}
+
+// Numbers below 100 go into a set with capacity for 100, and no call fails.
+fn put_all_within<B: BitBlock>(set: &mut BitSet<B>, values: &[usize]) -> Result<(), SetError>
+    requires capacity { 100 ≤ set.old.capacity }
+    requires low { All (λ value. value < 100) values.now }
+    ensures ok { IsOk result }
+    ensures kept { set.new.capacity ≡ set.old.capacity }
+{
+    for &value in values {
+        set.insert(value)?;
+    }
+    Ok(())
+}
+
+// Calls on a set by itself that want capacity for no more than 100, where it has it: none fails.
+fn change_alone_within<B: BitBlock>(set: &mut BitSet<B>) -> Result<(), SetError>
+    requires { 100 ≤ set.old.capacity }
+    ensures ok { IsOk result }
+    ensures kept { set.new.capacity ≡ set.old.capacity }
+{
+    set.remove(3);
+    set.reserve_len(70)?;
+    set.truncate(80);
+    set.insert(99)?;
+    Ok(())
+}
+
+// Calls that want capacity for no more than 100, on a set that has it: none fails.
+fn change_within<B: BitBlock>(set: &mut BitSet<B>, other: &BitSet<B>) -> Result<(), SetError>
+    requires capacity { 100 ≤ set.old.capacity }
+    requires short { length other.now.values ≤ 100 }
+    ensures ok { IsOk result }
+    ensures kept { set.new.capacity ≡ set.old.capacity }
+{
+    set.union_with(other)?;
+    change_alone_within(set)?;
+    set.symmetric_difference_with(other)?;
+    set.clone_from(other)?;
+    Ok(())
+}
+
+#[test]
+fn within_its_capacity_a_set_never_fails(rt: HostRuntime) -> Result<(), Fail> {
+    let mut set = BitSet::<Block24>::new_general(rt.alloc());
+    let mut other = BitSet::with_capacity_general(rt.alloc(), 99)?;
+    other.insert(3)?;
+    other.insert(98)?;
+    set.reserve_len(100)?;
+    let capacity = set.capacity();
+    put_all_within(&mut set, &[99, 0, 41])?;
+    change_within(&mut set, &other)?;
+    expect(&rt, set.iter().eq([3, 98]));
+    expect_eq(&rt, &set.capacity(), &capacity);
+    Ok(())
+}

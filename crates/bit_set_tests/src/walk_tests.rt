@@ -1,0 +1,190 @@
+//! The rows of the walk, and a walk at each of its points over four widths.
+ghost use Rattle.std.specs.Prelude.{◌≡◌, ℕ, ◌-◌, ◌≤◌, ◌^◌, Bool, None, List, length};
+ghost use Rattle.std.specs.Iterator.{UpTo, YieldsThen};
+ghost use Rattle.bit_set.specs.Walk.{Walk, IsAtStart};
+
+mod two_sets;
+
+use crate::expect::{expect_eq, ok};
+use crate::sets::{set_of, set_of_bytes};
+use bit_set::laws::whole_walks;
+use bit_set::{BitBlock, BitSet, Iter};
+use block24::Block24;
+use std::alloc::Global;
+use std::process::Abort;
+
+// A set of one element, of at least this length.
+pub(crate) fn set_of_one<B: BitBlock>(
+    rt: &impl Abort,
+    alloc: Global,
+    len: usize,
+    element: usize,
+) -> BitSet<B> {
+    let mut set = ok(rt, BitSet::with_capacity_general(alloc, len));
+    ok(rt, set.insert(element));
+    set
+}
+
+// The bounds on the rest: at the making, and after each of two calls of `next`.
+pub(crate) fn bounds<B: BitBlock>(set: &BitSet<B>) -> [(usize, Option<usize>); 3] {
+    let mut walk = set.iter();
+    let made = walk.size_hint();
+    let _ = walk.next();
+    let stepped = walk.size_hint();
+    let _ = walk.next();
+    [made, stepped, walk.size_hint()]
+}
+
+// Those of a set of one element, of at least this length, are these.
+fn falls<B: BitBlock>(
+    rt: &impl Abort,
+    alloc: Global,
+    (len, element): (usize, usize),
+    wanted: [usize; 3],
+) {
+    let set = set_of_one::<B>(rt, alloc, len, element);
+    let [made, stepped, last] = wanted;
+    let wanted = [(0, Some(made)), (0, Some(stepped)), (0, Some(last))];
+    expect_eq(rt, &bounds(&set), &wanted);
+}
+
+// A set of 401 places over `u32` has 13 blocks, and its whole walk makes 14 pulls at most.
+fn pulls_at_401_places()
+    ensures { (values : List Bool) (s t : Walk) (items : List ℕ) → length values ≡ 401 → IsAtStart 32 values s
+        → YieldsThen ⟦<Iter<'static, u32> as Iterator>⟧.next_gives s items None t → t.pulls ≤ 14 }
+{
+    whole_walks::<u32>();
+}
+
+#[test]
+fn the_bound_falls_with_the_blocks(rt: HostRuntime) {
+    pulls_at_401_places();
+    falls::<u32>(&rt, rt.alloc(), (0, 400), [416, 32, 32]);
+    falls::<u8>(&rt, rt.alloc(), (0, 400), [408, 8, 8]);
+    falls::<u128>(&rt, rt.alloc(), (0, 400), [512, 128, 128]);
+    falls::<u8>(&rt, rt.alloc(), (40, 3), [40, 40, 8]);
+}
+
+// How many blocks {400} has, and a walk over them gives.
+fn has_blocks<B: BitBlock>(rt: &impl Abort, alloc: Global, count: usize) {
+    let set = set_of_one::<B>(rt, alloc, 0, 400);
+    let bits = set.get_ref();
+    let counts = [bits.storage().len(), bits.blocks().count()];
+    expect_eq(rt, &counts, &[count, count]);
+}
+
+#[test]
+fn a_set_has_the_blocks_of_its_length(rt: HostRuntime) {
+    has_blocks::<u8>(&rt, rt.alloc(), 51);
+    has_blocks::<u128>(&rt, rt.alloc(), 4);
+}
+
+// What the first five calls of `next` give.
+fn firsts<B: BitBlock>(set: &BitSet<B>) -> [Option<usize>; 5] {
+    let mut walk = set.iter();
+    [
+        walk.next(),
+        walk.next(),
+        walk.next(),
+        walk.next(),
+        walk.next(),
+    ]
+}
+
+#[test]
+fn a_walk_over_a_byte_stays_at_its_end(rt: HostRuntime) {
+    let bytes = set_of_bytes::<u32>(&rt, rt.alloc(), &[0b0100_1010]);
+    let wanted = [Some(1), Some(4), Some(6), None, None];
+    expect_eq(&rt, &firsts(&bytes), &wanted);
+    let forty = set_of_bytes::<u8>(&rt, rt.alloc(), &[0b0001_0100]);
+    let wanted = [Some(3), Some(5), None, None, None];
+    expect_eq(&rt, &firsts(&forty), &wanted);
+}
+
+#[test]
+fn a_walk_stays_at_its_end(rt: HostRuntime) {
+    let wide = set_of_one::<u32>(&rt, rt.alloc(), 0, 400);
+    expect_eq(&rt, &firsts(&wide), &[Some(400), None, None, None, None]);
+    let widest = set_of::<u128>(&rt, rt.alloc(), &[128, 127]);
+    let wanted = [Some(127), Some(128), None, None, None];
+    expect_eq(&rt, &firsts(&widest), &wanted);
+    let spacious = set_of_one::<u8>(&rt, rt.alloc(), 40, 3);
+    expect_eq(&rt, &firsts(&spacious), &[Some(3), None, None, None, None]);
+}
+
+#[test]
+fn an_empty_set_has_no_item(rt: HostRuntime) {
+    let set = BitSet::new(rt.alloc());
+    expect_eq(&rt, &set.iter().size_hint(), &(0, Some(32)));
+    expect_eq(&rt, &firsts(&set), &[None; 5]);
+    expect_eq(&rt, &set.iter().count(), &0);
+}
+
+// What generic code counts.
+fn counted<I: Iterator<Item = usize>>(items: I) -> usize
+    requires may_call { I.can_next items }
+    requires few { UpTo (I.remaining items) (2 ^ 64 - 1) }
+{
+    items.count()
+}
+
+fn even_numbers(rt: &impl Abort, alloc: Global) -> BitSet {
+    ok(rt, BitSet::from_iter(alloc, (0..5000).map(|half| half * 2)))
+}
+
+#[test]
+fn even_numbers_are_counted(rt: HostRuntime) {
+    let set = even_numbers(&rt, rt.alloc());
+    expect_eq(&rt, &[set.iter().count(), counted(set.iter())], &[5000; 2]);
+    let mut walk = set.iter();
+    for half in 0..5000 {
+        expect_eq(&rt, &walk.next(), &Some(half * 2));
+    }
+    expect_eq(&rt, &walk.next(), &None);
+}
+
+// The walk gives these items first.
+pub(crate) fn passes<B: BitBlock>(rt: &impl Abort, walk: &mut Iter<'_, B>, items: &[usize]) {
+    for item in items {
+        expect_eq(rt, &walk.next(), &Some(*item));
+    }
+}
+
+// The walk gives these items, and no more.
+fn gives<B: BitBlock>(rt: &impl Abort, mut walk: Iter<'_, B>, items: &[usize]) {
+    passes(rt, &mut walk, items);
+    expect_eq(rt, &walk.next(), &None);
+}
+
+// At each point of the walk over these elements, a clone counts what is left and gives it, and the
+// walk is left there.
+pub(crate) fn agrees_at_each_point<B: BitBlock>(
+    rt: &impl Abort,
+    set: &BitSet<B>,
+    elements: &[usize],
+) {
+    for point in 0..elements.len() + 1 {
+        let (passed, left) = elements.split_at(point);
+        let mut walk = set.iter();
+        passes(rt, &mut walk, passed);
+        assert_eq!(rt; walk.clone().count(), left.len(), "at {point}");
+        gives(rt, walk.clone(), left);
+        expect_eq(rt, &walk.next(), &left.first().copied());
+    }
+}
+
+fn agrees_over<B: BitBlock>(rt: &impl Abort, alloc: Global, elements: &[usize]) {
+    let set = set_of::<B>(rt, alloc, elements);
+    agrees_at_each_point(rt, &set, elements);
+}
+
+#[test]
+fn a_walk_is_its_list_at_each_point(rt: HostRuntime) {
+    let elements = [
+        0, 1, 7, 8, 22, 23, 24, 47, 48, 63, 64, 65, 127, 128, 143, 400, 401,
+    ];
+    agrees_over::<u8>(&rt, rt.alloc(), &elements);
+    agrees_over::<Block24>(&rt, rt.alloc(), &elements);
+    agrees_over::<u64>(&rt, rt.alloc(), &elements);
+    agrees_over::<u128>(&rt, rt.alloc(), &elements);
+}

@@ -1,0 +1,13 @@
+//! The tests of the libraries that use sets, by their public calls alone.
+#![tactic(auto)]
+
+#[cfg(test)]
+mod automata_tests;
+#[cfg(test)]
+mod dataflow_tests;
+#[cfg(test)]
+mod expect;
+#[cfg(test)]
+mod free_slots_tests;
+#[cfg(test)]
+mod graph_walks_tests;
