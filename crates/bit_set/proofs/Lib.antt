@@ -26,3 +26,5 @@ pub mod FilledLemmas
 pub mod CallLemmas
 pub mod AgreementLaws
 pub mod CallerLemmas
+pub mod TestLemmas
+pub mod WalkCalls
