@@ -23,3 +23,5 @@ pub mod JsonLemmas
 pub mod FilledLemmas
 pub mod CallLemmas
 pub mod CallerLemmas
+pub mod TestLemmas
+pub mod WalkCalls

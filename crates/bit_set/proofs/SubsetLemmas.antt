@@ -11,13 +11,13 @@ use Rattle.bit_set.proofs.SetLaws.{slice_get-elements, contains-has, finite}
 
 -- ---- a test that each member passes
 
-each_passes : (p : ℕ → Bool) (s : List ℕ) → list_all p s ≡ true → (n : ℕ) → has s n ≡ true → p n ≡ true
+pub each_passes : (p : ℕ → Bool) (s : List ℕ) → list_all p s ≡ true → (n : ℕ) → has s n ≡ true → p n ≡ true
 each_passes p [] all n is = absurd (true≢false (sym is))
 each_passes p (x ∷ xs) all n is =
     let parts = and_parts (p x) (list_all p xs) all in
     ⊎_elim (λ here. ap p (sym (eqb-true x n here)) ∙ parts.0) (λ rest. each_passes p xs parts.1 n rest) (or_cases (eqb x n) (has xs n) is)
 
-all_pass : (p : ℕ → Bool) (s : List ℕ) → ((n : ℕ) → has s n ≡ true → p n ≡ true) → list_all p s ≡ true
+pub all_pass : (p : ℕ → Bool) (s : List ℕ) → ((n : ℕ) → has s n ≡ true → p n ≡ true) → list_all p s ≡ true
 all_pass p [] each = refl
 all_pass p (x ∷ xs) each =
     and_from (p x) (list_all p xs) (each x (or_left (eqb x x) (has xs x) (eq-eqb x x refl))) (all_pass p xs (λ n is. each n (or_right (eqb x n) (has xs n) is)))

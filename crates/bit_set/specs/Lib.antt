@@ -4,6 +4,7 @@ pub mod Members
 pub mod Faults
 pub mod Effects
 pub mod Calls
+pub mod Choices
 pub mod Capacity
 pub mod Walk
 pub mod Agreement

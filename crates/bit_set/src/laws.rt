@@ -1,17 +1,19 @@
 //! Laws of sets of numbers, as the contracts of functions that do nothing; one of them is in a body too,
 //! which proves it and does nothing else. A set is the list of its members in strictly ascending order.
-ghost use Rattle.std.specs.Prelude.{◌≡◌, ◌≢◌, ℕ, ◌+◌, ◌-◌, ◌*◌, ◌/◌, ◌<◌, ◌≤◌, ◌↔◌, ◌++◌, ◌∷◌, ◌==◌, ◌&&◌, ◌||◌, max, min, not, nat_lt, nat_le, if◌then◌else◌, Bool, true, All, IsTrue, Some, None, Option, List, [], length, map, slice_get, filter};
+ghost use Rattle.std.specs.Prelude.{◌≡◌, ◌≢◌, ℕ, ◌+◌, ◌-◌, ◌*◌, ◌/◌, ◌<◌, ◌≤◌, ◌↔◌, ◌++◌, ◌∷◌, ◌==◌, ◌&&◌, ◌||◌, max, min, not, nat_lt, nat_le, if◌then◌else◌, Bool, true, All, IsTrue, Some, None, Option, List, [], length, map, slice_get, MatchOption, filter, false, ◌⊎◌};
 ghost use Rattle.std.specs.FinSet as set;
 ghost use Rattle.std.specs.Cmp.{IsEquivalence, IsTotalOrder};
 ghost use Rattle.std.specs.Ordering.{nat_cmp};
 ghost use Rattle.std.specs.Iterator.{YieldsThen, Drains};
+ghost use Rattle.std.specs.List.{find, last_or, list_all, list_any, position_or_len, reduce};
 ghost use Rattle.bit_words.specs.Bits.{blocks_for, blocks_of, true_end};
 ghost use Rattle.serde_json.specs.Data.{Data};
 ghost use Rattle.bit_set.specs.Agreement.{WalksAgree};
 ghost use Rattle.bit_set.specs.Calls.{Change, Changes, Event, Happens, outcomes, set_after};
 ghost use Rattle.bit_set.specs.Calls.Outcome.{Done, NoMemory};
 ghost use Rattle.bit_set.specs.Effects.{TakesIn};
-ghost use Rattle.bit_set.specs.Members.{TakesLeast};
+ghost use Rattle.bit_set.specs.Choices.{IsGreatest, IsLeast, IsLeastPassing};
+ghost use Rattle.bit_set.specs.Members.{HasNone, IsSameSet, TakesLeast};
 ghost use Rattle.bit_set.specs.Capacity.{Run};
 ghost use Rattle.bit_set.specs.Json.{IsFirstFault, Spells};
 ghost use Rattle.bit_set.specs.declared.json.JsonError.{JsonError};
@@ -387,4 +389,56 @@ pub fn full_walks<B: BitBlock + 'static>()
         → StartsOverTwo B.width a b s
         → YieldsThen ⟦<SymmetricDifference<'static, B> as Iterator>⟧.next_gives s items None t
         → t.pulls ≤ max (blocks_for B.width (length a)) (blocks_for B.width (length b)) + 2 }
+{}
+
+/// What tests of all members say of the members: a test that each passes, and `==`, whose word in std's contracts is
+/// `same_sets`.
+pub fn tests_of_members()
+    ensures all { (p : ℕ → Bool) (s : List ℕ) → IsTrue (list_all p s)
+        ↔ ((x : ℕ) → IsTrue (has s x) → IsTrue (p x)) }
+    ensures same { (a b : List Bool) → IsTrue (same_sets (elements a) (elements b))
+        ↔ IsSameSet (elements a) (elements b) }
+{}
+
+/// What searches say of the members: whether one passes a test, and of a list that ascends the least that does, and
+/// how many are below it.
+pub fn searches_of_members()
+    ensures any { (p : ℕ → Bool) (s : List ℕ) → IsTrue (list_any p s)
+        ↔ ((x : ℕ) × IsTrue (has s x) × IsTrue (p x)) }
+    ensures found { (p : ℕ → Bool) (s : List ℕ) → IsAscending s
+        → MatchOption (find p s) ((x : ℕ) → IsTrue (has s x) → p x ≡ false) (IsLeastPassing p s) }
+    ensures place { (p : ℕ → Bool) (s : List ℕ) → IsAscending s → MatchOption (find p s)
+        (position_or_len p s ≡ length s) (λ m. position_or_len p s ≡ length (those_below s m)) }
+{}
+
+/// The greatest and the least member, as `max`, `min` and `last` of a walk return them.
+pub fn ends_of_sets()
+    ensures greatest { (s : List ℕ) → MatchOption (reduce max s) (HasNone s) (IsGreatest s) }
+    ensures least { (s : List ℕ) → MatchOption (reduce min s) (HasNone s) (IsLeast s) }
+    ensures last { (s : List ℕ) → IsAscending s → last_or None s ≡ reduce max s }
+{}
+
+/// The members of what a chain makes of a set: those that pass a test, and what a function gives of each. `put` says
+/// the same of what is put into the empty set.
+pub fn members_of_chains()
+    ensures filtered { (p : ℕ → Bool) (s : List ℕ) (x : ℕ) → has (filter p s) x ≡ (has s x && p x) }
+    ensures mapped { (f : ℕ → ℕ) (s : List ℕ) (x : ℕ) → IsTrue (has (map f s) x)
+        ↔ ((m : ℕ) × IsTrue (has s m) × (f m ≡ x)) }
+    ensures raised { (s : List ℕ) (by x : ℕ) → has (map (λ m. m + by) s) x ≡ (nat_le by x && has s (x - by)) }
+    ensures put { (items : List ℕ) (x : ℕ) → has (put_all [] items) x ≡ has items x }
+{}
+
+/// A member is below the length.
+pub fn members_are_below_lengths()
+    ensures within { (values : List Bool) (x : ℕ) → IsTrue (has (elements values) x) → x < length values }
+    ensures past { (values : List Bool) (x : ℕ) → length values ≤ x → has (elements values) x ≡ false }
+{}
+
+/// What a step of a walk does to the members that are left, by the clause `first` of `Advances`: x is the item, and s
+/// and t are what was left before it and after it.
+pub fn steps_of_walks()
+    ensures before { (s t : List ℕ) (x y : ℕ) → TakesLeast s x t → IsTrue (has t y) → IsTrue (has s y) }
+    ensures after { (s t : List ℕ) (x y : ℕ) → TakesLeast s x t → IsTrue (has s y) → (x ≡ y) ⊎ IsTrue (has t y) }
+    ensures above { (s t : List ℕ) (x y : ℕ) → TakesLeast s x t → IsTrue (has t y) → x < y }
+    ensures below { (s t : List ℕ) (x y : ℕ) → TakesLeast s x t → y < x → has s y ≡ false }
 {}

@@ -1,8 +1,10 @@
 //! Walks over sets in chains.
-ghost use Rattle.std.specs.Prelude.{◌≡◌, max, nat_le, nat_lt, IfOk, OnOk};
-ghost use Rattle.std.specs.List.{list_all, list_any, reduce};
-ghost use Rattle.bit_set.specs.Members.{IsIntersection, IsSameSet, IsUnion};
-ghost use Rattle.bit_set.specs.Sets.{elements};
+ghost use Rattle.std.specs.Prelude.{◌≡◌, ℕ, false, nat_le, nat_lt, IfOk, IsTrue, MatchOption, OnOk};
+ghost use Rattle.std.specs.List.{list_all, list_any};
+ghost use Rattle.bit_set.specs.Choices.{IsGreatest, IsLeastPassing};
+ghost use Rattle.bit_set.specs.Members.{HasNone, IsIntersection, IsSameSet, IsUnion};
+ghost use Rattle.bit_set.specs.Order.{same_sets};
+ghost use Rattle.bit_set.specs.Sets.{elements, has, union};
 
 use bit_set::{BitBlock, BitSet, SetError};
 use std::alloc::Global;
@@ -19,13 +21,6 @@ pub fn any_from<B: BitBlock>(set: &BitSet<B>, n: usize) -> bool
     ensures { result ≡ list_any (λ x. nat_le n x) (elements set.now.values) }
 {
     set.iter().any(|x| n <= x)
-}
-
-/// The greatest member.
-pub fn greatest<B: BitBlock>(set: &BitSet<B>) -> Option<usize>
-    ensures { result ≡ reduce max (elements set.now.values) }
-{
-    set.iter().max()
 }
 
 /// Puts the numbers of a row in.
@@ -65,4 +60,27 @@ pub fn common<B: BitBlock>(
         IsIntersection (elements a.now.values) (elements b.now.values) (elements set.values)) }
 {
     BitSet::from_iter(alloc, a.intersection(b))
+}
+
+/// The greatest member.
+pub fn greatest<B: BitBlock>(set: &BitSet<B>) -> Option<usize>
+    ensures { MatchOption result (HasNone (elements set.now.values)) (IsGreatest (elements set.now.values)) }
+{
+    set.iter().max()
+}
+
+/// The least member that is `n` or above.
+pub fn first_from<B: BitBlock>(set: &BitSet<B>, n: usize) -> Option<usize>
+    ensures { MatchOption result
+        ((x : ℕ) → IsTrue (has (elements set.now.values) x) → nat_le n x ≡ false)
+        (IsLeastPassing (λ x. nat_le n x) (elements set.now.values)) }
+{
+    set.iter().find(|x| n <= *x)
+}
+
+/// Whether a set is the union of two others.
+pub fn is_union<B: BitBlock>(a: &BitSet<B>, b: &BitSet<B>, whole: &BitSet<B>) -> bool
+    ensures { result ≡ same_sets (union (elements a.now.values) (elements b.now.values)) (elements whole.now.values) }
+{
+    a.union(b).eq(whole.iter())
 }

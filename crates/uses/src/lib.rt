@@ -1,9 +1,9 @@
 //! Uses of `bit_set`, as a caller writes them.
 #![tactic(auto)]
 
-ghost use Rattle.std.specs.Prelude.{◌≡◌, ℕ, ◌<◌, ◌≤◌, ◌%◌, ◌==◌, ◌&&◌, ◌||◌, ◌↔◌, ◌∷◌, not, nat_lt, false, All, IfNone, IfOk, IfSome, IsOk, OnOk, IsTrue, Some, length};
+ghost use Rattle.std.specs.Prelude.{◌≡◌, ℕ, ◌<◌, ◌≤◌, ◌%◌, ◌==◌, ◌&&◌, ◌||◌, ◌↔◌, ◌∷◌, if◌then◌else◌, not, nat_lt, false, All, IfNone, IfOk, IfSome, IsOk, OnOk, IsTrue, Some, length};
 ghost use Rattle.bit_set.specs.Members.{HasNone, IsSameSet, IsUnion};
-ghost use Rattle.bit_set.specs.Sets.{elements, has, those_below};
+ghost use Rattle.bit_set.specs.Sets.{elements, has, intersection, those_below};
 
 use bit_set::{BitBlock, BitSet, SetError, laws};
 use std::alloc::{AllocError, AllocFailed, Global};
@@ -16,6 +16,7 @@ pub mod chains;
 pub mod commands;
 #[cfg(test)]
 mod commands_tests;
+pub mod loops;
 #[cfg(test)]
 mod tests;
 
@@ -44,18 +45,6 @@ pub fn members<B: BitBlock>(alloc: Global, set: &BitSet<B>) -> Result<Vec<usize>
     ensures { IfOk result (λ members. members.items ≡ elements set.now.values) }
 {
     set.iter().collect(alloc)
-}
-
-/// Whether all members are below `n`.
-pub fn all_below<B: BitBlock>(set: &BitSet<B>, n: usize) -> bool
-    ensures { IsTrue result ↔ ((x : ℕ) → IsTrue (has (elements set.now.values) x) → x < n) }
-{
-    for member in set {
-        if member >= n {
-            return false;
-        }
-    }
-    true
 }
 
 /// How many members are below `n`.
@@ -117,6 +106,26 @@ pub fn exchange<B: BitBlock>(set: &mut BitSet<B>, new: usize, old: usize) -> Res
     set.insert(new)?;
     set.remove(old);
     Ok(())
+}
+
+/// Puts a number in where it is not, and takes it out where it is. Returns whether it is then in.
+pub fn toggle<B: BitBlock>(set: &mut BitSet<B>, value: usize) -> Result<bool, SetError>
+    ensures returned { IfOk result (λ there. there ≡ not (has (elements set.old.values) value)) }
+    ensures members { OnOk result ((x : ℕ) → has (elements set.new.values) x
+        ≡ (if value == x then not (has (elements set.old.values) x) else has (elements set.old.values) x)) }
+{
+    if set.remove(value) {
+        return Ok(false);
+    }
+    set.insert(value)?;
+    Ok(true)
+}
+
+/// How many numbers both have.
+pub fn count_common<B: BitBlock>(a: &BitSet<B>, b: &BitSet<B>) -> usize
+    ensures { result ≡ length (intersection (elements a.now.values) (elements b.now.values)) }
+{
+    a.intersection(b).count()
 }
 
 /// A new set of what is in `a` or `b`, and not in `c`.

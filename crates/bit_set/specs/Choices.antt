@@ -1,0 +1,15 @@
+-- Which member a search or a choice among the members gives.
+use Rattle.std.specs.Prelude.{ℕ, ◌≤◌, Bool, IsTrue, List}
+use Rattle.bit_set.specs.Sets.{has}
+
+-- m is in the set, and no member is greater
+abbrev pub IsGreatest : List ℕ → ℕ → Type 0
+IsGreatest s m = IsTrue (has s m) × ((x : ℕ) → IsTrue (has s x) → x ≤ m)
+
+-- m is in the set, and no member is less
+abbrev pub IsLeast : List ℕ → ℕ → Type 0
+IsLeast s m = IsTrue (has s m) × ((x : ℕ) → IsTrue (has s x) → m ≤ x)
+
+-- m is in the set and passes the test, and no member that is less does
+abbrev pub IsLeastPassing : (ℕ → Bool) → List ℕ → ℕ → Type 0
+IsLeastPassing p s m = IsTrue (has s m) × IsTrue (p m) × ((x : ℕ) → IsTrue (has s x) → IsTrue (p x) → m ≤ x)

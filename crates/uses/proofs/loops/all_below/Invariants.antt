@@ -1,0 +1,11 @@
+use Rattle.std.proofs.Common.{◌≡◌, ℕ, ◌≤◌}
+use Rattle.bit_set.specs.Sets.{elements, has}
+use Rattle.uses.proofs.loops.all_below.Given as goal
+
+-- each member from n on is left
+abbrev pub invariant-loop-member : goal.invariant-loop-member
+invariant-loop-member g l = record {
+  can_next : (goal.iterator-loop-member g).can_next l.member-iterator;
+  finite : (goal.iterator-loop-member g).is_finite l.member-iterator;
+  rest : (x : ℕ) → l.n ≤ x → has l.member-iterator.left x ≡ has (elements l.set.values) x;
+}

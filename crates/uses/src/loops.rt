@@ -1,0 +1,217 @@
+//! Loops over sets. Each is proved by its invariant alone, but for those with an `Answers.antt` in `proofs/`.
+ghost use Rattle.std.specs.Prelude.{◌≡◌, ◌≢◌, ℕ, ◌+◌, ◌-◌, ◌<◌, ◌≤◌, ◌^◌, ◌%◌, ◌==◌, ◌&&◌, ◌↔◌, false, nat_le, sum, IfErr, IfNone, IfOk, IfSome, IsTrue, MatchOption, OnOk, length, slice_index_or};
+ghost use Rattle.std.specs.List.{list_any};
+ghost use Rattle.bit_set.specs.Choices.{IsGreatest};
+ghost use Rattle.bit_set.specs.Members.{HasNone, IsDifference, IsDisjoint, IsSubset, IsUnion};
+ghost use Rattle.bit_set.specs.Order.{same_sets};
+ghost use Rattle.bit_set.specs.Sets.{elements, has};
+
+use bit_set::{BitBlock, BitSet, SetError, laws};
+use std::alloc::{AllocError, Global};
+
+/// The sum of the members, where it fits a `usize`.
+pub fn sum_of_members<B: BitBlock>(set: &BitSet<B>) -> Option<usize>
+    ensures some { IfSome result (λ total. total ≡ sum (elements set.now.values)) }
+    ensures none { IfNone result (2 ^ 64 ≤ sum (elements set.now.values)) }
+{
+    let mut total: usize = 0;
+    for member in set {
+        total = total.checked_add(member)?;
+    }
+    Some(total)
+}
+
+/// Whether all members are below `n`.
+pub fn all_below<B: BitBlock>(set: &BitSet<B>, n: usize) -> bool
+    ensures { IsTrue result ↔ ((x : ℕ) → IsTrue (has (elements set.now.values) x) → x < n) }
+{
+    for member in set {
+        if member >= n {
+            return false;
+        }
+    }
+    true
+}
+
+/// The greatest member.
+pub fn greatest<B: BitBlock>(set: &BitSet<B>) -> Option<usize>
+    ensures { MatchOption result (HasNone (elements set.now.values)) (IsGreatest (elements set.now.values)) }
+{
+    let mut last = None;
+    for member in set {
+        last = Some(member);
+    }
+    last
+}
+
+/// The greatest member, by a walk that is left after its first member and then taken up again.
+pub fn greatest_of_two_parts<B: BitBlock>(set: &BitSet<B>) -> Option<usize>
+    ensures { MatchOption result (HasNone (elements set.now.values)) (IsGreatest (elements set.now.values)) }
+{
+    let mut walk = set.iter();
+    let mut last = walk.next()?;
+    for member in walk {
+        last = member;
+    }
+    Some(last)
+}
+
+/// The least number that is not in the set.
+pub fn first_missing<B: BitBlock>(set: &BitSet<B>) -> usize
+    ensures missing { has (elements set.now.values) result ≡ false }
+    ensures least { (x : ℕ) → x < result → IsTrue (has (elements set.now.values) x) }
+{
+    laws::members_are_below_lengths();
+    let mut number = 0;
+    while set.contains(number) {
+        prove!(number < set.capacity());
+        number += 1;
+    }
+    number
+}
+
+/// The least number that both sets have, which may have two block types.
+pub fn first_common<A: BitBlock, B: BitBlock>(a: &BitSet<A>, b: &BitSet<B>) -> Option<usize>
+    ensures { MatchOption result (IsDisjoint (elements a.now.values) (elements b.now.values))
+        (λ m. IsTrue (has (elements a.now.values) m) × IsTrue (has (elements b.now.values) m)
+        × ((x : ℕ) → x < m → (has (elements a.now.values) x && has (elements b.now.values) x) ≡ false)) }
+{
+    for member in a {
+        if b.contains(member) {
+            return Some(member);
+        }
+    }
+    None
+}
+
+/// Whether each member of the first set is in the second, which may have another block type.
+pub fn is_subset<A: BitBlock, B: BitBlock>(a: &BitSet<A>, b: &BitSet<B>) -> bool
+    ensures { IsTrue result ↔ IsSubset (elements a.now.values) (elements b.now.values) }
+{
+    for member in a {
+        if !b.contains(member) {
+            return false;
+        }
+    }
+    true
+}
+
+/// Whether the first two sets have nothing in common, and together are the third.
+pub fn are_parts<B: BitBlock>(a: &BitSet<B>, b: &BitSet<B>, whole: &BitSet<B>) -> bool
+    ensures { IsTrue result ↔ (IsDisjoint (elements a.now.values) (elements b.now.values)
+        × IsUnion (elements a.now.values) (elements b.now.values) (elements whole.now.values)) }
+{
+    for member in whole.difference(a) {
+        if !b.contains(member) {
+            return false;
+        }
+    }
+    a.is_disjoint(b) && a.is_subset(whole) && b.is_subset(whole)
+}
+
+/// Whether a row has a set of these members: what `same_sets` means of members is a clause of
+/// `laws::tests_of_members`.
+pub fn has_set<B: BitBlock>(sets: &[BitSet<B>], set: &BitSet<B>) -> bool
+    ensures { result ≡ list_any (λ one. same_sets (elements one.values) (elements set.now.values)) sets.now }
+{
+    for one in sets {
+        if *one == *set {
+            return true;
+        }
+    }
+    false
+}
+
+/// Takes numbers out.
+pub fn remove_each<B: BitBlock>(set: &mut BitSet<B>, numbers: &[usize])
+    ensures { IsDifference (elements set.old.values) numbers.now (elements set.new.values) }
+{
+    for &number in numbers {
+        set.remove(number);
+    }
+}
+
+/// Takes the members of another set out, which may have another block type.
+pub fn remove_members<A: BitBlock, B: BitBlock>(set: &mut BitSet<A>, other: &BitSet<B>)
+    ensures { IsDifference (elements set.old.values) (elements other.now.values) (elements set.new.values) }
+{
+    for member in other {
+        set.remove(member);
+    }
+}
+
+/// The even members.
+pub fn even_members<B: BitBlock>(alloc: Global, set: &BitSet<B>) -> Result<BitSet<B>, SetError>
+    ensures { IfOk result (λ evens. (x : ℕ) → has (elements evens.values) x
+        ≡ (has (elements set.now.values) x && x % 2 == 0)) }
+{
+    laws::members_of_chains();
+    let mut evens = BitSet::new_general(alloc);
+    for member in set {
+        if member % 2 == 0 {
+            evens.insert(member)?;
+        }
+    }
+    Ok(evens)
+}
+
+/// Each member plus `by`.
+pub fn shift_up<B: BitBlock>(
+    alloc: Global,
+    set: &BitSet<B>,
+    by: usize,
+) -> Result<BitSet<B>, SetError>
+    ensures members { IfOk result (λ up. (x : ℕ) → has (elements up.values) x
+        ≡ (nat_le by x && has (elements set.now.values) (x - by))) }
+    ensures unfit { IfErr result (λ fault. fault ≡ SetError.Element
+        → (m : ℕ) × IsTrue (has (elements set.now.values) m) × (usize.MAX ≤ m + by)) }
+    ensures length { IfErr result (λ fault. fault ≢ SetError.Length) }
+{
+    laws::members_of_chains();
+    laws::sets_in_one_another();
+    let mut up = BitSet::new_general(alloc);
+    for member in set {
+        let number = member.checked_add(by).ok_or(SetError::Element)?;
+        up.insert(number)?;
+    }
+    Ok(up)
+}
+
+/// What is in some set of a row that has `value`.
+pub fn union_of_those_with<B: BitBlock>(
+    alloc: Global,
+    sets: &[BitSet<B>],
+    value: usize,
+) -> Result<BitSet<B>, AllocError>
+    ensures { IfOk result (λ all. (x : ℕ) → has (elements all.values) x
+        ≡ list_any (λ set. has (elements set.values) value && has (elements set.values) x) sets.now) }
+{
+    let mut all = BitSet::new_general(alloc);
+    for set in sets {
+        if set.contains(value) {
+            all.union_with(set)?;
+        }
+    }
+    Ok(all)
+}
+
+/// Puts in where each member leads, until nothing is new.
+pub fn close<B: BitBlock>(set: &mut BitSet<B>, next: &[usize]) -> Result<(), SetError>
+    ensures more { IsSubset (elements set.old.values) (elements set.new.values) }
+    ensures closed { OnOk result ((k : ℕ) (d : ℕ) → k < length next.now → IsTrue (has (elements set.new.values) k)
+        → IsTrue (has (elements set.new.values) (slice_index_or next.now k d))) }
+{
+    let mut at = 0;
+    while at < next.len() {
+        let to = next[at];
+        if !set.contains(at) {
+            at += 1;
+        } else if set.contains(to) {
+            at += 1;
+        } else {
+            set.insert(to)?;
+            at = 0;
+        }
+    }
+    Ok(())
+}
