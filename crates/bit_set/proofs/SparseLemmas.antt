@@ -138,7 +138,6 @@ module _ {X : Type 0} (w : ℕ) (number : X → ℕ) (is_block : X → Type 0) (
     walk = record {
       in_hand = lawful;
       each = is.each;
-      begun = is.begun;
       left = is.left;
       whole = is.whole;
       inside = is.inside;
