@@ -42,6 +42,9 @@ module _ (find : Bits → Option ℕ) (sets : List (List ℕ)) (f : Finds find s
   pub numbers_found : (set : Bits) (number : ℕ) → find set ≡ Some number → Numbers sets (elements set.values) number sets
   numbers_found set number is = let at = f.listed set number is in record { inside = at.0; named = at.1; grows = inl refl }
 
+  pub listed : (set : Bits) (number : ℕ) → find set ≡ Some number → (number < length sets) × (set_of sets number ≡ elements set.values)
+  listed set number is = f.listed set number is
+
   pub is_new : (set : Bits) → find set ≡ None → IsNew sets (elements set.values)
   is_new set none number lt same = none_is_not_some (find set) number none (f.found set number lt same)
 

@@ -14,3 +14,9 @@ IsRowWithin n row = (u : ℕ) → length (set_at row u).values ≤ n
 -- no set of any row is longer than n
 abbrev pub AreWithin : ℕ → List (Vec Bits) → Type 0
 AreWithin n rows = (symbol : ℕ) → IsRowWithin n (slice_index_or (map (λ row. row.items) rows) symbol [])
+
+-- the length of the longest set of the rows and the starts
+pub record IsLongest (longest : ℕ) (rows : List (Vec Bits)) (starts : Bits) : Type 0 where
+  pub all : AreWithin longest rows
+  pub starts_too : length starts.values ≤ longest
+  pub least : (n : ℕ) → AreWithin n rows → length starts.values ≤ n → longest ≤ n

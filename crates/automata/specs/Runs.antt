@@ -5,11 +5,13 @@ use Rattle.bit_set.specs.Bits.{Bits}
 use Rattle.bit_set.specs.Sets.{elements, has}
 
 -- What contracts see of an automaton: for each symbol a row, which has for each state the states to which that symbol
--- leads from it; the states in which a run may start, and those in which it may end.
+-- leads from it; the states in which a run may start, and those in which it may end. And `longest`, the length of the
+-- longest set of the first two, on which no word depends: only which memory calls take.
 pub record Automaton : Type 0 where
   pub moves : List (List (List ℕ))
   pub starts : List ℕ
   pub accepting : List ℕ
+  pub longest : ℕ
 
 -- the row of a symbol; a symbol past the last row has none
 abbrev pub row_of : List (List (List ℕ)) → ℕ → List (List ℕ)

@@ -1,7 +1,7 @@
 // Automata without determinism.
 ghost use Rattle.std.specs.Prelude.{◌≡◌, ◌≤◌, ◌↔◌, ℕ, IfOk, IsOk, IsTrue, OnOk, length};
 ghost use Rattle.bit_set.specs.Sets.{elements, has};
-ghost use Rattle.automata.specs.Bounds.{AreWithin, IsRowWithin, set_at};
+ghost use Rattle.automata.specs.Bounds.{AreWithin, IsLongest, IsRowWithin};
 ghost use Rattle.automata.specs.Runs.{Accepts, IsEnd, IsImage, row_of, rows_of_sets};
 
 use crate::step::step;
@@ -17,14 +17,13 @@ pub struct Nfa<B: BitBlock> {
     moves: Vec<Vec<BitSet<B>>>,
     starts: BitSet<B>,
     accepting: BitSet<B>,
-    // The greatest length of a set in `moves`, or of `starts`.
+    // The length of the longest set in `moves`, or of `starts`.
     longest: usize,
 }
 
 impl<B: BitBlock> Model for Nfa<B> {
-    ghost use Rattle.std.specs.Prelude.{◌≤◌, length};
     ghost use Rattle.bit_set.specs.Sets.{elements};
-    ghost use Rattle.automata.specs.Bounds.{AreWithin};
+    ghost use Rattle.automata.specs.Bounds.{IsLongest};
     ghost use Rattle.automata.specs.Runs.{Automaton, rows_of_sets};
 
     ghost Value = { Automaton };
@@ -33,9 +32,10 @@ impl<B: BitBlock> Model for Nfa<B> {
       moves = rows_of_sets it.moves.items;
       starts = elements it.starts.values;
       accepting = elements it.accepting.values;
+      longest = it.longest;
     } };
 
-    ghost invariant = { λ it. AreWithin it.longest it.moves.items × (length it.starts.values ≤ it.longest) };
+    ghost invariant = { λ it. IsLongest it.longest it.moves.items it.starts };
 }
 
 impl<B: BitBlock> Nfa<B> {
@@ -45,6 +45,7 @@ impl<B: BitBlock> Nfa<B> {
         ensures moves { result.moves ≡ rows_of_sets moves.items }
         ensures starts { result.starts ≡ elements starts.values }
         ensures accepting { result.accepting ≡ elements accepting.values }
+        ensures longest { IsLongest result.longest moves.items starts }
     {
         let longest = longest_of_rows(moves.as_slice()).max(starts.get_ref().len());
         Nfa {
@@ -76,8 +77,10 @@ impl<B: BitBlock> Nfa<B> {
         &self.accepting
     }
 
-    // The greatest length of a set of states to which symbols lead.
-    pub(crate) fn longest(&self) -> usize {
+    // The length of the longest set of states to which a symbol leads, or of the starts.
+    pub(crate) fn longest(&self) -> usize
+        ensures { result ≡ self.now.longest }
+    {
         self.longest
     }
 
@@ -95,15 +98,21 @@ impl<B: BitBlock> Nfa<B> {
     }
 }
 
-/// Whether some run from a start to an accepting state spells the word. Makes two sets of states, and takes no more
-/// memory: it fails only where memory for these runs out. For each symbol of the word it makes at most one union for
-/// each state.
+/// Whether some run from a start to an accepting state spells the word. Makes two sets of states, as long as the longest
+/// of the automaton's, and takes no more memory: it fails only where memory for these runs out, and never for the empty
+/// word, which it answers without them. For each symbol of the word it makes at most one union for each state.
 pub fn accepts<B: BitBlock>(alloc: Global, nfa: &Nfa<B>, word: &[usize]) -> Result<bool, AllocError>
-    ensures { IfOk result (λ is. IsTrue is ↔ Accepts nfa.now word.now) }
+    ensures accepted { IfOk result (λ is. IsTrue is ↔ Accepts nfa.now word.now) }
+    ensures empty { length word.now ≡ 0 → IsOk result }
+    ensures no_length { nfa.now.longest ≡ 0 → IsOk result }
 {
+    if word.is_empty() {
+        return Ok(!nfa.starts.is_disjoint(&nfa.accepting));
+    }
     let mut states = BitSet::with_capacity_general(alloc, nfa.longest)?;
     let mut next = BitSet::with_capacity_general(alloc, nfa.longest)?;
-    states.clone_from(&nfa.starts)?;
+    // It has the capacity for the starts.
+    states.clone_from(&nfa.starts).unwrap();
     follow(nfa.moves.as_slice(), word, &mut states, &mut next);
     Ok(!states.is_disjoint(&nfa.accepting))
 }
@@ -125,22 +134,24 @@ fn follow<B: BitBlock>(
     }
 }
 
-// The greatest length of a set in the rows.
+// The length of the longest set in the rows.
 fn longest_of_rows<B: BitBlock>(rows: &[Vec<BitSet<B>>]) -> usize
-    ensures { AreWithin result rows.now }
+    ensures all { AreWithin result rows.now }
+    ensures least { (n : ℕ) → AreWithin n rows.now → result ≤ n }
 {
-    let mut longest = 0;
+    let mut longest: usize = 0;
     for row in rows {
         longest = longest.max(longest_of_row(row.as_slice()));
     }
     longest
 }
 
-// The greatest length of a set in the row.
+// The length of the longest set in the row.
 fn longest_of_row<B: BitBlock>(row: &[BitSet<B>]) -> usize
-    ensures { IsRowWithin result row.now }
+    ensures all { IsRowWithin result row.now }
+    ensures least { (n : ℕ) → IsRowWithin n row.now → result ≤ n }
 {
-    let mut longest = 0;
+    let mut longest: usize = 0;
     for set in row {
         longest = longest.max(set.get_ref().len());
     }

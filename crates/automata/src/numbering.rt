@@ -1,12 +1,12 @@
 // Sets, each with a number.
-ghost use Rattle.std.specs.Prelude.{◌≡◌, ◌<◌, ◌≤◌, ℕ, IfOk, IsErrOf, IsOk, [], length};
+ghost use Rattle.std.specs.Prelude.{◌≡◌, ◌+◌, ◌<◌, ◌≤◌, ◌↔◌, ℕ, IfOk, IsErrOf, IsOk, OnOk, [], length};
 ghost use Rattle.bit_set.specs.Sets.{elements};
 ghost use Rattle.automata.specs.Numbering.{IsNew, Numbers, set_of};
 
 use crate::DfaError;
 use bit_set::laws::sets_compare;
 use bit_set::{BitBlock, BitSet};
-use std::alloc::Global;
+use std::alloc::{AllocError, Global};
 use std::collections::BTreeMap;
 use std::marker::Model;
 
@@ -68,27 +68,28 @@ impl<B: BitBlock> Numbering<B> {
     ) -> Result<usize, DfaError>
         ensures ok { IfOk result (λ number. Numbers self.old (elements set.now.values) number self.new) }
         ensures limit { IsOk result → length self.old ≤ most → length self.new ≤ most }
-        ensures too_many { IsErrOf result DfaError.TooMany → IsNew self.old (elements set.now.values) }
-        ensures full { IsErrOf result DfaError.TooMany → most ≤ length self.old }
+        ensures too_many { IsErrOf result DfaError.TooMany
+            ↔ (IsNew self.old (elements set.now.values) × (most ≤ length self.old)) }
     {
         match self.numbers.get(set).copied() {
             Some(number) => Ok(number),
-            None => self.add(alloc, set, most),
+            None => {
+                if self.sets.len() >= most {
+                    return Err(DfaError::TooMany);
+                }
+                Ok(self.add(alloc, set)?)
+            }
         }
     }
 
     // Gives a set that was not met before the next number. It is copied twice.
-    fn add(&mut self, alloc: Global, set: &BitSet<B>, most: usize) -> Result<usize, DfaError>
+    fn add(&mut self, alloc: Global, set: &BitSet<B>) -> Result<usize, AllocError>
         requires { IsNew self.old (elements set.now.values) }
         ensures ok { IfOk result (λ number. Numbers self.old (elements set.now.values) number self.new) }
-        ensures limit { IsOk result → length self.new ≤ most }
-        ensures full { IsErrOf result DfaError.TooMany → most ≤ length self.old }
+        ensures longer { OnOk result (length self.new ≡ length self.old + 1) }
     {
         sets_compare();
         let number = self.sets.len();
-        if number >= most {
-            return Err(DfaError::TooMany);
-        }
         let key = set.clone(alloc)?;
         let copy = set.clone(alloc)?;
         self.sets.reserve(1)?;

@@ -35,7 +35,8 @@ fn image<B: BitBlock>(
     states: &BitSet<B>,
     into: &mut BitSet<B>,
 ) -> Result<(), AllocError>
-    ensures image { OnOk result (IsImage (row_of_sets row.now) (elements states.now.values) (elements into.new.values)) }
+    ensures image { OnOk result (IsImage (row_of_sets row.now)
+        (elements states.now.values) (elements into.new.values)) }
     ensures succeeds { IsRowWithin into.old.capacity row.now → IsOk result }
     ensures capacity { IsRowWithin into.old.capacity row.now → into.new.capacity ≡ into.old.capacity }
 {

@@ -14,9 +14,8 @@ use std::alloc::{AllocError, Global};
 
 /// The deterministic automaton that accepts just the words that `nfa` accepts, by the subset construction. Its states
 /// are the sets of states that words reach, each once. Fails with [`DfaError::TooMany`] only where there are more of
-/// these sets than `most_states`, else only where memory runs out; and succeeds only where there are not more. For
-/// each state and symbol it takes the
-/// successors of one set, and looks for that set in a map.
+/// these sets than `most_states`, at once where that is 0, else only where memory runs out; and succeeds only where
+/// there are not more. For each state and symbol it takes the successors of one set, and looks for that set in a map.
 pub fn determinize<B: BitBlock>(
     alloc: Global,
     nfa: &Nfa<B>,
@@ -27,6 +26,7 @@ pub fn determinize<B: BitBlock>(
     ensures few { IfOk result (λ dfa. dfa.states ≤ most_states) }
     ensures too_many { IsErrOf result DfaError.TooMany → ReachesMoreThan most_states nfa.now }
     ensures no_more { IsOk result → ¬ ReachesMoreThan most_states nfa.now }
+    ensures no_states { most_states ≡ 0 → IsErrOf result DfaError.TooMany }
 {
     let mut numbering = first_set(alloc, nfa, most_states)?;
     let next = fill(alloc, nfa, &mut numbering, most_states)?;
@@ -48,6 +48,7 @@ fn first_set<B: BitBlock>(
     ensures builds { IfOk result (λ sets. Builds nfa.now sets []) }
     ensures few { IfOk result (λ sets. length sets ≤ most) }
     ensures too_many { IsErrOf result DfaError.TooMany → ReachesMoreThan most nfa.now }
+    ensures no_states { most ≡ 0 → IsErrOf result DfaError.TooMany }
 {
     sets_ascend();
     let mut numbering = Numbering::new(alloc);

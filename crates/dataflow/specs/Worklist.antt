@@ -1,5 +1,6 @@
 -- What the parts of the solver do: the blocks that wait, and the sets on their way.
-use Rattle.std.specs.Prelude.{◌≡◌, ◌≢◌, ℕ, ◌-◌, ◌<◌, ◌^◌, ◌↔◌, ◌⊎◌, Bool, false, if◌then◌else◌, IsTrue, List, [], length, map, slice_index_or}
+use Rattle.std.specs.Prelude.{◌≡◌, ◌≢◌, ℕ, ◌+◌, ◌-◌, ◌<◌, ◌^◌, ◌↔◌, ◌⊎◌, Bool, false, if◌then◌else◌, IsTrue, List, [], ◌∷◌, length, map, nat_lt, slice_index_or}
+use Rattle.std.specs.List.{list_any}
 use Rattle.std.specs.Global.{Vec}
 use Rattle.bit_set.specs.Sets.{has}
 use Rattle.dataflow.specs.Flow.{Enters, Flow, Reaches, block_at, set_at}
@@ -7,6 +8,12 @@ use Rattle.dataflow.specs.Flow.{Enters, Flow, Reaches, block_at, set_at}
 -- the place of a block among those that wait: its number, or counted from the last
 abbrev pub place_of : ℕ → Bool → ℕ → ℕ
 place_of count from_last block = if from_last then count - 1 - block else block
+
+-- how many of the blocks, numbered from `number` on, have a source of a greater number
+abbrev pub flowing_back : ℕ → List Flow → ℕ
+flowing_back number [] = 0
+flowing_back number (block ∷ blocks) = (if list_any (λ source. nat_lt number source) block.sources then 1 else 0)
+    + flowing_back (number + 1) blocks
 
 -- the row of a block, and none past the last
 abbrev pub row_at : List (Vec ℕ) → ℕ → List ℕ

@@ -1,5 +1,5 @@
 // What the solver has to know of a block of code.
-ghost use Rattle.std.specs.Prelude.{◌≡◌};
+ghost use Rattle.std.specs.Prelude.{◌≡◌, ℕ, length};
 ghost use Rattle.bit_set.specs.Sets.{elements};
 ghost use Rattle.dataflow.specs.Flow.{Flow};
 
@@ -9,6 +9,11 @@ use bit_set::{BitBlock, BitSet};
 pub trait Block<B: BitBlock> {
     ghost flow: { Self → Flow };
 
+    // How long the two sets are, whose elements are in `flow`.
+    ghost generated_length: { Self → ℕ };
+
+    ghost killed_length: { Self → ℕ };
+
     /// The blocks from which values flow into this one: its successors where the analysis goes backward, its
     /// predecessors where it goes forward. From a number that is no block nothing flows. Constant time.
     fn sources(&self) -> &[usize]
@@ -16,11 +21,13 @@ pub trait Block<B: BitBlock> {
 
     /// The values that the block generates. Constant time.
     fn generated(&self) -> &BitSet<B>
-        ensures { elements result.now.values ≡ (flow self.now).generated };
+        ensures elements { elements result.now.values ≡ (flow self.now).generated }
+        ensures length { length result.now.values ≡ generated_length self.now };
 
     /// The values that do not pass through the block. What it generates itself it does not kill. Constant time.
     fn killed(&self) -> &BitSet<B>
-        ensures { elements result.now.values ≡ (flow self.now).killed };
+        ensures elements { elements result.now.values ≡ (flow self.now).killed }
+        ensures length { length result.now.values ≡ killed_length self.now };
 }
 
 /// A block as the three parts of its equation.
@@ -35,6 +42,7 @@ pub struct FlowBlock<B: BitBlock> {
 }
 
 impl<B: BitBlock> Block<B> for FlowBlock<B> {
+    ghost use Rattle.std.specs.Prelude.{length};
     ghost use Rattle.bit_set.specs.Sets.{elements};
 
     ghost flow = { λ block. record {
@@ -42,6 +50,10 @@ impl<B: BitBlock> Block<B> for FlowBlock<B> {
       generated = elements block.generated.values;
       killed = elements block.killed.values;
     } };
+
+    ghost generated_length = { λ block. length block.generated.values };
+
+    ghost killed_length = { λ block. length block.killed.values };
 
     #[inline]
     fn sources(&self) -> &[usize] {

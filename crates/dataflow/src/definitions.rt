@@ -1,5 +1,5 @@
 // Reaching definitions: values that flow on from each definition until one overwrites it.
-ghost use Rattle.std.specs.Prelude.{◌≡◌, ℕ, ◌↔◌, IfOk, IsTrue, length};
+ghost use Rattle.std.specs.Prelude.{◌≡◌, ℕ, ◌↔◌, IfOk, IsOk, IsTrue, length};
 ghost use Rattle.bit_set.specs.Sets.{has};
 ghost use Rattle.dataflow.specs.Analyses.{AreReachingDefinitions, ReachesEnd};
 ghost use Rattle.dataflow.specs.Flow.{lists_of, set_at};
@@ -21,6 +21,7 @@ pub struct DefinitionBlock<B: BitBlock> {
 }
 
 impl<B: BitBlock> Block<B> for DefinitionBlock<B> {
+    ghost use Rattle.std.specs.Prelude.{length};
     ghost use Rattle.bit_set.specs.Sets.{elements};
 
     ghost flow = { λ block. record {
@@ -28,6 +29,10 @@ impl<B: BitBlock> Block<B> for DefinitionBlock<B> {
       generated = elements block.defined.values;
       killed = elements block.overwritten.values;
     } };
+
+    ghost generated_length = { λ block. length block.defined.values };
+
+    ghost killed_length = { λ block. length block.overwritten.values };
 
     #[inline]
     fn sources(&self) -> &[usize] {
@@ -48,7 +53,7 @@ impl<B: BitBlock> Block<B> for DefinitionBlock<B> {
 /// For each block the set of the definitions that reach its end: a path leads there from the definition, with no
 /// block on the way that overwrites it. They are the least sets with
 /// `out[b] = defined[b] ∪ (⋃ out[p] over the predecessors p of b − overwritten[b])`.
-/// Fails only where memory runs out.
+/// Fails only where memory runs out, and never of no blocks.
 pub fn reaching_definitions<B: BitBlock>(
     alloc: Global,
     blocks: &[DefinitionBlock<B>],
@@ -57,6 +62,7 @@ pub fn reaching_definitions<B: BitBlock>(
     ensures solution { IfOk result (λ out. AreReachingDefinitions blocks.now (lists_of out.items)) }
     ensures reaches { IfOk result (λ out. (b d : ℕ) → IsTrue (has (set_at (lists_of out.items) b) d)
         ↔ ReachesEnd blocks.now d b) }
+    ensures none { length blocks.now ≡ 0 → IsOk result }
 {
     solve(alloc, blocks)
 }

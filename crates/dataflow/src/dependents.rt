@@ -1,5 +1,5 @@
 // For each block the blocks that it flows into.
-ghost use Rattle.std.specs.Prelude.{◌≡◌, ◌<◌, ℕ, IfOk, IsTrue, OnOk, [], length, map};
+ghost use Rattle.std.specs.Prelude.{◌≡◌, ◌<◌, ℕ, IfOk, IsOk, IsTrue, OnOk, [], length, map};
 ghost use Rattle.bit_set.specs.Sets.{has};
 ghost use Rattle.dataflow.specs.Worklist.{AddsDependent, AreDependents, row_at};
 
@@ -12,7 +12,8 @@ pub(crate) fn dependents_of<B: BitBlock, N: Block<B>>(
     alloc: Global,
     blocks: &[N],
 ) -> Result<Vec<Vec<usize>>, AllocError>
-    ensures { IfOk result (λ rows. AreDependents (map N.flow blocks.now) rows.items) }
+    ensures dependents { IfOk result (λ rows. AreDependents (map N.flow blocks.now) rows.items) }
+    ensures none { length blocks.now ≡ 0 → IsOk result }
 {
     let mut rows = empty_rows(alloc, blocks.len())?;
     for (number, block) in blocks.iter().enumerate() {
@@ -24,7 +25,8 @@ pub(crate) fn dependents_of<B: BitBlock, N: Block<B>>(
 // So many rows, each with nothing.
 fn empty_rows(alloc: Global, count: usize) -> Result<Vec<Vec<usize>>, AllocError>
     ensures long { IfOk result (λ rows. length rows.items ≡ count) }
-    ensures none { IfOk result (λ rows. (s : ℕ) → row_at rows.items s ≡ []) }
+    ensures empty { IfOk result (λ rows. (s : ℕ) → row_at rows.items s ≡ []) }
+    ensures none { count ≡ 0 → IsOk result }
 {
     let mut rows = Vec::with_capacity(alloc, count)?;
     'rows: for _ in 0..count {

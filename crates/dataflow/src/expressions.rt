@@ -1,5 +1,5 @@
 // Available expressions: those that are not missing, where what is missing flows from the entries and the kills.
-ghost use Rattle.std.specs.Prelude.{◌≡◌, ℕ, ◌<◌, ◌↔◌, IfOk, IsTrue, OnOk, length, map};
+ghost use Rattle.std.specs.Prelude.{◌≡◌, ℕ, ◌<◌, ◌↔◌, IfOk, IsOk, IsTrue, OnOk, length, map};
 ghost use Rattle.bit_set.specs.Members.{IsDifference};
 ghost use Rattle.bit_set.specs.Sets.{elements, has};
 ghost use Rattle.dataflow.specs.Availability.{AreAvailable, AreComplements, IsMissing, flow_of, missing_flow, starts_with_none};
@@ -31,9 +31,14 @@ struct MissingBlock<'a, B: BitBlock> {
 }
 
 impl<'a, B: BitBlock> Block<B> for MissingBlock<'a, B> {
+    ghost use Rattle.std.specs.Prelude.{length};
     ghost use Rattle.dataflow.specs.Availability.{flow_of};
 
     ghost flow = { flow_of };
+
+    ghost generated_length = { λ it. length it.missing.values };
+
+    ghost killed_length = { λ it. length it.block.now.computed.values };
 
     #[inline]
     fn sources(&self) -> &[usize] {
@@ -55,7 +60,7 @@ impl<'a, B: BitBlock> Block<B> for MissingBlock<'a, B> {
 /// some block computes the expression, and none kills it after that. They are the greatest sets with
 /// `out[b] = computed[b] ∪ (⋂ out[p] over the predecessors p of b − killed[b])`. An entry is a block with no
 /// predecessor, or a number that is no block. Where no path leads from an entry, all that is not killed is available.
-/// Fails only where memory runs out.
+/// Fails only where memory runs out, and never of no blocks and no expressions.
 pub fn available_expressions<B: BitBlock>(
     alloc: Global,
     blocks: &[ExpressionBlock<B>],
@@ -65,6 +70,7 @@ pub fn available_expressions<B: BitBlock>(
     ensures solution { IfOk result (λ out. AreAvailable blocks.now count (lists_of out.items)) }
     ensures available { IfOk result (λ out. (b e : ℕ) → e < count
         → IsTrue (has (set_at (lists_of out.items) b) e) ↔ (IsMissing blocks.now e b → ⊥)) }
+    ensures none { length blocks.now ≡ 0 → count ≡ 0 → IsOk result }
 {
     members_of_merged_sets();
     let all = all_below(alloc, count)?;
@@ -80,8 +86,9 @@ fn missing_blocks<'a, B: BitBlock>(
     blocks: &'a [ExpressionBlock<B>],
     all: &BitSet<B>,
 ) -> Result<Vec<MissingBlock<'a, B>>, AllocError>
-    ensures { IfOk result (λ missing. map flow_of missing.items
+    ensures missing { IfOk result (λ missing. map flow_of missing.items
         ≡ map (missing_flow (length blocks.now) (elements all.now.values)) blocks.now) }
+    ensures none { length blocks.now ≡ 0 → IsOk result }
 {
     let mut missing_blocks = Vec::with_capacity(alloc, blocks.len())?;
     for block in blocks {
@@ -106,7 +113,9 @@ fn starts_empty(predecessors: &[usize], blocks: usize) -> bool
 
 // Each set becomes those of all that it has not.
 fn complement_each<B: BitBlock>(all: &BitSet<B>, sets: &mut [BitSet<B>]) -> Result<(), AllocError>
-    ensures { OnOk result (AreComplements (elements all.now.values) (lists_of sets.old) (lists_of sets.new)) }
+    ensures complements { OnOk result (AreComplements (elements all.now.values)
+        (lists_of sets.old) (lists_of sets.new)) }
+    ensures none { length sets.old ≡ 0 → IsOk result }
 {
     for index in 0..sets.len() {
         complement(all, &mut sets[index])?;
@@ -116,7 +125,8 @@ fn complement_each<B: BitBlock>(all: &BitSet<B>, sets: &mut [BitSet<B>]) -> Resu
 
 // The set becomes those of all that it has not, in place.
 fn complement<B: BitBlock>(all: &BitSet<B>, set: &mut BitSet<B>) -> Result<(), AllocError>
-    ensures { OnOk result (IsDifference (elements all.now.values) (elements set.old.values) (elements set.new.values)) }
+    ensures { OnOk result (IsDifference (elements all.now.values)
+        (elements set.old.values) (elements set.new.values)) }
 {
     set.symmetric_difference_with(all)?;
     set.intersect_with(all)

@@ -1,5 +1,6 @@
 // The least solution, by a list of the blocks that wait.
-ghost use Rattle.std.specs.Prelude.{◌≡◌, ◌<◌, ◌^◌, ℕ, IfOk, IsTrue, OnOk, length, map, slice_index_or, true, false};
+ghost use Rattle.std.specs.Prelude.{◌≡◌, ◌<◌, ◌^◌, ℕ, IfOk, IsOk, IsTrue, OnOk, length, map, max, slice_index_or, true, false};
+ghost use Rattle.std.specs.List.{fold};
 ghost use Rattle.bit_set.specs.Sets.{elements, has};
 ghost use Rattle.dataflow.specs.Flow.{AreReached, Flow, HasAllDue, IsLeastSolution, lists_of, set_at};
 ghost use Rattle.dataflow.specs.Worklist.{AreDependents, AreOnTheWay, IsGathered, TakesIn};
@@ -12,7 +13,8 @@ use bit_set::{BitBlock, BitSet};
 use std::alloc::{AllocError, Global};
 
 /// For each block the set of the values that reach it: what it generates, and what its sources have and it does
-/// not kill. Of all sets that meet these equations they are the least. Fails only where memory runs out.
+/// not kill. Of all sets that meet these equations they are the least. Fails only where memory runs out, and never of
+/// no blocks.
 ///
 /// A block is visited again only after a set that flows into it grew. A visit unites the sets of the block's
 /// sources, takes out what it kills, and compares. Sets get the capacity for the longest before the first visit.
@@ -23,6 +25,7 @@ pub fn solve<B: BitBlock, N: Block<B>>(
     ensures long { IfOk result (λ sets. length sets.items ≡ length blocks.now) }
     ensures solution { IfOk result (λ sets. IsLeastSolution (map N.flow blocks.now) (lists_of sets.items)) }
     ensures reached { IfOk result (λ sets. AreReached (map N.flow blocks.now) (lists_of sets.items)) }
+    ensures none { length blocks.now ≡ 0 → IsOk result }
 {
     let dependents = dependents_of(alloc, blocks)?;
     let mut sets = first_sets(alloc, blocks)?;
@@ -30,9 +33,12 @@ pub fn solve<B: BitBlock, N: Block<B>>(
     Ok(sets)
 }
 
-// The length of the longest set that a block has.
-fn longest<B: BitBlock, N: Block<B>>(blocks: &[N]) -> usize {
-    let mut longest = 0;
+// The length of the longest set that a block has, and 0 of no blocks.
+fn longest<B: BitBlock, N: Block<B>>(blocks: &[N]) -> usize
+    ensures { result ≡ fold (λ most block. max (max most (N.generated_length block)) (N.killed_length block))
+        0 blocks.now }
+{
+    let mut longest: usize = 0;
     for block in blocks {
         longest = longest
             .max(block.generated().get_ref().len())
@@ -46,8 +52,10 @@ fn first_sets<B: BitBlock, N: Block<B>>(
     alloc: Global,
     blocks: &[N],
 ) -> Result<Vec<BitSet<B>>, AllocError>
-    ensures generated { IfOk result (λ sets. lists_of sets.items ≡ map (λ block. (N.flow block).generated) blocks.now) }
+    ensures generated { IfOk result (λ sets. lists_of sets.items
+        ≡ map (λ block. (N.flow block).generated) blocks.now) }
     ensures few { IfOk result (λ sets. (b : ℕ) → length (set_at (lists_of sets.items) b) < 2 ^ 64) }
+    ensures none { length blocks.now ≡ 0 → IsOk result }
 {
     let longest = longest(blocks);
     let mut sets = Vec::with_capacity(alloc, blocks.len())?;
@@ -71,6 +79,7 @@ fn settle<B: BitBlock, N: Block<B>>(
     requires sets { AreOnTheWay (map N.flow blocks.now) (lists_of sets.old) }
     ensures sets { OnOk result (AreOnTheWay (map N.flow blocks.now) (lists_of sets.new)) }
     ensures settled { OnOk result (HasAllDue (map N.flow blocks.now) (lists_of sets.new)) }
+    ensures none { length blocks.now ≡ 0 → IsOk result }
 {
     let count = blocks.len();
     let from_last = flows_back(blocks);

@@ -1,5 +1,5 @@
 // Live variables: values that flow back from each use to the assignments before it.
-ghost use Rattle.std.specs.Prelude.{◌≡◌, ℕ, ◌↔◌, IfOk, IsTrue, length};
+ghost use Rattle.std.specs.Prelude.{◌≡◌, ℕ, ◌↔◌, IfOk, IsOk, IsTrue, length};
 ghost use Rattle.bit_set.specs.Sets.{has};
 ghost use Rattle.dataflow.specs.Analyses.{AreLive, IsLive};
 ghost use Rattle.dataflow.specs.Flow.{lists_of, set_at};
@@ -20,6 +20,7 @@ pub struct VariableBlock<B: BitBlock> {
 }
 
 impl<B: BitBlock> Block<B> for VariableBlock<B> {
+    ghost use Rattle.std.specs.Prelude.{length};
     ghost use Rattle.bit_set.specs.Sets.{elements};
 
     ghost flow = { λ block. record {
@@ -27,6 +28,10 @@ impl<B: BitBlock> Block<B> for VariableBlock<B> {
       generated = elements block.used.values;
       killed = elements block.assigned.values;
     } };
+
+    ghost generated_length = { λ block. length block.used.values };
+
+    ghost killed_length = { λ block. length block.assigned.values };
 
     #[inline]
     fn sources(&self) -> &[usize] {
@@ -47,7 +52,7 @@ impl<B: BitBlock> Block<B> for VariableBlock<B> {
 /// For each block the set of the variables that are live where it begins: a path leads from there to a use of the
 /// variable, with no assignment of it on the way. They are the least sets with
 /// `live_in[b] = used[b] ∪ (⋃ live_in[s] over the successors s of b − assigned[b])`.
-/// Fails only where memory runs out.
+/// Fails only where memory runs out, and never of no blocks.
 pub fn live_variables<B: BitBlock>(
     alloc: Global,
     blocks: &[VariableBlock<B>],
@@ -56,6 +61,7 @@ pub fn live_variables<B: BitBlock>(
     ensures solution { IfOk result (λ live_in. AreLive blocks.now (lists_of live_in.items)) }
     ensures live { IfOk result (λ live_in. (b v : ℕ) → IsTrue (has (set_at (lists_of live_in.items) b) v)
         ↔ IsLive blocks.now v b) }
+    ensures none { length blocks.now ≡ 0 → IsOk result }
 {
     solve(alloc, blocks)
 }

@@ -1,23 +1,32 @@
 // The blocks that wait, by places: a set of them, and in which order they are visited.
-ghost use Rattle.std.specs.Prelude.{◌≡◌, ◌<◌, ◌≤◌, ◌↔◌, ℕ, IfNone, IfOk, IfSome, IsTrue, length};
+ghost use Rattle.std.specs.Prelude.{◌≡◌, ◌<◌, ◌≤◌, ◌↔◌, ℕ, ◌*◌, IfNone, IfOk, IfSome, IsOk, IsTrue, length, map, nat_lt};
+ghost use Rattle.std.specs.List.{list_any};
 ghost use Rattle.bit_set.specs.Members.{HasNone};
 ghost use Rattle.bit_set.specs.Sets.{elements, has};
-ghost use Rattle.dataflow.specs.Worklist.{PutsBack, place_of};
+ghost use Rattle.dataflow.specs.Worklist.{PutsBack, flowing_back, place_of};
 
 use crate::Block;
 use bit_set::{BitBlock, BitSet};
 use std::alloc::{AllocError, Global};
 
-// Whether most sources are blocks of a greater number, so that values flow from the last block to the first.
-pub(crate) fn flows_back<B: BitBlock, N: Block<B>>(blocks: &[N]) -> bool {
-    let mut all: usize = 0;
-    let mut greater: usize = 0;
+// Whether most blocks have a source of a greater number, so that values flow from the last block to the first.
+pub(crate) fn flows_back<B: BitBlock, N: Block<B>>(blocks: &[N]) -> bool
+    ensures { IsTrue result ↔ (length blocks.now < 2 * flowing_back 0 (map N.flow blocks.now)) }
+{
+    let mut flowing: usize = 0;
     for (number, block) in blocks.iter().enumerate() {
-        let sources = block.sources();
-        all = all.saturating_add(sources.len());
-        greater = greater.saturating_add(sources.iter().filter(|source| **source > number).count());
+        if has_greater(block.sources(), number) {
+            flowing += 1;
+        }
     }
-    greater > all / 2
+    flowing > blocks.len() / 2
+}
+
+// Whether one of the sources has a greater number.
+fn has_greater(sources: &[usize], number: usize) -> bool
+    ensures { result ≡ list_any (λ source. nat_lt number source) sources.now }
+{
+    sources.iter().any(|source| *source > number)
 }
 
 // The place of a block, or the block at a place: each is the other counted from the last, or both are one.
@@ -34,6 +43,7 @@ pub(crate) fn place(count: usize, from_last: bool, block: usize) -> usize
 pub(crate) fn all_below<B: BitBlock>(alloc: Global, count: usize) -> Result<BitSet<B>, AllocError>
     ensures all { IfOk result (λ set. (n : ℕ) → IsTrue (has (elements set.values) n) ↔ (n < count)) }
     ensures capacity { IfOk result (λ set. count ≤ set.capacity) }
+    ensures none { count ≡ 0 → IsOk result }
 {
     let mut set = BitSet::with_capacity_general(alloc, count)?;
     for number in 0..count {

@@ -12,6 +12,12 @@ loop-row-preserved g c =
     let i = c.loop-row.row-index in
     let inside : i < length rows = omega arith in
     let at : get_or (map (λ (row : Vec Bits). row.items) rows) i [] ≡ c.row-item.result.items = mapped (λ (row : Vec Bits). row.items) rows i c.row-item.result [] inside c.row-item.is in
-    let here : IsRowWithin c.longest_of_row.result (get_or (map (λ (row : Vec Bits). row.items) rows) i []) = rw (at, ← c.as_slice.ensures.value) c.longest_of_row.ensures in
+    let here : IsRowWithin c.longest_of_row.result (get_or (map (λ (row : Vec Bits). row.items) rows) i []) = rw (at, ← c.as_slice.ensures.value) c.longest_of_row.ensures.all in
     let most = c.max-longest.ensures in
-    below_more _ _ (λ k lt u. grind (arith, common_steps, c.loop-row.invariant k lt u, most)) (λ u. grind (arith, common_steps, here u, most))
+    record {
+      all = below_more _ _ (λ k lt u. grind (arith, common_steps, c.loop-row.invariant.all k lt u, most)) (λ u. grind (arith, common_steps, here u, most));
+      least = λ n all.
+          let low = c.loop-row.invariant.least n all in
+          let here_low = c.longest_of_row.ensures.least n (rw (c.as_slice.ensures.value, ← at) (all i)) in
+          omega (arith, most, low, here_low);
+    }

@@ -20,7 +20,7 @@ returns-in_err-number-clause-too_many g c =
     let inside : symbol < length nfa.moves = omega arith in
     let image : IsImage (row_of nfa.moves symbol) (set_of sets c.args.state) set = rw c.set.ensures at c.in_ok-step.ensures in
     let reach = reached_on nfa sets _ c.loop-symbol.invariant.builds c.args.state symbol set c.loop-symbol.invariant.inside inside image in
-    more_than nfa sets _ c.loop-symbol.invariant.builds set (c.sets_ascend.ensures.elements c.step.new.into.values) reach (c.in_err-number.ensures.too_many (ap Err fault)) c.sets_are_their_members.ensures.set c.args.most (c.in_err-number.ensures.full (ap Err fault)))
+    more_than nfa sets _ c.loop-symbol.invariant.builds set (c.sets_ascend.ensures.elements c.step.new.into.values) reach (c.in_err-number.ensures.too_many.0 (ap Err fault)).0 c.sets_are_their_members.ensures.set c.args.most (c.in_err-number.ensures.too_many.0 (ap Err fault)).1)
 
 pub loop-symbol-preserved : goal.loop-symbol-preserved
 loop-symbol-preserved g c =

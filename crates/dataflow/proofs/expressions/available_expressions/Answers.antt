@@ -19,11 +19,11 @@ returns-clause-solution g c =
     let len = sets.ok in
     let value = c.as_mut_slice.ensures.len in
     let whole : take sets.len (new ++ drop (length new) sets.items) ≡ new = written_back new (drop (length new) sets.items) sets.len (omega (arith, as_long, len, value)) in
-    let same : length (map flow_of missing) ≡ length (map (missing_flow (length blocks) all) blocks) = ap (λ (l : List Flow). length l) c.in_ok-missing.ensures in
+    let same : length (map flow_of missing) ≡ length (map (missing_flow (length blocks) all) blocks) = ap (λ (l : List Flow). length l) c.in_ok-missing.ensures.missing in
     let solved : length sets.items ≡ length missing = rw c.as_slice.ensures.value at c.in_ok-sets.ensures.long in
     let long : length (lists_of sets.items) ≡ length blocks = omega (arith, solved, same, length-map missing flow_of, length-map blocks (missing_flow (length blocks) all), length-map sets.items (λ (s : Bits). elements s.values)) in
-    let reached : AreReached (map (missing_flow (length blocks) all) blocks) (lists_of sets.items) = rw (c.as_slice.ensures.value, c.in_ok-missing.ensures) at c.in_ok-sets.ensures.reached in
-    let complements : AreComplements all (lists_of sets.items) (lists_of new) = rw c.as_mut_slice.ensures.value at c.in_ok-complement_each.ensures in
+    let reached : AreReached (map (missing_flow (length blocks) all) blocks) (lists_of sets.items) = rw (c.as_slice.ensures.value, c.in_ok-missing.ensures.missing) at c.in_ok-sets.ensures.reached in
+    let complements : AreComplements all (lists_of sets.items) (lists_of new) = rw c.as_mut_slice.ensures.value at c.in_ok-complement_each.ensures.complements in
     let found : AreFound blocks c.args.count (lists_of new) = are_found blocks all c.members_of_merged_sets.ensures.difference c.args.count (lists_of sets.items) (lists_of new) c.in_ok-all.ensures.all long reached complements in
     rw whole (are_available blocks c.args.count (lists_of new) found)
 
@@ -38,11 +38,11 @@ returns-clause-available g c =
     let len = sets.ok in
     let value = c.as_mut_slice.ensures.len in
     let whole : take sets.len (new ++ drop (length new) sets.items) ≡ new = written_back new (drop (length new) sets.items) sets.len (omega (arith, as_long, len, value)) in
-    let same : length (map flow_of missing) ≡ length (map (missing_flow (length blocks) all) blocks) = ap (λ (l : List Flow). length l) c.in_ok-missing.ensures in
+    let same : length (map flow_of missing) ≡ length (map (missing_flow (length blocks) all) blocks) = ap (λ (l : List Flow). length l) c.in_ok-missing.ensures.missing in
     let solved : length sets.items ≡ length missing = rw c.as_slice.ensures.value at c.in_ok-sets.ensures.long in
     let long : length (lists_of sets.items) ≡ length blocks = omega (arith, solved, same, length-map missing flow_of, length-map blocks (missing_flow (length blocks) all), length-map sets.items (λ (s : Bits). elements s.values)) in
-    let reached : AreReached (map (missing_flow (length blocks) all) blocks) (lists_of sets.items) = rw (c.as_slice.ensures.value, c.in_ok-missing.ensures) at c.in_ok-sets.ensures.reached in
-    let complements : AreComplements all (lists_of sets.items) (lists_of new) = rw c.as_mut_slice.ensures.value at c.in_ok-complement_each.ensures in
+    let reached : AreReached (map (missing_flow (length blocks) all) blocks) (lists_of sets.items) = rw (c.as_slice.ensures.value, c.in_ok-missing.ensures.missing) at c.in_ok-sets.ensures.reached in
+    let complements : AreComplements all (lists_of sets.items) (lists_of new) = rw c.as_mut_slice.ensures.value at c.in_ok-complement_each.ensures.complements in
     let found : AreFound blocks c.args.count (lists_of new) = are_found blocks all c.members_of_merged_sets.ensures.difference c.args.count (lists_of sets.items) (lists_of new) c.in_ok-all.ensures.all long reached complements in
     rw whole (each_available blocks c.args.count (lists_of new) found)
 
@@ -57,6 +57,6 @@ returns-clause-long g c =
     let len = sets.ok in
     let value = c.as_mut_slice.ensures.len in
     let whole : take sets.len (new ++ drop (length new) sets.items) ≡ new = written_back new (drop (length new) sets.items) sets.len (omega (arith, as_long, len, value)) in
-    let same : length (map flow_of missing) ≡ length (map (missing_flow (length blocks) all) blocks) = ap (λ (l : List Flow). length l) c.in_ok-missing.ensures in
+    let same : length (map flow_of missing) ≡ length (map (missing_flow (length blocks) all) blocks) = ap (λ (l : List Flow). length l) c.in_ok-missing.ensures.missing in
     let solved : length sets.items ≡ length missing = rw c.as_slice.ensures.value at c.in_ok-sets.ensures.long in
     rw whole (omega (arith, as_long, len, value, solved, same, length-map missing flow_of, length-map blocks (missing_flow (length blocks) all)))

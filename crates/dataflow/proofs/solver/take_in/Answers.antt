@@ -16,7 +16,7 @@ returns-clause-takes g c =
     let spare = elements c.difference_with.new.self.values in
     let before : elements (get_or sets b c.index-sets-number-2.result).values ≡ set_at (lists_of sets) b = read_set sets b _ (get_or_default sets b c.index-sets-number-2.result (record { values = []; capacity = 0 }) c.requires) in
     let gathered : IsGathered block.sources (lists_of sets) (elements c.gather.new.into.values) = rw c.sources.ensures at c.in_ok-gather.ensures in
-    let difference : IsDifference (elements c.gather.new.into.values) block.killed spare = rw c.killed.ensures at c.in_ok-difference_with.ensures.members in
+    let difference : IsDifference (elements c.gather.new.into.values) block.killed spare = rw c.killed.ensures.elements at c.in_ok-difference_with.ensures.members in
     let now = written sets b grown c.requires in
     let members : IsUnion (set_at (lists_of sets) b) spare (set_at (lists_of (set sets b grown)) b) = λ v. ap (λ s. has s v) now ∙ c.in_ok-union_with.ensures.members v ∙ ap (λ s. has s v || has spare v) before in
     takes_union block b (lists_of sets) (elements c.gather.new.into.values) spare gathered difference (lists_of (set sets b grown)) (as_long sets b grown) (others_stay sets b grown) members

@@ -36,9 +36,11 @@ returns-clause-ok g c =
 pub invariant_of-self : goal.invariant_of-self
 invariant_of-self g c = rw c.reserve.ensures.items c.self.invariant
 
-pub returns-clause-limit : goal.returns-clause-limit
-returns-clause-limit g c _ =
+pub returns-clause-longer : goal.returns-clause-longer
+returns-clause-longer g c =
     let list = length-map c.push_reserved.new.self.items (λ (set : Bits). elements set.values) in
     let kept = ap length c.reserve.ensures.items in
     let one_more = ap length c.push_reserved.ensures.items in
-    omega (arith, list, kept, one_more, length_push c.reserve.new.self.items c.in_ok-copy.copy, c.len-number.ensures, c.if-number-most.false)
+    let before = ap length c.self.view_is in
+    let as_many = length-map c.self.inside.sets.items (λ (set : Bits). elements set.values) in
+    omega (arith, list, kept, one_more, length_push c.reserve.new.self.items c.in_ok-copy.copy, before, as_many)

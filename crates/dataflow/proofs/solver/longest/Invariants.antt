@@ -1,0 +1,6 @@
+use Rattle.std.proofs.Common.{◌≡◌, max, take}
+use Rattle.std.specs.List.{fold}
+use Rattle.dataflow.proofs.solver.longest.Given as goal
+
+abbrev pub invariant-loop-block : goal.invariant-loop-block
+invariant-loop-block g l = l.longest ≡ fold (λ most block. max (max most (g.N.Block.generated_length block)) (g.N.Block.killed_length block)) 0 (take l.block-index l.blocks)
