@@ -73,8 +73,8 @@ impl<B: BitBlock> BitSet<B> {
         self.count()
     }
 
-    /// Whether there is no element. Reads no block of the set: of as many blocks as a block has bits it
-    /// asks at once whether they are all zero.
+    /// Whether there is no element. Of many blocks it reads the summary alone, which says of as many as a block
+    /// has bits at once whether they are all zero; of few it reads each, up to the first that is not zero.
     #[inline]
     pub fn is_empty(&self) -> bool
         ensures elements { IsTrue result ↔ (elements self.now.values ≡ []) }

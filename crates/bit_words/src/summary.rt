@@ -1,5 +1,6 @@
 // The summary of a vector of blocks: a list of bits, one for each block, which says which of them are not 0. It is kept
-// in blocks as well, and so changed by `packed`. This folder is the only code that keeps the two in step.
+// in blocks as well, and so changed by `packed`. This folder keeps the two in step, but where all bits become one value
+// or none is left: `fill` and `remove_all` of a bit vector do the same to both.
 ghost use Rattle.std.specs.Prelude.{◌≡◌, ◌≢◌, ℕ, ◌+◌, ◌-◌, ◌*◌, ◌/◌, ◌^◌, ◌<◌, ◌≤◌, ◌==◌, ◌&&◌, ◌||◌, All, IfOk, IsOk, get_or, not, nat_le, nat_lt, [], length, map, min, false, true, vec_len, vec_capacity};
 ghost use Rattle.bit_words.specs.Bits.{blocks_for};
 ghost use Rattle.bit_words.specs.Digits.{is_one};

@@ -7,6 +7,8 @@ pub enum Ask {
     Exact(usize),
     /// The same where they grow: for each of the two twice what it takes, and 8 blocks at least.
     Grown(usize),
+    /// So many lists, each exactly of this length.
+    Lists(usize, usize),
     /// So many requests, of so many bytes together.
     Other(usize, usize),
 }
@@ -45,12 +47,23 @@ fn bound_of_list(len: usize, width: usize, grows: bool) -> Bound {
     }
 }
 
+impl Bound {
+    // That often.
+    fn times(self, count: usize) -> Bound {
+        Bound {
+            requests: self.requests.saturating_mul(count),
+            bytes: self.bytes.saturating_mul(count),
+        }
+    }
+}
+
 impl Ask {
     // What this is over blocks of so many bits.
     fn bound(self, width: usize) -> Bound {
         match self {
             Ask::Exact(len) => bound_of_list(len, width, false),
             Ask::Grown(len) => bound_of_list(len, width, true),
+            Ask::Lists(count, len) => bound_of_list(len, width, false).times(count),
             Ask::Other(requests, bytes) => Bound { requests, bytes },
         }
     }

@@ -1,4 +1,5 @@
 // Why a call failed, whichever library says so.
+use automata::DfaError;
 use bit_set::bit_vec::BitsError;
 use bit_set::{JsonError, SetError};
 use bit_set_run::LinesFault;
@@ -58,6 +59,15 @@ impl From<LinesFault> for Fault {
         match fault {
             LinesFault::Memory => Fault::Memory,
             _ => Fault::Other,
+        }
+    }
+}
+
+impl From<DfaError> for Fault {
+    fn from(fault: DfaError) -> Self {
+        match fault {
+            DfaError::Memory(_) => Fault::Memory,
+            DfaError::TooMany => Fault::Other,
         }
     }
 }

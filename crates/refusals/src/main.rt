@@ -6,11 +6,13 @@ mod asks;
 mod bits;
 mod failing_writers;
 mod faults;
+mod flow_problems;
 mod json;
 mod new_values;
 mod runs;
 mod sets;
 mod splits;
+mod state_machines;
 mod states;
 mod sweep;
 mod users;
@@ -27,16 +29,30 @@ fn words(rt: &HostRuntime) -> Result<Vec<String>, Fault> {
     Ok(env::args(rt)?.skip(1).collect(rt.alloc())?)
 }
 
-// Every call that each type of blocks has, over one of them. Whether all went as they may.
-fn over<B: BitBlock>(sweep: &Sweep<'_>) -> Result<bool, Fault> {
+// The calls of sets and bit vectors that each type of blocks has, over one of them. Whether all went as they may.
+fn over_sets<B: BitBlock>(sweep: &Sweep<'_>) -> Result<bool, Fault> {
     let sets = sets::all::<B>(sweep)?;
     let splits = splits::all::<B>(sweep)?;
     let making = new_values::all::<B>(sweep)?;
     let bits = bits::all::<B>(sweep)?;
     let runs = runs::all::<B>(sweep)?;
     let quiet = without_memory::all::<B>(sweep)?;
+    Ok(sets && splits && making && bits && runs && quiet)
+}
+
+// The calls of the libraries that are over sets.
+fn over_users<B: BitBlock>(sweep: &Sweep<'_>) -> Result<bool, Fault> {
     let users = users::all::<B>(sweep)?;
-    Ok(sets && splits && making && bits && runs && quiet && users)
+    let flow_problems = flow_problems::all::<B>(sweep)?;
+    let state_machines = state_machines::all::<B>(sweep)?;
+    Ok(users && flow_problems && state_machines)
+}
+
+// Every call that each type of blocks has.
+fn over<B: BitBlock>(sweep: &Sweep<'_>) -> Result<bool, Fault> {
+    let sets = over_sets::<B>(sweep)?;
+    let users = over_users::<B>(sweep)?;
+    Ok(sets && users)
 }
 
 // Those and the calls of the JSON form.
