@@ -203,7 +203,11 @@ fn a_small_closure(rt: HostRuntime) -> Result<(), Fail> {
         (70, 2, false),
         (70, 71, true),
     ] {
-        assert_eq!(rt; reaches_all_of(rows.as_slice(), a, b), wanted, "{a} and {b}");
+        assert_eq!(rt;
+            reaches_all_of(rows.as_slice(), a, b),
+            wanted,
+            "{a} and {b}"
+        );
     }
     Ok(())
 }
