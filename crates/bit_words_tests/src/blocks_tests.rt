@@ -1,8 +1,7 @@
 //! The walk over the blocks of a bit vector.
-use crate::expect::expect_eq;
+use crate::expect::{expect_eq, ok};
 use bit_words::bit_vec::{BitBlock, BitVec, Blocks};
 use block24::Block24;
-use std::test::Fail;
 
 // The next block. It has no clause, so that a test that makes many such calls does not carry each one along.
 fn next_if<B: BitBlock>(walk: &mut Blocks<'_, B>, wanted: bool) -> Option<B> {
@@ -10,8 +9,9 @@ fn next_if<B: BitBlock>(walk: &mut Blocks<'_, B>, wanted: bool) -> Option<B> {
 }
 
 #[test]
-fn a_block_comes_where_it_is_wanted(rt: HostRuntime) -> Result<(), Fail> {
-    let bits = BitVec::<u8>::from_bytes_general(rt.alloc(), &[0b1000_0000, 0b0000_0001])?;
+fn a_block_comes_where_it_is_wanted(rt: HostRuntime) {
+    let bytes = [0b1000_0000, 0b0000_0001];
+    let bits = ok(&rt, BitVec::<u8>::from_bytes_general(rt.alloc(), &bytes));
     let mut walk = bits.blocks();
     expect_eq(&rt, &next_if(&mut walk, false), &Some(0));
     expect_eq(&rt, &walk.size_hint(), &(2, Some(2)));
@@ -23,27 +23,25 @@ fn a_block_comes_where_it_is_wanted(rt: HostRuntime) -> Result<(), Fail> {
         next_if(&mut walk, true),
     ];
     expect_eq(&rt, &rest, &[Some(0), Some(128), Some(0), None]);
-    Ok(())
 }
 
 #[test]
-fn a_block_of_24_bits_comes_where_it_is_wanted(rt: HostRuntime) -> Result<(), Fail> {
-    let odd = BitVec::<Block24>::from_elem_general(rt.alloc(), 25, true)?;
+fn a_block_of_24_bits_comes_where_it_is_wanted(rt: HostRuntime) {
+    let odd = ok(
+        &rt,
+        BitVec::<Block24>::from_elem_general(rt.alloc(), 25, true),
+    );
     let mut walk = odd.blocks();
+    let found = [
+        next_if(&mut walk, true),
+        next_if(&mut walk, false),
+        next_if(&mut walk, true),
+        next_if(&mut walk, true),
+    ];
+    let full = Some(Block24(16777215));
     expect_eq(
         &rt,
-        &[
-            next_if(&mut walk, true),
-            next_if(&mut walk, false),
-            next_if(&mut walk, true),
-            next_if(&mut walk, true),
-        ],
-        &[
-            Some(Block24(16777215)),
-            Some(Block24(0)),
-            Some(Block24(1)),
-            None,
-        ],
+        &found,
+        &[full, Some(Block24(0)), Some(Block24(1)), None],
     );
-    Ok(())
 }

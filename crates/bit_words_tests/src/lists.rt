@@ -1,20 +1,21 @@
 // Lists of truth values for the tests.
+use crate::expect::ok;
 use bit_words::bit_vec::{BitBlock, BitVec};
-use std::alloc::{AllocError, Global};
+use std::alloc::Global;
+use std::process::Abort;
 
 // A list of `n` values that is true at these indices, as far as it has them.
 pub(crate) fn list_of<B: BitBlock>(
+    rt: &impl Abort,
     alloc: Global,
     n: usize,
     indices: &[usize],
-) -> Result<BitVec<B>, AllocError> {
-    let mut bits = BitVec::from_elem_general(alloc, n, false)?;
-    for i in indices {
-        if *i < bits.len() {
-            bits.set(*i, true);
-        }
+) -> BitVec<B> {
+    let mut bits = ok(rt, BitVec::from_elem_general(alloc, n, false));
+    for index in indices {
+        put(&mut bits, *index, true);
     }
-    Ok(bits)
+    bits
 }
 
 // Makes the value at a place be this, where there is one.
@@ -25,10 +26,7 @@ pub(crate) fn put<B: BitBlock>(bits: &mut BitVec<B>, place: usize, bit: bool) {
 }
 
 // Appends so many values where a list may be so long.
-pub(crate) fn grow_by<B: BitBlock>(
-    bits: &mut BitVec<B>,
-    n: usize,
-    bit: bool,
-) -> Result<(), AllocError> {
-    bits.grow(n.min(usize::MAX - bits.len()), bit)
+pub(crate) fn grow_by<B: BitBlock>(rt: &impl Abort, bits: &mut BitVec<B>, n: usize, bit: bool) {
+    let n = n.min(usize::MAX - bits.len());
+    ok(rt, bits.grow(n, bit));
 }

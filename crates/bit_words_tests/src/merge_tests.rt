@@ -1,23 +1,19 @@
-use crate::expect::{expect, expect_eq};
+use crate::expect::{expect, expect_eq, ok};
 use crate::lists::list_of;
 use bit_words::bit_vec::{BitBlock, BitVec, Merge, Steps};
 use block24::Block24;
-use std::alloc::{AllocError, AllocFailed, Global};
+use std::alloc::Global;
 use std::process::Abort;
-use std::test::Fail;
 
 // The indices at which a list is true.
-fn indices_of<B: BitBlock>(
-    alloc: Global,
-    bits: &BitVec<B>,
-) -> Result<Vec<usize>, AllocFailed<usize>> {
+fn indices_of<B: BitBlock>(rt: &impl Abort, alloc: Global, bits: &BitVec<B>) -> Vec<usize> {
     let mut indices = Vec::new(alloc);
     for i in 0..bits.len() {
         if bits.get(i) == Some(true) {
-            indices.push(i)?;
+            ok(rt, indices.push(i));
         }
     }
-    Ok(indices)
+    indices
 }
 
 // Merges a list with another that is no longer. Whether it is none, and the capacity stays.
@@ -31,35 +27,37 @@ fn merge_in<B: BitBlock>(bits: &mut BitVec<B>, other: &BitVec<B>, merge: Merge) 
 }
 
 // What a list of 150 values and one of 101 become, which ends within a block at each width.
-fn check_merge<B: BitBlock>(
-    rt: &impl Abort,
-    alloc: Global,
-    merge: Merge,
-    wanted: &[usize],
-) -> Result<(), Fail> {
-    let mut bits = list_of::<B>(alloc, 150, &[0, 3, 31, 32, 64, 100, 149])?;
-    let other = list_of(alloc, 101, &[0, 31, 33, 64, 99])?;
+fn merged<B: BitBlock>(rt: &impl Abort, alloc: Global, merge: Merge) -> BitVec<B> {
+    let mut bits = list_of::<B>(rt, alloc, 150, &[0, 3, 31, 32, 64, 100, 149]);
+    let other = list_of(rt, alloc, 101, &[0, 31, 33, 64, 99]);
     expect(rt, merge_in(&mut bits, &other, merge));
-    expect_eq(rt, &indices_of(alloc, &bits)?.as_slice(), &wanted);
-    expect_eq(rt, &bits.len(), &150);
-    Ok(())
+    bits
 }
 
-fn check_merges<B: BitBlock>(rt: &impl Abort, alloc: Global) -> Result<(), Fail> {
-    let union = [0, 3, 31, 32, 33, 64, 99, 100, 149];
-    check_merge::<B>(rt, alloc, Merge::Union, &union)?;
-    check_merge::<B>(rt, alloc, Merge::Intersection, &[0, 31, 64])?;
-    check_merge::<B>(rt, alloc, Merge::Difference, &[3, 32, 100, 149])?;
-    check_merge::<B>(rt, alloc, Merge::Symmetric, &[3, 32, 33, 99, 100, 149])
+// A merge, and the indices at which the two are true then.
+const MERGES: &[(Merge, &[usize])] = &[
+    (Merge::Union, &[0, 3, 31, 32, 33, 64, 99, 100, 149]),
+    (Merge::Intersection, &[0, 31, 64]),
+    (Merge::Difference, &[3, 32, 100, 149]),
+    (Merge::Symmetric, &[3, 32, 33, 99, 100, 149]),
+];
+
+fn check_merges<B: BitBlock>(rt: &impl Abort, alloc: Global) {
+    for (merge, wanted) in MERGES {
+        let bits = merged::<B>(rt, alloc, *merge);
+        let indices = indices_of(rt, alloc, &bits);
+        expect_eq(rt, &indices.as_slice(), wanted);
+        expect_eq(rt, &bits.len(), &150);
+    }
 }
 
 #[test]
-fn lists_of_unequal_lengths_merge(rt: HostRuntime) -> Result<(), Fail> {
-    check_merges::<u8>(&rt, rt.alloc())?;
-    check_merges::<Block24>(&rt, rt.alloc())?;
-    check_merges::<u32>(&rt, rt.alloc())?;
-    check_merges::<u64>(&rt, rt.alloc())?;
-    check_merges::<u128>(&rt, rt.alloc())
+fn lists_of_unequal_lengths_merge(rt: HostRuntime) {
+    check_merges::<u8>(&rt, rt.alloc());
+    check_merges::<Block24>(&rt, rt.alloc());
+    check_merges::<u32>(&rt, rt.alloc());
+    check_merges::<u64>(&rt, rt.alloc());
+    check_merges::<u128>(&rt, rt.alloc());
 }
 
 // What two bytes become as blocks. It has no clause, so that a test that compares it does not carry one along.
@@ -99,105 +97,105 @@ fn relations<B: BitBlock>(first: &BitVec<B>, second: &BitVec<B>) -> (bool, bool)
 }
 
 // Lists that are compared: how long each is, and the indices at which it is true.
-const LOW: (usize, &[usize]) = (400, &[200]);
+type Parts = (usize, &'static [usize]);
 
-const BOTH: (usize, &[usize]) = (201, &[100, 200]);
+const LOW: Parts = (400, &[200]);
 
-const HIGH: (usize, &[usize]) = (301, &[200, 300]);
+const BOTH: Parts = (201, &[100, 200]);
 
-const APART: (usize, &[usize]) = (700, &[101, 300, 699]);
+const HIGH: Parts = (301, &[200, 300]);
+
+const APART: Parts = (700, &[101, 300, 699]);
 
 // The same of two of these.
 fn relations_of<B: BitBlock>(
+    rt: &impl Abort,
     alloc: Global,
-    (len, indices): (usize, &[usize]),
-    (other_len, other_indices): (usize, &[usize]),
-) -> Result<(bool, bool), AllocError> {
-    let first = list_of::<B>(alloc, len, indices)?;
-    let second = list_of::<B>(alloc, other_len, other_indices)?;
-    Ok(relations(&first, &second))
+    first: Parts,
+    second: Parts,
+) -> (bool, bool) {
+    let a = list_of::<B>(rt, alloc, first.0, first.1);
+    let b = list_of::<B>(rt, alloc, second.0, second.1);
+    relations(&a, &b)
 }
 
-fn check_relations<B: BitBlock>(rt: &impl Abort, alloc: Global) -> Result<(), Fail> {
-    for (first, second, wanted) in [
-        // The longer is within the shorter.
-        (LOW, BOTH, (true, false)),
-        (BOTH, LOW, (false, false)),
-        // 300 is past the shorter.
-        (HIGH, BOTH, (false, false)),
-        (BOTH, APART, (false, true)),
-        (APART, HIGH, (false, false)),
-        (APART, APART, (true, false)),
-    ] {
-        let found = relations_of::<B>(alloc, first, second)?;
+// Two of these, and whether the first is within the second and apart from it.
+const RELATIONS: &[(Parts, Parts, (bool, bool))] = &[
+    // The longer is within the shorter.
+    (LOW, BOTH, (true, false)),
+    (BOTH, LOW, (false, false)),
+    // 300 is past the shorter.
+    (HIGH, BOTH, (false, false)),
+    (BOTH, APART, (false, true)),
+    (APART, HIGH, (false, false)),
+    (APART, APART, (true, false)),
+];
+
+fn check_relations<B: BitBlock>(rt: &impl Abort, alloc: Global) {
+    for row in RELATIONS {
+        let (first, second, wanted) = *row;
+        let found = relations_of::<B>(rt, alloc, first, second);
         assert_eq!(rt; found, wanted, "of {} and {}", first.0, second.0);
     }
-    Ok(())
 }
 
 #[test]
-fn lists_are_within_one_another_or_apart(rt: HostRuntime) -> Result<(), Fail> {
-    check_relations::<u8>(&rt, rt.alloc())?;
-    check_relations::<Block24>(&rt, rt.alloc())?;
-    check_relations::<u32>(&rt, rt.alloc())?;
-    check_relations::<u64>(&rt, rt.alloc())?;
-    check_relations::<u128>(&rt, rt.alloc())
+fn lists_are_within_one_another_or_apart(rt: HostRuntime) {
+    check_relations::<u8>(&rt, rt.alloc());
+    check_relations::<Block24>(&rt, rt.alloc());
+    check_relations::<u32>(&rt, rt.alloc());
+    check_relations::<u64>(&rt, rt.alloc());
+    check_relations::<u128>(&rt, rt.alloc());
 }
 
-fn check_relations_of_none<B: BitBlock>(rt: &impl Abort, alloc: Global) -> Result<(), Fail> {
+fn check_relations_of_none<B: BitBlock>(rt: &impl Abort, alloc: Global) {
     let none = BitVec::<B>::new_general(alloc);
-    let apart = list_of(alloc, 700, &[101, 300, 699])?;
-    expect_eq(
-        rt,
-        &[
-            relations(&none, &apart),
-            relations(&apart, &none),
-            relations(&none, &none),
-        ],
-        &[(true, true), (false, true), (true, true)],
-    );
-    Ok(())
+    let apart = list_of(rt, alloc, 700, &[101, 300, 699]);
+    expect_eq(rt, &relations(&none, &apart), &(true, true));
+    expect_eq(rt, &relations(&apart, &none), &(false, true));
+    expect_eq(rt, &relations(&none, &none), &(true, true));
 }
 
 #[test]
-fn a_list_of_no_values_is_within_each_and_apart(rt: HostRuntime) -> Result<(), Fail> {
-    check_relations_of_none::<u8>(&rt, rt.alloc())?;
-    check_relations_of_none::<Block24>(&rt, rt.alloc())?;
-    check_relations_of_none::<u32>(&rt, rt.alloc())?;
-    check_relations_of_none::<u64>(&rt, rt.alloc())?;
-    check_relations_of_none::<u128>(&rt, rt.alloc())
+fn a_list_of_no_values_is_within_each_and_apart(rt: HostRuntime) {
+    check_relations_of_none::<u8>(&rt, rt.alloc());
+    check_relations_of_none::<Block24>(&rt, rt.alloc());
+    check_relations_of_none::<u32>(&rt, rt.alloc());
+    check_relations_of_none::<u64>(&rt, rt.alloc());
+    check_relations_of_none::<u128>(&rt, rt.alloc());
 }
 
-fn text_of<B: BitBlock>(alloc: Global, bits: &BitVec<B>) -> Result<String, AllocError> {
-    format!(in alloc; "{bits:?}")
-}
-
-#[test]
-fn a_list_shows_its_bits(rt: HostRuntime) -> Result<(), Fail> {
-    let alloc = rt.alloc();
-    let bits = list_of::<u8>(alloc, 11, &[1, 10])?;
-    expect_eq(
-        &rt,
-        &text_of(alloc, &bits)?.as_str(),
-        &"BitVec { storage: \"01000000 001\", nbits: 11 }",
-    );
-    Ok(())
+// A list is shown as this text.
+fn shows<B: BitBlock>(rt: &impl Abort, alloc: Global, bits: &BitVec<B>, text: &str) {
+    let shown = ok(rt, format!(in alloc; "{bits:?}"));
+    expect_eq(rt, &shown.as_str(), &text);
 }
 
 #[test]
-fn a_whole_block_and_no_block_show_their_bits(rt: HostRuntime) -> Result<(), Fail> {
-    let alloc = rt.alloc();
-    let whole = list_of::<Block24>(alloc, 24, &[0, 23])?;
-    expect_eq(
+fn a_list_shows_its_bits(rt: HostRuntime) {
+    let bits = list_of::<u8>(&rt, rt.alloc(), 11, &[1, 10]);
+    shows(
         &rt,
-        &text_of(alloc, &whole)?.as_str(),
-        &"BitVec { storage: \"100000000000000000000001\", nbits: 24 }",
+        rt.alloc(),
+        &bits,
+        "BitVec { storage: \"01000000 001\", nbits: 11 }",
     );
-    let empty = BitVec::new(alloc);
-    expect_eq(
+}
+
+#[test]
+fn a_whole_block_and_no_block_show_their_bits(rt: HostRuntime) {
+    let whole = list_of::<Block24>(&rt, rt.alloc(), 24, &[0, 23]);
+    shows(
         &rt,
-        &text_of(alloc, &empty)?.as_str(),
-        &"BitVec { storage: \"\", nbits: 0 }",
+        rt.alloc(),
+        &whole,
+        "BitVec { storage: \"100000000000000000000001\", nbits: 24 }",
     );
-    Ok(())
+    let empty = BitVec::new(rt.alloc());
+    shows(
+        &rt,
+        rt.alloc(),
+        &empty,
+        "BitVec { storage: \"\", nbits: 0 }",
+    );
 }

@@ -1,12 +1,11 @@
 //! The walk over the blocks that are not zero, and what goes by the summary: at the ends of its blocks.
-use crate::expect::{expect, expect_eq};
+use crate::expect::{expect, expect_eq, ok};
 use crate::lists::{grow_by, list_of, put};
-use bit_words::bit_vec::{BitBlock, BitVec, FirstAndNonzero, Merge, Steps};
+use bit_words::bit_vec::{BitBlock, BitVec, FirstAndNonzero, Merge, Nonzero, Steps};
 use block24::Block24;
-use std::alloc::{AllocError, AllocFailed, Global};
+use std::alloc::Global;
 use std::fmt::Debug;
 use std::process::Abort;
-use std::test::Fail;
 
 fn next_index<B: BitBlock>(walk: &mut FirstAndNonzero<'_, B>) -> Option<usize> {
     Some(walk.next()?.0)
@@ -23,47 +22,54 @@ fn indices<B: BitBlock>(bits: &BitVec<B>) -> [Option<usize>; 4] {
     ]
 }
 
-// Those of a list that is true at these indices.
-fn indices_of(alloc: Global, n: usize, trues: &[usize]) -> Result<[Option<usize>; 4], AllocError> {
-    Ok(indices(&list_of::<u32>(alloc, n, trues)?))
+// A length, the indices at which a list of it is true, and those of the blocks that its walk gives first.
+const FIRSTS: &[(usize, &[usize], [Option<usize>; 4])] = &[
+    (401, &[400], [Some(0), Some(12), None, None]),
+    (401, &[0, 400], [Some(0), Some(12), None, None]),
+    (100, &[], [Some(0), None, None, None]),
+];
+
+#[test]
+fn the_first_block_and_those_that_are_not_zero_come(rt: HostRuntime) {
+    for row in FIRSTS {
+        let (len, trues, wanted) = *row;
+        let bits = list_of::<u32>(&rt, rt.alloc(), len, trues);
+        expect_eq(&rt, &indices(&bits), &wanted);
+    }
+    let none = BitVec::<u32>::new_general(rt.alloc());
+    expect_eq(&rt, &indices(&none), &[None; 4]);
+}
+
+// Whether a walk refills a block, which block that is then, and the index. Of a long list it is not tried.
+fn refilled(walk: &mut Nonzero<'_, u32>, block: u32, index: usize) -> Option<(bool, u32, usize)> {
+    if walk.as_slice().len() >= 1000 {
+        return None;
+    }
+    let (mut block, mut index) = (block, index);
+    let is_nonzero = walk.refill(&mut block, &mut index);
+    Some((is_nonzero, block, index))
+}
+
+// The same without the index, which may be any at the end.
+fn refilled_block(walk: &mut Nonzero<'_, u32>) -> Option<(bool, u32)> {
+    let (is_nonzero, block, _) = refilled(walk, 0, 0)?;
+    Some((is_nonzero, block))
 }
 
 #[test]
-fn the_first_block_and_those_that_are_not_zero_come(rt: HostRuntime) -> Result<(), Fail> {
-    let alloc = rt.alloc();
-    let two = [Some(0), Some(12), None, None];
-    expect_eq(&rt, &indices_of(alloc, 401, &[400])?, &two);
-    expect_eq(&rt, &indices_of(alloc, 401, &[0, 400])?, &two);
-    expect_eq(
-        &rt,
-        &indices_of(alloc, 100, &[])?,
-        &[Some(0), None, None, None],
-    );
-    expect_eq(
-        &rt,
-        &indices(&BitVec::<u32>::new_general(rt.alloc())),
-        &[None; 4],
-    );
-    Ok(())
-}
-
-#[test]
-fn a_refill_passes_zero_blocks(rt: HostRuntime) -> Result<(), Fail> {
-    let bits = list_of::<u32>(rt.alloc(), 401, &[400])?;
+fn a_refill_passes_zero_blocks(rt: HostRuntime) {
+    let bits = list_of::<u32>(&rt, rt.alloc(), 401, &[400]);
     let mut walk = bits.nonzero_past_first();
     expect_eq(&rt, &walk.as_slice().len(), &13);
-    if walk.as_slice().len() < 1000 {
-        let mut block = 0;
-        let mut index = 0;
-        let first = (walk.refill(&mut block, &mut index), block, index);
-        expect_eq(&rt, &first, &(true, 0x1_0000, 384));
-        let second = (walk.refill(&mut block, &mut index), block, index);
-        expect_eq(&rt, &second, &(true, 0x1_0000, 384));
-        block = 0;
-        expect(&rt, !walk.refill(&mut block, &mut index));
-        expect_eq(&rt, &block, &0);
-    }
-    Ok(())
+    let found = Some((true, 0x1_0000, 384));
+    expect_eq(&rt, &refilled(&mut walk, 0, 0), &found);
+    expect_eq(&rt, &refilled(&mut walk, 0x1_0000, 384), &found);
+    expect_eq(&rt, &refilled_block(&mut walk), &Some((false, 0)));
+}
+
+// How many values of a list are true, and whether none is.
+fn trues_of<B: BitBlock>(bits: &BitVec<B>) -> (usize, bool) {
+    (bits.count_ones(), bits.none())
 }
 
 // The first and the last blocks that a block of the summary says of: all that lie between are passed over, and
@@ -73,82 +79,72 @@ fn ends_are_found<B: BitBlock>(
     alloc: Global,
     (len, trues): (usize, &[usize]),
     found: [usize; 4],
-) -> Result<(), AllocError> {
+) {
     for more in 0..2 {
-        let bits = list_of::<B>(alloc, len.saturating_add(more), trues)?;
+        let bits = list_of::<B>(rt, alloc, len.saturating_add(more), trues);
         expect_eq(rt, &indices(&bits), &found.map(Some));
-        expect_eq(rt, &bits.count_ones(), &trues.len());
-        expect(rt, !bits.none());
+        expect_eq(rt, &trues_of(&bits), &(trues.len(), false));
     }
-    Ok(())
 }
 
 #[test]
-fn zero_blocks_are_passed_over(rt: HostRuntime) -> Result<(), Fail> {
-    let alloc = rt.alloc();
-    ends_are_found::<u8>(&rt, alloc, (256, &[63, 192, 255]), [0, 7, 24, 31])?;
-    ends_are_found::<Block24>(&rt, alloc, (2304, &[575, 1728, 2303]), [0, 23, 72, 95])?;
+fn zero_blocks_are_passed_over(rt: HostRuntime) {
+    ends_are_found::<u8>(&rt, rt.alloc(), (256, &[63, 192, 255]), [0, 7, 24, 31]);
+    ends_are_found::<Block24>(&rt, rt.alloc(), (2304, &[575, 1728, 2303]), [0, 23, 72, 95]);
     ends_are_found::<u64>(
         &rt,
-        alloc,
+        rt.alloc(),
         (16384, &[4095, 12288, 16383]),
         [0, 63, 192, 255],
-    )?;
+    );
     ends_are_found::<u128>(
         &rt,
-        alloc,
+        rt.alloc(),
         (65536, &[16383, 49152, 65535]),
         [0, 127, 384, 511],
-    )?;
-    Ok(())
+    );
+}
+
+// The next two blocks of a walk.
+fn next_two(walk: &mut FirstAndNonzero<'_, u8>) -> [Option<(usize, u8)>; 2] {
+    [walk.next(), walk.next()]
 }
 
 #[test]
-fn a_walk_goes_on_from_its_clone(rt: HostRuntime) -> Result<(), Fail> {
-    let bits = list_of::<u8>(rt.alloc(), 200, &[9, 80, 199])?;
+fn a_walk_goes_on_from_its_clone(rt: HostRuntime) {
+    let bits = list_of::<u8>(&rt, rt.alloc(), 200, &[9, 80, 199]);
     let mut walk = bits.nonzero();
-    expect_eq(
-        &rt,
-        &[walk.next(), walk.next()],
-        &[Some((0, 0)), Some((1, 2))],
-    );
+    let first = [Some((0, 0)), Some((1, 2))];
+    expect_eq(&rt, &next_two(&mut walk), &first);
     let mut copy = walk.clone();
     expect_eq(&rt, &copy.next(), &Some((10, 1)));
-    expect_eq(
-        &rt,
-        &[walk.next(), walk.next(), walk.next()],
-        &[Some((10, 1)), Some((24, 128)), None],
-    );
+    let second = [Some((10, 1)), Some((24, 128))];
+    expect_eq(&rt, &next_two(&mut walk), &second);
+    expect_eq(&rt, &next_two(&mut walk), &[None, None]);
     expect_eq(&rt, &copy.next(), &Some((24, 128)));
-    Ok(())
 }
 
 #[test]
-fn a_removed_value_leaves_the_summary(rt: HostRuntime) -> Result<(), Fail> {
-    let mut bits = list_of::<u32>(rt.alloc(), 401, &[0, 400])?;
+fn a_removed_value_leaves_the_summary(rt: HostRuntime) {
+    let mut bits = list_of::<u32>(&rt, rt.alloc(), 401, &[0, 400]);
     put(&mut bits, 400, false);
     expect_eq(&rt, &indices(&bits), &[Some(0), None, None, None]);
-    expect(&rt, !bits.none());
+    expect_eq(&rt, &trues_of(&bits), &(1, false));
     put(&mut bits, 0, false);
-    expect(&rt, bits.none());
-    expect_eq(&rt, &bits.count_ones(), &0);
+    expect_eq(&rt, &trues_of(&bits), &(0, true));
     bits.cut_zero_blocks();
     expect_eq(&rt, &bits.len(), &0);
-    Ok(())
 }
 
 // The blocks that a walk is to give, each with its index: the first, and those that are not zero.
-fn entries<B: BitBlock>(
-    alloc: Global,
-    bits: &BitVec<B>,
-) -> Result<Vec<(usize, B)>, AllocFailed<(usize, B)>> {
+fn entries<B: BitBlock>(rt: &impl Abort, alloc: Global, bits: &BitVec<B>) -> Vec<(usize, B)> {
     let mut entries = Vec::new(alloc);
     for (k, block) in bits.storage().iter().enumerate() {
         if k == 0 || *block != B::zero() {
-            entries.push((k, *block))?;
+            ok(rt, entries.push((k, *block)));
         }
     }
-    Ok(entries)
+    entries
 }
 
 // The walk gives these blocks, and then none for good.
@@ -167,17 +163,15 @@ fn gives<B: BitBlock + Debug>(
 // At each point of the walk a clone gives what is left.
 fn agrees_at_each_point<B: BitBlock + Debug>(
     rt: &impl Abort,
-    alloc: Global,
     bits: &BitVec<B>,
-) -> Result<(), Fail> {
-    let entries = entries(alloc, bits)?;
+    entries: &[(usize, B)],
+) {
     let mut walk = bits.nonzero();
     for point in 0..entries.len() + 1 {
         let (_, left) = entries.split_at(point);
         gives(rt, walk.clone(), left);
         expect_eq(rt, &walk.next(), &left.first().copied());
     }
-    Ok(())
 }
 
 // Lists of three blocks of the summary, which are true within so many of them: at their ends, and with a zero
@@ -187,96 +181,91 @@ fn agree_over_summaries<B: BitBlock + Debug>(
     alloc: Global,
     trues: &[&[usize]],
     len: usize,
-) -> Result<(), Fail> {
+) {
     for places in trues {
-        let bits = list_of::<B>(alloc, len, places)?;
-        agrees_at_each_point(rt, alloc, &bits)?;
-        expect_eq(
-            rt,
-            &(bits.count_ones(), bits.none()),
-            &(places.len(), places.is_empty()),
-        );
+        let bits = list_of::<B>(rt, alloc, len, places);
+        agrees_at_each_point(rt, &bits, &entries(rt, alloc, &bits));
+        let wanted = (places.len(), places.is_empty());
+        expect_eq(rt, &trues_of(&bits), &wanted);
     }
-    Ok(())
 }
 
 // Over `u8` 256 values are the most whose summary is not stored.
-fn few(alloc: Global) -> Result<BitVec<u8>, AllocError> {
-    list_of(alloc, 256, &[0, 9, 255])
+fn few(rt: &impl Abort, alloc: Global) -> BitVec<u8> {
+    list_of(rt, alloc, 256, &[0, 9, 255])
 }
 
 #[test]
-fn a_list_grows_past_the_limit_and_is_cut_back(rt: HostRuntime) -> Result<(), Fail> {
-    let mut bits = few(rt.alloc())?;
-    grow_by(&mut bits, 1, true)?;
-    expect_eq(
-        &rt,
-        &indices(&bits),
-        &[Some(0), Some(1), Some(31), Some(32)],
-    );
+fn a_list_grows_past_the_limit_and_is_cut_back(rt: HostRuntime) {
+    let mut bits = few(&rt, rt.alloc());
+    grow_by(&rt, &mut bits, 1, true);
+    let wanted = [Some(0), Some(1), Some(31), Some(32)];
+    expect_eq(&rt, &indices(&bits), &wanted);
     bits.truncate(256);
     expect_eq(&rt, &indices(&bits), &[Some(0), Some(1), Some(31), None]);
-    Ok(())
 }
 
 // Those values once they were more, and 64 behind them, all of them false.
-fn filled(alloc: Global) -> Result<BitVec<u8>, AllocError> {
-    let mut bits = few(alloc)?;
-    grow_by(&mut bits, 1, true)?;
+fn filled(rt: &impl Abort, alloc: Global) -> BitVec<u8> {
+    let mut bits = few(rt, alloc);
+    grow_by(rt, &mut bits, 1, true);
     bits.truncate(256);
-    grow_by(&mut bits, 64, false)?;
+    grow_by(rt, &mut bits, 64, false);
     bits.fill(false);
-    Ok(bits)
+    bits
+}
+
+// The list takes in what is true in one that is no longer.
+fn unite(bits: &mut BitVec<u8>, other: &BitVec<u8>) {
+    if other.len() <= bits.len() {
+        bits.merge_blocks(other, Merge::Union, &mut Steps::new());
+    }
 }
 
 // A list past the limit that has a value of its own and those of the few.
-fn many(rt: &impl Abort, alloc: Global) -> Result<BitVec<u8>, AllocError> {
-    let mut bits = filled(alloc)?;
+fn many(rt: &impl Abort, alloc: Global) -> BitVec<u8> {
+    let mut bits = filled(rt, alloc);
     expect(rt, bits.none());
     put(&mut bits, 319, true);
-    let few = few(alloc)?;
-    if few.len() <= bits.len() {
-        bits.merge_blocks(&few, Merge::Union, &mut Steps::new());
-    }
-    Ok(bits)
+    unite(&mut bits, &few(rt, alloc));
+    bits
+}
+
+// The list becomes the other, whose walk gives these blocks first.
+fn becomes(rt: &impl Abort, copy: &mut BitVec<u8>, bits: &BitVec<u8>, wanted: [Option<usize>; 4]) {
+    expect_eq(rt, &indices(bits), &wanted);
+    ok(rt, copy.clone_from(bits));
+    expect_eq(rt, &indices(copy), &wanted);
 }
 
 #[test]
-fn a_list_is_copied_over_one_on_the_other_side_of_the_limit(rt: HostRuntime) -> Result<(), Fail> {
-    let alloc = rt.alloc();
-    let bits = many(&rt, alloc)?;
-    expect_eq(
-        &rt,
-        &indices(&bits),
-        &[Some(0), Some(1), Some(31), Some(39)],
-    );
-    let mut copy = few(alloc)?;
-    copy.clone_from(&bits)?;
-    expect_eq(
-        &rt,
-        &indices(&copy),
-        &[Some(0), Some(1), Some(31), Some(39)],
-    );
-    copy.clone_from(&few(alloc)?)?;
-    expect_eq(&rt, &indices(&copy), &[Some(0), Some(1), Some(31), None]);
-    Ok(())
+fn a_list_is_copied_over_one_on_the_other_side_of_the_limit(rt: HostRuntime) {
+    let mut copy = few(&rt, rt.alloc());
+    let many = many(&rt, rt.alloc());
+    let wanted = [Some(0), Some(1), Some(31), Some(39)];
+    becomes(&rt, &mut copy, &many, wanted);
+    let few = few(&rt, rt.alloc());
+    let wanted = [Some(0), Some(1), Some(31), None];
+    becomes(&rt, &mut copy, &few, wanted);
 }
 
+const NARROW: [&[usize]; 6] = [&[], &[0], &[63], &[67], &[0, 127], &[63, 64, 191]];
+
+const ODD: [&[usize]; 6] = [&[], &[0], &[575], &[579], &[0, 1151], &[575, 576, 1727]];
+
+const WIDE: [&[usize]; 6] = [
+    &[],
+    &[0],
+    &[4095],
+    &[4099],
+    &[0, 8191],
+    &[4095, 4096, 12287],
+];
+
 #[test]
-fn a_walk_is_its_list_at_each_point(rt: HostRuntime) -> Result<(), Fail> {
-    let alloc = rt.alloc();
-    let narrow: [&[usize]; 6] = [&[], &[0], &[63], &[67], &[0, 127], &[63, 64, 191]];
-    agree_over_summaries::<u8>(&rt, alloc, &narrow, 192)?;
-    agree_over_summaries::<u8>(&rt, alloc, &narrow, 320)?;
-    let odd: [&[usize]; 6] = [&[], &[0], &[575], &[579], &[0, 1151], &[575, 576, 1727]];
-    agree_over_summaries::<Block24>(&rt, alloc, &odd, 1728)?;
-    let wide: [&[usize]; 6] = [
-        &[],
-        &[0],
-        &[4095],
-        &[4099],
-        &[0, 8191],
-        &[4095, 4096, 12287],
-    ];
-    agree_over_summaries::<u64>(&rt, alloc, &wide, 12288)
+fn a_walk_is_its_list_at_each_point(rt: HostRuntime) {
+    agree_over_summaries::<u8>(&rt, rt.alloc(), &NARROW, 192);
+    agree_over_summaries::<u8>(&rt, rt.alloc(), &NARROW, 320);
+    agree_over_summaries::<Block24>(&rt, rt.alloc(), &ODD, 1728);
+    agree_over_summaries::<u64>(&rt, rt.alloc(), &WIDE, 12288);
 }

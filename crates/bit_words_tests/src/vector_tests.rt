@@ -1,85 +1,94 @@
-use crate::expect::{expect, expect_eq};
+use crate::expect::{expect, expect_eq, ok};
 use crate::lists::{grow_by, put};
 use bit_words::bit_vec::{BitBlock, BitVec, BitsError, Steps};
 use block24::Block24;
 use std::alloc::{AllocError, Global};
 use std::fmt;
 use std::process::Abort;
-use std::test::Fail;
 
-#[test]
-fn bytes_begin_with_their_highest_bit(rt: HostRuntime) -> Result<(), Fail> {
-    let byte = BitVec::<u8>::from_bytes_general(rt.alloc(), &[0b0100_1010])?;
-    expect_eq(&rt, &byte.storage(), &[82].as_slice());
+// The list of these bytes.
+fn of_bytes<B: BitBlock>(rt: &impl Abort, alloc: Global, bytes: &[u8]) -> BitVec<B> {
+    ok(rt, BitVec::from_bytes_general(alloc, bytes))
+}
 
-    let bytes = BitVec::from_bytes(rt.alloc(), &[0b0100_1010, 0b1000_0000])?;
-    expect_eq(&rt, &bytes.storage(), &[338].as_slice());
-    expect_eq(&rt, &bytes.len(), &16);
-    Ok(())
+// So many true values.
+fn trues<B: BitBlock>(rt: &impl Abort, alloc: Global, n: usize) -> BitVec<B> {
+    ok(rt, BitVec::from_elem_general(alloc, n, true))
 }
 
 #[test]
-fn a_list_fills_wide_blocks(rt: HostRuntime) -> Result<(), Fail> {
-    let mut bits = BitVec::<u128>::from_elem_general(rt.alloc(), 140, true)?;
+fn bytes_begin_with_their_highest_bit(rt: HostRuntime) {
+    let byte = of_bytes::<u8>(&rt, rt.alloc(), &[0b0100_1010]);
+    expect_eq(&rt, &byte.storage(), &[82].as_slice());
+    let bytes = [0b0100_1010, 0b1000_0000];
+    let bytes = ok(&rt, BitVec::from_bytes(rt.alloc(), &bytes));
+    expect(&rt, is(&bytes, &[338], 16));
+}
+
+// Makes one more value false and then one true.
+fn grow_twice(rt: &impl Abort, bits: &mut BitVec<u128>) {
+    grow_by(rt, bits, 64, false);
+    grow_by(rt, bits, 1, true);
+}
+
+#[test]
+fn a_list_fills_wide_blocks(rt: HostRuntime) {
+    let mut bits = trues::<u128>(&rt, rt.alloc(), 140);
     let full = 340282366920938463463374607431768211455;
     expect_eq(&rt, &bits.storage(), &[full, 4095].as_slice());
     bits.truncate(65);
     expect_eq(&rt, &bits.storage(), &[36893488147419103231].as_slice());
-    bits.grow(64, false)?;
-    bits.grow(1, true)?;
+    grow_twice(&rt, &mut bits);
     expect_eq(&rt, &bits.storage(), &[36893488147419103231, 2].as_slice());
     expect_eq(&rt, &bits.len(), &130);
-    Ok(())
 }
 
 #[test]
-fn bytes_fill_wide_blocks(rt: HostRuntime) -> Result<(), Fail> {
+fn bytes_fill_wide_blocks(rt: HostRuntime) {
     let bytes = [0, 0, 0, 0, 0, 0, 0, 1, 0b1000_0000, 0, 0, 0, 0, 0, 0, 1, 1];
-    let bits = BitVec::<u128>::from_bytes_general(rt.alloc(), &bytes)?;
+    let bits = of_bytes::<u128>(&rt, rt.alloc(), &bytes);
     let ends = 170141183460469231759357419826448433152;
     expect_eq(&rt, &bits.storage(), &[ends, 128].as_slice());
-    Ok(())
 }
 
 // Whether a list has these blocks and this length. It has no clause, so that a test that asks often does not carry
-// each answer along.
+// each result along.
 fn is(bits: &BitVec, blocks: &[u32], len: usize) -> bool {
     bits.storage() == blocks && bits.len() == len
 }
 
 // Ten true values, of 140 that there were.
-fn ten(alloc: Global) -> Result<BitVec, AllocError> {
-    let mut bits = BitVec::from_elem(alloc, 140, true)?;
+fn ten(rt: &impl Abort, alloc: Global) -> BitVec {
+    let mut bits = trues(rt, alloc, 140);
     bits.truncate(10);
-    Ok(bits)
+    bits
 }
 
 // Those, three more and two that are false.
-fn fifteen(alloc: Global) -> Result<BitVec, AllocError> {
-    let mut bits = ten(alloc)?;
-    grow_by(&mut bits, 3, true)?;
-    grow_by(&mut bits, 2, false)?;
-    Ok(bits)
+fn fifteen(rt: &impl Abort, alloc: Global) -> BitVec {
+    let mut bits = ten(rt, alloc);
+    grow_by(rt, &mut bits, 3, true);
+    grow_by(rt, &mut bits, 2, false);
+    bits
 }
 
 #[test]
-fn a_list_is_cut(rt: HostRuntime) -> Result<(), Fail> {
-    let bits = BitVec::from_elem(rt.alloc(), 140, true)?;
+fn a_list_is_cut(rt: HostRuntime) {
+    let bits = trues(&rt, rt.alloc(), 140);
     let full = 4_294_967_295;
     expect(&rt, is(&bits, &[full, full, full, full, 4095], 140));
-    expect(&rt, is(&ten(rt.alloc())?, &[1023], 10));
-    Ok(())
+    let cut = ten(&rt, rt.alloc());
+    expect(&rt, is(&cut, &[1023], 10));
 }
 
 #[test]
-fn a_list_is_grown(rt: HostRuntime) -> Result<(), Fail> {
-    let mut bits = ten(rt.alloc())?;
-    grow_by(&mut bits, 3, true)?;
+fn a_list_is_grown(rt: HostRuntime) {
+    let mut bits = ten(&rt, rt.alloc());
+    grow_by(&rt, &mut bits, 3, true);
     expect(&rt, is(&bits, &[8191], 13));
-    let bits = fifteen(rt.alloc())?;
+    let bits = fifteen(&rt, rt.alloc());
     expect(&rt, is(&bits, &[8191], 15));
     expect_eq(&rt, &[bits.get(14), bits.get(15)], &[Some(false), None]);
-    Ok(())
 }
 
 // Makes the first value true and then false. What it was before each.
@@ -91,40 +100,39 @@ fn turn_first(bits: &mut BitVec) -> Option<[bool; 2]> {
 }
 
 #[test]
-fn a_list_is_written(rt: HostRuntime) -> Result<(), Fail> {
-    let mut bits = fifteen(rt.alloc())?;
+fn a_list_is_written(rt: HostRuntime) {
+    let mut bits = fifteen(&rt, rt.alloc());
     put(&mut bits, 0, false);
     expect(&rt, is(&bits, &[8190], 15));
     expect_eq(&rt, &turn_first(&mut bits), &Some([false, true]));
     expect(&rt, is(&bits, &[8190], 15));
-    Ok(())
 }
 
 #[test]
-fn a_list_is_filled_and_copied(rt: HostRuntime) -> Result<(), Fail> {
-    let mut bits = fifteen(rt.alloc())?;
+fn a_list_is_filled_and_copied(rt: HostRuntime) {
+    let mut bits = fifteen(&rt, rt.alloc());
     bits.fill(true);
     expect(&rt, is(&bits, &[32767], 15));
-    expect(&rt, is(&bits.clone(rt.alloc())?, &[32767], 15));
-    Ok(())
+    let copy = ok(&rt, bits.clone(rt.alloc()));
+    expect(&rt, is(&copy, &[32767], 15));
 }
 
 // A list of 40 values of which the last is true, made by way of each general call.
-fn last_of_forty<B: BitBlock>(alloc: Global) -> Result<BitVec<B>, BitsError> {
-    let bytes = BitVec::<B>::from_bytes_general(alloc, &[0, 0, 0, 0, 1])?;
-    let mut bits = BitVec::from_elem_general(alloc, 50, true)?;
-    bits.clone_from(&bytes)?;
-    Ok(bits.clone(alloc)?)
+fn last_of_forty<B: BitBlock>(rt: &impl Abort, alloc: Global) -> BitVec<B> {
+    let bytes = of_bytes::<B>(rt, alloc, &[0, 0, 0, 0, 1]);
+    let mut bits = trues(rt, alloc, 50);
+    ok(rt, bits.clone_from(&bytes));
+    ok(rt, bits.clone(alloc))
 }
 
 // Of five values that are true but for the first: the outer two, what is past them, and whether the capacity
 // holds all.
-fn grown<B: BitBlock>(alloc: Global) -> Result<([Option<bool>; 3], bool), AllocError> {
+fn grown<B: BitBlock>(rt: &impl Abort, alloc: Global) -> ([Option<bool>; 3], bool) {
     let mut bits = BitVec::<B>::new_general(alloc);
-    bits.grow(5, true)?;
-    bits.set(0, false);
+    grow_by(rt, &mut bits, 5, true);
+    put(&mut bits, 0, false);
     let ends = [bits.get(0), bits.get(4), bits.get(5)];
-    Ok((ends, bits.capacity() >= bits.len()))
+    (ends, bits.capacity() >= bits.len())
 }
 
 // How many values and blocks there are, and how many blocks a walk and its copy have left after one.
@@ -145,40 +153,31 @@ fn nones<B: BitBlock>(bits: &mut BitVec<B>) -> [bool; 3] {
     [whole, cut, bits.none()]
 }
 
-fn check_each_call<B: BitBlock>(
-    rt: &impl Abort,
-    alloc: Global,
-    wanted: [usize; 4],
-) -> Result<(), Fail> {
-    let mut bits = last_of_forty::<B>(alloc)?;
+fn check_each_call<B: BitBlock>(rt: &impl Abort, alloc: Global, wanted: [usize; 4]) {
+    let mut bits = last_of_forty::<B>(rt, alloc);
     expect_eq(rt, &sizes(&bits), &wanted);
     expect_eq(rt, &nones(&mut bits), &[false, true, true]);
     let ends = [Some(false), Some(true), None];
-    expect_eq(rt, &grown::<B>(alloc)?, &(ends, true));
-    Ok(())
+    expect_eq(rt, &grown::<B>(rt, alloc), &(ends, true));
 }
 
 #[test]
-fn each_call_works_at_three_widths(rt: HostRuntime) -> Result<(), Fail> {
-    check_each_call::<u8>(&rt, rt.alloc(), [40, 5, 4, 4])?;
-    check_each_call::<Block24>(&rt, rt.alloc(), [40, 2, 1, 1])?;
-    check_each_call::<u128>(&rt, rt.alloc(), [40, 1, 0, 0])
+fn each_call_works_at_three_widths(rt: HostRuntime) {
+    check_each_call::<u8>(&rt, rt.alloc(), [40, 5, 4, 4]);
+    check_each_call::<Block24>(&rt, rt.alloc(), [40, 2, 1, 1]);
+    check_each_call::<u128>(&rt, rt.alloc(), [40, 1, 0, 0]);
 }
 
 #[test]
-fn a_walk_gives_each_block(rt: HostRuntime) -> Result<(), Fail> {
-    let bits = BitVec::<u8>::from_bytes_general(rt.alloc(), &[0b1000_0000, 0b0100_0000])?;
+fn a_walk_gives_each_block(rt: HostRuntime) {
+    let bits = of_bytes::<u8>(&rt, rt.alloc(), &[0b1000_0000, 0b0100_0000]);
     let mut walk = bits.blocks();
     expect_eq(&rt, &walk.size_hint(), &(2, Some(2)));
     expect_eq(&rt, &walk.next(), &Some(1));
     let mut copy = walk.clone();
-    expect_eq(
-        &rt,
-        &[walk.next(), walk.next(), copy.next()],
-        &[Some(2), None, Some(2)],
-    );
+    let left = [walk.next(), walk.next(), copy.next()];
+    expect_eq(&rt, &left, &[Some(2), None, Some(2)]);
     expect_eq(&rt, &copy.count(), &0);
-    Ok(())
 }
 
 // How a list fails to take so many values, by each call that takes memory for them.
@@ -206,8 +205,8 @@ fn firsts<B: BitBlock>(bits: &BitVec<B>) -> ([Option<bool>; 4], usize) {
 }
 
 // Each call that takes a number, at one for which there is no memory.
-fn check_greatest<B: BitBlock>(rt: &impl Abort, alloc: Global, number: usize) -> Result<(), Fail> {
-    let mut bits = BitVec::<B>::from_bytes_general(alloc, &[0b1010_0000])?;
+fn check_greatest<B: BitBlock>(rt: &impl Abort, alloc: Global, number: usize) {
+    let mut bits = of_bytes::<B>(rt, alloc, &[0b1010_0000]);
     let capacity = bits.capacity();
     expect_eq(rt, &failures(&mut bits, number), &[Err(AllocError); 4]);
     expect(rt, is_too_long::<B>(alloc, number));
@@ -216,17 +215,15 @@ fn check_greatest<B: BitBlock>(rt: &impl Abort, alloc: Global, number: usize) ->
     let values = [Some(true), Some(false), Some(true), Some(false)];
     expect_eq(rt, &firsts(&bits), &(values, 2));
     expect_eq(rt, &[bits.len(), bits.capacity()], &[8, capacity]);
-    Ok(())
 }
 
 #[test]
-fn the_greatest_numbers_change_nothing(rt: HostRuntime) -> Result<(), Fail> {
+fn the_greatest_numbers_change_nothing(rt: HostRuntime) {
     for number in [18446744073709551615, 18446744073709551614] {
-        check_greatest::<u8>(&rt, rt.alloc(), number)?;
-        check_greatest::<Block24>(&rt, rt.alloc(), number)?;
-        check_greatest::<u64>(&rt, rt.alloc(), number)?;
+        check_greatest::<u8>(&rt, rt.alloc(), number);
+        check_greatest::<Block24>(&rt, rt.alloc(), number);
+        check_greatest::<u64>(&rt, rt.alloc(), number);
     }
-    Ok(())
 }
 
 #[test]
@@ -261,9 +258,9 @@ fn shown(bits: &BitVec<u8>, taken: usize) -> (bool, usize) {
 }
 
 #[test]
-fn a_text_fails_where_the_formatter_does(rt: HostRuntime) -> Result<(), Fail> {
-    let bits = BitVec::<u8>::from_elem_general(rt.alloc(), 10, true)?;
-    let text = format!(in rt.alloc(); "{bits:?}")?;
+fn a_text_fails_where_the_formatter_does(rt: HostRuntime) {
+    let bits = trues::<u8>(&rt, rt.alloc(), 10);
+    let text = ok(&rt, format!(in rt.alloc(); "{bits:?}"));
     expect_eq(
         &rt,
         &text.as_str(),
@@ -276,7 +273,6 @@ fn a_text_fails_where_the_formatter_does(rt: HostRuntime) -> Result<(), Fail> {
         assert!(rt; !shown(&bits, taken).0, "at {taken}");
     }
     expect(&rt, shown(&bits, calls).0);
-    Ok(())
 }
 
 // Makes a vector of bytes and puts one byte at the end of a list: one `?` serves both.
@@ -287,25 +283,20 @@ fn keep_byte(alloc: Global, list: &mut Vec<u8>, byte: u8) -> Result<BitVec, Bits
 }
 
 #[test]
-fn a_vector_and_a_list_are_made_in_one_function(rt: HostRuntime) -> Result<(), Fail> {
+fn a_vector_and_a_list_are_made_in_one_function(rt: HostRuntime) {
     let mut list = Vec::new(rt.alloc());
-    let bits = keep_byte(rt.alloc(), &mut list, 0b1010_0000)?;
+    let bits = ok(&rt, keep_byte(rt.alloc(), &mut list, 0b1010_0000));
     expect_eq(&rt, &bits.storage(), &[5].as_slice());
     expect_eq(&rt, &list.as_slice(), &[0b1010_0000].as_slice());
-    Ok(())
 }
 
 #[test]
-fn faults_have_their_texts(rt: HostRuntime) -> Result<(), Fail> {
-    expect_eq(
-        &rt,
-        &format!(in rt.alloc(); "{}", BitsError::Length)?.as_str(),
-        &"too many bits",
-    );
-    expect_eq(
-        &rt,
-        &format!(in rt.alloc(); "{}", BitsError::Memory(AllocError))?.as_str(),
-        &"memory refused",
-    );
-    Ok(())
+fn faults_have_their_texts(rt: HostRuntime) {
+    for (fault, text) in [
+        (BitsError::Length, "too many bits"),
+        (BitsError::Memory(AllocError), "memory refused"),
+    ] {
+        let said = ok(&rt, format!(in rt.alloc(); "{fault}"));
+        expect_eq(&rt, &said.as_str(), &text);
+    }
 }
