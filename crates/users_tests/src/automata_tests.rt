@@ -3,6 +3,7 @@
 mod differences;
 mod edges;
 mod equivalence_tests;
+mod large_tests;
 mod random_tests;
 mod slow_model;
 mod textbook;

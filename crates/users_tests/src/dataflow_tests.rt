@@ -1,5 +1,7 @@
 //! The tests of `dataflow`.
 
+mod analyses;
+mod chain_tests;
 mod masks;
 mod program_tests;
 mod random_tests;

@@ -1,10 +1,9 @@
 //! The walks and the closure beside a slow model that has no set and no stack, over graphs of lists and of sets.
-
+use crate::expect::{expect, expect_eq, ok};
 use bit_set::{BitBlock, BitSet, SetError};
-use graph_walks::{close, reachable, reachable_from_any, reaches_all_of};
-use std::alloc::{AllocError, Global};
+use graph_walks::{Graph, close, reachable, reachable_from_any, reaches_all_of};
+use std::alloc::Global;
 use std::process::Abort;
-use std::test::Fail;
 
 // All numbers that a random graph of these tests can name are below this.
 const LIMIT: usize = 24;
@@ -17,197 +16,257 @@ fn next(seed: &mut u64) -> usize {
     (*seed >> 33) as usize
 }
 
-// A graph of this many nodes. Some edges lead to their own node, and some past the end.
+// The edges of a node. Some lead to their own node, and some past the end.
+fn random_row(rt: &impl Abort, alloc: Global, edges: usize, seed: &mut u64) -> Vec<usize> {
+    let mut row = Vec::new(alloc);
+    for _ in 0..edges {
+        if next(seed) % 3 == 0 {
+            ok(rt, row.push(next(seed) % LIMIT));
+        }
+    }
+    row
+}
+
+// A graph of this many nodes.
 fn random_rows(
+    rt: &impl Abort,
     alloc: Global,
-    nodes: usize,
-    edges: usize,
+    (nodes, edges): (usize, usize),
     seed: &mut u64,
-) -> Result<Vec<Vec<usize>>, AllocError> {
+) -> Vec<Vec<usize>> {
     let mut rows = Vec::new(alloc);
     for _ in 0..nodes {
-        let mut row = Vec::new(alloc);
-        for _ in 0..edges {
-            if next(seed) % 3 == 0 {
-                row.push(next(seed) % LIMIT)?;
-            }
-        }
-        rows.push(row)?;
+        ok(rt, rows.push(random_row(rt, alloc, edges, seed)));
     }
-    Ok(rows)
+    rows
+}
+
+// The same numbers in a list.
+fn listed(rt: &impl Abort, alloc: Global, numbers: &[usize]) -> Vec<usize> {
+    let mut list = Vec::new(alloc);
+    ok(rt, list.extend_from_slice(numbers));
+    list
+}
+
+// A graph of these rows.
+fn rows_of(rt: &impl Abort, alloc: Global, lists: &[&[usize]]) -> Vec<Vec<usize>> {
+    let mut rows = Vec::new(alloc);
+    for list in lists {
+        ok(rt, rows.push(listed(rt, alloc, list)));
+    }
+    rows
+}
+
+fn set_of<B: BitBlock>(rt: &impl Abort, alloc: Global, numbers: &[usize]) -> BitSet<B> {
+    ok(rt, BitSet::from_iter(alloc, numbers.iter().copied()))
 }
 
 // The same graph, its rows as sets.
-fn sets_of<B: BitBlock>(alloc: Global, rows: &[Vec<usize>]) -> Result<Vec<BitSet<B>>, SetError> {
+fn sets_of<B: BitBlock>(rt: &impl Abort, alloc: Global, rows: &[Vec<usize>]) -> Vec<BitSet<B>> {
     let mut sets = Vec::new(alloc);
     for row in rows {
-        sets.push(BitSet::from_iter(alloc, row.iter().copied())?)?;
+        ok(rt, sets.push(set_of::<B>(rt, alloc, row.as_slice())));
     }
-    Ok(sets)
+    sets
+}
+
+// Puts the ends of the edges of each known node behind the known ones.
+fn add_ends(rt: &impl Abort, rows: &[Vec<usize>], known: &mut Vec<usize>) {
+    for (node, row) in rows.iter().enumerate() {
+        if known.as_slice().contains(&node) {
+            ok(rt, known.extend_from_slice(row.as_slice()));
+        }
+    }
 }
 
 // The nodes that some nodes reach: as often as there are rows, each end of an edge of a known node is known.
 fn slowly_reached(
-    alloc: Global,
-    rows: &[Vec<usize>],
-    starts: &[usize],
-) -> Result<Vec<usize>, AllocError> {
-    let mut known = Vec::new(alloc);
-    for start in starts {
-        known.push(*start)?;
-    }
-    for _ in rows {
-        for (node, row) in rows.iter().enumerate() {
-            if known.as_slice().contains(&node) {
-                for successor in row {
-                    known.push(*successor)?;
-                }
-            }
-        }
-        known.sort()?;
-        known.dedup();
-    }
-    Ok(known)
-}
-
-fn check_walks<B: BitBlock>(
     rt: &impl Abort,
     alloc: Global,
     rows: &[Vec<usize>],
-) -> Result<(), SetError> {
-    let sets = sets_of::<B>(alloc, rows)?;
+    starts: &[usize],
+) -> Vec<usize> {
+    let mut known = listed(rt, alloc, starts);
+    for _ in 0..rows.len() + 1 {
+        add_ends(rt, rows, &mut known);
+        ok(rt, known.sort());
+        known.dedup();
+    }
+    known
+}
+
+// Whether a set has just these numbers, in ascending order.
+fn is<B: BitBlock>(set: &BitSet<B>, numbers: &[usize]) -> bool {
+    set.iter().eq(numbers.iter().copied())
+}
+
+// From each node a walk over a graph reaches what the slow model does over its rows.
+fn check_walks<B: BitBlock, G: Graph>(
+    rt: &impl Abort,
+    alloc: Global,
+    graph: G,
+    rows: &[Vec<usize>],
+) {
     for start in 0..LIMIT {
-        let slow = slowly_reached(alloc, rows, &[start])?;
-        let of_lists = reachable::<B, _>(alloc, rows, start)?;
-        let of_sets = reachable::<B, _>(alloc, sets.as_slice(), start)?;
-        assert!(rt;
-            of_lists.iter().eq(slow.iter().copied()),
-            "of lists from {start}"
-        );
-        assert!(rt;
-            of_sets.iter().eq(slow.iter().copied()),
-            "of sets from {start}"
-        );
+        let slow = slowly_reached(rt, alloc, rows, &[start]);
+        let reached = ok(rt, reachable::<B, _>(alloc, graph, start));
+        assert!(rt; is(&reached, slow.as_slice()), "from {start}");
     }
+}
+
+// So does a walk from three nodes.
+fn check_any<B: BitBlock>(rt: &impl Abort, alloc: Global, rows: &[Vec<usize>]) {
     let starts = [3, 1, 20];
-    let slow = slowly_reached(alloc, rows, &starts)?;
-    let first = BitSet::<B>::from_iter(alloc, starts.iter().copied())?;
-    let of_any = reachable_from_any(alloc, rows, &first)?;
-    assert!(rt; first.is_subset(&of_any));
-    for node in 0..LIMIT {
-        assert_eq!(rt;
-            of_any.contains(node),
-            slow.as_slice().contains(&node),
-            "to {node}"
-        );
+    let slow = slowly_reached(rt, alloc, rows, &starts);
+    let first = set_of::<B>(rt, alloc, &starts);
+    let reached = ok(rt, reachable_from_any(alloc, rows, &first));
+    expect(rt, first.is_subset(&reached));
+    expect(rt, is(&reached, slow.as_slice()));
+}
+
+// Whether the row of a node is these numbers.
+fn is_row<B: BitBlock>(sets: &[BitSet<B>], node: usize, numbers: &[usize]) -> bool {
+    match sets.get(node) {
+        Some(row) => is(row, numbers),
+        None => false,
     }
-    Ok(())
+}
+
+// The row of a node has these nodes, and the node reaches all that each of them reaches.
+fn check_row<B: BitBlock>(rt: &impl Abort, sets: &[BitSet<B>], node: usize, slow: &[usize]) {
+    assert!(rt; is_row(sets, node, slow), "at {node}");
+    for successor in slow {
+        let within = reaches_all_of(sets, node, *successor);
+        assert!(rt; within, "{node} reaches {successor}");
+    }
 }
 
 fn check_closure<B: BitBlock>(
     rt: &impl Abort,
     alloc: Global,
     rows: &[Vec<usize>],
-) -> Result<(), SetError> {
-    let mut sets = sets_of::<B>(alloc, rows)?;
-    close(alloc, sets.as_mut_slice())?;
+    sets: &mut [BitSet<B>],
+) {
+    ok(rt, close(alloc, sets));
     for (node, row) in rows.iter().enumerate() {
-        let slow = slowly_reached(alloc, rows, row.as_slice())?;
-        if let Some(closed) = sets.get(node) {
-            assert_eq!(rt; closed.count(), slow.len(), "at {node}");
-            for successor in 0..LIMIT {
-                let reaches = slow.as_slice().contains(&successor);
-                assert_eq!(rt;
-                    closed.contains(successor),
-                    reaches,
-                    "from {node} to {successor}"
-                );
-                let within = reaches_all_of(sets.as_slice(), node, successor);
-                assert!(rt; within || !reaches, "{node} reaches {successor}");
-            }
-        }
+        let slow = slowly_reached(rt, alloc, rows, row.as_slice());
+        check_row(rt, sets, node, slow.as_slice());
     }
-    Ok(())
+}
+
+fn check_graph<B: BitBlock>(rt: &impl Abort, alloc: Global, rows: &[Vec<usize>]) {
+    let mut sets = sets_of::<B>(rt, alloc, rows);
+    check_walks::<B, _>(rt, alloc, rows, rows);
+    check_walks::<B, _>(rt, alloc, sets.as_slice(), rows);
+    check_any::<B>(rt, alloc, rows);
+    check_closure(rt, alloc, rows, sets.as_mut_slice());
 }
 
 #[test]
-fn random_graphs(rt: HostRuntime) -> Result<(), Fail> {
-    let alloc = rt.alloc();
+fn random_graphs(rt: HostRuntime) {
     let mut seed = 7;
     for nodes in [0, 1, 2, 5, 11, 20] {
         for edges in [1, 3, 6] {
-            let rows = random_rows(alloc, nodes, edges, &mut seed)?;
-            check_walks::<u8>(&rt, alloc, rows.as_slice())?;
-            check_walks::<u64>(&rt, alloc, rows.as_slice())?;
-            check_closure::<u8>(&rt, alloc, rows.as_slice())?;
-            check_closure::<u64>(&rt, alloc, rows.as_slice())?;
+            let rows = random_rows(&rt, rt.alloc(), (nodes, edges), &mut seed);
+            check_graph::<u8>(&rt, rt.alloc(), rows.as_slice());
+            check_graph::<u64>(&rt, rt.alloc(), rows.as_slice());
         }
     }
-    Ok(())
+}
+
+// Each node leads to the next.
+fn line(rt: &impl Abort, alloc: Global, nodes: usize) -> Vec<Vec<usize>> {
+    let mut rows = Vec::new(alloc);
+    for node in 0..nodes {
+        ok(rt, rows.push(listed(rt, alloc, &[node + 1])));
+    }
+    rows
 }
 
 #[test]
-fn a_line(rt: HostRuntime) -> Result<(), Fail> {
-    let alloc = rt.alloc();
-    let mut rows = Vec::new(alloc);
-    for node in 0..100_000usize {
-        rows.push(vec![in alloc; node + 1]?)?;
-    }
+fn a_line(rt: HostRuntime) {
+    let rows = line(&rt, rt.alloc(), 100_000);
     for (start, count) in [(0, 100_001), (40_000, 60_001), (99_999, 2), (100_000, 1)] {
-        let reached = reachable::<u32, _>(alloc, rows.as_slice(), start)?;
+        let reached = ok(&rt, reachable::<u32, _>(rt.alloc(), rows.as_slice(), start));
         assert_eq!(rt; reached.count(), count, "from {start}");
     }
-    Ok(())
+}
+
+// How many nodes of a line are reached from any of some.
+fn count_from(rt: &impl Abort, alloc: Global, rows: &[Vec<usize>], starts: &BitSet) -> usize {
+    let reached = ok(rt, reachable_from_any(alloc, rows, starts));
+    reached.count()
 }
 
 #[test]
-fn a_path_to_the_greatest_number(rt: HostRuntime) -> Result<(), Fail> {
-    let alloc = rt.alloc();
-    let rows = vec![in alloc;
-        vec![in alloc; 1]?,
-        vec![in alloc; 1, 18446744073709551615]?,
-        vec![in alloc; 2]?,
-    ]?;
-    for start in [0, 1, 18446744073709551615] {
-        let reached = reachable::<u32, _>(alloc, rows.as_slice(), start);
+fn a_line_from_many_nodes(rt: HostRuntime) {
+    let rows = line(&rt, rt.alloc(), 100_000);
+    let two = set_of(&rt, rt.alloc(), &[40_000, 70_000]);
+    let count = count_from(&rt, rt.alloc(), rows.as_slice(), &two);
+    expect_eq(&rt, &count, &60_001);
+    let all = ok(&rt, BitSet::from_iter(rt.alloc(), 0..100_000));
+    let count = count_from(&rt, rt.alloc(), rows.as_slice(), &all);
+    expect_eq(&rt, &count, &100_001);
+}
+
+// How many nodes each row of a closed line of 1,000 nodes has.
+#[test]
+fn a_closed_line(rt: HostRuntime) {
+    let rows = line(&rt, rt.alloc(), 1000);
+    let mut sets = sets_of::<u64>(&rt, rt.alloc(), rows.as_slice());
+    ok(&rt, close(rt.alloc(), sets.as_mut_slice()));
+    for (node, row) in sets.iter().enumerate() {
+        assert_eq!(rt; row.count().saturating_add(node), 1000, "at {node}");
+    }
+}
+
+#[test]
+fn a_path_to_the_greatest_number(rt: HostRuntime) {
+    let greatest = 18446744073709551615;
+    let rows = rows_of(&rt, rt.alloc(), &[&[1], &[1, greatest], &[2]]);
+    for start in [0, 1, greatest] {
+        let reached = reachable::<u32, _>(rt.alloc(), rows.as_slice(), start);
         assert!(rt; reached == Err(SetError::Element), "from {start}");
     }
-    let alone = reachable::<u32, _>(alloc, rows.as_slice(), 2)?;
-    assert!(rt; alone.iter().eq([2]));
-    Ok(())
+    let alone = ok(&rt, reachable::<u32, _>(rt.alloc(), rows.as_slice(), 2));
+    expect(&rt, is(&alone, &[2]));
 }
 
 // 0 leads to 1 and 2, 1 to 3, 2 to itself, 3 to 1 and past the end.
+fn closed(rt: &impl Abort, alloc: Global) -> Vec<BitSet> {
+    let rows = rows_of(rt, alloc, &[&[1, 2], &[3], &[2], &[1, 70]]);
+    let mut sets = sets_of(rt, alloc, rows.as_slice());
+    ok(rt, close(alloc, sets.as_mut_slice()));
+    sets
+}
+
 #[test]
-fn a_small_closure(rt: HostRuntime) -> Result<(), Fail> {
-    let alloc = rt.alloc();
-    let mut rows = vec![in alloc;
-        BitSet::<u32>::from_iter(alloc, [1, 2].into_iter())?,
-        BitSet::from_iter(alloc, [3].into_iter())?,
-        BitSet::from_iter(alloc, [2].into_iter())?,
-        BitSet::from_iter(alloc, [1, 70].into_iter())?,
-    ]?;
-    close(alloc, rows.as_mut_slice())?;
-    assert_eq!(rt; rows.len(), 4);
-    assert!(rt; rows[0].iter().eq([1, 2, 3, 70]));
-    assert!(rt; rows[1].iter().eq([1, 3, 70]));
-    assert!(rt; rows[2].iter().eq([2]));
-    assert!(rt; rows[3].iter().eq([1, 3, 70]));
-    for (a, b, wanted) in [
-        (0, 1, true),
-        (1, 0, false),
-        (1, 3, true),
-        (3, 1, true),
-        (2, 1, false),
-        (2, 70, true),
-        (70, 2, false),
-        (70, 71, true),
-    ] {
-        assert_eq!(rt;
-            reaches_all_of(rows.as_slice(), a, b),
-            wanted,
-            "{a} and {b}"
-        );
+fn a_small_closure(rt: HostRuntime) {
+    let sets = closed(&rt, rt.alloc());
+    expect_eq(&rt, &sets.len(), &4);
+    let lists: [&[usize]; 4] = [&[1, 2, 3, 70], &[1, 3, 70], &[2], &[1, 3, 70]];
+    for (node, list) in lists.iter().enumerate() {
+        assert!(rt; is_row(sets.as_slice(), node, list), "at {node}");
     }
-    Ok(())
+}
+
+// Two nodes of that closure, and whether the first reaches all that the second reaches.
+const REACHES: &[(usize, usize, bool)] = &[
+    (0, 1, true),
+    (1, 0, false),
+    (1, 3, true),
+    (3, 1, true),
+    (2, 1, false),
+    (2, 70, true),
+    (70, 2, false),
+    (70, 71, true),
+];
+
+#[test]
+fn nodes_of_a_small_closure(rt: HostRuntime) {
+    let sets = closed(&rt, rt.alloc());
+    for (a, b, wanted) in REACHES {
+        let reaches = reaches_all_of(sets.as_slice(), *a, *b);
+        assert_eq!(rt; reaches, *wanted, "{a} and {b}");
+    }
 }

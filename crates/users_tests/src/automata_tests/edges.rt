@@ -1,7 +1,9 @@
 //! Automata as lists of edges.
-use automata::{Dfa, DfaError, Nfa, determinize};
-use bit_set::{BitBlock, BitSet, SetError};
-use std::alloc::{AllocError, Global};
+use crate::expect::ok;
+use automata::{Dfa, Nfa, determinize};
+use bit_set::{BitBlock, BitSet};
+use std::alloc::Global;
+use std::process::Abort;
 
 /// An automaton: its edges, each from a state by a symbol to a state, its starts and its accepting states.
 #[derive(Clone, Copy, Drop)]
@@ -14,56 +16,53 @@ pub(crate) struct Edges<'a> {
 }
 
 /// The same as sets.
-pub(crate) fn automaton<B: BitBlock>(alloc: Global, of: &Edges<'_>) -> Result<Nfa<B>, DfaError> {
-    match sets_of(alloc, of) {
-        Ok(nfa) => Ok(nfa),
-        Err(_) => Err(DfaError::Memory(AllocError)),
-    }
+pub(crate) fn automaton<B: BitBlock>(rt: &impl Abort, alloc: Global, of: &Edges<'_>) -> Nfa<B> {
+    let moves = moves_of(rt, alloc, of);
+    let starts = set_of(rt, alloc, of.starts);
+    Nfa::new(moves, starts, set_of(rt, alloc, of.accepting))
 }
 
 /// The deterministic one.
-pub(crate) fn deterministic<B: BitBlock>(
-    alloc: Global,
-    of: &Edges<'_>,
-) -> Result<Dfa<B>, DfaError> {
-    let nfa = automaton::<B>(alloc, of)?;
-    determinize(alloc, &nfa, 1000)
+pub(crate) fn deterministic<B: BitBlock>(rt: &impl Abort, alloc: Global, of: &Edges<'_>) -> Dfa<B> {
+    let nfa = automaton::<B>(rt, alloc, of);
+    ok(rt, determinize(alloc, &nfa, usize::MAX))
 }
 
-fn sets_of<B: BitBlock>(alloc: Global, of: &Edges<'_>) -> Result<Nfa<B>, SetError> {
+fn set_of<B: BitBlock>(rt: &impl Abort, alloc: Global, states: &[usize]) -> BitSet<B> {
+    ok(rt, BitSet::from_iter(alloc, states.iter().copied()))
+}
+
+// A row for each symbol.
+fn moves_of<B: BitBlock>(rt: &impl Abort, alloc: Global, of: &Edges<'_>) -> Vec<Vec<BitSet<B>>> {
     let mut moves = Vec::new(alloc);
     for symbol in 0..of.symbols {
-        moves.push(row_of(alloc, of, symbol)?)?;
+        ok(rt, moves.push(row_of(rt, alloc, of, symbol)));
     }
-    let starts = BitSet::from_iter(alloc, of.starts.iter().copied())?;
-    let accepting = BitSet::from_iter(alloc, of.accepting.iter().copied())?;
-    Ok(Nfa::new(moves, starts, accepting))
+    moves
 }
 
 // For each state where the symbol leads from it.
 fn row_of<B: BitBlock>(
+    rt: &impl Abort,
     alloc: Global,
     of: &Edges<'_>,
     symbol: usize,
-) -> Result<Vec<BitSet<B>>, SetError> {
+) -> Vec<BitSet<B>> {
     let mut row = Vec::new(alloc);
-    for state in 0..of.states {
-        row.push(ends_of(alloc, of, state, symbol)?)?;
+    for _ in 0..of.states {
+        ok(rt, row.push(BitSet::new_general(alloc)));
     }
-    Ok(row)
-}
-
-fn ends_of<B: BitBlock>(
-    alloc: Global,
-    of: &Edges<'_>,
-    state: usize,
-    symbol: usize,
-) -> Result<BitSet<B>, SetError> {
-    let mut set = BitSet::new_general(alloc);
     for (from, by, to) in of.edges {
-        if *from == state && *by == symbol {
-            set.insert(*to)?;
+        if *by == symbol {
+            put_into(rt, row.as_mut_slice(), *from, *to);
         }
     }
-    Ok(set)
+    row
+}
+
+// Puts a state into the set of another.
+fn put_into<B: BitBlock>(rt: &impl Abort, row: &mut [BitSet<B>], state: usize, to: usize) {
+    if let Some(set) = row.get_mut(state) {
+        ok(rt, set.insert(to));
+    }
 }

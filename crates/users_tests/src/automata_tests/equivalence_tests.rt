@@ -1,9 +1,7 @@
 //! Whether automata of textbooks accept the same words, worked out by hand.
 use super::differences::{are_equivalent, differ_by};
 use super::edges::Edges;
-use super::textbook::{EMPTY_WORD, NOTHING, THIRD_FROM_END, ZEROS};
-use std::process::Abort;
-use std::test::Fail;
+use super::textbook::{EMPTY_WORD, NONE_ACCEPTS, NOTHING, THIRD_FROM_END, ZEROS};
 
 // The same with its states in another order, and one more way to the third from the end.
 const THIRD_FROM_END_AGAIN: Edges<'static> = Edges {
@@ -53,47 +51,37 @@ const ONE_SYMBOL: Edges<'static> = Edges {
 };
 
 #[test]
-fn equal_automata(rt: HostRuntime) -> Result<(), Fail> {
-    let alloc = rt.alloc();
-    assert!(rt; are_equivalent::<u32>(alloc, &THIRD_FROM_END, &THIRD_FROM_END)?);
-    assert!(rt; are_equivalent::<u32>(alloc, &THIRD_FROM_END, &THIRD_FROM_END_AGAIN)?);
-    assert!(rt; are_equivalent::<u64>(alloc, &THIRD_FROM_END_AGAIN, &THIRD_FROM_END)?);
-    Ok(())
+fn equal_automata(rt: HostRuntime) {
+    are_equivalent::<u32>(&rt, rt.alloc(), &THIRD_FROM_END, &THIRD_FROM_END);
+    are_equivalent::<u32>(&rt, rt.alloc(), &THIRD_FROM_END, &THIRD_FROM_END_AGAIN);
+    are_equivalent::<u64>(&rt, rt.alloc(), &THIRD_FROM_END_AGAIN, &THIRD_FROM_END);
 }
 
 #[test]
-fn automata_that_differ_in_a_long_word(rt: HostRuntime) -> Result<(), Fail> {
-    let alloc = rt.alloc();
+fn automata_that_differ_in_a_long_word(rt: HostRuntime) {
     let fourteen = [0; 14];
-    assert!(rt; differ_by::<u32>(alloc, &NOT_FOURTEEN, &ONE_SYMBOL, &fourteen)?);
-    assert!(rt; differ_by::<u8>(alloc, &ONE_SYMBOL, &NOT_FOURTEEN, &fourteen)?);
-    Ok(())
+    differ_by::<u32>(&rt, rt.alloc(), (&NOT_FOURTEEN, &ONE_SYMBOL), &fourteen);
+    differ_by::<u8>(&rt, rt.alloc(), (&ONE_SYMBOL, &NOT_FOURTEEN), &fourteen);
+}
+
+// All words of 0 and 1.
+const ANY_WORD: Edges<'static> = Edges {
+    edges: &[(0, 0, 0), (0, 1, 0)],
+    ..ZEROS
+};
+
+#[test]
+fn automata_of_different_symbols(rt: HostRuntime) {
+    are_equivalent::<u32>(&rt, rt.alloc(), &ONE_SYMBOL, &ZEROS);
+    are_equivalent::<u32>(&rt, rt.alloc(), &ZEROS, &ONE_SYMBOL);
+    differ_by::<u32>(&rt, rt.alloc(), (&ONE_SYMBOL, &ANY_WORD), &[1]);
+    differ_by::<u32>(&rt, rt.alloc(), (&ANY_WORD, &ONE_SYMBOL), &[1]);
 }
 
 #[test]
-fn automata_of_different_symbols(rt: HostRuntime) -> Result<(), Fail> {
-    let any_word = Edges {
-        edges: &[(0, 0, 0), (0, 1, 0)],
-        ..ZEROS
-    };
-    let alloc = rt.alloc();
-    assert!(rt; are_equivalent::<u32>(alloc, &ONE_SYMBOL, &ZEROS)?);
-    assert!(rt; are_equivalent::<u32>(alloc, &ZEROS, &ONE_SYMBOL)?);
-    assert!(rt; differ_by::<u32>(alloc, &ONE_SYMBOL, &any_word, &[1])?);
-    assert!(rt; differ_by::<u32>(alloc, &any_word, &ONE_SYMBOL, &[1])?);
-    Ok(())
-}
-
-#[test]
-fn automata_that_accept_nothing(rt: HostRuntime) -> Result<(), Fail> {
-    let none_accepts = Edges {
-        accepting: &[],
-        ..THIRD_FROM_END
-    };
-    let alloc = rt.alloc();
-    assert!(rt; are_equivalent::<u32>(alloc, &NOTHING, &NOTHING)?);
-    assert!(rt; are_equivalent::<u32>(alloc, &NOTHING, &none_accepts)?);
-    assert!(rt; differ_by::<u32>(alloc, &NOTHING, &EMPTY_WORD, &[])?);
-    assert!(rt; differ_by::<u32>(alloc, &THIRD_FROM_END, &NOTHING, &[1, 0, 0])?);
-    Ok(())
+fn automata_that_accept_nothing(rt: HostRuntime) {
+    are_equivalent::<u32>(&rt, rt.alloc(), &NOTHING, &NOTHING);
+    are_equivalent::<u32>(&rt, rt.alloc(), &NOTHING, &NONE_ACCEPTS);
+    differ_by::<u32>(&rt, rt.alloc(), (&NOTHING, &EMPTY_WORD), &[]);
+    differ_by::<u32>(&rt, rt.alloc(), (&THIRD_FROM_END, &NOTHING), &[1, 0, 0]);
 }

@@ -1,50 +1,43 @@
 //! What automata accept, by flags alone.
 use super::edges::Edges;
-use std::alloc::{AllocError, Global};
+
+// Of each state whether it is one of some.
+type Flags = [bool; 128];
 
 /// Whether the word is accepted.
-pub(crate) fn slowly_accepts(
-    alloc: Global,
-    of: &Edges<'_>,
-    word: &[usize],
-) -> Result<bool, AllocError> {
-    let mut now = flags(alloc, of.states, of.starts)?;
+pub(crate) fn slowly_accepts(of: &Edges<'_>, word: &[usize]) -> bool {
+    let mut now = flags(of.starts);
     for symbol in word {
-        now = follow(alloc, of, *symbol, now.as_slice())?;
+        now = follow(of, *symbol, &now);
     }
-    Ok(of.accepting.iter().any(|state| has(now.as_slice(), *state)))
+    of.accepting.iter().any(|state| has(&now, *state))
 }
 
-// Flags for so many states, true for those of a list.
-fn flags(alloc: Global, states: usize, list: &[usize]) -> Result<Vec<bool>, AllocError> {
-    let mut flags = vec![in alloc; false; states]?;
+// The flags of the states of a list.
+fn flags(list: &[usize]) -> Flags {
+    let mut flags = [false; 128];
     for state in list {
-        raise(flags.as_mut_slice(), *state);
+        raise(&mut flags, *state);
     }
-    Ok(flags)
+    flags
 }
 
 // The flags after one symbol.
-fn follow(
-    alloc: Global,
-    of: &Edges<'_>,
-    symbol: usize,
-    now: &[bool],
-) -> Result<Vec<bool>, AllocError> {
-    let mut then = flags(alloc, of.states, &[])?;
+fn follow(of: &Edges<'_>, symbol: usize, now: &Flags) -> Flags {
+    let mut then = [false; 128];
     for (from, by, to) in of.edges {
         if *by == symbol && has(now, *from) {
-            raise(then.as_mut_slice(), *to);
+            raise(&mut then, *to);
         }
     }
-    Ok(then)
+    then
 }
 
-fn has(flags: &[bool], state: usize) -> bool {
+fn has(flags: &Flags, state: usize) -> bool {
     flags.get(state).copied() == Some(true)
 }
 
-fn raise(flags: &mut [bool], state: usize) {
+fn raise(flags: &mut Flags, state: usize) {
     if let Some(flag) = flags.get_mut(state) {
         *flag = true;
     }

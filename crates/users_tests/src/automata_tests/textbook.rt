@@ -44,3 +44,9 @@ pub(crate) const ZEROS: Edges<'static> = Edges {
     starts: &[0],
     accepting: &[0],
 };
+
+/// No word, over the symbols 0 and 1.
+pub(crate) const NONE_ACCEPTS: Edges<'static> = Edges {
+    accepting: &[],
+    ..THIRD_FROM_END
+};

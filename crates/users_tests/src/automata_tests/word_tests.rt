@@ -1,80 +1,80 @@
 //! Automata of textbooks, worked out by hand.
 use super::edges::Edges;
-use super::textbook::{EMPTY_WORD, NOTHING, THIRD_FROM_END, ZEROS};
-use super::words::{accept_as_expected, accept_as_marked, all_agree, has_more_states, symbols};
+use super::textbook::{EMPTY_WORD, NONE_ACCEPTS, NOTHING, THIRD_FROM_END, ZEROS};
+use super::words::{accept, accept_as_the_model, accept_marked, has_more_states, size_of, two_of};
+use crate::expect::{expect, expect_eq};
+use bit_set::BitBlock;
+use std::alloc::Global;
 use std::process::Abort;
-use std::test::Fail;
+
+// An automaton accepts the words that are marked, and of all words those that the slow model accepts. The deterministic
+// one, of so many states at most, has this many states and symbols.
+fn check<B: BitBlock>(
+    rt: &impl Abort,
+    alloc: Global,
+    (of, most): (&Edges<'_>, usize),
+    (marks, size): (&[&[u8]], (usize, usize)),
+) {
+    let both = two_of::<B>(rt, alloc, of, most);
+    accept_marked(rt, alloc, &both, marks);
+    accept_as_the_model(rt, alloc, &both, of);
+    expect_eq(rt, &size_of(&both), &size);
+}
+
+const THIRD: [&[u8]; 5] = [b"0", b"00", b"0000", b"00001111", b"0000111100001111"];
 
 #[test]
-fn third_symbol_from_the_end(rt: HostRuntime) -> Result<(), Fail> {
-    let alloc = rt.alloc();
-    let marks: [&[u8]; 5] = [b"0", b"00", b"0000", b"00001111", b"0000111100001111"];
-    assert!(rt; accept_as_marked::<u32>(alloc, &THIRD_FROM_END, &marks)?);
-    assert!(rt; accept_as_expected::<u32>(alloc, &THIRD_FROM_END, &[1, 2, 0], false)?);
-    assert!(rt; accept_as_expected::<u32>(alloc, &THIRD_FROM_END, &[2, 1, 0, 0], false)?);
-    Ok(())
+fn third_symbol_from_the_end_takes_eight_states(rt: HostRuntime) {
+    check::<u32>(&rt, rt.alloc(), (&THIRD_FROM_END, 8), (&THIRD, (8, 2)));
+    check::<u8>(&rt, rt.alloc(), (&THIRD_FROM_END, 100), (&[], (8, 2)));
+    let has_more = has_more_states::<u32>(&rt, rt.alloc(), &THIRD_FROM_END, 7);
+    expect(&rt, has_more);
+}
+
+// A word with a symbol that an automaton does not have is not accepted.
+#[test]
+fn third_symbol_from_the_end(rt: HostRuntime) {
+    let both = two_of::<u32>(&rt, rt.alloc(), &THIRD_FROM_END, 1000);
+    accept(&rt, rt.alloc(), &both, (&[1, 2, 0], false));
+    accept(&rt, rt.alloc(), &both, (&[2, 1, 0, 0], false));
 }
 
 #[test]
-fn third_symbol_from_the_end_takes_eight_states(rt: HostRuntime) -> Result<(), Fail> {
-    let alloc = rt.alloc();
-    assert_eq!(rt; all_agree::<u32>(alloc, &THIRD_FROM_END, 8)?, Some(8));
-    assert_eq!(rt; all_agree::<u8>(alloc, &THIRD_FROM_END, 100)?, Some(8));
-    assert!(rt; has_more_states::<u32>(alloc, &THIRD_FROM_END, 7)?);
-    assert_eq!(rt; symbols::<u32>(alloc, &THIRD_FROM_END)?, 2);
-    Ok(())
+fn no_state_and_no_symbol(rt: HostRuntime) {
+    check::<u32>(&rt, rt.alloc(), (&NOTHING, 1), (&[b"0", b"00"], (1, 0)));
+    let has_more = has_more_states::<u32>(&rt, rt.alloc(), &NOTHING, 0);
+    expect(&rt, has_more);
 }
 
 #[test]
-fn no_state_and_no_symbol(rt: HostRuntime) -> Result<(), Fail> {
-    let alloc = rt.alloc();
-    assert!(rt; accept_as_marked::<u32>(alloc, &NOTHING, &[b"0", b"00"])?);
-    assert_eq!(rt; all_agree::<u32>(alloc, &NOTHING, 1)?, Some(1));
-    assert!(rt; has_more_states::<u32>(alloc, &NOTHING, 0)?);
-    Ok(())
+fn the_empty_word_alone(rt: HostRuntime) {
+    check::<u64>(&rt, rt.alloc(), (&EMPTY_WORD, 1), (&[b"1", b"00"], (1, 0)));
 }
 
 #[test]
-fn the_empty_word_alone(rt: HostRuntime) -> Result<(), Fail> {
-    let alloc = rt.alloc();
-    assert!(rt; accept_as_marked::<u64>(alloc, &EMPTY_WORD, &[b"1", b"00"])?);
-    assert_eq!(rt; all_agree::<u64>(alloc, &EMPTY_WORD, 1)?, Some(1));
-    Ok(())
-}
-
-#[test]
-fn no_accepting_state(rt: HostRuntime) -> Result<(), Fail> {
-    let of = Edges {
-        accepting: &[],
-        ..THIRD_FROM_END
-    };
-    let alloc = rt.alloc();
-    assert!(rt; accept_as_marked::<u16>(alloc, &of, &[b"0", b"00", b"0000", b"00000000"])?);
-    assert_eq!(rt; all_agree::<u16>(alloc, &of, 8)?, Some(8));
-    Ok(())
+fn no_accepting_state(rt: HostRuntime) {
+    let marks: [&[u8]; 4] = [b"0", b"00", b"0000", b"00000000"];
+    check::<u16>(&rt, rt.alloc(), (&NONE_ACCEPTS, 8), (&marks, (8, 2)));
 }
 
 // The second state of the deterministic one is the empty set.
 #[test]
-fn a_symbol_that_leads_nowhere(rt: HostRuntime) -> Result<(), Fail> {
-    let alloc = rt.alloc();
-    assert!(rt; accept_as_marked::<u32>(alloc, &ZEROS, &[b"1", b"10", b"1000", b"10000000"])?);
-    assert_eq!(rt; all_agree::<u32>(alloc, &ZEROS, 2)?, Some(2));
-    Ok(())
+fn a_symbol_that_leads_nowhere(rt: HostRuntime) {
+    let marks: [&[u8]; 4] = [b"1", b"10", b"1000", b"10000000"];
+    check::<u32>(&rt, rt.alloc(), (&ZEROS, 2), (&marks, (2, 2)));
 }
 
-// Each may start and accept, and leads nowhere.
+// States 80, which starts and accepts, and 99 lead nowhere.
+const FAR_STATES: Edges<'static> = Edges {
+    states: 100,
+    symbols: 1,
+    edges: &[(0, 0, 70), (70, 0, 99)],
+    starts: &[0, 80],
+    accepting: &[99, 80],
+};
+
 #[test]
-fn states_past_the_last_row_of_sets(rt: HostRuntime) -> Result<(), Fail> {
-    let of = Edges {
-        states: 100,
-        symbols: 1,
-        edges: &[(0, 0, 70), (70, 0, 99)],
-        starts: &[0, 80],
-        accepting: &[99, 80],
-    };
-    let alloc = rt.alloc();
-    assert!(rt; accept_as_marked::<u32>(alloc, &of, &[b"1", b"00", b"1000", b"00000000"])?);
-    assert_eq!(rt; all_agree::<u32>(alloc, &of, 10)?, Some(4));
-    Ok(())
+fn states_past_the_first_blocks_of_sets(rt: HostRuntime) {
+    let marks: [&[u8]; 4] = [b"1", b"00", b"1000", b"00000000"];
+    check::<u32>(&rt, rt.alloc(), (&FAR_STATES, 10), (&marks, (4, 1)));
 }

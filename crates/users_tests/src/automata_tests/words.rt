@@ -1,134 +1,126 @@
 //! Words that automata are asked for.
-ghost use Rattle.std.specs.Prelude.{◌<◌};
-
-use super::edges::{Edges, automaton, deterministic};
+use super::edges::{Edges, automaton};
 use super::slow_model::slowly_accepts;
+use crate::expect::{expect, ok};
 use automata::{Dfa, DfaError, Nfa, accepts, determinize};
 use bit_set::BitBlock;
-use std::alloc::{AllocError, Global};
+use std::alloc::Global;
+use std::process::Abort;
 
-/// The word of 0 and 1 that is the number in base 2 with so many digits.
-pub(crate) fn word_of(
-    alloc: Global,
-    length: usize,
-    number: usize,
-) -> Result<Vec<usize>, AllocError> {
-    let mut word = Vec::new(alloc);
+/// The last eight digits of a number in base 2, the highest first.
+pub(crate) fn digits_of(number: usize) -> [usize; 8] {
+    let mut digits = [0; 8];
     let mut rest = number;
-    for _ in 0..length {
-        word.push(rest % 2)?;
+    for place in 0..8 {
+        digits[7 - place] = rest % 2;
         rest /= 2;
     }
-    word.reverse();
-    Ok(word)
+    digits
 }
 
-/// Whether the automaton and the deterministic one both accept the word, where that is expected, and else neither.
-pub(crate) fn accept_as_expected<B: BitBlock>(
+/// So many of these from the end: the word of 0 and 1 of this length that the digits spell.
+pub(crate) fn word_of(digits: &[usize; 8], length: usize) -> &[usize] {
+    digits.get(8usize.saturating_sub(length)..).unwrap_or(&[])
+}
+
+// An automaton, and the deterministic one that is made of it.
+#[derive(Drop)]
+pub(crate) struct Both<B: BitBlock> {
+    nfa: Nfa<B>,
+    dfa: Dfa<B>,
+}
+
+/// The two of some edges.
+pub(crate) fn two_of<B: BitBlock>(
+    rt: &impl Abort,
     alloc: Global,
     of: &Edges<'_>,
-    word: &[usize],
-    expected: bool,
-) -> Result<bool, DfaError> {
-    let nfa = automaton::<B>(alloc, of)?;
-    let dfa = determinize(alloc, &nfa, 1000)?;
-    Ok(are_as_expected(alloc, &nfa, &dfa, word, expected)?)
+    most: usize,
+) -> Both<B> {
+    let nfa = automaton(rt, alloc, of);
+    let dfa = ok(rt, determinize(alloc, &nfa, most));
+    Both { nfa, dfa }
 }
 
-fn are_as_expected<B: BitBlock>(
+/// Both accept the word where that is expected, and else neither.
+pub(crate) fn accept<B: BitBlock>(
+    rt: &impl Abort,
     alloc: Global,
-    nfa: &Nfa<B>,
-    dfa: &Dfa<B>,
-    word: &[usize],
-    expected: bool,
-) -> Result<bool, AllocError> {
-    Ok(accepts(alloc, nfa, word)? == expected && dfa.accepts(word) == expected)
+    both: &Both<B>,
+    (word, expected): (&[usize], bool),
+) {
+    let is_accepted = ok(rt, accepts(alloc, &both.nfa, word));
+    expect(rt, is_accepted == expected);
+    expect(rt, both.dfa.accepts(word) == expected);
 }
 
-/// Whether the automaton and the deterministic one accept just the words that are marked. The marks for each length
-/// are those of the words of 0 and 1 in the order of their numbers in base 2, `1` for a word that is accepted.
-pub(crate) fn accept_as_marked<B: BitBlock>(
+/// Both accept just the words that are marked. The marks for each length are those of the words of 0 and 1 in the order
+/// of their numbers in base 2, `1` for a word that is accepted.
+pub(crate) fn accept_marked<B: BitBlock>(
+    rt: &impl Abort,
     alloc: Global,
-    of: &Edges<'_>,
+    both: &Both<B>,
     marks: &[&[u8]],
-) -> Result<bool, DfaError> {
-    let nfa = automaton::<B>(alloc, of)?;
-    let dfa = determinize(alloc, &nfa, 1000)?;
+) {
     for (length, row) in marks.iter().enumerate() {
-        if !is_row_as_marked(alloc, &nfa, &dfa, length, row)? {
-            return Ok(false);
-        }
+        accept_row(rt, alloc, both, (length, row));
     }
-    Ok(true)
 }
 
-fn is_row_as_marked<B: BitBlock>(
+fn accept_row<B: BitBlock>(
+    rt: &impl Abort,
     alloc: Global,
-    nfa: &Nfa<B>,
-    dfa: &Dfa<B>,
-    length: usize,
-    marks: &[u8],
-) -> Result<bool, AllocError> {
+    both: &Both<B>,
+    (length, marks): (usize, &[u8]),
+) {
     for (number, mark) in marks.iter().enumerate() {
-        let word = word_of(alloc, length, number)?;
-        if !are_as_expected(alloc, nfa, dfa, word.as_slice(), *mark == b'1')? {
-            return Ok(false);
-        }
+        let digits = digits_of(number);
+        let word = word_of(&digits, length);
+        accept(rt, alloc, both, (word, *mark == b'1'));
     }
-    Ok(true)
 }
 
-/// Whether the automaton and the deterministic one both accept, of all words of 0 and 1 up to length 8, just those that
-/// the slow model accepts; and how many states the deterministic one has.
-pub(crate) fn all_agree<B: BitBlock>(
+/// Both accept, of all words of 0 and 1 up to length 8, just those that the slow model accepts.
+pub(crate) fn accept_as_the_model<B: BitBlock>(
+    rt: &impl Abort,
     alloc: Global,
+    both: &Both<B>,
     of: &Edges<'_>,
-    most: usize,
-) -> Result<Option<usize>, DfaError> {
-    let nfa = automaton::<B>(alloc, of)?;
-    let dfa = determinize(alloc, &nfa, most)?;
+) {
     for length in 0..9 {
-        if !row_agrees(alloc, of, &nfa, &dfa, length)? {
-            return Ok(None);
-        }
+        accept_words(rt, alloc, both, (of, length));
     }
-    Ok(Some(dfa.states()))
 }
 
-fn row_agrees<B: BitBlock>(
+// The same of all words of a length.
+fn accept_words<B: BitBlock>(
+    rt: &impl Abort,
     alloc: Global,
-    of: &Edges<'_>,
-    nfa: &Nfa<B>,
-    dfa: &Dfa<B>,
-    length: usize,
-) -> Result<bool, AllocError>
-    requires { length < 9 }
-{
-    for number in 0..1usize << length {
-        let word = word_of(alloc, length, number)?;
-        let expected = slowly_accepts(alloc, of, word.as_slice())?;
-        if !are_as_expected(alloc, nfa, dfa, word.as_slice(), expected)? {
-            return Ok(false);
-        }
+    both: &Both<B>,
+    (of, length): (&Edges<'_>, u32),
+) {
+    for number in 0..2usize.saturating_pow(length) {
+        let digits = digits_of(number);
+        let word = word_of(&digits, length as usize);
+        accept(rt, alloc, both, (word, slowly_accepts(of, word)));
     }
-    Ok(true)
 }
 
-/// Whether the deterministic automaton has more states than that.
+/// How many states and symbols the deterministic one has.
+pub(crate) fn size_of<B: BitBlock>(both: &Both<B>) -> (usize, usize) {
+    (both.dfa.states(), both.dfa.symbols())
+}
+
+/// Whether the deterministic one has more states than that.
 pub(crate) fn has_more_states<B: BitBlock>(
+    rt: &impl Abort,
     alloc: Global,
     of: &Edges<'_>,
     most: usize,
-) -> Result<bool, DfaError> {
-    let nfa = automaton::<B>(alloc, of)?;
+) -> bool {
+    let nfa = automaton::<B>(rt, alloc, of);
     match determinize(alloc, &nfa, most) {
-        Ok(_) => Ok(false),
-        Err(DfaError::TooMany) => Ok(true),
-        Err(fault) => Err(fault),
+        Ok(_) => false,
+        Err(fault) => fault == DfaError::TooMany,
     }
-}
-
-/// How many symbols the deterministic automaton has.
-pub(crate) fn symbols<B: BitBlock>(alloc: Global, of: &Edges<'_>) -> Result<usize, DfaError> {
-    Ok(deterministic::<B>(alloc, of)?.symbols())
 }

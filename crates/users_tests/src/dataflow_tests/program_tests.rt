@@ -1,7 +1,6 @@
 //! Programs of textbooks, with the results worked out by hand, and problems at the edge.
-use super::masks::{Row, available, live, reaching, solved};
-use std::process::Abort;
-use std::test::Fail;
+use super::analyses::{Analysis, Row};
+use super::masks::has_sets;
 
 // a = 0; do { b = a + 1; c = c + b; a = b * 2; } while a < n; return c, with a block for each statement. The values
 // are a, b and c.
@@ -14,15 +13,12 @@ const LOOP: [Row; 6] = [
     (0, 0b100, 0),
 ];
 
+// Before the loop c alone, at its first statement and its test a and c, between them b and c.
+const LIVE: [u32; 6] = [0b100, 0b101, 0b110, 0b110, 0b101, 0b100];
+
 #[test]
-fn live_variables_of_a_loop(rt: HostRuntime) -> Result<(), Fail> {
-    let sets = live::<u32>(rt.alloc(), &LOOP)?;
-    // Before the loop c alone, at its first statement and its test a and c, between them b and c.
-    assert_eq!(rt;
-        sets.as_slice(),
-        [0b100, 0b101, 0b110, 0b110, 0b101, 0b100].as_slice()
-    );
-    Ok(())
+fn live_variables_of_a_loop(rt: HostRuntime) {
+    has_sets::<u32>(&rt, rt.alloc(), (Analysis::Live, &LOOP), &LIVE);
 }
 
 // Seven definitions, of i, j, a in the first block, of i and j in the second, of a in the third and of i in the fourth.
@@ -34,14 +30,16 @@ const DEFINITIONS: [Row; 4] = [
     (0b110, 0b100_0000, 0b000_1001),
 ];
 
+const REACHING: [u32; 4] = [0b000_0111, 0b011_1100, 0b011_1000, 0b111_0100];
+
 #[test]
-fn reaching_definitions_of_a_loop(rt: HostRuntime) -> Result<(), Fail> {
-    let sets = reaching::<u8>(rt.alloc(), &DEFINITIONS)?;
-    assert_eq!(rt;
-        sets.as_slice(),
-        [0b000_0111, 0b011_1100, 0b011_1000, 0b111_0100].as_slice()
+fn reaching_definitions_of_a_loop(rt: HostRuntime) {
+    has_sets::<u8>(
+        &rt,
+        rt.alloc(),
+        (Analysis::Reaching, &DEFINITIONS),
+        &REACHING,
     );
-    Ok(())
 }
 
 // x = a + b; y = a * b; while y > a + b { a = a + 1; x = a + b; }. The expressions are a + b, a * b and a + 1.
@@ -53,11 +51,16 @@ const EXPRESSIONS: [Row; 5] = [
     (0b1000, 0b001, 0),
 ];
 
+const AVAILABLE: [u32; 5] = [0b001, 0b011, 0b001, 0, 0b001];
+
 #[test]
-fn available_expressions_of_a_loop(rt: HostRuntime) -> Result<(), Fail> {
-    let sets = available::<u64>(rt.alloc(), &EXPRESSIONS, 3)?;
-    assert_eq!(rt; sets.as_slice(), [0b001, 0b011, 0b001, 0, 0b001].as_slice());
-    Ok(())
+fn available_expressions_of_a_loop(rt: HostRuntime) {
+    has_sets::<u64>(
+        &rt,
+        rt.alloc(),
+        (Analysis::Available(3), &EXPRESSIONS),
+        &AVAILABLE,
+    );
 }
 
 // From block 0 into a loop of blocks 1 and 2 at both of them, and from block 1 out to block 3. Block 2 overwrites the
@@ -70,58 +73,63 @@ const IRREDUCIBLE: [Row; 4] = [
 ];
 
 #[test]
-fn an_irreducible_graph(rt: HostRuntime) -> Result<(), Fail> {
-    let sets = reaching::<u32>(rt.alloc(), &IRREDUCIBLE)?;
-    assert_eq!(rt;
-        sets.as_slice(),
-        [0b0001, 0b0111, 0b0110, 0b1101].as_slice()
+fn an_irreducible_graph(rt: HostRuntime) {
+    let reaching = [0b0001, 0b0111, 0b0110, 0b1101];
+    has_sets::<u32>(
+        &rt,
+        rt.alloc(),
+        (Analysis::Reaching, &IRREDUCIBLE),
+        &reaching,
     );
-    let sets = available::<u32>(rt.alloc(), &IRREDUCIBLE, 4)?;
-    assert_eq!(rt;
-        sets.as_slice(),
-        [0b0001, 0b0010, 0b0100, 0b1000].as_slice()
+    let available = [0b0001, 0b0010, 0b0100, 0b1000];
+    has_sets::<u32>(
+        &rt,
+        rt.alloc(),
+        (Analysis::Available(4), &IRREDUCIBLE),
+        &available,
     );
-    Ok(())
 }
 
 // Block 0 assigns x and goes on to block 2, which uses it. Block 1, which uses y, is never entered.
 const DEAD: [Row; 3] = [(0b100, 0, 0b01), (0b100, 0b10, 0), (0, 0b01, 0)];
 
+// A loop that is never entered.
+const UNENTERED: [Row; 2] = [(0, 0b001, 0), (0b10, 0b010, 0b100)];
+
 #[test]
-fn dead_code(rt: HostRuntime) -> Result<(), Fail> {
-    let alloc = rt.alloc();
-    let sets = live::<u32>(alloc, &DEAD)?;
-    assert_eq!(rt; sets.as_slice(), [0, 0b11, 0b01].as_slice());
-    // In a loop that is never entered all is available that the loop does not kill.
-    let sets = available::<u32>(alloc, &[(0, 0b001, 0), (0b10, 0b010, 0b100)], 4)?;
-    assert_eq!(rt; sets.as_slice(), [0b0001, 0b1011].as_slice());
-    Ok(())
+fn dead_code(rt: HostRuntime) {
+    has_sets::<u32>(&rt, rt.alloc(), (Analysis::Live, &DEAD), &[0, 0b11, 0b01]);
+    // All is available there that it does not kill.
+    let available = [0b0001, 0b1011];
+    has_sets::<u32>(
+        &rt,
+        rt.alloc(),
+        (Analysis::Available(4), &UNENTERED),
+        &available,
+    );
 }
 
 #[test]
-fn no_block_and_no_expression(rt: HostRuntime) -> Result<(), Fail> {
-    let alloc = rt.alloc();
-    assert!(rt; solved::<u32>(alloc, &[])?.is_empty());
-    assert!(rt; available::<u32>(alloc, &[], 7)?.is_empty());
-    let sets = available::<u32>(alloc, &[(0b1, 0b11, 0)], 0)?;
-    assert_eq!(rt; sets.as_slice(), [0].as_slice());
-    Ok(())
+fn no_block_and_no_expression(rt: HostRuntime) {
+    has_sets::<u32>(&rt, rt.alloc(), (Analysis::Flow, &[]), &[]);
+    has_sets::<u32>(&rt, rt.alloc(), (Analysis::Available(7), &[]), &[]);
+    has_sets::<u32>(
+        &rt,
+        rt.alloc(),
+        (Analysis::Available(0), &[(0b1, 0b11, 0)]),
+        &[0],
+    );
 }
 
+// A block whose neighbour is itself, and one that has a neighbour past the end too.
+const OWN: [Row; 1] = [(0b1, 0b001, 0b011)];
+
+const PAST: [Row; 1] = [(0b101, 0b001, 0b011)];
+
 #[test]
-fn own_neighbours_and_neighbours_past_the_end(rt: HostRuntime) -> Result<(), Fail> {
-    let alloc = rt.alloc();
-    let own = [(0b1, 0b001, 0b011)];
-    assert_eq!(rt; solved::<u8>(alloc, &own)?.as_slice(), [0b001].as_slice());
-    assert_eq!(rt;
-        available::<u8>(alloc, &own, 3)?.as_slice(),
-        [0b101].as_slice()
-    );
-    let past = [(0b101, 0b001, 0b011)];
-    assert_eq!(rt; solved::<u8>(alloc, &past)?.as_slice(), [0b001].as_slice());
-    assert_eq!(rt;
-        available::<u8>(alloc, &past, 3)?.as_slice(),
-        [0b001].as_slice()
-    );
-    Ok(())
+fn own_neighbours_and_neighbours_past_the_end(rt: HostRuntime) {
+    has_sets::<u8>(&rt, rt.alloc(), (Analysis::Flow, &OWN), &[0b001]);
+    has_sets::<u8>(&rt, rt.alloc(), (Analysis::Available(3), &OWN), &[0b101]);
+    has_sets::<u8>(&rt, rt.alloc(), (Analysis::Flow, &PAST), &[0b001]);
+    has_sets::<u8>(&rt, rt.alloc(), (Analysis::Available(3), &PAST), &[0b001]);
 }

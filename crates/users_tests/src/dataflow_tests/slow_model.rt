@@ -1,7 +1,6 @@
-//! The least and the greatest solution of the equations by rounds over all blocks, on masks, with no set and no list of
-//! blocks that wait.
-use super::masks::Row;
-use std::alloc::{AllocError, Global};
+//! The least and the greatest solution of the equations by rounds over eight blocks, on masks, with no set and no list
+//! of blocks that wait.
+use super::analyses::Row;
 
 // What a neighbour has.
 fn union_of(sets: &[u32], neighbours: u32) -> u32 {
@@ -47,23 +46,19 @@ fn intersection_round(rows: &[Row], all: u32, sets: &mut [u32]) {
 }
 
 /// The least solution, from no values on.
-pub(crate) fn slowly_least(alloc: Global, rows: &[Row]) -> Result<Vec<u32>, AllocError> {
-    let mut sets = vec![in alloc; 0; rows.len()]?;
+pub(crate) fn slowly_least(rows: &[Row; 8]) -> [u32; 8] {
+    let mut sets = [0; 8];
     for _ in 0..33 {
-        union_round(rows, sets.as_mut_slice());
+        union_round(rows, &mut sets);
     }
-    Ok(sets)
+    sets
 }
 
 /// The greatest solution, from all values on.
-pub(crate) fn slowly_greatest(
-    alloc: Global,
-    rows: &[Row],
-    all: u32,
-) -> Result<Vec<u32>, AllocError> {
-    let mut sets = vec![in alloc; all; rows.len()]?;
+pub(crate) fn slowly_greatest(rows: &[Row; 8], all: u32) -> [u32; 8] {
+    let mut sets = [all; 8];
     for _ in 0..33 {
-        intersection_round(rows, all, sets.as_mut_slice());
+        intersection_round(rows, all, &mut sets);
     }
-    Ok(sets)
+    sets
 }
