@@ -209,6 +209,14 @@ fn a_line_from_many_nodes(rt: HostRuntime) {
     expect_eq(&rt, &count, &100_001);
 }
 
+#[test]
+fn a_line_from_no_node(rt: HostRuntime) {
+    let rows = line(&rt, rt.alloc(), 3);
+    let none = set_of(&rt, rt.alloc(), &[]);
+    let count = count_from(&rt, rt.alloc(), rows.as_slice(), &none);
+    expect_eq(&rt, &count, &0);
+}
+
 // How many nodes each row of a closed line of 1,000 nodes has.
 #[test]
 fn a_closed_line(rt: HostRuntime) {
