@@ -7,7 +7,6 @@ use bit_set::{BitBlock, BitSet, SetError};
 use block24::Block24;
 use std::alloc::Global;
 use std::process::Abort;
-use std::test::Fail;
 
 // The length of the set of some numbers, and that once it is shrunk.
 fn has_lengths<B: BitBlock>(rt: &impl Abort, alloc: Global, numbers: &[usize], wanted: [usize; 2]) {
@@ -72,14 +71,19 @@ fn raise_at_one<B: BitBlock>(set: &mut BitSet<B>)
     set.get_mut().set(1, true);
 }
 
-#[test]
-fn what_is_written_is_the_set(rt: HostRuntime) -> Result<(), Fail> {
-    let mut set = BitSet::new(rt.alloc());
+// {0, 3}, and 1 by way of its bit vector.
+fn with_one_written(alloc: Global) -> Result<BitSet, SetError> {
+    let mut set = BitSet::new(alloc);
     set.insert(0)?;
     set.insert(3)?;
     raise_at_one(&mut set);
+    Ok(set)
+}
+
+#[test]
+fn what_is_written_is_the_set(rt: HostRuntime) {
+    let set = ok(&rt, with_one_written(rt.alloc()));
     expect(&rt, set.iter().eq([0, 1, 3]));
-    Ok(())
 }
 
 #[test]
@@ -194,14 +198,18 @@ fn put_one_after_zero(set: &mut BitSet) -> Result<bool, SetError>
     set.insert(1)
 }
 
-#[test]
-fn a_block_that_is_there_is_enough(rt: HostRuntime) -> Result<(), Fail> {
-    let mut set = BitSet::new(rt.alloc());
+// Whether 1 is new in {0}.
+fn is_one_new(alloc: Global) -> Result<bool, SetError> {
+    let mut set = BitSet::new(alloc);
     set.insert(0)?;
-    expect(&rt, put_one_after_zero(&mut set)?);
-    let bytes = BitSet::<u8>::from_bytes_general(rt.alloc(), &[7; 5])?;
+    put_one_after_zero(&mut set)
+}
+
+#[test]
+fn a_block_that_is_there_is_enough(rt: HostRuntime) {
+    expect(&rt, ok(&rt, is_one_new(rt.alloc())));
+    let bytes = set_of_bytes::<u8>(&rt, rt.alloc(), &[7; 5]);
     expect_eq(&rt, &bytes.capacity(), &40);
-    Ok(())
 }
 
 // Numbers below 100 go into a set with capacity for 100, and no call fails.
@@ -244,17 +252,23 @@ fn change_within<B: BitBlock>(set: &mut BitSet<B>, other: &BitSet<B>) -> Result<
     Ok(())
 }
 
-#[test]
-fn within_its_capacity_a_set_never_fails(rt: HostRuntime) -> Result<(), Fail> {
-    let mut set = BitSet::<Block24>::new_general(rt.alloc());
-    let mut other = BitSet::with_capacity_general(rt.alloc(), 99)?;
-    other.insert(3)?;
-    other.insert(98)?;
+// Reserves capacity for 100, and makes these calls within it, where the other set is no longer. Whether the capacity
+// stays.
+fn stays_within(set: &mut BitSet<Block24>, other: &BitSet<Block24>) -> Result<bool, SetError> {
+    if other.get_ref().len() > 100 {
+        return Ok(false);
+    }
     set.reserve_len(100)?;
     let capacity = set.capacity();
-    put_all_within(&mut set, &[99, 0, 41])?;
-    change_within(&mut set, &other)?;
-    expect(&rt, set.iter().eq([3, 98]));
-    expect_eq(&rt, &set.capacity(), &capacity);
-    Ok(())
+    put_all_within(set, &[99, 0, 41])?;
+    change_within(set, other)?;
+    Ok(set.capacity() == capacity)
+}
+
+#[test]
+fn within_its_capacity_a_set_never_fails(rt: HostRuntime) {
+    let other = set_of(&rt, rt.alloc(), &[3, 98]);
+    let mut set = BitSet::new_general(rt.alloc());
+    let stays = ok(&rt, stays_within(&mut set, &other));
+    expect(&rt, stays && set.iter().eq([3, 98]));
 }
