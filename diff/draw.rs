@@ -82,7 +82,17 @@ impl Draw {
             Call::Truncate | Call::BitsTruncate | Call::SplitOff => line.first = self.cut(set),
             Call::BitsGrow => line.first = self.growth(set),
             Call::BitsReserve | Call::BitsReserveExact => line.first = self.length().saturating_sub(set.len),
-            Call::BitsBlocks | Call::BitsNextIf | Call::BitsNonzero => self.steps(line, set.blocks()),
+            Call::BitsBlocks | Call::BitsNextIf => self.steps(line, set.blocks()),
+            Call::BitsNonzero | Call::BitsNonzeroPastFirst => self.steps(line, set.blocks()),
+            Call::BitsNonzeroPast | Call::BitsRefill => {
+                let refills = line.call == Call::BitsRefill;
+                self.steps(line, if refills { set.elements.len() } else { set.blocks() });
+                line.first = self.block(set, is_far);
+            }
+            Call::BitsBlock => {
+                line.first = self.block(set, is_far);
+                line.second = self.random.below(2 * width());
+            }
             Call::Union | Call::SymmetricDifference => {
                 self.steps(line, set.elements.len() + sets[line.other].elements.len());
             }
@@ -131,6 +141,11 @@ impl Draw {
             4 => self.random.below(self.most),
             _ => self.length(),
         }
+    }
+
+    /// The block of such an element, or one far past all blocks.
+    fn block(&mut self, set: &Model, is_far: bool) -> usize {
+        if is_far { usize::MAX - self.random.below(2) } else { self.element(set) / width() }
     }
 
     /// A place below the length, and now and then one past it.

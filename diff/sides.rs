@@ -1,6 +1,7 @@
 //! What a side that is written in Rust has to offer, and how the words that a call returns are written: as in
 //! `crates/diff_calls`, so that they can be compared word by word.
 use crate::calls::{Call, Group, Line};
+use crate::model::width;
 use std::hash::{Hash, Hasher};
 
 /// What stands for a refused element.
@@ -267,7 +268,12 @@ fn look<S: Set>(set: &S, other: &S, line: &Line, answers: &mut Answers) {
         Call::BitsStorage => answers.storage(&set.bits_storage()),
         Call::BitsBlocks => blocks(set, line, answers),
         Call::BitsNextIf => next_if(set, line.first, answers),
-        Call::BitsNonzero => nonzero(set, line.first, answers),
+        Call::BitsNonzero => nonzero(set, None, line.first, answers),
+        Call::BitsNonzeroPastFirst => nonzero(set, Some(0), line.first, answers),
+        Call::BitsNonzeroPast => nonzero(set, Some(line.first), line.second, answers),
+        Call::BitsRefill => refill(set, line.first, line.second, answers),
+        Call::BitsMismatch => mismatch(&set.bits_storage(), &other.bits_storage(), answers),
+        Call::BitsBlock => single(&set.bits_storage(), &other.bits_storage(), line, answers),
         Call::BitsIsSubsetOf => answers.truth(set.bits_is_subset_of(other)),
         Call::BitsIsDisjointFrom => answers.truth(set.bits_is_disjoint_from(other)),
         _ => answers.text(&set.bits_debug()),
@@ -302,14 +308,69 @@ fn next_if<S: Set>(set: &S, steps: usize, answers: &mut Answers) {
     answers.number(walk.bounds().0);
 }
 
-/// The first block comes, and each one after it that is not 0.
-fn nonzero<S: Set>(set: &S, steps: usize, answers: &mut Answers) {
+/// The blocks past one that are not 0, and the first, where they are not past one. So many come, then three more, and so
+/// many again to a copy.
+fn nonzero<S: Set>(set: &S, past: Option<usize>, steps: usize, answers: &mut Answers) {
     let storage = set.bits_storage();
-    let mut walk = storage.iter().enumerate().filter(|(place, block)| *place == 0 || **block != 0);
-    for _ in 0..steps {
-        let next = walk.next();
+    let last = storage.len().saturating_sub(1);
+    let entries = storage.iter().enumerate().filter(|(place, block)| match past {
+        None => *place == 0 || **block != 0,
+        Some(first) => *place > first.min(last) && **block != 0,
+    });
+    if past.is_some() {
+        answers.number(storage.len());
+    }
+    let after = entries.clone().skip(steps);
+    for next in chained(entries, steps).chain(chained(after.clone(), 3)).chain(chained(after, steps)) {
         answers.item(next.map(|entry| entry.0));
         answers.next_block(next.map(|entry| *entry.1));
     }
-    answers.number(storage.len());
+}
+
+/// The first so many items, and for each that is lacking `None`.
+fn chained<I: Iterator>(items: I, count: usize) -> impl Iterator<Item = Option<I::Item>> {
+    items.map(Some).chain(std::iter::repeat_with(|| None)).take(count)
+}
+
+/// The elements from a block on.
+fn refill<S: Set>(set: &S, block: usize, steps: usize, answers: &mut Answers) {
+    let from = block.saturating_mul(width());
+    let elements = set.elements();
+    for next in chained(elements.iter().filter(|element| **element >= from), steps) {
+        answers.item(next.copied());
+    }
+}
+
+/// Where two lists of blocks differ, with blocks of 0 at the end of the shorter one.
+fn mismatch(blocks: &[u128], others: &[u128], answers: &mut Answers) {
+    let block = |blocks: &[u128], k: usize| blocks.get(k).copied().unwrap_or(0);
+    let both = blocks.len().min(others.len());
+    let found = (0..blocks.len().max(others.len())).find(|k| block(blocks, *k) != block(others, *k));
+    answers.truth(found.is_none());
+    answers.item(found.filter(|k| *k < both));
+    answers.item(found);
+    if let Some(k) = found {
+        let bit = (0..128).find(|bit| (block(blocks, k) >> bit & 1) != (block(others, k) >> bit & 1));
+        answers.number(bit.unwrap_or(0));
+    }
+}
+
+/// One block, what is found in it from a place on, and what becomes of it and of one of the other list.
+fn single(blocks: &[u128], others: &[u128], line: &Line, answers: &mut Answers) {
+    let (k, place) = (line.first, line.second);
+    let block = |blocks: &[u128]| blocks.get(k).copied().unwrap_or(0);
+    let (one, two) = (block(blocks), block(others));
+    let bits = |digit: &dyn Fn(usize) -> bool| (0..width()).fold(0, |all, j| all | u128::from(digit(j)) << j);
+    let digit = |block: u128, j: usize| j < width() && block >> j & 1 == 1;
+    let within = place % width();
+    answers.item((k..blocks.len()).find(|k| blocks[*k] != 0));
+    answers.number((0..width()).filter(|j| digit(one, *j)).count());
+    answers.truth((within..width()).any(|j| digit(one, j)));
+    answers.block(bits(&|j| j >= place && digit(one, j)));
+    answers.block(bits(&|j| j >= within && digit(one, j - within)));
+    answers.block(bits(&|j| digit(one, j + within)));
+    answers.block(bits(&|j| digit(one, j) || digit(two, j)));
+    answers.block(bits(&|j| digit(one, j) && digit(two, j)));
+    answers.block(bits(&|j| digit(one, j) && !digit(two, j)));
+    answers.block(bits(&|j| digit(one, j) != digit(two, j)));
 }

@@ -9,6 +9,7 @@
 - Each clause that a CALLING.md quotes below a line 'fn ..' is a clause of that function.
 - Each example of a doc comment is in a test.
 - docs/SPEED.md has the tables that bench/tables makes of the figures in docs/speed.
+- Each public function of `bit_words` and `bit_set` but the laws is called by `diff_calls`, or diff/README.md names it.
 - Each link of a document leads to a file, and to a heading where it names one.
 
 It prints a line for each quote that does not agree, and at the end 'N passed, M failed'.
@@ -189,6 +190,37 @@ def check_tables(check, root):
         check.expect(is_in(table, lines), "docs/SPEED.md", f"it has no table {table[0]}")
 
 
+def public_functions(root):
+    """The names of the functions that a program can call, those of a type as 'Type::name'."""
+    exported = re.findall(r"^pub use crate::([^;]*);", (root / "crates/bit_words/src/bit_vec.rt").read_text(), re.M)
+    exported = set(re.findall(r"\w+", " ".join(exported)))
+    names = set()
+    for crate in ("bit_words", "bit_set"):
+        for source in sorted((root / "crates" / crate / "src").rglob("*.rt")):
+            kind = None
+            for line in [] if source.name == "laws.rt" else source.read_text(encoding="utf-8").splitlines():
+                if head := re.match(r"impl(?:<.*?>)? (?:.* for )?(\w+)", line):
+                    kind = head[1]
+                elif line.startswith("}"):
+                    kind = None
+                function = re.match(r" *pub fn (\w+)", line)
+                if function and kind:
+                    names.add(f"{kind}::{function[1]}")
+                elif function and function[1] in exported:
+                    names.add(function[1])
+    return names
+
+
+def check_calls(check, root):
+    """The public functions that random calls are made of. One name stands for those of all types."""
+    calls = "".join(source.read_text(encoding="utf-8") for source in root.glob("crates/diff_calls/src/*.rt"))
+    called = set(re.findall(r"(?<!fn )\b(\w+)(?:::<[^>]*>)?\(", calls))
+    named = (root / "diff/README.md").read_text(encoding="utf-8")
+    for name in sorted(public_functions(root)):
+        is_known = name.rpartition(":")[2] in called or f"`{name}`" in named
+        check.expect(is_known, "diff/README.md", f"no script calls {name}")
+
+
 def main():
     root = Path(sys.argv[1])
     check = Check()
@@ -208,6 +240,7 @@ def main():
     for source in sources:
         check_comments(check, root, source, tests)
     check_tables(check, root)
+    check_calls(check, root)
     print(f"{check.passed} passed, {check.failed} failed")
     return 1 if check.failed else 0
 

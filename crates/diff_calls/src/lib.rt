@@ -4,6 +4,8 @@
 
 mod answers;
 mod bits;
+mod block_walks;
+mod blocks;
 mod calls;
 mod changing;
 mod feed;

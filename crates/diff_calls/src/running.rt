@@ -1,10 +1,11 @@
 // A script, from its words to the words that its calls return.
 use crate::answers::Answers;
 use crate::bits::write;
+use crate::blocks::storage;
 use crate::calls::Call;
 use crate::changing::{change, move_over};
 use crate::lines::Line;
-use crate::looking::{look, storage};
+use crate::looking::look;
 use crate::making::made;
 use crate::reading::read;
 use crate::walks::walk_over;

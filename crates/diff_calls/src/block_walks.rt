@@ -1,0 +1,155 @@
+// Walks over the blocks of a bit vector.
+use crate::answers::Answers;
+use crate::blocks::next_block;
+use crate::widths::Width;
+use bit_set::BitBlock;
+use bit_set::bit_vec::{BitVec, Blocks, FirstAndNonzero, Nonzero, block_or_zero, take_lowest_one};
+use std::alloc::AllocError;
+
+// So many steps of a walk over blocks, and before each of them the bounds on what is left.
+fn take_steps<B: Width>(
+    walk: &mut Blocks<'_, B>,
+    steps: usize,
+    answers: &mut Answers,
+) -> Result<(), AllocError> {
+    for _ in 0..steps {
+        answers.bounds(walk.size_hint())?;
+        next_block(walk.next(), answers)?;
+    }
+    Ok(())
+}
+
+// A walk over some blocks, and on; a copy that was taken between; and how many blocks are left.
+pub(crate) fn blocks<B: Width>(
+    bits: &BitVec<B>,
+    (steps, further): (usize, usize),
+    answers: &mut Answers,
+) -> Result<(), AllocError> {
+    let mut walk = bits.blocks();
+    take_steps(&mut walk, steps, answers)?;
+    let mut copy = walk.clone();
+    take_steps(&mut walk, further, answers)?;
+    take_steps(&mut copy, further, answers)?;
+    answers.number(walk.as_slice().len())?;
+    answers.number(walk.count())?;
+    answers.number(copy.count())
+}
+
+// Blocks of which each second one is wanted.
+pub(crate) fn next_if<B: Width>(
+    bits: &BitVec<B>,
+    steps: usize,
+    answers: &mut Answers,
+) -> Result<(), AllocError> {
+    let mut walk = bits.blocks();
+    for turn in 0..steps {
+        next_block(walk.next_if(turn % 2 == 0), answers)?;
+    }
+    answers.number(walk.count())
+}
+
+// A walk over blocks with their indices that can be copied at any point.
+trait Entries<B: BitBlock>: Iterator<Item = (usize, B)> {
+    fn copy(&self) -> Self;
+}
+
+impl<B: BitBlock> Entries<B> for FirstAndNonzero<'_, B> {
+    fn copy(&self) -> Self {
+        self.clone()
+    }
+}
+
+impl<B: BitBlock> Entries<B> for Nonzero<'_, B> {
+    fn copy(&self) -> Self {
+        self.clone()
+    }
+}
+
+fn next_entry<B: Width, W: Entries<B>>(
+    walk: &mut W,
+    answers: &mut Answers,
+) -> Result<(), AllocError>
+    requires { (s : W) → W.can_next s }
+{
+    let next = walk.next();
+    answers.item(next.map(|entry| entry.0))?;
+    next_block(next.map(|entry| entry.1), answers)
+}
+
+fn take_entries<B: Width, W: Entries<B>>(
+    walk: &mut W,
+    steps: usize,
+    answers: &mut Answers,
+) -> Result<(), AllocError>
+    requires { (s : W) → W.can_next s }
+{
+    for _ in 0..steps {
+        next_entry(walk, answers)?;
+    }
+    Ok(())
+}
+
+// A walk over so many blocks, and on, and a copy that was taken between.
+fn take<B: Width, W: Entries<B>>(
+    mut walk: W,
+    steps: usize,
+    answers: &mut Answers,
+) -> Result<(), AllocError>
+    requires { (s : W) → W.can_next s }
+{
+    take_entries(&mut walk, steps, answers)?;
+    let mut copy = walk.copy();
+    take_entries(&mut walk, 3, answers)?;
+    take_entries(&mut copy, steps, answers)
+}
+
+// The first block, and those after it that are not 0.
+pub(crate) fn nonzero<B: Width>(
+    bits: &BitVec<B>,
+    steps: usize,
+    answers: &mut Answers,
+) -> Result<(), AllocError> {
+    take(bits.nonzero(), steps, answers)
+}
+
+// The blocks past the first, or past some block, that are not 0, and how many blocks there are.
+pub(crate) fn nonzero_past<B: Width>(
+    walk: Nonzero<'_, B>,
+    steps: usize,
+    answers: &mut Answers,
+) -> Result<(), AllocError> {
+    answers.number(walk.as_slice().len())?;
+    take(walk, steps, answers)
+}
+
+// The lowest place that is left in the block in hand, or else in those that the walk gives.
+fn next_place<B: Width>(
+    walk: &mut Nonzero<'_, B>,
+    block: &mut B,
+    index: &mut usize,
+) -> Option<usize>
+    requires { B.is_block block.old }
+    ensures { B.is_block block.new }
+{
+    // A bit vector has no more places than a number says, which is not known here.
+    walk.as_slice().len().checked_mul(B::bits())?;
+    if !walk.refill(block, index) {
+        return None;
+    }
+    index.checked_add(take_lowest_one(block))
+}
+
+// So many places from a block on at which the bit vector is true, by a block that is filled again and again.
+pub(crate) fn refill<B: Width>(
+    bits: &BitVec<B>,
+    (first, steps): (usize, usize),
+    answers: &mut Answers,
+) -> Result<(), AllocError> {
+    let mut walk = bits.nonzero_past(first);
+    let mut block = block_or_zero(bits.storage(), first);
+    let mut index = first.wrapping_mul(B::bits());
+    for step in 0..steps {
+        answers.item(next_place(&mut walk, &mut block, &mut index))?;
+    }
+    Ok(())
+}
