@@ -19,7 +19,7 @@ const EACH: usize = 8;
 
 /// The numbers of each block: its successors, and the variables that it generates and that it kills. A block is
 /// followed by the next one, and with a chance of a quarter by any, else by the one after the next.
-fn random_numbers(blocks: usize, variables: usize) -> Vec<usize> {
+pub fn random_numbers(blocks: usize, variables: usize) -> Vec<usize> {
     let mut random = Random::start();
     let mut numbers = Vec::new();
     for block in 0..blocks {

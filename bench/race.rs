@@ -4,16 +4,20 @@
 //! - `work`: calls on sets and bit vectors;
 //! - `users`: libraries that use this one, beside the same loops over the sets of those crates;
 //! - `widths`: this library over three types of blocks;
-//! - `instructions`: calls on small sets, by their instructions.
+//! - `instructions`: calls on small sets, by their instructions;
+//! - `scaling`: this library's calls and users at some size and at four times that, by their instructions.
 //!
-//! Ends with status 1 where two sides give different results, and with 2 where there is no such table.
+//! Ends with status 1 where two sides give different results or a row of `scaling` takes too long, and with 2 where
+//! there is no such table.
 mod automata;
+mod callgrind;
 mod growing;
 mod inputs;
 mod instructions;
 mod live_variables;
 mod pairs;
 mod peers;
+mod scaling;
 mod single;
 mod small;
 mod sparse;
@@ -57,7 +61,9 @@ fn race(words: &[String]) -> Option<bool> {
         "users" => Some(users::race()),
         "widths" => Some(widths::race()),
         "instructions" => Some(instructions::race()),
+        "scaling" => Some(scaling::race()),
         "turns" => instructions::run_turns(rest).map(|()| true),
+        "turns-at" => scaling::run_turns(rest).map(|()| true),
         _ => None,
     }
 }
@@ -68,7 +74,7 @@ fn main() -> ExitCode {
         Some(true) => ExitCode::SUCCESS,
         Some(false) => ExitCode::FAILURE,
         None => {
-            eprintln!("usage: race work | users | widths | instructions");
+            eprintln!("usage: race work | users | widths | instructions | scaling");
             ExitCode::from(2)
         }
     }

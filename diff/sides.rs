@@ -308,8 +308,8 @@ fn next_if<S: Set>(set: &S, steps: usize, answers: &mut Answers) {
     answers.number(walk.bounds().0);
 }
 
-/// The blocks past one that are not 0, and the first, where they are not past one. So many come, then three more, and so
-/// many again to a copy.
+/// The blocks past one that are not 0, and the first, where they are not past one. So many come, then three more, and
+/// so many again to a copy.
 fn nonzero<S: Set>(set: &S, past: Option<usize>, steps: usize, answers: &mut Answers) {
     let storage = set.bits_storage();
     let last = storage.len().saturating_sub(1);

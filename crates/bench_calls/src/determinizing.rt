@@ -1,16 +1,17 @@
 // Deterministic automata of others.
 use crate::graphs::sets;
-use automata::{DfaError, Nfa, determinize};
+use automata::{Dfa, DfaError, Nfa, accepts, determinize, equivalent};
 use bit_set::{BitBlock, BitSet, SetError};
 use std::alloc::Global;
 
-// An automaton of two symbols that starts in state 0 and accepts in the last one. From each state each symbol leads to
-// as many; the first half of the ends are those of the first symbol.
+// An automaton of two symbols that starts in state 0 and accepts in one state. From each state each symbol leads to as
+// many; the first half of the ends are those of the first symbol.
 fn nfa_of<B: BitBlock>(
     alloc: Global,
     states: usize,
     each: usize,
     ends: &[usize],
+    accepts_in: usize,
 ) -> Result<Nfa<B>, SetError> {
     let (first, second) = ends.split_at(ends.len() / 2);
     let mut moves = Vec::new(alloc);
@@ -19,8 +20,16 @@ fn nfa_of<B: BitBlock>(
     let mut starts = BitSet::with_capacity_general(alloc, states)?;
     starts.insert(0)?;
     let mut accepting = BitSet::with_capacity_general(alloc, states)?;
-    accepting.insert(states.saturating_sub(1))?;
+    accepting.insert(accepts_in)?;
     Ok(Nfa::new(moves, starts, accepting))
+}
+
+fn dfa_of<B: BitBlock>(alloc: Global, nfa: &Nfa<B>) -> Result<Dfa<B>, SetError> {
+    match determinize(alloc, nfa, usize::MAX) {
+        Ok(dfa) => Ok(dfa),
+        Err(DfaError::TooMany) => Err(SetError::Length),
+        Err(DfaError::Memory(fault)) => Err(SetError::from(fault)),
+    }
 }
 
 // Adds up how many states the deterministic automata have.
@@ -31,14 +40,10 @@ fn count_states<B: BitBlock>(
     ends: &[usize],
     turns: usize,
 ) -> Result<usize, SetError> {
-    let nfa = nfa_of::<B>(alloc, states, each, ends)?;
+    let nfa = nfa_of::<B>(alloc, states, each, ends, states.saturating_sub(1))?;
     let mut sum = 0usize;
     for _turn in 0..turns {
-        match determinize(alloc, &nfa, usize::MAX) {
-            Ok(dfa) => sum = sum.wrapping_add(dfa.states()),
-            Err(DfaError::TooMany) => return Ok(usize::MAX),
-            Err(DfaError::Memory(fault)) => return Err(SetError::from(fault)),
-        }
+        sum = sum.wrapping_add(dfa_of(alloc, &nfa)?.states());
     }
     Ok(sum)
 }
@@ -63,4 +68,59 @@ pub extern "C" fn bench_determinize_u64(
     turns: usize,
 ) -> usize {
     count_states::<u64>(alloc, states, each, ends, turns).unwrap_or(usize::MAX)
+}
+
+// Adds up how often the word is accepted. From each state each symbol leads to two.
+fn count_accepted(
+    alloc: Global,
+    states: usize,
+    ends: &[usize],
+    word: &[usize],
+    turns: usize,
+) -> Result<usize, SetError> {
+    let nfa = nfa_of::<u32>(alloc, states, 2, ends, states.saturating_sub(1))?;
+    let mut sum = 0usize;
+    for _turn in 0..turns {
+        sum = sum.wrapping_add(usize::from(accepts(alloc, &nfa, word)?));
+    }
+    Ok(sum)
+}
+
+#[unsafe(no_mangle)]
+pub extern "C" fn bench_accepts(
+    alloc: Global,
+    states: usize,
+    ends: &[usize],
+    word: &[usize],
+    turns: usize,
+) -> usize {
+    count_accepted(alloc, states, ends, word, turns).unwrap_or(usize::MAX)
+}
+
+// Adds up how often a deterministic automaton is found to accept what one of a single state does. Neither accepts a
+// word.
+fn count_equivalent(
+    alloc: Global,
+    states: usize,
+    ends: &[usize],
+    turns: usize,
+) -> Result<usize, SetError> {
+    let one = dfa_of(alloc, &nfa_of::<u32>(alloc, states, 2, ends, states)?)?;
+    let other = dfa_of(alloc, &nfa_of::<u32>(alloc, 1, 1, &[], 1)?)?;
+    let mut sum = 0usize;
+    for _turn in 0..turns {
+        let found = equivalent(alloc, &one, &other)?;
+        sum = sum.wrapping_add(usize::from(found.is_none()));
+    }
+    Ok(sum)
+}
+
+#[unsafe(no_mangle)]
+pub extern "C" fn bench_equivalent(
+    alloc: Global,
+    states: usize,
+    ends: &[usize],
+    turns: usize,
+) -> usize {
+    count_equivalent(alloc, states, ends, turns).unwrap_or(usize::MAX)
 }

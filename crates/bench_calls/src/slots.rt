@@ -48,3 +48,71 @@ pub extern "C" fn bench_slots_u64(
 ) -> usize {
     take_and_give_back::<u64>(alloc, len, taken, given, turns).unwrap_or(usize::MAX)
 }
+
+#[unsafe(no_mangle)]
+pub extern "C" fn bench_with_slots(alloc: Global, len: usize, turns: usize) -> usize {
+    let mut sum = 0usize;
+    for _turn in 0..turns {
+        let Ok(slots) = Slots::<u32>::with_slots(alloc, len) else {
+            return usize::MAX;
+        };
+        sum = sum.wrapping_add(slots.len());
+    }
+    sum
+}
+
+// Takes each slot, the lowest first, and adds them up.
+fn take_each<B: BitBlock>(slots: &mut Slots<B>) -> usize {
+    let mut sum = 0usize;
+    for _ in 0..slots.len() {
+        sum = sum.wrapping_add(slots.take().unwrap_or(0));
+    }
+    sum
+}
+
+#[unsafe(no_mangle)]
+pub extern "C" fn bench_take_each(alloc: Global, len: usize, turns: usize) -> usize {
+    let mut sum = 0usize;
+    for _turn in 0..turns {
+        let Ok(mut slots) = Slots::<u32>::with_slots(alloc, len) else {
+            return usize::MAX;
+        };
+        sum = sum.wrapping_add(take_each(&mut slots));
+    }
+    sum
+}
+
+// Takes each slot, at or above the one past the slot before.
+fn take_onward<B: BitBlock>(slots: &mut Slots<B>) -> usize {
+    let mut from = 0usize;
+    for _ in 0..slots.len() {
+        from = match slots.take_at_or_above(from) {
+            Some(slot) => slot.wrapping_add(1),
+            None => 0,
+        };
+    }
+    from
+}
+
+// Gives each slot back, the last first, and takes the lowest free one after each.
+fn give_back_and_take<B: BitBlock>(slots: &mut Slots<B>) -> usize {
+    let mut sum = 0usize;
+    for slot in (0..slots.len()).rev() {
+        let _was_taken = slots.give_back(slot);
+        sum = sum.wrapping_add(slots.take().unwrap_or(0));
+    }
+    sum
+}
+
+#[unsafe(no_mangle)]
+pub extern "C" fn bench_take_each_onward(alloc: Global, len: usize, turns: usize) -> usize {
+    let mut sum = 0usize;
+    for _turn in 0..turns {
+        let Ok(mut slots) = Slots::<u32>::with_slots(alloc, len) else {
+            return usize::MAX;
+        };
+        sum = sum.wrapping_add(take_onward(&mut slots));
+        sum = sum.wrapping_add(give_back_and_take(&mut slots));
+    }
+    sum
+}
