@@ -1,6 +1,6 @@
 #!/usr/bin/env bash
 # Runs the two built programs whose paths are given, `refusals` and `bitset`, with `shim.c` before the C library: each
-# call of the first with one request for memory after another refused, and held to the requests and bytes that its line
+# call of the first with one request for memory after another failing, and held to the requests and bytes that its line
 # allows; and the second with that too, and with one read or write after another failing. What `bitset` must write is
 # said here, and not taken from it. The last line is 'N passed, M failed'.
 set -uo pipefail
@@ -86,22 +86,22 @@ judge() {
     return 1
 }
 
-# One call of the program `refusals`, which judges it: with all of the call's requests refused, and then with one after
-# another, and one past them. A call that takes no memory makes no request; any other is refused where all are. Past
-# its last request none was refused, and then it made no more than its line allows; one that is refused may be made
-# once more, with less. One of a bit vector that may make two does make two, so that either of its growths is refused
-# alone; of few blocks no summary is stored, and then it makes one.
+# One call of the program `refusals`, which judges it: where all of the call's requests fail, and then one after another,
+# and one past them. A call that takes no memory makes no request; any other fails where all do. Past its last request
+# none failed, and then it made no more than its line allows; one that fails may be made once more, with less. One of a
+# bit vector that may make two does make two, so that either of its growths fails alone; of few blocks no summary is
+# stored, and then it makes one.
 sweep() {
-    local type="$1" call="$2" most_requests="$3" most_bytes="$4" name="$1 $2" ending=refused n line
+    local type="$1" call="$2" most_requests="$3" most_bytes="$4" name="$1 $2" ending=failed n line
     [ "$most_requests" -gt 0 ] || ending=returned
     for ((n = 0; n <= most; n++)); do
-        shimmed SHIM_CALL=1 SHIM_REFUSE="$n" "$refusals" "$type" "$call"
+        shimmed SHIM_CALL=1 SHIM_FAIL="$n" "$refusals" "$type" "$call"
         line="$(< wrote)"
         if [ "$status" -ne 0 ] || [ -s said ]; then
             fail "$name: at request $n: status $status, '$line', and it said '$(< said)'"
             return
         elif [ "$n" -eq 0 ] && [ "${line##* }" != "$ending" ]; then
-            fail "$name: with all requests refused: '$line'"
+            fail "$name: where all requests fail: '$line'"
             return
         elif ((requests < 0 || requests > 2 * most_requests || bytes > 2 * most_bytes)); then
             fail "$name: at request $n it made $requests requests for $bytes bytes: ${sizes[*]}"
@@ -137,7 +137,7 @@ done < "$stored"
 shimmed "$refusals"
 judge 'the stored run' 0 "$stored" '' 'requests > 0'
 
-# The whole program, with one of its requests after another refused: then nothing is written.
+# The whole program, where one of its requests after another fails: then nothing is written.
 cat > short << 'END'
 extend a 3 447
 insert b 5000
@@ -166,21 +166,21 @@ ok
 END
 for word in u8 u32 u64 u128; do
     shimmed "$bitset" "$word" < short
-    judge "$word: no request refused" 0 replies '' 'requests > 1 && writes > 0' || continue
-    # Where a summary is stored, the last of them is for the smaller one of the set that is shrunk. Where it is refused
-    # the capacity is that of the blocks already, so the shrink has done what it is for.
+    judge "$word: no request fails" 0 replies '' 'requests > 1 && writes > 0' || continue
+    # Where a summary is stored, the last of them is for the smaller one of the set that is shrunk. Where it fails the
+    # capacity is that of the blocks already, so the shrink has done what it is for.
     all=0
     [[ "$word" != u@(8|32) ]] || all="$requests"
     for ((n = 1; n <= most; n++)); do
-        shimmed SHIM_REFUSE="$n" "$bitset" "$word" < short
+        shimmed SHIM_FAIL="$n" "$bitset" "$word" < short
         if [ "$requests" -lt "$n" ]; then
             break
         elif [ "$n" -eq "$all" ]; then
-            judge "$word: the last request refused" 0 replies '' 'requests == n && writes > 0' || break
+            judge "$word: the last request fails" 0 replies '' 'requests == n && writes > 0' || break
         elif [ "$status" -eq 0 ]; then
-            judge "$word: request $n refused, and another made for it" 0 replies '' 'requests > n' || break
+            judge "$word: request $n fails, and another is made for it" 0 replies '' 'requests > n' || break
         else
-            judge "$word: request $n refused" 3 nothing 'memory refused' 'writes == 0' || break
+            judge "$word: request $n fails" 3 nothing 'memory refused' 'writes == 0' || break
         fi
     done
     judge "$word: past the last request" 0 replies '' 'n > 1 && requests == n - 1 && writes > 0'

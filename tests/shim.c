@@ -1,7 +1,7 @@
 // Stands before the C library in a program that is run with this in LD_PRELOAD, and makes one of its calls fail.
 // What fails is said by the environment; a variable that is not set leaves all as it is:
 //
-//   SHIM_REFUSE=N          the Nth request for memory is refused, or each one where N is 0
+//   SHIM_FAIL=N            the Nth request for memory fails, or each one where N is 0
 //   SHIM_CALL=1            only the requests between the first two writes to standard output are counted
 //   SHIM_READ=N:HOW        the Nth read of standard input goes otherwise, or each one where N is 0
 //   SHIM_WRITE=N:HOW       the same of the Nth write to standard output
@@ -36,7 +36,7 @@ struct fault {
 
 static long requests, reads, writes, bytes, piece;
 static size_t sizes[KEPT];
-static long refused_at = -1;
+static long failing = -1;
 static int only_call;
 static struct fault read_fault = {-1, ""}, write_fault = {-1, ""};
 
@@ -55,7 +55,7 @@ static void read_settings(struct fault *fault, const char *name) {
 }
 
 __attribute__((constructor)) static void begin(void) {
-    refused_at = number("SHIM_REFUSE", -1);
+    failing = number("SHIM_FAIL", -1);
     piece = number("SHIM_PIECE", 0);
     only_call = number("SHIM_CALL", 0) == 1;
     read_settings(&read_fault, "SHIM_READ");
@@ -91,8 +91,8 @@ __attribute__((destructor)) static void end(void) {
     close(file);
 }
 
-// Counts a request for so many bytes of memory, and whether it is the one to be refused.
-static int is_refused(size_t size) {
+// Counts a request for so many bytes of memory, and whether it is one that fails.
+static int fails(size_t size) {
     if (only_call && writes != 1) {
         return 0;
     }
@@ -101,21 +101,21 @@ static int is_refused(size_t size) {
     }
     requests += 1;
     bytes += size;
-    if (requests != refused_at && refused_at != 0) {
+    if (requests != failing && failing != 0) {
         return 0;
     }
     errno = ENOMEM;
     return 1;
 }
 
-void *malloc(size_t size) { return is_refused(size) ? NULL : __libc_malloc(size); }
+void *malloc(size_t size) { return fails(size) ? NULL : __libc_malloc(size); }
 
-void *calloc(size_t count, size_t size) { return is_refused(count * size) ? NULL : __libc_calloc(count, size); }
+void *calloc(size_t count, size_t size) { return fails(count * size) ? NULL : __libc_calloc(count, size); }
 
 // It asks for the whole of the new size.
-void *realloc(void *old, size_t size) { return is_refused(size) ? NULL : __libc_realloc(old, size); }
+void *realloc(void *old, size_t size) { return fails(size) ? NULL : __libc_realloc(old, size); }
 
-void *memalign(size_t alignment, size_t size) { return is_refused(size) ? NULL : __libc_memalign(alignment, size); }
+void *memalign(size_t alignment, size_t size) { return fails(size) ? NULL : __libc_memalign(alignment, size); }
 
 void *aligned_alloc(size_t alignment, size_t size) { return memalign(alignment, size); }
 

@@ -9,7 +9,7 @@ use std::io;
 /// Why a call failed.
 #[derive(Clone, Copy, Debug, PartialEq, Eq)]
 pub enum Fault {
-    /// Memory was refused.
+    /// No memory was found.
     Memory,
     /// Anything else, which no call here may return.
     Other,

@@ -2,7 +2,7 @@
 use crate::asks::Ask;
 use crate::faults::Fault;
 use crate::states::works;
-use crate::sweep::Sweep;
+use crate::sweep::{Row, Sweep, Trial};
 use bit_set::{BitBlock, BitSet};
 use dataflow::{
     DefinitionBlock, ExpressionBlock, FlowBlock, VariableBlock, available_expressions,
@@ -30,6 +30,25 @@ struct Part<B: BitBlock> {
     lost: BitSet<B>,
 }
 
+// The memory that a call over the ring may ask for: twelve sets and a spare one, the blocks that wait, and for each block
+// a row of those that follow it. Nothing is asked for when a block is visited again.
+const RING: &[Ask] = &[
+    Ask::Lists(13, 5001),
+    Ask::Other(1, 8),
+    Ask::Other(2, BLOCKS * (24 + 56)),
+    Ask::Other(BLOCKS, BLOCKS * 32),
+];
+
+// Of expressions the set of all and those that are missing at each block come to it.
+const CHAIN: &[Ask] = &[
+    Ask::Lists(13, 5001),
+    Ask::Other(1, BLOCKS * 64),
+    Ask::Lists(13, 5001),
+    Ask::Other(1, 8),
+    Ask::Other(2, BLOCKS * (24 + 56)),
+    Ask::Other(BLOCKS, BLOCKS * 32),
+];
+
 #[derive(Clone, Copy)]
 enum Call {
     Solve,
@@ -38,58 +57,26 @@ enum Call {
     AvailableExpressions,
 }
 
-// The blocks of a call.
-#[derive(Drop)]
-enum Problem<B: BitBlock> {
-    Solve(Vec<FlowBlock<B>>),
-    LiveVariables(Vec<VariableBlock<B>>),
-    ReachingDefinitions(Vec<DefinitionBlock<B>>),
-    AvailableExpressions(Vec<ExpressionBlock<B>>),
-}
-
-// A call, under a name of its own, and the memory that it may ask for: twelve sets and a spare one, the blocks that
-// wait, and for each block a row of those that follow it. Nothing is asked for when a block is visited again.
-struct Row {
-    name: &'static str,
-    call: Call,
-    asks: &'static [Ask],
-}
-
-const RING: &[Ask] = &[
-    Ask::Lists(13, 5001),
-    Ask::Other(1, 8),
-    Ask::Other(2, BLOCKS * (24 + 56)),
-    Ask::Other(BLOCKS, BLOCKS * 32),
-];
-
-const ROWS: &[Row] = &[
+const ROWS: &[Row<Call>] = &[
     Row {
         name: "solve",
-        call: Call::Solve,
         asks: RING,
+        call: Call::Solve,
     },
     Row {
         name: "live_variables",
-        call: Call::LiveVariables,
         asks: RING,
+        call: Call::LiveVariables,
     },
     Row {
         name: "reaching_definitions",
-        call: Call::ReachingDefinitions,
         asks: RING,
+        call: Call::ReachingDefinitions,
     },
-    // Here the set of all expressions and those that are missing at each block come to it.
     Row {
         name: "available_expressions",
+        asks: CHAIN,
         call: Call::AvailableExpressions,
-        asks: &[
-            Ask::Lists(13, 5001),
-            Ask::Other(1, BLOCKS * 64),
-            Ask::Lists(13, 5001),
-            Ask::Other(1, 8),
-            Ask::Other(2, BLOCKS * (24 + 56)),
-            Ask::Other(BLOCKS, BLOCKS * 32),
-        ],
     },
 ];
 
@@ -125,100 +112,100 @@ fn set_of<B: BitBlock>(alloc: Global, values: &[usize]) -> Result<BitSet<B>, Fau
     Ok(set)
 }
 
-// In the ring block 0 loses what block 3 gains, and in the chain block 4 what block 1 gains. The last value is gained
-// by each block, or in the chain by block 0, and lost by block 4.
-fn part_of<B: BitBlock>(alloc: Global, graph: Graph, block: usize) -> Result<Part<B>, Fault> {
+// What a block gains. The last value is gained by each block, or in the chain by block 0.
+fn gained<B: BitBlock>(alloc: Global, graph: Graph, block: usize) -> Result<BitSet<B>, Fault> {
     let value = value_of(block);
-    let gained = match (graph, block) {
-        (Graph::Chain, 1..) => set_of(alloc, &[value])?,
-        _ => set_of(alloc, &[value, 5000])?,
-    };
-    let lost = match (graph, block) {
-        (Graph::Ring, 0) => set_of(alloc, &[value_of(3)])?,
-        (Graph::Chain, 4) => set_of(alloc, &[value_of(1), 5000])?,
-        _ => set_of(alloc, &[])?,
-    };
+    match (graph, block) {
+        (Graph::Chain, 1..) => set_of(alloc, &[value]),
+        _ => set_of(alloc, &[value, 5000]),
+    }
+}
+
+// In the ring block 0 loses what block 3 gains, and in the chain block 4 what block 1 gains and the last value.
+fn lost<B: BitBlock>(alloc: Global, graph: Graph, block: usize) -> Result<BitSet<B>, Fault> {
+    match (graph, block) {
+        (Graph::Ring, 0) => set_of(alloc, &[value_of(3)]),
+        (Graph::Chain, 4) => set_of(alloc, &[value_of(1), 5000]),
+        _ => set_of(alloc, &[]),
+    }
+}
+
+fn part_of<B: BitBlock>(alloc: Global, graph: Graph, block: usize) -> Result<Part<B>, Fault> {
+    let sources = sources(alloc, graph, block)?;
+    let gained = gained(alloc, graph, block)?;
+    let lost = lost(alloc, graph, block)?;
     Ok(Part {
-        sources: sources(alloc, graph, block)?,
+        sources,
         gained,
         lost,
     })
 }
 
-fn flow_blocks<B: BitBlock>(alloc: Global) -> Result<Vec<FlowBlock<B>>, Fault> {
-    let mut blocks = Vec::with_capacity(alloc, BLOCKS)?;
-    for block in 0..BLOCKS {
-        let part = part_of(alloc, Graph::Ring, block)?;
-        let block = FlowBlock {
-            sources: part.sources,
-            generated: part.gained,
-            killed: part.lost,
-        };
-        blocks.push(block).map_err(AllocError::from)?;
-    }
-    Ok(blocks)
+// The blocks of a call.
+#[derive(Drop)]
+enum Problem<B: BitBlock> {
+    Solve(Vec<FlowBlock<B>>),
+    LiveVariables(Vec<VariableBlock<B>>),
+    ReachingDefinitions(Vec<DefinitionBlock<B>>),
+    AvailableExpressions(Vec<ExpressionBlock<B>>),
 }
 
-fn variable_blocks<B: BitBlock>(alloc: Global) -> Result<Vec<VariableBlock<B>>, Fault> {
-    let mut blocks = Vec::with_capacity(alloc, BLOCKS)?;
-    for block in 0..BLOCKS {
-        let part = part_of(alloc, Graph::Ring, block)?;
-        let block = VariableBlock {
-            successors: part.sources,
-            used: part.gained,
-            assigned: part.lost,
-        };
-        blocks.push(block).map_err(AllocError::from)?;
+impl<B: BitBlock> Problem<B> {
+    // That of a call, with no blocks.
+    fn new(alloc: Global, call: Call) -> Self {
+        match call {
+            Call::Solve => Problem::Solve(Vec::new(alloc)),
+            Call::LiveVariables => Problem::LiveVariables(Vec::new(alloc)),
+            Call::ReachingDefinitions => Problem::ReachingDefinitions(Vec::new(alloc)),
+            Call::AvailableExpressions => Problem::AvailableExpressions(Vec::new(alloc)),
+        }
     }
-    Ok(blocks)
-}
 
-fn definition_blocks<B: BitBlock>(alloc: Global) -> Result<Vec<DefinitionBlock<B>>, Fault> {
-    let mut blocks = Vec::with_capacity(alloc, BLOCKS)?;
-    for block in 0..BLOCKS {
-        let part = part_of(alloc, Graph::Ring, block)?;
-        let block = DefinitionBlock {
-            predecessors: part.sources,
-            defined: part.gained,
-            overwritten: part.lost,
-        };
-        blocks.push(block).map_err(AllocError::from)?;
+    // Appends a block of these parts.
+    fn push(&mut self, part: Part<B>) -> Result<(), AllocError> {
+        match self {
+            Problem::Solve(blocks) => blocks.push(FlowBlock {
+                sources: part.sources,
+                generated: part.gained,
+                killed: part.lost,
+            })?,
+            Problem::LiveVariables(blocks) => blocks.push(VariableBlock {
+                successors: part.sources,
+                used: part.gained,
+                assigned: part.lost,
+            })?,
+            Problem::ReachingDefinitions(blocks) => blocks.push(DefinitionBlock {
+                predecessors: part.sources,
+                defined: part.gained,
+                overwritten: part.lost,
+            })?,
+            Problem::AvailableExpressions(blocks) => blocks.push(ExpressionBlock {
+                predecessors: part.sources,
+                computed: part.gained,
+                killed: part.lost,
+            })?,
+        }
+        Ok(())
     }
-    Ok(blocks)
-}
 
-fn expression_blocks<B: BitBlock>(alloc: Global) -> Result<Vec<ExpressionBlock<B>>, Fault> {
-    let mut blocks = Vec::with_capacity(alloc, BLOCKS)?;
-    for block in 0..BLOCKS {
-        let part = part_of(alloc, Graph::Chain, block)?;
-        let block = ExpressionBlock {
-            predecessors: part.sources,
-            computed: part.gained,
-            killed: part.lost,
-        };
-        blocks.push(block).map_err(AllocError::from)?;
+    fn solved(&self, alloc: Global) -> Result<Vec<BitSet<B>>, AllocError> {
+        match self {
+            Problem::Solve(blocks) => solve(alloc, blocks.as_slice()),
+            Problem::LiveVariables(blocks) => live_variables(alloc, blocks.as_slice()),
+            Problem::ReachingDefinitions(blocks) => reaching_definitions(alloc, blocks.as_slice()),
+            Problem::AvailableExpressions(blocks) => {
+                available_expressions(alloc, blocks.as_slice(), 5001)
+            }
+        }
     }
-    Ok(blocks)
 }
 
 fn problem_of<B: BitBlock>(alloc: Global, call: Call) -> Result<Problem<B>, Fault> {
-    Ok(match call {
-        Call::Solve => Problem::Solve(flow_blocks(alloc)?),
-        Call::LiveVariables => Problem::LiveVariables(variable_blocks(alloc)?),
-        Call::ReachingDefinitions => Problem::ReachingDefinitions(definition_blocks(alloc)?),
-        Call::AvailableExpressions => Problem::AvailableExpressions(expression_blocks(alloc)?),
-    })
-}
-
-fn solved<B: BitBlock>(alloc: Global, problem: &Problem<B>) -> Result<Vec<BitSet<B>>, Fault> {
-    Ok(match problem {
-        Problem::Solve(blocks) => solve(alloc, blocks.as_slice())?,
-        Problem::LiveVariables(blocks) => live_variables(alloc, blocks.as_slice())?,
-        Problem::ReachingDefinitions(blocks) => reaching_definitions(alloc, blocks.as_slice())?,
-        Problem::AvailableExpressions(blocks) => {
-            available_expressions(alloc, blocks.as_slice(), 5001)?
-        }
-    })
+    let mut problem = Problem::new(alloc, call);
+    for block in 0..BLOCKS {
+        problem.push(part_of(alloc, call.graph(), block)?)?;
+    }
+    Ok(problem)
 }
 
 // Whether the set of a block has the value of another one.
@@ -240,7 +227,7 @@ fn has_last(graph: Graph, block: usize) -> bool {
 }
 
 // Whether the set of a block is right, and works.
-fn is_solved<B: BitBlock>(graph: Graph, block: usize, set: &mut BitSet<B>) -> Result<bool, Fault> {
+fn is_solved<B: BitBlock>(graph: Graph, block: usize, set: &mut BitSet<B>) -> bool {
     let mut count = usize::from(has_last(graph, block));
     let mut is_right = set.contains(5000) == has_last(graph, block);
     for from in 0..BLOCKS {
@@ -248,41 +235,50 @@ fn is_solved<B: BitBlock>(graph: Graph, block: usize, set: &mut BitSet<B>) -> Re
         is_right &= set.contains(value_of(from)) == reaches;
         count = count.saturating_add(usize::from(reaches));
     }
-    Ok(is_right && set.count() == count && works(set)?)
+    is_right && set.count() == count && works(set)
 }
 
-fn are_solved<B: BitBlock>(graph: Graph, sets: &mut [BitSet<B>]) -> Result<bool, Fault> {
+fn are_solved<B: BitBlock>(graph: Graph, sets: &mut [BitSet<B>]) -> bool {
     let mut is_right = sets.len() == BLOCKS;
     for (block, set) in sets.iter_mut().enumerate() {
-        is_right &= is_solved(graph, block, set)?;
+        is_right &= is_solved(graph, block, set);
     }
-    Ok(is_right)
+    is_right
 }
 
-// The blocks are as before after the call: a further one solves them.
-fn tried<B: BitBlock>(sweep: &Sweep<'_>, row: &Row) -> Result<bool, Fault> {
-    let alloc = sweep.alloc();
-    let graph = row.call.graph();
-    let problem = problem_of::<B>(alloc, row.call)?;
-    sweep.begin(row.name, row.asks)?;
-    let sets = solved(alloc, &problem);
-    sweep.end(&sets)?;
-    let is_right = match sets {
-        Ok(mut sets) => are_solved(graph, sets.as_mut_slice())?,
-        Err(fault) => fault == Fault::Memory,
-    };
-    let mut again = solved(alloc, &problem)?;
-    let ends_right = are_solved(graph, again.as_mut_slice())?;
-    Ok(sweep.judge(is_right && ends_right, "other sets")?)
+// A problem, and the sets that solved it last.
+#[derive(Drop)]
+struct Solving<B: BitBlock> {
+    problem: Problem<B>,
+    sets: Vec<BitSet<B>>,
 }
 
-/// Whether each of these calls goes as it may.
-pub fn all<B: BitBlock>(sweep: &Sweep<'_>) -> Result<bool, Fault> {
-    let mut is_right = true;
-    for row in ROWS {
-        if sweep.has(row.name) {
-            is_right &= tried::<B>(sweep, row)?;
-        }
+impl<B: BitBlock> Trial<Call> for Solving<B> {
+    fn prepare(alloc: Global, call: &Call) -> Result<Self, Fault> {
+        let problem = problem_of(alloc, *call)?;
+        let sets = Vec::new(alloc);
+        Ok(Solving { problem, sets })
     }
-    Ok(is_right)
+
+    fn make(&mut self, alloc: Global, _call: &Call) -> Result<bool, Fault> {
+        self.sets = self.problem.solved(alloc)?;
+        Ok(true)
+    }
+
+    // The blocks are as before after the call: a further one solves them.
+    fn is_right(&mut self, alloc: Global, call: &Call, has_returned: bool) -> Result<bool, Fault> {
+        let graph = call.graph();
+        let is_right = if has_returned {
+            are_solved(graph, self.sets.as_mut_slice())
+        } else {
+            self.sets.is_empty()
+        };
+        self.sets = self.problem.solved(alloc)?;
+        Ok(is_right && are_solved(graph, self.sets.as_mut_slice()))
+    }
+}
+
+/// Makes these calls.
+pub fn all<B: BitBlock>(sweep: &mut Sweep<'_>) {
+    sweep.over::<Call, Solving<B>>(ROWS);
 }

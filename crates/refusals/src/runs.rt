@@ -1,201 +1,335 @@
-// Runs of commands, and of lines.
+// Runs of commands, and of the lines that spell them.
 use crate::asks::Ask;
 use crate::faults::Fault;
-use crate::sweep::Sweep;
-use bit_set::bit_vec::Merge;
-use bit_set::{BitBlock, BitSet};
-use bit_set_run::{Command, Numbers, Reply, RunFault, SetName, Table, run, run_lines};
+use crate::states::has_just;
+use crate::sweep::{Row, Sweep, Trial};
+use bit_set::BitBlock;
+use bit_set_commands::{append_reply, read_line};
+use bit_set_run::{Command, Reply, RunFault, SetName, Table, run, run_lines};
 use std::alloc::{AllocError, Global};
+use std::marker::PhantomData;
 
-// What is left of the sets `a`, `b` and `c` where the command of each place is refused, and at last behind them
-// all. Of the items of an extend a front may be in.
-const STANDING: &[&[&str]] = &[
-    &["{} {} {}", "{3} {} {}"],
-    &["{3, 447} {} {}"],
-    &["{3, 447} {5000} {}"],
-    &["{3, 447} {5000} {3, 447}"],
-    &["{3, 447, 5000} {5000} {3, 447}"],
-    &["{3, 447, 5000} {5000} {3, 447}"],
-    &["{3, 447, 5000} {5000} {3, 447}"],
-    &["{3, 447, 5000} {5000} {3, 447}"],
-    &["{3, 447, 5000} {} {3, 447, 5000}"],
-    &["{3, 447, 5000} {5000} {3, 447}"],
-    &["{3, 447, 5000} {5000} {3, 447}"],
-    &["{3, 447, 5000} {5000} {3, 447}"],
-    &["{3, 447, 5000} {5000} {3, 447}"],
+// The elements of the sets `a`, `b` and `c`.
+type Three = [&'static [usize]; 3];
+
+// A line, its reply, and what the sets may be where its command fails.
+struct Line {
+    text: &'static str,
+    reply: &'static str,
+    failed: &'static [Three],
+}
+
+// Of the items of an extend a front may be in.
+const LINES: &[Line] = &[
+    Line {
+        text: "extend a 3 447",
+        reply: "ok",
+        failed: &[[&[], &[], &[]], [&[3], &[], &[]]],
+    },
+    Line {
+        text: "insert b 5000",
+        reply: "true",
+        failed: &[[&[3, 447], &[], &[]]],
+    },
+    Line {
+        text: "copy a c",
+        reply: "ok",
+        failed: &[[&[3, 447], &[5000], &[]]],
+    },
+    Line {
+        text: "union_with a b",
+        reply: "ok",
+        failed: &[[&[3, 447], &[5000], &[3, 447]]],
+    },
+    Line {
+        text: "items a",
+        reply: "{3, 447, 5000}",
+        failed: &[UNITED],
+    },
+    Line {
+        text: "intersection a b",
+        reply: "{5000}",
+        failed: &[UNITED],
+    },
+    Line {
+        text: "rest iter a 1",
+        reply: "2 {447, 5000}",
+        failed: &[UNITED],
+    },
+    Line {
+        text: "append c b",
+        reply: "ok",
+        failed: &[UNITED],
+    },
+    Line {
+        text: "split_off c 448 b",
+        reply: "ok",
+        failed: &[[&[3, 447, 5000], &[], &[3, 447, 5000]]],
+    },
+    Line {
+        text: "reserve a 9000",
+        reply: "ok",
+        failed: &[UNITED],
+    },
+    Line {
+        text: "reserve_exact b 9000",
+        reply: "ok",
+        failed: &[UNITED],
+    },
+    Line {
+        text: "shrink a",
+        reply: "ok",
+        failed: &[UNITED],
+    },
 ];
 
-// The memory that the commands may ask for, one after another: the sets, the numbers in three of the replies, and the
-// vector of the replies, which doubles twice.
-const ASKS: &[Ask] = &[
-    Ask::Grown(4),
-    Ask::Grown(448),
-    Ask::Grown(5001),
-    Ask::Exact(448),
-    Ask::Grown(5001),
-    Ask::Other(3, 3 * 32),
-    Ask::Grown(5001),
-    Ask::Exact(5001),
-    Ask::Grown(9000),
-    Ask::Exact(9000),
-    Ask::Exact(5001),
-    Ask::Other(3, (4 + 8 + 16) * 64),
+// What they are behind the union, and at last.
+const UNITED: Three = [&[3, 447, 5000], &[5000], &[3, 447]];
+
+// The memory that the commands may ask for, one after another, and then some more: the sets, the numbers in three of the
+// replies, and the vector of the replies, which doubles twice.
+macro_rules! asks_of_commands {
+    ($($more:expr),*) => {
+        &[
+            Ask::Grown(4),
+            Ask::Grown(448),
+            Ask::Grown(5001),
+            Ask::Exact(448),
+            Ask::Grown(5001),
+            Ask::Other(3, 3 * 32),
+            Ask::Grown(5001),
+            Ask::Exact(5001),
+            Ask::Grown(9000),
+            Ask::Exact(9000),
+            Ask::Exact(5001),
+            Ask::Other(3, (4 + 8 + 16) * 64),
+            $($more),*
+        ]
+    };
+}
+
+#[derive(Clone, Copy)]
+enum RunCall {
+    OfLines,
+    // A thousand that need no memory, with capacity for their replies.
+    Thousand,
+}
+
+const RUNS: &[Row<RunCall>] = &[
+    Row {
+        name: "run",
+        asks: asks_of_commands!(),
+        call: RunCall::OfLines,
+    },
+    Row {
+        name: "run_thousand_within",
+        asks: &[],
+        call: RunCall::Thousand,
+    },
 ];
 
-// What the lines may ask for past that: the input, the two numbers of a line, and the output, which doubles from 8
-// bytes on.
-const LINES_ASKS: &[Ask] = &[
-    Ask::Other(1, 2 * 170),
-    Ask::Other(1, 32),
-    Ask::Other(5, 8 + 16 + 32 + 64 + 128),
-];
+// Past that the lines may ask for the input, the two numbers of a line, and the output, which doubles from 8 bytes on.
+const RUN_LINES: &[Row<()>] = &[Row {
+    name: "run_lines",
+    asks: asks_of_commands!(
+        Ask::Other(1, 2 * 170),
+        Ask::Other(1, 32),
+        Ask::Other(5, 8 + 16 + 32 + 64 + 128)
+    ),
+    call: (),
+}];
 
-// The replies to the commands.
-const REPLIES: &[&str] = &[
-    "Done",
-    "Truth(true)",
-    "Done",
-    "Done",
-    "Items(Numbers { items: [3, 447, 5000] })",
-    "Items(Numbers { items: [5000] })",
-    "Rest(2, Numbers { items: [447, 5000] })",
-    "Done",
-    "Done",
-    "Done",
-    "Done",
-    "Done",
-];
+// Commands on a table, the replies to those that were executed, and how many these are.
+#[derive(Drop)]
+struct Running<B: BitBlock> {
+    commands: Vec<Command>,
+    table: Table<B>,
+    replies: Vec<Reply>,
+    done: usize,
+}
 
-fn commands(alloc: Global, a: SetName, b: SetName, c: SetName) -> Result<Vec<Command>, AllocError> {
-    let mut items = Vec::new(alloc);
-    items.extend_from_slice(&[3, 447])?;
-    let mut commands = Vec::with_capacity(alloc, REPLIES.len())?;
-    commands.push(Command::Extend(a, Numbers::from_vec(items)))?;
-    commands.push(Command::Insert(b, 5000))?;
-    commands.push(Command::Copy(a, c))?;
-    commands.push(Command::InPlace(Merge::Union, a, b))?;
-    commands.push(Command::Items(a))?;
-    commands.push(Command::Walk(Merge::Intersection, a, b))?;
-    commands.push(Command::RestIter(a, 1))?;
-    commands.push(Command::Append(c, b))?;
-    commands.push(Command::SplitOff(c, 448, b))?;
-    commands.push(Command::Reserve(a, 9000))?;
-    commands.push(Command::ReserveExact(b, 9000))?;
-    commands.push(Command::Shrink(a))?;
+// The commands that the lines spell.
+fn commands(alloc: Global) -> Result<Vec<Command>, AllocError> {
+    let mut commands = Vec::new(alloc);
+    for line in LINES {
+        if let Ok(command) = read_line(alloc, line.text.as_bytes())? {
+            commands.push(command)?;
+        }
+    }
     Ok(commands)
+}
+
+// Whether the sets are these.
+fn are<B: BitBlock>(table: &Table<B>, wanted: &Three) -> bool {
+    let mut is_right = true;
+    for (letter, elements) in b"abc".iter().zip(wanted) {
+        is_right &= match SetName::from_letter(*letter) {
+            Some(name) => has_just(table.get(name), elements, usize::MAX),
+            None => false,
+        };
+    }
+    is_right
+}
+
+// Whether the sets may be so where the command of this place fails, or behind them all.
+fn may_stand<B: BitBlock>(table: &Table<B>, place: usize) -> bool {
+    match LINES.get(place) {
+        Some(line) => line.failed.iter().any(|wanted| are(table, wanted)),
+        None => are(table, &UNITED),
+    }
+}
+
+// The lines of the replies.
+fn spelled(alloc: Global, replies: &[Reply]) -> Result<Vec<u8>, AllocError> {
+    let mut out = Vec::new(alloc);
+    for reply in replies {
+        append_reply(&mut out, reply)?;
+        out.push(b'\n')?;
+    }
+    Ok(out)
+}
+
+// The lines that reply to the first of the lines, so many.
+fn output(alloc: Global, count: usize) -> Result<Vec<u8>, AllocError> {
+    let mut out = Vec::new(alloc);
+    for line in LINES.iter().take(count) {
+        out.extend_from_slice(line.reply.as_bytes())?;
+        out.push(b'\n')?;
+    }
+    Ok(out)
 }
 
 // Whether so many commands have just their replies.
-fn are_right(alloc: Global, count: usize, replies: &[Reply]) -> Result<bool, AllocError> {
-    let mut is_right = replies.len() == count;
-    for (reply, wanted) in replies.iter().zip(REPLIES) {
-        let text = format!(in alloc; "{reply:?}")?;
-        is_right &= text.as_str() == *wanted;
+fn are_replies(alloc: Global, count: usize, replies: &[Reply]) -> Result<bool, AllocError> {
+    let found = spelled(alloc, replies)?;
+    let wanted = output(alloc, count)?;
+    Ok(replies.len() == count && found.as_slice() == wanted.as_slice())
+}
+
+impl<B: BitBlock> Running<B> {
+    fn new(alloc: Global, commands: Vec<Command>, replies: Vec<Reply>) -> Self {
+        let table = Table::new(alloc);
+        let done = 0;
+        Running {
+            commands,
+            table,
+            replies,
+            done,
+        }
     }
-    Ok(is_right)
-}
 
-// The elements of three sets.
-fn shown<B: BitBlock>(
-    alloc: Global,
-    a: &BitSet<B>,
-    b: &BitSet<B>,
-    c: &BitSet<B>,
-) -> Result<String, AllocError> {
-    format!(in alloc; "{a} {b} {c}")
-}
+    fn run(&mut self, alloc: Global) -> Result<bool, Fault> {
+        match run(alloc, &mut self.table, &self.commands, &mut self.replies) {
+            Ok(()) => {
+                self.done = self.commands.len();
+                Ok(true)
+            }
+            Err(RunFault::Memory(place)) => {
+                self.done = place;
+                Err(Fault::Memory)
+            }
+        }
+    }
 
-// Whether these sets may be where the command of this place is refused, or behind them all.
-fn may_stand(place: usize, now: &str) -> bool {
-    match STANDING.get(place) {
-        Some(standing) => standing.contains(&now),
-        None => false,
+    // Whether what was executed has its replies and left the sets as it must, and one more command is executed.
+    fn is_right_so_far(&mut self, alloc: Global) -> Result<bool, AllocError> {
+        let are_right = are_replies(alloc, self.done, self.replies.as_slice())?;
+        Ok(are_right && may_stand(&self.table, self.done) && self.goes_on(alloc))
+    }
+
+    // Whether one more command is executed.
+    fn goes_on(&mut self, alloc: Global) -> bool {
+        match SetName::from_letter(b'b') {
+            Some(name) => {
+                let command = [Command::Insert(name, 9)];
+                run(alloc, &mut self.table, &command, &mut self.replies).is_ok()
+            }
+            None => false,
+        }
     }
 }
 
-fn tried_run<B: BitBlock>(sweep: &Sweep<'_>, names: [SetName; 3]) -> Result<bool, Fault> {
-    let alloc = sweep.alloc();
-    let [a, b, c] = names;
-    let commands = commands(alloc, a, b, c)?;
-    let mut table: Table<B> = Table::new(alloc);
-    let mut replies = Vec::new(alloc);
-    sweep.begin("run", ASKS)?;
-    let ended = run(alloc, &mut table, &commands, &mut replies);
-    sweep.end(&ended.map_err(|_| Fault::Memory))?;
-    let place = match ended {
-        Ok(()) => commands.len(),
-        Err(RunFault::Memory(place)) => place,
-    };
-    let now = shown(alloc, table.get(a), table.get(b), table.get(c))?;
-    let is_right = may_stand(place, now.as_str()) && are_right(alloc, place, &replies)?;
-    let works = run(alloc, &mut table, &[Command::Insert(b, 9)], &mut replies).is_ok();
-    Ok(sweep.judge(is_right && works, now.as_str())?)
-}
-
-const LINES: &[u8] =
-    b"extend a 3 447\ninsert b 5000\ncopy a c\nunion_with a b\nitems a\nintersection a b\nrest iter a 1\nappend c b\nsplit_off c 448 b\nreserve a 9000\nreserve_exact b 9000\nshrink a\n";
-
-const OUTPUT: &[u8] =
-    b"ok\ntrue\nok\nok\n{3, 447, 5000}\n{5000}\n2 {447, 5000}\nok\nok\nok\nok\nok\n";
-
-fn tried_lines<B: BitBlock>(sweep: &Sweep<'_>) -> Result<bool, Fault> {
-    let alloc = sweep.alloc();
-    let mut reader = LINES;
-    // It takes the whole output without memory.
-    let mut written: Vec<u8> = Vec::with_capacity(alloc, OUTPUT.len())?;
-    let mut asks = Vec::new(alloc);
-    asks.extend_from_slice(ASKS)?;
-    asks.extend_from_slice(LINES_ASKS)?;
-    sweep.begin("run_lines", asks.as_slice())?;
-    let ended = run_lines::<B, _, _>(alloc, &mut reader, &mut written);
-    let ended = ended.map_err(Fault::from);
-    sweep.end(&ended)?;
-    let is_right = match ended {
-        Ok(()) => written.as_slice() == OUTPUT,
-        Err(Fault::Memory) => written.is_empty(),
-        Err(Fault::Other) => false,
-    };
-    let now = format!(in alloc; "{} bytes are written", written.len())?;
-    Ok(sweep.judge(is_right, now.as_str())?)
-}
-
-fn thousand(alloc: Global, name: SetName) -> Result<Vec<Command>, AllocError> {
-    let mut commands = Vec::with_capacity(alloc, 1000)?;
+fn thousand_commands(alloc: Global) -> Result<Vec<Command>, AllocError> {
+    let mut commands = Vec::new(alloc);
     for n in 0..1000 {
-        commands.push(Command::Contains(name, n))?;
+        if let Some(name) = SetName::from_letter(b'a') {
+            commands.push(Command::Contains(name, n))?;
+        }
     }
     Ok(commands)
 }
 
-// A thousand commands that need no memory, with capacity for their replies.
-fn tried_thousand<B: BitBlock>(sweep: &Sweep<'_>, name: SetName) -> Result<bool, Fault> {
-    let alloc = sweep.alloc();
-    let commands = thousand(alloc, name)?;
-    let mut table: Table<B> = Table::new(alloc);
-    let mut replies = Vec::with_capacity(alloc, 1000)?;
-    sweep.begin("run_thousand_within", &[])?;
-    let ended = run(alloc, &mut table, &commands, &mut replies);
-    sweep.end(&ended.map_err(|_| Fault::Memory))?;
-    let is_right = ended.is_ok() && replies.len() == 1000;
-    Ok(sweep.judge(is_right, "another number of replies")?)
+impl<B: BitBlock> Trial<RunCall> for Running<B> {
+    fn prepare(alloc: Global, call: &RunCall) -> Result<Self, Fault> {
+        let (commands, capacity) = match call {
+            RunCall::OfLines => (commands(alloc)?, 0),
+            RunCall::Thousand => (thousand_commands(alloc)?, 1000),
+        };
+        let replies = Vec::with_capacity(alloc, capacity)?;
+        Ok(Running::new(alloc, commands, replies))
+    }
+
+    fn make(&mut self, alloc: Global, _call: &RunCall) -> Result<bool, Fault> {
+        self.run(alloc)
+    }
+
+    fn is_right(
+        &mut self,
+        alloc: Global,
+        call: &RunCall,
+        has_returned: bool,
+    ) -> Result<bool, Fault> {
+        let is_done = has_returned == (self.done == self.commands.len());
+        match call {
+            RunCall::OfLines => Ok(is_done && self.is_right_so_far(alloc)?),
+            RunCall::Thousand => Ok(is_done && self.replies.len() == 1000),
+        }
+    }
 }
 
-/// Whether each goes as it may.
-pub fn all<B: BitBlock>(sweep: &Sweep<'_>) -> Result<bool, Fault> {
-    let mut is_right = true;
-    if let Some(a) = SetName::from_letter(b'a')
-        && let Some(b) = SetName::from_letter(b'b')
-        && let Some(c) = SetName::from_letter(b'c')
-    {
-        if sweep.has("run") {
-            is_right &= tried_run::<B>(sweep, [a, b, c])?;
-        }
-        if sweep.has("run_thousand_within") {
-            is_right &= tried_thousand::<B>(sweep, a)?;
-        }
+// Lines, and what is written, which takes the whole output without memory.
+#[derive(Drop)]
+struct Lines<B: BitBlock> {
+    input: Vec<u8>,
+    written: Vec<u8>,
+    blocks: PhantomData<B>,
+}
+
+fn input(alloc: Global) -> Result<Vec<u8>, AllocError> {
+    let mut input = Vec::new(alloc);
+    for line in LINES {
+        input.extend_from_slice(line.text.as_bytes())?;
+        input.push(b'\n')?;
     }
-    if sweep.has("run_lines") {
-        is_right &= tried_lines::<B>(sweep)?;
+    Ok(input)
+}
+
+impl<B: BitBlock> Trial<()> for Lines<B> {
+    fn prepare(alloc: Global, _call: &()) -> Result<Self, Fault> {
+        let input = input(alloc)?;
+        let written = Vec::with_capacity(alloc, output(alloc, LINES.len())?.len())?;
+        let blocks = PhantomData;
+        Ok(Lines {
+            input,
+            written,
+            blocks,
+        })
     }
-    Ok(is_right)
+
+    fn make(&mut self, alloc: Global, _call: &()) -> Result<bool, Fault> {
+        let mut reader = self.input.as_slice();
+        run_lines::<B, _, _>(alloc, &mut reader, &mut self.written)?;
+        Ok(true)
+    }
+
+    fn is_right(&mut self, alloc: Global, _call: &(), has_returned: bool) -> Result<bool, Fault> {
+        let count = if has_returned { LINES.len() } else { 0 };
+        Ok(output(alloc, count)?.as_slice() == self.written.as_slice())
+    }
+}
+
+/// Makes these calls.
+pub fn all<B: BitBlock>(sweep: &mut Sweep<'_>) {
+    sweep.over::<RunCall, Running<B>>(RUNS);
+    sweep.over::<(), Lines<B>>(RUN_LINES);
 }

@@ -1,10 +1,11 @@
 // Calls of the library of finite automata.
 use crate::asks::Ask;
 use crate::faults::Fault;
-use crate::sweep::Sweep;
+use crate::sweep::{Row, Sweep, Trial};
 use automata::{Dfa, Nfa, accepts, determinize, equivalent};
 use bit_set::{BitBlock, BitSet};
 use std::alloc::{AllocError, Global};
+use std::mem;
 
 // Words, of which the automaton over two symbols below accepts those whose third symbol from the end is 1, or where it
 // accepts in state 2, the second.
@@ -12,23 +13,38 @@ const THIRD: &[usize] = &[0, 1, 0, 0];
 
 const SECOND: &[usize] = &[0, 0, 1, 0];
 
-// A word of so many symbols, long or short, and the memory that the call may ask for: that of its two sets.
-struct WordRow {
-    name: &'static str,
-    length: usize,
-    asks: &'static [Ask],
+#[derive(Clone, Copy)]
+enum Call {
+    // A word of so many symbols, for whose runs there are two sets.
+    Accepts(usize),
+    Determinize,
 }
 
-const WORDS: &[WordRow] = &[
-    WordRow {
+// Of determinizing: two copies of each of eight sets, of which the first is {0}, and a spare set; the accepting states;
+// the list of the sets, of 56 bytes each, and the sixteen numbers of the table, two lists that double; and a leaf of the
+// map from sets to their numbers, with places for fifteen of both and a word for how many there are.
+const ROWS: &[Row<Call>] = &[
+    Row {
         name: "accepts",
-        length: 4,
         asks: &[Ask::Lists(2, 5001)],
+        call: Call::Accepts(4),
     },
-    WordRow {
+    Row {
         name: "accepts_thousand",
-        length: 1000,
         asks: &[Ask::Lists(2, 5001)],
+        call: Call::Accepts(1000),
+    },
+    Row {
+        name: "determinize",
+        asks: &[
+            Ask::Lists(2, 1),
+            Ask::Lists(15, 5001),
+            Ask::Exact(8),
+            Ask::Other(2, (4 + 8) * 56),
+            Ask::Other(3, (4 + 8 + 16) * 8),
+            Ask::Other(1, 15 * (56 + 8) + 8),
+        ],
+        call: Call::Determinize,
     },
 ];
 
@@ -43,17 +59,24 @@ fn row<B: BitBlock>(alloc: Global, first: &[usize]) -> Result<Vec<BitSet<B>>, Fa
 }
 
 fn moves<B: BitBlock>(alloc: Global) -> Result<Vec<Vec<BitSet<B>>>, Fault> {
+    let firsts: [&[usize]; 2] = [&[0], &[0, 1]];
     let mut moves = Vec::new(alloc);
-    moves.push(row(alloc, &[0])?).map_err(AllocError::from)?;
-    moves.push(row(alloc, &[0, 1])?).map_err(AllocError::from)?;
+    for first in firsts {
+        moves.push(row(alloc, first)?).map_err(AllocError::from)?;
+    }
     Ok(moves)
+}
+
+fn set_of<B: BitBlock>(alloc: Global, state: usize) -> Result<BitSet<B>, Fault> {
+    Ok(BitSet::from_iter(alloc, [state].into_iter())?)
 }
 
 // The automaton that accepts in this state.
 fn automaton<B: BitBlock>(alloc: Global, accepting: usize) -> Result<Nfa<B>, Fault> {
-    let starts = BitSet::from_iter(alloc, [0].into_iter())?;
-    let accepting = BitSet::from_iter(alloc, [accepting].into_iter())?;
-    Ok(Nfa::new(moves(alloc)?, starts, accepting))
+    let moves = moves(alloc)?;
+    let starts = set_of(alloc, 0)?;
+    let accepting = set_of(alloc, accepting)?;
+    Ok(Nfa::new(moves, starts, accepting))
 }
 
 // A word of so many symbols, of which the third from the end alone is 1.
@@ -75,21 +98,6 @@ fn is_whole<B: BitBlock>(alloc: Global, nfa: &Nfa<B>) -> Result<bool, Fault> {
     Ok(accepted(alloc, nfa, THIRD)? && !accepted(alloc, nfa, SECOND)?)
 }
 
-fn try_word<B: BitBlock>(sweep: &Sweep<'_>, row: &WordRow) -> Result<bool, Fault> {
-    let alloc = sweep.alloc();
-    let nfa = automaton::<B>(alloc, 5000)?;
-    let word = word(alloc, row.length)?;
-    sweep.begin(row.name, row.asks)?;
-    let found = accepted(alloc, &nfa, word.as_slice());
-    sweep.end(&found)?;
-    let is_right = match found {
-        Ok(is) => is,
-        Err(fault) => fault == Fault::Memory,
-    };
-    let ends_right = is_whole(alloc, &nfa)?;
-    Ok(sweep.judge(is_right && ends_right, "another result")?)
-}
-
 fn determinized<B: BitBlock>(alloc: Global, nfa: &Nfa<B>) -> Result<Dfa<B>, Fault> {
     Ok(determinize(alloc, nfa, 8)?)
 }
@@ -99,115 +107,155 @@ fn is_table<B: BitBlock>(dfa: &Dfa<B>) -> bool {
     dfa.states() == 8 && dfa.accepts(THIRD) && !dfa.accepts(SECOND)
 }
 
-// Two copies of each of eight sets, the map that has one of them, the list of the others, the table of eight states by
-// two symbols, the accepting states and a spare set.
-const DETERMINIZE: &[Ask] = &[
-    Ask::Lists(17, 5001),
-    Ask::Exact(8),
-    Ask::Other(2, (4 + 8) * 56),
-    Ask::Other(3, (4 + 8 + 16) * 8),
-    Ask::Other(1, 1024),
-];
-
-fn try_determinize<B: BitBlock>(sweep: &Sweep<'_>) -> Result<bool, Fault> {
-    let alloc = sweep.alloc();
-    let nfa = automaton::<B>(alloc, 5000)?;
-    sweep.begin("determinize", DETERMINIZE)?;
-    let made = determinized(alloc, &nfa);
-    sweep.end(&made)?;
-    let is_right = match made {
-        Ok(dfa) => is_table(&dfa),
-        Err(fault) => fault == Fault::Memory,
-    };
-    let ends_right = is_whole(alloc, &nfa)?;
-    Ok(sweep.judge(is_right && ends_right, "another table")?)
+// An automaton, a word, and the table that was made last.
+#[derive(Drop)]
+struct Machine<B: BitBlock> {
+    nfa: Nfa<B>,
+    word: Vec<usize>,
+    made: Option<Dfa<B>>,
 }
 
-// Two automata, by the state in which the second accepts; the memory that the call may ask for, a bit for each of nine
-// by nine pairs, the pairs that are met and a word; and the word that is found.
-struct PairRow {
-    name: &'static str,
-    accepting: usize,
-    asks: &'static [Ask],
-    found: &'static [usize],
+impl<B: BitBlock> Trial<Call> for Machine<B> {
+    fn prepare(alloc: Global, call: &Call) -> Result<Self, Fault> {
+        let length = match call {
+            Call::Accepts(length) => *length,
+            Call::Determinize => 0,
+        };
+        let nfa = automaton(alloc, 5000)?;
+        let word = word(alloc, length)?;
+        let made = None;
+        Ok(Machine { nfa, word, made })
+    }
+
+    fn make(&mut self, alloc: Global, call: &Call) -> Result<bool, Fault> {
+        match call {
+            Call::Accepts(_) => accepted(alloc, &self.nfa, self.word.as_slice()),
+            Call::Determinize => {
+                self.made = Some(determinized(alloc, &self.nfa)?);
+                Ok(true)
+            }
+        }
+    }
+
+    fn is_right(&mut self, alloc: Global, call: &Call, has_returned: bool) -> Result<bool, Fault> {
+        let is_right = match (&self.made, call) {
+            (Some(dfa), _) => has_returned && is_table(dfa),
+            (None, Call::Accepts(_)) => true,
+            (None, Call::Determinize) => !has_returned,
+        };
+        Ok(is_whole(alloc, &self.nfa)? && is_right)
+    }
 }
 
-const PAIRS: &[PairRow] = &[
-    PairRow {
+// Two automata, by the state in which the second accepts, and the word that is found. The memory that the call may ask
+// for is a bit for each of nine by nine pairs, four words for each pair that is met, and the word. Of equal automata
+// eight pairs are met, in a list that doubles once, and else those of the words `1`, `10`, `11` and the empty one.
+const PAIRS: &[Row<(usize, &[usize])>] = &[
+    Row {
         name: "equivalent",
-        accepting: 5000,
         asks: &[Ask::Exact(81), Ask::Other(2, (4 + 8) * 32)],
-        found: &[],
+        call: (5000, &[]),
     },
-    PairRow {
+    Row {
         name: "equivalent_differ",
-        accepting: 2,
-        asks: &[
-            Ask::Exact(81),
-            Ask::Other(2, (4 + 8) * 32),
-            Ask::Other(1, 32),
-        ],
-        found: &[1, 0],
+        asks: &[Ask::Exact(81), Ask::Other(1, 4 * 32), Ask::Other(1, 4 * 8)],
+        call: (2, &[1, 0]),
     },
 ];
+
+// Two automata, and the word that was found last.
+#[derive(Drop)]
+struct Comparing<B: BitBlock> {
+    a: Dfa<B>,
+    b: Dfa<B>,
+    found: Vec<usize>,
+}
 
 // A word that just one of the two accepts, or an empty list where there is none; no two of these accept the empty word.
-fn compared<B: BitBlock>(alloc: Global, a: &Dfa<B>, b: &Dfa<B>) -> Result<Vec<usize>, Fault> {
+fn compared<B: BitBlock>(alloc: Global, a: &Dfa<B>, b: &Dfa<B>) -> Result<Vec<usize>, AllocError> {
     match equivalent(alloc, a, b)? {
         Some(word) => Ok(word),
         None => Ok(Vec::new(alloc)),
     }
 }
 
-fn try_pair<B: BitBlock>(sweep: &Sweep<'_>, row: &PairRow) -> Result<bool, Fault> {
-    let alloc = sweep.alloc();
-    let a = determinized::<B>(alloc, &automaton(alloc, 5000)?)?;
-    let b = determinized::<B>(alloc, &automaton(alloc, row.accepting)?)?;
-    sweep.begin(row.name, row.asks)?;
-    let found = compared(alloc, &a, &b);
-    sweep.end(&found)?;
-    let is_right = match found {
-        Ok(word) => word.as_slice() == row.found,
-        Err(fault) => fault == Fault::Memory,
-    };
-    let ends_right = is_table(&a) && b.accepts(SECOND) != b.accepts(THIRD);
-    Ok(sweep.judge(is_right && ends_right, "another word")?)
+// That which accepts in this state, as a table.
+fn table<B: BitBlock>(alloc: Global, accepting: usize) -> Result<Dfa<B>, Fault> {
+    let nfa = automaton(alloc, accepting)?;
+    determinized(alloc, &nfa)
 }
 
-fn try_quiet<B: BitBlock>(sweep: &Sweep<'_>) -> Result<bool, Fault> {
-    let alloc = sweep.alloc();
-    let nfa = automaton::<B>(alloc, 5000)?;
-    let dfa = determinized(alloc, &nfa)?;
-    let moves = moves::<B>(alloc)?;
-    sweep.begin("automata", &[])?;
-    let nfa = Nfa::new(
-        moves,
-        BitSet::new_general(alloc),
-        BitSet::new_general(alloc),
-    );
-    let is_right = is_table(&dfa) && dfa.symbols() == 2 && nfa.symbols() == 2;
-    sweep.end(&Ok(()))?;
-    Ok(sweep.judge(is_right && !accepted(alloc, &nfa, THIRD)?, "other results")?)
+impl<'a, B: BitBlock> Trial<(usize, &'a [usize])> for Comparing<B> {
+    fn prepare(alloc: Global, call: &(usize, &'a [usize])) -> Result<Self, Fault> {
+        let a = table(alloc, 5000)?;
+        let b = table(alloc, call.0)?;
+        let found = Vec::new(alloc);
+        Ok(Comparing { a, b, found })
+    }
+
+    fn make(&mut self, alloc: Global, call: &(usize, &'a [usize])) -> Result<bool, Fault> {
+        self.found = compared(alloc, &self.a, &self.b)?;
+        Ok(self.found.as_slice() == call.1)
+    }
+
+    fn is_right(
+        &mut self,
+        _alloc: Global,
+        _call: &(usize, &'a [usize]),
+        has_returned: bool,
+    ) -> Result<bool, Fault> {
+        let ends_right = is_table(&self.a) && self.b.accepts(SECOND) != self.b.accepts(THIRD);
+        Ok(ends_right && (has_returned || self.found.is_empty()))
+    }
 }
 
-/// Whether each of these calls goes as it may.
-pub fn all<B: BitBlock>(sweep: &Sweep<'_>) -> Result<bool, Fault> {
-    let mut is_right = true;
-    for row in WORDS {
-        if sweep.has(row.name) {
-            is_right &= try_word::<B>(sweep, row)?;
+const MAKING: &[Row<()>] = &[Row {
+    name: "automata",
+    asks: &[],
+    call: (),
+}];
+
+// Moves, of which an automaton is made that starts nowhere and accepts nowhere, and a table.
+#[derive(Drop)]
+struct Making<B: BitBlock> {
+    moves: Vec<Vec<BitSet<B>>>,
+    made: Option<Nfa<B>>,
+    table: Dfa<B>,
+}
+
+// The automaton of these moves that starts nowhere.
+fn idle<B: BitBlock>(alloc: Global, moves: Vec<Vec<BitSet<B>>>) -> Nfa<B> {
+    let starts = BitSet::new_general(alloc);
+    let accepting = BitSet::new_general(alloc);
+    Nfa::new(moves, starts, accepting)
+}
+
+impl<B: BitBlock> Trial<()> for Making<B> {
+    fn prepare(alloc: Global, _call: &()) -> Result<Self, Fault> {
+        let moves = moves(alloc)?;
+        let table = table(alloc, 5000)?;
+        let made = None;
+        Ok(Making { moves, made, table })
+    }
+
+    fn make(&mut self, alloc: Global, _call: &()) -> Result<bool, Fault> {
+        let nfa = idle(alloc, mem::replace(&mut self.moves, Vec::new(alloc)));
+        let symbols = [nfa.symbols(), self.table.symbols()];
+        self.made = Some(nfa);
+        Ok(symbols == [2, 2] && is_table(&self.table))
+    }
+
+    fn is_right(&mut self, alloc: Global, _call: &(), _returned: bool) -> Result<bool, Fault> {
+        match &self.made {
+            Some(nfa) => Ok(!accepted(alloc, nfa, THIRD)?),
+            None => Ok(false),
         }
     }
-    if sweep.has("determinize") {
-        is_right &= try_determinize::<B>(sweep)?;
-    }
-    for row in PAIRS {
-        if sweep.has(row.name) {
-            is_right &= try_pair::<B>(sweep, row)?;
-        }
-    }
-    if sweep.has("automata") {
-        is_right &= try_quiet::<B>(sweep)?;
-    }
-    Ok(is_right)
+}
+
+/// Makes these calls.
+pub fn all<B: BitBlock>(sweep: &mut Sweep<'_>) {
+    sweep.over::<Call, Machine<B>>(ROWS);
+    sweep.over::<(usize, &[usize]), Comparing<B>>(PAIRS);
+    sweep.over::<(), Making<B>>(MAKING);
 }

@@ -4,52 +4,77 @@ use crate::faults::Fault;
 use std::alloc::Global;
 use std::io;
 
-/// A part of the calls, and where it is said how they go: those over one type of blocks, or just one of them.
+/// A call under a name of its own, the memory that it may ask for, and what else there is to know of it.
+pub struct Row<C> {
+    pub name: &'static str,
+    pub asks: &'static [Ask],
+    pub call: C,
+}
+
+/// What calls of a table are made on.
+pub trait Trial<C>: Drop {
+    /// What this call is made on.
+    fn prepare(alloc: Global, call: &C) -> Result<Self, Fault>;
+
+    /// Makes the call. Whether its result is right, where it has one.
+    fn make(&mut self, alloc: Global, call: &C) -> Result<bool, Fault>;
+
+    /// Whether all is as it may be where the call returned, or where it failed.
+    fn is_right(&mut self, alloc: Global, call: &C, has_returned: bool) -> Result<bool, Fault>;
+}
+
+/// Which calls are made, those over one type of blocks after another, or just one of them; where it is said how they
+/// go; and how they went.
 #[derive(Clone, Copy)]
 pub struct Sweep<'a> {
     rt: &'a HostRuntime,
-    block: &'static str,
+    block: &'a str,
     width: usize,
     name: Option<&'a str>,
+    is_right: bool,
+    is_whole: bool,
 }
 
 impl<'a> Sweep<'a> {
-    /// The call of this name, or all of them where there is none, over blocks of this type, which have `width` bits.
-    pub fn new(
-        rt: &'a HostRuntime,
-        block: &'static str,
-        width: usize,
-        name: Option<&'a str>,
-    ) -> Self {
+    /// The call of this name, or all of them where there is none.
+    pub fn new(rt: &'a HostRuntime, name: Option<&'a str>) -> Self {
         Sweep {
             rt,
-            block,
-            width,
+            block: "",
+            width: 0,
             name,
+            is_right: true,
+            is_whole: true,
         }
     }
 
-    /// The allocator.
-    pub fn alloc(&self) -> Global {
-        self.rt.alloc()
+    /// From here on the calls are over blocks of this type, which have `width` bits.
+    pub fn go_over(&mut self, block: &'a str, width: usize) {
+        self.block = block;
+        self.width = width;
     }
 
-    /// How many bits a block has.
-    pub fn width(&self) -> usize {
-        self.width
+    /// Whether each call went as it may.
+    pub fn is_right(&self) -> bool {
+        self.is_right
     }
 
-    /// Whether the call of this name is one of them.
-    pub fn has(&self, name: &str) -> bool {
+    /// Whether each call was made.
+    pub fn is_whole(&self) -> bool {
+        self.is_whole
+    }
+
+    // Whether the call of this name is one of them.
+    fn has(&self, name: &str) -> bool {
         match self.name {
             Some(wanted) => wanted == name,
             None => true,
         }
     }
 
-    /// Says which call comes next, and how much memory it may ask for. What is printed here is one write, and
-    /// `tests/shim.c` counts the requests for memory from it to the next.
-    pub fn begin(&self, name: &str, asks: &[Ask]) -> io::Result<()> {
+    // Says which call comes next, and how much memory it may ask for. What is printed here is one write, and
+    // `tests/shim.c` counts the requests for memory from it to the next.
+    fn begin(&self, name: &str, asks: &[Ask]) -> io::Result<()> {
         let block = self.block;
         if asks.is_empty() {
             return print!(self.rt; "{block} {name} without memory: ");
@@ -61,22 +86,52 @@ impl<'a> Sweep<'a> {
         )
     }
 
-    /// Says how the call ended, before anything else is done.
-    pub fn end<T>(&self, ended: &Result<T, Fault>) -> io::Result<()> {
+    // Makes the call between two writes, of which the second says how it ended, before anything else is done.
+    fn make<C, T: Trial<C>>(
+        &self,
+        row: &Row<C>,
+        trial: &mut T,
+    ) -> Result<Result<bool, Fault>, Fault> {
+        self.begin(row.name, row.asks)?;
+        let ended = trial.make(self.rt.alloc(), &row.call);
         self.rt.print(match ended {
             Ok(_) => "returned",
-            Err(Fault::Memory) => "refused",
-            Err(Fault::Other) => "failed",
+            Err(_) => "failed",
+        })?;
+        Ok(ended)
+    }
+
+    // Makes the call. What is wrong of how it went, or nothing.
+    fn judged<C, T: Trial<C>>(&self, row: &Row<C>, trial: &mut T) -> Result<&'static str, Fault> {
+        let ended = self.make(row, trial)?;
+        let has_returned = ended.is_ok();
+        if !trial.is_right(self.rt.alloc(), &row.call, has_returned)? {
+            return Ok(", WRONG state");
+        }
+        Ok(match ended {
+            Ok(true) => "",
+            Ok(false) => ", WRONG result",
+            Err(Fault::Memory) if !row.asks.is_empty() => "",
+            Err(_) => ", WRONG failure",
         })
     }
 
-    /// Says whether that is as it may be, or else what is; and returns it.
-    pub fn judge(&self, is_right: bool, now: &str) -> io::Result<bool> {
-        if is_right {
-            self.rt.println("")?;
-        } else {
-            println!(self.rt; ", WRONG: {now}")?;
+    // Makes the call, and says what is wrong of how it went. Whether nothing is.
+    fn tried<C, T: Trial<C>>(&self, row: &Row<C>) -> Result<bool, Fault> {
+        let mut trial = T::prepare(self.rt.alloc(), &row.call)?;
+        let wrong = self.judged(row, &mut trial)?;
+        self.rt.println(wrong)?;
+        Ok(wrong.is_empty())
+    }
+
+    /// Makes the calls of a table.
+    pub fn over<C, T: Trial<C>>(&mut self, rows: &[Row<C>]) {
+        for row in rows {
+            if self.has(row.name) {
+                let outcome = self.tried::<C, T>(row);
+                self.is_right &= outcome == Ok(true);
+                self.is_whole &= outcome.is_ok();
+            }
         }
-        Ok(is_right)
     }
 }

@@ -1,10 +1,9 @@
 // Calls of the libraries that are over sets: slots, walks over graphs, and the closure of a graph.
 use crate::asks::Ask;
 use crate::faults::Fault;
-use crate::new_values::text_made;
-use crate::states::works;
-use crate::sweep::Sweep;
-use bit_set::{BitBlock, BitSet};
+use crate::states::{State, has_just, is_state, works};
+use crate::sweep::{Row, Sweep, Trial};
+use bit_set::{BitBlock, BitSet, SetError};
 use free_slots::Slots;
 use graph_walks::{close, reachable, reachable_from_any, reaches_all_of};
 use std::alloc::{AllocError, Global};
@@ -19,62 +18,79 @@ const CLOSED: [&[usize]; 4] = [
     &[],
 ];
 
+const EMPTY: State = State::Of(&[], 0);
+
 #[derive(Clone, Copy)]
 enum Walk {
     FromOne,
     FromAny,
 }
 
-// A walk, the memory that it may ask for, for its set and for its stack, and what it reaches.
-struct WalkRow {
-    name: &'static str,
-    walk: Walk,
-    asks: &'static [Ask],
-    reached: &'static str,
-}
-
-const WALKS: &[WalkRow] = &[
-    WalkRow {
+// A walk, for whose set and stack memory may be asked for, and what it reaches.
+const WALKS: &[Row<(Walk, State)>] = &[
+    Row {
         name: "reachable",
-        walk: Walk::FromOne,
         asks: &[
             Ask::Grown(1),
             Ask::Grown(41),
             Ask::Grown(5001),
             Ask::Other(1, 64),
         ],
-        reached: "{0, 1, 2, 40, 5000} of 5001",
+        call: (Walk::FromOne, State::Of(&[0, 1, 2, 40, 5000], 5001)),
     },
-    WalkRow {
+    Row {
         name: "reachable_from_any",
-        walk: Walk::FromAny,
         asks: &[
             Ask::Exact(4),
             Ask::Grown(41),
             Ask::Grown(5001),
             Ask::Other(2, 16 + 64),
         ],
-        reached: "{0, 1, 2, 3, 40, 5000} of 5001",
+        call: (Walk::FromAny, State::Of(&[0, 1, 2, 3, 40, 5000], 5001)),
     },
 ];
 
-// The closure at some capacity, under a name of its own, and the memory that it may ask for.
-struct CloseRow {
-    name: &'static str,
-    has_capacity: bool,
-    asks: &'static [Ask],
+#[derive(Clone, Copy)]
+enum RowsCall {
+    // The closure, where each row has the capacity for it, or no more than it takes.
+    Close(bool),
+    Compare,
 }
 
-const CLOSURES: &[CloseRow] = &[
-    CloseRow {
+const ROWS_CALLS: &[Row<RowsCall>] = &[
+    Row {
         name: "close",
-        has_capacity: false,
         asks: &[Ask::Exact(5001), Ask::Grown(5001), Ask::Grown(5001)],
+        call: RowsCall::Close(false),
     },
-    CloseRow {
+    Row {
         name: "close_within",
-        has_capacity: true,
         asks: &[Ask::Exact(5001)],
+        call: RowsCall::Close(true),
+    },
+    Row {
+        name: "reaches_all_of",
+        asks: &[],
+        call: RowsCall::Compare,
+    },
+];
+
+#[derive(Clone, Copy)]
+enum SlotsCall {
+    Make,
+    Take,
+}
+
+const SLOTS_CALLS: &[Row<SlotsCall>] = &[
+    Row {
+        name: "with_slots",
+        asks: &[Ask::Exact(5001)],
+        call: SlotsCall::Make,
+    },
+    Row {
+        name: "slots",
+        asks: &[],
+        call: SlotsCall::Take,
     },
 ];
 
@@ -87,151 +103,205 @@ fn lists(alloc: Global) -> Result<Vec<Vec<usize>>, AllocError> {
     Ok(rows)
 }
 
+// The set of some ends, with this capacity at least.
+fn row<B: BitBlock>(alloc: Global, ends: &[usize], capacity: usize) -> Result<BitSet<B>, Fault> {
+    let mut row = BitSet::from_iter(alloc, ends.iter().copied())?;
+    row.reserve_len(capacity)?;
+    Ok(row)
+}
+
 // The graph as sets, with capacity for its longest row, or for no more than each takes.
 fn sets<B: BitBlock>(alloc: Global, has_capacity: bool) -> Result<Vec<BitSet<B>>, Fault> {
+    let capacity = if has_capacity { 5001 } else { 0 };
     let mut rows = Vec::new(alloc);
     for ends in ENDS {
-        let mut row = BitSet::from_iter(alloc, ends.iter().copied())?;
-        if has_capacity {
-            row.reserve_len(5001)?;
-        }
-        rows.push(row).map_err(AllocError::from)?;
+        rows.push(row(alloc, ends, capacity)?)
+            .map_err(AllocError::from)?;
     }
     Ok(rows)
+}
+
+// A graph, some starts, and what was reached last.
+#[derive(Drop)]
+struct Walking<B: BitBlock> {
+    graph: Vec<Vec<usize>>,
+    starts: BitSet<B>,
+    reached: BitSet<B>,
+}
+
+fn starts<B: BitBlock>(alloc: Global) -> Result<BitSet<B>, SetError> {
+    BitSet::from_iter(alloc, [1, 3].into_iter())
 }
 
 fn walked<B: BitBlock>(
     alloc: Global,
     walk: Walk,
-    rows: &[Vec<usize>],
+    graph: &[Vec<usize>],
     starts: &BitSet<B>,
-) -> Result<BitSet<B>, Fault> {
-    Ok(match walk {
-        Walk::FromOne => reachable(alloc, rows, 0)?,
-        Walk::FromAny => reachable_from_any(alloc, rows, starts)?,
-    })
+) -> Result<BitSet<B>, SetError> {
+    match walk {
+        Walk::FromOne => reachable(alloc, graph, 0),
+        Walk::FromAny => reachable_from_any(alloc, graph, starts),
+    }
 }
 
-fn try_walk<B: BitBlock>(sweep: &Sweep<'_>, row: &WalkRow) -> Result<bool, Fault> {
-    let alloc = sweep.alloc();
-    let rows = lists(alloc)?;
-    let starts = BitSet::<B>::from_iter(alloc, [1, 3].into_iter())?;
-    sweep.begin(row.name, row.asks)?;
-    let reached = walked(alloc, row.walk, rows.as_slice(), &starts);
-    sweep.end(&reached)?;
-    let text = text_made(alloc, reached)?;
-    let now = text.as_ref().map_or(row.reached, |text| text.as_str());
-    let is_right = now == row.reached && starts.iter().eq([1, 3]);
-    Ok(sweep.judge(is_right, now)?)
+impl<B: BitBlock> Trial<(Walk, State)> for Walking<B> {
+    fn prepare(alloc: Global, _call: &(Walk, State)) -> Result<Self, Fault> {
+        let graph = lists(alloc)?;
+        let starts = starts(alloc)?;
+        let reached = BitSet::new_general(alloc);
+        Ok(Walking {
+            graph,
+            starts,
+            reached,
+        })
+    }
+
+    fn make(&mut self, alloc: Global, call: &(Walk, State)) -> Result<bool, Fault> {
+        self.reached = walked(alloc, call.0, self.graph.as_slice(), &self.starts)?;
+        Ok(true)
+    }
+
+    fn is_right(
+        &mut self,
+        _alloc: Global,
+        call: &(Walk, State),
+        has_returned: bool,
+    ) -> Result<bool, Fault> {
+        let reached = if has_returned { call.1 } else { EMPTY };
+        let are_lent = is_state(&self.starts, State::Of(&[1, 3], 4));
+        Ok(are_lent && is_state(&self.reached, reached) && works(&mut self.reached))
+    }
 }
 
 // Whether each of the first rows is within the one of the same number.
 fn are_within<B: BitBlock>(rows: &[BitSet<B>], others: &[BitSet<B>]) -> bool {
     let mut is_right = rows.len() == others.len();
-    for (k, row) in rows.iter().enumerate() {
-        is_right &= match others.get(k) {
-            Some(other) => row.is_subset(other),
-            None => false,
-        };
+    for (row, other) in rows.iter().zip(others) {
+        is_right &= row.is_subset(other);
     }
     is_right
 }
 
 // Whether these are the rows of the closure, and work as sets.
-fn are_closed<B: BitBlock>(rows: &mut [BitSet<B>]) -> Result<bool, Fault> {
+fn are_closed<B: BitBlock>(rows: &mut [BitSet<B>]) -> bool {
     let mut is_right = rows.len() == CLOSED.len();
-    for (k, row) in rows.iter_mut().enumerate() {
-        is_right &= match CLOSED.get(k) {
-            Some(ends) => row.iter().eq(ends.iter().copied()),
-            None => false,
-        };
-        is_right &= works(row)?;
+    for (row, ends) in rows.iter_mut().zip(CLOSED) {
+        is_right &= has_just(row, ends, usize::MAX) && works(row);
     }
-    Ok(is_right)
+    is_right
 }
 
-fn closed<B: BitBlock>(alloc: Global, rows: &mut [BitSet<B>]) -> Result<(), Fault> {
-    Ok(close(alloc, rows)?)
-}
-
-// Where the call is refused each row still has all that it had, and nothing else where all had the capacity; a further
-// call leaves the rows of the closure, so that they had nothing that the closure does not have.
-fn try_close<B: BitBlock>(sweep: &Sweep<'_>, row: &CloseRow) -> Result<bool, Fault> {
-    let alloc = sweep.alloc();
-    let first = sets::<B>(alloc, false)?;
-    let mut rows = sets::<B>(alloc, row.has_capacity)?;
-    sweep.begin(row.name, row.asks)?;
-    let ended = closed(alloc, rows.as_mut_slice());
-    sweep.end(&ended)?;
+// Whether the rows are as they may be after a closure; and a further call leaves the rows of the closure, so that they
+// had nothing that the closure does not have. Where it failed each row still has all that it had, and nothing else where
+// all had the capacity.
+fn may_be_closed<B: BitBlock>(
+    alloc: Global,
+    rows: &mut Vec<BitSet<B>>,
+    has_capacity: bool,
+    has_returned: bool,
+) -> Result<bool, Fault> {
+    let first = sets(alloc, false)?;
     let is_kept = are_within(first.as_slice(), rows.as_slice());
-    let is_same = are_within(rows.as_slice(), first.as_slice());
-    let is_right = match ended {
-        Ok(()) => are_closed(rows.as_mut_slice())?,
-        Err(Fault::Memory) => is_same || !row.has_capacity,
-        Err(Fault::Other) => false,
+    let is_right = if has_returned {
+        are_closed(rows.as_mut_slice())
+    } else {
+        !has_capacity || are_within(rows.as_slice(), first.as_slice())
     };
-    closed(alloc, rows.as_mut_slice())?;
-    let ends_closed = are_closed(rows.as_mut_slice())?;
-    Ok(sweep.judge(is_kept && is_right && ends_closed, "other rows")?)
+    close(alloc, rows.as_mut_slice())?;
+    Ok(is_kept && is_right && are_closed(rows.as_mut_slice()))
 }
 
-fn made<B: BitBlock>(alloc: Global) -> Result<Slots<B>, Fault> {
-    Ok(Slots::with_slots(alloc, 5001)?)
-}
+impl<B: BitBlock> Trial<RowsCall> for Vec<BitSet<B>> {
+    fn prepare(alloc: Global, call: &RowsCall) -> Result<Self, Fault> {
+        match call {
+            RowsCall::Close(has_capacity) => sets(alloc, *has_capacity),
+            RowsCall::Compare => sets(alloc, false),
+        }
+    }
 
-fn try_slots<B: BitBlock>(sweep: &Sweep<'_>) -> Result<bool, Fault> {
-    sweep.begin("with_slots", &[Ask::Exact(5001)])?;
-    let slots = made::<B>(sweep.alloc());
-    sweep.end(&slots)?;
-    let is_right = match slots {
-        Ok(slots) => slots.len() == 5001 && slots.free_count() == 5001,
-        Err(fault) => fault == Fault::Memory,
-    };
-    Ok(sweep.judge(is_right, "other slots")?)
+    fn make(&mut self, alloc: Global, call: &RowsCall) -> Result<bool, Fault> {
+        match call {
+            RowsCall::Close(_) => {
+                close(alloc, self.as_mut_slice())?;
+                Ok(true)
+            }
+            RowsCall::Compare => {
+                let rows = self.as_slice();
+                Ok(reaches_all_of(rows, 0, 3) && !reaches_all_of(rows, 0, 1))
+            }
+        }
+    }
+
+    fn is_right(
+        &mut self,
+        alloc: Global,
+        call: &RowsCall,
+        has_returned: bool,
+    ) -> Result<bool, Fault> {
+        match call {
+            RowsCall::Close(has_capacity) => {
+                may_be_closed(alloc, self, *has_capacity, has_returned)
+            }
+            RowsCall::Compare => Ok(true),
+        }
+    }
 }
 
 // Takes slots and gives them back. Whether each call returns what it may.
-fn uses_slots<B: BitBlock>(slots: &mut Slots<B>) -> bool {
-    let is_taken = slots.take() == Some(0) && slots.take_at_or_above(5000) == Some(5000);
-    let is_last = slots.take_at_or_above(5000).is_none() && !slots.is_free(5000);
-    let is_back = slots.give_back(0) && !slots.give_back(0) && !slots.give_back(5001);
-    is_taken && is_last && is_back && slots.take() == Some(0) && slots.free_count() == 4999
+fn uses<B: BitBlock>(slots: &mut Slots<B>) -> bool {
+    let taken = [
+        slots.take(),
+        slots.take_at_or_above(5000),
+        slots.take_at_or_above(5000),
+    ];
+    let was_free = slots.is_free(5000);
+    let given_back = [
+        slots.give_back(0),
+        slots.give_back(0),
+        slots.give_back(5001),
+    ];
+    let is_right = taken == [Some(0), Some(5000), None] && given_back == [true, false, false];
+    is_right && !was_free && slots.take() == Some(0)
 }
 
-fn try_quiet<B: BitBlock>(sweep: &Sweep<'_>, name: &str) -> Result<bool, Fault> {
-    let alloc = sweep.alloc();
-    let rows = sets::<B>(alloc, false)?;
-    let mut slots = made::<B>(alloc)?;
-    sweep.begin(name, &[])?;
-    let is_right = if name == "slots" {
-        uses_slots(&mut slots)
-    } else {
-        reaches_all_of(rows.as_slice(), 0, 3) && !reaches_all_of(rows.as_slice(), 0, 1)
-    };
-    sweep.end(&Ok(()))?;
-    Ok(sweep.judge(is_right, "other results")?)
+impl<B: BitBlock> Trial<SlotsCall> for Slots<B> {
+    fn prepare(alloc: Global, call: &SlotsCall) -> Result<Self, Fault> {
+        let count = match call {
+            SlotsCall::Make => 0,
+            SlotsCall::Take => 5001,
+        };
+        Ok(Slots::with_slots(alloc, count)?)
+    }
+
+    fn make(&mut self, alloc: Global, call: &SlotsCall) -> Result<bool, Fault> {
+        match call {
+            SlotsCall::Make => {
+                *self = Slots::with_slots(alloc, 5001)?;
+                Ok(true)
+            }
+            SlotsCall::Take => Ok(uses(self)),
+        }
+    }
+
+    fn is_right(
+        &mut self,
+        _alloc: Global,
+        call: &SlotsCall,
+        has_returned: bool,
+    ) -> Result<bool, Fault> {
+        let (count, free) = match call {
+            SlotsCall::Make if has_returned => (5001, 5001),
+            SlotsCall::Make => (0, 0),
+            SlotsCall::Take => (5001, 4999),
+        };
+        Ok(self.len() == count && self.free_count() == free)
+    }
 }
 
-/// Whether each of these calls goes as it may.
-pub fn all<B: BitBlock>(sweep: &Sweep<'_>) -> Result<bool, Fault> {
-    let mut is_right = true;
-    for row in WALKS {
-        if sweep.has(row.name) {
-            is_right &= try_walk::<B>(sweep, row)?;
-        }
-    }
-    for row in CLOSURES {
-        if sweep.has(row.name) {
-            is_right &= try_close::<B>(sweep, row)?;
-        }
-    }
-    if sweep.has("with_slots") {
-        is_right &= try_slots::<B>(sweep)?;
-    }
-    for name in ["slots", "reaches_all_of"] {
-        if sweep.has(name) {
-            is_right &= try_quiet::<B>(sweep, name)?;
-        }
-    }
-    Ok(is_right)
+/// Makes these calls.
+pub fn all<B: BitBlock>(sweep: &mut Sweep<'_>) {
+    sweep.over::<(Walk, State), Walking<B>>(WALKS);
+    sweep.over::<RowsCall, Vec<BitSet<B>>>(ROWS_CALLS);
+    sweep.over::<SlotsCall, Slots<B>>(SLOTS_CALLS);
 }

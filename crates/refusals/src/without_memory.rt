@@ -1,15 +1,15 @@
-// Calls that take no memory, in groups. Each group is made on what is given to it, and returns numbers.
+// Calls that take no memory, in groups, of which each returns numbers.
 ghost use Rattle.std.specs.Prelude.{◌+◌, ◌%◌, ◌^◌, length};
 ghost use Rattle.std.specs.Iterator.{IsFinite};
 
 use crate::failing_writers;
 use crate::faults::Fault;
-use crate::states::{Capacity, LENT, first_set, lent_set, text_of, works};
-use crate::sweep::Sweep;
+use crate::states::{Capacity, FIRST, LENT, Sets, State};
+use crate::sweep::{Row, Sweep, Trial};
 use bit_set::bit_vec::{BitVec, Merge, Steps};
 use bit_set::{BitBlock, BitSet};
 use bit_set_run::{Numbers, SetName, Table};
-use std::alloc::Global;
+use std::alloc::{AllocError, Global};
 use std::cmp::Ordering;
 use std::hash::{Hash, Hasher};
 use std::mem;
@@ -35,7 +35,7 @@ impl Hasher for Feed {
 }
 
 #[derive(Clone, Copy)]
-enum Group {
+enum Kind {
     Empty,
     Questions,
     Comparisons,
@@ -51,112 +51,104 @@ enum Group {
     BitChanges,
 }
 
-// What a group is made on: the sets {3, 447} and {3, 7, 5000}, both of 5001 places, ten values over blocks of 32 bits,
-// and two lists of numbers.
-#[derive(Drop)]
-struct Given<B: BitBlock> {
-    set: BitSet<B>,
-    lent: BitSet<B>,
-    plain: BitVec<u32>,
-    numbers: Numbers,
-    others: Numbers,
-}
+// A group, its results, and what it leaves of the set.
+struct Group(Kind, [usize; 6], State);
 
-// A group and its results.
-struct Row {
-    name: &'static str,
-    group: Group,
-    results: [usize; 6],
-}
+// What there is at first of the set.
+const LONG: State = State::Of(&[3, 447], 5001);
 
-const ROWS: &[Row] = &[
+const EMPTY: State = State::Of(&[], 0);
+
+const ROWS: &[Row<Group>] = &[
     Row {
         name: "empty_ones",
-        group: Group::Empty,
-        results: [0, 0, 1, 0, 0, 0],
+        asks: &[],
+        call: Group(Kind::Empty, [0, 0, 1, 0, 0, 0], LONG),
     },
     Row {
         name: "questions",
-        group: Group::Questions,
-        results: [2, 2, 1, 0, 0, 0],
+        asks: &[],
+        call: Group(Kind::Questions, [2, 2, 1, 0, 0, 0], LONG),
     },
     Row {
         name: "comparisons",
-        group: Group::Comparisons,
-        results: [0, 1, 1, 1, 0, 16],
+        asks: &[],
+        call: Group(Kind::Comparisons, [0, 1, 1, 1, 0, 16], LONG),
     },
     Row {
         name: "walks",
-        group: Group::Walks,
-        results: [450, 1, 5457, 3, 447, 5454],
+        asks: &[],
+        call: Group(Kind::Walks, [450, 1, 5457, 3, 447, 5454], LONG),
     },
     Row {
         name: "hints",
-        group: Group::Hints,
-        results: [1, 1, 5001, 1, 1, 0],
+        asks: &[],
+        call: Group(Kind::Hints, [1, 1, 5001, 1, 1, 0], LONG),
     },
     Row {
         name: "counts",
-        group: Group::Counts,
-        results: [4, 1, 1, 3, 450, 0],
+        asks: &[],
+        call: Group(Kind::Counts, [4, 1, 1, 3, 450, 0], LONG),
     },
     Row {
         name: "moves",
-        group: Group::Moves,
-        results: [2, 5001, 10, 10, 1, 0],
+        asks: &[],
+        call: Group(Kind::Moves, [2, 5001, 0, 0, 0, 0], LONG),
     },
     Row {
         name: "texts",
-        group: Group::Texts,
-        results: [1, 1, 1, 0, 0, 0],
+        asks: &[],
+        call: Group(Kind::Texts, [1, 1, 1, 0, 0, 0], FIRST),
     },
     Row {
         name: "changes",
-        group: Group::Changes,
-        results: [1, 1, 0, 100, 0, 0],
+        asks: &[],
+        call: Group(Kind::Changes, [1, 1, 0, 100, 0, 0], EMPTY),
     },
     Row {
         name: "bits",
-        group: Group::Bits,
-        results: [5001, 1, 1, 0, 0, 0],
+        asks: &[],
+        call: Group(Kind::Bits, [5001, 1, 1, 0, 0, 0], LONG),
     },
     Row {
         name: "bit_walks",
-        group: Group::BitWalks,
-        results: [1, 1, 1, 1, 0, 0],
+        asks: &[],
+        call: Group(Kind::BitWalks, [1, 1, 1, 1, 0, 0], LONG),
     },
     Row {
         name: "nonzero_walks",
-        group: Group::NonzeroWalks,
-        results: [2, 1, 1, 2, 0, 0],
+        asks: &[],
+        call: Group(Kind::NonzeroWalks, [2, 1, 1, 2, 0, 0], LONG),
     },
     Row {
         name: "bit_changes",
-        group: Group::BitChanges,
-        results: [1, 1, 448, 1, 0, 0],
+        asks: &[],
+        call: Group(Kind::BitChanges, [1, 1, 448, 1, 0, 0], EMPTY),
     },
 ];
 
-fn number(answer: bool) -> usize {
-    usize::from(answer)
+fn number(is_so: bool) -> usize {
+    usize::from(is_so)
+}
+
+// How long the set `p` of a new table is.
+fn len_in_table<B: BitBlock>(alloc: Global) -> usize {
+    let table = Table::<B>::new(alloc);
+    match SetName::from_letter(b'p') {
+        Some(name) => table.get(name).get_ref().len(),
+        None => 1,
+    }
 }
 
 // What is made of nothing.
 fn empty_ones<B: BitBlock>(alloc: Global) -> [usize; 6] {
     let set = BitSet::<B>::new_general(alloc);
-    let bits = BitSet::<B>::new_general(alloc).into_bit_vec();
-    let table = Table::<B>::new(alloc);
-    let len = match SetName::from_letter(b'p') {
-        Some(name) => table.get(name).get_ref().len(),
-        None => 1,
-    };
-    let numbers = Numbers::from_vec(Vec::new(alloc));
     [
         set.count(),
-        bits.len(),
+        BitSet::<B>::new_general(alloc).into_bit_vec().len(),
         number(set.is_empty() && BitSet::new(alloc).is_empty()),
-        len,
-        numbers.as_slice().len(),
+        len_in_table::<B>(alloc),
+        Numbers::from_vec(Vec::new(alloc)).as_slice().len(),
         set.capacity(),
     ]
 }
@@ -239,22 +231,11 @@ fn counts<B: BitBlock>(set: &BitSet<B>, lent: &BitSet<B>) -> [usize; 6] {
     ]
 }
 
-// Bit vectors that become sets, and lists that are compared.
-fn moves<B: BitBlock>(alloc: Global, given: &mut Given<B>) -> [usize; 6] {
-    let set = mem::replace(&mut given.set, BitSet::new_general(alloc));
-    given.set = BitSet::from_bit_vec_general(set.into_bit_vec());
-    let plain = mem::replace(&mut given.plain, BitVec::new(alloc));
-    let whole = BitSet::from_bit_vec(plain);
-    let count = whole.count();
-    given.plain = whole.into_bit_vec();
-    [
-        given.set.count(),
-        given.set.get_ref().len(),
-        count,
-        given.plain.len(),
-        number(given.numbers == given.numbers && given.numbers != given.others),
-        0,
-    ]
+// A set that becomes a bit vector, and a set again.
+fn moves<B: BitBlock>(alloc: Global, set: &mut BitSet<B>) -> [usize; 6] {
+    let bits = mem::replace(set, BitSet::new_general(alloc)).into_bit_vec();
+    *set = BitSet::from_bit_vec_general(bits);
+    [set.count(), set.get_ref().len(), 0, 0, 0, 0]
 }
 
 fn shown<B: BitBlock>(set: &mut BitSet<B>) -> [usize; 6] {
@@ -355,57 +336,99 @@ fn bit_changes<B: BitBlock>(set: &mut BitSet<B>, lent: &BitVec<B>) -> [usize; 6]
     ]
 }
 
-fn results<B: BitBlock>(alloc: Global, group: Group, given: &mut Given<B>) -> [usize; 6] {
-    let (set, lent) = (&mut given.set, &given.lent);
-    match group {
-        Group::Empty => empty_ones::<B>(alloc),
-        Group::Questions => questions(set, lent),
-        Group::Comparisons => comparisons(set, lent),
-        Group::Walks => walks(set, lent),
-        Group::Hints => hints(set, lent),
-        Group::Counts => counts(set, lent),
-        Group::Moves => moves(alloc, given),
-        Group::Texts => shown(set),
-        Group::Changes => changes(set),
-        Group::Bits => bits(set.get_ref(), lent.get_ref()),
-        Group::BitWalks => bit_walks(set.get_ref()),
-        Group::NonzeroWalks => nonzero_walks(set.get_ref()),
-        Group::BitChanges => bit_changes(set, lent.get_ref()),
+// The results of a group that changes nothing.
+fn read<B: BitBlock>(kind: Kind, set: &BitSet<B>, lent: &BitSet<B>) -> [usize; 6] {
+    match kind {
+        Kind::Questions => questions(set, lent),
+        Kind::Comparisons => comparisons(set, lent),
+        Kind::Walks => walks(set, lent),
+        Kind::Hints => hints(set, lent),
+        Kind::Counts => counts(set, lent),
+        Kind::Bits => bits(set.get_ref(), lent.get_ref()),
+        Kind::BitWalks => bit_walks(set.get_ref()),
+        _ => nonzero_walks(set.get_ref()),
     }
 }
 
-fn prepared<B: BitBlock>(alloc: Global) -> Result<Given<B>, Fault> {
-    let mut numbers = Vec::new(alloc);
-    numbers.extend_from_slice(&[3, 447])?;
-    let mut others = Vec::new(alloc);
-    others.extend_from_slice(&[3, 448])?;
-    Ok(Given {
-        set: first_set::<B>(alloc, Capacity::Long)?,
-        lent: lent_set::<B>(alloc)?,
-        plain: BitVec::from_elem(alloc, 10, true)?,
-        numbers: Numbers::from_vec(numbers),
-        others: Numbers::from_vec(others),
-    })
-}
-
-fn tried<B: BitBlock>(sweep: &Sweep<'_>, row: &Row) -> Result<bool, Fault> {
-    let alloc = sweep.alloc();
-    let mut given = prepared::<B>(alloc)?;
-    sweep.begin(row.name, &[])?;
-    let results = results(alloc, row.group, &mut given);
-    sweep.end(&Ok(()))?;
-    let now = format!(in alloc; "{results:?}")?;
-    let is_whole = works(&mut given.set)? && text_of(alloc, &given.lent)?.as_str() == LENT;
-    Ok(sweep.judge(is_whole && results == row.results, now.as_str())?)
-}
-
-/// Whether each of these groups returns what it must.
-pub fn all<B: BitBlock>(sweep: &Sweep<'_>) -> Result<bool, Fault> {
-    let mut is_right = true;
-    for row in ROWS {
-        if sweep.has(row.name) {
-            is_right &= tried::<B>(sweep, row)?;
-        }
+fn results<B: BitBlock>(alloc: Global, kind: Kind, sets: &mut Sets<B>) -> [usize; 6] {
+    match kind {
+        Kind::Empty => empty_ones::<B>(alloc),
+        Kind::Moves => moves(alloc, &mut sets.set),
+        Kind::Texts => shown(&mut sets.set),
+        Kind::Changes => changes(&mut sets.set),
+        Kind::BitChanges => bit_changes(&mut sets.set, sets.lent.get_ref()),
+        _ => read(kind, &sets.set, &sets.lent),
     }
-    Ok(is_right)
+}
+
+impl<B: BitBlock> Trial<Group> for Sets<B> {
+    fn prepare(alloc: Global, _group: &Group) -> Result<Self, Fault> {
+        Sets::new(alloc, Capacity::Long)
+    }
+
+    fn make(&mut self, alloc: Global, group: &Group) -> Result<bool, Fault> {
+        Ok(results(alloc, group.0, self) == group.1)
+    }
+
+    fn is_right(
+        &mut self,
+        _alloc: Global,
+        group: &Group,
+        _has_returned: bool,
+    ) -> Result<bool, Fault> {
+        Ok(self.are(group.2, LENT) && self.work())
+    }
+}
+
+// Ten values over blocks of 32 bits, and two lists of numbers.
+#[derive(Drop)]
+struct Plain {
+    bits: BitVec<u32>,
+    numbers: Numbers,
+    others: Numbers,
+}
+
+fn numbers(alloc: Global, items: &[usize]) -> Result<Numbers, AllocError> {
+    Ok(Numbers::from_vec(items.to_vec(alloc)?))
+}
+
+impl Trial<()> for Plain {
+    fn prepare(alloc: Global, _call: &()) -> Result<Self, Fault> {
+        let bits = BitVec::from_elem(alloc, 10, true)?;
+        let numbers_first = numbers(alloc, &[3, 447])?;
+        let others = numbers(alloc, &[3, 448])?;
+        Ok(Plain {
+            bits,
+            numbers: numbers_first,
+            others,
+        })
+    }
+
+    // The values become a set and are a list again, and the lists of numbers are compared.
+    fn make(&mut self, alloc: Global, _call: &()) -> Result<bool, Fault> {
+        let set = BitSet::from_bit_vec(mem::replace(&mut self.bits, BitVec::new(alloc)));
+        let count = set.count();
+        self.bits = set.into_bit_vec();
+        Ok(count == 10 && self.numbers == self.numbers && self.numbers != self.others)
+    }
+
+    fn is_right(&mut self, _alloc: Global, _call: &(), _returned: bool) -> Result<bool, Fault> {
+        Ok(self.bits.len() == 10 && self.bits.count_ones() == 10)
+    }
+}
+
+const PLAIN_ROWS: &[Row<()>] = &[Row {
+    name: "plain_moves",
+    asks: &[],
+    call: (),
+}];
+
+/// Makes these groups of calls.
+pub fn all<B: BitBlock>(sweep: &mut Sweep<'_>) {
+    sweep.over::<Group, Sets<B>>(ROWS);
+}
+
+/// Makes those over blocks of 32 bits alone.
+pub fn all_plain(sweep: &mut Sweep<'_>) {
+    sweep.over::<(), Plain>(PLAIN_ROWS);
 }
