@@ -1,9 +1,9 @@
 // Calls of the solver of data-flow problems, and of the analyses above it.
 use crate::asks::Ask;
 use crate::faults::Fault;
-use crate::states::works;
+use crate::states::{has_just, works};
 use crate::sweep::{Row, Sweep, Trial};
-use bit_set::{BitBlock, BitSet};
+use bit_set::{BitBlock, BitSet, SetError};
 use dataflow::{
     DefinitionBlock, ExpressionBlock, FlowBlock, VariableBlock, available_expressions,
     live_variables, reaching_definitions, solve,
@@ -13,26 +13,61 @@ use std::alloc::{AllocError, Global};
 // How many blocks of code a problem has.
 const BLOCKS: usize = 12;
 
-// How the blocks follow one another.
-#[derive(Clone, Copy)]
-enum Graph {
-    // From each block on to the one that is five before it, and past the first on to the last ones.
-    Ring,
-    // From the first to the last, and from that to the second again.
-    Chain,
-}
+// A block of code, for whichever problem: the blocks from which it has its values, those that it gains, those that it
+// loses, and those of its set.
+struct Block(
+    &'static [usize],
+    &'static [usize],
+    &'static [usize],
+    &'static [usize],
+);
 
-// A block of code, for whichever problem: its sources, what it gains and what it loses.
-#[derive(Drop)]
-struct Part<B: BitBlock> {
-    sources: Vec<usize>,
-    gained: BitSet<B>,
-    lost: BitSet<B>,
-}
+const ALL: &[usize] = &[1, 11, 21, 31, 41, 51, 61, 71, 81, 91, 101, 111, 5000];
+
+const ALL_BUT_31: &[usize] = &[1, 11, 21, 41, 51, 61, 71, 81, 91, 101, 111, 5000];
+
+// From each block on to the one that is five before it, and past the first on to the last ones. The value 31 of block 3
+// comes to the blocks 10 and 5, and is lost in block 0.
+const RING: &[Block] = &[
+    Block(&[5, 5000], &[1, 5000], &[31], ALL_BUT_31),
+    Block(&[6, 5000], &[11, 5000], &[], ALL_BUT_31),
+    Block(&[7, 5000], &[21, 5000], &[], ALL_BUT_31),
+    Block(&[8, 5000], &[31, 5000], &[], ALL),
+    Block(&[9, 5000], &[41, 5000], &[], ALL_BUT_31),
+    Block(&[10, 5000], &[51, 5000], &[], ALL),
+    Block(&[11, 5000], &[61, 5000], &[], ALL_BUT_31),
+    Block(&[0, 5000], &[71, 5000], &[], ALL_BUT_31),
+    Block(&[1, 5000], &[81, 5000], &[], ALL_BUT_31),
+    Block(&[2, 5000], &[91, 5000], &[], ALL_BUT_31),
+    Block(&[3, 5000], &[101, 5000], &[], ALL),
+    Block(&[4, 5000], &[111, 5000], &[], ALL_BUT_31),
+];
+
+// From the first block to the last, and from that to the second again. Block 4 loses 11 and 5000, so that 5000
+// comes to block 1 from block 0 alone, and not from the last.
+const CHAIN: &[Block] = &[
+    Block(&[], &[1, 5000], &[], &[1, 5000]),
+    Block(&[0, 11], &[11], &[], &[1, 11]),
+    Block(&[1], &[21], &[], &[1, 11, 21]),
+    Block(&[2], &[31], &[], &[1, 11, 21, 31]),
+    Block(&[3], &[41], &[11, 5000], &[1, 21, 31, 41]),
+    Block(&[4], &[51], &[], &[1, 21, 31, 41, 51]),
+    Block(&[5], &[61], &[], &[1, 21, 31, 41, 51, 61]),
+    Block(&[6], &[71], &[], &[1, 21, 31, 41, 51, 61, 71]),
+    Block(&[7], &[81], &[], &[1, 21, 31, 41, 51, 61, 71, 81]),
+    Block(&[8], &[91], &[], &[1, 21, 31, 41, 51, 61, 71, 81, 91]),
+    Block(&[9], &[101], &[], &[1, 21, 31, 41, 51, 61, 71, 81, 91, 101]),
+    Block(
+        &[10],
+        &[111],
+        &[],
+        &[1, 21, 31, 41, 51, 61, 71, 81, 91, 101, 111],
+    ),
+];
 
 // The memory that a call over the ring may ask for: twelve sets and a spare one, the blocks that wait, and for each block
 // a row of those that follow it. Nothing is asked for when a block is visited again.
-const RING: &[Ask] = &[
+const RING_ASKS: &[Ask] = &[
     Ask::Lists(13, 5001),
     Ask::Other(1, 8),
     Ask::Other(2, BLOCKS * (24 + 56)),
@@ -40,7 +75,7 @@ const RING: &[Ask] = &[
 ];
 
 // Of expressions the set of all and those that are missing at each block come to it.
-const CHAIN: &[Ask] = &[
+const CHAIN_ASKS: &[Ask] = &[
     Ask::Lists(13, 5001),
     Ask::Other(1, BLOCKS * 64),
     Ask::Lists(13, 5001),
@@ -60,80 +95,56 @@ enum Call {
 const ROWS: &[Row<Call>] = &[
     Row {
         name: "solve",
-        asks: RING,
+        asks: RING_ASKS,
         call: Call::Solve,
     },
     Row {
         name: "live_variables",
-        asks: RING,
+        asks: RING_ASKS,
         call: Call::LiveVariables,
     },
     Row {
         name: "reaching_definitions",
-        asks: RING,
+        asks: RING_ASKS,
         call: Call::ReachingDefinitions,
     },
     Row {
         name: "available_expressions",
-        asks: CHAIN,
+        asks: CHAIN_ASKS,
         call: Call::AvailableExpressions,
     },
 ];
 
 impl Call {
-    // How the blocks of its problem follow one another.
-    fn graph(self) -> Graph {
+    // The blocks of its problem.
+    fn blocks(self) -> &'static [Block] {
         match self {
-            Call::AvailableExpressions => Graph::Chain,
-            _ => Graph::Ring,
+            Call::AvailableExpressions => CHAIN,
+            _ => RING,
         }
     }
 }
 
-// The blocks from which a block has its values.
-fn sources(alloc: Global, graph: Graph, block: usize) -> Result<Vec<usize>, AllocError> {
-    match (graph, block) {
-        (Graph::Ring, _) => [(block.saturating_add(5)) % BLOCKS, 5000].to_vec(alloc),
-        (Graph::Chain, 0) => Ok(Vec::new(alloc)),
-        (Graph::Chain, 1) => [0, BLOCKS - 1].to_vec(alloc),
-        (Graph::Chain, _) => [block.saturating_sub(1)].to_vec(alloc),
-    }
-}
-
-// The value that a block alone gains.
-fn value_of(block: usize) -> usize {
-    block.saturating_mul(10).saturating_add(1)
+// What a block is made of.
+#[derive(Drop)]
+struct Part<B: BitBlock> {
+    sources: Vec<usize>,
+    gained: BitSet<B>,
+    lost: BitSet<B>,
 }
 
 // A set of these values, of length 5001.
-fn set_of<B: BitBlock>(alloc: Global, values: &[usize]) -> Result<BitSet<B>, Fault> {
+fn long_set<B: BitBlock>(alloc: Global, values: &[usize]) -> Result<BitSet<B>, SetError> {
     let mut set = BitSet::with_capacity_general(alloc, 5001)?;
     set.extend(values.iter().copied())?;
     Ok(set)
 }
 
-// What a block gains. The last value is gained by each block, or in the chain by block 0.
-fn gained<B: BitBlock>(alloc: Global, graph: Graph, block: usize) -> Result<BitSet<B>, Fault> {
-    let value = value_of(block);
-    match (graph, block) {
-        (Graph::Chain, 1..) => set_of(alloc, &[value]),
-        _ => set_of(alloc, &[value, 5000]),
-    }
-}
-
-// In the ring block 0 loses what block 3 gains, and in the chain block 4 what block 1 gains and the last value.
-fn lost<B: BitBlock>(alloc: Global, graph: Graph, block: usize) -> Result<BitSet<B>, Fault> {
-    match (graph, block) {
-        (Graph::Ring, 0) => set_of(alloc, &[value_of(3)]),
-        (Graph::Chain, 4) => set_of(alloc, &[value_of(1), 5000]),
-        _ => set_of(alloc, &[]),
-    }
-}
-
-fn part_of<B: BitBlock>(alloc: Global, graph: Graph, block: usize) -> Result<Part<B>, Fault> {
-    let sources = sources(alloc, graph, block)?;
-    let gained = gained(alloc, graph, block)?;
-    let lost = lost(alloc, graph, block)?;
+fn part_of<B: BitBlock>(alloc: Global, block: &Block) -> Result<Part<B>, SetError> {
+    let Block(sources, gained, lost, _) = block;
+    let sources = sources.to_vec(alloc)?;
+    let gained = long_set(alloc, gained)?;
+    let lost = long_set(alloc, lost)?;
     Ok(Part {
         sources,
         gained,
@@ -200,48 +211,19 @@ impl<B: BitBlock> Problem<B> {
     }
 }
 
-fn problem_of<B: BitBlock>(alloc: Global, call: Call) -> Result<Problem<B>, Fault> {
+fn problem_of<B: BitBlock>(alloc: Global, call: Call) -> Result<Problem<B>, SetError> {
     let mut problem = Problem::new(alloc, call);
-    for block in 0..BLOCKS {
-        problem.push(part_of(alloc, call.graph(), block)?)?;
+    for block in call.blocks() {
+        problem.push(part_of(alloc, block)?)?;
     }
     Ok(problem)
 }
 
-// Whether the set of a block has the value of another one.
-fn reaches(graph: Graph, from: usize, block: usize) -> bool {
-    match (graph, from) {
-        (Graph::Ring, 3) => block == 3 || block == 10 || block == 5,
-        (Graph::Ring, _) => true,
-        (Graph::Chain, 0) => true,
-        (Graph::Chain, 1) => 1 <= block && block < 4,
-        (Graph::Chain, _) => from <= block,
-    }
-}
-
-fn has_last(graph: Graph, block: usize) -> bool {
-    match graph {
-        Graph::Ring => true,
-        Graph::Chain => block == 0,
-    }
-}
-
-// Whether the set of a block is right, and works.
-fn is_solved<B: BitBlock>(graph: Graph, block: usize, set: &mut BitSet<B>) -> bool {
-    let mut count = usize::from(has_last(graph, block));
-    let mut is_right = set.contains(5000) == has_last(graph, block);
-    for from in 0..BLOCKS {
-        let reaches = reaches(graph, from, block);
-        is_right &= set.contains(value_of(from)) == reaches;
-        count = count.saturating_add(usize::from(reaches));
-    }
-    is_right && set.count() == count && works(set)
-}
-
-fn are_solved<B: BitBlock>(graph: Graph, sets: &mut [BitSet<B>]) -> bool {
-    let mut is_right = sets.len() == BLOCKS;
-    for (block, set) in sets.iter_mut().enumerate() {
-        is_right &= is_solved(graph, block, set);
+// Whether the sets of the blocks are right, and work.
+fn are_solved<B: BitBlock>(blocks: &[Block], sets: &mut [BitSet<B>]) -> bool {
+    let mut is_right = sets.len() == blocks.len();
+    for (set, Block(_, _, _, solved)) in sets.iter_mut().zip(blocks) {
+        is_right &= has_just(set, solved, usize::MAX) && works(set);
     }
     is_right
 }
@@ -267,14 +249,14 @@ impl<B: BitBlock> Trial<Call> for Solving<B> {
 
     // The blocks are as before after the call: a further one solves them.
     fn is_right(&mut self, alloc: Global, call: &Call, has_returned: bool) -> Result<bool, Fault> {
-        let graph = call.graph();
+        let blocks = call.blocks();
         let is_right = if has_returned {
-            are_solved(graph, self.sets.as_mut_slice())
+            are_solved(blocks, self.sets.as_mut_slice())
         } else {
             self.sets.is_empty()
         };
         self.sets = self.problem.solved(alloc)?;
-        Ok(is_right && are_solved(graph, self.sets.as_mut_slice()))
+        Ok(is_right && are_solved(blocks, self.sets.as_mut_slice()))
     }
 }
 

@@ -2,10 +2,10 @@
 use crate::asks::Ask;
 use crate::faults::Fault;
 use crate::rows::{Call, OnSets};
-use crate::states::{Capacity, FIRST, LENT, Sets, State};
+use crate::states::{Capacity, FIRST, LENT, Sets, State, set_of};
 use crate::sweep::{Row, Sweep};
 use bit_set::bit_vec::BitVec;
-use bit_set::{BitBlock, BitSet, SetError};
+use bit_set::{BitBlock, BitSet};
 use std::alloc::{AllocError, Global};
 
 #[derive(Clone, Copy)]
@@ -212,16 +212,11 @@ fn copied_set<B: BitBlock>(
     }
 }
 
-fn collected<B: BitBlock>(alloc: Global) -> Result<BitSet<B>, SetError> {
-    let items: [usize; 3] = [9, 450, 5000];
-    BitSet::from_iter(alloc, items.iter().copied())
-}
-
 fn new_set<B: BitBlock>(alloc: Global, call: Making, lent: &BitSet<B>) -> Result<BitSet<B>, Fault> {
     match call {
         Making::WithCapacity | Making::Clone => Ok(copied_set(alloc, call, lent)?),
         Making::FromBytes => Ok(BitSet::from_bytes_general(alloc, &BYTES)?),
-        Making::FromIter => Ok(collected(alloc)?),
+        Making::FromIter => Ok(set_of(alloc, &[9, 450, 5000])?),
         _ => Ok(BitSet::from_bit_vec_general(new_bits(alloc, call, lent.get_ref())?)),
     }
 }

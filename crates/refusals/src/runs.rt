@@ -171,10 +171,19 @@ fn are<B: BitBlock>(table: &Table<B>, wanted: &Three) -> bool {
     is_right
 }
 
+// Whether the sets are one of these.
+fn are_one_of<B: BitBlock>(table: &Table<B>, allowed: &[Three]) -> bool {
+    let mut is_one = false;
+    for wanted in allowed {
+        is_one |= are(table, wanted);
+    }
+    is_one
+}
+
 // Whether the sets may be so where the command of this place fails, or behind them all.
 fn may_stand<B: BitBlock>(table: &Table<B>, place: usize) -> bool {
     match LINES.get(place) {
-        Some(line) => line.failed.iter().any(|wanted| are(table, wanted)),
+        Some(line) => are_one_of(table, line.failed),
         None => are(table, &UNITED),
     }
 }
@@ -241,8 +250,8 @@ impl<B: BitBlock> Running<B> {
     fn goes_on(&mut self, alloc: Global) -> bool {
         match SetName::from_letter(b'b') {
             Some(name) => {
-                let command = [Command::Insert(name, 9)];
-                run(alloc, &mut self.table, &command, &mut self.replies).is_ok()
+                let commands = [Command::Insert(name, 9)];
+                run(alloc, &mut self.table, &commands, &mut self.replies).is_ok()
             }
             None => false,
         }

@@ -1,9 +1,10 @@
 // Calls of the library of finite automata.
 use crate::asks::Ask;
 use crate::faults::Fault;
+use crate::states::{set_of, sets_of};
 use crate::sweep::{Row, Sweep, Trial};
 use automata::{Dfa, Nfa, accepts, determinize, equivalent};
-use bit_set::{BitBlock, BitSet};
+use bit_set::{BitBlock, BitSet, SetError};
 use std::alloc::{AllocError, Global};
 use std::mem;
 
@@ -48,34 +49,22 @@ const ROWS: &[Row<Call>] = &[
     },
 ];
 
-// The sets to which a symbol leads from the states 0, 1 and 2.
-fn row<B: BitBlock>(alloc: Global, first: &[usize]) -> Result<Vec<BitSet<B>>, Fault> {
-    let mut sets = Vec::new(alloc);
-    for ends in [first, &[2], &[5000]] {
-        sets.push(BitSet::from_iter(alloc, ends.iter().copied())?)
-            .map_err(AllocError::from)?;
-    }
-    Ok(sets)
-}
+// The sets to which each of two symbols leads from the states 0, 1 and 2.
+const MOVES: [[&[usize]; 3]; 2] = [[&[0], &[2], &[5000]], [&[0, 1], &[2], &[5000]]];
 
-fn moves<B: BitBlock>(alloc: Global) -> Result<Vec<Vec<BitSet<B>>>, Fault> {
-    let firsts: [&[usize]; 2] = [&[0], &[0, 1]];
+fn moves<B: BitBlock>(alloc: Global) -> Result<Vec<Vec<BitSet<B>>>, SetError> {
     let mut moves = Vec::new(alloc);
-    for first in firsts {
-        moves.push(row(alloc, first)?).map_err(AllocError::from)?;
+    for rows in &MOVES {
+        moves.push(sets_of(alloc, rows)?)?;
     }
     Ok(moves)
 }
 
-fn set_of<B: BitBlock>(alloc: Global, state: usize) -> Result<BitSet<B>, Fault> {
-    Ok(BitSet::from_iter(alloc, [state].into_iter())?)
-}
-
 // The automaton that accepts in this state.
-fn automaton<B: BitBlock>(alloc: Global, accepting: usize) -> Result<Nfa<B>, Fault> {
+fn automaton<B: BitBlock>(alloc: Global, accepting: usize) -> Result<Nfa<B>, SetError> {
     let moves = moves(alloc)?;
-    let starts = set_of(alloc, 0)?;
-    let accepting = set_of(alloc, accepting)?;
+    let starts = set_of(alloc, &[0])?;
+    let accepting = set_of(alloc, &[accepting])?;
     Ok(Nfa::new(moves, starts, accepting))
 }
 

@@ -1,7 +1,7 @@
 // Sets to begin with, and what sets are after a call.
 use crate::faults::Fault;
 use bit_set::bit_vec::BitVec;
-use bit_set::{BitBlock, BitSet};
+use bit_set::{BitBlock, BitSet, SetError};
 use std::alloc::Global;
 
 /// What a set is.
@@ -70,10 +70,23 @@ fn first_set<B: BitBlock>(alloc: Global, capacity: Capacity) -> Result<BitSet<B>
     Ok(BitSet::from_bit_vec_general(bits))
 }
 
+/// The set of these numbers.
+pub fn set_of<B: BitBlock>(alloc: Global, numbers: &[usize]) -> Result<BitSet<B>, SetError> {
+    BitSet::from_iter(alloc, numbers.iter().copied())
+}
+
 /// A set that is longer, to be lent.
-pub fn lent_set<B: BitBlock>(alloc: Global) -> Result<BitSet<B>, Fault> {
-    let numbers: [usize; 3] = [3, 7, 5000];
-    Ok(BitSet::from_iter(alloc, numbers.iter().copied())?)
+pub fn lent_set<B: BitBlock>(alloc: Global) -> Result<BitSet<B>, SetError> {
+    set_of(alloc, &[3, 7, 5000])
+}
+
+/// A set for each of these rows of numbers.
+pub fn sets_of<B: BitBlock>(alloc: Global, rows: &[&[usize]]) -> Result<Vec<BitSet<B>>, SetError> {
+    let mut sets = Vec::new(alloc);
+    for numbers in rows {
+        sets.push(set_of(alloc, numbers)?)?;
+    }
+    Ok(sets)
 }
 
 // Whether a walk over the blocks that are not zero gives just these, and the first.

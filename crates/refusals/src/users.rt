@@ -1,7 +1,7 @@
 // Calls of the libraries that are over sets: slots, walks over graphs, and the closure of a graph.
 use crate::asks::Ask;
 use crate::faults::Fault;
-use crate::states::{State, has_just, is_state, works};
+use crate::states::{State, has_just, is_state, set_of, sets_of, works};
 use crate::sweep::{Row, Sweep, Trial};
 use bit_set::{BitBlock, BitSet, SetError};
 use free_slots::Slots;
@@ -97,26 +97,24 @@ const SLOTS_CALLS: &[Row<SlotsCall>] = &[
 // The graph as lists.
 fn lists(alloc: Global) -> Result<Vec<Vec<usize>>, AllocError> {
     let mut rows = Vec::new(alloc);
-    for ends in ENDS {
+    for ends in &ENDS {
         rows.push(ends.to_vec(alloc)?)?;
     }
     Ok(rows)
 }
 
-// The set of some ends, with this capacity at least.
-fn row<B: BitBlock>(alloc: Global, ends: &[usize], capacity: usize) -> Result<BitSet<B>, Fault> {
-    let mut row = BitSet::from_iter(alloc, ends.iter().copied())?;
-    row.reserve_len(capacity)?;
-    Ok(row)
+fn reserve<B: BitBlock>(rows: &mut [BitSet<B>], capacity: usize) -> Result<(), Fault> {
+    for row in rows {
+        row.reserve_len(capacity)?;
+    }
+    Ok(())
 }
 
 // The graph as sets, with capacity for its longest row, or for no more than each takes.
 fn sets<B: BitBlock>(alloc: Global, has_capacity: bool) -> Result<Vec<BitSet<B>>, Fault> {
-    let capacity = if has_capacity { 5001 } else { 0 };
-    let mut rows = Vec::new(alloc);
-    for ends in ENDS {
-        rows.push(row(alloc, ends, capacity)?)
-            .map_err(AllocError::from)?;
+    let mut rows = sets_of(alloc, &ENDS)?;
+    if has_capacity {
+        reserve(rows.as_mut_slice(), 5001)?;
     }
     Ok(rows)
 }
@@ -127,10 +125,6 @@ struct Walking<B: BitBlock> {
     graph: Vec<Vec<usize>>,
     starts: BitSet<B>,
     reached: BitSet<B>,
-}
-
-fn starts<B: BitBlock>(alloc: Global) -> Result<BitSet<B>, SetError> {
-    BitSet::from_iter(alloc, [1, 3].into_iter())
 }
 
 fn walked<B: BitBlock>(
@@ -148,7 +142,7 @@ fn walked<B: BitBlock>(
 impl<B: BitBlock> Trial<(Walk, State)> for Walking<B> {
     fn prepare(alloc: Global, _call: &(Walk, State)) -> Result<Self, Fault> {
         let graph = lists(alloc)?;
-        let starts = starts(alloc)?;
+        let starts = set_of(alloc, &[1, 3])?;
         let reached = BitSet::new_general(alloc);
         Ok(Walking {
             graph,
@@ -186,30 +180,44 @@ fn are_within<B: BitBlock>(rows: &[BitSet<B>], others: &[BitSet<B>]) -> bool {
 // Whether these are the rows of the closure, and work as sets.
 fn are_closed<B: BitBlock>(rows: &mut [BitSet<B>]) -> bool {
     let mut is_right = rows.len() == CLOSED.len();
-    for (row, ends) in rows.iter_mut().zip(CLOSED) {
+    for (row, ends) in rows.iter_mut().zip(&CLOSED) {
         is_right &= has_just(row, ends, usize::MAX) && works(row);
     }
     is_right
 }
 
-// Whether the rows are as they may be after a closure; and a further call leaves the rows of the closure, so that they
-// had nothing that the closure does not have. Where it failed each row still has all that it had, and nothing else where
-// all had the capacity.
+// Whether the rows are as they may be after a closure. Where it failed each still has all that it had, and nothing else
+// where all had the capacity.
 fn may_be_closed<B: BitBlock>(
-    alloc: Global,
-    rows: &mut Vec<BitSet<B>>,
+    first: &[BitSet<B>],
+    rows: &mut [BitSet<B>],
     has_capacity: bool,
     has_returned: bool,
-) -> Result<bool, Fault> {
-    let first = sets(alloc, false)?;
-    let is_kept = are_within(first.as_slice(), rows.as_slice());
-    let is_right = if has_returned {
-        are_closed(rows.as_mut_slice())
-    } else {
-        !has_capacity || are_within(rows.as_slice(), first.as_slice())
-    };
-    close(alloc, rows.as_mut_slice())?;
-    Ok(is_kept && is_right && are_closed(rows.as_mut_slice()))
+) -> bool {
+    let is_kept = are_within(first, rows);
+    let is_same = are_within(rows, first);
+    is_kept
+        && if has_returned {
+            are_closed(rows)
+        } else {
+            is_same || !has_capacity
+        }
+}
+
+fn were_closed<B: BitBlock>(
+    alloc: Global,
+    rows: &mut [BitSet<B>],
+    has_capacity: bool,
+    has_returned: bool,
+) -> Result<bool, SetError> {
+    let first = sets_of(alloc, &ENDS)?;
+    Ok(may_be_closed(first.as_slice(), rows, has_capacity, has_returned))
+}
+
+// Whether a further call leaves the rows of the closure, so that they had nothing that it does not have.
+fn closes<B: BitBlock>(alloc: Global, rows: &mut [BitSet<B>]) -> Result<bool, Fault> {
+    close(alloc, rows)?;
+    Ok(are_closed(rows))
 }
 
 impl<B: BitBlock> Trial<RowsCall> for Vec<BitSet<B>> {
@@ -241,7 +249,8 @@ impl<B: BitBlock> Trial<RowsCall> for Vec<BitSet<B>> {
     ) -> Result<bool, Fault> {
         match call {
             RowsCall::Close(has_capacity) => {
-                may_be_closed(alloc, self, *has_capacity, has_returned)
+                let was_right = were_closed(alloc, self, *has_capacity, has_returned)?;
+                Ok(closes(alloc, self)? && was_right)
             }
             RowsCall::Compare => Ok(true),
         }

@@ -308,16 +308,24 @@ fn nonzero_walks<B: BitBlock>(bits: &BitVec<B>) -> [usize; 6] {
     ]
 }
 
-fn bit_changes<B: BitBlock>(set: &mut BitSet<B>, lent: &BitVec<B>) -> [usize; 6] {
-    let bits = set.get_mut();
-    let mut was_in = false;
-    if bits.len() > 447 {
-        bits.set(5, true);
-        was_in = bits.replace(447, false);
+// Sets two values. What one of them was.
+fn set_two<B: BitBlock>(bits: &mut BitVec<B>) -> bool {
+    if bits.len() <= 447 {
+        return false;
     }
+    bits.set(5, true);
+    bits.replace(447, false)
+}
+
+fn merge<B: BitBlock>(bits: &mut BitVec<B>, lent: &BitVec<B>) {
     if lent.len() <= bits.len() {
         bits.merge_blocks(lent, Merge::Union, &mut Steps::new());
     }
+}
+
+fn bit_changes<B: BitBlock>(bits: &mut BitVec<B>, lent: &BitVec<B>) -> [usize; 6] {
+    let was_in = set_two(bits);
+    merge(bits, lent);
     let has_come = bits.get(7) == Some(true);
     bits.truncate(448);
     let len = bits.len();
@@ -356,7 +364,7 @@ fn results<B: BitBlock>(alloc: Global, kind: Kind, sets: &mut Sets<B>) -> [usize
         Kind::Moves => moves(alloc, &mut sets.set),
         Kind::Texts => shown(&mut sets.set),
         Kind::Changes => changes(&mut sets.set),
-        Kind::BitChanges => bit_changes(&mut sets.set, sets.lent.get_ref()),
+        Kind::BitChanges => bit_changes(sets.set.get_mut(), sets.lent.get_ref()),
         _ => read(kind, &sets.set, &sets.lent),
     }
 }
@@ -367,7 +375,8 @@ impl<B: BitBlock> Trial<Group> for Sets<B> {
     }
 
     fn make(&mut self, alloc: Global, group: &Group) -> Result<bool, Fault> {
-        Ok(results(alloc, group.0, self) == group.1)
+        let Group(kind, wanted, _) = group;
+        Ok(results(alloc, *kind, self) == *wanted)
     }
 
     fn is_right(
@@ -376,7 +385,8 @@ impl<B: BitBlock> Trial<Group> for Sets<B> {
         group: &Group,
         _has_returned: bool,
     ) -> Result<bool, Fault> {
-        Ok(self.are(group.2, LENT) && self.work())
+        let Group(_, _, left) = group;
+        Ok(self.are(*left, LENT) && self.work())
     }
 }
 
