@@ -1,7 +1,7 @@
 // Calls of the solver of data-flow problems, and of the analyses above it.
 use crate::asks::Ask;
 use crate::faults::Fault;
-use crate::states::{has_just, works};
+use crate::states::{has_just, push, works};
 use crate::sweep::{Row, Sweep, Trial};
 use bit_set::{BitBlock, BitSet, SetError};
 use dataflow::{
@@ -173,30 +173,46 @@ impl<B: BitBlock> Problem<B> {
     }
 
     // Appends a block of these parts.
-    fn push(&mut self, part: Part<B>) -> Result<(), AllocError> {
+    fn append(&mut self, part: Part<B>) -> Result<(), AllocError> {
+        let Part {
+            sources,
+            gained,
+            lost,
+        } = part;
         match self {
-            Problem::Solve(blocks) => blocks.push(FlowBlock {
-                sources: part.sources,
-                generated: part.gained,
-                killed: part.lost,
-            })?,
-            Problem::LiveVariables(blocks) => blocks.push(VariableBlock {
-                successors: part.sources,
-                used: part.gained,
-                assigned: part.lost,
-            })?,
-            Problem::ReachingDefinitions(blocks) => blocks.push(DefinitionBlock {
-                predecessors: part.sources,
-                defined: part.gained,
-                overwritten: part.lost,
-            })?,
-            Problem::AvailableExpressions(blocks) => blocks.push(ExpressionBlock {
-                predecessors: part.sources,
-                computed: part.gained,
-                killed: part.lost,
-            })?,
+            Problem::Solve(blocks) => push(
+                blocks,
+                FlowBlock {
+                    sources,
+                    generated: gained,
+                    killed: lost,
+                },
+            ),
+            Problem::LiveVariables(blocks) => push(
+                blocks,
+                VariableBlock {
+                    successors: sources,
+                    used: gained,
+                    assigned: lost,
+                },
+            ),
+            Problem::ReachingDefinitions(blocks) => push(
+                blocks,
+                DefinitionBlock {
+                    predecessors: sources,
+                    defined: gained,
+                    overwritten: lost,
+                },
+            ),
+            Problem::AvailableExpressions(blocks) => push(
+                blocks,
+                ExpressionBlock {
+                    predecessors: sources,
+                    computed: gained,
+                    killed: lost,
+                },
+            ),
         }
-        Ok(())
     }
 
     fn solved(&self, alloc: Global) -> Result<Vec<BitSet<B>>, AllocError> {
@@ -214,7 +230,7 @@ impl<B: BitBlock> Problem<B> {
 fn problem_of<B: BitBlock>(alloc: Global, call: Call) -> Result<Problem<B>, SetError> {
     let mut problem = Problem::new(alloc, call);
     for block in call.blocks() {
-        problem.push(part_of(alloc, block)?)?;
+        problem.append(part_of(alloc, block)?)?;
     }
     Ok(problem)
 }

@@ -188,31 +188,16 @@ fn may_stand<B: BitBlock>(table: &Table<B>, place: usize) -> bool {
     }
 }
 
-// The lines of the replies.
-fn spelled(alloc: Global, replies: &[Reply]) -> Result<Vec<u8>, AllocError> {
-    let mut out = Vec::new(alloc);
-    for reply in replies {
-        append_reply(&mut out, reply)?;
-        out.push(b'\n')?;
-    }
-    Ok(out)
-}
-
-// The lines that reply to the first of the lines, so many.
-fn output(alloc: Global, count: usize) -> Result<Vec<u8>, AllocError> {
-    let mut out = Vec::new(alloc);
-    for line in LINES.iter().take(count) {
-        out.extend_from_slice(line.reply.as_bytes())?;
-        out.push(b'\n')?;
-    }
-    Ok(out)
-}
-
 // Whether so many commands have just their replies.
 fn are_replies(alloc: Global, count: usize, replies: &[Reply]) -> Result<bool, AllocError> {
-    let found = spelled(alloc, replies)?;
-    let wanted = output(alloc, count)?;
-    Ok(replies.len() == count && found.as_slice() == wanted.as_slice())
+    let mut text = Vec::new(alloc);
+    let mut is_right = replies.len() == count;
+    for (reply, line) in replies.iter().zip(LINES) {
+        text.clear();
+        append_reply(&mut text, reply)?;
+        is_right &= text.as_slice() == line.reply.as_bytes();
+    }
+    Ok(is_right)
 }
 
 impl<B: BitBlock> Running<B> {
@@ -304,19 +289,21 @@ struct Lines<B: BitBlock> {
     blocks: PhantomData<B>,
 }
 
-fn input(alloc: Global) -> Result<Vec<u8>, AllocError> {
-    let mut input = Vec::new(alloc);
+// The lines, or what replies to them.
+fn joined(alloc: Global, are_replies: bool) -> Result<Vec<u8>, AllocError> {
+    let mut text = Vec::new(alloc);
     for line in LINES {
-        input.extend_from_slice(line.text.as_bytes())?;
-        input.push(b'\n')?;
+        let part = if are_replies { line.reply } else { line.text };
+        text.extend_from_slice(part.as_bytes())?;
+        text.push(b'\n')?;
     }
-    Ok(input)
+    Ok(text)
 }
 
 impl<B: BitBlock> Trial<()> for Lines<B> {
     fn prepare(alloc: Global, _call: &()) -> Result<Self, Fault> {
-        let input = input(alloc)?;
-        let written = Vec::with_capacity(alloc, output(alloc, LINES.len())?.len())?;
+        let input = joined(alloc, false)?;
+        let written = Vec::with_capacity(alloc, joined(alloc, true)?.len())?;
         let blocks = PhantomData;
         Ok(Lines {
             input,
@@ -332,8 +319,10 @@ impl<B: BitBlock> Trial<()> for Lines<B> {
     }
 
     fn is_right(&mut self, alloc: Global, _call: &(), has_returned: bool) -> Result<bool, Fault> {
-        let count = if has_returned { LINES.len() } else { 0 };
-        Ok(output(alloc, count)?.as_slice() == self.written.as_slice())
+        if !has_returned {
+            return Ok(self.written.is_empty());
+        }
+        Ok(joined(alloc, true)?.as_slice() == self.written.as_slice())
     }
 }
 

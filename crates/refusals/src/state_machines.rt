@@ -1,7 +1,7 @@
 // Calls of the library of finite automata.
 use crate::asks::Ask;
 use crate::faults::Fault;
-use crate::states::{set_of, sets_of};
+use crate::states::{push, set_of, sets_of};
 use crate::sweep::{Row, Sweep, Trial};
 use automata::{Dfa, Nfa, accepts, determinize, equivalent};
 use bit_set::{BitBlock, BitSet, SetError};
@@ -55,7 +55,7 @@ const MOVES: [[&[usize]; 3]; 2] = [[&[0], &[2], &[5000]], [&[0, 1], &[2], &[5000
 fn moves<B: BitBlock>(alloc: Global) -> Result<Vec<Vec<BitSet<B>>>, SetError> {
     let mut moves = Vec::new(alloc);
     for rows in &MOVES {
-        moves.push(sets_of(alloc, rows)?)?;
+        push(&mut moves, sets_of(alloc, rows)?)?;
     }
     Ok(moves)
 }
@@ -213,10 +213,13 @@ struct Making<B: BitBlock> {
 }
 
 // The automaton of these moves that starts nowhere.
-fn idle<B: BitBlock>(alloc: Global, moves: Vec<Vec<BitSet<B>>>) -> Nfa<B> {
-    let starts = BitSet::new_general(alloc);
-    let accepting = BitSet::new_general(alloc);
-    Nfa::new(moves, starts, accepting)
+fn idle<B: BitBlock>(alloc: Global, moves: &mut Vec<Vec<BitSet<B>>>) -> Nfa<B> {
+    let moves = mem::replace(moves, Vec::new(alloc));
+    Nfa::new(
+        moves,
+        BitSet::new_general(alloc),
+        BitSet::new_general(alloc),
+    )
 }
 
 impl<B: BitBlock> Trial<()> for Making<B> {
@@ -228,15 +231,13 @@ impl<B: BitBlock> Trial<()> for Making<B> {
     }
 
     fn make(&mut self, alloc: Global, _call: &()) -> Result<bool, Fault> {
-        let nfa = idle(alloc, mem::replace(&mut self.moves, Vec::new(alloc)));
-        let symbols = [nfa.symbols(), self.table.symbols()];
-        self.made = Some(nfa);
-        Ok(symbols == [2, 2] && is_table(&self.table))
+        self.made = Some(idle(alloc, &mut self.moves));
+        Ok(is_table(&self.table) && self.table.symbols() == 2)
     }
 
     fn is_right(&mut self, alloc: Global, _call: &(), _returned: bool) -> Result<bool, Fault> {
         match &self.made {
-            Some(nfa) => Ok(!accepted(alloc, nfa, THIRD)?),
+            Some(nfa) => Ok(nfa.symbols() == 2 && !accepted(alloc, nfa, THIRD)?),
             None => Ok(false),
         }
     }

@@ -2,7 +2,7 @@
 use crate::faults::Fault;
 use bit_set::bit_vec::BitVec;
 use bit_set::{BitBlock, BitSet, SetError};
-use std::alloc::Global;
+use std::alloc::{AllocError, Global};
 
 /// What a set is.
 #[derive(Clone, Copy)]
@@ -80,11 +80,16 @@ pub fn lent_set<B: BitBlock>(alloc: Global) -> Result<BitSet<B>, SetError> {
     set_of(alloc, &[3, 7, 5000])
 }
 
+/// Appends an item to a list.
+pub fn push<T: Drop>(list: &mut Vec<T>, item: T) -> Result<(), AllocError> {
+    Ok(list.push(item)?)
+}
+
 /// A set for each of these rows of numbers.
 pub fn sets_of<B: BitBlock>(alloc: Global, rows: &[&[usize]]) -> Result<Vec<BitSet<B>>, SetError> {
     let mut sets = Vec::new(alloc);
     for numbers in rows {
-        sets.push(set_of(alloc, numbers)?)?;
+        push(&mut sets, set_of(alloc, numbers)?)?;
     }
     Ok(sets)
 }

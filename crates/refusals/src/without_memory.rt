@@ -140,15 +140,25 @@ fn len_in_table<B: BitBlock>(alloc: Global) -> usize {
     }
 }
 
+// The lengths of a bit vector and of a list of numbers that are made of nothing.
+fn empty_lengths<B: BitBlock>(alloc: Global) -> (usize, usize) {
+    let bits = BitSet::<B>::new_general(alloc).into_bit_vec().len();
+    let numbers = Numbers::from_vec(Vec::new(alloc)).as_slice().len();
+    (bits, numbers)
+}
+
 // What is made of nothing.
 fn empty_ones<B: BitBlock>(alloc: Global) -> [usize; 6] {
+    let (bits, numbers) = empty_lengths::<B>(alloc);
+    let in_table = len_in_table::<B>(alloc);
+    let is_empty = BitSet::new(alloc).is_empty();
     let set = BitSet::<B>::new_general(alloc);
     [
         set.count(),
-        BitSet::<B>::new_general(alloc).into_bit_vec().len(),
-        number(set.is_empty() && BitSet::new(alloc).is_empty()),
-        len_in_table::<B>(alloc),
-        Numbers::from_vec(Vec::new(alloc)).as_slice().len(),
+        bits,
+        number(is_empty && set.is_empty()),
+        in_table,
+        numbers,
         set.capacity(),
     ]
 }
@@ -189,18 +199,21 @@ fn sum<I: Iterator<Item = usize> + Drop>(items: I) -> usize
     sum
 }
 
-fn walks<B: BitBlock>(set: &BitSet<B>, lent: &BitSet<B>) -> [usize; 6] {
+// The sum of a walk, and how many items are left after the first.
+fn walk<B: BitBlock>(set: &BitSet<B>) -> (usize, usize) {
     let mut walk = set.iter();
     let whole = walk.clone();
     let _ = walk.next();
-    [
-        sum(whole),
-        walk.count(),
-        sum(set.union(lent).clone()),
-        sum(set.intersection(lent).clone()),
-        sum(set.difference(lent).clone()),
-        sum(set.symmetric_difference(lent).clone()),
-    ]
+    (sum(whole), walk.count())
+}
+
+fn walks<B: BitBlock>(set: &BitSet<B>, lent: &BitSet<B>) -> [usize; 6] {
+    let (whole, left) = walk(set);
+    let union = sum(set.union(lent).clone());
+    let intersection = sum(set.intersection(lent).clone());
+    let difference = sum(set.difference(lent).clone());
+    let symmetric = sum(set.symmetric_difference(lent).clone());
+    [whole, left, union, intersection, difference, symmetric]
 }
 
 // Whether a walk over 5001 places says that it has numbers from none up to those of their whole blocks.
@@ -209,23 +222,26 @@ fn is_hint<B: BitBlock>(hint: (usize, Option<usize>)) -> bool {
     hint == (0, blocks.checked_mul(B::bits()))
 }
 
+// Each walk has a statement of its own, at whose end it is dropped: then the next has fewer values beside it.
 fn hints<B: BitBlock>(set: &BitSet<B>, lent: &BitSet<B>) -> [usize; 6] {
-    [
-        number(is_hint::<B>(set.iter().size_hint())),
-        number(is_hint::<B>(set.union(lent).size_hint())),
-        set.intersection(lent).size_hint().1.unwrap_or(0),
-        number(is_hint::<B>(set.difference(lent).size_hint())),
-        number(is_hint::<B>(set.symmetric_difference(lent).size_hint())),
-        0,
-    ]
+    let own = number(is_hint::<B>(set.iter().size_hint()));
+    let union = number(is_hint::<B>(set.union(lent).size_hint()));
+    let intersection = set.intersection(lent).size_hint().1.unwrap_or(0);
+    let difference = number(is_hint::<B>(set.difference(lent).size_hint()));
+    let symmetric = number(is_hint::<B>(set.symmetric_difference(lent).size_hint()));
+    [own, union, intersection, difference, symmetric, 0]
 }
 
 fn counts<B: BitBlock>(set: &BitSet<B>, lent: &BitSet<B>) -> [usize; 6] {
+    let union = set.union(lent).count();
+    let intersection = set.intersection(lent).count();
+    let difference = set.difference(lent).count();
+    let symmetric = set.symmetric_difference(lent).count();
     [
-        set.union(lent).count(),
-        set.intersection(lent).count(),
-        set.difference(lent).count(),
-        set.symmetric_difference(lent).count(),
+        union,
+        intersection,
+        difference,
+        symmetric,
         sum(set.into_iter()),
         0,
     ]
