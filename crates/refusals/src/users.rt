@@ -26,16 +26,19 @@ enum Walk {
     FromAny,
 }
 
+// The memory that a walk from node 0 may ask for: that of its set, and of its stack.
+const REACHABLE: &[Ask] = &[
+    Ask::Grown(1),
+    Ask::Grown(41),
+    Ask::Grown(5001),
+    Ask::Other(1, 64),
+];
+
 // A walk, for whose set and stack memory may be asked for, and what it reaches.
 const WALKS: &[Row<(Walk, State)>] = &[
     Row {
         name: "reachable",
-        asks: &[
-            Ask::Grown(1),
-            Ask::Grown(41),
-            Ask::Grown(5001),
-            Ask::Other(1, 64),
-        ],
+        asks: REACHABLE,
         call: (Walk::FromOne, State::Of(&[0, 1, 2, 40, 5000], 5001)),
     },
     Row {
@@ -55,6 +58,8 @@ enum RowsCall {
     // The closure, where each row has the capacity for it, or no more than it takes.
     Close(bool),
     Compare,
+    // What is reached from node 0.
+    Reach,
 }
 
 const ROWS_CALLS: &[Row<RowsCall>] = &[
@@ -72,6 +77,11 @@ const ROWS_CALLS: &[Row<RowsCall>] = &[
         name: "reaches_all_of",
         asks: &[],
         call: RowsCall::Compare,
+    },
+    Row {
+        name: "reachable_over_sets",
+        asks: REACHABLE,
+        call: RowsCall::Reach,
     },
 ];
 
@@ -224,7 +234,7 @@ impl<B: BitBlock> Trial<RowsCall> for Vec<BitSet<B>> {
     fn prepare(alloc: Global, call: &RowsCall) -> Result<Self, Fault> {
         match call {
             RowsCall::Close(has_capacity) => sets(alloc, *has_capacity),
-            RowsCall::Compare => sets(alloc, false),
+            RowsCall::Compare | RowsCall::Reach => sets(alloc, false),
         }
     }
 
@@ -237,6 +247,10 @@ impl<B: BitBlock> Trial<RowsCall> for Vec<BitSet<B>> {
             RowsCall::Compare => {
                 let rows = self.as_slice();
                 Ok(reaches_all_of(rows, 0, 3) && !reaches_all_of(rows, 0, 1))
+            }
+            RowsCall::Reach => {
+                let reached = reachable::<B, _>(alloc, self.as_slice(), 0)?;
+                Ok(is_state(&reached, State::Of(&[0, 1, 2, 40, 5000], 5001)))
             }
         }
     }
@@ -252,7 +266,7 @@ impl<B: BitBlock> Trial<RowsCall> for Vec<BitSet<B>> {
                 let was_right = were_closed(alloc, self, *has_capacity, has_returned)?;
                 Ok(closes(alloc, self)? && was_right)
             }
-            RowsCall::Compare => Ok(true),
+            RowsCall::Compare | RowsCall::Reach => Ok(true),
         }
     }
 }

@@ -222,7 +222,6 @@ fn is_hint<B: BitBlock>(hint: (usize, Option<usize>)) -> bool {
     hint == (0, blocks.checked_mul(B::bits()))
 }
 
-// Each walk has a statement of its own, at whose end it is dropped: then the next has fewer values beside it.
 fn hints<B: BitBlock>(set: &BitSet<B>, lent: &BitSet<B>) -> [usize; 6] {
     let own = number(is_hint::<B>(set.iter().size_hint()));
     let union = number(is_hint::<B>(set.union(lent).size_hint()));
