@@ -1,7 +1,7 @@
 //! Walks over sets in chains.
-ghost use Rattle.std.specs.Prelude.{◌≡◌, ℕ, false, nat_le, nat_lt, IfOk, IsTrue, MatchOption, OnOk};
-ghost use Rattle.std.specs.List.{list_all, list_any};
-ghost use Rattle.bit_set.specs.Choices.{IsGreatest, IsLeastPassing};
+ghost use Rattle.std.specs.Prelude.{◌≡◌, ℕ, ◌/◌, ◌==◌, ◌↔◌, false, map, nat_le, nat_lt, position, Any, IfOk, IsTrue, MatchOption, None, OnOk};
+ghost use Rattle.std.specs.List.{last_or, list_all, list_any};
+ghost use Rattle.bit_set.specs.Choices.{IsGreatest, IsLeast, IsLeastPassing};
 ghost use Rattle.bit_set.specs.Members.{HasNone, IsIntersection, IsSameSet, IsUnion};
 ghost use Rattle.bit_set.specs.Order.{same_sets};
 ghost use Rattle.bit_set.specs.Sets.{elements, has, union};
@@ -50,6 +50,17 @@ pub fn copy_over<A: BitBlock, B: BitBlock>(
     BitSet::from_iter(alloc, set.iter())
 }
 
+/// The half of each member, over another block type.
+pub fn halves<A: BitBlock, B: BitBlock>(
+    alloc: Global,
+    set: &BitSet<A>,
+) -> Result<BitSet<B>, SetError>
+    ensures { IfOk result (λ halves.
+        IsSameSet (elements halves.values) (map (λ x. x / 2) (elements set.now.values))) }
+{
+    BitSet::from_iter(alloc, set.iter().map(|x| x / 2))
+}
+
 /// What both sets have, as a new one.
 pub fn common<B: BitBlock>(
     alloc: Global,
@@ -69,6 +80,27 @@ pub fn greatest<B: BitBlock>(set: &BitSet<B>) -> Option<usize>
     set.iter().max()
 }
 
+/// The least member.
+pub fn least<B: BitBlock>(set: &BitSet<B>) -> Option<usize>
+    ensures { MatchOption result (HasNone (elements set.now.values)) (IsLeast (elements set.now.values)) }
+{
+    set.iter().min()
+}
+
+/// The last member: what `last_or` gives is the greatest by `laws::ends_of_sets`.
+pub fn last<B: BitBlock>(set: &BitSet<B>) -> Option<usize>
+    ensures { result ≡ last_or None (elements set.now.values) }
+{
+    set.iter().last()
+}
+
+/// At which place among the members, in ascending order, a number is.
+pub fn place_of<B: BitBlock>(set: &BitSet<B>, value: usize) -> Option<usize>
+    ensures { result ≡ position (λ x. x == value) (elements set.now.values) }
+{
+    set.iter().position(|x| x == value)
+}
+
 /// The least member that is `n` or above.
 pub fn first_from<B: BitBlock>(set: &BitSet<B>, n: usize) -> Option<usize>
     ensures { MatchOption result
@@ -83,4 +115,12 @@ pub fn is_union<B: BitBlock>(a: &BitSet<B>, b: &BitSet<B>, whole: &BitSet<B>) ->
     ensures { result ≡ same_sets (union (elements a.now.values) (elements b.now.values)) (elements whole.now.values) }
 {
     a.union(b).eq(whole.iter())
+}
+
+/// Whether a row has a set of these members.
+pub fn has_set<B: BitBlock>(sets: &[BitSet<B>], set: &BitSet<B>) -> bool
+    ensures { IsTrue result
+        ↔ Any (λ one. IsSameSet (elements one.values) (elements set.now.values)) sets.now }
+{
+    sets.iter().any(|one| *one == *set)
 }

@@ -13,10 +13,16 @@ pub mod bits;
 #[cfg(test)]
 mod bits_tests;
 pub mod chains;
+#[cfg(test)]
+mod chains_tests;
 pub mod commands;
 #[cfg(test)]
 mod commands_tests;
+#[cfg(test)]
+mod expect;
 pub mod loops;
+#[cfg(test)]
+mod loops_tests;
 #[cfg(test)]
 mod tests;
 

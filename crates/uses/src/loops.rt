@@ -1,9 +1,8 @@
 //! Loops over sets. Each is proved by its invariant alone, but for those with an `Answers.antt` in `proofs/`.
-ghost use Rattle.std.specs.Prelude.{◌≡◌, ◌≢◌, ℕ, ◌+◌, ◌-◌, ◌<◌, ◌≤◌, ◌^◌, ◌%◌, ◌==◌, ◌&&◌, ◌↔◌, false, nat_le, sum, IfErr, IfNone, IfOk, IfSome, IsTrue, MatchOption, OnOk, length, slice_index_or};
+ghost use Rattle.std.specs.Prelude.{◌≡◌, ◌≢◌, ℕ, ◌+◌, ◌-◌, ◌<◌, ◌≤◌, ◌^◌, ◌%◌, ◌==◌, ◌&&◌, ◌↔◌, false, nat_le, sum, Any, IfErr, IfNone, IfOk, IfSome, IsTrue, MatchOption, OnOk, length, slice_index_or};
 ghost use Rattle.std.specs.List.{list_any};
 ghost use Rattle.bit_set.specs.Choices.{IsGreatest};
-ghost use Rattle.bit_set.specs.Members.{HasNone, IsDifference, IsDisjoint, IsSubset, IsUnion};
-ghost use Rattle.bit_set.specs.Order.{same_sets};
+ghost use Rattle.bit_set.specs.Members.{HasNone, IsDifference, IsDisjoint, IsSameSet, IsSubset, IsUnion};
 ghost use Rattle.bit_set.specs.Sets.{elements, has};
 
 use bit_set::{BitBlock, BitSet, SetError, laws};
@@ -109,10 +108,10 @@ pub fn are_parts<B: BitBlock>(a: &BitSet<B>, b: &BitSet<B>, whole: &BitSet<B>) -
     a.is_disjoint(b) && a.is_subset(whole) && b.is_subset(whole)
 }
 
-/// Whether a row has a set of these members: what `same_sets` means of members is a clause of
-/// `laws::tests_of_members`.
+/// Whether a row has a set of these members.
 pub fn has_set<B: BitBlock>(sets: &[BitSet<B>], set: &BitSet<B>) -> bool
-    ensures { result ≡ list_any (λ one. same_sets (elements one.values) (elements set.now.values)) sets.now }
+    ensures { IsTrue result
+        ↔ Any (λ one. IsSameSet (elements one.values) (elements set.now.values)) sets.now }
 {
     for one in sets {
         if *one == *set {
@@ -132,6 +131,7 @@ pub fn remove_each<B: BitBlock>(set: &mut BitSet<B>, numbers: &[usize])
 }
 
 /// Takes the members of another set out, which may have another block type.
+#[tactic(auto, using(std::proofs::lemmas::Bool::Decides::nat_tests))]
 pub fn remove_members<A: BitBlock, B: BitBlock>(set: &mut BitSet<A>, other: &BitSet<B>)
     ensures { IsDifference (elements set.old.values) (elements other.now.values) (elements set.new.values) }
 {

@@ -1,0 +1,52 @@
+use crate::chains::*;
+use crate::expect::{expect_eq, ok};
+use crate::tests::{has_members, set_of};
+
+// A bound, whether 3 and 70 are both below it, and the least of them that is not.
+const BOUNDS: &[(usize, bool, Option<usize>)] = &[
+    (0, false, Some(3)),
+    (4, false, Some(70)),
+    (70, false, Some(70)),
+    (71, true, None),
+];
+
+#[test]
+fn members_are_searched(rt: HostRuntime) {
+    let set = set_of::<u8>(&rt, rt.alloc(), &[3, 70]);
+    for &(n, below, first) in BOUNDS {
+        let found = (all_below(&set, n), !any_from(&set, n), first_from(&set, n));
+        expect_eq(&rt, &found, &(below, below, first));
+    }
+}
+
+#[test]
+fn members_are_put_in(rt: HostRuntime) {
+    let mut set = set_of::<u8>(&rt, rt.alloc(), &[2]);
+    ok(&rt, put_row(&mut set, &[70, 3, 9, 3]));
+    ok(
+        &rt,
+        put_members(&mut set, &set_of::<u64>(&rt, rt.alloc(), &[0, 2])),
+    );
+    has_members(&rt, &set, &[0, 2, 3, 9, 70]);
+}
+
+#[test]
+fn sets_are_made_by_chains(rt: HostRuntime) {
+    let a = set_of::<u128>(&rt, rt.alloc(), &[0, 2, 300]);
+    has_members(
+        &rt,
+        &ok(&rt, copy_over::<_, u8>(rt.alloc(), &a)),
+        &[0, 2, 300],
+    );
+    let b = set_of::<u128>(&rt, rt.alloc(), &[2, 3, 300]);
+    has_members(&rt, &ok(&rt, common(rt.alloc(), &a, &b)), &[2, 300]);
+    has_members(&rt, &ok(&rt, halves::<_, u8>(rt.alloc(), &b)), &[1, 150]);
+}
+
+#[test]
+fn members_have_places(rt: HostRuntime) {
+    let set = set_of::<u8>(&rt, rt.alloc(), &[3, 70]);
+    expect_eq(&rt, &[least(&set), last(&set)], &[Some(3), Some(70)]);
+    let places = [place_of(&set, 70), place_of(&set, 4)];
+    expect_eq(&rt, &places, &[Some(1), None]);
+}
