@@ -1,7 +1,5 @@
 -- The values of bytes: a byte turned round, one moved into its place in a block, and the list of all.
-use Rattle.std.proofs.Common.{◌≡◌, ℕ, zero, suc, ◌+◌, ◌-◌, ◌*◌, ◌/◌, ◌%◌, ◌^◌, ◌<◌, ◌≤◌, false, ◌&&◌, ◌||◌, ◌==◌, nat_lt, List, [], ◌∷◌, length, get_or, drop, refl, sym, ap, ap₂, ◌∙◌, arith, ⊎_elim, mod-lt, div-add-mod', w8, min, slice_range, get_or-take, get_or-drop, length-take, length-append}
-use Rattle.std.proofs.Math.Bool.{or-false}
-use Rattle.std.proofs.lemmas.Bool.{cases_lt}
+use Rattle.std.proofs.Common.{Bool, ◌≡◌, ℕ, zero, suc, ◌+◌, ◌-◌, ◌*◌, ◌/◌, ◌%◌, ◌^◌, ◌<◌, ◌≤◌, false, ◌&&◌, ◌||◌, ◌==◌, nat_lt, List, [], ◌∷◌, length, get_or, refl, sym, ap, ap₂, ◌∙◌, arith, mod-lt, div-add-mod', w8, min, slice_range, get_or-take, get_or-drop, length-take, length-append}
 use Rattle.std.proofs.lemmas.Nat.Bits.{bit_at-suc, bit_at_lowest, bit_at_above}
 use Rattle.std.proofs.lemmas.List.{get_or_past, get_or_append_left, get_or-append_right}
 use Rattle.std.proofs.lemmas.List.FromFn.{get_or-map-range_with_len}
@@ -13,36 +11,24 @@ use Rattle.bit_words.specs.Digits.{IsWidth, IsEither, IsShiftedLeft, is_one}
 use Rattle.bit_words.specs.Bytes.{byte_value}
 use Rattle.bit_words.specs.Storage.{value_at}
 use Rattle.bit_words.proofs.Masks.{is_one-either, is_one-zero}
-use Rattle.bit_words.proofs.TestLemmas.{above_and, below_and}
+use Rattle.std.proofs.lemmas.Bool.Decides.{nat_tests}
 
 -- ---- a byte turned round
 
 -- digits are taken from the low end of n and put below those of a
 bit_at_pushed : (a d i : ℕ) → d < 2 → bit_at (a * 2 + d) (suc i) ≡ bit_at a i
-bit_at_pushed a d i h = bit_at-suc (a * 2 + d) i ∙ ap (λ m. bit_at m i) (let e : (a * 2 + d) / 2 ≡ a = omega arith in e)
+bit_at_pushed a d i h = grind (arith, bit_at-suc)
 
-bit_at_pushed_low : (a d : ℕ) → d < 2 → bit_at (a * 2 + d) 0 ≡ d
-bit_at_pushed_low a d h = bit_at_lowest (a * 2 + d) ∙ omega arith
+turned_more : (k n a : ℕ) (f : ℕ → ℕ) → ((j : ℕ) → j < k → f j ≡ bit_at (n / 2) (k - 1 - j)) → f (k + 0) ≡ bit_at (a * 2 + n % 2) 0 → (i : ℕ) → i < suc k → f i ≡ bit_at n (suc k - 1 - i)
+turned_more k n a f low high i h = grind (arith, bit_at-suc n (k - 1 - i), bit_at_lowest n, bit_at_lowest (a * 2 + n % 2), low i)
 
 turned : (k n a : ℕ) → ((i : ℕ) → i < k → bit_at (reverse_bits_onto k n a) i ≡ bit_at n (k - 1 - i)) × ((i : ℕ) → bit_at (reverse_bits_onto k n a) (k + i) ≡ bit_at a i)
 unfolding reverse_bits_onto
 turned zero n a = (λ i h. absurd (omega arith), λ i. ap (bit_at a) (omega arith))
 turned (suc k) n a =
-    let r = turned k (n / 2) (a * 2 + n % 2) in (
-      λ i h. ⊎_elim
-          (λ low.
-          let e : suc (k - 1 - i) ≡ suc k - 1 - i = omega arith in
-          r.0 i low ∙ sym (bit_at-suc n (k - 1 - i)) ∙ ap (bit_at n) e)
-          (λ high.
-          let e : k + 0 ≡ i = omega arith in
-          let z : suc k - 1 - i ≡ 0 = omega arith in
-          ap (bit_at (reverse_bits_onto k (n / 2) (a * 2 + n % 2))) (sym e)
-          ∙ r.1 0 ∙ bit_at_pushed_low a (n % 2) (omega arith) ∙ sym (bit_at_lowest n) ∙ ap (bit_at n) (sym z))
-          (cases_lt i k),
-      λ i.
-          let e : k + suc i ≡ suc k + i = omega arith in
-          ap (bit_at (reverse_bits_onto k (n / 2) (a * 2 + n % 2))) (sym e) ∙ r.1 (suc i) ∙ bit_at_pushed a (n % 2) i (omega arith),
-    )
+    let rest = reverse_bits_onto k (n / 2) (a * 2 + n % 2) in
+    let r = turned k (n / 2) (a * 2 + n % 2) in
+    (turned_more k n a (bit_at rest) r.0 (r.1 0), λ i. ap (bit_at rest) (omega arith) ∙ r.1 (suc i) ∙ bit_at_pushed a (n % 2) i (omega arith))
 
 pub is_one-turned : (n i : ℕ) → i < 8 → is_one (reverse_bits w8 n) i ≡ is_one n (7 - i)
 is_one-turned n i h = ap (λ d. d == 1) ((turned 8 n 0).0 i h)
@@ -54,10 +40,7 @@ unfolding byte_value
 byte_value-is bytes i q p e f = ap₂ (λ a b. is_one (get_or bytes a 0) (7 - b)) e f
 
 pub byte_value-past : (bytes : List ℕ) (i : ℕ) → 8 * length bytes ≤ i → byte_value bytes i ≡ false
-byte_value-past bytes i h =
-    byte_value-is bytes i (i / 8) (i % 8) refl refl
-    ∙ ap (λ m. is_one m (7 - i % 8)) (get_or_past bytes (i / 8) 0 (omega arith))
-    ∙ is_one-zero (7 - i % 8)
+byte_value-past bytes i h = byte_value-is bytes i _ _ refl refl ∙ rw (get_or_past bytes (i / 8) 0 (omega arith)) (is_one-zero (7 - i % 8))
 
 is_one-above : (m j : ℕ) → m < 2 ^ 8 → 8 ≤ j → is_one m j ≡ false
 is_one-above m j small h = ap (λ d. d == 1) (bit_at_above m 8 j small h)
@@ -67,41 +50,19 @@ moved_below : (w n d r j : ℕ) → IsShiftedLeft w n d r → j < d → is_one r
 moved_below w n d r j is h = ap (λ x. x == 1) (is.zeros j h)
 
 moved_from : (w n d r j : ℕ) → IsShiftedLeft w n d r → d ≤ j → j < w → is_one r j ≡ is_one n (j - d)
-moved_from w n d r j is h k =
-    let e : j - d + d ≡ j = omega arith in
-    let f : j - d + d < w = omega arith in
-    ap (is_one r) (sym e) ∙ ap (λ x. x == 1) (is.moved (j - d) f)
+moved_from w n d r j is h k = grind (arith, is.moved (j - d))
+
+byte_step : (j p : ℕ) (q m n v : Bool) → q ≡ (m || n) → m ≡ (nat_lt j (8 * p) && v) → (j < 8 * p → n ≡ false) → (8 * p ≤ j → j < 8 * (p + 1) → n ≡ v) → (8 * (p + 1) ≤ j → n ≡ false) → q ≡ (nat_lt j (8 * (p + 1)) && v)
+byte_step j p q m n v or old below inside past = grind (arith, nat_tests)
 
 pub byte_added : (w m n d r q p : ℕ) (bytes : List ℕ) → ((j : ℕ) → j < w → is_one m j ≡ (nat_lt j (8 * p) && byte_value bytes j)) → n ≡ reverse_bits w8 (get_or bytes p 0) → n < 2 ^ 8 → d ≡ 8 * p → IsShiftedLeft w n d r → IsEither w m r q → (j : ℕ) → j < w → is_one q j ≡ (nat_lt j (8 * (p + 1)) && byte_value bytes j)
 byte_added w m n d r q p bytes old turn small index moved either j within =
-    is_one-either w m r q j either within
-    ∙ ap (λ a. a || is_one r j) (old j within)
-    ∙ ⊎_elim
-    (λ before.
-    ap₂ (λ a b. a || b) (below_and (8 * p) j (byte_value bytes j) before) (moved_below w n d r j moved (omega arith))
-    ∙ or-false (byte_value bytes j)
-    ∙ sym (below_and (8 * (p + 1)) j (byte_value bytes j) (omega arith)))
-    (λ from.
-    ap₂ (λ a b. a || b) (above_and (8 * p) j (byte_value bytes j) from) (moved_from w n d r j moved (omega arith) within)
-    ∙ ⊎_elim
-    (λ in_byte.
-    let e : 7 - (j - d) ≡ 7 - (j - 8 * p) = omega arith in
-    ap (λ x. is_one x (j - d)) turn
-    ∙ is_one-turned (get_or bytes p 0) (j - d) (omega arith)
-    ∙ ap (is_one (get_or bytes p 0)) e
-    ∙ sym (byte_value-is bytes j p (j - 8 * p) (omega arith) (omega arith))
-    ∙ sym (below_and (8 * (p + 1)) j (byte_value bytes j) in_byte))
-    (λ past. is_one-above n (j - d) small (omega arith) ∙ sym (above_and (8 * (p + 1)) j (byte_value bytes j) past))
-    (cases_lt j (8 * (p + 1))))
-    (cases_lt j (8 * p))
+    byte_step j p _ _ _ _ (is_one-either w m r q j either within) (old j within) (λ before. moved_below w n d r j moved (omega arith))
+    (λ from inside. moved_from w n d r j moved (omega arith) within ∙ ap (λ x. is_one x (j - d)) turn ∙ is_one-turned (get_or bytes p 0) (j - d) (omega arith) ∙ sym (byte_value-is bytes j p (j - d) (omega arith) (omega arith)))
+    (λ past. moved_from w n d r j moved (omega arith) within ∙ is_one-above n (j - d) small (omega arith))
 
 pub bytes_ended : (w m n : ℕ) (bytes : List ℕ) → length bytes ≤ n → ((j : ℕ) → j < w → is_one m j ≡ (nat_lt j (8 * n) && byte_value bytes j)) → (j : ℕ) → j < w → is_one m j ≡ byte_value bytes j
-bytes_ended w m n bytes h digits j within =
-    digits j within
-    ∙ ⊎_elim
-    (λ inside. below_and (8 * n) j (byte_value bytes j) inside)
-    (λ (past : 8 * n ≤ j). above_and (8 * n) j (byte_value bytes j) past ∙ sym (byte_value-past bytes j (omega arith)))
-    (cases_lt j (8 * n))
+bytes_ended w m n bytes h digits j within = grind (arith, nat_tests, digits j within, byte_value-past)
 
 -- ---- the bytes of one block: w is the width, s bytes, and there are n bytes in all
 
@@ -109,11 +70,7 @@ scaled : (w s k n : ℕ) → w ≡ 8 * s → n ≤ k * s → 8 * n ≤ k * w
 scaled w s k n e h = rw e (omega arith)
 
 pub start_below : (w s k n : ℕ) → 0 < w → w ≡ 8 * s → k < blocks_for w (8 * n) → k * s < n
-start_below w s k n pos e h =
-    ⊎_elim
-    (λ below. below)
-    (λ past. let l = blocks_for-least w (8 * n) k pos (scaled w s k n e past) in absurd (omega arith))
-    (cases_lt (k * s) n)
+start_below w s k n pos e h = grind (arith, blocks_for-least w (8 * n) k pos, scaled w s k n e)
 
 -- the same of what the code computes: b is what `bits()` returned
 pub whole_bytes : (w b : ℕ) → IsWidth w → b ≡ w → w ≡ 8 * (b / 8)
@@ -123,13 +80,7 @@ pub first_byte_below : (w b k n : ℕ) → IsWidth w → b ≡ w → k < blocks_
 first_byte_below w b k n width e h = start_below w (b / 8) k n width.positive (whole_bytes w b width e) h
 
 part_at : (bytes : List ℕ) (a b s q : ℕ) → b ≡ min (a + s) (length bytes) → a < length bytes → q < s → get_or (slice_range bytes a b) q 0 ≡ get_or bytes (a + q) 0
-part_at bytes a b s q be below h =
-    ⊎_elim
-    (λ inside. get_or-take (b - a) (drop a bytes) q 0 (omega arith) ∙ get_or-drop a bytes q 0)
-    (λ past.
-    get_or_past (slice_range bytes a b) q 0 (omega (arith, length-take (b - a) (drop a bytes)))
-    ∙ sym (get_or_past bytes (a + q) 0 (omega arith)))
-    (cases_lt (a + q) b)
+part_at bytes a b s q be below h = grind (arith, get_or-take, get_or-drop, get_or_past, length-take)
 
 pub part-values : (w s k : ℕ) (bytes : List ℕ) (a b : ℕ) → w ≡ 8 * s → a ≡ k * s → b ≡ min (a + s) (length bytes) → a < length bytes → (j : ℕ) → j < w → byte_value (slice_range bytes a b) j ≡ byte_value bytes (k * w + j)
 part-values w s k bytes a b e ae be below j within =
@@ -150,40 +101,19 @@ get_or-values_of_byte byte j h = get_or-map-range_with_len (λ p. is_one byte (7
 
 pub length-values_of_bytes : (bytes : List ℕ) → length (values_of_bytes bytes) ≡ 8 * length bytes
 length-values_of_bytes [] = refl
-length-values_of_bytes (byte ∷ bytes) =
-    length-append (values_of_byte byte) (values_of_bytes bytes)
-    ∙ ap₂ (λ a b. a + b) (length-values_of_byte byte) (length-values_of_bytes bytes)
-    ∙ omega arith
+length-values_of_bytes (byte ∷ bytes) = rw length-append (omega (arith, length-values_of_byte byte, length-values_of_bytes bytes))
 
 byte_value-first : (byte : ℕ) (bytes : List ℕ) (i : ℕ) → i < 8 → byte_value (byte ∷ bytes) i ≡ is_one byte (7 - i)
 byte_value-first byte bytes i h = byte_value-is (byte ∷ bytes) i 0 i (omega arith) (omega arith)
 
 byte_value-rest : (byte : ℕ) (bytes : List ℕ) (i : ℕ) → byte_value (byte ∷ bytes) (8 + i) ≡ byte_value bytes i
-byte_value-rest byte bytes i =
-    byte_value-is (byte ∷ bytes) (8 + i) (suc (i / 8)) (i % 8) (omega arith) (omega arith)
-    ∙ sym (byte_value-is bytes i (i / 8) (i % 8) refl refl)
+byte_value-rest byte bytes i = grind (arith, byte_value-is (byte ∷ bytes) (8 + i) (suc (i / 8)) (i % 8), byte_value-is bytes i (i / 8) (i % 8))
 
 pub get_or-values_of_bytes : (bytes : List ℕ) (i : ℕ) → get_or (values_of_bytes bytes) i false ≡ byte_value bytes i
 get_or-values_of_bytes [] i = sym (byte_value-past [] i (omega arith))
-get_or-values_of_bytes (byte ∷ bytes) i =
-    ⊎_elim
-    (λ first.
-    get_or_append_left (values_of_byte byte) (values_of_bytes bytes) false i (rw length-values_of_byte first)
-    ∙ get_or-values_of_byte byte i first
-    ∙ sym (byte_value-first byte bytes i first))
-    (λ rest.
-    let e : 8 + (i - 8) ≡ i = omega arith in
-    get_or-append_right (values_of_byte byte) (values_of_bytes bytes) 8 i false (length-values_of_byte byte) rest
-    ∙ get_or-values_of_bytes bytes (i - 8)
-    ∙ sym (byte_value-rest byte bytes (i - 8))
-    ∙ ap (byte_value (byte ∷ bytes)) e)
-    (cases_lt i 8)
+get_or-values_of_bytes (byte ∷ bytes) i = grind (arith, get_or_append_left (values_of_byte byte) (values_of_bytes bytes) false i, length-values_of_byte byte, get_or-values_of_byte byte i, byte_value-first byte bytes i, get_or-append_right (values_of_byte byte) (values_of_bytes bytes) 8 i false, get_or-values_of_bytes bytes (i - 8), byte_value-rest byte bytes (i - 8))
 
 -- ---- the blocks
 
 pub blocks-byte_value : (w : ℕ) (ms : List ℕ) (bytes : List ℕ) → 0 < w → length ms ≡ blocks_for w (8 * length bytes) → ((q j : ℕ) → q < length ms → j < w → is_one (get_or ms q 0) j ≡ byte_value bytes (q * w + j)) → (i : ℕ) → value_at w ms i ≡ byte_value bytes i
-blocks-byte_value w ms bytes pos count digits i =
-    ⊎_elim
-    (λ within. value_at-is w ms i ∙ digits (i / w) (i % w) within (mod-lt i pos) ∙ ap (byte_value bytes) (div-add-mod' i w))
-    (λ past. value_at-past w ms i past ∙ sym (byte_value-past bytes i (blocks_for-below w (8 * length bytes) i pos (omega arith))))
-    (cases_lt (i / w) (length ms))
+blocks-byte_value w ms bytes pos count digits i = grind (arith, value_at-is, value_at-past, digits (i / w) (i % w), mod-lt i pos, div-add-mod' i w, byte_value-past, blocks_for-below w (8 * length bytes) i pos)

@@ -1,33 +1,27 @@
 -- How far a list is true, and the blocks that this takes.
-use Rattle.std.proofs.Common.{◌≡◌, ◌≢◌, ℕ, zero, suc, ◌+◌, ◌-◌, ◌*◌, ◌/◌, ◌%◌, ◌^◌, ◌<◌, ◌≤◌, max, Bool, true, false, ◌||◌, nat_lt, nat_le, if◌then◌else◌, List, [], ◌∷◌, length, get_or, take, refl, sym, ap, ◌∙◌, arith, ⊎_elim, length-take, le_of_mul-le-mul_right, mul-le-mul_right}
-use Rattle.std.proofs.lemmas.Bool.{cases_lt, true≢false}
+use Rattle.std.proofs.Common.{◌≡◌, ◌≢◌, ℕ, zero, suc, ◌+◌, ◌-◌, ◌*◌, ◌/◌, ◌^◌, ◌<◌, ◌≤◌, max, Bool, false, ◌||◌, nat_lt, if◌then◌else◌, List, [], ◌∷◌, length, get_or, take, refl, ap, ◌∙◌, arith, length-take, le_of_mul-le-mul_right, mul-le-mul_right}
 use Rattle.std.proofs.lemmas.Bool.Decides.{nat_tests}
 use Rattle.bit_words.specs.Bits.{Bits, blocks_for, capacity_of, true_end, whole_blocks}
 use Rattle.bit_words.specs.Storage.{value_at, values_of, IsZeroFrom}
 use Rattle.bit_words.specs.Summary.{shared_capacity, short_count, stored_for}
-use Rattle.bit_words.proofs.BitsLemmas.{block_past, blocks_for-enough, blocks_for-least, whole_before}
-use Rattle.bit_words.proofs.CompareLemmas.{zero_from_digits, digit_from_zero}
+use Rattle.bit_words.proofs.BitsLemmas.{blocks_for-enough, blocks_for-least, whole_before}
+use Rattle.bit_words.proofs.CompareLemmas.{zero_from_digits}
 use Rattle.bit_words.proofs.StorageLemmas.{value_at-is, value_at-past, value_at-index}
 use Rattle.bit_words.proofs.PackedLemmas.{value_at-take}
 use Rattle.bit_words.proofs.VectorLemmas.{length_from_view}
+use Rattle.bit_words.proofs.Masks.{is_one-zero}
+use Rattle.std.proofs.lemmas.Nat.{le-div}
 
 -- ---- how far a list is true
 
 or_pos : (b : Bool) (n i : ℕ) → (if b || nat_lt 0 n then n + 1 else 0) ≤ suc i → n ≤ i
-or_pos true n i h = omega arith
-or_pos false zero i h = omega arith
-or_pos false (suc n) i h = let test : nat_lt 0 (suc n) ≡ true = grind (arith, nat_tests) in let full : suc n + 1 ≤ suc i = rw test at h in omega arith
+or_pos b n i h = grind (arith, nat_tests)
 
 or_none : (b : Bool) (n : ℕ) → (if b || nat_lt 0 n then n + 1 else 0) ≤ 0 → b ≡ false
-or_none true n h = absurd (omega arith)
-or_none false n h = refl
+or_none b n h = grind (arith, nat_tests)
 
 or_least : (b : Bool) (n c : ℕ) → (c ≡ 0 → b ≡ false) → n ≤ c - 1 → (if b || nat_lt 0 n then n + 1 else 0) ≤ c
-or_least true n zero f h = let e : true ≡ false = f refl in absurd (true≢false e)
-or_least true n (suc c) f h = omega arith
-or_least false zero c f h = omega arith
-or_least false (suc n) zero f h = absurd (omega arith)
-or_least false (suc n) (suc c) f h = let test : nat_lt 0 (suc n) ≡ true = grind (arith, nat_tests) in rw test (omega arith)
+or_least b n c f h = grind (arith, nat_tests)
 
 pub true_end-past : (xs : List Bool) (i : ℕ) → true_end xs ≤ i → get_or xs i false ≡ false
 true_end-past [] i h = refl
@@ -50,87 +44,45 @@ blocks_for-whole w c pos =
 -- the last block that is not 0 holds the last true value
 pub used_blocks-true_end : (w : ℕ) (ms : List ℕ) (count : ℕ) (xs : List Bool) → 0 < w → ((k : ℕ) → get_or ms k 0 < 2 ^ w) → ((i : ℕ) → get_or xs i false ≡ value_at w ms i) → ((k : ℕ) → count ≤ k → get_or ms k 0 ≡ 0) → (0 < count → get_or ms (count - 1) 0 ≢ 0) → blocks_for w (true_end xs) ≡ count
 used_blocks-true_end w ms count xs pos small same zeros last =
-    let low = blocks_for-least w (true_end xs) count pos (true_end-least xs (count * w) (λ i past.
-    same i ∙ value_at-is w ms i ∙ digit_from_zero _ (i % w) (zeros (i / w) (block_past w count i pos past)))) in
-    ⊎_elim
-    (λ (less : blocks_for w (true_end xs) < count).
-    let enough = blocks_for-enough w (true_end xs) pos in
-    let more = mul-le-mul_right w (let le : blocks_for w (true_end xs) ≤ count - 1 = omega arith in le) in
-    absurd (last (omega arith) (zero_from_digits w _ (small (count - 1)) (λ j index.
-    sym (value_at-index w ms (count - 1) j index) ∙ sym (same ((count - 1) * w + j)) ∙ true_end-past xs ((count - 1) * w + j) (omega arith)))))
-    (λ (enough : count ≤ blocks_for w (true_end xs)). omega arith)
-    (cases_lt (blocks_for w (true_end xs)) count)
+    let low = blocks_for-least w (true_end xs) count pos (true_end-least xs (count * w) (λ i past. grind (arith, same i, value_at-is, is_one-zero, zeros (i / w), le-div count i w pos))) in
+    let none : blocks_for w (true_end xs) < count → get_or ms (count - 1) 0 ≡ 0 = λ less. zero_from_digits w _ (small (count - 1)) (λ j index.
+    grind (arith, value_at-index w ms (count - 1) j index, same ((count - 1) * w + j), true_end-past xs ((count - 1) * w + j), blocks_for-enough w (true_end xs) pos, mul-le-mul_right)) in
+    grind (arith, none, last)
 
 pub whole_blocks-fits : (w c : ℕ) (xs : List Bool) → blocks_for w (true_end xs) ≡ c → c * w < 2 ^ 64 → whole_blocks w xs ≡ c * w
-whole_blocks-fits w c xs e h =
-    let test : nat_le (c * w) (2 ^ 64 - 1) ≡ true = grind (arith, nat_tests) in
-    ap (λ n. if nat_le (n * w) (2 ^ 64 - 1) then n * w else length xs) e ∙ ap (λ t. if t then c * w else length xs) test
+whole_blocks-fits w c xs e h = grind (arith, nat_tests, e)
 
 pub whole_blocks-past : (w c : ℕ) (xs : List Bool) → blocks_for w (true_end xs) ≡ c → 2 ^ 64 ≤ c * w → whole_blocks w xs ≡ length xs
-whole_blocks-past w c xs e h =
-    let test : nat_le (c * w) (2 ^ 64 - 1) ≡ false = grind (arith, nat_tests) in
-    ap (λ n. if nat_le (n * w) (2 ^ 64 - 1) then n * w else length xs) e ∙ ap (λ t. if t then c * w else length xs) test
+whole_blocks-past w c xs e h = grind (arith, nat_tests, e)
 
 -- ---- what stays when the blocks past them go
 
 pub value_at-cut : (w c : ℕ) (ms ns : List ℕ) → ns ≡ take c ms → ((k : ℕ) → c ≤ k → get_or ms k 0 ≡ 0) → (i : ℕ) → value_at w ns i ≡ value_at w ms i
-value_at-cut w c ms ns e zeros i =
-    ap (λ xs. value_at w xs i) e
-    ∙ ⊎_elim
-    (λ within. value_at-take w c ms i within)
-    (λ past. value_at-past w (take c ms) i (omega (arith, length-take c ms)) ∙ sym (value_at-is w ms i ∙ digit_from_zero _ (i % w) (zeros (i / w) past)))
-    (cases_lt (i / w) c)
+value_at-cut w c ms ns e zeros i = grind (arith, e, value_at-take w c ms i, value_at-past, length-take, value_at-is, zeros (i / w), is_one-zero)
 
 pub zero_tail_cut : (w c : ℕ) (ms ns : List ℕ) (len : ℕ) → 0 < w → len ≡ c * w → ns ≡ take c ms → IsZeroFrom w ns len
-zero_tail_cut w c ms ns len pos e is = record {
-  zero_tail = λ i past. value_at-past w ns i (
-      let blocks = block_past w c i pos (omega arith) in
-      let short = ap length is in
-      omega (arith, length-take c ms));
-}
+zero_tail_cut w c ms ns len pos e is = record { zero_tail = λ i past. value_at-past w ns i (grind (arith, le-div c i w pos, is, length-take)) }
 
 -- ---- the capacity that blocks and their summary share
 
 pub stored_short : (w count : ℕ) → count ≤ short_count w → stored_for w count ≡ 0
-stored_short w count few =
-    let test : nat_le count (short_count w) ≡ true = grind (arith, nat_tests) in
-    ap (λ t. if t then 0 else blocks_for w count) test
+stored_short w count few = grind (arith, nat_tests)
 
 pub stored_long : (w count : ℕ) → short_count w < count → stored_for w count ≡ blocks_for w count
-stored_long w count many =
-    let test : nat_le count (short_count w) ≡ false = grind (arith, nat_tests) in
-    ap (λ t. if t then 0 else blocks_for w count) test
+stored_long w count many = grind (arith, nat_tests)
 
 pub shared_for_summary : (w count summary : ℕ) → 0 < w → stored_for w count ≤ summary → count ≤ max (short_count w) (summary * w)
-shared_for_summary w count summary pos h =
-    ⊎_elim
-    (λ (many : short_count w < count).
-    let enough : blocks_for w count ≤ summary = rw (stored_long w count many) at h in
-    let more = mul-le-mul_right w enough in
-    omega (arith, blocks_for-enough w count pos))
-    (λ (few : count ≤ short_count w). omega arith)
-    (cases_lt (short_count w) count)
+shared_for_summary w count summary pos h = grind (arith, nat_tests, blocks_for-enough w count pos, mul-le-mul_right)
 
 pub shared_past_summary : (w count summary : ℕ) → 0 < w → summary < stored_for w count → max (short_count w) (summary * w) < count
-shared_past_summary w count summary pos h =
-    ⊎_elim
-    (λ (many : short_count w < count).
-    let short : summary < blocks_for w count = rw (stored_long w count many) at h in
-    let less = whole_before w count summary pos short in
-    omega arith)
-    (λ (few : count ≤ short_count w). let none : summary < 0 = rw (stored_short w count few) at h in absurd (omega arith))
-    (cases_lt (short_count w) count)
+shared_past_summary w count summary pos h = grind (arith, nat_tests, whole_before w count summary pos)
 
 pub shared_enough : (w blocks summary count : ℕ) → 0 < w → count ≤ blocks → stored_for w count ≤ summary → count ≤ shared_capacity w blocks summary
 shared_enough w blocks summary count pos first second = let more = shared_for_summary w count summary pos second in omega arith
 
 -- and the summary has capacity for that many
 pub stored_from_shared : (w blocks summary count : ℕ) → 0 < w → count ≤ shared_capacity w blocks summary → stored_for w count ≤ summary
-stored_from_shared w blocks summary count pos h =
-    ⊎_elim
-    (λ (short : summary < stored_for w count). let less = shared_past_summary w count summary pos short in absurd (omega arith))
-    (λ (enough : stored_for w count ≤ summary). enough)
-    (cases_lt summary (stored_for w count))
+stored_from_shared w blocks summary count pos h = grind (arith, shared_past_summary w count summary pos)
 
 pub shared_short_blocks : (w blocks summary count : ℕ) → blocks < count → shared_capacity w blocks summary < count
 shared_short_blocks w blocks summary count short = omega arith

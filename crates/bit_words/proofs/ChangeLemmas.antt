@@ -1,19 +1,19 @@
 -- What a write of one block does to the value at every index.
-use Rattle.std.proofs.Common.{◌≡◌, ◌≢◌, ℕ, suc, ◌+◌, ◌*◌, ◌/◌, ◌%◌, ◌^◌, ◌<◌, ◌≤◌, ◌==◌, Bool, true, false, ◌&&◌, ◌||◌, nat_lt, nat_le, List, length, get_or, set, refl, sym, ap, ap₂, ◌∙◌, arith, ⊎_elim, div-add-mod', mod-lt, div-lt_iff_lt-mul, div-mul-le_self, mul-le-mul_right}
+use Rattle.std.proofs.Common.{◌≡◌, ◌≢◌, ℕ, ◌+◌, ◌*◌, ◌/◌, ◌%◌, ◌^◌, ◌<◌, ◌≤◌, ◌==◌, Bool, true, false, ◌&&◌, ◌||◌, nat_lt, nat_le, List, length, get_or, set, refl, sym, ap, ◌∙◌, arith, div-add-mod', mod-lt, div-lt_iff_lt-mul, div-mul-le_self}
 use mathlib.Core.Bool.{beq}
-use Rattle.std.proofs.lemmas.Bool.{cases_lt, cases_eq, true≢false, false≢true}
 use Rattle.std.proofs.lemmas.Bool.Decides.{nat_tests}
 use Rattle.std.proofs.lemmas.Nat.Bits.{same_from_bits_below}
 use Rattle.bit_words.specs.Bits.{blocks_for}
 use Rattle.bit_words.specs.Digits.{is_one}
 use Rattle.bit_words.specs.Storage.{value_at, WritesValue}
 use Rattle.bit_words.proofs.StorageLemmas.{same_digit, value_at-is, value_at-past, value_at-set_same, value_at-set_other}
-use Rattle.bit_words.proofs.TestLemmas.{above_and, before_false, below_and}
+use Rattle.bit_words.proofs.TestLemmas.{above_and, below_and}
+use Rattle.bit_words.proofs.BitsLemmas.{index_below}
 
 -- ---- within one block, places follow indexes
 
 same_index : (w i j : ℕ) → i / w ≡ j / w → i % w ≡ j % w → i ≡ j
-same_index w i j e f = let p = ap (λ q. q * w) e in omega (arith, div-add-mod' i w, div-add-mod' j w)
+same_index w i j e f = rw (← div-add-mod' i w) (rw (← div-add-mod' j w) (rw (e, f) refl))
 
 pub nat_le-indexes : (w i j : ℕ) → j / w ≡ i / w → nat_le i j ≡ nat_le (i % w) (j % w)
 nat_le-indexes w i j e = let p = ap (λ q. q * w) e in let a = div-add-mod' i w in let b = div-add-mod' j w in grind (arith, nat_tests)
@@ -39,19 +39,12 @@ value_read w ms i k p m ke pe read = ap (is_one m) pe ∙ sym (read_at w ms k m 
 -- one bit of a block
 pub put_bit : (w : ℕ) (ms ns : List ℕ) (i k p m n : ℕ) (b : Bool) → 0 < w → k ≡ i / w → p ≡ i % w → k < length ms → m ≡ get_or ms k 0 → ns ≡ set ms k n → is_one n p ≡ b → ((j : ℕ) → j < w → j ≢ p → is_one n j ≡ is_one m j) → WritesValue w ms ns i b
 put_bit w ms ns i k p m n b pos ke pe h read e digit digits = record {
-  same = written_same w ms ns k n i e h (sym ke) ∙ ap (is_one n) (sym pe) ∙ digit;
-  others = λ j ne. ⊎_elim
-      (λ here. written_same w ms ns k n j e h here
-      ∙ digits (j % w) (mod-lt j pos) (λ q. ne (same_index w j i (here ∙ ke) (q ∙ pe)))
-      ∙ sym (read_at w ms k m j read here))
-      (λ there. written_other w ms ns k n j e there)
-      (cases_eq (j / w) k);
+  same = grind (arith, written_same w ms ns k n i e h, digit);
+  others = λ j ne. grind (arith, written_same w ms ns k n j e h, digits (j % w), mod-lt j pos, same_index w j i, read_at w ms k m j read, written_other w ms ns k n j e);
 }
 
 or_and_false : (a b : Bool) → a ≡ (a || (b && false))
-or_and_false true b = refl
-or_and_false false true = refl
-or_and_false false false = refl
+or_and_false a b = grind arith
 
 -- in a block other than the one at which the values end, the index says on which side it is
 kept_before : (w : ℕ) (ms : List ℕ) (len i : ℕ) → i < len → value_at w ms i ≡ (nat_lt i len && value_at w ms i)
@@ -64,86 +57,40 @@ pub div_lt : (w i j : ℕ) → 0 < w → i / w < j / w → i < j
 div_lt w i j pos h = let a = (div-lt_iff_lt-mul pos).0 h in omega (arith, div-mul-le_self j w)
 
 pub div_le : (w i j : ℕ) → 0 < w → i ≤ j → i / w ≤ j / w
-div_le w i j pos h = ⊎_elim (λ below. let a = div_lt w j i pos below in absurd (omega arith)) (λ le. le) (cases_lt (j / w) (i / w))
+div_le w i j pos h = grind (arith, div_lt w j i pos)
 
 -- ---- ones from the end of the values on, up to another index
 
 -- where that index is in the same block
 pub digits_between : (w s t k p e m n : ℕ) → k ≡ t / w → e ≡ t % w → ((j : ℕ) → j < w → is_one n j ≡ (is_one m j || (nat_lt j e && nat_le p j))) → (j : ℕ) → j < w → is_one n j ≡ (is_one m j || (nat_lt (k * w + j) t && nat_le p j))
-digits_between w s t k p e m n ke ee digits j h =
-    let q = ap (λ x. x * w) ke in
-    let split = div-add-mod' t w in
-    let test : nat_lt j e ≡ nat_lt (k * w + j) t = grind (arith, nat_tests) in
-    digits j h ∙ ap (λ x. is_one m j || (x && nat_le p j)) test
+digits_between w s t k p e m n ke ee digits j h = grind (arith, nat_tests, div-add-mod' t w, digits j h)
 
 -- where it is in a later one
 pub digits_from : (w s t k p m n : ℕ) → 0 < w → k ≡ s / w → s ≤ t → t / w ≢ k → ((j : ℕ) → j < w → is_one n j ≡ (is_one m j || nat_le p j)) → (j : ℕ) → j < w → is_one n j ≡ (is_one m j || (nat_lt (k * w + j) t && nat_le p j))
-digits_from w s t k p m n pos ke forward later digits j h =
-    let le = div_le w s t pos forward in
-    let above = mul-le-mul_right w (let l : suc k ≤ t / w = omega arith in l) in
-    let test : nat_lt (k * w + j) t ≡ true = let low = div-mul-le_self t w in grind (arith, nat_tests) in
-    digits j h ∙ ap (λ x. is_one m j || (x && nat_le p j)) (sym test)
+digits_from w s t k p m n pos ke forward later digits j h = grind (arith, nat_tests, div_le w s t pos forward, index_below w k j t h, div-mul-le_self t w, digits j h)
 
 pub tail_set : (w : ℕ) (ms ns : List ℕ) (s t k p m n : ℕ) → 0 < w → k ≡ s / w → p ≡ s % w → p ≢ 0 → length ms ≡ blocks_for w s → m ≡ get_or ms k 0 → ns ≡ set ms k n → ((j : ℕ) → j < w → is_one n j ≡ (is_one m j || (nat_lt (k * w + j) t && nat_le p j))) → (i : ℕ) → i / w < length ms → value_at w ns i ≡ (value_at w ms i || (nat_lt i t && nat_le s i))
 tail_set w ms ns s t k p m n pos ke pe nz count read e digits i within =
-    ⊎_elim
-    (λ here.
-    let index : k * w + i % w ≡ i = ap (λ q. q * w + i % w) (sym here) ∙ div-add-mod' i w in
-    written_same w ms ns k n i e (omega arith) here
-    ∙ digits (i % w) (mod-lt i pos)
-    ∙ ap₂ (λ a b. a || b) (sym (read_at w ms k m i read here)) (ap₂ (λ a b. nat_lt a t && b) index (ap (λ q. nat_le q (i % w)) pe ∙ sym (nat_le-indexes w s i (here ∙ ke)))))
-    (λ there.
-    let before = div_lt w i s pos (omega arith) in
-    written_other w ms ns k n i e there
-    ∙ or_and_false (value_at w ms i) (nat_lt i t)
-    ∙ ap (λ x. value_at w ms i || (nat_lt i t && x)) (sym (before_false s i before)))
-    (cases_eq (i / w) k)
+    grind (arith, nat_tests, div-add-mod' i w, written_same w ms ns k n i e, digits (i % w), mod-lt i pos, read_at w ms k m i read, nat_le-indexes w s i, div_lt w i s pos, written_other w ms ns k n i e)
 
 -- ---- zeros from the end of the values on
 
 pub lowered_whole : (w : ℕ) (ms : List ℕ) (len : ℕ) → 0 < w → len % w ≡ 0 → length ms ≡ blocks_for w len → (i : ℕ) → value_at w ms i ≡ (nat_lt i len && value_at w ms i)
-lowered_whole w ms len pos z count i =
-    ⊎_elim
-    (λ before. kept_before w ms len i before)
-    (λ past. past_blocks w ms len i past (let l = div_le w len i pos past in omega arith))
-    (cases_lt i len)
+lowered_whole w ms len pos z count i = grind (arith, nat_tests, value_at-past w ms i, div_le w len i pos)
 
 pub lowered : (w : ℕ) (ms ns : List ℕ) (len k p m n : ℕ) → 0 < w → k ≡ len / w → p ≡ len % w → p ≢ 0 → length ms ≡ blocks_for w len → m ≡ get_or ms k 0 → ns ≡ set ms k n → ((j : ℕ) → j < w → is_one n j ≡ (nat_lt j p && is_one m j)) → (i : ℕ) → value_at w ns i ≡ (nat_lt i len && value_at w ms i)
 lowered w ms ns len k p m n pos ke pe nz count read e digits i =
-    ⊎_elim
-    (λ here.
-    written_same w ms ns k n i e (omega arith) here
-    ∙ digits (i % w) (mod-lt i pos)
-    ∙ ap₂ (λ a b. a && b) (ap (nat_lt (i % w)) pe ∙ sym (nat_lt-indexes w i len (here ∙ ke))) (sym (read_at w ms k m i read here)))
-    (λ there.
-    written_other w ms ns k n i e there
-    ∙ ⊎_elim
-    (λ before. kept_before w ms len i before)
-    (λ past. past_blocks w ms len i past (let l = div_le w len i pos past in let far : i / w ≢ len / w = λ q. there (q ∙ sym ke) in omega arith))
-    (cases_lt i len))
-    (cases_eq (i / w) k)
+    grind (arith, nat_tests, written_same w ms ns k n i e, digits (i % w), mod-lt i pos, nat_lt-indexes w i len, read_at w ms k m i read, written_other w ms ns k n i e, value_at-past w ms i, div_le w len i pos)
 
 -- ---- what a bit was, by whether its block changed
 
 -- where the bit was the same, so is the block
 kept_block : (w m n p : ℕ) (bit : Bool) → m < 2 ^ w → n < 2 ^ w → is_one n p ≡ bit → ((j : ℕ) → j < w → j ≢ p → is_one n j ≡ is_one m j) → is_one m p ≡ bit → n ≡ m
-kept_block w m n p bit small also digit others was =
-    same_from_bits_below w n m also small (λ j within.
-    same_digit n m j (⊎_elim (λ here. ap (is_one n) here ∙ digit ∙ sym was ∙ sym (ap (is_one m) here)) (λ there. others j within there) (cases_eq j p)))
+kept_block w m n p bit small also digit others was = same_from_bits_below w n m also small (λ j within. same_digit n m j (grind (arith, others j within, digit, was)))
 
 -- the bit was the one that was written just where the block stays
 was_known : (r bit was : Bool) → (r ≡ true → was ≡ bit) → (was ≡ bit → r ≡ true) → beq r bit ≡ was
-was_known true true true stays back = refl
-was_known true true false stays back = absurd (false≢true (stays refl))
-was_known true false true stays back = absurd (true≢false (stays refl))
-was_known true false false stays back = refl
-was_known false true true stays back = absurd (false≢true (back refl))
-was_known false true false stays back = refl
-was_known false false true stays back = refl
-was_known false false false stays back = absurd (false≢true (back refl))
+was_known r bit was stays back = grind arith
 
 pub bit_before : (w m n p : ℕ) (bit r : Bool) → m < 2 ^ w → n < 2 ^ w → is_one n p ≡ bit → ((j : ℕ) → j < w → j ≢ p → is_one n j ≡ is_one m j) → r ≡ (n == m) → beq r bit ≡ is_one m p
-bit_before w m n p bit r small also digit others test =
-    was_known r bit (is_one m p)
-    (λ is. let e : n ≡ m = grind (arith, nat_tests, test, is) in ap (λ x. is_one x p) (sym e) ∙ digit)
-    (λ was. let e = kept_block w m n p bit small also digit others was in grind (arith, nat_tests, test, e))
+bit_before w m n p bit r small also digit others test = grind (arith, nat_tests, was_known, kept_block w m n p bit small also digit others, test, digit)

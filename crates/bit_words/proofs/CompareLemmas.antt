@@ -1,7 +1,6 @@
 -- When the blocks of two lists merge to zeros, and what that says of the lists.
-use Rattle.std.proofs.Common.{◌≡◌, ◌≢◌, ℕ, zero, suc, ◌+◌, ◌*◌, ◌/◌, ◌%◌, ◌^◌, ◌<◌, ◌≤◌, ◌↔◌, ◌==◌, Bool, true, false, List, [], ◌∷◌, length, map, get_or, slice_get, Some, refl, ◌⊎◌, inl, inr, min, sym, ap, ap₂, ◌∙◌, arith, ⊎_elim, mod-lt, pow_pos}
-use Rattle.std.proofs.Math.Bool.{and-false, and-true}
-use Rattle.std.proofs.lemmas.Bool.{cases_lt, eq-eqb, false≢true}
+use Rattle.std.proofs.Common.{◌≡◌, ◌≢◌, ℕ, ◌+◌, ◌*◌, ◌/◌, ◌%◌, ◌^◌, ◌<◌, ◌≤◌, ◌↔◌, ◌==◌, Bool, true, false, List, length, map, get_or, slice_get, Some, refl, ◌⊎◌, min, sym, ap, ap₂, ◌∙◌, arith, mod-lt, pow_pos}
+use Rattle.std.proofs.lemmas.Bool.{eq-eqb, false≢true}
 use Rattle.std.proofs.lemmas.List.{get_or_past, length-map}
 use Rattle.std.proofs.lemmas.Nat.Bits.{bit_at-zero, same_from_bits_below}
 use Rattle.std.proofs.lemmas.Option.{get_or_from_slice_get}
@@ -17,6 +16,7 @@ use Rattle.bit_words.proofs.Masks.{is_one-zero}
 use Rattle.bit_words.proofs.StorageLemmas.{value_at-is, value_at-index, value_at-past, get_or-values_of_zero_tail}
 use Rattle.bit_words.proofs.MergeLemmas.{get_or-merged}
 use Rattle.bit_words.proofs.VectorLemmas.{bit_from_false}
+use Rattle.std.proofs.lemmas.Grind.{common_steps}
 
 -- ---- blocks
 
@@ -35,23 +35,13 @@ mismatch_zero n z b is mismatch naught none = false≢true (sym mismatch ∙ is 
 -- block k is one of those that merge to 0, and its merge is n
 pub merge_of_zeros : (m : Merge) (w : ℕ) (ms ns : List ℕ) (count k a b n : ℕ) → n < 2 ^ w → a ≡ get_or ms k 0 → b ≡ get_or ns k 0 → ((j : ℕ) → j < w → is_one n j ≡ merge_of_values m (is_one a j) (is_one b j)) → k < count → MergesToZero m w ms ns count → n ≡ 0
 merge_of_zeros m w ms ns count k a b n small first second digits within zeros =
-    zero_from_digits w n small (λ j index.
-    digits j index
-    ∙ ap₂ (λ x y. merge_of_values m (is_one x j) (is_one y j)) first second
-    ∙ zeros.digit k j within index)
+    zero_from_digits w n small (λ j index. cc (digits j index, zeros.digit k j within index))
 
 -- ---- the first index at which they merge to true
 
 -- it lies past the blocks that merge to 0
 pub first_is_past : (m : Merge) (w : ℕ) (ms ns : List ℕ) (count i : ℕ) → 0 < w → MergesToZero m w ms ns count → IsFirstMerged m w ms ns i → count ≤ i / w
-first_is_past m w ms ns count i pos zeros first =
-    ⊎_elim
-    (λ within. absurd (false≢true (
-    sym (zeros.digit (i / w) (i % w) within (mod-lt i pos))
-    ∙ ap₂ (merge_of_values m) (sym (value_at-is w ms i)) (sym (value_at-is w ns i))
-    ∙ first.is_true)))
-    (λ past. past)
-    (cases_lt (i / w) count)
+first_is_past m w ms ns count i pos zeros first = grind (arith, zeros.digit (i / w) (i % w), first.is_true, value_at-is, mod-lt i pos)
 
 -- the blocks before its own merge to 0
 pub zero_before_first : (m : Merge) (w : ℕ) (ms ns : List ℕ) (count i : ℕ) → count ≤ i / w → IsFirstMerged m w ms ns i → MergesToZero m w ms ns count
@@ -64,23 +54,12 @@ zero_before_first m w ms ns count i past first = record {
 -- so its block is the first whose merge n is not 0
 pub first_is_here : (m : Merge) (w : ℕ) (ms ns : List ℕ) (k a b n i : ℕ) → 0 < w → n < 2 ^ w → a ≡ get_or ms k 0 → b ≡ get_or ns k 0 → ((j : ℕ) → j < w → is_one n j ≡ merge_of_values m (is_one a j) (is_one b j)) → n ≢ 0 → MergesToZero m w ms ns k → IsFirstMerged m w ms ns i → i / w ≡ k
 first_is_here m w ms ns k a b n i pos small one two digits some zeros first =
-    let past = first_is_past m w ms ns k i pos zeros first in
-    ⊎_elim
-    (λ beyond. absurd (some (merge_of_zeros m w ms ns (i / w) k a b n small one two digits beyond (zero_before_first m w ms ns (i / w) i (omega arith) first))))
-    (λ within. omega arith)
-    (cases_lt k (i / w))
+    grind (arith, first_is_past m w ms ns k i pos zeros first, λ (beyond : k < i / w). some (merge_of_zeros m w ms ns (i / w) k a b n small one two digits beyond (zero_before_first m w ms ns (i / w) i (omega arith) first)))
 
 -- ---- values
 
 pub false_from_zero : (m : Merge) (w : ℕ) (ms ns : List ℕ) (count : ℕ) → 0 < w → MergesToZero m w ms ns count → ((k j : ℕ) → count ≤ k → j < w → merge_of_values m (is_one (get_or ms k 0) j) (is_one (get_or ns k 0) j) ≡ false) → MergesToFalse m w ms ns
-false_from_zero m w ms ns count pos zeros past = record {
-  value = λ i.
-      ap₂ (merge_of_values m) (value_at-is w ms i) (value_at-is w ns i)
-      ∙ ⊎_elim
-      (λ within. zeros.digit (i / w) (i % w) within (mod-lt i pos))
-      (λ out. past (i / w) (i % w) out (mod-lt i pos))
-      (cases_lt (i / w) count);
-}
+false_from_zero m w ms ns count pos zeros past = record { value = λ i. grind (arith, value_at-is, zeros.digit (i / w) (i % w), past (i / w) (i % w), mod-lt i pos) }
 
 pub zero_from_false : (m : Merge) (w : ℕ) (ms ns : List ℕ) → MergesToFalse m w ms ns → (k j : ℕ) → j < w → merge_of_values m (is_one (get_or ms k 0) j) (is_one (get_or ns k 0) j) ≡ false
 zero_from_false m w ms ns falses k j index =
@@ -88,74 +67,41 @@ zero_from_false m w ms ns falses k j index =
 
 -- the lesser of two numbers of blocks is one of them
 pub shorter_end : {X : Type 0} (f : X → ℕ) (xs ys : List X) (c : ℕ) → c ≡ min (length xs) (length ys) → (c ≡ length (map f ys)) ⊎ (c ≡ length (map f xs))
-shorter_end f xs ys c e =
-    rw (length-map xs, length-map ys) (
-    ⊎_elim
-    (λ (less : length xs < length ys). inr (omega arith))
-    (λ (more : length ys ≤ length xs). inl (omega arith))
-    (cases_lt (length xs) (length ys)))
+shorter_end f xs ys c e = rw (length-map xs, length-map ys) (grind arith)
 
 difference_of_false : (b : Bool) → merge_of_values Difference false b ≡ false
 difference_of_false b = refl
 
 difference_past : (a : Bool) → merge_of_values Difference a false ≡ false → a ≡ false
-difference_past a e = sym (and-true a) ∙ e
+difference_past a e = grind arith
 
 -- a difference: where both have blocks, and past those
 pub difference_of_blocks : (w : ℕ) (ms ns : List ℕ) (count : ℕ) → 0 < w → ((k : ℕ) → get_or ms k 0 < 2 ^ w) → (count ≡ length ns) ⊎ (count ≡ length ms) → (MergesToZero Difference w ms ns count × ((k : ℕ) → count ≤ k → get_or ms k 0 ≡ 0)) ↔ MergesToFalse Difference w ms ns
 difference_of_blocks w ms ns count pos small ends = (
-  λ zeros. false_from_zero Difference w ms ns count pos zeros.0 (λ k j past index.
-      ap (λ x. merge_of_values Difference x (is_one (get_or ns k 0) j)) (digit_from_zero _ j (zeros.1 k past)) ∙ difference_of_false (is_one (get_or ns k 0) j)),
+  λ zeros. false_from_zero Difference w ms ns count pos zeros.0 (λ k j past index. rw (zeros.1 k past, is_one-zero) refl),
   λ falses. (
     record { digit = λ k j within index. zero_from_false Difference w ms ns falses k j index },
-    λ k past. ⊎_elim
-        (λ other. zero_from_digits w _ (small k) (λ j index. difference_past _ (
-        ap (merge_of_values Difference (is_one (get_or ms k 0) j)) (sym (digit_from_zero _ j (get_or_past ns k 0 (omega arith))))
-        ∙ zero_from_false Difference w ms ns falses k j index)))
-        (λ own. get_or_past ms k 0 (omega arith))
-        ends,
+    λ k past. zero_from_digits w _ (small k) (λ j index. grind (arith, zero_from_false Difference w ms ns falses k j index, get_or_past, is_one-zero, ends)),
   ),
 )
 
 -- an intersection: it is enough to look where both have blocks
 pub intersection_of_blocks : (w : ℕ) (ms ns : List ℕ) (count : ℕ) → 0 < w → (count ≡ length ns) ⊎ (count ≡ length ms) → MergesToZero Intersection w ms ns count ↔ MergesToFalse Intersection w ms ns
 intersection_of_blocks w ms ns count pos ends = (
-  λ zeros. false_from_zero Intersection w ms ns count pos zeros (λ k j past index.
-      ⊎_elim
-      (λ other. ap (merge_of_values Intersection (is_one (get_or ms k 0) j)) (digit_from_zero _ j (get_or_past ns k 0 (omega arith))) ∙ and-false (is_one (get_or ms k 0) j))
-      (λ own. ap (λ x. merge_of_values Intersection x (is_one (get_or ns k 0) j)) (digit_from_zero _ j (get_or_past ms k 0 (omega arith))))
-      ends),
+  λ zeros. false_from_zero Intersection w ms ns count pos zeros (λ k j past index. grind (arith, get_or_past, is_one-zero, ends)),
   λ falses. record { digit = λ k j within index. zero_from_false Intersection w ms ns falses k j index },
 )
 
 -- where a difference first is true past the others, the first own block past them that is not 0
 pub first_of_rest : (w : ℕ) (ms ns : List ℕ) (count i : ℕ) → ((k : ℕ) → get_or ms k 0 < 2 ^ w) → (count ≡ length ns) ⊎ (count ≡ length ms) → IsFirstMerged Difference w ms ns i → (get_or ms (i / w) 0 ≢ 0) × ((q : ℕ) → count ≤ q → q < i / w → get_or ms q 0 ≡ 0)
 first_of_rest w ms ns count i small ends first = (
-  λ none. false≢true (
-      sym (difference_of_false (value_at w ns i))
-      ∙ ap (λ x. merge_of_values Difference x (value_at w ns i)) (sym (value_at-is w ms i ∙ digit_from_zero _ (i % w) none))
-      ∙ first.is_true),
-  λ q past below. ⊎_elim
-      (λ other. zero_from_digits w _ (small q) (λ j index. difference_past _ (
-      ap (merge_of_values Difference (is_one (get_or ms q 0) j)) (sym (digit_from_zero _ j (get_or_past ns q 0 (omega arith))))
-      ∙ ap₂ (merge_of_values Difference) (sym (value_at-index w ms q j index)) (sym (value_at-index w ns q j index))
-      ∙ first.before (q * w + j) (index_below w q j i index below))))
-      (λ own. get_or_past ms q 0 (omega arith))
-      ends,
+  λ none. grind (arith, value_at-is, is_one-zero, none, first.is_true),
+  λ q past below. zero_from_digits w _ (small q) (λ j index. grind (arith, get_or_past, is_one-zero, ends, value_at-index w ms q j index, value_at-index w ns q j index, first.before (q * w + j) (index_below w q j i index below))),
 )
 
 -- where an intersection first is true, both have a block
 pub first_is_within : (w : ℕ) (ms ns : List ℕ) (count i : ℕ) → (count ≡ length ns) ⊎ (count ≡ length ms) → IsFirstMerged Intersection w ms ns i → i / w < count
-first_is_within w ms ns count i ends first =
-    ⊎_elim
-    (λ within. within)
-    (λ past. absurd (false≢true (
-    sym (⊎_elim
-    (λ other. ap (merge_of_values Intersection (value_at w ms i)) (value_at-past w ns i (omega arith)) ∙ and-false (value_at w ms i))
-    (λ own. ap (λ x. merge_of_values Intersection x (value_at w ns i)) (value_at-past w ms i (omega arith)))
-    ends)
-    ∙ first.is_true)))
-    (cases_lt (i / w) count)
+first_is_within w ms ns count i ends first = grind (arith, ends, first.is_true, value_at-past)
 
 -- ---- lists
 
@@ -171,10 +117,7 @@ true_at w n r ms v e zero_tail i =
     )
 
 false_from_not : (bs : List Bool) (j : ℕ) → slice_get bs j ≢ Some true → get_or bs j false ≡ false
-false_from_not [] j h = refl
-false_from_not (true ∷ bs) zero h = absurd (h refl)
-false_from_not (false ∷ bs) zero h = refl
-false_from_not (b ∷ bs) (suc j) h = false_from_not bs j h
+false_from_not bs j h = grind (arith, slice_get_from_true, common_steps)
 
 merged_in_views : (m : Merge) (w n p r s : ℕ) (ms ns : List ℕ) (v u : Bits) → record { values = values_of w ms n; capacity = r } ≡ v → record { values = values_of w ns p; capacity = s } ≡ u → IsZeroFrom w ms n → IsZeroFrom w ns p → (i : ℕ) → get_or (merge_of m v.values u.values) i false ≡ merge_of_values m (value_at w ms i) (value_at w ns i)
 merged_in_views m w n p r s ms ns v u e f zero_tail also i =
@@ -188,23 +131,16 @@ first_of_lists m w n p r s ms ns v u e f zero_tail also i first = record {
 }
 
 difference_true : (a b : Bool) → merge_of_values Difference a b ≡ false → a ≡ true → b ≡ true
-difference_true true true e f = refl
-difference_true true false e f = sym e ∙ f
-difference_true false b e f = absurd (false≢true f)
+difference_true a b e f = grind arith
 
 difference_false : (a b : Bool) → (a ≡ true → b ≡ true) → merge_of_values Difference a b ≡ false
-difference_false true b f = ap (λ x. merge_of_values Difference true x) (f refl)
-difference_false false b f = difference_of_false b
+difference_false a b f = grind arith
 
 intersection_not : (a b : Bool) → merge_of_values Intersection a b ≡ false → a ≡ true → b ≢ true
-intersection_not true true e f g = false≢true (sym e)
-intersection_not true false e f g = false≢true g
-intersection_not false b e f g = false≢true f
+intersection_not a b e f g = grind arith
 
 intersection_false : (a b : Bool) → (a ≡ true → b ≢ true) → merge_of_values Intersection a b ≡ false
-intersection_false true true f = absurd (f refl refl)
-intersection_false true false f = refl
-intersection_false false b f = refl
+intersection_false a b f = grind arith
 
 pub subset_lists : (w n p r s : ℕ) (ms ns : List ℕ) (v u : Bits) → record { values = values_of w ms n; capacity = r } ≡ v → record { values = values_of w ns p; capacity = s } ≡ u → IsZeroFrom w ms n → IsZeroFrom w ns p → MergesToFalse Difference w ms ns ↔ ((i : ℕ) → slice_get v.values i ≡ Some true → slice_get u.values i ≡ Some true)
 subset_lists w n p r s ms ns v u e f zero_tail also = (

@@ -1,8 +1,8 @@
 -- The lowest 1 of a number, from its odd part.
-use Rattle.std.proofs.Common.{◌≡◌, ◌≢◌, ℕ, zero, suc, ◌+◌, ◌-◌, ◌*◌, ◌/◌, ◌%◌, ◌^◌, ◌<◌, ◌≤◌, min, count_ones, sym, ap, ◌∙◌, subst, ⊎_elim, arith}
+use Rattle.std.proofs.Common.{⊎_elim, ◌≡◌, ◌≢◌, ℕ, zero, suc, ◌+◌, ◌-◌, ◌*◌, ◌/◌, ◌%◌, ◌^◌, ◌<◌, ◌≤◌, min, count_ones, sym, ap, ◌∙◌, subst, arith}
 use Rattle.std.specs.Int.{bit_at}
 use Rattle.std.proofs.Math.Nat.{pow-suc}
-use Rattle.std.proofs.lemmas.Bool.{cases_lt, cases_order}
+use Rattle.std.proofs.lemmas.Bool.{cases_lt}
 use Rattle.std.proofs.lemmas.Nat.{pow_pos, pow_below, ones_cat, ones_le_self, zero_from_ones}
 use Rattle.std.proofs.lemmas.Nat.Bits.{bit_at_lowest, bit_at-suc, bit_at-pow_same, bit_at-pow_other, bit_at-lt, bit_at_cat_high, same_from_bits_below}
 use Rattle.bit_words.specs.DigitLaws.{bit_at-complement, bit_at-shl_low, bit_at-shl_high}
@@ -15,7 +15,7 @@ pub record IsOddAt (m i q : ℕ) : Type 0 where
 
 -- one zero more, at the double
 twice_odd : (m i q : ℕ) → m / 2 ≡ (q * 2 + 1) * 2 ^ i → m % 2 ≡ 0 → m ≡ (q * 2 + 1) * 2 ^ suc i
-twice_odd m i q half even = rw (pow-suc 2 i) (omega (arith, half))
+twice_odd m i q half even = grind (arith, pow-suc 2 i)
 
 pub odd_part : (w m : ℕ) → 0 < m → m < 2 ^ w → (i : ℕ) × ((q : ℕ) × ((i < w) × IsOddAt m i q))
 odd_part zero m pos fits = absurd (omega arith)
@@ -37,22 +37,16 @@ record Sides (m i : ℕ) : Type 0 where
 
 -- past its lowest digit an odd number has the digits of the even number below it
 odd_above : (q k : ℕ) → 0 < k → bit_at (q * 2) k ≡ bit_at (q * 2 + 1) k
-odd_above q zero pos = absurd (omega arith)
-odd_above q (suc k) pos =
-    let e : q * 2 / 2 ≡ (q * 2 + 1) / 2 = omega arith in
-    bit_at-suc (q * 2) k ∙ ap (λ x. bit_at x k) e ∙ sym (bit_at-suc (q * 2 + 1) k)
+odd_above q k pos = grind (arith, bit_at-suc (q * 2) (k - 1), bit_at-suc (q * 2 + 1) (k - 1))
 
 one_less : (q p : ℕ) → 0 < p → (q * 2 + 1) * p - 1 ≡ q * 2 * p + (p - 1)
 one_less q p pos = omega arith
 
 odd_high : (o i k : ℕ) → i ≤ k → bit_at (o * 2 ^ i) k ≡ bit_at o (k - i)
-odd_high o i k past =
-    let e : k ≡ k - i + i = omega arith in
-    ap (λ x. bit_at (o * 2 ^ i) x) e ∙ bit_at-shl_high o i (k - i)
+odd_high o i k past = grind (arith, bit_at-shl_high o i (k - i))
 
 less_high : (q i k : ℕ) → i ≤ k → bit_at ((q * 2 + 1) * 2 ^ i - 1) k ≡ bit_at (q * 2) (k - i)
-less_high q i k past =
-    ap (λ x. bit_at x k) (one_less q (2 ^ i) (pow_pos i)) ∙ bit_at_cat_high (q * 2) i (2 ^ i - 1) k (omega (arith, pow_pos i)) past
+less_high q i k past = rw (one_less q (2 ^ i) (pow_pos i)) (bit_at_cat_high (q * 2) i (2 ^ i - 1) k (omega (arith, pow_pos i)) past)
 
 sides : (i q : ℕ) → Sides ((q * 2 + 1) * 2 ^ i) i
 sides i q =
@@ -67,37 +61,19 @@ sides i q =
 
 -- What is both m and the complement of m - 1 has the digits of 2 ^ i
 isolated_digit : (m i k x y : ℕ) → Sides m i → x ≡ 1 - bit_at (m - 1) k → y ≡ min (bit_at m k) x → y ≡ bit_at (2 ^ i) k
-isolated_digit m i k x y s turned is =
-    ⊎_elim
-    (λ same.
-    let a : bit_at m k ≡ 1 = ap (λ z. bit_at m z) same ∙ s.here in
-    let b : bit_at (m - 1) k ≡ 0 = ap (λ z. bit_at (m - 1) z) same ∙ s.here_less in
-    let c : bit_at (2 ^ i) k ≡ 1 = ap (λ z. bit_at (2 ^ i) z) same ∙ bit_at-pow_same i in
-    omega arith)
-    (⊎_elim
-    (λ low. let z = s.below k low in let p = bit_at-pow_other i k (λ e. omega (arith, e)) in omega arith)
-    (λ past. let z = s.above k past in let d = bit_at-lt m k in let p = bit_at-pow_other i k (λ e. omega (arith, e)) in omega arith))
-    (cases_order k i)
+isolated_digit m i k x y s turned is = grind (arith, s.below k, s.here, s.here_less, s.above k, bit_at-pow_same i, bit_at-pow_other i k, bit_at-lt m k)
 
 rest_digit : (m i k y : ℕ) → Sides m i → k ≢ i → y ≡ min (bit_at m k) (bit_at (m - 1) k) → y ≡ bit_at m k
-rest_digit m i k y s other is =
-    ⊎_elim
-    (λ same. absurd (other same))
-    (⊎_elim
-    (λ low. let z = s.below k low in omega arith)
-    (λ past. let z = s.above k past in omega arith))
-    (cases_order k i)
+rest_digit m i k y s other is = grind (arith, s.below k, s.above k)
 
 less_turned : (w m k : ℕ) → 0 < m → m < 2 ^ w → k < w → bit_at (2 ^ w - m) k ≡ 1 - bit_at (m - 1) k
-less_turned w m k pos fits within =
-    let e : 2 ^ w - m ≡ 2 ^ w - 1 - (m - 1) = omega arith in
-    ap (λ x. bit_at x k) e ∙ bit_at-complement w (m - 1) k (omega arith) within
+less_turned w m k pos fits within = rw (let e : 2 ^ w - m ≡ 2 ^ w - 1 - (m - 1) = omega arith in e) (bit_at-complement w (m - 1) k (omega arith) within)
 
 pub ones_zero : count_ones 0 ≡ 0
 ones_zero = omega (arith, ones_le_self 0)
 
 pub ones_one : count_ones 1 ≡ 1
-ones_one = ⊎_elim (λ some. omega (arith, ones_le_self 1)) (λ none. absurd (omega (arith, zero_from_ones 1 (omega arith)))) (cases_lt 0 (count_ones 1))
+ones_one = grind (arith, ones_le_self 1, zero_from_ones 1)
 
 pub ones_below : (i : ℕ) → count_ones (2 ^ i - 1) ≡ i
 ones_below zero = ones_zero

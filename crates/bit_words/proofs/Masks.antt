@@ -1,31 +1,18 @@
 -- A digit of a block that an operator gives, as a test. `masks.rt` names the set.
-use Rattle.std.proofs.Common.{◌≡◌, ◌≢◌, ℕ, zero, suc, ◌+◌, ◌-◌, ◌%◌, ◌^◌, ◌<◌, min, max, true, false, not, ◌&&◌, ◌||◌, ◌==◌, nat_lt, nat_le, refl, sym, ap, ◌∙◌, arith, ⊎_elim}
+use Rattle.std.proofs.Common.{◌≡◌, ◌≢◌, ℕ, ◌+◌, ◌-◌, ◌%◌, ◌^◌, ◌<◌, min, max, true, false, not, ◌&&◌, ◌||◌, ◌==◌, nat_lt, nat_le, refl, ap, ◌∙◌, arith}
 use Rattle.std.specs.Int.{bit_at}
-use Rattle.std.proofs.lemmas.Bool.{cases_lt}
 use Rattle.std.proofs.lemmas.Bool.Decides.{nat_tests}
 use Rattle.std.proofs.lemmas.Nat.Bits.{bit_at-lt, bit_at-zero, bit_at-pow_same, bit_at-pow_other, bit_at_ones, bit_at_ones_above}
 use Rattle.bit_words.specs.Digits.{IsBoth, IsEither, IsDifferent, IsComplement, is_one}
 
 test_both : (a b : ℕ) → a < 2 → b < 2 → (min a b == 1) ≡ ((a == 1) && (b == 1))
-test_both zero zero h k = refl
-test_both zero (suc zero) h k = refl
-test_both zero (suc (suc b)) h k = absurd (omega arith)
-test_both (suc zero) zero h k = refl
-test_both (suc zero) (suc zero) h k = refl
-test_both (suc zero) (suc (suc b)) h k = absurd (omega arith)
-test_both (suc (suc a)) b h k = absurd (omega arith)
+test_both a b h k = grind (arith, nat_tests)
 
 test_either : (a b : ℕ) → a < 2 → b < 2 → (max a b == 1) ≡ ((a == 1) || (b == 1))
 test_either a b h k = grind arith
 
 test_different : (a b : ℕ) → a < 2 → b < 2 → ((a + b) % 2 == 1) ≡ (((a == 1) && not (b == 1)) || (not (a == 1) && (b == 1)))
-test_different zero zero h k = refl
-test_different zero (suc zero) h k = refl
-test_different zero (suc (suc b)) h k = absurd (omega arith)
-test_different (suc zero) zero h k = refl
-test_different (suc zero) (suc zero) h k = refl
-test_different (suc zero) (suc (suc b)) h k = absurd (omega arith)
-test_different (suc (suc a)) b h k = absurd (omega arith)
+test_different a b h k = grind (arith, nat_tests)
 
 test_not : (a : ℕ) → a < 2 → (1 - a == 1) ≡ not (a == 1)
 test_not a h = grind arith
@@ -50,17 +37,13 @@ is_one-zero j = ap (λ d. d == 1) (bit_at-zero j)
 
 -- masks, by their numbers
 pub is_one-pow_same : (n j : ℕ) → n ≡ 2 ^ j → is_one n j ≡ true
-is_one-pow_same n j e = ap (λ d. d == 1) (ap (λ m. bit_at m j) e ∙ bit_at-pow_same j)
+is_one-pow_same n j e = rw e (rw bit_at-pow_same refl)
 
 pub is_one-pow_other : (n i j : ℕ) → n ≡ 2 ^ i → j ≢ i → is_one n j ≡ false
 is_one-pow_other n i j e h = ap (λ d. d == 1) (ap (λ m. bit_at m j) e ∙ bit_at-pow_other i j h)
 
 pub is_one-ones : (n k j : ℕ) → n ≡ 2 ^ k - 1 → is_one n j ≡ nat_lt j k
-is_one-ones n k j e =
-    ⊎_elim
-    (λ low. ap (λ d. d == 1) (ap (λ m. bit_at m j) e ∙ bit_at_ones k j low) ∙ sym (grind (arith, nat_tests)))
-    (λ high. ap (λ d. d == 1) (ap (λ m. bit_at m j) e ∙ bit_at_ones_above k j high) ∙ sym (grind (arith, nat_tests)))
-    (cases_lt j k)
+is_one-ones n k j e = grind (arith, nat_tests, bit_at_ones, bit_at_ones_above)
 
 pub not_lt-le : (j k : ℕ) → not (nat_lt j k) ≡ nat_le k j
 not_lt-le j k = grind (arith, nat_tests)

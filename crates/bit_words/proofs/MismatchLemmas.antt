@@ -1,9 +1,8 @@
 -- Where blocks differ, by their digits.
-use Rattle.std.proofs.Common.{◌≡◌, ◌≢◌, ℕ, ◌+◌, ◌-◌, ◌^◌, ◌<◌, ◌≤◌, max, Bool, true, false, not, eqb, sym, ap, ◌∙◌, inl, inr, arith}
+use Rattle.std.proofs.Common.{◌≡◌, ◌≢◌, ℕ, ◌+◌, ◌-◌, ◌^◌, ◌<◌, ◌≤◌, Bool, true, false, not, eqb, sym, ◌∙◌, arith}
 use Rattle.std.specs.Bool.{OnTrue, OnFalse}
 use Rattle.std.specs.Int.{bit_at}
 use borrow.Author.Tests.{eqb-true, eqb-false}
-use Rattle.std.proofs.lemmas.Bool.{cases_lt}
 use Rattle.std.proofs.lemmas.Nat.Bits.{bit_at-lt, bit_at-zero, bit_at_above, same_from_bits_below}
 use Rattle.std.proofs.lemmas.Nat.{pow_pos}
 use Rattle.bit_words.specs.Digits.{IsEither, IsDifferent, IsShiftedRight}
@@ -15,37 +14,24 @@ use Rattle.bit_words.proofs.LowestLemmas.{lowest_found}
 
 -- an or is 0 where both sides are
 pub none_of_either : (w m n r : ℕ) → m < 2 ^ w → n < 2 ^ w → IsEither w m n r → r ≡ 0 → (m ≡ 0) × (n ≡ 0)
-none_of_either w m n r small also is none =
-    let digit : (i : ℕ) → i < w → max (bit_at m i) (bit_at n i) ≡ 0 = λ i within. sym (is.digit i within) ∙ ap (λ x. bit_at x i) none ∙ bit_at-zero i in (
-      same_from_bits_below w m 0 small (pow_pos w) (λ i within. omega (arith, digit i within, bit_at-zero i)),
-      same_from_bits_below w n 0 also (pow_pos w) (λ i within. omega (arith, digit i within, bit_at-zero i)),
-    )
+none_of_either w m n r small also is none = (
+  same_from_bits_below w m 0 small (pow_pos w) (λ i within. grind (arith, is.digit i within, none, bit_at-zero)),
+  same_from_bits_below w n 0 also (pow_pos w) (λ i within. grind (arith, is.digit i within, none, bit_at-zero)),
+)
 
 -- an exclusive or is 0 where both sides are one number
 pub none_of_different : (w m n r : ℕ) → m < 2 ^ w → n < 2 ^ w → IsDifferent w m n r → r ≡ 0 → m ≡ n
-none_of_different w m n r small also is none =
-    same_from_bits_below w m n small also (λ i within.
-    let digit : bit_at r i ≡ 0 = ap (λ x. bit_at x i) none ∙ bit_at-zero i in
-    omega (arith, is.digit i within, digit, bit_at-lt m i, bit_at-lt n i))
+none_of_different w m n r small also is none = same_from_bits_below w m n small also (λ i within. grind (arith, is.digit i within, none, bit_at-zero, bit_at-lt))
 
 pub either_of_none : (w m n r : ℕ) → r < 2 ^ w → IsEither w m n r → m ≡ 0 → n ≡ 0 → r ≡ 0
-either_of_none w m n r small is first second =
-    same_from_bits_below w r 0 small (pow_pos w) (λ i within.
-    let one : bit_at m i ≡ 0 = ap (λ x. bit_at x i) first ∙ bit_at-zero i in
-    let two : bit_at n i ≡ 0 = ap (λ x. bit_at x i) second ∙ bit_at-zero i in omega (arith, is.digit i within, one, two, bit_at-zero i))
+either_of_none w m n r small is first second = same_from_bits_below w r 0 small (pow_pos w) (λ i within. grind (arith, is.digit i within, first, second, bit_at-zero))
 
 pub different_of_same : (w m n r : ℕ) → r < 2 ^ w → IsDifferent w m n r → m ≡ n → r ≡ 0
-different_of_same w m n r small is same =
-    same_from_bits_below w r 0 small (pow_pos w) (λ i within.
-    let one : bit_at m i ≡ bit_at n i = ap (λ x. bit_at x i) same in omega (arith, is.digit i within, one, bit_at-zero i))
+different_of_same w m n r small is same = same_from_bits_below w r 0 small (pow_pos w) (λ i within. grind (arith, is.digit i within, same, bit_at-zero))
 
 -- the digits of numbers that differ do not all agree, so that their exclusive or is not 0
 pub different_some : (w m n r : ℕ) → m < 2 ^ w → n < 2 ^ w → m ≢ n → IsDifferent w m n r → 0 < r
-different_some w m n r small also mismatch is =
-    elim (cases_lt 0 r) [
-      | inl some ↦ some
-      | inr none ↦ absurd (mismatch (none_of_different w m n r small also is (omega arith)))
-    ]
+different_some w m n r small also mismatch is = grind (arith, none_of_different w m n r small also is, mismatch)
 
 pub lowest_mismatch_is : (w m n r i : ℕ) → IsDifferent w m n r → IsLowest r i → i < w → IsLowestMismatch w m n i
 lowest_mismatch_is w m n r i is low within = record {
@@ -58,19 +44,11 @@ lowest_mismatch_is w m n r i is low within = record {
 pub some_moved : (w m d r : ℕ) → r < 2 ^ w → IsShiftedRight w m d r → r ≢ 0 → (j : ℕ) × (d ≤ j) × (j < w) × (bit_at m j ≡ 1)
 some_moved w m d r small is some =
     let found = lowest_found w r (omega (arith, some)) small in
-    elim (cases_lt (found.0 + d) w) [
-      | inl inside ↦ (found.0 + d, omega arith, inside, sym (is.moved found.0 inside) ∙ found.1.lowest.one)
-      | inr past ↦ absurd (omega (arith, found.1.lowest.one, is.zeros found.0 found.1.within past))
-    ]
+    let in_block : found.0 + d < w = grind (arith, is.zeros found.0, found.1.lowest.one, found.1.within) in
+    (found.0 + d, omega arith, in_block, sym (is.moved found.0 in_block) ∙ found.1.lowest.one)
 
 pub none_moved : (w m d r : ℕ) → m < 2 ^ w → IsShiftedRight w m d r → r ≡ 0 → (j : ℕ) → d ≤ j → bit_at m j ≡ 0
-none_moved w m d r small is none j from =
-    elim (cases_lt j w) [
-      | inl inside ↦
-          let back : j - d + d ≡ j = omega arith in
-          sym (ap (bit_at m) back) ∙ sym (is.moved (j - d) (omega arith)) ∙ ap (λ x. bit_at x (j - d)) none ∙ bit_at-zero (j - d)
-      | inr past ↦ bit_at_above m w j small past
-    ]
+none_moved w m d r small is none j from = grind (arith, is.moved (j - d), none, bit_at-zero, bit_at_above m w j small)
 
 -- what a test that two numbers are the same says
 pub on_mismatch : (a b : ℕ) (c : Bool) (P : Type 0) → c ≡ eqb a b → (a ≢ b → P) → OnTrue (not c) P

@@ -1,5 +1,5 @@
 -- The ones of the blocks of a list are its true values.
-use Rattle.std.proofs.Common.{◌≡◌, ℕ, zero, suc, ◌+◌, ◌*◌, ◌/◌, ◌%◌, ◌^◌, ◌<◌, Bool, true, false, cond, List, [], ◌∷◌, ◌++◌, map, length, take, drop, count_ones, refl, sym, ap, ◌∙◌, arith, take_all}
+use Rattle.std.proofs.Common.{◌≡◌, ℕ, zero, suc, ◌+◌, ◌*◌, ◌/◌, ◌%◌, ◌^◌, ◌<◌, Bool, cond, List, [], ◌∷◌, ◌++◌, map, length, take, drop, count_ones, refl, sym, ap, ◌∙◌, arith, take_all}
 use Rattle.std.specs.Int.{bit_at}
 use Rattle.std.specs.List.{sum_by, count_by, range_with_len}
 use Rattle.std.proofs.Math.Nat.{pow-suc}
@@ -17,8 +17,7 @@ abbrev trues : List Bool → ℕ
 trues values = count_by (λ value. value) values
 
 ones_step : (b : Bool) (n : ℕ) → count_ones (n * 2 + digit_of b) ≡ cond b 1 0 + count_ones n
-ones_step true n = ones_cat 1 n 1 (omega arith) ∙ omega (arith, ones_one)
-ones_step false n = ones_cat 1 n 0 (omega arith) ∙ omega (arith, ones_zero)
+ones_step b n = grind (arith, ones_cat 1 n 1, ones_cat 1 n 0, ones_one, ones_zero)
 
 ones-number_of : (bs : List Bool) → count_ones (number_of bs) ≡ trues bs
 unfolding number_of
@@ -62,9 +61,7 @@ digits_of_half m a (suc n) =
 
 -- a digit has itself many ones
 ones_of_digit : (d : ℕ) → d < 2 → count_ones d ≡ d
-ones_of_digit zero low = ones_zero
-ones_of_digit (suc zero) low = ones_one
-ones_of_digit (suc (suc d)) low = absurd (omega arith)
+ones_of_digit d low = grind (arith, ones_zero, ones_one)
 
 -- the count of ones is the sum of the digits
 pub ones_are_digits : (w m : ℕ) → m < 2 ^ w → count_ones m ≡ sum_by (bit_at m) (range_with_len 0 w)

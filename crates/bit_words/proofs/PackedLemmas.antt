@@ -1,7 +1,5 @@
 -- What appending, keeping and filling whole blocks does to the value at every index.
-use Rattle.std.proofs.Common.{◌≡◌, ℕ, ◌+◌, ◌-◌, ◌/◌, ◌%◌, ◌^◌, ◌<◌, ◌≤◌, true, false, ◌&&◌, ◌||◌, nat_lt, nat_le, List, [], ◌∷◌, ◌++◌, map, length, get_or, take, replicate, refl, sym, ap, ap₂, ◌∙◌, arith, ⊎_elim, append_assoc, mod-lt, get_or-take, set, ◌≢◌, get_or-set_same, get_or-set_other}
-use Rattle.std.proofs.Math.Bool.{and-true, or-false}
-use Rattle.std.proofs.lemmas.Bool.{cases_lt, cases_eq}
+use Rattle.std.proofs.Common.{◌≡◌, ℕ, ◌+◌, ◌-◌, ◌/◌, ◌%◌, ◌^◌, ◌<◌, ◌≤◌, true, false, ◌&&◌, ◌||◌, nat_lt, nat_le, List, [], ◌∷◌, ◌++◌, map, length, get_or, take, replicate, refl, sym, ap, ◌∙◌, arith, append_assoc, mod-lt, get_or-take, set, ◌≢◌, get_or-set_same, get_or-set_other}
 use Rattle.std.proofs.lemmas.Bool.Decides.{nat_tests}
 use Rattle.std.proofs.lemmas.List.{get_or_append_left, get_or-append_right, get_or_past, get_or-replicate, length-replicate, length-append, map-append, take_more}
 use Rattle.std.proofs.lemmas.Grind.{replicate_next}
@@ -12,7 +10,7 @@ use Rattle.bit_words.proofs.Masks.{is_one-ones, is_one-zero}
 use Rattle.bit_words.proofs.BitsLemmas.{blocks_for-above}
 use Rattle.bit_words.proofs.StorageLemmas.{value_at-is, value_at-past}
 use Rattle.bit_words.proofs.ChangeLemmas.{div_lt, nat_lt-indexes}
-use Rattle.bit_words.proofs.TestLemmas.{above_false, below_and, below_true, from_true}
+use Rattle.bit_words.proofs.TestLemmas.{above_false, below_true}
 
 -- ---- whole blocks
 
@@ -20,22 +18,16 @@ value_at-block : (w : ℕ) (ms : List ℕ) (i m : ℕ) → get_or ms (i / w) 0 �
 value_at-block w ms i m e = value_at-is w ms i ∙ ap (λ x. is_one x (i % w)) e
 
 pub value_at-append_old : (w : ℕ) (ms ns : List ℕ) (i : ℕ) → i / w < length ms → value_at w (ms ++ ns) i ≡ value_at w ms i
-value_at-append_old w ms ns i h = value_at-block w (ms ++ ns) i _ (get_or_append_left ms ns 0 (i / w) h) ∙ sym (value_at-is w ms i)
+value_at-append_old w ms ns i h = grind (arith, value_at-is, get_or_append_left)
 
 pub value_at-append_new : (w : ℕ) (ms : List ℕ) (m n i : ℕ) → length ms ≤ i / w → i / w < length ms + m → value_at w (ms ++ replicate m n) i ≡ is_one n (i % w)
-value_at-append_new w ms m n i past within =
-    value_at-block w (ms ++ replicate m n) i n
-    (get_or-append_right ms (replicate m n) (length ms) (i / w) 0 refl past ∙ get_or-replicate m (i / w - length ms) n 0 (omega arith))
+value_at-append_new w ms m n i past within = grind (arith, value_at-is, get_or-append_right, get_or-replicate)
 
 pub value_at-take : (w c : ℕ) (ms : List ℕ) (i : ℕ) → i / w < c → value_at w (take c ms) i ≡ value_at w ms i
-value_at-take w c ms i h = value_at-block w (take c ms) i _ (get_or-take c ms (i / w) 0 h) ∙ sym (value_at-is w ms i)
+value_at-take w c ms i h = grind (arith, value_at-is, get_or-take)
 
 pub value_at-append_zeros : (w : ℕ) (ms : List ℕ) (m n i : ℕ) → n ≡ 0 → length ms ≤ i / w → value_at w (ms ++ replicate m n) i ≡ false
-value_at-append_zeros w ms m n i e past =
-    ⊎_elim
-    (λ within. value_at-append_new w ms m n i past within ∙ ap (λ x. is_one x (i % w)) e ∙ is_one-zero (i % w))
-    (λ out. value_at-past w (ms ++ replicate m n) i (rw (length-append, length-replicate) out))
-    (cases_lt (i / w) (length ms + m))
+value_at-append_zeros w ms m n i e past = grind (arith, value_at-append_new w ms m n i past, value_at-past, is_one-zero, length-append, length-replicate)
 
 ones_true : (w n i : ℕ) → 0 < w → n ≡ 2 ^ w - 1 → is_one n (i % w) ≡ true
 ones_true w n i pos e = let l = mod-lt i pos in is_one-ones n w (i % w) e ∙ below_true w (i % w) l
@@ -68,18 +60,7 @@ past_the_end w len i pos h = let l = div_lt w len i pos h in above_false len i (
 -- the whole blocks are ones, the block at which the values end has those below its place, and there are zeros past it
 ones_up_to : (w : ℕ) (rs : List ℕ) (len i : ℕ) → 0 < w → (i / w < len / w → get_or rs (i / w) 0 ≡ 2 ^ w - 1) → (i / w ≡ len / w → get_or rs (i / w) 0 ≡ 2 ^ (len % w) - 1) → (len / w < i / w → get_or rs (i / w) 0 ≡ 0) → value_at w rs i ≡ nat_lt i len
 ones_up_to w rs len i pos whole cut past =
-    ⊎_elim
-    (λ before.
-    let l = div_lt w i len pos before in
-    value_at-block w rs i _ (whole before) ∙ ones_true w _ i pos refl ∙ sym (below_true len i (omega (arith, l))))
-    (λ from.
-    ⊎_elim
-    (λ here. value_at-block w rs i _ (cut here) ∙ is_one-ones _ (len % w) (i % w) refl ∙ sym (nat_lt-indexes w i len here))
-    (λ there.
-    let beyond : len / w < i / w = omega arith in
-    value_at-block w rs i 0 (past beyond) ∙ is_one-zero (i % w) ∙ sym (past_the_end w len i pos beyond))
-    (cases_eq (i / w) (len / w)))
-    (cases_lt (i / w) (len / w))
+    value_at-is w rs i ∙ grind (arith, nat_tests, is_one-ones (2 ^ w - 1) w (i % w) refl, is_one-ones (2 ^ (len % w) - 1) (len % w) (i % w) refl, is_one-zero (i % w), div_lt w i len pos, div_lt w len i pos, nat_lt-indexes w i len, whole, cut, past, mod-lt i pos)
 
 -- ---- appending blocks of ones
 
@@ -87,31 +68,21 @@ pub none_pushed : (w : ℕ) (ms : List ℕ) (len i : ℕ) → 0 < w → len / w 
 none_pushed w ms len i pos h past = value_at-past w ms i past ∙ sym (past_the_end w len i pos (omega arith))
 
 pushed_block : (ms rs : List ℕ) (count n q : ℕ) → rs ≡ ms ++ replicate count n → length ms ≤ q → q < length ms + count → get_or rs q 0 ≡ n
-pushed_block ms rs count n q e past within =
-    ap (λ xs. get_or xs q 0) e
-    ∙ get_or-append_right ms (replicate count n) (length ms) q 0 refl past
-    ∙ get_or-replicate count (q - length ms) n 0 (omega arith)
+pushed_block ms rs count n q e past within = grind (arith, e, get_or-append_right, get_or-replicate)
 
 length-pushed : (ms rs : List ℕ) (count n : ℕ) → rs ≡ ms ++ replicate count n → length rs ≡ length ms + count
 length-pushed ms rs count n e = rw (e, length-append, length-replicate) refl
 
 pub whole_pushed : (w : ℕ) (ms rs : List ℕ) (len count n i : ℕ) → 0 < w → len % w ≡ 0 → length ms + count ≡ len / w → n ≡ 2 ^ w - 1 → rs ≡ ms ++ replicate count n → length ms ≤ i / w → value_at w rs i ≡ nat_lt i len
 whole_pushed w ms rs len count n i pos z total ones e past =
-    let size = length-pushed ms rs count n e in
-    ones_up_to w rs len i pos
-    (λ before. pushed_block ms rs count n (i / w) e past (omega arith) ∙ ones)
-    (λ here. get_or_past rs (i / w) 0 (omega arith) ∙ sym (ap (λ p. 2 ^ p - 1) z))
-    (λ beyond. get_or_past rs (i / w) 0 (omega arith))
+    ones_up_to w rs len i pos (λ before. grind (arith, pushed_block ms rs count n (i / w) e past)) (λ here. grind (arith, get_or_past, length-pushed ms rs count n e)) (λ beyond. grind (arith, get_or_past, length-pushed ms rs count n e))
 
 pub cut_pushed : (w : ℕ) (ms rs us : List ℕ) (len count m n i : ℕ) → 0 < w → length ms + count ≡ len / w → n ≡ 2 ^ w - 1 → rs ≡ ms ++ replicate count n → m ≡ 2 ^ (len % w) - 1 → us ≡ rs ++ m ∷ [] → length ms ≤ i / w → value_at w us i ≡ nat_lt i len
 cut_pushed w ms rs us len count m n i pos total ones e cut f past =
     let size = length-pushed ms rs count n e in
     let all = length-pushed rs us 1 m f in
     ones_up_to w us len i pos
-    (λ before. ap (λ xs. get_or xs (i / w) 0) f
-    ∙ get_or_append_left rs (m ∷ []) 0 (i / w) (omega arith)
-    ∙ pushed_block ms rs count n (i / w) e past (omega arith)
-    ∙ ones)
+    (λ before. grind (arith, f, get_or_append_left, pushed_block ms rs count n (i / w) e past, ones))
     (λ here. pushed_block rs us 1 m (i / w) f (omega arith) (omega arith) ∙ cut)
     (λ beyond. get_or_past us (i / w) 0 (omega arith))
 
@@ -121,76 +92,40 @@ kept_below w ms rs count n i e within = ap (λ xs. value_at w xs i) e ∙ value_
 -- ---- a longer list: its old last block raised, and blocks of ones after it
 
 pub ones_kept : (w : ℕ) (ms rs us : List ℕ) (old len size : ℕ) → 0 < w → size ≡ blocks_for w old → ((i : ℕ) → i / w < size → value_at w rs i ≡ (value_at w ms i || (nat_lt i len && nat_le old i))) → ((i : ℕ) → i / w < size → value_at w us i ≡ value_at w rs i) → (i : ℕ) → i < old → value_at w us i ≡ value_at w ms i
-ones_kept w ms rs us old len size pos count tail_set kept i below =
-    let within = blocks_for-above w old i pos below in
-    let inside : i / w < size = omega arith in
-    let before : (nat_lt i len && nat_le old i) ≡ false = grind (arith, nat_tests) in
-    kept i inside ∙ tail_set i inside ∙ ap (λ t. value_at w ms i || t) before ∙ or-false (value_at w ms i)
+ones_kept w ms rs us old len size pos count tail_set kept i below = grind (arith, nat_tests, blocks_for-above w old i pos below, kept i, tail_set i)
 
 pub ones_added : (w : ℕ) (ms rs us : List ℕ) (old len size : ℕ) → IsZeroFrom w ms old → ((i : ℕ) → i / w < size → value_at w rs i ≡ (value_at w ms i || (nat_lt i len && nat_le old i))) → ((i : ℕ) → i / w < size → value_at w us i ≡ value_at w rs i) → ((i : ℕ) → size ≤ i / w → value_at w us i ≡ nat_lt i len) → (i : ℕ) → old ≤ i → value_at w us i ≡ nat_lt i len
-ones_added w ms rs us old len size tail tail_set kept added i after =
-    ⊎_elim
-    (λ within.
-    kept i within
-    ∙ tail_set i within
-    ∙ ap₂ (λ a t. a || (nat_lt i len && t)) (tail.zero_tail i after) (from_true old i after)
-    ∙ and-true (nat_lt i len))
-    (λ past. added i past)
-    (cases_lt (i / w) size)
+ones_added w ms rs us old len size tail tail_set kept added i after = grind (arith, nat_tests, kept i, tail_set i, added i, tail.zero_tail i)
 
 -- ---- appending zeros
 
 pub zeros_kept : (w : ℕ) (ms rs : List ℕ) (old m n : ℕ) → 0 < w → length ms ≡ blocks_for w old → rs ≡ ms ++ replicate m n → (i : ℕ) → i < old → value_at w rs i ≡ value_at w ms i
-zeros_kept w ms rs old m n pos count e i below =
-    let block = blocks_for-above w old i pos below in
-    ap (λ xs. value_at w xs i) e ∙ value_at-append_old w ms (replicate m n) i (omega arith)
+zeros_kept w ms rs old m n pos count e i below = grind (arith, blocks_for-above w old i pos below, value_at-append_old w ms (replicate m n) i, e)
 
 pub zeros_added : (w : ℕ) (ms rs : List ℕ) (old m n : ℕ) → IsZeroFrom w ms old → n ≡ 0 → rs ≡ ms ++ replicate m n → (i : ℕ) → old ≤ i → value_at w rs i ≡ false
-zeros_added w ms rs old m n tail z e i after =
-    ap (λ xs. value_at w xs i) e
-    ∙ ⊎_elim
-    (λ block. value_at-append_old w ms (replicate m n) i block ∙ tail.zero_tail i after)
-    (λ past. value_at-append_zeros w ms m n i z past)
-    (cases_lt (i / w) (length ms))
+zeros_added w ms rs old m n tail z e i after = grind (arith, e, value_at-append_old w ms (replicate m n) i, value_at-append_zeros w ms m n i z, tail.zero_tail i)
 
 -- ---- keeping the first blocks
 
 pub cut_kept : (w : ℕ) (ms rs us : List ℕ) (len c : ℕ) → 0 < w → c ≡ blocks_for w len → rs ≡ take c ms → ((i : ℕ) → value_at w us i ≡ (nat_lt i len && value_at w rs i)) → (i : ℕ) → i < len → value_at w us i ≡ value_at w ms i
-cut_kept w ms rs us len c pos count e lowered i below =
-    let block = blocks_for-above w len i pos below in
-    lowered i
-    ∙ below_and len i (value_at w rs i) below
-    ∙ ap (λ xs. value_at w xs i) e
-    ∙ value_at-take w c ms i (omega arith)
+cut_kept w ms rs us len c pos count e lowered i below = grind (arith, nat_tests, blocks_for-above w len i pos below, lowered i, value_at-take w c ms i, e)
 
 -- ---- every value written in place
 
 -- past the blocks there was nothing, and nothing comes
 unwritten : (ms rs : List ℕ) (c n q : ℕ) → FillsFirst ms rs c n → c ≤ q → length ms ≤ q → get_or rs q 0 ≡ 0
-unwritten ms rs c n q fills from past = fills.others q from ∙ get_or_past ms q 0 past
+unwritten ms rs c n q fills from past = grind (arith, fills.others q, get_or_past)
 
 pub whole_filled : (w : ℕ) (ms rs : List ℕ) (len n : ℕ) → 0 < w → length ms ≡ blocks_for w len → len % w ≡ 0 → n ≡ 2 ^ w - 1 → FillsFirst ms rs (len / w) n → (i : ℕ) → value_at w rs i ≡ nat_lt i len
 whole_filled w ms rs len n pos count z ones fills i =
-    ones_up_to w rs len i pos
-    (λ before. fills.filled (i / w) before ∙ ones)
-    (λ here. unwritten ms rs (len / w) n (i / w) fills (omega arith) (omega arith) ∙ sym (ap (λ p. 2 ^ p - 1) z))
-    (λ beyond. unwritten ms rs (len / w) n (i / w) fills (omega arith) (omega arith))
+    ones_up_to w rs len i pos (λ before. fills.filled (i / w) before ∙ ones) (λ here. grind (arith, unwritten ms rs (len / w) n (i / w) fills)) (λ beyond. grind (arith, unwritten ms rs (len / w) n (i / w) fills))
 
 pub cut_filled : (w : ℕ) (ms rs us : List ℕ) (len m n : ℕ) → 0 < w → length ms ≡ blocks_for w len → length rs ≡ length ms → len % w ≢ 0 → n ≡ 2 ^ w - 1 → FillsFirst ms rs (len / w) n → m ≡ 2 ^ (len % w) - 1 → us ≡ set rs (len / w) m → (i : ℕ) → value_at w us i ≡ nat_lt i len
 cut_filled w ms rs us len m n pos count size nz ones fills cut e i =
     ones_up_to w us len i pos
-    (λ before. other (omega arith) ∙ fills.filled (i / w) before ∙ ones)
-    (λ here. ap (λ xs. get_or xs (i / w) 0) e ∙ ap (λ q. get_or (set rs (len / w) m) q 0) here ∙ get_or-set_same rs (len / w) m 0 (omega arith) ∙ cut)
-    (λ beyond. other (omega arith) ∙ unwritten ms rs (len / w) n (i / w) fills (omega arith) (omega arith))
-  where
-    other : i / w ≢ len / w → get_or us (i / w) 0 ≡ get_or rs (i / w) 0
-    other ne = ap (λ xs. get_or xs (i / w) 0) e ∙ get_or-set_other rs (len / w) (i / w) m 0 ne
+    (λ before. grind (arith, e, get_or-set_other, fills.filled (i / w) before, ones))
+    (λ here. grind (arith, e, get_or-set_same, cut))
+    (λ beyond. grind (arith, e, get_or-set_other, unwritten ms rs (len / w) n (i / w) fills))
 
 pub zeros_filled : (w : ℕ) (ms rs : List ℕ) (n : ℕ) → n ≡ 0 → FillsFirst ms rs (length ms) n → (i : ℕ) → value_at w rs i ≡ false
-zeros_filled w ms rs n z fills i =
-    value_at-block w rs i 0
-    (⊎_elim
-    (λ within. fills.filled (i / w) within ∙ z)
-    (λ past. unwritten ms rs (length ms) n (i / w) fills past past)
-    (cases_lt (i / w) (length ms)))
-    ∙ is_one-zero (i % w)
+zeros_filled w ms rs n z fills i = grind (arith, value_at-is, is_one-zero, fills.filled (i / w), unwritten ms rs (length ms) n (i / w) fills)

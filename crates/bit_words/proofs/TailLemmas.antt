@@ -1,7 +1,6 @@
 -- What a copy of the tail of a list holds, by index, and what its summary says.
-use Rattle.std.proofs.Common.{◌≡◌, ◌≢◌, ℕ, ◌+◌, ◌-◌, ◌/◌, ◌%◌, ◌^◌, ◌<◌, ◌≤◌, true, false, ◌&&◌, nat_le, List, [], ◌++◌, map, length, get_or, set, take, drop, replicate, All, sym, ap, ap₂, ◌∙◌, arith, ⊎_elim, mod-lt, length-append, take_all, div-lt_iff_lt-mul, ◌*◌}
+use Rattle.std.proofs.Common.{◌≡◌, ◌≢◌, ℕ, ◌+◌, ◌-◌, ◌/◌, ◌%◌, ◌^◌, ◌<◌, ◌≤◌, false, ◌&&◌, nat_le, List, [], ◌++◌, map, length, get_or, set, take, drop, replicate, All, sym, ap, ap₂, ◌∙◌, arith, mod-lt, length-append, take_all, div-lt_iff_lt-mul, ◌*◌}
 use Rattle.std.proofs.Math.Bool.{and-false}
-use Rattle.std.proofs.lemmas.Bool.{cases_lt, cases_eq}
 use Rattle.std.proofs.lemmas.Bool.Decides.{nat_tests}
 use Rattle.std.proofs.lemmas.List.Elements.{All-same, All-append, All-drop}
 use Rattle.std.proofs.lemmas.List.{drop-map, map-append, get_or-drop, get_or-replicate, get_or_append_left, get_or-append_right, length-replicate, length-drop}
@@ -13,7 +12,6 @@ use Rattle.bit_words.proofs.ChangeLemmas.{nat_le-indexes, div_lt, read_at, writt
 use Rattle.bit_words.proofs.Masks.{is_one-zero}
 use Rattle.bit_words.proofs.StorageLemmas.{value_at-is, values_of-same, length-values_of, get_or-values_of}
 use Rattle.bit_words.proofs.SummaryLemmas.{same_use, unused_from_false}
-use Rattle.bit_words.proofs.TestLemmas.{before_and, from_and}
 
 -- a slice from an index to the end
 rest_sliced : {X : Type 0} (n : ℕ) (xs : List X) → take (length xs - n) (drop n xs) ≡ drop n xs
@@ -34,63 +32,28 @@ tail_each P xs ps ns count each first more =
     All-same P ns (ps ++ drop count xs) (more ∙ ap (λ ss. ps ++ ss) (rest_sliced count xs)) (All-append P ps (drop count xs) first (All-drop P count xs each))
 
 block_before : (ms ns : List ℕ) (count k : ℕ) → ns ≡ replicate count 0 ++ drop count ms → k < count → get_or ns k 0 ≡ 0
-block_before ms ns count k e h =
-    ap (λ xs. get_or xs k 0) e
-    ∙ get_or_append_left (replicate count 0) (drop count ms) 0 k (rw length-replicate h)
-    ∙ get_or-replicate count k 0 0 h
+block_before ms ns count k e h = grind (arith, e, get_or_append_left, length-replicate, get_or-replicate)
 
 block_from : (ms ns : List ℕ) (count k : ℕ) → ns ≡ replicate count 0 ++ drop count ms → count ≤ k → get_or ns k 0 ≡ get_or ms k 0
-block_from ms ns count k e h =
-    let index : count + (k - count) ≡ k = omega arith in
-    ap (λ xs. get_or xs k 0) e
-    ∙ get_or-append_right (replicate count 0) (drop count ms) count k 0 (length-replicate count 0) h
-    ∙ get_or-drop count ms (k - count) 0
-    ∙ ap (λ q. get_or ms q 0) index
+block_from ms ns count k e h = grind (arith, e, get_or-append_right, length-replicate, get_or-drop)
 
 value_before : (w : ℕ) (ms ns : List ℕ) (count at i : ℕ) → 0 < w → ns ≡ replicate count 0 ++ drop count ms → count ≡ at / w → i / w < count → value_at w ns i ≡ (nat_le at i && value_at w ms i)
-value_before w ms ns count at i pos e c h =
-    let below = div_lt w i at pos (omega arith) in
-    value_at-is w ns i ∙ ap (λ m. is_one m (i % w)) (block_before ms ns count (i / w) e h) ∙ is_one-zero (i % w) ∙ sym (before_and at i (value_at w ms i) below)
+value_before w ms ns count at i pos e c h = grind (arith, nat_tests, div_lt w i at pos, value_at-is w ns i, block_before ms ns count (i / w) e h, is_one-zero)
 
 value_from : (w : ℕ) (ms ns : List ℕ) (count i : ℕ) → ns ≡ replicate count 0 ++ drop count ms → count ≤ i / w → value_at w ns i ≡ value_at w ms i
-value_from w ms ns count i e h =
-    value_at-is w ns i ∙ ap (λ m. is_one m (i % w)) (block_from ms ns count (i / w) e h) ∙ sym (value_at-is w ms i)
+value_from w ms ns count i e h = grind (arith, value_at-is, block_from ms ns count (i / w) e h)
 
 value_past : (w : ℕ) (ms ns : List ℕ) (count at i : ℕ) → 0 < w → ns ≡ replicate count 0 ++ drop count ms → count ≡ at / w → at / w < i / w → value_at w ns i ≡ (nat_le at i && value_at w ms i)
-value_past w ms ns count at i pos e c h =
-    let above = div_lt w at i pos h in
-    value_from w ms ns count i e (omega arith) ∙ sym (from_and at i (value_at w ms i) (omega (arith, above)))
+value_past w ms ns count at i pos e c h = grind (arith, nat_tests, div_lt w at i pos, value_from w ms ns count i e)
 
 -- where the tail begins with a whole block
 pub tail_whole : (w : ℕ) (ms ns : List ℕ) (count at : ℕ) → 0 < w → ns ≡ replicate count 0 ++ drop count ms → count ≡ at / w → at % w ≡ 0 → (i : ℕ) → value_at w ns i ≡ (nat_le at i && value_at w ms i)
-tail_whole w ms ns count at pos e c whole i =
-    ⊎_elim
-    (λ before. value_before w ms ns count at i pos e c before)
-    (λ from.
-    ⊎_elim
-    (λ here.
-    let indexes : nat_le at i ≡ nat_le 0 (i % w) = nat_le-indexes w at i here ∙ ap (λ p. nat_le p (i % w)) whole in
-    let test : nat_le at i ≡ true = grind (arith, nat_tests) in
-    value_from w ms ns count i e from ∙ ap (λ t. t && value_at w ms i) (sym test))
-    (λ there. value_past w ms ns count at i pos e c (omega arith))
-    (cases_eq (i / w) (at / w)))
-    (cases_lt (i / w) count)
+tail_whole w ms ns count at pos e c whole i = grind (arith, nat_tests, value_before w ms ns count at i pos e c, value_from w ms ns count i e, nat_le-indexes w at i, value_past w ms ns count at i pos e c)
 
 -- where its first block is cut
 pub tail_cut : (w : ℕ) (ms ns rs : List ℕ) (k at p m n : ℕ) → 0 < w → ns ≡ replicate k 0 ++ drop k ms → k ≡ at / w → p ≡ at % w → k < length ns → m ≡ get_or ms k 0 → rs ≡ set ns k n → ((j : ℕ) → j < w → is_one n j ≡ (nat_le p j && is_one m j)) → (i : ℕ) → value_at w rs i ≡ (nat_le at i && value_at w ms i)
 tail_cut w ms ns rs k at p m n pos e ke pe within read put digits i =
-    ⊎_elim
-    (λ here.
-    written_same w ns rs k n i put within here
-    ∙ digits (i % w) (mod-lt i pos)
-    ∙ ap₂ (λ a b. a && b) (ap (λ q. nat_le q (i % w)) pe ∙ sym (nat_le-indexes w at i (here ∙ ke))) (sym (read_at w ms k m i read here)))
-    (λ there.
-    written_other w ns rs k n i put there
-    ∙ ⊎_elim
-    (λ before. value_before w ms ns k at i pos e ke before)
-    (λ from. value_past w ms ns k at i pos e ke (let other : i / w ≢ at / w = λ q. there (q ∙ sym ke) in omega arith))
-    (cases_lt (i / w) k))
-    (cases_eq (i / w) k)
+    grind (arith, nat_tests, written_same w ns rs k n i put within, digits (i % w), mod-lt i pos, nat_le-indexes w at i, read_at w ms k m i read, written_other w ns rs k n i put, value_before w ms ns k at i pos e ke, value_past w ms ns k at i pos e ke)
 
 -- ---- the copy of a list
 
@@ -105,20 +68,7 @@ tail_packed w n at f P xs ys packed each len values = record {
 pub values_of-tail : (w : ℕ) (ms ns : List ℕ) (n at : ℕ) → at ≤ n → ((i : ℕ) → value_at w ns i ≡ (nat_le at i && value_at w ms i)) → values_of w ns n ≡ replicate at false ++ drop at (values_of w ms n)
 values_of-tail w ms ns n at h values =
     values_of-same w ns n _ (omega (arith, h, length-append (replicate at false) (drop at (values_of w ms n)), length-replicate at false, length-drop at (values_of w ms n), length-values_of w ms n)) (λ i below.
-    ⊎_elim
-    (λ before.
-    values i
-    ∙ before_and at i (value_at w ms i) before
-    ∙ sym (get_or_append_left (replicate at false) (drop at (values_of w ms n)) false i (rw length-replicate before) ∙ get_or-replicate at i false false before))
-    (λ from.
-    let index : at + (i - at) ≡ i = omega arith in
-    values i
-    ∙ from_and at i (value_at w ms i) from
-    ∙ sym (get_or-append_right (replicate at false) (drop at (values_of w ms n)) at i false (length-replicate at false) from
-    ∙ get_or-drop at (values_of w ms n) (i - at) false
-    ∙ ap (λ q. get_or (values_of w ms n) q false) index
-    ∙ get_or-values_of w ms n i false below))
-    (cases_lt i at))
+    grind (arith, nat_tests, values i, get_or_append_left, get_or-append_right, get_or-replicate, length-replicate, get_or-drop, get_or-values_of))
 
 -- ---- and of its summary
 
@@ -127,22 +77,12 @@ block_above w q at j pos h = let a = (div-lt_iff_lt-mul pos).0 h in omega arith
 
 -- the blocks before that of the index are 0
 pub tail_unused : (w at q : ℕ) (ms ns : List ℕ) → get_or ns q 0 < 2 ^ w → ((i : ℕ) → value_at w ns i ≡ (nat_le at i && value_at w ms i)) → q < at / w → is_used ns q ≡ false
-tail_unused w at q ms ns small values before =
-    unused_from_false w ns q small (λ j index.
-    let below = index_below w q j at index before in
-    values (q * w + j) ∙ before_and at (q * w + j) (value_at w ms (q * w + j)) below)
+tail_unused w at q ms ns small values before = unused_from_false w ns q small (λ j index. grind (arith, nat_tests, values (q * w + j), index_below w q j at index before))
 
 -- those past it are as they were
 pub tail_kept : (w at q : ℕ) (ms ns : List ℕ) → 0 < w → get_or ms q 0 < 2 ^ w → get_or ns q 0 < 2 ^ w → ((i : ℕ) → value_at w ns i ≡ (nat_le at i && value_at w ms i)) → at / w < q → is_used ms q ≡ is_used ns q
-tail_kept w at q ms ns pos small also values after =
-    same_use w ms ns q small also (λ j index.
-    let above = block_above w q at j pos after in
-    sym (values (q * w + j) ∙ from_and at (q * w + j) (value_at w ms (q * w + j)) (omega (arith, above))))
+tail_kept w at q ms ns pos small also values after = same_use w ms ns q small also (λ j index. grind (arith, nat_tests, block_above w q at j pos after, values (q * w + j)))
 
 -- what a copy of a summary's tail says of the blocks
 pub tail_use : (w k q : ℕ) (ms ss cs : List ℕ) → ((i : ℕ) → value_at w cs i ≡ (nat_le k i && value_at w ss i)) → ((p : ℕ) → p < k → is_used ms p ≡ false) → ((p : ℕ) → k < p → value_at w ss p ≡ is_used ms p) → q ≢ k → value_at w cs q ≡ is_used ms q
-tail_use w k q ms ss cs values before after other =
-    ⊎_elim
-    (λ below. values q ∙ before_and k q (value_at w ss q) below ∙ sym (before q below))
-    (λ from. values q ∙ from_and k q (value_at w ss q) from ∙ after q (omega arith))
-    (cases_lt q k)
+tail_use w k q ms ss cs values before after other = grind (arith, nat_tests, values q, before q, after q)

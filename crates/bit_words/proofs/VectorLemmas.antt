@@ -1,6 +1,5 @@
 -- What the calls of a bit vector cite: its length, its capacity and its list.
-use Rattle.std.proofs.Common.{◌≡◌, ℕ, ◌+◌, ◌-◌, ◌*◌, ◌/◌, ◌%◌, ◌^◌, ◌<◌, ◌≤◌, max, Bool, false, zero, suc, List, [], ◌∷◌, map, length, get_or, refl, sym, ap, ◌∙◌, arith, ⊎_elim, Some, None, slice_get, All, mul-le-mul_right, pow_pos}
-use Rattle.std.proofs.lemmas.Bool.{cases_lt}
+use Rattle.std.proofs.Common.{◌≡◌, ℕ, ◌+◌, ◌-◌, ◌*◌, ◌/◌, ◌%◌, ◌^◌, ◌<◌, ◌≤◌, max, Bool, false, zero, suc, List, [], ◌∷◌, map, length, get_or, refl, sym, ap, ◌∙◌, arith, Some, None, slice_get, All, mul-le-mul_right, pow_pos}
 use Rattle.std.proofs.lemmas.Bool.Decides.{nat_tests}
 use Rattle.std.proofs.lemmas.List.{get_or-map, length-map}
 use Rattle.std.proofs.lemmas.List.Elements.{All-tail, All-same, All-nil}
@@ -29,21 +28,13 @@ pub le-capacity_of : (w blocks n : ℕ) → 0 < w → n < 2 ^ 64 → blocks_for 
 le-capacity_of w blocks n pos fits h = let a = mul-le-mul_right w h in omega (arith, blocks_for-enough w n pos)
 
 pub capacity_of-short : (w blocks n : ℕ) → 0 < w → blocks < blocks_for w n → capacity_of w blocks < n
-capacity_of-short w blocks n pos h =
-    ⊎_elim
-    (λ short. short)
-    (λ enough. let a : n ≤ blocks * w = omega arith in let l = blocks_for-least w n blocks pos a in absurd (omega arith))
-    (cases_lt (capacity_of w blocks) n)
+capacity_of-short w blocks n pos h = grind (arith, blocks_for-least w n blocks pos)
 
 pub blocks_from_capacity : (w blocks n : ℕ) → 0 < w → n ≤ capacity_of w blocks → blocks_for w n ≤ blocks
-blocks_from_capacity w blocks n pos h = ⊎_elim (λ short. let less = capacity_of-short w blocks n pos short in absurd (omega arith)) (λ enough. enough) (cases_lt blocks (blocks_for w n))
+blocks_from_capacity w blocks n pos h = grind (arith, capacity_of-short w blocks n pos)
 
 pub capacity_of-max : (w a b : ℕ) → capacity_of w (max a b) ≡ max (capacity_of w a) (capacity_of w b)
-capacity_of-max w a b =
-    ⊎_elim
-    (λ (less : a < b). let more = mul-le-mul_right w (let le : a ≤ b = omega arith in le) in let e : max a b ≡ b = omega arith in rw e (omega arith))
-    (λ (enough : b ≤ a). let more = mul-le-mul_right w enough in let e : max a b ≡ a = omega arith in rw e (omega arith))
-    (cases_lt a b)
+capacity_of-max w a b = grind (arith, mul-le-mul_right)
 
 -- the capacity that is asked for exactly
 pub capacity_from_max : (w n m cap got count : ℕ) (ms : List ℕ) (v : Bits) → record { values = values_of w ms n; capacity = capacity_of w cap } ≡ v → count ≡ blocks_for w (n + m) → got ≡ max cap count → capacity_of w got ≡ max v.capacity (capacity_of w (blocks_for w (length v.values + m)))
@@ -84,7 +75,7 @@ numbers_below w f P [] below each k = pow_pos w
 numbers_below w f P (x ∷ xs) below each zero = below x (each 0 x (omega arith))
 numbers_below w f P (x ∷ xs) below each (suc k) = numbers_below w f P xs below (All-tail P x xs each) k
 
-all_zero_map : {X : Type 0} (f : X → ℕ) (xs : List X) → All (λ x. f x ≡ 0) xs → (k : ℕ) → get_or (map f xs) k 0 ≡ 0
+pub all_zero_map : {X : Type 0} (f : X → ℕ) (xs : List X) → All (λ x. f x ≡ 0) xs → (k : ℕ) → get_or (map f xs) k 0 ≡ 0
 all_zero_map f [] each k = refl
 all_zero_map f (x ∷ xs) each zero = each 0 x (omega arith)
 all_zero_map f (x ∷ xs) each (suc k) = all_zero_map f xs (All-tail (λ x. f x ≡ 0) x xs each) k
@@ -102,17 +93,12 @@ bit_from_false m j h = let l = bit_at-lt m j in grind (arith, nat_tests)
 pub zero_from_all_false : {X : Type 0} (w n : ℕ) (f : X → ℕ) (P : X → Type 0) (xs : List X) → 0 < w → ((x : X) → P x → f x < 2 ^ w) → IsPacked w f P xs n → All (λ b. b ≡ false) (values_of w (map f xs) n) → All (λ x. f x ≡ 0) xs
 zero_from_all_false w n f P xs pos below packed falses k d within =
     sym (get_or-map f xs k d 0 within)
-    ∙ same_from_bits_below w _ 0 (numbers_below w f P xs below packed.each k) (pow_pos w) (λ j inside.
-    let value : value_at w (map f xs) (k * w + j) ≡ false = ⊎_elim
-    (λ index. sym (get_or-values_of w (map f xs) n (k * w + j) false index) ∙ falses (k * w + j) false (rw length-values_of index))
-    (λ past. packed.tail.zero_tail (k * w + j) past)
-    (cases_lt (k * w + j) n) in
-    bit_from_false _ j (sym (value_at-index w (map f xs) k j inside) ∙ value) ∙ sym (bit_at-zero j))
+    ∙ same_from_bits_below w _ 0 (numbers_below w f P xs below packed.each k) (pow_pos w) (λ j inside. grind (arith, bit_from_false, value_at-index w (map f xs) k j inside, get_or-values_of w (map f xs) n (k * w + j) false, falses (k * w + j) false, length-values_of, packed.tail.zero_tail (k * w + j), bit_at-zero))
 
 -- ---- the empty list
 
 pub blocks_for-none : (w : ℕ) → 0 < w → 0 ≡ blocks_for w 0
-blocks_for-none w pos = let l = blocks_for-least w 0 0 pos (omega arith) in omega arith
+blocks_for-none w pos = omega (arith, blocks_for-least w 0 0 pos (omega arith))
 
 pub packed_nil : {X : Type 0} (w : ℕ) (f : X → ℕ) (P : X → Type 0) (xs : List X) → 0 < w → xs ≡ [] → IsPacked w f P xs 0
 packed_nil w f P xs pos e = record {

@@ -1,7 +1,5 @@
 -- The number of what an operator gives, from its digits. `words.rt` names the set, and `LowestLemmas` one of it.
-use Rattle.std.proofs.Common.{◌≡◌, ℕ, ◌+◌, ◌-◌, ◌*◌, ◌/◌, ◌%◌, ◌^◌, ◌<◌, refl, bit_and, bit_or, sym, ap, ◌∙◌, subst, arith, ⊎_elim}
-use Rattle.std.specs.Int.{bit_at}
-use Rattle.std.proofs.lemmas.Bool.{cases_lt}
+use Rattle.std.proofs.Common.{◌≡◌, ℕ, ◌-◌, ◌*◌, ◌/◌, ◌%◌, ◌^◌, ◌<◌, refl, bit_and, bit_or, sym, ap, ◌∙◌, arith}
 use Rattle.std.proofs.lemmas.Nat.{and_le_l, or_lt, one_shl}
 use Rattle.std.proofs.lemmas.Nat.Bits.{bit_at_and, bit_at_or, same_from_bits_below}
 use Rattle.bit_words.specs.Digits.{IsBoth, IsEither, IsComplement, IsShiftedLeft, IsShiftedRight}
@@ -23,24 +21,12 @@ complement-number w m r small fits is =
 pub shifted_left-number : (w m d r : ℕ) → d < w → r < 2 ^ w → IsShiftedLeft w m d r → r ≡ m * 2 ^ d % 2 ^ w
 shifted_left-number w m d r within fits is =
     let other = shifted_left w m d (m * 2 ^ d % 2 ^ w) within refl in
-    same_from_bits_below w r (m * 2 ^ d % 2 ^ w) fits other.0 (λ i below.
-    ⊎_elim
-    (λ low. is.zeros i low ∙ sym (other.1.zeros i low))
-    (λ high.
-    let back : i - d + d ≡ i = omega arith in
-    let index : i - d + d < w = omega arith in
-    subst (λ x. bit_at r x ≡ bit_at (m * 2 ^ d % 2 ^ w) x) back
-    (is.moved (i - d) index ∙ sym (other.1.moved (i - d) index)))
-    (cases_lt i d))
+    same_from_bits_below w r (m * 2 ^ d % 2 ^ w) fits other.0 (λ i below. grind (arith, is.zeros i, other.1.zeros i, is.moved (i - d), other.1.moved (i - d)))
 
 pub shifted_right-number : (w m d r : ℕ) → m < 2 ^ w → r < 2 ^ w → IsShiftedRight w m d r → r ≡ m / 2 ^ d
 shifted_right-number w m d r small fits is =
     let other = shifted_right w m d (m / 2 ^ d) small refl in
-    same_from_bits_below w r (m / 2 ^ d) fits other.0 (λ i below.
-    ⊎_elim
-    (λ inside. is.moved i inside ∙ sym (other.1.moved i inside))
-    (λ past. is.zeros i below past ∙ sym (other.1.zeros i below past))
-    (cases_lt (i + d) w))
+    same_from_bits_below w r (m / 2 ^ d) fits other.0 (λ i below. grind (arith, is.zeros i, other.1.zeros i, is.moved i, other.1.moved i))
 
 pub ruleset number_of_digits = (both-number, either-number, complement-number, shifted_left-number, shifted_right-number)
 

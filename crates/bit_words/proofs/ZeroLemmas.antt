@@ -1,8 +1,8 @@
 -- Blocks that are 0, by themselves and by a summary.
-use Rattle.std.proofs.Common.{◌≡◌, ℕ, zero, suc, ◌+◌, ◌-◌, ◌*◌, ◌/◌, ◌%◌, ◌^◌, ◌<◌, ◌≤◌, ◌↔◌, ◌==◌, Bool, not, true, false, List, [], ◌∷◌, min, map, drop, take, length, get_or, get_or-take, get_or-drop, All, refl, sym, ap, ◌∙◌, arith, ⊎_elim, mod-lt, div-add-mod', mul-le-mul_right}
-use Rattle.std.proofs.lemmas.Bool.{cases_lt, true≢false}
+use Rattle.std.proofs.lemmas.Nat.{le-div}
+use Rattle.std.proofs.Common.{◌≡◌, ℕ, suc, ◌+◌, ◌-◌, ◌*◌, ◌/◌, ◌%◌, ◌^◌, ◌<◌, ◌≤◌, ◌↔◌, Bool, true, false, List, [], ◌∷◌, min, map, drop, take, length, get_or, get_or-take, get_or-drop, All, sym, ap, ◌∙◌, arith, mod-lt, div-add-mod'}
 use Rattle.std.proofs.lemmas.List.{get_or_past, length-map, drop-map, take-map}
-use Rattle.std.proofs.lemmas.List.Elements.{All-nil, All-cons, All-head, All-tail}
+use Rattle.std.proofs.lemmas.List.Elements.{All-nil, All-cons}
 use Rattle.bit_words.specs.Digits.{is_one}
 use Rattle.bit_words.specs.Storage.{value_at}
 use Rattle.bit_words.specs.Summary.{is_used, IsSummary}
@@ -10,17 +10,12 @@ use Rattle.bit_words.proofs.CompareLemmas.{zero_from_digits}
 use Rattle.bit_words.proofs.Masks.{is_one-zero}
 use Rattle.bit_words.proofs.StorageLemmas.{value_at-is, value_at-index}
 use Rattle.bit_words.proofs.SummaryLemmas.{used_from_zero, zero_from_unused}
-use Rattle.bit_words.proofs.VectorLemmas.{numbers_below}
+use Rattle.bit_words.proofs.VectorLemmas.{numbers_below, all_zero_map}
+use Rattle.std.proofs.lemmas.Bool.Decides.{nat_tests}
 
 -- what is not 0 is a block
 pub nonzero_inside : {X : Type 0} (number : X → ℕ) (k : ℕ) (xs : List X) → is_used (map number xs) k ≡ true → k < length xs
-nonzero_inside number k xs some =
-    ⊎_elim
-    (λ inside. inside)
-    (λ past.
-    let none : get_or (map number xs) k 0 ≡ 0 = get_or_past (map number xs) k 0 (rw length-map past) in
-    absurd (true≢false (sym some ∙ ap (λ m. not (m == 0)) none)))
-    (cases_lt k (length xs))
+nonzero_inside number k xs some = grind (arith, nat_tests, get_or_past, length-map)
 
 -- what lies past the first blocks
 pub dropped : {X : Type 0} (number : X → ℕ) (n j : ℕ) (xs : List X) → get_or (map number (drop n xs)) j 0 ≡ get_or (map number xs) (n + j) 0
@@ -36,18 +31,12 @@ value_at-drop w q ms k pos =
 
 -- the number of a block that a test for 0 does not find
 pub some_from_test : (m : ℕ) (same : Bool) → (m ≡ 0 → same ≡ true) → same ≡ false → 0 < m
-some_from_test zero same law other = absurd (true≢false (sym (law refl) ∙ other))
-some_from_test (suc m) same law other = omega arith
+some_from_test m same law other = grind (arith, law)
 
 module _ {X : Type 0} (w : ℕ) (number : X → ℕ) (is_block : X → Type 0) where
   pub all_zero : (xs : List X) → ((k : ℕ) → get_or (map number xs) k 0 ≡ 0) → All (λ x. number x ≡ 0) xs
   all_zero [] zeros = All-nil (λ x. number x ≡ 0)
   all_zero (x ∷ xs) zeros = All-cons (λ y. number y ≡ 0) x xs (zeros 0) (all_zero xs (λ k. zeros (suc k)))
-
-  pub zero_at : (xs : List X) → All (λ x. number x ≡ 0) xs → (k : ℕ) → get_or (map number xs) k 0 ≡ 0
-  zero_at [] all k = refl
-  zero_at (x ∷ xs) all zero = All-head (λ y. number y ≡ 0) x xs all
-  zero_at (x ∷ xs) all (suc k) = zero_at xs (All-tail (λ y. number y ≡ 0) x xs all) k
 
   -- a summary's block that is 0 has no block that is not
   pub zero_from_chunk : (xs summary : List X) → IsSummary w number is_block xs summary → (k : ℕ) → get_or (map number summary) (k / w) 0 ≡ 0 → get_or (map number xs) k 0 ≡ 0
@@ -56,9 +45,9 @@ module _ {X : Type 0} (w : ℕ) (number : X → ℕ) (is_block : X → Type 0) w
 
   pub zero_by_summary : ((x : X) → is_block x → number x < 2 ^ w) → (xs summary : List X) → IsSummary w number is_block xs summary → All (λ x. number x ≡ 0) summary ↔ All (λ x. number x ≡ 0) xs
   zero_by_summary below xs summary is = (
-    λ none. all_zero xs (λ k. zero_from_chunk xs summary is k (zero_at summary none (k / w))),
+    λ none. all_zero xs (λ k. zero_from_chunk xs summary is k (all_zero_map number summary none (k / w))),
     λ none. all_zero summary (λ q. zero_from_digits w (get_or (map number summary) q 0) (numbers_below w number is_block summary below is.packed.each q) (λ j within.
-        sym (value_at-index w (map number summary) q j within) ∙ is.digit (q * w + j) ∙ used_from_zero (get_or (map number xs) (q * w + j) 0) (zero_at xs none (q * w + j)))),
+        sym (value_at-index w (map number summary) q j within) ∙ is.digit (q * w + j) ∙ used_from_zero (get_or (map number xs) (q * w + j) 0) (all_zero_map number xs none (q * w + j)))),
   )
 
   -- ---- up to where there are blocks that are not 0
@@ -69,16 +58,4 @@ module _ {X : Type 0} (w : ℕ) (number : X → ℕ) (is_block : X → Type 0) w
   -- past the chunks of which the summary has a bit
   pub zero_past_chunks : (xs summary : List X) (chunks end k : ℕ) → 0 < w → IsSummary w number is_block xs summary → ((q : ℕ) → chunks ≤ q → get_or (map number summary) q 0 ≡ 0) → end ≡ min (min (chunks * w) (2 ^ 64 - 1)) (length xs) → end ≤ k → get_or (map number xs) k 0 ≡ 0
   zero_past_chunks xs summary chunks end k pos is none at past =
-      ⊎_elim
-      (λ inside.
-      let from : chunks * w ≤ k = omega (arith, at, is.packed.fits) in
-      let whole = div-add-mod' k w in
-      let rest = mod-lt k pos in
-      let chunk : chunks ≤ k / w =
-      ⊎_elim
-      (λ below. absurd (let under = mul-le-mul_right w (let e : k / w + 1 ≤ chunks = omega arith in e) in omega (arith, under, from, whole, rest)))
-      (λ not_below. not_below)
-      (cases_lt (k / w) chunks) in
-      zero_from_chunk xs summary is k (none (k / w) chunk))
-      (λ outside. get_or_past (map number xs) k 0 (rw length-map outside))
-      (cases_lt k (length xs))
+      grind (arith, is.packed.fits, le-div chunks k w pos, λ (chunk : chunks ≤ k / w). zero_from_chunk xs summary is k (none (k / w) chunk), get_or_past, length-map)

@@ -1,5 +1,4 @@
-use Rattle.std.proofs.Common.{◌≡◌, ℕ, ◌+◌, ◌-◌, ◌*◌, ◌<◌, ◌++◌, List, [], ◌∷◌, get_or, map, length, ap, ◌∙◌, arith, ⊎_elim}
-use Rattle.std.proofs.lemmas.Bool.{cases_lt}
+use Rattle.std.proofs.Common.{◌≡◌, ℕ, ◌+◌, ◌*◌, ◌<◌, ◌++◌, List, [], ◌∷◌, get_or, map, length, ◌∙◌, arith}
 use Rattle.std.proofs.lemmas.List.{length-map, get_or_append_left, get_or-append_right}
 use Rattle.std.proofs.lemmas.List.Elements.{All-same, All-push}
 use Rattle.bit_words.specs.Bits.{blocks_for}
@@ -12,16 +11,7 @@ use Rattle.bit_words.proofs.packed.bytes.blocks_of_bytes.Goals as goal
 -- one block more, after k of them
 block_pushed : (w : ℕ) (ms ns : List ℕ) (m k : ℕ) (bytes : List ℕ) → length ms ≡ k → ns ≡ ms ++ m ∷ [] → ((j : ℕ) → j < w → is_one m j ≡ byte_value bytes (k * w + j)) → ((q j : ℕ) → q < k → j < w → is_one (get_or ms q 0) j ≡ byte_value bytes (q * w + j)) → (q j : ℕ) → q < k + 1 → j < w → is_one (get_or ns q 0) j ≡ byte_value bytes (q * w + j)
 block_pushed w ms ns m k bytes len e digits before q j below index =
-    ap (λ xs. is_one (get_or xs q 0) j) e
-    ∙ ⊎_elim
-    (λ early. ap (λ x. is_one x j) (get_or_append_left ms (m ∷ []) 0 q (omega arith)) ∙ before q j early index)
-    (λ last.
-    let here : k ≡ q = omega arith in
-    let first : q - k ≡ 0 = omega arith in
-    ap (λ x. is_one x j) (get_or-append_right ms (m ∷ []) k q 0 len last ∙ ap (λ p. get_or (m ∷ []) p 0) first)
-    ∙ digits j index
-    ∙ ap (λ p. byte_value bytes (p * w + j)) here)
-    (cases_lt q k)
+    grind (arith, e, get_or_append_left ms (m ∷ []) 0 q, get_or-append_right ms (m ∷ []) k q 0 len, before q j, digits j index)
 
 pub loop-k-preserved : goal.loop-k-preserved
 loop-k-preserved g c =

@@ -1,19 +1,12 @@
-use Rattle.std.proofs.Common.{vec_len, arith, ◌∙◌, ◌≡◌, ◌-◌, ◌++◌, map, replicate, refl, sym, ap, append-nil}
+use Rattle.std.proofs.Common.{vec_len, arith, ◌∙◌, ◌≡◌, ◌-◌, refl, append-nil}
 use Rattle.std.proofs.lemmas.List.Elements.{All-same, All-push}
 use Rattle.bit_words.proofs.PackedLemmas.{copy_pushed}
 use Rattle.bit_words.proofs.packed.copies.with_copies.Goals as goal
 
 pub loop-init : goal.loop-init
 loop-init g c =
-    let f = g.B.BitBlock.number in
-    let xs = c.args.blocks.items in
     let none : c.len-counter.result - vec_len c.args.blocks ≡ 0 = omega arith in
-    record {
-      numbers = sym (ap (λ n. map f xs ++ replicate n (f c.args.block)) none ∙ append-nil (map f xs));
-      each = c.requires.each;
-      count = omega arith;
-      capacity = refl;
-    }
+    record { numbers = rw (none, append-nil); each = c.requires.each; count = omega arith; capacity = refl }
 
 pub loop-preserved : goal.loop-preserved
 loop-preserved g c = record {
@@ -22,6 +15,3 @@ loop-preserved g c = record {
   count = omega arith;
   capacity = c.push_reserved.ensures.capacity ∙ c.loop.invariant.capacity;
 }
-
-pub loop-smaller : goal.loop-smaller
-loop-smaller g c = omega arith

@@ -1,5 +1,5 @@
-use Rattle.std.proofs.Common.{◌/◌, ◌∙◌, sym, arith, ⊎_elim}
-use Rattle.std.proofs.lemmas.Bool.{cases_lt, false≢true}
+use Rattle.std.proofs.Common.{◌≤◌, ◌/◌, ◌∙◌, sym, arith}
+use Rattle.std.proofs.lemmas.Bool.{false≢true}
 use Rattle.bit_words.proofs.CompareLemmas.{difference_of_blocks, first_is_past, first_of_rest, shorter_end, zero_before_first}
 use Rattle.bit_words.proofs.VectorLemmas.{numbers_below}
 use Rattle.bit_words.proofs.packed.inclusion.difference_is_zero.Goals as goal
@@ -35,13 +35,9 @@ returns-else-first_merge_to_zero g c =
     record {
       zero = (λ yes. absurd (false≢true (sym c.if-first_merge_to_zero.false ∙ yes)), λ falses. first_part.zero.1 (both.1 falses).0);
       steps = record {
-        stops = λ i first. first_part.steps.stops i (
-          first,
-          ⊎_elim
-              (λ within. within)
-              (λ past. absurd (false≢true (sym c.if-first_merge_to_zero.false ∙ first_part.zero.1 (zero_before_first _ _ _ _ _ i past first))))
-              (cases_lt (i / g.B.BitBlock.width) c.min-count.result),
-        );
+        stops = λ i first.
+            let in_both : c.min-count.result ≤ i / g.B.BitBlock.width → ⊥ = λ past. false≢true (sym c.if-first_merge_to_zero.false ∙ first_part.zero.1 (zero_before_first _ _ _ _ _ i past first)) in
+            first_part.steps.stops i (first, grind (arith, in_both));
         fewest = first_part.steps.fewest;
         at_most = omega (arith, first_part.steps.at_most);
         all = λ yes. absurd (false≢true (sym c.if-first_merge_to_zero.false ∙ yes));

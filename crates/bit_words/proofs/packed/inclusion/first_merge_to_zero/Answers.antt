@@ -1,5 +1,5 @@
-use Rattle.std.proofs.Common.{◌≡◌, ℕ, ◌+◌, ◌<◌, ◌==◌, Bool, true, List, get_or, sym, ap, ap₂, ◌∙◌, arith, ⊎_elim}
-use Rattle.std.proofs.lemmas.Bool.{false≢true, cases_eq, eqb-true}
+use Rattle.std.proofs.Common.{◌≡◌, ℕ, ◌+◌, ◌<◌, List, get_or, sym, ◌∙◌, arith}
+use Rattle.std.proofs.lemmas.Bool.{false≢true, eqb-true}
 use Rattle.bit_words.specs.BlockMerges.{MergesToZero}
 use Rattle.bit_words.specs.Digits.{is_one}
 use Rattle.bit_words.specs.Merges.{merge_of_values}
@@ -9,23 +9,11 @@ use Rattle.bit_words.proofs.packed.inclusion.first_merge_to_zero.Goals as goal
 
 -- one block more merges to 0
 zeros_more : (m : Merge) (w : ℕ) (ms os : List ℕ) (k a b n : ℕ) → MergesToZero m w ms os k → a ≡ get_or ms k 0 → b ≡ get_or os k 0 → ((j : ℕ) → j < w → is_one n j ≡ merge_of_values m (is_one a j) (is_one b j)) → n ≡ 0 → MergesToZero m w ms os (k + 1)
-zeros_more m w ms os k a b n zeros first second digits none = record {
-  digit = λ q j below index. ⊎_elim
-      (λ here.
-      ap₂ (λ x y. merge_of_values m (is_one x j) (is_one y j)) (ap (λ p. get_or ms p 0) here ∙ sym first) (ap (λ p. get_or os p 0) here ∙ sym second)
-      ∙ sym (digits j index)
-      ∙ digit_from_zero n j none)
-      (λ there. zeros.digit q j (omega arith) index)
-      (cases_eq q k);
-}
-
--- a test against a block of zeros that says yes
-match_zero : (n z : ℕ) (b : Bool) → b ≡ (n == z) → b ≡ true → z ≡ 0 → n ≡ 0
-match_zero n z b is same naught = eqb-true n z (sym is ∙ same) ∙ naught
+zeros_more m w ms os k a b n zeros first second digits none = record { digit = λ q j below index. grind (arith, zeros.digit q j, digits j index, digit_from_zero n j none) }
 
 pub loop-k-preserved : goal.loop-k-preserved
 loop-k-preserved g c = record {
-  zero = zeros_more _ _ _ _ c.loop-k.k _ _ _ c.loop-k.invariant.zero c.block_at.ensures.of_number c.block_at-in-loop-k.ensures.of_number c.of_blocks-merged.ensures.digits (match_zero _ _ c.same.result c.same.ensures c.if-not-same.false c.zero.ensures.of_number);
+  zero = zeros_more _ _ _ _ c.loop-k.k _ _ _ c.loop-k.invariant.zero c.block_at.ensures.of_number c.block_at-in-loop-k.ensures.of_number c.of_blocks-merged.ensures.digits (eqb-true _ _ (sym c.same.ensures ∙ c.if-not-same.false) ∙ c.zero.ensures.of_number);
   steps = omega arith;
 }
 

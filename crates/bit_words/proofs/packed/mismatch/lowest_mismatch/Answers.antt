@@ -4,10 +4,7 @@ use Rattle.bit_words.proofs.packed.mismatch.lowest_mismatch.Goals as goal
 pub take_lowest_one-requires-clause-not_zero : goal.take_lowest_one-requires-clause-not_zero
 take_lowest_one-requires-clause-not_zero g c =
     let law = g.met.B.BitBlock in
-    let n = g.B.BitBlock.number in
-    different_some g.B.BitBlock.width (n c.args.a) (n c.args.b) (n c.block_xor-mismatch.result) (law.number_law c.args.a c.requires.left).0 (law.number_law c.args.b c.requires.right).0 c.requires.mismatch c.block_xor-mismatch.ensures.of_digits
+    different_some _ _ _ _ (law.number_law c.args.a c.requires.left).0 (law.number_law c.args.b c.requires.right).0 c.requires.mismatch c.block_xor-mismatch.ensures.of_digits
 
 pub returns : goal.returns
-returns g c =
-    let n = g.B.BitBlock.number in
-    lowest_mismatch_is g.B.BitBlock.width (n c.args.a) (n c.args.b) (n c.block_xor-mismatch.result) c.take_lowest_one.result c.block_xor-mismatch.ensures.of_digits c.take_lowest_one.ensures.lowest c.take_lowest_one.ensures.within
+returns g c = lowest_mismatch_is _ _ _ _ _ c.block_xor-mismatch.ensures.of_digits c.take_lowest_one.ensures.lowest c.take_lowest_one.ensures.within

@@ -1,4 +1,4 @@
-use Rattle.std.proofs.Common.{◌≡◌, ◌+◌, count_ones, get_or, take_all, ap, ◌∙◌, arith}
+use Rattle.std.proofs.Common.{◌+◌, count_ones, take_all, ap, ◌∙◌, arith}
 use Rattle.std.proofs.lemmas.List.Sums.{sum_by_more_le}
 use Rattle.bit_words.specs.Nonzero.{ones_in}
 use Rattle.bit_words.proofs.packed.ones.add_ones.Goals as goal
@@ -6,12 +6,8 @@ use Rattle.bit_words.proofs.packed.ones.add_ones.Goals as goal
 pub overflow_add-ones : goal.overflow_add-ones
 overflow_add-ones g c =
     let number = g.B.BitBlock.number in
-    let blocks = c.args.blocks.now in
-    let i = c.loop-block.block-index in
-    let block = c.block-item.result in
-    let here : count_ones (number block) ≡ count_ones (number (get_or blocks i block)) = ap (λ b. count_ones (number b)) c.block-item.is in
-    let most = sum_by_more_le (λ x. count_ones (number x)) blocks i block c.loop-block-test.true in
-    omega (arith, most, here, c.count_ones-ones.ensures, c.loop-block.invariant, c.requires.fits)
+    let most = sum_by_more_le (λ x. count_ones (number x)) c.args.blocks.now c.loop-block.block-index c.block-item.result c.loop-block-test.true in
+    omega (arith, most, ap (λ b. count_ones (number b)) c.block-item.is, c.count_ones-ones.ensures, c.loop-block.invariant, c.requires.fits)
 
 pub returns : goal.returns
 returns g c =

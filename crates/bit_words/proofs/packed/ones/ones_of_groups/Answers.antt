@@ -1,4 +1,4 @@
-use Rattle.std.proofs.Common.{◌≡◌, ◌+◌, ◌*◌, count_ones, take, drop, ap, arith}
+use Rattle.std.proofs.Common.{◌≡◌, ◌+◌, ◌*◌, count_ones, take, ap, arith}
 use Rattle.std.proofs.lemmas.List.Elements.{All-same, All-take, All-drop}
 use Rattle.std.proofs.lemmas.List.Sums.{sum_by-take-le}
 use Rattle.bit_words.specs.Nonzero.{ones_in}
@@ -8,24 +8,18 @@ use Rattle.bit_words.proofs.packed.ones.ones_of_groups.Goals as goal
 pub add_ones-ones-requires-clause-each : goal.add_ones-ones-requires-clause-each
 add_ones-ones-requires-clause-each g c =
     let is_block = g.B.BitBlock.is_block in
-    let xs = c.args.blocks.now in
-    let start = c.loop-group.group * 8 in
-    All-same is_block c.group_from.result.now (take 8 (drop start xs)) c.group_from.ensures (All-take is_block 8 (drop start xs) (All-drop is_block start xs c.requires.each))
+    All-same is_block _ _ c.group_from.ensures (All-take is_block 8 _ (All-drop is_block (c.loop-group.group * 8) c.args.blocks.now c.requires.each))
 
 pub add_ones-ones-requires-clause-fits : goal.add_ones-ones-requires-clause-fits
 add_ones-ones-requires-clause-fits g c =
     let number = g.B.BitBlock.number in
-    let xs = c.args.blocks.now in
-    let i = c.loop-group.group in
-    let here = ap (ones_in number) c.group_from.ensures in
-    let most = sum_by-take-le (λ x. count_ones (number x)) xs (i * 8 + 8) in
-    omega (arith, here, ones_in-more number (i * 8) 8 xs, most, c.loop-group.invariant, c.requires.fits)
+    let start = c.loop-group.group * 8 in
+    let most = sum_by-take-le (λ x. count_ones (number x)) c.args.blocks.now (start + 8) in
+    omega (arith, ap (ones_in number) c.group_from.ensures, ones_in-more number start 8 c.args.blocks.now, most, c.loop-group.invariant, c.requires.fits)
 
 pub loop-group-preserved : goal.loop-group-preserved
 loop-group-preserved g c =
     let number = g.B.BitBlock.number in
-    let xs = c.args.blocks.now in
     let i = c.loop-group.group in
-    let here = ap (ones_in number) c.group_from.ensures in
-    let next : ones_in number (take (i * 8 + 8) xs) ≡ ones_in number (take ((i + 1) * 8) xs) = ap (λ m. ones_in number (take m xs)) (let e : i * 8 + 8 ≡ (i + 1) * 8 = omega arith in e) in
-    omega (arith, here, next, ones_in-more number (i * 8) 8 xs, c.add_ones-ones.ensures, c.loop-group.invariant)
+    let next = ap (λ m. ones_in number (take m c.args.blocks.now)) (let e : i * 8 + 8 ≡ (i + 1) * 8 = omega arith in e) in
+    omega (arith, ap (ones_in number) c.group_from.ensures, next, ones_in-more number (i * 8) 8 c.args.blocks.now, c.add_ones-ones.ensures, c.loop-group.invariant)

@@ -1,6 +1,5 @@
-use Rattle.std.proofs.Common.{◌≡◌, ◌∙◌, sym, map, length, vec_len, arith}
+use Rattle.std.proofs.Common.{vec_len, ◌∙◌, sym, arith}
 use Rattle.std.proofs.lemmas.List.{length-map}
-use Rattle.bit_words.specs.Bits.{blocks_for}
 use Rattle.bit_words.proofs.BitsLemmas.{blocks_for-le}
 use Rattle.bit_words.proofs.PackedLemmas.{ones_kept, ones_added, zeros_kept, zeros_added}
 use Rattle.bit_words.proofs.TestLemmas.{above_false, below_true}
@@ -20,16 +19,15 @@ returns-then-old-len-clause-packed g c = rw (← c.if-old-len.true) c.requires.p
 
 pub returns-then-bit : goal.returns-then-bit
 returns-then-bit g c =
-    let longer = c.requires.longer in
-    let count : vec_len c.args.blocks.now ≡ blocks_for g.B.BitBlock.width c.args.old = omega arith in
-    let added = ones_added _ _ _ _ _ _ _ c.requires.packed.tail c.set_tail.ensures.values (λ i within. c.push_ones.ensures.kept i (omega (arith, c.set_tail.ensures.in_place.len, within))) (λ i past. c.push_ones.ensures.added i (omega (arith, c.set_tail.ensures.in_place.len, past))) in
+    let size = c.set_tail.ensures.in_place.len in
+    let added = ones_added _ _ _ _ _ _ _ c.requires.packed.tail c.set_tail.ensures.values (λ i within. c.push_ones.ensures.kept i (omega (arith, size, within))) (λ i past. c.push_ones.ensures.added i (omega (arith, size, past))) in
     record {
-      kept = ones_kept _ _ _ _ _ _ _ g.met.B.BitBlock.width_law.positive count c.set_tail.ensures.values (λ i within. c.push_ones.ensures.kept i (omega (arith, c.set_tail.ensures.in_place.len, within)));
+      kept = ones_kept _ _ _ _ c.args.old _ (vec_len c.args.blocks.now) g.met.B.BitBlock.width_law.positive (omega arith) c.set_tail.ensures.values (λ i within. c.push_ones.ensures.kept i (omega (arith, size, within)));
       added = λ i after below. added i after ∙ below_true c.args.len i below ∙ sym c.if-bit.true;
       packed = record {
         each = c.push_ones.ensures.each;
         count = omega arith;
-        tail = record { zero_tail = λ i past. added i (omega (arith, longer, past)) ∙ above_false c.args.len i past };
+        tail = record { zero_tail = λ i past. added i (omega (arith, c.requires.longer, past)) ∙ above_false c.args.len i past };
         fits = c.ranges.len.fits;
       };
       capacity = c.push_ones.ensures.capacity ∙ c.set_tail.ensures.in_place.capacity;
@@ -37,16 +35,14 @@ returns-then-bit g c =
 
 pub returns-else-bit : goal.returns-else-bit
 returns-else-bit g c =
-    let longer = c.requires.longer in
-    let count : length (map g.B.BitBlock.number c.args.blocks.now.items) ≡ blocks_for g.B.BitBlock.width c.args.old = rw length-map c.requires.packed.count in
     let added = zeros_added _ _ _ _ _ _ c.requires.packed.tail c.zero.ensures.of_number c.push_copies.ensures.numbers in
     record {
-      kept = zeros_kept _ _ _ _ _ _ g.met.B.BitBlock.width_law.positive count c.push_copies.ensures.numbers;
+      kept = zeros_kept _ _ _ _ _ _ g.met.B.BitBlock.width_law.positive (rw length-map c.requires.packed.count) c.push_copies.ensures.numbers;
       added = λ i after below. added i after ∙ sym c.if-bit.false;
       packed = record {
         each = c.push_copies.ensures.each;
         count = omega arith;
-        tail = record { zero_tail = λ i past. added i (omega (arith, longer, past)) };
+        tail = record { zero_tail = λ i past. added i (omega (arith, c.requires.longer, past)) };
         fits = c.ranges.len.fits;
       };
       capacity = c.push_copies.ensures.capacity;

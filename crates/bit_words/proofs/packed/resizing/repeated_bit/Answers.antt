@@ -9,6 +9,5 @@ append_bits-requires-clause-packed g c = packed_nil _ _ _ _ g.met.B.BitBlock.wid
 
 pub returns-in_err-blocks-clause-empty : goal.returns-in_err-blocks-clause-empty
 returns-in_err-blocks-clause-empty g c = λ none.
-    let blocks = ap (blocks_for g.B.BitBlock.width) none in
-    let zero = blocks_for-none g.B.BitBlock.width g.met.B.BitBlock.width_law.positive in
-    absurd (true≢false (sym (c.in_err-blocks.ensures.succeeds (omega (arith, blocks, zero, c.block_count.ensures)))))
+    let w = g.B.BitBlock.width in
+    absurd (true≢false (sym (c.in_err-blocks.ensures.succeeds (omega (arith, ap (blocks_for w) none, blocks_for-none w g.met.B.BitBlock.width_law.positive, c.block_count.ensures)))))
