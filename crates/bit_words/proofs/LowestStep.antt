@@ -1,17 +1,9 @@
 -- The steps that take the lowest 1 off a block, at the numbers of the blocks.
 use Rattle.std.proofs.Common.{◌≡◌, ℕ, ◌+◌, ◌-◌, ◌^◌, ◌<◌, count_ones, sym, ap, ◌∙◌, subst, arith}
-use Rattle.bit_words.specs.Digits.{IsBoth, IsComplement}
+use Rattle.bit_words.specs.Digits.{IsBoth}
 use Rattle.bit_words.specs.Lowest.{IsLowest, IsCleared, IsIsolated}
 use Rattle.bit_words.proofs.LowestLemmas.{lowest_found}
 use Rattle.std.proofs.lemmas.Nat.{pow_pos}
-
--- `!m + 1`
-pub wrapping_neg_is : (w m n : ℕ) → 0 < m → m < 2 ^ w → n < 2 ^ w → IsComplement w m n → n + 1 ≡ 2 ^ w - m
-wrapping_neg_is w m n pos small fits is = (lowest_found w m pos small).1.wrapping_neg n fits is
-
--- it does not wrap
-pub wrapping_neg_fits : (w m n : ℕ) → 0 < m → m < 2 ^ w → n < 2 ^ w → IsComplement w m n → n + 1 < 2 ^ w
-wrapping_neg_fits w m n pos small fits is = omega (arith, wrapping_neg_is w m n pos small fits is, (lowest_found w m pos small).1.wrapping_neg_fits)
 
 pub isolated : (w m n l : ℕ) → 0 < m → m < 2 ^ w → l < 2 ^ w → n ≡ 2 ^ w - m → IsBoth w m n l → IsIsolated w m l
 isolated w m n l pos small fits is both =

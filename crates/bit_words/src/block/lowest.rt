@@ -3,6 +3,7 @@ ghost use Rattle.std.specs.Prelude.{◌≡◌, ◌-◌, ◌^◌, ◌<◌};
 ghost use Rattle.bit_words.specs.Lowest.{IsLowest, IsCleared, IsIsolated};
 
 use crate::block::BitBlock;
+use crate::block::operators::{block_and, block_not, block_sub};
 
 /// Takes the lowest 1 off a block that is not zero, and returns its index. Constant time: all walks find their
 /// items by this step.
@@ -22,8 +23,8 @@ pub fn take_lowest_one<B: BitBlock>(block: &mut B) -> usize
     ensures cleared { IsCleared B.width (B.number block.old) result (B.number block.new) }
 {
     let whole = *block;
-    let below = isolate_lowest_one(whole) - B::one();
-    *block = whole & (whole - B::one());
+    let below = block_sub(isolate_lowest_one(whole), B::one());
+    *block = block_and(whole, block_sub(whole, B::one()));
     below.count_ones()
 }
 
@@ -35,7 +36,7 @@ fn isolate_lowest_one<B: BitBlock>(block: B) -> B
     ensures of_block { B.is_block result }
     ensures isolated { IsIsolated B.width (B.number block) (B.number result) }
 {
-    block & wrapping_neg(block)
+    block_and(block, wrapping_neg(block))
 }
 
 // What gives zero when it is added to a block, past its highest digit.
@@ -46,5 +47,5 @@ fn wrapping_neg<B: BitBlock>(block: B) -> B
     ensures of_block { B.is_block result }
     ensures of_number { B.number result ≡ 2 ^ B.width - B.number block }
 {
-    !block + B::one()
+    block_not(block) + B::one()
 }
