@@ -1,5 +1,5 @@
 -- How far a list is true, and the blocks that this takes.
-use Rattle.std.proofs.Common.{◌≡◌, ◌≢◌, ℕ, zero, suc, ◌+◌, ◌-◌, ◌*◌, ◌/◌, ◌^◌, ◌<◌, ◌≤◌, max, Bool, false, ◌||◌, nat_lt, if◌then◌else◌, List, [], ◌∷◌, length, get_or, take, refl, ap, ◌∙◌, arith, length-take, le_of_mul-le-mul_right, mul-le-mul_right}
+use Rattle.std.proofs.Common.{◌≡◌, ◌≢◌, ℕ, zero, suc, ◌+◌, ◌-◌, ◌*◌, ◌/◌, ◌^◌, ◌<◌, ◌≤◌, max, Bool, false, List, [], ◌∷◌, length, get_or, take, refl, ap, ◌∙◌, arith, length-take, le_of_mul-le-mul_right, mul-le-mul_right}
 use Rattle.std.proofs.lemmas.Bool.Decides.{nat_tests}
 use Rattle.bit_words.specs.Bits.{Bits, blocks_for, capacity_of, true_end, whole_blocks}
 use Rattle.bit_words.specs.Storage.{value_at, values_of, IsZeroFrom}
@@ -14,24 +14,14 @@ use Rattle.std.proofs.lemmas.Nat.{le-div}
 
 -- ---- how far a list is true
 
-or_pos : (b : Bool) (n i : ℕ) → (if b || nat_lt 0 n then n + 1 else 0) ≤ suc i → n ≤ i
-or_pos b n i h = grind (arith, nat_tests)
-
-or_none : (b : Bool) (n : ℕ) → (if b || nat_lt 0 n then n + 1 else 0) ≤ 0 → b ≡ false
-or_none b n h = grind (arith, nat_tests)
-
-or_least : (b : Bool) (n c : ℕ) → (c ≡ 0 → b ≡ false) → n ≤ c - 1 → (if b || nat_lt 0 n then n + 1 else 0) ≤ c
-or_least b n c f h = grind (arith, nat_tests)
-
 pub true_end-past : (xs : List Bool) (i : ℕ) → true_end xs ≤ i → get_or xs i false ≡ false
 true_end-past [] i h = refl
-true_end-past (b ∷ bs) zero h = or_none b (true_end bs) h
-true_end-past (b ∷ bs) (suc i) h = true_end-past bs i (or_pos b (true_end bs) i h)
+true_end-past (b ∷ bs) zero h = grind (arith, nat_tests)
+true_end-past (b ∷ bs) (suc i) h = grind (arith, nat_tests, true_end-past bs i)
 
 pub true_end-least : (xs : List Bool) (c : ℕ) → ((i : ℕ) → c ≤ i → get_or xs i false ≡ false) → true_end xs ≤ c
 true_end-least [] c falses = omega arith
-true_end-least (b ∷ bs) c falses =
-    or_least b (true_end bs) c (λ none. falses 0 (omega arith)) (true_end-least bs (c - 1) (λ i past. falses (suc i) (omega arith)))
+true_end-least (b ∷ bs) c falses = grind (arith, nat_tests, falses 0, true_end-least bs (c - 1) (λ i past. falses (suc i) (omega arith)))
 
 -- ---- the blocks up to there
 

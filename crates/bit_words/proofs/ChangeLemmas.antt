@@ -1,5 +1,5 @@
 -- What a write of one block does to the value at every index.
-use Rattle.std.proofs.Common.{◌≡◌, ◌≢◌, ℕ, ◌+◌, ◌*◌, ◌/◌, ◌%◌, ◌^◌, ◌<◌, ◌≤◌, ◌==◌, Bool, true, false, ◌&&◌, ◌||◌, nat_lt, nat_le, List, length, get_or, set, refl, sym, ap, ◌∙◌, arith, div-add-mod', mod-lt, div-lt_iff_lt-mul, div-mul-le_self}
+use Rattle.std.proofs.Common.{◌≡◌, ◌≢◌, ℕ, ◌+◌, ◌*◌, ◌/◌, ◌%◌, ◌^◌, ◌<◌, ◌≤◌, ◌==◌, Bool, ◌&&◌, ◌||◌, nat_lt, nat_le, List, length, get_or, set, refl, sym, ap, ◌∙◌, arith, div-add-mod', mod-lt, div-lt_iff_lt-mul, div-mul-le_self}
 use mathlib.Core.Bool.{beq}
 use Rattle.std.proofs.lemmas.Bool.Decides.{nat_tests}
 use Rattle.std.proofs.lemmas.Nat.Bits.{same_from_bits_below}
@@ -7,7 +7,7 @@ use Rattle.bit_words.specs.Bits.{blocks_for}
 use Rattle.bit_words.specs.Digits.{is_one}
 use Rattle.bit_words.specs.Storage.{value_at, WritesValue}
 use Rattle.bit_words.proofs.StorageLemmas.{same_digit, value_at-is, value_at-past, value_at-set_same, value_at-set_other}
-use Rattle.bit_words.proofs.TestLemmas.{above_and, below_and}
+use Rattle.bit_words.proofs.TestLemmas.{above_and}
 use Rattle.bit_words.proofs.BitsLemmas.{index_below}
 
 -- ---- within one block, places follow indexes
@@ -43,13 +43,6 @@ put_bit w ms ns i k p m n b pos ke pe h read e digit digits = record {
   others = λ j ne. grind (arith, written_same w ms ns k n j e h, digits (j % w), mod-lt j pos, same_index w j i, read_at w ms k m j read, written_other w ms ns k n j e);
 }
 
-or_and_false : (a b : Bool) → a ≡ (a || (b && false))
-or_and_false a b = grind arith
-
--- in a block other than the one at which the values end, the index says on which side it is
-kept_before : (w : ℕ) (ms : List ℕ) (len i : ℕ) → i < len → value_at w ms i ≡ (nat_lt i len && value_at w ms i)
-kept_before w ms len i h = sym (below_and len i (value_at w ms i) h)
-
 past_blocks : (w : ℕ) (ms : List ℕ) (len i : ℕ) → len ≤ i → length ms ≤ i / w → value_at w ms i ≡ (nat_lt i len && value_at w ms i)
 past_blocks w ms len i h p = value_at-past w ms i p ∙ sym (above_and len i (value_at w ms i) h)
 
@@ -84,13 +77,6 @@ lowered w ms ns len k p m n pos ke pe nz count read e digits i =
 
 -- ---- what a bit was, by whether its block changed
 
--- where the bit was the same, so is the block
-kept_block : (w m n p : ℕ) (bit : Bool) → m < 2 ^ w → n < 2 ^ w → is_one n p ≡ bit → ((j : ℕ) → j < w → j ≢ p → is_one n j ≡ is_one m j) → is_one m p ≡ bit → n ≡ m
-kept_block w m n p bit small also digit others was = same_from_bits_below w n m also small (λ j within. same_digit n m j (grind (arith, others j within, digit, was)))
-
--- the bit was the one that was written just where the block stays
-was_known : (r bit was : Bool) → (r ≡ true → was ≡ bit) → (was ≡ bit → r ≡ true) → beq r bit ≡ was
-was_known r bit was stays back = grind arith
-
 pub bit_before : (w m n p : ℕ) (bit r : Bool) → m < 2 ^ w → n < 2 ^ w → is_one n p ≡ bit → ((j : ℕ) → j < w → j ≢ p → is_one n j ≡ is_one m j) → r ≡ (n == m) → beq r bit ≡ is_one m p
-bit_before w m n p bit r small also digit others test = grind (arith, nat_tests, was_known, kept_block w m n p bit small also digit others, test, digit)
+bit_before w m n p bit r small also digit others test =
+    grind (arith, nat_tests, λ (was : is_one m p ≡ bit). same_from_bits_below w n m also small (λ j within. same_digit n m j (grind (arith, others j within, digit, was))), test, digit)

@@ -16,7 +16,6 @@ use Rattle.bit_words.proofs.Masks.{is_one-zero}
 use Rattle.bit_words.proofs.StorageLemmas.{value_at-is, value_at-index, value_at-past, get_or-values_of_zero_tail}
 use Rattle.bit_words.proofs.MergeLemmas.{get_or-merged}
 use Rattle.bit_words.proofs.VectorLemmas.{bit_from_false}
-use Rattle.std.proofs.lemmas.Grind.{common_steps}
 
 -- ---- blocks
 
@@ -69,12 +68,6 @@ zero_from_false m w ms ns falses k j index =
 pub shorter_end : {X : Type 0} (f : X → ℕ) (xs ys : List X) (c : ℕ) → c ≡ min (length xs) (length ys) → (c ≡ length (map f ys)) ⊎ (c ≡ length (map f xs))
 shorter_end f xs ys c e = rw (length-map xs, length-map ys) (grind arith)
 
-difference_of_false : (b : Bool) → merge_of_values Difference false b ≡ false
-difference_of_false b = refl
-
-difference_past : (a : Bool) → merge_of_values Difference a false ≡ false → a ≡ false
-difference_past a e = grind arith
-
 -- a difference: where both have blocks, and past those
 pub difference_of_blocks : (w : ℕ) (ms ns : List ℕ) (count : ℕ) → 0 < w → ((k : ℕ) → get_or ms k 0 < 2 ^ w) → (count ≡ length ns) ⊎ (count ≡ length ms) → (MergesToZero Difference w ms ns count × ((k : ℕ) → count ≤ k → get_or ms k 0 ≡ 0)) ↔ MergesToFalse Difference w ms ns
 difference_of_blocks w ms ns count pos small ends = (
@@ -116,9 +109,6 @@ true_at w n r ms v e zero_tail i =
       λ one. slice_get_from_true v.values i (ap digit_of (same ∙ one)),
     )
 
-false_from_not : (bs : List Bool) (j : ℕ) → slice_get bs j ≢ Some true → get_or bs j false ≡ false
-false_from_not bs j h = grind (arith, slice_get_from_true, common_steps)
-
 merged_in_views : (m : Merge) (w n p r s : ℕ) (ms ns : List ℕ) (v u : Bits) → record { values = values_of w ms n; capacity = r } ≡ v → record { values = values_of w ns p; capacity = s } ≡ u → IsZeroFrom w ms n → IsZeroFrom w ns p → (i : ℕ) → get_or (merge_of m v.values u.values) i false ≡ merge_of_values m (value_at w ms i) (value_at w ns i)
 merged_in_views m w n p r s ms ns v u e f zero_tail also i =
     get_or-merged m v.values u.values i
@@ -127,29 +117,17 @@ merged_in_views m w n p r s ms ns v u e f zero_tail also i =
 pub first_of_lists : (m : Merge) (w n p r s : ℕ) (ms ns : List ℕ) (v u : Bits) → record { values = values_of w ms n; capacity = r } ≡ v → record { values = values_of w ns p; capacity = s } ≡ u → IsZeroFrom w ms n → IsZeroFrom w ns p → (i : ℕ) → IsFirstTrue (merge_of m v.values u.values) i → IsFirstMerged m w ms ns i
 first_of_lists m w n p r s ms ns v u e f zero_tail also i first = record {
   is_true = sym (merged_in_views m w n p r s ms ns v u e f zero_tail also i) ∙ get_or_from_slice_get (merge_of m v.values u.values) i true false first.is_true;
-  before = λ j less. sym (merged_in_views m w n p r s ms ns v u e f zero_tail also j) ∙ false_from_not (merge_of m v.values u.values) j (first.before j less);
+  before = λ j less. sym (merged_in_views m w n p r s ms ns v u e f zero_tail also j) ∙ grind (arith, slice_get_from_true (merge_of m v.values u.values) j, first.before j less);
 }
-
-difference_true : (a b : Bool) → merge_of_values Difference a b ≡ false → a ≡ true → b ≡ true
-difference_true a b e f = grind arith
-
-difference_false : (a b : Bool) → (a ≡ true → b ≡ true) → merge_of_values Difference a b ≡ false
-difference_false a b f = grind arith
-
-intersection_not : (a b : Bool) → merge_of_values Intersection a b ≡ false → a ≡ true → b ≢ true
-intersection_not a b e f g = grind arith
-
-intersection_false : (a b : Bool) → (a ≡ true → b ≢ true) → merge_of_values Intersection a b ≡ false
-intersection_false a b f = grind arith
 
 pub subset_lists : (w n p r s : ℕ) (ms ns : List ℕ) (v u : Bits) → record { values = values_of w ms n; capacity = r } ≡ v → record { values = values_of w ns p; capacity = s } ≡ u → IsZeroFrom w ms n → IsZeroFrom w ns p → MergesToFalse Difference w ms ns ↔ ((i : ℕ) → slice_get v.values i ≡ Some true → slice_get u.values i ≡ Some true)
 subset_lists w n p r s ms ns v u e f zero_tail also = (
-  λ falses i first. (true_at w p s ns u f also i).1 (difference_true _ _ (falses.value i) ((true_at w n r ms v e zero_tail i).0 first)),
-  λ each. record { value = λ i. difference_false _ _ (λ first. (true_at w p s ns u f also i).0 (each i ((true_at w n r ms v e zero_tail i).1 first))) },
+  λ falses i first. grind (arith, true_at w p s ns u f also i, falses.value i, true_at w n r ms v e zero_tail i, first),
+  λ each. record { value = λ i. grind (arith, true_at w p s ns u f also i, each i, true_at w n r ms v e zero_tail i) },
 )
 
 pub disjoint_lists : (w n p r s : ℕ) (ms ns : List ℕ) (v u : Bits) → record { values = values_of w ms n; capacity = r } ≡ v → record { values = values_of w ns p; capacity = s } ≡ u → IsZeroFrom w ms n → IsZeroFrom w ns p → MergesToFalse Intersection w ms ns ↔ ((i : ℕ) → slice_get v.values i ≡ Some true → slice_get u.values i ≢ Some true)
 disjoint_lists w n p r s ms ns v u e f zero_tail also = (
-  λ falses i first second. intersection_not _ _ (falses.value i) ((true_at w n r ms v e zero_tail i).0 first) ((true_at w p s ns u f also i).0 second),
-  λ each. record { value = λ i. intersection_false _ _ (λ first second. each i ((true_at w n r ms v e zero_tail i).1 first) ((true_at w p s ns u f also i).1 second)) },
+  λ falses i first second. grind (arith, true_at w p s ns u f also i, falses.value i, true_at w n r ms v e zero_tail i, first, second),
+  λ each. record { value = λ i. grind (arith, true_at w p s ns u f also i, each i, true_at w n r ms v e zero_tail i) },
 )

@@ -1,33 +1,21 @@
 -- A digit of a block that an operator gives, as a test. `masks.rt` names the set.
-use Rattle.std.proofs.Common.{◌≡◌, ◌≢◌, ℕ, ◌+◌, ◌-◌, ◌%◌, ◌^◌, ◌<◌, min, max, true, false, not, ◌&&◌, ◌||◌, ◌==◌, nat_lt, nat_le, refl, ap, ◌∙◌, arith}
+use Rattle.std.proofs.Common.{◌≡◌, ◌≢◌, ℕ, ◌-◌, ◌^◌, ◌<◌, true, false, not, ◌&&◌, ◌||◌, ◌==◌, nat_lt, nat_le, refl, ap, ◌∙◌, arith}
 use Rattle.std.specs.Int.{bit_at}
 use Rattle.std.proofs.lemmas.Bool.Decides.{nat_tests}
 use Rattle.std.proofs.lemmas.Nat.Bits.{bit_at-lt, bit_at-zero, bit_at-pow_same, bit_at-pow_other, bit_at_ones, bit_at_ones_above}
 use Rattle.bit_words.specs.Digits.{IsBoth, IsEither, IsDifferent, IsComplement, is_one}
 
-test_both : (a b : ℕ) → a < 2 → b < 2 → (min a b == 1) ≡ ((a == 1) && (b == 1))
-test_both a b h k = grind (arith, nat_tests)
-
-test_either : (a b : ℕ) → a < 2 → b < 2 → (max a b == 1) ≡ ((a == 1) || (b == 1))
-test_either a b h k = grind arith
-
-test_different : (a b : ℕ) → a < 2 → b < 2 → ((a + b) % 2 == 1) ≡ (((a == 1) && not (b == 1)) || (not (a == 1) && (b == 1)))
-test_different a b h k = grind (arith, nat_tests)
-
-test_not : (a : ℕ) → a < 2 → (1 - a == 1) ≡ not (a == 1)
-test_not a h = grind arith
-
 pub is_one-both : (w m n r j : ℕ) → IsBoth w m n r → j < w → is_one r j ≡ (is_one m j && is_one n j)
-is_one-both w m n r j is h = ap (λ d. d == 1) (is.digit j h) ∙ test_both _ _ (bit_at-lt m j) (bit_at-lt n j)
+is_one-both w m n r j is h = grind (arith, nat_tests, is.digit j h, bit_at-lt m j, bit_at-lt n j)
 
 pub is_one-either : (w m n r j : ℕ) → IsEither w m n r → j < w → is_one r j ≡ (is_one m j || is_one n j)
-is_one-either w m n r j is h = ap (λ d. d == 1) (is.digit j h) ∙ test_either _ _ (bit_at-lt m j) (bit_at-lt n j)
+is_one-either w m n r j is h = grind (arith, nat_tests, is.digit j h, bit_at-lt m j, bit_at-lt n j)
 
 pub is_one-different : (w m n r j : ℕ) → IsDifferent w m n r → j < w → is_one r j ≡ ((is_one m j && not (is_one n j)) || (not (is_one m j) && is_one n j))
-is_one-different w m n r j is h = ap (λ d. d == 1) (is.digit j h) ∙ test_different _ _ (bit_at-lt m j) (bit_at-lt n j)
+is_one-different w m n r j is h = grind (arith, nat_tests, is.digit j h, bit_at-lt m j, bit_at-lt n j)
 
 pub is_one-complement : (w m r j : ℕ) → IsComplement w m r → j < w → is_one r j ≡ not (is_one m j)
-is_one-complement w m r j is h = ap (λ d. d == 1) (is.digit j h) ∙ test_not _ (bit_at-lt m j)
+is_one-complement w m r j is h = grind (arith, nat_tests, is.digit j h, bit_at-lt m j)
 
 pub is_one-bit : (d m a : ℕ) → bit_at m a ≡ d → is_one m a ≡ (d == 1)
 is_one-bit d m a h = ap (λ x. x == 1) h

@@ -1,61 +1,38 @@
 -- What appending, keeping and filling whole blocks does to the value at every index.
-use Rattle.std.proofs.Common.{◌≡◌, ℕ, ◌+◌, ◌-◌, ◌/◌, ◌%◌, ◌^◌, ◌<◌, ◌≤◌, true, false, ◌&&◌, ◌||◌, nat_lt, nat_le, List, [], ◌∷◌, ◌++◌, map, length, get_or, take, replicate, refl, sym, ap, ◌∙◌, arith, append_assoc, mod-lt, get_or-take, set, ◌≢◌, get_or-set_same, get_or-set_other}
+use Rattle.std.proofs.Common.{◌≡◌, ℕ, ◌+◌, ◌-◌, ◌/◌, ◌%◌, ◌^◌, ◌<◌, ◌≤◌, false, ◌&&◌, ◌||◌, nat_lt, nat_le, List, [], ◌∷◌, ◌++◌, map, length, get_or, take, replicate, refl, ap, ◌∙◌, arith, append_assoc, mod-lt, get_or-take, set, ◌≢◌, get_or-set_same, get_or-set_other}
 use Rattle.std.proofs.lemmas.Bool.Decides.{nat_tests}
 use Rattle.std.proofs.lemmas.List.{get_or_append_left, get_or-append_right, get_or_past, get_or-replicate, length-replicate, length-append, map-append, take_more}
 use Rattle.std.proofs.lemmas.Grind.{replicate_next}
 use Rattle.bit_words.specs.Bits.{blocks_for}
-use Rattle.bit_words.specs.Digits.{is_one}
 use Rattle.bit_words.specs.Storage.{value_at, FillsFirst, IsZeroFrom}
 use Rattle.bit_words.proofs.Masks.{is_one-ones, is_one-zero}
 use Rattle.bit_words.proofs.BitsLemmas.{blocks_for-above}
 use Rattle.bit_words.proofs.StorageLemmas.{value_at-is, value_at-past}
 use Rattle.bit_words.proofs.ChangeLemmas.{div_lt, nat_lt-indexes}
-use Rattle.bit_words.proofs.TestLemmas.{above_false, below_true}
 
 -- ---- whole blocks
 
-value_at-block : (w : ℕ) (ms : List ℕ) (i m : ℕ) → get_or ms (i / w) 0 ≡ m → value_at w ms i ≡ is_one m (i % w)
-value_at-block w ms i m e = value_at-is w ms i ∙ ap (λ x. is_one x (i % w)) e
-
 pub value_at-append_old : (w : ℕ) (ms ns : List ℕ) (i : ℕ) → i / w < length ms → value_at w (ms ++ ns) i ≡ value_at w ms i
 value_at-append_old w ms ns i h = grind (arith, value_at-is, get_or_append_left)
-
-pub value_at-append_new : (w : ℕ) (ms : List ℕ) (m n i : ℕ) → length ms ≤ i / w → i / w < length ms + m → value_at w (ms ++ replicate m n) i ≡ is_one n (i % w)
-value_at-append_new w ms m n i past within = grind (arith, value_at-is, get_or-append_right, get_or-replicate)
 
 pub value_at-take : (w c : ℕ) (ms : List ℕ) (i : ℕ) → i / w < c → value_at w (take c ms) i ≡ value_at w ms i
 value_at-take w c ms i h = grind (arith, value_at-is, get_or-take)
 
 pub value_at-append_zeros : (w : ℕ) (ms : List ℕ) (m n i : ℕ) → n ≡ 0 → length ms ≤ i / w → value_at w (ms ++ replicate m n) i ≡ false
-value_at-append_zeros w ms m n i e past = grind (arith, value_at-append_new w ms m n i past, value_at-past, is_one-zero, length-append, length-replicate)
-
-ones_true : (w n i : ℕ) → 0 < w → n ≡ 2 ^ w - 1 → is_one n (i % w) ≡ true
-ones_true w n i pos e = let l = mod-lt i pos in is_one-ones n w (i % w) e ∙ below_true w (i % w) l
+value_at-append_zeros w ms m n i e past = grind (arith, value_at-is, get_or-append_right, get_or-replicate, get_or_past, is_one-zero, length-append, length-replicate)
 
 pub map-pushed : {X : Type 0} (f : X → ℕ) (xs ys : List X) (x : X) → ys ≡ xs ++ x ∷ [] → map f ys ≡ map f xs ++ f x ∷ []
 map-pushed f xs ys x e = ap (map f) e ∙ map-append f xs (x ∷ [])
 
 -- one copy more, after k - len of them
 pub copy_pushed : {X : Type 0} (f : X → ℕ) (xs ys zs : List X) (len k : ℕ) (x : X) → len ≤ k → map f ys ≡ map f xs ++ replicate (k - len) (f x) → zs ≡ ys ++ x ∷ [] → map f zs ≡ map f xs ++ replicate (k + 1 - len) (f x)
-copy_pushed f xs ys zs len k x h before e =
-    let one_more : k + 1 - len ≡ (k - len) + 1 = omega arith in
-    map-pushed f ys zs x e
-    ∙ ap (λ ns. ns ++ f x ∷ []) before
-    ∙ append_assoc (map f xs) (replicate (k - len) (f x)) (f x ∷ [])
-    ∙ ap (λ ns. map f xs ++ ns) (sym (replicate_next (k - len) (f x)) ∙ ap (λ n. replicate n (f x)) (sym one_more))
+copy_pushed f xs ys zs len k x h before e = grind (arith, map-pushed f ys zs x e, before, append_assoc, replicate_next)
 
 -- one block more of those of another list, after i of them
 pub block_pushed : {X : Type 0} (old more xs ys : List X) (i : ℕ) (x : X) → i < length more → x ≡ get_or more i x → xs ≡ old ++ take i more → ys ≡ xs ++ x ∷ [] → ys ≡ old ++ take (i + 1) more
-block_pushed old more xs ys i x within is before pushed =
-    pushed
-    ∙ ap (λ zs. zs ++ x ∷ []) before
-    ∙ append_assoc old (take i more) (x ∷ [])
-    ∙ ap (λ zs. old ++ zs) (ap (λ y. take i more ++ y ∷ []) is ∙ sym (take_more more i x within))
+block_pushed old more xs ys i x within is before pushed = grind (arith, pushed, before, append_assoc, take_more more i x within, is)
 
 -- ---- blocks of ones up to a length
-
-past_the_end : (w len i : ℕ) → 0 < w → len / w < i / w → nat_lt i len ≡ false
-past_the_end w len i pos h = let l = div_lt w len i pos h in above_false len i (omega arith)
 
 -- the whole blocks are ones, the block at which the values end has those below its place, and there are zeros past it
 ones_up_to : (w : ℕ) (rs : List ℕ) (len i : ℕ) → 0 < w → (i / w < len / w → get_or rs (i / w) 0 ≡ 2 ^ w - 1) → (i / w ≡ len / w → get_or rs (i / w) 0 ≡ 2 ^ (len % w) - 1) → (len / w < i / w → get_or rs (i / w) 0 ≡ 0) → value_at w rs i ≡ nat_lt i len
@@ -65,7 +42,7 @@ ones_up_to w rs len i pos whole cut past =
 -- ---- appending blocks of ones
 
 pub none_pushed : (w : ℕ) (ms : List ℕ) (len i : ℕ) → 0 < w → len / w < length ms → length ms ≤ i / w → value_at w ms i ≡ nat_lt i len
-none_pushed w ms len i pos h past = value_at-past w ms i past ∙ sym (past_the_end w len i pos (omega arith))
+none_pushed w ms len i pos h past = grind (arith, nat_tests, value_at-past w ms i past, div_lt w len i pos)
 
 pushed_block : (ms rs : List ℕ) (count n q : ℕ) → rs ≡ ms ++ replicate count n → length ms ≤ q → q < length ms + count → get_or rs q 0 ≡ n
 pushed_block ms rs count n q e past within = grind (arith, e, get_or-append_right, get_or-replicate)

@@ -1,5 +1,5 @@
 -- What the calls of a bit vector cite: its length, its capacity and its list.
-use Rattle.std.proofs.Common.{◌≡◌, ℕ, ◌+◌, ◌-◌, ◌*◌, ◌/◌, ◌%◌, ◌^◌, ◌<◌, ◌≤◌, max, Bool, false, zero, suc, List, [], ◌∷◌, map, length, get_or, refl, sym, ap, ◌∙◌, arith, Some, None, slice_get, All, mul-le-mul_right, pow_pos}
+use Rattle.std.proofs.Common.{◌≡◌, ℕ, ◌+◌, ◌-◌, ◌*◌, ◌/◌, ◌^◌, ◌<◌, ◌≤◌, max, Bool, false, zero, suc, List, [], ◌∷◌, map, length, get_or, refl, sym, ap, ◌∙◌, arith, Some, None, slice_get, All, mul-le-mul_right, pow_pos}
 use Rattle.std.proofs.lemmas.Bool.Decides.{nat_tests}
 use Rattle.std.proofs.lemmas.List.{get_or-map, length-map}
 use Rattle.std.proofs.lemmas.List.Elements.{All-tail, All-same, All-nil}
@@ -81,11 +81,7 @@ all_zero_map f (x ∷ xs) each zero = each 0 x (omega arith)
 all_zero_map f (x ∷ xs) each (suc k) = all_zero_map f xs (All-tail (λ x. f x ≡ 0) x xs each) k
 
 pub all_false_from_zero : {X : Type 0} (w n : ℕ) (f : X → ℕ) (xs : List X) → All (λ x. f x ≡ 0) xs → All (λ b. b ≡ false) (values_of w (map f xs) n)
-all_false_from_zero w n f xs zeros k d within =
-    get_or-values_of w (map f xs) n k d (rw (← length-values_of w (map f xs) n) within)
-    ∙ value_at-is w (map f xs) k
-    ∙ ap (λ m. is_one m (k % w)) (all_zero_map f xs zeros (k / w))
-    ∙ is_one-zero (k % w)
+all_false_from_zero w n f xs zeros k d within = grind (arith, get_or-values_of w (map f xs) n k d, length-values_of w (map f xs) n, value_at-is w (map f xs) k, all_zero_map f xs zeros (k / w), is_one-zero)
 
 pub bit_from_false : (m j : ℕ) → is_one m j ≡ false → bit_at m j ≡ 0
 bit_from_false m j h = let l = bit_at-lt m j in grind (arith, nat_tests)

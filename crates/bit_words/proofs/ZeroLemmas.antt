@@ -23,11 +23,7 @@ dropped number n j xs = ap (λ ms. get_or ms j 0) (sym (drop-map number n xs)) �
 
 -- past the first blocks of a summary
 pub value_at-drop : (w q : ℕ) (ms : List ℕ) (k : ℕ) → 0 < w → value_at w (drop q ms) k ≡ value_at w ms (q * w + k)
-value_at-drop w q ms k pos =
-    value_at-is w (drop q ms) k
-    ∙ ap (λ m. is_one m (k % w)) (get_or-drop q ms (k / w) 0)
-    ∙ sym (value_at-index w ms (q + k / w) (k % w) (mod-lt k pos))
-    ∙ ap (value_at w ms) (let e : (q + k / w) * w + k % w ≡ q * w + k = omega (arith, div-add-mod' k w) in e)
+value_at-drop w q ms k pos = grind (arith, value_at-is w (drop q ms) k, get_or-drop q ms (k / w) 0, value_at-index w ms (q + k / w) (k % w), mod-lt k pos, div-add-mod' k w)
 
 -- the number of a block that a test for 0 does not find
 pub some_from_test : (m : ℕ) (same : Bool) → (m ≡ 0 → same ≡ true) → same ≡ false → 0 < m

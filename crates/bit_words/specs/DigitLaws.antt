@@ -19,21 +19,9 @@ pub different : (w m n r : ℕ) → m < 2 ^ w → n < 2 ^ w → r ≡ bit_xor m 
 different w m n r small also is =
     (omega (arith, xor_lt w m n small also), record { digit = λ i within. ap (λ x. bit_at x i) is ∙ bit_at_xor m n i })
 
-one_left : (a b p : ℕ) → a < 2 → b < 2 → 0 < p → a * p + b * p ≡ p → a ≡ 1 - b
-one_left zero zero p a_low b_low pos is = absurd (omega arith)
-one_left zero (suc zero) p a_low b_low pos is = omega arith
-one_left zero (suc (suc b)) p a_low b_low pos is = absurd (omega arith)
-one_left (suc zero) zero p a_low b_low pos is = omega arith
-one_left (suc zero) (suc zero) p a_low b_low pos is = absurd (omega arith)
-one_left (suc zero) (suc (suc b)) p a_low b_low pos is = absurd (omega arith)
-one_left (suc (suc a)) b p a_low b_low pos is = absurd (omega arith)
-
 pub bit_at-complement : (w m i : ℕ) → m < 2 ^ w → i < w → bit_at (2 ^ w - 1 - m) i ≡ 1 - bit_at m i
 bit_at-complement w m i small within =
-    let r : ℕ = 2 ^ w - 1 - m in
-    let sum = and-not w m (2 ^ i) small (pow_below i w within) in
-    one_left (bit_at r i) (bit_at m i) (2 ^ i) (bit_at-lt r i) (bit_at-lt m i) (pow_pos i)
-    (rw (sym (and_pow r i)) (rw (sym (and_pow m i)) sum))
+    grind (arith, and-not w m (2 ^ i) small (pow_below i w within), and_pow m i, and_pow (2 ^ w - 1 - m) i, bit_at-lt m i, bit_at-lt (2 ^ w - 1 - m) i, pow_pos i)
 
 pub complement : (w m r : ℕ) → m < 2 ^ w → r ≡ 2 ^ w - 1 - m → (r < 2 ^ w) × IsComplement w m r
 complement w m r small is = (
