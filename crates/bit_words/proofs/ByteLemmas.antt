@@ -42,13 +42,6 @@ byte_value-is bytes i q p e f = ap₂ (λ a b. is_one (get_or bytes a 0) (7 - b)
 pub byte_value-past : (bytes : List ℕ) (i : ℕ) → 8 * length bytes ≤ i → byte_value bytes i ≡ false
 byte_value-past bytes i h = byte_value-is bytes i _ _ refl refl ∙ rw (get_or_past bytes (i / 8) 0 (omega arith)) (is_one-zero (7 - i % 8))
 
-is_one-above : (m j : ℕ) → m < 2 ^ 8 → 8 ≤ j → is_one m j ≡ false
-is_one-above m j small h = ap (λ d. d == 1) (bit_at_above m 8 j small h)
-
--- r is the turned byte at index p
-moved_below : (w n d r j : ℕ) → IsShiftedLeft w n d r → j < d → is_one r j ≡ false
-moved_below w n d r j is h = ap (λ x. x == 1) (is.zeros j h)
-
 moved_from : (w n d r j : ℕ) → IsShiftedLeft w n d r → d ≤ j → j < w → is_one r j ≡ is_one n (j - d)
 moved_from w n d r j is h k = grind (arith, is.moved (j - d))
 
@@ -57,27 +50,23 @@ byte_step j p q m n v or old below inside past = grind (arith, nat_tests)
 
 pub byte_added : (w m n d r q p : ℕ) (bytes : List ℕ) → ((j : ℕ) → j < w → is_one m j ≡ (nat_lt j (8 * p) && byte_value bytes j)) → n ≡ reverse_bits w8 (get_or bytes p 0) → n < 2 ^ 8 → d ≡ 8 * p → IsShiftedLeft w n d r → IsEither w m r q → (j : ℕ) → j < w → is_one q j ≡ (nat_lt j (8 * (p + 1)) && byte_value bytes j)
 byte_added w m n d r q p bytes old turn small index moved either j within =
-    byte_step j p _ _ _ _ (is_one-either w m r q j either within) (old j within) (λ before. moved_below w n d r j moved (omega arith))
+    byte_step j p _ _ _ _ (is_one-either w m r q j either within) (old j within) (λ before. ap (λ x. x == 1) (moved.zeros j (omega arith)))
     (λ from inside. moved_from w n d r j moved (omega arith) within ∙ ap (λ x. is_one x (j - d)) turn ∙ is_one-turned (get_or bytes p 0) (j - d) (omega arith) ∙ sym (byte_value-is bytes j p (j - d) (omega arith) (omega arith)))
-    (λ past. moved_from w n d r j moved (omega arith) within ∙ is_one-above n (j - d) small (omega arith))
+    (λ past. moved_from w n d r j moved (omega arith) within ∙ ap (λ x. x == 1) (bit_at_above n 8 (j - d) small (omega arith)))
 
 pub bytes_ended : (w m n : ℕ) (bytes : List ℕ) → length bytes ≤ n → ((j : ℕ) → j < w → is_one m j ≡ (nat_lt j (8 * n) && byte_value bytes j)) → (j : ℕ) → j < w → is_one m j ≡ byte_value bytes j
 bytes_ended w m n bytes h digits j within = grind (arith, nat_tests, digits j within, byte_value-past)
 
 -- ---- the bytes of one block: w is the width, s bytes, and there are n bytes in all
 
-scaled : (w s k n : ℕ) → w ≡ 8 * s → n ≤ k * s → 8 * n ≤ k * w
-scaled w s k n e h = rw e (omega arith)
-
-pub start_below : (w s k n : ℕ) → 0 < w → w ≡ 8 * s → k < blocks_for w (8 * n) → k * s < n
-start_below w s k n pos e h = grind (arith, blocks_for-least w (8 * n) k pos, scaled w s k n e)
-
--- the same of what the code computes: b is what `bits()` returned
+-- of what the code computes: b is what `bits()` returned
 pub whole_bytes : (w b : ℕ) → IsWidth w → b ≡ w → w ≡ 8 * (b / 8)
 whole_bytes w b width e = omega (arith, width.whole_bytes)
 
 pub first_byte_below : (w b k n : ℕ) → IsWidth w → b ≡ w → k < blocks_for w (8 * n) → k * (b / 8) < n
-first_byte_below w b k n width e h = start_below w (b / 8) k n width.positive (whole_bytes w b width e) h
+first_byte_below w b k n width e h =
+    let past : n ≤ k * (b / 8) → 8 * n ≤ k * w = λ le. rw (whole_bytes w b width e) (omega arith) in
+    grind (arith, blocks_for-least w (8 * n) k width.positive, past)
 
 part_at : (bytes : List ℕ) (a b s q : ℕ) → b ≡ min (a + s) (length bytes) → a < length bytes → q < s → get_or (slice_range bytes a b) q 0 ≡ get_or bytes (a + q) 0
 part_at bytes a b s q be below h = grind (arith, get_or-take, get_or-drop, get_or_past, length-take)
@@ -103,15 +92,20 @@ pub length-values_of_bytes : (bytes : List ℕ) → length (values_of_bytes byte
 length-values_of_bytes [] = refl
 length-values_of_bytes (byte ∷ bytes) = rw length-append (omega (arith, length-values_of_byte byte, length-values_of_bytes bytes))
 
-byte_value-first : (byte : ℕ) (bytes : List ℕ) (i : ℕ) → i < 8 → byte_value (byte ∷ bytes) i ≡ is_one byte (7 - i)
-byte_value-first byte bytes i h = byte_value-is (byte ∷ bytes) i 0 i (omega arith) (omega arith)
-
-byte_value-rest : (byte : ℕ) (bytes : List ℕ) (i : ℕ) → byte_value (byte ∷ bytes) (8 + i) ≡ byte_value bytes i
-byte_value-rest byte bytes i = grind (arith, byte_value-is (byte ∷ bytes) (8 + i) (suc (i / 8)) (i % 8), byte_value-is bytes i (i / 8) (i % 8))
-
 pub get_or-values_of_bytes : (bytes : List ℕ) (i : ℕ) → get_or (values_of_bytes bytes) i false ≡ byte_value bytes i
 get_or-values_of_bytes [] i = sym (byte_value-past [] i (omega arith))
-get_or-values_of_bytes (byte ∷ bytes) i = grind (arith, get_or_append_left (values_of_byte byte) (values_of_bytes bytes) false i, length-values_of_byte byte, get_or-values_of_byte byte i, byte_value-first byte bytes i, get_or-append_right (values_of_byte byte) (values_of_bytes bytes) 8 i false, get_or-values_of_bytes bytes (i - 8), byte_value-rest byte bytes (i - 8))
+get_or-values_of_bytes (byte ∷ bytes) i =
+    grind (
+      arith,
+      get_or_append_left (values_of_byte byte) (values_of_bytes bytes) false i,
+      length-values_of_byte byte,
+      get_or-values_of_byte byte i,
+      get_or-append_right (values_of_byte byte) (values_of_bytes bytes) 8 i false,
+      get_or-values_of_bytes bytes (i - 8),
+      byte_value-is (byte ∷ bytes) i 0 i,
+      byte_value-is (byte ∷ bytes) i (suc ((i - 8) / 8)) ((i - 8) % 8),
+      byte_value-is bytes (i - 8) ((i - 8) / 8) ((i - 8) % 8),
+    )
 
 -- ---- the blocks
 

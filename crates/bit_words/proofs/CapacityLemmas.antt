@@ -26,10 +26,7 @@ true_end-least (b ∷ bs) c falses = grind (arith, nat_tests, falses 0, true_end
 -- ---- the blocks up to there
 
 pub blocks_for-whole : (w c : ℕ) → 0 < w → blocks_for w (c * w) ≡ c
-blocks_for-whole w c pos =
-    let low = blocks_for-least w (c * w) c pos (omega arith) in
-    let high = le_of_mul-le-mul_right (blocks_for-enough w (c * w) pos) pos in
-    omega arith
+blocks_for-whole w c pos = omega (arith, blocks_for-least w (c * w) c pos (omega arith), le_of_mul-le-mul_right (blocks_for-enough w (c * w) pos) pos)
 
 -- the last block that is not 0 holds the last true value
 pub used_blocks-true_end : (w : ℕ) (ms : List ℕ) (count : ℕ) (xs : List Bool) → 0 < w → ((k : ℕ) → get_or ms k 0 < 2 ^ w) → ((i : ℕ) → get_or xs i false ≡ value_at w ms i) → ((k : ℕ) → count ≤ k → get_or ms k 0 ≡ 0) → (0 < count → get_or ms (count - 1) 0 ≢ 0) → blocks_for w (true_end xs) ≡ count
@@ -87,10 +84,7 @@ shared_le w blocks summary more_blocks more_summary first second = let more = mu
 
 -- what has less capacity of the two says
 pub shared_by_blocks : (w blocks summary more : ℕ) → 0 < w → stored_for w blocks ≤ summary → summary ≤ more → shared_capacity w blocks more ≡ shared_capacity w blocks summary
-shared_by_blocks w blocks summary more pos enough le =
-    let covered = shared_for_summary w blocks summary pos enough in
-    let wider = mul-le-mul_right w le in
-    omega arith
+shared_by_blocks w blocks summary more pos enough le = omega (arith, shared_for_summary w blocks summary pos enough, mul-le-mul_right w le)
 
 pub shared_by_summary : (w blocks summary more : ℕ) → 0 < w → summary < stored_for w blocks → blocks ≤ more → shared_capacity w more summary ≡ shared_capacity w blocks summary
 shared_by_summary w blocks summary more pos short le = let less = shared_past_summary w blocks summary pos short in omega arith
@@ -100,9 +94,7 @@ capacity_le w a b h = let more = mul-le-mul_right w h in omega arith
 
 -- the capacity of just so many blocks and what is stored of their summary
 pub shared_whole : (w count blocks summary : ℕ) → 0 < w → blocks ≡ count → summary ≡ stored_for w count → shared_capacity w blocks summary ≡ count
-shared_whole w count blocks summary pos first second =
-    let enough = shared_for_summary w count summary pos (omega arith) in
-    omega arith
+shared_whole w count blocks summary pos first second = omega (arith, shared_for_summary w count summary pos (omega arith))
 
 -- the capacity of a copy, which is that of the blocks and of what is stored of their summary
 pub capacity_of_copy : (w n r count blocks summary : ℕ) (ms : List ℕ) (v : Bits) → 0 < w → record { values = values_of w ms n; capacity = r } ≡ v → count ≡ blocks_for w n → blocks ≡ count → summary ≡ stored_for w count → capacity_of w (shared_capacity w blocks summary) ≡ capacity_of w (blocks_for w (length v.values))

@@ -6,7 +6,7 @@ use Rattle.std.proofs.lemmas.Nat.Bits.{bit_at-zero, same_from_bits_below}
 use Rattle.std.proofs.lemmas.Option.{get_or_from_slice_get}
 use Rattle.bit_words.specs.declared.block.merge.Merge.{Merge}
 use Rattle.bit_words.specs.declared.block.merge.Merge.TheVariants.{Intersection, Difference}
-use Rattle.bit_words.specs.Bits.{Bits, IsFirstTrue, digit_of}
+use Rattle.bit_words.specs.Bits.{Bits, IsFirstTrue}
 use Rattle.bit_words.specs.Merges.{merge_of_values, merge_of}
 use Rattle.bit_words.specs.BlockMerges.{MergesToZero, MergesToFalse, IsFirstMerged}
 use Rattle.bit_words.specs.Digits.{is_one}
@@ -44,11 +44,7 @@ first_is_past m w ms ns count i pos zeros first = grind (arith, zeros.digit (i /
 
 -- the blocks before its own merge to 0
 pub zero_before_first : (m : Merge) (w : ℕ) (ms ns : List ℕ) (count i : ℕ) → count ≤ i / w → IsFirstMerged m w ms ns i → MergesToZero m w ms ns count
-zero_before_first m w ms ns count i past first = record {
-  digit = λ k j within index.
-      ap₂ (merge_of_values m) (sym (value_at-index w ms k j index)) (sym (value_at-index w ns k j index))
-      ∙ first.before (k * w + j) (index_below w k j i index (omega arith));
-}
+zero_before_first m w ms ns count i past first = record { digit = λ k j within index. grind (arith, value_at-index w ms k j index, value_at-index w ns k j index, first.before (k * w + j) (index_below w k j i index (omega arith))) }
 
 -- so its block is the first whose merge n is not 0
 pub first_is_here : (m : Merge) (w : ℕ) (ms ns : List ℕ) (k a b n i : ℕ) → 0 < w → n < 2 ^ w → a ≡ get_or ms k 0 → b ≡ get_or ns k 0 → ((j : ℕ) → j < w → is_one n j ≡ merge_of_values m (is_one a j) (is_one b j)) → n ≢ 0 → MergesToZero m w ms ns k → IsFirstMerged m w ms ns i → i / w ≡ k
@@ -103,11 +99,7 @@ pub value_in_view : (w n r : ℕ) (ms : List ℕ) (v : Bits) → record { values
 value_in_view w n r ms v e zero_tail i = sym (ap (λ b. get_or b.values i false) e) ∙ get_or-values_of_zero_tail w ms n i zero_tail
 
 pub true_at : (w n r : ℕ) (ms : List ℕ) (v : Bits) → record { values = values_of w ms n; capacity = r } ≡ v → IsZeroFrom w ms n → (i : ℕ) → (slice_get v.values i ≡ Some true) ↔ (value_at w ms i ≡ true)
-true_at w n r ms v e zero_tail i =
-    let same = value_in_view w n r ms v e zero_tail i in (
-      λ found. sym same ∙ get_or_from_slice_get v.values i true false found,
-      λ one. slice_get_from_true v.values i (ap digit_of (same ∙ one)),
-    )
+true_at w n r ms v e zero_tail i = grind (arith, value_in_view w n r ms v e zero_tail i, get_or_from_slice_get v.values i true false, slice_get_from_true v.values i)
 
 merged_in_views : (m : Merge) (w n p r s : ℕ) (ms ns : List ℕ) (v u : Bits) → record { values = values_of w ms n; capacity = r } ≡ v → record { values = values_of w ns p; capacity = s } ≡ u → IsZeroFrom w ms n → IsZeroFrom w ns p → (i : ℕ) → get_or (merge_of m v.values u.values) i false ≡ merge_of_values m (value_at w ms i) (value_at w ns i)
 merged_in_views m w n p r s ms ns v u e f zero_tail also i =

@@ -12,9 +12,6 @@ use Rattle.bit_words.proofs.ChangeLemmas.{div_lt, nat_lt-indexes}
 
 -- ---- whole blocks
 
-pub value_at-append_old : (w : ℕ) (ms ns : List ℕ) (i : ℕ) → i / w < length ms → value_at w (ms ++ ns) i ≡ value_at w ms i
-value_at-append_old w ms ns i h = grind (arith, value_at-is, get_or_append_left)
-
 pub value_at-take : (w c : ℕ) (ms : List ℕ) (i : ℕ) → i / w < c → value_at w (take c ms) i ≡ value_at w ms i
 value_at-take w c ms i h = grind (arith, value_at-is, get_or-take)
 
@@ -64,7 +61,7 @@ cut_pushed w ms rs us len count m n i pos total ones e cut f past =
     (λ beyond. get_or_past us (i / w) 0 (omega arith))
 
 pub kept_below : (w : ℕ) (ms rs : List ℕ) (count n i : ℕ) → rs ≡ ms ++ replicate count n → i / w < length ms → value_at w rs i ≡ value_at w ms i
-kept_below w ms rs count n i e within = ap (λ xs. value_at w xs i) e ∙ value_at-append_old w ms (replicate count n) i within
+kept_below w ms rs count n i e within = grind (arith, e, value_at-is, get_or_append_left)
 
 -- ---- a longer list: its old last block raised, and blocks of ones after it
 
@@ -77,10 +74,10 @@ ones_added w ms rs us old len size tail tail_set kept added i after = grind (ari
 -- ---- appending zeros
 
 pub zeros_kept : (w : ℕ) (ms rs : List ℕ) (old m n : ℕ) → 0 < w → length ms ≡ blocks_for w old → rs ≡ ms ++ replicate m n → (i : ℕ) → i < old → value_at w rs i ≡ value_at w ms i
-zeros_kept w ms rs old m n pos count e i below = grind (arith, blocks_for-above w old i pos below, value_at-append_old w ms (replicate m n) i, e)
+zeros_kept w ms rs old m n pos count e i below = kept_below w ms rs m n i e (omega (arith, blocks_for-above w old i pos below))
 
 pub zeros_added : (w : ℕ) (ms rs : List ℕ) (old m n : ℕ) → IsZeroFrom w ms old → n ≡ 0 → rs ≡ ms ++ replicate m n → (i : ℕ) → old ≤ i → value_at w rs i ≡ false
-zeros_added w ms rs old m n tail z e i after = grind (arith, e, value_at-append_old w ms (replicate m n) i, value_at-append_zeros w ms m n i z, tail.zero_tail i)
+zeros_added w ms rs old m n tail z e i after = grind (arith, e, kept_below w ms rs m n i e, value_at-append_zeros w ms m n i z, tail.zero_tail i)
 
 -- ---- keeping the first blocks
 

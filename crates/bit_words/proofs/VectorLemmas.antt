@@ -76,9 +76,7 @@ numbers_below w f P (x ∷ xs) below each zero = below x (each 0 x (omega arith)
 numbers_below w f P (x ∷ xs) below each (suc k) = numbers_below w f P xs below (All-tail P x xs each) k
 
 pub all_zero_map : {X : Type 0} (f : X → ℕ) (xs : List X) → All (λ x. f x ≡ 0) xs → (k : ℕ) → get_or (map f xs) k 0 ≡ 0
-all_zero_map f [] each k = refl
-all_zero_map f (x ∷ xs) each zero = each 0 x (omega arith)
-all_zero_map f (x ∷ xs) each (suc k) = all_zero_map f xs (All-tail (λ x. f x ≡ 0) x xs each) k
+all_zero_map f xs each k = omega (arith, numbers_below 0 f (λ x. f x ≡ 0) xs (λ x none. omega (arith, none)) each k)
 
 pub all_false_from_zero : {X : Type 0} (w n : ℕ) (f : X → ℕ) (xs : List X) → All (λ x. f x ≡ 0) xs → All (λ b. b ≡ false) (values_of w (map f xs) n)
 all_false_from_zero w n f xs zeros k d within = grind (arith, get_or-values_of w (map f xs) n k d, length-values_of w (map f xs) n, value_at-is w (map f xs) k, all_zero_map f xs zeros (k / w), is_one-zero)

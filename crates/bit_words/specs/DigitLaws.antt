@@ -34,15 +34,10 @@ bit_at-mod w n i within =
     sym (bit_at_cat_low (n / 2 ^ w) w (n % 2 ^ w) i within) ∙ ap (λ x. bit_at x i) (shr_split n w)
 
 pub bit_at-shl_low : (m d i : ℕ) → i < d → bit_at (m * 2 ^ d) i ≡ 0
-bit_at-shl_low m d i low =
-    ap (λ x. bit_at x i) (let e : m * 2 ^ d ≡ m * 2 ^ d + 0 = omega arith in e) ∙ bit_at_cat_low m d 0 i low
-    ∙ bit_at-zero i
+bit_at-shl_low m d i low = grind (arith, bit_at_cat_low m d 0 i low, bit_at-zero i)
 
 pub bit_at-shl_high : (m d i : ℕ) → bit_at (m * 2 ^ d) (i + d) ≡ bit_at m i
-bit_at-shl_high m d i =
-    ap (λ x. bit_at x (i + d)) (let e : m * 2 ^ d ≡ m * 2 ^ d + 0 = omega arith in e)
-    ∙ bit_at_cat_high m d 0 (i + d) (pow_pos d) (omega arith)
-    ∙ ap (λ x. bit_at m x) (let e : i + d - d ≡ i = omega arith in e)
+bit_at-shl_high m d i = grind (arith, bit_at_cat_high m d 0 (i + d) (pow_pos d) (omega arith))
 
 pub shifted_left : (w m d r : ℕ) → d < w → r ≡ (m * 2 ^ d) % 2 ^ w → (r < 2 ^ w) × IsShiftedLeft w m d r
 shifted_left w m d r within is = (

@@ -1,7 +1,6 @@
 use Rattle.std.proofs.Common.{◌≡◌, ℕ, ◌+◌, ◌*◌, ◌<◌, ◌++◌, List, [], ◌∷◌, get_or, map, length, ◌∙◌, arith}
 use Rattle.std.proofs.lemmas.List.{length-map, get_or_append_left, get_or-append_right}
 use Rattle.std.proofs.lemmas.List.Elements.{All-same, All-push}
-use Rattle.bit_words.specs.Bits.{blocks_for}
 use Rattle.bit_words.specs.Bytes.{byte_value}
 use Rattle.bit_words.specs.Digits.{is_one}
 use Rattle.bit_words.proofs.ByteLemmas.{blocks-byte_value}
@@ -17,17 +16,14 @@ pub loop-k-preserved : goal.loop-k-preserved
 loop-k-preserved g c =
     let f = g.B.BitBlock.number in
     let is_block = g.B.BitBlock.is_block in
-    let count : length (map f c.loop-k.blocks.items) ≡ c.loop-k.k = rw length-map (omega arith) in
     record {
       count = omega arith;
       capacity = omega arith;
       each = All-same is_block _ _ c.push_reserved.ensures.items (All-push is_block _ _ c.loop-k.invariant.each c.block_of_bytes.ensures.of_block);
-      digits = block_pushed g.B.BitBlock.width (map f c.loop-k.blocks.items) _ (f c.block_of_bytes.result) c.loop-k.k c.args.bytes.now count (map-pushed f _ _ _ c.push_reserved.ensures.items) (λ j index. c.block_of_bytes.ensures.digits j index ∙ c.bytes_of_block.ensures.values j index) c.loop-k.invariant.digits;
+      digits = block_pushed g.B.BitBlock.width (map f c.loop-k.blocks.items) _ (f c.block_of_bytes.result) c.loop-k.k c.args.bytes.now (rw length-map (omega arith)) (map-pushed f _ _ _ c.push_reserved.ensures.items)
+          (λ j index. c.block_of_bytes.ensures.digits j index ∙ c.bytes_of_block.ensures.values j index) c.loop-k.invariant.digits;
     }
 
 pub returns-clause-values : goal.returns-clause-values
 returns-clause-values g c =
-    let xs = c.loop-k.blocks.items in
-    let f = g.B.BitBlock.number in
-    let count : length (map f xs) ≡ blocks_for g.B.BitBlock.width (8 * length c.args.bytes.now) = rw length-map (omega arith) in
-    blocks-byte_value g.B.BitBlock.width (map f xs) c.args.bytes.now g.met.B.BitBlock.width_law.positive count (λ q j h k. c.loop-k.invariant.digits q j (omega arith) k)
+    blocks-byte_value g.B.BitBlock.width (map g.B.BitBlock.number c.loop-k.blocks.items) c.args.bytes.now g.met.B.BitBlock.width_law.positive (rw length-map (omega arith)) (λ q j h k. c.loop-k.invariant.digits q j (omega (arith, rw length-map at h)) k)
