@@ -14,14 +14,12 @@ use Rattle.std.proofs.lemmas.Nat.{le-div}
 
 pub number_of-half : (b : Bool) (bs : List Bool) → number_of (b ∷ bs) / 2 ≡ number_of bs
 unfolding number_of
-number_of-half true bs = omega arith
-number_of-half false bs = omega arith
+number_of-half b bs = grind arith
 
 pub bit_at-number_of : (bs : List Bool) (j : ℕ) → bit_at (number_of bs) j ≡ digit_of (get_or bs j false)
 unfolding number_of
 bit_at-number_of [] j = bit_at-zero j
-bit_at-number_of (true ∷ bs) zero = bit_at_lowest (number_of bs * 2 + 1) ∙ omega arith
-bit_at-number_of (false ∷ bs) zero = bit_at_lowest (number_of bs * 2 + 0) ∙ omega arith
+bit_at-number_of (b ∷ bs) zero = grind (arith, bit_at_lowest (number_of bs * 2 + digit_of b))
 bit_at-number_of (b ∷ bs) (suc j) = bit_at-suc (number_of (b ∷ bs)) j ∙ ap (λ n. bit_at n j) (number_of-half b bs) ∙ bit_at-number_of bs j
 
 pub number_of-lt : (bs : List Bool) (w : ℕ) → length bs ≤ w → number_of bs < 2 ^ w
@@ -32,8 +30,7 @@ number_of-lt (b ∷ bs) (suc w) h = grind (arith, pow-suc, number_of-lt bs w)
 
 -- the digit of a truth value says which it is
 pub read_back : (b : Bool) → (digit_of b == 1) ≡ b
-read_back true = refl
-read_back false = refl
+read_back b = grind arith
 
 -- ---- how many blocks
 

@@ -51,7 +51,8 @@ byte_step j p q m n v or old below inside past = grind (arith, nat_tests)
 pub byte_added : (w m n d r q p : ℕ) (bytes : List ℕ) → ((j : ℕ) → j < w → is_one m j ≡ (nat_lt j (8 * p) && byte_value bytes j)) → n ≡ reverse_bits w8 (get_or bytes p 0) → n < 2 ^ 8 → d ≡ 8 * p → IsShiftedLeft w n d r → IsEither w m r q → (j : ℕ) → j < w → is_one q j ≡ (nat_lt j (8 * (p + 1)) && byte_value bytes j)
 byte_added w m n d r q p bytes old turn small index moved either j within =
     byte_step j p _ _ _ _ (is_one-either w m r q j either within) (old j within) (λ before. ap (λ x. x == 1) (moved.zeros j (omega arith)))
-    (λ from inside. moved_from w n d r j moved (omega arith) within ∙ ap (λ x. is_one x (j - d)) turn ∙ is_one-turned (get_or bytes p 0) (j - d) (omega arith) ∙ sym (byte_value-is bytes j p (j - d) (omega arith) (omega arith)))
+    (λ from inside. moved_from w n d r j moved (omega arith) within ∙ ap (λ x. is_one x (j - d)) turn ∙ is_one-turned (get_or bytes p 0) (j - d) (omega arith)
+    ∙ sym (byte_value-is bytes j p (j - d) (omega arith) (omega arith)))
     (λ past. moved_from w n d r j moved (omega arith) within ∙ ap (λ x. x == 1) (bit_at_above n 8 (j - d) small (omega arith)))
 
 pub bytes_ended : (w m n : ℕ) (bytes : List ℕ) → length bytes ≤ n → ((j : ℕ) → j < w → is_one m j ≡ (nat_lt j (8 * n) && byte_value bytes j)) → (j : ℕ) → j < w → is_one m j ≡ byte_value bytes j
@@ -95,17 +96,11 @@ length-values_of_bytes (byte ∷ bytes) = rw length-append (omega (arith, length
 pub get_or-values_of_bytes : (bytes : List ℕ) (i : ℕ) → get_or (values_of_bytes bytes) i false ≡ byte_value bytes i
 get_or-values_of_bytes [] i = sym (byte_value-past [] i (omega arith))
 get_or-values_of_bytes (byte ∷ bytes) i =
-    grind (
-      arith,
-      get_or_append_left (values_of_byte byte) (values_of_bytes bytes) false i,
-      length-values_of_byte byte,
-      get_or-values_of_byte byte i,
-      get_or-append_right (values_of_byte byte) (values_of_bytes bytes) 8 i false,
-      get_or-values_of_bytes bytes (i - 8),
-      byte_value-is (byte ∷ bytes) i 0 i,
-      byte_value-is (byte ∷ bytes) i (suc ((i - 8) / 8)) ((i - 8) % 8),
-      byte_value-is bytes (i - 8) ((i - 8) / 8) ((i - 8) % 8),
-    )
+    let here = byte_value-is (byte ∷ bytes) i 0 i in
+    let there = byte_value-is (byte ∷ bytes) i (suc ((i - 8) / 8)) ((i - 8) % 8) in
+    let rest = byte_value-is bytes (i - 8) ((i - 8) / 8) ((i - 8) % 8) in
+    let past = get_or-append_right (values_of_byte byte) (values_of_bytes bytes) 8 i false (length-values_of_byte byte) in
+    grind (arith, here, there, rest, past, get_or_append_left, length-values_of_byte byte, get_or-values_of_byte byte i, get_or-values_of_bytes bytes (i - 8))
 
 -- ---- the blocks
 

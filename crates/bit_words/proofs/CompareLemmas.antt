@@ -44,12 +44,15 @@ first_is_past m w ms ns count i pos zeros first = grind (arith, zeros.digit (i /
 
 -- the blocks before its own merge to 0
 pub zero_before_first : (m : Merge) (w : ℕ) (ms ns : List ℕ) (count i : ℕ) → count ≤ i / w → IsFirstMerged m w ms ns i → MergesToZero m w ms ns count
-zero_before_first m w ms ns count i past first = record { digit = λ k j within index. grind (arith, value_at-index w ms k j index, value_at-index w ns k j index, first.before (k * w + j) (index_below w k j i index (omega arith))) }
+zero_before_first m w ms ns count i past first = record {
+  digit = λ k j within index. grind (arith, value_at-index w ms k j index, value_at-index w ns k j index, first.before (k * w + j) (index_below w k j i index (omega arith)));
+}
 
 -- so its block is the first whose merge n is not 0
 pub first_is_here : (m : Merge) (w : ℕ) (ms ns : List ℕ) (k a b n i : ℕ) → 0 < w → n < 2 ^ w → a ≡ get_or ms k 0 → b ≡ get_or ns k 0 → ((j : ℕ) → j < w → is_one n j ≡ merge_of_values m (is_one a j) (is_one b j)) → n ≢ 0 → MergesToZero m w ms ns k → IsFirstMerged m w ms ns i → i / w ≡ k
 first_is_here m w ms ns k a b n i pos small one two digits some zeros first =
-    grind (arith, first_is_past m w ms ns k i pos zeros first, λ (beyond : k < i / w). some (merge_of_zeros m w ms ns (i / w) k a b n small one two digits beyond (zero_before_first m w ms ns (i / w) i (omega arith) first)))
+    let not_past = λ (past : k < i / w). some (merge_of_zeros m w ms ns (i / w) k a b n small one two digits past (zero_before_first m w ms ns (i / w) i (omega arith) first)) in
+    grind (arith, first_is_past m w ms ns k i pos zeros first, not_past)
 
 -- ---- values
 
@@ -85,7 +88,8 @@ intersection_of_blocks w ms ns count pos ends = (
 pub first_of_rest : (w : ℕ) (ms ns : List ℕ) (count i : ℕ) → ((k : ℕ) → get_or ms k 0 < 2 ^ w) → (count ≡ length ns) ⊎ (count ≡ length ms) → IsFirstMerged Difference w ms ns i → (get_or ms (i / w) 0 ≢ 0) × ((q : ℕ) → count ≤ q → q < i / w → get_or ms q 0 ≡ 0)
 first_of_rest w ms ns count i small ends first = (
   λ none. grind (arith, value_at-is, is_one-zero, none, first.is_true),
-  λ q past below. zero_from_digits w _ (small q) (λ j index. grind (arith, get_or_past, is_one-zero, ends, value_at-index w ms q j index, value_at-index w ns q j index, first.before (q * w + j) (index_below w q j i index below))),
+  λ q past below. zero_from_digits w _ (small q) (λ j index.
+      grind (arith, get_or_past, is_one-zero, ends, value_at-index w ms q j index, value_at-index w ns q j index, first.before (q * w + j) (index_below w q j i index below))),
 )
 
 -- where an intersection first is true, both have a block

@@ -53,7 +53,9 @@ blocks_ones w values pos =
 -- the digits from index a + 1 on are those of the half from index a on
 digits_of_half : (m a n : ℕ) → sum_by (bit_at m) (range_with_len (a + 1) n) ≡ sum_by (bit_at (m / 2)) (range_with_len a n)
 digits_of_half m a zero = refl
-digits_of_half m a (suc n) = omega (arith, sum_by-cons (bit_at m) (a + 1) (range_with_len (a + 1 + 1) n), bit_at-suc m a, ap (bit_at m) (let e : a + 1 ≡ suc a = omega arith in e), digits_of_half m (a + 1) n, sum_by-cons (bit_at (m / 2)) a (range_with_len (a + 1) n))
+digits_of_half m a (suc n) =
+    let first = ap (bit_at m) (let e : a + 1 ≡ suc a = omega arith in e) ∙ bit_at-suc m a in
+    omega (arith, first, sum_by-cons (bit_at m) (a + 1) (range_with_len (a + 1 + 1) n), digits_of_half m (a + 1) n, sum_by-cons (bit_at (m / 2)) a (range_with_len (a + 1) n))
 
 -- a digit has itself many ones
 ones_of_digit : (d : ℕ) → d < 2 → count_ones d ≡ d
@@ -64,5 +66,6 @@ pub ones_are_digits : (w m : ℕ) → m < 2 ^ w → count_ones m ≡ sum_by (bit
 ones_are_digits zero m fits = ap count_ones (let e : m ≡ 0 = omega arith in e) ∙ ones_zero
 ones_are_digits (suc w) m fits =
     let halves : m ≡ m / 2 * 2 ^ 1 + m % 2 = omega arith in
+    let parts = ap count_ones halves ∙ ones_cat 1 (m / 2) (m % 2) (omega arith) in
     let low : count_ones (m % 2) ≡ m % 2 = ones_of_digit (m % 2) (omega arith) in
-    omega (arith, ap count_ones halves, ones_cat 1 (m / 2) (m % 2) (omega arith), low, bit_at_lowest m, ones_are_digits w (m / 2) (omega (arith, pow-suc 2 w)), digits_of_half m 0 w, sum_by-cons (bit_at m) 0 (range_with_len 1 w))
+    omega (arith, parts, low, bit_at_lowest m, ones_are_digits w (m / 2) (omega (arith, pow-suc 2 w)), digits_of_half m 0 w, sum_by-cons (bit_at m) 0 (range_with_len 1 w))

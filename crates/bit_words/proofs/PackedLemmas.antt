@@ -34,7 +34,9 @@ block_pushed old more xs ys i x within is before pushed = grind (arith, pushed, 
 -- the whole blocks are ones, the block at which the values end has those below its place, and there are zeros past it
 ones_up_to : (w : ℕ) (rs : List ℕ) (len i : ℕ) → 0 < w → (i / w < len / w → get_or rs (i / w) 0 ≡ 2 ^ w - 1) → (i / w ≡ len / w → get_or rs (i / w) 0 ≡ 2 ^ (len % w) - 1) → (len / w < i / w → get_or rs (i / w) 0 ≡ 0) → value_at w rs i ≡ nat_lt i len
 ones_up_to w rs len i pos whole cut past =
-    value_at-is w rs i ∙ grind (arith, nat_tests, is_one-ones (2 ^ w - 1) w (i % w) refl, is_one-ones (2 ^ (len % w) - 1) (len % w) (i % w) refl, is_one-zero (i % w), div_lt w i len pos, div_lt w len i pos, nat_lt-indexes w i len, whole, cut, past, mod-lt i pos)
+    let ones = is_one-ones (2 ^ w - 1) w (i % w) refl in
+    let cut_ones = is_one-ones (2 ^ (len % w) - 1) (len % w) (i % w) refl in
+    value_at-is w rs i ∙ grind (arith, nat_tests, ones, cut_ones, is_one-zero (i % w), div_lt w i len pos, div_lt w len i pos, nat_lt-indexes w i len, whole, cut, past, mod-lt i pos)
 
 -- ---- appending blocks of ones
 
@@ -49,7 +51,8 @@ length-pushed ms rs count n e = rw (e, length-append, length-replicate) refl
 
 pub whole_pushed : (w : ℕ) (ms rs : List ℕ) (len count n i : ℕ) → 0 < w → len % w ≡ 0 → length ms + count ≡ len / w → n ≡ 2 ^ w - 1 → rs ≡ ms ++ replicate count n → length ms ≤ i / w → value_at w rs i ≡ nat_lt i len
 whole_pushed w ms rs len count n i pos z total ones e past =
-    ones_up_to w rs len i pos (λ before. grind (arith, pushed_block ms rs count n (i / w) e past)) (λ here. grind (arith, get_or_past, length-pushed ms rs count n e)) (λ beyond. grind (arith, get_or_past, length-pushed ms rs count n e))
+    ones_up_to w rs len i pos (λ before. grind (arith, pushed_block ms rs count n (i / w) e past))
+    (λ here. grind (arith, get_or_past, length-pushed ms rs count n e)) (λ beyond. grind (arith, get_or_past, length-pushed ms rs count n e))
 
 pub cut_pushed : (w : ℕ) (ms rs us : List ℕ) (len count m n i : ℕ) → 0 < w → length ms + count ≡ len / w → n ≡ 2 ^ w - 1 → rs ≡ ms ++ replicate count n → m ≡ 2 ^ (len % w) - 1 → us ≡ rs ++ m ∷ [] → length ms ≤ i / w → value_at w us i ≡ nat_lt i len
 cut_pushed w ms rs us len count m n i pos total ones e cut f past =

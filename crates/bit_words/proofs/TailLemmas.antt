@@ -53,7 +53,9 @@ tail_whole w ms ns count at pos e c whole i = grind (arith, nat_tests, value_bef
 -- where its first block is cut
 pub tail_cut : (w : ℕ) (ms ns rs : List ℕ) (k at p m n : ℕ) → 0 < w → ns ≡ replicate k 0 ++ drop k ms → k ≡ at / w → p ≡ at % w → k < length ns → m ≡ get_or ms k 0 → rs ≡ set ns k n → ((j : ℕ) → j < w → is_one n j ≡ (nat_le p j && is_one m j)) → (i : ℕ) → value_at w rs i ≡ (nat_le at i && value_at w ms i)
 tail_cut w ms ns rs k at p m n pos e ke pe within read put digits i =
-    grind (arith, nat_tests, written_same w ns rs k n i put within, digits (i % w), mod-lt i pos, nat_le-indexes w at i, read_at w ms k m i read, written_other w ns rs k n i put, value_before w ms ns k at i pos e ke, value_past w ms ns k at i pos e ke)
+    let before = value_before w ms ns k at i pos e ke in
+    let past = value_past w ms ns k at i pos e ke in
+    grind (arith, nat_tests, before, past, written_same w ns rs k n i put within, digits (i % w), mod-lt i pos, nat_le-indexes w at i, read_at w ms k m i read, written_other w ns rs k n i put)
 
 -- ---- the copy of a list
 

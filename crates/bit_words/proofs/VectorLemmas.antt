@@ -87,7 +87,8 @@ bit_from_false m j h = let l = bit_at-lt m j in grind (arith, nat_tests)
 pub zero_from_all_false : {X : Type 0} (w n : ℕ) (f : X → ℕ) (P : X → Type 0) (xs : List X) → 0 < w → ((x : X) → P x → f x < 2 ^ w) → IsPacked w f P xs n → All (λ b. b ≡ false) (values_of w (map f xs) n) → All (λ x. f x ≡ 0) xs
 zero_from_all_false w n f P xs pos below packed falses k d within =
     sym (get_or-map f xs k d 0 within)
-    ∙ same_from_bits_below w _ 0 (numbers_below w f P xs below packed.each k) (pow_pos w) (λ j inside. grind (arith, bit_from_false, value_at-index w (map f xs) k j inside, get_or-values_of w (map f xs) n (k * w + j) false, falses (k * w + j) false, length-values_of, packed.tail.zero_tail (k * w + j), bit_at-zero))
+    ∙ same_from_bits_below w _ 0 (numbers_below w f P xs below packed.each k) (pow_pos w) (λ j inside.
+    grind (arith, bit_from_false, value_at-index w (map f xs) k j inside, get_or-values_of w (map f xs) n (k * w + j) false, falses (k * w + j) false, length-values_of, packed.tail.zero_tail (k * w + j), bit_at-zero))
 
 -- ---- the empty list
 

@@ -26,4 +26,5 @@ loop-k-preserved g c =
 
 pub returns-clause-values : goal.returns-clause-values
 returns-clause-values g c =
-    blocks-byte_value g.B.BitBlock.width (map g.B.BitBlock.number c.loop-k.blocks.items) c.args.bytes.now g.met.B.BitBlock.width_law.positive (rw length-map (omega arith)) (λ q j h k. c.loop-k.invariant.digits q j (omega (arith, rw length-map at h)) k)
+    blocks-byte_value g.B.BitBlock.width (map g.B.BitBlock.number c.loop-k.blocks.items) c.args.bytes.now g.met.B.BitBlock.width_law.positive (rw length-map (omega arith))
+    (λ q j h k. c.loop-k.invariant.digits q j (omega (arith, rw length-map at h)) k)

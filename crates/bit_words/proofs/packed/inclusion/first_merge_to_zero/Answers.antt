@@ -13,7 +13,8 @@ zeros_more m w ms os k a b n zeros first second digits none = record { digit = �
 
 pub loop-k-preserved : goal.loop-k-preserved
 loop-k-preserved g c = record {
-  zero = zeros_more _ _ _ _ c.loop-k.k _ _ _ c.loop-k.invariant.zero c.block_at.ensures.of_number c.block_at-in-loop-k.ensures.of_number c.of_blocks-merged.ensures.digits (eqb-true _ _ (sym c.same.ensures ∙ c.if-not-same.false) ∙ c.zero.ensures.of_number);
+  zero = zeros_more _ _ _ _ c.loop-k.k _ _ _ c.loop-k.invariant.zero c.block_at.ensures.of_number c.block_at-in-loop-k.ensures.of_number c.of_blocks-merged.ensures.digits
+      (eqb-true _ _ (sym c.same.ensures ∙ c.if-not-same.false) ∙ c.zero.ensures.of_number);
   steps = omega arith;
 }
 
