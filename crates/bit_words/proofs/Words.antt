@@ -1,4 +1,4 @@
--- The number of what an operator gives, from its digits. `words.rt` names the set, and `LowestLemmas` one of it.
+-- The number of what an operator gives, from its digits.
 use Rattle.std.proofs.Common.{◌≡◌, ℕ, ◌-◌, ◌*◌, ◌/◌, ◌%◌, ◌^◌, ◌<◌, refl, bit_and, bit_or, sym, ap, ◌∙◌, arith}
 use Rattle.std.proofs.lemmas.Nat.{and_le_l, or_lt, one_shl}
 use Rattle.std.proofs.lemmas.Nat.Bits.{bit_at_and, bit_at_or, same_from_bits_below}
@@ -27,8 +27,6 @@ pub shifted_right-number : (w m d r : ℕ) → m < 2 ^ w → r < 2 ^ w → IsShi
 shifted_right-number w m d r small fits is =
     let other = shifted_right w m d (m / 2 ^ d) small refl in
     same_from_bits_below w r (m / 2 ^ d) fits other.0 (λ i below. grind (arith, is.zeros i, other.1.zeros i, is.moved i, other.1.moved i))
-
-pub ruleset number_of_digits = (both-number, either-number, complement-number, shifted_left-number, shifted_right-number)
 
 -- 1 moved to a place.
 pub one_moved : (w i m : ℕ) → i < w → m ≡ 1 → m * 2 ^ i % 2 ^ w ≡ 2 ^ i

@@ -1,6 +1,8 @@
 // The unsigned integers as blocks: a value is its own number. No other type is a block here. The six impls differ in
 // the type and its width alone. They are written out, since the merge gate takes no impl that a macro of the
 // repository writes.
+#![tactic(auto, using(crate::specs::DigitLaws::shifted_left, crate::specs::DigitLaws::shifted_right))]
+
 ghost use Rattle.std.specs.Prelude.{◌^◌, ◌<◌, refl};
 ghost use Rattle.std.proofs.Common.{lit<};
 ghost use Rattle.bit_words.specs.DigitLaws.{both, either, different, complement, added, subtracted, compared};
@@ -32,13 +34,11 @@ impl BitBlock for u8 {
     }
 
     #[inline]
-    #[tactic(auto, using(crate::specs::DigitLaws::shifted_left))]
     fn shift_left(self, distance: usize) -> u8 {
         self << distance as u8
     }
 
     #[inline]
-    #[tactic(auto, using(crate::specs::DigitLaws::shifted_right))]
     fn shift_right(self, distance: usize) -> u8 {
         self >> distance as u8
     }
@@ -101,13 +101,11 @@ impl BitBlock for u16 {
     }
 
     #[inline]
-    #[tactic(auto, using(crate::specs::DigitLaws::shifted_left))]
     fn shift_left(self, distance: usize) -> u16 {
         self << distance as u16
     }
 
     #[inline]
-    #[tactic(auto, using(crate::specs::DigitLaws::shifted_right))]
     fn shift_right(self, distance: usize) -> u16 {
         self >> distance as u16
     }
@@ -170,13 +168,11 @@ impl BitBlock for u32 {
     }
 
     #[inline]
-    #[tactic(auto, using(crate::specs::DigitLaws::shifted_left))]
     fn shift_left(self, distance: usize) -> u32 {
         self << distance as u32
     }
 
     #[inline]
-    #[tactic(auto, using(crate::specs::DigitLaws::shifted_right))]
     fn shift_right(self, distance: usize) -> u32 {
         self >> distance as u32
     }
@@ -239,13 +235,11 @@ impl BitBlock for u64 {
     }
 
     #[inline]
-    #[tactic(auto, using(crate::specs::DigitLaws::shifted_left))]
     fn shift_left(self, distance: usize) -> u64 {
         self << distance as u64
     }
 
     #[inline]
-    #[tactic(auto, using(crate::specs::DigitLaws::shifted_right))]
     fn shift_right(self, distance: usize) -> u64 {
         self >> distance as u64
     }
@@ -308,13 +302,11 @@ impl BitBlock for u128 {
     }
 
     #[inline]
-    #[tactic(auto, using(crate::specs::DigitLaws::shifted_left))]
     fn shift_left(self, distance: usize) -> u128 {
         self << distance as u128
     }
 
     #[inline]
-    #[tactic(auto, using(crate::specs::DigitLaws::shifted_right))]
     fn shift_right(self, distance: usize) -> u128 {
         self >> distance as u128
     }
@@ -377,13 +369,11 @@ impl BitBlock for usize {
     }
 
     #[inline]
-    #[tactic(auto, using(crate::specs::DigitLaws::shifted_left))]
     fn shift_left(self, distance: usize) -> usize {
         self << distance
     }
 
     #[inline]
-    #[tactic(auto, using(crate::specs::DigitLaws::shifted_right))]
     fn shift_right(self, distance: usize) -> usize {
         self >> distance
     }

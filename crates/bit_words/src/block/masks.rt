@@ -9,7 +9,6 @@ use crate::block::operators::{block_and, block_not, block_or, one_at, ones_below
 
 // The bit at `index` becomes `bit`.
 #[inline]
-#[tactic(auto, using(crate::proofs::Masks::masks))]
 pub(crate) fn with_bit<B: BitBlock>(block: B, index: usize, bit: bool) -> B
     requires of_block { B.is_block block }
     requires within { index < B.width }
@@ -44,7 +43,6 @@ pub(crate) fn with_one_if<B: BitBlock>(block: B, index: usize, bit: bool) -> B
 
 // The block whose bits from `index` on are 1, and no others.
 #[inline]
-#[tactic(auto, using(crate::proofs::Masks::masks))]
 fn ones_from<B: BitBlock>(index: usize) -> B
     requires { index < B.width }
     ensures of_block { B.is_block result }
@@ -68,7 +66,6 @@ pub(crate) fn with_ones_from<B: BitBlock>(block: B, index: usize) -> B
 
 // The block whose bits from `start` to before `end` are 1, and no others.
 #[inline]
-#[tactic(auto, using(crate::proofs::Masks::masks))]
 fn ones_between<B: BitBlock>(start: usize, end: usize) -> B
     requires from { start < B.width }
     requires to { end < B.width }
@@ -80,7 +77,6 @@ fn ones_between<B: BitBlock>(start: usize, end: usize) -> B
 
 // The bits from `start` to before `end` become 1.
 #[inline]
-#[tactic(auto, using(crate::proofs::Masks::masks))]
 pub(crate) fn with_ones_between<B: BitBlock>(block: B, start: usize, end: usize) -> B
     requires of_block { B.is_block block }
     requires from { start < B.width }

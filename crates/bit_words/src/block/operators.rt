@@ -7,7 +7,6 @@ ghost use Rattle.bit_words.specs.Digits.{IsBoth, IsEither, IsDifferent, IsComple
 use crate::block::BitBlock;
 
 #[inline]
-#[tactic(auto, using(crate::proofs::Words::number_of_digits))]
 pub(crate) fn block_and<B: BitBlock>(a: B, b: B) -> B
     requires left { B.is_block a }
     requires right { B.is_block b }
@@ -19,7 +18,6 @@ pub(crate) fn block_and<B: BitBlock>(a: B, b: B) -> B
 }
 
 #[inline]
-#[tactic(auto, using(crate::proofs::Words::number_of_digits))]
 pub(crate) fn block_or<B: BitBlock>(a: B, b: B) -> B
     requires left { B.is_block a }
     requires right { B.is_block b }
@@ -41,7 +39,6 @@ pub(crate) fn block_xor<B: BitBlock>(a: B, b: B) -> B
 }
 
 #[inline]
-#[tactic(auto, using(crate::proofs::Words::number_of_digits))]
 pub(crate) fn block_not<B: BitBlock>(a: B) -> B
     requires { B.is_block a }
     ensures of_block { B.is_block result }
@@ -63,7 +60,6 @@ pub(crate) fn block_sub<B: BitBlock>(a: B, b: B) -> B
 }
 
 #[inline]
-#[tactic(auto, using(crate::proofs::Words::number_of_digits))]
 pub(crate) fn shift_left<B: BitBlock>(a: B, distance: usize) -> B
     requires left { B.is_block a }
     requires within { distance < B.width }
@@ -75,7 +71,6 @@ pub(crate) fn shift_left<B: BitBlock>(a: B, distance: usize) -> B
 }
 
 #[inline]
-#[tactic(auto, using(crate::proofs::Words::number_of_digits))]
 pub(crate) fn shift_right<B: BitBlock>(a: B, distance: usize) -> B
     requires left { B.is_block a }
     requires within { distance < B.width }
