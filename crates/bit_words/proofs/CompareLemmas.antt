@@ -111,10 +111,8 @@ merged_in_views m w n p r s ms ns v u e f zero_tail also i =
     ∙ ap₂ (merge_of_values m) (value_in_view w n r ms v e zero_tail i) (value_in_view w p s ns u f also i)
 
 pub first_of_lists : (m : Merge) (w n p r s : ℕ) (ms ns : List ℕ) (v u : Bits) → record { values = values_of w ms n; capacity = r } ≡ v → record { values = values_of w ns p; capacity = s } ≡ u → IsZeroFrom w ms n → IsZeroFrom w ns p → (i : ℕ) → IsFirstTrue (merge_of m v.values u.values) i → IsFirstMerged m w ms ns i
-first_of_lists m w n p r s ms ns v u e f zero_tail also i first = record {
-  is_true = sym (merged_in_views m w n p r s ms ns v u e f zero_tail also i) ∙ get_or_from_slice_get (merge_of m v.values u.values) i true false first.is_true;
-  before = λ j less. sym (merged_in_views m w n p r s ms ns v u e f zero_tail also j) ∙ grind (arith, slice_get_from_true (merge_of m v.values u.values) j, first.before j less);
-}
+first_of_lists m w n p r s ms ns v u e f zero_tail also i first =
+    grind (arith, merged_in_views m w n p r s ms ns v u e f zero_tail also, get_or_from_slice_get (merge_of m v.values u.values) i true false, slice_get_from_true (merge_of m v.values u.values), first)
 
 pub subset_lists : (w n p r s : ℕ) (ms ns : List ℕ) (v u : Bits) → record { values = values_of w ms n; capacity = r } ≡ v → record { values = values_of w ns p; capacity = s } ≡ u → IsZeroFrom w ms n → IsZeroFrom w ns p → MergesToFalse Difference w ms ns ↔ ((i : ℕ) → slice_get v.values i ≡ Some true → slice_get u.values i ≡ Some true)
 subset_lists w n p r s ms ns v u e f zero_tail also = (

@@ -1,5 +1,5 @@
 -- What a merge of blocks does to the value at every index, and what the merge of two lists is there.
-use Rattle.std.proofs.Common.{◌≡◌, ℕ, zero, suc, ◌+◌, ◌/◌, ◌%◌, ◌<◌, ◌≤◌, max, Bool, false, List, [], ◌∷◌, map, length, get_or, set, All, refl, sym, ap, ap₂, ◌∙◌, arith, mod-lt, get_or-set_same, get_or-set_other}
+use Rattle.std.proofs.Common.{◌≡◌, ℕ, zero, suc, ◌+◌, ◌/◌, ◌%◌, ◌<◌, ◌≤◌, max, Bool, false, List, [], ◌∷◌, map, length, get_or, set, All, refl, sym, arith, mod-lt, get_or-set_same, get_or-set_other}
 use Rattle.std.proofs.lemmas.List.{get_or_past, length-map}
 use Rattle.bit_words.specs.declared.block.merge.Merge.{Merge}
 use Rattle.bit_words.specs.Merges.{merge_of_values, merge_of}
@@ -34,9 +34,7 @@ merged_lists m w ms os ns len short shorter zero_tail also each =
     grind (arith, each i, get_or-values_of_zero_tail w ms len i, get_or-values_of_zero_tail w os short i, get_or-merged m (values_of w ms len) (values_of w os short) i))
 
 pub merged_zero_tail : (m : Merge) (w : ℕ) (ms os ns : List ℕ) (len short : ℕ) → short ≤ len → IsZeroFrom w ms len → IsZeroFrom w os short → ((i : ℕ) → value_at w ns i ≡ merge_of_values m (value_at w ms i) (value_at w os i)) → IsZeroFrom w ns len
-merged_zero_tail m w ms os ns len short shorter zero_tail also each = record {
-  zero_tail = λ i past. each i ∙ ap₂ (merge_of_values m) (zero_tail.zero_tail i past) (also.zero_tail i (omega arith)) ∙ merge_of_values-none m;
-}
+merged_zero_tail m w ms os ns len short shorter zero_tail also each = grind (arith, each, zero_tail, also, merge_of_values-none)
 
 -- ---- blocks that are merged some at a time
 
@@ -46,15 +44,7 @@ module _ {X : Type 0} (m : Merge) (w : ℕ) (f : X → ℕ) (P : X → Type 0) w
 
   -- some more of them
   pub merged_more : (a b c p q : ℕ) (xs os ys zs : List X) → a ≤ b → b ≤ c → p ≡ b → q ≡ c → HasMerged m w f P a b xs os ys → HasMerged m w f P p q ys os zs → HasMerged m w f P a c xs os zs
-  merged_more a b c p q xs os ys zs le also from to first second = record {
-    merged = record {
-      digit = λ k j reached below index. grind (arith, second.merged.before k, first.merged.digit k j, second.merged.digit k j, first.merged.after k);
-      before = λ k h. grind (arith, second.merged.before k, first.merged.before k);
-      after = λ k h. grind (arith, second.merged.after k, first.merged.after k);
-    };
-    each = second.each;
-    len = second.len ∙ first.len;
-  }
+  merged_more a b c p q xs os ys zs le also from to first second = grind (arith, first, second)
 
   -- one of them
   pub merged_put : (k a b n : ℕ) (xs os ys : List X) → k < length xs → map f ys ≡ set (map f xs) k n → All P ys → length ys ≡ length xs → a ≡ get_or (map f xs) k 0 → b ≡ get_or (map f os) k 0 → ((j : ℕ) → j < w → is_one n j ≡ merge_of_values m (is_one a j) (is_one b j)) → HasMerged m w f P k (k + 1) xs os ys
@@ -73,15 +63,7 @@ module _ {X : Type 0} (m : Merge) (w : ℕ) (f : X → ℕ) (P : X → Type 0) w
 
   -- past the end of the second list, a merge with it is one with none
   pub merged_with_none : (start end : ℕ) (xs os ys : List X) → length os ≤ start → HasMerged m w f P start end xs [] ys → HasMerged m w f P start end xs os ys
-  merged_with_none start end xs os ys short is = record {
-    merged = record {
-      digit = λ k j from below index. is.merged.digit k j from below index ∙ ap (λ x. merge_of_values m (is_one (get_or (map f xs) k 0) j) (is_one x j)) (get_or_past [] k 0 (omega arith) ∙ sym (get_or_past (map f os) k 0 (rw length-map (omega arith))));
-      before = is.merged.before;
-      after = is.merged.after;
-    };
-    each = is.each;
-    len = is.len;
-  }
+  merged_with_none start end xs os ys short is = grind (arith, get_or_past, length-map)
 
   -- the value at each index, once all of them are merged
   pub merges_of_values : (xs os ys : List X) → 0 < w → length os ≤ length xs → HasMerged m w f P 0 (length xs) xs os ys → (i : ℕ) → value_at w (map f ys) i ≡ merge_of_values m (value_at w (map f xs) i) (value_at w (map f os) i)

@@ -34,11 +34,7 @@ pub different_some : (w m n r : ℕ) → m < 2 ^ w → n < 2 ^ w → m ≢ n →
 different_some w m n r small also mismatch is = grind (arith, none_of_different w m n r small also is, mismatch)
 
 pub lowest_mismatch_is : (w m n r i : ℕ) → IsDifferent w m n r → IsLowest r i → i < w → IsLowestMismatch w m n i
-lowest_mismatch_is w m n r i is low within = record {
-  within = within;
-  below = λ k lower. omega (arith, is.digit k (omega arith), low.zeros k lower, bit_at-lt m k, bit_at-lt n k);
-  here = omega (arith, is.digit i within, low.one, bit_at-lt m i, bit_at-lt n i);
-}
+lowest_mismatch_is w m n r i is low within = grind (arith, is.digit, low, bit_at-lt)
 
 -- what is moved down and not 0 has a 1 at the place or above it
 pub some_moved : (w m d r : ℕ) → r < 2 ^ w → IsShiftedRight w m d r → r ≢ 0 → (j : ℕ) × (d ≤ j) × (j < w) × (bit_at m j ≡ 1)

@@ -1,6 +1,5 @@
 -- What a copy of the tail of a list holds, by index, and what its summary says.
 use Rattle.std.proofs.Common.{◌≡◌, ◌≢◌, ℕ, ◌+◌, ◌-◌, ◌/◌, ◌%◌, ◌^◌, ◌<◌, ◌≤◌, false, ◌&&◌, nat_le, List, [], ◌++◌, map, length, get_or, set, take, drop, replicate, All, sym, ap, ap₂, ◌∙◌, arith, mod-lt, length-append, take_all, div-lt_iff_lt-mul, ◌*◌}
-use Rattle.std.proofs.Math.Bool.{and-false}
 use Rattle.std.proofs.lemmas.Bool.Decides.{nat_tests}
 use Rattle.std.proofs.lemmas.List.Elements.{All-same, All-append, All-drop}
 use Rattle.std.proofs.lemmas.List.{drop-map, map-append, get_or-drop, get_or-replicate, get_or_append_left, get_or-append_right, length-replicate, length-drop}
@@ -60,12 +59,7 @@ tail_cut w ms ns rs k at p m n pos e ke pe within read put digits i =
 -- ---- the copy of a list
 
 pub tail_packed : {X : Type 0} (w n at : ℕ) (f : X → ℕ) (P : X → Type 0) (xs ys : List X) → IsPacked w f P xs n → All P ys → length ys ≡ length xs → ((i : ℕ) → value_at w (map f ys) i ≡ (nat_le at i && value_at w (map f xs) i)) → IsPacked w f P ys n
-tail_packed w n at f P xs ys packed each len values = record {
-  each = each;
-  count = len ∙ packed.count;
-  tail = record { zero_tail = λ i past. values i ∙ ap (λ b. nat_le at i && b) (packed.tail.zero_tail i past) ∙ and-false (nat_le at i) };
-  fits = packed.fits;
-}
+tail_packed w n at f P xs ys packed each len values = grind (arith, nat_tests, values, packed.tail.zero_tail, packed.count, packed.fits)
 
 pub values_of-tail : (w : ℕ) (ms ns : List ℕ) (n at : ℕ) → at ≤ n → ((i : ℕ) → value_at w ns i ≡ (nat_le at i && value_at w ms i)) → values_of w ns n ≡ replicate at false ++ drop at (values_of w ms n)
 values_of-tail w ms ns n at h values =

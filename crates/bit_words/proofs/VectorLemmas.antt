@@ -2,7 +2,7 @@
 use Rattle.std.proofs.Common.{◌≡◌, ℕ, ◌+◌, ◌-◌, ◌*◌, ◌/◌, ◌^◌, ◌<◌, ◌≤◌, max, Bool, false, zero, suc, List, [], ◌∷◌, map, length, get_or, refl, sym, ap, ◌∙◌, arith, Some, None, slice_get, All, mul-le-mul_right, pow_pos}
 use Rattle.std.proofs.lemmas.Bool.Decides.{nat_tests}
 use Rattle.std.proofs.lemmas.List.{get_or-map, length-map}
-use Rattle.std.proofs.lemmas.List.Elements.{All-tail, All-same, All-nil}
+use Rattle.std.proofs.lemmas.List.Elements.{All-tail}
 use Rattle.std.proofs.lemmas.Nat.Bits.{bit_at-lt, bit_at-zero, same_from_bits_below}
 use Rattle.std.specs.Int.{bit_at}
 use Rattle.std.proofs.lemmas.Option.{slice_get-get_or, slice_get_past}
@@ -50,11 +50,7 @@ is_within_capacity w n cap f P xs v pos packed h e = record {
 }
 
 pub is_capacity_of_blocks : {X : Type 0} (w n cap : ℕ) (f : X → ℕ) (P : X → Type 0) (xs : List X) (v : Bits) → IsPacked w f P xs n → length xs ≤ cap → record { values = values_of w (map f xs) n; capacity = capacity_of w cap } ≡ v → IsCapacityOfBlocks w v
-is_capacity_of_blocks w n cap f P xs v packed h e = record {
-  blocks = cap;
-  capacity = capacity_from_view (capacity_of w cap) (values_of w (map f xs) n) v e;
-  enough = rw (length_from_view w n (capacity_of w cap) (map f xs) v e) (let c = packed.count in omega arith);
-}
+is_capacity_of_blocks w n cap f P xs v packed h e = grind (arith, capacity_from_view (capacity_of w cap) (values_of w (map f xs) n) v e, length_from_view w n (capacity_of w cap) (map f xs) v e, packed.count)
 
 -- the blocks that a list has cover each length up to their last value
 pub capacity_covers : (w n : ℕ) (v : Bits) → IsCapacityOfBlocks w v → n ≤ 2 ^ 64 - 1 → n ≤ blocks_for w (length v.values) * w → n ≤ v.capacity
@@ -96,12 +92,7 @@ pub blocks_for-none : (w : ℕ) → 0 < w → 0 ≡ blocks_for w 0
 blocks_for-none w pos = omega (arith, blocks_for-least w 0 0 pos (omega arith))
 
 pub packed_nil : {X : Type 0} (w : ℕ) (f : X → ℕ) (P : X → Type 0) (xs : List X) → 0 < w → xs ≡ [] → IsPacked w f P xs 0
-packed_nil w f P xs pos e = record {
-  each = All-same P xs [] e (All-nil P);
-  count = ap length e ∙ blocks_for-none w pos;
-  tail = record { zero_tail = λ i past. value_at-past w (map f xs) i (rw (length-map, ap length e) (omega arith)) };
-  fits = omega arith;
-}
+packed_nil w f P xs pos e = grind (arith, blocks_for-none w pos, value_at-past, length-map)
 
 pub values_of-none : (w : ℕ) (ms : List ℕ) → values_of w ms 0 ≡ []
 unfolding values_of
