@@ -2,6 +2,7 @@
 use Rattle.std.proofs.Common.{◌≡◌, ℕ, zero, suc, ◌+◌, ◌*◌, ◌<◌, ◌≤◌, Bool, false, List, [], ◌∷◌, map, length, take, drop, get_or, get_or-take, get_or-drop, length-take, count_ones, refl, sym, ap, ◌∙◌, ⊎_elim, arith}
 use Rattle.std.proofs.lemmas.Bool.{cases_lt, not-false, eqb-true}
 use Rattle.std.proofs.lemmas.List.{take-map, drop-map, get_or_past, length-map}
+use Rattle.std.proofs.Math.Seq.{take-add}
 use Rattle.std.proofs.lemmas.List.Sums.{sum_by-append, sum_by-cons}
 use Rattle.bit_words.specs.Digits.{is_one}
 use Rattle.bit_words.specs.Storage.{value_at}
@@ -10,7 +11,7 @@ use Rattle.bit_words.specs.Bits.{blocks_of}
 use Rattle.bit_words.specs.Nonzero.{ones_in}
 use Rattle.bit_words.specs.Summary.{is_used}
 use Rattle.bit_words.proofs.LowestLemmas.{ones_zero}
-use Rattle.bit_words.proofs.OnesLemmas.{take_split, blocks_ones}
+use Rattle.bit_words.proofs.OnesLemmas.{blocks_ones}
 use Rattle.bit_words.proofs.Masks.{is_one-zero}
 use Rattle.bit_words.proofs.StorageLemmas.{value_at-index}
 
@@ -18,7 +19,7 @@ module _ {X : Type 0} (number : X → ℕ) where
   -- those of some blocks, and of the next ones
   pub ones_in-more : (i n : ℕ) (xs : List X) → ones_in number (take (i + n) xs) ≡ ones_in number (take i xs) + ones_in number (take n (drop i xs))
   ones_in-more i n xs =
-      ap (ones_in number) (take_split i n xs) ∙ sum_by-append (λ x. count_ones (number x)) (take i xs) (take n (drop i xs))
+      ap (ones_in number) (take-add i n xs) ∙ sum_by-append (λ x. count_ones (number x)) (take i xs) (take n (drop i xs))
 
   pub ones_in-none : (xs : List X) → ((j : ℕ) → get_or (map number xs) j 0 ≡ 0) → ones_in number xs ≡ 0
   ones_in-none [] zeros = refl

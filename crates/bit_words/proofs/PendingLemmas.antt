@@ -1,10 +1,11 @@
 -- The walk over the blocks that are not 0, by the pending bits of a summary.
-use Rattle.std.proofs.Common.{◌≡◌, ◌≢◌, ℕ, zero, suc, ◌+◌, ◌-◌, ◌*◌, ◌/◌, ◌%◌, ◌^◌, ◌<◌, ◌≤◌, Bool, true, false, not, leb, nat_lt, ◌&&◌, if◌then◌else◌, ◌==◌, List, [], ◌∷◌, min, map, drop, length, slice_get, Some, get_or, All, refl, sym, ap, subst, ◌∙◌, arith, ⊎_elim, mul-le-mul_right, div-add-mod'}
-use Rattle.std.proofs.lemmas.Bool.{cases_lt, cases_eq, true≢false}
+use Rattle.std.proofs.Common.{◌≡◌, ◌≢◌, ℕ, zero, suc, ◌+◌, ◌-◌, ◌*◌, ◌/◌, ◌%◌, ◌^◌, ◌<◌, ◌≤◌, true, false, not, leb, nat_lt, ◌&&◌, if◌then◌else◌, ◌==◌, List, [], ◌∷◌, map, drop, length, slice_get, Some, get_or, All, refl, sym, ap, subst, ◌∙◌, arith, ⊎_elim, mul-le-mul_right}
+use Rattle.std.proofs.lemmas.Bool.{cases_lt, cases_eq, false_from_ne_true, true≢false}
 use Rattle.std.proofs.lemmas.Bool.Decides.{nat_tests}
 use Rattle.std.proofs.lemmas.List.{drop_more, drop_all, drop-map, length-drop}
 use Rattle.std.proofs.lemmas.List.Elements.{All-drop}
 use Rattle.std.proofs.lemmas.Option.{get_or_from_slice_get}
+use Rattle.std.proofs.Math.Nat.{div-lt_iff_lt-mul}
 use Rattle.std.proofs.Math.Seq.{drop-drop}
 use Rattle.bit_words.specs.Bits.{blocks_for}
 use Rattle.bit_words.specs.Digits.{is_one}
@@ -19,10 +20,6 @@ use Rattle.bit_words.proofs.NextAtLemmas.{before_first, first_least, first_most}
 use Rattle.bit_words.proofs.StorageLemmas.{value_at-is, value_at-index}
 use Rattle.bit_words.proofs.SummaryLemmas.{stored_each, stored_enough, zero_from_unused}
 use Rattle.bit_words.proofs.ZeroLemmas.{dropped, nonzero_inside, value_at-drop}
-
-not_true : (b : Bool) → (b ≡ true → ⊥) → b ≡ false
-not_true true other = absurd (other refl)
-not_true false other = refl
 
 -- ---- blocks that are 0 are passed
 
@@ -47,9 +44,6 @@ module _ {X : Type 0} (number : X → ℕ) where
   pub left-here : (k : ℕ) (x : X) (xs : List X) → k < length xs → slice_get xs k ≡ Some x → left_from number k xs ≡ (if number x == 0 then left_from number (k + 1) xs else (k, x) ∷ left_from number (k + 1) xs)
   left-here k x xs inside at = ap (nonzero_from number k) (drop_more xs k x inside ∙ ap (λ y. y ∷ drop (k + 1) xs) (get_or_from_slice_get xs k x x at))
 
-  pub left-end : (k : ℕ) (xs : List X) → length xs ≤ k → left_from number k xs ≡ []
-  left-end k xs end = ap (nonzero_from number k) (drop_all k xs end)
-
 -- ---- the block of the summary in hand
 
 module _ {X : Type 0} (w : ℕ) (number : X → ℕ) (is_block : X → Type 0) where
@@ -62,7 +56,7 @@ module _ {X : Type 0} (w : ℕ) (number : X → ℕ) (is_block : X → Type 0) w
       sym (left-passed number from (next_at w start m) xs (omega (arith, least, on)) (λ k reached below.
       let e : start + (k - start) ≡ k = omega (arith, reached, on) in
       let unset = before_first (is_one m) w (k - start) (omega (arith, below, reached, on)) in
-      not_true (is_used (map number xs) k) (λ used.
+      false_from_ne_true (is_used (map number xs) k) (λ used.
       true≢false (sym (covers (k - start) (omega (arith, below, most, reached, on)) (omega (arith, reached, on)) (ap (is_used (map number xs)) e ∙ used)) ∙ unset))))
 
   -- the lowest 1 is taken
@@ -122,12 +116,8 @@ module _ {X : Type 0} (w : ℕ) (number : X → ℕ) (is_block : X → Type 0) w
 
   -- ---- what is stored of the summary
 
-  pub long_by_stored : (start : ℕ) (xs summary : List X) → IsStoredFrom w number is_block start xs summary → 0 < length summary → short_count w < length xs
-  long_by_stored start xs summary is some =
-      ⊎_elim
-      (λ long. long)
-      (λ few. absurd (let none = ap length (is.short few) in omega (arith, none, some)))
-      (cases_lt (short_count w) (length xs))
+  long_by_stored : (xs summary : List X) → (length xs ≤ short_count w → summary ≡ []) → 0 < length summary → short_count w < length xs
+  long_by_stored xs summary short some = grind (arith, short)
 
   pub stored_from_all : (xs summary : List X) → 0 < w → KeepsSummary w number is_block xs summary → IsStoredFrom w number is_block 0 xs summary
   stored_from_all xs summary pos keeps = record {
@@ -135,7 +125,7 @@ module _ {X : Type 0} (w : ℕ) (number : X → ℕ) (is_block : X → Type 0) w
     short = keeps.short;
     enough = λ long. let enough = stored_enough w number is_block xs summary pos keeps long in omega (arith, enough);
     few = λ some.
-        let long : short_count w < length xs = ⊎_elim (λ long. long) (λ few. absurd (let none = ap length (keeps.short few) in omega (arith, none, some))) (cases_lt (short_count w) (length xs)) in
+        let long = long_by_stored xs summary keeps.short some in
         let n = length summary in
         let last = whole_before w (length xs) (n - 1) pos (let count = (keeps.long long).packed.count in omega (arith, count, some)) in
         let whole : n * w ≡ (n - 1) * w + w = ap (λ k. k * w) (let e : n ≡ (n - 1) + 1 = omega (arith, some) in e) ∙ omega arith in
@@ -144,59 +134,47 @@ module _ {X : Type 0} (w : ℕ) (number : X → ℕ) (is_block : X → Type 0) w
   }
 
   -- its first blocks are pulled
-  pub stored_past : (n start : ℕ) (xs summary left : List X) → 0 < w → IsStoredFrom w number is_block start xs summary → (short_count w < length xs → n ≤ length summary) → left ≡ drop n summary → IsStoredFrom w number is_block (start + n * w) xs left
-  stored_past n start xs summary left pos is there left_is =
+  pub stored_past : (n start to : ℕ) (xs summary left : List X) → 0 < w → to ≡ start + n * w → IsStoredFrom w number is_block start xs summary → (short_count w < length xs → n ≤ length summary) → left ≡ drop n summary → IsStoredFrom w number is_block to xs left
+  stored_past n start to xs summary left pos at is there left_is =
       let count : length left ≡ length summary - n = ap length left_is ∙ length-drop n summary in
       let whole : n ≤ length summary → length summary * w ≡ n * w + length left * w = λ within.
       ap (λ k. k * w) (let e : length summary ≡ n + length left = omega (arith, count, within) in e) ∙ omega arith in
       record {
         each = subst (All is_block) (sym left_is) (All-drop is_block n summary is.each);
         short = λ few. left_is ∙ ap (drop n) (is.short few) ∙ drop_all n [] (omega arith);
-        enough = λ long. omega (arith, is.enough long, whole (there long));
+        enough = λ long. omega (arith, at, is.enough long, whole (there long));
         few = λ some.
             let within : n ≤ length summary = omega (arith, some, count) in
-            omega (arith, is.few (omega (arith, some, count)), whole within);
+            omega (arith, at, is.few (omega (arith, some, count)), whole within);
         digit = λ long k.
             ap (λ ys. value_at w (map number ys) k) left_is
             ∙ ap (λ ms. value_at w ms k) (sym (drop-map number n summary))
             ∙ value_at-drop w n (map number summary) k pos
             ∙ is.digit long (n * w + k)
-            ∙ ap (is_used (map number xs)) (let e : start + (n * w + k) ≡ start + n * w + k = omega arith in e);
+            ∙ ap (is_used (map number xs)) (let e : start + (n * w + k) ≡ to + k = omega (arith, at) in e);
       }
 
-  count_by : (n start count : ℕ) → 0 < w → n * w < count - start + w → blocks_for w (count - start) ≡ n + blocks_for w (count - (start + n * w))
-  count_by n start count pos within =
+  pub count_by : (n start to count : ℕ) → 0 < w → to ≡ start + n * w → n * w < count - start + w → blocks_for w (count - start) ≡ n + blocks_for w (count - to)
+  count_by n start to count pos at within =
       blocks_for-past w n (count - start) pos within
-      ∙ ap (λ k. n + blocks_for w k) (let e : count - start - n * w ≡ count - (start + n * w) = omega arith in e)
+      ∙ ap (λ k. n + blocks_for w k) (let e : count - start - n * w ≡ count - to = omega (arith, at) in e)
 
   -- they are so many of those that were to come
-  pub count_past : (n start : ℕ) (xs summary : List X) → 0 < w → IsStoredFrom w number is_block start xs summary → n ≤ length summary → blocks_for w (length xs - start) ≡ n + blocks_for w (length xs - (start + n * w))
-  count_past n start xs summary pos is there =
-      let most = mul-le-mul_right w there in
-      count_by n start (length xs) pos
+  pub count_past : (n start to : ℕ) (xs summary : List X) → 0 < w → to ≡ start + n * w → IsStoredFrom w number is_block start xs summary → n ≤ length summary → blocks_for w (length xs - start) ≡ n + blocks_for w (length xs - to)
+  count_past n start to xs summary pos at is there =
+      count_by n start to (length xs) pos at
       (⊎_elim
-      (λ some. omega (arith, is.few (omega (arith, some, there)), most))
+      (λ some. omega (arith, is.few (omega (arith, some, there)), mul-le-mul_right w there))
       (λ none. let zero : n * w ≡ 0 * w = ap (λ k. k * w) (let e : n ≡ 0 = omega (arith, none) in e) in omega (arith, zero, pos))
       (cases_lt 0 n))
 
-  -- one is, stored or not
-  pub count_pulled : (start count : ℕ) → 0 < w → start < count → blocks_for w (count - start) ≡ 1 + blocks_for w (count - (start + w))
-  count_pulled start count pos more =
-      count_by 1 start count pos (omega (arith, more))
-      ∙ ap (λ k. 1 + blocks_for w (count - k)) (let e : start + 1 * w ≡ start + w = omega arith in e)
-
   -- blocks of it that are 0 are about blocks that are
-  pub zeros_passed : (n start : ℕ) (xs summary : List X) → 0 < w → IsStoredFrom w number is_block start xs summary → n ≤ length summary → ((k : ℕ) → k < n → get_or (map number summary) k 0 ≡ 0) → left_from number start xs ≡ left_from number (start + n * w) xs
-  zeros_passed n start xs summary pos is there zeros = left-passed number start (start + n * w) xs (omega arith) (λ k reached below.
+  pub zeros_passed : (n start to : ℕ) (xs summary : List X) → 0 < w → to ≡ start + n * w → IsStoredFrom w number is_block start xs summary → n ≤ length summary → ((k : ℕ) → k < n → get_or (map number summary) k 0 ≡ 0) → left_from number start xs ≡ left_from number to xs
+  zeros_passed n start to xs summary pos at is there zeros = left-passed number start to xs (omega (arith, at)) (λ k reached below.
       let j = k - start in
-      let whole = div-add-mod' j w in
-      let chunk : j / w < n =
-      ⊎_elim
-      (λ less. less)
-      (λ not_less. absurd (let product = mul-le-mul_right w not_less in omega (arith, product, whole, below, reached)))
-      (cases_lt (j / w) n) in
+      let chunk : j / w < n = (div-lt_iff_lt-mul pos).1 (omega (arith, at, below, reached)) in
       ap (is_used (map number xs)) (let e : k ≡ start + j = omega (arith, reached) in e)
-      ∙ sym (is.digit (long_by_stored start xs summary is (omega (arith, chunk, there))) j)
+      ∙ sym (is.digit (long_by_stored xs summary is.short (omega (arith, chunk, there))) j)
       ∙ value_at-is w (map number summary) j
       ∙ ap (λ m. is_one m (j % w)) (zeros (j / w) chunk)
       ∙ is_one-zero (j % w))
@@ -240,7 +218,7 @@ module _ {X : Type 0} (w : ℕ) (number : X → ℕ) (is_block : X → Type 0) w
   CoversUsed-stored start next xs summary rest more is = CoversUsed-exact start (number next) xs (λ j within.
       sym (value_at-index w (map number (next ∷ rest)) 0 j within)
       ∙ ap (λ ys. value_at w (map number ys) (0 * w + j)) (sym more)
-      ∙ is.digit (long_by_stored start xs summary is (rw more (omega arith))) (0 * w + j)
+      ∙ is.digit (long_by_stored xs summary is.short (rw more (omega arith))) (0 * w + j)
       ∙ ap (λ k. is_used (map number xs) (start + k)) (let e : 0 * w + j ≡ j = omega arith in e))
 
   -- ---- the making of a walk
@@ -286,11 +264,3 @@ count_from w q start blocks pos at inside =
     let past = blocks_for-least w (blocks - (start + w)) 0 pos (omega (arith, none)) in
     omega (arith, all, past))
     (cases_lt 0 blocks)
-
--- so many stored blocks are passed, or all
-pub dropped_most : {X : Type 0} (q : ℕ) (xs : List X) → drop (min q (length xs)) xs ≡ drop q xs
-dropped_most q xs =
-    ⊎_elim
-    (λ few. ap (λ n. drop n xs) (let e : min q (length xs) ≡ q = omega (arith, few) in e))
-    (λ most. drop_all (min q (length xs)) xs (omega (arith, most)) ∙ sym (drop_all q xs most))
-    (cases_lt q (length xs))

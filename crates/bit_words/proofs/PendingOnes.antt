@@ -45,9 +45,9 @@ module _ {X : Type 0} (w : ℕ) (number : X → ℕ) (is_block : X → Type 0) w
       omega (arith, all, whole, same)
 
   -- those of the blocks of the chunk in hand, and of the ones past it
-  pub left-ones_split : (index i m : ℕ) (xs : List X) → IsLowest m i → i < w
-      → ones_in number (drop w (drop index xs)) + ones_in number (drop i (take w (drop index xs))) ≡ ones_left number (left_from number (next_at w index m) xs)
-  left-ones_split index i m xs low within =
+  pub left-ones_split : (index i m : ℕ) (xs : List X) (all : List (ℕ × X)) → IsLowest m i → i < w → left_from number (next_at w index m) xs ≡ all
+      → ones_in number (drop w (drop index xs)) + ones_in number (drop i (take w (drop index xs))) ≡ ones_left number all
+  left-ones_split index i m xs all low within is =
       let ys = drop index xs in
       let zs = drop i ys in
       let whole = sum_by-take-drop (λ x. count_ones (number x)) zs (w - i) in
@@ -56,8 +56,9 @@ module _ {X : Type 0} (w : ℕ) (number : X → ℕ) (is_block : X → Type 0) w
       ap (λ n. ones_in number (drop i (take n ys))) (sym e) ∙ ap (ones_in number) (drop-take i (w - i) ys) in
       let rest : ones_in number (drop w ys) ≡ ones_in number (drop (w - i) zs) =
       ap (λ n. ones_in number (drop n ys)) (sym e) ∙ ap (ones_in number) (sym (drop-drop (w - i) i ys)) in
-      let left : ones_left number (left_from number (next_at w index m) xs) ≡ ones_in number zs =
-      ones_nonzero (next_at w index m) (drop (next_at w index m) xs)
+      let left : ones_left number all ≡ ones_in number zs =
+      ap (ones_left number) (sym is)
+      ∙ ones_nonzero (next_at w index m) (drop (next_at w index m) xs)
       ∙ ap (λ p. ones_in number (drop p xs)) (next_at-lowest w index m i low within)
       ∙ ap (ones_in number) (sym (drop-drop i index xs)) in
       omega (arith, whole, chunk, rest, left)

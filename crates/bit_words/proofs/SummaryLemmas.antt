@@ -1,5 +1,5 @@
 -- What the summary says of the blocks, and how it follows their changes.
-use Rattle.std.proofs.Common.{◌≡◌, ◌≢◌, ℕ, ◌+◌, ◌*◌, ◌/◌, ◌%◌, ◌^◌, ◌<◌, ◌≤◌, Bool, true, false, not, ◌==◌, nat_le, List, [], map, length, get_or, set, All, refl, sym, ap, ◌∙◌, arith, ⊎_elim, mod-lt, div-add-mod', get_or-set_same, get_or-set_other, mul-le-mul_right}
+use Rattle.std.proofs.Common.{◌≡◌, ◌≢◌, ℕ, ◌+◌, ◌*◌, ◌/◌, ◌%◌, ◌^◌, ◌<◌, ◌≤◌, Bool, true, false, not, ◌==◌, List, [], map, length, get_or, set, All, refl, sym, ap, ◌∙◌, arith, ⊎_elim, mod-lt, div-add-mod', get_or-set_same, get_or-set_other, mul-le-mul_right}
 use Rattle.std.proofs.lemmas.Bool.{cases_lt, cases_eq, false≢true}
 use Rattle.std.proofs.lemmas.Bool.Decides.{nat_tests}
 use Rattle.std.proofs.lemmas.List.{get_or_past, length-map}
@@ -7,15 +7,19 @@ use Rattle.std.proofs.lemmas.List.Elements.{All-nil, All-same}
 use Rattle.std.proofs.lemmas.Nat.{div-mul-add}
 use Rattle.std.proofs.lemmas.Nat.Bits.{same_from_bits_below}
 use Rattle.std.specs.Global.{Vec}
-use Rattle.bit_words.specs.Bits.{blocks_for}
+use Rattle.bit_words.specs.Bits.{Bits, blocks_for, blocks_of}
 use Rattle.bit_words.specs.Digits.{is_one}
-use Rattle.bit_words.specs.Storage.{value_at, IsPacked, WritesInPlace, WritesValue}
+use Rattle.bit_words.specs.Storage.{value_at, values_of, IsPacked, WritesInPlace, WritesValue}
 use Rattle.bit_words.specs.Summary.{is_used, shared_capacity, short_count, stored_for, IsSummary, KeepsSummary, IsStored}
 use Rattle.bit_words.proofs.CapacityLemmas.{shared_enough, stored_long, stored_short}
 use Rattle.bit_words.proofs.BitsLemmas.{blocks_for-below, blocks_for-enough, whole_before}
 use Rattle.bit_words.proofs.CompareLemmas.{zero_from_digits, digit_from_zero}
-use Rattle.bit_words.proofs.StorageLemmas.{same_digit, value_at-is, value_at-past, value_at-index}
-use Rattle.bit_words.proofs.VectorLemmas.{numbers_below, packed_nil}
+use Rattle.bit_words.proofs.StorageLemmas.{blocks-values_of, same_digit, value_at-is, value_at-past, value_at-index}
+use Rattle.bit_words.proofs.VectorLemmas.{blocks_for-none, length_from_view, numbers_below, packed_nil}
+
+-- the blocks of a packed list are those of its values
+pub packed_blocks : {X : Type 0} (w n : ℕ) (f : X → ℕ) (P : X → Type 0) (xs : List X) → 0 < w → ((x : X) → P x → f x < 2 ^ w) → IsPacked w f P xs n → map f xs ≡ blocks_of w (values_of w (map f xs) n)
+packed_blocks w n f P xs pos below packed = blocks-values_of w (map f xs) n pos (rw length-map packed.count) (numbers_below w f P xs below packed.each) packed.tail
 
 -- ---- whether a block is 0
 
@@ -103,21 +107,14 @@ summary_put w ms ss ns k n within e digits before q j below index =
     (cases_eq q k)
 
 -- all of them
-pub digits_of_summary : (w : ℕ) (ms ss : List ℕ) → 0 < w → length ss ≡ blocks_for w (length ms) → ((q j : ℕ) → q < length ss → j < w → is_one (get_or ss q 0) j ≡ is_used ms (q * w + j)) → (k : ℕ) → value_at w ss k ≡ is_used ms k
-digits_of_summary w ms ss pos count each k =
+pub summary_of_blocks : {X : Type 0} (w : ℕ) (f : X → ℕ) (P : X → Type 0) (xs summary : List X) → 0 < w → All P summary → length summary ≡ blocks_for w (length xs) → length xs < 2 ^ 64 → ((q j : ℕ) → q < length summary → j < w → is_one (get_or (map f summary) q 0) j ≡ is_used (map f xs) (q * w + j)) → IsSummary w f P xs summary
+summary_of_blocks w f P xs summary pos each count fits digits = summary_of_digits w f P xs summary each count fits (λ k.
     ⊎_elim
-    (λ within. value_at-is w ss k ∙ each (k / w) (k % w) within (mod-lt k pos) ∙ ap (is_used ms) (div-add-mod' k w))
-    (λ past. value_at-past w ss k past ∙ sym (used_past ms k (blocks_for-below w (length ms) k pos (omega arith))))
-    (cases_lt (k / w) (length ss))
+    (λ within. value_at-is w (map f summary) k ∙ digits (k / w) (k % w) within (mod-lt k pos) ∙ ap (is_used (map f xs)) (div-add-mod' k w))
+    (λ past. value_at-past w (map f summary) k (rw length-map past) ∙ sym (used_past (map f xs) k (rw length-map (blocks_for-below w (length xs) k pos (omega arith)))))
+    (cases_lt (k / w) (length summary)))
 
 -- ---- kept with the list
-
--- the test of whether a list of so many blocks stores no summary
-pub short_from_test : (w n : ℕ) (test : Bool) → test ≡ nat_le n (short_count w) → test ≡ true → n ≤ short_count w
-short_from_test w n test e is = grind (arith, nat_tests)
-
-pub long_from_test : (w n : ℕ) (test : Bool) → test ≡ nat_le n (short_count w) → test ≡ false → short_count w < n
-long_from_test w n test e is = grind (arith, nat_tests)
 
 pub keeps_none : {X : Type 0} (w : ℕ) (f : X → ℕ) (P : X → Type 0) (xs summary : List X) → length xs ≤ short_count w → summary ≡ [] → KeepsSummary w f P xs summary
 keeps_none w f P xs summary few none = record {
@@ -139,6 +136,13 @@ stored_nil w f P xs summary pos e s = record {
     long = λ many. let none = ap length e in absurd (omega arith);
   };
 }
+
+-- an empty list has no blocks, and stores no summary
+pub none_stored : {X : Type 0} (w n r : ℕ) (f : X → ℕ) (P : X → Type 0) (xs ss : List X) (v : Bits) → 0 < w → IsStored w f P xs ss n → record { values = values_of w (map f xs) n; capacity = r } ≡ v → length v.values ≡ 0 → (length xs ≡ 0) × (length ss ≡ 0)
+none_stored w n r f P xs ss v pos stored e none =
+    let len = length_from_view w n r (map f xs) v e in
+    let count : length xs ≡ 0 = stored.packed.count ∙ ap (blocks_for w) (let z : n ≡ 0 = omega (arith, len, none) in z) ∙ sym (blocks_for-none w pos) in
+    (count, ap length (stored.summary.short (omega (arith, count))))
 
 -- a summary has as many blocks as are stored
 pub stored_length : {X : Type 0} (w : ℕ) (f : X → ℕ) (P : X → Type 0) (xs ss : List X) → KeepsSummary w f P xs ss → length ss ≡ stored_for w (length xs)

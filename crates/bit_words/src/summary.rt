@@ -153,7 +153,9 @@ pub(crate) fn short_limit<B: BitBlock>() -> usize
 // Whether a list of so many blocks stores no summary.
 #[inline]
 pub(crate) fn is_short<B: BitBlock>(count: usize) -> bool
-    ensures { result ≡ nat_le count (short_count B.width) }
+    ensures value { result ≡ nat_le count (short_count B.width) }
+    ensures short { result ≡ true → count ≤ short_count B.width }
+    ensures long { result ≡ false → short_count B.width < count }
 {
     count <= short_limit::<B>()
 }

@@ -138,7 +138,7 @@ impl<'a, B: BitBlock> Nonzero<'a, B> {
         let (chunk, rest) = first_blocks(self.blocks.split_at(self.pending.index).1);
         let ones = ones_by_summary(rest, self.pending.summary.as_slice());
         let mut pending = self.pending.bits;
-        if pending == B::zero() {
+        if !is_nonzero(pending) {
             return ones;
         }
         // From its lowest bit on the block in hand says of each block whether it is zero.

@@ -81,7 +81,7 @@ impl<'a, B: BitBlock> Pending<'a, B> {
         ensures found { Finds B.width B.number blocks.now self.old.index (B.number self.old.bits) self.old.summary.pulls
             result self.new.index (B.number self.new.bits) self.new.summary.pulls }
     {
-        while self.bits == B::zero() {
+        while !is_nonzero(self.bits) {
             // `index` goes with the block of the summary in hand: on by those that are passed over, and by one more
             // only where there are blocks for it.
             self.index += pass_zero_chunks(&mut self.summary, blocks.len() - self.index)

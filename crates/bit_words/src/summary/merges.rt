@@ -228,31 +228,6 @@ fn unite_long<B: BitBlock>(
     merge_each::<B, Union>(summary, other_summary, 0, &mut Steps::new());
 }
 
-// A union of lists of any length. Where only the others are short, the summary is made as for the other merges.
-#[inline]
-fn unite_any_length<B: BitBlock>(
-    blocks: &mut [B],
-    summary: &mut [B],
-    others: &[B],
-    other_summary: &[B],
-    steps: &mut Steps,
-)
-    requires can { CanMerge B.is_block blocks.old others.now }
-    requires summary { KeepsSummary B.width B.number B.is_block blocks.old summary.old }
-    requires other_summary { KeepsSummary B.width B.number B.is_block others.now other_summary.now }
-    ensures has { HasMerged Merge.Union B.width B.number B.is_block 0 (length blocks.old) blocks.old others.now
-        blocks.new }
-    ensures summary { KeepsSummary B.width B.number B.is_block blocks.new summary.new }
-    ensures summary_len { length summary.new ≡ length summary.old }
-    ensures steps { steps.new ≡ steps.old + length blocks.old }
-{
-    if is_short::<B>(others.len()) {
-        merge_any_length::<B, Union>(blocks, summary, others, steps);
-    } else {
-        unite_long(blocks, summary, others, other_summary, steps);
-    }
-}
-
 // The merge that is named, of lists of any length. Only a union needs the others' summary.
 #[inline(always)]
 pub(crate) fn merge_chosen<B: BitBlock>(
@@ -273,7 +248,14 @@ pub(crate) fn merge_chosen<B: BitBlock>(
     ensures steps { steps.new ≡ steps.old + length blocks.old }
 {
     match merge {
-        Merge::Union => unite_any_length(blocks, summary, others, other_summary, steps),
+        // Where only the others are short, the summary is made as for the other merges.
+        Merge::Union => {
+            if is_short::<B>(others.len()) {
+                merge_any_length::<B, Union>(blocks, summary, others, steps);
+            } else {
+                unite_long(blocks, summary, others, other_summary, steps);
+            }
+        }
         Merge::Intersection => merge_any_length::<B, Intersection>(blocks, summary, others, steps),
         Merge::Difference => merge_any_length::<B, Difference>(blocks, summary, others, steps),
         Merge::Symmetric => merge_any_length::<B, Symmetric>(blocks, summary, others, steps),

@@ -1,12 +1,9 @@
 use Rattle.std.proofs.Common.{length, arith}
 use Rattle.bit_words.proofs.BitsLemmas.{blocks_for-le}
 use Rattle.bit_words.proofs.CapacityLemmas.{stored_long}
-use Rattle.bit_words.proofs.SummaryLemmas.{long_from_test}
 use Rattle.bit_words.proofs.summary.store_summary.Goals as goal
 
 pub store_short-requires-clause-capacity : goal.store_short-requires-clause-capacity
 store_short-requires-clause-capacity g c =
-    let w = g.B.BitBlock.width in
-    let many = long_from_test w c.args.count c.is_short-then-is_short.result c.is_short-then-is_short.ensures c.if-not-is_short.true in
-    let fewer = blocks_for-le w (length c.args.blocks.now) c.args.count g.met.B.BitBlock.width_law.positive c.requires.longer in
-    omega (arith, stored_long w c.args.count many)
+    let fewer = blocks_for-le g.B.BitBlock.width (length c.args.blocks.now) c.args.count g.met.B.BitBlock.width_law.positive c.requires.longer in
+    omega (arith, stored_long g.B.BitBlock.width c.args.count (c.is_short-then-is_short.ensures.long c.if-not-is_short.true))

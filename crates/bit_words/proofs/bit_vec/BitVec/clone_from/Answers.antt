@@ -2,30 +2,24 @@ use Rattle.std.proofs.Common.{◌≡◌, ◌∙◌, length, max, vec_capacity, r
 use Rattle.std.proofs.lemmas.Result.{err_from_is_err_and}
 use Rattle.bit_words.specs.Bits.{blocks_for, capacity_of}
 use Rattle.bit_words.specs.Summary.{shared_capacity}
-use Rattle.bit_words.proofs.GrowthLemmas.{Grows-blocks, Grows-kept, Reserves-exact, stored_within_capacity}
+use Rattle.bit_words.proofs.GrowthLemmas.{Grows-blocks, Grows-kept, Reserves-exact}
 use Rattle.bit_words.proofs.VectorLemmas.{length_from_view, capacity_from_view, capacity_of-max}
 use Rattle.bit_words.proofs.bit_vec.BitVec.clone_from.Goals as goal
 
 pub returns-in_err-take_over-clause-grows : goal.returns-in_err-take_over-clause-grows
 returns-in_err-take_over-clause-grows g c =
-    let w = g.B.BitBlock.width in
-    let pos = g.met.B.BitBlock.width_law.positive in
     let p = err_from_is_err_and c.from_residual.result c.from_residual.ensures.1 in
     let left = c.in_err-take_over.ensures in
-    let inside = stored_within_capacity _ _ _ _ _ _ _ _ _ pos c.self.invariant (omega arith) (omega arith) c.self.view_is in
+    let kept = ap₂ (shared_capacity g.B.BitBlock.width) (ap vec_capacity left.err) (ap vec_capacity left.err_summary) in
     let len = length_from_view _ _ _ _ _ c.other.view_is in
-    let count : length c.deref.result.now ≡ blocks_for w (length c.args.other.now.values) = omega (arith, c.deref.ensures.len, c.other.invariant.packed.count) ∙ ap (blocks_for w) (sym len) in
-    let kept = ap₂ (shared_capacity w) (ap vec_capacity left.err) (ap vec_capacity left.err_summary) in
-    rw (p.1, p.2) (Grows-kept w (length c.args.other.now.values) _ _ _ _ _ _ _ _ _ pos (omega arith) count c.self.view_is inside.holds_values (ap (λ b. b.items) left.err) (Reserves-exact _ _ _ (Err c.in_err-take_over.field-0.0) tt left.full kept))
+    rw (p.1, p.2) (Grows-kept _ _ c.other.inside.len _ _ _ _ _ _ _ _ _ _ _ _ g.met.B.BitBlock.width_law.positive c.self.invariant (omega arith) (omega arith) c.self.view_is (omega arith)
+    (omega (arith, c.deref.ensures.len, c.other.invariant.packed.count)) (sym len) (ap (λ b. b.items) left.err) (Reserves-exact _ _ _ (Err c.in_err-take_over.field-0.0) tt left.full kept))
 
 pub returns-clause-grows : goal.returns-clause-grows
 returns-clause-grows g c =
-    let w = g.B.BitBlock.width in
-    let pos = g.met.B.BitBlock.width_law.positive in
-    let inside = stored_within_capacity _ _ _ _ _ _ _ _ _ pos c.self.invariant (omega arith) (omega arith) c.self.view_is in
     let len = length_from_view _ _ _ _ _ c.other.view_is in
-    let count : length c.deref.result.now ≡ blocks_for w (length c.args.other.now.values) = omega (arith, c.deref.ensures.len, c.other.invariant.packed.count) ∙ ap (blocks_for w) (sym len) in
-    Grows-blocks w (length c.args.other.now.values) _ _ _ _ c.args.self.now _ pos (omega arith) count (capacity_from_view _ _ _ c.self.view_is) refl inside.holds_values tt (Reserves-exact _ _ _ _ c.in_ok-take_over.ensures.exact tt tt)
+    Grows-blocks _ _ c.other.inside.len _ _ _ _ _ _ _ _ _ _ _ _ g.met.B.BitBlock.width_law.positive c.self.invariant (omega arith) (omega arith) c.self.view_is (omega arith)
+    (omega (arith, c.deref.ensures.len, c.other.invariant.packed.count)) (sym len) refl tt (Reserves-exact _ _ _ _ c.in_ok-take_over.ensures.exact tt tt)
 
 pub returns-clause-exact : goal.returns-clause-exact
 returns-clause-exact g c =

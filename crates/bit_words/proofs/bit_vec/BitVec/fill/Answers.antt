@@ -1,7 +1,6 @@
-use Rattle.std.proofs.Common.{◌≡◌, ◌≤◌, ◌∙◌, sym, ap, replicate, length, arith}
-use Rattle.bit_words.specs.Summary.{short_count}
+use Rattle.std.proofs.Common.{◌≡◌, ◌∙◌, sym, ap, replicate, length, arith}
 use Rattle.bit_words.proofs.StorageLemmas.{values_of-replicate}
-use Rattle.bit_words.proofs.SummaryLemmas.{filled_summary, keeps_all, keeps_none, long_from_test, short_from_test}
+use Rattle.bit_words.proofs.SummaryLemmas.{filled_summary, keeps_all}
 use Rattle.bit_words.proofs.VectorLemmas.{length_from_view}
 use Rattle.bit_words.proofs.bit_vec.BitVec.fill.Goals as goal
 
@@ -18,20 +17,10 @@ returns-else-not-is_short-clause-values g c =
 pub invariant_of-self : goal.invariant_of-self
 invariant_of-self g c =
     let count : length c.fill_bits.new.blocks.items ≡ c.len-then-not-is_short.result = omega arith in
-    let many = long_from_test g.B.BitBlock.width c.len.result c.is_short.result c.is_short.ensures c.if-not-is_short.true in
+    let many = c.is_short.ensures.long c.if-not-is_short.true in
     record {
       packed = c.fill_bits.ensures.packed;
       summary = keeps_all _ _ _ _ _ (omega arith) (
           filled_summary g.B.BitBlock.width _ g.B.BitBlock.number g.B.BitBlock.is_block c.fill_bits.new.blocks.items c.fill_bits-then-not-is_short.new.blocks.items c.args.bit g.met.B.BitBlock.width_law.positive (λ x is. (g.met.B.BitBlock.number_law x is).0) c.fill_bits.ensures.packed c.fill_bits.ensures.filled
           (rw (← count) at c.fill_bits-then-not-is_short.ensures.packed) (λ k within. c.fill_bits-then-not-is_short.ensures.filled k (omega arith)));
-    }
-
-pub invariant_of-self-else-not-is_short : goal.invariant_of-self-else-not-is_short
-invariant_of-self-else-not-is_short g c =
-    let few = short_from_test g.B.BitBlock.width c.len.result c.is_short.result c.is_short.ensures c.if-not-is_short.false in
-    let kept = c.fill_bits.ensures.packed.count in
-    let short : length c.self.inside.blocks.items ≤ short_count g.B.BitBlock.width = omega (arith, c.self.invariant.packed.count) in
-    record {
-      packed = c.fill_bits.ensures.packed;
-      summary = keeps_none _ _ _ _ _ (omega arith) (c.self.invariant.summary.short short);
     }

@@ -1,7 +1,6 @@
 use Rattle.std.proofs.Common.{◌≡◌, ◌*◌, length, sym, ap, ◌∙◌, arith}
-use Rattle.bit_words.specs.Bits.{blocks_for, capacity_of}
+use Rattle.bit_words.specs.Bits.{blocks_for}
 use Rattle.bit_words.proofs.ByteLemmas.{byte_value-past, length-values_of_bytes, get_or-values_of_bytes}
-use Rattle.bit_words.proofs.CapacityLemmas.{shared_whole}
 use Rattle.bit_words.proofs.StorageLemmas.{values_of-same}
 use Rattle.bit_words.proofs.bit_vec.BitVec.from_bytes_general.Goals as goal
 
@@ -22,9 +21,3 @@ pub returns-clause-values : goal.returns-clause-values
 returns-clause-values g c =
     let len : c.in-Some.len ≡ 8 * length c.args.bytes.now = omega (arith, c.in-Some.ensures) in
     values_of-same _ _ _ _ (length-values_of_bytes c.args.bytes.now ∙ sym len) (λ i below. c.in_ok-blocks.ensures.values i ∙ sym (get_or-values_of_bytes c.args.bytes.now i))
-
-pub returns-clause-capacity : goal.returns-clause-capacity
-returns-clause-capacity g c =
-    let count : length c.in_ok-blocks.blocks.items ≡ blocks_for g.B.BitBlock.width (8 * length c.args.bytes.now) = c.in_ok-blocks.ensures.len in
-    let summary = rw (c.deref.ensures.value, count) at c.in_ok-summary.ensures.capacity in
-    ap (capacity_of g.B.BitBlock.width) (shared_whole g.B.BitBlock.width _ _ _ g.met.B.BitBlock.width_law.positive c.in_ok-blocks.ensures.capacity summary)

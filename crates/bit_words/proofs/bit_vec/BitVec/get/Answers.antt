@@ -14,6 +14,5 @@ get_bit-requires-clause-in_bounds g c =
 
 pub returns : goal.returns
 returns g c =
-    let xs = c.self.inside.blocks.items in
-    let read : c.get_bit.result ≡ value_at g.B.BitBlock.width (map g.B.BitBlock.number xs) c.args.i = rw c.deref.ensures.value at c.get_bit.ensures in
+    let read : c.get_bit.result ≡ value_at g.B.BitBlock.width (map g.B.BitBlock.number c.self.inside.blocks.items) c.args.i = rw c.deref.ensures.value at c.get_bit.ensures in
     rw (← c.self.view_is) (ap Some read ∙ sym (slice_get-values_of _ _ _ _ (omega arith)))

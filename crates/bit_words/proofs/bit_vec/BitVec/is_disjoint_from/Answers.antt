@@ -5,12 +5,6 @@ use Rattle.bit_words.proofs.CompareLemmas.{first_of_lists, disjoint_lists}
 use Rattle.bit_words.proofs.VectorLemmas.{length_from_view}
 use Rattle.bit_words.proofs.bit_vec.BitVec.is_disjoint_from.Goals as goal
 
-pub intersection_is_zero-requires : goal.intersection_is_zero-requires
-intersection_is_zero-requires g c = record {
-  each = rw c.deref.ensures.value c.self.invariant.packed.each;
-  others = rw c.deref-2.ensures.value c.other.invariant.packed.each;
-}
-
 pub returns : goal.returns
 returns g c =
     let f = g.B.BitBlock.number in

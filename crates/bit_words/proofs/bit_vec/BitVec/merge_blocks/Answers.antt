@@ -18,9 +18,6 @@ merge_chosen-requires-clause-can g c =
       others = c.other.invariant.packed.each;
     })
 
-pub merge_chosen-requires-clause-other_summary : goal.merge_chosen-requires-clause-other_summary
-merge_chosen-requires-clause-other_summary g c = rw (c.deref.ensures.value, c.deref-2.ensures.value) c.other.invariant.summary
-
 -- what each value became
 each : (g : Over) (c : After-merge_chosen g) → (i : ℕ) → value_at g.B.BitBlock.width (map g.B.BitBlock.number c.merge_chosen.new.blocks) i ≡ merge_of_values c.args.merge (value_at g.B.BitBlock.width (map g.B.BitBlock.number c.self.inside.blocks.items) i) (value_at g.B.BitBlock.width (map g.B.BitBlock.number c.other.inside.blocks.items) i)
 each g c =

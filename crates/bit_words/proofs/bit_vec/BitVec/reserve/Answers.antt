@@ -1,19 +1,12 @@
-use Rattle.std.proofs.Common.{◌+◌, ◌^◌, ◌<◌, length, sym, ap, ◌∙◌, arith, rules}
-use Rattle.bit_words.specs.Bits.{blocks_for}
-use Rattle.bit_words.proofs.GrowthLemmas.{Grows-kept, stored_within_capacity}
+use Rattle.std.proofs.Common.{arith}
+use Rattle.bit_words.proofs.GrowthLemmas.{Grows-kept}
 use Rattle.bit_words.proofs.VectorLemmas.{length_from_view}
 use Rattle.bit_words.proofs.bit_vec.BitVec.reserve.Goals as goal
 
 pub overflow_add-self-inside : goal.overflow_add-self-inside
-overflow_add-self-inside g c =
-    let len = length_from_view _ _ _ _ _ c.self.view_is in
-    let small : c.self.inside.len + c.args.n < 2 ^ 64 = omega arith in
-    search rules
+overflow_add-self-inside g c = record { fits = omega (arith, length_from_view _ _ _ _ _ c.self.view_is, c.requires) }
 
 pub returns-clause-grows : goal.returns-clause-grows
 returns-clause-grows g c =
-    let w = g.B.BitBlock.width in
-    let pos = g.met.B.BitBlock.width_law.positive in
-    let inside = stored_within_capacity _ _ _ _ _ _ _ _ _ pos c.self.invariant (omega arith) (omega arith) c.self.view_is in
-    let count = c.block_count-count.ensures ∙ ap (λ len. blocks_for w (len + c.args.n)) (sym (length_from_view _ _ _ _ _ c.self.view_is)) in
-    Grows-kept w (length c.args.self.now.values + c.args.n) _ _ _ _ _ _ _ _ _ pos (omega (arith, c.requires)) count c.self.view_is inside.holds_values c.reserve_shared.ensures.items c.reserve_shared.ensures.capacity.reserves
+    Grows-kept _ _ _ _ _ _ _ _ _ _ _ _ _ _ _ g.met.B.BitBlock.width_law.positive c.self.invariant (omega arith) (omega arith) c.self.view_is
+    (omega (arith, c.requires)) c.block_count-count.ensures (omega (arith, length_from_view _ _ _ _ _ c.self.view_is)) c.reserve_shared.ensures.items c.reserve_shared.ensures.capacity.reserves

@@ -1,9 +1,9 @@
-use Rattle.std.proofs.Common.{◌≡◌, ◌≤◌, ◌*◌, ◌^◌, ◌-◌, ℕ, ◌∙◌, length, vec_capacity, min, refl, sym, ap, arith}
+use Rattle.std.proofs.Common.{◌≡◌, ◌≤◌, ◌*◌, ◌^◌, ◌-◌, ℕ, ◌∙◌, length, vec_capacity, min, refl, ap, arith}
 use Rattle.bit_words.specs.Bits.{blocks_for, capacity_of}
 use Rattle.bit_words.specs.Summary.{shared_capacity}
 use Rattle.bit_words.proofs.CapacityLemmas.{shared_enough, shared_le, capacity_le}
-use Rattle.bit_words.proofs.SummaryLemmas.{stored_length}
-use Rattle.bit_words.proofs.VectorLemmas.{length_from_view, capacity_from_view, blocks_for-none}
+use Rattle.bit_words.proofs.SummaryLemmas.{none_stored, stored_length}
+use Rattle.bit_words.proofs.VectorLemmas.{length_from_view, capacity_from_view}
 use Rattle.bit_words.proofs.bit_vec.BitVec.shrink_to_fit.Given.{Over}
 use Rattle.bit_words.proofs.bit_vec.BitVec.shrink_to_fit.Goals.{After-shrink_shared_capacity, After-saturating_mul}
 use Rattle.bit_words.proofs.bit_vec.BitVec.shrink_to_fit.Goals as goal
@@ -58,9 +58,7 @@ returns-then-capacity-saturating_mul g c =
       capacity = lowered g at.After-shrink_shared_capacity;
       fits = c.capacity.ensures.fits;
       empty = λ none.
-          let len : c.self.inside.len ≡ 0 = rw (length_from_view _ _ _ _ _ c.self.view_is) at none in
-          let blocks : length c.self.inside.blocks.items ≡ 0 = c.self.invariant.packed.count ∙ ap (blocks_for w) len ∙ sym (blocks_for-none w g.met.B.BitBlock.width_law.positive) in
-          let none_left = c.shrink_shared_capacity.ensures.empty blocks in
+          let none_left = c.shrink_shared_capacity.ensures.empty (none_stored _ _ _ _ _ _ _ _ g.met.B.BitBlock.width_law.positive c.self.invariant c.self.view_is none).0 in
           let capacity : c.capacity.result ≡ capacity_of w 0 = c.capacity.ensures.value ∙ ap (capacity_of w) (let shared : shared_capacity w (vec_capacity c.shrink_shared_capacity.new.blocks) (vec_capacity c.shrink_shared_capacity.new.summary) ≡ 0 = omega (arith, none_left) in shared) in
           absurd (omega (arith, capacity));
     }

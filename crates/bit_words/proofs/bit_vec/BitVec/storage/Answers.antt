@@ -1,20 +1,11 @@
-use Rattle.std.proofs.Common.{◌≡◌, map, length, arith}
-use Rattle.std.proofs.lemmas.List.{length-map}
-use Rattle.bit_words.specs.Bits.{blocks_for}
-use Rattle.bit_words.proofs.StorageLemmas.{blocks-values_of}
-use Rattle.bit_words.proofs.SummaryLemmas.{stored_within}
-use Rattle.bit_words.proofs.VectorLemmas.{numbers_below, is_within_capacity}
+use Rattle.std.proofs.Common.{arith}
+use Rattle.bit_words.proofs.GrowthLemmas.{stored_within_capacity}
+use Rattle.bit_words.proofs.SummaryLemmas.{packed_blocks}
 use Rattle.bit_words.proofs.bit_vec.BitVec.storage.Goals as goal
 
 pub returns-clause-numbers : goal.returns-clause-numbers
 returns-clause-numbers g c =
-    let w = g.B.BitBlock.width in
-    let f = g.B.BitBlock.number in
-    let xs = c.self.inside.blocks.items in
-    let count : length (map f xs) ≡ blocks_for w c.self.inside.len = rw length-map c.self.invariant.packed.count in
-    let below = numbers_below w f g.B.BitBlock.is_block xs (λ x is. (g.met.B.BitBlock.number_law x is).0) c.self.invariant.packed.each in
-    rw (c.deref.ensures.value, ← c.self.view_is) (blocks-values_of w (map f xs) c.self.inside.len g.met.B.BitBlock.width_law.positive count below c.self.invariant.packed.tail)
+    rw (c.deref.ensures.value, ← c.self.view_is) (packed_blocks _ _ _ _ _ g.met.B.BitBlock.width_law.positive (λ x is. (g.met.B.BitBlock.number_law x is).0) c.self.invariant.packed)
 
 pub returns-clause-fits : goal.returns-clause-fits
-returns-clause-fits g c =
-    is_within_capacity _ _ _ _ _ _ _ g.met.B.BitBlock.width_law.positive c.self.invariant.packed (stored_within _ _ _ _ _ _ _ _ g.met.B.BitBlock.width_law.positive c.self.invariant (omega arith) (omega arith)) c.self.view_is
+returns-clause-fits g c = stored_within_capacity _ _ _ _ _ _ _ _ _ g.met.B.BitBlock.width_law.positive c.self.invariant (omega arith) (omega arith) c.self.view_is

@@ -2,56 +2,26 @@ use Rattle.std.proofs.Common.{◌≡◌, ◌≢◌, ℕ, ◌+◌, ◌*◌, ◌<�
 use Rattle.std.proofs.lemmas.List.{length-map}
 use Rattle.bit_words.specs.Digits.{is_one}
 use Rattle.bit_words.specs.Summary.{is_used}
-use Rattle.bit_words.proofs.MergeLemmas.{merged_none, merged_more}
+use Rattle.bit_words.proofs.MergeLemmas.{merged_more}
 use Rattle.bit_words.proofs.SummaryLemmas.{summary_put}
 use Rattle.bit_words.proofs.summary.merges.merge_chunks.Goals as goal
-
-pub loop-q-init : goal.loop-q-init
-loop-q-init g c = record {
-  has = merged_none _ _ _ _ _ _ _ _ c.requires.can.each (omega arith);
-  done = λ p j below index. absurd (omega arith);
-  past = λ p from. refl;
-  each_sum = c.requires.each_sum;
-  summary_len = omega arith;
-  steps = omega arith;
-}
-
-pub merge_chunk-digits-requires-clause-in_others : goal.merge_chunk-digits-requires-clause-in_others
-merge_chunk-digits-requires-clause-in_others g c =
-    let below : c.loop-q.q + 1 ≤ c.args.chunks = omega arith in
-    let le = mul-le-mul_right g.B.BitBlock.width below in
-    omega (arith, le, c.requires.in_others)
 
 pub loop-q-preserved : goal.loop-q-preserved
 loop-q-preserved g c =
     let w = g.B.BitBlock.width in
-    let f = g.B.BitBlock.number in
     let q = c.loop-q.q in
-    let ns = map f c.merge_chunk-digits.new.blocks in
-    let ss = map f c.loop-q.summary in
+    let ns = map g.B.BitBlock.number c.merge_chunk-digits.new.blocks in
+    let ss = map g.B.BitBlock.number c.loop-q.summary in
     let within : q < length ss = rw length-map (omega arith) in
-    let chunk = c.merge_chunk-digits.ensures.has in
-    let put = c.put_in.ensures.numbers in
     let done : (p j : ℕ) → p < q → j < w → is_one (get_or ss p 0) j ≡ is_used ns (p * w + j) = λ p j below index.
     let first : p + 1 ≤ q = omega arith in
     let le = mul-le-mul_right w first in
-    c.loop-q.invariant.done p j below index ∙ ap (λ m. not (m == 0)) (sym (chunk.merged.before (p * w + j) (omega (arith, le)))) in
+    c.loop-q.invariant.done p j below index ∙ ap (λ m. not (m == 0)) (sym (c.merge_chunk-digits.ensures.has.merged.before (p * w + j) (omega (arith, le)))) in
     record {
-      has = merged_more _ _ _ _ 0 (q * w) ((q + 1) * w) _ _ _ _ _ _ (omega arith) (omega arith) refl refl c.loop-q.invariant.has chunk;
-      done = summary_put w ns ss _ q _ within put c.merge_chunk-digits.ensures.digits done;
-      past = λ p from. let other : p ≢ q = omega arith in ap (λ xs. get_or xs p 0) put ∙ get_or-set_other ss q p _ 0 other ∙ c.loop-q.invariant.past p (omega arith);
+      has = merged_more _ _ _ _ 0 (q * w) ((q + 1) * w) _ _ _ _ _ _ (omega arith) (omega arith) refl refl c.loop-q.invariant.has c.merge_chunk-digits.ensures.has;
+      done = summary_put w ns ss _ q _ within c.put_in.ensures.numbers c.merge_chunk-digits.ensures.digits done;
+      past = λ p from. let other : p ≢ q = omega arith in ap (λ xs. get_or xs p 0) c.put_in.ensures.numbers ∙ get_or-set_other ss q p _ 0 other ∙ c.loop-q.invariant.past p (omega arith);
       each_sum = c.put_in.ensures.each;
       summary_len = omega arith;
       steps = omega arith;
     }
-
-pub returns-clause-has : goal.returns-clause-has
-returns-clause-has g c =
-    let end : c.loop-q.q ≡ c.args.chunks = omega arith in
-    rw end at c.loop-q.invariant.has
-
-pub put_in-requires-clause-in_bounds : goal.put_in-requires-clause-in_bounds
-put_in-requires-clause-in_bounds g c = omega arith
-
-pub loop-q-smaller : goal.loop-q-smaller
-loop-q-smaller g c = omega arith

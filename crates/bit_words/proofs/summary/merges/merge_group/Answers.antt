@@ -1,19 +1,7 @@
-use Rattle.std.proofs.Common.{◌≡◌, ◌+◌, ◌<◌, ◌∙◌, ◌==◌, not, refl, ap, arith}
-use Rattle.bit_words.proofs.MergeLemmas.{merged_none, merged_more}
-use Rattle.bit_words.proofs.UsedLemmas.{not_yet, says_kept, says_more, says_none}
+use Rattle.std.proofs.Common.{◌+◌, ◌∙◌, ◌==◌, not, refl, ap, arith}
+use Rattle.bit_words.proofs.MergeLemmas.{merged_more}
+use Rattle.bit_words.proofs.UsedLemmas.{says_kept, says_more}
 use Rattle.bit_words.proofs.summary.merges.merge_group.Goals as goal
-
-pub loop-j-init : goal.loop-j-init
-loop-j-init g c = record {
-  has = merged_none _ _ _ _ _ _ _ _ c.requires.can.each (omega arith);
-  says = says_none _ _ _ _ _ _ c.zero-digits.ensures.of_block c.zero-digits.ensures.of_number;
-  steps = omega arith;
-}
-
-pub with_one_if-digits-requires-clause-clear : goal.with_one_if-digits-requires-clause-clear
-with_one_if-digits-requires-clause-clear g c =
-    let index : c.loop-j.j < g.B.BitBlock.width = omega (arith, c.requires.within) in
-    c.loop-j.invariant.says.digit c.loop-j.j index ∙ not_yet c.loop-j.j _
 
 pub loop-j-preserved : goal.loop-j-preserved
 loop-j-preserved g c =
@@ -26,8 +14,3 @@ loop-j-preserved g c =
       says = says_more _ _ _ start j _ _ _ (says_kept _ _ _ start j _ _ _ one.merged.before c.loop-j.invariant.says) c.with_one_if-digits.ensures.of_block (c.with_one_if-digits.ensures.same ∙ used) c.with_one_if-digits.ensures.others;
       steps = omega arith;
     }
-
-pub returns : goal.returns
-returns g c =
-    let end : c.loop-j.j ≡ c.args.count = omega arith in
-    record { has = rw end at c.loop-j.invariant.has; says = rw end at c.loop-j.invariant.says; steps = omega arith }

@@ -1,14 +1,7 @@
-use Rattle.std.proofs.Common.{◌≡◌, ◌+◌, ◌*◌, refl, arith}
-use Rattle.bit_words.proofs.MergeLemmas.{merged_none, merged_more}
-use Rattle.bit_words.proofs.UsedLemmas.{says_group, says_kept, says_none}
+use Rattle.std.proofs.Common.{◌+◌, ◌*◌, refl, arith}
+use Rattle.bit_words.proofs.MergeLemmas.{merged_more}
+use Rattle.bit_words.proofs.UsedLemmas.{says_group, says_kept}
 use Rattle.bit_words.proofs.summary.merges.merge_groups.Goals as goal
-
-pub loop-group-init : goal.loop-group-init
-loop-group-init g c = record {
-  has = merged_none _ _ _ _ _ _ _ _ c.requires.can.each (omega arith);
-  says = says_none _ _ _ _ _ _ c.zero-digits.ensures.of_block c.zero-digits.ensures.of_number;
-  steps = omega arith;
-}
 
 pub loop-group-preserved : goal.loop-group-preserved
 loop-group-preserved g c =
@@ -20,8 +13,3 @@ loop-group-preserved g c =
       says = says_group _ _ _ start (start + index) index 32 _ _ _ _ _ _ refl (omega arith) (says_kept _ _ _ start index _ _ _ some.merged.before c.loop-group.invariant.says) c.merge_group-more.ensures.says c.shift_left.ensures.of_digits c.block_or-digits.ensures.of_digits c.block_or-digits.ensures.of_block;
       steps = omega arith;
     }
-
-pub returns : goal.returns
-returns g c =
-    let end : c.loop-group.group ≡ c.args.groups = omega arith in
-    record { has = rw end at c.loop-group.invariant.has; says = rw end at c.loop-group.invariant.says; steps = omega arith }

@@ -24,11 +24,10 @@ pub returns-clause-summary : goal.returns-clause-summary
 returns-clause-summary g c =
     let w = g.B.BitBlock.width in
     let f = g.B.BitBlock.number in
-    let pos = g.met.B.BitBlock.width_law.positive in
     let own = c.merge_each.ensures.has in
     let made = c.merge_each-2.ensures.has in
-    let each = merges_of_values _ w f _ _ _ _ pos c.requires.can.fewer own in
-    let summary = merges_of_values _ w f _ _ _ _ pos (fewer g (goal.at.returns-clause-summary g c).After-merge_each) made in
+    let each = merges_of_values _ w f _ _ _ _ g.met.B.BitBlock.width_law.positive c.requires.can.fewer own in
+    let summary = merges_of_values _ w f _ _ _ _ g.met.B.BitBlock.width_law.positive (fewer g (goal.at.returns-clause-summary g c).After-merge_each) made in
     summary_of_digits w f _ c.merge_each.new.blocks c.merge_each-2.new.blocks made.each (rw own.len (omega (arith, made.len, c.requires.summary.packed.count))) (omega (arith, own.len, c.requires.summary.packed.fits)) (λ k.
     summary k
     ∙ sym (union_use w k f g.B.BitBlock.is_block c.args.blocks.now c.args.others.now c.merge_each.new.blocks c.args.summary.now c.args.other_summary.now (λ x is. (g.met.B.BitBlock.number_law x is).0) c.requires.can.each c.requires.can.others own.each c.requires.summary c.requires.other_summary each))

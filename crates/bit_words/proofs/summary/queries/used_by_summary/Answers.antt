@@ -1,7 +1,6 @@
 use Rattle.std.proofs.Common.{◌≡◌, ◌*◌, ◌^◌, ◌-◌, min, length, length-take, sym, ap, ◌∙◌, ⊎_elim, arith}
 use Rattle.std.proofs.lemmas.Bool.{cases_lt}
 use Rattle.bit_words.proofs.ZeroLemmas.{front_read, zero_past_chunks}
-use Rattle.bit_words.proofs.SummaryLemmas.{long_from_test}
 use Rattle.bit_words.proofs.summary.queries.used_by_summary.Goals as goal
 
 pub returns-clause-zeros : goal.returns-clause-zeros
@@ -11,7 +10,7 @@ returns-clause-zeros g c = λ k past.
     let is_block = g.B.BitBlock.is_block in
     let xs = c.args.blocks.now in
     let end = c.min-end.result in
-    let long = long_from_test w (length xs) c.is_short.result c.is_short.ensures c.if-is_short.false in
+    let long = c.is_short.ensures.long c.if-is_short.false in
     let at : end ≡ min (min (c.used_blocks-chunks.result * w) (2 ^ 64 - 1)) (length xs) =
     c.min-end.ensures ∙ ap (λ n. min n (length xs)) (c.saturating_mul.ensures ∙ ap (λ n. min (c.used_blocks-chunks.result * n) (2 ^ 64 - 1)) c.bits.ensures) in
     ⊎_elim

@@ -9,7 +9,6 @@ use Rattle.bit_words.proofs.summary.shared_capacity.grow_shared_capacity.Goals a
 pub returns-in_ok-reserve_blocks-clause-capacity : goal.returns-in_ok-reserve_blocks-clause-capacity
 returns-in_ok-reserve_blocks-clause-capacity g c =
     let w = g.B.BitBlock.width in
-    let pos = g.met.B.BitBlock.width_law.positive in
     let blocks = vec_capacity c.args.blocks.now in
     let summary = vec_capacity c.args.summary.now in
     let made = c.reserve_blocks-then-stored_count-capacity in
@@ -19,11 +18,11 @@ returns-in_ok-reserve_blocks-clause-capacity g c =
     record {
       reserves = record {
         ok = on_ok_weaker _ (λ (enough : c.args.count ≤ vec_capacity made.new.blocks).
-            shared_enough _ _ _ _ pos enough (rw c.stored_count-needed.ensures at c.in_ok-reserve_blocks.ensures.capacity.ok)) got.ok;
+            shared_enough _ _ _ _ g.met.B.BitBlock.width_law.positive enough (rw c.stored_count-needed.ensures at c.in_ok-reserve_blocks.ensures.capacity.ok)) got.ok;
         full = on_err_weaker _ (λ _. c.requires) got.err;
         err = on_err_weaker _ (λ (same : vec_capacity made.new.blocks ≡ blocks).
             ap (λ n. shared_capacity w n (vec_capacity c.reserve_blocks.new.blocks)) same
-            ∙ shared_by_blocks w _ _ _ pos covered (Reserves-le _ _ _ _ c.in_ok-reserve_blocks.ensures.capacity)) got.err;
+            ∙ shared_by_blocks w _ _ _ g.met.B.BitBlock.width_law.positive covered (Reserves-le _ _ _ _ c.in_ok-reserve_blocks.ensures.capacity)) got.err;
         within = λ enough. absurd (omega arith);
       };
       exact = made.ensures.exact;
@@ -35,10 +34,8 @@ returns-in_ok-reserve_blocks-clause-capacity g c =
 pub returns-in_ok-reserve_blocks-2-clause-capacity : goal.returns-in_ok-reserve_blocks-2-clause-capacity
 returns-in_ok-reserve_blocks-2-clause-capacity g c =
     let w = g.B.BitBlock.width in
-    let pos = g.met.B.BitBlock.width_law.positive in
     let blocks = vec_capacity c.args.blocks.now in
     let summary = vec_capacity c.args.summary.now in
-    let first = c.reserve_blocks-else-stored_count-capacity in
     let made = c.reserve_blocks-else-stored_count-capacity-2 in
     let counted : c.stored_count.result ≡ stored_for w blocks = rw c.capacity.ensures at c.stored_count.ensures in
     let short : summary < stored_for w blocks = omega arith in
@@ -46,11 +43,11 @@ returns-in_ok-reserve_blocks-2-clause-capacity g c =
     record {
       reserves = record {
         ok = on_ok_weaker _ (λ (enough : stored_for w c.args.count ≤ vec_capacity made.new.blocks).
-            shared_enough _ _ _ _ pos c.in_ok-reserve_blocks-2.ensures.capacity.ok enough) (rw c.stored_count-needed.ensures at got.ok);
+            shared_enough _ _ _ _ g.met.B.BitBlock.width_law.positive c.in_ok-reserve_blocks-2.ensures.capacity.ok enough) (rw c.stored_count-needed.ensures at got.ok);
         full = on_err_weaker _ (λ _. c.requires) got.err;
         err = on_err_weaker _ (λ (same : vec_capacity made.new.blocks ≡ summary).
-            ap (shared_capacity w (vec_capacity first.new.blocks)) same
-            ∙ shared_by_summary w _ _ _ pos short (Reserves-le _ _ _ _ c.in_ok-reserve_blocks-2.ensures.capacity)) got.err;
+            ap (shared_capacity w (vec_capacity c.reserve_blocks-else-stored_count-capacity.new.blocks)) same
+            ∙ shared_by_summary w _ _ _ g.met.B.BitBlock.width_law.positive short (Reserves-le _ _ _ _ c.in_ok-reserve_blocks-2.ensures.capacity)) got.err;
         within = λ enough. absurd (omega arith);
       };
       exact = λ yes. on_ok_weaker _ (λ (enough : stored_for w c.args.count ≤ vec_capacity made.new.blocks).

@@ -1,6 +1,6 @@
-use Rattle.std.proofs.Common.{ℕ, suc, ◌≡◌, ◌+◌, ◌<◌, ◌≤◌, ◌∙◌, Bool, true, false, not, None, Some, List, [], ◌∷◌, get_or, drop, length, sym, ap, ap₂, add-one, drop-cons, arith}
+use Rattle.std.proofs.Common.{ℕ, ◌≡◌, ◌+◌, ◌<◌, ◌≤◌, ◌∙◌, Bool, true, false, not, None, Some, List, [], ◌∷◌, get_or, drop, length, sym, ap, ap₂, arith}
 use Rattle.std.proofs.lemmas.Bool.{true≢false}
-use Rattle.std.proofs.lemmas.List.{length-drop, get_or-drop, drop_all}
+use Rattle.std.proofs.lemmas.List.{length-drop, get_or-drop, drop_all, drop_more}
 use Rattle.std.specs.Bool.{then_some}
 use Rattle.bit_words.proofs.bit_vec.blocks.Blocks.next_if.Given.{Over}
 use Rattle.bit_words.proofs.bit_vec.blocks.Blocks.next_if.Goals as goal
@@ -11,43 +11,32 @@ at_most_1 : (b : Bool) → bool_byte b ≤ 1
 at_most_1 true = omega arith
 at_most_1 false = omega arith
 
--- what the pull, where the block is wanted, leaves as it was
-place_kept : (g : Over) (c : Joined-wanted g) → (c.if-wanted.self-inside.at ≡ c.self.inside.at) × (c.if-wanted.self-inside.blocks.now ≡ c.self.inside.blocks.now)
-place_kept g c = elim c.if-wanted.branch [ then-wanted w ↦ (ap (λ s. s.at) w.self-inside-is, ap (λ s. s.blocks.now) w.self-inside-is) | else-wanted w ↦ (ap (λ s. s.at) w.self-inside-is, ap (λ s. s.blocks.now) w.self-inside-is) ]
-
-pull_counted : (g : Over) (c : Joined-wanted g) → c.args.wanted ≡ true → c.if-wanted.self-inside.steps ≡ c.self.inside.steps + 1
-pull_counted g c = elim c.if-wanted.branch [ then-wanted w ↦ λ on. ap (λ s. s.steps) w.self-inside-is ∙ w.tick.ensures | else-wanted w ↦ λ on. absurd (true≢false (sym on ∙ w.if-wanted.false)) ]
-
-all_kept : (g : Over) (c : Joined-wanted g) → c.args.wanted ≡ false → c.if-wanted.self-inside ≡ c.self.inside
-all_kept g c = elim c.if-wanted.branch [ then-wanted w ↦ λ off. absurd (true≢false (sym w.if-wanted.true ∙ off)) | else-wanted w ↦ λ off. w.self-inside-is ]
+-- what the pull, where the block is wanted, leaves as it was, and that it is counted
+joined : (g : Over) (c : Joined-wanted g) → (c.if-wanted.self-inside.at ≡ c.self.inside.at) × (c.if-wanted.self-inside.blocks.now ≡ c.self.inside.blocks.now)
+    × (c.args.wanted ≡ true → c.if-wanted.self-inside.steps ≡ c.self.inside.steps + 1) × (c.args.wanted ≡ false → c.if-wanted.self-inside ≡ c.self.inside)
+joined g c = elim c.if-wanted.branch [
+  | then-wanted w ↦ (ap (λ s. s.at) w.self-inside-is, ap (λ s. s.blocks.now) w.self-inside-is, λ on. ap (λ s. s.steps) w.self-inside-is ∙ w.tick.ensures, λ off. absurd (true≢false (sym w.if-wanted.true ∙ off)))
+  | else-wanted w ↦ (ap (λ s. s.at) w.self-inside-is, ap (λ s. s.blocks.now) w.self-inside-is, λ on. absurd (true≢false (sym on ∙ w.if-wanted.false)), λ off. w.self-inside-is)
+]
 
 pub overflow_add-self : goal.overflow_add-self
 overflow_add-self g c =
     let most : c.from.result ≤ 1 = rw c.from.ensures (at_most_1 c.args.wanted) in
-    let i = c.if-wanted.self-inside.at in
-    let xs = c.if-wanted.self-inside.blocks.now in
-    record { fits = omega (arith, most, length-drop i xs, ap length c.as_slice.ensures, c.in-Some.ensures.item.3.0) }
+    record { fits = omega (arith, most, length-drop c.if-wanted.self-inside.at c.if-wanted.self-inside.blocks.now, ap length c.as_slice.ensures, c.in-Some.ensures.item.3.0) }
 
 pub invariant_of-self-2 : goal.invariant_of-self-2
 invariant_of-self-2 g c =
     let most : c.from.result ≤ 1 = rw c.from.ensures (at_most_1 c.args.wanted) in
-    let i = c.if-wanted.self-inside.at in
-    let xs = c.if-wanted.self-inside.blocks.now in
-    omega (arith, most, length-drop i xs, ap length c.as_slice.ensures, c.in-Some.ensures.item.3.0)
+    omega (arith, most, length-drop c.if-wanted.self-inside.at c.if-wanted.self-inside.blocks.now, ap length c.as_slice.ensures, c.in-Some.ensures.item.3.0)
 
 from_first : {X : Type 0} (i k : ℕ) (xs ys : List X) (x : X) → ys ≡ drop i xs → 0 < length ys → x ≡ get_or ys 0 x → k ≡ 1 → ys ≡ x ∷ drop (i + k) xs
 from_first i k xs ys x rest some first one =
-    let below : i < length xs = omega (arith, length-drop i xs, ap length rest, some) in
-    let here : i + 0 ≡ i = omega arith in
-    let is : x ≡ get_or xs i x = first ∙ ap (λ zs. get_or zs 0 x) rest ∙ get_or-drop i xs 0 x ∙ ap (λ j. get_or xs j x) here in
-    rw (one, add-one) (rest ∙ drop-cons xs i x below ∙ ap (λ y. y ∷ drop (suc i) xs) (sym is))
+    let is : x ≡ get_or xs i x = first ∙ ap (λ zs. get_or zs 0 x) rest ∙ get_or-drop i xs 0 x ∙ ap (λ j. get_or xs j x) (let e : i + 0 ≡ i = omega arith in e) in
+    rw one (rest ∙ drop_more xs i x (omega (arith, length-drop i xs, ap length rest, some)) ∙ ap (λ y. y ∷ drop (i + 1) xs) (sym is))
 
 pub returns : goal.returns
 returns g c =
-    let joined = (goal.at.returns g c).Joined-wanted in
-    let place = place_kept g joined in
-    let counted = pull_counted g joined in
-    let still = all_kept g joined in
+    let (at, blocks, counted, still) = joined g (goal.at.returns g c).Joined-wanted in
     let i = c.if-wanted.self-inside.at in
     let xs = c.if-wanted.self-inside.blocks.now in
     let given : c.args.wanted ≡ true → c.if-wanted-2.result ≡ c.in-Some.next.now = elim c.if-wanted-2.branch [ then-wanted-2 w ↦ λ on. w.result-is | else-wanted-2 w ↦ λ on. absurd (true≢false (sym on ∙ w.if-wanted-2.false)) ] in
@@ -56,7 +45,7 @@ returns g c =
       pulled = λ on.
           let one : c.from.result ≡ 1 = c.from.ensures ∙ ap bool_byte on in
           record {
-            item = rw (given on) (sym (ap (λ s. s.left) c.self.view_is) ∙ sym (ap₂ drop place.0 place.1) ∙ sym c.as_slice.ensures ∙ from_first i c.from.result xs c.as_slice.result.now _ c.as_slice.ensures c.in-Some.ensures.item.3.0 c.in-Some.ensures.item.1 one);
+            item = rw (given on) (sym (ap (λ s. s.left) c.self.view_is) ∙ sym (ap₂ drop at blocks) ∙ sym c.as_slice.ensures ∙ from_first i c.from.result xs c.as_slice.result.now _ c.as_slice.ensures c.in-Some.ensures.item.3.0 c.in-Some.ensures.item.1 one);
             counted = omega (arith, counted on, ap (λ s. s.pulls) c.self.view_is);
           };
       zeros = λ off. zero off;
@@ -67,16 +56,13 @@ returns g c =
 
 pub returns-in_default : goal.returns-in_default
 returns-in_default g c =
-    let joined = (goal.at.returns-in_default g c).Joined-wanted in
-    let place = place_kept g joined in
-    let counted = pull_counted g joined in
-    let still = all_kept g joined in
+    let (at, blocks, counted, still) = joined g (goal.at.returns-in_default g c).Joined-wanted in
     let none : c.as_slice.result.now ≡ [] = drop_all 0 c.as_slice.result.now c.in_default.ensures.item.3 in
     record {
       pulled = λ on.
           let nothing : c.then_some.result ≡ None = c.then_some.ensures ∙ ap (λ b. then_some (not b) c.zero.result) on in
           rw nothing (record {
-            item = (sym (ap (λ s. s.left) c.self.view_is) ∙ sym (ap₂ drop place.0 place.1) ∙ sym c.as_slice.ensures ∙ none, sym c.as_slice.ensures ∙ none);
+            item = (sym (ap (λ s. s.left) c.self.view_is) ∙ sym (ap₂ drop at blocks) ∙ sym c.as_slice.ensures ∙ none, sym c.as_slice.ensures ∙ none);
             counted = omega (arith, counted on, ap (λ s. s.pulls) c.self.view_is);
           });
       zeros = λ off.

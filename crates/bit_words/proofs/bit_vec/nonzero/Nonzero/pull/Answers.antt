@@ -23,8 +23,7 @@ item : (g : Over) (c : After-at-block g) (zero : Bool) → (g.B.BitBlock.number 
     ≡ (if zero then left_from g.B.BitBlock.number (next_at g.B.BitBlock.width c.next_block.new.self.index (g.B.BitBlock.number c.next_block.new.self.bits)) c.loop-k.self-inside.blocks.now
     else (c.in-Some.k, c.at-block.result) ∷ left_from g.B.BitBlock.number (next_at g.B.BitBlock.width c.next_block.new.self.index (g.B.BitBlock.number c.next_block.new.self.bits)) c.loop-k.self-inside.blocks.now)
 item g c zero test =
-    let number = g.B.BitBlock.number in
-    let rest = left_from number (next_at g.B.BitBlock.width c.next_block.new.self.index (number c.next_block.new.self.bits)) c.loop-k.self-inside.blocks.now in
+    let rest = left_from g.B.BitBlock.number (next_at g.B.BitBlock.width c.next_block.new.self.index (g.B.BitBlock.number c.next_block.new.self.bits)) c.loop-k.self-inside.blocks.now in
     sym c.loop-k.invariant.same
     ∙ c.in-Some.ensures.found.item c.at-block.result c.at-block.ensures
     ∙ ap (λ b. if b then rest else (c.in-Some.k, c.at-block.result) ∷ rest) test
@@ -53,13 +52,12 @@ is_nonzero-requires g c = lawful g (goal.at.is_nonzero-requires g c).After-at-bl
 pub returns-then-is_nonzero-clause-steps : goal.returns-then-is_nonzero-clause-steps
 returns-then-is_nonzero-clause-steps g c =
     let before = c.loop-k.invariant in
-    let step = c.in-Some.ensures.found in
     record {
       item = item g (goal.at.returns-then-is_nonzero-clause-steps g c).After-at-block false (turned _ _ (sym c.is_nonzero.ensures ∙ c.if-is_nonzero.true));
       same = before.kept;
       counted = before.counted;
-      goes_on = omega (arith, before.goes_on, step.goes_on);
-      summary = omega (arith, before.pulled, step.summary);
+      goes_on = omega (arith, before.goes_on, c.in-Some.ensures.found.goes_on);
+      summary = omega (arith, before.pulled, c.in-Some.ensures.found.summary);
     }
 
 pub returns-then-is_nonzero-clause-found : goal.returns-then-is_nonzero-clause-found
@@ -74,14 +72,13 @@ loop-k-smaller g c = let step = c.in-Some.ensures.found in omega (arith, step.on
 pub loop-k-preserved : goal.loop-k-preserved
 loop-k-preserved g c =
     let before = c.loop-k.invariant in
-    let step = c.in-Some.ensures.found in
     record {
       walk = c.in-Some.ensures.walk;
       same = sym (item g (goal.at.loop-k-preserved g c).After-at-block true (turned _ _ (sym c.is_nonzero.ensures ∙ c.if-is_nonzero.false)));
       kept = before.kept;
       counted = before.counted;
-      pulled = omega (arith, before.pulled, step.summary);
-      goes_on = omega (arith, before.goes_on, step.goes_on);
+      pulled = omega (arith, before.pulled, c.in-Some.ensures.found.summary);
+      goes_on = omega (arith, before.goes_on, c.in-Some.ensures.found.goes_on);
     }
 
 pub returns-clause-steps : goal.returns-clause-steps

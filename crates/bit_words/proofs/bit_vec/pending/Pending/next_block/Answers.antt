@@ -1,13 +1,15 @@
 use Rattle.std.proofs.Common.{◌≡◌, ℕ, ◌+◌, ◌-◌, ◌*◌, ◌<◌, ◌≤◌, ◌==◌, ◌∷◌, if◌then◌else◌, List, [], Option, None, Some, length, refl, sym, ap, ◌∙◌, subst, arith, ⊎_elim, mul-le-mul_right}
 use Rattle.std.proofs.lemmas.Bool.{cases_lt}
+use Rattle.std.proofs.lemmas.Bool.Decides.{nat_tests}
+use Rattle.std.proofs.lemmas.List.{drop_all}
 use Rattle.std.specs.Iterator.{YieldsFirst}
 use Rattle.bit_words.specs.Bits.{blocks_for}
+use Rattle.bit_words.specs.Nonzero.{nonzero_from}
 use Rattle.bit_words.specs.Pending.{IsPending, IsStoredFrom, left_from, next_at}
 use Rattle.bit_words.proofs.BitsLemmas.{blocks_for-least}
 use Rattle.bit_words.proofs.Masks.{is_one-bit}
 use Rattle.bit_words.proofs.NextAtLemmas.{next_at-lowest, next_at-zero}
-use Rattle.bit_words.proofs.PendingLemmas.{IsInHand-taken, IsInHand-zero, count_past, count_pulled, left-covered, left-end, left-here, left-taken, stored_ended, stored_past, stored_some, zeros_passed}
-use Rattle.bit_words.proofs.ZeroLemmas.{some_from_test}
+use Rattle.bit_words.proofs.PendingLemmas.{IsInHand-taken, IsInHand-zero, count_by, count_past, left-covered, left-here, left-taken, stored_ended, stored_past, stored_some, zeros_passed}
 use Rattle.bit_words.proofs.bit_vec.pending.Pending.next_block.Given.{Over}
 use Rattle.bit_words.proofs.bit_vec.pending.Pending.next_block.Goals.{After-bits}
 use Rattle.bit_words.proofs.bit_vec.pending.Pending.next_block.Goals as goal
@@ -40,69 +42,63 @@ passed g c =
     let pos = g.met.B.BitBlock.width_law.positive in
     let xs = c.args.blocks.now in
     let it = c.loop-self.self in
-    let before = c.loop-self.invariant in
+    let hand = c.loop-self.invariant.walk.hand in
+    let before = c.loop-self.invariant.walk.stored in
     let n = c.pass_zero_chunks.result in
     let zeros = c.pass_zero_chunks.ensures in
     let start = it.index + w in
-    let used_up : number it.bits ≡ 0 = (g.met.B.BitBlock.eq_law it.bits c.zero.result before.walk.hand.of_block c.zero.ensures.of_block).0 (sym c.eq.ensures ∙ c.loop-self-test.true) ∙ c.zero.ensures.of_number in
+    let used_up : number it.bits ≡ 0 = grind (arith, nat_tests, c.is_nonzero.ensures, c.loop-self-test.true) in
     let at_end = next_at-zero w it.index (number it.bits) used_up in
-    let e : start + n * w ≡ reached g c + w = let product = ap (λ b. n * b) c.bits.ensures in omega (arith, product) in
-    let within : reached g c ≤ length xs =
-    let most = mul-le-mul_right w zeros.there in
     let product = ap (λ b. n * b) c.bits.ensures in
+    let e : reached g c + w ≡ start + n * w = omega (arith, product) in
+    let within : reached g c ≤ length xs =
     ⊎_elim
-    (λ some. let few = before.walk.stored.few (omega (arith, some, zeros.there)) in omega (arith, few, most, product))
-    (λ none. let zero : n * w ≡ 0 * w = ap (λ k. k * w) (let e : n ≡ 0 = omega (arith, none) in e) in omega (arith, zero, product, before.walk.hand.within))
+    (λ some. let few = before.few (omega (arith, some, zeros.there)) in omega (arith, few, mul-le-mul_right w zeros.there, product))
+    (λ none. let zero : n * w ≡ 0 * w = ap (λ k. k * w) (let e : n ≡ 0 = omega (arith, none) in e) in omega (arith, zero, product, hand.within))
     (cases_lt 0 n) in
     record {
       used_up = used_up;
       walk = record {
-        hand = IsInHand-zero w number is_block (reached g c) it.bits xs before.walk.hand.each before.walk.hand.fits before.walk.hand.of_block used_up within;
-        stored = subst (λ p. IsStoredFrom w number is_block p xs c.pass_zero_chunks.new.summary.left) e (stored_past w number is_block n start xs it.summary.left c.pass_zero_chunks.new.summary.left pos before.walk.stored (λ _. zeros.there) zeros.left);
+        hand = IsInHand-zero w number is_block (reached g c) it.bits xs hand.each hand.fits hand.of_block used_up within;
+        stored = stored_past w number is_block n start (reached g c + w) xs it.summary.left c.pass_zero_chunks.new.summary.left pos e before (λ _. zeros.there) zeros.left;
       };
       at = omega (arith, at_end, e);
       same =
           ap (λ p. left_from number p xs) at_end
-          ∙ zeros_passed w number is_block n start xs it.summary.left pos before.walk.stored zeros.there zeros.zeros
-          ∙ ap (λ p. left_from number p xs) e;
-      count =
-          count_past w number is_block n start xs it.summary.left pos before.walk.stored zeros.there
-          ∙ ap (λ p. n + blocks_for w (length xs - p)) e;
+          ∙ zeros_passed w number is_block n start (reached g c + w) xs it.summary.left pos e before zeros.there zeros.zeros;
+      count = count_past w number is_block n start (reached g c + w) xs it.summary.left pos e before zeros.there;
     }
 
-pub returns-then-blocks-self-clause-walk : goal.returns-then-blocks-self-clause-walk
-returns-then-blocks-self-clause-walk g c =
-    let at = (goal.at.returns-then-blocks-self-clause-walk g c).After-bits in
-    let w = g.B.BitBlock.width in
-    let is_stored = IsStoredFrom w g.B.BitBlock.number g.B.BitBlock.is_block (reached g at + w) c.args.blocks.now in
-    let to = passed g at in
-    let end : length c.args.blocks.now ≤ reached g at + w = omega (arith, c.if-blocks-self.true, c.bits-in-loop-self.ensures) in
-    let none = stored_ended w g.B.BitBlock.number g.B.BitBlock.is_block (reached g at + w) c.args.blocks.now c.pass_zero_chunks.new.summary.left to.walk.stored end in
-    record {
-      hand = to.walk.hand;
-      stored = subst is_stored (none ∙ sym (none_past_end c.pass_zero_chunks.new.summary.left c.next-end.new.self.left c.next-end.result c.next-end.ensures.steps.item none)) to.walk.stored;
-    }
-
-pub returns-then-blocks-self-clause-found : goal.returns-then-blocks-self-clause-found
-returns-then-blocks-self-clause-found g c =
-    let at = (goal.at.returns-then-blocks-self-clause-found g c).After-bits in
+pub returns-then-blocks-self : goal.returns-then-blocks-self
+returns-then-blocks-self g c =
+    let at = (goal.at.returns-then-blocks-self g c).After-bits in
     let w = g.B.BitBlock.width in
     let number = g.B.BitBlock.number in
+    let is_block = g.B.BitBlock.is_block in
     let xs = c.args.blocks.now in
+    let start = reached g at + w in
+    let left = c.pass_zero_chunks.new.summary.left in
     let before = c.loop-self.invariant in
     let to = passed g at in
-    let zeros = c.pass_zero_chunks.ensures in
-    let pull = c.next-end.ensures.steps.counted in
-    let end : length xs ≤ reached g at + w = omega (arith, c.if-blocks-self.true, c.bits-in-loop-self.ensures) in
-    let ended = left-end number (reached g at + w) xs end in
-    let last : blocks_for w (length xs - (reached g at + w)) ≤ 0 = blocks_for-least w (length xs - (reached g at + w)) 0 g.met.B.BitBlock.width_law.positive (omega (arith, end)) in
+    let pulls = c.pass_zero_chunks.ensures.pulls in
+    let pull = c.next-end.ensures.steps in
+    let end : length xs ≤ start = omega (arith, c.if-blocks-self.true, c.bits-in-loop-self.ensures) in
+    let none = stored_ended w number is_block start xs left to.walk.stored end in
+    let ended = ap (nonzero_from number start) (drop_all start xs end) in
+    let last : blocks_for w (length xs - start) ≤ 0 = blocks_for-least w (length xs - start) 0 g.met.B.BitBlock.width_law.positive (omega (arith, end)) in
     record {
-      inside = tt;
-      item = tt;
-      onward = tt;
-      goes_on = omega (arith, before.goes_on, pull, zeros.pulls);
-      summary = (omega (arith, before.pulled, pull, zeros.pulls, to.count, last), omega (arith, last));
-      ended = λ _. (before.same ∙ to.same ∙ ended, ap (λ p. left_from number p xs) (next_at-zero w (reached g at) (number c.loop-self.self.bits) to.used_up) ∙ ended);
+      walk = record {
+        hand = to.walk.hand;
+        stored = subst (IsStoredFrom w number is_block start xs) (none ∙ sym (none_past_end left c.next-end.new.self.left c.next-end.result pull.item none)) to.walk.stored;
+      };
+      found = record {
+        inside = tt;
+        item = tt;
+        onward = tt;
+        goes_on = omega (arith, before.goes_on, pull.counted, pulls);
+        summary = (omega (arith, before.pulled, pull.counted, pulls, to.count, last), omega (arith, last));
+        ended = λ _. (before.same ∙ to.same ∙ ended, ap (λ p. left_from number p xs) (next_at-zero w (reached g at) (number c.loop-self.self.bits) to.used_up) ∙ ended);
+      };
     }
 
 pub pull_used-self-requires-clause-stored : goal.pull_used-self-requires-clause-stored
@@ -120,10 +116,9 @@ loop-self-preserved g c =
     let to = passed g at in
     let start = reached g at + w in
     let pull = c.pull_used-self.ensures in
-    let next = c.pull_used-self.result in
+    let left = c.pass_zero_chunks.new.summary.left in
     let more : start < length xs = omega (arith, c.if-blocks-self.false, c.bits-in-loop-self.ensures) in
     let digits = rw c.bits-in-loop-self-2.ensures at pull.digits in
-    let e : start + 1 * w ≡ start + w = omega arith in
     rw c.bits-in-loop-self-2.ensures (record {
       walk = record {
         hand = record {
@@ -134,12 +129,11 @@ loop-self-preserved g c =
           inside = digits.inside;
           covers = λ i j after to one used. digits.covers j to used;
         };
-        stored = subst (λ p. IsStoredFrom w number is_block p xs c.pull_used-self.new.summary.left) e
-            (stored_past w number is_block 1 start xs c.pass_zero_chunks.new.summary.left c.pull_used-self.new.summary.left pos to.walk.stored (stored_some w number is_block start xs c.pass_zero_chunks.new.summary.left to.walk.stored more) pull.left);
+        stored = stored_past w number is_block 1 start (start + w) xs left c.pull_used-self.new.summary.left pos (omega arith) to.walk.stored (stored_some w number is_block start xs left to.walk.stored more) pull.left;
       };
-      same = before.same ∙ to.same ∙ sym (left-covered w number is_block start start (number next) xs (omega arith) (omega arith) (λ j below. absurd (omega (arith, below))) (λ j to _ used. digits.covers j to used));
+      same = before.same ∙ to.same ∙ sym (left-covered w number is_block start start (number c.pull_used-self.result) xs (omega arith) (omega arith) (λ j below. absurd (omega (arith, below))) (λ j to _ used. digits.covers j to used));
       onward = omega (arith, before.onward, to.at);
-      pulled = omega (arith, before.pulled, pull.pulls, c.pass_zero_chunks.ensures.pulls, to.count, count_pulled w number is_block start (length xs) pos more);
+      pulled = omega (arith, before.pulled, pull.pulls, c.pass_zero_chunks.ensures.pulls, to.count, count_by w number is_block 1 start (start + w) (length xs) pos (omega arith) (omega (arith, more)));
       goes_on = omega (arith, before.goes_on, pull.pulls, c.pass_zero_chunks.ensures.pulls);
     })
 
@@ -170,53 +164,42 @@ overflow_sub-blocks-in-loop-self g c = (passed g (goal.at.overflow_sub-blocks-in
 pub loop-self-smaller : goal.loop-self-smaller
 loop-self-smaller g c = omega (arith, c.if-blocks-self.false, c.bits-in-loop-self.ensures, c.bits-in-loop-self-2.ensures, g.met.B.BitBlock.width_law.positive)
 
-pub take_lowest_one-requires-clause-of_block : goal.take_lowest_one-requires-clause-of_block
-take_lowest_one-requires-clause-of_block g c = c.loop-self.invariant.walk.hand.of_block
-
-pub take_lowest_one-requires-clause-not_zero : goal.take_lowest_one-requires-clause-not_zero
-take_lowest_one-requires-clause-not_zero g c =
-    let bits = c.loop-self.self.bits in
-    let law = (g.met.B.BitBlock.eq_law bits c.zero.result c.loop-self.invariant.walk.hand.of_block c.zero.ensures.of_block).1 in
-    some_from_test (g.B.BitBlock.number bits) _ (λ none. law (none ∙ sym c.zero.ensures.of_number)) (sym c.eq.ensures ∙ c.loop-self-test.false)
-
 pub overflow_add-result : goal.overflow_add-result
 overflow_add-result g c =
     let hand = c.loop-self.invariant.walk.hand in
     let taken = c.take_lowest_one.ensures in
-    let inside = hand.inside c.take_lowest_one.result taken.within (is_one-bit 1 (g.B.BitBlock.number c.loop-self.self.bits) c.take_lowest_one.result taken.lowest.one) in
-    record { fits = omega (arith, inside, hand.fits) }
+    record { fits = omega (arith, hand.inside c.take_lowest_one.result taken.within (is_one-bit 1 (g.B.BitBlock.number c.loop-self.self.bits) c.take_lowest_one.result taken.lowest.one), hand.fits) }
 
-pub returns-clause-walk : goal.returns-clause-walk
-returns-clause-walk g c =
-    let taken = c.take_lowest_one.ensures in
-    let walk = c.loop-self.invariant.walk in
-    record {
-      hand = IsInHand-taken g.B.BitBlock.width g.B.BitBlock.number g.B.BitBlock.is_block c.loop-self.self.index c.take_lowest_one.result c.loop-self.self.bits c.take_lowest_one.new.block c.args.blocks.now walk.hand taken.of_block taken.lowest taken.cleared;
-      stored = walk.stored;
-    }
-
-pub returns-clause-found : goal.returns-clause-found
-returns-clause-found g c =
+pub returns : goal.returns
+returns g c =
     let w = g.B.BitBlock.width in
     let number = g.B.BitBlock.number in
+    let is_block = g.B.BitBlock.is_block in
     let xs = c.args.blocks.now in
     let it = c.loop-self.self in
     let i = c.take_lowest_one.result in
     let k = it.index + i in
     let before = c.loop-self.invariant in
+    let hand = before.walk.hand in
     let taken = c.take_lowest_one.ensures in
     let at = next_at-lowest w it.index (number it.bits) i taken.lowest taken.within in
-    let (past, rest) = left-taken w number g.B.BitBlock.is_block it.index i (number c.take_lowest_one.new.block) it.bits xs before.walk.hand taken.lowest taken.within taken.cleared in
-    let inside = before.walk.hand.inside i taken.within (is_one-bit 1 (number it.bits) i taken.lowest.one) in
+    let (past, rest) = left-taken w number is_block it.index i (number c.take_lowest_one.new.block) it.bits xs hand taken.lowest taken.within taken.cleared in
+    let inside = hand.inside i taken.within (is_one-bit 1 (number it.bits) i taken.lowest.one) in
     record {
-      inside = inside;
-      item = λ x here.
-          before.same
-          ∙ ap (λ p. left_from number p xs) at
-          ∙ left-here number k x xs inside here
-          ∙ ap (λ ys. if number x == 0 then ys else (k, x) ∷ ys) (sym rest);
-      onward = (omega (arith, before.onward, at), past);
-      goes_on = before.goes_on;
-      summary = before.pulled;
-      ended = λ none. absurd (some_is none);
+      walk = record {
+        hand = IsInHand-taken w number is_block it.index i it.bits c.take_lowest_one.new.block xs hand taken.of_block taken.lowest taken.cleared;
+        stored = before.walk.stored;
+      };
+      found = record {
+        inside = inside;
+        item = λ x here.
+            before.same
+            ∙ ap (λ p. left_from number p xs) at
+            ∙ left-here number k x xs inside here
+            ∙ ap (λ ys. if number x == 0 then ys else (k, x) ∷ ys) (sym rest);
+        onward = (omega (arith, before.onward, at), past);
+        goes_on = before.goes_on;
+        summary = before.pulled;
+        ended = λ none. absurd (some_is none);
+      };
     }
