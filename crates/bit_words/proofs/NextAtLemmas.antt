@@ -1,6 +1,5 @@
 -- The block from which a walk goes on.
-use Rattle.std.proofs.Common.{◌≡◌, ℕ, zero, suc, ◌+◌, ◌<◌, ◌≤◌, Bool, true, false, if◌then◌else◌, refl, sym, ap, ◌∙◌, arith, ⊎_elim}
-use Rattle.std.proofs.lemmas.Bool.{cases_lt, true≢false}
+use Rattle.std.proofs.Common.{◌≡◌, ℕ, zero, suc, ◌+◌, ◌<◌, ◌≤◌, Bool, true, false, ap, ◌∙◌, arith}
 use Rattle.bit_words.specs.Digits.{is_one}
 use Rattle.bit_words.specs.Lowest.{IsLowest}
 use Rattle.bit_words.specs.Pending.{first_true, next_at}
@@ -10,43 +9,22 @@ use Rattle.bit_words.proofs.Masks.{is_one-bit, is_one-zero}
 
 pub before_first : (f : ℕ → Bool) (n j : ℕ) → j < first_true f n → f j ≡ false
 before_first f zero j below = absurd (omega (arith, below))
-before_first f (suc n) j below = here (f 0) refl (before_first (λ k. f (suc k)) n) j below
-  where
-    here : (b : Bool) → f 0 ≡ b → ((j : ℕ) → j < first_true (λ k. f (suc k)) n → f (suc j) ≡ false) → (j : ℕ) → j < (if b then 0 else suc (first_true (λ k. f (suc k)) n)) → f j ≡ false
-    here true e further j below = absurd (omega (arith, below))
-    here false e further zero below = e
-    here false e further (suc j) below = further j (omega (arith, below))
+before_first f (suc n) zero below = grind arith
+before_first f (suc n) (suc j) below = grind (arith, before_first (λ k. f (suc k)) n j)
 
 pub first_most : (f : ℕ → Bool) (n : ℕ) → first_true f n ≤ n
 first_most f zero = omega arith
-first_most f (suc n) = here (f 0) (first_most (λ k. f (suc k)) n)
-  where
-    here : (b : Bool) → first_true (λ k. f (suc k)) n ≤ n → (if b then 0 else suc (first_true (λ k. f (suc k)) n)) ≤ suc n
-    here true most = omega arith
-    here false most = omega (arith, most)
+first_most f (suc n) = grind (arith, first_most (λ k. f (suc k)) n)
 
 at_first : (f : ℕ → Bool) (n : ℕ) → first_true f n < n → f (first_true f n) ≡ true
 at_first f zero within = absurd (omega (arith, within))
-at_first f (suc n) within = here (f 0) refl (at_first (λ k. f (suc k)) n) within
-  where
-    here : (b : Bool) → f 0 ≡ b → (first_true (λ k. f (suc k)) n < n → f (suc (first_true (λ k. f (suc k)) n)) ≡ true) → (if b then 0 else suc (first_true (λ k. f (suc k)) n)) < suc n → f (if b then 0 else suc (first_true (λ k. f (suc k)) n)) ≡ true
-    here true e further within = e
-    here false e further within = further (omega (arith, within))
+at_first f (suc n) within = grind (arith, at_first (λ k. f (suc k)) n)
 
 pub first_least : (f : ℕ → Bool) (n d : ℕ) → d ≤ n → ((j : ℕ) → j < d → f j ≡ false) → d ≤ first_true f n
-first_least f n d to none =
-    ⊎_elim
-    (λ below. absurd (true≢false (sym (at_first f n (omega (arith, below, to))) ∙ none (first_true f n) below)))
-    (λ reached. reached)
-    (cases_lt (first_true f n) d)
+first_least f n d to none = grind (arith, at_first f n, none (first_true f n))
 
 pub first_is : (f : ℕ → Bool) (n i : ℕ) → i < n → f i ≡ true → ((j : ℕ) → j < i → f j ≡ false) → first_true f n ≡ i
-first_is f n i within here none =
-    let least = first_least f n i (omega (arith, within)) none in
-    ⊎_elim
-    (λ past. absurd (true≢false (sym here ∙ before_first f n i past)))
-    (λ reached. omega (arith, least, reached))
-    (cases_lt i (first_true f n))
+first_is f n i within here none = grind (arith, first_least f n i, before_first f n i)
 
 -- where there is no 1 a walk goes on past the digits
 pub next_at-zero : (w index m : ℕ) → m ≡ 0 → next_at w index m ≡ index + w

@@ -1,6 +1,6 @@
 -- The walk over the blocks that are not 0, by the pending bits of a summary.
-use Rattle.std.proofs.Common.{◌≡◌, ◌≢◌, ℕ, zero, suc, ◌+◌, ◌-◌, ◌*◌, ◌/◌, ◌%◌, ◌^◌, ◌<◌, ◌≤◌, true, false, not, leb, nat_lt, ◌&&◌, if◌then◌else◌, ◌==◌, List, [], ◌∷◌, map, drop, length, slice_get, Some, get_or, All, refl, sym, ap, subst, ◌∙◌, arith, ⊎_elim, mul-le-mul_right}
-use Rattle.std.proofs.lemmas.Bool.{cases_lt, cases_eq, false_from_ne_true, true≢false}
+use Rattle.std.proofs.Common.{◌≡◌, ◌≢◌, ℕ, zero, suc, ◌+◌, ◌-◌, ◌*◌, ◌/◌, ◌%◌, ◌^◌, ◌<◌, ◌≤◌, true, false, not, leb, ◌&&◌, if◌then◌else◌, ◌==◌, List, [], ◌∷◌, map, drop, length, slice_get, Some, get_or, All, refl, sym, ap, subst, ◌∙◌, arith, ⊎_elim, mul-le-mul_right}
+use Rattle.std.proofs.lemmas.Bool.{cases_lt, false_from_ne_true, true≢false}
 use Rattle.std.proofs.lemmas.Bool.Decides.{nat_tests}
 use Rattle.std.proofs.lemmas.List.{drop_more, drop_all, drop-map, length-drop}
 use Rattle.std.proofs.lemmas.List.Elements.{All-drop}
@@ -64,11 +64,7 @@ module _ {X : Type 0} (w : ℕ) (number : X → ℕ) (is_block : X → Type 0) w
       → (index + i < next_at w index r) × (left_from number (next_at w index r) xs ≡ left_from number (index + i + 1) xs)
   left-taken index i r pending xs is low within cleared =
       let m = number pending in
-      let none : (j : ℕ) → j < i + 1 → is_one r j ≡ false = λ j to.
-      ⊎_elim
-      (λ below. is_one-bit 0 r j (cleared.kept j (omega (arith, below, within)) (λ e. omega (arith, e, below)) ∙ low.zeros j below))
-      (λ at. ap (is_one r) (let e : j ≡ i = omega (arith, at, to) in e) ∙ is_one-bit 0 r i cleared.cleared)
-      (cases_lt j i) in
+      let none : (j : ℕ) → j < i + 1 → is_one r j ≡ false = λ j to. grind (arith, nat_tests, cleared.kept j, cleared.cleared, low.zeros j) in
       let least = first_least (is_one r) w (i + 1) (omega (arith, within)) none in (
         omega (arith, least),
         left-covered index (index + i + 1) r xs (omega arith) (omega (arith, within)) (λ j below. none j (omega (arith, below))) (λ j to past used.
@@ -78,18 +74,7 @@ module _ {X : Type 0} (w : ℕ) (number : X → ℕ) (is_block : X → Type 0) w
   pub IsInHand-taken : (index i : ℕ) (pending rest : X) (xs : List X) → IsInHand w number is_block index pending xs → is_block rest → IsLowest (number pending) i → IsCleared w (number pending) i (number rest) → IsInHand w number is_block index rest xs
   IsInHand-taken index i pending rest xs is block low cleared =
       let kept : (k : ℕ) → k < w → k ≢ i → is_one (number rest) k ≡ is_one (number pending) k = λ k below other. ap (λ b. b == 1) (cleared.kept k below other) in
-      let was : (k : ℕ) → k < w → is_one (number rest) k ≡ true → is_one (number pending) k ≡ true × i < k = λ k within one.
-      ⊎_elim
-      (λ at. absurd (true≢false (sym one ∙ ap (is_one (number rest)) at ∙ is_one-bit 0 (number rest) i cleared.cleared)))
-      (λ other.
-      let one_before : is_one (number pending) k ≡ true = sym (kept k within other) ∙ one in (
-        one_before,
-        ⊎_elim
-            (λ below. absurd (true≢false (sym one_before ∙ is_one-bit 0 (number pending) k (low.zeros k below))))
-            (λ not_below. omega (arith, other, not_below))
-            (cases_lt k i),
-      ))
-      (cases_eq k i) in
+      let was : (k : ℕ) → k < w → is_one (number rest) k ≡ true → is_one (number pending) k ≡ true × i < k = λ k within one. grind (arith, nat_tests, cleared.kept k within, cleared.cleared, low.zeros k) in
       record {
         each = is.each;
         of_block = block;
@@ -186,11 +171,7 @@ module _ {X : Type 0} (w : ℕ) (number : X → ℕ) (is_block : X → Type 0) w
 
   -- some are stored of many blocks
   pub stored_some : (start : ℕ) (xs summary : List X) → IsStoredFrom w number is_block start xs summary → start < length xs → short_count w < length xs → 1 ≤ length summary
-  stored_some start xs summary is more long =
-      ⊎_elim
-      (λ some. some)
-      (λ none. absurd (let enough = is.enough long in let product = ap (λ n. n * w) (let e : length summary ≡ 0 = omega (arith, none) in e) in omega (arith, enough, product, more)))
-      (cases_lt 0 (length summary))
+  stored_some start xs summary is more long = grind (arith, is.enough long)
 
   -- ---- digits that cover the blocks that are not 0
 
@@ -200,18 +181,6 @@ module _ {X : Type 0} (w : ℕ) (number : X → ℕ) (is_block : X → Type 0) w
     inside = λ j within one. nonzero_inside number (start + j) xs (sym (digits j within) ∙ one);
     covers = λ j within used. digits j within ∙ used;
   }
-
-  -- digits of as many blocks as there are
-  pub CoversUsed-all : (start m : ℕ) (xs : List X) → start ≤ length xs → ((j : ℕ) → j < w → is_one m j ≡ nat_lt j (length xs - start)) → CoversUsed w number xs start m
-  CoversUsed-all start m xs within digits =
-      let below : (j : ℕ) → nat_lt j (length xs - start) ≡ true → start + j < length xs = λ j one. grind (arith, nat_tests) in
-      record {
-        inside = λ j to one. below j (sym (digits j to) ∙ one);
-        covers = λ j to used.
-            let inside : start + j < length xs = nonzero_inside number (start + j) xs used in
-            let test : nat_lt j (length xs - start) ≡ true = grind (arith, nat_tests) in
-            digits j to ∙ test;
-      }
 
   -- the digits of the next stored block
   pub CoversUsed-stored : (start : ℕ) (next : X) (xs summary rest : List X) → summary ≡ next ∷ rest → IsStoredFrom w number is_block start xs summary → CoversUsed w number xs start (number next)
@@ -253,14 +222,4 @@ module _ {X : Type 0} (w : ℕ) (number : X → ℕ) (is_block : X → Type 0) w
 
 -- how many blocks of the summary are past the one for a block
 pub count_from : (w q start blocks : ℕ) → 0 < w → start ≡ q * w → start ≤ blocks - 1 → blocks_for w (blocks - (start + w)) ≡ blocks_for w blocks - 1 - q
-count_from w q start blocks pos at inside =
-    ⊎_elim
-    (λ some.
-    let left = blocks_for-past w (suc q) blocks pos (omega (arith, inside, at, some)) in
-    let same = ap (blocks_for w) (let e : blocks - suc q * w ≡ blocks - (start + w) = omega (arith, at) in e) in
-    omega (arith, left, same))
-    (λ none.
-    let all = blocks_for-least w blocks 0 pos (omega (arith, none)) in
-    let past = blocks_for-least w (blocks - (start + w)) 0 pos (omega (arith, none)) in
-    omega (arith, all, past))
-    (cases_lt 0 blocks)
+count_from w q start blocks pos at inside = grind (arith, blocks_for-past w (suc q) blocks pos, blocks_for-least w blocks 0 pos, blocks_for-least w (blocks - (start + w)) 0 pos)

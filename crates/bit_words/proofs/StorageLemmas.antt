@@ -1,10 +1,10 @@
 -- How the blocks of a bit vector hold its list, by index.
-use Rattle.std.proofs.Common.{◌≡◌, ◌≢◌, ℕ, zero, suc, ◌+◌, ◌-◌, ◌*◌, ◌/◌, ◌%◌, ◌^◌, ◌<◌, ◌≤◌, Bool, false, ◌==◌, List, ◌++◌, length, get_or, take, set, replicate, refl, sym, ap, ◌∙◌, arith, ⊎_elim, length-take, length-append, length-set, get_or-take, get_or-set_same, get_or-set_other}
+use Rattle.std.proofs.Common.{◌≡◌, ◌≢◌, ℕ, zero, suc, ◌+◌, ◌-◌, ◌*◌, ◌/◌, ◌%◌, ◌^◌, ◌<◌, ◌≤◌, Bool, false, ◌==◌, List, ◌++◌, length, get_or, take, set, replicate, refl, sym, ap, ◌∙◌, arith, length-take, length-append, length-set, get_or-take, get_or-set_same, get_or-set_other}
+use Rattle.std.proofs.lemmas.Grind.{common_steps}
 use Rattle.std.proofs.lemmas.Nat.Bits.{bit_at-zero, same_from_bits_below, bit_at-lt}
 use Rattle.std.proofs.lemmas.Nat.{div-mul-add, mod-mul-add}
 use Rattle.std.proofs.lemmas.List.FromFn.{length-map-range_with_len, get_or-map-range_with_len}
-use Rattle.std.proofs.lemmas.List.{get_or_past, ext_get_or, get_or-replicate, get_or_append_left, get_or-append_right, length-replicate}
-use Rattle.std.proofs.lemmas.Bool.{cases_lt, cases_eq}
+use Rattle.std.proofs.lemmas.List.{get_or_past, ext_get_or, get_or-replicate, length-replicate}
 use Rattle.std.specs.Int.{bit_at}
 use Rattle.bit_words.specs.Bits.{blocks_for, digit_of, blocks_of}
 use Rattle.bit_words.specs.Digits.{is_one}
@@ -43,11 +43,7 @@ get_or-values_of w ms n i d h = get_or-map-range_with_len (value_at w ms) 0 n i 
 
 -- with zeros past the length the list has the same values at every index
 pub get_or-values_of_zero_tail : (w : ℕ) (ms : List ℕ) (n i : ℕ) → IsZeroFrom w ms n → get_or (values_of w ms n) i false ≡ value_at w ms i
-get_or-values_of_zero_tail w ms n i c =
-    ⊎_elim
-    (λ within. get_or-values_of w ms n i false within)
-    (λ past. get_or_past _ i false (rw length-values_of past) ∙ sym (c.zero_tail i past))
-    (cases_lt i n)
+get_or-values_of_zero_tail w ms n i c = grind (arith, get_or-values_of w ms n i false, get_or_past (values_of w ms n) i false, length-values_of w ms n, c.zero_tail i)
 
 -- length and every entry fix a list
 pub values_of-same : (w : ℕ) (ms : List ℕ) (n : ℕ) (bs : List Bool) → length bs ≡ n → ((i : ℕ) → i < n → value_at w ms i ≡ get_or bs i false) → values_of w ms n ≡ bs
@@ -88,10 +84,7 @@ values_of-take w ms ms' n m le h =
 pub values_of-set : (w : ℕ) (ms ms' : List ℕ) (n i : ℕ) (b : Bool) → i < n → value_at w ms' i ≡ b → ((k : ℕ) → k ≢ i → value_at w ms' k ≡ value_at w ms k) → values_of w ms' n ≡ set (values_of w ms n) i b
 values_of-set w ms ms' n i b le same others =
     values_of-same w ms' n _ (length-set (values_of w ms n) i b ∙ length-values_of w ms n) (λ k below.
-    ⊎_elim
-    (λ e. ap (value_at w ms') e ∙ same ∙ sym (ap (λ x. get_or (set (values_of w ms n) i b) x false) e ∙ get_or-set_same (values_of w ms n) i b false (rw length-values_of le)))
-    (λ ne. others k ne ∙ sym (get_or-set_other (values_of w ms n) i k b false ne ∙ get_or-values_of w ms n k false below))
-    (cases_eq k i))
+    grind (arith, common_steps, get_or-values_of w ms n k false below, others k, length-values_of w ms n))
 
 pub values_of-replicate : (w : ℕ) (ms : List ℕ) (n : ℕ) (b : Bool) → ((i : ℕ) → i < n → value_at w ms i ≡ b) → values_of w ms n ≡ replicate n b
 values_of-replicate w ms n b h =
@@ -100,7 +93,4 @@ values_of-replicate w ms n b h =
 pub values_of-append : (w : ℕ) (ms ms' : List ℕ) (n m : ℕ) (b : Bool) → ((i : ℕ) → i < n → value_at w ms' i ≡ value_at w ms i) → ((i : ℕ) → n ≤ i → i < n + m → value_at w ms' i ≡ b) → values_of w ms' (n + m) ≡ values_of w ms n ++ replicate m b
 values_of-append w ms ms' n m b kept added =
     values_of-same w ms' (n + m) _ (omega (arith, length-append (values_of w ms n) (replicate m b), length-values_of w ms n, length-replicate m b)) (λ i below.
-    ⊎_elim
-    (λ first. kept i first ∙ sym (get_or_append_left (values_of w ms n) (replicate m b) false i (rw length-values_of first) ∙ get_or-values_of w ms n i false first))
-    (λ rest. added i rest below ∙ sym (get_or-append_right (values_of w ms n) (replicate m b) n i false (length-values_of w ms n) rest ∙ get_or-replicate m (i - n) b false (omega arith)))
-    (cases_lt i n))
+    grind (arith, common_steps, get_or-values_of w ms n i false, get_or-replicate m (i - n) b false, length-values_of w ms n))

@@ -1,6 +1,6 @@
 -- What the summary says of the blocks, and how it follows their changes.
-use Rattle.std.proofs.Common.{◌≡◌, ◌≢◌, ℕ, ◌+◌, ◌*◌, ◌/◌, ◌%◌, ◌^◌, ◌<◌, ◌≤◌, Bool, true, false, not, ◌==◌, List, [], map, length, get_or, set, All, refl, sym, ap, ◌∙◌, arith, ⊎_elim, mod-lt, div-add-mod', get_or-set_same, get_or-set_other, mul-le-mul_right}
-use Rattle.std.proofs.lemmas.Bool.{cases_lt, cases_eq, false≢true}
+use Rattle.std.proofs.Common.{◌≡◌, ◌≢◌, ℕ, ◌+◌, ◌*◌, ◌/◌, ◌%◌, ◌^◌, ◌<◌, ◌≤◌, Bool, true, false, not, ◌==◌, List, [], map, length, get_or, set, All, sym, ap, ◌∙◌, arith, ⊎_elim, mod-lt, div-add-mod', get_or-set_same, get_or-set_other, mul-le-mul_right}
+use Rattle.std.proofs.lemmas.Bool.{cases_lt, cases_eq}
 use Rattle.std.proofs.lemmas.Bool.Decides.{nat_tests}
 use Rattle.std.proofs.lemmas.List.{get_or_past, length-map}
 use Rattle.std.proofs.lemmas.List.Elements.{All-nil, All-same}
@@ -35,11 +35,7 @@ used_past ms k past = used_from_zero _ (get_or_past ms k 0 past)
 
 -- a block with a 1 is not 0
 pub used_from_true : (w : ℕ) (ms : List ℕ) (k j : ℕ) → j < w → value_at w ms (k * w + j) ≡ true → is_used ms k ≡ true
-used_from_true w ms k j index one = used_or_not (is_used ms k) refl
-  where
-    used_or_not : (b : Bool) → is_used ms k ≡ b → b ≡ true
-    used_or_not true e = refl
-    used_or_not false e = absurd (false≢true (sym (digit_from_zero _ j (zero_from_unused _ e)) ∙ sym (value_at-index w ms k j index) ∙ one))
+used_from_true w ms k j index one = grind (arith, value_at-index w ms k j index, digit_from_zero (get_or ms k 0) j)
 
 -- one with no 1 is
 pub unused_from_false : (w : ℕ) (ms : List ℕ) (k : ℕ) → get_or ms k 0 < 2 ^ w → ((j : ℕ) → j < w → value_at w ms (k * w + j) ≡ false) → is_used ms k ≡ false
@@ -100,19 +96,14 @@ summary_updated w f P xs old new p inside packed right written in_place =
 
 -- the digits of one more block of the summary
 pub summary_put : (w : ℕ) (ms ss ns : List ℕ) (k n : ℕ) → k < length ss → ns ≡ set ss k n → ((j : ℕ) → j < w → is_one n j ≡ is_used ms (k * w + j)) → ((q j : ℕ) → q < k → j < w → is_one (get_or ss q 0) j ≡ is_used ms (q * w + j)) → (q j : ℕ) → q < k + 1 → j < w → is_one (get_or ns q 0) j ≡ is_used ms (q * w + j)
-summary_put w ms ss ns k n within e digits before q j below index =
-    ⊎_elim
-    (λ here. ap (λ xs. is_one (get_or xs q 0) j) e ∙ ap (λ x. is_one (get_or (set ss k n) x 0) j) here ∙ ap (λ m. is_one m j) (get_or-set_same ss k n 0 within) ∙ digits j index ∙ ap (λ x. is_used ms (x * w + j)) (sym here))
-    (λ there. ap (λ xs. is_one (get_or xs q 0) j) e ∙ ap (λ m. is_one m j) (get_or-set_other ss k q n 0 there) ∙ before q j (omega arith) index)
-    (cases_eq q k)
+summary_put w ms ss ns k n within e digits before q j below index = grind (arith, get_or-set_same ss k n 0 within, get_or-set_other ss k q n 0)
 
 -- all of them
 pub summary_of_blocks : {X : Type 0} (w : ℕ) (f : X → ℕ) (P : X → Type 0) (xs summary : List X) → 0 < w → All P summary → length summary ≡ blocks_for w (length xs) → length xs < 2 ^ 64 → ((q j : ℕ) → q < length summary → j < w → is_one (get_or (map f summary) q 0) j ≡ is_used (map f xs) (q * w + j)) → IsSummary w f P xs summary
 summary_of_blocks w f P xs summary pos each count fits digits = summary_of_digits w f P xs summary each count fits (λ k.
-    ⊎_elim
-    (λ within. value_at-is w (map f summary) k ∙ digits (k / w) (k % w) within (mod-lt k pos) ∙ ap (is_used (map f xs)) (div-add-mod' k w))
-    (λ past. value_at-past w (map f summary) k (rw length-map past) ∙ sym (used_past (map f xs) k (rw length-map (blocks_for-below w (length xs) k pos (omega arith)))))
-    (cases_lt (k / w) (length summary)))
+    let ms = map f xs in
+    let ss = map f summary in
+    grind (arith, value_at-is w ss k, value_at-past w ss k, used_past ms k, length-map, blocks_for-below w (length xs) k pos, mod-lt k pos, div-add-mod' k w, digits (k / w) (k % w)))
 
 -- ---- kept with the list
 
@@ -176,11 +167,7 @@ kept_use w n k ms ns pos small also kept before =
 
 -- a list that goes on with false values is at each index what it was
 pub kept_with_zeros : (w n m i : ℕ) (bit : Bool) (ms ns : List ℕ) → bit ≡ false → ((i : ℕ) → i < n → value_at w ns i ≡ value_at w ms i) → ((i : ℕ) → n ≤ i → value_at w ms i ≡ false) → ((i : ℕ) → n ≤ i → i < m → value_at w ns i ≡ bit) → ((i : ℕ) → m ≤ i → value_at w ns i ≡ false) → value_at w ns i ≡ value_at w ms i
-kept_with_zeros w n m i bit ms ns none kept zero_tail added after =
-    ⊎_elim
-    (λ first. kept i first)
-    (λ past. ⊎_elim (λ inside. added i past inside ∙ none) (λ beyond. after i beyond) (cases_lt i m) ∙ sym (zero_tail i past))
-    (cases_lt i n)
+kept_with_zeros w n m i bit ms ns none kept zero_tail added after = grind arith
 
 -- a block whose values are all the same
 pub use_of_values : (w n k : ℕ) (ms : List ℕ) (bit : Bool) → 0 < w → get_or ms k 0 < 2 ^ w → k < blocks_for w n → ((i : ℕ) → k * w ≤ i → i < n → value_at w ms i ≡ bit) → ((i : ℕ) → n ≤ i → value_at w ms i ≡ false) → is_used ms k ≡ bit
@@ -188,11 +175,7 @@ use_of_values w n k ms true pos small inside each zero_tail =
     let start = whole_before w n k pos inside in
     used_from_true w ms k 0 pos (each (k * w + 0) (omega arith) (omega arith))
 use_of_values w n k ms false pos small inside each zero_tail =
-    unused_from_false w ms k small (λ j index.
-    ⊎_elim
-    (λ within. each (k * w + j) (omega arith) within)
-    (λ past. zero_tail (k * w + j) past)
-    (cases_lt (k * w + j) n))
+    unused_from_false w ms k small (λ j index. grind arith)
 
 -- the new blocks of a longer list
 pub use_of_added : (w old n k : ℕ) (ms : List ℕ) (bit : Bool) → 0 < w → get_or ms k 0 < 2 ^ w → blocks_for w old ≤ k → k < blocks_for w n → ((i : ℕ) → old ≤ i → i < n → value_at w ms i ≡ bit) → ((i : ℕ) → n ≤ i → value_at w ms i ≡ false) → is_used ms k ≡ bit

@@ -1,7 +1,7 @@
 -- The summary of what the blocks of two lists merge to.
 use Rattle.std.proofs.Common.{◌≡◌, ℕ, ◌+◌, ◌*◌, ◌^◌, ◌<◌, ◌≤◌, Bool, true, false, not, ◌&&◌, ◌||◌, ◌==◌, nat_le, List, [], map, length, get_or, set, All, refl, sym, ap, ap₂, ◌∙◌, arith, ⊎_elim, get_or-set_same, get_or-set_other, mul-le-mul_right}
 use Rattle.std.proofs.Math.Bool.{and-false, and-true, or-false}
-use Rattle.std.proofs.lemmas.Bool.{cases_lt, cases_eq, true≢false}
+use Rattle.std.proofs.lemmas.Bool.{cases_lt, cases_eq}
 use Rattle.std.proofs.lemmas.List.{get_or_past, length-map}
 use Rattle.std.proofs.lemmas.Nat.Bits.{same_from_bits_below}
 use Rattle.bit_words.specs.Digits.{IsEither, is_one}
@@ -22,28 +22,9 @@ use Rattle.bit_words.proofs.VectorLemmas.{numbers_below}
 -- ---- of a union, by the summaries of both
 
 -- a union is 0 where both are
-or_false_left : (a b : Bool) → (a || b) ≡ false → a ≡ false
-or_false_left true b e = e
-or_false_left false b e = refl
-
-or_false_right : (a b : Bool) → (a || b) ≡ false → b ≡ false
-or_false_right true b e = absurd (true≢false e)
-or_false_right false b e = e
-
 used_union : (w : ℕ) (ms os ns : List ℕ) (k : ℕ) → get_or ms k 0 < 2 ^ w → get_or os k 0 < 2 ^ w → get_or ns k 0 < 2 ^ w → ((i : ℕ) → value_at w ns i ≡ (value_at w ms i || value_at w os i)) → is_used ns k ≡ (is_used ms k || is_used os k)
-used_union w ms os ns k small also merged each = union (is_used ns k) (is_used ms k) (is_used os k) refl refl refl
-  where
-    union : (c a b : Bool) → is_used ns k ≡ c → is_used ms k ≡ a → is_used os k ≡ b → c ≡ (a || b)
-    union false a b none e f =
-        let falses : (j : ℕ) → j < w → (value_at w ms (k * w + j) || value_at w os (k * w + j)) ≡ false = λ j index. sym (each (k * w + j)) ∙ false_from_unused w ns k j index none in
-        let first = unused_from_false w ms k small (λ j index. or_false_left _ _ (falses j index)) in
-        let second = unused_from_false w os k also (λ j index. or_false_right _ _ (falses j index)) in
-        sym (ap₂ (λ x y. x || y) (sym e ∙ first) (sym f ∙ second))
-    union true true b some e f = refl
-    union true false true some e f = refl
-    union true false false some e f =
-        let none = unused_from_false w ns k merged (λ j index. each (k * w + j) ∙ ap₂ (λ x y. x || y) (false_from_unused w ms k j index e) (false_from_unused w os k j index f)) in
-        absurd (true≢false (sym some ∙ none))
+used_union w ms os ns k small also merged each =
+    grind (arith, unused_from_false w ms k small, unused_from_false w os k also, unused_from_false w ns k merged, false_from_unused w ms k, false_from_unused w os k, false_from_unused w ns k)
 
 pub union_use : {X : Type 0} (w k : ℕ) (f : X → ℕ) (P : X → Type 0) (xs os ys xsummary osummary : List X) → ((x : X) → P x → f x < 2 ^ w) → All P xs → All P os → All P ys → IsSummary w f P xs xsummary → IsSummary w f P os osummary → ((i : ℕ) → value_at w (map f ys) i ≡ (value_at w (map f xs) i || value_at w (map f os) i)) → is_used (map f ys) k ≡ (value_at w (map f xsummary) k || value_at w (map f osummary) k)
 union_use w k f P xs os ys xsummary osummary below each_x each_o each_y first second each =

@@ -1,39 +1,20 @@
 -- Which of the blocks of a list a block of its summary says are not 0, as it is made.
-use Rattle.std.proofs.Common.{◌≡◌, ◌≢◌, ℕ, ◌+◌, ◌-◌, ◌<◌, ◌≤◌, Bool, false, not, ◌&&◌, ◌||◌, ◌==◌, nat_lt, List, map, length, get_or, sym, ap, ap₂, subst, ◌∙◌, arith, ⊎_elim}
+use Rattle.std.proofs.Common.{◌≡◌, ◌≢◌, ℕ, ◌+◌, ◌-◌, ◌<◌, Bool, not, ◌&&◌, ◌||◌, ◌==◌, nat_lt, List, map, get_or, sym, ap, ap₂, subst, ◌∙◌, arith, ⊎_elim}
 use Rattle.std.proofs.Math.Bool.{or-false}
-use Rattle.std.proofs.lemmas.Bool.{cases_lt, cases_eq}
+use Rattle.std.proofs.lemmas.Bool.{cases_lt}
 use Rattle.std.proofs.lemmas.Bool.Decides.{nat_tests}
-use Rattle.std.proofs.lemmas.List.{length-map}
 use Rattle.bit_words.specs.Digits.{IsEither, IsShiftedLeft, is_one}
 use Rattle.bit_words.specs.Summary.{is_used, SaysUsed}
-use Rattle.bit_words.proofs.Masks.{is_one-either, is_one-zero}
-use Rattle.bit_words.proofs.SummaryLemmas.{used_past}
+use Rattle.bit_words.proofs.Masks.{is_one-either}
 use Rattle.bit_words.proofs.TestLemmas.{above_and, below_and}
 
-pub not_yet : (j : ℕ) (used : Bool) → (nat_lt j j && used) ≡ false
-not_yet j used = above_and j j used (omega arith)
-
 module _ {X : Type 0} (w : ℕ) (f : X → ℕ) (P : X → Type 0) where
-  pub says_none : (start : ℕ) (xs : List X) (m : X) → P m → f m ≡ 0 → SaysUsed w f P xs start 0 m
-  says_none start xs m of_block z = record {
-    of_block = of_block;
-    digit = λ q index. ap (λ n. is_one n q) z ∙ is_one-zero q ∙ sym (above_and 0 q (is_used (map f xs) (start + q)) (omega arith));
-  }
-
   -- of one block more
   pub says_more : (start k : ℕ) (xs : List X) (m n : X) → SaysUsed w f P xs start k m → P n → is_one (f n) k ≡ is_used (map f xs) (start + k) → ((q : ℕ) → q < w → q ≢ k → is_one (f n) q ≡ is_one (f m) q) → SaysUsed w f P xs start (k + 1) n
-  says_more start k xs m n before of_block here others =
-      let used : ℕ → Bool = λ q. is_used (map f xs) (start + q) in
-      record {
-        of_block = of_block;
-        digit = λ q within.
-            ⊎_elim
-            (λ e. ap (is_one (f n)) e ∙ here ∙ sym (ap used e) ∙ sym (below_and (k + 1) q (used q) (omega arith)))
-            (λ ne.
-            let same : nat_lt q k ≡ nat_lt q (k + 1) = grind (arith, nat_tests) in
-            others q within ne ∙ before.digit q within ∙ ap (λ t. t && used q) same)
-            (cases_eq q k);
-      }
+  says_more start k xs m n before of_block here others = record {
+    of_block = of_block;
+    digit = λ q within. grind (arith, nat_tests, before.digit q within, others q within);
+  }
 
   -- of a group more, whose digits are moved to their place
   pub says_group : (start from k c d : ℕ) (xs : List X) (m p s r : X) → from ≡ start + k → d ≡ k + c → SaysUsed w f P xs start k m → SaysUsed w f P xs from c p → IsShiftedLeft w (f p) k (f s) → IsEither w (f m) (f s) (f r) → P r → SaysUsed w f P xs start d r
@@ -61,19 +42,5 @@ module _ {X : Type 0} (w : ℕ) (f : X → ℕ) (P : X → Type 0) where
   pub says_kept : (start k : ℕ) (xs ys : List X) (m : X) → ((q : ℕ) → q < start + k → get_or (map f ys) q 0 ≡ get_or (map f xs) q 0) → SaysUsed w f P xs start k m → SaysUsed w f P ys start k m
   says_kept start k xs ys m kept says = record {
     of_block = says.of_block;
-    digit = λ j index.
-        ⊎_elim
-        (λ below. says.digit j index ∙ ap (λ n. nat_lt j k && not (n == 0)) (sym (kept (start + j) (omega arith))))
-        (λ past. says.digit j index ∙ above_and k j (is_used (map f xs) (start + j)) past ∙ sym (above_and k j (is_used (map f ys) (start + j)) past))
-        (cases_lt j k);
+    digit = λ j index. grind (arith, nat_tests, says.digit j index, kept (start + j));
   }
-
-  -- of all blocks that one of the summary is about: past the end of the list none is used
-  pub says_all : (start count from : ℕ) (xs : List X) (m : X) → from ≡ start → ((j : ℕ) → j < w → count ≤ j → length xs ≤ start + j) → SaysUsed w f P xs start count m → (j : ℕ) → j < w → is_one (f m) j ≡ is_used (map f xs) (from + j)
-  says_all start count from xs m e ended says j index =
-      says.digit j index
-      ∙ ⊎_elim
-      (λ below. below_and count j (is_used (map f xs) (start + j)) below)
-      (λ (past : count ≤ j). above_and count j (is_used (map f xs) (start + j)) past ∙ sym (used_past (map f xs) (start + j) (rw length-map (ended j index past))))
-      (cases_lt j count)
-      ∙ ap (λ p. is_used (map f xs) (p + j)) (sym e)

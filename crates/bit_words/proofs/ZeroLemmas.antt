@@ -25,10 +25,6 @@ dropped number n j xs = ap (λ ms. get_or ms j 0) (sym (drop-map number n xs)) �
 pub value_at-drop : (w q : ℕ) (ms : List ℕ) (k : ℕ) → 0 < w → value_at w (drop q ms) k ≡ value_at w ms (q * w + k)
 value_at-drop w q ms k pos = grind (arith, value_at-is w (drop q ms) k, get_or-drop q ms (k / w) 0, value_at-index w ms (q + k / w) (k % w), mod-lt k pos, div-add-mod' k w)
 
--- the number of a block that a test for 0 does not find
-pub some_from_test : (m : ℕ) (same : Bool) → (m ≡ 0 → same ≡ true) → same ≡ false → 0 < m
-some_from_test m same law other = grind (arith, law)
-
 module _ {X : Type 0} (w : ℕ) (number : X → ℕ) (is_block : X → Type 0) where
   pub all_zero : (xs : List X) → ((k : ℕ) → get_or (map number xs) k 0 ≡ 0) → All (λ x. number x ≡ 0) xs
   all_zero [] zeros = All-nil (λ x. number x ≡ 0)
