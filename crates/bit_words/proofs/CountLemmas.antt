@@ -1,10 +1,10 @@
 -- How many ones blocks have, by a summary of them.
-use Rattle.std.proofs.Common.{◌≡◌, ℕ, zero, suc, ◌+◌, ◌*◌, ◌<◌, ◌≤◌, Bool, false, List, [], ◌∷◌, map, length, take, drop, get_or, get_or-take, get_or-drop, length-take, count_ones, refl, sym, ap, ◌∙◌, ⊎_elim, arith}
-use Rattle.std.proofs.lemmas.Bool.{cases_lt, not-false, eqb-true}
-use Rattle.std.proofs.lemmas.List.{take-map, drop-map, get_or_past, length-map}
+use Rattle.std.proofs.Common.{◌≡◌, ℕ, zero, suc, ◌+◌, ◌*◌, ◌<◌, Bool, List, [], ◌∷◌, map, take, drop, get_or, get_or-take, get_or-drop, length-take, count_ones, refl, sym, ap, ◌∙◌, ⊎_elim, arith}
+use Rattle.std.proofs.lemmas.Bool.{cases_lt}
+use Rattle.std.proofs.lemmas.Bool.Decides.{nat_tests}
+use Rattle.std.proofs.lemmas.List.{take-map, drop-map, get_or_past}
 use Rattle.std.proofs.Math.Seq.{take-add}
 use Rattle.std.proofs.lemmas.List.Sums.{sum_by-append, sum_by-cons}
-use Rattle.bit_words.specs.Digits.{is_one}
 use Rattle.bit_words.specs.Storage.{value_at}
 use Rattle.std.specs.List.{sum_by, count_by}
 use Rattle.bit_words.specs.Bits.{blocks_of}
@@ -23,50 +23,33 @@ module _ {X : Type 0} (number : X → ℕ) where
 
   pub ones_in-none : (xs : List X) → ((j : ℕ) → get_or (map number xs) j 0 ≡ 0) → ones_in number xs ≡ 0
   ones_in-none [] zeros = refl
-  ones_in-none (x ∷ xs) zeros =
-      let rest = ones_in-none xs (λ j. zeros (suc j)) in
-      let here : count_ones (number x) ≡ 0 = ap count_ones (zeros 0) ∙ ones_zero in
-      sum_by-cons (λ y. count_ones (number y)) x xs ∙ omega (arith, rest, here)
+  ones_in-none (x ∷ xs) zeros = grind (arith, ones_in-none xs (λ j. zeros (suc j)), zeros 0, ones_zero, sum_by-cons (λ y. count_ones (number y)) x xs)
 
   -- some slices of blocks more
   pub chunks_counted : (w i n ones : ℕ) (xs back front : List X) → ones ≡ ones_in number (take (i * w) xs) → front ≡ take (n * w) back → back ≡ drop (i * w) xs → ones + ones_in number front ≡ ones_in number (take ((i + n) * w) xs)
   chunks_counted w i n ones xs back front counted is from =
-      let more = ones_in-more (i * w) (n * w) xs in
-      let next : ones_in number (take (i * w + n * w) xs) ≡ ones_in number (take ((i + n) * w) xs) = ap (λ m. ones_in number (take m xs)) (let e : i * w + n * w ≡ (i + n) * w = omega arith in e) in
-      let here = ap (ones_in number) is ∙ ap (λ ys. ones_in number (take (n * w) ys)) from in
-      omega (arith, more, next, here, counted)
+      let e : i * w + n * w ≡ (i + n) * w = omega arith in
+      grind (arith, ones_in-more (i * w) (n * w) xs)
 
   -- a slice of blocks of which the summary has no bit
   pub chunk_none : (w i : ℕ) (xs summary : List X) → ((k : ℕ) → value_at w (map number summary) k ≡ is_used (map number xs) k) → get_or (map number summary) i 0 ≡ 0 → ones_in number (take w (drop (i * w) xs)) ≡ 0
   chunk_none w i xs summary digit none = ones_in-none (take w (drop (i * w) xs)) (λ j.
-      ⊎_elim
-      (λ within.
-      let unused : is_used (map number xs) (i * w + j) ≡ false =
-      sym (digit (i * w + j)) ∙ value_at-index w (map number summary) i j within ∙ ap (λ m. is_one m j) none ∙ is_one-zero j in
-      read j ∙ get_or-take w (map number (drop (i * w) xs)) j 0 within
-      ∙ ap (λ ms. get_or ms j 0) (sym (drop-map number (i * w) xs)) ∙ get_or-drop (i * w) (map number xs) j 0
-      ∙ eqb-true _ 0 (not-false _ unused))
-      (λ past. get_or_past (map number (take w (drop (i * w) xs))) j 0 (short j past))
-      (cases_lt j w))
-    where
-      read : (j : ℕ) → get_or (map number (take w (drop (i * w) xs))) j 0 ≡ get_or (take w (map number (drop (i * w) xs))) j 0
-      read j = ap (λ ms. get_or ms j 0) (sym (take-map number w (drop (i * w) xs)))
-
-      short : (j : ℕ) → w ≤ j → length (map number (take w (drop (i * w) xs))) ≤ j
-      short j past = let most = length-take w (drop (i * w) xs) in rw length-map (omega (arith, most))
+      rw (sym (take-map number w (drop (i * w) xs)), sym (drop-map number (i * w) xs))
+      (⊎_elim
+      (λ within. grind (arith, nat_tests, get_or-take w (drop (i * w) (map number xs)) j 0 within, get_or-drop (i * w) (map number xs) j 0, digit (i * w + j), value_at-index w (map number summary) i j within, is_one-zero j))
+      (λ past. get_or_past _ j 0 (omega (arith, length-take w (drop (i * w) (map number xs)))))
+      (cases_lt j w)))
 
   -- slices of blocks of which the summary has no bit
   pub chunks_none : (w i n : ℕ) (xs summary : List X) → ((k : ℕ) → value_at w (map number summary) k ≡ is_used (map number xs) k) → ((j : ℕ) → j < n → get_or (map number summary) (i + j) 0 ≡ 0)
       → ones_in number (take (i * w) xs) ≡ ones_in number (take ((i + n) * w) xs)
   chunks_none w i zero xs summary digit none = ap (λ m. ones_in number (take (m * w) xs)) (let e : i ≡ i + 0 = omega arith in e)
   chunks_none w i (suc n) xs summary digit none =
-      let before = chunks_none w i n xs summary digit (λ j within. none j (omega (arith, within))) in
       let back = drop ((i + n) * w) xs in
-      let front : take w back ≡ take (1 * w) back = ap (λ m. take m back) (let e : w ≡ 1 * w = omega arith in e) in
-      let more = chunks_counted w (i + n) 1 (ones_in number (take (i * w) xs)) xs back (take w back) before front refl in
-      let here = chunk_none w (i + n) xs summary digit (none n (omega arith)) in
-      let last : ones_in number (take ((i + n + 1) * w) xs) ≡ ones_in number (take ((i + suc n) * w) xs) = ap (λ m. ones_in number (take (m * w) xs)) (let e : i + n + 1 ≡ i + suc n = omega arith in e) in
-      omega (arith, more, here, last)
+      let more = chunks_counted w (i + n) 1 _ xs back (take (1 * w) back) (chunks_none w i n xs summary digit (λ j within. none j (omega (arith, within)))) refl refl in
+      let one : 1 * w ≡ w = omega arith in
+      let last : (i + n + 1) * w ≡ (i + suc n) * w = omega arith in
+      grind (arith, more, chunk_none w (i + n) xs summary digit (none n (omega arith)))
 
   -- those of the numbers of the blocks
   pub ones_in-numbers : (xs : List X) → ones_in number xs ≡ sum_by count_ones (map number xs)

@@ -1,6 +1,5 @@
 -- What a growth in blocks makes of a list and its capacity for values.
-use Rattle.std.proofs.Common.{◌≡◌, ℕ, ◌^◌, ◌<◌, ◌≤◌, max, List, map, length, refl, sym, ap, ap₂, ◌∙◌, arith, ⊎_elim, Ok, Err, Result, OnErr, OnOk}
-use Rattle.std.proofs.lemmas.Bool.{cases_lt}
+use Rattle.std.proofs.Common.{◌≡◌, ℕ, ◌^◌, ◌<◌, ◌≤◌, max, List, map, length, refl, sym, ap, ap₂, ◌∙◌, arith, Ok, Err, Result, OnErr, OnOk}
 use Rattle.std.proofs.lemmas.Result.{on_err_weaker}
 use Rattle.bit_words.specs.Bits.{Bits, IsWithinCapacity, blocks_for, capacity_of}
 use Rattle.bit_words.specs.Growth.{Grows, Reserves}
@@ -13,8 +12,7 @@ use Rattle.bit_words.proofs.VectorLemmas.{blocks_from_capacity, capacity_from_vi
 -- ---- capacity for blocks
 
 pub Reserves-le : {E : Type 0} (count old new : ℕ) (r : Result Unit E) → Reserves count r old new → old ≤ new
-Reserves-le count old new (Ok _) is = ⊎_elim (λ (short : old < count). omega (arith, is.ok)) (λ (enough : count ≤ old). omega (arith, is.within enough)) (cases_lt old count)
-Reserves-le count old new (Err _) is = omega (arith, is.err)
+Reserves-le count old new r is = grind (arith, is.ok, is.err, is.within)
 
 -- where it is there, nothing is asked for
 pub Reserves-within : {E : Type 0} (count old : ℕ) → count ≤ old → Reserves {E = E} count (Ok tt) old old
@@ -22,8 +20,7 @@ Reserves-within count old enough = record { ok = enough; full = tt; err = tt; wi
 
 -- where it is missing, just so much is asked for
 pub Reserves-exact : {E : Type 0} (count old new : ℕ) (r : Result Unit E) → OnOk r (new ≡ max old count) → OnErr r (old < count) → OnErr r (new ≡ old) → Reserves count r old new
-Reserves-exact count old new (Ok _) most full same = record { ok = omega arith; full = tt; err = tt; within = λ enough. omega arith }
-Reserves-exact count old new (Err _) most full same = record { ok = tt; full = full; err = same; within = λ _. same }
+Reserves-exact count old new r most full same = grind (arith, most, full, same)
 
 -- ---- and for values
 

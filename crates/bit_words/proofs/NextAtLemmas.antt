@@ -1,5 +1,5 @@
 -- The block from which a walk goes on.
-use Rattle.std.proofs.Common.{◌≡◌, ℕ, zero, suc, ◌+◌, ◌<◌, ◌≤◌, Bool, true, false, ap, ◌∙◌, arith}
+use Rattle.std.proofs.Common.{◌≡◌, ℕ, zero, suc, ◌+◌, ◌<◌, ◌≤◌, Bool, true, false, ap, arith}
 use Rattle.bit_words.specs.Digits.{is_one}
 use Rattle.bit_words.specs.Lowest.{IsLowest}
 use Rattle.bit_words.specs.Pending.{first_true, next_at}
@@ -28,10 +28,7 @@ first_is f n i within here none = grind (arith, first_least f n i, before_first 
 
 -- where there is no 1 a walk goes on past the digits
 pub next_at-zero : (w index m : ℕ) → m ≡ 0 → next_at w index m ≡ index + w
-next_at-zero w index m none =
-    let all = first_least (is_one m) w w (omega arith) (λ j within. ap (λ n. is_one n j) none ∙ is_one-zero j) in
-    let most = first_most (is_one m) w in
-    omega (arith, all, most)
+next_at-zero w index m none = grind (arith, first_least (is_one m) w w, first_most (is_one m) w, is_one-zero)
 
 pub next_at-lowest : (w index m i : ℕ) → IsLowest m i → i < w → next_at w index m ≡ index + i
 next_at-lowest w index m i low within = ap (λ n. index + n) (first_is (is_one m) w i within (is_one-bit 1 m i low.one) (λ j below. is_one-bit 0 m j (low.zeros j below)))

@@ -18,7 +18,7 @@ use Rattle.bit_words.proofs.BitsLemmas.{blocks_for-least, blocks_for-past, whole
 use Rattle.bit_words.proofs.Masks.{is_one-bit, is_one-zero}
 use Rattle.bit_words.proofs.NextAtLemmas.{before_first, first_least, first_most}
 use Rattle.bit_words.proofs.StorageLemmas.{value_at-is, value_at-index}
-use Rattle.bit_words.proofs.SummaryLemmas.{stored_each, stored_enough, zero_from_unused}
+use Rattle.bit_words.proofs.SummaryLemmas.{stored_each, stored_enough}
 use Rattle.bit_words.proofs.ZeroLemmas.{dropped, nonzero_inside, value_at-drop}
 
 -- ---- blocks that are 0 are passed
@@ -27,11 +27,7 @@ module _ {X : Type 0} (number : X → ℕ) where
   none_first : (k n : ℕ) (xs : List X) → ((j : ℕ) → j < n → is_used (map number xs) j ≡ false) → nonzero_from number k xs ≡ nonzero_from number (k + n) (drop n xs)
   none_first k zero xs none = ap (λ j. nonzero_from number j xs) (let e : k ≡ k + zero = omega arith in e)
   none_first k (suc n) [] none = refl
-  none_first k (suc n) (x ∷ xs) none =
-      let test : (number x == 0) ≡ true = ap (λ m. m == 0) (zero_from_unused (number x) (none 0 (omega arith))) in
-      ap (λ b. if b then nonzero_from number (k + 1) xs else (k, x) ∷ nonzero_from number (k + 1) xs) test
-      ∙ none_first (k + 1) n xs (λ j within. none (suc j) (omega (arith, within)))
-      ∙ ap (λ j. nonzero_from number j (drop n xs)) (let e : k + 1 + n ≡ k + suc n = omega arith in e)
+  none_first k (suc n) (x ∷ xs) none = grind (arith, nat_tests, none_first (k + 1) n xs (λ j within. none (suc j) (omega (arith, within))), none 0)
 
   pub left-passed : (a b : ℕ) (xs : List X) → a ≤ b → ((k : ℕ) → a ≤ k → k < b → is_used (map number xs) k ≡ false) → left_from number a xs ≡ left_from number b xs
   left-passed a b xs on none =
@@ -178,8 +174,8 @@ module _ {X : Type 0} (w : ℕ) (number : X → ℕ) (is_block : X → Type 0) w
   -- digits that say exactly which blocks are not 0
   pub CoversUsed-exact : (start m : ℕ) (xs : List X) → ((j : ℕ) → j < w → is_one m j ≡ is_used (map number xs) (start + j)) → CoversUsed w number xs start m
   CoversUsed-exact start m xs digits = record {
-    inside = λ j within one. nonzero_inside number (start + j) xs (sym (digits j within) ∙ one);
-    covers = λ j within used. digits j within ∙ used;
+    inside = λ j within one. nonzero_inside number (start + j) xs (grind (arith, digits j within));
+    covers = λ j within used. grind (arith, digits j within);
   }
 
   -- the digits of the next stored block

@@ -1,9 +1,9 @@
 -- The ones of the blocks that a walk has left.
-use Rattle.std.proofs.Common.{◌≡◌, ℕ, ◌+◌, ◌-◌, ◌*◌, ◌<◌, ◌≤◌, Bool, true, false, not, if◌then◌else◌, ◌==◌, List, [], ◌∷◌, map, drop, take, length, count_ones, refl, sym, ap, ◌∙◌, arith}
-use Rattle.std.proofs.lemmas.Bool.{eqb-true}
+use Rattle.std.proofs.Common.{◌≡◌, ℕ, ◌+◌, ◌-◌, ◌*◌, ◌<◌, ◌≤◌, not, ◌==◌, List, [], ◌∷◌, map, drop, take, length, count_ones, refl, sym, ap, ◌∙◌, arith}
 use Rattle.std.proofs.lemmas.List.{drop-take, length-drop, length-take}
 use Rattle.std.proofs.lemmas.List.Sums.{sum_by-cons, sum_by-take-drop}
 use Rattle.std.proofs.Math.Seq.{drop-drop}
+use Rattle.std.proofs.lemmas.Bool.Decides.{nat_tests}
 use Rattle.bit_words.specs.Digits.{is_one}
 use Rattle.bit_words.specs.Lowest.{IsLowest}
 use Rattle.bit_words.specs.Nonzero.{nonzero_from, ones_in, ones_left}
@@ -18,12 +18,8 @@ use Rattle.bit_words.proofs.ZeroLemmas.{dropped}
 module _ {X : Type 0} (w : ℕ) (number : X → ℕ) (is_block : X → Type 0) where
   ones_nonzero : (k : ℕ) (xs : List X) → ones_left number (nonzero_from number k xs) ≡ ones_in number xs
   ones_nonzero k [] = refl
-  ones_nonzero k (x ∷ xs) = with_first (number x == 0) refl (ones_nonzero (k + 1) xs) ∙ sym (sum_by-cons (λ y. count_ones (number y)) x xs)
-    where
-      with_first : (b : Bool) → (number x == 0) ≡ b → ones_left number (nonzero_from number (k + 1) xs) ≡ ones_in number xs
-          → ones_left number (if b then nonzero_from number (k + 1) xs else (k, x) ∷ nonzero_from number (k + 1) xs) ≡ count_ones (number x) + ones_in number xs
-      with_first true e rest = let none : count_ones (number x) ≡ 0 = ap count_ones (eqb-true _ _ e) ∙ ones_zero in omega (arith, rest, none)
-      with_first false e rest = sum_by-cons (λ entry. count_ones (number entry.1)) (k, x) (nonzero_from number (k + 1) xs) ∙ ap (λ n. count_ones (number x) + n) rest
+  ones_nonzero k (x ∷ xs) =
+      grind (arith, nat_tests, ones_nonzero (k + 1) xs, sum_by-cons (λ y. count_ones (number y)) x xs, sum_by-cons (λ (entry : ℕ × X). count_ones (number entry.1)) (k, x) (nonzero_from number (k + 1) xs), ones_zero)
 
   -- these are all where there is no pending bit
   pub left-ones_past : (index m : ℕ) (xs : List X) → m ≡ 0 → ones_left number (left_from number (next_at w index m) xs) ≡ ones_in number (drop w (drop index xs))
@@ -36,13 +32,8 @@ module _ {X : Type 0} (w : ℕ) (number : X → ℕ) (is_block : X → Type 0) w
   pub left-ones_rest : (index m : ℕ) (xs : List X) → ones_in number (drop w (drop index xs)) ≤ ones_left number (left_from number (next_at w index m) xs)
   left-ones_rest index m xs =
       let p = next_at w index m in
-      let most = first_most (is_one m) w in
-      let all = ones_nonzero p (drop p xs) in
-      let whole = sum_by-take-drop (λ x. count_ones (number x)) (drop p xs) (index + w - p) in
-      let rest : drop (index + w - p) (drop p xs) ≡ drop w (drop index xs) =
-      drop-drop (index + w - p) p xs ∙ ap (λ n. drop n xs) (let e : p + (index + w - p) ≡ index + w = omega (arith, most) in e) ∙ sym (drop-drop w index xs) in
-      let same = ap (ones_in number) rest in
-      omega (arith, all, whole, same)
+      let e : p + (index + w - p) ≡ index + w = omega (arith, first_most (is_one m) w) in
+      grind (arith, ones_nonzero p (drop p xs), sum_by-take-drop (λ x. count_ones (number x)) (drop p xs) (index + w - p), drop-drop (index + w - p) p xs, drop-drop w index xs)
 
   -- those of the blocks of the chunk in hand, and of the ones past it
   pub left-ones_split : (index i m : ℕ) (xs : List X) (all : List (ℕ × X)) → IsLowest m i → i < w → left_from number (next_at w index m) xs ≡ all

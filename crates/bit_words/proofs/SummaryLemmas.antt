@@ -1,6 +1,6 @@
 -- What the summary says of the blocks, and how it follows their changes.
 use Rattle.std.proofs.Common.{◌≡◌, ◌≢◌, ℕ, ◌+◌, ◌*◌, ◌/◌, ◌%◌, ◌^◌, ◌<◌, ◌≤◌, Bool, true, false, not, ◌==◌, List, [], map, length, get_or, set, All, sym, ap, ◌∙◌, arith, ⊎_elim, mod-lt, div-add-mod', get_or-set_same, get_or-set_other, mul-le-mul_right}
-use Rattle.std.proofs.lemmas.Bool.{cases_lt, cases_eq}
+use Rattle.std.proofs.lemmas.Bool.{cases_lt}
 use Rattle.std.proofs.lemmas.Bool.Decides.{nat_tests}
 use Rattle.std.proofs.lemmas.List.{get_or_past, length-map}
 use Rattle.std.proofs.lemmas.List.Elements.{All-nil, All-same}
@@ -58,13 +58,7 @@ same_use w ms ns k small also same = ap (λ m. not (m == 0)) (same_block w ms ns
 
 -- it is enough to look where there are blocks
 pub is_summary : {X : Type 0} (w : ℕ) (f : X → ℕ) (P : X → Type 0) (xs summary : List X) → IsPacked w f P summary (length xs) → ((k : ℕ) → k < length xs → value_at w (map f summary) k ≡ is_used (map f xs) k) → IsSummary w f P xs summary
-is_summary w f P xs summary packed each = record {
-  packed = packed;
-  digit = λ k. ⊎_elim
-      (λ within. each k within)
-      (λ past. packed.tail.zero_tail k past ∙ sym (used_past (map f xs) k (rw length-map past)))
-      (cases_lt k (length xs));
-}
+is_summary w f P xs summary packed each = record { packed = packed; digit = λ k. grind (arith, each k, packed.tail.zero_tail k, used_past (map f xs) k, length-map) }
 
 -- all digits at once
 pub summary_of_digits : {X : Type 0} (w : ℕ) (f : X → ℕ) (P : X → Type 0) (xs summary : List X) → All P summary → length summary ≡ blocks_for w (length xs) → length xs < 2 ^ 64 → ((k : ℕ) → value_at w (map f summary) k ≡ is_used (map f xs) k) → IsSummary w f P xs summary
@@ -88,11 +82,7 @@ summary_updated w f P xs old new p inside packed right written in_place =
       tail = record { zero_tail = λ i past. written.others i (λ e. omega arith) ∙ packed.tail.zero_tail i past };
       fits = packed.fits;
     })
-    (λ k within.
-    ⊎_elim
-    (λ here. ap (value_at w (map f new.items)) here ∙ written.same ∙ sym (ap (is_used (map f xs)) here))
-    (λ there. written.others k there ∙ right k within there)
-    (cases_eq k p))
+    (λ k within. grind (arith, written.same, written.others k, right k within))
 
 -- the digits of one more block of the summary
 pub summary_put : (w : ℕ) (ms ss ns : List ℕ) (k n : ℕ) → k < length ss → ns ≡ set ss k n → ((j : ℕ) → j < w → is_one n j ≡ is_used ms (k * w + j)) → ((q j : ℕ) → q < k → j < w → is_one (get_or ss q 0) j ≡ is_used ms (q * w + j)) → (q j : ℕ) → q < k + 1 → j < w → is_one (get_or ns q 0) j ≡ is_used ms (q * w + j)

@@ -1,9 +1,10 @@
 -- The summary of what the blocks of two lists merge to.
-use Rattle.std.proofs.Common.{◌≡◌, ℕ, ◌+◌, ◌*◌, ◌^◌, ◌<◌, ◌≤◌, Bool, true, false, not, ◌&&◌, ◌||◌, ◌==◌, nat_le, List, [], map, length, get_or, set, All, refl, sym, ap, ap₂, ◌∙◌, arith, ⊎_elim, get_or-set_same, get_or-set_other, mul-le-mul_right}
+use Rattle.std.proofs.Common.{◌≡◌, ℕ, ◌+◌, ◌*◌, ◌^◌, ◌<◌, ◌≤◌, Bool, false, not, ◌&&◌, ◌||◌, ◌==◌, nat_le, List, [], map, length, get_or, set, All, sym, ap, ap₂, ◌∙◌, arith, ⊎_elim, get_or-set_same, get_or-set_other, mul-le-mul_right}
 use Rattle.std.proofs.Math.Bool.{and-false, and-true, or-false}
 use Rattle.std.proofs.lemmas.Bool.{cases_lt, cases_eq}
 use Rattle.std.proofs.lemmas.List.{get_or_past, length-map}
 use Rattle.std.proofs.lemmas.Nat.Bits.{same_from_bits_below}
+use Rattle.std.proofs.lemmas.Bool.Decides.{nat_tests}
 use Rattle.bit_words.specs.Digits.{IsEither, is_one}
 use Rattle.bit_words.specs.declared.block.merge.Merge.{Merge}
 use Rattle.bit_words.specs.declared.block.merge.Merge.TheVariants.{Union, Intersection, Difference, Symmetric}
@@ -16,7 +17,6 @@ use Rattle.bit_words.proofs.Masks.{is_one-either, is_one-zero}
 use Rattle.bit_words.proofs.MergeLemmas.{merge_of_values-none}
 use Rattle.bit_words.proofs.StorageLemmas.{same_digit, value_at-index}
 use Rattle.bit_words.proofs.SummaryLemmas.{false_from_unused, unused_from_false, used_from_zero, used_past}
-use Rattle.bit_words.proofs.TestLemmas.{above_and, before_and, below_and, from_and}
 use Rattle.bit_words.proofs.VectorLemmas.{numbers_below}
 
 -- ---- of a union, by the summaries of both
@@ -35,13 +35,12 @@ union_use w k f P xs os ys xsummary osummary below each_x each_o each_y first se
 
 -- a value merged with none
 kept_by_symmetric : (a : Bool) → merge_of_values Symmetric a false ≡ a
-kept_by_symmetric true = refl
-kept_by_symmetric false = refl
+kept_by_symmetric a = grind arith
 
 stays : (m : Merge) (w a b : ℕ) → ((x : Bool) → merge_of_values m x false ≡ x) → a < 2 ^ w → b < 2 ^ w → ((j : ℕ) → j < w → is_one b j ≡ merge_of_values m (is_one a j) false) → not (b == 0) ≡ merge_of_values m (not (a == 0)) false
 stays m w a b same small also digits =
-    ap (λ n. not (n == 0)) (same_from_bits_below w b a also small (λ j index. same_digit b a j (digits j index ∙ same (is_one a j))))
-    ∙ sym (same (not (a == 0)))
+    let e : a ≡ b = same_from_bits_below w a b small also (λ j index. same_digit a b j (grind (arith, same, digits j index))) in
+    grind (arith, same)
 
 -- whether a block that was merged with none is 0
 used_isolated : (m : Merge) (w a b : ℕ) → a < 2 ^ w → b < 2 ^ w → ((j : ℕ) → j < w → is_one b j ≡ merge_of_values m (is_one a j) false) → not (b == 0) ≡ merge_of_values m (not (a == 0)) false
@@ -67,16 +66,8 @@ module _ {X : Type 0} (m : Merge) (w : ℕ) (f : X → ℕ) (P : X → Type 0) w
   digits_of_part : (q count alone cut : ℕ) (ss ys : List X) (made whole : X) → SaysUsed w f P ys (q * w) count made → ((j : ℕ) → j < w → is_one alone j ≡ merge_of_values m (is_one (get_or (map f ss) q 0) j) false) → ((j : ℕ) → j < w → is_one cut j ≡ (nat_le count j && is_one alone j)) → IsEither w (f made) cut (f whole) → ((k : ℕ) → q * w + count ≤ k → is_used (map f ys) k ≡ merge_of_values m (value_at w (map f ss) k) false) → (j : ℕ) → j < w → is_one (f whole) j ≡ is_used (map f ys) (q * w + j)
   digits_of_part q count alone cut ss ys made whole says past kept either rest j index =
       let used : Bool = is_used (map f ys) (q * w + j) in
-      is_one-either w (f made) cut (f whole) j either index
-      ∙ ⊎_elim
-      (λ below.
-      ap₂ (λ x y. x || y) (says.digit j index ∙ below_and count j used below) (kept j index ∙ before_and count j (is_one alone j) below)
-      ∙ or-false used)
-      (λ from.
-      ap₂ (λ x y. x || y) (says.digit j index ∙ above_and count j used from) (kept j index ∙ from_and count j (is_one alone j) from ∙ past j index)
-      ∙ ap (λ b. merge_of_values m b false) (sym (value_at-index w (map f ss) q j index))
-      ∙ sym (rest (q * w + j) (omega (arith, from))))
-      (cases_lt j count)
+      let late : count ≤ j → is_one alone j ≡ used = λ from. past j index ∙ ap (λ b. merge_of_values m b false) (sym (value_at-index w (map f ss) q j index)) ∙ sym (rest (q * w + j) (omega (arith, from))) in
+      is_one-either w (f made) cut (f whole) j either index ∙ grind (arith, nat_tests, says.digit j index, kept j index, late)
 
   -- such a block is written, and those past it are merged with none
   pub tail_digits : (start count alone cut : ℕ) (ss ts us ys : List X) (made whole : X) → start < length ss → SaysUsed w f P ys (start * w) count made → ((j : ℕ) → j < w → is_one alone j ≡ merge_of_values m (is_one (get_or (map f ss) start 0) j) false) → ((j : ℕ) → j < w → is_one cut j ≡ (nat_le count j && is_one alone j)) → IsEither w (f made) cut (f whole) → map f ts ≡ set (map f ss) start (f whole) → length ts ≡ length ss → HasMerged m w f P (start + 1) (length ts) ts [] us → count ≤ w → ((k : ℕ) → start * w + count ≤ k → is_used (map f ys) k ≡ merge_of_values m (value_at w (map f ss) k) false) → (q j : ℕ) → start ≤ q → q < length ss → j < w → is_one (get_or (map f us) q 0) j ≡ is_used (map f ys) (q * w + j)

@@ -1,12 +1,10 @@
 -- Which of the blocks of a list a block of its summary says are not 0, as it is made.
-use Rattle.std.proofs.Common.{◌≡◌, ◌≢◌, ℕ, ◌+◌, ◌-◌, ◌<◌, Bool, not, ◌&&◌, ◌||◌, ◌==◌, nat_lt, List, map, get_or, sym, ap, ap₂, subst, ◌∙◌, arith, ⊎_elim}
-use Rattle.std.proofs.Math.Bool.{or-false}
+use Rattle.std.proofs.Common.{◌≡◌, ◌≢◌, ℕ, ◌+◌, ◌-◌, ◌<◌, not, List, map, get_or, ◌∙◌, arith, ⊎_elim}
 use Rattle.std.proofs.lemmas.Bool.{cases_lt}
 use Rattle.std.proofs.lemmas.Bool.Decides.{nat_tests}
 use Rattle.bit_words.specs.Digits.{IsEither, IsShiftedLeft, is_one}
 use Rattle.bit_words.specs.Summary.{is_used, SaysUsed}
 use Rattle.bit_words.proofs.Masks.{is_one-either}
-use Rattle.bit_words.proofs.TestLemmas.{above_and, below_and}
 
 module _ {X : Type 0} (w : ℕ) (f : X → ℕ) (P : X → Type 0) where
   -- of one block more
@@ -18,25 +16,15 @@ module _ {X : Type 0} (w : ℕ) (f : X → ℕ) (P : X → Type 0) where
 
   -- of a group more, whose digits are moved to their place
   pub says_group : (start from k c d : ℕ) (xs : List X) (m p s r : X) → from ≡ start + k → d ≡ k + c → SaysUsed w f P xs start k m → SaysUsed w f P xs from c p → IsShiftedLeft w (f p) k (f s) → IsEither w (f m) (f s) (f r) → P r → SaysUsed w f P xs start d r
-  says_group start from k c d xs m p s r e last before group moved either of_block =
-      let used : ℕ → Bool = is_used (map f xs) in
-      record {
-        of_block = of_block;
-        digit = λ j within.
-            is_one-either w (f m) (f s) (f r) j either within
-            ∙ ⊎_elim
-            (λ low.
-            ap₂ (λ x y. x || y) (before.digit j within ∙ below_and k j (used (start + j)) low) (ap (λ x. x == 1) (moved.zeros j low))
-            ∙ or-false (used (start + j))
-            ∙ sym (below_and d j (used (start + j)) (omega arith)))
-            (λ high.
-            let back : j - k + k ≡ j = omega arith in
-            let same : nat_lt (j - k) c ≡ nat_lt j d = grind (arith, nat_tests) in
-            let index : from + (j - k) ≡ start + j = omega arith in
-            let digit : is_one (f s) j ≡ is_one (f p) (j - k) = subst (λ x. is_one (f s) x ≡ is_one (f p) (j - k)) back (ap (λ x. x == 1) (moved.moved (j - k) (omega arith))) in
-            ap₂ (λ x y. x || y) (before.digit j within ∙ above_and k j (used (start + j)) high) (digit ∙ group.digit (j - k) (omega arith) ∙ ap₂ (λ t x. t && used x) same index))
-            (cases_lt j k);
-      }
+  says_group start from k c d xs m p s r e last before group moved either of_block = record {
+    of_block = of_block;
+    digit = λ j within.
+        is_one-either w (f m) (f s) (f r) j either within
+        ∙ ⊎_elim
+        (λ low. grind (arith, nat_tests, before.digit j within, moved.zeros j low))
+        (λ high. let back : j - k + k ≡ j = omega arith in grind (arith, nat_tests, back, before.digit j within, group.digit (j - k), moved.moved (j - k)))
+        (cases_lt j k);
+  }
 
   -- where a block past those is written
   pub says_kept : (start k : ℕ) (xs ys : List X) (m : X) → ((q : ℕ) → q < start + k → get_or (map f ys) q 0 ≡ get_or (map f xs) q 0) → SaysUsed w f P xs start k m → SaysUsed w f P ys start k m

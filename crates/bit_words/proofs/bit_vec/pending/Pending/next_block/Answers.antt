@@ -16,8 +16,7 @@ use Rattle.bit_words.proofs.bit_vec.pending.Pending.next_block.Goals as goal
 
 -- a pull past the end leaves nothing
 none_past_end : {X : Type 0} (xs ys : List X) (r : Option X) → YieldsFirst (λ zs. zs) xs r ys → xs ≡ [] → ys ≡ []
-none_past_end xs ys None first none = first.1
-none_past_end xs ys (Some x) first none = absurd (let e = ap length (sym none ∙ first) in omega (arith, e))
+none_past_end xs ys r first none = grind (arith, first)
 
 some_is : {A : Type 0} {x : A} → Some x ≡ None → ⊥
 some_is none = absurd (let e = none in cc)
