@@ -1,6 +1,6 @@
 -- The walk over the blocks that are not 0, by the pending bits of a summary.
-use Rattle.std.proofs.Common.{◌≡◌, ◌≢◌, ℕ, zero, suc, ◌+◌, ◌-◌, ◌*◌, ◌/◌, ◌%◌, ◌^◌, ◌<◌, ◌≤◌, true, false, not, leb, ◌&&◌, if◌then◌else◌, ◌==◌, List, [], ◌∷◌, map, drop, length, slice_get, Some, get_or, All, refl, sym, ap, subst, ◌∙◌, arith, ⊎_elim, mul-le-mul_right}
-use Rattle.std.proofs.lemmas.Bool.{cases_lt, false_from_ne_true, true≢false}
+use Rattle.std.proofs.Common.{◌≡◌, ◌≢◌, ℕ, zero, suc, ◌+◌, ◌-◌, ◌*◌, ◌/◌, ◌%◌, ◌^◌, ◌<◌, ◌≤◌, true, false, not, leb, ◌&&◌, if◌then◌else◌, ◌==◌, List, [], ◌∷◌, map, drop, length, slice_get, Some, get_or, All, refl, sym, ap, subst, ◌∙◌, arith, mul-le-mul_right, div-mul-le_self}
+use Rattle.std.proofs.lemmas.Bool.{true≢false}
 use Rattle.std.proofs.lemmas.Bool.Decides.{nat_tests}
 use Rattle.std.proofs.lemmas.List.{drop_more, drop_all, drop-map, length-drop}
 use Rattle.std.proofs.lemmas.List.Elements.{All-drop}
@@ -14,7 +14,7 @@ use Rattle.bit_words.specs.Nonzero.{nonzero_from}
 use Rattle.bit_words.specs.Pending.{CoversUsed, IsInHand, IsStoredFrom, left_from, next_at}
 use Rattle.bit_words.specs.Storage.{value_at}
 use Rattle.bit_words.specs.Summary.{is_used, short_count, KeepsSummary}
-use Rattle.bit_words.proofs.BitsLemmas.{blocks_for-least, blocks_for-past, whole_before}
+use Rattle.bit_words.proofs.BitsLemmas.{blocks_for-least, blocks_for-past}
 use Rattle.bit_words.proofs.Masks.{is_one-bit, is_one-zero}
 use Rattle.bit_words.proofs.NextAtLemmas.{before_first, first_least, first_most}
 use Rattle.bit_words.proofs.StorageLemmas.{value_at-is, value_at-index}
@@ -52,8 +52,7 @@ module _ {X : Type 0} (w : ℕ) (number : X → ℕ) (is_block : X → Type 0) w
       sym (left-passed number from (next_at w start m) xs (omega (arith, least, on)) (λ k reached below.
       let e : start + (k - start) ≡ k = omega (arith, reached, on) in
       let unset = before_first (is_one m) w (k - start) (omega (arith, below, reached, on)) in
-      false_from_ne_true (is_used (map number xs) k) (λ used.
-      true≢false (sym (covers (k - start) (omega (arith, below, most, reached, on)) (omega (arith, reached, on)) (ap (is_used (map number xs)) e ∙ used)) ∙ unset))))
+      grind (arith, e, unset, covers (k - start) (omega (arith, below, most, reached, on)) (omega (arith, reached, on)))))
 
   -- the lowest 1 is taken
   pub left-taken : (index i r : ℕ) (pending : X) (xs : List X) → IsInHand w number is_block index pending xs → IsLowest (number pending) i → i < w → IsCleared w (number pending) i r
@@ -105,12 +104,7 @@ module _ {X : Type 0} (w : ℕ) (number : X → ℕ) (is_block : X → Type 0) w
     each = stored_each w number is_block xs summary keeps;
     short = keeps.short;
     enough = λ long. let enough = stored_enough w number is_block xs summary pos keeps long in omega (arith, enough);
-    few = λ some.
-        let long = long_by_stored xs summary keeps.short some in
-        let n = length summary in
-        let last = whole_before w (length xs) (n - 1) pos (let count = (keeps.long long).packed.count in omega (arith, count, some)) in
-        let whole : n * w ≡ (n - 1) * w + w = ap (λ k. k * w) (let e : n ≡ (n - 1) + 1 = omega (arith, some) in e) ∙ omega arith in
-        omega (arith, last, whole);
+    few = λ some. grind (arith, pos, (keeps.long (long_by_stored xs summary keeps.short some)).packed.count, div-mul-le_self (length xs) w);
     digit = λ long k. (keeps.long long).digit k ∙ ap (is_used (map number xs)) (let e : k ≡ 0 + k = omega arith in e);
   }
 
@@ -136,18 +130,11 @@ module _ {X : Type 0} (w : ℕ) (number : X → ℕ) (is_block : X → Type 0) w
       }
 
   pub count_by : (n start to count : ℕ) → 0 < w → to ≡ start + n * w → n * w < count - start + w → blocks_for w (count - start) ≡ n + blocks_for w (count - to)
-  count_by n start to count pos at within =
-      blocks_for-past w n (count - start) pos within
-      ∙ ap (λ k. n + blocks_for w k) (let e : count - start - n * w ≡ count - to = omega (arith, at) in e)
+  count_by n start to count pos at within = grind (arith, blocks_for-past w n (count - start) pos within)
 
   -- they are so many of those that were to come
   pub count_past : (n start to : ℕ) (xs summary : List X) → 0 < w → to ≡ start + n * w → IsStoredFrom w number is_block start xs summary → n ≤ length summary → blocks_for w (length xs - start) ≡ n + blocks_for w (length xs - to)
-  count_past n start to xs summary pos at is there =
-      count_by n start to (length xs) pos at
-      (⊎_elim
-      (λ some. omega (arith, is.few (omega (arith, some, there)), mul-le-mul_right w there))
-      (λ none. let zero : n * w ≡ 0 * w = ap (λ k. k * w) (let e : n ≡ 0 = omega (arith, none) in e) in omega (arith, zero, pos))
-      (cases_lt 0 n))
+  count_past n start to xs summary pos at is there = count_by n start to (length xs) pos at (grind (arith, pos, is.few, mul-le-mul_right w there))
 
   -- blocks of it that are 0 are about blocks that are
   pub zeros_passed : (n start to : ℕ) (xs summary : List X) → 0 < w → to ≡ start + n * w → IsStoredFrom w number is_block start xs summary → n ≤ length summary → ((k : ℕ) → k < n → get_or (map number summary) k 0 ≡ 0) → left_from number start xs ≡ left_from number to xs
@@ -181,10 +168,8 @@ module _ {X : Type 0} (w : ℕ) (number : X → ℕ) (is_block : X → Type 0) w
   -- the digits of the next stored block
   pub CoversUsed-stored : (start : ℕ) (next : X) (xs summary rest : List X) → summary ≡ next ∷ rest → IsStoredFrom w number is_block start xs summary → CoversUsed w number xs start (number next)
   CoversUsed-stored start next xs summary rest more is = CoversUsed-exact start (number next) xs (λ j within.
-      sym (value_at-index w (map number (next ∷ rest)) 0 j within)
-      ∙ ap (λ ys. value_at w (map number ys) (0 * w + j)) (sym more)
-      ∙ is.digit (long_by_stored xs summary is.short (rw more (omega arith))) (0 * w + j)
-      ∙ ap (λ k. is_used (map number xs) (start + k)) (let e : 0 * w + j ≡ j = omega arith in e))
+      let e : 0 * w + j ≡ j = omega arith in
+      grind (arith, e, value_at-index w (map number (next ∷ rest)) 0 j within, (rw more at is.digit) (long_by_stored xs summary is.short (rw more (omega arith))) j))
 
   -- ---- the making of a walk
 
@@ -194,20 +179,14 @@ module _ {X : Type 0} (w : ℕ) (number : X → ℕ) (is_block : X → Type 0) w
     pub of_block : is_block pending
     pub cut : (j : ℕ) → j < w → is_one (number pending) j ≡ (leb (d + 1) j && is_one (number used) j)
 
-  beyond : (m d j : ℕ) → (leb (d + 1) j && is_one m j) ≡ true → (d < j) × (is_one m j ≡ true)
-  beyond m d j one = grind (arith, nat_tests)
-
   pub IsInHand-cut : (start d : ℕ) (used pending : X) (xs : List X) → All is_block xs → length xs < 2 ^ 64 → start ≤ length xs → IsCutPast start d used pending xs → IsInHand w number is_block start pending xs
   IsInHand-cut start d used pending xs each fits to_end is = record {
     each = each;
     of_block = is.of_block;
     fits = fits;
     within = to_end;
-    inside = λ j to one. is.covers.inside j to (beyond (number used) d j (sym (is.cut j to) ∙ one)).1;
-    covers = λ i j after to one some.
-        let (past, _) = beyond (number used) d i (sym (is.cut i (omega (arith, after, to))) ∙ one) in
-        let test : leb (d + 1) j ≡ true = grind (arith, nat_tests) in
-        is.cut j to ∙ ap (λ b. b && is_one (number used) j) test ∙ is.covers.covers j to some;
+    inside = λ j to one. is.covers.inside j to (grind (arith, nat_tests, is.cut j to));
+    covers = λ i j after to one some. grind (arith, nat_tests, is.cut i (omega (arith, after, to)), is.cut j to, is.covers.covers j to some);
   }
 
   pub left-cut : (start d first : ℕ) (used pending : X) (xs : List X) → d < w → first ≡ start + d → IsCutPast start d used pending xs → left_from number (next_at w start (number pending)) xs ≡ left_from number (first + 1) xs

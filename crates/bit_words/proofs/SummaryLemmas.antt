@@ -3,7 +3,7 @@ use Rattle.std.proofs.Common.{◌≡◌, ◌≢◌, ℕ, ◌+◌, ◌*◌, ◌/�
 use Rattle.std.proofs.lemmas.Bool.{cases_lt}
 use Rattle.std.proofs.lemmas.Bool.Decides.{nat_tests}
 use Rattle.std.proofs.lemmas.List.{get_or_past, length-map}
-use Rattle.std.proofs.lemmas.List.Elements.{All-nil, All-same}
+use Rattle.std.proofs.lemmas.List.Elements.{All-nil}
 use Rattle.std.proofs.lemmas.Nat.{div-mul-add}
 use Rattle.std.proofs.lemmas.Nat.Bits.{same_from_bits_below}
 use Rattle.std.specs.Global.{Vec}
@@ -135,11 +135,7 @@ stored_length w f P xs ss kept =
 
 -- there is capacity for the blocks that there are
 pub stored_each : {X : Type 0} (w : ℕ) (f : X → ℕ) (P : X → Type 0) (xs ss : List X) → KeepsSummary w f P xs ss → All P ss
-stored_each w f P xs ss is =
-    ⊎_elim
-    (λ long. (is.long long).packed.each)
-    (λ few. All-same P ss [] (is.short few) (All-nil P))
-    (cases_lt (short_count w) (length xs))
+stored_each w f P xs ss is = grind (arith, is.long, is.short, All-nil P)
 
 pub stored_enough : {X : Type 0} (w : ℕ) (f : X → ℕ) (P : X → Type 0) (xs ss : List X) → 0 < w → KeepsSummary w f P xs ss → short_count w < length xs → length xs ≤ length ss * w
 stored_enough w f P xs ss pos is long =

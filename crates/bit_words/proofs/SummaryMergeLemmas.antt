@@ -59,7 +59,7 @@ module _ {X : Type 0} (m : Merge) (w : ℕ) (f : X → ℕ) (P : X → Type 0) w
       (λ within. used_isolated m w _ _ (numbers_below w f P xs below each k) (numbers_below w f P ys below is.each k) (λ j index.
       is.merged.digit k j from within index
       ∙ ap (merge_of_values m (is_one (get_or ms k 0) j)) (ap (λ n. is_one n j) (get_or_past (map f os) k 0 (rw length-map past)) ∙ is_one-zero j)))
-      (λ (outside : length xs ≤ k). used_past (map f ys) k (rw length-map (omega (arith, is.len))) ∙ sym (ap (λ b. merge_of_values m b false) (used_past ms k (rw length-map outside)) ∙ merge_of_values-none m))
+      (λ outside. let len = is.len in grind (arith, used_past (map f ys) k, used_past (map f xs) k, length-map, merge_of_values-none m))
       (cases_lt k (length xs))
 
   -- a block of the summary whose first digits were made while blocks were merged, and whose others were merged with none
