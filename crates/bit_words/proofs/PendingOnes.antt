@@ -1,17 +1,16 @@
 -- The ones of the blocks that a walk has left.
 use Rattle.std.proofs.Common.{◌≡◌, ℕ, ◌+◌, ◌-◌, ◌*◌, ◌<◌, ◌≤◌, not, ◌==◌, List, [], ◌∷◌, map, drop, take, length, count_ones, refl, sym, ap, ◌∙◌, arith}
-use Rattle.std.proofs.lemmas.List.{drop-take, length-drop, length-take}
+use Rattle.std.proofs.lemmas.List.{drop-take, length-drop}
 use Rattle.std.proofs.lemmas.List.Sums.{sum_by-cons, sum_by-take-drop}
 use Rattle.std.proofs.Math.Seq.{drop-drop}
 use Rattle.std.proofs.lemmas.Bool.Decides.{nat_tests}
 use Rattle.bit_words.specs.Digits.{is_one}
 use Rattle.bit_words.specs.Lowest.{IsLowest}
 use Rattle.bit_words.specs.Nonzero.{nonzero_from, ones_in, ones_left}
-use Rattle.bit_words.specs.Pending.{IsInHand, IsStoredFrom, left_from, next_at}
+use Rattle.bit_words.specs.Pending.{IsStoredFrom, left_from, next_at}
 use Rattle.bit_words.specs.Storage.{value_at}
 use Rattle.bit_words.specs.Summary.{is_used, short_count}
 use Rattle.bit_words.proofs.LowestLemmas.{ones_zero}
-use Rattle.bit_words.proofs.Masks.{is_one-bit}
 use Rattle.bit_words.proofs.NextAtLemmas.{first_most, next_at-lowest, next_at-zero}
 use Rattle.bit_words.proofs.ZeroLemmas.{dropped}
 
@@ -68,9 +67,3 @@ module _ {X : Type 0} (w : ℕ) (number : X → ℕ) (is_block : X → Type 0) w
       let all = length-drop index xs in
       let enough = is.enough (omega (arith, long, most, all)) in
       omega (arith, most, all, enough)
-
-  -- the lowest pending bit is about one of the blocks of the chunk in hand
-  pub lowest_inside : (index i : ℕ) (pending : X) (xs : List X) → IsInHand w number is_block index pending xs → IsLowest (number pending) i → i < w → i ≤ length (take w (drop index xs))
-  lowest_inside index i pending xs is low within =
-      let inside = is.inside i within (is_one-bit 1 (number pending) i low.one) in
-      omega (arith, inside, within, length-take w (drop index xs), length-drop index xs)

@@ -1,4 +1,4 @@
-use Rattle.std.proofs.Common.{ℕ, ◌≡◌, ◌+◌, ◌<◌, ◌≤◌, ◌∙◌, Bool, true, false, not, None, Some, List, [], ◌∷◌, get_or, drop, length, sym, ap, ap₂, arith}
+use Rattle.std.proofs.Common.{ℕ, ◌≡◌, ◌+◌, ◌<◌, ◌∙◌, true, false, not, None, Some, List, [], ◌∷◌, get_or, drop, length, sym, ap, ap₂, arith}
 use Rattle.std.proofs.lemmas.Bool.{true≢false}
 use Rattle.std.proofs.lemmas.List.{length-drop, get_or-drop, drop_all, drop_more}
 use Rattle.std.specs.Bool.{then_some}
@@ -7,10 +7,6 @@ use Rattle.bit_words.proofs.bit_vec.blocks.Blocks.next_if.Goals as goal
 use Rattle.bit_words.proofs.bit_vec.blocks.Blocks.next_if.Goals.{Joined-wanted, then-wanted, else-wanted, then-wanted-2, else-wanted-2}
 use mir.Val.{bool_byte}
 
-at_most_1 : (b : Bool) → bool_byte b ≤ 1
-at_most_1 true = omega arith
-at_most_1 false = omega arith
-
 -- what the pull, where the block is wanted, leaves as it was, and that it is counted
 joined : (g : Over) (c : Joined-wanted g) → (c.if-wanted.self-inside.at ≡ c.self.inside.at) × (c.if-wanted.self-inside.blocks.now ≡ c.self.inside.blocks.now)
     × (c.args.wanted ≡ true → c.if-wanted.self-inside.steps ≡ c.self.inside.steps + 1) × (c.args.wanted ≡ false → c.if-wanted.self-inside ≡ c.self.inside)
@@ -18,16 +14,6 @@ joined g c = elim c.if-wanted.branch [
   | then-wanted w ↦ (ap (λ s. s.at) w.self-inside-is, ap (λ s. s.blocks.now) w.self-inside-is, λ on. ap (λ s. s.steps) w.self-inside-is ∙ w.tick.ensures, λ off. absurd (true≢false (sym w.if-wanted.true ∙ off)))
   | else-wanted w ↦ (ap (λ s. s.at) w.self-inside-is, ap (λ s. s.blocks.now) w.self-inside-is, λ on. absurd (true≢false (sym on ∙ w.if-wanted.false)), λ off. w.self-inside-is)
 ]
-
-pub overflow_add-self : goal.overflow_add-self
-overflow_add-self g c =
-    let most : c.from.result ≤ 1 = rw c.from.ensures (at_most_1 c.args.wanted) in
-    record { fits = omega (arith, most, length-drop c.if-wanted.self-inside.at c.if-wanted.self-inside.blocks.now, ap length c.as_slice.ensures, c.in-Some.ensures.item.3.0) }
-
-pub invariant_of-self-2 : goal.invariant_of-self-2
-invariant_of-self-2 g c =
-    let most : c.from.result ≤ 1 = rw c.from.ensures (at_most_1 c.args.wanted) in
-    omega (arith, most, length-drop c.if-wanted.self-inside.at c.if-wanted.self-inside.blocks.now, ap length c.as_slice.ensures, c.in-Some.ensures.item.3.0)
 
 from_first : {X : Type 0} (i k : ℕ) (xs ys : List X) (x : X) → ys ≡ drop i xs → 0 < length ys → x ≡ get_or ys 0 x → k ≡ 1 → ys ≡ x ∷ drop (i + k) xs
 from_first i k xs ys x rest some first one =

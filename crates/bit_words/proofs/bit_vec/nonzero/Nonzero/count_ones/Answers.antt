@@ -2,13 +2,10 @@ use Rattle.std.proofs.Common.{◌≡◌, ◌+◌, take, drop, sym, ap, ◌∙◌
 use Rattle.std.proofs.lemmas.Bool.Decides.{nat_tests}
 use Rattle.std.proofs.lemmas.List.Elements.{All-take, All-drop}
 use Rattle.bit_words.specs.Nonzero.{ones_in, ones_left}
-use Rattle.bit_words.proofs.PendingOnes.{enough_rest, left-ones_split, left-ones_past, left-ones_rest, lowest_inside, tells_rest}
+use Rattle.bit_words.proofs.PendingOnes.{enough_rest, left-ones_split, left-ones_past, left-ones_rest, tells_rest}
 use Rattle.bit_words.proofs.bit_vec.nonzero.Nonzero.count_ones.Given.{Over}
 use Rattle.bit_words.proofs.bit_vec.nonzero.Nonzero.count_ones.Goals.{After-ones_of}
 use Rattle.bit_words.proofs.bit_vec.nonzero.Nonzero.count_ones.Goals as goal
-
-pub split_at-requires : goal.split_at-requires
-split_at-requires g c = c.self.invariant.hand.within
 
 pub ones_by_summary-ones-requires : goal.ones_by_summary-ones-requires
 ones_by_summary-ones-requires g c =
@@ -36,12 +33,6 @@ returns-then-not-is_nonzero g c =
     ∙ ap (ones_in number) (c.first_blocks.ensures.rest ∙ ap (drop g.B.BitBlock.width) c.split_at.ensures.back)
     ∙ sym (left-ones_past g.B.BitBlock.width number g.B.BitBlock.is_block it.pending.index (number it.pending.bits) it.blocks.now used_up)
     ∙ ap (λ walk. ones_left number walk.left) c.self.view_is
-
-pub split_at-requires-2 : goal.split_at-requires-2
-split_at-requires-2 g c =
-    let it = c.self.inside in
-    let lowest = c.take_lowest_one.ensures in
-    rw (c.first_blocks.ensures.first, c.split_at.ensures.back) (lowest_inside g.B.BitBlock.width g.B.BitBlock.number g.B.BitBlock.is_block it.pending.index c.take_lowest_one.result it.pending.bits it.blocks.now c.self.invariant.hand lowest.lowest lowest.within)
 
 pub ones_of-requires : goal.ones_of-requires
 ones_of-requires g c =
