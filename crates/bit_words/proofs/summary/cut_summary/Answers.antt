@@ -1,7 +1,10 @@
 use Rattle.std.proofs.Common.{◌∙◌, ◌-◌, length, arith}
 use Rattle.bit_words.proofs.BitsLemmas.{blocks_for-above}
-use Rattle.bit_words.proofs.SummaryLemmas.{keeps_all, summary_updated}
+use Rattle.bit_words.proofs.SummaryLemmas.{keeps_all, keeps_none, summary_updated}
 use Rattle.bit_words.proofs.summary.cut_summary.Goals as goal
+
+pub returns-then-is_short-clause-summary : goal.returns-then-is_short-clause-summary
+returns-then-is_short-clause-summary g c = keeps_none _ _ _ _ _ (c.is_short.ensures.short c.if-is_short.true) c.clear.ensures.items
 
 pub update_summary_at-requires-clause-in_summary : goal.update_summary_at-requires-clause-in_summary
 update_summary_at-requires-clause-in_summary g c =

@@ -1,4 +1,4 @@
-use Rattle.std.proofs.Common.{◌≡◌, ◌*◌, ◌^◌, ◌<◌, ◌≤◌, ◌∙◌, not, map, sym, ap, ap₂, refl, arith, ⊎_elim}
+use Rattle.std.proofs.Common.{◌≡◌, ◌*◌, ◌^◌, ◌<◌, ◌≤◌, ◌==◌, ◌∙◌, not, map, get_or, get_or-take, sym, ap, ap₂, refl, arith, ⊎_elim}
 use Rattle.std.proofs.lemmas.Bool.{cases_lt}
 use Rattle.bit_words.specs.Bits.{blocks_for, capacity_of, true_end}
 use Rattle.bit_words.specs.Storage.{values_of}
@@ -18,13 +18,37 @@ used g c =
     let w = g.B.BitBlock.width in
     used_blocks-true_end w (map f c.self.inside.blocks.items) c.used_by_summary-count.result c.args.self.now.values g.met.B.BitBlock.width_law.positive (numbers_below w f _ _ (λ x is. (g.met.B.BitBlock.number_law x is).0) c.self.invariant.packed.each) (value_in_view _ _ _ _ _ c.self.view_is c.self.invariant.packed.tail) (rw c.deref.ensures.value at c.used_by_summary-count.ensures.zeros) (rw c.deref.ensures.value at c.used_by_summary-count.ensures.last)
 
-pub returns-in_default-clause-len : goal.returns-in_default-clause-len
-returns-in_default-clause-len g c =
+pub used_by_summary-count-requires : goal.used_by_summary-count-requires
+used_by_summary-count-requires g c = record {
+  each = rw c.deref.ensures.value c.self.invariant.packed.each;
+  summary = rw (c.deref.ensures.value, c.deref-2.ensures.value) c.self.invariant.summary;
+}
+
+pub returns-in_default : goal.returns-in_default
+returns-in_default g c =
     let w = g.B.BitBlock.width in
     let count = c.used_by_summary-count.result in
     let over = rw c.bits.ensures at c.in_default.ensures in
     let past : 2 ^ 64 ≤ count * w = ⊎_elim (λ fits. absurd (over fits)) (λ (out : 2 ^ 64 ≤ count * w). out) (cases_lt (count * w) (2 ^ 64)) in
-    sym (whole_blocks-past w count c.args.self.now.values (used g (goal.at.returns-in_default-clause-len g c).After-used_by_summary-count) past)
+    record {
+      true_values = λ i. (λ one. one, λ one. one);
+      len = sym (whole_blocks-past w count c.args.self.now.values (used g (goal.at.returns-in_default g c).After-used_by_summary-count) past);
+      capacity = refl;
+    }
+
+pub truncate_blocks-requires-clause-each : goal.truncate_blocks-requires-clause-each
+truncate_blocks-requires-clause-each g c = c.self.invariant.packed.each
+
+pub cut_summary-requires-clause-blocks : goal.cut_summary-requires-clause-blocks
+cut_summary-requires-clause-blocks g c = rw c.deref-3.ensures.value c.truncate_blocks.ensures.each
+
+pub cut_summary-requires-clause-before : goal.cut_summary-requires-clause-before
+cut_summary-requires-clause-before g c = λ long k.
+    let count = c.used_by_summary-count.result in
+    let ms = map g.B.BitBlock.number c.self.inside.blocks.items in
+    rw c.deref-3.ensures.value (λ before.
+    (c.self.invariant.summary.long (omega (arith, long))).digit k
+    ∙ ap (λ m. not (m == 0)) (sym (ap (λ xs. get_or xs k 0) c.truncate_blocks.ensures.numbers ∙ get_or-take count ms k 0 (omega (arith, before, c.truncate_blocks.ensures.len)))))
 
 pub invariant_of-self : goal.invariant_of-self
 invariant_of-self g c =
@@ -43,10 +67,11 @@ invariant_of-self g c =
 
 pub returns : goal.returns
 returns g c =
+    let f = g.B.BitBlock.number in
     let w = g.B.BitBlock.width in
     let count = c.used_by_summary-count.result in
-    let ms = map g.B.BitBlock.number c.self.inside.blocks.items in
-    let ns = map g.B.BitBlock.number c.truncate_blocks.new.blocks.items in
+    let ms = map f c.self.inside.blocks.items in
+    let ns = map f c.truncate_blocks.new.blocks.items in
     let n = c.in-Some.len in
     let len : n ≡ count * w = rw c.bits.ensures at c.in-Some.ensures.1 in
     let fits : count * w < 2 ^ 64 = rw c.bits.ensures at c.in-Some.ensures.0 in

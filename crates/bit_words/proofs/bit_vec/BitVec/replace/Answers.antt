@@ -1,7 +1,8 @@
-use Rattle.std.proofs.Common.{◌≡◌, ℕ, ◌+◌, ◌*◌, ◌/◌, ◌%◌, ◌<◌, ◌∙◌, ◌==◌, Bool, true, List, not, sym, ap, length, set, Some, arith, map, mod-lt, div-add-mod'}
+use Rattle.std.proofs.Common.{◌≡◌, ℕ, ◌≤◌, ◌+◌, ◌*◌, ◌/◌, ◌%◌, ◌<◌, ◌∙◌, ◌==◌, Bool, true, List, not, sym, ap, ap₂, length, vec_capacity, set, Some, arith, map, mod-lt, div-add-mod'}
 use Rattle.std.specs.Global.{Vec}
+use Rattle.bit_words.specs.Bits.{capacity_of}
 use Rattle.bit_words.specs.Storage.{value_at, IsPacked, WritesInPlace, WritesValue}
-use Rattle.bit_words.specs.Summary.{is_used, short_count}
+use Rattle.bit_words.specs.Summary.{is_used, shared_capacity, short_count}
 use Rattle.bit_words.proofs.BitsLemmas.{blocks_for-above}
 use Rattle.bit_words.proofs.StorageLemmas.{values_of-set}
 use Rattle.bit_words.proofs.SummaryLemmas.{changed_summary, keeps_all, keeps_none, used_from_true}
@@ -34,7 +35,9 @@ in_blocks g c =
 
 -- where the list is not short a summary is stored
 many : (g : Over) (c : Else-is_short g) → short_count g.B.BitBlock.width < length c.self.inside.blocks.items
-many g c = omega (arith, c.is_short.ensures.long c.if-is_short.false)
+many g c =
+    let long = c.is_short.ensures.long c.if-is_short.false in
+    omega (arith, long)
 
 -- and the block is in one of its blocks
 in_chunks : (g : Over) (c : Else-is_short g) → c.args.i / g.B.BitBlock.width < length c.self.inside.blocks.items → c.args.i / g.B.BitBlock.width / g.B.BitBlock.width < length c.self.inside.summary.items
@@ -42,46 +45,70 @@ in_chunks g c inside =
     let above = blocks_for-above g.B.BitBlock.width (length c.self.inside.blocks.items) (c.args.i / g.B.BitBlock.width) g.met.B.BitBlock.width_law.positive inside in
     omega (arith, above, (c.self.invariant.summary.long (many g c)).packed.count)
 
-pub replace_bit-requires-clause-in_bounds : goal.replace_bit-requires-clause-in_bounds
-replace_bit-requires-clause-in_bounds g c = omega (arith, in_blocks g (goal.at.replace_bit-requires-clause-in_bounds g c).After-self)
+pub replace_bit-requires : goal.replace_bit-requires
+replace_bit-requires g c = record {
+  in_bounds = let inside = in_blocks g (goal.at.replace_bit-requires g c).After-self in omega (arith, inside);
+  each = c.self.invariant.packed.each;
+}
 
 pub invariant_of-self : goal.invariant_of-self
 invariant_of-self g c =
-    let few = c.is_short.ensures.short c.if-is_short.true in
+    let short = c.is_short.ensures.short c.if-is_short.true in
+    let few : length c.self.inside.blocks.items ≤ short_count g.B.BitBlock.width = omega arith in
     let value = c.replace_bit.ensures.value in
     let in_place = c.replace_bit.ensures.in_place in
     record {
       packed = replaced_packed g.B.BitBlock.width c.self.inside.len c.args.i g.B.BitBlock.number g.B.BitBlock.is_block c.self.inside.blocks c.replace_bit.new.blocks _ (in_list g (goal.at.invariant_of-self g c).After-self) c.self.invariant.packed value in_place;
-      summary = keeps_none _ _ _ _ _ (omega arith) (c.self.invariant.summary.short (omega arith));
+      summary = keeps_none _ _ _ _ _ (omega arith) (c.self.invariant.summary.short few);
     }
 
-pub returns-then-is_short-clause-was : goal.returns-then-is_short-clause-was
-returns-then-is_short-clause-was g c = rw (← c.self.view_is) (slice_get-values_of _ _ _ _ (in_list g (goal.at.returns-then-is_short-clause-was g c).After-self) ∙ ap Some (sym c.replace_bit.ensures.was))
+pub returns-then-is_short : goal.returns-then-is_short
+returns-then-is_short g c =
+    let w = g.B.BitBlock.width in
+    let within = in_list g (goal.at.returns-then-is_short g c).After-self in
+    let value = c.replace_bit.ensures.value in
+    record {
+      was = rw (← c.self.view_is) (slice_get-values_of _ _ _ _ within ∙ ap Some (sym c.replace_bit.ensures.was));
+      values = values_of-set _ _ _ _ _ _ within value.same value.others ∙ ap (λ v. set v.values c.args.i c.args.bit) c.self.view_is;
+      capacity = ap (λ n. capacity_of w (shared_capacity w n (vec_capacity c.self.inside.summary))) c.replace_bit.ensures.in_place.capacity ∙ ap (λ v. v.capacity) c.self.view_is;
+    }
 
-pub returns-then-is_short-clause-values : goal.returns-then-is_short-clause-values
-returns-then-is_short-clause-values g c =
-    values_of-set _ _ _ _ _ _ (in_list g (goal.at.returns-then-is_short-clause-values g c).After-self) c.replace_bit.ensures.value.same c.replace_bit.ensures.value.others ∙ ap (λ v. set v.values c.args.i c.args.bit) c.self.view_is
+pub block_at-current-requires : goal.block_at-current-requires
+block_at-current-requires g c =
+    let at = goal.at.block_at-current-requires g c in
+    let long = many g at.Else-is_short in
+    rw c.deref.ensures.value (record {
+      in_bounds = rw (c.block_index.ensures, c.block_index-k.ensures) (in_chunks g at.Else-is_short (in_blocks g at.After-self));
+      each = (c.self.invariant.summary.long long).packed.each;
+    })
 
-pub block_at-current-requires-clause-in_bounds : goal.block_at-current-requires-clause-in_bounds
-block_at-current-requires-clause-in_bounds g c =
-    let at = goal.at.block_at-current-requires-clause-in_bounds g c in
-    rw (c.deref.ensures.value, c.block_index.ensures, c.block_index-k.ensures) (in_chunks g at.Else-is_short (in_blocks g at.After-self))
+pub replace_bit-was-requires : goal.replace_bit-was-requires
+replace_bit-was-requires g c = record {
+  in_bounds = let inside = in_blocks g (goal.at.replace_bit-was-requires g c).After-self in omega (arith, inside);
+  each = c.self.invariant.packed.each;
+}
 
-pub replace_bit-was-requires-clause-in_bounds : goal.replace_bit-was-requires-clause-in_bounds
-replace_bit-was-requires-clause-in_bounds g c = omega (arith, in_blocks g (goal.at.replace_bit-was-requires-clause-in_bounds g c).After-self)
+pub block_at-block-requires : goal.block_at-block-requires
+block_at-block-requires g c = rw c.deref-2.ensures.value (record {
+  in_bounds = let inside = in_blocks g (goal.at.block_at-block-requires g c).After-self in omega (arith, inside);
+  each = c.replace_bit-was.ensures.in_place.each;
+})
 
-pub block_at-block-requires-clause-in_bounds : goal.block_at-block-requires-clause-in_bounds
-block_at-block-requires-clause-in_bounds g c = rw c.deref-2.ensures.value (omega (arith, in_blocks g (goal.at.block_at-block-requires-clause-in_bounds g c).After-self))
-
-pub update_summary_bit-requires-clause-in_summary : goal.update_summary_bit-requires-clause-in_summary
-update_summary_bit-requires-clause-in_summary g c =
-    let at = goal.at.update_summary_bit-requires-clause-in_summary g c in
-    rw c.block_index-k.ensures (omega (arith, in_chunks g at.Else-is_short (in_blocks g at.After-self)))
-
-pub update_summary_bit-requires-clause-tail_set : goal.update_summary_bit-requires-clause-tail_set
-update_summary_bit-requires-clause-tail_set g c = λ tail_set.
-    ap (λ m. not (m == 0)) (rw c.deref-2.ensures.value at c.block_at-block.ensures.of_number)
-    ∙ used_at g.B.BitBlock.width _ c.args.i c.block_index-k.result g.met.B.BitBlock.width_law.positive c.block_index-k.ensures (c.replace_bit-was.ensures.value.same ∙ tail_set)
+pub update_summary_bit-requires : goal.update_summary_bit-requires
+update_summary_bit-requires g c =
+    let at = goal.at.update_summary_bit-requires g c in
+    let inside = in_chunks g at.Else-is_short (in_blocks g at.After-self) in
+    let number = rw c.deref-2.ensures.value at c.block_at-block.ensures.of_number in
+    record {
+      in_summary = rw c.block_index-k.ensures (omega (arith, inside));
+      each = (c.self.invariant.summary.long (many g at.Else-is_short)).packed.each;
+      of_current = c.block_at-current.ensures.of_block;
+      read = rw (← c.block_index.ensures) (rw c.deref.ensures.value at c.block_at-current.ensures.of_number);
+      of_block = c.block_at-block.ensures.of_block;
+      tail_set = λ tail_set.
+          ap (λ m. not (m == 0)) number
+          ∙ used_at g.B.BitBlock.width _ c.args.i c.block_index-k.result g.met.B.BitBlock.width_law.positive c.block_index-k.ensures (c.replace_bit-was.ensures.value.same ∙ tail_set);
+    }
 
 pub invariant_of-self-2 : goal.invariant_of-self-2
 invariant_of-self-2 g c =
@@ -98,9 +125,13 @@ invariant_of-self-2 g c =
           c.self.invariant.packed.each c.block_index-k.ensures (omega (arith, inside)) was.value was.in_place (c.self.invariant.summary.long long) (ap (λ m. not (m == 0)) number) c.update_summary_bit.ensures.value c.update_summary_bit.ensures.in_place);
     }
 
-pub returns-clause-was : goal.returns-clause-was
-returns-clause-was g c = rw (← c.self.view_is) (slice_get-values_of _ _ _ _ (in_list g (goal.at.returns-clause-was g c).After-self) ∙ ap Some (sym c.replace_bit-was.ensures.was))
-
-pub returns-clause-values : goal.returns-clause-values
-returns-clause-values g c =
-    values_of-set _ _ _ _ _ _ (in_list g (goal.at.returns-clause-values g c).After-self) c.replace_bit-was.ensures.value.same c.replace_bit-was.ensures.value.others ∙ ap (λ v. set v.values c.args.i c.args.bit) c.self.view_is
+pub returns : goal.returns
+returns g c =
+    let w = g.B.BitBlock.width in
+    let within = in_list g (goal.at.returns g c).After-self in
+    let was = c.replace_bit-was.ensures in
+    record {
+      was = rw (← c.self.view_is) (slice_get-values_of _ _ _ _ within ∙ ap Some (sym was.was));
+      values = values_of-set _ _ _ _ _ _ within was.value.same was.value.others ∙ ap (λ v. set v.values c.args.i c.args.bit) c.self.view_is;
+      capacity = ap₂ (λ n m. capacity_of w (shared_capacity w n m)) was.in_place.capacity c.update_summary_bit.ensures.in_place.capacity ∙ ap (λ v. v.capacity) c.self.view_is;
+    }

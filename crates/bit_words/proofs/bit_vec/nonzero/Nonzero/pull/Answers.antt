@@ -1,30 +1,95 @@
-use Rattle.std.proofs.Common.{◌≡◌, ◌==◌, true, false, sym, ◌∙◌, arith}
-use Rattle.std.proofs.lemmas.Bool.{not-false, not-true}
+use Rattle.std.proofs.Common.{◌≡◌, Bool, true, false, not, ◌==◌, ◌∷◌, if◌then◌else◌, length, refl, sym, ap, subst, ◌∙◌, arith}
+use Rattle.std.proofs.lemmas.Bool.{eqb-false}
+use Rattle.std.proofs.lemmas.Option.{get_or_from_slice_get}
+use Rattle.bit_words.specs.Pending.{left_from, next_at}
+use Rattle.bit_words.proofs.bit_vec.nonzero.Nonzero.pull.Given.{Over}
+use Rattle.bit_words.proofs.bit_vec.nonzero.Nonzero.pull.Goals.{After-at-block}
 use Rattle.bit_words.proofs.bit_vec.nonzero.Nonzero.pull.Goals as goal
+
+turned : (b c : Bool) → not b ≡ c → b ≡ not c
+turned true c e = ap not e
+turned false c e = ap not e
+
+-- what was read is a block
+lawful : (g : Over) (c : After-at-block g) → g.B.BitBlock.is_block c.at-block.result
+lawful g c =
+    let x = c.at-block.result in
+    let k = c.in-Some.k in
+    subst g.B.BitBlock.is_block (get_or_from_slice_get c.loop-k.self-inside.blocks.now k x x c.at-block.ensures) (c.loop-k.invariant.walk.hand.each k x c.in-Some.ensures.found.inside)
+
+-- it comes, or is 0
+item : (g : Over) (c : After-at-block g) (zero : Bool) → (g.B.BitBlock.number c.at-block.result == 0) ≡ zero
+    → c.args.self.now.left
+    ≡ (if zero then left_from g.B.BitBlock.number (next_at g.B.BitBlock.width c.next_block.new.self.index (g.B.BitBlock.number c.next_block.new.self.bits)) c.loop-k.self-inside.blocks.now
+    else (c.in-Some.k, c.at-block.result) ∷ left_from g.B.BitBlock.number (next_at g.B.BitBlock.width c.next_block.new.self.index (g.B.BitBlock.number c.next_block.new.self.bits)) c.loop-k.self-inside.blocks.now)
+item g c zero test =
+    let rest = left_from g.B.BitBlock.number (next_at g.B.BitBlock.width c.next_block.new.self.index (g.B.BitBlock.number c.next_block.new.self.bits)) c.loop-k.self-inside.blocks.now in
+    sym c.loop-k.invariant.same
+    ∙ c.in-Some.ensures.found.item c.at-block.result c.at-block.ensures
+    ∙ ap (λ b. if b then rest else (c.in-Some.k, c.at-block.result) ∷ rest) test
+
+pub loop-k-init : goal.loop-k-init
+loop-k-init g c =
+    let is = c.self.view_is in
+    let pulls = ap (λ v. v.pulls) is in
+    let sums = ap (λ v. v.summary_pulls) is in
+    let left = ap (λ v. v.summary_left) is in
+    record {
+      walk = c.self.invariant;
+      same = ap (λ v. v.left) is;
+      kept = ap (λ v. v.blocks) is;
+      counted = omega (arith, c.tick.ensures, pulls);
+      pulled = omega (arith, sums, left);
+      goes_on = omega (arith, sums);
+    }
+
+pub next_block-requires : goal.next_block-requires
+next_block-requires g c = record { walk = c.loop-k.invariant.walk }
+
+pub is_nonzero-requires : goal.is_nonzero-requires
+is_nonzero-requires g c = lawful g (goal.at.is_nonzero-requires g c).After-at-block
 
 pub returns-then-is_nonzero-clause-steps : goal.returns-then-is_nonzero-clause-steps
 returns-then-is_nonzero-clause-steps g c =
     let before = c.loop-k.invariant in
-    let step = c.in-Some.ensures.found in
-    let some : (g.B.BitBlock.number c.at-block.result == 0) ≡ false = not-true _ (sym c.is_nonzero.ensures ∙ c.if-is_nonzero.true) in
     record {
-      item = sym before.same ∙ (rw some at (step.item c.at-block.result c.at-block.ensures));
+      item = item g (goal.at.returns-then-is_nonzero-clause-steps g c).After-at-block false (turned _ _ (sym c.is_nonzero.ensures ∙ c.if-is_nonzero.true));
       same = before.kept;
       counted = before.counted;
-      goes_on = omega (arith, before.goes_on, step.goes_on);
-      summary = omega (arith, before.pulled, step.summary);
+      goes_on = omega (arith, before.goes_on, c.in-Some.ensures.found.goes_on);
+      summary = omega (arith, before.pulled, c.in-Some.ensures.found.summary);
     }
+
+pub returns-then-is_nonzero-clause-found : goal.returns-then-is_nonzero-clause-found
+returns-then-is_nonzero-clause-found g c =
+    let blocks = ap length c.loop-k.invariant.kept in
+    let some = eqb-false _ _ (turned _ _ (sym c.is_nonzero.ensures ∙ c.if-is_nonzero.true)) in
+    (omega (arith, blocks, c.in-Some.ensures.found.inside), lawful g (goal.at.returns-then-is_nonzero-clause-found g c).After-at-block, omega (arith, some))
+
+pub loop-k-smaller : goal.loop-k-smaller
+loop-k-smaller g c = let step = c.in-Some.ensures.found in omega (arith, step.onward, step.inside)
 
 pub loop-k-preserved : goal.loop-k-preserved
 loop-k-preserved g c =
     let before = c.loop-k.invariant in
-    let step = c.in-Some.ensures.found in
-    let none : (g.B.BitBlock.number c.at-block.result == 0) ≡ true = not-false _ (sym c.is_nonzero.ensures ∙ c.if-is_nonzero.false) in
     record {
       walk = c.in-Some.ensures.walk;
-      same = sym (rw none at (step.item c.at-block.result c.at-block.ensures)) ∙ before.same;
+      same = sym (item g (goal.at.loop-k-preserved g c).After-at-block true (turned _ _ (sym c.is_nonzero.ensures ∙ c.if-is_nonzero.false)));
       kept = before.kept;
       counted = before.counted;
-      pulled = omega (arith, before.pulled, step.summary);
+      pulled = omega (arith, before.pulled, c.in-Some.ensures.found.summary);
+      goes_on = omega (arith, before.goes_on, c.in-Some.ensures.found.goes_on);
+    }
+
+pub returns-clause-steps : goal.returns-clause-steps
+returns-clause-steps g c =
+    let before = c.loop-k.invariant in
+    let step = c.in_default.ensures.found in
+    let (none_before, none_left) = step.ended refl in
+    record {
+      item = (sym before.same ∙ none_before, none_left);
+      same = before.kept;
+      counted = before.counted;
       goes_on = omega (arith, before.goes_on, step.goes_on);
+      summary = (omega (arith, before.pulled, step.summary.0), step.summary.1);
     }

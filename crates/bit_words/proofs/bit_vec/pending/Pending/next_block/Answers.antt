@@ -1,4 +1,4 @@
-use Rattle.std.proofs.Common.{◌≡◌, ℕ, ◌+◌, ◌-◌, ◌*◌, ◌<◌, ◌≤◌, ◌==◌, ◌∷◌, if◌then◌else◌, List, [], Option, None, Some, length, sym, ap, ◌∙◌, subst, arith, ⊎_elim, mul-le-mul_right}
+use Rattle.std.proofs.Common.{◌≡◌, ℕ, ◌+◌, ◌-◌, ◌*◌, ◌<◌, ◌≤◌, ◌==◌, ◌∷◌, if◌then◌else◌, List, [], Option, None, Some, length, refl, sym, ap, ◌∙◌, subst, arith, ⊎_elim, mul-le-mul_right}
 use Rattle.std.proofs.lemmas.Bool.{cases_lt}
 use Rattle.std.proofs.lemmas.Bool.Decides.{nat_tests}
 use Rattle.std.proofs.lemmas.List.{drop_all}
@@ -135,6 +135,39 @@ loop-self-preserved g c =
       pulled = omega (arith, before.pulled, pull.pulls, c.pass_zero_chunks.ensures.pulls, to.count, count_by w number is_block 1 start (start + w) (length xs) pos (omega arith) (omega (arith, more)));
       goes_on = omega (arith, before.goes_on, pull.pulls, c.pass_zero_chunks.ensures.pulls);
     })
+
+pub loop-self-init : goal.loop-self-init
+loop-self-init g c = record {
+  walk = c.requires.walk;
+  same = refl;
+  onward = omega arith;
+  pulled = refl;
+  goes_on = omega arith;
+}
+
+pub overflow_sub-blocks : goal.overflow_sub-blocks
+overflow_sub-blocks g c = c.loop-self.invariant.walk.hand.within
+
+pub pass_zero_chunks-requires : goal.pass_zero_chunks-requires
+pass_zero_chunks-requires g c = record { each = c.loop-self.invariant.walk.stored.each }
+
+pub overflow_mul-self : goal.overflow_mul-self
+overflow_mul-self g c = let hand = (passed g c).walk.hand in record { fits = omega (arith, hand.within, hand.fits) }
+
+pub overflow_add-self : goal.overflow_add-self
+overflow_add-self g c = let hand = (passed g c).walk.hand in record { fits = omega (arith, hand.within, hand.fits) }
+
+pub overflow_sub-blocks-in-loop-self : goal.overflow_sub-blocks-in-loop-self
+overflow_sub-blocks-in-loop-self g c = (passed g (goal.at.overflow_sub-blocks-in-loop-self g c).After-bits).walk.hand.within
+
+pub loop-self-smaller : goal.loop-self-smaller
+loop-self-smaller g c = omega (arith, c.if-blocks-self.false, c.bits-in-loop-self.ensures, c.bits-in-loop-self-2.ensures, g.met.B.BitBlock.width_law.positive)
+
+pub overflow_add-result : goal.overflow_add-result
+overflow_add-result g c =
+    let hand = c.loop-self.invariant.walk.hand in
+    let taken = c.take_lowest_one.ensures in
+    record { fits = omega (arith, hand.inside c.take_lowest_one.result taken.within (is_one-bit 1 (g.B.BitBlock.number c.loop-self.self.bits) c.take_lowest_one.result taken.lowest.one), hand.fits) }
 
 pub returns : goal.returns
 returns g c =

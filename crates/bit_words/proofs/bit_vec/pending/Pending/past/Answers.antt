@@ -55,3 +55,19 @@ returns g c =
       pulls = omega (arith, c.pull_used-used.ensures.pulls, c.over-rest.ensures.pulls);
       count = count_from w (first / w) start (length xs) pos (omega arith) (omega (arith, whole, c.requires.inside));
     })
+
+pub nonzero_div-chunk : goal.nonzero_div-chunk
+nonzero_div-chunk g c = rw c.bits.ensures g.met.B.BitBlock.width_law.positive
+
+pub overflow_mul-index : goal.overflow_mul-index
+overflow_mul-index g c = rw (c.bits.ensures, c.bits-2.ensures) (record { fits = omega (arith, div-add-mod' c.args.first g.B.BitBlock.width, c.ranges.first.fits) })
+
+pub split_at-requires : goal.split_at-requires
+split_at-requires g c = omega (arith, c.min.ensures)
+
+pub nonzero_rem-first : goal.nonzero_rem-first
+nonzero_rem-first g c = rw c.bits-3.ensures g.met.B.BitBlock.width_law.positive
+
+pub overflow_add-first : goal.overflow_add-first
+overflow_add-first g c =
+    rw c.bits-3.ensures (record { fits = omega (arith, mod-lt c.args.first g.met.B.BitBlock.width_law.positive, g.met.B.BitBlock.width_law.fits) })
