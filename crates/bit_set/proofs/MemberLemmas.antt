@@ -47,18 +47,21 @@ count_without values t n was is says =
     ∙ ap (λ b. length (without (elements values) n) + cond b 1 0) says
     ∙ length-without (elements values) n (IsAscending-elements values)
 
+-- without its first an ascending list is the others
+pub without_least : (low : ℕ) (s : List ℕ) (x : ℕ) (t : List ℕ) → AscendsFrom low s → s ≡ x ∷ t → without s x ≡ t
+without_least low s x t up is =
+    let ascending : IsAscending (x ∷ t) = subst IsAscending is (AscendsFrom-lower low 0 s (omega arith) up) in
+    ap (λ u. without u x) is ∙ without-first x t ascending
+
 -- the first of an ascending list is taken out
 pub takes_least : (low : ℕ) (s : List ℕ) (x : ℕ) (t : List ℕ) → AscendsFrom low s → s ≡ x ∷ t → TakesLeast s x t
 takes_least low s x t up is =
     let ascending : IsAscending (x ∷ t) = subst IsAscending is (AscendsFrom-lower low 0 s (omega arith) up) in
-    let rest : without s x ≡ t = ap (λ u. without u x) is ∙ without-first x t ascending in
-    let taken : TakesLeast s x t = record {
+    record {
       is_in = ap (λ u. has u x) is ∙ ap (λ b. b || has t x) (eq-eqb x x refl);
       least = λ n within. least-first x t n ascending (ap (λ u. has u n) (sym is) ∙ within);
-      others = updates_without s t x (sym rest);
-      rest = rest;
-    } in
-    taken
+      others = updates_without s t x (sym (without_least low s x t up is));
+    }
 
 -- a write of the list
 pub updates_written : (values : List Bool) (i : ℕ) (bit : Bool) → i < length values → Updates (elements values) (elements (set values i bit)) i bit

@@ -3,7 +3,7 @@ use Rattle.std.specs.Prelude.{◌≡◌, ℕ, ◌≤◌, Bool, false, not, ◌&&
 use Rattle.bit_words.specs.Merges.{merge_of_values}
 use Rattle.bit_words.specs.declared.block.merge.Merge.{Merge}
 use Rattle.bit_words.specs.Bounds.{greatest}
-use Rattle.bit_set.specs.Sets.{elements, has, without}
+use Rattle.bit_set.specs.Sets.{elements, has}
 
 -- no number is in the set
 abbrev pub HasNone : List ℕ → Type 0
@@ -25,12 +25,11 @@ KeepsBelow old new n = (m : ℕ) → has new m ≡ (nat_lt m n && has old m)
 abbrev pub KeepsFrom : List ℕ → List ℕ → ℕ → Type 0
 KeepsFrom old new n = (m : ℕ) → has new m ≡ (nat_le n m && has old m)
 
--- x is in the set s, and the least in it; t is s without it
+-- x is in the set s, and the least in it; t has the others
 pub record TakesLeast (s : List ℕ) (x : ℕ) (t : List ℕ) : Type 0 where
   pub is_in : IsTrue (has s x)
   pub least : (n : ℕ) → IsTrue (has s n) → x ≤ n
   pub others : Updates s t x false
-  pub rest : without s x ≡ t
 
 -- each number of the set s is in t
 abbrev pub IsSubset : List ℕ → List ℕ → Type 0

@@ -64,6 +64,7 @@ pub fn items_in_two_parts()
 /// The first of a set whose list ascends is the least, and the others are the set without it.
 pub fn first_of_a_set()
     ensures taken { (s t : List ℕ) (x : ℕ) → IsAscending s → s ≡ x ∷ t → TakesLeast s x t }
+    ensures rest { (s t : List ℕ) (x : ℕ) → IsAscending s → s ≡ x ∷ t → without s x ≡ t }
 {}
 
 /// What each operation gives is strictly ascending. A test says what `without`, `those_below`, `intersection` and
