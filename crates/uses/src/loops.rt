@@ -140,6 +140,20 @@ pub fn remove_members<A: BitBlock, B: BitBlock>(set: &mut BitSet<A>, other: &Bit
     }
 }
 
+/// Puts the members of another set in, which may have another block type.
+#[tactic(auto, using(std::proofs::lemmas::Bool::Decides::nat_tests))]
+pub fn insert_members<A: BitBlock, B: BitBlock>(
+    set: &mut BitSet<A>,
+    other: &BitSet<B>,
+) -> Result<(), SetError>
+    ensures { OnOk result (IsUnion (elements set.old.values) (elements other.now.values) (elements set.new.values)) }
+{
+    for member in other {
+        set.insert(member)?;
+    }
+    Ok(())
+}
+
 /// The even members.
 pub fn even_members<B: BitBlock>(alloc: Global, set: &BitSet<B>) -> Result<BitSet<B>, SetError>
     ensures { IfOk result (λ evens. (x : ℕ) → has (elements evens.values) x

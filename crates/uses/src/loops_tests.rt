@@ -96,6 +96,11 @@ fn members_are_taken_out(rt: HostRuntime) {
     has_members(&rt, &set, &[1, 3, 70]);
     remove_members(&mut set, &set_of::<u64>(&rt, rt.alloc(), &[3, 100]));
     has_members(&rt, &set, &[1, 70]);
+    ok(
+        &rt,
+        insert_members(&mut set, &set_of::<u64>(&rt, rt.alloc(), &[3, 70])),
+    );
+    has_members(&rt, &set, &[1, 3, 70]);
 }
 
 #[test]
