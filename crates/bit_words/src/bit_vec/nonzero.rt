@@ -163,6 +163,7 @@ impl<'a, B: BitBlock> Iterator for Nonzero<'a, B> {
     }
 }
 
+// The block itself: what `block_at` says is its number.
 #[inline]
 fn at<B: BitBlock>(blocks: &[B], k: usize) -> B
     requires { k < length blocks.now }
