@@ -1,13 +1,13 @@
 -- What the first mismatch of lists of blocks says of the sets that they hold.
-use Rattle.std.proofs.Common.{◌≡◌, ◌≢◌, ℕ, ◌+◌, ◌*◌, ◌/◌, ◌%◌, ◌^◌, ◌<◌, ◌≤◌, Bool, true, false, not, eqb, List, get_or, length, sym, ap, ◌∙◌, ◌↔◌, subst, inl, inr, arith, ⊎_elim}
+use Rattle.std.proofs.Common.{◌≡◌, ℕ, ◌+◌, ◌*◌, ◌/◌, ◌%◌, ◌^◌, ◌<◌, ◌≤◌, Bool, true, false, not, eqb, List, get_or, length, sym, ap, ◌∙◌, ◌↔◌, subst, inl, inr, arith, ⊎_elim}
 use Rattle.std.specs.Bool.{OnTrue, OnFalse}
 use Rattle.std.specs.Cmp.Lexicographic.{bytes_decides}
 use Rattle.std.specs.Prelude.{IsTrue, Option, Some, None, MatchOption, is_some}
 use Rattle.std.specs.Int.{bit_at}
-use Rattle.std.proofs.lemmas.Bool.{cases_lt, cases_eq, cases_Bool, not-false}
+use Rattle.std.proofs.lemmas.Bool.{cases_eq, cases_Bool, not-false}
 use Rattle.std.proofs.lemmas.Bool.Decides.{nat_tests}
 use Rattle.std.proofs.lemmas.Nat.Bits.{bit_at-lt, bit_at-zero, same_from_bits_below}
-use Rattle.std.proofs.Math.Nat.{div-add-mod', mod-lt, mul-le-mul_right}
+use Rattle.std.proofs.Math.Nat.{div-add-mod', mod-lt, mul-le-mul_right, lt_of_mul-lt-mul_right}
 use Rattle.bit_words.specs.Bits.{blocks_of, digit_of}
 use Rattle.bit_words.specs.Mismatches.{IsFirstBlockMismatch, IsFirstNonzeroBlock, IsLowestMismatch}
 use Rattle.bit_words.proofs.BitsLemmas.{blocks_of-digit, blocks_of-lt, read_back}
@@ -18,6 +18,7 @@ use Rattle.bit_set.specs.Order.{same_sets}
 use Rattle.bit_set.proofs.OrderLemmas.{same_where_all_agree}
 use Rattle.bit_set.proofs.SetLemmas.{has-elements}
 use Rattle.bit_set.proofs.SubsetLemmas.{same_tests}
+use Rattle.std.proofs.lemmas.Nat.{le-div}
 use Rattle.bit_set.proofs.ValueLemmas.{has-within}
 
 -- ---- the blocks of a list of truth values
@@ -53,14 +54,6 @@ same_by_blocks w xs ys b pos tells =
     same_tests b (same_sets (elements xs) (elements ys)) (λ is. sym (same_where_all_agree xs ys (all_alike w xs ys pos (tells.0 is))))
     (λ same. tells.1 (λ q. alike_where_same w q xs ys (λ k. ap (λ u. has u k) ((bytes_decides (elements xs) (elements ys)).0 same))))
 
--- a number below a place of a block is in an earlier block, or in that block below the place
-earlier : (w at i k : ℕ) → 0 < w → i < w → k < at * w + i → ((k / w) ≢ at → (k / w) < at)
-earlier w at i k pos within below other =
-    elim (cases_lt (k / w) (at + 1)) [
-      | inl lower ↦ omega (arith, other, lower)
-      | inr past ↦ absurd (omega (arith, mul-le-mul_right w past, div-add-mod' k w))
-    ]
-
 one_of_two : (a b : ℕ) → a < 2 → b < 2 → a + b ≡ 1 → eqb a 1 ≡ not (eqb b 1)
 one_of_two a b small also sum = grind (arith, nat_tests)
 
@@ -72,7 +65,7 @@ first_mismatch_is w at i xs ys pos first lowest = record {
       has-number w k xs pos
       ∙ ap (λ d. eqb d 1) (elim (cases_eq (k / w) at) as (λ _. bit_at (get_or (blocks_of w xs) (k / w) 0) (k % w) ≡ bit_at (get_or (blocks_of w ys) (k / w) 0) (k % w)) [
         | inl here ↦ rw here (lowest.below (k % w) (omega (arith, div-add-mod' k w, ap (λ q. q * w) here)))
-        | inr other ↦ ap (λ m. bit_at m (k % w)) (first.below (k / w) (earlier w at i k pos lowest.within below other))
+        | inr other ↦ ap (λ m. bit_at m (k % w)) (first.below (k / w) (let reached : k / w < at + 1 = lt_of_mul-lt-mul_right w (omega (arith, div-add-mod' k w, below, lowest.within)) in omega (arith, other, reached)))
       ])
       ∙ sym (has-number w k ys pos);
   here =
@@ -89,11 +82,18 @@ first_within xs ys n first left right =
 
 -- ---- what a set has from a number on
 
-pub has_in_block : (w from m j : ℕ) (ms : List ℕ) (values : List Bool) → ms ≡ blocks_of w values → m ≡ get_or ms (from / w) 0 → from % w ≤ j → j < w → bit_at m j ≡ 1 → (k : ℕ) × (from ≤ k) × (has (elements values) k ≡ true)
+-- some number that is not below `from` is an element, and none is
+abbrev SomeFrom : List Bool → ℕ → Type 0
+SomeFrom values from = (k : ℕ) × (from ≤ k) × (has (elements values) k ≡ true)
+
+abbrev NoneFrom : List Bool → ℕ → Type 0
+NoneFrom values from = (k : ℕ) → from ≤ k → has (elements values) k ≡ false
+
+pub has_in_block : (w from m j : ℕ) (ms : List ℕ) (values : List Bool) → ms ≡ blocks_of w values → m ≡ get_or ms (from / w) 0 → from % w ≤ j → j < w → bit_at m j ≡ 1 → SomeFrom values from
 has_in_block w from m j ms values are is past within one =
     (from / w * w + j, omega (arith, div-add-mod' from w), has-index w (from / w) j values within ∙ ap (λ x. eqb (bit_at x j) 1) (sym (is ∙ ap (λ bs. get_or bs (from / w) 0) are)) ∙ ap (λ d. eqb d 1) one)
 
-has_past_block : (w from q : ℕ) (ms : List ℕ) (values : List Bool) → 0 < w → ms ≡ blocks_of w values → IsFirstNonzeroBlock ms (from / w + 1) q → (k : ℕ) × (from ≤ k) × (has (elements values) k ≡ true)
+has_past_block : (w from q : ℕ) (ms : List ℕ) (values : List Bool) → 0 < w → ms ≡ blocks_of w values → IsFirstNonzeroBlock ms (from / w + 1) q → SomeFrom values from
 has_past_block w from q ms values pos are found_one =
     let first = subst (λ bs. IsFirstNonzeroBlock bs (from / w + 1) q) are found_one in
     let m = get_or (blocks_of w values) q 0 in
@@ -104,28 +104,17 @@ has_past_block w from q ms values pos are found_one =
       has-index w q found.0 values found.1.within ∙ ap (λ d. eqb d 1) found.1.lowest.one,
     )
 
-has_none : (w from m : ℕ) (ms : List ℕ) (values : List Bool) → 0 < w → ms ≡ blocks_of w values → m ≡ get_or ms (from / w) 0 → ((j : ℕ) → from % w ≤ j → bit_at m j ≡ 0) → ((q : ℕ) → from / w + 1 ≤ q → get_or ms q 0 ≡ 0)
-    → (k : ℕ) → from ≤ k → has (elements values) k ≡ false
+has_none : (w from m : ℕ) (ms : List ℕ) (values : List Bool) → 0 < w → ms ≡ blocks_of w values → m ≡ get_or ms (from / w) 0 → ((j : ℕ) → from % w ≤ j → bit_at m j ≡ 0) → ((q : ℕ) → from / w + 1 ≤ q → get_or ms q 0 ≡ 0) → NoneFrom values from
 has_none w from m ms values pos are is in_block past k above =
     has-number w k values pos
     ∙ ap (λ bs. eqb (bit_at (get_or bs (k / w) 0) (k % w)) 1) (sym are)
-    ∙ ap (λ d. eqb d 1) (elim (cases_lt (k / w) (from / w)) as (λ _. bit_at (get_or ms (k / w) 0) (k % w) ≡ 0) [
-      | inl below ↦ absurd (omega (arith, mul-le-mul_right w (let e : k / w + 1 ≤ from / w = omega arith in e), div-add-mod' from w, div-add-mod' k w, mod-lt k pos))
-      | inr reached ↦
-          elim (cases_eq (k / w) (from / w)) as (λ _. bit_at (get_or ms (k / w) 0) (k % w) ≡ 0) [
-            | inl here ↦ ap (λ q. bit_at (get_or ms q 0) (k % w)) here ∙ ap (λ x. bit_at x (k % w)) (sym is) ∙ in_block (k % w) (omega (arith, div-add-mod' k w, div-add-mod' from w, ap (λ q. q * w) here))
-            | inr other ↦ ap (λ m. bit_at m (k % w)) (past (k / w) (omega (arith, other, reached))) ∙ bit_at-zero (k % w)
-          ]
+    ∙ ap (λ d. eqb d 1) (elim (cases_eq (k / w) (from / w)) as (λ _. bit_at (get_or ms (k / w) 0) (k % w) ≡ 0) [
+      | inl here ↦ ap (λ q. bit_at (get_or ms q 0) (k % w)) here ∙ ap (λ x. bit_at x (k % w)) (sym is) ∙ in_block (k % w) (omega (arith, div-add-mod' k w, div-add-mod' from w, ap (λ q. q * w) here))
+      | inr other ↦ ap (λ m. bit_at m (k % w)) (past (k / w) (omega (arith, other, le-div (from / w) k w pos (omega (arith, div-add-mod' from w, above))))) ∙ bit_at-zero (k % w)
     ])
 
 -- what a search past the block says of the set
-pub some_past : (w from : ℕ) (ms : List ℕ) (values : List Bool) (r : Option ℕ) (b : Bool) → 0 < w → ms ≡ blocks_of w values → MatchOption r ((q : ℕ) → from / w + 1 ≤ q → get_or ms q 0 ≡ 0) (IsFirstNonzeroBlock ms (from / w + 1)) → b ≡ is_some r
-    → OnTrue b ((k : ℕ) × (from ≤ k) × (has (elements values) k ≡ true))
-some_past w from ms values None b pos are found is = subst (λ t. OnTrue t ((k : ℕ) × (from ≤ k) × (has (elements values) k ≡ true))) (sym is) tt
-some_past w from ms values (Some q) b pos are found is = subst (λ t. OnTrue t ((k : ℕ) × (from ≤ k) × (has (elements values) k ≡ true))) (sym is) (has_past_block w from q ms values pos are found)
-
-pub none_past : (w from m : ℕ) (ms : List ℕ) (values : List Bool) (r : Option ℕ) (b : Bool) → 0 < w → ms ≡ blocks_of w values → m ≡ get_or ms (from / w) 0 → ((j : ℕ) → from % w ≤ j → bit_at m j ≡ 0)
-    → MatchOption r ((q : ℕ) → from / w + 1 ≤ q → get_or ms q 0 ≡ 0) (IsFirstNonzeroBlock ms (from / w + 1)) → b ≡ is_some r
-    → OnFalse b ((k : ℕ) → from ≤ k → has (elements values) k ≡ false)
-none_past w from m ms values None b pos are m_is in_block found is = subst (λ t. OnFalse t ((k : ℕ) → from ≤ k → has (elements values) k ≡ false)) (sym is) (has_none w from m ms values pos are m_is in_block found)
-none_past w from m ms values (Some q) b pos are m_is in_block found is = subst (λ t. OnFalse t ((k : ℕ) → from ≤ k → has (elements values) k ≡ false)) (sym is) tt
+pub past_tells : (w from m : ℕ) (ms : List ℕ) (values : List Bool) (r : Option ℕ) (b : Bool) → 0 < w → ms ≡ blocks_of w values → m ≡ get_or ms (from / w) 0 → ((j : ℕ) → from % w ≤ j → bit_at m j ≡ 0)
+    → MatchOption r ((q : ℕ) → from / w + 1 ≤ q → get_or ms q 0 ≡ 0) (IsFirstNonzeroBlock ms (from / w + 1)) → b ≡ is_some r → OnTrue b (SomeFrom values from) × OnFalse b (NoneFrom values from)
+past_tells w from m ms values None b pos are m_is in_block found is = rw is (tt, has_none w from m ms values pos are m_is in_block found)
+past_tells w from m ms values (Some q) b pos are m_is in_block found is = rw is (has_past_block w from q ms values pos are found, tt)

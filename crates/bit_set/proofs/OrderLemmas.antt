@@ -1,16 +1,17 @@
 -- How two sets compare, from the least number that just one of them has.
-use Rattle.std.proofs.Common.{◌≡◌, ℕ, zero, suc, ◌+◌, ◌<◌, ◌≤◌, Bool, true, false, not, ltb, List, [], ◌∷◌, get_or, refl, sym, ap, ◌∙◌, arith}
+use Rattle.std.proofs.Common.{◌≡◌, ℕ, ◌+◌, ◌<◌, ◌≤◌, Bool, true, false, not, ltb, List, [], ◌∷◌, refl, sym, ap, ◌∙◌, arith, ⊎_elim, inl, inr, ◌||◌}
 use Rattle.std.proofs.Math.Bool.{not-not}
-use Rattle.std.proofs.lemmas.Bool.{true≢false, lt-ltb, not-false, not-true}
+use Rattle.std.proofs.lemmas.Bool.{true≢false, lt-ltb, not-false, cases_order, ne_eqb, cases_lt, both_ways}
 use Rattle.std.specs.Cmp.{nat_cmp_total, tied_itself}
 use Rattle.std.specs.Cmp.Lexicographic.{nat_list_cmp_total, bytes_decides}
 use Rattle.std.specs.Ordering.{nat_cmp, ordering_then, ordering_reverse, MatchOrdering}
 use Rattle.std.specs.declared.cmp.Ordering.{Ordering}
 use Rattle.std.specs.declared.cmp.Ordering.TheVariants.{Less, Equal, Greater}
-use Rattle.bit_set.specs.Sets.{elements_from, elements, has, AscendsFrom}
+use Rattle.bit_set.specs.Sets.{elements, has, AscendsFrom}
 use Rattle.bit_set.specs.Order.{order_of_sets, same_sets}
 use Rattle.bit_set.specs.Mismatches.{IsFirstMismatch}
-use Rattle.bit_set.proofs.SetLemmas.{has-elements, has-elements_from, AscendsFrom-elements_from, IsAscending-elements, same_members}
+use Rattle.std.proofs.lemmas.Bool.Decides.{nat_tests}
+use Rattle.bit_set.proofs.SetLemmas.{IsAscending-elements, same_members, has-below, has-first}
 
 -- lists with one first number compare as the others do
 pub order-cons : (p : ℕ) (s t : List ℕ) → order_of_sets (p ∷ s) (p ∷ t) ≡ order_of_sets s t
@@ -22,72 +23,55 @@ order-first p y s t below =
     let less : nat_cmp p y ≡ Less = (let is : ltb p y ≡ true = lt-ltb p y below in rw is refl) in
     ap (λ o. ordering_then o (order_of_sets s t)) less
 
--- so it does before any greater ones, where there is one
-order-before : (p : ℕ) (s t : List ℕ) (k : ℕ) → AscendsFrom (p + 1) t → has t k ≡ true → order_of_sets (p ∷ s) t ≡ Less
-order-before p s [] k up is = absurd (true≢false (sym is))
-order-before p s (y ∷ t) k up is = order-first p y s t (omega (arith, up.0))
-
--- no true value gives no element
-none_true : (p : ℕ) (bs : List Bool) → ((k : ℕ) → get_or bs k false ≡ false) → elements_from p bs ≡ []
-none_true p [] none = refl
-none_true p (true ∷ bs) none = absurd (true≢false (none 0))
-none_true p (false ∷ bs) none = none_true (p + 1) bs (λ k. none (suc k))
-
--- a true value gives an element, and so a list that comes behind the empty one
-some_true : (p j : ℕ) (bs : List Bool) → get_or bs j false ≡ true → order_of_sets (elements_from p bs) [] ≡ Greater
-some_true p j [] is = absurd (true≢false (sym is))
-some_true p j (true ∷ bs) is = refl
-some_true p zero (false ∷ bs) is = absurd (true≢false (sym is))
-some_true p (suc j) (false ∷ bs) is = some_true (p + 1) j bs is
-
--- Below n the values agree; from n on the second list has no true value, and the first has one.
-order-ends : (p n j : ℕ) (xs ys : List Bool) → ((k : ℕ) → k < n → get_or xs k false ≡ get_or ys k false) → ((k : ℕ) → n ≤ k → get_or ys k false ≡ false) → n ≤ j → get_or xs j false ≡ true
-    → order_of_sets (elements_from p xs) (elements_from p ys) ≡ Greater
-order-ends p zero j xs ys same none past is = ap (order_of_sets (elements_from p xs)) (none_true p ys (λ k. none k (omega arith))) ∙ some_true p j xs is
-order-ends p (suc n) j [] ys same none past is = absurd (true≢false (sym is))
-order-ends p (suc n) j (x ∷ xs) [] same none past is = some_true p j (x ∷ xs) is
-order-ends p (suc n) zero (x ∷ xs) (y ∷ ys) same none past is = absurd (omega arith)
-order-ends p (suc n) (suc j) (true ∷ xs) (true ∷ ys) same none past is =
-    order-cons p (elements_from (p + 1) xs) (elements_from (p + 1) ys)
-    ∙ order-ends (p + 1) n j xs ys (λ k below. same (suc k) (omega arith)) (λ k from. none (suc k) (omega arith)) (omega arith) is
-order-ends p (suc n) (suc j) (true ∷ xs) (false ∷ ys) same none past is = absurd (true≢false (same 0 (omega arith)))
-order-ends p (suc n) (suc j) (false ∷ xs) (true ∷ ys) same none past is = absurd (true≢false (sym (same 0 (omega arith))))
-order-ends p (suc n) (suc j) (false ∷ xs) (false ∷ ys) same none past is =
-    order-ends (p + 1) n j xs ys (λ k below. same (suc k) (omega arith)) (λ k from. none (suc k) (omega arith)) (omega arith) is
-
--- Below n the values agree; at n the first list alone is true, and the second is true further on.
-order-goes_on : (p n j : ℕ) (xs ys : List Bool) → ((k : ℕ) → k < n → get_or xs k false ≡ get_or ys k false) → get_or xs n false ≡ true → get_or ys n false ≡ false → n ≤ j → get_or ys j false ≡ true
-    → order_of_sets (elements_from p xs) (elements_from p ys) ≡ Less
-order-goes_on p n j [] ys same one none past is = absurd (true≢false (sym one))
-order-goes_on p n j (x ∷ xs) [] same one none past is = absurd (true≢false (sym is))
-order-goes_on p zero j (false ∷ xs) (y ∷ ys) same one none past is = absurd (true≢false (sym one))
-order-goes_on p zero j (true ∷ xs) (true ∷ ys) same one none past is = absurd (true≢false none)
-order-goes_on p zero zero (true ∷ xs) (false ∷ ys) same one none past is = absurd (true≢false (sym is))
-order-goes_on p zero (suc j) (true ∷ xs) (false ∷ ys) same one none past is =
-    order-before p (elements_from (p + 1) xs) (elements_from (p + 1) ys) (p + 1 + j) (AscendsFrom-elements_from (p + 1) ys) (has-elements_from (p + 1) ys j ∙ is)
-order-goes_on p (suc n) zero (x ∷ xs) (y ∷ ys) same one none past is = absurd (omega arith)
-order-goes_on p (suc n) (suc j) (true ∷ xs) (true ∷ ys) same one none past is =
-    order-cons p (elements_from (p + 1) xs) (elements_from (p + 1) ys)
-    ∙ order-goes_on (p + 1) n j xs ys (λ k below. same (suc k) (omega arith)) one none (omega arith) is
-order-goes_on p (suc n) (suc j) (true ∷ xs) (false ∷ ys) same one none past is = absurd (true≢false (same 0 (omega arith)))
-order-goes_on p (suc n) (suc j) (false ∷ xs) (true ∷ ys) same one none past is = absurd (true≢false (sym (same 0 (omega arith))))
-order-goes_on p (suc n) (suc j) (false ∷ xs) (false ∷ ys) same one none past is =
-    order-goes_on (p + 1) n j xs ys (λ k below. same (suc k) (omega arith)) one none (omega arith) is
-
 -- ---- by members
 
-agree : (xs ys : List Bool) (n : ℕ) → IsFirstMismatch (elements xs) (elements ys) n → (k : ℕ) → k < n → get_or xs k false ≡ get_or ys k false
-agree xs ys n d k below = sym (has-elements xs k) ∙ d.below k below ∙ has-elements ys k
+-- what r says of the members of t from n on: there is one, or none
+abbrev Tells : Ordering → ℕ → List ℕ → Type 0
+Tells r n t = MatchOrdering r ((k : ℕ) × (n ≤ k) × (has t k ≡ true)) ⊥ ((k : ℕ) → n ≤ k → has t k ≡ false)
 
--- The set that has the first number that differs is less where the other goes on past it.
-pub holder_first : (xs ys : List Bool) (n k : ℕ) → IsFirstMismatch (elements xs) (elements ys) n → has (elements xs) n ≡ true → n ≤ k → has (elements ys) k ≡ true → order_of_sets (elements xs) (elements ys) ≡ Less
-holder_first xs ys n k d holds past is =
-    order-goes_on 0 n k xs ys (agree xs ys n d) (sym (has-elements xs n) ∙ holds) (sym (has-elements ys n) ∙ not-true (has (elements ys) n) (sym d.here ∙ holds)) past (sym (has-elements ys k) ∙ is)
+tells_alike : (r : Ordering) (n : ℕ) (t u : List ℕ) → ((k : ℕ) → n ≤ k → has t k ≡ has u k) → Tells r n t → Tells r n u
+tells_alike Less n t u same told = (told.0, told.1, sym (same told.0 told.1) ∙ told.2)
+tells_alike Equal n t u same told = told
+tells_alike Greater n t u same told = λ k from. sym (same k from) ∙ told k from
 
--- It is greater where the other ends before it.
-pub holder_last : (xs ys : List Bool) (n : ℕ) → IsFirstMismatch (elements xs) (elements ys) n → has (elements xs) n ≡ true → ((k : ℕ) → n ≤ k → has (elements ys) k ≡ false) → order_of_sets (elements xs) (elements ys) ≡ Greater
-holder_last xs ys n d holds none =
-    order-ends 0 n n xs ys (agree xs ys n d) (λ k from. sym (has-elements ys k) ∙ none k from) (omega arith) (sym (has-elements xs n) ∙ holds)
+tells_less : (r : Ordering) (n k : ℕ) (t : List ℕ) → Tells r n t → n ≤ k → has t k ≡ true → r ≡ Less
+tells_less Less n k t told from is = refl
+tells_less Equal n k t told from is = absurd told
+tells_less Greater n k t told from is = absurd (true≢false (sym is ∙ told k from))
+
+tells_greater : (r : Ordering) (n : ℕ) → Tells r n [] → r ≡ Greater
+tells_greater Less n told = absurd (true≢false (sym told.2))
+tells_greater Equal n told = absurd told
+tells_greater Greater n told = refl
+
+-- behind a first number of both, the rests differ as the sets do
+rest_alike : (x k : ℕ) (xs ys : List ℕ) → AscendsFrom (x + 1) xs → AscendsFrom (x + 1) ys → has (x ∷ xs) k ≡ has (x ∷ ys) k → has xs k ≡ has ys k
+rest_alike x k xs ys up up_too same = let one = has-below (x + 1) xs k up in let other = has-below (x + 1) ys k up_too in grind (arith, nat_tests)
+
+rest_apart : (x n : ℕ) (xs ys : List ℕ) → AscendsFrom (x + 1) xs → has (x ∷ xs) n ≡ not (has (x ∷ ys) n) → has (x ∷ xs) n ≡ true → (x < n) × (has xs n ≡ not (has ys n)) × (has xs n ≡ true)
+rest_apart x n xs ys up apart holds = let below = has-below (x + 1) xs n up in grind (arith, nat_tests)
+
+-- where the first set has the least number n that just one of them has, r is how it compares to the other
+by_members : (low n : ℕ) (s t : List ℕ) (r : Ordering) → AscendsFrom low s → AscendsFrom low t → IsFirstMismatch s t n → has s n ≡ true → Tells r n t → r ≡ order_of_sets s t
+by_members low n [] t r up up_too d holds told = absurd (true≢false (sym holds))
+by_members low n (x ∷ xs) [] r up up_too d holds told = tells_greater r n told
+by_members low n (x ∷ xs) (y ∷ ys) r up up_too d holds told =
+    elim (cases_order x y) [
+      | inl same ↦
+          let there : AscendsFrom (x + 1) ys = rw same up_too.1 in
+          let second : y ∷ ys ≡ x ∷ ys = ap (λ z. z ∷ ys) (sym same) in
+          let rest = rest_apart x n xs ys up.1 (d.here ∙ ap (λ u. not (has u n)) second) holds in
+          by_members (x + 1) n xs ys r up.1 there (record { below = λ k under. rest_alike x k xs ys up.1 there (d.below k under ∙ ap (λ u. has u k) second); here = rest.1 }) rest.2
+          (tells_alike r n (y ∷ ys) ys (λ k from. ap (λ b. b || has ys k) (ne_eqb y k (λ e. omega (arith, e, same, rest.0, from)))) told)
+          ∙ sym (order-cons x xs ys)
+          ∙ ap (order_of_sets (x ∷ xs)) (sym second)
+      | inr (inl less) ↦
+          let past : n ≤ x = ⊎_elim (λ (before : x < n). absurd (both_ways (has (y ∷ ys) x) (has-below y (y ∷ ys) x (omega arith, up_too.1) less) (sym (d.below x before) ∙ has-first x xs))) (λ (from : n ≤ x). from) (cases_lt x n) in
+          tells_less r n y (y ∷ ys) told (omega (arith, past, less)) (has-first y ys) ∙ sym (order-first x y xs ys less)
+      | inr (inr more) ↦
+          let early : n < x = ⊎_elim (λ (before : y < n). absurd (both_ways (has (x ∷ xs) y) (has-below x (x ∷ xs) y (omega arith, up.1) more) (d.below y before ∙ has-first y ys))) (λ (from : n ≤ y). omega (arith, from, more)) (cases_lt y n) in
+          absurd (both_ways (has (x ∷ xs) n) (has-below x (x ∷ xs) n (omega arith, up.1) early) holds)
+    ]
 
 -- where two sets first differ is seen from either
 pub swapped : (s t : List ℕ) (n : ℕ) → IsFirstMismatch s t n → IsFirstMismatch t s n
@@ -99,16 +83,11 @@ order-swapped s t = nat_list_cmp_total.antisymm s t
 -- ---- what the walk over the blocks found
 
 -- the holder's side of the order, as found
-pub by_holder : (xs ys : List Bool) (n : ℕ) (r : Ordering) → IsFirstMismatch (elements xs) (elements ys) n → has (elements xs) n ≡ true
-    → MatchOrdering r ((k : ℕ) × (n ≤ k) × (has (elements ys) k ≡ true)) ⊥ ((k : ℕ) → n ≤ k → has (elements ys) k ≡ false)
-    → r ≡ order_of_sets (elements xs) (elements ys)
-by_holder xs ys n Less d holds found = sym (holder_first xs ys n found.0 d holds found.1 found.2)
-by_holder xs ys n Equal d holds found = absurd found
-by_holder xs ys n Greater d holds found = sym (holder_last xs ys n d holds found)
+pub by_holder : (xs ys : List Bool) (n : ℕ) (r : Ordering) → IsFirstMismatch (elements xs) (elements ys) n → has (elements xs) n ≡ true → Tells r n (elements ys) → r ≡ order_of_sets (elements xs) (elements ys)
+by_holder xs ys n r = by_members 0 n (elements xs) (elements ys) r (IsAscending-elements xs) (IsAscending-elements ys)
 
 -- the other side of the order, where the other set has the number
-pub by_other_holder : (xs ys : List Bool) (n : ℕ) (r : Ordering) → IsFirstMismatch (elements xs) (elements ys) n → has (elements xs) n ≡ false
-    → MatchOrdering r ((k : ℕ) × (n ≤ k) × (has (elements xs) k ≡ true)) ⊥ ((k : ℕ) → n ≤ k → has (elements xs) k ≡ false)
+pub by_other_holder : (xs ys : List Bool) (n : ℕ) (r : Ordering) → IsFirstMismatch (elements xs) (elements ys) n → has (elements xs) n ≡ false → Tells r n (elements xs)
     → ordering_reverse r ≡ order_of_sets (elements xs) (elements ys)
 by_other_holder xs ys n r d lacks found =
     ap ordering_reverse (by_holder ys xs n r (swapped _ _ n d) (not-false (has (elements ys) n) (sym d.here ∙ lacks)) found) ∙ sym (order-swapped (elements xs) (elements ys))

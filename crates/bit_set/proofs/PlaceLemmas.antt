@@ -1,40 +1,35 @@
 -- The indexes of the ones of blocks: a block of zeros, the lowest one, how many there are, and those of a list of truth
 -- values.
-use Rattle.std.proofs.Common.{◌≡◌, ℕ, zero, suc, ◌+◌, ◌-◌, ◌*◌, ◌/◌, ◌%◌, ◌^◌, ◌<◌, ◌≤◌, Bool, true, false, cond, eqb, List, [], ◌∷◌, ◌++◌, length, get_or, All, count_ones, refl, sym, ap, ◌∙◌, subst, inl, inr, arith}
+use Rattle.std.proofs.Common.{◌≡◌, ℕ, zero, suc, ◌+◌, ◌-◌, ◌*◌, ◌/◌, ◌%◌, ◌^◌, ◌<◌, ◌≤◌, Bool, true, false, cond, eqb, List, [], ◌∷◌, ◌++◌, length, get_or, All, count_ones, refl, sym, ap, ◌∙◌, subst, inl, inr, arith, ap₂}
 use Rattle.std.specs.Int.{bit_at}
-use Rattle.std.specs.List.{sum_by, range_with_len}
+use Rattle.std.specs.List.{sum_by, range_with_len, count_by}
 use Rattle.std.proofs.lemmas.Bool.{cases_lt}
 use Rattle.std.proofs.lemmas.Nat.Bits.{bit_at-lt}
 use Rattle.std.proofs.lemmas.List.{length-append, get_or_append_left, get_or-append_right}
 use Rattle.std.proofs.lemmas.List.Elements.{All-nil, All-cons}
-use Rattle.std.proofs.lemmas.List.Sums.{sum_by-cons}
+use Rattle.std.proofs.lemmas.List.Sums.{sum_by-cons, sum_by-append}
 use Rattle.std.proofs.Math.Nat.{div-add-mod', mod-lt}
 use Rattle.bit_words.proofs.BitsLemmas.{blocks_of-digit, read_back}
 use Rattle.bit_words.proofs.OnesLemmas.{ones_are_digits}
 use Rattle.bit_words.proofs.Masks.{is_one-bit, is_one-zero}
-use Rattle.bit_set.proofs.SetLemmas.{AscendsFrom-elements_from, elements-alike, length-elements-le, length-elements_from_both}
+use Rattle.bit_set.proofs.SetLemmas.{AscendsFrom-elements_from, elements-alike, length-elements-le, length-elements_from_both, length-elements}
 use Rattle.std.proofs.lemmas.List.FromFn.{length-map-range_with_len, get_or-map-range_with_len}
 use Rattle.bit_words.specs.Bits.{blocks_of}
 use Rattle.bit_words.specs.Lowest.{IsLowest, IsCleared}
 use Rattle.bit_words.specs.Digits.{is_one}
 use Rattle.bit_set.specs.Sets.{AscendsFrom, elements_from, elements}
 use Rattle.bit_set.specs.Places.{digits_from, values_in, indexes}
+use Rattle.std.proofs.lemmas.Bool.Decides.{nat_tests}
 
 -- digits that are 0 are passed over
 zeros_passed : (a w p : ℕ) (bs : List Bool) → elements_from p (digits_from 0 a w ++ bs) ≡ elements_from (p + w) bs
 zeros_passed a zero p bs = ap (λ n. elements_from n bs) (let e : p ≡ p + zero = omega arith in e)
-zeros_passed a (suc w) p bs =
-    ap (λ b. cond b (p ∷ elements_from (p + 1) (digits_from 0 (a + 1) w ++ bs)) (elements_from (p + 1) (digits_from 0 (a + 1) w ++ bs))) (is_one-zero a)
-    ∙ zeros_passed (a + 1) w (p + 1) bs
-    ∙ ap (λ n. elements_from n bs) (let e : p + 1 + w ≡ p + suc w = omega arith in e)
+zeros_passed a (suc w) p bs = rw (is_one-zero a) (zeros_passed (a + 1) w (p + 1) bs ∙ ap (λ n. elements_from n bs) (let e : p + 1 + w ≡ p + suc w = omega arith in e))
 
 -- digits that are the same
 same_digits : (m r a w : ℕ) → ((k : ℕ) → a ≤ k → k < a + w → bit_at r k ≡ bit_at m k) → digits_from r a w ≡ digits_from m a w
 same_digits m r a zero same = refl
-same_digits m r a (suc w) same =
-    let here : is_one r a ≡ is_one m a = ap (λ n. eqb n 1) (same a (omega arith) (omega arith)) in
-    let rest : digits_from r (a + 1) w ≡ digits_from m (a + 1) w = same_digits m r (a + 1) w (λ k low high. same k (omega arith) (omega arith)) in
-    ap (λ b. b ∷ digits_from r (a + 1) w) here ∙ ap (λ bs. is_one m a ∷ bs) rest
+same_digits m r a (suc w) same = ap₂ (λ b bs. b ∷ bs) (ap (λ n. eqb n 1) (same a (omega arith) (omega arith))) (same_digits m r (a + 1) w (λ k low high. same k (omega arith) (omega arith)))
 
 -- the lowest 1 comes first, and then the ones of the digits without it
 lowest_from : (m r i a w p : ℕ) (bs : List Bool) → IsLowest m i → IsCleared (a + w) m i r → a ≤ i → i < a + w → elements_from p (digits_from m a w ++ bs) ≡ (p + (i - a)) ∷ elements_from p (digits_from r a w ++ bs)
@@ -44,23 +39,16 @@ lowest_from m r i a (suc w) p bs low cleared from within =
       | inl below ↦
           let none : is_one m a ≡ false = is_one-bit 0 m a (low.zeros a below) in
           let none_there : is_one r a ≡ false = is_one-bit 0 r a (cleared.kept a (omega arith) (λ e. omega (arith, e)) ∙ low.zeros a below) in
-          let along : a + 1 + w ≡ a + suc w = omega arith in
-          let index : p + 1 + (i - (a + 1)) ≡ p + (i - a) = omega arith in
-          let rest = lowest_from m r i (a + 1) w (p + 1) bs low (subst (λ x. IsCleared x m i r) (sym along) cleared) (omega arith) (omega arith) in
-          ap (λ b. cond b (p ∷ elements_from (p + 1) (digits_from m (a + 1) w ++ bs)) (elements_from (p + 1) (digits_from m (a + 1) w ++ bs))) none
-          ∙ rest
-          ∙ ap (λ x. x ∷ elements_from (p + 1) (digits_from r (a + 1) w ++ bs)) index
-          ∙ ap (λ b. (p + (i - a)) ∷ cond b (p ∷ elements_from (p + 1) (digits_from r (a + 1) w ++ bs)) (elements_from (p + 1) (digits_from r (a + 1) w ++ bs))) (sym none_there)
+          let along : a + suc w ≡ a + 1 + w = omega arith in
+          let index : p + (i - a) ≡ p + 1 + (i - (a + 1)) = omega arith in
+          rw (none, none_there, index) (lowest_from m r i (a + 1) w (p + 1) bs low (subst (λ x. IsCleared x m i r) along cleared) (omega arith) (omega arith))
       | inr past ↦
           let here : i ≡ a = omega arith in
           let one : is_one m a ≡ true = is_one-bit 1 m a (ap (bit_at m) (sym here) ∙ low.one) in
-          let none_there : is_one r a ≡ false = is_one-bit 0 r a (ap (bit_at r) (sym here) ∙ cleared.cleared) in
-          let index : p ≡ p + (i - a) = omega arith in
+          let none : is_one r a ≡ false = is_one-bit 0 r a (ap (bit_at r) (sym here) ∙ cleared.cleared) in
           let rest : digits_from r (a + 1) w ≡ digits_from m (a + 1) w = same_digits m r (a + 1) w (λ k from_next inside. cleared.kept k (omega arith) (λ e. omega (arith, e))) in
-          ap (λ b. cond b (p ∷ elements_from (p + 1) (digits_from m (a + 1) w ++ bs)) (elements_from (p + 1) (digits_from m (a + 1) w ++ bs))) one
-          ∙ ap (λ x. x ∷ elements_from (p + 1) (digits_from m (a + 1) w ++ bs)) index
-          ∙ ap (λ ds. (p + (i - a)) ∷ elements_from (p + 1) (ds ++ bs)) (sym rest)
-          ∙ ap (λ b. (p + (i - a)) ∷ cond b (p ∷ elements_from (p + 1) (digits_from r (a + 1) w ++ bs)) (elements_from (p + 1) (digits_from r (a + 1) w ++ bs))) (sym none_there)
+          let index : p + (i - a) ≡ p = omega arith in
+          rw (one, none, rest, index) refl
     ]
 
 -- ---- a block and what is past it
@@ -116,24 +104,13 @@ elements-blocks_of w values pos = elements-alike values (values_in w (blocks_of 
 
 -- ---- how many there are
 
-one_more : (m a p : ℕ) (xs : List ℕ) → length (cond (is_one m a) (p ∷ xs) xs) ≡ bit_at m a + length xs
-one_more m a p xs =
-    elim (cases_lt 0 (bit_at m a)) [
-      | inl some ↦
-          let one : bit_at m a ≡ 1 = omega (arith, bit_at-lt m a) in
-          ap (λ b. length (cond b (p ∷ xs) xs)) (is_one-bit 1 m a one) ∙ omega (arith, one)
-      | inr none ↦
-          let zero_there : bit_at m a ≡ 0 = omega arith in
-          ap (λ b. length (cond b (p ∷ xs) xs)) (is_one-bit 0 m a zero_there) ∙ omega (arith, zero_there)
-    ]
+digit_counts : (d : ℕ) → d < 2 → cond (eqb d 1) 1 0 ≡ d
+digit_counts d small = grind (arith, nat_tests)
 
-count_digits : (m a w p : ℕ) (bs : List Bool) → length (elements_from p (digits_from m a w ++ bs)) ≡ sum_by (bit_at m) (range_with_len a w) + length (elements_from (p + w) bs)
-count_digits m a zero p bs = ap (λ n. length (elements_from n bs)) (let e : p ≡ p + zero = omega arith in e) ∙ omega arith
-count_digits m a (suc w) p bs =
-    let along : p + 1 + w ≡ p + suc w = omega arith in
-    one_more m a p (elements_from (p + 1) (digits_from m (a + 1) w ++ bs))
-    ∙ ap (λ n. bit_at m a + n) (count_digits m (a + 1) w (p + 1) bs ∙ ap (λ n. sum_by (bit_at m) (range_with_len (a + 1) w) + length (elements_from n bs)) along)
-    ∙ (let e = sum_by-cons (bit_at m) a (range_with_len (a + 1) w) in omega (arith, e))
+count_digits : (m a w : ℕ) → count_by (λ b. b) (digits_from m a w) ≡ sum_by (bit_at m) (range_with_len a w)
+count_digits m a zero = refl
+count_digits m a (suc w) =
+    omega (arith, count_digits m (a + 1) w, digit_counts (bit_at m a) (bit_at-lt m a), sum_by-cons (λ b. cond b 1 0) (is_one m a) (digits_from m (a + 1) w), sum_by-cons (bit_at m) a (range_with_len (a + 1) w))
 
 pub length-digits_from : (m w : ℕ) (bs : List Bool) → length (digits_from m 0 w ++ bs) ≡ w + length bs
 length-digits_from m w bs = let first = length-map-range_with_len (is_one m) 0 w in omega (arith, length-append (digits_from m 0 w) bs, first)
@@ -142,7 +119,8 @@ length-digits_from m w bs = let first = length-map-range_with_len (is_one m) 0 w
 pub length-indexes : (w p m : ℕ) (bs : List Bool) → m < 2 ^ w → length (indexes w p m bs) ≡ count_ones m + length (elements bs)
 unfolding indexes
 length-indexes w p m bs small =
-    count_digits m 0 w p bs ∙ omega (arith, ones_are_digits w m small, length-elements_from_both (p + w) 0 bs)
+    let all = digits_from m 0 w ++ bs in
+    omega (arith, length-elements_from_both p 0 all, length-elements all, sum_by-append (λ b. cond b 1 0) (digits_from m 0 w) bs, count_digits m 0 w, ones_are_digits w m small, length-elements bs)
 
 pub length-values_in : (w : ℕ) (ms : List ℕ) → length (values_in w ms) ≡ length ms * w
 length-values_in w [] = omega arith

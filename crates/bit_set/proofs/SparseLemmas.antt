@@ -1,94 +1,67 @@
 -- A walk that goes by the blocks that are not 0: its making, the step to the next such block, and the end.
-use Rattle.std.proofs.Common.{◌≡◌, ℕ, suc, ◌+◌, ◌-◌, ◌*◌, ◌/◌, ◌^◌, ◌<◌, ◌≤◌, ◌==◌, Bool, true, false, not, if◌then◌else◌, List, [], ◌∷◌, length, drop, get_or, All, Some, None, count_ones, refl, sym, ap, ◌∙◌, subst, arith, inl, inr}
-use Rattle.std.proofs.lemmas.Bool.{cases_eq, true≢false}
+use Rattle.std.proofs.Common.{◌≡◌, ℕ, ◌+◌, ◌-◌, ◌*◌, ◌/◌, ◌^◌, ◌<◌, ◌≤◌, ◌==◌, true, false, not, if◌then◌else◌, List, [], ◌∷◌, length, drop, All, Some, None, count_ones, refl, sym, ap, ◌∙◌, subst, arith, inl, inr, ap₂}
+use Rattle.std.proofs.lemmas.Bool.{cases_eq, true≢false, cond_both, eqb-true, eqb-false, ne_eqb, eq-eqb}
 use Rattle.std.proofs.lemmas.Bool.Decides.{nat_tests}
 use Rattle.std.proofs.lemmas.Nat.{div-mul-add, ones_le_self}
 use Rattle.std.proofs.lemmas.List.{drop_all, length-drop}
-use Rattle.std.proofs.lemmas.List.Elements.{All-nil, All-drop, All-head, All-tail}
+use Rattle.std.proofs.lemmas.List.Elements.{All-drop, All-head, All-tail}
 use Rattle.std.proofs.lemmas.List.Sums.{sum_by-cons}
 use Rattle.std.proofs.Math.Seq.{drop-drop}
 use Rattle.bit_words.specs.Lowest.{IsLowest, IsCleared}
 use Rattle.bit_words.specs.Nonzero.{Nonzeros, PullsNonzero, Refills, nonzero_from, ones_left}
 use Rattle.bit_set.specs.Sets.{AscendsFrom, elements_from, elements}
-use Rattle.bit_set.specs.Places.{indexes, past_block, CanWalk, IsSparseWalk}
+use Rattle.bit_set.specs.Places.{indexes, past_block, IsSparseWalk}
 use Rattle.bit_set.specs.Walk.{Walk, Advances}
 use Rattle.bit_set.proofs.MemberLemmas.{takes_least}
 use Rattle.bit_set.proofs.PlaceLemmas.{AscendsFrom-indexes, indexes-zero, indexes-next, indexes-lowest, length-indexes, length-elements-block}
-use Rattle.bit_set.proofs.WalkLemmas.{values_of_blocks, length-values_of_blocks, CanWalk-taken}
+use Rattle.std.proofs.Math.Nat.{mul-div_cancel}
+use Rattle.bit_set.proofs.WalkLemmas.{values_of_blocks, length-values_of_blocks, CanWalk-taken, CanWalk-moved}
 
 -- ---- the first block that is not 0
 
--- Of the blocks xs, the first of which has index k, x is the first that is not 0. It has index q, and rest are those
--- past it.
-pub record IsNext {X : Type 0} (w : ℕ) (number : X → ℕ) (k : ℕ) (xs : List X) (q : ℕ) (x : X) (rest : List (ℕ × X)) : Type 0 where
-  pub by : ℕ
-  pub at : q ≡ k + by
-  pub here : drop by xs ≡ x ∷ drop (suc by) xs
+-- Of some blocks from block k on, block q is the first that is not 0. It is x, and rest are those past it.
+pub record IsNext {X : Type 0} (w : ℕ) (number : X → ℕ) (blocks : List X) (k q : ℕ) (x : X) (rest : List (ℕ × X)) : Type 0 where
+  pub onward : k ≤ q
+  pub here : drop q blocks ≡ x ∷ drop (q + 1) blocks
   pub some : 0 < number x
-  pub past : rest ≡ nonzero_from number (q + 1) (drop (suc by) xs)
-  pub same : (p : ℕ) → elements_from p (values_of_blocks w number xs) ≡ indexes w (p + by * w) (number x) (values_of_blocks w number (drop (suc by) xs))
+  pub past : rest ≡ nonzero_from number (q + 1) (drop (q + 1) blocks)
+  pub same : elements_from (k * w) (values_of_blocks w number (drop k blocks)) ≡ indexes w (q * w) (number x) (values_of_blocks w number (drop (q + 1) blocks))
+
+-- these are the blocks from block k on that are not 0: where there is none, there is no place
+abbrev Next : {X : Type 0} → ℕ → (X → ℕ) → List X → ℕ → List (ℕ × X) → Type 0
+Next w number blocks k [] = elements_from (k * w) (values_of_blocks w number (drop k blocks)) ≡ []
+Next w number blocks k (entry ∷ rest) = IsNext w number blocks k entry.0 entry.1 rest
 
 module _ {X : Type 0} (w : ℕ) (number : X → ℕ) where
-  skipped : (k : ℕ) (x : X) (xs : List X) → number x ≡ 0 → nonzero_from number k (x ∷ xs) ≡ nonzero_from number (k + 1) xs
-  skipped k x xs none =
-      let t : (number x == 0) ≡ true = grind (arith, nat_tests) in
-      ap (λ b. if b then nonzero_from number (k + 1) xs else (k, x) ∷ nonzero_from number (k + 1) xs) t
+  -- a block that is 0 is passed
+  next_passed : (blocks : List X) (k : ℕ) (y : X) (entries : List (ℕ × X)) → drop k blocks ≡ y ∷ drop (k + 1) blocks → number y ≡ 0 → Next w number blocks (k + 1) entries → Next w number blocks k entries
+  next_passed blocks k y entries here none is = by_entries entries is
+    where
+      passed : elements_from (k * w) (values_of_blocks w number (drop k blocks)) ≡ elements_from ((k + 1) * w) (values_of_blocks w number (drop (k + 1) blocks))
+      passed =
+          indexes-next w (k * w) (number y) _ _ (ap (values_of_blocks w number) here)
+          ∙ ap (λ m. indexes w (k * w) m (values_of_blocks w number (drop (k + 1) blocks))) none
+          ∙ indexes-zero w (k * w) _
+          ∙ ap (λ n. elements_from n (values_of_blocks w number (drop (k + 1) blocks))) (let e : k * w + w ≡ (k + 1) * w = omega arith in e)
 
-  taken : (k : ℕ) (x : X) (xs : List X) → 0 < number x → nonzero_from number k (x ∷ xs) ≡ (k, x) ∷ nonzero_from number (k + 1) xs
-  taken k x xs some =
-      let t : (number x == 0) ≡ false = grind (arith, nat_tests) in
-      ap (λ b. if b then nonzero_from number (k + 1) xs else (k, x) ∷ nonzero_from number (k + 1) xs) t
+      by_entries : (entries : List (ℕ × X)) → Next w number blocks (k + 1) entries → Next w number blocks k entries
+      by_entries [] is = passed ∙ is
+      by_entries (entry ∷ rest) is = record { onward = omega (arith, is.onward); here = is.here; some = is.some; past = is.past; same = passed ∙ is.same }
 
-  -- a block that is 0 has no one
-  passed : (p : ℕ) (x : X) (xs : List X) → number x ≡ 0 → elements_from p (values_of_blocks w number (x ∷ xs)) ≡ elements_from (p + w) (values_of_blocks w number xs)
-  passed p x xs none =
-      indexes-next w p (number x) (values_of_blocks w number (x ∷ xs)) (values_of_blocks w number xs) refl
-      ∙ ap (λ m. indexes w p m (values_of_blocks w number xs)) none
-      ∙ indexes-zero w p (values_of_blocks w number xs)
-
-  pub next_nonzero : (k : ℕ) (xs : List X) (q : ℕ) (x : X) (rest : List (ℕ × X)) → nonzero_from number k xs ≡ (q, x) ∷ rest → IsNext w number k xs q x rest
-  next_nonzero k [] q x rest is = absurd (let e = is in cc)
-  next_nonzero k (y ∷ ys) q x rest is =
-      elim (cases_eq (number y) 0) [
-        | inl none ↦
-            let further = next_nonzero (k + 1) ys q x rest (sym (skipped k y ys none) ∙ is) in
-            record {
-              by = suc further.by;
-              at = omega (arith, further.at);
-              here = further.here;
-              some = further.some;
-              past = further.past;
-              same = λ p.
-                  passed p y ys none
-                  ∙ further.same (p + w)
-                  ∙ ap (λ n. indexes w n (number x) (values_of_blocks w number (drop (suc further.by) ys))) (let e : p + w + further.by * w ≡ p + suc further.by * w = omega arith in e);
-            }
-        | inr some ↦
-            let first : (k, y) ∷ nonzero_from number (k + 1) ys ≡ (q, x) ∷ rest = sym (taken k y ys (omega arith)) ∙ is in
-            let here = ap (λ ps. get_or ps 0 (q, x)) first in
-            let block : y ≡ x = ap (λ p. p.1) here in
-            let index : k ≡ q = ap (λ p. p.0) here in
-            record {
-              by = 0;
-              at = omega (arith, index);
-              here = ap (λ z. z ∷ ys) block;
-              some = subst (λ z. 0 < number z) block (omega arith);
-              past = sym (ap (drop 1) first) ∙ ap (λ j. nonzero_from number (j + 1) ys) index;
-              same = λ p.
-                  indexes-next w p (number y) (values_of_blocks w number (y ∷ ys)) (values_of_blocks w number ys) refl
-                  ∙ ap (λ z. indexes w p (number z) (values_of_blocks w number ys)) block
-                  ∙ ap (λ n. indexes w n (number x) (values_of_blocks w number ys)) (let e : p ≡ p + 0 * w = omega arith in e);
-            }
-      ]
-
-  -- where there is none, there is no place
-  pub no_nonzero : (k : ℕ) (xs : List X) → nonzero_from number k xs ≡ [] → (p : ℕ) → elements_from p (values_of_blocks w number xs) ≡ []
-  no_nonzero k [] is p = refl
-  no_nonzero k (y ∷ ys) is p =
-      elim (cases_eq (number y) 0) [
-        | inl none ↦ passed p y ys none ∙ no_nonzero (k + 1) ys (sym (skipped k y ys none) ∙ is) (p + w)
-        | inr some ↦ absurd (let e = sym (taken k y ys (omega arith)) ∙ is in cc)
-      ]
+  next_nonzero : (blocks : List X) (k : ℕ) (xs : List X) → drop k blocks ≡ xs → Next w number blocks k (nonzero_from number k xs)
+  next_nonzero blocks k [] at = ap (λ ys. elements_from (k * w) (values_of_blocks w number ys)) at
+  next_nonzero blocks k (y ∷ ys) at =
+      let next : drop (k + 1) blocks ≡ ys = sym (drop-drop 1 k blocks) ∙ ap (drop 1) at in
+      let here : drop k blocks ≡ y ∷ drop (k + 1) blocks = at ∙ ap (λ zs. y ∷ zs) (sym next) in
+      cond_both (number y == 0) (nonzero_from number (k + 1) ys) ((k, y) ∷ nonzero_from number (k + 1) ys) (Next w number blocks k)
+      (λ is. next_passed blocks k y (nonzero_from number (k + 1) ys) here (eqb-true (number y) 0 is) (next_nonzero blocks (k + 1) ys next))
+      (λ is. record {
+        onward = omega arith;
+        here = here;
+        some = let other = eqb-false (number y) 0 is in omega (arith, other);
+        past = ap (nonzero_from number (k + 1)) (sym next);
+        same = indexes-next w (k * w) (number y) _ _ (ap (values_of_blocks w number) here);
+      })
 
 -- ---- a walk and the block in hand
 
@@ -99,146 +72,100 @@ module _ {X : Type 0} (w : ℕ) (number : X → ℕ) (is_block : X → Type 0) w
       let past = past_block w number index it.blocks it.pulls in
       record { left = indexes w index (number block) past.values; pulls = it.pulls; index = index; blocks = past.blocks; summary_pulls = it.summary_pulls; summary_left = it.summary_left }
 
--- a block that the test for 0 does not find
-pub not_zero : (m z : ℕ) (test : Bool) → (m ≡ z → test ≡ true) → test ≡ false → z ≡ 0 → 0 < m
-not_zero m z test found is none_there =
-    elim (cases_eq m 0) [
-      | inl none ↦ absurd (true≢false (sym (found (none ∙ sym none_there)) ∙ is))
-      | inr some ↦ omega arith
-    ]
-
--- From a walk s with a block at `index`, to t with one at `at` that is not 0: the same is left, and there was no pull,
--- or one to another block.
-pub record Reaches {X : Type 0} (w : ℕ) (number : X → ℕ) (is_block : X → Type 0) (s : Walk) (at : ℕ) (block : X) (it : Nonzeros X) (t : Walk) : Type 0 where
-  pub walk : IsSparseWalk w number is_block at block it
-  pub some : 0 < number block
+-- A walk s went on to the block x at `at`, and is now t: the same is left.
+pub record Moved {X : Type 0} (w : ℕ) (number : X → ℕ) (is_block : X → Type 0) (s : Walk) (at : ℕ) (x : X) (it : Nonzeros X) (t : Walk) : Type 0 where
+  pub walk : IsSparseWalk w number is_block at x it
   pub same : t.left ≡ s.left
   pub onward : s.index / w ≤ at / w
-  pub pulls : t.pulls ≡ s.pulls + (if s.index / w == at / w then 0 else 1)
-  pub pulled : t.pulls + t.blocks ≤ s.pulls + s.blocks
+  pub fewer : t.blocks + (at / w - s.index / w) ≡ s.blocks
   pub along : at + w * t.blocks ≡ s.index + w * s.blocks
+
+-- It went on to one that is not 0, with no pull, or with one to another block.
+pub record Reaches {X : Type 0} (w : ℕ) (number : X → ℕ) (is_block : X → Type 0) (s : Walk) (at : ℕ) (block : X) (it : Nonzeros X) (t : Walk) : Type 0 where
+  pub moved : Moved w number is_block s at block it t
+  pub pulls : t.pulls ≡ s.pulls + (if s.index / w == at / w then 0 else 1)
   pub summary : t.summary_pulls + t.summary_left ≡ s.summary_pulls + s.summary_left
 
--- From a walk s to its end t, in the last block.
+-- It went on to its end, in the last block.
 pub record Ends {X : Type 0} (w : ℕ) (number : X → ℕ) (is_block : X → Type 0) (s : Walk) (at : ℕ) (block : X) (it : Nonzeros X) (t : Walk) : Type 0 where
   pub walk : IsSparseWalk w number is_block at block it
   pub steps : Advances w s None t
 
 pub whole_index : (w q : ℕ) → 0 < w → q * w / w ≡ q
-whole_index w q pos = ap (λ n. n / w) (let e : q * w ≡ q * w + 0 = omega arith in e) ∙ div-mul-add q w 0 pos
+whole_index w q pos = mul-div_cancel q pos
 
 -- by blocks further along
 along_by : (w index at k by b c : ℕ) → index ≡ k * w → at ≡ (k + by) * w → b ≡ c + by → at + w * c ≡ index + w * b
 along_by w index at k by b c from to fewer = let product = ap (λ n. w * n) fewer in omega (arith, from, to, product)
 
+-- a pull leads to another block
+pulls_by : (old new p q m n : ℕ) → old ≤ new → p ≡ q + (if old == new then 0 else 1) → m + (new - old) ≡ n → p + m ≤ q + n
+pulls_by old new p q m n onward counted fewer = grind (arith, nat_tests)
+
 module _ {X : Type 0} (w : ℕ) (number : X → ℕ) (is_block : X → Type 0) (pos : 0 < w) where
-  -- the block in hand stays, maybe as another block of the same number
-  stays : (index : ℕ) (block x : X) (s : Nonzeros X) → IsSparseWalk w number is_block index block s → is_block x → number x ≡ number block → 0 < number block → Reaches w number is_block (seen w number is_block index block s) index x s (seen w number is_block index x s)
-  stays index block x s is lawful same some = record {
-    walk = record {
-      in_hand = lawful;
-      each = is.each;
-      left = is.left;
-      whole = is.whole;
-      inside = is.inside;
-      can = subst (λ m. CanWalk w index m (past_block w number index s.blocks s.pulls)) (sym same) is.can;
-    };
-    some = omega (arith, some, same);
-    same = ap (λ m. indexes w index m (past_block w number index s.blocks s.pulls).values) same;
-    onward = omega arith;
-    pulls = let t : (index / w == index / w) ≡ true = grind (arith, nat_tests) in (let e : s.pulls ≡ s.pulls + 0 = omega arith in e) ∙ ap (λ b. s.pulls + (if b then 0 else 1)) (sym t);
-    pulled = omega arith;
-    along = refl;
-    summary = refl;
-  }
-
-  pub jumps : (index q : ℕ) (block x : X) (s t : Nonzeros X) → IsSparseWalk w number is_block index block s → number block ≡ 0 → PullsNonzero s (Some (q, x)) t → Reaches w number is_block (seen w number is_block index block s) (q * w) x t (seen w number is_block (q * w) x t)
-  jumps index q block x s t is used_up pull =
+  move : (index n : ℕ) (block x : X) (s t : Nonzeros X) → IsSparseWalk w number is_block index block s → is_block x → t.blocks ≡ s.blocks → index / w ≤ n → n ≤ length s.blocks - 1 → t.left ≡ nonzero_from number (n + 1) (drop (n + 1) s.blocks)
+      → indexes w (n * w) (number x) (values_of_blocks w number (drop (n + 1) s.blocks)) ≡ indexes w index (number block) (values_of_blocks w number (drop (index / w + 1) s.blocks))
+      → Moved w number is_block (seen w number is_block index block s) (n * w) x t (seen w number is_block (n * w) x t)
+  move index n block x s t is lawful all onward inside left same =
       let k = index / w in
-      let xs = drop (k + 1) s.blocks in
-      let next = next_nonzero w number (k + 1) xs q x t.left (sym is.left ∙ pull.item) in
-      let index_is = whole_index w q pos in
-      let count : q * w / w + 1 ≡ k + 1 + suc next.by = omega (arith, index_is, next.at) in
-      let rest = drop (q * w / w + 1) t.blocks in
-      let past : drop (suc next.by) xs ≡ rest = drop-drop (suc next.by) (k + 1) s.blocks ∙ ap (λ n. drop n s.blocks) (sym count) ∙ ap (drop (q * w / w + 1)) (sym pull.same) in
-      let here = ap length next.here in
-      let long = length-drop next.by xs in
-      let ahead : length xs ≡ length s.blocks - (k + 1) = length-drop (k + 1) s.blocks in
-      let behind : length rest ≡ length t.blocks - (q * w / w + 1) = length-drop (q * w / w + 1) t.blocks in
-      let all = ap length pull.same in
-      let fewer : length xs ≡ length rest + suc next.by = omega (arith, here, long, ahead, behind, all, count) in
-      let at_index : q * w ≡ (k + suc next.by) * w = ap (λ n. n * w) (let e : q ≡ k + suc next.by = omega (arith, next.at) in e) in
-      let along = along_by w index (q * w) k (suc next.by) (length xs) (length rest) is.whole at_index fewer in
-      let same : indexes w (q * w) (number x) (values_of_blocks w number rest) ≡ indexes w index (number block) (values_of_blocks w number xs) =
-      sym (
-      ap (λ m. indexes w index m (values_of_blocks w number xs)) used_up
-      ∙ indexes-zero w index (values_of_blocks w number xs)
-      ∙ next.same (index + w)
-      ∙ ap (λ n. indexes w n (number x) (values_of_blocks w number (drop (suc next.by) xs))) (let e : index + w + next.by * w ≡ q * w = omega (arith, is.whole, at_index) in e)
-      ∙ ap (λ ys. indexes w (q * w) (number x) (values_of_blocks w number ys)) past) in
-      record {
-        walk = record {
-          in_hand = All-head is_block x (drop (suc next.by) xs) (subst (All is_block) next.here (All-drop is_block next.by xs (All-drop is_block (k + 1) s.blocks is.each)));
-          each = subst (All is_block) (sym pull.same) is.each;
-          left = next.past ∙ ap (nonzero_from number (q + 1)) past ∙ ap (λ n. nonzero_from number (n + 1) rest) (sym index_is);
-          whole = sym (ap (λ n. n * w) index_is);
-          inside = omega (arith, fewer, ahead, index_is, next.at, all);
-          can = record {
-            long = length-values_of_blocks w number rest;
-            fits = omega (arith, along, is.can.fits);
-            below = subst (All (λ n. n < 2 ^ 64)) (sym same) is.can.below;
-            few = subst (λ ys. length ys < 2 ^ 64) (sym same) is.can.few;
-          };
-        };
-        some = next.some;
-        same = same;
-        onward = omega (arith, index_is, next.at);
-        pulls = let t : (k == q * w / w) ≡ false = grind (arith, nat_tests, index_is, next.at) in pull.counted ∙ ap (λ b. s.pulls + (if b then 0 else 1)) (sym t);
-        pulled = omega (arith, pull.counted, fewer);
-        along = along;
-        summary = pull.summary;
-      }
-
-  pub ends : (index last : ℕ) (block x : X) (s t : Nonzeros X) → IsSparseWalk w number is_block index block s → number block ≡ 0 → is_block x → number x ≡ 0 → PullsNonzero s None t → last ≡ (length t.blocks - 1) * w → Ends w number is_block (seen w number is_block index block s) last x t (seen w number is_block last x t)
-  ends index last block x s t is used_up lawful nothing pull at =
-      let k = index / w in
-      let n = length t.blocks - 1 in
-      let xs = drop (k + 1) s.blocks in
-      let index_is : last / w ≡ n = ap (λ j. j / w) at ∙ whole_index w n pos in
-      let rest = drop (last / w + 1) t.blocks in
-      let none : rest ≡ [] = drop_all (last / w + 1) t.blocks (omega (arith, index_is)) in
-      let no_block : length rest ≡ 0 = ap length none in
-      let ahead : length xs ≡ length s.blocks - (k + 1) = length-drop (k + 1) s.blocks in
-      let all = ap length pull.same in
-      let further : length xs ≡ length rest + (n - k) = omega (arith, ahead, all, no_block) in
-      let at_index : last ≡ (k + (n - k)) * w = at ∙ ap (λ j. j * w) (let e : n ≡ k + (n - k) = omega (arith, is.inside, all) in e) in
-      let along = along_by w index last k (n - k) (length xs) (length rest) is.whole at_index further in
-      let ended : indexes w last (number x) (values_of_blocks w number rest) ≡ [] =
-      ap (λ m. indexes w last m (values_of_blocks w number rest)) nothing ∙ indexes-zero w last (values_of_blocks w number rest) ∙ ap (λ ys. elements_from (last + w) (values_of_blocks w number ys)) none in
+      let at : n * w / w ≡ n = whole_index w n pos in
+      let rest : drop (n * w / w + 1) t.blocks ≡ drop (n + 1) s.blocks = ap₂ (λ j xs. drop (j + 1) xs) at all in
+      let fewer : length (drop (n * w / w + 1) t.blocks) + (n - k) ≡ length (drop (k + 1) s.blocks) = omega (arith, ap length rest, length-drop (n + 1) s.blocks, length-drop (k + 1) s.blocks, onward, inside) in
+      let along = along_by w index (n * w) k (n - k) _ _ is.whole (ap (λ j. j * w) (let e : n ≡ k + (n - k) = omega (arith, onward) in e)) (sym fewer) in
+      let still = ap (λ xs. indexes w (n * w) (number x) (values_of_blocks w number xs)) rest ∙ same in
       record {
         walk = record {
           in_hand = lawful;
-          each = subst (All is_block) (sym pull.same) is.each;
-          left = pull.item.1 ∙ ap (nonzero_from number (last / w + 1)) (sym none);
-          whole = at ∙ ap (λ j. j * w) (sym index_is);
-          inside = omega (arith, index_is);
-          can = record {
-            long = length-values_of_blocks w number rest;
-            fits = omega (arith, along, is.can.fits);
-            below = subst (All (λ j. j < 2 ^ 64)) (sym ended) (All-nil (λ j. j < 2 ^ 64));
-            few = subst (λ ys. length ys < 2 ^ 64) (sym ended) (omega arith);
-          };
+          each = subst (All is_block) (sym all) is.each;
+          left = left ∙ ap₂ (λ j xs. nonzero_from number (j + 1) xs) (sym at) (sym rest);
+          whole = ap (λ j. j * w) (sym at);
+          inside = omega (arith, at, inside, ap length all);
+          can = CanWalk-moved w index (n * w) (number block) (number x) _ _ is.can (length-values_of_blocks w number _) along still;
         };
+        same = still;
+        onward = omega (arith, at, onward);
+        fewer = omega (arith, at, fewer);
+        along = along;
+      }
+
+  -- where the block in hand is used up, the nonzero blocks past it say what is left
+  past_used_up : (index : ℕ) (block : X) (s : Nonzeros X) → IsSparseWalk w number is_block index block s → number block ≡ 0
+      → indexes w index (number block) (values_of_blocks w number (drop (index / w + 1) s.blocks)) ≡ elements_from ((index / w + 1) * w) (values_of_blocks w number (drop (index / w + 1) s.blocks))
+  past_used_up index block s is used_up =
+      let bs = values_of_blocks w number (drop (index / w + 1) s.blocks) in
+      ap (λ m. indexes w index m bs) used_up ∙ indexes-zero w index bs ∙ ap (λ n. elements_from n bs) (let e : index + w ≡ (index / w + 1) * w = omega (arith, is.whole) in e)
+
+  next_left : (index : ℕ) (block : X) (s : Nonzeros X) (entries : List (ℕ × X)) → IsSparseWalk w number is_block index block s → s.left ≡ entries → Next w number s.blocks (index / w + 1) entries
+  next_left index block s entries is left = subst (Next w number s.blocks (index / w + 1)) (sym is.left ∙ left) (next_nonzero w number s.blocks (index / w + 1) _ refl)
+
+  jumps : (index q : ℕ) (block x : X) (s t : Nonzeros X) → IsSparseWalk w number is_block index block s → number block ≡ 0 → PullsNonzero s (Some (q, x)) t → Reaches w number is_block (seen w number is_block index block s) (q * w) x t (seen w number is_block (q * w) x t)
+  jumps index q block x s t is used_up pull =
+      let next : IsNext w number s.blocks (index / w + 1) q x t.left = next_left index block s ((q, x) ∷ t.left) is pull.item in
+      let lawful = All-head is_block x _ (subst (All is_block) next.here (All-drop is_block q s.blocks is.each)) in
+      let other : (index / w == q * w / w) ≡ false = ne_eqb _ _ (λ e. omega (arith, e, whole_index w q pos, next.onward)) in
+      record {
+        moved = move index q block x s t is lawful pull.same (omega (arith, next.onward)) (omega (arith, ap length next.here, length-drop q s.blocks)) next.past (sym (past_used_up index block s is used_up ∙ next.same));
+        pulls = pull.counted ∙ ap (λ b. s.pulls + (if b then 0 else 1)) (sym other);
+        summary = pull.summary;
+      }
+
+  ends : (index : ℕ) (block x : X) (s t : Nonzeros X) → IsSparseWalk w number is_block index block s → number block ≡ 0 → is_block x → number x ≡ 0 → PullsNonzero s None t
+      → Ends w number is_block (seen w number is_block index block s) ((length s.blocks - 1) * w) x t (seen w number is_block ((length s.blocks - 1) * w) x t)
+  ends index block x s t is used_up lawful nothing pull =
+      let n = length s.blocks - 1 in
+      let none : drop (n + 1) s.blocks ≡ [] = drop_all (n + 1) s.blocks (omega arith) in
+      let ended = past_used_up index block s is used_up ∙ next_left index block s [] is pull.item.0 in
+      let empty = ap₂ (λ m xs. indexes w (n * w) m (values_of_blocks w number xs)) nothing none ∙ indexes-zero w (n * w) [] in
+      let to = move index n block x s t is lawful pull.same is.inside (omega arith) (pull.item.1 ∙ ap (nonzero_from number (n + 1)) (sym none)) (empty ∙ sym ended) in
+      record {
+        walk = to.walk;
         steps = record {
-          item = (
-            ap (λ m. indexes w index m (values_of_blocks w number xs)) used_up ∙ indexes-zero w index (values_of_blocks w number xs) ∙ no_nonzero w number (k + 1) xs (sym is.left ∙ pull.item.0) (index + w),
-            ended,
-          );
+          item = (ended, to.same ∙ ended);
           first = tt;
           goes_on = omega (arith, pull.counted);
           pulled = omega (arith, pull.counted);
-          along = along;
-          at = no_block;
+          along = to.along;
+          at = omega (arith, to.fewer, whole_index w n pos, length-drop (index / w + 1) s.blocks, is.inside);
           sparse = pull.counted;
           summary = pull.summary;
         };
@@ -248,16 +175,16 @@ module _ {X : Type 0} (w : ℕ) (number : X → ℕ) (is_block : X → Type 0) (
   pub refilled : (index at : ℕ) (block x : X) (s t : Nonzeros X) → IsSparseWalk w number is_block index block s → is_block x → Refills w number s (number block) index true t x at → Reaches w number is_block (seen w number is_block index block s) at x t (seen w number is_block at x t)
   refilled index at block x s t is lawful found =
       elim (cases_eq (number block) 0) [
-        | inl none ↦
-            let (k, at_is, pull) = found.next none refl in
-            subst (λ n. Reaches w number is_block (seen w number is_block index block s) n x t (seen w number is_block n x t)) (sym at_is) (jumps index k block x s t is none pull)
+        | inl none ↦ let (k, at_is, pull) = found.next none refl in rw at_is (jumps index k block x s t is none pull)
         | inr there ↦
-            let some : 0 < number block = omega arith in
-            let test : not (number block == 0) ≡ true = grind (arith, nat_tests) in
+            let test : not (number block == 0) ≡ true = ap not (ne_eqb (number block) 0 there) in
             let (same, walk_is, number_is, index_is) = found.stays test in
-            subst (λ n. Reaches w number is_block (seen w number is_block index block s) n x t (seen w number is_block n x t)) (sym index_is)
-            (subst (λ it. Reaches w number is_block (seen w number is_block index block s) index x it (seen w number is_block index x it)) (sym walk_is)
-            (stays index block x s is lawful number_is some))
+            let here : (index / w == index / w * w / w) ≡ true = eq-eqb _ _ (sym (whole_index w (index / w) pos)) in
+            rw (walk_is, index_is ∙ is.whole) (record {
+              moved = move index (index / w) block x s s is lawful refl (omega arith) is.inside is.left (ap₂ (λ j m. indexes w j m (values_of_blocks w number (drop (index / w + 1) s.blocks))) (sym is.whole) number_is);
+              pulls = (let e : s.pulls ≡ s.pulls + 0 = omega arith in e) ∙ ap (λ b. s.pulls + (if b then 0 else 1)) (sym here);
+              summary = refl;
+            })
       ]
 
   -- one that found none
@@ -265,11 +192,8 @@ module _ {X : Type 0} (w : ℕ) (number : X → ℕ) (is_block : X → Type 0) (
   refilled-end index at last block x s t is lawful found last_is =
       let nothing : number x ≡ 0 = let test = found.some in grind (arith, nat_tests) in
       elim (cases_eq (number block) 0) [
-        | inl none ↦ ends index last block x s t is none lawful nothing (found.ends none refl) last_is
-        | inr there ↦
-            let some : 0 < number block = omega arith in
-            let test : not (number block == 0) ≡ true = grind (arith, nat_tests) in
-            absurd (true≢false (sym (found.stays test).0))
+        | inl none ↦ let pull = found.ends none refl in rw (last_is ∙ ap (λ xs. (length xs - 1) * w) pull.same) (ends index block x s t is none lawful nothing pull)
+        | inr there ↦ absurd (true≢false (sym (found.stays (ap not (ne_eqb (number block) 0 there))).0))
       ]
 
   -- the lowest one of the block that was reached is taken
@@ -285,19 +209,19 @@ module _ {X : Type 0} (w : ℕ) (number : X → ℕ) (is_block : X → Type 0) (
 
   pub gives : (s : Walk) (index i : ℕ) (block r : X) (it : Nonzeros X) → Reaches w number is_block s index block it (seen w number is_block index block it) → IsLowest (number block) i → i < w → IsCleared w (number block) i (number r) → Advances w s (Some (index + i)) (seen w number is_block index r it)
   gives s index i block r it to low within cleared =
-      let index_is : (index + i) / w ≡ index / w = ap (λ n. (n + i) / w) to.walk.whole ∙ div-mul-add (index / w) w i within in
+      let index_is : (index + i) / w ≡ index / w = ap (λ n. (n + i) / w) to.moved.walk.whole ∙ div-mul-add (index / w) w i within in
       let ahead = (past_block w number index it.blocks it.pulls).values in
-      let item : s.left ≡ (index + i) ∷ indexes w index (number r) ahead = sym to.same ∙ indexes-lowest w index (number block) (number r) i ahead low within cleared in
+      let item : s.left ≡ (index + i) ∷ indexes w index (number r) ahead = sym to.moved.same ∙ indexes-lowest w index (number block) (number r) i ahead low within cleared in
       record {
         item = item;
-        first = takes_least index s.left (index + i) _ (subst (AscendsFrom index) to.same (AscendsFrom-indexes w index (number block) ahead)) item;
+        first = takes_least index s.left (index + i) _ (subst (AscendsFrom index) to.moved.same (AscendsFrom-indexes w index (number block) ahead)) item;
         goes_on = omega (arith, to.pulls);
-        pulled = to.pulled;
-        along = to.along;
+        pulled = pulls_by (s.index / w) (index / w) it.pulls s.pulls _ _ to.moved.onward to.pulls to.moved.fewer;
+        along = to.moved.along;
         at = (omega arith, omega (arith, within));
         sparse = record {
-          onward = omega (arith, to.onward, index_is);
-          index = to.walk.whole ∙ ap (λ n. n * w) (sym index_is);
+          onward = omega (arith, to.moved.onward, index_is);
+          index = to.moved.walk.whole ∙ ap (λ n. n * w) (sym index_is);
           pulls = to.pulls ∙ ap (λ n. s.pulls + (if s.index / w == n then 0 else 1)) (sym index_is);
         };
         summary = to.summary;
@@ -312,15 +236,9 @@ module _ {X : Type 0} (w : ℕ) (number : X → ℕ) (is_block : X → Type 0) (
   ones_of_nonzero k (y ∷ ys) each =
       let rest = ones_of_nonzero (k + 1) ys (All-tail is_block y ys each) in
       let block = length-elements-block w (number y) (values_of_blocks w number ys) (small y (All-head is_block y ys each)) in
-      elim (cases_eq (number y) 0) [
-        | inl none ↦
-            let few = ones_le_self (number y) in
-            ap (ones_left number) (skipped w number k y ys none) ∙ omega (arith, rest, block, few, none)
-        | inr some ↦
-            ap (ones_left number) (taken w number k y ys (omega arith))
-            ∙ sum_by-cons (λ entry. count_ones (number entry.1)) (k, y) (nonzero_from number (k + 1) ys)
-            ∙ omega (arith, rest, block)
-      ]
+      cond_both (number y == 0) (nonzero_from number (k + 1) ys) ((k, y) ∷ nonzero_from number (k + 1) ys) (λ entries. ones_left number entries ≡ length (elements (values_of_blocks w number (y ∷ ys))))
+      (λ is. omega (arith, rest, block, ones_le_self (number y), eqb-true (number y) 0 is))
+      (λ is. omega (arith, rest, block, sum_by-cons (λ entry. count_ones (number entry.1)) (k, y) (nonzero_from number (k + 1) ys)))
 
   -- those of the block in hand and of the blocks past it
   pub ones_ahead : (index : ℕ) (block : X) (it : Nonzeros X) → IsSparseWalk w number is_block index block it → count_ones (number block) + ones_left number it.left ≡ length (seen w number is_block index block it).left

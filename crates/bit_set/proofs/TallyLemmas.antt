@@ -1,24 +1,21 @@
 -- How many ones slices of blocks have, block by block and side by side.
-use Rattle.std.proofs.Common.{◌≡◌, ℕ, ◌+◌, ◌-◌, ◌*◌, ◌^◌, min, ◌<◌, ◌≤◌, ◌⊎◌, Bool, true, false, List, [], ◌∷◌, ◌++◌, map, length, get_or, take, take_all, drop, count_ones, refl, sym, ap, ◌∙◌, inl, inr, arith}
+use Rattle.std.proofs.Common.{◌≡◌, ℕ, ◌+◌, ◌-◌, ◌*◌, ◌^◌, min, ◌<◌, ◌≤◌, ◌⊎◌, Bool, List, [], ◌∷◌, ◌++◌, map, length, get_or, take, take_all, drop, count_ones, refl, sym, ap, ◌∙◌, inl, inr, arith, ap₂, cond}
 use Rattle.std.proofs.lemmas.List.{at_drop_more, map-append, take-append-drop, length-take-le, length-drop, drop_all}
 use Rattle.std.proofs.lemmas.Bool.{cases_lt}
 use Rattle.std.proofs.lemmas.Grind.{flat_map-append}
 use Rattle.bit_words.specs.Merges.{merge_of_values, merge_of}
 use Rattle.bit_words.specs.declared.block.merge.Merge.{Merge}
-use Rattle.bit_words.specs.Digits.{is_one}
-use Rattle.bit_words.proofs.Masks.{is_one-zero}
-use Rattle.bit_set.specs.Sets.{elements_from, elements}
+use Rattle.bit_set.specs.Sets.{elements}
 use Rattle.bit_set.specs.Places.{digits_from, values_in, IsMergedBlock}
-use Rattle.bit_set.proofs.SetLemmas.{length-elements_from_both}
+use Rattle.bit_set.proofs.SetLemmas.{length-elements}
 use Rattle.bit_set.proofs.WalkLemmas.{values_of_blocks, length-values_of_blocks, count_more}
-use Rattle.bit_set.proofs.PairLemmas.{both_held, same_held, both_digits, first_digits, second_digits}
+use Rattle.std.proofs.lemmas.List.Sums.{sum_by-append}
+use Rattle.bit_set.proofs.PairLemmas.{both_held, both_digits, first_digits, second_digits}
 
 -- ---- lists of truth values
 
-length-elements_from-append : (p : ℕ) (xs ys : List Bool) → length (elements_from p (xs ++ ys)) ≡ length (elements_from p xs) + length (elements ys)
-length-elements_from-append p [] ys = length-elements_from_both p 0 ys ∙ omega arith
-length-elements_from-append p (true ∷ xs) ys = let rest = length-elements_from-append (p + 1) xs ys in omega (arith, rest)
-length-elements_from-append p (false ∷ xs) ys = length-elements_from-append (p + 1) xs ys
+length-elements-append : (xs ys : List Bool) → length (elements (xs ++ ys)) ≡ length (elements xs) + length (elements ys)
+length-elements-append xs ys = omega (arith, length-elements (xs ++ ys), sum_by-append (λ b. cond b 1 0) xs ys, length-elements xs, length-elements ys)
 
 merged-append : (merge : Merge) (xs xs' ys ys' : List Bool) → length xs ≡ length ys → merge_of merge (xs ++ xs') (ys ++ ys') ≡ merge_of merge xs ys ++ merge_of merge xs' ys'
 merged-append merge [] xs' [] ys' same = refl
@@ -35,18 +32,12 @@ module _ {X : Type 0} (w : ℕ) (number : X → ℕ) where
       at_drop_more (values_of_blocks w number) xs i x within ∙ ap (λ y. digits_from (number y) 0 w ++ values_of_blocks w number (drop (i + 1) xs)) (sym is)
 
 module _ {X : Type 0} (w : ℕ) (number : X → ℕ) (merge : Merge) where
-  rows_step : (xs ys : List X) (i : ℕ) (a b : X) (r : ℕ) → i < length xs → i < length ys → a ≡ get_or xs i a → b ≡ get_or ys i b → IsMergedBlock w merge (number a) (number b) r
-      → both_held w number merge (drop i xs) (drop i ys) ≡ digits_from r 0 w ++ both_held w number merge (drop (i + 1) xs) (drop (i + 1) ys)
-  rows_step xs ys i a b r first second a_is b_is both =
-      ap (λ bs. merge_of merge bs (values_of_blocks w number (drop i ys))) (row_step w number xs i a first a_is)
-      ∙ ap (λ bs. merge_of merge (digits_from (number a) 0 w ++ values_of_blocks w number (drop (i + 1) xs)) bs) (row_step w number ys i b second b_is)
-      ∙ both_digits merge (number a) (number b) r 0 w (values_of_blocks w number (drop (i + 1) xs)) (values_of_blocks w number (drop (i + 1) ys)) (λ j low high. both.digit j (omega arith))
-
   pub rows_counted : (xs ys : List X) (i : ℕ) (a b : X) (r ones more total : ℕ) → i < length xs → i < length ys → a ≡ get_or xs i a → b ≡ get_or ys i b → IsMergedBlock w merge (number a) (number b) r
       → ones + length (elements (both_held w number merge (drop i xs) (drop i ys))) ≡ total → r < 2 ^ w → more ≡ count_ones r
       → ones + more + length (elements (both_held w number merge (drop (i + 1) xs) (drop (i + 1) ys))) ≡ total
-  rows_counted xs ys i a b r ones more total first second a_is b_is both before small same =
-      count_more w r (both_held w number merge (drop i xs) (drop i ys)) (both_held w number merge (drop (i + 1) xs) (drop (i + 1) ys)) ones more total (rows_step xs ys i a b r first second a_is b_is both) before small same
+  rows_counted xs ys i a b r ones more total first second a_is b_is both =
+      count_more w r _ _ ones more total (ap₂ (merge_of merge) (row_step w number xs i a first a_is) (row_step w number ys i b second b_is)
+      ∙ both_digits merge (number a) (number b) r 0 w (values_of_blocks w number (drop (i + 1) xs)) (values_of_blocks w number (drop (i + 1) ys)) (λ j low high. both.digit j (omega arith)))
 
   -- two slices are cut at one place
   values_of_blocks-append : (xs ys : List X) → values_of_blocks w number (xs ++ ys) ≡ values_of_blocks w number xs ++ values_of_blocks w number ys
@@ -56,38 +47,29 @@ module _ {X : Type 0} (w : ℕ) (number : X → ℕ) (merge : Merge) where
       → length (elements (both_held w number merge (xs ++ xs') (ys ++ ys'))) ≡ length (elements (both_held w number merge xs ys)) + length (elements (both_held w number merge xs' ys'))
   rows_cut xs xs' ys ys' same =
       let long : length (values_of_blocks w number xs) ≡ length (values_of_blocks w number ys) = length-values_of_blocks w number xs ∙ ap (λ n. n * w) same ∙ sym (length-values_of_blocks w number ys) in
-      ap (λ bs. length (elements (merge_of merge bs (values_of_blocks w number (ys ++ ys'))))) (values_of_blocks-append xs xs')
-      ∙ ap (λ bs. length (elements (merge_of merge (values_of_blocks w number xs ++ values_of_blocks w number xs') bs))) (values_of_blocks-append ys ys')
+      ap₂ (λ bs cs. length (elements (merge_of merge bs cs))) (values_of_blocks-append xs xs') (values_of_blocks-append ys ys')
       ∙ ap (λ bs. length (elements bs)) (merged-append merge (values_of_blocks w number xs) (values_of_blocks w number xs') (values_of_blocks w number ys) (values_of_blocks w number ys') long)
-      ∙ length-elements_from-append 0 (both_held w number merge xs ys) (both_held w number merge xs' ys')
+      ∙ length-elements-append (both_held w number merge xs ys) (both_held w number merge xs' ys')
 
   -- a slice of one side, merged with zeros
   pub first_counted : (xs : List X) (i : ℕ) (a : X) (none r ones more total : ℕ) → i < length xs → a ≡ get_or xs i a → none ≡ 0 → IsMergedBlock w merge (number a) none r
       → ones + length (elements (merge_of merge (values_of_blocks w number (drop i xs)) [])) ≡ total → r < 2 ^ w → more ≡ count_ones r
       → ones + more + length (elements (merge_of merge (values_of_blocks w number (drop (i + 1) xs)) [])) ≡ total
-  first_counted xs i a none r ones more total within is zero block before small same =
-      count_more w r (merge_of merge (values_of_blocks w number (drop i xs)) []) (merge_of merge (values_of_blocks w number (drop (i + 1) xs)) []) ones more total
-      (ap (λ bs. merge_of merge bs []) (row_step w number xs i a within is)
-      ∙ first_digits merge (number a) r 0 w (values_of_blocks w number (drop (i + 1) xs)) (λ j low high. block.digit j (omega arith) ∙ ap (λ k. merge_of_values merge (is_one (number a) j) (is_one k j)) zero ∙ ap (merge_of_values merge (is_one (number a) j)) (is_one-zero j)))
-      before small same
+  first_counted xs i a none r ones more total within is zero block =
+      count_more w r _ _ ones more total (ap (λ bs. merge_of merge bs []) (row_step w number xs i a within is)
+      ∙ first_digits merge (number a) r 0 w (values_of_blocks w number (drop (i + 1) xs)) (λ j low high. (rw zero at block).digit j (omega arith)))
 
   pub second_counted : (ys : List X) (i : ℕ) (b : X) (none r ones more total : ℕ) → i < length ys → b ≡ get_or ys i b → none ≡ 0 → IsMergedBlock w merge none (number b) r
       → ones + length (elements (merge_of merge [] (values_of_blocks w number (drop i ys)))) ≡ total → r < 2 ^ w → more ≡ count_ones r
       → ones + more + length (elements (merge_of merge [] (values_of_blocks w number (drop (i + 1) ys)))) ≡ total
-  second_counted ys i b none r ones more total within is zero block before small same =
-      count_more w r (merge_of merge [] (values_of_blocks w number (drop i ys))) (merge_of merge [] (values_of_blocks w number (drop (i + 1) ys))) ones more total
-      (ap (λ bs. merge_of merge [] bs) (row_step w number ys i b within is)
-      ∙ second_digits merge (number b) r 0 w (values_of_blocks w number (drop (i + 1) ys)) (λ j low high. block.digit j (omega arith) ∙ ap (λ k. merge_of_values merge (is_one k j) (is_one (number b) j)) zero ∙ ap (λ v. merge_of_values merge v (is_one (number b) j)) (is_one-zero j)))
-      before small same
+  second_counted ys i b none r ones more total within is zero block =
+      count_more w r _ _ ones more total (ap (λ bs. merge_of merge [] bs) (row_step w number ys i b within is)
+      ∙ second_digits merge (number b) r 0 w (values_of_blocks w number (drop (i + 1) ys)) (λ j low high. (rw zero at block).digit j (omega arith)))
 
   -- where one of two slices is at its end
   pub rest_counted : (xs ys : List X) → (xs ≡ []) ⊎ (ys ≡ []) → length (elements (both_held w number merge xs ys)) ≡ length (elements (merge_of merge (values_of_blocks w number xs) [])) + length (elements (merge_of merge [] (values_of_blocks w number ys)))
-  rest_counted xs ys (inl none) =
-      let nothing : length (elements (merge_of merge (values_of_blocks w number xs) [])) ≡ 0 = ap (λ zs. length (elements (merge_of merge (values_of_blocks w number zs) []))) none in
-      ap (λ zs. length (elements (both_held w number merge zs ys))) none ∙ omega (arith, nothing)
-  rest_counted xs ys (inr none) =
-      let nothing : length (elements (merge_of merge [] (values_of_blocks w number ys))) ≡ 0 = ap (λ zs. length (elements (merge_of merge [] (values_of_blocks w number zs)))) none in
-      ap (λ zs. length (elements (both_held w number merge xs zs))) none ∙ omega (arith, nothing)
+  rest_counted xs ys (inl none) = rw none (omega arith)
+  rest_counted xs ys (inr none) = rw none (omega arith)
 
   -- two slices are cut at one place
   whole_rest : (xs : List X) (k : ℕ) → take (length xs - k) (drop k xs) ≡ drop k xs
@@ -97,10 +79,9 @@ module _ {X : Type 0} (w : ℕ) (number : X → ℕ) (merge : Merge) where
       → length (elements (both_held w number merge xs ys))
       ≡ length (elements (both_held w number merge (take k xs) (take k ys))) + length (elements (both_held w number merge (take (length xs - k) (drop k xs)) (take (length ys - k) (drop k ys))))
   rows_cut_at xs ys k first second =
-      ap (λ bs. length (elements bs)) (same_held w number merge xs (take k xs ++ drop k xs) ys (take k ys ++ drop k ys) (sym (take-append-drop k xs)) (sym (take-append-drop k ys)))
-      ∙ rows_cut (take k xs) (drop k xs) (take k ys) (drop k ys) (length-take-le k xs first ∙ sym (length-take-le k ys second))
-      ∙ ap (λ bs. length (elements (both_held w number merge (take k xs) (take k ys))) + length (elements bs))
-      (same_held w number merge (drop k xs) (take (length xs - k) (drop k xs)) (drop k ys) (take (length ys - k) (drop k ys)) (sym (whole_rest xs k)) (sym (whole_rest ys k)))
+      rw (whole_rest xs k, whole_rest ys k)
+      (ap₂ (λ us vs. length (elements (both_held w number merge us vs))) (sym (take-append-drop k xs)) (sym (take-append-drop k ys))
+      ∙ rows_cut (take k xs) (drop k xs) (take k ys) (drop k ys) (length-take-le k xs first ∙ sym (length-take-le k ys second)))
 
   -- the shorter slice has no rest
   pub rest_ended : (xs ys : List X) (k : ℕ) → k ≡ min (length xs) (length ys) → (take (length xs - k) (drop k xs) ≡ []) ⊎ (take (length ys - k) (drop k ys) ≡ [])

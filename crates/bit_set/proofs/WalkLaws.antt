@@ -1,32 +1,29 @@
 -- What whole walks give, by one step after another, how often they pull, and which blocks they pass.
-use Rattle.std.proofs.Common.{◌≡◌, ℕ, ◌+◌, ◌-◌, ◌*◌, ◌/◌, ◌<◌, ◌≤◌, max, Bool, List, [], ◌∷◌, length, Option, Some, None, refl, sym, ap, ◌∙◌, arith, ◌==◌, ◌||◌, ◌&&◌, false, nat_lt, if◌then◌else◌, map, inl, inr, div-add-mod'}
+use Rattle.std.proofs.Common.{◌≡◌, ℕ, ◌+◌, ◌-◌, ◌*◌, ◌/◌, ◌<◌, ◌≤◌, max, Bool, List, [], ◌∷◌, length, Option, Some, None, refl, sym, ap, ◌∙◌, arith, ◌==◌, ◌&&◌, false, nat_lt, if◌then◌else◌, map, div-add-mod', ap₂, subst, ◌++◌, take, cond, ◌||◌, drop}
 use Rattle.std.specs.Iterator.{Yields, YieldsFirst, YieldsThen, Drains}
 use Rattle.std.proofs.Math.Bool.{or-false, and-false}
-use Rattle.std.proofs.Math.Nat.{le_of_mul-le-mul_left, mul-sub, mul_comm}
-use Rattle.std.proofs.lemmas.Nat.{div-mul-add, le-div}
-use Rattle.std.proofs.lemmas.Bool.{eq-eqb, ne_eqb, lt-ltb, le-ltb, cases_eq, cases_lt, cases_order}
+use Rattle.std.proofs.Math.Nat.{mod-lt, lt_of_mul-lt-mul_left, zero-div}
+use Rattle.std.proofs.lemmas.Nat.{le-div}
+use Rattle.std.proofs.lemmas.Bool.{ne_eqb, cond_both, ltb-true}
 use Rattle.bit_words.specs.Bits.{blocks_for}
 use Rattle.bit_words.specs.declared.block.merge.Merge.{Merge}
 use Rattle.bit_set.specs.Agreement.{WalksAgree}
 use Rattle.bit_set.specs.Sets.{IsAscending, has, elements, put_all, merge_of_sets, AscendsFrom}
 use Rattle.bit_set.specs.Walk.{Walk, TwoSetWalk, Advances, AdvancesByEach, IsWalkedOut, IsWalkedOutByEach, IsAtStart, StartsOverTwo, WalksOverTwo, blocks_past}
-use Rattle.bit_set.proofs.SetLemmas.{same_members, IsAscending-elements}
+use Rattle.bit_set.proofs.SetLemmas.{same_members, IsAscending-elements, at_cond}
 use Rattle.bit_set.proofs.SetLaws.{has-put_all, IsAscending-put_all}
 use Rattle.bit_set.proofs.AlgebraLemmas.{IsAscending-merge_of_sets}
+use Rattle.std.proofs.lemmas.Bool.Decides.{nat_tests}
+use Rattle.std.proofs.Math.Seq.{drop-append_seam, take-append_seam}
+use Rattle.std.proofs.lemmas.List.{append-nil}
 use Rattle.bit_set.proofs.SparseLemmas.{whole_index}
 
 -- ---- calls of any kind
 
-module _ {S : Type 0} (steps : S → Option ℕ → S → Type 0) (f : S → ℕ) where
-  -- a number that each call leaves as it was
-  stays : ((s t : S) (x : ℕ) → steps s (Some x) t → f t ≡ f s) → (s t : S) (items : List ℕ) → Yields steps s items t → f t ≡ f s
-  stays each s t [] run = sym (ap f run)
-  stays each s t (x ∷ xs) run = stays each run.0 t xs run.2 ∙ each s run.0 x run.1
-
-  -- one that no call raises
-  falls : ((s t : S) (x : ℕ) → steps s (Some x) t → f t ≤ f s) → (s t : S) (items : List ℕ) → Yields steps s items t → f t ≤ f s
-  falls each s t [] run = let same = ap f run in omega (arith, same)
-  falls each s t (x ∷ xs) run = let rest = falls each run.0 t xs run.2 in let here = each s run.0 x run.1 in omega (arith, rest, here)
+-- what each call keeps
+kept : {S : Type 0} (steps : S → Option ℕ → S → Type 0) (P : S → Type 0) → ((s t : S) (x : ℕ) → steps s (Some x) t → P s → P t) → (s t : S) (items : List ℕ) → Yields steps s items t → P s → P t
+kept steps P each s t [] run holds = subst P run holds
+kept steps P each s t (x ∷ xs) run holds = kept steps P each run.0 t xs run.2 (each s run.0 x run.1 holds)
 
 -- the items of a set, put in one by one, are that set
 pub put_all-items : (s : List ℕ) → IsAscending s → put_all [] s ≡ s
@@ -34,18 +31,17 @@ put_all-items s up = same_members (put_all [] s) s (IsAscending-put_all [] s tt)
 
 -- each call gives the first of what is left
 module _ {S : Type 0} (left : S → List ℕ) (steps : S → Option ℕ → S → Type 0) (first : (s t : S) (r : Option ℕ) → steps s r t → YieldsFirst left s r t) where
+  -- the items of some calls are the front of what was left
+  front : (s t : S) (items : List ℕ) → Yields steps s items t → left s ≡ items ++ left t
+  front s t [] run = ap left run
+  front s t (x ∷ xs) run = first s run.0 (Some x) run.1 ∙ ap (λ ys. x ∷ ys) (front run.0 t xs run.2)
+
   all_left : (s t : S) (items : List ℕ) → YieldsThen steps s items None t → (items ≡ left s) × (left t ≡ [])
-  all_left s t [] run = let last = first run.0 t None run.2 in (sym (ap left run.1 ∙ last.0), last.1)
-  all_left s t (x ∷ xs) run =
-      let rest = all_left run.1.0 t xs (run.0, run.1.2, run.2) in
-      (ap (λ ys. x ∷ ys) rest.0 ∙ sym (first s run.1.0 (Some x) run.1.1), rest.1)
+  all_left s t items run = let last = first run.0 t None run.2 in (sym (front s run.0 items run.1 ∙ ap (λ ys. items ++ ys) last.0 ∙ append-nil items), last.1)
 
   none_after : (s t : S) (r : Option ℕ) → left s ≡ [] → steps s r t → (r ≡ None) × (left t ≡ [])
-  none_after s t r ended step = by_item r (first s t r step)
-    where
-      by_item : (q : Option ℕ) → YieldsFirst left s q t → (q ≡ None) × (left t ≡ [])
-      by_item None item = (refl, item.1)
-      by_item (Some x) item = absurd (let e = sym ended ∙ item in cc)
+  none_after s t None ended step = (refl, (first s t None step).1)
+  none_after s t (Some x) ended step = absurd (let e = sym ended ∙ first s t (Some x) step in cc)
 
   pub collected : (merge : Merge) (a b c : List Bool) (s : S) (items : List ℕ) → left s ≡ merge_of_sets merge (elements a) (elements b) → Drains steps s items → elements c ≡ put_all [] items → elements c ≡ merge_of_sets merge (elements a) (elements b)
   collected merge a b c s items over run puts =
@@ -59,13 +55,11 @@ module _ {S : Type 0} (w : ℕ) (index blocks : S → ℕ) (steps : S → Option
   in_hand_of : ((s t : S) (x : ℕ) → steps s (Some x) t → (index t ≤ x) × (x < index t + w)) → (past : ℕ) (s t : S) (items : List ℕ) (x : ℕ) → 0 < w → index s ≡ 0 → blocks s ≡ past → YieldsThen steps s items (Some x) t → blocks t ≡ past - x / w
   in_hand_of has_item past s t items x pos start ahead run =
       let at = has_item run.0 t x run.2 in
-      let along = stays steps (λ u. index u + w * blocks u) (λ u v y step. each u v (Some y) step) s run.0 items run.1 in
+      let along = kept steps (λ u. index u + w * blocks u ≡ index s + w * blocks s) (λ u v y step is. each u v (Some y) step ∙ is) s run.0 items run.1 refl in
       let whole : index t + w * blocks t ≡ w * past = each run.0 t (Some x) run.2 ∙ along ∙ omega (arith, start, ap (λ k. w * k) ahead) in
-      let few : blocks t ≤ past = le_of_mul-le-mul_left (omega (arith, whole)) pos in
-      let first : index t ≡ (past - blocks t) * w = omega (arith, whole, mul-sub w past (blocks t), mul_comm w (past - blocks t)) in
-      let number : (past - blocks t) * w + (x - index t) ≡ x = omega (arith, first, at.0) in
-      let block : x / w ≡ past - blocks t = ap (λ n. n / w) (sym number) ∙ div-mul-add (past - blocks t) w (x - index t) (omega (arith, at)) in
-      omega (arith, few, block)
+      let most : x / w + blocks t < past + 1 = lt_of_mul-lt-mul_left w (omega (arith, whole, at, div-add-mod' x w)) in
+      let least : past < x / w + blocks t + 1 = lt_of_mul-lt-mul_left w (omega (arith, whole, at, div-add-mod' x w, mod-lt x pos)) in
+      omega (arith, most, least)
 
 -- ---- walks over one set
 
@@ -73,7 +67,7 @@ module _ (w : ℕ) where
   pub walked_out : (s t : Walk) (items : List ℕ) → YieldsThen (Advances w) s items None t → IsWalkedOut s items t
   walked_out s t items run =
       let all = all_left (λ u. u.left) (Advances w) (λ u v r step. step.item) s t items run in
-      let passed = falls (Advances w) (λ u. u.pulls + u.blocks) (λ u v x step. step.pulled) s run.0 items run.1 in
+      let passed = kept (Advances w) (λ u. u.pulls + u.blocks ≤ s.pulls + s.blocks) (λ u v x step le. omega (arith, step.pulled, le)) s run.0 items run.1 (omega arith) in
       record { all = all.0; ended = all.1; pulled = let last = run.2.pulled in omega (arith, last, passed) }
 
   pub walked_whole : (values : List Bool) (s t : Walk) (items : List ℕ) → IsAtStart w values s → YieldsThen (Advances w) s items None t → (items ≡ elements values) × (t.pulls ≤ max 1 (blocks_for w (length values)) + 1)
@@ -100,7 +94,7 @@ module _ {S : Type 0} (w : ℕ) (walk : S → TwoSetWalk) (next : S → Option �
   pub out : (s t : S) (items : List ℕ) → YieldsThen next s items None t → IsWalkedOutByEach (walk s) items (walk t)
   out s t items run =
       let all = all_left (λ u. (walk u).left) next (λ u v r step. (each u v r step).item) s t items run in
-      let passed = stays next (λ u. (walk u).pulls + (walk u).blocks) (λ u v x step. (each u v (Some x) step).pulled) s run.0 items run.1 in
+      let passed = kept next (λ u. (walk u).pulls + (walk u).blocks ≡ (walk s).pulls + (walk s).blocks) (λ u v x step is. (each u v (Some x) step).pulled ∙ is) s run.0 items run.1 refl in
       record { all = all.0; ended = all.1; pulled = let last = (each run.0 t None run.2).pulled in omega (arith, last, passed) }
 
   pub over_two : (merge : Merge) → WalksOverTwo w merge walk next
@@ -120,22 +114,18 @@ module _ {S : Type 0} (w : ℕ) (walk : S → TwoSetWalk) (next : S → Option �
 
 module _ {S T : Type 0} (left : S → List ℕ) (next : S → Option ℕ → S → Type 0) (left_too : T → List ℕ) (next_too : T → Option ℕ → T → Type 0) (first : (s u : S) (r : Option ℕ) → next s r u → YieldsFirst left s r u) (first_too : (t v : T) (r : Option ℕ) → next_too t r v → YieldsFirst left_too t r v) where
   step_agrees : (s u : S) (t v : T) (r q : Option ℕ) → left s ≡ left_too t → next s r u → next_too t q v → (r ≡ q) × (left u ≡ left_too v)
-  step_agrees s u t v r q same run other = by_items r q (first s u r run) (first_too t v q other)
-    where
-      by_items : (r q : Option ℕ) → YieldsFirst left s r u → YieldsFirst left_too t q v → (r ≡ q) × (left u ≡ left_too v)
-      by_items None None item its = (refl, item.1 ∙ sym its.1)
-      by_items None (Some y) item its = absurd (let e = sym item.0 ∙ same ∙ its in cc)
-      by_items (Some x) None item its = absurd (let e = sym item ∙ same ∙ its.0 in cc)
-      by_items (Some x) (Some y) item its = let e = sym item ∙ same ∙ its in ((cc), (cc))
+  step_agrees s u t v None None same run other = (refl, (first s u None run).1 ∙ sym (first_too t v None other).1)
+  step_agrees s u t v None (Some y) same run other = absurd (let e = sym (first s u None run).0 ∙ same ∙ first_too t v (Some y) other in cc)
+  step_agrees s u t v (Some x) None same run other = absurd (let e = sym (first s u (Some x) run) ∙ same ∙ (first_too t v None other).0 in cc)
+  step_agrees s u t v (Some x) (Some y) same run other = let e = sym (first s u (Some x) run) ∙ same ∙ first_too t v (Some y) other in ((cc), (cc))
 
+  -- fronts that are as long are the same
   steps_agree : (s u : S) (t v : T) (xs ys : List ℕ) → left s ≡ left_too t → length xs ≡ length ys → Yields next s xs u → Yields next_too t ys v → (xs ≡ ys) × (left u ≡ left_too v)
-  steps_agree s u t v [] [] same long run other = (refl, sym (ap left run) ∙ same ∙ ap left_too other)
-  steps_agree s u t v [] (y ∷ ys) same long run other = absurd (omega arith)
-  steps_agree s u t v (x ∷ xs) [] same long run other = absurd (omega arith)
-  steps_agree s u t v (x ∷ xs) (y ∷ ys) same long run other =
-      let here = step_agrees s run.0 t other.0 (Some x) (Some y) same run.1 other.1 in
-      let rest = steps_agree run.0 u other.0 v xs ys here.1 (omega arith) run.2 other.2 in
-      ((cc), rest.1)
+  steps_agree s u t v xs ys same long run other =
+      let both : xs ++ left u ≡ ys ++ left_too v = sym (front left next first s u xs run) ∙ same ∙ front left_too next_too first_too t v ys other in (
+        sym (take-append_seam xs (left u)) ∙ ap₂ take long both ∙ take-append_seam ys (left_too v),
+        sym (drop-append_seam xs (left u)) ∙ ap₂ drop long both ∙ drop-append_seam ys (left_too v),
+      )
 
   pub walks-agree : WalksAgree left next left_too next_too
   walks-agree = record {
@@ -146,19 +136,10 @@ module _ {S T : Type 0} (left : S → List ℕ) (next : S → Option ℕ → S �
 
 -- ---- the blocks past a block
 
-past_next : (w k x : ℕ) (xs : List ℕ) → k < x / w → blocks_past w k (x ∷ xs) ≡ x / w ∷ blocks_past w (x / w) xs
-past_next w k x xs further = ap (λ b. if b then x / w ∷ blocks_past w (x / w) xs else blocks_past w k xs) (lt-ltb k (x / w) further)
-
-past_same : (w k x : ℕ) (xs : List ℕ) → x / w ≤ k → blocks_past w k (x ∷ xs) ≡ blocks_past w k xs
-past_same w k x xs within = ap (λ b. if b then x / w ∷ blocks_past w (x / w) xs else blocks_past w k xs) (le-ltb k (x / w) within)
-
 pub AscendsFrom-blocks_past : (w k : ℕ) (xs : List ℕ) → AscendsFrom (k + 1) (blocks_past w k xs)
 AscendsFrom-blocks_past w k [] = tt
 AscendsFrom-blocks_past w k (x ∷ xs) =
-    elim (cases_lt k (x / w)) [
-      | inl further ↦ rw (past_next w k x xs further) (omega (arith, further), AscendsFrom-blocks_past w (x / w) xs)
-      | inr within ↦ rw (past_same w k x xs within) (AscendsFrom-blocks_past w k xs)
-    ]
+    cond_both (nat_lt k (x / w)) _ _ (AscendsFrom (k + 1)) (λ further. (omega (arith, ltb-true k (x / w) further), AscendsFrom-blocks_past w (x / w) xs)) (λ _. AscendsFrom-blocks_past w k xs)
 
 -- no number is in a block before the first
 none_before : (w low : ℕ) (xs : List ℕ) (q : ℕ) → 0 < w → AscendsFrom low xs → q < low / w → has (map (λ n. n / w) xs) q ≡ false
@@ -168,31 +149,20 @@ none_before w low (x ∷ xs) q pos up before =
     let next : x / w ≤ (x + 1) / w = le-div (x / w) (x + 1) w pos (omega (arith, div-add-mod' x w)) in
     rw (ne_eqb (x / w) q (λ e. omega (arith, e, first, before))) (none_before w (x + 1) xs q pos up.1 (omega (arith, first, next, before)))
 
+past_step : (k q b : ℕ) (others next same : Bool) → next ≡ (nat_lt b q && others) → same ≡ (nat_lt k q && others) → (q < b → others ≡ false) → cond (nat_lt k b) ((b == q) || next) same ≡ (nat_lt k q && ((b == q) || others))
+past_step k q b others next same next_is same_is none = grind (arith, nat_tests)
+
 -- they are those past it that a number is in
 pub has-blocks_past : (w k low : ℕ) (xs : List ℕ) (q : ℕ) → 0 < w → AscendsFrom low xs → has (blocks_past w k xs) q ≡ (nat_lt k q && has (map (λ n. n / w) xs) q)
 has-blocks_past w k low [] q pos up = sym (and-false (nat_lt k q))
 has-blocks_past w k low (x ∷ xs) q pos up =
-    let others = has (map (λ n. n / w) xs) q in
-    elim (cases_lt k (x / w)) [
-      | inl further ↦
-          ap (λ ys. has ys q) (past_next w k x xs further)
-          ∙ ap (λ b. (x / w == q) || b) (has-blocks_past w (x / w) (x + 1) xs q pos up.1)
-          ∙ elim (cases_order (x / w) q) [
-            | inl same ↦ rw (eq-eqb (x / w) q same, lt-ltb k q (omega (arith, same, further))) refl
-            | inr (inl past) ↦ rw (ne_eqb (x / w) q (λ e. omega (arith, e, past)), lt-ltb (x / w) q past, lt-ltb k q (omega (arith, further, past))) refl
-            | inr (inr before) ↦
-                let next : x / w ≤ (x + 1) / w = le-div (x / w) (x + 1) w pos (omega (arith, div-add-mod' x w)) in
-                rw (ne_eqb (x / w) q (λ e. omega (arith, e, before)), le-ltb (x / w) q (omega (arith, before)), none_before w (x + 1) xs q pos up.1 (omega (arith, next, before)))
-                (sym (and-false (nat_lt k q)))
-          ]
-      | inr within ↦
-          ap (λ ys. has ys q) (past_same w k x xs within)
-          ∙ has-blocks_past w k (x + 1) xs q pos up.1
-          ∙ elim (cases_lt k q) [
-            | inl past ↦ rw (lt-ltb k q past, ne_eqb (x / w) q (λ e. omega (arith, e, within, past))) refl
-            | inr not_past ↦ rw (le-ltb k q not_past) refl
-          ]
-    ]
+    let next : x / w ≤ (x + 1) / w = le-div (x / w) (x + 1) w pos (omega (arith, div-add-mod' x w)) in
+    at_cond (λ ys. has ys q) (nat_lt k (x / w)) (x / w ∷ blocks_past w (x / w) xs) (blocks_past w k xs)
+    ∙ past_step k q (x / w) _ _ _ (has-blocks_past w (x / w) (x + 1) xs q pos up.1) (has-blocks_past w k (x + 1) xs q pos up.1) (λ before. none_before w (x + 1) xs q pos up.1 (omega (arith, next, before)))
+
+-- they are as many as the blocks that a walk over the numbers goes on to
+length-blocks_past : (w k x : ℕ) (xs : List ℕ) → k ≤ x / w → length (blocks_past w k (x ∷ xs)) ≡ (if k == x / w then 0 else 1) + length (blocks_past w (x / w) xs)
+length-blocks_past w k x xs onward = grind (arith, nat_tests)
 
 -- ---- how often whole walks pull
 
@@ -207,29 +177,15 @@ pulled_sparsely w s t (x ∷ xs) pos run =
     let found = step.sparse in
     let rest = pulled_sparsely w mid t xs pos (run.0, run.1.2, run.2) in
     let block : mid.index / w ≡ x / w = ap (λ n. n / w) found.index ∙ whole_index w (x / w) pos in
-    let ahead = ap (λ k. length (blocks_past w k mid.left)) block in
-    let all = ap (λ ys. length (blocks_past w (s.index / w) ys)) step.item in
-    elim (cases_eq (s.index / w) (x / w)) [
-      | inl same ↦
-          let none : ◌≡◌ {A = ℕ} (if s.index / w == x / w then 0 else 1) 0 = ap (λ b. if b then 0 else 1) (eq-eqb (s.index / w) (x / w) same) in
-          let stays = ap length (past_same w (s.index / w) x mid.left (omega (arith, same))) in
-          let here = ap (λ k. length (blocks_past w k mid.left)) same in
-          omega (arith, rest, ahead, all, found.pulls, none, stays, here)
-      | inr other ↦
-          let one : ◌≡◌ {A = ℕ} (if s.index / w == x / w then 0 else 1) 1 = ap (λ b. if b then 0 else 1) (ne_eqb (s.index / w) (x / w) (λ e. omega (arith, e, other))) in
-          let goes = ap length (past_next w (s.index / w) x mid.left (omega (arith, found.onward, other))) in
-          omega (arith, rest, ahead, all, found.pulls, one, goes)
-    ]
+    rw step.item (omega (arith, rw block at rest, found.pulls, length-blocks_past w (s.index / w) x mid.left found.onward))
 
 pub pulled_whole : (w : ℕ) (values : List Bool) (s t : Walk) (items : List ℕ) → 0 < w → IsAtStart w values s → YieldsThen (Advances w) s items None t → t.pulls ≡ length (blocks_past w 0 (elements values)) + 2
 pulled_whole w values s t items pos start run =
-    let first : s.index / w ≡ 0 = ap (λ n. n / w) (start.index ∙ (let e : 0 ≡ 0 * w = omega arith in e)) ∙ whole_index w 0 pos in
-    let from = ap (λ k. length (blocks_past w k s.left)) first in
-    let all = ap (λ xs. length (blocks_past w 0 xs)) start.left in
-    omega (arith, pulled_sparsely w s t items pos run, start.pulls, from, all)
+    let first : s.index / w ≡ 0 = ap (λ n. n / w) start.index ∙ zero-div w in
+    omega (arith, rw (first, start.left) at (pulled_sparsely w s t items pos run), start.pulls)
 
 -- the summary's blocks are pulled once each, and once more at the end
 pub summary_pulled : (w : ℕ) (s t : Walk) (items : List ℕ) → YieldsThen (Advances w) s items None t → t.summary_pulls ≡ s.summary_pulls + s.summary_left + 1
 summary_pulled w s t items run =
-    let passed = stays (Advances w) (λ u. u.summary_pulls + u.summary_left) (λ u v x step. step.summary) s run.0 items run.1 in
+    let passed = kept (Advances w) (λ u. u.summary_pulls + u.summary_left ≡ s.summary_pulls + s.summary_left) (λ u v x step is. step.summary ∙ is) s run.0 items run.1 refl in
     omega (arith, run.2.summary.0, passed)

@@ -11,6 +11,7 @@ use Rattle.bit_words.specs.Bits.{blocks_of, blocks_for}
 use Rattle.bit_words.specs.Lowest.{IsLowest, IsCleared}
 use Rattle.bit_words.proofs.BitsLemmas.{length-blocks_of}
 use Rattle.bit_set.specs.Sets.{elements_from, elements}
+use Rattle.bit_set.specs.Walk.{GoesOn, TwoSetWalk}
 use Rattle.bit_set.specs.Places.{digits_from, values_in, indexes, Ahead, PullsBlock, PullsBlockIf, IsWalkable, CanWalk}
 use Rattle.bit_set.proofs.SetLemmas.{length-elements-le}
 use Rattle.bit_set.proofs.PlaceLemmas.{indexes-zero, indexes-next, indexes-lowest, length-digits_from, length-values_in, length-indexes-le, length-elements-block, elements-blocks_of, elements-below}
@@ -34,15 +35,18 @@ long_pulled w number x s t long pull =
     let product = ap (λ k. k * w) pull.blocks in
     omega (arith, whole, long, product)
 
+-- a walk that went on, so that the same is left
+pub CanWalk-moved : (w index at m n : ℕ) (s t : Ahead) → CanWalk w index m s → length t.values ≡ t.blocks * w → at + w * t.blocks ≡ index + w * s.blocks → indexes w at n t.values ≡ indexes w index m s.values → CanWalk w at n t
+CanWalk-moved w index at m n s t can long along same = record {
+  long = long;
+  fits = omega (arith, can.fits, along);
+  below = subst (All (λ i. i < 2 ^ 64)) (sym same) can.below;
+  few = subst (λ xs. length xs < 2 ^ 64) (sym same) can.few;
+}
+
 pub CanWalk-pulled : {X : Type 0} (w index m : ℕ) (number : X → ℕ) (x : X) (s t : Ahead) → CanWalk w index m s → m ≡ 0 → PullsBlock w number s (Some x) t → CanWalk w (index + w) (number x) t
 CanWalk-pulled w index m number x s t can zero pull =
-    let same = indexes-pulled w index m (number x) s.values t.values zero pull.values in
-    record {
-      long = long_pulled w number x s t can.long pull;
-      fits = omega (arith, can.fits, pulled_along index w t.blocks s.blocks pull.blocks);
-      below = subst (All (λ n. n < 2 ^ 64)) same can.below;
-      few = subst (λ xs. length xs < 2 ^ 64) same can.few;
-    }
+    CanWalk-moved w index (index + w) m (number x) s t can (long_pulled w number x s t can.long pull) (pulled_along index w t.blocks s.blocks pull.blocks) (sym (indexes-pulled w index m (number x) s.values t.values zero pull.values))
 
 pub CanWalk-taken : (w index m r i : ℕ) (ahead : Ahead) → CanWalk w index m ahead → IsLowest m i → i < w → IsCleared w m i r → CanWalk w index r ahead
 CanWalk-taken w index m r i ahead can low within cleared =
@@ -65,33 +69,29 @@ left-most w index m ahead can = let most = length-indexes-le w index m ahead.val
 
 -- ---- a step that may be left out
 
--- From `index` with m in hand and s ahead, to `at` with n in hand and t ahead: the same is left.
-pub record WentOn (w index at m n : ℕ) (s t : Ahead) : Type 0 where
-  pub can : CanWalk w at n t
-  pub same : indexes w at n t.values ≡ indexes w index m s.values
-  pub goes_on : s.pulls ≤ t.pulls
-  pub pulled : t.pulls + t.blocks ≡ s.pulls + s.blocks
-  pub along : at + w * t.blocks ≡ index + w * s.blocks
+-- what contracts see of a walk over two sets that has block m in hand
+abbrev pub seen_of_two : ℕ → ℕ → ℕ → Ahead → TwoSetWalk
+seen_of_two w index m ahead = record { left = indexes w index m ahead.values; pulls = ahead.pulls; index = index; blocks = ahead.blocks }
 
 -- where the block in hand is used up, x is taken for it
 pub went_on : {X : Type 0} (w index at : ℕ) (number : X → ℕ) (old new x : X) (wanted : Bool) (s t : Ahead) → CanWalk w index (number old) s → (wanted ≡ true → number old ≡ 0) → PullsBlockIf w number wanted s (Some x) t
-    → ((wanted ≡ true) × (new ≡ x)) ⊎ ((wanted ≡ false) × (new ≡ old)) → at ≡ index + bool_byte wanted * w → WentOn w index at (number old) (number new) s t
+    → ((wanted ≡ true) × (new ≡ x)) ⊎ ((wanted ≡ false) × (new ≡ old)) → at ≡ index + bool_byte wanted * w → CanWalk w at (number new) t × GoesOn w (seen_of_two w index (number old) s) (seen_of_two w at (number new) t)
 went_on w index at number old new x wanted s t can zero pull (inl used) there =
     let one = pull.pulled used.0 in
-    let none : number old ≡ 0 = zero used.0 in
+    let none = zero used.0 in
     let next_index : at ≡ index + w = there ∙ ap (λ b. index + bool_byte b * w) used.0 ∙ omega arith in
-    let went : WentOn w index (index + w) (number old) (number x) s t = record {
-      can = CanWalk-pulled w index (number old) number x s t can none one;
-      same = sym (indexes-pulled w index (number old) (number x) s.values t.values none one.values);
-      goes_on = omega (arith, one.counted);
-      pulled = omega (arith, one.counted, one.blocks);
-      along = pulled_along index w t.blocks s.blocks one.blocks;
-    } in
-    subst (λ y. WentOn w index at (number old) (number y) s t) (sym used.1) (subst (λ k. WentOn w index k (number old) (number x) s t) (sym next_index) went)
+    rw (used.1, next_index) (
+      CanWalk-pulled w index (number old) number x s t can none one,
+      record {
+        left = sym (indexes-pulled w index (number old) (number x) s.values t.values none one.values);
+        goes_on = omega (arith, one.counted);
+        pulled = omega (arith, one.counted, one.blocks);
+        along = pulled_along index w t.blocks s.blocks one.blocks;
+      },
+    )
 went_on w index at number old new x wanted s t can zero pull (inr kept) there =
     let same_index : at ≡ index = there ∙ ap (λ b. index + bool_byte b * w) kept.0 ∙ omega arith in
-    let stayed : WentOn w index index (number old) (number old) s s = record { can = can; same = refl; goes_on = omega arith; pulled = refl; along = refl } in
-    subst (WentOn w index at (number old) (number new) s) (sym (pull.same kept.0)) (subst (λ y. WentOn w index at (number old) (number y) s s) (sym kept.1) (subst (λ k. WentOn w index k (number old) (number old) s s) (sym same_index) stayed))
+    rw (kept.1, same_index, pull.same kept.0) (can, record { left = refl; goes_on = omega arith; pulled = refl; along = refl })
 
 -- ---- the making of a walk
 
@@ -99,41 +99,31 @@ went_on w index at number old new x wanted s t can zero pull (inr kept) there =
 pub record IsBegun (w m : ℕ) (s t : Ahead) : Type 0 where
   pub all : indexes w 0 m t.values ≡ elements s.values
   pub past : t.blocks ≡ s.blocks - 1
-  pub long : length t.values ≡ t.blocks * w
+  pub can : CanWalk w 0 m t
 
-pub begun : {X : Type 0} (w : ℕ) (number : X → ℕ) (zero : X) (s t : Ahead) (r : Option X) → length s.values ≡ s.blocks * w → PullsBlock w number s r t → number zero ≡ 0 → IsBegun w (number (unwrap_or r zero)) s t
-begun w number zero s t None long pull none = record {
-  all = indexes-ended w 0 (number zero) t.values none pull.values.1 ∙ sym (ap (elements_from 0) pull.values.0);
-  past = omega (arith, pull.blocks);
-  long = let no_value = ap length pull.values.1 in let product = ap (λ k. k * w) pull.blocks.1 in omega (arith, no_value, product);
-}
-begun w number zero s t (Some x) long pull none = record {
-  all = sym (indexes-next w 0 (number x) s.values t.values pull.values);
-  past = omega (arith, pull.blocks);
-  long = long_pulled w number x s t long pull;
-}
-
-pub begun_few : (w m : ℕ) (s t : Ahead) → IsWalkable w s → IsBegun w m s t → length (indexes w 0 m t.values) < 2 ^ 64
-begun_few w m s t can at = subst (λ xs. length xs < 2 ^ 64) (sym at.all) can.few
-
-pub CanWalk-begun : (w m : ℕ) (s t : Ahead) → IsWalkable w s → IsBegun w m s t → CanWalk w 0 m t
-CanWalk-begun w m s t can at = record {
-  long = at.long;
-  fits = let product = ap (λ k. w * k) at.past in omega (arith, product, can.fits);
-  below = subst (All (λ n. n < 2 ^ 64)) (sym at.all) can.below;
-  few = begun_few w m s t can at;
+begun_by : (w m : ℕ) (s t : Ahead) → IsWalkable w s → indexes w 0 m t.values ≡ elements s.values → t.blocks ≡ s.blocks - 1 → length t.values ≡ t.blocks * w → IsBegun w m s t
+begun_by w m s t can all past long = record {
+  all = all;
+  past = past;
+  can = record {
+    long = long;
+    fits = omega (arith, ap (λ k. w * k) past, can.fits);
+    below = subst (All (λ n. n < 2 ^ 64)) (sym all) can.below;
+    few = subst (λ xs. length xs < 2 ^ 64) (sym all) can.few;
+  };
 }
 
--- the blocks past the first are within the length
-past_fits : (w len past : ℕ) → past ≡ blocks_for w len - 1 → past ≤ len / w
-past_fits w len past is = omega arith
+pub begun : {X : Type 0} (w : ℕ) (number : X → ℕ) (zero : X) (s t : Ahead) (r : Option X) → IsWalkable w s → PullsBlock w number s r t → number zero ≡ 0 → IsBegun w (number (unwrap_or r zero)) s t
+begun w number zero s t None can pull none =
+    begun_by w (number zero) s t can (indexes-ended w 0 (number zero) t.values none pull.values.1 ∙ sym (ap (elements_from 0) pull.values.0)) (omega (arith, pull.blocks)) (omega (arith, ap length pull.values.1, ap (λ k. k * w) pull.blocks.1))
+begun w number zero s t (Some x) can pull none = begun_by w (number x) s t can (sym (indexes-next w 0 (number x) s.values t.values pull.values)) (omega (arith, pull.blocks)) (long_pulled w number x s t can.long pull)
 
 -- a walk can go over what reads as a list of truth values, in as many blocks
 pub IsWalkable-of : (w : ℕ) (ahead : Ahead) (values : List Bool) → length ahead.values ≡ ahead.blocks * w → ahead.blocks ≡ blocks_for w (length values) → elements ahead.values ≡ elements values → length values < 2 ^ 64 → IsWalkable w ahead
 IsWalkable-of w ahead values long blocks same fits = record {
   long = long;
   fits =
-      let past : ahead.blocks - 1 ≤ length values / w = past_fits w (length values) (ahead.blocks - 1) (ap (λ k. k - 1) blocks) in
+      let past : ahead.blocks - 1 ≤ length values / w = omega (arith, blocks) in
       omega (arith, mul-le-mul_left w past, mul-div-le (length values) w);
   below = subst (All (λ n. n < 2 ^ 64)) (sym same) (elements-below (2 ^ 64) values (omega arith));
   few = let most = length-elements-le 0 values in let many = ap length same in omega (arith, most, many);

@@ -207,7 +207,8 @@ fn ones_of_both<B: BitBlock, O: Operation>(first: &[B], second: &[B]) -> usize
     ones + ones_between::<B, O>(first, second, groups * GROUP, first.len())
 }
 
-// How many ones the rest of the longer slice has, merged with zeros. The other one is at its end.
+// How many ones the rest of the longer slice has, merged with zeros. The other one is at its end. The compiler takes
+// out a loop that adds none.
 #[inline]
 fn ones_of_rest<B: BitBlock, O: Operation>(first: &[B], second: &[B]) -> usize
     requires ended { (first.now ≡ []) ⊎ (second.now ≡ []) }
@@ -216,35 +217,13 @@ fn ones_of_rest<B: BitBlock, O: Operation>(first: &[B], second: &[B]) -> usize
     requires fits { ones_of_merged B.width B.number O.merge first.now second.now < 2 ^ 64 }
     ensures { result ≡ ones_of_merged B.width B.number O.merge first.now second.now }
 {
-    ones_of_first::<B, O>(first) + ones_of_second::<B, O>(second)
-}
-
-// How many ones a slice of the first side has, merged with zeros. The compiler takes out a loop that adds none.
-#[inline]
-fn ones_of_first<B: BitBlock, O: Operation>(blocks: &[B]) -> usize
-    requires each { All B.is_block blocks.now }
-    requires fits { ones_of_merged B.width B.number O.merge blocks.now [] < 2 ^ 64 }
-    ensures { result ≡ ones_of_merged B.width B.number O.merge blocks.now [] }
-{
     let zero = B::zero();
     let mut ones = 0;
-    for block in blocks {
+    for block in first {
         ones += O::of_blocks(*block, zero).count_ones();
     }
-    ones
-}
-
-// How many ones a slice of the second side has, merged with zeros.
-#[inline]
-fn ones_of_second<B: BitBlock, O: Operation>(blocks: &[B]) -> usize
-    requires each { All B.is_block blocks.now }
-    requires fits { ones_of_merged B.width B.number O.merge [] blocks.now < 2 ^ 64 }
-    ensures { result ≡ ones_of_merged B.width B.number O.merge [] blocks.now }
-{
-    let zero = B::zero();
-    let mut ones = 0;
-    for block in blocks {
-        ones += O::of_blocks(zero, *block).count_ones();
+    for other in second {
+        ones += O::of_blocks(zero, *other).count_ones();
     }
     ones
 }

@@ -1,6 +1,6 @@
 use Rattle.std.proofs.Common.{◌≡◌, ◌<◌, map, ap, ◌∙◌}
 use Rattle.bit_words.specs.Bits.{blocks_of}
-use Rattle.bit_set.proofs.MismatchLemmas.{has_in_block, some_past, none_past}
+use Rattle.bit_set.proofs.MismatchLemmas.{has_in_block, past_tells}
 use Rattle.bit_set.proofs.order.has_from.Goals.{After-has_one_from}
 use Rattle.bit_set.proofs.order.has_from.Goals as goal
 
@@ -13,12 +13,8 @@ returns-then-has_one_from-clause-some g c =
     let one = c.if-has_one_from.ensures.some in
     has_in_block _ c.args.from _ one.0 _ c.args.set.now.values are.0 c.block_or_zero.ensures.of_number one.1 (rw c.bits-width.ensures one.2) one.3
 
-pub returns-clause-some : goal.returns-clause-some
-returns-clause-some g c =
-    let are = numbers g (goal.at.returns-clause-some g c).After-has_one_from in
-    some_past _ c.args.from _ c.args.set.now.values _ _ are.1 are.0 c.first_nonzero_block.ensures c.is_some.ensures
-
-pub returns-clause-none : goal.returns-clause-none
-returns-clause-none g c =
-    let are = numbers g (goal.at.returns-clause-none g c).After-has_one_from in
-    none_past _ c.args.from _ _ c.args.set.now.values _ _ are.1 are.0 c.block_or_zero.ensures.of_number c.if-has_one_from.ensures.none c.first_nonzero_block.ensures c.is_some.ensures
+pub returns : goal.returns
+returns g c =
+    let are = numbers g (goal.at.returns g c).After-has_one_from in
+    let (some, none) = past_tells _ c.args.from _ _ c.args.set.now.values _ _ are.1 are.0 c.block_or_zero.ensures.of_number c.if-has_one_from.ensures.none c.first_nonzero_block.ensures c.is_some.ensures in
+    record { some = some; none = none }

@@ -1,6 +1,6 @@
-use Rattle.std.proofs.Common.{◌≡◌, ◌+◌, ◌-◌, length, ap, arith, drop, take, sym, ◌∙◌}
+use Rattle.std.proofs.Common.{◌≡◌, ◌+◌, ◌-◌, length, ap, ap₂, arith, drop, take, sym, ◌∙◌}
 use Rattle.bit_set.specs.Sets.{elements}
-use Rattle.bit_set.proofs.PairLemmas.{both_held, same_held}
+use Rattle.bit_set.proofs.PairLemmas.{both_held}
 use Rattle.bit_set.proofs.TallyLemmas.{rows_cut_at, rest_ended}
 use Rattle.std.proofs.lemmas.List.{length-take-le}
 use Rattle.std.proofs.lemmas.List.Elements.{All-drop, All-same, All-take}
@@ -18,7 +18,7 @@ cut : (g : _) (c : After-min-both g) →
     ≡ length (elements (both_held w n g.O.Operation.merge (take k xs) (take k ys))) + length (elements (both_held w n g.O.Operation.merge (take (length xs - k) (drop k xs)) (take (length ys - k) (drop k ys))))
 cut g c =
     ap (λ ahead. length (elements ahead.values)) (sym c.self.view_is)
-    ∙ ap (λ bs. length (elements bs)) (sym (same_held g.B.BitBlock.width g.B.BitBlock.number g.O.Operation.merge _ _ _ _ c.as_slice-first.ensures c.as_slice-second.ensures))
+    ∙ ap₂ (λ xs ys. length (elements (both_held g.B.BitBlock.width g.B.BitBlock.number g.O.Operation.merge xs ys))) (sym c.as_slice-first.ensures) (sym c.as_slice-second.ensures)
     ∙ rows_cut_at g.B.BitBlock.width g.B.BitBlock.number g.O.Operation.merge _ _ c.min-both.result (omega (arith, c.min-both.ensures)) (omega (arith, c.min-both.ensures))
 
 pub overflow_add-result : goal.overflow_add-result

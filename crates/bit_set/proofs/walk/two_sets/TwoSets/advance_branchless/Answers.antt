@@ -1,6 +1,8 @@
 use Rattle.std.proofs.Common.{◌≡◌, ◌+◌, ◌*◌, ◌⊎◌, true, false, inl, inr, sym, ap, subst, ◌∙◌}
 use mir.Val.{bool_byte}
-use Rattle.bit_set.proofs.WalkLemmas.{WentOn, went_on}
+use Rattle.bit_set.specs.Places.{CanWalk}
+use Rattle.bit_set.specs.Walk.{GoesOn}
+use Rattle.bit_set.proofs.WalkLemmas.{seen_of_two, went_on}
 use Rattle.bit_set.proofs.walk.two_sets.TwoSets.advance_branchless.Goals as goal
 use Rattle.bit_set.proofs.walk.two_sets.TwoSets.advance_branchless.Goals.{After-bits, then-used_up, else-used_up}
 
@@ -8,7 +10,12 @@ use Rattle.bit_set.proofs.walk.two_sets.TwoSets.advance_branchless.Goals.{After-
 taken : (g : _) (c : After-bits g) → ((c.eq-used_up.result ≡ true) × (c.if-used_up.self ≡ c.in-Some.next)) ⊎ ((c.eq-used_up.result ≡ false) × (c.if-used_up.self ≡ c.self.inside.block))
 taken g c = elim c.if-used_up.branch [ then-used_up at ↦ inl (at.if-used_up.true, at.self-is) | else-used_up at ↦ inr (at.if-used_up.false, at.self-is) ]
 
-went : (g : _) (c : After-bits g) → WentOn g.B.BitBlock.width c.self.inside.index (c.self.inside.index + c.from.result * c.bits.result) (g.B.BitBlock.number c.self.inside.block) (g.B.BitBlock.number c.if-used_up.self) (c.self.inside.source) (c.pull_if.new.self)
+went : (g : _) (c : After-bits g) →
+    let w = g.B.BitBlock.width in
+    let number = g.B.BitBlock.number in
+    let it = c.self.inside in
+    let at = it.index + c.from.result * c.bits.result in
+    CanWalk w at (number c.if-used_up.self) c.pull_if.new.self × GoesOn w (seen_of_two w it.index (number it.block) it.source) (seen_of_two w at (number c.if-used_up.self) c.pull_if.new.self)
 went g c =
     let it = c.self.inside in
     let zero : c.eq-used_up.result ≡ true → g.B.BitBlock.number it.block ≡ 0 = λ wanted. (g.met.B.BitBlock.eq_law it.block c.zero.result c.self.invariant.in_hand c.zero.ensures.of_block).0 (sym c.eq-used_up.ensures ∙ wanted) ∙ c.zero.ensures.of_number in
@@ -20,9 +27,7 @@ invariant_of-self g c =
     let at = (goal.at.invariant_of-self g c).After-bits in
     let is = g.B.BitBlock.is_block in
     let in_hand : is c.if-used_up.self = elim (taken g at) [ inl used ↦ subst is (sym used.1) c.in-Some.ensures.given | inr kept ↦ subst is (sym kept.1) c.self.invariant.in_hand ] in
-    record { in_hand = in_hand; can = (went g at).can }
+    record { in_hand = in_hand; can = (went g at).0 }
 
 pub returns-after-used_up : goal.returns-after-used_up
-returns-after-used_up g c =
-    let to = went g (goal.at.returns-after-used_up g c).After-bits in
-    rw (← c.self.view_is) (record { left = to.same; goes_on = to.goes_on; pulled = to.pulled; along = to.along })
+returns-after-used_up g c = rw (← c.self.view_is) (went g (goal.at.returns-after-used_up g c).After-bits).1
