@@ -15,7 +15,7 @@ use Rattle.bit_set.specs.Walk.{Walk, Advances}
 use Rattle.bit_set.proofs.MemberLemmas.{takes_least}
 use Rattle.bit_set.proofs.PlaceLemmas.{AscendsFrom-indexes, indexes-zero, indexes-next, indexes-lowest, length-indexes, length-elements-block}
 use Rattle.std.proofs.Math.Nat.{mul-div_cancel}
-use Rattle.bit_set.proofs.WalkLemmas.{values_of_blocks, length-values_of_blocks, CanWalk-taken, CanWalk-moved}
+use Rattle.bit_set.proofs.WalkLemmas.{values_of_blocks, length-values_of_blocks, CanWalk-taken, CanWalk-moved, taken_fits}
 
 -- ---- the first block that is not 0
 
@@ -86,11 +86,6 @@ pub record Reaches {X : Type 0} (w : ℕ) (number : X → ℕ) (is_block : X →
   pub pulls : t.pulls ≡ s.pulls + (if s.index / w == at / w then 0 else 1)
   pub summary : t.summary_pulls + t.summary_left ≡ s.summary_pulls + s.summary_left
 
--- It went on to its end, in the last block.
-pub record Ends {X : Type 0} (w : ℕ) (number : X → ℕ) (is_block : X → Type 0) (s : Walk) (at : ℕ) (block : X) (it : Nonzeros X) (t : Walk) : Type 0 where
-  pub walk : IsSparseWalk w number is_block at block it
-  pub steps : Advances w s None t
-
 pub whole_index : (w q : ℕ) → 0 < w → q * w / w ≡ q
 whole_index w q pos = mul-div_cancel q pos
 
@@ -150,16 +145,15 @@ module _ {X : Type 0} (w : ℕ) (number : X → ℕ) (is_block : X → Type 0) (
       }
 
   ends : (index : ℕ) (block x : X) (s t : Nonzeros X) → IsSparseWalk w number is_block index block s → number block ≡ 0 → is_block x → number x ≡ 0 → PullsNonzero s None t
-      → Ends w number is_block (seen w number is_block index block s) ((length s.blocks - 1) * w) x t (seen w number is_block ((length s.blocks - 1) * w) x t)
+      → IsSparseWalk w number is_block ((length s.blocks - 1) * w) x t × Advances w (seen w number is_block index block s) None (seen w number is_block ((length s.blocks - 1) * w) x t)
   ends index block x s t is used_up lawful nothing pull =
       let n = length s.blocks - 1 in
       let none : drop (n + 1) s.blocks ≡ [] = drop_all (n + 1) s.blocks (omega arith) in
       let ended = past_used_up index block s is used_up ∙ next_left index block s [] is pull.item.0 in
       let empty = ap₂ (λ m xs. indexes w (n * w) m (values_of_blocks w number xs)) nothing none ∙ indexes-zero w (n * w) [] in
-      let to = move index n block x s t is lawful pull.same is.inside (omega arith) (pull.item.1 ∙ ap (nonzero_from number (n + 1)) (sym none)) (empty ∙ sym ended) in
-      record {
-        walk = to.walk;
-        steps = record {
+      let to = move index n block x s t is lawful pull.same is.inside (omega arith) (pull.item.1 ∙ ap (nonzero_from number (n + 1)) (sym none)) (empty ∙ sym ended) in (
+        to.walk,
+        record {
           item = (ended, to.same ∙ ended);
           first = tt;
           goes_on = omega (arith, pull.counted);
@@ -168,8 +162,8 @@ module _ {X : Type 0} (w : ℕ) (number : X → ℕ) (is_block : X → Type 0) (
           at = omega (arith, to.fewer, whole_index w n pos, length-drop (index / w + 1) s.blocks, is.inside);
           sparse = pull.counted;
           summary = pull.summary;
-        };
-      }
+        },
+      )
 
   -- a refill that found a block, or had one
   pub refilled : (index at : ℕ) (block x : X) (s t : Nonzeros X) → IsSparseWalk w number is_block index block s → is_block x → Refills w number s (number block) index true t x at → Reaches w number is_block (seen w number is_block index block s) at x t (seen w number is_block at x t)
@@ -188,7 +182,8 @@ module _ {X : Type 0} (w : ℕ) (number : X → ℕ) (is_block : X → Type 0) (
       ]
 
   -- one that found none
-  pub refilled-end : (index at last : ℕ) (block x : X) (s t : Nonzeros X) → IsSparseWalk w number is_block index block s → is_block x → Refills w number s (number block) index false t x at → last ≡ (length t.blocks - 1) * w → Ends w number is_block (seen w number is_block index block s) last x t (seen w number is_block last x t)
+  pub refilled-end : (index at last : ℕ) (block x : X) (s t : Nonzeros X) → IsSparseWalk w number is_block index block s → is_block x → Refills w number s (number block) index false t x at → last ≡ (length t.blocks - 1) * w
+      → IsSparseWalk w number is_block last x t × Advances w (seen w number is_block index block s) None (seen w number is_block last x t)
   refilled-end index at last block x s t is lawful found last_is =
       let nothing : number x ≡ 0 = let test = found.some in grind (arith, nat_tests) in
       elim (cases_eq (number block) 0) [
@@ -197,35 +192,30 @@ module _ {X : Type 0} (w : ℕ) (number : X → ℕ) (is_block : X → Type 0) (
       ]
 
   -- the lowest one of the block that was reached is taken
-  pub taken_walk : (index i : ℕ) (block r : X) (it : Nonzeros X) → IsSparseWalk w number is_block index block it → is_block r → IsLowest (number block) i → i < w → IsCleared w (number block) i (number r) → IsSparseWalk w number is_block index r it
-  taken_walk index i block r it is lawful low within cleared = record {
-    in_hand = lawful;
-    each = is.each;
-    left = is.left;
-    whole = is.whole;
-    inside = is.inside;
-    can = CanWalk-taken w index (number block) (number r) i (past_block w number index it.blocks it.pulls) is.can low within cleared;
-  }
-
-  pub gives : (s : Walk) (index i : ℕ) (block r : X) (it : Nonzeros X) → Reaches w number is_block s index block it (seen w number is_block index block it) → IsLowest (number block) i → i < w → IsCleared w (number block) i (number r) → Advances w s (Some (index + i)) (seen w number is_block index r it)
-  gives s index i block r it to low within cleared =
-      let index_is : (index + i) / w ≡ index / w = ap (λ n. (n + i) / w) to.moved.walk.whole ∙ div-mul-add (index / w) w i within in
-      let ahead = (past_block w number index it.blocks it.pulls).values in
-      let item : s.left ≡ (index + i) ∷ indexes w index (number r) ahead = sym to.moved.same ∙ indexes-lowest w index (number block) (number r) i ahead low within cleared in
-      record {
-        item = item;
-        first = takes_least index s.left (index + i) _ (subst (AscendsFrom index) to.moved.same (AscendsFrom-indexes w index (number block) ahead)) item;
-        goes_on = omega (arith, to.pulls);
-        pulled = pulls_by (s.index / w) (index / w) it.pulls s.pulls _ _ to.moved.onward to.pulls to.moved.fewer;
-        along = to.moved.along;
-        at = (omega arith, omega (arith, within));
-        sparse = record {
-          onward = omega (arith, to.moved.onward, index_is);
-          index = to.moved.walk.whole ∙ ap (λ n. n * w) (sym index_is);
-          pulls = to.pulls ∙ ap (λ n. s.pulls + (if s.index / w == n then 0 else 1)) (sym index_is);
-        };
-        summary = to.summary;
-      }
+  pub given_one : (s : Walk) (index i : ℕ) (block r : X) (it : Nonzeros X) → Reaches w number is_block s index block it (seen w number is_block index block it) → is_block r → IsLowest (number block) i → i < w → IsCleared w (number block) i (number r)
+      → IsSparseWalk w number is_block index r it × (index + i < 2 ^ 64) × Advances w s (Some (index + i)) (seen w number is_block index r it)
+  given_one s index i block r it to lawful low within cleared =
+      let is = to.moved.walk in
+      let ahead = past_block w number index it.blocks it.pulls in
+      let index_is : (index + i) / w ≡ index / w = ap (λ n. (n + i) / w) is.whole ∙ div-mul-add (index / w) w i within in
+      let item : s.left ≡ (index + i) ∷ indexes w index (number r) ahead.values = sym to.moved.same ∙ indexes-lowest w index (number block) (number r) i ahead.values low within cleared in (
+        record { in_hand = lawful; each = is.each; left = is.left; whole = is.whole; inside = is.inside; can = CanWalk-taken w index (number block) (number r) i ahead is.can low within cleared },
+        taken_fits w index (number block) (number r) i ahead is.can low within cleared,
+        record {
+          item = item;
+          first = takes_least index s.left (index + i) _ (subst (AscendsFrom index) to.moved.same (AscendsFrom-indexes w index (number block) ahead.values)) item;
+          goes_on = omega (arith, to.pulls);
+          pulled = pulls_by (s.index / w) (index / w) it.pulls s.pulls _ _ to.moved.onward to.pulls to.moved.fewer;
+          along = to.moved.along;
+          at = (omega arith, omega (arith, within));
+          sparse = record {
+            onward = omega (arith, to.moved.onward, index_is);
+            index = is.whole ∙ ap (λ n. n * w) (sym index_is);
+            pulls = to.pulls ∙ ap (λ n. s.pulls + (if s.index / w == n then 0 else 1)) (sym index_is);
+          };
+          summary = to.summary;
+        },
+      )
 
 -- ---- how many are left
 

@@ -73,25 +73,31 @@ left-most w index m ahead can = let most = length-indexes-le w index m ahead.val
 abbrev pub seen_of_two : ℕ → ℕ → ℕ → Ahead → TwoSetWalk
 seen_of_two w index m ahead = record { left = indexes w index m ahead.values; pulls = ahead.pulls; index = index; blocks = ahead.blocks }
 
--- where the block in hand is used up, x is taken for it
+-- where the block in hand is used up, a walk that went on goes on to x
+pub GoesOn-pulled : {X : Type 0} (w index m : ℕ) (number : X → ℕ) (x : X) (f : TwoSetWalk) (s t : Ahead) → GoesOn w f (seen_of_two w index m s) → m ≡ 0 → PullsBlock w number s (Some x) t → GoesOn w f (seen_of_two w (index + w) (number x) t)
+GoesOn-pulled w index m number x f s t went zero pull = record {
+  left = sym (indexes-pulled w index m (number x) s.values t.values zero pull.values) ∙ went.left;
+  goes_on = omega (arith, went.goes_on, pull.counted);
+  pulled = omega (arith, went.pulled, pull.counted, pull.blocks);
+  along = pulled_along index w t.blocks s.blocks pull.blocks ∙ went.along;
+}
+
+-- or it is not, and the walk stays
 pub went_on : {X : Type 0} (w index at : ℕ) (number : X → ℕ) (old new x : X) (wanted : Bool) (s t : Ahead) → CanWalk w index (number old) s → (wanted ≡ true → number old ≡ 0) → PullsBlockIf w number wanted s (Some x) t
     → ((wanted ≡ true) × (new ≡ x)) ⊎ ((wanted ≡ false) × (new ≡ old)) → at ≡ index + bool_byte wanted * w → CanWalk w at (number new) t × GoesOn w (seen_of_two w index (number old) s) (seen_of_two w at (number new) t)
-went_on w index at number old new x wanted s t can zero pull (inl used) there =
-    let one = pull.pulled used.0 in
-    let none = zero used.0 in
-    let next_index : at ≡ index + w = there ∙ ap (λ b. index + bool_byte b * w) used.0 ∙ omega arith in
-    rw (used.1, next_index) (
-      CanWalk-pulled w index (number old) number x s t can none one,
-      record {
-        left = sym (indexes-pulled w index (number old) (number x) s.values t.values none one.values);
-        goes_on = omega (arith, one.counted);
-        pulled = omega (arith, one.counted, one.blocks);
-        along = pulled_along index w t.blocks s.blocks one.blocks;
-      },
-    )
-went_on w index at number old new x wanted s t can zero pull (inr kept) there =
-    let same_index : at ≡ index = there ∙ ap (λ b. index + bool_byte b * w) kept.0 ∙ omega arith in
-    rw (kept.1, same_index, pull.same kept.0) (can, record { left = refl; goes_on = omega arith; pulled = refl; along = refl })
+went_on w index at number old new x wanted s t can zero pull which there = by_which which
+  where
+    stayed : GoesOn w (seen_of_two w index (number old) s) (seen_of_two w index (number old) s)
+    stayed = record { left = refl; goes_on = omega arith; pulled = refl; along = refl }
+
+    by_which : ((wanted ≡ true) × (new ≡ x)) ⊎ ((wanted ≡ false) × (new ≡ old)) → CanWalk w at (number new) t × GoesOn w (seen_of_two w index (number old) s) (seen_of_two w at (number new) t)
+    by_which (inl used) =
+        let next_index : at ≡ index + w = there ∙ ap (λ b. index + bool_byte b * w) used.0 ∙ omega arith in
+        let one = pull.pulled used.0 in
+        rw (used.1, next_index) (CanWalk-pulled w index (number old) number x s t can (zero used.0) one, GoesOn-pulled w index (number old) number x _ s t stayed (zero used.0) one)
+    by_which (inr kept) =
+        let same_index : at ≡ index = there ∙ ap (λ b. index + bool_byte b * w) kept.0 ∙ omega arith in
+        rw (kept.1, same_index, pull.same kept.0) (can, stayed)
 
 -- ---- the making of a walk
 
