@@ -1,8 +1,7 @@
 -- What the first mismatch of lists of blocks says of the sets that they hold.
 use Rattle.std.proofs.Common.{◌≡◌, ℕ, ◌+◌, ◌*◌, ◌/◌, ◌%◌, ◌^◌, ◌<◌, ◌≤◌, Bool, true, false, not, eqb, List, get_or, length, sym, ap, ◌∙◌, ◌↔◌, subst, inl, inr, arith, ⊎_elim}
-use Rattle.std.specs.Bool.{OnTrue, OnFalse}
 use Rattle.std.specs.Cmp.Lexicographic.{bytes_decides}
-use Rattle.std.specs.Prelude.{IsTrue, Option, Some, None, MatchOption, is_some}
+use Rattle.std.specs.Prelude.{IsTrue}
 use Rattle.std.specs.Int.{bit_at}
 use Rattle.std.proofs.lemmas.Bool.{cases_eq, cases_Bool, not-false}
 use Rattle.std.proofs.lemmas.Bool.Decides.{nat_tests}
@@ -93,7 +92,7 @@ pub has_in_block : (w from m j : ℕ) (ms : List ℕ) (values : List Bool) → m
 has_in_block w from m j ms values are is past within one =
     (from / w * w + j, omega (arith, div-add-mod' from w), has-index w (from / w) j values within ∙ ap (λ x. eqb (bit_at x j) 1) (sym (is ∙ ap (λ bs. get_or bs (from / w) 0) are)) ∙ ap (λ d. eqb d 1) one)
 
-has_past_block : (w from q : ℕ) (ms : List ℕ) (values : List Bool) → 0 < w → ms ≡ blocks_of w values → IsFirstNonzeroBlock ms (from / w + 1) q → SomeFrom values from
+pub has_past_block : (w from q : ℕ) (ms : List ℕ) (values : List Bool) → 0 < w → ms ≡ blocks_of w values → IsFirstNonzeroBlock ms (from / w + 1) q → SomeFrom values from
 has_past_block w from q ms values pos are found_one =
     let first = subst (λ bs. IsFirstNonzeroBlock bs (from / w + 1) q) are found_one in
     let m = get_or (blocks_of w values) q 0 in
@@ -104,7 +103,7 @@ has_past_block w from q ms values pos are found_one =
       has-index w q found.0 values found.1.within ∙ ap (λ d. eqb d 1) found.1.lowest.one,
     )
 
-has_none : (w from m : ℕ) (ms : List ℕ) (values : List Bool) → 0 < w → ms ≡ blocks_of w values → m ≡ get_or ms (from / w) 0 → ((j : ℕ) → from % w ≤ j → bit_at m j ≡ 0) → ((q : ℕ) → from / w + 1 ≤ q → get_or ms q 0 ≡ 0) → NoneFrom values from
+pub has_none : (w from m : ℕ) (ms : List ℕ) (values : List Bool) → 0 < w → ms ≡ blocks_of w values → m ≡ get_or ms (from / w) 0 → ((j : ℕ) → from % w ≤ j → bit_at m j ≡ 0) → ((q : ℕ) → from / w + 1 ≤ q → get_or ms q 0 ≡ 0) → NoneFrom values from
 has_none w from m ms values pos are is in_block past k above =
     has-number w k values pos
     ∙ ap (λ bs. eqb (bit_at (get_or bs (k / w) 0) (k % w)) 1) (sym are)
@@ -112,9 +111,3 @@ has_none w from m ms values pos are is in_block past k above =
       | inl here ↦ ap (λ q. bit_at (get_or ms q 0) (k % w)) here ∙ ap (λ x. bit_at x (k % w)) (sym is) ∙ in_block (k % w) (omega (arith, div-add-mod' k w, div-add-mod' from w, ap (λ q. q * w) here))
       | inr other ↦ ap (λ m. bit_at m (k % w)) (past (k / w) (omega (arith, other, le-div (from / w) k w pos (omega (arith, div-add-mod' from w, above))))) ∙ bit_at-zero (k % w)
     ])
-
--- what a search past the block says of the set
-pub past_tells : (w from m : ℕ) (ms : List ℕ) (values : List Bool) (r : Option ℕ) (b : Bool) → 0 < w → ms ≡ blocks_of w values → m ≡ get_or ms (from / w) 0 → ((j : ℕ) → from % w ≤ j → bit_at m j ≡ 0)
-    → MatchOption r ((q : ℕ) → from / w + 1 ≤ q → get_or ms q 0 ≡ 0) (IsFirstNonzeroBlock ms (from / w + 1)) → b ≡ is_some r → OnTrue b (SomeFrom values from) × OnFalse b (NoneFrom values from)
-past_tells w from m ms values None b pos are m_is in_block found is = rw is (tt, has_none w from m ms values pos are m_is in_block found)
-past_tells w from m ms values (Some q) b pos are m_is in_block found is = rw is (has_past_block w from q ms values pos are found, tt)

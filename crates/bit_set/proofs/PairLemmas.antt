@@ -1,6 +1,6 @@
 -- Two sides of blocks that are pulled as one.
 use Rattle.std.proofs.Common.{◌≡◌, ℕ, zero, suc, ◌+◌, ◌*◌, ◌^◌, ◌<◌, ◌≤◌, max, min, Bool, true, false, List, [], ◌∷◌, ◌++◌, map, length, All, Option, Some, None, refl, sym, ap, ◌∙◌, subst, inl, inr, arith, ap₂}
-use Rattle.std.specs.Prelude.{IfSome, IsSomeAnd}
+use Rattle.std.specs.Prelude.{IfSome}
 use Rattle.bit_words.specs.Source.{Source, PullsIf}
 use Rattle.std.specs.Iterator.{YieldsFirst}
 use Rattle.bit_words.specs.Digits.{is_one}
@@ -58,14 +58,11 @@ second_digits merge n r a zero ys each = refl
 second_digits merge n r a (suc w) ys each =
     ap₂ (λ b bs. b ∷ bs) (sym (each a (omega arith) (omega arith) ∙ ap (λ v. merge_of_values merge v (is_one n a)) (is_one-zero a))) (second_digits merge n r (a + 1) w ys (λ i low high. each i (omega arith) (omega arith)))
 
-zeros_given : {X : Type 0} (number : X → ℕ) (P : X → Type 0) (r : Option X) → IsSomeAnd r (λ x. P x × (number x ≡ 0)) → IfSome r P
-zeros_given number P None given = absurd given
-zeros_given number P (Some x) given = given.0
-
 -- a call of `next_if` gives a block, and leaves such
 pub All-next_if : {X : Type 0} (number : X → ℕ) (is_block : X → Type 0) (wanted : Bool) (s t : Source X) (r : Option X) → All is_block s.left → PullsIf is_block number wanted s r t → IfSome r is_block × All is_block t.left
 All-next_if number is_block true s t r each next = All-pulled is_block s.left t.left r each (next.pulled refl).item
-All-next_if number is_block false s t r each next = (zeros_given number is_block r (next.zeros refl), subst (λ u. All is_block u.left) (sym (next.same refl)) each)
+All-next_if number is_block false s t None each next = absurd (next.zeros refl)
+All-next_if number is_block false s t (Some x) each next = ((next.zeros refl).0, subst (λ u. All is_block u.left) (sym (next.same refl)) each)
 
 pub same_pulls_if : {X : Type 0} (number : X → ℕ) (is_block : X → Type 0) (wanted : Bool) (s s' t t' : Source X) (o p : Option X) → PullsIf is_block number wanted s o s' → PullsIf is_block number wanted t p t' → t.pulls ≡ s.pulls → t'.pulls ≡ s'.pulls
 same_pulls_if number is_block true s s' t t' o p next other same = omega (arith, (next.pulled refl).counted, (other.pulled refl).counted, same)

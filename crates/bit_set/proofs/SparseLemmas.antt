@@ -89,10 +89,6 @@ pub record Reaches {X : Type 0} (w : ℕ) (number : X → ℕ) (is_block : X →
 pub whole_index : (w q : ℕ) → 0 < w → q * w / w ≡ q
 whole_index w q pos = mul-div_cancel q pos
 
--- by blocks further along
-along_by : (w index at k by b c : ℕ) → index ≡ k * w → at ≡ (k + by) * w → b ≡ c + by → at + w * c ≡ index + w * b
-along_by w index at k by b c from to fewer = let product = ap (λ n. w * n) fewer in omega (arith, from, to, product)
-
 -- a pull leads to another block
 pulls_by : (old new p q m n : ℕ) → old ≤ new → p ≡ q + (if old == new then 0 else 1) → m + (new - old) ≡ n → p + m ≤ q + n
 pulls_by old new p q m n onward counted fewer = grind (arith, nat_tests)
@@ -106,7 +102,9 @@ module _ {X : Type 0} (w : ℕ) (number : X → ℕ) (is_block : X → Type 0) (
       let at : n * w / w ≡ n = whole_index w n pos in
       let rest : drop (n * w / w + 1) t.blocks ≡ drop (n + 1) s.blocks = ap₂ (λ j xs. drop (j + 1) xs) at all in
       let fewer : length (drop (n * w / w + 1) t.blocks) + (n - k) ≡ length (drop (k + 1) s.blocks) = omega (arith, ap length rest, length-drop (n + 1) s.blocks, length-drop (k + 1) s.blocks, onward, inside) in
-      let along = along_by w index (n * w) k (n - k) _ _ is.whole (ap (λ j. j * w) (let e : n ≡ k + (n - k) = omega (arith, onward) in e)) (sym fewer) in
+      let product = ap (λ j. w * j) fewer in
+      let at_index = ap (λ j. j * w) (let e : n ≡ k + (n - k) = omega (arith, onward) in e) in
+      let along : n * w + w * length (drop (n * w / w + 1) t.blocks) ≡ index + w * length (drop (k + 1) s.blocks) = omega (arith, is.whole, product, at_index) in
       let still = ap (λ xs. indexes w (n * w) (number x) (values_of_blocks w number xs)) rest ∙ same in
       record {
         walk = record {

@@ -1,7 +1,6 @@
 //! Equality and order of sets: those of the lists of their elements in ascending order, found block
 //! by block.
 ghost use Rattle.std.specs.Prelude.{◌≡◌, ℕ, ◌≤◌, ◌↔◌, IsTrue, MatchOption, Some, get_or, true, false};
-ghost use Rattle.std.specs.Bool.{OnTrue, OnFalse};
 ghost use Rattle.std.specs.Cmp.{on_equiv, on_per, on_po, on_total, partial_equiv_from_equiv};
 ghost use Rattle.std.specs.Ordering.{MatchOrdering};
 ghost use Rattle.std.specs.Cmp.Lexicographic.{nat_list_cmp_total, nat_list_eq_equiv, texts_po, texts_ties};
@@ -125,10 +124,15 @@ fn order_of_holder<B: BitBlock>(other: &BitSet<B>, number: usize) -> Ordering
         ((k : ℕ) × (number ≤ k) × (has (elements other.now.values) k ≡ true)) ⊥
         ((k : ℕ) → number ≤ k → has (elements other.now.values) k ≡ false) }
 {
-    if has_from(other, number) {
-        Ordering::Less
-    } else {
-        Ordering::Greater
+    let blocks = other.get_ref().storage();
+    let width = B::bits();
+    let at = number / width;
+    if has_one_from(block_or_zero(blocks, at), number % width) {
+        return Ordering::Less;
+    }
+    match first_nonzero_block(blocks, at + 1) {
+        Some(_) => Ordering::Less,
+        None => Ordering::Greater,
     }
 }
 
@@ -141,18 +145,4 @@ fn first_mismatch<B: BitBlock>(a: &BitSet<B>, b: &BitSet<B>, at: usize) -> usize
     let (left, right) = (a.get_ref().storage(), b.get_ref().storage());
     let index = lowest_mismatch(block_or_zero(left, at), block_or_zero(right, at));
     at * B::bits() + index
-}
-
-// Whether the set has a number that is not below `from`.
-fn has_from<B: BitBlock>(set: &BitSet<B>, from: usize) -> bool
-    ensures some { OnTrue result ((k : ℕ) × (from ≤ k) × (has (elements set.now.values) k ≡ true)) }
-    ensures none { OnFalse result ((k : ℕ) → from ≤ k → has (elements set.now.values) k ≡ false) }
-{
-    let blocks = set.get_ref().storage();
-    let width = B::bits();
-    let at = from / width;
-    if has_one_from(block_or_zero(blocks, at), from % width) {
-        return true;
-    }
-    first_nonzero_block(blocks, at + 1).is_some()
 }
