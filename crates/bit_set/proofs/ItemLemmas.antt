@@ -7,11 +7,8 @@ use Rattle.bit_words.specs.Bounds.{greatest}
 use Rattle.bit_set.specs.Faults.{IsInsertFault}
 use Rattle.bit_set.specs.declared.faults.SetError.{SetError}
 use Rattle.bit_set.specs.declared.faults.SetError.TheVariants.{Element, Length, Memory}
+use Rattle.bit_set.proofs.SizeLemmas.{put_all-append}
 use Rattle.bit_set.proofs.MemberLemmas.{members_put_all}
-
-put_all-push : (s items : List ℕ) (n : ℕ) → put_all s (items ++ n ∷ []) ≡ put (put_all s items) n
-put_all-push s [] n = refl
-put_all-push s (x ∷ xs) n = put_all-push (put s x) xs n
 
 bound_of-push : (items : List ℕ) (n : ℕ) → bound_of (items ++ n ∷ []) ≡ max (bound_of items) (n + 1)
 bound_of-push [] n = omega arith
@@ -19,7 +16,7 @@ bound_of-push (x ∷ xs) n = let rest = bound_of-push xs n in omega (arith, rest
 
 pub TakesIn-more : (items : List ℕ) (n : ℕ) (old mid new : List Bool) → TakesIn items old mid → elements new ≡ put (elements mid) n → length new ≡ max (length mid) (n + 1) → n < greatest → TakesIn (items ++ n ∷ []) old new
 TakesIn-more items n old mid new so_far members long low =
-    let all : elements new ≡ put_all (elements old) (items ++ n ∷ []) = members ∙ ap (λ s. put s n) so_far.members ∙ sym (put_all-push (elements old) items n) in record {
+    let all : elements new ≡ put_all (elements old) (items ++ n ∷ []) = members ∙ ap (λ s. put s n) so_far.members ∙ sym (put_all-append (elements old) items (n ∷ [])) in record {
       members = all;
       union = members_put_all (elements old) (items ++ n ∷ []) (elements new) all;
       long = omega (arith, long, so_far.long, bound_of-push items n);

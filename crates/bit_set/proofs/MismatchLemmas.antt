@@ -95,8 +95,7 @@ has_in_block w from m j ms values are is past within one =
 pub has_past_block : (w from q : ℕ) (ms : List ℕ) (values : List Bool) → 0 < w → ms ≡ blocks_of w values → IsFirstNonzeroBlock ms (from / w + 1) q → SomeFrom values from
 has_past_block w from q ms values pos are found_one =
     let first = subst (λ bs. IsFirstNonzeroBlock bs (from / w + 1) q) are found_one in
-    let m = get_or (blocks_of w values) q 0 in
-    let found = lowest_found w m (omega (arith, first.here)) (blocks_of-lt w q values) in
+    let found = lowest_found w (get_or (blocks_of w values) q 0) (omega (arith, first.here)) (blocks_of-lt w q values) in
     let above = mul-le-mul_right w first.reached in (
       q * w + found.0,
       omega (arith, above, div-add-mod' from w, mod-lt from pos),

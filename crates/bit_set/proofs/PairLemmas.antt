@@ -115,19 +115,17 @@ module _ {X : Type 0} (w : ℕ) (number : X → ℕ) (merge : Merge) where
   -- ---- the making
 
   -- the lists of truth values become what their blocks become
-  pub elements-both : (xs ys : List X) (a b : List Bool) → 0 < w → map number xs ≡ blocks_of w a → map number ys ≡ blocks_of w b → elements (both_held xs ys) ≡ merge_of_sets merge (elements a) (elements b)
-  elements-both xs ys a b pos first second =
-      elements-merged merge (values_in w (map number xs)) (values_in w (map number ys))
-      ∙ ap₂ (merge_of_sets merge) (elements-values_of_blocks w number xs a pos first) (elements-values_of_blocks w number ys b pos second)
-
-  pub max_past : (xs ys : List X) (a b : List Bool) → map number xs ≡ blocks_of w a → map number ys ≡ blocks_of w b → max (length xs) (length ys) ≡ max (blocks_for w (length a)) (blocks_for w (length b))
-  max_past xs ys a b first second = let one = length-blocks w number xs a first in let other = length-blocks w number ys b second in cc
-
-  pub IsWalkable-both : (xs ys : List X) (a b : List Bool) (pulls : ℕ) → 0 < w → map number xs ≡ blocks_of w a → map number ys ≡ blocks_of w b → length a < 2 ^ 64 → length b < 2 ^ 64 → IsWalkable w (both_ahead xs ys pulls)
-  IsWalkable-both xs ys a b pulls pos first second first_fits second_fits =
-      let long = length-merged merge a b in
-      IsWalkable-of w (both_ahead xs ys pulls) (merge_of merge a b)
-      (length-merged merge _ _ ∙ ap₂ max (length-values_of_blocks w number xs) (length-values_of_blocks w number ys) ∙ max_of (λ k. k * w) (length xs) (length ys) (λ m n le. mul-le-mul_right w le))
-      (max_past xs ys a b first second ∙ max_of (blocks_for w) (length a) (length b) (λ m n le. blocks_for-le w m n pos le) ∙ ap (blocks_for w) (sym long))
-      (elements-both xs ys a b pos first second ∙ sym (elements-merged merge a b))
-      (omega (arith, long))
+  pub walkable_both : (xs ys : List X) (a b : List Bool) (pulls : ℕ) → 0 < w → map number xs ≡ blocks_of w a → map number ys ≡ blocks_of w b → length a < 2 ^ 64 → length b < 2 ^ 64
+      → IsWalkable w (both_ahead xs ys pulls) × (elements (both_held xs ys) ≡ merge_of_sets merge (elements a) (elements b)) × (max (length xs) (length ys) ≡ max (blocks_for w (length a)) (blocks_for w (length b)))
+  walkable_both xs ys a b pulls pos first second first_fits second_fits =
+      let all = elements-merged merge _ _ ∙ ap₂ (merge_of_sets merge) (elements-values_of_blocks w number xs a pos first) (elements-values_of_blocks w number ys b pos second) in
+      let blocks = ap₂ max (length-blocks w number xs a first) (length-blocks w number ys b second) in
+      let long = length-merged merge a b in (
+        IsWalkable-of w (both_ahead xs ys pulls) (merge_of merge a b)
+            (length-merged merge _ _ ∙ ap₂ max (length-values_of_blocks w number xs) (length-values_of_blocks w number ys) ∙ max_of (λ k. k * w) (length xs) (length ys) (λ m n le. mul-le-mul_right w le))
+            (blocks ∙ max_of (blocks_for w) (length a) (length b) (λ m n le. blocks_for-le w m n pos le) ∙ ap (blocks_for w) (sym long))
+            (all ∙ sym (elements-merged merge a b))
+            (omega (arith, long)),
+        all,
+        blocks,
+      )

@@ -134,9 +134,7 @@ length-elements-block w m bs small = length-indexes w 0 m bs small
 -- no more than digits
 pub length-indexes-le : (w p m : ℕ) (bs : List Bool) → length (indexes w p m bs) ≤ w + length bs
 unfolding indexes
-length-indexes-le w p m bs =
-    let most = length-elements-le p (digits_from m 0 w ++ bs) in
-    omega (arith, most, length-digits_from m w bs)
+length-indexes-le w p m bs = omega (arith, length-elements-le p (digits_from m 0 w ++ bs), length-digits_from m w bs)
 
 -- ---- what the elements of a list of truth values are below
 

@@ -15,7 +15,7 @@ use Rattle.bit_set.specs.Walk.{Walk, Advances}
 use Rattle.bit_set.proofs.MemberLemmas.{takes_least}
 use Rattle.bit_set.proofs.PlaceLemmas.{AscendsFrom-indexes, indexes-zero, indexes-next, indexes-lowest, length-indexes, length-elements-block}
 use Rattle.std.proofs.Math.Nat.{mul-div_cancel}
-use Rattle.bit_set.proofs.WalkLemmas.{values_of_blocks, length-values_of_blocks, CanWalk-taken, CanWalk-moved, taken_fits}
+use Rattle.bit_set.proofs.WalkLemmas.{values_of_blocks, length-values_of_blocks, CanWalk-taken, CanWalk-moved}
 
 -- ---- the first block that is not 0
 
@@ -102,9 +102,8 @@ module _ {X : Type 0} (w : ℕ) (number : X → ℕ) (is_block : X → Type 0) (
       let at : n * w / w ≡ n = whole_index w n pos in
       let rest : drop (n * w / w + 1) t.blocks ≡ drop (n + 1) s.blocks = ap₂ (λ j xs. drop (j + 1) xs) at all in
       let fewer : length (drop (n * w / w + 1) t.blocks) + (n - k) ≡ length (drop (k + 1) s.blocks) = omega (arith, ap length rest, length-drop (n + 1) s.blocks, length-drop (k + 1) s.blocks, onward, inside) in
-      let product = ap (λ j. w * j) fewer in
       let at_index = ap (λ j. j * w) (let e : n ≡ k + (n - k) = omega (arith, onward) in e) in
-      let along : n * w + w * length (drop (n * w / w + 1) t.blocks) ≡ index + w * length (drop (k + 1) s.blocks) = omega (arith, is.whole, product, at_index) in
+      let along : n * w + w * length (drop (n * w / w + 1) t.blocks) ≡ index + w * length (drop (k + 1) s.blocks) = omega (arith, is.whole, ap (λ j. w * j) fewer, at_index) in
       let still = ap (λ xs. indexes w (n * w) (number x) (values_of_blocks w number xs)) rest ∙ same in
       record {
         walk = record {
@@ -195,10 +194,11 @@ module _ {X : Type 0} (w : ℕ) (number : X → ℕ) (is_block : X → Type 0) (
   given_one s index i block r it to lawful low within cleared =
       let is = to.moved.walk in
       let ahead = past_block w number index it.blocks it.pulls in
+      let taken = CanWalk-taken w index (number block) (number r) i ahead is.can low within cleared in
       let index_is : (index + i) / w ≡ index / w = ap (λ n. (n + i) / w) is.whole ∙ div-mul-add (index / w) w i within in
       let item : s.left ≡ (index + i) ∷ indexes w index (number r) ahead.values = sym to.moved.same ∙ indexes-lowest w index (number block) (number r) i ahead.values low within cleared in (
-        record { in_hand = lawful; each = is.each; left = is.left; whole = is.whole; inside = is.inside; can = CanWalk-taken w index (number block) (number r) i ahead is.can low within cleared },
-        taken_fits w index (number block) (number r) i ahead is.can low within cleared,
+        record { in_hand = lawful; each = is.each; left = is.left; whole = is.whole; inside = is.inside; can = taken.0 },
+        taken.1,
         record {
           item = item;
           first = takes_least index s.left (index + i) _ (subst (AscendsFrom index) to.moved.same (AscendsFrom-indexes w index (number block) ahead.values)) item;
@@ -233,5 +233,4 @@ module _ {X : Type 0} (w : ℕ) (number : X → ℕ) (is_block : X → Type 0) (
   ones_ahead index block it is =
       let xs = drop (index / w + 1) it.blocks in
       let past = ap (ones_left number) is.left ∙ ones_of_nonzero (index / w + 1) xs (All-drop is_block (index / w + 1) it.blocks is.each) in
-      let all = length-indexes w index (number block) (values_of_blocks w number xs) (small block is.in_hand) in
-      omega (arith, past, all)
+      omega (arith, past, length-indexes w index (number block) (values_of_blocks w number xs) (small block is.in_hand))

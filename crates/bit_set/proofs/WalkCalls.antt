@@ -1,8 +1,8 @@
 -- What walks over two sets give, and what `eq`, `max`, `min` and `find` of a walk return.
-use Rattle.std.proofs.Common.{◌≡◌, ℕ, List, [], ◌∷◌, Bool, true, false, ◌&&◌, Option, Some, None, nat_eq, sym, ap, ap₂, ◌∙◌, subst, length, max, min, Bor, IsTrue, MatchOption}
+use Rattle.std.proofs.Common.{◌≡◌, ℕ, List, [], ◌∷◌, Bool, true, false, ◌&&◌, Option, Some, None, nat_eq, sym, ap, ap₂, ◌∙◌, subst, length, Bor, IsTrue, MatchOption}
 use Rattle.std.specs.Fn.{Mut, CalledAt}
 use Rattle.std.specs.Option.{IfSome}
-use Rattle.std.specs.List.{AllZip, find, reduce}
+use Rattle.std.specs.List.{AllZip}
 use Rattle.std.specs.Ordering.{max_by_ordering, min_by_ordering, nat_cmp}
 use Rattle.std.specs.Cmp.Lexicographic.{pointwise}
 use Rattle.std.specs.Iterator.{AlwaysYields, YieldsThen, ComparesItemsByEq, FindsItem, PicksByCmp}
@@ -68,18 +68,15 @@ eq_from_yields_List {steps = steps} {others = others} {s = s} {xs = xs} {ys = ys
 -- `max` and `min` of an iterator over numbers
 pub greatest_from_max : {S : Type 0} {steps : S → Option ℕ → S → Type 0} {s : S} {xs : List ℕ} (r : Option ℕ) → PicksByCmp steps max_by_ordering nat_cmp s r → YieldsList steps (λ x. x) s xs → MatchOption r (HasNone xs) (IsGreatest xs)
 greatest_from_max {s = s} {xs = xs} r ran gives =
-    let same : reduce max xs ≡ r = sym (sym (option_map_id r) ∙ max_from_yields_List {v = λ x. x} s r ran gives) in
-    subst (λ (o : Option ℕ). MatchOption o (HasNone xs) (IsGreatest xs)) same (greatest_of xs)
+    rw (sym (option_map_id r) ∙ max_from_yields_List {v = λ x. x} s r ran gives) (greatest_of xs)
 
 pub least_from_min : {S : Type 0} {steps : S → Option ℕ → S → Type 0} {s : S} {xs : List ℕ} (r : Option ℕ) → PicksByCmp steps min_by_ordering nat_cmp s r → YieldsList steps (λ x. x) s xs → MatchOption r (HasNone xs) (IsLeast xs)
 least_from_min {s = s} {xs = xs} r ran gives =
-    let same : reduce min xs ≡ r = sym (sym (option_map_id r) ∙ min_from_yields_List {v = λ x. x} s r ran gives) in
-    subst (λ (o : Option ℕ). MatchOption o (HasNone xs) (IsLeast xs)) same (least_of xs)
+    rw (sym (option_map_id r) ∙ min_from_yields_List {v = λ x. x} s r ran gives) (least_of xs)
 
 -- `find` of an iterator over numbers that ascend, whose closure computes a test
 pub least_from_find : {S F : Type 0} {steps : S → Option ℕ → S → Type 0} {g : Mut F (Bor ℕ × Unit {0}) Bool} {s : S} {xs : List ℕ} (test : ℕ → Bool) (u : S) (f : F) (r : Option ℕ)
     → FindsItem steps g s f r u → YieldsList steps (λ x. x) s xs → ((x : ℕ) (b : Bool) (q : F) → CalledAt g f x b q → (q ≡ f) × (b ≡ test x))
     → IsAscending xs → MatchOption r ((x : ℕ) → IsTrue (has xs x) → test x ≡ false) (IsLeastPassing test xs)
 least_from_find {xs = xs} test u f r ran gives computes up =
-    let same : find test xs ≡ r = sym (sym (option_map_id r) ∙ find_from_yields_List {v = λ x. x} test u f r ran gives computes) in
-    subst (λ (o : Option ℕ). MatchOption o ((x : ℕ) → IsTrue (has xs x) → test x ≡ false) (IsLeastPassing test xs)) same (finds test xs up)
+    rw (sym (option_map_id r) ∙ find_from_yields_List {v = λ x. x} test u f r ran gives computes) (finds test xs up)

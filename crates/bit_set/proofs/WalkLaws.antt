@@ -168,16 +168,13 @@ length-blocks_past w k x xs onward = grind (arith, nat_tests)
 
 pub pulled_sparsely : (w : ℕ) (s t : Walk) (items : List ℕ) → 0 < w → YieldsThen (Advances w) s items None t → t.pulls ≡ s.pulls + length (blocks_past w (s.index / w) s.left) + 1
 pulled_sparsely w s t [] pos run =
-    let pulls = ap (λ walk. walk.pulls) run.1 in
     let none = ap (λ xs. length (blocks_past w (s.index / w) xs)) (ap (λ walk. walk.left) run.1 ∙ run.2.item.0) in
-    omega (arith, run.2.sparse, pulls, none)
+    omega (arith, run.2.sparse, ap (λ walk. walk.pulls) run.1, none)
 pulled_sparsely w s t (x ∷ xs) pos run =
     let mid = run.1.0 in
-    let step = run.1.1 in
-    let found = step.sparse in
-    let rest = pulled_sparsely w mid t xs pos (run.0, run.1.2, run.2) in
+    let found = run.1.1.sparse in
     let block : mid.index / w ≡ x / w = ap (λ n. n / w) found.index ∙ whole_index w (x / w) pos in
-    rw step.item (omega (arith, rw block at rest, found.pulls, length-blocks_past w (s.index / w) x mid.left found.onward))
+    rw run.1.1.item (omega (arith, rw block at (pulled_sparsely w mid t xs pos (run.0, run.1.2, run.2)), found.pulls, length-blocks_past w (s.index / w) x mid.left found.onward))
 
 pub pulled_whole : (w : ℕ) (values : List Bool) (s t : Walk) (items : List ℕ) → 0 < w → IsAtStart w values s → YieldsThen (Advances w) s items None t → t.pulls ≡ length (blocks_past w 0 (elements values)) + 2
 pulled_whole w values s t items pos start run =

@@ -31,9 +31,7 @@ indexes-ended w index m s zero is = ap (λ k. indexes w index k s) zero ∙ inde
 -- the values ahead are those of whole blocks
 long_pulled : {X : Type 0} (w : ℕ) (number : X → ℕ) (x : X) (s t : Ahead) → length s.values ≡ s.blocks * w → PullsBlock w number s (Some x) t → length t.values ≡ t.blocks * w
 long_pulled w number x s t long pull =
-    let whole : length s.values ≡ w + length t.values = ap length pull.values ∙ length-digits_from (number x) w t.values in
-    let product = ap (λ k. k * w) pull.blocks in
-    omega (arith, whole, long, product)
+    omega (arith, ap length pull.values ∙ length-digits_from (number x) w t.values, long, ap (λ k. k * w) pull.blocks)
 
 -- a walk that went on, so that the same is left
 pub CanWalk-moved : (w index at m n : ℕ) (s t : Ahead) → CanWalk w index m s → length t.values ≡ t.blocks * w → at + w * t.blocks ≡ index + w * s.blocks → indexes w at n t.values ≡ indexes w index m s.values → CanWalk w at n t
@@ -48,24 +46,18 @@ pub CanWalk-pulled : {X : Type 0} (w index m : ℕ) (number : X → ℕ) (x : X)
 CanWalk-pulled w index m number x s t can zero pull =
     CanWalk-moved w index (index + w) m (number x) s t can (long_pulled w number x s t can.long pull) (pulled_along index w t.blocks s.blocks pull.blocks) (sym (indexes-pulled w index m (number x) s.values t.values zero pull.values))
 
-pub CanWalk-taken : (w index m r i : ℕ) (ahead : Ahead) → CanWalk w index m ahead → IsLowest m i → i < w → IsCleared w m i r → CanWalk w index r ahead
+-- the lowest one is taken
+pub CanWalk-taken : (w index m r i : ℕ) (ahead : Ahead) → CanWalk w index m ahead → IsLowest m i → i < w → IsCleared w m i r → CanWalk w index r ahead × (index + i < 2 ^ 64)
 CanWalk-taken w index m r i ahead can low within cleared =
     let same = indexes-lowest w index m r i ahead.values low within cleared in
-    record {
-      long = can.long;
-      fits = can.fits;
-      below = All-tail (λ n. n < 2 ^ 64) (index + i) (indexes w index r ahead.values) (subst (All (λ n. n < 2 ^ 64)) same can.below);
-      few = let shorter = ap length same in omega (arith, can.few, shorter);
-    }
-
-pub taken_fits : (w index m r i : ℕ) (ahead : Ahead) → CanWalk w index m ahead → IsLowest m i → i < w → IsCleared w m i r → index + i < 2 ^ 64
-taken_fits w index m r i ahead can low within cleared =
-    let same = indexes-lowest w index m r i ahead.values low within cleared in
-    All-head (λ n. n < 2 ^ 64) (index + i) (indexes w index r ahead.values) (subst (All (λ n. n < 2 ^ 64)) same can.below)
+    let below = subst (All (λ n. n < 2 ^ 64)) same can.below in (
+      record { long = can.long; fits = can.fits; below = All-tail (λ n. n < 2 ^ 64) (index + i) (indexes w index r ahead.values) below; few = omega (arith, can.few, ap length same) },
+      All-head (λ n. n < 2 ^ 64) (index + i) (indexes w index r ahead.values) below,
+    )
 
 -- no more items than digits
 pub left-most : (w index m : ℕ) (ahead : Ahead) → CanWalk w index m ahead → length (indexes w index m ahead.values) ≤ (1 + ahead.blocks) * w
-left-most w index m ahead can = let most = length-indexes-le w index m ahead.values in omega (arith, most, can.long)
+left-most w index m ahead can = omega (arith, length-indexes-le w index m ahead.values, can.long)
 
 -- ---- a step that may be left out
 
@@ -157,8 +149,7 @@ module _ {X : Type 0} (w : ℕ) (number : X → ℕ) where
 -- one block more is counted
 pub count_more : (w m : ℕ) (bs cs : List Bool) (ones more total : ℕ) → bs ≡ digits_from m 0 w ++ cs → ones + length (elements bs) ≡ total → m < 2 ^ w → more ≡ count_ones m → ones + more + length (elements cs) ≡ total
 count_more w m bs cs ones more total is before small same =
-    let split = ap (λ ds. length (elements ds)) is ∙ length-elements-block w m cs small in
-    omega (arith, split, before, same)
+    omega (arith, ap (λ ds. length (elements ds)) is ∙ length-elements-block w m cs small, before, same)
 
 -- the block in hand, where there may be none
 pub given_or : {X : Type 0} (P : X → Type 0) (r : Option X) (zero : X) → IfSome r P → P zero → P (unwrap_or r zero)

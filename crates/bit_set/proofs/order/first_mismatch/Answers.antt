@@ -9,15 +9,13 @@ use Rattle.bit_set.proofs.order.first_mismatch.Goals as goal
 is_first : (g : _) (c : goal.After-bits g) → IsFirstMismatch (elements c.args.a.now.values) (elements c.args.b.now.values) (c.args.at * g.B.BitBlock.width + c.lowest_mismatch-index.result)
 is_first g c =
     let w = g.B.BitBlock.width in
-    let n = g.B.BitBlock.number in
     let at = c.args.at in
-    let xs = c.args.a.now.values in
     let ys = c.args.b.now.values in
     let left = c.block_or_zero.ensures.of_number ∙ ap (λ ms. get_or ms at 0) (c.storage-left.ensures.numbers ∙ ap (λ s. blocks_of w s.values) c.get_ref.ensures) in
     let right = c.block_or_zero-2.ensures.of_number ∙ ap (λ ms. get_or ms at 0) (c.storage-right.ensures.numbers ∙ ap (λ s. blocks_of w s.values) c.get_ref-2.ensures) in
     let i = c.lowest_mismatch-index.result in
-    first_mismatch_is w at i xs ys g.met.B.BitBlock.width_law.positive c.requires
-    (subst (λ m. IsLowestMismatch w m (get_or (blocks_of w ys) at 0) i) left (subst (λ m. IsLowestMismatch w (n c.block_or_zero.result) m i) right c.lowest_mismatch-index.ensures))
+    first_mismatch_is w at i c.args.a.now.values ys g.met.B.BitBlock.width_law.positive c.requires
+    (subst (λ m. IsLowestMismatch w m (get_or (blocks_of w ys) at 0) i) left (subst (λ m. IsLowestMismatch w (g.B.BitBlock.number c.block_or_zero.result) m i) right c.lowest_mismatch-index.ensures))
 
 fits : (g : _) (c : goal.After-bits g) → c.args.at * c.bits.result + c.lowest_mismatch-index.result < 2 ^ 64
 fits g c =

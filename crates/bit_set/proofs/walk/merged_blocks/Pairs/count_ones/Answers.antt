@@ -20,9 +20,7 @@ cut g c =
     ∙ rows_cut_at g.B.BitBlock.width g.B.BitBlock.number g.O.Operation.merge _ _ c.min-both.result (omega (arith, c.min-both.ensures)) (omega (arith, c.min-both.ensures))
 
 pub overflow_add-result : goal.overflow_add-result
-overflow_add-result g c =
-    let all = cut g (goal.at.overflow_add-result g c).After-min-both in
-    omega (arith, all, c.requires, c.ones_of_both.ensures, c.ones_of_rest.ensures)
+overflow_add-result g c = omega (arith, cut g (goal.at.overflow_add-result g c).After-min-both, c.requires, c.ones_of_both.ensures, c.ones_of_rest.ensures)
 
 pub returns : goal.returns
 returns g c = let all = cut g (goal.at.returns g c).After-min-both in omega (arith, all, c.ones_of_both.ensures, c.ones_of_rest.ensures)
