@@ -1,40 +1,36 @@
 -- Which sets are in which, and which have nothing in common.
-use Rattle.std.proofs.Common.{◌≡◌, ℕ, Bool, true, false, not, ◌↔◌, cond, eqb, List, [], ◌∷◌, filter, slice_get, Some, refl, sym, ap, ◌∙◌, ⊎_elim}
+use Rattle.std.proofs.Common.{◌≡◌, ℕ, Bool, true, false, not, ◌↔◌, eqb, List, [], ◌∷◌, filter, slice_get, Some, refl, sym, ap, ◌∙◌, ⊎_elim, arith}
 use Rattle.std.proofs.Math.Bool.{not-not}
-use Rattle.std.proofs.lemmas.Bool.{true≢false, eq-eqb, eqb-true, and_parts, and_from, or_cases, or_left, or_right, not-true, not_from_false, cases_Bool}
+use Rattle.std.proofs.lemmas.Bool.{true≢false, and_parts, and_from, or_right, not-true, not_from_false, cases_Bool}
 use Rattle.std.specs.List.{list_all}
 use Rattle.std.specs.Cmp.{nat_cmp_total}
 use Rattle.std.specs.FinSet as set
 use Rattle.bit_set.specs.Sets.{IsAscending, has, elements, intersection, difference, is_subset, is_disjoint}
-use Rattle.bit_set.proofs.SetLemmas.{same_members}
+use Rattle.bit_set.proofs.SetLemmas.{same_members, has-first}
+use Rattle.std.proofs.lemmas.Bool.Decides.{nat_tests}
 use Rattle.bit_set.proofs.SetLaws.{slice_get-elements, contains-has, finite}
 
 -- ---- a test that each member passes
 
 pub each_passes : (p : ℕ → Bool) (s : List ℕ) → list_all p s ≡ true → (n : ℕ) → has s n ≡ true → p n ≡ true
 each_passes p [] all n is = absurd (true≢false (sym is))
-each_passes p (x ∷ xs) all n is =
-    let parts = and_parts (p x) (list_all p xs) all in
-    ⊎_elim (λ here. ap p (sym (eqb-true x n here)) ∙ parts.0) (λ rest. each_passes p xs parts.1 n rest) (or_cases (eqb x n) (has xs n) is)
+each_passes p (x ∷ xs) all n is = let rest = λ (each : list_all p xs ≡ true) (there : has xs n ≡ true). each_passes p xs each n there in grind (arith, nat_tests, rest)
 
 pub all_pass : (p : ℕ → Bool) (s : List ℕ) → ((n : ℕ) → has s n ≡ true → p n ≡ true) → list_all p s ≡ true
 all_pass p [] each = refl
-all_pass p (x ∷ xs) each =
-    and_from (p x) (list_all p xs) (each x (or_left (eqb x x) (has xs x) (eq-eqb x x refl))) (all_pass p xs (λ n is. each n (or_right (eqb x n) (has xs n) is)))
+all_pass p (x ∷ xs) each = and_from (p x) (list_all p xs) (each x (has-first x xs)) (all_pass p xs (λ n is. each n (or_right (eqb x n) (has xs n) is)))
 
 -- no member fails the test exactly where a filter for those that fail keeps none
 none_fails : (p q : ℕ → Bool) (s : List ℕ) → ((n : ℕ) → q n ≡ not (p n)) → list_all p s ≡ true → filter q s ≡ []
 none_fails p q [] other all = refl
-none_fails p q (x ∷ xs) other all =
-    let parts = and_parts (p x) (list_all p xs) all in
-    ap (λ b. cond b (x ∷ filter q xs) (filter q xs)) (other x ∙ ap not parts.0) ∙ none_fails p q xs other parts.1
+none_fails p q (x ∷ xs) other all = let parts = and_parts (p x) (list_all p xs) all in rw (other x, parts.0) (none_fails p q xs other parts.1)
 
 none_kept : (p q : ℕ → Bool) (s : List ℕ) → ((n : ℕ) → q n ≡ not (p n)) → filter q s ≡ [] → list_all p s ≡ true
 none_kept p q [] other none = refl
 none_kept p q (x ∷ xs) other none =
     ⊎_elim
-    (λ yes. and_from (p x) (list_all p xs) yes (none_kept p q xs other (sym (ap (λ b. cond b (x ∷ filter q xs) (filter q xs)) (other x ∙ ap not yes)) ∙ none)))
-    (λ no. absurd (let e : x ∷ filter q xs ≡ [] = sym (ap (λ b. cond b (x ∷ filter q xs) (filter q xs)) (other x ∙ ap not no)) ∙ none in cc))
+    (λ (yes : p x ≡ true). and_from (p x) (list_all p xs) yes (none_kept p q xs other (rw (other x, yes) at none)))
+    (λ (no : p x ≡ false). absurd (let e : x ∷ filter q xs ≡ [] = rw (other x, no) at none in cc))
     (cases_Bool (p x))
 
 -- ---- subsets

@@ -12,7 +12,7 @@ use Rattle.bit_words.specs.Lowest.{IsLowest, IsCleared}
 use Rattle.bit_words.proofs.BitsLemmas.{length-blocks_of}
 use Rattle.bit_set.specs.Sets.{elements_from, elements}
 use Rattle.bit_set.specs.Walk.{GoesOn, TwoSetWalk}
-use Rattle.bit_set.specs.Places.{digits_from, values_in, indexes, Ahead, PullsBlock, PullsBlockIf, IsWalkable, CanWalk}
+use Rattle.bit_set.specs.Places.{digits_from, values_in, indexes, Ahead, PullsBlock, PullsBlockIf, IsWalkable, CanWalk, IsWalk}
 use Rattle.bit_set.proofs.SetLemmas.{length-elements-le}
 use Rattle.bit_set.proofs.PlaceLemmas.{indexes-zero, indexes-next, indexes-lowest, length-digits_from, length-values_in, length-indexes-le, length-elements-block, elements-blocks_of, elements-below}
 
@@ -75,46 +75,49 @@ GoesOn-pulled w index m number x f s t went zero pull = record {
 }
 
 -- or it is not, and the walk stays
-pub went_on : {X : Type 0} (w index at : ℕ) (number : X → ℕ) (old new x : X) (wanted : Bool) (s t : Ahead) → CanWalk w index (number old) s → (wanted ≡ true → number old ≡ 0) → PullsBlockIf w number wanted s (Some x) t
-    → ((wanted ≡ true) × (new ≡ x)) ⊎ ((wanted ≡ false) × (new ≡ old)) → at ≡ index + bool_byte wanted * w → CanWalk w at (number new) t × GoesOn w (seen_of_two w index (number old) s) (seen_of_two w at (number new) t)
-went_on w index at number old new x wanted s t can zero pull which there = by_which which
+pub went_on : {X : Type 0} (is_block : X → Type 0) (w index at : ℕ) (number : X → ℕ) (old new x : X) (wanted : Bool) (s t : Ahead) → IsWalk (is_block old) w index (number old) s → is_block x → (wanted ≡ true → number old ≡ 0) → PullsBlockIf w number wanted s (Some x) t
+    → ((wanted ≡ true) × (new ≡ x)) ⊎ ((wanted ≡ false) × (new ≡ old)) → at ≡ index + bool_byte wanted * w → IsWalk (is_block new) w at (number new) t × GoesOn w (seen_of_two w index (number old) s) (seen_of_two w at (number new) t)
+went_on is_block w index at number old new x wanted s t walk lawful zero pull which there = by_which which
   where
     stayed : GoesOn w (seen_of_two w index (number old) s) (seen_of_two w index (number old) s)
     stayed = record { left = refl; goes_on = omega arith; pulled = refl; along = refl }
-
-    by_which : ((wanted ≡ true) × (new ≡ x)) ⊎ ((wanted ≡ false) × (new ≡ old)) → CanWalk w at (number new) t × GoesOn w (seen_of_two w index (number old) s) (seen_of_two w at (number new) t)
+    by_which : ((wanted ≡ true) × (new ≡ x)) ⊎ ((wanted ≡ false) × (new ≡ old)) → IsWalk (is_block new) w at (number new) t × GoesOn w (seen_of_two w index (number old) s) (seen_of_two w at (number new) t)
     by_which (inl used) =
         let next_index : at ≡ index + w = there ∙ ap (λ b. index + bool_byte b * w) used.0 ∙ omega arith in
         let one = pull.pulled used.0 in
-        rw (used.1, next_index) (CanWalk-pulled w index (number old) number x s t can (zero used.0) one, GoesOn-pulled w index (number old) number x _ s t stayed (zero used.0) one)
+        rw (used.1, next_index) (record { in_hand = lawful; can = CanWalk-pulled w index (number old) number x s t walk.can (zero used.0) one }, GoesOn-pulled w index (number old) number x _ s t stayed (zero used.0) one)
     by_which (inr kept) =
         let same_index : at ≡ index = there ∙ ap (λ b. index + bool_byte b * w) kept.0 ∙ omega arith in
-        rw (kept.1, same_index, pull.same kept.0) (can, stayed)
+        rw (kept.1, same_index, pull.same kept.0) (walk, stayed)
 
 -- ---- the making of a walk
 
 -- With block m in hand and t ahead of it, a walk is at the start of s.
-pub record IsBegun (w m : ℕ) (s t : Ahead) : Type 0 where
+pub record IsBegun (is_block : Type 0) (w m : ℕ) (s t : Ahead) : Type 0 where
+  pub walk : IsWalk is_block w 0 m t
   pub all : indexes w 0 m t.values ≡ elements s.values
   pub past : t.blocks ≡ s.blocks - 1
-  pub can : CanWalk w 0 m t
 
-begun_by : (w m : ℕ) (s t : Ahead) → IsWalkable w s → indexes w 0 m t.values ≡ elements s.values → t.blocks ≡ s.blocks - 1 → length t.values ≡ t.blocks * w → IsBegun w m s t
-begun_by w m s t can all past long = record {
+begun_by : (is_block : Type 0) (w m : ℕ) (s t : Ahead) → is_block → IsWalkable w s → indexes w 0 m t.values ≡ elements s.values → t.blocks ≡ s.blocks - 1 → length t.values ≡ t.blocks * w → IsBegun is_block w m s t
+begun_by is_block w m s t lawful can all past long = record {
+  walk = record {
+    in_hand = lawful;
+    can = record {
+      long = long;
+      fits = omega (arith, ap (λ k. w * k) past, can.fits);
+      below = subst (All (λ n. n < 2 ^ 64)) (sym all) can.below;
+      few = subst (λ xs. length xs < 2 ^ 64) (sym all) can.few;
+    };
+  };
   all = all;
   past = past;
-  can = record {
-    long = long;
-    fits = omega (arith, ap (λ k. w * k) past, can.fits);
-    below = subst (All (λ n. n < 2 ^ 64)) (sym all) can.below;
-    few = subst (λ xs. length xs < 2 ^ 64) (sym all) can.few;
-  };
 }
 
-pub begun : {X : Type 0} (w : ℕ) (number : X → ℕ) (zero : X) (s t : Ahead) (r : Option X) → IsWalkable w s → PullsBlock w number s r t → number zero ≡ 0 → IsBegun w (number (unwrap_or r zero)) s t
-begun w number zero s t None can pull none =
-    begun_by w (number zero) s t can (indexes-ended w 0 (number zero) t.values none pull.values.1 ∙ sym (ap (elements_from 0) pull.values.0)) (omega (arith, pull.blocks)) (omega (arith, ap length pull.values.1, ap (λ k. k * w) pull.blocks.1))
-begun w number zero s t (Some x) can pull none = begun_by w (number x) s t can (sym (indexes-next w 0 (number x) s.values t.values pull.values)) (omega (arith, pull.blocks)) (long_pulled w number x s t can.long pull)
+pub begun : {X : Type 0} (is_block : X → Type 0) (w : ℕ) (number : X → ℕ) (zero : X) (s t : Ahead) (r : Option X) → IsWalkable w s → PullsBlock w number s r t → IfSome r is_block → is_block zero → number zero ≡ 0 → IsBegun (is_block (unwrap_or r zero)) w (number (unwrap_or r zero)) s t
+begun is_block w number zero s t None can pull given lawful none =
+    begun_by (is_block zero) w (number zero) s t lawful can (indexes-ended w 0 (number zero) t.values none pull.values.1 ∙ sym (ap (elements_from 0) pull.values.0)) (omega (arith, pull.blocks)) (omega (arith, ap length pull.values.1, ap (λ k. k * w) pull.blocks.1))
+begun is_block w number zero s t (Some x) can pull given lawful none =
+    begun_by (is_block x) w (number x) s t given can (sym (indexes-next w 0 (number x) s.values t.values pull.values)) (omega (arith, pull.blocks)) (long_pulled w number x s t can.long pull)
 
 -- a walk can go over what reads as a list of truth values, in as many blocks
 pub IsWalkable-of : (w : ℕ) (ahead : Ahead) (values : List Bool) → length ahead.values ≡ ahead.blocks * w → ahead.blocks ≡ blocks_for w (length values) → elements ahead.values ≡ elements values → length values < 2 ^ 64 → IsWalkable w ahead
@@ -150,11 +153,6 @@ module _ {X : Type 0} (w : ℕ) (number : X → ℕ) where
 pub count_more : (w m : ℕ) (bs cs : List Bool) (ones more total : ℕ) → bs ≡ digits_from m 0 w ++ cs → ones + length (elements bs) ≡ total → m < 2 ^ w → more ≡ count_ones m → ones + more + length (elements cs) ≡ total
 count_more w m bs cs ones more total is before small same =
     omega (arith, ap (λ ds. length (elements ds)) is ∙ length-elements-block w m cs small, before, same)
-
--- the block in hand, where there may be none
-pub given_or : {X : Type 0} (P : X → Type 0) (r : Option X) (zero : X) → IfSome r P → P zero → P (unwrap_or r zero)
-given_or P None zero given none = none
-given_or P (Some x) zero given none = given
 
 -- a pull of lawful blocks gives one, and leaves such
 pub All-pulled : {X : Type 0} (P : X → Type 0) (xs ys : List X) (r : Option X) → All P xs → YieldsFirst (λ zs. zs) xs r ys → IfSome r P × All P ys

@@ -3,19 +3,19 @@ use Rattle.std.specs.Option.{unwrap_or}
 use Rattle.bit_words.specs.Bits.{Bits, blocks_for}
 use Rattle.bit_set.specs.Sets.{elements, merge_of_sets}
 use Rattle.bit_set.proofs.MemberLemmas.{members_merged}
-use Rattle.bit_set.proofs.WalkLemmas.{IsBegun, begun, given_or}
+use Rattle.bit_set.proofs.WalkLemmas.{IsBegun, begun}
 use Rattle.bit_set.proofs.walk.two_sets.TwoSets.over.Goals.{After-zero}
 use Rattle.bit_set.proofs.walk.two_sets.TwoSets.over.Goals as goal
 
-at_start : (g : _) (c : After-zero g) → IsBegun g.B.BitBlock.width (g.B.BitBlock.number (unwrap_or c.pull_with_kind-pulled.result.0 c.zero.result)) c.over-source.result c.pull_with_kind-pulled.new.self
-at_start g c = begun g.B.BitBlock.width g.B.BitBlock.number c.zero.result _ _ c.pull_with_kind-pulled.result.0 c.over-source.ensures.can c.pull_with_kind-pulled.ensures.steps c.zero.ensures.of_number
+at_start : (g : _) (c : After-zero g) →
+    let first = unwrap_or c.pull_with_kind-pulled.result.0 c.zero.result in
+    IsBegun (g.B.BitBlock.is_block first) g.B.BitBlock.width (g.B.BitBlock.number first) c.over-source.result c.pull_with_kind-pulled.new.self
+at_start g c =
+    let pulled = c.pull_with_kind-pulled.ensures in
+    begun g.B.BitBlock.is_block g.B.BitBlock.width g.B.BitBlock.number c.zero.result _ _ c.pull_with_kind-pulled.result.0 c.over-source.ensures.can pulled.steps pulled.given c.zero.ensures.of_block c.zero.ensures.of_number
 
 pub invariant_of-result : goal.invariant_of-result
-invariant_of-result g c =
-    rw c.unwrap_or-block.ensures (record {
-      in_hand = given_or g.B.BitBlock.is_block c.pull_with_kind-pulled.result.0 c.zero.result c.pull_with_kind-pulled.ensures.given c.zero.ensures.of_block;
-      can = (at_start g (goal.at.invariant_of-result g c).After-zero).can;
-    })
+invariant_of-result g c = rw c.unwrap_or-block.ensures (at_start g (goal.at.invariant_of-result g c).After-zero).walk
 
 pub returns-clause-left : goal.returns-clause-left
 returns-clause-left g c =
@@ -34,5 +34,5 @@ returns-clause-start g c =
       pulls = omega (arith, c.pull_with_kind-pulled.ensures.steps.counted, c.over-source.ensures.pulls);
       index = refl;
       blocks = at.past ∙ ap (λ n. n - 1) (c.over-source.ensures.blocks ∙ ap₂ (λ (a : Bits) (b : Bits). max (blocks_for w (length a.values)) (blocks_for w (length b.values))) c.get_ref.ensures c.get_ref-2.ensures);
-      few = at.can.few;
+      few = at.walk.can.few;
     })
