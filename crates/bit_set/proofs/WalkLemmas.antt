@@ -81,6 +81,7 @@ went_on is_block w index at number old new x wanted s t walk lawful zero pull wh
   where
     stayed : GoesOn w (seen_of_two w index (number old) s) (seen_of_two w index (number old) s)
     stayed = record { left = refl; goes_on = omega arith; pulled = refl; along = refl }
+
     by_which : ((wanted ≡ true) × (new ≡ x)) ⊎ ((wanted ≡ false) × (new ≡ old)) → IsWalk (is_block new) w at (number new) t × GoesOn w (seen_of_two w index (number old) s) (seen_of_two w at (number new) t)
     by_which (inl used) =
         let next_index : at ≡ index + w = there ∙ ap (λ b. index + bool_byte b * w) used.0 ∙ omega arith in

@@ -56,16 +56,7 @@ impl<'a, B: BitBlock, O: Operation> Pairs<'a, B, O> {
         }
     }
 
-    // The next block. `None` stays.
-    #[inline]
-    pub(crate) fn pull(&mut self) -> Option<B>
-        ensures steps { PullsBlock B.width B.number self.old result self.new }
-        ensures given { IfSome result B.is_block }
-    {
-        self.pull_with_kind().0
-    }
-
-    // The next block, and whether the walk is taken to be over blocks with few ones, from what was pulled.
+    // The next block, where `None` stays, and whether the walk is taken to be over blocks with few ones.
     #[inline]
     pub(crate) fn pull_with_kind(&mut self) -> (Option<B>, bool)
         ensures steps { PullsBlock B.width B.number self.old result.0 self.new }
@@ -80,8 +71,8 @@ impl<'a, B: BitBlock, O: Operation> Pairs<'a, B, O> {
     }
 
     // The next block where it is wanted; else some block, and nothing is pulled. `None`, and nothing pulled, once a
-    // side has ended. There `pull` alone goes on: a pull that finds the end of both is then counted once. That test
-    // is a branch too, but one that is predicted.
+    // side has ended. There `pull_with_kind` alone goes on: a pull that finds the end of both is then counted once.
+    // That test is a branch too, but one that is predicted.
     #[inline(always)]
     pub(crate) fn pull_if(&mut self, wanted: bool) -> Option<B>
         ensures steps { PullsBlockIf B.width B.number wanted self.old result self.new }

@@ -79,7 +79,7 @@ impl<'a, B: BitBlock, O: Operation> TwoSets<'a, B, O> {
         }
         while self.block == B::zero() {
             // At the end `index` stays with the last block.
-            self.block = self.source.pull()?;
+            self.block = self.source.pull_with_kind().0?;
             self.index += B::bits();
         }
         // `index` is a multiple of the width, so where the width is a power of two this adds as an or does.
