@@ -1,4 +1,4 @@
-use Rattle.std.proofs.Common.{◌≡◌, ◌+◌, ◌*◌, true, false, inl, inr, sym, ◌∙◌, ap₂}
+use Rattle.std.proofs.Common.{◌≡◌, ◌+◌, ◌*◌, true, inl, inr, sym, ◌∙◌, ap₂}
 use Rattle.bit_set.specs.Places.{IsWalk}
 use Rattle.bit_set.specs.Walk.{GoesOn}
 use Rattle.bit_set.proofs.WalkLemmas.{seen_of_two, went_on}
