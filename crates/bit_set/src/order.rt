@@ -10,7 +10,6 @@ ghost use Rattle.bit_words.specs.Mismatches.{IsFirstBlockMismatch};
 ghost use Rattle.bit_set.specs.Members.{IsSameSet};
 ghost use Rattle.bit_set.specs.Sets.{elements, has};
 ghost use Rattle.bit_set.specs.Order.{same_sets, order_of_sets};
-ghost use Rattle.bit_set.specs.Mismatches.{IsFirstMismatch};
 
 use crate::bit_vec::{
     GROUP, block_or_zero, first_mismatching_block, first_nonzero_block, has_one_from,
@@ -109,7 +108,10 @@ fn order_in_block<B: BitBlock>(a: &BitSet<B>, b: &BitSet<B>, at: usize) -> Order
     requires { IsFirstBlockMismatch (blocks_of B.width a.now.values) (blocks_of B.width b.now.values) at }
     ensures { result ≡ order_of_sets (elements a.now.values) (elements b.now.values) }
 {
-    let number = first_mismatch(a, b, at);
+    let (left, right) = (a.get_ref().storage(), b.get_ref().storage());
+    let index = lowest_mismatch(block_or_zero(left, at), block_or_zero(right, at));
+    // The least number that just one of them has.
+    let number = at * B::bits() + index;
     if a.contains(number) {
         order_of_holder(b, number)
     } else {
@@ -134,15 +136,4 @@ fn order_of_holder<B: BitBlock>(other: &BitSet<B>, number: usize) -> Ordering
         Some(_) => Ordering::Less,
         None => Ordering::Greater,
     }
-}
-
-// The least number that just one of the sets has, which first differ in this block.
-#[inline]
-fn first_mismatch<B: BitBlock>(a: &BitSet<B>, b: &BitSet<B>, at: usize) -> usize
-    requires { IsFirstBlockMismatch (blocks_of B.width a.now.values) (blocks_of B.width b.now.values) at }
-    ensures { IsFirstMismatch (elements a.now.values) (elements b.now.values) result }
-{
-    let (left, right) = (a.get_ref().storage(), b.get_ref().storage());
-    let index = lowest_mismatch(block_or_zero(left, at), block_or_zero(right, at));
-    at * B::bits() + index
 }

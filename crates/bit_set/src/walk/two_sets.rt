@@ -69,23 +69,6 @@ impl<'a, B: BitBlock, O: Operation> TwoSets<'a, B, O> {
         }
     }
 
-    // The index of the next one.
-    #[inline(always)]
-    fn next_index(&mut self) -> Option<usize>
-        ensures { AdvancesByEach B.width self.old result self.new }
-    {
-        if self.sparse {
-            self.advance_branchless();
-        }
-        while self.block == B::zero() {
-            // At the end `index` stays with the last block.
-            self.block = self.source.pull_with_kind().0?;
-            self.index += B::bits();
-        }
-        // `index` is a multiple of the width, so where the width is a power of two this adds as an or does.
-        Some(self.index + take_lowest_one(&mut self.block))
-    }
-
     // Goes on to the next block where the one in hand is used up and the source has it without a branch. How many ones
     // a block has is random, so that a processor predicts the branch badly.
     #[inline(always)]
@@ -131,7 +114,16 @@ impl<'a, B: BitBlock, O: Operation> Iterator for TwoSets<'a, B, O> {
     /// passes, of both sets, once; constant time within a block.
     #[inline]
     fn next(&mut self) -> Option<usize> {
-        self.next_index()
+        if self.sparse {
+            self.advance_branchless();
+        }
+        while self.block == B::zero() {
+            // At the end `index` stays with the last block.
+            self.block = self.source.pull_with_kind().0?;
+            self.index += B::bits();
+        }
+        // `index` is a multiple of the width, so where the width is a power of two this adds as an or does.
+        Some(self.index + take_lowest_one(&mut self.block))
     }
 
     /// From 0 up to the bits of the block in hand and of the blocks past it, as [`Iter`](crate::Iter) has
