@@ -102,7 +102,8 @@ has_past_block w from q ms values pos are found_one =
       has-index w q found.0 values found.1.within ∙ ap (λ d. eqb d 1) found.1.lowest.one,
     )
 
-pub has_none : (w from m : ℕ) (ms : List ℕ) (values : List Bool) → 0 < w → ms ≡ blocks_of w values → m ≡ get_or ms (from / w) 0 → ((j : ℕ) → from % w ≤ j → bit_at m j ≡ 0) → ((q : ℕ) → from / w + 1 ≤ q → get_or ms q 0 ≡ 0) → NoneFrom values from
+pub has_none : (w from m : ℕ) (ms : List ℕ) (values : List Bool) → 0 < w → ms ≡ blocks_of w values → m ≡ get_or ms (from / w) 0 → ((j : ℕ) → from % w ≤ j → bit_at m j ≡ 0)
+    → ((q : ℕ) → from / w + 1 ≤ q → get_or ms q 0 ≡ 0) → NoneFrom values from
 has_none w from m ms values pos are is in_block past k above =
     has-number w k values pos
     ∙ ap (λ bs. eqb (bit_at (get_or bs (k / w) 0) (k % w)) 1) (sym are)

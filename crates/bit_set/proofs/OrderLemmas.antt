@@ -66,10 +66,12 @@ by_members low n (x ∷ xs) (y ∷ ys) r up up_too d holds told =
           ∙ sym (order-cons x xs ys)
           ∙ ap (order_of_sets (x ∷ xs)) (sym second)
       | inr (inl less) ↦
-          let past : n ≤ x = ⊎_elim (λ (before : x < n). absurd (both_ways (has (y ∷ ys) x) (has-below y (y ∷ ys) x (omega arith, up_too.1) less) (sym (d.below x before) ∙ has-first x xs))) (λ (from : n ≤ x). from) (cases_lt x n) in
+          let lacks = has-below y (y ∷ ys) x (omega arith, up_too.1) less in
+          let past : n ≤ x = ⊎_elim (λ (before : x < n). absurd (both_ways (has (y ∷ ys) x) lacks (sym (d.below x before) ∙ has-first x xs))) (λ (from : n ≤ x). from) (cases_lt x n) in
           tells_less r n y (y ∷ ys) told (omega (arith, past, less)) (has-first y ys) ∙ sym (order-first x y xs ys less)
       | inr (inr more) ↦
-          let early : n < x = ⊎_elim (λ (before : y < n). absurd (both_ways (has (x ∷ xs) y) (has-below x (x ∷ xs) y (omega arith, up.1) more) (d.below y before ∙ has-first y ys))) (λ (from : n ≤ y). omega (arith, from, more)) (cases_lt y n) in
+          let lacks = has-below x (x ∷ xs) y (omega arith, up.1) more in
+          let early : n < x = ⊎_elim (λ (before : y < n). absurd (both_ways (has (x ∷ xs) y) lacks (d.below y before ∙ has-first y ys))) (λ (from : n ≤ y). omega (arith, from, more)) (cases_lt y n) in
           absurd (both_ways (has (x ∷ xs) n) (has-below x (x ∷ xs) n (omega arith, up.1) early) holds)
     ]
 

@@ -37,7 +37,7 @@ length-intersection a b =
     let s = elements a in
     let t = elements b in
     let up = IsAscending-merge_of_sets Intersection in
-    let same : intersection s t ≡ intersection t s = same_members _ _ (up s t (IsAscending-elements a)) (up t s (IsAscending-elements b)) (λ n. has-intersection s t n ∙ and_comm (has s n) (has t n) ∙ sym (has-intersection t s n)) in
+    let same = same_members (intersection s t) (intersection t s) (up s t (IsAscending-elements a)) (up t s (IsAscending-elements b)) (λ n. has-intersection s t n ∙ and_comm (has s n) (has t n) ∙ sym (has-intersection t s n)) in
     omega (arith, ap length same, length-filter (λ n. has t n) s, count_by-le-length (λ n. has t n) s, length-filter (λ n. has s n) t, count_by-le-length (λ n. has s n) t, length-elements-le 0 a, length-elements-le 0 b)
 
 -- ---- a pull of both
@@ -45,18 +45,20 @@ length-intersection a b =
 -- the digits of two blocks, and what is past them
 pub both_digits : (merge : Merge) (m n r a w : ℕ) (xs ys : List Bool) → ((i : ℕ) → a ≤ i → i < a + w → is_one r i ≡ merge_of_values merge (is_one m i) (is_one n i)) → merge_of merge (digits_from m a w ++ xs) (digits_from n a w ++ ys) ≡ digits_from r a w ++ merge_of merge xs ys
 both_digits merge m n r a zero xs ys each = refl
-both_digits merge m n r a (suc w) xs ys each = ap₂ (λ b bs. b ∷ bs) (sym (each a (omega arith) (omega arith))) (both_digits merge m n r (a + 1) w xs ys (λ i low high. each i (omega arith) (omega arith)))
+both_digits merge m n r a (suc w) xs ys each = ap₂ ◌∷◌ (sym (each a (omega arith) (omega arith))) (both_digits merge m n r (a + 1) w xs ys (λ i low high. each i (omega arith) (omega arith)))
 
 -- the digits of a block of the first side alone, and of the second side alone, merged with zeros
-pub first_digits : (merge : Merge) (m r a w : ℕ) (xs : List Bool) → ((i : ℕ) → a ≤ i → i < a + w → is_one r i ≡ merge_of_values merge (is_one m i) (is_one 0 i)) → merge_of merge (digits_from m a w ++ xs) [] ≡ digits_from r a w ++ merge_of merge xs []
+pub first_digits : (merge : Merge) (m r a w : ℕ) (xs : List Bool) → ((i : ℕ) → a ≤ i → i < a + w → is_one r i ≡ merge_of_values merge (is_one m i) (is_one 0 i))
+    → merge_of merge (digits_from m a w ++ xs) [] ≡ digits_from r a w ++ merge_of merge xs []
 first_digits merge m r a zero xs each = refl
 first_digits merge m r a (suc w) xs each =
-    ap₂ (λ b bs. b ∷ bs) (sym (each a (omega arith) (omega arith) ∙ ap (merge_of_values merge (is_one m a)) (is_one-zero a))) (first_digits merge m r (a + 1) w xs (λ i low high. each i (omega arith) (omega arith)))
+    ap₂ ◌∷◌ (sym (each a (omega arith) (omega arith) ∙ ap (merge_of_values merge (is_one m a)) (is_one-zero a))) (first_digits merge m r (a + 1) w xs (λ i low high. each i (omega arith) (omega arith)))
 
-pub second_digits : (merge : Merge) (n r a w : ℕ) (ys : List Bool) → ((i : ℕ) → a ≤ i → i < a + w → is_one r i ≡ merge_of_values merge (is_one 0 i) (is_one n i)) → merge_of merge [] (digits_from n a w ++ ys) ≡ digits_from r a w ++ merge_of merge [] ys
+pub second_digits : (merge : Merge) (n r a w : ℕ) (ys : List Bool) → ((i : ℕ) → a ≤ i → i < a + w → is_one r i ≡ merge_of_values merge (is_one 0 i) (is_one n i))
+    → merge_of merge [] (digits_from n a w ++ ys) ≡ digits_from r a w ++ merge_of merge [] ys
 second_digits merge n r a zero ys each = refl
 second_digits merge n r a (suc w) ys each =
-    ap₂ (λ b bs. b ∷ bs) (sym (each a (omega arith) (omega arith) ∙ ap (λ v. merge_of_values merge v (is_one n a)) (is_one-zero a))) (second_digits merge n r (a + 1) w ys (λ i low high. each i (omega arith) (omega arith)))
+    ap₂ ◌∷◌ (sym (each a (omega arith) (omega arith) ∙ ap (λ v. merge_of_values merge v (is_one n a)) (is_one-zero a))) (second_digits merge n r (a + 1) w ys (λ i low high. each i (omega arith) (omega arith)))
 
 -- a call of `next_if` gives a block, and leaves such
 pub All-next_if : {X : Type 0} (number : X → ℕ) (is_block : X → Type 0) (wanted : Bool) (s t : Source X) (r : Option X) → All is_block s.left → PullsIf is_block number wanted s r t → IfSome r is_block × All is_block t.left

@@ -29,7 +29,7 @@ zeros_passed a (suc w) p bs = rw (is_one-zero a) (zeros_passed (a + 1) w (p + 1)
 -- digits that are the same
 same_digits : (m r a w : ℕ) → ((k : ℕ) → a ≤ k → k < a + w → bit_at r k ≡ bit_at m k) → digits_from r a w ≡ digits_from m a w
 same_digits m r a zero same = refl
-same_digits m r a (suc w) same = ap₂ (λ b bs. b ∷ bs) (ap (λ n. eqb n 1) (same a (omega arith) (omega arith))) (same_digits m r (a + 1) w (λ k low high. same k (omega arith) (omega arith)))
+same_digits m r a (suc w) same = ap₂ ◌∷◌ (ap (λ n. eqb n 1) (same a (omega arith) (omega arith))) (same_digits m r (a + 1) w (λ k low high. same k (omega arith) (omega arith)))
 
 -- the lowest 1 comes first, and then the ones of the digits without it
 lowest_from : (m r i a w p : ℕ) (bs : List Bool) → IsLowest m i → IsCleared (a + w) m i r → a ≤ i → i < a + w → elements_from p (digits_from m a w ++ bs) ≡ (p + (i - a)) ∷ elements_from p (digits_from r a w ++ bs)

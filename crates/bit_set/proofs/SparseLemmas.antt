@@ -94,7 +94,8 @@ pulls_by : (old new p q m n : ℕ) → old ≤ new → p ≡ q + (if old == new 
 pulls_by old new p q m n onward counted fewer = grind (arith, nat_tests)
 
 module _ {X : Type 0} (w : ℕ) (number : X → ℕ) (is_block : X → Type 0) (pos : 0 < w) where
-  move : (index n : ℕ) (block x : X) (s t : Nonzeros X) → IsSparseWalk w number is_block index block s → is_block x → t.blocks ≡ s.blocks → index / w ≤ n → n ≤ length s.blocks - 1 → t.left ≡ nonzero_from number (n + 1) (drop (n + 1) s.blocks)
+  move : (index n : ℕ) (block x : X) (s t : Nonzeros X) → IsSparseWalk w number is_block index block s → is_block x → t.blocks ≡ s.blocks → index / w ≤ n → n ≤ length s.blocks - 1
+      → t.left ≡ nonzero_from number (n + 1) (drop (n + 1) s.blocks)
       → indexes w (n * w) (number x) (values_of_blocks w number (drop (n + 1) s.blocks)) ≡ indexes w index (number block) (values_of_blocks w number (drop (index / w + 1) s.blocks))
       → Moved w number is_block (seen w number is_block index block s) (n * w) x t (seen w number is_block (n * w) x t)
   move index n block x s t is lawful all onward inside left same =
@@ -130,7 +131,8 @@ module _ {X : Type 0} (w : ℕ) (number : X → ℕ) (is_block : X → Type 0) (
   next_left : (index : ℕ) (block : X) (s : Nonzeros X) (entries : List (ℕ × X)) → IsSparseWalk w number is_block index block s → s.left ≡ entries → Next w number s.blocks (index / w + 1) entries
   next_left index block s entries is left = subst (Next w number s.blocks (index / w + 1)) (sym is.left ∙ left) (next_nonzero w number s.blocks (index / w + 1) _ refl)
 
-  jumps : (index q : ℕ) (block x : X) (s t : Nonzeros X) → IsSparseWalk w number is_block index block s → number block ≡ 0 → PullsNonzero s (Some (q, x)) t → Reaches w number is_block (seen w number is_block index block s) (q * w) x t (seen w number is_block (q * w) x t)
+  jumps : (index q : ℕ) (block x : X) (s t : Nonzeros X) → IsSparseWalk w number is_block index block s → number block ≡ 0 → PullsNonzero s (Some (q, x)) t
+      → Reaches w number is_block (seen w number is_block index block s) (q * w) x t (seen w number is_block (q * w) x t)
   jumps index q block x s t is used_up pull =
       let next : IsNext w number s.blocks (index / w + 1) q x t.left = next_left index block s ((q, x) ∷ t.left) is pull.item in
       let lawful = All-head is_block x _ (subst (All is_block) next.here (All-drop is_block q s.blocks is.each)) in
@@ -179,8 +181,8 @@ module _ {X : Type 0} (w : ℕ) (number : X → ℕ) (is_block : X → Type 0) (
       ]
 
   -- one that found none
-  pub refilled-end : (index at last : ℕ) (block x : X) (s t : Nonzeros X) → IsSparseWalk w number is_block index block s → is_block x → Refills w number s (number block) index false t x at → last ≡ (length t.blocks - 1) * w
-      → IsSparseWalk w number is_block last x t × Advances w (seen w number is_block index block s) None (seen w number is_block last x t)
+  pub refilled-end : (index at last : ℕ) (block x : X) (s t : Nonzeros X) → IsSparseWalk w number is_block index block s → is_block x → Refills w number s (number block) index false t x at
+      → last ≡ (length t.blocks - 1) * w → IsSparseWalk w number is_block last x t × Advances w (seen w number is_block index block s) None (seen w number is_block last x t)
   refilled-end index at last block x s t is lawful found last_is =
       let nothing : number x ≡ 0 = let test = found.some in grind (arith, nat_tests) in
       elim (cases_eq (number block) 0) [
@@ -189,8 +191,8 @@ module _ {X : Type 0} (w : ℕ) (number : X → ℕ) (is_block : X → Type 0) (
       ]
 
   -- the lowest one of the block that was reached is taken
-  pub given_one : (s : Walk) (index i : ℕ) (block r : X) (it : Nonzeros X) → Reaches w number is_block s index block it (seen w number is_block index block it) → is_block r → IsLowest (number block) i → i < w → IsCleared w (number block) i (number r)
-      → IsSparseWalk w number is_block index r it × (index + i < 2 ^ 64) × Advances w s (Some (index + i)) (seen w number is_block index r it)
+  pub given_one : (s : Walk) (index i : ℕ) (block r : X) (it : Nonzeros X) → Reaches w number is_block s index block it (seen w number is_block index block it)
+      → is_block r → IsLowest (number block) i → i < w → IsCleared w (number block) i (number r) → IsSparseWalk w number is_block index r it × (index + i < 2 ^ 64) × Advances w s (Some (index + i)) (seen w number is_block index r it)
   given_one s index i block r it to lawful low within cleared =
       let is = to.moved.walk in
       let ahead = past_block w number index it.blocks it.pulls in

@@ -149,7 +149,8 @@ none_before w low (x ∷ xs) q pos up before =
     let next : x / w ≤ (x + 1) / w = le-div (x / w) (x + 1) w pos (omega (arith, div-add-mod' x w)) in
     rw (ne_eqb (x / w) q (λ e. omega (arith, e, first, before))) (none_before w (x + 1) xs q pos up.1 (omega (arith, first, next, before)))
 
-past_step : (k q b : ℕ) (others next same : Bool) → next ≡ (nat_lt b q && others) → same ≡ (nat_lt k q && others) → (q < b → others ≡ false) → cond (nat_lt k b) ((b == q) || next) same ≡ (nat_lt k q && ((b == q) || others))
+past_step : (k q b : ℕ) (others next same : Bool) → next ≡ (nat_lt b q && others) → same ≡ (nat_lt k q && others) → (q < b → others ≡ false)
+    → cond (nat_lt k b) ((b == q) || next) same ≡ (nat_lt k q && ((b == q) || others))
 past_step k q b others next same next_is same_is none = grind (arith, nat_tests)
 
 -- they are those past it that a number is in

@@ -34,7 +34,8 @@ long_pulled w number x s t long pull =
     omega (arith, ap length pull.values ∙ length-digits_from (number x) w t.values, long, ap (λ k. k * w) pull.blocks)
 
 -- a walk that went on, so that the same is left
-pub CanWalk-moved : (w index at m n : ℕ) (s t : Ahead) → CanWalk w index m s → length t.values ≡ t.blocks * w → at + w * t.blocks ≡ index + w * s.blocks → indexes w at n t.values ≡ indexes w index m s.values → CanWalk w at n t
+pub CanWalk-moved : (w index at m n : ℕ) (s t : Ahead) → CanWalk w index m s → length t.values ≡ t.blocks * w → at + w * t.blocks ≡ index + w * s.blocks
+    → indexes w at n t.values ≡ indexes w index m s.values → CanWalk w at n t
 CanWalk-moved w index at m n s t can long along same = record {
   long = long;
   fits = omega (arith, can.fits, along);
@@ -44,7 +45,7 @@ CanWalk-moved w index at m n s t can long along same = record {
 
 pub CanWalk-pulled : {X : Type 0} (w index m : ℕ) (number : X → ℕ) (x : X) (s t : Ahead) → CanWalk w index m s → m ≡ 0 → PullsBlock w number s (Some x) t → CanWalk w (index + w) (number x) t
 CanWalk-pulled w index m number x s t can zero pull =
-    CanWalk-moved w index (index + w) m (number x) s t can (long_pulled w number x s t can.long pull) (pulled_along index w t.blocks s.blocks pull.blocks) (sym (indexes-pulled w index m (number x) s.values t.values zero pull.values))
+    CanWalk-moved w index _ m _ s t can (long_pulled w number x s t can.long pull) (pulled_along index w t.blocks s.blocks pull.blocks) (sym (indexes-pulled w index m (number x) s.values t.values zero pull.values))
 
 -- the lowest one is taken
 pub CanWalk-taken : (w index m r i : ℕ) (ahead : Ahead) → CanWalk w index m ahead → IsLowest m i → i < w → IsCleared w m i r → CanWalk w index r ahead × (index + i < 2 ^ 64)
@@ -66,7 +67,8 @@ abbrev pub seen_of_two : ℕ → ℕ → ℕ → Ahead → TwoSetWalk
 seen_of_two w index m ahead = record { left = indexes w index m ahead.values; pulls = ahead.pulls; index = index; blocks = ahead.blocks }
 
 -- where the block in hand is used up, a walk that went on goes on to x
-pub GoesOn-pulled : {X : Type 0} (w index m : ℕ) (number : X → ℕ) (x : X) (f : TwoSetWalk) (s t : Ahead) → GoesOn w f (seen_of_two w index m s) → m ≡ 0 → PullsBlock w number s (Some x) t → GoesOn w f (seen_of_two w (index + w) (number x) t)
+pub GoesOn-pulled : {X : Type 0} (w index m : ℕ) (number : X → ℕ) (x : X) (f : TwoSetWalk) (s t : Ahead) → GoesOn w f (seen_of_two w index m s) → m ≡ 0
+    → PullsBlock w number s (Some x) t → GoesOn w f (seen_of_two w (index + w) (number x) t)
 GoesOn-pulled w index m number x f s t went zero pull = record {
   left = sym (indexes-pulled w index m (number x) s.values t.values zero pull.values) ∙ went.left;
   goes_on = omega (arith, went.goes_on, pull.counted);
@@ -75,8 +77,9 @@ GoesOn-pulled w index m number x f s t went zero pull = record {
 }
 
 -- or it is not, and the walk stays
-pub went_on : {X : Type 0} (is_block : X → Type 0) (w index at : ℕ) (number : X → ℕ) (old new x : X) (wanted : Bool) (s t : Ahead) → IsWalk (is_block old) w index (number old) s → is_block x → (wanted ≡ true → number old ≡ 0) → PullsBlockIf w number wanted s (Some x) t
-    → ((wanted ≡ true) × (new ≡ x)) ⊎ ((wanted ≡ false) × (new ≡ old)) → at ≡ index + bool_byte wanted * w → IsWalk (is_block new) w at (number new) t × GoesOn w (seen_of_two w index (number old) s) (seen_of_two w at (number new) t)
+pub went_on : {X : Type 0} (is_block : X → Type 0) (w index at : ℕ) (number : X → ℕ) (old new x : X) (wanted : Bool) (s t : Ahead) → IsWalk (is_block old) w index (number old) s → is_block x
+    → (wanted ≡ true → number old ≡ 0) → PullsBlockIf w number wanted s (Some x) t → ((wanted ≡ true) × (new ≡ x)) ⊎ ((wanted ≡ false) × (new ≡ old)) → at ≡ index + bool_byte wanted * w
+    → IsWalk (is_block new) w at (number new) t × GoesOn w (seen_of_two w index (number old) s) (seen_of_two w at (number new) t)
 went_on is_block w index at number old new x wanted s t walk lawful zero pull which there = by_which which
   where
     stayed : GoesOn w (seen_of_two w index (number old) s) (seen_of_two w index (number old) s)
@@ -114,9 +117,10 @@ begun_by is_block w m s t lawful can all past long = record {
   past = past;
 }
 
-pub begun : {X : Type 0} (is_block : X → Type 0) (w : ℕ) (number : X → ℕ) (zero : X) (s t : Ahead) (r : Option X) → IsWalkable w s → PullsBlock w number s r t → IfSome r is_block → is_block zero → number zero ≡ 0 → IsBegun (is_block (unwrap_or r zero)) w (number (unwrap_or r zero)) s t
+pub begun : {X : Type 0} (is_block : X → Type 0) (w : ℕ) (number : X → ℕ) (zero : X) (s t : Ahead) (r : Option X) → IsWalkable w s → PullsBlock w number s r t → IfSome r is_block → is_block zero → number zero ≡ 0
+    → IsBegun (is_block (unwrap_or r zero)) w (number (unwrap_or r zero)) s t
 begun is_block w number zero s t None can pull given lawful none =
-    begun_by (is_block zero) w (number zero) s t lawful can (indexes-ended w 0 (number zero) t.values none pull.values.1 ∙ sym (ap (elements_from 0) pull.values.0)) (omega (arith, pull.blocks)) (omega (arith, ap length pull.values.1, ap (λ k. k * w) pull.blocks.1))
+    begun_by _ w _ s t lawful can (indexes-ended w 0 _ t.values none pull.values.1 ∙ sym (ap (elements_from 0) pull.values.0)) (omega (arith, pull.blocks)) (omega (arith, ap length pull.values.1, ap (λ k. k * w) pull.blocks.1))
 begun is_block w number zero s t (Some x) can pull given lawful none =
     begun_by (is_block x) w (number x) s t given can (sym (indexes-next w 0 (number x) s.values t.values pull.values)) (omega (arith, pull.blocks)) (long_pulled w number x s t can.long pull)
 

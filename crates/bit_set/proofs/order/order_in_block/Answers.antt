@@ -33,9 +33,9 @@ overflow_mul-number g c = omega (arith, fits g c)
 
 pub returns-then-contains : goal.returns-then-contains
 returns-then-contains g c =
-    by_holder c.args.a.now.values c.args.b.now.values _ c.order_of_holder.result (is_first g (goal.at.returns-then-contains g c).After-bits) (sym c.contains.ensures.value ∙ c.if-contains.true) c.order_of_holder.ensures
+    by_holder c.args.a.now.values c.args.b.now.values _ _ (is_first g (goal.at.returns-then-contains g c).After-bits) (sym c.contains.ensures.value ∙ c.if-contains.true) c.order_of_holder.ensures
 
 pub returns-else-contains : goal.returns-else-contains
 returns-else-contains g c =
     c.reverse.ensures
-    ∙ by_other_holder c.args.a.now.values c.args.b.now.values _ c.order_of_holder-else-contains.result (is_first g (goal.at.returns-else-contains g c).After-bits) (sym c.contains.ensures.value ∙ c.if-contains.false) c.order_of_holder-else-contains.ensures
+    ∙ by_other_holder c.args.a.now.values c.args.b.now.values _ _ (is_first g (goal.at.returns-else-contains g c).After-bits) (sym c.contains.ensures.value ∙ c.if-contains.false) c.order_of_holder-else-contains.ensures

@@ -9,15 +9,15 @@ first : (g : _) (c : After-count_ones-ones g) →
     let ones = ones_of_merged g.B.BitBlock.width g.B.BitBlock.number g.O.Operation.merge in
     c.loop-block.ones + c.count_ones-ones.result + ones (drop (c.loop-block.block-index + 1) c.args.first.now) [] ≡ ones c.args.first.now []
 first g c =
-    first_counted g.B.BitBlock.width g.B.BitBlock.number g.O.Operation.merge c.args.first.now c.loop-block.block-index c.block-item.result _ (g.B.BitBlock.number c.of_blocks.result) c.loop-block.ones c.count_ones-ones.result _ c.loop-block-test.true c.block-item.is c.zero-zero.ensures.of_number
+    first_counted g.B.BitBlock.width g.B.BitBlock.number g.O.Operation.merge _ _ _ _ (g.B.BitBlock.number c.of_blocks.result) c.loop-block.ones _ _ c.loop-block-test.true c.block-item.is c.zero-zero.ensures.of_number
     (record { digit = c.of_blocks.ensures.digits }) c.loop-block.invariant (g.met.B.BitBlock.number_law c.of_blocks.result c.of_blocks.ensures.of_block).0 c.count_ones-ones.ensures
 
 second : (g : _) (c : After-count_ones-ones-in-loop-other g) →
     let ones = ones_of_merged g.B.BitBlock.width g.B.BitBlock.number g.O.Operation.merge in
     c.loop-other.ones + c.count_ones-ones-in-loop-other.result + ones [] (drop (c.loop-other.other-index + 1) c.args.second.now) ≡ ones c.args.first.now c.args.second.now
 second g c =
-    second_counted g.B.BitBlock.width g.B.BitBlock.number g.O.Operation.merge c.args.second.now c.loop-other.other-index c.other-item.result _ (g.B.BitBlock.number c.of_blocks-in-loop-other.result) c.loop-other.ones c.count_ones-ones-in-loop-other.result _ c.loop-other-test.true c.other-item.is c.zero-zero.ensures.of_number
-    (record { digit = c.of_blocks-in-loop-other.ensures.digits }) c.loop-other.invariant (g.met.B.BitBlock.number_law c.of_blocks-in-loop-other.result c.of_blocks-in-loop-other.ensures.of_block).0 c.count_ones-ones-in-loop-other.ensures
+    second_counted g.B.BitBlock.width g.B.BitBlock.number g.O.Operation.merge _ _ _ _ (g.B.BitBlock.number c.of_blocks-in-loop-other.result) c.loop-other.ones _ _ c.loop-other-test.true c.other-item.is c.zero-zero.ensures.of_number
+    (record { digit = c.of_blocks-in-loop-other.ensures.digits }) c.loop-other.invariant (g.met.B.BitBlock.number_law _ c.of_blocks-in-loop-other.ensures.of_block).0 c.count_ones-ones-in-loop-other.ensures
 
 pub overflow_add-ones : goal.overflow_add-ones
 overflow_add-ones g c =

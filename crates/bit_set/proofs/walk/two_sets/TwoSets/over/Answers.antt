@@ -12,7 +12,7 @@ at_start : (g : _) (c : After-zero g) →
     IsBegun (g.B.BitBlock.is_block first) g.B.BitBlock.width (g.B.BitBlock.number first) c.over-source.result c.pull_with_kind-pulled.new.self
 at_start g c =
     let pulled = c.pull_with_kind-pulled.ensures in
-    begun g.B.BitBlock.is_block g.B.BitBlock.width g.B.BitBlock.number c.zero.result _ _ c.pull_with_kind-pulled.result.0 c.over-source.ensures.can pulled.steps pulled.given c.zero.ensures.of_block c.zero.ensures.of_number
+    begun g.B.BitBlock.is_block g.B.BitBlock.width g.B.BitBlock.number c.zero.result _ _ _ c.over-source.ensures.can pulled.steps pulled.given c.zero.ensures.of_block c.zero.ensures.of_number
 
 pub invariant_of-result : goal.invariant_of-result
 invariant_of-result g c = rw c.unwrap_or-block.ensures (at_start g (goal.at.invariant_of-result g c).After-zero).walk
