@@ -28,9 +28,7 @@ has-index w q j values within =
     has-elements values (q * w + j) ∙ sym (ap (λ d. eqb d 1) (blocks_of-digit w q j values within) ∙ read_back (get_or values (q * w + j) false))
 
 has-number : (w k : ℕ) (values : List Bool) → 0 < w → has (elements values) k ≡ eqb (bit_at (get_or (blocks_of w values) (k / w) 0) (k % w)) 1
-has-number w k values pos =
-    let split : k ≡ k / w * w + k % w = sym (div-add-mod' k w) in
-    ap (has (elements values)) split ∙ has-index w (k / w) (k % w) values (mod-lt k pos)
+has-number w k values pos = ap (has (elements values)) (sym (div-add-mod' k w)) ∙ has-index w (k / w) (k % w) values (mod-lt k pos)
 
 -- blocks that agree hold the same set
 pub all_alike : (w : ℕ) (xs ys : List Bool) → 0 < w → ((k : ℕ) → get_or (blocks_of w xs) k 0 ≡ get_or (blocks_of w ys) k 0) → (k : ℕ) → has (elements xs) k ≡ has (elements ys) k

@@ -4,7 +4,7 @@ use Rattle.std.proofs.Math.Bool.{not-not}
 use Rattle.std.proofs.lemmas.Bool.{true≢false, lt-ltb, not-false, cases_order, ne_eqb, cases_lt, both_ways}
 use Rattle.std.specs.Cmp.{nat_cmp_total, tied_itself}
 use Rattle.std.specs.Cmp.Lexicographic.{nat_list_cmp_total, bytes_decides}
-use Rattle.std.specs.Ordering.{nat_cmp, ordering_then, ordering_reverse, MatchOrdering}
+use Rattle.std.specs.Ordering.{ordering_then, ordering_reverse, MatchOrdering}
 use Rattle.std.specs.declared.cmp.Ordering.{Ordering}
 use Rattle.std.specs.declared.cmp.Ordering.TheVariants.{Less, Equal, Greater}
 use Rattle.bit_set.specs.Sets.{elements, has, AscendsFrom}
@@ -19,9 +19,7 @@ order-cons p s t = ap (λ o. ordering_then o (order_of_sets s t)) (tied_itself n
 
 -- a smaller first number comes first
 pub order-first : (p y : ℕ) (s t : List ℕ) → p < y → order_of_sets (p ∷ s) (y ∷ t) ≡ Less
-order-first p y s t below =
-    let less : nat_cmp p y ≡ Less = (let is : ltb p y ≡ true = lt-ltb p y below in rw is refl) in
-    ap (λ o. ordering_then o (order_of_sets s t)) less
+order-first p y s t below = let is : ltb p y ≡ true = lt-ltb p y below in rw is refl
 
 -- ---- by members
 

@@ -1,5 +1,5 @@
 -- Two sides of blocks that are pulled as one.
-use Rattle.std.proofs.Common.{◌≡◌, ℕ, zero, suc, ◌+◌, ◌*◌, ◌^◌, ◌<◌, ◌≤◌, max, min, Bool, true, false, List, [], ◌∷◌, ◌++◌, map, length, All, Option, Some, None, refl, sym, ap, ◌∙◌, subst, inl, inr, arith, ap₂}
+use Rattle.std.proofs.Common.{◌≡◌, ℕ, zero, suc, ◌+◌, ◌*◌, ◌^◌, ◌<◌, ◌≤◌, max, min, Bool, true, false, List, [], ◌∷◌, ◌++◌, map, length, All, Option, Some, None, refl, sym, ap, ◌∙◌, subst, arith, ap₂}
 use Rattle.std.specs.Prelude.{IfSome}
 use Rattle.bit_words.specs.Source.{Source, PullsIf}
 use Rattle.std.specs.Iterator.{YieldsFirst}
@@ -11,7 +11,6 @@ use Rattle.bit_words.proofs.Masks.{is_one-zero}
 use Rattle.bit_words.specs.Bits.{blocks_of, blocks_for}
 use Rattle.bit_words.proofs.MergeLemmas.{length-merged}
 use Rattle.std.proofs.Math.Nat.{mul-le-mul_right}
-use Rattle.std.proofs.lemmas.Bool.{cases_lt}
 use Rattle.bit_set.specs.Sets.{elements, intersection, merge_of_sets, has}
 use Rattle.bit_set.proofs.AlgebraLemmas.{elements-merged, IsAscending-merge_of_sets, has-intersection}
 use Rattle.bit_words.proofs.BitsLemmas.{blocks_for-le}
@@ -25,11 +24,7 @@ use Rattle.bit_set.proofs.SetLemmas.{IsAscending-elements, length-elements-le, s
 
 -- a bound of both sides, where f keeps the order
 max_of : (f : ℕ → ℕ) (m n : ℕ) → ((a b : ℕ) → a ≤ b → f a ≤ f b) → max (f m) (f n) ≡ f (max m n)
-max_of f m n keeps =
-    elim (cases_lt m n) [
-      | inl lt ↦ let greater : max m n ≡ n = omega (arith, lt) in rw greater (omega (arith, keeps m n (omega (arith, lt))))
-      | inr ge ↦ let greater : max m n ≡ m = omega (arith, ge) in rw greater (omega (arith, keeps n m ge))
-    ]
+max_of f m n keeps = let up = keeps m n in let down = keeps n m in grind arith
 
 -- what is in both lists is no more than either has
 pub length-intersection : (a b : List Bool) → length (intersection (elements a) (elements b)) ≤ min (length a) (length b)

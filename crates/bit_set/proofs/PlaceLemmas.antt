@@ -44,11 +44,10 @@ lowest_from m r i a (suc w) p bs low cleared from within =
           rw (none, none_there, index) (lowest_from m r i (a + 1) w (p + 1) bs low (subst (λ x. IsCleared x m i r) along cleared) (omega arith) (omega arith))
       | inr past ↦
           let here : i ≡ a = omega arith in
-          let one : is_one m a ≡ true = is_one-bit 1 m a (ap (bit_at m) (sym here) ∙ low.one) in
-          let none : is_one r a ≡ false = is_one-bit 0 r a (ap (bit_at r) (sym here) ∙ cleared.cleared) in
-          let rest : digits_from r (a + 1) w ≡ digits_from m (a + 1) w = same_digits m r (a + 1) w (λ k from_next inside. cleared.kept k (omega arith) (λ e. omega (arith, e))) in
+          let one = is_one-bit 1 m a (ap (bit_at m) (sym here) ∙ low.one) in
+          let none = is_one-bit 0 r a (ap (bit_at r) (sym here) ∙ cleared.cleared) in
           let index : p + (i - a) ≡ p = omega arith in
-          rw (one, none, rest, index) refl
+          rw (one, none, same_digits m r (a + 1) w (λ k from_next inside. cleared.kept k (omega arith) (λ e. omega (arith, e))), index) refl
     ]
 
 -- ---- a block and what is past it

@@ -54,8 +54,7 @@ module _ {S T : Type 0} (steps : S → Option ℕ → S → Type 0) (others : T 
   along (x ∷ cs) (y ∷ bs) o p (x' ∷ xs) (y' ∷ ys) s u t v e f a b tied end =
       let first = e.1 x a.1.0 a.1.1 in
       let second = f.1 y b.1.0 b.1.1 in
-      let same : true ≡ nat_eq x' y' = sym tied.0 ∙ ap₂ nat_eq first.0 second.0 in
-      along cs bs o p xs ys a.1.0 u b.1.0 v first.1 second.1 (a.0, a.1.2, a.2) (b.0, b.1.2, b.2) tied.1 end ∙ ap (λ both. both && pointwise nat_eq xs ys) same
+      along cs bs o p xs ys a.1.0 u b.1.0 v first.1 second.1 (a.0, a.1.2, a.2) (b.0, b.1.2, b.2) tied.1 end ∙ ap (λ both. both && pointwise nat_eq xs ys) (sym tied.0 ∙ ap₂ nat_eq first.0 second.0)
 
 -- `eq` of two iterators over numbers, of which `becomes` says what `into_iter` makes of the second
 pub eq_from_yields_List : {S T U : Type 0} {steps : S → Option ℕ → S → Type 0} {others : T → Option ℕ → T → Type 0} {s : S} {xs ys : List ℕ} (becomes : U → T → Type 0) (other : U) (r : Bool)
