@@ -1,9 +1,9 @@
 -- What the first mismatch of lists of blocks says of the sets that they hold.
-use Rattle.std.proofs.Common.{◌≡◌, ℕ, ◌+◌, ◌*◌, ◌/◌, ◌%◌, ◌^◌, ◌<◌, ◌≤◌, Bool, true, false, not, eqb, List, get_or, length, sym, ap, ◌∙◌, ◌↔◌, subst, inl, inr, arith, ⊎_elim}
+use Rattle.std.proofs.Common.{◌≡◌, ℕ, ◌+◌, ◌*◌, ◌/◌, ◌%◌, ◌^◌, ◌<◌, ◌≤◌, Bool, true, false, not, eqb, List, get_or, length, sym, ap, ◌∙◌, ◌↔◌, subst, inl, inr, arith}
 use Rattle.std.specs.Cmp.Lexicographic.{bytes_decides}
 use Rattle.std.specs.Prelude.{IsTrue}
 use Rattle.std.specs.Int.{bit_at}
-use Rattle.std.proofs.lemmas.Bool.{cases_eq, cases_Bool, not-false}
+use Rattle.std.proofs.lemmas.Bool.{cases_eq}
 use Rattle.std.proofs.lemmas.Bool.Decides.{nat_tests}
 use Rattle.std.proofs.lemmas.Nat.Bits.{bit_at-lt, bit_at-zero, same_from_bits_below}
 use Rattle.std.proofs.Math.Nat.{div-add-mod', mod-lt, mul-le-mul_right, lt_of_mul-lt-mul_right}
@@ -73,9 +73,7 @@ first_mismatch_is w at i xs ys pos first lowest = record {
 
 -- it is below one of the lengths
 pub first_within : (xs ys : List Bool) (n : ℕ) → IsFirstMismatch (elements xs) (elements ys) n → length xs < 2 ^ 64 → length ys < 2 ^ 64 → n < 2 ^ 64
-first_within xs ys n first left right =
-    ⊎_elim (λ is. let below = has-within xs n is in omega (arith, below, left))
-    (λ no. let below = has-within ys n (not-false (has (elements ys) n) (sym first.here ∙ no)) in omega (arith, below, right)) (cases_Bool (has (elements xs) n))
+first_within xs ys n first left right = let one = has-within xs n in let other = has-within ys n in let apart = first.here in grind arith
 
 -- ---- what a set has from a number on
 

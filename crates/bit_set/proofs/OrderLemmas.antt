@@ -33,14 +33,10 @@ tells_alike Equal n t u same told = told
 tells_alike Greater n t u same told = λ k from. sym (same k from) ∙ told k from
 
 tells_less : (r : Ordering) (n k : ℕ) (t : List ℕ) → Tells r n t → n ≤ k → has t k ≡ true → r ≡ Less
-tells_less Less n k t told from is = refl
-tells_less Equal n k t told from is = absurd told
-tells_less Greater n k t told from is = absurd (true≢false (sym is ∙ told k from))
+tells_less r n k t told from is = grind arith
 
 tells_greater : (r : Ordering) (n : ℕ) → Tells r n [] → r ≡ Greater
-tells_greater Less n told = absurd (true≢false (sym told.2))
-tells_greater Equal n told = absurd told
-tells_greater Greater n told = refl
+tells_greater r n told = grind arith
 
 -- behind a first number of both, the rests differ as the sets do
 rest_alike : (x k : ℕ) (xs ys : List ℕ) → AscendsFrom (x + 1) xs → AscendsFrom (x + 1) ys → has (x ∷ xs) k ≡ has (x ∷ ys) k → has xs k ≡ has ys k

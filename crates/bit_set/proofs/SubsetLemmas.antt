@@ -52,9 +52,7 @@ is_disjoint-no_intersection s t = (none_fails (λ n. not (has t n)) (λ n. has t
 
 -- two tests that are true together are one
 pub same_tests : (a b : Bool) → (a ≡ true → b ≡ true) → (b ≡ true → a ≡ true) → a ≡ b
-same_tests true b there back = sym (there refl)
-same_tests false true there back = back refl
-same_tests false false there back = refl
+same_tests a b there back = grind arith
 
 pub is_subset-both_ways : (s t : List ℕ) → IsAscending s → IsAscending t → ((is_subset s t ≡ true) × (is_subset t s ≡ true)) ↔ (s ≡ t)
 is_subset-both_ways s t s_up t_up = (

@@ -166,5 +166,4 @@ All-pulled P xs ys (Some x) each first = (All-head P x ys (All-same P (x ∷ ys)
 
 -- what a product bounds, it bounds where it fits
 pub within_product : (r : Option ℕ) (P : Type 0) (product m : ℕ) → SomeIff r P product → m ≤ product → IfSome r (UpTo (at_most m))
-within_product None P product m is most = tt
-within_product (Some x) P product m is most = (tt, omega (arith, is.1))
+within_product r P product m is most = grind arith
