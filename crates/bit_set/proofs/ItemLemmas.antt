@@ -1,12 +1,12 @@
 -- Items that come into a set one by one.
-use Rattle.std.proofs.Common.{◌<◌, ◌≤◌, ◌≡◌, ◌≢◌, ℕ, ◌+◌, ◌↔◌, max, Bool, ◌||◌, List, [], ◌∷◌, ◌++◌, length, refl, sym, ap, ◌∙◌, arith}
+use Rattle.std.proofs.Common.{◌<◌, ◌≤◌, ◌≡◌, ◌≢◌, ℕ, ◌+◌, ◌↔◌, max, Bool, ◌||◌, List, [], ◌∷◌, ◌++◌, length, sym, ap, ◌∙◌, arith}
 use Rattle.bit_set.specs.Members.{IsSameSet}
 use Rattle.bit_set.specs.Sets.{elements, has, put, put_all, bound_of}
 use Rattle.bit_set.specs.Effects.{TakesIn}
 use Rattle.bit_words.specs.Bounds.{greatest}
 use Rattle.bit_set.specs.Faults.{IsInsertFault}
 use Rattle.bit_set.specs.declared.faults.SetError.{SetError}
-use Rattle.bit_set.specs.declared.faults.SetError.TheVariants.{Element, Length, Memory}
+use Rattle.bit_set.specs.declared.faults.SetError.TheVariants.{Element, Length}
 use Rattle.bit_set.proofs.SizeLemmas.{put_all-append}
 use Rattle.bit_set.proofs.MemberLemmas.{members_put_all}
 
@@ -25,9 +25,7 @@ TakesIn-more items n old mid new so_far members long low =
 
 -- which fault it is
 pub IsInsertFault-fault : (fault : SetError) (item capacity : ℕ) → IsInsertFault fault item capacity → (fault ≢ Length) × ((fault ≡ Element) ↔ (item ≡ greatest))
-IsInsertFault-fault Element item capacity is = (λ e. cc, (λ e. is, λ e. refl))
-IsInsertFault-fault Length item capacity is = absurd is
-IsInsertFault-fault (Memory fault) item capacity is = (λ e. cc, (λ e. cc, λ e. absurd (omega (arith, e, is.1))))
+IsInsertFault-fault fault item capacity is = grind arith
 
 -- what items make of a list with no value
 pub TakesIn-empty : (items : List ℕ) (old new : List Bool) → old ≡ [] → TakesIn items old new → (elements new ≡ put_all [] items) × (length new ≡ bound_of items) × IsSameSet (elements new) items
@@ -39,6 +37,4 @@ TakesIn-empty items old new is took = (
 
 -- the item that cannot go in lies past all that came in
 pub TakesIn-past : (items : List ℕ) (item : ℕ) (old new : List Bool) (fault : SetError) (capacity : ℕ) → old ≡ [] → TakesIn items old new → length new ≤ item → IsInsertFault fault item capacity → (bound_of items ≤ item) × (item ≤ greatest)
-TakesIn-past items item old new Element capacity is took past refused = (omega (arith, took.long, past, ap length is), omega (arith, refused))
-TakesIn-past items item old new Length capacity is took past refused = absurd refused
-TakesIn-past items item old new (Memory fault) capacity is took past refused = (omega (arith, took.long, past, ap length is), omega (arith, refused.1))
+TakesIn-past items item old new fault capacity is took past refused = let none = ap length is in let long = took.long in grind arith

@@ -32,10 +32,7 @@ has-number w k values pos = ap (has (elements values)) (sym (div-add-mod' k w)) 
 
 -- blocks that agree hold the same set
 pub all_alike : (w : ℕ) (xs ys : List Bool) → 0 < w → ((k : ℕ) → get_or (blocks_of w xs) k 0 ≡ get_or (blocks_of w ys) k 0) → (k : ℕ) → has (elements xs) k ≡ has (elements ys) k
-all_alike w xs ys pos same k =
-    has-number w k xs pos
-    ∙ ap (λ m. eqb (bit_at m (k % w)) 1) (same (k / w))
-    ∙ sym (has-number w k ys pos)
+all_alike w xs ys pos same k = has-number w k xs pos ∙ ap (λ m. eqb (bit_at m (k % w)) 1) (same (k / w)) ∙ sym (has-number w k ys pos)
 
 -- and a set has but one list of blocks, up to zeros at its end
 alike_where_same : (w q : ℕ) (xs ys : List Bool) → ((k : ℕ) → has (elements xs) k ≡ has (elements ys) k) → get_or (blocks_of w xs) q 0 ≡ get_or (blocks_of w ys) q 0

@@ -62,8 +62,7 @@ All-next_if number is_block false s t None each next = absurd (next.zeros refl)
 All-next_if number is_block false s t (Some x) each next = ((next.zeros refl).0, subst (λ u. All is_block u.left) (sym (next.same refl)) each)
 
 pub same_pulls_if : {X : Type 0} (number : X → ℕ) (is_block : X → Type 0) (wanted : Bool) (s s' t t' : Source X) (o p : Option X) → PullsIf is_block number wanted s o s' → PullsIf is_block number wanted t p t' → t.pulls ≡ s.pulls → t'.pulls ≡ s'.pulls
-same_pulls_if number is_block true s s' t t' o p next other same = omega (arith, (next.pulled refl).counted, (other.pulled refl).counted, same)
-same_pulls_if number is_block false s s' t t' o p next other same = ap (λ u. u.pulls) (other.same refl) ∙ same ∙ sym (ap (λ u. u.pulls) (next.same refl))
+same_pulls_if number is_block wanted s s' t t' o p next other same = grind arith
 
 module _ {X : Type 0} (w : ℕ) (number : X → ℕ) (merge : Merge) where
   -- what two lists of blocks hold, merged

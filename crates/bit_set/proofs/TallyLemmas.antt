@@ -1,7 +1,6 @@
 -- How many ones slices of blocks have, block by block and side by side.
 use Rattle.std.proofs.Common.{◌≡◌, ℕ, ◌+◌, ◌-◌, ◌*◌, ◌^◌, min, ◌<◌, ◌≤◌, ◌⊎◌, Bool, List, [], ◌∷◌, ◌++◌, map, length, get_or, take, take_all, drop, count_ones, refl, sym, ap, ◌∙◌, inl, inr, arith, ap₂, cond}
 use Rattle.std.proofs.lemmas.List.{at_drop_more, map-append, take-append-drop, length-take-le, length-drop, drop_all}
-use Rattle.std.proofs.lemmas.Bool.{cases_lt}
 use Rattle.std.proofs.lemmas.Grind.{flat_map-append}
 use Rattle.bit_words.specs.Merges.{merge_of_values, merge_of}
 use Rattle.bit_words.specs.declared.block.merge.Merge.{Merge}
@@ -86,7 +85,6 @@ module _ {X : Type 0} (w : ℕ) (number : X → ℕ) (merge : Merge) where
   -- the shorter slice has no rest
   pub rest_ended : (xs ys : List X) (k : ℕ) → k ≡ min (length xs) (length ys) → (take (length xs - k) (drop k xs) ≡ []) ⊎ (take (length ys - k) (drop k ys) ≡ [])
   rest_ended xs ys k is =
-      elim (cases_lt (length ys) (length xs)) [
-        | inl longer ↦ inr (whole_rest ys k ∙ drop_all k ys (omega (arith, is, longer)))
-        | inr shorter ↦ inl (whole_rest xs k ∙ drop_all k xs (omega (arith, is, shorter)))
-      ]
+      let first = drop_all k xs in
+      let second = drop_all k ys in
+      grind (arith, whole_rest xs k, whole_rest ys k)

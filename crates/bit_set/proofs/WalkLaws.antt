@@ -40,8 +40,7 @@ module _ {S : Type 0} (left : S → List ℕ) (steps : S → Option ℕ → S �
   all_left s t items run = let last = first run.0 t None run.2 in (sym (front s run.0 items run.1 ∙ ap (λ ys. items ++ ys) last.0 ∙ append-nil items), last.1)
 
   none_after : (s t : S) (r : Option ℕ) → left s ≡ [] → steps s r t → (r ≡ None) × (left t ≡ [])
-  none_after s t None ended step = (refl, (first s t None step).1)
-  none_after s t (Some x) ended step = absurd (let e = sym ended ∙ first s t (Some x) step in cc)
+  none_after s t r ended step = let item = first s t r step in grind arith
 
   pub collected : (merge : Merge) (a b c : List Bool) (s : S) (items : List ℕ) → left s ≡ merge_of_sets merge (elements a) (elements b) → Drains steps s items → elements c ≡ put_all [] items → elements c ≡ merge_of_sets merge (elements a) (elements b)
   collected merge a b c s items over run puts =
@@ -114,10 +113,7 @@ module _ {S : Type 0} (w : ℕ) (walk : S → TwoSetWalk) (next : S → Option �
 
 module _ {S T : Type 0} (left : S → List ℕ) (next : S → Option ℕ → S → Type 0) (left_too : T → List ℕ) (next_too : T → Option ℕ → T → Type 0) (first : (s u : S) (r : Option ℕ) → next s r u → YieldsFirst left s r u) (first_too : (t v : T) (r : Option ℕ) → next_too t r v → YieldsFirst left_too t r v) where
   step_agrees : (s u : S) (t v : T) (r q : Option ℕ) → left s ≡ left_too t → next s r u → next_too t q v → (r ≡ q) × (left u ≡ left_too v)
-  step_agrees s u t v None None same run other = (refl, (first s u None run).1 ∙ sym (first_too t v None other).1)
-  step_agrees s u t v None (Some y) same run other = absurd (let e = sym (first s u None run).0 ∙ same ∙ first_too t v (Some y) other in cc)
-  step_agrees s u t v (Some x) None same run other = absurd (let e = sym (first s u (Some x) run) ∙ same ∙ (first_too t v None other).0 in cc)
-  step_agrees s u t v (Some x) (Some y) same run other = let e = sym (first s u (Some x) run) ∙ same ∙ first_too t v (Some y) other in ((cc), (cc))
+  step_agrees s u t v r q same run other = let one = first s u r run in let two = first_too t v q other in grind arith
 
   -- fronts that are as long are the same
   steps_agree : (s u : S) (t v : T) (xs ys : List ℕ) → left s ≡ left_too t → length xs ≡ length ys → Yields next s xs u → Yields next_too t ys v → (xs ≡ ys) × (left u ≡ left_too v)
