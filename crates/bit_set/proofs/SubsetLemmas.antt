@@ -1,7 +1,7 @@
 -- Which sets are in which, and which have nothing in common.
-use Rattle.std.proofs.Common.{◌≡◌, ℕ, Bool, true, false, not, ◌↔◌, eqb, List, [], ◌∷◌, filter, slice_get, Some, refl, sym, ap, ◌∙◌, ⊎_elim, arith}
+use Rattle.std.proofs.Common.{◌≡◌, ℕ, Bool, true, not, ◌↔◌, eqb, List, [], ◌∷◌, filter, slice_get, Some, refl, sym, ap, ◌∙◌, ⊎_elim, arith}
 use Rattle.std.proofs.Math.Bool.{not-not}
-use Rattle.std.proofs.lemmas.Bool.{true≢false, and_parts, and_from, or_right, not-true, not_from_false, cases_Bool}
+use Rattle.std.proofs.lemmas.Bool.{true≢false, and_from, or_right, not-true, not_from_false, cases_Bool}
 use Rattle.std.specs.List.{list_all}
 use Rattle.std.specs.Cmp.{nat_cmp_total}
 use Rattle.std.specs.FinSet as set
@@ -23,15 +23,11 @@ all_pass p (x ∷ xs) each = and_from (p x) (list_all p xs) (each x (has-first x
 -- no member fails the test exactly where a filter for those that fail keeps none
 none_fails : (p q : ℕ → Bool) (s : List ℕ) → ((n : ℕ) → q n ≡ not (p n)) → list_all p s ≡ true → filter q s ≡ []
 none_fails p q [] other all = refl
-none_fails p q (x ∷ xs) other all = let parts = and_parts (p x) (list_all p xs) all in rw (other x, parts.0) (none_fails p q xs other parts.1)
+none_fails p q (x ∷ xs) other all = let rest = λ (each : list_all p xs ≡ true). none_fails p q xs other each in let here = other x in grind (arith, rest)
 
 none_kept : (p q : ℕ → Bool) (s : List ℕ) → ((n : ℕ) → q n ≡ not (p n)) → filter q s ≡ [] → list_all p s ≡ true
 none_kept p q [] other none = refl
-none_kept p q (x ∷ xs) other none =
-    ⊎_elim
-    (λ (yes : p x ≡ true). and_from (p x) (list_all p xs) yes (none_kept p q xs other (rw (other x, yes) at none)))
-    (λ (no : p x ≡ false). absurd (let e : x ∷ filter q xs ≡ [] = rw (other x, no) at none in cc))
-    (cases_Bool (p x))
+none_kept p q (x ∷ xs) other none = let rest = λ (less : filter q xs ≡ []). none_kept p q xs other less in let here = other x in grind (arith, rest)
 
 -- ---- subsets
 

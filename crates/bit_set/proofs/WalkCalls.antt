@@ -1,5 +1,5 @@
 -- What walks over two sets give, and what `eq`, `max`, `min` and `find` of a walk return.
-use Rattle.std.proofs.Common.{◌≡◌, ℕ, List, [], ◌∷◌, Bool, true, false, ◌&&◌, Option, Some, None, nat_eq, sym, ap, ap₂, ◌∙◌, subst, length, Bor, IsTrue, MatchOption}
+use Rattle.std.proofs.Common.{◌≡◌, ℕ, List, [], ◌∷◌, Bool, true, false, ◌&&◌, Option, nat_eq, sym, ap, ap₂, ◌∙◌, subst, length, Bor, IsTrue, MatchOption, arith}
 use Rattle.std.specs.Fn.{Mut, CalledAt}
 use Rattle.std.specs.Option.{IfSome}
 use Rattle.std.specs.List.{AllZip}
@@ -35,15 +35,10 @@ Ends r o p = MatchOption o (MatchOption p (r ≡ true) (λ _. r ≡ false)) (λ 
 
 module _ {S T : Type 0} (steps : S → Option ℕ → S → Type 0) (others : T → Option ℕ → T → Type 0) (r : Bool) where
   at_end : (o p : Option ℕ) (xs ys : List ℕ) (s u : S) (t v : T) → AlwaysYields steps (λ x. x) s xs → AlwaysYields others (λ x. x) t ys → steps s o u → others t p v → Ends r o p → r ≡ pointwise nat_eq xs ys
-  at_end None p (x ∷ xs) ys s u t v e f a b end = absurd (e.0 u a)
-  at_end (Some x) p [] ys s u t v e f a b end = absurd (e x u a)
-  at_end o None xs (y ∷ ys) s u t v e f a b end = absurd (f.0 v b)
-  at_end o (Some y) xs [] s u t v e f a b end = absurd (f y v b)
-  at_end None None [] [] s u t v e f a b end = end
-  at_end None (Some y) [] (z ∷ ys) s u t v e f a b end = end
-  at_end (Some x) None (z ∷ xs) [] s u t v e f a b end = end.0
-  at_end (Some x) (Some y) (x' ∷ xs) (y' ∷ ys) s u t v e f a b end =
-      end.0 ∙ ap (λ same. same && pointwise nat_eq xs ys) (sym end.1 ∙ ap₂ nat_eq (e.1 x u a).0 (f.1 y v b).0)
+  at_end o p [] [] s u t v e f a b end = grind arith
+  at_end o p [] (y ∷ ys) s u t v e f a b end = grind arith
+  at_end o p (x ∷ xs) [] s u t v e f a b end = grind arith
+  at_end o p (x ∷ xs) (y ∷ ys) s u t v e f a b end = grind arith
 
   along : (cs bs : List ℕ) (o p : Option ℕ) (xs ys : List ℕ) (s u : S) (t v : T) → AlwaysYields steps (λ x. x) s xs → AlwaysYields others (λ x. x) t ys → YieldsThen steps s cs o u → YieldsThen others t bs p v → AllZip (λ x y. nat_eq x y ≡ true) cs bs → Ends r o p → r ≡ pointwise nat_eq xs ys
   along [] [] o p xs ys s u t v e f a b tied end = at_end o p xs ys s u t v e f (subst (λ j. steps j o u) (sym a.1) a.2) (subst (λ j. others j p v) (sym b.1) b.2) end
