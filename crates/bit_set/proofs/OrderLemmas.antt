@@ -1,7 +1,7 @@
 -- How two sets compare, from the least number that just one of them has.
-use Rattle.std.proofs.Common.{◌≡◌, ℕ, ◌+◌, ◌<◌, ◌≤◌, Bool, true, false, not, ltb, List, [], ◌∷◌, refl, sym, ap, ◌∙◌, arith, ⊎_elim, inl, inr, ◌||◌}
+use Rattle.std.proofs.Common.{◌≡◌, ℕ, ◌+◌, ◌<◌, ◌≤◌, Bool, true, false, not, ltb, List, [], ◌∷◌, refl, sym, ap, ◌∙◌, arith, inl, inr, ◌||◌}
 use Rattle.std.proofs.Math.Bool.{not-not}
-use Rattle.std.proofs.lemmas.Bool.{true≢false, lt-ltb, not-false, cases_order, ne_eqb, cases_lt, both_ways}
+use Rattle.std.proofs.lemmas.Bool.{true≢false, lt-ltb, not-false, cases_order, ne_eqb}
 use Rattle.std.specs.Cmp.{nat_cmp_total, tied_itself}
 use Rattle.std.specs.Cmp.Lexicographic.{nat_list_cmp_total, bytes_decides}
 use Rattle.std.specs.Ordering.{ordering_then, ordering_reverse, MatchOrdering}
@@ -35,38 +35,33 @@ tells_alike Greater n t u same told = λ k from. sym (same k from) ∙ told k fr
 tells_less : (r : Ordering) (n k : ℕ) (t : List ℕ) → Tells r n t → n ≤ k → has t k ≡ true → r ≡ Less
 tells_less r n k t told from is = grind arith
 
-tells_greater : (r : Ordering) (n : ℕ) → Tells r n [] → r ≡ Greater
-tells_greater r n told = grind arith
-
 -- behind a first number of both, the rests differ as the sets do
-rest_alike : (x k : ℕ) (xs ys : List ℕ) → AscendsFrom (x + 1) xs → AscendsFrom (x + 1) ys → has (x ∷ xs) k ≡ has (x ∷ ys) k → has xs k ≡ has ys k
-rest_alike x k xs ys up up_too same = let one = has-below (x + 1) xs k up in let other = has-below (x + 1) ys k up_too in grind (arith, nat_tests)
-
 rest_apart : (x n : ℕ) (xs ys : List ℕ) → AscendsFrom (x + 1) xs → has (x ∷ xs) n ≡ not (has (x ∷ ys) n) → has (x ∷ xs) n ≡ true → (x < n) × (has xs n ≡ not (has ys n)) × (has xs n ≡ true)
 rest_apart x n xs ys up apart holds = let below = has-below (x + 1) xs n up in grind (arith, nat_tests)
 
 -- where the first set has the least number n that just one of them has, r is how it compares to the other
 by_members : (low n : ℕ) (s t : List ℕ) (r : Ordering) → AscendsFrom low s → AscendsFrom low t → IsFirstMismatch s t n → has s n ≡ true → Tells r n t → r ≡ order_of_sets s t
 by_members low n [] t r up up_too d holds told = absurd (true≢false (sym holds))
-by_members low n (x ∷ xs) [] r up up_too d holds told = tells_greater r n told
+by_members low n (x ∷ xs) [] r up up_too d holds told = grind arith
 by_members low n (x ∷ xs) (y ∷ ys) r up up_too d holds told =
     elim (cases_order x y) [
       | inl same ↦
           let there : AscendsFrom (x + 1) ys = rw same up_too.1 in
           let second : y ∷ ys ≡ x ∷ ys = ap (λ z. z ∷ ys) (sym same) in
           let rest = rest_apart x n xs ys up.1 (d.here ∙ ap (λ u. not (has u n)) second) holds in
-          by_members (x + 1) n xs ys r up.1 there (record { below = λ k under. rest_alike x k xs ys up.1 there (d.below k under ∙ ap (λ u. has u k) second); here = rest.1 }) rest.2
+          by_members (x + 1) n xs ys r up.1 there
+          (record { below = λ k under. (let one = has-below (x + 1) xs k up.1 in let other = has-below (x + 1) ys k there in let alike = d.below k under in grind (arith, nat_tests)); here = rest.1 }) rest.2
           (tells_alike r n (y ∷ ys) ys (λ k from. ap (λ b. b || has ys k) (ne_eqb y k (λ e. omega (arith, e, same, rest.0, from)))) told)
           ∙ sym (order-cons x xs ys)
           ∙ ap (order_of_sets (x ∷ xs)) (sym second)
       | inr (inl less) ↦
           let lacks = has-below y (y ∷ ys) x (omega arith, up_too.1) less in
-          let past : n ≤ x = ⊎_elim (λ (before : x < n). absurd (both_ways (has (y ∷ ys) x) lacks (sym (d.below x before) ∙ has-first x xs))) (λ (from : n ≤ x). from) (cases_lt x n) in
+          let past : n ≤ x = (let at = d.below x in let first = has-first x xs in grind (arith, lacks)) in
           tells_less r n y (y ∷ ys) told (omega (arith, past, less)) (has-first y ys) ∙ sym (order-first x y xs ys less)
       | inr (inr more) ↦
           let lacks = has-below x (x ∷ xs) y (omega arith, up.1) more in
-          let early : n < x = ⊎_elim (λ (before : y < n). absurd (both_ways (has (x ∷ xs) y) lacks (d.below y before ∙ has-first y ys))) (λ (from : n ≤ y). omega (arith, from, more)) (cases_lt y n) in
-          absurd (both_ways (has (x ∷ xs) n) (has-below x (x ∷ xs) n (omega arith, up.1) early) holds)
+          let late = has-below x (x ∷ xs) n (omega arith, up.1) in
+          absurd (let at = d.below y in let first = has-first y ys in grind (arith, lacks))
     ]
 
 -- where two sets first differ is seen from either

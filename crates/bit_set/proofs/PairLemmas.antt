@@ -32,7 +32,8 @@ length-intersection a b =
     let s = elements a in
     let t = elements b in
     let up = IsAscending-merge_of_sets Intersection in
-    let same = same_members (intersection s t) (intersection t s) (up s t (IsAscending-elements a)) (up t s (IsAscending-elements b)) (λ n. has-intersection s t n ∙ and_comm (has s n) (has t n) ∙ sym (has-intersection t s n)) in
+    let same = same_members (intersection s t) (intersection t s) (up s t (IsAscending-elements a)) (up t s (IsAscending-elements b))
+    (λ n. has-intersection s t n ∙ and_comm (has s n) (has t n) ∙ sym (has-intersection t s n)) in
     omega (arith, ap length same, length-filter (λ n. has t n) s, count_by-le-length (λ n. has t n) s, length-filter (λ n. has s n) t, count_by-le-length (λ n. has s n) t, length-elements-le 0 a, length-elements-le 0 b)
 
 -- ---- a pull of both

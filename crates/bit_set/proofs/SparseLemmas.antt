@@ -191,8 +191,8 @@ module _ {X : Type 0} (w : ℕ) (number : X → ℕ) (is_block : X → Type 0) (
       ]
 
   -- the lowest one of the block that was reached is taken
-  pub given_one : (s : Walk) (index i : ℕ) (block r : X) (it : Nonzeros X) → Reaches w number is_block s index block it (seen w number is_block index block it)
-      → is_block r → IsLowest (number block) i → i < w → IsCleared w (number block) i (number r) → IsSparseWalk w number is_block index r it × (index + i < 2 ^ 64) × Advances w s (Some (index + i)) (seen w number is_block index r it)
+  pub given_one : (s : Walk) (index i : ℕ) (block r : X) (it : Nonzeros X) → Reaches w number is_block s index block it (seen w number is_block index block it) → is_block r
+      → IsLowest (number block) i → i < w → IsCleared w (number block) i (number r) → IsSparseWalk w number is_block index r it × (index + i < 2 ^ 64) × Advances w s (Some (index + i)) (seen w number is_block index r it)
   given_one s index i block r it to lawful low within cleared =
       let is = to.moved.walk in
       let ahead = past_block w number index it.blocks it.pulls in

@@ -120,7 +120,7 @@ begun_by is_block w m s t lawful can all past long = record {
 pub begun : {X : Type 0} (is_block : X → Type 0) (w : ℕ) (number : X → ℕ) (zero : X) (s t : Ahead) (r : Option X) → IsWalkable w s → PullsBlock w number s r t → IfSome r is_block → is_block zero → number zero ≡ 0
     → IsBegun (is_block (unwrap_or r zero)) w (number (unwrap_or r zero)) s t
 begun is_block w number zero s t None can pull given lawful none =
-    begun_by _ w _ s t lawful can (indexes-ended w 0 _ t.values none pull.values.1 ∙ sym (ap (elements_from 0) pull.values.0)) (omega (arith, pull.blocks)) (omega (arith, ap length pull.values.1, ap (λ k. k * w) pull.blocks.1))
+    begun_by _ w _ s t lawful can (indexes-ended w 0 _ _ none pull.values.1 ∙ sym (ap (elements_from 0) pull.values.0)) (omega (arith, pull.blocks)) (omega (arith, ap length pull.values.1, ap (λ k. k * w) pull.blocks.1))
 begun is_block w number zero s t (Some x) can pull given lawful none =
     begun_by (is_block x) w (number x) s t given can (sym (indexes-next w 0 (number x) s.values t.values pull.values)) (omega (arith, pull.blocks)) (long_pulled w number x s t can.long pull)
 

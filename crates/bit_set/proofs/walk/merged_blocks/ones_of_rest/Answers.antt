@@ -16,7 +16,8 @@ second : (g : _) (c : After-count_ones-ones-in-loop-other g) →
     let ones = ones_of_merged g.B.BitBlock.width g.B.BitBlock.number g.O.Operation.merge in
     c.loop-other.ones + c.count_ones-ones-in-loop-other.result + ones [] (drop (c.loop-other.other-index + 1) c.args.second.now) ≡ ones c.args.first.now c.args.second.now
 second g c =
-    second_counted g.B.BitBlock.width g.B.BitBlock.number g.O.Operation.merge _ _ _ _ (g.B.BitBlock.number c.of_blocks-in-loop-other.result) c.loop-other.ones _ _ c.loop-other-test.true c.other-item.is c.zero-zero.ensures.of_number
+    second_counted g.B.BitBlock.width g.B.BitBlock.number g.O.Operation.merge _ _ _ _ (g.B.BitBlock.number c.of_blocks-in-loop-other.result) c.loop-other.ones _ _
+    c.loop-other-test.true c.other-item.is c.zero-zero.ensures.of_number
     (record { digit = c.of_blocks-in-loop-other.ensures.digits }) c.loop-other.invariant (g.met.B.BitBlock.number_law _ c.of_blocks-in-loop-other.ensures.of_block).0 c.count_ones-ones-in-loop-other.ensures
 
 pub overflow_add-ones : goal.overflow_add-ones
