@@ -103,9 +103,7 @@ module _ {X : Type 0} (w : ℕ) (number : X → ℕ) (merge : Merge) where
       → IsMergedBlock w merge (number a) (number b) (number r) → PullsBlockIf w number wanted (both_ahead s.left t.left s.pulls) (Some r) (both_ahead s'.left t'.left s'.pulls)
   both_pulled_if is_block wanted s s' t t' o p a b r first second next other is = record {
     pulled = λ yes.
-        let one = subst (λ q. YieldsFirst (λ u. u.left) s q s') first (next.pulled yes).item in
-        let two = subst (λ q. YieldsFirst (λ u. u.left) t q t') second (other.pulled yes).item in
-        both_pulled s.left s'.left t.left t'.left s.pulls s'.pulls (Some a) (Some b) (Some r) one two is (next.pulled yes).counted;
+        both_pulled s.left s'.left t.left t'.left s.pulls s'.pulls (Some a) (Some b) (Some r) (rw first at (next.pulled yes).item) (rw second at (other.pulled yes).item) is (next.pulled yes).counted;
     same = λ no. ap₂ (λ (u v : Source X). both_ahead u.left v.left u.pulls) (next.same no) (other.same no);
   }
 

@@ -1,6 +1,5 @@
-use Rattle.std.proofs.Common.{sym, ◌+◌, ◌*◌, ◌<◌, ◌^◌, length, get_or, ap, ◌∙◌, subst, arith}
+use Rattle.std.proofs.Common.{sym, ◌+◌, ◌*◌, ◌<◌, ◌^◌, length, get_or, ap, ◌∙◌, arith}
 use Rattle.bit_words.specs.Bits.{blocks_of}
-use Rattle.bit_words.specs.Mismatches.{IsLowestMismatch}
 use Rattle.bit_set.specs.Mismatches.{IsFirstMismatch}
 use Rattle.bit_set.specs.Sets.{elements}
 use Rattle.bit_set.proofs.MismatchLemmas.{first_mismatch_is, first_within}
@@ -12,12 +11,9 @@ is_first : (g : _) (c : After-bits g) → IsFirstMismatch (elements c.args.a.now
 is_first g c =
     let w = g.B.BitBlock.width in
     let at = c.args.at in
-    let ys = c.args.b.now.values in
     let left = c.block_or_zero.ensures.of_number ∙ ap (λ ms. get_or ms at 0) (c.storage-left.ensures.numbers ∙ ap (λ s. blocks_of w s.values) c.get_ref.ensures) in
     let right = c.block_or_zero-2.ensures.of_number ∙ ap (λ ms. get_or ms at 0) (c.storage-right.ensures.numbers ∙ ap (λ s. blocks_of w s.values) c.get_ref-2.ensures) in
-    let i = c.lowest_mismatch-index.result in
-    rw c.bits.ensures (first_mismatch_is w at i c.args.a.now.values ys g.met.B.BitBlock.width_law.positive c.requires
-    (subst (λ m. IsLowestMismatch w m (get_or (blocks_of w ys) at 0) i) left (subst (λ m. IsLowestMismatch w (g.B.BitBlock.number c.block_or_zero.result) m i) right c.lowest_mismatch-index.ensures)))
+    rw c.bits.ensures (first_mismatch_is w at _ c.args.a.now.values c.args.b.now.values g.met.B.BitBlock.width_law.positive c.requires (rw (left, right) at c.lowest_mismatch-index.ensures))
 
 fits : (g : _) (c : After-bits g) → c.args.at * c.bits.result + c.lowest_mismatch-index.result < 2 ^ 64
 fits g c =
