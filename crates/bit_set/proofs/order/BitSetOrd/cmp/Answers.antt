@@ -6,12 +6,9 @@ use Rattle.bit_set.proofs.order.BitSetOrd.cmp.Goals as goal
 pub order_by-requires : goal.order_by-requires
 order_by-requires g c =
     let w = g.B.BitBlock.width in
-    let number = g.B.BitBlock.number in
     let same = g.met.B.BitBlock.eq_law c.block_or_zero.result c.block_or_zero-2.result c.block_or_zero.ensures.of_block c.block_or_zero-2.ensures.of_block in
-    let left : number c.block_or_zero.result ≡ get_or (blocks_of w c.args.self.now.values) 0 0 =
-    c.block_or_zero.ensures.of_number ∙ ap (λ ms. get_or ms 0 0) c.storage-left.ensures.numbers ∙ ap (λ bits. get_or (blocks_of w bits.values) 0 0) c.get_ref.ensures in
-    let right : number c.block_or_zero-2.result ≡ get_or (blocks_of w c.args.other.now.values) 0 0 =
-    c.block_or_zero-2.ensures.of_number ∙ ap (λ ms. get_or ms 0 0) c.storage-right.ensures.numbers ∙ ap (λ bits. get_or (blocks_of w bits.values) 0 0) c.get_ref-2.ensures in
+    let left = c.block_or_zero.ensures.of_number ∙ ap (λ ms. get_or ms 0 0) c.storage-left.ensures.numbers ∙ ap (λ bits. get_or (blocks_of w bits.values) 0 0) c.get_ref.ensures in
+    let right = c.block_or_zero-2.ensures.of_number ∙ ap (λ ms. get_or ms 0 0) c.storage-right.ensures.numbers ∙ ap (λ bits. get_or (blocks_of w bits.values) 0 0) c.get_ref-2.ensures in
     record {
       below = λ j none. absurd (omega (arith, none));
       here = λ e. true≢false (sym c.if-ne.true ∙ c.ne.ensures ∙ ap not (same.1 (left ∙ e ∙ sym right)));

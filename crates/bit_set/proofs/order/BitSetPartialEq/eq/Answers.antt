@@ -1,4 +1,4 @@
-use Rattle.std.proofs.Common.{sym, ap, ◌∙◌, get_or}
+use Rattle.std.proofs.Common.{ap, ◌∙◌}
 use Rattle.bit_words.specs.Bits.{blocks_of}
 use Rattle.bit_set.proofs.MismatchLemmas.{same_by_blocks}
 use Rattle.bit_set.proofs.MemberLemmas.{tells_same}
@@ -9,10 +9,7 @@ returns-clause-lists g c =
     let w = g.B.BitBlock.width in
     let left = c.storage.ensures.numbers ∙ ap (λ s. blocks_of w s.values) c.get_ref.ensures in
     let right = c.storage-2.ensures.numbers ∙ ap (λ s. blocks_of w s.values) c.get_ref-2.ensures in
-    same_by_blocks w c.args.self.now.values c.args.other.now.values c.same_blocks.result g.met.B.BitBlock.width_law.positive (
-      λ is k. ap (λ ms. get_or ms k 0) (sym left) ∙ c.same_blocks.ensures.0 is k ∙ ap (λ ms. get_or ms k 0) right,
-      λ same. c.same_blocks.ensures.1 (λ k. ap (λ ms. get_or ms k 0) left ∙ same k ∙ ap (λ ms. get_or ms k 0) (sym right)),
-    )
+    same_by_blocks w c.args.self.now.values c.args.other.now.values c.same_blocks.result g.met.B.BitBlock.width_law.positive (rw (left, right) at c.same_blocks.ensures)
 
 pub returns-clause-members : goal.returns-clause-members
 returns-clause-members g c = tells_same c.same_blocks.result c.args.self.now.values c.args.other.now.values (returns-clause-lists g c)
