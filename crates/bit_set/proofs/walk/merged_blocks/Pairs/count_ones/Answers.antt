@@ -1,4 +1,4 @@
-use Rattle.std.proofs.Common.{◌≡◌, ◌+◌, ◌-◌, length, ap, ap₂, arith, drop, take, sym, ◌∙◌}
+use Rattle.std.proofs.Common.{◌≡◌, ◌+◌, ◌-◌, length, arith, drop, take}
 use Rattle.bit_set.specs.Sets.{elements}
 use Rattle.bit_set.proofs.PairLemmas.{both_held}
 use Rattle.bit_set.proofs.TallyLemmas.{rows_cut_at, rest_ended}
@@ -15,9 +15,8 @@ cut : (g : _) (c : After-min-both g) →
     length (elements c.args.self.values)
     ≡ length (elements (both_held w n g.O.Operation.merge (take k xs) (take k ys))) + length (elements (both_held w n g.O.Operation.merge (take (length xs - k) (drop k xs)) (take (length ys - k) (drop k ys))))
 cut g c =
-    ap (λ ahead. length (elements ahead.values)) (sym c.self.view_is)
-    ∙ ap₂ (λ xs ys. length (elements (both_held g.B.BitBlock.width g.B.BitBlock.number g.O.Operation.merge xs ys))) (sym c.as_slice-first.ensures) (sym c.as_slice-second.ensures)
-    ∙ rows_cut_at g.B.BitBlock.width g.B.BitBlock.number g.O.Operation.merge _ _ c.min-both.result (omega (arith, c.min-both.ensures)) (omega (arith, c.min-both.ensures))
+    rw (← c.self.view_is, ← c.as_slice-first.ensures, ← c.as_slice-second.ensures)
+    (rows_cut_at g.B.BitBlock.width g.B.BitBlock.number g.O.Operation.merge _ _ c.min-both.result (omega (arith, c.min-both.ensures)) (omega (arith, c.min-both.ensures)))
 
 pub overflow_add-result : goal.overflow_add-result
 overflow_add-result g c = omega (arith, cut g (goal.at.overflow_add-result g c).After-min-both, c.requires, c.ones_of_both.ensures, c.ones_of_rest.ensures)

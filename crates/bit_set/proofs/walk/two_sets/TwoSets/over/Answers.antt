@@ -1,7 +1,6 @@
-use Rattle.std.proofs.Common.{◌-◌, max, length, refl, ap, ap₂, ◌∙◌, arith}
+use Rattle.std.proofs.Common.{◌-◌, refl, ap, ◌∙◌, arith}
 use Rattle.std.specs.Option.{unwrap_or}
-use Rattle.bit_words.specs.Bits.{Bits, blocks_for}
-use Rattle.bit_set.specs.Sets.{elements, merge_of_sets}
+use Rattle.bit_set.specs.Sets.{elements}
 use Rattle.bit_set.proofs.MemberLemmas.{members_merged}
 use Rattle.bit_set.proofs.WalkLemmas.{IsBegun, begun}
 use Rattle.bit_set.proofs.walk.two_sets.TwoSets.over.Goals.{After-zero}
@@ -18,21 +17,17 @@ pub invariant_of-result : goal.invariant_of-result
 invariant_of-result g c = rw c.unwrap_or-block.ensures (at_start g (goal.at.invariant_of-result g c).After-zero).walk
 
 pub returns-clause-left : goal.returns-clause-left
-returns-clause-left g c =
-    rw c.unwrap_or-block.ensures ((at_start g (goal.at.returns-clause-left g c).After-zero).all
-    ∙ c.over-source.ensures.values
-    ∙ ap₂ (λ (a : Bits) (b : Bits). merge_of_sets g.O.Operation.merge (elements a.values) (elements b.values)) c.get_ref.ensures c.get_ref-2.ensures)
+returns-clause-left g c = rw c.unwrap_or-block.ensures ((at_start g (goal.at.returns-clause-left g c).After-zero).all ∙ rw (c.get_ref.ensures, c.get_ref-2.ensures) at c.over-source.ensures.values)
 
 pub returns-clause-members : goal.returns-clause-members
 returns-clause-members g c = members_merged g.O.Operation.merge (elements c.args.first.now.values) (elements c.args.second.now.values) _ (returns-clause-left g c)
 
 pub returns-clause-start : goal.returns-clause-start
 returns-clause-start g c =
-    let w = g.B.BitBlock.width in
     let at = at_start g (goal.at.returns-clause-start g c).After-zero in
     rw c.unwrap_or-block.ensures (record {
       pulls = omega (arith, c.pull_with_kind-pulled.ensures.steps.counted, c.over-source.ensures.pulls);
       index = refl;
-      blocks = at.past ∙ ap (λ n. n - 1) (c.over-source.ensures.blocks ∙ ap₂ (λ (a : Bits) (b : Bits). max (blocks_for w (length a.values)) (blocks_for w (length b.values))) c.get_ref.ensures c.get_ref-2.ensures);
+      blocks = at.past ∙ ap (λ n. n - 1) (rw (c.get_ref.ensures, c.get_ref-2.ensures) at c.over-source.ensures.blocks);
       few = at.walk.can.few;
     })
