@@ -1,7 +1,6 @@
 -- Two sets made one: the members of what comes out, its order, the same as finite sets of std, and two lists of
 -- truth values merged value by value.
 use Rattle.std.proofs.Common.{◌≡◌, ℕ, Bool, false, not, ◌-◌, ◌||◌, ◌&&◌, ◌++◌, List, length, length-append, replicate, max, get_or, sym, ap, ◌∙◌, arith}
-use Rattle.std.proofs.Math.Bool.{and_comm, or_comm}
 use Rattle.std.proofs.lemmas.List.{length-replicate}
 use Rattle.std.specs.Cmp.{nat_cmp_total}
 use Rattle.std.specs.FinSet as set
@@ -10,23 +9,20 @@ use Rattle.bit_words.proofs.MergeLemmas.{get_or-merged, length-merged}
 use Rattle.bit_words.specs.declared.block.merge.Merge.{Merge}
 use Rattle.bit_words.specs.declared.block.merge.Merge.TheVariants.{Union, Intersection, Difference, Symmetric}
 use Rattle.bit_set.specs.Sets.{IsAscending, has, elements, union, intersection, difference, symmetric_difference, merge_of_sets}
-use Rattle.bit_set.proofs.SetLemmas.{has-elements, IsAscending-elements, elements-by_members, elements-alike, get_or_padded}
-use Rattle.bit_set.proofs.SetLaws.{has-filter, has-put_all, AscendsFrom-filter, IsAscending-put_all, contains-has, finite, finite-put_all, same_finite}
+use Rattle.bit_set.proofs.SetLemmas.{AscendsFrom-filter, has-elements, has-filter, IsAscending-elements, elements-by_members, elements-padded}
+use Rattle.bit_set.proofs.SetLaws.{has-put_all, IsAscending-put_all, contains-has, finite, finite-put_all, same_finite}
 
 pub has-union : (s t : List ℕ) (n : ℕ) → has (union s t) n ≡ (has s n || has t n)
-has-union s t n = has-put_all s t n ∙ or_comm (has t n) (has s n)
+has-union s t n = let all = has-put_all s t n in grind arith
 
 pub has-intersection : (s t : List ℕ) (n : ℕ) → has (intersection s t) n ≡ (has s n && has t n)
-has-intersection s t n = has-filter (λ m. has t m) s n ∙ and_comm (has t n) (has s n)
+has-intersection s t n = let kept = has-filter (λ m. has t m) s n in grind arith
 
 pub has-difference : (s t : List ℕ) (n : ℕ) → has (difference s t) n ≡ (has s n && not (has t n))
-has-difference s t n = has-filter (λ m. not (has t m)) s n ∙ and_comm (not (has t n)) (has s n)
+has-difference s t n = let kept = has-filter (λ m. not (has t m)) s n in grind arith
 
 pub has-symmetric : (s t : List ℕ) (n : ℕ) → has (symmetric_difference s t) n ≡ ((has s n && not (has t n)) || (not (has s n) && has t n))
-has-symmetric s t n =
-    has-union (difference s t) (difference t s) n
-    ∙ ap (λ b. b || has (difference t s) n) (has-difference s t n)
-    ∙ ap (λ b. (has s n && not (has t n)) || b) (has-difference t s n ∙ and_comm (has t n) (not (has s n)))
+has-symmetric s t n = let both = has-union (difference s t) (difference t s) n in let first = has-difference s t n in let second = has-difference t s n in grind arith
 
 -- a number is a member of what two sets become as each of them has it or not
 pub has-merge_of_sets : (merge : Merge) (s t : List ℕ) (n : ℕ) → has (merge_of_sets merge s t) n ≡ merge_of_values merge (has s n) (has t n)
@@ -46,15 +42,11 @@ pub elements-merged : (merge : Merge) (xs ys : List Bool) → elements (merge_of
 elements-merged merge xs ys =
     elements-by_members (merge_of merge xs ys) (merge_of_sets merge (elements xs) (elements ys))
     (IsAscending-merge_of_sets merge (elements xs) (elements ys) (IsAscending-elements xs))
-    (λ k. get_or-merged merge xs ys k
-    ∙ ap (λ b. merge_of_values merge b (get_or ys k false)) (sym (has-elements xs k))
-    ∙ ap (λ b. merge_of_values merge (has (elements xs) k) b) (sym (has-elements ys k))
-    ∙ sym (has-merge_of_sets merge (elements xs) (elements ys) k))
+    (λ k. let value = get_or-merged merge xs ys k in let member = has-merge_of_sets merge (elements xs) (elements ys) k in cc (has-elements xs k, has-elements ys k))
 
 -- the set that is kept where the first list was lengthened with false
 pub elements-lengthened : (merge : Merge) (xs ys : List Bool) (n : ℕ) → elements (merge_of merge (xs ++ replicate n false) ys) ≡ merge_of_sets merge (elements xs) (elements ys)
-elements-lengthened merge xs ys n =
-    elements-merged merge (xs ++ replicate n false) ys ∙ ap (λ s. merge_of_sets merge s (elements ys)) (elements-alike xs (xs ++ replicate n false) (get_or_padded xs n))
+elements-lengthened merge xs ys n = elements-merged merge (xs ++ replicate n false) ys ∙ ap (λ s. merge_of_sets merge s (elements ys)) (elements-padded xs n)
 
 pub length-lengthened : (merge : Merge) (xs ys : List Bool) → length (merge_of merge (xs ++ replicate (length ys - length xs) false) ys) ≡ max (length xs) (length ys)
 length-lengthened merge xs ys =
@@ -62,13 +54,12 @@ length-lengthened merge xs ys =
 
 pub finite-intersection : (s t : List ℕ) → finite (intersection s t) ≡ set.intersection (finite s) (finite t)
 finite-intersection s t =
-    same_finite (intersection s t) _ (λ n. has-intersection s t n ∙ sym (set.contains-intersection nat_cmp_total (finite s) (finite t) n ∙ ap (λ b. b && set.contains (finite t) n) (contains-has s n) ∙ ap (λ b. has s n && b) (contains-has t n)))
+    same_finite (intersection s t) _ (λ n. let ours = has-intersection s t n in let theirs = set.contains-intersection nat_cmp_total (finite s) (finite t) n in cc (contains-has s n, contains-has t n))
 
 pub finite-difference : (s t : List ℕ) → finite (difference s t) ≡ set.difference (finite s) (finite t)
 finite-difference s t =
-    same_finite (difference s t) _ (λ n. has-difference s t n ∙ sym (set.contains-difference nat_cmp_total (finite s) (finite t) n ∙ ap (λ b. b && not (set.contains (finite t) n)) (contains-has s n) ∙ ap (λ b. has s n && not b) (contains-has t n)))
+    same_finite (difference s t) _ (λ n. let ours = has-difference s t n in let theirs = set.contains-difference nat_cmp_total (finite s) (finite t) n in cc (contains-has s n, contains-has t n))
 
 -- what is in just one of two sets: what the first has alone, and what the second has alone
 pub finite-symmetric : (s t : List ℕ) → finite (symmetric_difference s t) ≡ set.union (set.difference (finite s) (finite t)) (set.difference (finite t) (finite s))
-finite-symmetric s t =
-    finite-put_all (difference s t) (difference t s) ∙ ap (λ a. set.union a (finite (difference t s))) (finite-difference s t) ∙ ap (λ b. set.union (set.difference (finite s) (finite t)) b) (finite-difference t s)
+finite-symmetric s t = let both = finite-put_all (difference s t) (difference t s) in cc (finite-difference s t, finite-difference t s)

@@ -1,20 +1,18 @@
 -- What one call, and then many, make of a set.
-use Rattle.std.proofs.Common.{◌≡◌, ◌≢◌, ℕ, ◌<◌, ◌==◌, not, false, Bool, List, [], ◌∷◌, map, All, Result, Ok, Err, refl, sym, ap, ◌∙◌, arith}
+use Rattle.std.proofs.Common.{◌≡◌, ◌≢◌, ℕ, ◌<◌, ◌==◌, not, false, Bool, List, [], ◌∷◌, map, All, Result, Ok, Err, refl, ap, sym, ◌∙◌, arith}
 use Rattle.std.proofs.lemmas.Bool.Decides.{nat_tests}
 use Rattle.std.proofs.lemmas.List.Elements.{All-head, All-tail}
 use Rattle.bit_words.specs.Bounds.{greatest}
 use Rattle.bit_set.specs.Calls.{Change, Changes, Event, Happens, Outcome, elements_after, outcome_of_result, outcome_of, outcomes, set_after}
 use Rattle.bit_set.specs.Calls.Change.{Insert, ShrinkToFit}
-use Rattle.bit_set.specs.Calls.Outcome.{Done, NoElement, NoMemory, Returned}
+use Rattle.bit_set.specs.Calls.Outcome.{NoMemory, Returned}
 use Rattle.bit_set.specs.Sets.{elements, has, put}
 
 -- ---- one call
 
 -- an element that went in
 pub changes_inserted : (value : ℕ) (new : Bool) (old next : List Bool) → value < greatest → new ≡ not (has (elements old) value) → elements next ≡ put (elements old) value → Changes (Insert value) old (Returned new) next
-changes_inserted value new old next fits says is =
-    let test : (value == greatest) ≡ false = grind (arith, nat_tests) in
-    rw test (is, ap Returned says)
+changes_inserted value new old next fits says is = grind (arith, nat_tests)
 
 -- the elements stay, also where no memory is found
 pub changes_shrunk : {T E : Type 0} (r : Result T E) (old next : List Bool) → elements next ≡ elements old → Changes ShrinkToFit old (outcome_of_result r) next
@@ -22,28 +20,19 @@ changes_shrunk (Ok x) old next same = (same, refl)
 changes_shrunk (Err fault) old next same = same
 
 found : (call : Change) (old new : List Bool) (outcome : Outcome) → outcome ≢ NoMemory → Changes call old outcome new → (elements new ≡ elements_after call (elements old)) × (outcome ≡ outcome_of call (elements old))
-found call old new Done some is = is
-found call old new (Returned value) some is = is
-found call old new NoElement some is = is
-found call old new NoMemory some is = absurd (some refl)
+found call old new outcome some is = grind arith
 
 -- ---- one after another
 
 pub happens_found : (old new : List Bool) (events : List Event) → All (λ e. e.outcome ≢ NoMemory) events → Happens old events new → (elements new ≡ set_after (elements old) (map (λ e. e.call) events)) × (map (λ e. e.outcome) events ≡ outcomes (elements old) (map (λ e. e.call) events))
 happens_found old new [] each run = (ap elements run, refl)
 happens_found old new (e ∷ es) each run =
-    let calls : List Change = map (λ event. event.call) es in
     let here = found e.call old run.0 e.outcome (All-head (λ (event : Event). event.outcome ≢ NoMemory) e es each) run.1 in
-    let rest = happens_found run.0 new es (All-tail (λ (event : Event). event.outcome ≢ NoMemory) e es each) run.2 in (
-      rest.0 ∙ ap (λ s. set_after s calls) here.0,
-      ap (λ o. o ∷ map (λ event. event.outcome) es) here.1
-          ∙ ap (λ os. outcome_of e.call (elements old) ∷ os) (rest.1 ∙ ap (λ s. outcomes s calls) here.0),
-    )
+    let rest = happens_found run.0 new es (All-tail (λ (event : Event). event.outcome ≢ NoMemory) e es each) run.2 in
+    (cc, cc)
 
 pub happens_agree : (a b new_a new_b : List Bool) (events others : List Event) → elements a ≡ elements b → map (λ e. e.call) events ≡ map (λ e. e.call) others → All (λ e. e.outcome ≢ NoMemory) events → All (λ e. e.outcome ≢ NoMemory) others → Happens a events new_a → Happens b others new_b → (elements new_a ≡ elements new_b) × (map (λ e. e.outcome) events ≡ map (λ e. e.outcome) others)
 happens_agree a b new_a new_b events others same calls each other run other_run =
     let first = happens_found a new_a events each run in
-    let second = happens_found b new_b others other other_run in (
-      first.0 ∙ ap (λ s. set_after s (map (λ e. e.call) events)) same ∙ ap (set_after (elements b)) calls ∙ sym second.0,
-      first.1 ∙ ap (λ s. outcomes s (map (λ e. e.call) events)) same ∙ ap (outcomes (elements b)) calls ∙ sym second.1,
-    )
+    let second = happens_found b new_b others other other_run in
+    (cc, cc)

@@ -19,8 +19,7 @@ use Rattle.bit_set.specs.Order.{order_of_sets}
 use Rattle.bit_set.specs.Sets.{bound_of, elements, has, put_all}
 use Rattle.bit_set.specs.Walk.{Walk, Advances}
 use Rattle.std.proofs.Math.Bool.{and_comm}
-use Rattle.bit_set.proofs.SetLaws.{has-filter}
-use Rattle.bit_set.proofs.SetLemmas.{IsAscending-elements, same_members}
+use Rattle.bit_set.proofs.SetLemmas.{IsAscending-elements, has-filter, same_members}
 
 module _ {S V E : Type 0} {steps : S → Option ℕ → S → Type 0} {s : S} {all : List ℕ} where
   -- what is made of a chain by `from_iter` is made of all that the chain gives

@@ -12,8 +12,7 @@ use Rattle.bit_set.specs.Sets.{elements_from, elements, has, those_from}
 use Rattle.bit_set.specs.Places.{indexes, values_in, IsSparseWalk}
 use Rattle.bit_set.specs.Walk.{Walk, IsAtStart, IsAtStartFrom}
 use Rattle.bit_set.proofs.PlaceLemmas.{indexes-next, value_in, values_in-blocks_of}
-use Rattle.bit_set.proofs.SetLaws.{AscendsFrom-filter, has-filter}
-use Rattle.bit_set.proofs.SetLemmas.{AscendsFrom-elements_from, AscendsFrom-lower, IsAscending-elements, has-below, has-elements, has-elements_from, same_members}
+use Rattle.bit_set.proofs.SetLemmas.{AscendsFrom-elements_from, AscendsFrom-filter, AscendsFrom-lower, has-filter, IsAscending-elements, has-below, has-elements, has-elements_from, same_members}
 use Rattle.bit_set.proofs.SparseLemmas.{seen, whole_index}
 use Rattle.bit_set.proofs.SplitLemmas.{all_from}
 use Rattle.bit_set.proofs.WalkLemmas.{IsWalkable-values_of_blocks, elements-values_of_blocks, values_of_blocks, length-blocks, length-values_of_blocks}
@@ -181,7 +180,7 @@ begins_from w number is_block values from k block it pos is lawful cut =
 -- from 0 on it is the walk over all
 pub starts_at_all : (w : ℕ) (values : List Bool) (t : Walk) → 0 < w → IsAtStartFrom w values 0 t → IsAtStart w values t
 starts_at_all w values t pos start =
-    let all : those_from (elements values) 0 ≡ elements values = sym (all_from (elements values)) in
+    let all : those_from (elements values) 0 ≡ elements values = sym (all_from values) in
     let zero_index : 0 / w ≡ 0 = ap (λ n. n / w) (let e : 0 ≡ 0 * w = omega arith in e) ∙ whole_index w 0 pos in
     let first : min (0 / w) (blocks_for w (length values) - 1) ≡ 0 = omega (arith, zero_index) in
     record {

@@ -1,5 +1,5 @@
-use Rattle.bit_set.proofs.MemberLemmas.{true_of}
+use Rattle.bit_set.proofs.SetLemmas.{has-elements}
 use Rattle.bit_set.proofs.set.BitSet.from_bit_vec_general.Goals as goal
 
 pub returns-clause-members : goal.returns-clause-members
-returns-clause-members g c = true_of c.args.bit_vec.values
+returns-clause-members g c = has-elements c.args.bit_vec.values

@@ -1,11 +1,12 @@
 use Rattle.std.proofs.Common.{◌≡◌, ◌+◌, ◌-◌, ◌<◌, ◌++◌, length, replicate, Bool, not, true, false, sym, ap, ◌∙◌, refl, arith, length-append, ◌≤◌}
 use Rattle.std.proofs.lemmas.List.{length-replicate, length-set}
-use Rattle.bit_set.proofs.ValueLemmas.{has-grown, has-past, has-read, elements-grown, elements-raised, written_again}
+use Rattle.bit_set.proofs.ValueLemmas.{has-past, has-read, written_again}
+use Rattle.bit_set.proofs.SetLemmas.{elements-padded, elements-set_true}
 use Rattle.bit_words.specs.Bounds.{greatest}
 use Rattle.std.proofs.lemmas.Result.{err_from_is_err_and}
 use Rattle.bit_set.proofs.CallLemmas.{changes_inserted}
 use Rattle.bit_set.proofs.CapacityLemmas.{Grows-changed, Grows-failed, Grows-there}
-use Rattle.bit_set.specs.Sets.{elements}
+use Rattle.bit_set.specs.Sets.{elements, has, put}
 use Rattle.bit_set.proofs.MemberLemmas.{count_put, counted, counted_within, updates_put}
 use Rattle.bit_set.proofs.set.BitSet.insert.Goals as goal
 use Rattle.bit_set.proofs.set.BitSet.insert.Goals.{then-value-len+in_ok-lengthen_past, else-value-len}
@@ -19,7 +20,7 @@ returns-clause-returned g c =
     let values = c.args.self.now.values in
     let value = c.args.value in
     ap not (has-read c.self-2.inside.bits.values value _ c.replace.ensures.was ∙ elim c.if-value-len.branch [
-      | then-value-len+in_ok-lengthen_past w ↦ rw (c.self-2.view_is, w.self-is, w.in_ok-lengthen_past.ensures.values) (has-grown values (value + 1 - length values) value)
+      | then-value-len+in_ok-lengthen_past w ↦ rw (c.self-2.view_is, w.self-is, w.in_ok-lengthen_past.ensures.values) (ap (λ s. has s value) (elements-padded values (value + 1 - length values)))
       | else-value-len w ↦ rw (c.self-2.view_is, w.self-is) refl
     ])
 
@@ -31,10 +32,10 @@ returns-clause-elements g c =
     rw c.replace.ensures.values (elim c.if-value-len.branch [
       | then-value-len+in_ok-lengthen_past w ↦
           let within : value < length (values ++ replicate count false) = simp (length-append, length-replicate) (omega arith) in
-          rw (c.self-2.view_is, w.self-is, w.in_ok-lengthen_past.ensures.values) (elements-grown values count value within)
+          rw (c.self-2.view_is, w.self-is, w.in_ok-lengthen_past.ensures.values) (elements-set_true (values ++ replicate count false) value within ∙ ap (λ s. put s value) (elements-padded values count))
       | else-value-len w ↦
           let same : length c.self.inside.bits.values ≡ length values = ap (λ bits. length bits.values) c.self.view_is in
-          rw (c.self-2.view_is, w.self-is) (elements-raised values value (omega arith))
+          rw (c.self-2.view_is, w.self-is) (elements-set_true values value (omega arith))
     ])
 
 pub returns-clause-changes : goal.returns-clause-changes

@@ -1,7 +1,6 @@
-use Rattle.std.proofs.Common.{length, refl}
+use Rattle.std.proofs.Common.{length, refl, ap}
 use Rattle.bit_set.proofs.ValueLemmas.{elements-all_false}
-use Rattle.bit_set.specs.Sets.{elements}
-use Rattle.bit_set.proofs.MemberLemmas.{members_none}
+use Rattle.bit_set.specs.Sets.{has}
 use Rattle.bit_set.proofs.set.BitSet.make_empty.Goals as goal
 
 pub returns-clause-elements : goal.returns-clause-elements
@@ -11,4 +10,4 @@ pub returns-clause-changes : goal.returns-clause-changes
 returns-clause-changes g c = (returns-clause-elements g c, refl)
 
 pub returns-clause-members : goal.returns-clause-members
-returns-clause-members g c = members_none (elements c.fill.new.self.values) (returns-clause-elements g c)
+returns-clause-members g c m = ap (λ s. has s m) (returns-clause-elements g c)

@@ -1,8 +1,8 @@
 use Rattle.std.proofs.Common.{ℕ, Bool, false, List, sym, ap, ap₂, ◌∙◌, arith}
 use Rattle.bit_words.specs.Bits.{Bits}
 use Rattle.bit_set.specs.Sets.{elements}
-use Rattle.bit_set.proofs.SetLemmas.{IsAscending-elements, without_absent}
-use Rattle.bit_set.proofs.ValueLemmas.{elements-lowered, has-past, has-read, written_again}
+use Rattle.bit_set.proofs.SetLemmas.{IsAscending-elements, elements-set_false, without_absent}
+use Rattle.bit_set.proofs.ValueLemmas.{has-past, has-read, written_again}
 use Rattle.bit_set.specs.Calls.Outcome.{Returned}
 use Rattle.bit_set.proofs.MemberLemmas.{count_without, updates_without}
 use Rattle.bit_set.proofs.set.BitSet.remove.Goals as goal
@@ -19,7 +19,7 @@ pub returns-clause-returned : goal.returns-clause-returned
 returns-clause-returned g c = rw (← c.self.view_is) (has-read c.self.inside.bits.values _ _ c.replace.ensures.was)
 
 pub returns-clause-elements : goal.returns-clause-elements
-returns-clause-elements g c = rw (c.replace.ensures.values, ← c.self.view_is) (elements-lowered c.self.inside.bits.values c.args.value)
+returns-clause-elements g c = rw (c.replace.ensures.values, ← c.self.view_is) (elements-set_false c.self.inside.bits.values c.args.value (omega arith))
 
 pub returns-then-value-len-clause-changes : goal.returns-then-value-len-clause-changes
 returns-then-value-len-clause-changes g c = (returns-then-value-len-clause-elements g c, ap Returned (returns-then-value-len-clause-returned g c))

@@ -1,8 +1,9 @@
 use Rattle.std.proofs.Common.{◌≤◌, length, refl, arith, ap, sym, cond}
+use Rattle.std.proofs.lemmas.Bool.Decides.{nat_tests}
 use Rattle.bit_set.specs.Sets.{elements}
-use Rattle.bit_set.proofs.SplitLemmas.{all_below, all_from, elements-tail, none_below, none_from, length_of_whole}
-use Rattle.bit_set.proofs.ValueLemmas.{elements-take}
 use Rattle.bit_set.proofs.MemberLemmas.{members_below, members_from}
+use Rattle.bit_set.proofs.SplitLemmas.{all_below, all_from, elements-tail, none_below, none_from}
+use Rattle.bit_set.proofs.ValueLemmas.{elements-take}
 use Rattle.std.proofs.lemmas.Bool.{le-ltb}
 use Rattle.std.proofs.lemmas.List.{length-take}
 use Rattle.bit_set.proofs.set.BitSet.split_off.Goals.{After-new_general-then-at-len}
@@ -14,12 +15,12 @@ past g c = rw (← c.self.view_is) (omega arith)
 pub returns-then-at-eq0-clause-elements : goal.returns-then-at-eq0-clause-elements
 returns-then-at-eq0-clause-elements g c =
     let values = c.args.self.now.values in
-    rw (c.if-at-eq0.true, c.replace.ensures.after, c.new_general.ensures.values) (none_below (elements values))
+    rw (c.if-at-eq0.true, c.replace.ensures.after, c.new_general.ensures.values) (none_below values)
 
 pub returns-then-at-eq0-clause-part : goal.returns-then-at-eq0-clause-part
 returns-then-at-eq0-clause-part g c =
     let values = c.args.self.now.values in
-    rw (c.if-at-eq0.true, c.replace.ensures.value) (all_from (elements values))
+    rw (c.if-at-eq0.true, c.replace.ensures.value) (all_from values)
 
 pub returns-then-at-len-clause-elements : goal.returns-then-at-len-clause-elements
 returns-then-at-len-clause-elements g c = all_below c.args.self.now.values c.args.at (past g (goal.at.returns-then-at-len-clause-elements g c).After-new_general-then-at-len)
@@ -43,30 +44,28 @@ pub returns-clause-changes : goal.returns-clause-changes
 returns-clause-changes g c = (returns-clause-elements g c, refl)
 
 pub returns-then-at-len-clause-members : goal.returns-then-at-len-clause-members
-returns-then-at-len-clause-members g c =
-    let s = elements c.args.self.now.values in
-    members_below s s c.args.at (returns-then-at-len-clause-elements g c)
+returns-then-at-len-clause-members g c = members_below (elements c.args.self.now.values) c.args.at (returns-then-at-len-clause-elements g c)
 
 pub returns-then-at-len-clause-part_members : goal.returns-then-at-len-clause-part_members
-returns-then-at-len-clause-part_members g c = members_from (elements c.args.self.now.values) (elements c.new_general-then-at-len.result.values) c.args.at (returns-then-at-len-clause-part g c)
+returns-then-at-len-clause-part_members g c = members_from (elements c.args.self.now.values) c.args.at (returns-then-at-len-clause-part g c)
 
 pub returns-clause-members : goal.returns-clause-members
-returns-clause-members g c = members_below (elements c.args.self.now.values) (elements c.truncate.new.self.values) c.args.at (returns-clause-elements g c)
+returns-clause-members g c = members_below (elements c.args.self.now.values) c.args.at (returns-clause-elements g c)
 
 pub returns-clause-part_members : goal.returns-clause-part_members
-returns-clause-part_members g c = members_from (elements c.args.self.now.values) (elements c.in_ok-bits.bits.values) c.args.at (returns-clause-part g c)
+returns-clause-part_members g c = members_from (elements c.args.self.now.values) c.args.at (returns-clause-part g c)
 
 pub returns-then-at-eq0-clause-members : goal.returns-then-at-eq0-clause-members
-returns-then-at-eq0-clause-members g c = members_below (elements c.args.self.now.values) (elements c.replace.new.dest.values) c.args.at (returns-then-at-eq0-clause-elements g c)
+returns-then-at-eq0-clause-members g c = members_below (elements c.args.self.now.values) c.args.at (returns-then-at-eq0-clause-elements g c)
 
 pub returns-then-at-eq0-clause-part_members : goal.returns-then-at-eq0-clause-part_members
-returns-then-at-eq0-clause-part_members g c = members_from (elements c.args.self.now.values) (elements c.replace.result.values) c.args.at (returns-then-at-eq0-clause-part g c)
+returns-then-at-eq0-clause-part_members g c = members_from (elements c.args.self.now.values) c.args.at (returns-then-at-eq0-clause-part g c)
 
 pub returns-then-at-eq0-clause-length : goal.returns-then-at-eq0-clause-length
 returns-then-at-eq0-clause-length g c = rw (c.replace.ensures.after, c.new_general.ensures.values) (omega (arith, c.if-at-eq0.true))
 
 pub returns-then-at-eq0-clause-part_length : goal.returns-then-at-eq0-clause-part_length
-returns-then-at-eq0-clause-part_length g c = rw c.replace.ensures.value (length_of_whole c.args.at (length c.args.self.now.values) c.if-at-eq0.true)
+returns-then-at-eq0-clause-part_length g c = rw c.replace.ensures.value (grind (arith, nat_tests, c.if-at-eq0.true))
 
 pub returns-then-at-len-clause-length : goal.returns-then-at-len-clause-length
 returns-then-at-len-clause-length g c = omega (arith, past g (goal.at.returns-then-at-len-clause-length g c).After-new_general-then-at-len)

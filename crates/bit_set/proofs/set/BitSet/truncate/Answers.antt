@@ -1,7 +1,7 @@
 use Rattle.std.proofs.Common.{refl}
 use Rattle.bit_set.proofs.ValueLemmas.{elements-take}
-use Rattle.bit_set.specs.Sets.{elements}
 use Rattle.bit_set.proofs.MemberLemmas.{members_below}
+use Rattle.bit_set.specs.Sets.{elements}
 use Rattle.bit_set.proofs.set.BitSet.truncate.Goals as goal
 
 pub returns-clause-elements : goal.returns-clause-elements
@@ -11,4 +11,4 @@ pub returns-clause-changes : goal.returns-clause-changes
 returns-clause-changes g c = (returns-clause-elements g c, refl)
 
 pub returns-clause-members : goal.returns-clause-members
-returns-clause-members g c = members_below (elements c.args.self.now.values) (elements c.truncate.new.self.values) c.args.len (returns-clause-elements g c)
+returns-clause-members g c = members_below (elements c.args.self.now.values) c.args.len (returns-clause-elements g c)

@@ -1,8 +1,7 @@
-use Rattle.std.proofs.Common.{false}
+use Rattle.std.proofs.Common.{false, ap}
 use Rattle.std.proofs.lemmas.List.{length-replicate}
 use Rattle.bit_set.proofs.ValueLemmas.{elements-all_false}
-use Rattle.bit_set.specs.Sets.{elements}
-use Rattle.bit_set.proofs.MemberLemmas.{members_none}
+use Rattle.bit_set.specs.Sets.{has}
 use Rattle.bit_set.proofs.set.BitSet.with_capacity_general.Goals as goal
 
 pub returns-clause-elements : goal.returns-clause-elements
@@ -12,4 +11,4 @@ pub returns-clause-length : goal.returns-clause-length
 returns-clause-length g c = rw c.in_ok-bits.ensures.values (length-replicate c.args.len false)
 
 pub returns-clause-members : goal.returns-clause-members
-returns-clause-members g c = members_none (elements c.in_ok-bits.bits.values) (returns-clause-elements g c)
+returns-clause-members g c m = ap (λ s. has s m) (returns-clause-elements g c)
