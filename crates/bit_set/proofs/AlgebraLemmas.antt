@@ -9,7 +9,7 @@ use Rattle.bit_words.proofs.MergeLemmas.{get_or-merged, length-merged}
 use Rattle.bit_words.specs.declared.block.merge.Merge.{Merge}
 use Rattle.bit_words.specs.declared.block.merge.Merge.TheVariants.{Union, Intersection, Difference, Symmetric}
 use Rattle.bit_set.specs.Sets.{IsAscending, has, elements, union, intersection, difference, symmetric_difference, merge_of_sets}
-use Rattle.bit_set.proofs.SetLemmas.{AscendsFrom-filter, has-elements, has-filter, IsAscending-elements, elements-by_members, elements-padded}
+use Rattle.bit_set.proofs.SetLemmas.{AscendsFrom-filter, has-elements, has-filter, IsAscending-elements, elements-by_members, elements-padded, AscendsFrom-put}
 use Rattle.bit_set.proofs.SetLaws.{has-put_all, IsAscending-put_all, contains-has, finite, finite-put_all, same_finite}
 
 pub has-union : (s t : List ℕ) (n : ℕ) → has (union s t) n ≡ (has s n || has t n)
@@ -63,3 +63,12 @@ finite-difference s t =
 -- what is in just one of two sets: what the first has alone, and what the second has alone
 pub finite-symmetric : (s t : List ℕ) → finite (symmetric_difference s t) ≡ set.union (set.difference (finite s) (finite t)) (set.difference (finite t) (finite s))
 finite-symmetric s t = let both = finite-put_all (difference s t) (difference t s) in cc (finite-difference s t, finite-difference t s)
+
+-- the laws of `src/laws.rt` by these
+pub ruleset sets_ascend = (AscendsFrom-put, AscendsFrom-filter, IsAscending-put_all, IsAscending-merge_of_sets, IsAscending-elements)
+
+pub ruleset members_of_merged_sets = (has-union, has-intersection, has-difference, has-symmetric, has-merge_of_sets)
+
+pub ruleset merged_sets_are_finite_sets = (finite-put_all, finite-intersection, finite-difference, finite-symmetric)
+
+pub ruleset merged_lists_keep_merged_sets = (elements-merged, length-merged)

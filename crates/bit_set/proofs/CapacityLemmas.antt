@@ -3,7 +3,7 @@ use Rattle.std.proofs.Common.{◌≡◌, ℕ, ◌+◌, ◌-◌, ◌*◌, ◌^◌
 use Rattle.std.proofs.lemmas.List.Elements.{All-nil, All-cons, All-head, All-tail}
 use Rattle.std.proofs.lemmas.Bool.Decides.{nat_tests}
 use Rattle.bit_words.specs.Bits.{Bits, blocks_for, capacity_of, true_end, whole_blocks}
-use Rattle.bit_words.proofs.BitsLemmas.{blocks_for-le, blocks_for-least}
+use Rattle.bit_words.proofs.BitsLemmas.{blocks_for-le, blocks_for-least, blocks_for-enough}
 use Rattle.bit_words.proofs.CapacityLemmas.{whole_blocks-fits, whole_blocks-past}
 use Rattle.bit_words.specs.Growth.{Grows}
 use Rattle.bit_set.specs.Sets.{elements, elements_from, bound_of}
@@ -73,3 +73,6 @@ runs-within capacity old new (call ∷ calls) enough each run =
     let here = run.1 (omega (arith, needed)) in
     let rest = runs-within capacity run.0 new calls (omega (arith, here.1)) (All-tail (λ (c : ℕ × Bool). c.0 ≤ capacity) call calls each) run.2 in
     (All-cons (λ (c : ℕ × Bool). IsTrue c.1) call calls here.0 rest.0, rest.1 ∙ here.1)
+
+-- the laws of `src/laws.rt` by these
+pub ruleset shrunk_lengths = (true_end-bound, blocks_for-enough, blocks_for-least)

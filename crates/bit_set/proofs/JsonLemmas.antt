@@ -162,9 +162,6 @@ pub fault_of_first : (w : ℕ) (d : Data) (fault : JsonError) → IsFirstFault w
 fault_of_first w d (Memory refused) h = absurd h
 fault_of_first w d fault h = h
 
-pub one_reading : (w : ℕ) (d : Data) (ms ns : List ℕ) (m n : ℕ) → Spells w d ms m → Spells w d ns n → (ms ≡ ns) × (m ≡ n)
-one_reading w d ms ns m n one other = same_numbers w d ms ns m n one.numbers other.numbers
-
 -- the blocks of a list of truth values and its length fix it
 pub values_from_blocks : (w : ℕ) (a b : List Bool) → 0 < w → blocks_of w a ≡ blocks_of w b → length a ≡ length b → a ≡ b
 values_from_blocks w a b pos same long =
@@ -173,7 +170,7 @@ values_from_blocks w a b pos same long =
 
 pub one_list : (w : ℕ) (d : Data) (a b : List Bool) → 0 < w → Spells w d (blocks_of w a) (length a) → Spells w d (blocks_of w b) (length b) → a ≡ b
 one_list w d a b pos one other =
-    let same = one_reading w d (blocks_of w a) (blocks_of w b) (length a) (length b) one other in
+    let same = same_numbers w d (blocks_of w a) (blocks_of w b) (length a) (length b) one.numbers other.numbers in
     values_from_blocks w a b pos same.0 same.1
 
 -- ---- what is written spells what it was written of
@@ -200,3 +197,6 @@ written_spells w d vs ms values n same long are form = record {
   count = length-blocks_of w values;
   zero_tail = blocks_of_zero_tail w values;
 }
+
+-- the laws of `src/laws.rt` by these
+pub ruleset values_have_one_reading = (same_numbers, one_list, spelt_has_no_fault, one_fault)

@@ -9,10 +9,11 @@ use Rattle.bit_words.specs.Bounds.{greatest}
 use Rattle.bit_set.specs.Members.{HasNone, IsCounted, IsDisjoint, IsMerged, IsSameSet, IsSubset, IsUnion, KeepsBelow, KeepsFrom, TakesLeast, Updates}
 use Rattle.bit_set.specs.Order.{same_sets}
 use Rattle.bit_set.specs.Sets.{AscendsFrom, IsAscending, elements, has, is_disjoint, is_subset, merge_of_sets, put, put_all, those_below, those_from, without}
+use Rattle.bit_set.proofs.ValueLemmas.{has-slice_get, has-within}
 use Rattle.bit_set.proofs.AlgebraLemmas.{has-merge_of_sets, has-union}
-use Rattle.bit_set.proofs.SetLemmas.{AscendsFrom-lower, IsAscending-elements, has-filter, has-put, has-without, length-elements-le, same_members}
+use Rattle.bit_set.proofs.SetLemmas.{has-elements, length-elements, AscendsFrom-lower, IsAscending-elements, has-filter, has-put, has-without, length-elements-le, same_members}
 use Rattle.bit_set.proofs.SizeLemmas.{length-put, length-without, least-first, without-first}
-use Rattle.bit_set.proofs.SubsetLemmas.{is_disjoint-members, is_subset-members}
+use Rattle.bit_set.proofs.SubsetLemmas.{is_disjoint-members, is_subset-members, is_subset-no_difference, is_disjoint-no_intersection, is_subset-both_ways, is_subset-finite, each_passes, all_pass}
 
 -- ---- one number
 
@@ -89,3 +90,11 @@ counted values fits = record { few = length-elements-le 0 values; fits = fits }
 
 pub counted_within : (bits : Bits) → IsWithinCapacity bits → IsCounted bits.values
 counted_within bits within = counted bits.values (omega (arith, within.holds_values, within.fits))
+
+-- the laws of `src/laws.rt` by these
+pub ruleset sets_in_one_another = (is_subset-members, is_disjoint-members, is_subset-no_difference, is_disjoint-no_intersection, is_subset-both_ways, is_subset-finite)
+
+pub ruleset tests_of_members = (each_passes, all_pass, tells_same)
+
+-- what calls read of a set by these
+pub ruleset reads = (has-elements, has-slice_get, has-within, length-elements, counted_within)

@@ -8,7 +8,7 @@ use Rattle.std.specs.Cmp.{nat_cmp_total, unsigned_tied, nat_eq_equiv}
 use Rattle.std.specs.Ordering.{nat_cmp, eq_by_cmp, is_eq}
 use Rattle.std.specs.FinSet as set
 use Rattle.bit_set.specs.Sets.{AscendsFrom, IsAscending, has, put, without, elements, put_all, bound_of}
-use Rattle.bit_set.proofs.SetLemmas.{AscendsFrom-put, has-below, has-put, has-filter, has-without, has-elements}
+use Rattle.bit_set.proofs.SetLemmas.{AscendsFrom-put, has-below, has-put, has-filter, has-without, has-elements, same_members}
 
 pub has-put_all : (s items : List ℕ) (m : ℕ) → has (put_all s items) m ≡ (has items m || has s m)
 has-put_all s [] m = refl
@@ -77,3 +77,10 @@ len-finite low (x ∷ xs) h =
     let new = contains-has xs x ∙ has-below (x + 1) xs x h.1 (omega arith) in
     let rest = len-finite (x + 1) xs h.1 in
     grind arith
+
+-- the laws of `src/laws.rt` by these
+pub ruleset members_of_sets = (has-put, has-without, has-filter, has-put_all, slice_get-elements)
+
+pub ruleset sets_are_their_members = (same_members, same_values, bound_of-above, bound_of-least)
+
+pub ruleset sets_are_finite_sets = (contains-has, finite-put, finite-without, finite-filter, len-finite)

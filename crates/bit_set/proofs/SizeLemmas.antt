@@ -2,7 +2,7 @@
 use Rattle.std.proofs.Common.{◌≡◌, ℕ, ◌+◌, ◌≤◌, Bool, not, ◌&&◌, cond, List, [], ◌∷◌, ◌++◌, length, refl, arith, IsTrue}
 use Rattle.std.proofs.lemmas.Bool.Decides.{nat_tests}
 use Rattle.bit_set.specs.Sets.{AscendsFrom, IsAscending, has, put, without, put_all, those_new}
-use Rattle.bit_set.proofs.SetLemmas.{AscendsFrom-lower, AscendsFrom-put, has-below, has-put, without_absent}
+use Rattle.bit_set.proofs.SetLemmas.{AscendsFrom-lower, AscendsFrom-put, has-below, has-put, without_absent, length-elements-le}
 
 -- ---- how many there are
 
@@ -54,3 +54,8 @@ least-first x xs n up is = let below = has-below x (x ∷ xs) n (omega arith, up
 -- and without it the others are left
 pub without-first : (x : ℕ) (xs : List ℕ) → IsAscending (x ∷ xs) → without (x ∷ xs) x ≡ xs
 without-first x xs up = let rest = without_absent xs x (AscendsFrom-lower (x + 1) 0 xs (omega arith) up.1) (has-below (x + 1) xs x up.1 (omega arith)) in grind (arith, nat_tests)
+
+-- the laws of `src/laws.rt` by these
+pub ruleset sizes_of_sets = (length-put, length-without, length-put_all, has-those_new, length-those_new, length-elements-le)
+
+pub ruleset items_in_two_parts = (put_all-append, those_new-append)

@@ -1,10 +1,10 @@
 -- What tests and choices among the members of a set say of the members.
-use Rattle.std.proofs.Common.{◌≡◌, ℕ, ◌+◌, ◌-◌, ◌<◌, ◌≤◌, ◌==◌, ◌&&◌, ◌||◌, ◌⊎◌, max, min, Bool, false, nat_le, List, [], ◌∷◌, map, filter, length, Option, Some, None, IsTrue, MatchOption, refl, arith}
+use Rattle.std.proofs.Common.{◌≡◌, ℕ, ◌+◌, ◌-◌, ◌<◌, ◌≤◌, ◌==◌, ◌&&◌, max, min, Bool, false, nat_le, List, [], ◌∷◌, map, length, Option, Some, None, IsTrue, MatchOption, refl, arith}
 use Rattle.std.specs.List.{find, fold, last_or, list_any, position_or_len, reduce}
 use Rattle.std.proofs.lemmas.Bool.Decides.{nat_tests}
 use Rattle.bit_set.specs.Choices.{IsGreatest, IsLeast, IsLeastPassing}
-use Rattle.bit_set.specs.Members.{HasNone, TakesLeast}
-use Rattle.bit_set.specs.Sets.{AscendsFrom, IsAscending, has, put_all, those_below}
+use Rattle.bit_set.specs.Members.{HasNone}
+use Rattle.bit_set.specs.Sets.{AscendsFrom, IsAscending, has, those_below}
 use Rattle.bit_set.proofs.SetLemmas.{has-below, has-filter}
 use Rattle.bit_set.proofs.SetLaws.{has-put_all}
 
@@ -82,15 +82,8 @@ pub last_is_greatest : (s : List ℕ) → IsAscending s → last_or None s ≡ r
 last_is_greatest [] up = refl
 last_is_greatest (y ∷ ys) up = last_from y ys up.1
 
--- ---- members that were put in
+-- ---- what a function gives of some member
 
-pub has-put_items : (items : List ℕ) (x : ℕ) → has (put_all [] items) x ≡ has items x
-has-put_items items x = let all = has-put_all [] items x in grind arith
-
-pub has-filtered : (p : ℕ → Bool) (s : List ℕ) (x : ℕ) → has (filter p s) x ≡ (has s x && p x)
-has-filtered p s x = let kept = has-filter p s x in grind arith
-
--- what f gives of some member
 pub mapped_member : (f : ℕ → ℕ) (s : List ℕ) (x : ℕ) → IsTrue (has (map f s) x) → (m : ℕ) × IsTrue (has s m) × (f m ≡ x)
 mapped_member f [] x is = grind arith
 mapped_member f (y ∷ ys) x is = let rest = mapped_member f ys x in grind (arith, nat_tests)
@@ -103,16 +96,9 @@ pub has-raised : (s : List ℕ) (by x : ℕ) → has (map (λ m. m + by) s) x �
 has-raised [] by x = grind arith
 has-raised (y ∷ ys) by x = let rest = has-raised ys by x in grind (arith, nat_tests)
 
--- ---- the least taken out
+-- the laws of `src/laws.rt` by these
+pub ruleset searches_of_members = (any_passes, any_from_one, finds, places)
 
-pub before_step : (s t : List ℕ) (x y : ℕ) → TakesLeast s x t → IsTrue (has t y) → IsTrue (has s y)
-before_step s t x y taken there = let other = taken.others y in grind (arith, nat_tests)
+pub ruleset ends_of_sets = (greatest_of, least_of, last_is_greatest)
 
-pub above_step : (s t : List ℕ) (x y : ℕ) → TakesLeast s x t → IsTrue (has t y) → x < y
-above_step s t x y taken there = let other = taken.others y in let most = taken.least y in grind (arith, nat_tests)
-
-pub after_step : (s t : List ℕ) (x y : ℕ) → TakesLeast s x t → IsTrue (has s y) → (x ≡ y) ⊎ IsTrue (has t y)
-after_step s t x y taken there = let other = taken.others y in grind (arith, nat_tests)
-
-pub below_step : (s t : List ℕ) (x y : ℕ) → TakesLeast s x t → y < x → has s y ≡ false
-below_step s t x y taken less = let most = taken.least y in grind (arith, nat_tests)
+pub ruleset members_of_chains = (has-filter, has-put_all, mapped_member, has-mapped, has-raised)

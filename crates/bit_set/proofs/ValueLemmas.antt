@@ -39,3 +39,6 @@ empty_where_all_false bs = (
 -- a value that is written again changes nothing
 pub written_again : (bs : List Bool) (i : ℕ) (b : Bool) → slice_get bs i ≡ Some b → set bs i b ≡ bs
 written_again bs i b is = ap (set bs i) (sym (get_or_from_slice_get bs i b false is)) ∙ set-get_or bs i false
+
+-- the laws of `src/laws.rt` by these
+pub ruleset members_are_below_lengths = (has-within, has-past)

@@ -30,6 +30,7 @@ use std::fmt::Display;
 use std::hash::Hash;
 
 /// What each operation does to the members of a set.
+#[tactic(auto, using(crate::proofs::SetLaws::members_of_sets))]
 pub fn members_of_sets()
     ensures put { (s : List ℕ) (n m : ℕ) → has (put s n) m ≡ (n == m || has s m) }
     ensures without { (s : List ℕ) (n m : ℕ) → has (without s n) m ≡ (not (n == m) && has s m) }
@@ -43,6 +44,7 @@ pub fn members_of_sets()
 /// How many members each operation leaves, of a set whose list ascends. Of items that are put in one by
 /// one, `those_new` lists those that are new: they are what is in some item and not in the set. The
 /// elements of a list of truth values are no more than it is long.
+#[tactic(auto, using(crate::proofs::SizeLemmas::sizes_of_sets))]
 pub fn sizes_of_sets()
     ensures put { (s : List ℕ) (n : ℕ) → IsAscending s
         → length (put s n) ≡ length s + (if has s n then 0 else 1) }
@@ -56,6 +58,7 @@ pub fn sizes_of_sets()
 {}
 
 /// Items that are put in one by one, in two parts: first those of one list, then those of the other.
+#[tactic(auto, using(crate::proofs::SizeLemmas::items_in_two_parts))]
 pub fn items_in_two_parts()
     ensures put_all { (s xs ys : List ℕ) → put_all s (xs ++ ys) ≡ put_all (put_all s xs) ys }
     ensures those_new { (s xs ys : List ℕ) → those_new s (xs ++ ys) ≡ those_new s xs ++ those_new (put_all s xs) ys }
@@ -69,6 +72,7 @@ pub fn first_of_a_set()
 
 /// What each operation gives is strictly ascending. A test says what `without`, `those_below`, `intersection` and
 /// `difference` keep, and `union` puts all in.
+#[tactic(auto, using(crate::proofs::AlgebraLemmas::sets_ascend))]
 pub fn sets_ascend()
     ensures put { (s : List ℕ) (n : ℕ) → IsAscending s → IsAscending (put s n) }
     ensures filter { (test : ℕ → Bool) (s : List ℕ) → IsAscending s → IsAscending (filter test s) }
@@ -80,6 +84,7 @@ pub fn sets_ascend()
 
 /// What fixes a set: its members. What fixes a list of truth values: the set that it keeps and its
 /// length. `bound_of` is the least number above all of some numbers.
+#[tactic(auto, using(crate::proofs::SetLaws::sets_are_their_members))]
 pub fn sets_are_their_members()
     ensures set { (s t : List ℕ) → IsAscending s → IsAscending t → ((n : ℕ) → has s n ≡ has t n) → s ≡ t }
     ensures values { (a b : List Bool) → elements a ≡ elements b → length a ≡ length b → a ≡ b }
@@ -90,6 +95,7 @@ pub fn sets_are_their_members()
 
 /// The operations are those of finite sets. `those_below` and `those_from` are each what a test keeps;
 /// `put_all` is `union`, of which `merged_sets_are_finite_sets` says the same.
+#[tactic(auto, using(crate::proofs::SetLaws::sets_are_finite_sets))]
 pub fn sets_are_finite_sets()
     ensures contains { (s : List ℕ) (n : ℕ) → set.contains (set.from_list {R = nat_cmp} s) n ≡ has s n }
     ensures insert { (s : List ℕ) (n : ℕ) → set.from_list {R = nat_cmp} (put s n) ≡ set.insert (set.from_list s) n }
@@ -100,6 +106,7 @@ pub fn sets_are_finite_sets()
 {}
 
 /// The members of what two sets become.
+#[tactic(auto, using(crate::proofs::AlgebraLemmas::members_of_merged_sets))]
 pub fn members_of_merged_sets()
     ensures union { (s t : List ℕ) (n : ℕ) → has (union s t) n ≡ (has s n || has t n) }
     ensures intersection { (s t : List ℕ) (n : ℕ) → has (intersection s t) n ≡ (has s n && has t n) }
@@ -112,6 +119,7 @@ pub fn members_of_merged_sets()
 
 /// What two sets become is what two finite sets become. What is in just one of them is what the first
 /// has alone, and what the second has alone.
+#[tactic(auto, using(crate::proofs::AlgebraLemmas::merged_sets_are_finite_sets))]
 pub fn merged_sets_are_finite_sets()
     ensures union { (s t : List ℕ) → set.from_list {R = nat_cmp} (union s t)
         ≡ set.union (set.from_list s) (set.from_list t) }
@@ -126,6 +134,7 @@ pub fn merged_sets_are_finite_sets()
 
 /// Where two lists of truth values become one value by value, the shorter one going on with false, the
 /// sets that they keep become one.
+#[tactic(auto, using(crate::proofs::AlgebraLemmas::merged_lists_keep_merged_sets))]
 pub fn merged_lists_keep_merged_sets()
     ensures merged { (merge : Merge) (a b : List Bool)
         → elements (merge_of merge a b) ≡ merge_of_sets merge (elements a) (elements b) }
@@ -133,6 +142,7 @@ pub fn merged_lists_keep_merged_sets()
 {}
 
 /// When a set is in another, and when two have nothing in common.
+#[tactic(auto, using(crate::proofs::MemberLemmas::sets_in_one_another))]
 pub fn sets_in_one_another()
     ensures subset { (s t : List ℕ) → IsTrue (is_subset s t) ↔ ((n : ℕ) → IsTrue (has s n) → IsTrue (has t n)) }
     ensures disjoint { (s t : List ℕ) → IsTrue (is_disjoint s t) ↔ ((n : ℕ) → IsTrue (has s n) → IsTrue (has t n) → ⊥) }
@@ -148,6 +158,7 @@ pub fn sets_in_one_another()
 /// first is below each of the second, so that they have nothing in common, and together they are the set. So `append`
 /// of the part that was returned leaves the list of truth values as it was before: the old elements, and the old
 /// length.
+#[tactic(auto, using(crate::proofs::SplitLemmas::joined, crate::proofs::SplitLemmas::apart, crate::proofs::SplitLemmas::rejoined))]
 pub fn parted_sets()
     ensures joined { (s : List ℕ) (at : ℕ) → IsAscending s → union (those_below s at) (those_from s at) ≡ s }
     ensures below { (s : List ℕ) (at m n : ℕ) → IsTrue (has (those_below s at) m) → IsTrue (has (those_from s at) n)
@@ -286,6 +297,7 @@ pub fn runs_within_capacity()
 
 /// How long a shrunk set is. A list of truth values is true up to the bound of its elements, and as many
 /// blocks of `w` as `blocks_for` says are enough for `n` values, and fewer are not.
+#[tactic(auto, using(crate::proofs::CapacityLemmas::shrunk_lengths))]
 pub fn shrunk_lengths()
     ensures ends { (values : List Bool) → true_end values ≡ bound_of (elements values) }
     ensures enough { (w n : ℕ) → 0 < w → n ≤ blocks_for w n * w }
@@ -295,6 +307,7 @@ pub fn shrunk_lengths()
 /// What a value spells in JSON, in blocks of `w` bits. It has one reading: the blocks, the length, and so
 /// the list of truth values and its elements. What is written of a set and read again is that set. Where
 /// a value spells a set it has no fault, and else one at most is the first.
+#[tactic(auto, using(crate::proofs::JsonLemmas::values_have_one_reading))]
 pub fn values_have_one_reading()
     ensures reading { (w : ℕ) (value : Data) (ms ns : List ℕ) (m n : ℕ) → Spells w value ms m → Spells w value ns n
         → (ms ≡ ns) × (m ≡ n) }
@@ -311,6 +324,7 @@ pub fn values_have_one_reading()
 /// elements, over any two block types, have the same elements after the same calls, which return the same.
 /// The clause `changes` of each call says what it does; `extend` is given the items that went in, those of
 /// its `TakesIn`.
+#[tactic(auto, using(crate::proofs::CallLemmas::happens_found, crate::proofs::CallLemmas::happens_agree))]
 pub fn calls_are_set_algebra()
     ensures elements { (old new : List Bool) (events : List Event) → All (λ e. e.outcome ≢ NoMemory) events
         → Happens old events new → elements new ≡ set_after (elements old) (map (λ e. e.call) events) }
@@ -394,6 +408,7 @@ pub fn full_walks<B: BitBlock + 'static>()
 
 /// What tests of all members say of the members: a test that each passes, and `==`, whose word in std's contracts is
 /// `same_sets`.
+#[tactic(auto, using(crate::proofs::MemberLemmas::tests_of_members))]
 pub fn tests_of_members()
     ensures all { (p : ℕ → Bool) (s : List ℕ) → IsTrue (list_all p s)
         ↔ ((x : ℕ) → IsTrue (has s x) → IsTrue (p x)) }
@@ -403,6 +418,7 @@ pub fn tests_of_members()
 
 /// What searches say of the members: whether one passes a test, and of a list that ascends the least that does, and
 /// how many are below it.
+#[tactic(auto, using(crate::proofs::TestLemmas::searches_of_members))]
 pub fn searches_of_members()
     ensures any { (p : ℕ → Bool) (s : List ℕ) → IsTrue (list_any p s)
         ↔ ((x : ℕ) × IsTrue (has s x) × IsTrue (p x)) }
@@ -413,6 +429,7 @@ pub fn searches_of_members()
 {}
 
 /// The greatest and the least member, as `max`, `min` and `last` of a walk return them.
+#[tactic(auto, using(crate::proofs::TestLemmas::ends_of_sets))]
 pub fn ends_of_sets()
     ensures greatest { (s : List ℕ) → MatchOption (reduce max s) (HasNone s) (IsGreatest s) }
     ensures least { (s : List ℕ) → MatchOption (reduce min s) (HasNone s) (IsLeast s) }
@@ -421,6 +438,7 @@ pub fn ends_of_sets()
 
 /// The members of what a chain makes of a set: those that pass a test, and what a function gives of each. `put` says
 /// the same of what is put into the empty set.
+#[tactic(auto, using(crate::proofs::TestLemmas::members_of_chains))]
 pub fn members_of_chains()
     ensures filtered { (p : ℕ → Bool) (s : List ℕ) (x : ℕ) → has (filter p s) x ≡ (has s x && p x) }
     ensures mapped { (f : ℕ → ℕ) (s : List ℕ) (x : ℕ) → IsTrue (has (map f s) x)
@@ -430,6 +448,7 @@ pub fn members_of_chains()
 {}
 
 /// A member is below the length.
+#[tactic(auto, using(crate::proofs::ValueLemmas::members_are_below_lengths))]
 pub fn members_are_below_lengths()
     ensures within { (values : List Bool) (x : ℕ) → IsTrue (has (elements values) x) → x < length values }
     ensures past { (values : List Bool) (x : ℕ) → length values ≤ x → has (elements values) x ≡ false }
@@ -437,6 +456,7 @@ pub fn members_are_below_lengths()
 
 /// What a step of a walk does to the members that are left, by the clause `first` of `Advances`: x is the item, and s
 /// and t are what was left before it and after it.
+#[tactic(auto, using(std::proofs::lemmas::Bool::Decides::nat_tests))]
 pub fn steps_of_walks()
     ensures before { (s t : List ℕ) (x y : ℕ) → TakesLeast s x t → IsTrue (has t y) → IsTrue (has s y) }
     ensures after { (s t : List ℕ) (x y : ℕ) → TakesLeast s x t → IsTrue (has s y) → (x ≡ y) ⊎ IsTrue (has t y) }

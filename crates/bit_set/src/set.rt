@@ -44,6 +44,7 @@ impl<B: BitBlock> Model for BitSet<B> {
 
 impl<B: BitBlock> BitSet<B> {
     /// Whether `value` is an element. Constant time.
+    #[tactic(auto, using(crate::proofs::MemberLemmas::reads))]
     #[inline]
     pub fn contains(&self, value: usize) -> bool
         ensures value { result ≡ has (elements self.now.values) value }
@@ -55,6 +56,7 @@ impl<B: BitBlock> BitSet<B> {
 
     /// How many elements there are. Adds up the ones of each block, and passes over as many blocks as a
     /// block has bits at once where they are all zero.
+    #[tactic(auto, using(crate::proofs::MemberLemmas::reads))]
     #[inline]
     pub fn count(&self) -> usize
         ensures value { result ≡ length (elements self.now.values) }

@@ -41,6 +41,7 @@ impl<B: BitBlock> BitSet<B> {
     }
 
     /// The set that the bit vector keeps: the indexes at which it is true. Constant time.
+    #[tactic(auto, using(crate::proofs::MemberLemmas::reads))]
     #[inline]
     pub fn from_bit_vec_general(bit_vec: BitVec<B>) -> Self
         ensures value { result ≡ bit_vec }
