@@ -1,10 +1,10 @@
 -- Lemmas on bits that are filled block by block, and on the last of some blocks.
-use Rattle.std.proofs.Common.{◌≡◌, ◌≢◌, ◌==◌, ◌||◌, ℕ, ◌+◌, ◌-◌, ◌*◌, ◌/◌, ◌%◌, ◌^◌, ◌<◌, Bool, true, false, List, length, get_or, set, take, replicate, All, refl, sym, ap, ◌∙◌, ⊎_elim, pow_pos, length-take, length-set, get_or-take, get_or-set_same, get_or-set_other, arith}
-use Rattle.std.proofs.Math.Bool.{or-false}
+use Rattle.std.proofs.Common.{◌≡◌, ◌≢◌, ◌==◌, ◌||◌, [], ℕ, ◌+◌, ◌-◌, ◌*◌, ◌/◌, ◌%◌, ◌^◌, ◌<◌, Bool, true, false, List, length, get_or, set, take, replicate, All, refl, sym, ap, ◌∙◌, ⊎_elim, pow_pos, length-take, length-set, get_or-take, get_or-set_same, get_or-set_other, arith}
 use Rattle.std.specs.Int.{bit_at}
-use Rattle.std.proofs.lemmas.Bool.{eqb-true, eq-eqb, or_right, cases_lt, cases_eq}
-use Rattle.std.proofs.lemmas.List.{get_or_past, get_or-replicate, length-replicate}
-use Rattle.std.proofs.lemmas.List.Elements.{All-get_or}
+use Rattle.std.proofs.lemmas.Bool.{cases_eq}
+use Rattle.std.proofs.lemmas.Bool.Decides.{nat_tests}
+use Rattle.std.proofs.lemmas.Nat.Bits.{bit_at-zero}
+use Rattle.std.proofs.lemmas.List.{get_or_past}
 use Rattle.std.proofs.lemmas.Nat.{div-mul-add}
 use Rattle.std.proofs.Math.Nat.{div-add-mod', mod-lt}
 use Rattle.bit_words.specs.Bits.{blocks_for, blocks_of, digit_of}
@@ -14,68 +14,46 @@ use Rattle.bit_words.specs.Storage.{value_at, IsZeroFrom}
 use Rattle.bit_words.proofs.BitsLemmas.{blocks_of-digit, whole_before}
 use Rattle.bit_words.proofs.Masks.{is_one-zero}
 use Rattle.bit_words.proofs.StorageLemmas.{blocks-values_of, value_at-is, value_at-past, value_at-index, values_of-same}
+use Rattle.bit_set.proofs.SetLemmas.{get_or_padded}
 use Rattle.bit_set.specs.Json.{HasZeroTail}
 use Rattle.bit_set.specs.Entries.{IsPartlyPut}
 
 -- ---- one block
 
 pub put_nothing : (w index m : ℕ) (values : List Bool) → ((j : ℕ) → j < w → get_or values (index + j) false ≡ false) → IsPartlyPut w index m m values values
-put_nothing w index m values falses = record {
-  values = λ j within. ap (λ b. b || is_one m j) (falses j within);
-  others = λ i apart. refl;
-  long = refl;
-}
-
-or_none : (b c : Bool) → c ≡ false → b ≡ (b || c)
-or_none b c h = sym (ap (λ d. b || d) h ∙ or-false b)
+put_nothing w index m values falses = grind arith
 
 -- where no digit is left, the whole block is put
 pub put_all : (w index whole left : ℕ) (old new : List Bool) → IsPartlyPut w index whole left old new → left ≡ 0 → (j : ℕ) → j < w → get_or new (index + j) false ≡ is_one whole j
-put_all w index whole left old new put none j within = or_none (get_or new (index + j) false) (is_one left j) (ap (λ m. is_one m j) none ∙ is_one-zero j) ∙ put.values j within
+put_all w index whole left old new put none j within = let value = put.values j within in let zero = bit_at-zero j in grind (arith, nat_tests)
 
 -- the lowest digit that is left is one of the whole block
 pub lowest_is_one : (w index whole left i : ℕ) (old new : List Bool) → IsPartlyPut w index whole left old new → IsLowest left i → i < w → bit_at whole i ≡ 1
-lowest_is_one w index whole left i old new put low within =
-    let one : is_one left i ≡ true = eq-eqb (bit_at left i) 1 low.one in
-    eqb-true (bit_at whole i) 1 (sym (put.values i within) ∙ or_right (get_or new (index + i) false) (is_one left i) one)
+lowest_is_one w index whole left i old new put low within = let value = put.values i within in let one = low.one in grind (arith, nat_tests)
 
 pub put_lowest : (w index whole left rest i : ℕ) (old new : List Bool) → IsPartlyPut w index whole left old new → IsLowest left i → i < w → IsCleared w left i rest → index + i < length new
     → IsPartlyPut w index whole rest old (set new (index + i) true)
-put_lowest w index whole left rest i old new put low within cleared inside =
-    let one : is_one left i ≡ true = eq-eqb (bit_at left i) 1 low.one in
-    record {
-      values = λ j below.
-          ⊎_elim
-          (λ here.
-          ap (λ x. get_or (set new (index + i) true) (index + x) false || is_one rest x) here
-          ∙ ap (λ b. b || is_one rest i) (get_or-set_same new (index + i) true false inside)
-          ∙ sym (or_right (get_or new (index + i) false) (is_one left i) one)
-          ∙ put.values i within
-          ∙ ap (is_one whole) (sym here))
-          (λ apart.
-          let other : index + j ≢ index + i = λ e. apart (omega (arith, e)) in
-          ap (λ b. b || is_one rest j) (get_or-set_other new (index + i) (index + j) true false other)
-          ∙ ap (λ d. get_or new (index + j) false || (d == 1)) (cleared.kept j below apart)
-          ∙ put.values j below)
-          (cases_eq j i);
-      others = λ k apart. get_or-set_other new (index + i) k true false (apart i within) ∙ put.others k apart;
-      long = length-set new (index + i) true ∙ put.long;
-    }
+put_lowest w index whole left rest i old new put low within cleared inside = record {
+  values = λ j below.
+      let value = put.values j below in
+      let kept = cleared.kept j below in
+      let one = low.one in
+      let here = get_or-set_same new (index + i) true false inside in
+      let apart = get_or-set_other new (index + i) (index + j) true false in
+      grind (arith, nat_tests);
+  others = λ k apart. get_or-set_other new (index + i) k true false (apart i within) ∙ put.others k apart;
+  long = length-set new (index + i) true ∙ put.long;
+}
 
 -- ---- block by block
 
 -- there are just the values of the first k blocks
 pub filled_none : (w n i : ℕ) (ms : List ℕ) → get_or (replicate n false) i false ≡ value_at w (take 0 ms) i
-filled_none w n i ms =
-    ⊎_elim (λ within. get_or-replicate n i false false within) (λ past. get_or_past (replicate n false) i false (omega (arith, length-replicate n false))) (cases_lt i n)
-    ∙ sym (value_at-past w (take 0 ms) i (omega arith))
+filled_none w n i ms = get_or_padded [] n i ∙ sym (value_at-past w (take 0 ms) i (omega arith))
 
 before_or_past : (k q : ℕ) (ms : List ℕ) → q ≢ k → get_or (take k ms) q 0 ≡ get_or (take (k + 1) ms) q 0
 before_or_past k q ms apart =
-    ⊎_elim
-    (λ below. get_or-take k ms q 0 below ∙ sym (get_or-take (k + 1) ms q 0 (omega arith)))
-    (λ above. get_or_past (take k ms) q 0 (omega (arith, length-take k ms)) ∙ sym (get_or_past (take (k + 1) ms) q 0 (omega (arith, length-take (k + 1) ms))))
-    (cases_lt q k)
+    grind (arith, length-take k ms, length-take (k + 1) ms, get_or-take k ms q 0, get_or-take (k + 1) ms q 0, get_or_past (take k ms) q 0, get_or_past (take (k + 1) ms) q 0)
 
 pub filled_more : (w k : ℕ) (ms : List ℕ) (old new : List Bool) → 0 < w
     → ((i : ℕ) → get_or old i false ≡ value_at w (take k ms) i)
@@ -83,30 +61,18 @@ pub filled_more : (w k : ℕ) (ms : List ℕ) (old new : List Bool) → 0 < w
     → ((i : ℕ) → ((j : ℕ) → j < w → i ≢ k * w + j) → get_or new i false ≡ get_or old i false)
     → (i : ℕ) → get_or new i false ≡ value_at w (take (k + 1) ms) i
 filled_more w k ms old new pos before here others i =
-    let split : i ≡ i / w * w + i % w = sym (div-add-mod' i w) in
-    let low : i % w < w = mod-lt i pos in
     ⊎_elim
     (λ at.
-    ap (λ x. get_or new x false) (split ∙ ap (λ q. q * w + i % w) at)
-    ∙ here (i % w) low
-    ∙ ap (λ m. is_one m (i % w)) (sym (get_or-take (k + 1) ms k 0 (omega arith)))
-    ∙ ap (λ q. is_one (get_or (take (k + 1) ms) q 0) (i % w)) (sym at)
-    ∙ sym (value_at-is w (take (k + 1) ms) i))
+    let split : i ≡ k * w + i % w = sym (div-add-mod' i w) ∙ ap (λ q. q * w + i % w) at in
+    cc (here (i % w) (mod-lt i pos), get_or-take (k + 1) ms k 0 (omega arith), value_at-is w (take (k + 1) ms) i))
     (λ apart.
-    others i (λ j within e. apart (ap (λ x. x / w) e ∙ div-mul-add k w j within))
-    ∙ before i
-    ∙ value_at-is w (take k ms) i
-    ∙ ap (λ m. is_one m (i % w)) (before_or_past k (i / w) ms apart)
-    ∙ sym (value_at-is w (take (k + 1) ms) i))
+    let old_value = others i (λ j within e. apart (ap (λ x. x / w) e ∙ div-mul-add k w j within)) ∙ before i in
+    cc (before_or_past k (i / w) ms apart, value_at-is w (take k ms) i, value_at-is w (take (k + 1) ms) i))
     (cases_eq (i / w) k)
 
 -- those of the next block are still false
 pub next_is_false : (w k j : ℕ) (ms : List ℕ) (values : List Bool) → ((i : ℕ) → get_or values i false ≡ value_at w (take k ms) i) → j < w → get_or values (k * w + j) false ≡ false
-next_is_false w k j ms values before within =
-    before (k * w + j)
-    ∙ value_at-index w (take k ms) k j within
-    ∙ ap (λ m. is_one m j) (get_or_past (take k ms) k 0 (omega (arith, length-take k ms)))
-    ∙ is_one-zero j
+next_is_false w k j ms values before within = cc (before (k * w + j), value_at-index w (take k ms) k j within, get_or_past (take k ms) k 0 (omega (arith, length-take k ms)), is_one-zero j)
 
 -- ---- the last block
 
@@ -117,41 +83,19 @@ block_begins w n c k pos count within = whole_before w n k pos (omega (arith, co
 pub zero_tail_from : (w n : ℕ) (ms : List ℕ) → 0 < w → length ms ≡ blocks_for w n → HasZeroTail w ms n → IsZeroFrom w ms n
 zero_tail_from w n ms pos count zero_tail = record {
   zero_tail = λ i past.
-      let split : i ≡ i / w * w + i % w = sym (div-add-mod' i w) in
-      let low : i % w < w = mod-lt i pos in
-      ⊎_elim
-      (λ early.
-      let begins : (i / w + 1) * w < n = block_begins w n (length ms) (i / w + 1) pos count (omega arith) in
-      absurd (omega arith))
-      (λ late.
-      ⊎_elim
-      (λ last.
-      let at : length ms - 1 ≡ i / w = omega arith in
-      value_at-is w ms i
-      ∙ ap (λ q. is_one (get_or ms q 0) (i % w)) (sym at)
-      ∙ ap (λ d. d == 1) (zero_tail.tail (i % w) low (omega (arith, split, ap (λ q. q * w) at))))
-      (λ beyond. value_at-past w ms i beyond)
-      (cases_lt (i / w) (length ms)))
-      (cases_lt (i / w) (length ms - 1));
+      let split = div-add-mod' i w in
+      let low = mod-lt i pos in
+      let begins = block_begins w n (length ms) (i / w + 1) pos count in
+      let last = zero_tail.tail (i % w) low in
+      grind (arith, nat_tests, value_at-is w ms i, value_at-past w ms i);
 }
 
 -- a digit that is 1 represents an index below the length
 pub one_is_within : (w n k j : ℕ) (ms : List ℕ) → IsZeroFrom w ms n → j < w → bit_at (get_or ms k 0) j ≡ 1 → k * w + j < n
-one_is_within w n k j ms zero_tail within one =
-    ⊎_elim
-    (λ below. below)
-    (λ past.
-    let yes : value_at w ms (k * w + j) ≡ true = value_at-index w ms k j within ∙ eq-eqb (bit_at (get_or ms k 0) j) 1 one in
-    let no : value_at w ms (k * w + j) ≡ false = zero_tail.zero_tail (k * w + j) past in
-    absurd (cc))
-    (cases_lt (k * w + j) n)
+one_is_within w n k j ms zero_tail within one = let value = value_at-index w ms k j within in let past = zero_tail.zero_tail (k * w + j) in grind (arith, nat_tests)
 
 each_below : (w k : ℕ) (ms : List ℕ) → All (λ m. m < 2 ^ w) ms → get_or ms k 0 < 2 ^ w
-each_below w k ms below =
-    ⊎_elim
-    (λ within. All-get_or (λ m. m < 2 ^ w) ms k 0 within below)
-    (λ past. let zero_there = get_or_past ms k 0 past in omega (arith, pow_pos w))
-    (cases_lt k (length ms))
+each_below w k ms below = let some = below k 0 in let past = get_or_past ms k 0 in let least : 0 < 2 ^ w = pow_pos w in grind arith
 
 -- a list of truth values that has just those of some blocks has those blocks
 pub blocks_of_filled : (w n : ℕ) (ms : List ℕ) (values : List Bool) → 0 < w → length values ≡ n → length ms ≡ blocks_for w n → All (λ m. m < 2 ^ w) ms → HasZeroTail w ms n

@@ -1,13 +1,13 @@
 -- A walk that starts at any number: what is left of the first block, and of the blocks past it.
 use Rattle.std.proofs.Common.{◌≡◌, ℕ, zero, suc, ◌+◌, ◌-◌, ◌*◌, ◌/◌, ◌%◌, ◌^◌, ◌<◌, ◌≤◌, Bool, true, false, not, ◌&&◌, leb, List, ◌∷◌, map, length, drop, filter, get_or, get_or-drop, min, All, refl, sym, ap, ◌∙◌, subst, arith, ⊎_elim, mod-lt, mul-le-mul_right, div-add-mod'}
-use Rattle.std.proofs.lemmas.Bool.{cases_lt, le-leb, lt-leb}
+use Rattle.std.proofs.lemmas.Bool.Decides.{nat_tests}
 use Rattle.std.proofs.lemmas.List.{drop-map, get_or_past, length-drop, length-map}
 use Rattle.std.proofs.lemmas.List.Elements.{All-filter}
-use Rattle.std.proofs.lemmas.List.Filters.{length-filter_both}
+use Rattle.std.proofs.lemmas.List.Sums.{count_by-le-length, length-filter}
+use Rattle.std.proofs.lemmas.Nat.Bits.{bit_at-zero}
 use Rattle.bit_words.specs.Bits.{blocks_for, blocks_of}
 use Rattle.bit_words.specs.Nonzero.{Nonzeros, StartsPast, nonzero_from}
 use Rattle.bit_words.specs.Digits.{is_one}
-use Rattle.bit_words.proofs.Masks.{is_one-zero}
 use Rattle.bit_set.specs.Sets.{elements_from, elements, has, those_from}
 use Rattle.bit_set.specs.Places.{indexes, values_in, IsSparseWalk}
 use Rattle.bit_set.specs.Walk.{Walk, IsAtStart, IsAtStartFrom}
@@ -30,48 +30,26 @@ pub record IsCut {X : Type 0} (w : ℕ) (number : X → ℕ) (blocks : List X) (
   pub at : k ≡ min (from / w) (length blocks - 1)
   pub digit : (j : ℕ) → j < w → is_one m j ≡ (leb (from - k * w) j && is_one (get_or (map number blocks) k 0) j)
 
-both : (b c d : Bool) → b ≡ true → c ≡ d → c ≡ (b && d)
-both b c d is same = rw is same
-
-neither : (b c d : Bool) → c ≡ d → d ≡ false → c ≡ (b && d)
-neither true c d same none = same
-neither false c d same none = same ∙ none
-
 same_test : (from p j : ℕ) → p ≤ from → leb (from - p) j ≡ leb from (p + j)
-same_test from p j within =
-    ⊎_elim
-    (λ below. lt-leb (from - p) j (omega (arith, below, within)) ∙ sym (lt-leb from (p + j) below))
-    (λ reached. le-leb (from - p) j (omega (arith, reached)) ∙ sym (le-leb from (p + j) reached))
-    (cases_lt (p + j) from)
+same_test from p j within = grind (arith, nat_tests)
 
 module _ {X : Type 0} (w : ℕ) (number : X → ℕ) (pos : 0 < w) where
   block_before : (blocks : List X) (from k m : ℕ) → IsCut w number blocks from k m → k * w ≤ from
-  block_before blocks from k m is =
-      let whole = div-add-mod' from w in
-      let product : k * w ≤ from / w * w = mul-le-mul_right w (let e : k ≤ from / w = omega (arith, is.at) in e) in
-      omega (arith, product, whole)
+  block_before blocks from k m is = begins_by w w from (length blocks - 1) k refl is.at
 
   -- digit j of the block q past the first
   digit_at : (blocks : List X) (from k m q j : ℕ) → IsCut w number blocks from k m → j < w
       → is_one (get_or (m ∷ map number (drop (k + 1) blocks)) q 0) j ≡ (leb from (k * w + (q * w + j)) && is_one (get_or (map number blocks) (k + q) 0) j)
   digit_at blocks from k m zero j is within =
-      is.digit j within
-      ∙ ap (λ b. b && is_one (get_or (map number blocks) k 0) j) (same_test from (k * w) j (block_before blocks from k m is) ∙ ap (leb from) (let e : k * w + j ≡ k * w + (zero * w + j) = omega arith in e))
-      ∙ ap (λ n. leb from (k * w + (zero * w + j)) && is_one (get_or (map number blocks) n 0) j) (let e : k ≡ k + zero = omega arith in e)
+      let digit = is.digit j within in
+      let test = same_test from (k * w) j (block_before blocks from k m is) in
+      grind arith
   digit_at blocks from k m (suc q) j is within =
       let block : get_or (map number (drop (k + 1) blocks)) q 0 ≡ get_or (map number blocks) (k + suc q) 0 =
       ap (λ ms. get_or ms q 0) (sym (drop-map number (k + 1) blocks)) ∙ get_or-drop (k + 1) (map number blocks) q 0 ∙ ap (λ n. get_or (map number blocks) n 0) (let e : k + 1 + q ≡ k + suc q = omega arith in e) in
-      let same = ap (λ n. is_one n j) block in
-      let n = k * w + (suc q * w + j) in
-      ⊎_elim
-      (λ (below : n < from).
-      let whole = div-add-mod' from w in
-      let further : k < from / w =
-      ⊎_elim (λ yes. yes) (λ no. absurd (let product = mul-le-mul_right w no in let rest = mod-lt from pos in omega (arith, product, whole, rest, below))) (cases_lt k (from / w)) in
-      let none : get_or (map number blocks) (k + suc q) 0 ≡ 0 = get_or_past (map number blocks) (k + suc q) 0 (rw length-map (omega (arith, is.at, further))) in
-      neither (leb from n) _ _ same (ap (λ d. is_one d j) none ∙ is_one-zero j))
-      (λ (reached : from ≤ n). both (leb from n) _ _ (le-leb from n reached) same)
-      (cases_lt n from)
+      let past = get_or_past (map number blocks) (k + suc q) 0 in
+      let product = λ (no : from / w ≤ k). mul-le-mul_right w no in
+      grind (arith, nat_tests, is.at, div-add-mod' from w, mod-lt from pos, length-map blocks number, bit_at-zero j)
 
   value_from : (blocks : List X) (values : List Bool) (from k m i : ℕ) → IsCut w number blocks from k m → map number blocks ≡ blocks_of w values
       → get_or (values_in w (m ∷ map number (drop (k + 1) blocks))) i false ≡ (leb from (k * w + i) && get_or values (k * w + i) false)
@@ -98,24 +76,15 @@ module _ {X : Type 0} (w : ℕ) (number : X → ℕ) (pos : 0 < w) where
       → indexes w (k * w) m (values_of_blocks w number (drop (k + 1) blocks)) ≡ those_from (elements values) from
   left_from blocks values from k m is numbers =
       let p = k * w in
-      let rest = drop (k + 1) blocks in
-      let bs = values_in w (m ∷ map number rest) in
-      sym (indexes-next w p m bs (values_of_blocks w number rest) refl)
-      ∙ same_members (elements_from p bs) (those_from (elements values) from) (AscendsFrom-lower p 0 (elements_from p bs) (omega arith) (AscendsFrom-elements_from p bs)) (AscendsFrom-filter 0 (λ n. leb from n) (elements values) (IsAscending-elements values)) (λ n.
-      ⊎_elim
-      (λ (below : n < p).
-      has-below p (elements_from p bs) n (AscendsFrom-elements_from p bs) below
-      ∙ ap (λ b. b && has (elements values) n) (sym (lt-leb from n (let before = block_before blocks from k m is in omega (arith, before, below))))
-      ∙ sym (has-filter (λ i. leb from i) (elements values) n))
-      (λ (reached : p ≤ n).
-      let at : p + (n - p) ≡ n = omega (arith, reached) in
-      ap (has (elements_from p bs)) (sym at)
-      ∙ has-elements_from p bs (n - p)
-      ∙ value_from blocks values from k m (n - p) is numbers
-      ∙ ap (λ i. leb from i && get_or values i false) at
-      ∙ ap (λ b. leb from n && b) (sym (has-elements values n))
-      ∙ sym (has-filter (λ i. leb from i) (elements values) n))
-      (cases_lt n p))
+      let bs = values_in w (m ∷ map number (drop (k + 1) blocks)) in
+      sym (indexes-next w p m bs (values_of_blocks w number (drop (k + 1) blocks)) refl)
+      ∙ same_members (elements_from p bs) (those_from (elements values) from) (AscendsFrom-lower p 0 (elements_from p bs) (omega arith) (AscendsFrom-elements_from p bs)) (AscendsFrom-filter 0 (λ n. leb from n) (elements values) (IsAscending-elements values))
+      (λ n.
+      let below = has-below p (elements_from p bs) n (AscendsFrom-elements_from p bs) in
+      let member = has-elements_from p bs (n - p) in
+      let value = value_from blocks values from k m (n - p) is numbers in
+      let before = block_before blocks from k m is in
+      grind (arith, nat_tests, has-elements values n, has-filter (λ i. leb from i) (elements values) n))
 
 -- ---- the making
 
@@ -131,63 +100,47 @@ pub record BeginsFrom {X : Type 0} (w : ℕ) (number : X → ℕ) (is_block : X 
   pub walk : IsSparseWalk w number is_block index block it
   pub start : IsAtStartFrom w values from t
 
-few_kept : (p : ℕ → Bool) (xs : List ℕ) (n : ℕ) → length xs < n → length (filter p xs) < n
-few_kept p xs n few = let all = length-filter_both p (λ x. not (p x)) (λ x. refl) xs in omega (arith, all, few)
-
 pub begins_from : {X : Type 0} (w : ℕ) (number : X → ℕ) (is_block : X → Type 0) (values : List Bool) (from k : ℕ) (block : X) (it : Nonzeros X) → 0 < w → IsPast w number is_block values k it → is_block block → IsCut w number it.blocks from k (number block)
     → BeginsFrom w number is_block values from (k * w) block it (seen w number is_block (k * w) block it)
 begins_from w number is_block values from k block it pos is lawful cut =
     let n = length it.blocks in
     let rest = drop (k + 1) it.blocks in
     let index_is : k * w / w ≡ k = whole_index w k pos in
-    let past : drop (k * w / w + 1) it.blocks ≡ rest = ap (λ i. drop (i + 1) it.blocks) index_is in
     let many = length-blocks w number it.blocks values is.numbers in
     let can = IsWalkable-values_of_blocks w number it.blocks values 0 pos is.numbers is.fits in
-    let left : indexes w (k * w) (number block) (values_of_blocks w number (drop (k * w / w + 1) it.blocks)) ≡ those_from (elements values) from =
-    ap (λ ys. indexes w (k * w) (number block) (values_of_blocks w number ys)) past ∙ left_from w number pos it.blocks values from k (number block) cut is.numbers in
-    let count : length (drop (k * w / w + 1) it.blocks) ≡ n - (k + 1) = ap length past ∙ length-drop (k + 1) it.blocks in
-    let few : length (those_from (elements values) from) < 2 ^ 64 =
-    few_kept (λ i. leb from i) (elements values) (2 ^ 64) (subst (λ ys. length ys < 2 ^ 64) (elements-values_of_blocks w number it.blocks values pos is.numbers) can.few) in
-    let few_left : length (indexes w (k * w) (number block) (values_of_blocks w number (drop (k * w / w + 1) it.blocks))) < 2 ^ 64 = subst (λ ys. length ys < 2 ^ 64) (sym left) few in
+    let all = elements-values_of_blocks w number it.blocks values pos is.numbers in
+    let left = left_from w number pos it.blocks values from k (number block) cut is.numbers in
+    let few : length (those_from (elements values) from) < 2 ^ 64 = omega (arith, length-filter (λ i. leb from i) (elements values), count_by-le-length (λ i. leb from i) (elements values), rw all at can.few) in
     let first : k ≡ min (from / w) (blocks_for w (length values) - 1) = cut.at ∙ ap (λ i. min (from / w) (i - 1)) many in
     record {
       walk = record {
         in_hand = lawful;
         each = is.each;
-        left = is.start.left ∙ ap (nonzero_from number (k + 1)) (sym past) ∙ ap (λ i. nonzero_from number (i + 1) (drop (k * w / w + 1) it.blocks)) (sym index_is);
-        whole = ap (λ i. i * w) (sym index_is);
-        inside = omega (arith, index_is, cut.at);
-        can = record {
-          long = length-values_of_blocks w number (drop (k * w / w + 1) it.blocks);
+        left = rw index_is is.start.left;
+        whole = rw index_is refl;
+        inside = rw index_is (omega (arith, cut.at));
+        can = rw index_is record {
+          long = length-values_of_blocks w number rest;
           fits =
-              let product = ap (λ i. w * i) count in
               let whole : k * w + w * (n - (k + 1)) ≡ w * (n - 1) = (let e : n - 1 ≡ k + (n - (k + 1)) = omega (arith, cut.at) in let f = ap (λ i. w * i) e in omega (arith, f)) in
-              omega (arith, product, whole, can.fits);
-          below = subst (All (λ i. i < 2 ^ 64)) (sym left) (All-filter (λ i. leb from i) (λ i. i < 2 ^ 64) (elements values) (subst (All (λ i. i < 2 ^ 64)) (elements-values_of_blocks w number it.blocks values pos is.numbers) can.below));
-          few = few_left;
+              rw length-drop (omega (arith, whole, can.fits));
+          below = rw left (All-filter (λ i. leb from i) (λ i. i < 2 ^ 64) (elements values) (rw all at can.below));
+          few = rw left few;
         };
       };
       start = record {
-        left = left;
+        left = rw index_is left;
         pulls = is.start.pulls;
         index = ap (λ i. i * w) first;
-        blocks = omega (arith, count, many, cut.at);
+        blocks = rw index_is (omega (arith, length-drop (k + 1) it.blocks, many, cut.at));
         summary = let at = ap (λ i. i / w) first in let chunks = ap (blocks_for w) many in omega (arith, is.start.summary_pulls, is.start.summary_left, at, chunks);
-        few = few_left;
+        few = rw (index_is, left) few;
       };
     }
 
 -- from 0 on it is the walk over all
 pub starts_at_all : (w : ℕ) (values : List Bool) (t : Walk) → 0 < w → IsAtStartFrom w values 0 t → IsAtStart w values t
 starts_at_all w values t pos start =
-    let all : those_from (elements values) 0 ≡ elements values = sym (all_from values) in
+    let all = all_from values in
     let zero_index : 0 / w ≡ 0 = ap (λ n. n / w) (let e : 0 ≡ 0 * w = omega arith in e) ∙ whole_index w 0 pos in
-    let first : min (0 / w) (blocks_for w (length values) - 1) ≡ 0 = omega (arith, zero_index) in
-    record {
-      left = start.left ∙ all;
-      pulls = start.pulls;
-      index = start.index ∙ ap (λ i. i * w) first ∙ omega arith;
-      blocks = omega (arith, start.blocks, zero_index);
-      summary = let at = ap (λ i. i / w) first ∙ zero_index in omega (arith, start.summary, at);
-      few = start.few;
-    }
+    grind arith

@@ -113,7 +113,7 @@ elements-set_false bs v within =
     same_members _ _ (IsAscending-elements (set bs v false)) (AscendsFrom-filter 0 _ _ (IsAscending-elements bs))
     (λ k. let new = has-set bs v false k within in let loses = has-without (elements bs) v k in grind (arith, nat_tests))
 
-get_or_padded : (bs : List Bool) (n k : ℕ) → get_or (bs ++ replicate n false) k false ≡ get_or bs k false
+pub get_or_padded : (bs : List Bool) (n k : ℕ) → get_or (bs ++ replicate n false) k false ≡ get_or bs k false
 get_or_padded [] zero k = refl
 get_or_padded [] (suc n) zero = refl
 get_or_padded [] (suc n) (suc k) = get_or_padded [] n k
