@@ -1,6 +1,6 @@
 -- Two sets made one: the members of what comes out, its order, the same as finite sets of std, and two lists of
 -- truth values merged value by value.
-use Rattle.std.proofs.Common.{◌≡◌, ℕ, Bool, false, not, ◌-◌, ◌||◌, ◌&&◌, ◌++◌, List, length, length-append, replicate, max, get_or, sym, ap, ◌∙◌, arith}
+use Rattle.std.proofs.Common.{◌≡◌, ℕ, Bool, false, not, ◌-◌, ◌||◌, ◌&&◌, ◌++◌, List, length, length-append, replicate, max, ap, ◌∙◌, arith}
 use Rattle.std.proofs.lemmas.List.{length-replicate}
 use Rattle.std.specs.Cmp.{nat_cmp_total}
 use Rattle.std.specs.FinSet as set

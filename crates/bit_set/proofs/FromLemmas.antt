@@ -1,14 +1,14 @@
 -- A walk that starts at any number: what is left of the first block, and of the blocks past it.
-use Rattle.std.proofs.Common.{◌≡◌, ℕ, zero, suc, ◌+◌, ◌-◌, ◌*◌, ◌/◌, ◌%◌, ◌^◌, ◌<◌, ◌≤◌, Bool, true, false, not, ◌&&◌, leb, List, ◌∷◌, map, length, drop, filter, get_or, get_or-drop, min, All, refl, sym, ap, ◌∙◌, subst, arith, ⊎_elim, mod-lt, mul-le-mul_right, div-add-mod'}
+use Rattle.std.proofs.Common.{◌≡◌, ℕ, zero, suc, ◌+◌, ◌-◌, ◌*◌, ◌/◌, ◌%◌, ◌^◌, ◌<◌, ◌≤◌, Bool, false, ◌&&◌, leb, List, ◌∷◌, map, length, drop, get_or, get_or-drop, min, All, refl, sym, ap, ◌∙◌, arith, mod-lt, mul-le-mul_right, div-add-mod'}
 use Rattle.std.proofs.lemmas.Bool.Decides.{nat_tests}
 use Rattle.std.proofs.lemmas.List.{drop-map, get_or_past, length-drop, length-map}
 use Rattle.std.proofs.lemmas.List.Elements.{All-filter}
 use Rattle.std.proofs.lemmas.List.Sums.{count_by-le-length, length-filter}
 use Rattle.std.proofs.lemmas.Nat.Bits.{bit_at-zero}
 use Rattle.bit_words.specs.Bits.{blocks_for, blocks_of}
-use Rattle.bit_words.specs.Nonzero.{Nonzeros, StartsPast, nonzero_from}
+use Rattle.bit_words.specs.Nonzero.{Nonzeros, StartsPast}
 use Rattle.bit_words.specs.Digits.{is_one}
-use Rattle.bit_set.specs.Sets.{elements_from, elements, has, those_from}
+use Rattle.bit_set.specs.Sets.{elements_from, elements, those_from}
 use Rattle.bit_set.specs.Places.{indexes, values_in, IsSparseWalk}
 use Rattle.bit_set.specs.Walk.{Walk, IsAtStart, IsAtStartFrom}
 use Rattle.bit_set.proofs.PlaceLemmas.{indexes-next, value_in, values_in-blocks_of}

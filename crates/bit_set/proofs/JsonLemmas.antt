@@ -1,7 +1,6 @@
 -- Lemmas on the JSON form: the members of an object, the numbers of an array, and what a value spells.
-use Rattle.std.proofs.Common.{◌≡◌, ◌≢◌, ◌==◌, ◌↔◌, ℕ, ◌+◌, ◌-◌, ◌*◌, ◌/◌, ◌%◌, ◌^◌, ◌<◌, ◌≤◌, min, Bool, false, codes, is_some, List, [], ◌∷◌, length, map, get_or, All, Option, Some, None, IsTrue, option_map, option_and_then, refl, sym, ap, ◌∙◌, subst, ⊎_elim, pow_pos, unwrap_or, ok_or, Err, arith}
-use Rattle.std.specs.Int.{bit_at}
-use Rattle.std.proofs.lemmas.Bool.{eq-eqb, eqb-true, cases_lt}
+use Rattle.std.proofs.Common.{◌≡◌, ◌≢◌, ◌==◌, ◌↔◌, ℕ, ◌+◌, ◌-◌, ◌*◌, ◌/◌, ◌%◌, ◌^◌, ◌<◌, min, Bool, false, codes, is_some, List, [], ◌∷◌, length, map, get_or, All, Option, Some, None, IsTrue, option_map, option_and_then, refl, sym, ap, ◌∙◌, subst, pow_pos, unwrap_or, ok_or, Err, arith}
+use Rattle.std.proofs.lemmas.Bool.{eq-eqb, eqb-true}
 use Rattle.std.proofs.lemmas.List.{length-map, get_or-map, ext_get_or}
 use Rattle.std.proofs.lemmas.List.Elements.{All-nil, All-cons, All-head, All-tail, All-same, All-map, All-weaker, All-from_get_or}
 use Rattle.std.proofs.lemmas.Nat.Bits.{bit_at-zero, same_from_bits_below}
@@ -19,7 +18,7 @@ use Rattle.bit_set.specs.Places.{values_in}
 use Rattle.bit_set.proofs.PlaceLemmas.{values_in-blocks_of}
 use Rattle.bit_set.proofs.FilledLemmas.{blocks_of_zero_tail}
 use Rattle.bit_set.specs.declared.json.JsonError.{JsonError}
-use Rattle.bit_set.specs.declared.json.JsonError.TheVariants.{Shape, Number, Blocks, Unclean, Memory}
+use Rattle.bit_set.specs.declared.json.JsonError.TheVariants.{Memory}
 use Rattle.bit_set.specs.Json.{HasNumbers, HasZeroTail, IsFault, IsFirstFault, Spells, members_in, number_in, numbers_in, bit_vec_in, storage_in, nbits_in}
 use Rattle.bit_set.specs.Entries.{AreNumbers, AreParts, HasLength, IsEntry, number_of_entry, numbers_of}
 use Rattle.serde_json.specs.Find.{as_object}
@@ -76,8 +75,7 @@ no_numbers w d nbits vs parts none ms n is =
 
 -- what `ok_or` makes a fault of
 pub was_none : {A E : Type 0} (o : Option A) (e d : E) → Err d ≡ ok_or o e → (o ≡ None) × (d ≡ e)
-was_none None e d h = (refl, cc)
-was_none (Some x) e d h = absurd (cc)
+was_none o e d h = grind arith
 
 pub counted : (vs : List Value) → length (numbers_of vs) ≡ length vs
 counted vs = simp length-map
@@ -97,24 +95,18 @@ blocks_for_some w n c part count = let one : min 1 (n % w) ≡ 1 = omega (arith,
 -- shifted out
 pub zero_tail_by_shift : (w n r : ℕ) (ms : List ℕ) → 0 < w → n % w ≢ 0 → length ms ≡ blocks_for w n → r < 2 ^ w → IsShiftedRight w (get_or ms (length ms - 1) 0) (n % w) r → (r ≡ 0) ↔ HasZeroTail w ms n
 zero_tail_by_shift w n r ms pos part count small shifted =
-    let u = n % w in
-    let last = get_or ms (length ms - 1) 0 in
-    let used : u < w = mod-lt n pos in
-    let split : n ≡ n / w * w + u = sym (div-add-mod' n w) in
-    let one : min 1 u ≡ 1 = omega (arith, part) in
-    let at : length ms - 1 ≡ n / w = omega (arith, count, one) in
+    let used = mod-lt n pos in
+    let split = div-add-mod' n w in
+    let at : length ms - 1 ≡ n / w = omega arith in
     let before : (length ms - 1) * w ≡ n / w * w = ap (λ q. q * w) at in (
       λ none. record {
-        tail = λ j within past.
-            let above : u ≤ j = omega (arith, past, before, split) in
-            let back : j - u + u ≡ j = omega arith in
-            sym (shifted.moved (j - u) (omega arith) ∙ ap (bit_at last) back) ∙ ap (λ x. bit_at x (j - u)) none ∙ bit_at-zero (j - u);
+        tail = λ j within past. let moved = shifted.moved (j - n % w) in grind (arith, bit_at-zero (j - n % w));
       },
       λ zero_tail. same_from_bits_below w r 0 small (pow_pos w) (λ i within.
-          ⊎_elim
-          (λ inside. shifted.moved i inside ∙ zero_tail.tail (i + u) inside (omega (arith, before, split)) ∙ sym (bit_at-zero i))
-          (λ outside. shifted.zeros i within outside ∙ sym (bit_at-zero i))
-          (cases_lt (i + u) w)),
+          let moved = shifted.moved i in
+          let zeros = shifted.zeros i within in
+          let tail = zero_tail.tail (i + n % w) in
+          grind (arith, bit_at-zero i)),
     )
 
 -- ---- one value has one reading, and one fault at most
@@ -122,40 +114,13 @@ zero_tail_by_shift w n r ms pos part count small shifted =
 pub same_numbers : (w : ℕ) (d : Data) (ms ns : List ℕ) (m n : ℕ) → HasNumbers w d ms m → HasNumbers w d ns n → (ms ≡ ns) × (m ≡ n)
 same_numbers w d ms ns m n one other = (same_Some ms ns (sym one.blocks ∙ other.blocks), same_Some m n (sym one.length ∙ other.length))
 
-zero_tail_along : (w : ℕ) (ms ns : List ℕ) (n m : ℕ) → ms ≡ ns → n ≡ m → HasZeroTail w ms n → HasZeroTail w ns m
-zero_tail_along w ms ns n m same equal zero_tail = subst (λ x. HasZeroTail w x m) same (subst (λ x. HasZeroTail w ms x) equal zero_tail)
-
 -- what spells something has no fault
 pub spelt_has_no_fault : (w : ℕ) (d : Data) (ms : List ℕ) (n : ℕ) (fault : JsonError) → Spells w d ms n → ¬ IsFirstFault w d fault
-spelt_has_no_fault w d ms n Shape spelt h = h spelt.shape
-spelt_has_no_fault w d ms n Number spelt h = h.1 ms n spelt.numbers
-spelt_has_no_fault w d ms n Blocks spelt (shape, (ns, m, numbers, other)) =
-    let same = same_numbers w d ns ms m n numbers spelt.numbers in
-    other (ap length same.0 ∙ spelt.count ∙ ap (blocks_for w) (sym same.1))
-spelt_has_no_fault w d ms n Unclean spelt (shape, (ns, m, numbers, count, unclean)) =
-    let same = same_numbers w d ms ns n m spelt.numbers numbers in
-    unclean (zero_tail_along w ms ns n m same.0 same.1 spelt.zero_tail)
-spelt_has_no_fault w d ms n (Memory refused) spelt h = h
-
-two_counts : (w : ℕ) (d : Data) (ms ns : List ℕ) (n m : ℕ) → HasNumbers w d ms n → HasNumbers w d ns m → length ms ≢ blocks_for w n → length ns ≡ blocks_for w m → ⊥
-two_counts w d ms ns n m numbers found other count =
-    let same = same_numbers w d ms ns n m numbers found in
-    other (ap length same.0 ∙ count ∙ ap (blocks_for w) (sym same.1))
+spelt_has_no_fault w d ms n fault spelt h = grind (arith, same_numbers)
 
 -- and what has a fault has no other
 pub one_fault : (w : ℕ) (d : Data) (a b : JsonError) → IsFirstFault w d a → IsFirstFault w d b → a ≡ b
-one_fault w d (Memory refused) b h k = absurd h
-one_fault w d a (Memory refused) h k = absurd k
-one_fault w d Shape Shape h k = refl
-one_fault w d Number Number h k = refl
-one_fault w d Blocks Blocks h k = refl
-one_fault w d Unclean Unclean h k = refl
-one_fault w d Shape b h k = absurd (h k.0)
-one_fault w d a Shape h k = absurd (k h.0)
-one_fault w d Number b h k = absurd (h.1 k.1.0 k.1.1 k.1.2)
-one_fault w d a Number h k = absurd (k.1 h.1.0 h.1.1 h.1.2)
-one_fault w d Blocks Unclean h k = absurd (two_counts w d h.1.0 k.1.0 h.1.1 k.1.1 h.1.2 k.1.2 h.1.3 k.1.3)
-one_fault w d Unclean Blocks h k = absurd (two_counts w d k.1.0 h.1.0 k.1.1 h.1.1 k.1.2 h.1.2 k.1.3 h.1.3)
+one_fault w d a b h k = grind (arith, same_numbers)
 
 -- so it is why there is no set
 pub fault_of_first : (w : ℕ) (d : Data) (fault : JsonError) → IsFirstFault w d fault → IsFault w d fault

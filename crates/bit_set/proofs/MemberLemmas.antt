@@ -17,11 +17,11 @@ use Rattle.bit_set.proofs.SubsetLemmas.{is_disjoint-members, is_subset-members, 
 
 -- ---- one number
 
-pub updates_put : (s t : List ℕ) (n : ℕ) → t ≡ put s n → Updates s t n true
-updates_put s t n is m = let gains = has-put s n m in grind (arith, nat_tests)
+pub updates_put : (s : List ℕ) (n : ℕ) {t : List ℕ} → t ≡ put s n → Updates s t n true
+updates_put s n is m = let gains = has-put s n m in grind (arith, nat_tests)
 
-pub updates_without : (s t : List ℕ) (n : ℕ) → t ≡ without s n → Updates s t n false
-updates_without s t n is m = let loses = has-without s n m in grind (arith, nat_tests)
+pub updates_without : (s : List ℕ) (n : ℕ) {t : List ℕ} → t ≡ without s n → Updates s t n false
+updates_without s n is m = let loses = has-without s n m in grind (arith, nat_tests)
 
 pub count_put : (values : List Bool) (t : List ℕ) (n : ℕ) (new : Bool) → t ≡ put (elements values) n → new ≡ not (has (elements values) n) → length t ≡ length (elements values) + cond new 1 0
 count_put values t n new is says = let long = length-put (elements values) n (IsAscending-elements values) in grind arith
@@ -42,7 +42,7 @@ takes_least low s x t up is =
     record {
       is_in = ap (λ u. has u x) is ∙ ap (λ b. b || has t x) (eq-eqb x x refl);
       least = λ n within. least-first x t n ascending (ap (λ u. has u n) (sym is) ∙ within);
-      others = updates_without s t x (sym (without_least low s x t up is));
+      others = updates_without s x (sym (without_least low s x t up is));
     }
 
 -- ---- several sets

@@ -1,5 +1,5 @@
 -- What tests and choices among the members of a set say of the members.
-use Rattle.std.proofs.Common.{◌≡◌, ℕ, ◌+◌, ◌-◌, ◌<◌, ◌≤◌, ◌==◌, ◌&&◌, max, min, Bool, false, nat_le, List, [], ◌∷◌, map, length, Option, Some, None, IsTrue, MatchOption, refl, arith}
+use Rattle.std.proofs.Common.{◌≡◌, ℕ, ◌+◌, ◌-◌, ◌≤◌, ◌&&◌, max, min, Bool, false, nat_le, List, [], ◌∷◌, map, length, Option, Some, None, IsTrue, MatchOption, refl, arith}
 use Rattle.std.specs.List.{find, fold, last_or, list_any, position_or_len, reduce}
 use Rattle.std.proofs.lemmas.Bool.Decides.{nat_tests}
 use Rattle.bit_set.specs.Choices.{IsGreatest, IsLeast, IsLeastPassing}

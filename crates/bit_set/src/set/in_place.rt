@@ -19,7 +19,7 @@ impl<B: BitBlock> BitSet<B> {
     {
         let old = self.bits.len();
         if len > old {
-            self.bits.grow(len - old, false)?;
+            return self.bits.grow(len - old, false);
         }
         Ok(())
     }

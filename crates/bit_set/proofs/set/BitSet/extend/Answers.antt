@@ -29,11 +29,20 @@ returns-in_err-insert-clause-succeeds g c along =
     let low : item < c.args.self.now.capacity = (All-pop (λ n. n < c.args.self.now.capacity) (items ++ item ∷ []) items (Some item) refl (along (items ++ item ∷ []) c.next.new.self (rw c.into_iter-item-iterator.ensures.into_iter_gives at more))).1 in
     absurd (true≢false (sym (c.in_err-insert.ensures.grows.succeeds (omega (arith, low, c.loop-item.invariant.capacity)))))
 
-pub returns-clause-runs : goal.returns-clause-runs
-returns-clause-runs g c =
-    let next_gives = g.I.Iterator.next_gives in
+pub returns : goal.returns
+returns g c =
+    let items = c.loop-item.yielded in
     let calls = rw c.into_iter-item-iterator.ensures.into_iter_gives at c.loop-item.yielded_by in
-    run_of_calls next_gives _ _ c.loop-item.item-iterator c.next.new.self c.loop-item.yielded calls c.in-None.ensures.steps c.loop-item.invariant.taken
+    let invariant = c.loop-item.invariant in
+    record {
+      ok = (items, (c.next.new.self, (c.loop-item.item-iterator, calls, c.in-None.ensures.steps)), invariant.taken);
+      runs = run_of_calls g.I.Iterator.next_gives _ _ c.loop-item.item-iterator c.next.new.self items calls c.in-None.ensures.steps invariant.taken;
+      err = tt;
+      succeeds = λ _. refl;
+      capacity = invariant.capacity;
+      within = λ along. invariant.within (along items c.loop-item.item-iterator calls);
+      kept = invariant.kept;
+    }
 
 pub returns-in_err-insert-clause-capacity : goal.returns-in_err-insert-clause-capacity
 returns-in_err-insert-clause-capacity g c = omega (arith, c.loop-item.invariant.capacity, c.insert.ensures.grows.capacity)
@@ -47,19 +56,3 @@ pub returns-in_err-insert-clause-kept : goal.returns-in_err-insert-clause-kept
 returns-in_err-insert-clause-kept g c short =
     let same = c.in_err-insert.ensures.grows.err in
     ap (λ bits. bits.capacity) same ∙ c.loop-item.invariant.kept (omega (arith, short, ap (λ bits. length bits.values) same))
-
-pub returns-clause-ok : goal.returns-clause-ok
-returns-clause-ok g c =
-    let calls = rw c.into_iter-item-iterator.ensures.into_iter_gives at c.loop-item.yielded_by in
-    (c.loop-item.yielded, (c.next.new.self, (c.loop-item.item-iterator, calls, c.in-None.ensures.steps)), c.loop-item.invariant.taken)
-
-pub returns-clause-capacity : goal.returns-clause-capacity
-returns-clause-capacity g c = c.loop-item.invariant.capacity
-
-pub returns-clause-within : goal.returns-clause-within
-returns-clause-within g c along =
-    let calls = rw c.into_iter-item-iterator.ensures.into_iter_gives at c.loop-item.yielded_by in
-    c.loop-item.invariant.within (along c.loop-item.yielded c.loop-item.item-iterator calls)
-
-pub returns-clause-kept : goal.returns-clause-kept
-returns-clause-kept g c = c.loop-item.invariant.kept

@@ -28,12 +28,10 @@ pub returns-clause-changes : goal.returns-clause-changes
 returns-clause-changes g c = (returns-clause-elements g c, ap Returned (returns-clause-returned g c))
 
 pub returns-then-value-len-clause-members : goal.returns-then-value-len-clause-members
-returns-then-value-len-clause-members g c =
-    let s = elements c.args.self.now.values in
-    updates_without s s c.args.value (returns-then-value-len-clause-elements g c)
+returns-then-value-len-clause-members g c = updates_without (elements c.args.self.now.values) c.args.value (returns-then-value-len-clause-elements g c)
 
 pub returns-clause-members : goal.returns-clause-members
-returns-clause-members g c = updates_without (elements c.args.self.now.values) (elements c.replace.new.self.values) c.args.value (returns-clause-elements g c)
+returns-clause-members g c = updates_without (elements c.args.self.now.values) c.args.value (returns-clause-elements g c)
 
 pub returns-clause-count : goal.returns-clause-count
 returns-clause-count g c = count_without c.args.self.now.values (elements c.replace.new.self.values) c.args.value c.replace.result (returns-clause-elements g c) (returns-clause-returned g c)

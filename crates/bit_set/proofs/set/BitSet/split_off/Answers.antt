@@ -1,10 +1,9 @@
-use Rattle.std.proofs.Common.{◌≤◌, length, refl, arith, ap, sym, cond}
+use Rattle.std.proofs.Common.{◌≤◌, length, refl, arith}
 use Rattle.std.proofs.lemmas.Bool.Decides.{nat_tests}
 use Rattle.bit_set.specs.Sets.{elements}
 use Rattle.bit_set.proofs.MemberLemmas.{members_below, members_from}
 use Rattle.bit_set.proofs.SplitLemmas.{all_below, all_from, elements-tail, none_below, none_from}
 use Rattle.bit_set.proofs.ValueLemmas.{elements-take}
-use Rattle.std.proofs.lemmas.Bool.{le-ltb}
 use Rattle.std.proofs.lemmas.List.{length-take}
 use Rattle.bit_set.proofs.set.BitSet.split_off.Goals.{After-new_general-then-at-len}
 use Rattle.bit_set.proofs.set.BitSet.split_off.Goals as goal
@@ -13,20 +12,16 @@ past : (g : _) (c : After-new_general-then-at-len g) → length c.args.self.now.
 past g c = rw (← c.self.view_is) (omega arith)
 
 pub returns-then-at-eq0-clause-elements : goal.returns-then-at-eq0-clause-elements
-returns-then-at-eq0-clause-elements g c =
-    let values = c.args.self.now.values in
-    rw (c.if-at-eq0.true, c.replace.ensures.after, c.new_general.ensures.values) (none_below values)
+returns-then-at-eq0-clause-elements g c = rw (c.if-at-eq0.true, c.replace.ensures.after, c.new_general.ensures.values) (none_below c.args.self.now.values)
 
 pub returns-then-at-eq0-clause-part : goal.returns-then-at-eq0-clause-part
-returns-then-at-eq0-clause-part g c =
-    let values = c.args.self.now.values in
-    rw (c.if-at-eq0.true, c.replace.ensures.value) (all_from values)
+returns-then-at-eq0-clause-part g c = rw (c.if-at-eq0.true, c.replace.ensures.value) (all_from c.args.self.now.values)
 
 pub returns-then-at-len-clause-elements : goal.returns-then-at-len-clause-elements
-returns-then-at-len-clause-elements g c = all_below c.args.self.now.values c.args.at (past g (goal.at.returns-then-at-len-clause-elements g c).After-new_general-then-at-len)
+returns-then-at-len-clause-elements g c = all_below c.args.self.now.values c.args.at (past g c)
 
 pub returns-then-at-len-clause-part : goal.returns-then-at-len-clause-part
-returns-then-at-len-clause-part g c = rw c.new_general-then-at-len.ensures.values (none_from c.args.self.now.values c.args.at (past g (goal.at.returns-then-at-len-clause-part g c).After-new_general-then-at-len))
+returns-then-at-len-clause-part g c = rw c.new_general-then-at-len.ensures.values (none_from c.args.self.now.values c.args.at (past g c))
 
 pub returns-clause-elements : goal.returns-clause-elements
 returns-clause-elements g c = rw (c.truncate.ensures.values, ← c.self.view_is) (elements-take c.self.inside.bits.values c.args.at)
@@ -68,15 +63,13 @@ pub returns-then-at-eq0-clause-part_length : goal.returns-then-at-eq0-clause-par
 returns-then-at-eq0-clause-part_length g c = rw c.replace.ensures.value (grind (arith, nat_tests, c.if-at-eq0.true))
 
 pub returns-then-at-len-clause-length : goal.returns-then-at-len-clause-length
-returns-then-at-len-clause-length g c = omega (arith, past g (goal.at.returns-then-at-len-clause-length g c).After-new_general-then-at-len)
+returns-then-at-len-clause-length g c = omega (arith, past g c)
 
 pub returns-then-at-len-clause-part_length : goal.returns-then-at-len-clause-part_length
-returns-then-at-len-clause-part_length g c =
-    let n = length c.args.self.now.values in
-    rw c.new_general-then-at-len.ensures.values (ap (λ b. cond b n 0) (sym (le-ltb c.args.at n (past g (goal.at.returns-then-at-len-clause-part_length g c).After-new_general-then-at-len))))
+returns-then-at-len-clause-part_length g c = rw c.new_general-then-at-len.ensures.values (grind (arith, nat_tests, past g c))
 
 pub returns-then-at-len-clause-exact : goal.returns-then-at-len-clause-exact
-returns-then-at-len-clause-exact g c _ inside = absurd (omega (arith, past g (goal.at.returns-then-at-len-clause-exact g c).After-new_general-then-at-len, inside))
+returns-then-at-len-clause-exact g c _ inside = absurd (omega (arith, past g c, inside))
 
 pub returns-then-at-len-clause-nothing : goal.returns-then-at-len-clause-nothing
 returns-then-at-len-clause-nothing g c _ _ = c.new_general-then-at-len.ensures.capacity
