@@ -34,12 +34,7 @@ has-range a (suc n) m = let rest = has-range (a + 1) n m in grind (arith, nat_te
 -- the numbers below n that pass a test
 has-passing : (test : ℕ → Bool) (n m : ℕ) → has (filter test (range_with_len 0 n)) m ≡ (ltb m n && test m)
 has-passing test n m =
-    has-filter test (range_with_len 0 n) m
-    ∙ ap (λ b. test m && b) (has-range 0 n m ∙ ap (λ b. not b && ltb m (0 + n)) (le-ltb m 0 (omega arith)) ∙ ap (ltb m) (from_zero n))
-    ∙ and_comm (test m) (ltb m n)
-  where
-    from_zero : (n : ℕ) → 0 + n ≡ n
-    from_zero n = omega arith
+    let kept = has-filter test (range_with_len 0 n) m in let range = has-range 0 n m in grind (arith, nat_tests)
 
 -- a set that `from_iter` makes of `(0..n).filter(..)`
 pub members-from_filter : {E F : Type 0} {g : Mut F (Bor ℕ × Unit {0}) Bool} {f : F} {n : ℕ} {s : _} (test : ℕ → Bool) (r : Result Bits E)

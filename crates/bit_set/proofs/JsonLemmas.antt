@@ -3,6 +3,7 @@ use Rattle.std.proofs.Common.{◌≡◌, ◌≢◌, ◌==◌, ◌↔◌, ℕ, �
 use Rattle.std.proofs.lemmas.Bool.{eq-eqb, eqb-true}
 use Rattle.std.proofs.lemmas.List.{length-map, get_or-map, ext_get_or}
 use Rattle.std.proofs.lemmas.List.Elements.{All-nil, All-cons, All-head, All-tail, All-same, All-map, All-weaker, All-from_get_or}
+use Rattle.std.proofs.lemmas.Bool.Decides.{nat_tests}
 use Rattle.std.proofs.lemmas.Nat.Bits.{bit_at-zero, same_from_bits_below}
 use Rattle.std.proofs.lemmas.Option.{same_Some, none-some}
 use Rattle.std.proofs.Math.Nat.{div-add-mod', mod-lt}
@@ -29,7 +30,7 @@ use Rattle.serde_json.specs.Find.{as_object}
 pub members_counted : (d : Data) (es : List Entry) (n count : ℕ) → n ≡ length es → Some (members_view es) ≡ as_object d → IsTrue (n == count) ↔ (members_in d ≡ Some count)
 members_counted d es n count many is =
     let e : members_in d ≡ Some n = ap (option_map members_len) (sym is) ∙ ap Some (members_len-members_view es ∙ sym many) in
-    (λ h. e ∙ ap Some (eqb-true n count h), λ h. eq-eqb n count (same_Some n count (sym e ∙ h)))
+    grind (arith, nat_tests)
 
 -- ---- the numbers
 
@@ -40,9 +41,7 @@ numbers_in-entries w (v ∷ vs) each =
     rw (here.number, numbers_in-entries w vs (All-tail (IsEntry w) v vs each)) refl
 
 both_some : (o : Option ℕ) (p : Option (List ℕ)) (ms : List ℕ) → option_and_then (λ m. option_map (λ ns. m ∷ ns) p) o ≡ Some ms → (m : ℕ) × (ns : List ℕ) × (o ≡ Some m) × (p ≡ Some ns) × (ms ≡ m ∷ ns)
-both_some None p ms h = absurd (none-some ms h)
-both_some (Some m) None ms h = absurd (none-some ms h)
-both_some (Some m) (Some ns) ms h = (m, ns, refl, refl, sym (same_Some (m ∷ ns) ms h))
+both_some o p ms h = grind arith
 
 -- where an array has numbers, each below 2 ^ w, they are those of its entries
 pub entries-numbers_in : (w : ℕ) (vs : List Value) (ms : List ℕ) → numbers_in (items_view vs) ≡ Some ms → All (λ m. m < 2 ^ w) ms → All (IsEntry w) vs

@@ -78,10 +78,7 @@ pub tells_subset : (value : Bool) (s t : List ℕ) → value ≡ is_subset s t �
 tells_subset value s t says = rw says (is_subset-members s t)
 
 pub tells_disjoint : (value : Bool) (s t : List ℕ) → value ≡ is_disjoint s t → IsTrue value ↔ IsDisjoint s t
-tells_disjoint value s t says = (
-  λ is n in_s. false_from_ne_true (has t n) (λ in_t. (is_disjoint-members s t).0 (sym says ∙ is) n in_s in_t),
-  λ apart. says ∙ (is_disjoint-members s t).1 (λ n in_s in_t. true≢false (sym in_t ∙ apart n in_s)),
-)
+tells_disjoint value s t says = let members = is_disjoint-members s t in grind arith
 
 -- ---- how long a list is
 

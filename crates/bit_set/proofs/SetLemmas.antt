@@ -1,8 +1,8 @@
 -- What the operations of `specs/Sets.antt` do to the members, that they keep the order, and that the members fix a set.
-use Rattle.std.proofs.Common.{◌≡◌, ℕ, ◌+◌, ◌<◌, ◌≤◌, Bool, true, false, not, ◌||◌, ◌&&◌, cond, eqb, List, [], ◌∷◌, length, get_or, filter, ◌++◌, suc, zero, count_by, set, replicate, refl, sym, ap, ◌∙◌, arith}
+use Rattle.std.proofs.Common.{◌≡◌, ℕ, ◌+◌, ◌-◌, ◌<◌, ◌≤◌, Bool, true, false, not, ◌||◌, ◌&&◌, cond, eqb, List, [], ◌∷◌, length, get_or, filter, ◌++◌, suc, zero, count_by, set, replicate, refl, sym, ap, ◌∙◌, arith}
 use Rattle.std.proofs.lemmas.Bool.{eqb-true}
 use Rattle.std.proofs.lemmas.Bool.Decides.{nat_tests}
-use Rattle.std.proofs.lemmas.List.{get_or-set_same, get_or-set_other}
+use Rattle.std.proofs.lemmas.List.{get_or-set_same, get_or-set_other, get_or_append_left, get_or-append_right, get_or-replicate, get_or_past, length-replicate}
 use Rattle.std.proofs.lemmas.List.Recursion.{is_count_by}
 use Rattle.std.proofs.lemmas.List.Sums.{count_by-le-length}
 use Rattle.std.proofs.lemmas.Map.Views.{any-filter_same}
@@ -114,11 +114,12 @@ elements-set_false bs v within =
     (λ k. let new = has-set bs v false k within in let loses = has-without (elements bs) v k in grind (arith, nat_tests))
 
 pub get_or_padded : (bs : List Bool) (n k : ℕ) → get_or (bs ++ replicate n false) k false ≡ get_or bs k false
-get_or_padded [] zero k = refl
-get_or_padded [] (suc n) zero = refl
-get_or_padded [] (suc n) (suc k) = get_or_padded [] n k
-get_or_padded (b ∷ bs) n zero = refl
-get_or_padded (b ∷ bs) n (suc k) = get_or_padded bs n k
+get_or_padded bs n k =
+    let front = get_or_append_left bs (replicate n false) false k in
+    let rest = get_or-append_right bs (replicate n false) (length bs) k false refl in
+    let within = get_or-replicate n (k - length bs) false false in
+    let past = get_or_past (replicate n false) (k - length bs) false in
+    grind (arith, get_or_past bs k false, length-replicate n false)
 
 -- a number that is in no set without it
 pub without_absent : (s : List ℕ) (n : ℕ) → IsAscending s → has s n ≡ false → without s n ≡ s

@@ -1,6 +1,4 @@
-use Rattle.std.proofs.Common.{◌≡◌, ◌≢◌, ◌↔◌, ◌-◌, ◌%◌, ◌<◌, length, get_or, ap, sym, ◌∙◌, subst, arith}
-use Rattle.bit_words.specs.Digits.{IsShiftedRight}
-use Rattle.bit_set.specs.Json.{HasZeroTail}
+use Rattle.std.proofs.Common.{◌≡◌, ◌≢◌, ◌-◌, ◌%◌, ◌<◌, length, ap, sym, ◌∙◌, subst, arith}
 use Rattle.bit_set.specs.Entries.{numbers_of, IsEntry}
 use Rattle.bit_set.proofs.JsonLemmas.{blocks_for_some, zero_tail_by_shift, counted, number_at}
 use Rattle.std.proofs.Math.Nat.{mod-lt}
@@ -19,20 +17,11 @@ some g c = blocks_for_some g.B.BitBlock.width c.args.len (length c.args.entries.
 pub returns : goal.returns
 returns g c =
     let law = g.met.B.BitBlock in
-    let w = g.B.BitBlock.width in
-    let number = g.B.BitBlock.number in
     let vs = c.args.entries.now in
-    let n = c.args.len in
-    let r = number c.shift_right.result in
-    let width = c.bits.ensures in
     let at = (goal.at.returns g c).Else-used-eq0 in
-    let last : number c.block_of-last.result ≡ get_or (numbers_of vs) (length (numbers_of vs) - 1) 0 =
-    number_at vs (length vs - 1) c.index-entries-entries.result (number c.block_of-last.result) (some g at) c.index-entries-entries.is c.block_of-last.ensures.of_number
-    ∙ ap (λ k. get_or (numbers_of vs) (k - 1) 0) (sym (counted vs)) in
-    let shifted : IsShiftedRight w (get_or (numbers_of vs) (length (numbers_of vs) - 1) 0) (n % w) r =
-    subst (λ m. IsShiftedRight w m (n % w) r) last (subst (λ x. IsShiftedRight w (number c.block_of-last.result) (n % x) r) width c.shift_right.ensures.of_digits) in
-    let zero_tail : (r ≡ 0) ↔ HasZeroTail w (numbers_of vs) n =
-    zero_tail_by_shift w n r (numbers_of vs) law.width_law.positive (part g at) (counted vs ∙ c.requires.count) (law.number_law c.shift_right.result c.shift_right.ensures.of_block).0 shifted in
+    let last = number_at vs (length vs - 1) _ _ (some g at) c.index-entries-entries.is c.block_of-last.ensures.of_number in
+    let shifted = rw (last, c.bits.ensures, ← counted vs) at c.shift_right.ensures.of_digits in
+    let zero_tail = zero_tail_by_shift _ c.args.len _ (numbers_of vs) law.width_law.positive (part g at) (counted vs ∙ c.requires.count) (law.number_law c.shift_right.result c.shift_right.ensures.of_block).0 shifted in
     let same = law.eq_law c.shift_right.result c.zero.result c.shift_right.ensures.of_block c.zero.ensures.of_block in (
       λ yes. zero_tail.0 (same.0 (sym c.eq.ensures ∙ yes) ∙ c.zero.ensures.of_number),
       λ is. c.eq.ensures ∙ same.1 (zero_tail.1 is ∙ sym c.zero.ensures.of_number),
@@ -46,11 +35,7 @@ overflow_sub-entries g c = omega (arith, some g (goal.at.overflow_sub-entries g 
 
 pub block_of-last-requires : goal.block_of-last-requires
 block_of-last-requires g c =
-    let is = IsEntry g.B.BitBlock.width in
-    subst is (sym c.index-entries-entries.is) (All-get_or is c.args.entries.now _ _ (some g (goal.at.block_of-last-requires g c).Else-used-eq0) c.requires.each)
+    subst (IsEntry g.B.BitBlock.width) (sym c.index-entries-entries.is) (All-get_or (IsEntry g.B.BitBlock.width) c.args.entries.now _ _ (some g (goal.at.block_of-last-requires g c).Else-used-eq0) c.requires.each)
 
-pub shift_right-requires-clause-of_block : goal.shift_right-requires-clause-of_block
-shift_right-requires-clause-of_block g c = c.block_of-last.ensures.of_block
-
-pub shift_right-requires-clause-within : goal.shift_right-requires-clause-within
-shift_right-requires-clause-within g c = rw c.bits.ensures (mod-lt c.args.len g.met.B.BitBlock.width_law.positive)
+pub shift_right-requires : goal.shift_right-requires
+shift_right-requires g c = record { of_block = c.block_of-last.ensures.of_block; within = rw c.bits.ensures (mod-lt c.args.len g.met.B.BitBlock.width_law.positive) }

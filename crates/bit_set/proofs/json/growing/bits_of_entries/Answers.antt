@@ -2,7 +2,6 @@ use Rattle.std.proofs.Common.{◌≡◌, ◌+◌, ◌*◌, false, length, get_or
 use Rattle.std.specs.Int.{bit_at}
 use Rattle.std.proofs.lemmas.List.{length-replicate}
 use Rattle.bit_words.specs.Digits.{is_one}
-use Rattle.bit_words.specs.Storage.{value_at}
 use Rattle.bit_set.specs.Entries.{numbers_of, IsEntry}
 use Rattle.bit_set.proofs.JsonLemmas.{below_of_entries, counted, number_at}
 use Rattle.bit_set.proofs.FilledLemmas.{blocks_of_filled, zero_tail_from, filled_more, filled_none, next_is_false, one_is_within, block_begins}
@@ -17,12 +16,8 @@ entry g c = (number_at c.args.entries.now c.loop-k.k _ _ c.loop-k-test.true c.in
 
 pub loop-k-init : goal.loop-k-init
 loop-k-init g c =
-    let is = c.in_ok-bits.ensures.values in
-    record {
-      filled = λ i. ap (λ values. get_or values i false) is ∙ filled_none g.B.BitBlock.width c.args.len i (numbers_of c.args.entries.now);
-      long = ap length is ∙ length-replicate c.args.len false;
-      capacity = c.in_ok-bits.ensures.capacity;
-    }
+    rw c.in_ok-bits.ensures.values
+    record { filled = λ i. filled_none g.B.BitBlock.width c.args.len i (numbers_of c.args.entries.now); long = length-replicate c.args.len false; capacity = c.in_ok-bits.ensures.capacity }
 
 pub put_ones-requires : goal.put_ones-requires
 put_ones-requires g c =
@@ -34,9 +29,8 @@ put_ones-requires g c =
       counted = omega (arith, invariant.long, c.ranges.len.fits);
       within = λ j within one.
           let zero_tail = zero_tail_from w c.args.len _ g.met.B.BitBlock.width_law.positive (counted c.args.entries.now ∙ c.requires.count) c.requires.zero_tail in
-          let below = one_is_within w c.args.len c.loop-k.k j _ zero_tail within (sym (ap (λ m. bit_at m j) at.0) ∙ one) in
-          omega (arith, below, at, invariant.long);
-      falses = λ j within. ap (λ x. get_or c.loop-k.bits.values (x + j) false) at.1 ∙ next_is_false w c.loop-k.k j (numbers_of c.args.entries.now) c.loop-k.bits.values invariant.filled within;
+          omega (arith, one_is_within w c.args.len c.loop-k.k j _ zero_tail within (sym (ap (λ m. bit_at m j) at.0) ∙ one), at, invariant.long);
+      falses = λ j within. rw at.1 (next_is_false w c.loop-k.k j (numbers_of c.args.entries.now) c.loop-k.bits.values invariant.filled within);
     }
 
 pub loop-k-preserved : goal.loop-k-preserved
@@ -52,13 +46,11 @@ loop-k-preserved g c =
 
 pub returns : goal.returns
 returns g c =
-    let w = g.B.BitBlock.width in
     let vs = c.args.entries.now in
     let all : take c.loop-k.k (numbers_of vs) ≡ numbers_of vs = take_all c.loop-k.k (numbers_of vs) (omega (arith, counted vs, c.loop-k-test.false)) in
-    let invariant = c.loop-k.invariant in
+    let invariant = rw all at c.loop-k.invariant in
     record {
-      blocks = blocks_of_filled w c.args.len (numbers_of vs) c.loop-k.bits.values g.met.B.BitBlock.width_law.positive invariant.long (counted vs ∙ c.requires.count) (below_of_entries w vs c.requires.each) c.requires.zero_tail
-          (λ i. invariant.filled i ∙ ap (λ x. value_at w x i) all);
+      blocks = blocks_of_filled g.B.BitBlock.width c.args.len _ c.loop-k.bits.values g.met.B.BitBlock.width_law.positive invariant.long (counted vs ∙ c.requires.count) (below_of_entries _ vs c.requires.each) c.requires.zero_tail invariant.filled;
       length = invariant.long;
       capacity = invariant.capacity;
       empty = λ none. refl;
@@ -66,14 +58,10 @@ returns g c =
 
 pub overflow_mul-k : goal.overflow_mul-k
 overflow_mul-k g c =
-    let begins = block_begins g.B.BitBlock.width c.args.len (length c.args.entries.now) c.loop-k.k g.met.B.BitBlock.width_law.positive c.requires.count c.loop-k-test.true in
-    let is : c.loop-k.k * c.bits.result ≡ c.loop-k.k * g.B.BitBlock.width = ap (λ x. c.loop-k.k * x) c.bits.ensures in
-    omega (arith, begins, is, c.ranges.len.fits)
+    omega (arith, block_begins g.B.BitBlock.width c.args.len (length c.args.entries.now) c.loop-k.k g.met.B.BitBlock.width_law.positive c.requires.count c.loop-k-test.true, ap (λ x. c.loop-k.k * x) c.bits.ensures, c.ranges.len.fits)
 
 pub block_of-requires : goal.block_of-requires
-block_of-requires g c =
-    let is = IsEntry g.B.BitBlock.width in
-    subst is (sym c.index-entries-k.is) (All-get_or is c.args.entries.now c.loop-k.k c.index-entries-k.result c.loop-k-test.true c.requires.each)
+block_of-requires g c = subst (IsEntry g.B.BitBlock.width) (sym c.index-entries-k.is) (All-get_or (IsEntry g.B.BitBlock.width) c.args.entries.now c.loop-k.k _ c.loop-k-test.true c.requires.each)
 
 pub returns-in_err-bits-clause-empty : goal.returns-in_err-bits-clause-empty
 returns-in_err-bits-clause-empty g c none = absurd (true≢false (sym (c.in_err-bits.ensures.empty none)))
