@@ -83,7 +83,7 @@ impl<B: BitBlock> BitSet<B> {
             return Ok(Self::new_general(alloc));
         }
         let bits = self.bits.clone_tail(alloc, at)?;
-        self.bits.truncate(at);
+        self.truncate(at);
         Ok(BitSet { bits })
     }
 }

@@ -23,9 +23,6 @@ returns-then-at-len-clause-elements g c = all_below c.args.self.now.values c.arg
 pub returns-then-at-len-clause-part : goal.returns-then-at-len-clause-part
 returns-then-at-len-clause-part g c = rw c.new_general-then-at-len.ensures.values (none_from c.args.self.now.values c.args.at (past g c))
 
-pub returns-clause-elements : goal.returns-clause-elements
-returns-clause-elements g c = rw (c.truncate.ensures.values, ← c.self.view_is) (elements-take c.self.inside.bits.values c.args.at)
-
 pub returns-clause-part : goal.returns-clause-part
 returns-clause-part g c = rw (c.in_ok-bits.ensures.values, ← c.self.view_is) (elements-tail c.self.inside.bits.values c.args.at)
 
@@ -35,17 +32,11 @@ returns-then-at-eq0-clause-changes g c = (returns-then-at-eq0-clause-elements g 
 pub returns-then-at-len-clause-changes : goal.returns-then-at-len-clause-changes
 returns-then-at-len-clause-changes g c = (returns-then-at-len-clause-elements g c, refl)
 
-pub returns-clause-changes : goal.returns-clause-changes
-returns-clause-changes g c = (returns-clause-elements g c, refl)
-
 pub returns-then-at-len-clause-members : goal.returns-then-at-len-clause-members
 returns-then-at-len-clause-members g c = members_below (elements c.args.self.now.values) c.args.at (returns-then-at-len-clause-elements g c)
 
 pub returns-then-at-len-clause-part_members : goal.returns-then-at-len-clause-part_members
 returns-then-at-len-clause-part_members g c = members_from (elements c.args.self.now.values) c.args.at (returns-then-at-len-clause-part g c)
-
-pub returns-clause-members : goal.returns-clause-members
-returns-clause-members g c = members_below (elements c.args.self.now.values) c.args.at (returns-clause-elements g c)
 
 pub returns-clause-part_members : goal.returns-clause-part_members
 returns-clause-part_members g c = members_from (elements c.args.self.now.values) c.args.at (returns-clause-part g c)
@@ -74,11 +65,6 @@ returns-then-at-len-clause-exact g c _ inside = absurd (omega (arith, past g c, 
 pub returns-then-at-len-clause-nothing : goal.returns-then-at-len-clause-nothing
 returns-then-at-len-clause-nothing g c _ _ = c.new_general-then-at-len.ensures.capacity
 
-pub returns-clause-length : goal.returns-clause-length
-returns-clause-length g c = rw (c.truncate.ensures.values, ← c.self.view_is) (let long = length-take c.args.at c.self.inside.bits.values in omega (arith, long))
-
 pub returns-clause-exact : goal.returns-clause-exact
 returns-clause-exact g c _ _ = rw (← c.self.view_is) c.in_ok-bits.ensures.capacity
 
-pub returns-clause-capacity : goal.returns-clause-capacity
-returns-clause-capacity g c _ = rw (← c.self.view_is) c.truncate.ensures.capacity
