@@ -16,8 +16,7 @@ changes_inserted value new old next fits says is = grind (arith, nat_tests)
 
 -- the elements stay, also where no memory is found
 pub changes_shrunk : {T E : Type 0} (r : Result T E) (old next : List Bool) → elements next ≡ elements old → Changes ShrinkToFit old (outcome_of_result r) next
-changes_shrunk (Ok x) old next same = (same, refl)
-changes_shrunk (Err fault) old next same = same
+changes_shrunk r old next same = grind arith
 
 found : (call : Change) (old new : List Bool) (outcome : Outcome) → outcome ≢ NoMemory → Changes call old outcome new → (elements new ≡ elements_after call (elements old)) × (outcome ≡ outcome_of call (elements old))
 found call old new outcome some is = grind arith

@@ -54,22 +54,16 @@ module _ {X : Type 0} (w : ℕ) (number : X → ℕ) (pos : 0 < w) where
   value_from : (blocks : List X) (values : List Bool) (from k m i : ℕ) → IsCut w number blocks from k m → map number blocks ≡ blocks_of w values
       → get_or (values_in w (m ∷ map number (drop (k + 1) blocks))) i false ≡ (leb from (k * w + i) && get_or values (k * w + i) false)
   value_from blocks values from k m i is numbers =
-      let rest = drop (k + 1) blocks in
       let q = i / w in
       let j = i % w in
       let within = mod-lt i pos in
       let split : i ≡ q * w + j = sym (div-add-mod' i w) in
       let index : (k + q) * w + j ≡ k * w + i = omega (arith, split) in
-      let value : is_one (get_or (map number blocks) (k + q) 0) j ≡ get_or values (k * w + i) false =
-      sym (value_in w (map number blocks) (k + q) j within)
-      ∙ ap (λ ms. get_or (values_in w ms) ((k + q) * w + j) false) numbers
-      ∙ values_in-blocks_of w values pos ((k + q) * w + j)
-      ∙ ap (λ n. get_or values n false) index in
-      ap (λ n. get_or (values_in w (m ∷ map number rest)) n false) split
-      ∙ value_in w (m ∷ map number rest) q j within
-      ∙ digit_at blocks from k m q j is within
-      ∙ ap (λ n. leb from (k * w + n) && is_one (get_or (map number blocks) (k + q) 0) j) (sym split)
-      ∙ ap (λ b. leb from (k * w + i) && b) value
+      let old = value_in w (map number blocks) (k + q) j within in
+      let new = value_in w (m ∷ map number (drop (k + 1) blocks)) q j within in
+      let read = values_in-blocks_of w values pos ((k + q) * w + j) in
+      let digit = digit_at blocks from k m q j is within in
+      cc
 
   -- what is left is what the set has from there on
   pub left_from : (blocks : List X) (values : List Bool) (from k m : ℕ) → IsCut w number blocks from k m → map number blocks ≡ blocks_of w values

@@ -88,7 +88,7 @@ number_at vs k v m within at is =
 
 -- where a block is not full, there is a last one
 pub blocks_for_some : (w n c : ℕ) → n % w ≢ 0 → c ≡ blocks_for w n → c - 1 < c
-blocks_for_some w n c part count = let one : min 1 (n % w) ≡ 1 = omega (arith, part) in omega (arith, count, one)
+blocks_for_some w n c part count = omega arith
 
 -- a last block that is not full is 0 past the length just where nothing is left of it once its used digits are
 -- shifted out
@@ -123,14 +123,12 @@ one_fault w d a b h k = grind (arith, same_numbers)
 
 -- so it is why there is no set
 pub fault_of_first : (w : ℕ) (d : Data) (fault : JsonError) → IsFirstFault w d fault → IsFault w d fault
-fault_of_first w d (Memory refused) h = absurd h
-fault_of_first w d fault h = h
+fault_of_first w d fault h = grind arith
 
 -- the blocks of a list of truth values and its length fix it
 pub values_from_blocks : (w : ℕ) (a b : List Bool) → 0 < w → blocks_of w a ≡ blocks_of w b → length a ≡ length b → a ≡ b
 values_from_blocks w a b pos same long =
-    ext_get_or false a b long (λ k within.
-    sym (values_in-blocks_of w a pos k) ∙ ap (λ ms. get_or (values_in w ms) k false) same ∙ values_in-blocks_of w b pos k)
+    ext_get_or false a b long (λ k within. let here = values_in-blocks_of w a pos k in let there = values_in-blocks_of w b pos k in cc)
 
 pub one_list : (w : ℕ) (d : Data) (a b : List Bool) → 0 < w → Spells w d (blocks_of w a) (length a) → Spells w d (blocks_of w b) (length b) → a ≡ b
 one_list w d a b pos one other =

@@ -14,15 +14,14 @@ returns-clause-members g c n = ap (λ s. has s n) (returns-clause-elements g c)
 pub returns-clause-empty : goal.returns-clause-empty
 returns-clause-empty g c = λ none. c.shrink_to_fit.ensures.empty (c.cut_zero_blocks.ensures.len ∙ whole_blocks-empty _ c.self.inside.bits.values g.met.B.BitBlock.width_law.positive (ap (λ bits. elements bits.values) c.self.view_is ∙ none))
 
+pub returns-clause-length : goal.returns-clause-length
+returns-clause-length g c = ap length c.shrink_to_fit.ensures.values ∙ c.cut_zero_blocks.ensures.len ∙ ap (λ bits. whole_blocks g.B.BitBlock.width bits.values) c.self.view_is
+
 pub returns-clause-cut : goal.returns-clause-cut
-returns-clause-cut g c = λ fits.
-    ap length c.shrink_to_fit.ensures.values ∙ c.cut_zero_blocks.ensures.len ∙ ap (λ bits. whole_blocks g.B.BitBlock.width bits.values) c.self.view_is
-    ∙ whole_blocks-cut g.B.BitBlock.width c.args.self.now.values (omega (arith, fits))
+returns-clause-cut g c fits = returns-clause-length g c ∙ whole_blocks-cut g.B.BitBlock.width c.args.self.now.values (omega (arith, fits))
 
 pub returns-clause-top : goal.returns-clause-top
-returns-clause-top g c = λ past.
-    ap length c.shrink_to_fit.ensures.values ∙ c.cut_zero_blocks.ensures.len ∙ ap (λ bits. whole_blocks g.B.BitBlock.width bits.values) c.self.view_is
-    ∙ whole_blocks-top g.B.BitBlock.width c.args.self.now.values (omega (arith, past))
+returns-clause-top g c past = returns-clause-length g c ∙ whole_blocks-top g.B.BitBlock.width c.args.self.now.values (omega (arith, past))
 
 pub returns-clause-changes : goal.returns-clause-changes
 returns-clause-changes g c = changes_shrunk c.shrink_to_fit.result c.args.self.now.values c.shrink_to_fit.new.self.values (returns-clause-elements g c)

@@ -67,4 +67,3 @@ returns-then-at-len-clause-nothing g c _ _ = c.new_general-then-at-len.ensures.c
 
 pub returns-clause-exact : goal.returns-clause-exact
 returns-clause-exact g c _ _ = rw (← c.self.view_is) c.in_ok-bits.ensures.capacity
-
