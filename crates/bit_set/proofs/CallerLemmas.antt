@@ -7,7 +7,6 @@ use Rattle.std.specs.Iterator.{Drains}
 use Rattle.std.specs.Iterator.Adapters.{filter_source, filter_callee, filter_steps}
 use Rattle.std.specs.List.{range_with_len}
 use Rattle.std.proofs.iter.Yields.{nat_range_steps}
-use Rattle.std.proofs.lemmas.Bool.{le-ltb}
 use Rattle.std.proofs.lemmas.Bool.Decides.{nat_tests}
 use Rattle.std.proofs.lemmas.Iterator.{YieldsList, YieldsList-from_range}
 use Rattle.std.proofs.lemmas.Iterator.Adapters.{fact_from_collect}
@@ -18,7 +17,6 @@ use Rattle.bit_set.specs.Members.{IsSameSet}
 use Rattle.bit_set.specs.Order.{order_of_sets}
 use Rattle.bit_set.specs.Sets.{bound_of, elements, has, put_all}
 use Rattle.bit_set.specs.Walk.{Walk, Advances}
-use Rattle.std.proofs.Math.Bool.{and_comm}
 use Rattle.bit_set.proofs.SetLemmas.{IsAscending-elements, has-filter, same_members}
 
 module _ {S V E : Type 0} {steps : S → Option ℕ → S → Type 0} {s : S} {all : List ℕ} where

@@ -150,9 +150,7 @@ impl<B: BitBlock> BitSet<B> {
 
     /// Takes every element out and makes the length 0. The capacity stays. Constant time.
     pub fn reset(&mut self)
-        ensures values { self.new.values ≡ [] }
-        ensures members { HasNone (elements self.new.values) }
-        ensures capacity { self.new.capacity ≡ self.old.capacity }
+        ensures whole { self.new ≡ record { values = []; capacity = self.old.capacity } }
         ensures changes { Changes Change.Reset self.old.values Done self.new.values }
     {
         self.bits.remove_all();

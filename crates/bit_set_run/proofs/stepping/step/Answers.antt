@@ -48,7 +48,7 @@ returns-in-Empty-clause-sets g c =
 pub returns-in-Reset-clause-sets : goal.returns-in-Reset-clause-sets
 returns-in-Reset-clause-sets g c =
     let sets = c.args.sets.now in
-    rw c.in-Reset.is (change_is sets c.place-in-Reset.result c.in-Reset.name c.index-sets-place-in-Reset.result c.reset.new.self (λ _. []) c.place-in-Reset.ensures.place (omega (arith, c.told-sets, c.place-in-Reset.ensures.within)) (ap elements c.reset.ensures.values))
+    rw c.in-Reset.is (change_is sets c.place-in-Reset.result c.in-Reset.name c.index-sets-place-in-Reset.result c.reset.new.self (λ _. []) c.place-in-Reset.ensures.place (omega (arith, c.told-sets, c.place-in-Reset.ensures.within)) (ap (λ bits. elements bits.values) c.reset.ensures.whole))
 
 pub returns-in-Reserve-clause-sets : goal.returns-in-Reserve-clause-sets
 returns-in-Reserve-clause-sets g c =

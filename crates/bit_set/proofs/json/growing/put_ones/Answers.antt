@@ -1,4 +1,4 @@
-use Rattle.std.proofs.Common.{◌≡◌, ◌+◌, ◌∙◌, ◌<◌, [], ap, length, not, refl, sym, arith}
+use Rattle.std.proofs.Common.{◌+◌, ◌∙◌, ◌<◌, [], ap, length, refl, sym, arith}
 use Rattle.std.proofs.lemmas.Bool.{not-false}
 use Rattle.bit_set.proofs.PlaceLemmas.{indexes-lowest}
 use Rattle.bit_set.proofs.FilledLemmas.{put_all, put_nothing, put_lowest, lowest_is_one}
