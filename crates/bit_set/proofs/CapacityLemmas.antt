@@ -1,10 +1,10 @@
 -- How many blocks and how much capacity a set takes.
-use Rattle.std.proofs.Common.{◌≡◌, ℕ, ◌+◌, ◌-◌, ◌*◌, ◌^◌, ◌<◌, ◌≤◌, ◌↔◌, max, Bool, true, nat_lt, if◌then◌else◌, All, IsTrue, List, [], ◌∷◌, length, slice_get, Some, refl, ap, ◌∙◌, arith, mul-le-mul_right, Ok, Err}
+use Rattle.std.proofs.Common.{◌≡◌, ℕ, ◌+◌, ◌-◌, ◌<◌, ◌≤◌, ◌↔◌, max, Bool, true, nat_lt, if◌then◌else◌, All, IsTrue, List, [], ◌∷◌, length, slice_get, Some, refl, ap, ◌∙◌, arith, mul-le-mul_right, Ok, Err}
 use Rattle.std.proofs.lemmas.List.Elements.{All-nil, All-cons, All-head, All-tail}
 use Rattle.std.proofs.lemmas.Bool.Decides.{nat_tests}
 use Rattle.bit_words.specs.Bits.{Bits, blocks_for, capacity_of, true_end, whole_blocks}
 use Rattle.bit_words.proofs.BitsLemmas.{blocks_for-le, blocks_for-least, blocks_for-enough}
-use Rattle.bit_words.proofs.CapacityLemmas.{whole_blocks-fits, whole_blocks-past}
+use Rattle.bit_words.proofs.CapacityLemmas.{whole_blocks-fits}
 use Rattle.bit_words.specs.Growth.{Grows}
 use Rattle.bit_set.specs.Sets.{elements, elements_from, bound_of}
 use Rattle.bit_set.specs.Capacity.{Run}
@@ -41,13 +41,6 @@ whole_blocks-empty w bs pos none =
     let ends = true_end-bound bs ∙ ap bound_of none in
     let least = blocks_for-least w (true_end bs) 0 pos (omega arith) in
     whole_blocks-fits w 0 bs (omega arith) (omega arith) ∙ omega arith
-
--- what a shrunk set is as long as, by its elements
-pub whole_blocks-cut : (w : ℕ) (bs : List Bool) → blocks_for w (bound_of (elements bs)) * w < 2 ^ 64 → whole_blocks w bs ≡ blocks_for w (bound_of (elements bs)) * w
-whole_blocks-cut w bs fits = whole_blocks-fits w (blocks_for w (bound_of (elements bs))) bs (ap (blocks_for w) (true_end-bound bs)) fits
-
-pub whole_blocks-top : (w : ℕ) (bs : List Bool) → 2 ^ 64 ≤ blocks_for w (bound_of (elements bs)) * w → whole_blocks w bs ≡ length bs
-whole_blocks-top w bs past = whole_blocks-past w (blocks_for w (bound_of (elements bs))) bs (ap (blocks_for w) (true_end-bound bs)) past
 
 -- ---- growths
 

@@ -1,7 +1,7 @@
 -- Lemmas on the JSON form: the members of an object, the numbers of an array, and what a value spells.
-use Rattle.std.proofs.Common.{◌≡◌, ◌≢◌, ◌==◌, ◌↔◌, ℕ, ◌+◌, ◌-◌, ◌*◌, ◌/◌, ◌%◌, ◌^◌, ◌<◌, Bool, false, codes, is_some, List, [], ◌∷◌, length, map, get_or, All, Option, Some, None, IsTrue, option_map, option_and_then, refl, sym, ap, ◌∙◌, subst, pow_pos, unwrap_or, ok_or, Err, arith}
+use Rattle.std.proofs.Common.{◌≡◌, ◌≢◌, ◌==◌, ◌↔◌, ℕ, ◌+◌, ◌-◌, ◌*◌, ◌/◌, ◌%◌, ◌^◌, ◌<◌, Bool, false, codes, is_some, List, [], ◌∷◌, length, map, get_or, All, Option, Some, None, IsTrue, option_map, option_and_then, refl, sym, ap, ◌∙◌, pow_pos, unwrap_or, ok_or, Err, arith}
 use Rattle.std.proofs.lemmas.List.{length-map, get_or-map, ext_get_or}
-use Rattle.std.proofs.lemmas.List.Elements.{All-nil, All-cons, All-head, All-tail, All-same, All-map, All-weaker, All-from_get_or}
+use Rattle.std.proofs.lemmas.List.Elements.{All-nil, All-cons, All-head, All-tail, All-map, All-weaker, All-from_get_or}
 use Rattle.std.proofs.lemmas.Bool.Decides.{nat_tests}
 use Rattle.std.proofs.lemmas.Nat.Bits.{bit_at-zero, same_from_bits_below}
 use Rattle.std.proofs.lemmas.Option.{same_Some}
@@ -45,12 +45,9 @@ pub entries-numbers_in : (w : ℕ) (vs : List Value) (ms : List ℕ) → numbers
 entries-numbers_in w [] ms is below = All-nil (IsEntry w)
 entries-numbers_in w (v ∷ vs) ms is below =
     let (m, ns, here, later, parts) = both_some (number_in (view v)) (numbers_in (items_view vs)) ms is in
-    let P : ℕ → Type 0 = λ m. m < 2 ^ w in
-    let each : All P (m ∷ ns) = All-same P (m ∷ ns) ms (sym parts) below in
-    let same : m ≡ number_of_entry v = sym (ap (λ o. unwrap_or o 0) here) in
-    All-cons (IsEntry w) v vs
-    (record { number = here ∙ ap Some same; below = subst P same (All-head P m ns each) })
-    (entries-numbers_in w vs ns later (All-tail P m ns each))
+    let each : All (λ n. n < 2 ^ w) (m ∷ ns) = rw parts at below in
+    All-cons (IsEntry w) v vs (record { number = rw here refl; below = rw here (All-head (λ n. n < 2 ^ w) m ns each) })
+    (entries-numbers_in w vs ns later (All-tail (λ n. n < 2 ^ w) m ns each))
 
 pub below_of_entries : (w : ℕ) (vs : List Value) → All (IsEntry w) vs → All (λ m. m < 2 ^ w) (numbers_of vs)
 below_of_entries w vs each = All-map (λ m. m < 2 ^ w) number_of_entry vs (All-weaker (IsEntry w) (λ v. number_of_entry v < 2 ^ w) (λ v is. is.below) vs each)

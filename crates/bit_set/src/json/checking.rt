@@ -43,6 +43,7 @@ fn parts(value: &Value) -> Option<(&[Value], &Value)>
 }
 
 // Whether the value is an object with just so many members.
+#[tactic(auto, using(crate::proofs::JsonLemmas::members_counted))]
 fn has_members(value: &Value, count: usize) -> bool
     ensures { IsTrue result ↔ (members_in (view value.now) ≡ Some count) }
 {

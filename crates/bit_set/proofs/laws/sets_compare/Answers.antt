@@ -1,4 +1,4 @@
-use Rattle.std.proofs.Common.{◌≡◌, ℕ, ◌<◌, List, [], ◌∷◌, ◌++◌, refl, sym, ap, ◌∙◌}
+use Rattle.std.proofs.Common.{◌≡◌, ℕ, ◌<◌, List, [], ◌∷◌, ◌++◌, refl, ap, arith, ◌∙◌}
 use Rattle.std.specs.Cmp.{Equal-is}
 use Rattle.std.specs.Cmp.Lexicographic.{bytes_decides, nat_list_cmp_total, nat_list_eq_equiv, texts_ties}
 use Rattle.std.specs.declared.cmp.Ordering.TheVariants.{Less}
@@ -19,10 +19,7 @@ returns c = record {
   same = bytes_decides;
   equivalence = nat_list_eq_equiv;
   total = nat_list_cmp_total;
-  equal = λ s t. (
-    λ tied. texts_ties s t ∙ (Equal-is (order_of_sets s t)).1 tied,
-    λ same. (Equal-is (order_of_sets s t)).0 (sym (texts_ties s t) ∙ same),
-  );
+  equal = λ s t. grind (arith, texts_ties s t, Equal-is (order_of_sets s t));
   goes_on = goes_on;
   ends = ends;
   no_subsets_first = refl;

@@ -44,9 +44,6 @@ returns g c =
       kept = invariant.kept;
     }
 
-pub returns-in_err-insert-clause-capacity : goal.returns-in_err-insert-clause-capacity
-returns-in_err-insert-clause-capacity g c = omega (arith, c.loop-item.invariant.capacity, c.insert.ensures.grows.capacity)
-
 pub returns-in_err-insert-clause-within : goal.returns-in_err-insert-clause-within
 returns-in_err-insert-clause-within g c along =
     let calls = rw c.into_iter-item-iterator.ensures.into_iter_gives at c.loop-item.yielded_by in

@@ -5,17 +5,11 @@ use Rattle.bit_set.proofs.CapacityLemmas.{Grows-changed, Grows-failed}
 use Rattle.bit_set.proofs.set.BitSet.lengthen_past.Goals.{After-grow, After-from_residual}
 use Rattle.bit_set.proofs.set.BitSet.lengthen_past.Goals as goal
 
-pub prove-unreachable-requires : goal.prove-unreachable-requires
-prove-unreachable-requires g c = omega (arith, c.if-prove.true, c.len-len.ensures.value, c.capacity.ensures.value, c.capacity.ensures.fits.holds_values)
-
 pub overflow_sub-value : goal.overflow_sub-value
 overflow_sub-value g c = omega (arith, ap (λ bits. length bits.values) c.self.view_is, c.len-len.ensures.value, c.requires)
 
 pub grow-requires : goal.grow-requires
 grow-requires g c = omega (arith, overflow_sub-value g c, c.len-len.ensures.value, c.ranges.value.fits, c.if-value-eq18446744073709551615.false)
-
-pub overflow_add-value : goal.overflow_add-value
-overflow_add-value g c = omega (arith, c.ranges.value.fits, c.if-value-eq18446744073709551615.false)
 
 -- how far the list grows
 reach : (g : _) (c : After-grow g) → length c.self.inside.bits.values + (c.args.value - c.len-len.result + 1) ≡ c.args.value + 1

@@ -1,7 +1,8 @@
 use Rattle.std.proofs.Common.{ap, length, ◌∙◌, arith}
-use Rattle.bit_words.specs.Bits.{whole_blocks}
+use Rattle.bit_words.specs.Bits.{blocks_for, whole_blocks}
 use Rattle.bit_set.specs.Sets.{elements, has}
-use Rattle.bit_set.proofs.CapacityLemmas.{elements-true_values, whole_blocks-cut, whole_blocks-empty, whole_blocks-top}
+use Rattle.bit_set.proofs.CapacityLemmas.{elements-true_values, true_end-bound, whole_blocks-empty}
+use Rattle.bit_words.proofs.CapacityLemmas.{whole_blocks-fits, whole_blocks-past}
 use Rattle.bit_set.proofs.CallLemmas.{changes_shrunk}
 use Rattle.bit_set.proofs.set.BitSet.shrink_to_fit.Goals as goal
 
@@ -18,10 +19,16 @@ pub returns-clause-length : goal.returns-clause-length
 returns-clause-length g c = ap length c.shrink_to_fit.ensures.values ∙ c.cut_zero_blocks.ensures.len ∙ ap (λ bits. whole_blocks g.B.BitBlock.width bits.values) c.self.view_is
 
 pub returns-clause-cut : goal.returns-clause-cut
-returns-clause-cut g c fits = returns-clause-length g c ∙ whole_blocks-cut g.B.BitBlock.width c.args.self.now.values (omega (arith, fits))
+returns-clause-cut g c fits =
+    let w = g.B.BitBlock.width in
+    let values = c.args.self.now.values in
+    returns-clause-length g c ∙ whole_blocks-fits w _ values (ap (blocks_for w) (true_end-bound values)) (omega (arith, fits))
 
 pub returns-clause-top : goal.returns-clause-top
-returns-clause-top g c past = returns-clause-length g c ∙ whole_blocks-top g.B.BitBlock.width c.args.self.now.values (omega (arith, past))
+returns-clause-top g c past =
+    let w = g.B.BitBlock.width in
+    let values = c.args.self.now.values in
+    returns-clause-length g c ∙ whole_blocks-past w _ values (ap (blocks_for w) (true_end-bound values)) (omega (arith, past))
 
 pub returns-clause-changes : goal.returns-clause-changes
 returns-clause-changes g c = changes_shrunk c.shrink_to_fit.result c.args.self.now.values c.shrink_to_fit.new.self.values (returns-clause-elements g c)

@@ -57,11 +57,5 @@ returns-then-at-len-clause-length g c = omega (arith, past g c)
 pub returns-then-at-len-clause-part_length : goal.returns-then-at-len-clause-part_length
 returns-then-at-len-clause-part_length g c = rw c.new_general-then-at-len.ensures.values (grind (arith, nat_tests, past g c))
 
-pub returns-then-at-len-clause-exact : goal.returns-then-at-len-clause-exact
-returns-then-at-len-clause-exact g c _ inside = absurd (omega (arith, past g c, inside))
-
-pub returns-then-at-len-clause-nothing : goal.returns-then-at-len-clause-nothing
-returns-then-at-len-clause-nothing g c _ _ = c.new_general-then-at-len.ensures.capacity
-
 pub returns-clause-exact : goal.returns-clause-exact
 returns-clause-exact g c _ _ = rw (← c.self.view_is) c.in_ok-bits.ensures.capacity
