@@ -19,7 +19,7 @@ impl<B: BitBlock> BitSet<B> {
     {
         let old = self.bits.len();
         if len > old {
-            return self.bits.grow(len - old, false);
+            self.bits.grow(len - old, false)?;
         }
         Ok(())
     }
