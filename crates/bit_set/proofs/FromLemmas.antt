@@ -72,7 +72,7 @@ module _ {X : Type 0} (w : ℕ) (number : X → ℕ) (pos : 0 < w) where
       let p = k * w in
       let bs = values_in w (m ∷ map number (drop (k + 1) blocks)) in
       sym (indexes-next w p m bs (values_of_blocks w number (drop (k + 1) blocks)) refl)
-      ∙ same_members (elements_from p bs) (those_from (elements values) from) (AscendsFrom-lower p 0 (elements_from p bs) (omega arith) (AscendsFrom-elements_from p bs)) (AscendsFrom-filter 0 (λ n. leb from n) (elements values) (IsAscending-elements values))
+      ∙ same_members _ (those_from (elements values) from) (AscendsFrom-lower p 0 _ (omega arith) (AscendsFrom-elements_from p bs)) (AscendsFrom-filter 0 _ (elements values) (IsAscending-elements values))
       (λ n.
       let below = has-below p (elements_from p bs) n (AscendsFrom-elements_from p bs) in
       let member = has-elements_from p bs (n - p) in

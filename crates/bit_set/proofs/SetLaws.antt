@@ -55,19 +55,19 @@ same_finite s t same = set.same_set nat_cmp_total set.nat_cmp-IsAntisymmetric (f
 
 pub finite-put : (s : List ℕ) (n : ℕ) → finite (put s n) ≡ set.insert (finite s) n
 finite-put s n =
-    same_finite (put s n) _ (λ m. let ours = has-put s n m in let theirs = set.contains-insert nat_cmp_total (finite s) n m in let tied = unsigned_tied m n in let same = contains-has s m in grind (arith, nat_tests))
+    same_finite (put s n) _ (λ m. let ours = has-put s n m in let theirs = set.contains-insert nat_cmp_total (finite s) n m in grind (arith, nat_tests, unsigned_tied m n, contains-has s m))
 
 pub finite-filter : (p : ℕ → Bool) (s : List ℕ) → finite (filter p s) ≡ set.retain (finite s) p
 finite-filter p s =
-    same_finite (filter p s) _ (λ m. let ours = has-filter p s m in let theirs = set.contains-retain (finite s) p m (λ x e. ap p (sym (eqb-true m x (sym (unsigned_tied m x) ∙ ap is_eq e)))) in let same = contains-has s m in grind arith)
+    same_finite (filter p s) _ (λ m. let theirs = set.contains-retain (finite s) p m (λ x e. ap p (sym (eqb-true m x (sym (unsigned_tied m x) ∙ ap is_eq e)))) in grind (arith, has-filter p s m, contains-has s m))
 
 pub finite-without : (s : List ℕ) (n : ℕ) → finite (without s n) ≡ set.remove (finite s) n
 finite-without s n =
-    same_finite (without s n) _ (λ m. let ours = has-without s n m in let theirs = set.contains-remove nat_cmp_total (finite s) n m in let tied = unsigned_tied m n in let same = contains-has s m in grind (arith, nat_tests))
+    same_finite (without s n) _ (λ m. let ours = has-without s n m in let theirs = set.contains-remove nat_cmp_total (finite s) n m in grind (arith, nat_tests, unsigned_tied m n, contains-has s m))
 
 pub finite-put_all : (s items : List ℕ) → finite (put_all s items) ≡ set.union (finite s) (finite items)
 finite-put_all s items =
-    same_finite (put_all s items) _ (λ m. let ours = has-put_all s items m in let theirs = set.contains-union nat_cmp_total (finite s) (finite items) m in let same = contains-has s m in let too = contains-has items m in grind arith)
+    same_finite (put_all s items) _ (λ m. let ours = has-put_all s items m in let theirs = set.contains-union nat_cmp_total (finite s) (finite items) m in grind (arith, contains-has s m, contains-has items m))
 
 -- an ascending list has as many members as it is long
 pub len-finite : (low : ℕ) (s : List ℕ) → AscendsFrom low s → set.len (finite s) ≡ length s

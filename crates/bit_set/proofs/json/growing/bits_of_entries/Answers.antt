@@ -50,7 +50,8 @@ returns g c =
     let all : take c.loop-k.k (numbers_of vs) ≡ numbers_of vs = take_all c.loop-k.k (numbers_of vs) (omega (arith, counted vs, c.loop-k-test.false)) in
     let invariant = rw all at c.loop-k.invariant in
     record {
-      blocks = blocks_of_filled g.B.BitBlock.width c.args.len _ c.loop-k.bits.values g.met.B.BitBlock.width_law.positive invariant.long (counted vs ∙ c.requires.count) (below_of_entries _ vs c.requires.each) c.requires.zero_tail invariant.filled;
+      blocks = blocks_of_filled g.B.BitBlock.width c.args.len _ c.loop-k.bits.values g.met.B.BitBlock.width_law.positive invariant.long (counted vs ∙ c.requires.count)
+          (below_of_entries _ vs c.requires.each) c.requires.zero_tail invariant.filled;
       length = invariant.long;
       capacity = invariant.capacity;
       empty = λ none. refl;
@@ -58,7 +59,8 @@ returns g c =
 
 pub overflow_mul-k : goal.overflow_mul-k
 overflow_mul-k g c =
-    omega (arith, block_begins g.B.BitBlock.width c.args.len (length c.args.entries.now) c.loop-k.k g.met.B.BitBlock.width_law.positive c.requires.count c.loop-k-test.true, ap (λ x. c.loop-k.k * x) c.bits.ensures, c.ranges.len.fits)
+    let begins = block_begins g.B.BitBlock.width c.args.len (length c.args.entries.now) c.loop-k.k g.met.B.BitBlock.width_law.positive c.requires.count c.loop-k-test.true in
+    omega (arith, begins, ap (λ x. c.loop-k.k * x) c.bits.ensures, c.ranges.len.fits)
 
 pub block_of-requires : goal.block_of-requires
 block_of-requires g c = subst (IsEntry g.B.BitBlock.width) (sym c.index-entries-k.is) (All-get_or (IsEntry g.B.BitBlock.width) c.args.entries.now c.loop-k.k _ c.loop-k-test.true c.requires.each)
