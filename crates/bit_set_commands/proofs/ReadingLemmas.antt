@@ -7,8 +7,10 @@ use Rattle.std.proofs.lemmas.Int.Digits.{digits_value_more}
 use Rattle.std.proofs.lemmas.Str.{digit_value_digit}
 use Rattle.std.proofs.lemmas.Bool.{and_parts, and_right}
 use Rattle.std.proofs.lemmas.Bool.Decides.{eqb_tells}
+use Rattle.std.proofs.lemmas.List.Folds.{list_all-append}
 use Rattle.std.specs.List.{list_all}
 use Rattle.std.specs.Option.{option_and_then, option_map, option_zip}
+use Rattle.std.specs.Result.{result_and}
 use Rattle.bit_set_commands.specs.Cuts.{Lacks}
 use Rattle.bit_set_commands.specs.declared.commands.Command.{Command}
 use Rattle.bit_set_commands.specs.declared.verbs.Verb.{Verb}
@@ -23,7 +25,7 @@ use Rattle.bit_set_commands.specs.declared.verbs.SetWalk.{SetWalk}
 use Rattle.bit_set_commands.specs.declared.verbs.SetWalk.TheVariants.{One, Two}
 use Rattle.bit_set_commands.specs.declared.reading.BadLine.{BadLine}
 use Rattle.bit_set_commands.specs.declared.reading.BadLine.TheVariants.{BadCommand, BadNumber}
-use Rattle.bit_set_commands.specs.Reading.{command_of, fitting_number, name_alone, name_and_number, name_of, names_and_number, names_around_number, number_and_name, number_of, reading, rest_command, rest_of, two_names, within_range}
+use Rattle.bit_set_commands.specs.Reading.{alone, command_of, fitting_number, followed, name_alone, name_of, number_alone, number_of, reading, rest_command, rest_of, within_range}
 use Rattle.bit_set_commands.specs.Spelling.{numbers_of}
 use Rattle.bit_set_commands.specs.Verbs.{name_command, number_command, pair_command, verb_of, walk_of}
 use Rattle.bit_words.specs.Bounds.{greatest}
@@ -100,78 +102,54 @@ name_of-cut (letter ∷ more ∷ others) place below space = refl
 number_of-cut : (text : List ℕ) (place : ℕ) → place < length text → get_or text place 0 ≡ 32 → number_of text ≡ None
 number_of-cut text place below space = number_of-other text place below (rw space)
 
--- a name alone is what the whole text spells
-pub name_alone_words : (text : List ℕ) → name_alone (words_of text) ≡ name_of text
-name_alone_words text = elim (one_word text) [
-  | inl alone ↦ rw alone
-  | inr two ↦ rw (two.words, name_of-cut text two.place two.below two.space)
+-- one word alone is the whole text
+alone-text : {X : Type 0} (spelled : List ℕ → Option X) → ((text : List ℕ) (place : ℕ) → place < length text → get_or text place 0 ≡ 32 → spelled text ≡ None) → (text : List ℕ) → alone spelled (words_of text) ≡ spelled text
+alone-text spelled cut text = elim (one_word text) [
+  | inl same ↦ rw same
+  | inr two ↦ rw (two.words, cut text two.place two.below two.space)
 ]
+
+pub name_alone-text : (text : List ℕ) → name_alone (words_of text) ≡ name_of text
+name_alone-text = alone-text name_of name_of-cut
+
+pub number_alone-text : (text : List ℕ) → number_alone (words_of text) ≡ number_of text
+number_alone-text = alone-text number_of number_of-cut
 
 pub nothing : {X Y : Type 0} (x : Option X) → None ≡ option_zip {U = Y} x None
 nothing None = refl
 nothing (Some x) = refl
 
--- the text after the first space is the number
-pub name_and_number-words : (name number : List ℕ) → Lacks 32 name → name_and_number (words_of (name ++ 32 ∷ number)) ≡ option_zip (name_of name) (number_of number)
-name_and_number-words name number lacks = rw (parts_at-first 32 name number lacks) (elim (one_word number) [
-  | inl alone ↦ rw alone
-  | inr two ↦ rw (two.words, number_of-cut number two.place two.below two.space) (nothing (name_of name))
-])
+-- without a space there is nothing behind the first word
+pub followed-word : {X Y : Type 0} (first : List (List ℕ) → Option X) (others : List (List ℕ) → Option Y) (word : List ℕ) → others [] ≡ None → Lacks 32 word → followed first others (words_of word) ≡ None
+followed-word first others word none lacks = rw (parts_at-one 32 word lacks, none) (sym (nothing (first (word ∷ []))))
 
--- it is the second name
-pub two_names-words : (first second : List ℕ) → Lacks 32 first → two_names (words_of (first ++ 32 ∷ second)) ≡ option_zip (name_of first) (name_of second)
-two_names-words first second lacks = rw (parts_at-first 32 first second lacks) (elim (one_word second) [
-  | inl alone ↦ rw alone
-  | inr two ↦ rw (two.words, name_of-cut second two.place two.below two.space) (nothing (name_of first))
-])
+-- What is said of two values, by what is said of each: a word that fits nothing comes before a number too large.
+abbrev pub both : {X Y : Type 0} → Result X BadLine → Result Y BadLine → Result (X × Y) BadLine
+both (Err BadCommand) second = Err BadCommand
+both (Err BadNumber) second = result_and second (Err BadNumber)
+both (Ok x) (Ok y) = Ok (x, y)
+both (Ok x) (Err bad) = Err bad
 
--- what comes after the first name is the second and the number
-pub names_and_number-words : (first words : List ℕ) → Lacks 32 first → names_and_number (words_of (first ++ 32 ∷ words)) ≡ option_zip (name_of first) (name_and_number (words_of words))
-names_and_number-words first words lacks = rw (parts_at-first 32 first words lacks)
+both-tests : {X Y : Type 0} (s t : Bool) (x : X) (y : Y) → both (if s then Ok x else Err BadNumber) (if t then Ok y else Err BadNumber) ≡ (if s && t then Ok (x, y) else Err BadNumber)
+both-tests true true x y = refl
+both-tests true false x y = refl
+both-tests false true x y = refl
+both-tests false false x y = refl
 
--- the text after the first space is the name
-pub number_and_name-words : (number name : List ℕ) → Lacks 32 number → number_and_name (words_of (number ++ 32 ∷ name)) ≡ option_zip (name_of name) (number_of number)
-number_and_name-words number name lacks = rw (parts_at-first 32 number name lacks) (elim (one_word name) [
-  | inl alone ↦ rw alone
-  | inr two ↦ rw (two.words, name_of-cut name two.place two.below two.space)
-])
+both-test : {X Y : Type 0} (s : Bool) (x : X) → both {Y = Y} (if s then Ok x else Err BadNumber) (Err BadCommand) ≡ Err BadCommand
+both-test true x = refl
+both-test false x = refl
 
--- what comes after the first name is the number and the second
-pub names_around_number-words : (first words : List ℕ) → Lacks 32 first → names_around_number (words_of (first ++ 32 ∷ words)) ≡ option_zip (name_of first) (number_and_name (words_of words))
-names_around_number-words first words lacks = rw (parts_at-first 32 first words lacks)
+both-zip : {X Y : Type 0} (numbers : X → List ℕ) (others : Y → List ℕ) (x : Option X) (y : Option Y) → both (within_range numbers x) (within_range others y) ≡ within_range (λ p. numbers p.0 ++ others p.1) (option_zip x y)
+both-zip numbers others None y = refl
+both-zip numbers others (Some x) None = both-test (list_all (λ n. nat_le n greatest) (numbers x)) x
+both-zip numbers others (Some x) (Some y) =
+    rw list_all-append (both-tests (list_all (λ n. nat_le n greatest) (numbers x)) (list_all (λ n. nat_le n greatest) (others y)) x y)
 
--- without a space there is no second name
-pub names_and_number-word : (word : List ℕ) → Lacks 32 word → names_and_number (words_of word) ≡ None
-names_and_number-word word lacks = rw (parts_at-one 32 word lacks) (sym (nothing (name_of word)))
-
-pub names_around_number-word : (word : List ℕ) → Lacks 32 word → names_around_number (words_of word) ≡ None
-names_around_number-word word lacks = rw (parts_at-one 32 word lacks) (sym (nothing (name_of word)))
-
--- a name that was read
-pub named : (name : Option ℕ) (s : ℕ) → Ok s ≡ within_range (λ (s : ℕ). []) name → name ≡ Some s
-named None s is = cc
-named (Some t) s is = cc
-
-by_test : {Y : Type 0} (fits : Bool) (y : Y) (t : ℕ) (e : BadLine) → ◌≡◌ {A = Result Y BadLine} (Err e) (if fits then Ok y else Err BadNumber) → ◌≡◌ {A = Result (ℕ × Y) BadLine} (Err e) (if fits then Ok (t, y) else Err BadNumber)
-by_test true y t e is = cc
-by_test false y t e is = cc
-
-ok_by_test : {Y : Type 0} (fits : Bool) (z : Y) (s : ℕ) (y : Y) → ◌≡◌ {A = Result Y BadLine} (Ok y) (if fits then Ok z else Err BadNumber) → ◌≡◌ {A = Result (ℕ × Y) BadLine} (Ok (s, y)) (if fits then Ok (s, z) else Err BadNumber)
-ok_by_test true z s y is = cc
-ok_by_test false z s y is = cc
-
--- what is said of a name and another value, by what is said of each
-pub zip-name_err : {Y : Type 0} (numbers : Y → List ℕ) (name : Option ℕ) (other : Option Y) (e : BadLine) → Err e ≡ within_range (λ (s : ℕ). []) name → Err e ≡ within_range (λ (p : ℕ × Y). numbers p.1) (option_zip name other)
-zip-name_err numbers None other e is = cc
-zip-name_err numbers (Some s) other e is = cc
-
-pub zip-other_err : {Y : Type 0} (numbers : Y → List ℕ) (name : Option ℕ) (other : Option Y) (s : ℕ) (e : BadLine) → Ok s ≡ within_range (λ (s : ℕ). []) name → Err e ≡ within_range numbers other → Err e ≡ within_range (λ (p : ℕ × Y). numbers p.1) (option_zip name other)
-zip-other_err numbers name None s e is told = rw (named name s is) (cc)
-zip-other_err numbers name (Some y) s e is told = rw (named name s is) (by_test (list_all (λ m. nat_le m greatest) (numbers y)) y s e told)
-
-pub zip-ok : {Y : Type 0} (numbers : Y → List ℕ) (name : Option ℕ) (other : Option Y) (s : ℕ) (y : Y) → Ok s ≡ within_range (λ (s : ℕ). []) name → Ok y ≡ within_range numbers other → Ok (s, y) ≡ within_range (λ (p : ℕ × Y). numbers p.1) (option_zip name other)
-zip-ok numbers name None s y is told = cc
-zip-ok numbers name (Some z) s y is told = rw (named name s is) (ok_by_test (list_all (λ k. nat_le k greatest) (numbers z)) z s y told)
+-- what is said of a word and of all behind it
+pub followed-words : {X Y : Type 0} (first : List (List ℕ) → Option X) (others : List (List ℕ) → Option Y) (numbers : X → List ℕ) (more : Y → List ℕ) (word words : List ℕ) → Lacks 32 word → both (within_range numbers (first (words_of word))) (within_range more (others (words_of words))) ≡ within_range (λ p. numbers p.0 ++ more p.1) (followed first others (words_of (word ++ 32 ∷ words)))
+followed-words first others numbers more word words lacks =
+    rw (parts_at-first 32 word words lacks, parts_at-one 32 word lacks) (both-zip numbers more (first (word ∷ [])) (others (words_of words)))
 
 -- what is said of numbers of which some are read, and whether one of those was too large
 abbrev pub told : List ℕ → Bool → Option (List ℕ) → Result (List ℕ) BadLine
@@ -214,18 +192,18 @@ rest_command-alone (Some (Two merge)) = refl
 pub rest_of-alone : (word : List ℕ) → rest_of (word ∷ []) ≡ None
 rest_of-alone word = rest_command-alone (walk_of word)
 
-alone : (verb : Option Verb) → within_range numbers_of (option_and_then (λ v. command_of v []) verb) ≡ Err BadCommand
-alone None = refl
-alone (Some (Name verb)) = refl
-alone (Some (NameAndNumber verb)) = refl
-alone (Some (TwoNames verb)) = refl
-alone (Some Extend) = refl
-alone (Some SplitOff) = refl
-alone (Some Rest) = refl
+verb_alone : (verb : Option Verb) → within_range numbers_of (option_and_then (λ v. command_of v []) verb) ≡ Err BadCommand
+verb_alone None = refl
+verb_alone (Some (Name verb)) = refl
+verb_alone (Some (NameAndNumber verb)) = refl
+verb_alone (Some (TwoNames verb)) = refl
+verb_alone (Some Extend) = refl
+verb_alone (Some SplitOff) = refl
+verb_alone (Some Rest) = refl
 
 -- a line without a space spells nothing, since each verb wants a name
 pub reading-word : (line : List ℕ) → Lacks 32 line → reading line ≡ Err BadCommand
-reading-word line lacks = rw (parts_at-one 32 line lacks) (alone (verb_of line))
+reading-word line lacks = rw (parts_at-one 32 line lacks) (verb_alone (verb_of line))
 
 -- a line with one is a verb and the words after the space
 pub reading-words : (word words : List ℕ) → Lacks 32 word → reading (word ++ 32 ∷ words) ≡ within_range numbers_of (option_and_then (λ verb. command_of verb (words_of words)) (verb_of word))

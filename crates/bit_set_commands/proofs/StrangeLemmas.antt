@@ -14,7 +14,7 @@ use Rattle.bit_set_commands.specs.declared.verbs.Verb.{Verb}
 use Rattle.bit_set_commands.specs.declared.verbs.Verb.TheVariants.{Name, NameAndNumber, TwoNames, Extend, SplitOff, Rest}
 use Rattle.bit_set_commands.specs.declared.verbs.SetWalk.{SetWalk}
 use Rattle.bit_set_commands.specs.declared.verbs.SetWalk.TheVariants.{One, Two}
-use Rattle.bit_set_commands.specs.Reading.{all_numbers, command_of, is_plain, name_alone, name_and_number, name_and_numbers, name_of, names_and_number, names_around_number, number_and_name, number_of, reading, rest_command, rest_of, command_in_words, two_names}
+use Rattle.bit_set_commands.specs.Reading.{all_numbers, alone, command_in_words, command_of, followed, is_plain, name_alone, name_and_number, name_of, number_alone, number_and_name, number_of, reading, rest_command, rest_of}
 use Rattle.bit_set_commands.specs.Verbs.{verb_of, verbs, walk_of, walks}
 use Rattle.bit_set_commands.specs.Words.{words_of}
 use Rattle.bit_set_commands.proofs.ReadingLemmas.{nothing}
@@ -31,12 +31,6 @@ fit_is_plain (b ∷ bs) strange = strange
 one_false : (a : Bool) → (a && true) ≡ false → a ≡ false
 one_false true e = e
 one_false false e = refl
-
-swap_false : (a b : Bool) → (a && (b && true)) ≡ false → (b && a) ≡ false
-swap_false true true e = e
-swap_false true false e = refl
-swap_false false true e = refl
-swap_false false false e = refl
 
 middle_false : (a b c d : Bool) → (((a || b) || c) || d) ≡ false → b ≡ false
 middle_false true b c d e = cc
@@ -95,63 +89,42 @@ number_of-unfit [] unfit = refl
 number_of-unfit (d ∷ ds) unfit =
     rw (and_right (nat_lt 0 (length (d ∷ ds))) (all_ascii_digits (d ∷ ds)) (digits_are_plain (d ∷ ds) unfit))
 
-name_alone-unfit : (words : List (List ℕ)) → list_all is_fit words ≡ false → name_alone words ≡ None
-name_alone-unfit [] unfit = refl
-name_alone-unfit (name ∷ []) unfit = name_of-unfit name (one_false (is_fit name) unfit)
-name_alone-unfit (name ∷ more ∷ others) unfit = refl
+-- words that spell nothing where one of them is unfit
+abbrev Refused : {X : Type 0} → (List (List ℕ) → Option X) → Type 0
+Refused spelled = (words : List (List ℕ)) → list_all is_fit words ≡ false → spelled words ≡ None
+
+alone-unfit : {X : Type 0} (spelled : List ℕ → Option X) → ((word : List ℕ) → is_fit word ≡ false → spelled word ≡ None) → Refused (alone spelled)
+alone-unfit spelled unspelled [] unfit = refl
+alone-unfit spelled unspelled (word ∷ []) unfit = unspelled word (one_false (is_fit word) unfit)
+alone-unfit spelled unspelled (word ∷ more ∷ others) unfit = refl
 
 zip_none : {X Y : Type 0} (a b : Bool) (x : Option X) (y : Option Y) → (a ≡ false → x ≡ None) → (b ≡ false → y ≡ None) → (a && b) ≡ false → option_zip x y ≡ None
 zip_none true b x y first second unfit = rw (second unfit) (sym (nothing x))
 zip_none false b x y first second unfit = rw (first refl)
 
-name_and_number-unfit : (words : List (List ℕ)) → list_all is_fit words ≡ false → name_and_number words ≡ None
-name_and_number-unfit [] unfit = refl
-name_and_number-unfit (name ∷ []) unfit = refl
-name_and_number-unfit (name ∷ number ∷ []) unfit =
-    zip_none (is_fit name) (is_fit number && true) (name_of name) (number_of number)
-    (name_of-unfit name) (λ e. number_of-unfit number (one_false (is_fit number) e)) unfit
-name_and_number-unfit (name ∷ number ∷ more ∷ others) unfit = refl
+followed-unfit : {X Y : Type 0} (first : List (List ℕ) → Option X) (others : List (List ℕ) → Option Y) → Refused first → Refused others → Refused (followed first others)
+followed-unfit first others one more [] unfit = refl
+followed-unfit first others one more (word ∷ words) unfit =
+    zip_none (is_fit word) (list_all is_fit words) (first (word ∷ [])) (others words) (λ e. one (word ∷ []) (rw e)) (more words) unfit
 
-two_names-unfit : (words : List (List ℕ)) → list_all is_fit words ≡ false → two_names words ≡ None
-two_names-unfit [] unfit = refl
-two_names-unfit (first ∷ []) unfit = refl
-two_names-unfit (first ∷ second ∷ []) unfit =
-    zip_none (is_fit first) (is_fit second && true) (name_of first) (name_of second)
-    (name_of-unfit first) (λ e. name_of-unfit second (one_false (is_fit second) e)) unfit
-two_names-unfit (first ∷ second ∷ more ∷ others) unfit = refl
+name_alone-unfit : Refused name_alone
+name_alone-unfit = alone-unfit name_of name_of-unfit
 
-names_and_number-unfit : (words : List (List ℕ)) → list_all is_fit words ≡ false → names_and_number words ≡ None
-names_and_number-unfit [] unfit = refl
-names_and_number-unfit (name ∷ words) unfit =
-    zip_none (is_fit name) (list_all is_fit words) (name_of name) (name_and_number words) (name_of-unfit name) (name_and_number-unfit words) unfit
+number_alone-unfit : Refused number_alone
+number_alone-unfit = alone-unfit number_of number_of-unfit
 
-number_and_name-unfit : (words : List (List ℕ)) → list_all is_fit words ≡ false → number_and_name words ≡ None
-number_and_name-unfit [] unfit = refl
-number_and_name-unfit (number ∷ []) unfit = refl
-number_and_name-unfit (number ∷ name ∷ []) unfit =
-    zip_none (is_fit name) (is_fit number) (name_of name) (number_of number)
-    (name_of-unfit name) (number_of-unfit number) (swap_false (is_fit number) (is_fit name) unfit)
-number_and_name-unfit (number ∷ name ∷ more ∷ others) unfit = refl
+name_and_number-unfit : Refused name_and_number
+name_and_number-unfit = followed-unfit name_alone number_alone name_alone-unfit number_alone-unfit
 
-names_around_number-unfit : (words : List (List ℕ)) → list_all is_fit words ≡ false → names_around_number words ≡ None
-names_around_number-unfit [] unfit = refl
-names_around_number-unfit (name ∷ words) unfit =
-    zip_none (is_fit name) (list_all is_fit words) (name_of name) (number_and_name words) (name_of-unfit name) (number_and_name-unfit words) unfit
-
-all_numbers-unfit : (words : List (List ℕ)) → list_all is_fit words ≡ false → all_numbers words ≡ None
+all_numbers-unfit : Refused all_numbers
 all_numbers-unfit [] unfit = cc
 all_numbers-unfit (word ∷ words) unfit =
     rw (zip_none (is_fit word) (list_all is_fit words) (number_of word) (all_numbers words) (number_of-unfit word) (all_numbers-unfit words) unfit)
 
-name_and_numbers-unfit : (words : List (List ℕ)) → list_all is_fit words ≡ false → name_and_numbers words ≡ None
-name_and_numbers-unfit [] unfit = refl
-name_and_numbers-unfit (name ∷ numbers) unfit =
-    zip_none (is_fit name) (list_all is_fit numbers) (name_of name) (all_numbers numbers) (name_of-unfit name) (all_numbers-unfit numbers) unfit
-
 rest_command-unfit : (walk : Option SetWalk) (words : List (List ℕ)) → list_all is_fit words ≡ false → option_and_then (λ w. rest_command w words) walk ≡ None
 rest_command-unfit None words unfit = refl
 rest_command-unfit (Some One) words unfit = rw (name_and_number-unfit words unfit)
-rest_command-unfit (Some (Two merge)) words unfit = rw (names_and_number-unfit words unfit)
+rest_command-unfit (Some (Two merge)) words unfit = rw (followed-unfit name_alone name_and_number name_alone-unfit name_and_number-unfit words unfit)
 
 rest_of-unfit : (words : List (List ℕ)) → list_all is_fit words ≡ false → rest_of words ≡ None
 rest_of-unfit [] unfit = refl
@@ -163,9 +136,9 @@ rest_of-unfit (word ∷ words) unfit = elim (is_fit word) as (λ v. v ≡ is_fit
 command_of-unfit : (verb : Verb) (words : List (List ℕ)) → list_all is_fit words ≡ false → command_of verb words ≡ None
 command_of-unfit (Name verb) words unfit = rw (name_alone-unfit words unfit)
 command_of-unfit (NameAndNumber verb) words unfit = rw (name_and_number-unfit words unfit)
-command_of-unfit (TwoNames verb) words unfit = rw (two_names-unfit words unfit)
-command_of-unfit Extend words unfit = rw (name_and_numbers-unfit words unfit)
-command_of-unfit SplitOff words unfit = rw (names_around_number-unfit words unfit)
+command_of-unfit (TwoNames verb) words unfit = rw (followed-unfit name_alone name_alone name_alone-unfit name_alone-unfit words unfit)
+command_of-unfit Extend words unfit = rw (followed-unfit name_alone all_numbers name_alone-unfit all_numbers-unfit words unfit)
+command_of-unfit SplitOff words unfit = rw (followed-unfit name_alone number_and_name name_alone-unfit (followed-unfit number_alone name_alone number_alone-unfit name_alone-unfit) words unfit)
 command_of-unfit Rest words unfit = rest_of-unfit words unfit
 
 arguments_unfit : (v : Option Verb) (words : List (List ℕ)) → list_all is_fit words ≡ false → option_and_then (λ w. command_of w words) v ≡ None

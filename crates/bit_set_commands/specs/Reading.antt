@@ -29,42 +29,41 @@ name_of (letter ∷ more ∷ others) = None
 abbrev pub number_of : List ℕ → Option ℕ
 number_of word = if nat_lt 0 (length word) && all_ascii_digits word then Some (digits_value 10 word) else None
 
--- words that are a set's name alone
-abbrev pub name_alone : List (List ℕ) → Option ℕ
-name_alone [] = None
-name_alone (name ∷ []) = name_of name
-name_alone (name ∷ more ∷ others) = None
+-- one word and no other, which spells this
+abbrev pub alone : {X : Type 0} → (List ℕ → Option X) → List (List ℕ) → Option X
+alone spelled [] = None
+alone spelled (word ∷ []) = spelled word
+alone spelled (word ∷ more ∷ others) = None
 
--- words that are a set's name and a number
+-- words of which the first spells one thing, and all behind it another
+abbrev pub followed : {X Y : Type 0} → (List (List ℕ) → Option X) → (List (List ℕ) → Option Y) → List (List ℕ) → Option (X × Y)
+followed first others [] = None
+followed first others (word ∷ words) = option_zip (first (word ∷ [])) (others words)
+
+-- words that are a set's name alone, or a number alone
+abbrev pub name_alone : List (List ℕ) → Option ℕ
+name_alone = alone name_of
+
+abbrev pub number_alone : List (List ℕ) → Option ℕ
+number_alone = alone number_of
+
+-- words that are a set's name and a number, or a number and a name
 abbrev pub name_and_number : List (List ℕ) → Option (ℕ × ℕ)
-name_and_number [] = None
-name_and_number (name ∷ []) = None
-name_and_number (name ∷ number ∷ []) = option_zip (name_of name) (number_of number)
-name_and_number (name ∷ number ∷ more ∷ others) = None
+name_and_number = followed name_alone number_alone
+
+abbrev pub number_and_name : List (List ℕ) → Option (ℕ × ℕ)
+number_and_name = followed number_alone name_alone
 
 -- words that are two sets' names
 abbrev pub two_names : List (List ℕ) → Option (ℕ × ℕ)
-two_names [] = None
-two_names (first ∷ []) = None
-two_names (first ∷ second ∷ []) = option_zip (name_of first) (name_of second)
-two_names (first ∷ second ∷ more ∷ others) = None
+two_names = followed name_alone name_alone
 
--- words that are two sets' names and a number
+-- words that are two sets' names and a number, behind them or between them
 abbrev pub names_and_number : List (List ℕ) → Option (ℕ × (ℕ × ℕ))
-names_and_number [] = None
-names_and_number (name ∷ words) = option_zip (name_of name) (name_and_number words)
+names_and_number = followed name_alone name_and_number
 
--- words that are a number and a set's name: the name and the number
-abbrev pub number_and_name : List (List ℕ) → Option (ℕ × ℕ)
-number_and_name [] = None
-number_and_name (number ∷ []) = None
-number_and_name (number ∷ name ∷ []) = option_zip (name_of name) (number_of number)
-number_and_name (number ∷ name ∷ more ∷ others) = None
-
--- words that are two sets' names with a number between them: the names and the number
 abbrev pub names_around_number : List (List ℕ) → Option (ℕ × (ℕ × ℕ))
-names_around_number [] = None
-names_around_number (name ∷ words) = option_zip (name_of name) (number_and_name words)
+names_around_number = followed name_alone number_and_name
 
 -- the numbers that words write, where each of them writes one
 abbrev pub all_numbers : List (List ℕ) → Option (List ℕ)
@@ -73,8 +72,7 @@ all_numbers (word ∷ words) = option_map (λ (n, ns). n ∷ ns) (option_zip (nu
 
 -- words that are a set's name and any number of numbers
 abbrev pub name_and_numbers : List (List ℕ) → Option (ℕ × List ℕ)
-name_and_numbers [] = None
-name_and_numbers (name ∷ numbers) = option_zip (name_of name) (all_numbers numbers)
+name_and_numbers = followed name_alone all_numbers
 
 -- the command that a walk and the words after it spell, behind `rest`
 abbrev pub rest_command : SetWalk → List (List ℕ) → Option Command
@@ -91,7 +89,7 @@ command_of (Name verb) words = option_map (name_command verb) (name_alone words)
 command_of (NameAndNumber verb) words = option_map (number_command verb) (name_and_number words)
 command_of (TwoNames verb) words = option_map (pair_command verb) (two_names words)
 command_of Extend words = option_map (λ (s, ns). command.Extend s ns) (name_and_numbers words)
-command_of SplitOff words = option_map (λ (s, p). command.SplitOff s p.1 p.0) (names_around_number words)
+command_of SplitOff words = option_map (λ (s, p). command.SplitOff s p.0 p.1) (names_around_number words)
 command_of Rest words = rest_of words
 
 -- the command that some words spell, the first of them its verb

@@ -1,9 +1,9 @@
 //! A line read as a command.
 
-ghost use Rattle.std.specs.Prelude.{◌≡◌, ℕ, ◌+◌, ◌-◌, ◌*◌, [], ◌∷◌, IfOk, OnErr, slice_get};
+ghost use Rattle.std.specs.Prelude.{◌≡◌, refl, ℕ, ◌+◌, ◌-◌, ◌*◌, List, [], ◌∷◌, ◌++◌, Option, None, IfOk, OnErr, slice_get};
 ghost use Rattle.std.specs.Char.{IsAsciiDigit};
 ghost use Rattle.std.specs.Option.{option_and_then};
-ghost use Rattle.bit_set_commands.specs.Reading.{all_numbers, command_of, fitting_number, name_and_number, name_of, names_and_number, names_around_number, number_and_name, number_of, reading, rest_of, two_names, within_range};
+ghost use Rattle.bit_set_commands.specs.Reading.{all_numbers, command_of, fitting_number, followed, name_alone, name_of, number_alone, number_of, reading, rest_of, within_range};
 ghost use Rattle.bit_set_commands.specs.Spelling.{numbers_of};
 ghost use Rattle.bit_set_commands.specs.Verbs.{verb_of};
 ghost use Rattle.bit_set_commands.specs.Words.{words_left, words_of};
@@ -47,17 +47,17 @@ fn read_command(
     ensures memory { OnErr result (verb ≡ Verb.Extend) }
 {
     match verb {
-        Verb::Name(verb) => Ok(read_name(words).map(|name| verb.command(name))),
+        Verb::Name(verb) => Ok(SetName::read(words).map(|name| verb.command(name))),
         Verb::NameAndNumber(verb) => {
-            Ok(read_name_and_number(words).map(|(name, number)| verb.command(name, number)))
+            Ok(<(SetName, usize)>::read(words).map(|(name, number)| verb.command(name, number)))
         }
         Verb::TwoNames(verb) => {
-            Ok(read_two_names(words).map(|(first, second)| verb.command(first, second)))
+            Ok(<(SetName, SetName)>::read(words).map(|(first, second)| verb.command(first, second)))
         }
         Verb::Extend => read_extend(alloc, words),
-        Verb::SplitOff => Ok(read_names_around_number(words).map(|(
+        Verb::SplitOff => Ok(<(SetName, (usize, SetName))>::read(words).map(|(
             first,
-            (second, number),
+            (number, second),
         )| Command::SplitOff(first, number, second))),
         Verb::Rest => Ok(read_rest(words)),
     }
@@ -72,9 +72,9 @@ fn read_rest(words: &[u8]) -> Result<Command, BadLine>
     };
     match walk_of(walk) {
         Some(SetWalk::One) => {
-            read_name_and_number(words).map(|(name, number)| Command::RestIter(name, number))
+            <(SetName, usize)>::read(words).map(|(name, number)| Command::RestIter(name, number))
         }
-        Some(SetWalk::Two(merge)) => read_names_and_number(words).map(|(
+        Some(SetWalk::Two(merge)) => <(SetName, (SetName, usize))>::read(words).map(|(
             first,
             (second, number),
         )| Command::RestWalk(merge, first, second, number)),
@@ -105,54 +105,62 @@ fn read_name(word: &[u8]) -> Result<SetName, BadLine>
     }
 }
 
-// A set's name, a space and a number.
-fn read_name_and_number(words: &[u8]) -> Result<(SetName, usize), BadLine>
-    ensures { result ≡ within_range (λ p. p.1 ∷ []) (name_and_number (words_of words.now)) }
-{
-    let Some((name, number)) = split_once(words, b' ') else {
-        return Err(BadLine::BadCommand);
-    };
-    Ok((read_name(name)?, read_number(number)?))
+// What is read of words, all of which it takes.
+trait Operands: Copy {
+    // What words spell, however large its numbers.
+    ghost spelled: { List (List ℕ) → Option Self };
+
+    ghost numbers: { Self → List ℕ };
+
+    fn read(words: &[u8]) -> Result<Self, BadLine>
+        ensures { result ≡ within_range numbers (spelled (words_of words.now)) };
+
+    ghost some: { spelled [] ≡ None };
 }
 
-// Two sets' names with a space between them.
-fn read_two_names(words: &[u8]) -> Result<(SetName, SetName), BadLine>
-    ensures { result ≡ within_range (λ _. []) (two_names (words_of words.now)) }
-{
-    let Some((first, second)) = split_once(words, b' ') else {
-        return Err(BadLine::BadCommand);
-    };
-    Ok((read_name(first)?, read_name(second)?))
+impl Operands for SetName {
+    ghost spelled = { name_alone };
+
+    ghost numbers = { λ _. [] };
+
+    ghost some = { refl };
+
+    fn read(words: &[u8]) -> Result<Self, BadLine> {
+        read_name(words)
+    }
 }
 
-// Two sets' names and a number, with spaces between them.
-fn read_names_and_number(words: &[u8]) -> Result<(SetName, (SetName, usize)), BadLine>
-    ensures { result ≡ within_range (λ p. p.1.1 ∷ []) (names_and_number (words_of words.now)) }
-{
-    let Some((name, words)) = split_once(words, b' ') else {
-        return Err(BadLine::BadCommand);
-    };
-    Ok((read_name(name)?, read_name_and_number(words)?))
+impl Operands for usize {
+    ghost spelled = { number_alone };
+
+    ghost numbers = { λ n. n ∷ [] };
+
+    ghost some = { refl };
+
+    fn read(words: &[u8]) -> Result<Self, BadLine> {
+        read_number(words)
+    }
 }
 
-// A number, a space and a set's name: the name and the number.
-fn read_number_and_name(words: &[u8]) -> Result<(SetName, usize), BadLine>
-    ensures { result ≡ within_range (λ p. p.1 ∷ []) (number_and_name (words_of words.now)) }
-{
-    let Some((number, name)) = split_once(words, b' ') else {
-        return Err(BadLine::BadCommand);
-    };
-    Ok((read_name(name)?, read_number(number)?))
-}
+// One word, a space and what is read behind it.
+impl<S: Operands, T: Operands> Operands for (S, T) {
+    ghost spelled = { followed S.spelled T.spelled };
 
-// Two sets' names with a number between them, and spaces: the names and the number.
-fn read_names_around_number(words: &[u8]) -> Result<(SetName, (SetName, usize)), BadLine>
-    ensures { result ≡ within_range (λ p. p.1.1 ∷ []) (names_around_number (words_of words.now)) }
-{
-    let Some((name, words)) = split_once(words, b' ') else {
-        return Err(BadLine::BadCommand);
-    };
-    Ok((read_name(name)?, read_number_and_name(words)?))
+    ghost numbers = { λ p. S.numbers p.0 ++ T.numbers p.1 };
+
+    ghost some = { refl };
+
+    fn read(words: &[u8]) -> Result<Self, BadLine> {
+        let Some((word, others)) = split_once(words, b' ') else {
+            return Err(BadLine::BadCommand);
+        };
+        match S::read(word) {
+            Err(BadLine::BadCommand) => Err(BadLine::BadCommand),
+            // A number too large, which is reported only where all words fit.
+            Err(BadLine::BadNumber) => T::read(others).and(Err(BadLine::BadNumber)),
+            Ok(first) => Ok((first, T::read(others)?)),
+        }
+    }
 }
 
 // The numbers that the words write, one each: a word that writes none is reported before a number too large.

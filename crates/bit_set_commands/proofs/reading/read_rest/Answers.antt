@@ -15,9 +15,9 @@ returns-in-None c = rw (c.in-Some.ensures.joined, parts_at-first 32 c.in-Some.wa
 pub returns-in-Some-One : goal.returns-in-Some-One
 returns-in-Some-One c =
     rw (c.in-Some.ensures.joined, parts_at-first 32 c.in-Some.walk.now c.in-Some.words.now c.in-Some.ensures.first, ← c.in-Some-One.ensures, c.in-Some-One.field-0-is)
-    (of_operands (λ (s, n). RestIter s n) (λ p. p.1 ∷ []) (name_and_number (words_of c.in-Some.words.now)) c.read_name_and_number.result c.map.result (λ p. refl) c.read_name_and_number.ensures c.map.ensures.cases (λ x command made. search rules))
+    (of_operands (λ (s, n). RestIter s n) (λ p. p.1 ∷ []) (name_and_number (words_of c.in-Some.words.now)) c.read.result c.map.result (λ p. refl) c.read.ensures c.map.ensures.cases (λ x command made. search rules))
 
 pub returns-in-Some-Two : goal.returns-in-Some-Two
 returns-in-Some-Two c =
     rw (c.in-Some.ensures.joined, parts_at-first 32 c.in-Some.walk.now c.in-Some.words.now c.in-Some.ensures.first, ← c.in-Some-Two.ensures, c.in-Some-Two.field-0-is)
-    (of_operands (λ (s, p). RestWalk c.in-Some-Two.merge s p.0 p.1) (λ p. p.1.1 ∷ []) (names_and_number (words_of c.in-Some.words.now)) c.read_names_and_number.result c.map-in-Some-Two.result (λ p. refl) c.read_names_and_number.ensures c.map-in-Some-Two.ensures.cases (λ x command made. search rules))
+    (of_operands (λ (s, p). RestWalk c.in-Some-Two.merge s p.0 p.1) (λ p. p.1.1 ∷ []) (names_and_number (words_of c.in-Some.words.now)) c.read-in-Some-Two.result c.map-in-Some-Two.result (λ p. refl) c.read-in-Some-Two.ensures c.map-in-Some-Two.ensures.cases (λ x command made. search rules))
