@@ -1,4 +1,5 @@
 pub mod OutputLemmas
+pub mod PairLemmas
 pub mod RunLemmas
 pub mod StreamLemmas
 pub mod WalkingLemmas

@@ -61,48 +61,6 @@ stands_before all items item front within is =
     ∙ ap (λ xs. xs ++ drop (length items + 1) all) (take_more all (length items) item within ∙ ap (λ xs. xs ++ get_or all (length items) item ∷ []) (sym front) ∙ ap (λ x. items ++ x ∷ []) (sym is))
     ∙ append_assoc items (item ∷ []) (drop (length items + 1) all)
 
--- a set of the array becomes what f makes of it and of one at another place
-pub changed_by : (sets : List Bits) (f : List ℕ → List ℕ → List ℕ) (to from : ℕ) (gone old set_now source : Bits) → to < length sets → from < length sets → (from ≡ to → ⊥) → old ≡ get_or sets to old → source ≡ get_or (set sets to gone) from source → elements_of set_now ≡ f (elements_of old) (elements_of source) → map elements_of (set (set sets to gone) to set_now) ≡ set (map elements_of sets) to (f (get_or (map elements_of sets) to []) (get_or (map elements_of sets) from []))
-changed_by sets f to from gone old set_now source at within apart was is changed =
-    let there : source ≡ get_or sets from source = is ∙ get_or-set_other sets to from gone source apart in
-    let own : elements_of old ≡ get_or (map elements_of sets) to [] = ap elements_of was ∙ sym (get_or-map elements_of sets to old [] at) in
-    let other : elements_of source ≡ get_or (map elements_of sets) from [] = ap elements_of there ∙ sym (get_or-map elements_of sets from source [] within) in
-    ap (map elements_of) (set-set sets to gone set_now) ∙ map-set elements_of sets to set_now ∙ ap (λ s. set (map elements_of sets) to s) (changed ∙ ap (λ s. f s (elements_of source)) own ∙ ap (f (get_or (map elements_of sets) to [])) other)
-
--- two sets of the array become these
-pub two_are : (sets : List Bits) (s t : ℕ) (first second : Bits) (first_is second_is : List ℕ) → elements_of first ≡ first_is → elements_of second ≡ second_is → map elements_of (set (set sets s first) t second) ≡ set (set (map elements_of sets) s first_is) t second_is
-two_are sets s t first second first_is second_is one two =
-    map-set elements_of (set sets s first) t second
-    ∙ ap (λ l. set l t (elements_of second)) (map-set elements_of sets s first ∙ ap (λ x. set (map elements_of sets) s x) one)
-    ∙ ap (λ x. set (set (map elements_of sets) s first_is) t x) two
-
--- a set of the array is changed while another was taken out, and that one is put back
-pub put_back_beside : (sets : List Bits) (to from : ℕ) (gone set_now other_now : Bits) → (to ≡ from → ⊥) → set (set (set sets from gone) to set_now) from other_now ≡ set (set sets to set_now) from other_now
-put_back_beside sets to from gone set_now other_now apart =
-    ap (λ l. set l from other_now) (set_comm sets from to gone set_now (λ e. apart (sym e))) ∙ set-set (set sets to set_now) from gone other_now
-
--- it takes in what the other has, and that one is put back with nothing
-pub appended_to : (sets : List Bits) (to from : ℕ) (gone old set_now source other_now : Bits) → to < length sets → from < length sets → (to ≡ from → ⊥) → old ≡ get_or (set sets from gone) to old → source ≡ get_or sets from source → elements_of set_now ≡ union (elements_of old) (elements_of source) → elements_of other_now ≡ [] → map elements_of (set (set (set sets from gone) to set_now) from other_now) ≡ set (set (map elements_of sets) to (union (get_or (map elements_of sets) to []) (get_or (map elements_of sets) from []))) from []
-appended_to sets to from gone old set_now source other_now at within apart was is joined emptied =
-    let there : old ≡ get_or sets to old = was ∙ get_or-set_other sets from to gone old apart in
-    let own : elements_of old ≡ get_or (map elements_of sets) to [] = ap elements_of there ∙ sym (get_or-map elements_of sets to old [] at) in
-    let other : elements_of source ≡ get_or (map elements_of sets) from [] = ap elements_of is ∙ sym (get_or-map elements_of sets from source [] within) in
-    ap (map elements_of) (put_back_beside sets to from gone set_now other_now apart)
-    ∙ two_are sets to from set_now other_now (union (get_or (map elements_of sets) to []) (get_or (map elements_of sets) from [])) []
-    (joined ∙ ap (λ s. union s (elements_of source)) own ∙ ap (union (get_or (map elements_of sets) to [])) other) emptied
-
--- both are as they were
-pub put_back_both : (sets : List Bits) (to from : ℕ) (gone set_now other_now : Bits) → (to ≡ from → ⊥) → set_now ≡ get_or (set sets from gone) to set_now → other_now ≡ get_or sets from other_now → set (set (set sets from gone) to set_now) from other_now ≡ sets
-put_back_both sets to from gone set_now other_now apart was is =
-    let there : set_now ≡ get_or sets to set_now = was ∙ get_or-set_other sets from to gone set_now apart in
-    let one : set sets to set_now ≡ sets = ap (λ s. set sets to s) there ∙ set-get_or sets to set_now in
-    let two : set sets from other_now ≡ sets = ap (λ s. set sets from s) is ∙ set-get_or sets from other_now in
-    put_back_beside sets to from gone set_now other_now apart ∙ ap (λ l. set l from other_now) one ∙ two
-
--- a set that is put back where it was taken
-pub put_back : (sets : List Bits) (to : ℕ) (gone set_now : Bits) → set_now ≡ get_or sets to set_now → set (set sets to gone) to set_now ≡ sets
-put_back sets to gone set_now at = set-set sets to gone set_now ∙ ap (λ s. set sets to s) at ∙ set-get_or sets to set_now
-
 -- the set of a name is the one at its place
 pub set_at : (sets : List Bits) (place name : ℕ) (d : Bits) → place ≡ name → place < length sets → get_or (map elements_of sets) name [] ≡ elements_of (get_or sets place d)
 set_at sets place name d at within = ap (λ p. get_or (map elements_of sets) p []) (sym at) ∙ get_or-map elements_of sets place d [] within
@@ -124,25 +82,6 @@ sets-insert sets name n =
       | true ↦ set-get_or sets name []
       | false ↦ refl
     ]
-
--- what was read at a place is the set there
-pub read_at : (sets : List Bits) (place : ℕ) (set_read : Bits) → place < length sets → set_read ≡ get_or sets place set_read → set_read ≡ bits_at sets place
-read_at sets place set_read within is = is ∙ get_or_default sets place set_read record { values = []; capacity = 0 } within
-
--- the same where another set was taken out
-pub read_beside : (sets : List Bits) (place gone_from : ℕ) (gone set_read : Bits) → place < length sets → (place ≡ gone_from → ⊥) → set_read ≡ get_or (set sets gone_from gone) place set_read → set_read ≡ bits_at sets place
-read_beside sets place gone_from gone set_read within apart is =
-    read_at sets place set_read within (is ∙ get_or-set_other sets gone_from place gone set_read apart)
-
--- a set grows to the length of another, both read at their places
-pub grows_along : (set_read other_read set_at other_at after : Bits) → set_read ≡ set_at → other_read ≡ other_at → GrowsTo (length other_read.values) set_read after → GrowsTo (length other_at.values) set_at after
-grows_along set_read other_read set_at other_at after set_is other_is grown =
-    subst (λ s. GrowsTo (length other_at.values) s after) set_is (subst (λ s. GrowsTo (length s.values) set_read after) other_is grown)
-
--- a set is taken out, changed and put back
-pub changed_outside : (sets : List Bits) (place : ℕ) (gone set_read set_now : Bits) (Change : Bits → Bits → Type 0) → place < length sets → set_read ≡ get_or sets place set_read → Change set_read set_now → Becomes sets place Change (set (set sets place gone) place set_now)
-changed_outside sets place gone set_read set_now Change within is changed =
-    (set_now, set-set sets place gone set_now, subst (λ s. Change s set_now) (read_at sets place set_read within is) changed)
 
 -- the items that a copied slice gave before one more
 pub copied_before : (s u : Copied (Iter ℕ)) (all items : List ℕ) (item : ℕ) → s.iter.rest.now ≡ all → YieldsThen (copies fronts) s items (Some item) u → all ≡ items ++ item ∷ drop (length items + 1) all

@@ -54,6 +54,17 @@ IsPart w n set part =
     × (0 < n → n < length set.values → part.capacity ≡ capacity_of w (blocks_for w (length set.values)))
     × (0 < n → length set.values ≤ n → part.capacity ≡ 0)
 
+-- a command that changed a set by another: what became of the capacities of both, and that one that is only read stays
+abbrev pub PairCapacities : ℕ → Command → (set other set_after other_after : Bits) → Type 0
+PairCapacities w (Copy from to) set other set_after other_after =
+    GrowsExactlyTo w (length other.values) set set_after × (other_after ≡ other)
+PairCapacities w (InPlace merge s t) set other set_after other_after =
+    GrowsTo (length other.values) set set_after × (other_after ≡ other)
+PairCapacities w (Append s t) set other set_after other_after =
+    GrowsTo (length other.values) set set_after × SameCapacity other other_after
+PairCapacities w (SplitOff s n t) set other set_after other_after = IsFront n set set_after × IsPart w n set other_after
+PairCapacities w command set other set_after other_after = ⊥
+
 -- the first where the test is true, and else the second
 abbrev pub Choice : Bool → Type 0 → Type 0 → Type 0
 Choice true First Second = First

@@ -1,13 +1,12 @@
 //! One command over sixteen sets.
 
-ghost use Rattle.std.specs.Prelude.{◌≡◌, ◌≢◌, ℕ, ◌+◌, ◌<◌, ◌≤◌, ◌==◌, ◌∷◌, false, not, map, List, length, drop, [], ◌++◌, IfOk, OnOk, OnErr, IsTrue, slice_index_or, slice_set, if◌then◌else◌};
+ghost use Rattle.std.specs.Prelude.{◌≡◌, ◌≢◌, ℕ, ◌+◌, ◌<◌, ◌≤◌, ◌==◌, ◌∷◌, false, not, map, List, length, drop, [], ◌++◌, IfOk, IfSome, IsSome, OnOk, OnErr, if◌then◌else◌};
 ghost use Rattle.std.specs.List.{list_any};
-ghost use Rattle.bit_set.specs.Growth.{Grows};
-ghost use Rattle.bit_set.specs.Sets.{bound_of, has, merge_of_sets, put, put_all, those_below, those_from, union};
-ghost use Rattle.bit_set_run.specs.Capacities.{bits_at, Becomes, BecomeTwo, ChangesCapacities, GrowsExactlyTo, GrowsPast, GrowsTo, IsFront, IsPart, KeepsCapacities, SameCapacity, Shrinks};
+ghost use Rattle.bit_set.specs.Sets.{bound_of, has, put, put_all};
+ghost use Rattle.bit_set_run.specs.Capacities.{ChangesCapacities, GrowsExactlyTo, GrowsPast, GrowsTo, KeepsCapacities, PairCapacities, Shrinks};
 ghost use Rattle.bit_set_run.specs.Elements.{elements_of};
 ghost use Rattle.bit_set.specs.Bounds.{greatest};
-ghost use Rattle.bit_set_run.specs.Questions.{is_of_two};
+ghost use Rattle.bit_set_run.specs.Questions.{pair_after, two_of, MayAsk};
 ghost use Rattle.bit_set_run.specs.Run.{step, elements_before_greatest, FailsAt};
 ghost use Rattle.bit_set_commands.specs.declared.commands.Reply.TheVariants.{Truth, Done, Rest, Element};
 
@@ -63,22 +62,69 @@ fn change_by_another<B: BitBlock>(
     sets: &mut [BitSet<B>; 16],
     command: &Command,
 ) -> Result<Reply, AllocError>
-    requires { IsTrue (is_of_two command.now) }
+    requires { IsSome (two_of command.now) }
     ensures reply { IfOk result (λ reply. reply ≡ (step (map elements_of sets.old) command.now).reply) }
     ensures sets { OnOk result (map elements_of sets.new ≡ (step (map elements_of sets.old) command.now).sets) }
     ensures fails { OnErr result (FailsAt (map elements_of sets.old) command.now (map elements_of sets.new)) }
     ensures capacities { OnOk result (ChangesCapacities B.width sets.old command.now sets.new) }
     ensures capacities_left { OnErr result (KeepsCapacities sets.old command.now sets.new) }
 {
+    let Some((to, from)) = two_of(command) else {
+        unreachable!();
+    };
+    if to == from {
+        return Ok(Reply::Same);
+    }
+    // The other set is taken out of its place, so that both can be lent at once. It takes no memory.
+    let mut other = mem::replace(&mut sets[from], BitSet::new_general(alloc));
+    let changed = change_pair(alloc, &mut sets[to], &mut other, command);
+    sets[from] = other;
+    changed?;
+    Ok(Reply::Done)
+}
+
+// The place of the set that a command changes by another, and that of the other.
+fn two_of(command: &Command) -> Option<(usize, usize)>
+    ensures places { result ≡ two_of command.now }
+    ensures within { IfSome result (λ places. (places.0 < 16) × (places.1 < 16)) }
+{
     match command {
-        Command::Copy(from, to) if from == to => Ok(Reply::Same),
-        Command::Copy(from, to) => copy(alloc, sets, from.place(), to.place()),
-        Command::InPlace(_, s, t) if s == t => Ok(Reply::Same),
-        Command::InPlace(merge, s, t) => merge_in_place(alloc, sets, *merge, s.place(), t.place()),
-        Command::Append(s, t) if s == t => Ok(Reply::Same),
-        Command::Append(s, t) => append(alloc, sets, s.place(), t.place()),
-        Command::SplitOff(s, _, t) if s == t => Ok(Reply::Same),
-        Command::SplitOff(s, n, t) => split_off(alloc, sets, s.place(), *n, t.place()),
+        Command::Copy(from, to) => Some((to.place(), from.place())),
+        Command::InPlace(_, s, t) | Command::Append(s, t) | Command::SplitOff(s, _, t) => {
+            Some((s.place(), t.place()))
+        }
+        _ => None,
+    }
+}
+
+// Makes of the two sets what the command does.
+fn change_pair<B: BitBlock>(
+    alloc: Global,
+    set: &mut BitSet<B>,
+    other: &mut BitSet<B>,
+    command: &Command,
+) -> Result<(), AllocError>
+    requires { IsSome (two_of command.now) }
+    ensures set { OnOk result (elements_of set.new
+        ≡ (pair_after command.now (elements_of set.old) (elements_of other.old)).0) }
+    ensures other { OnOk result (elements_of other.new
+        ≡ (pair_after command.now (elements_of set.old) (elements_of other.old)).1) }
+    ensures capacities { OnOk result (PairCapacities B.width command.now set.old other.old set.new other.new) }
+    ensures fails { OnErr result (MayAsk command.now) }
+    ensures set_left { OnErr result (set.new ≡ set.old) }
+    ensures other_left { OnErr result (other.new ≡ other.old) }
+{
+    match command {
+        Command::Copy(..) => set.clone_from(other),
+        Command::InPlace(Merge::Union, ..) => set.union_with(other),
+        Command::InPlace(Merge::Intersection, ..) => set.intersect_with(other),
+        Command::InPlace(Merge::Difference, ..) => set.difference_with(other),
+        Command::InPlace(Merge::Symmetric, ..) => set.symmetric_difference_with(other),
+        Command::Append(..) => set.append(other),
+        Command::SplitOff(_, n, _) => {
+            *other = set.split_off(alloc, *n)?;
+            Ok(())
+        }
         _ => unreachable!(),
     }
 }
@@ -149,119 +195,5 @@ fn shrink<B: BitBlock>(set: &mut BitSet<B>) -> Result<Reply, AllocError>
     ensures capacity { set.new.capacity ≤ set.old.capacity }
 {
     set.shrink_to_fit()?;
-    Ok(Reply::Done)
-}
-
-// Makes the set at the second place hold what the one at the first does.
-fn copy<B: BitBlock>(
-    alloc: Global,
-    sets: &mut [BitSet<B>; 16],
-    from: usize,
-    to: usize,
-) -> Result<Reply, AllocError>
-    requires places { (from < 16) × (to < 16) }
-    requires apart { from ≡ to → ⊥ }
-    ensures reply { IfOk result (λ reply. reply ≡ Done) }
-    ensures after { OnOk result (map elements_of sets.new
-        ≡ slice_set (map elements_of sets.old) to (slice_index_or (map elements_of sets.old) from [])) }
-    ensures grown { OnOk result (Becomes sets.old
-        to (GrowsExactlyTo B.width (length (bits_at sets.old from).values)) sets.new) }
-    ensures left { OnErr result (sets.new ≡ sets.old) }
-{
-    // The set is taken out of its place, so that another of the array can be read beside it. It takes no memory.
-    let mut set = mem::replace(&mut sets[to], BitSet::new_general(alloc));
-    let copied = set.clone_from(&sets[from]);
-    sets[to] = set;
-    copied?;
-    Ok(Reply::Done)
-}
-
-// Makes the set at the first place what it and the one at the second become.
-fn merge_in_place<B: BitBlock>(
-    alloc: Global,
-    sets: &mut [BitSet<B>; 16],
-    merge: Merge,
-    to: usize,
-    other: usize,
-) -> Result<Reply, AllocError>
-    requires places { (to < 16) × (other < 16) }
-    requires apart { to ≡ other → ⊥ }
-    ensures reply { IfOk result (λ reply. reply ≡ Done) }
-    ensures after { OnOk result (map elements_of sets.new
-        ≡ slice_set (map elements_of sets.old) to
-        (merge_of_sets merge (slice_index_or (map elements_of sets.old) to [])
-        (slice_index_or (map elements_of sets.old) other []))) }
-    ensures grown { OnOk result (Becomes sets.old to (GrowsTo (length (bits_at sets.old other).values)) sets.new) }
-    ensures left { OnErr result (sets.new ≡ sets.old) }
-{
-    let mut set = mem::replace(&mut sets[to], BitSet::new_general(alloc));
-    let merged = merge_with(&mut set, merge, &sets[other]);
-    sets[to] = set;
-    merged?;
-    Ok(Reply::Done)
-}
-
-fn merge_with<B: BitBlock>(
-    set: &mut BitSet<B>,
-    merge: Merge,
-    other: &BitSet<B>,
-) -> Result<(), AllocError>
-    ensures ok { OnOk result (elements_of set.new ≡ merge_of_sets merge (elements_of set.old) (elements_of other.now)) }
-    ensures grows { Grows (length other.now.values) result set.old set.new }
-{
-    match merge {
-        Merge::Union => set.union_with(other),
-        Merge::Intersection => set.intersect_with(other),
-        Merge::Difference => set.difference_with(other),
-        Merge::Symmetric => set.symmetric_difference_with(other),
-    }
-}
-
-// Puts the numbers of the set at the second place into the one at the first, and takes them out of it.
-fn append<B: BitBlock>(
-    alloc: Global,
-    sets: &mut [BitSet<B>; 16],
-    to: usize,
-    from: usize,
-) -> Result<Reply, AllocError>
-    requires places { (to < 16) × (from < 16) }
-    requires apart { to ≡ from → ⊥ }
-    ensures reply { IfOk result (λ reply. reply ≡ Done) }
-    ensures after { OnOk result (map elements_of sets.new
-        ≡ slice_set (slice_set (map elements_of sets.old) to
-        (union (slice_index_or (map elements_of sets.old) to [])
-        (slice_index_or (map elements_of sets.old) from []))) from []) }
-    ensures grown { OnOk result (BecomeTwo sets.old
-        to (GrowsTo (length (bits_at sets.old from).values)) from SameCapacity sets.new) }
-    ensures left { OnErr result (sets.new ≡ sets.old) }
-{
-    let mut other = mem::replace(&mut sets[from], BitSet::new_general(alloc));
-    let appended = sets[to].append(&mut other);
-    sets[from] = other;
-    appended?;
-    Ok(Reply::Done)
-}
-
-// Moves the numbers that are not below `at` from the set at the first place to the one at the second, in the place
-// of what that held.
-fn split_off<B: BitBlock>(
-    alloc: Global,
-    sets: &mut [BitSet<B>; 16],
-    from: usize,
-    at: usize,
-    to: usize,
-) -> Result<Reply, AllocError>
-    requires places { (from < 16) × (to < 16) }
-    ensures reply { IfOk result (λ reply. reply ≡ Done) }
-    ensures after { OnOk result (map elements_of sets.new
-        ≡ slice_set (slice_set (map elements_of sets.old) from
-        (those_below (slice_index_or (map elements_of sets.old) from []) at)) to
-        (those_from (slice_index_or (map elements_of sets.old) from []) at)) }
-    ensures fails { OnErr result ((0 < at) × (sets.new ≡ sets.old)) }
-    ensures parts { OnOk result (BecomeTwo sets.old
-        from (IsFront at) to (λ _ part. IsPart B.width at (bits_at sets.old from) part) sets.new) }
-{
-    let part = sets[from].split_off(alloc, at)?;
-    sets[to] = part;
     Ok(Reply::Done)
 }
