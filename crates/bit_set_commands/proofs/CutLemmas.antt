@@ -1,9 +1,9 @@
 -- The parts of a text that is cut at a byte.
-use Rattle.std.proofs.Common.{◌≡◌, ◌≢◌, ℕ, true, false, not, ◌==◌, eqb, List, [], ◌∷◌, ◌++◌, inl, inr, ap, sym, ◌∙◌, refl, ne_eqb, eq-eqb}
+use Rattle.std.proofs.Common.{◌≡◌, ◌≢◌, ℕ, true, false, not, ◌==◌, eqb, List, [], ◌∷◌, ◌++◌, length, arith, inl, inr, ap, sym, ◌∙◌, refl, ne_eqb, eq-eqb}
 use Rattle.std.proofs.lemmas.Bool.{false≢true}
 use Rattle.std.proofs.lemmas.Bool.Decides.{eqb_tells}
 use Rattle.std.proofs.lemmas.List.Elements.{All-nil, All-cons, All-head, All-tail, All-weaker}
-use Rattle.std.proofs.lemmas.List.Splits.{slice_split_none, slice_split_at, join_with_byte-slice_split}
+use Rattle.std.proofs.lemmas.List.Splits.{length-slice_split, slice_split_none, slice_split_at, join_with_byte-slice_split}
 use Rattle.std.specs.List.{All, list_all, join_with_byte, onto_first}
 use Rattle.bit_set_commands.specs.Cuts.{Lacks, parts_at}
 
@@ -42,17 +42,8 @@ parts_lack byte (b ∷ bs) =
       | inr other ↦ rw other.0 (onto_lacks byte b (parts_at byte bs) other.1 (parts_lack byte bs))
     ]
 
-onto_some : (b : ℕ) (parts : List (List ℕ)) → onto_first b parts ≢ []
-onto_some b [] = λ e. cc
-onto_some b (part ∷ parts) = λ e. cc
-
 pub parts_some : (byte : ℕ) (text : List ℕ) → parts_at byte text ≢ []
-parts_some byte [] = λ e. cc
-parts_some byte (b ∷ bs) =
-    elim (eqb_tells b byte) [
-      | inl same ↦ rw same.0 (λ e. cc)
-      | inr other ↦ rw other.0 (onto_some b (parts_at byte bs))
-    ]
+parts_some byte text = λ e. let none = ap length e in absurd (omega (arith, none, length-slice_split (λ b. eqb b byte) text))
 
 -- the parts of a text: one at least, none holds the byte, and joined by it they give the text
 pub parts_at-are : (byte : ℕ) (text : List ℕ) → (parts_at byte text ≢ []) × All (Lacks byte) (parts_at byte text) × (join_with_byte byte (parts_at byte text) ≡ text)

@@ -13,6 +13,7 @@ use Rattle.bit_words.specs.declared.block.merge.Merge.{Merge}
 use Rattle.bit_words.specs.declared.block.merge.Merge.TheVariants.{Union, Intersection, Difference, Symmetric}
 use Rattle.bit_set_commands.specs.declared.commands.Command.{Command}
 use Rattle.bit_set_commands.specs.declared.commands.Command.TheVariants as command
+use Rattle.bit_set_commands.specs.declared.verbs.Verb.{Verb}
 use Rattle.bit_set_commands.specs.declared.verbs.Verb.TheVariants.{Name, NameAndNumber, TwoNames, Extend, SplitOff, Rest}
 use Rattle.bit_set_commands.specs.declared.verbs.NameVerb.{NameVerb}
 use Rattle.bit_set_commands.specs.declared.verbs.NameVerb.TheVariants.{Empty, Reset, Shrink, Count, IsEmpty, Items}
@@ -20,11 +21,12 @@ use Rattle.bit_set_commands.specs.declared.verbs.NumberVerb.{NumberVerb}
 use Rattle.bit_set_commands.specs.declared.verbs.NumberVerb.TheVariants.{Insert, Remove, Contains, Truncate, Reserve, ReserveExact}
 use Rattle.bit_set_commands.specs.declared.verbs.PairVerb.{PairVerb}
 use Rattle.bit_set_commands.specs.declared.verbs.PairVerb.TheVariants.{Copy, InPlace, Append, Walk, Subset, Superset, Disjoint, Equal, Compare}
+use Rattle.bit_set_commands.specs.declared.verbs.SetWalk.{SetWalk}
 use Rattle.bit_set_commands.specs.declared.verbs.SetWalk.TheVariants.{One, Two}
 use Rattle.bit_set_commands.specs.Cuts.{Lacks}
-use Rattle.bit_set_commands.specs.Reading.{all_numbers, name_of, number_of, reading}
+use Rattle.bit_set_commands.specs.Reading.{all_numbers, command_of, name_of, number_of, reading, rest_command, within_range}
 use Rattle.bit_words.specs.Bounds.{greatest}
-use Rattle.bit_set_commands.specs.Spelling.{figures, letter, line_of, CanBeHad}
+use Rattle.bit_set_commands.specs.Spelling.{figures, letter, line_of, numbers_of, CanBeHad}
 use Rattle.bit_set_commands.specs.Verbs.{name_command, number_command, pair_command, verb_of, walk_of}
 use Rattle.bit_set_commands.specs.Words.{words_of}
 use Rattle.bit_set_commands.proofs.CutLemmas.{lacks_by_test, parts_at-first, parts_at-one}
@@ -70,80 +72,67 @@ all_fit : (ns : List ℕ) → All (λ m. m ≤ greatest) ns → list_all (λ m. 
 all_fit [] fit = refl
 all_fit (n ∷ ns) fit = rw (le-leb n greatest (All-head (λ m. m ≤ greatest) n ns fit), all_fit ns (All-tail (λ m. m ≤ greatest) n ns fit))
 
+-- what a line is made of
+abbrev AreNames : List ℕ → Type 0
+AreNames names = All (λ s. s < 16) names
+
+abbrev AreFit : List ℕ → Type 0
+AreFit ns = All (λ m. m ≤ greatest) ns
+
+abbrev IsOneWord : List ℕ → Type 0
+IsOneWord word = list_all (λ b. not (b == 32)) word ≡ true
+
+abbrev spelled : List ℕ → List ℕ → List ℕ → List ℕ
+spelled word names ns = word ++ (flat_map letter names ++ flat_map figures ns)
+
 -- the words of a line: its word, the letters of its sets and its numbers in decimal
-words_of-line : (word names ns : List ℕ) → Lacks 32 word → All (λ s. s < 16) names → All (λ m. m ≤ greatest) ns → words_of (word ++ (flat_map letter names ++ flat_map figures ns)) ≡ word ∷ (map (λ s. (s + 97) ∷ []) names ++ map decimal ns)
+words_of-line : (word names ns : List ℕ) → Lacks 32 word → AreNames names → AreFit ns → words_of (spelled word names ns) ≡ word ∷ (map (λ s. (s + 97) ∷ []) names ++ map decimal ns)
 words_of-line word [] ns lacks below fit = words_of-figures word ns lacks fit
 words_of-line word (s ∷ names) ns lacks below fit =
     parts_at-first 32 word ((s + 97) ∷ (flat_map letter names ++ flat_map figures ns)) lacks
     ∙ ap (λ ws. word ∷ ws) (words_of-line ((s + 97) ∷ []) names ns (one_byte (s + 97) (λ e. absurd (omega arith))) (All-tail (λ s. s < 16) s names below) fit)
 
 -- A line of each shape is read as the command of its verb.
-name_line : (verb : NameVerb) (word : List ℕ) (s : ℕ) → list_all (λ b. not (b == 32)) word ≡ true → verb_of word ≡ Some (Name verb) → All (λ s. s < 16) (s ∷ []) → reading (word ++ (flat_map letter (s ∷ []) ++ flat_map figures [])) ≡ Ok (name_command verb s)
+verb_line : (verb : Verb) (word names ns : List ℕ) → IsOneWord word → verb_of word ≡ Some verb → AreNames names → AreFit ns → reading (spelled word names ns) ≡ within_range numbers_of (command_of verb (map (λ s. (s + 97) ∷ []) names ++ map decimal ns))
+verb_line verb word names ns plain is below fit = rw (words_of-line word names ns (lacks_by_test 32 word plain) below fit, is)
+
+rest_line : (walk : SetWalk) (verb word names ns : List ℕ) → IsOneWord verb → verb_of verb ≡ Some Rest → IsOneWord word → walk_of word ≡ Some walk → AreNames names → AreFit ns → reading (verb ++ 32 ∷ (spelled word names ns)) ≡ within_range numbers_of (rest_command walk (map (λ s. (s + 97) ∷ []) names ++ map decimal ns))
+rest_line walk verb word names ns one rest two is below fit =
+    rw (parts_at-first 32 verb (spelled word names ns) (lacks_by_test 32 verb one), rest, words_of-line word names ns (lacks_by_test 32 word two) below fit, is)
+
+name_line : (verb : NameVerb) (word : List ℕ) (s : ℕ) → IsOneWord word → verb_of word ≡ Some (Name verb) → AreNames (s ∷ []) → reading (spelled word (s ∷ []) []) ≡ Ok (name_command verb s)
 name_line verb word s plain is below =
-    rw (
-      words_of-line word (s ∷ []) [] (lacks_by_test 32 word plain) below (All-nil (λ m. m ≤ greatest)),
-      is,
-      name_of-letter s (All-head (λ s. s < 16) s [] below),
-      numbers-name_command verb s,
-    )
+    verb_line (Name verb) word (s ∷ []) [] plain is below (All-nil (λ m. m ≤ greatest))
+    ∙ rw (name_of-letter s (All-head (λ s. s < 16) s [] below), numbers-name_command verb s)
 
-number_line : (verb : NumberVerb) (word : List ℕ) (s n : ℕ) → list_all (λ b. not (b == 32)) word ≡ true → verb_of word ≡ Some (NameAndNumber verb) → All (λ s. s < 16) (s ∷ []) → All (λ m. m ≤ greatest) (n ∷ []) → reading (word ++ (flat_map letter (s ∷ []) ++ flat_map figures (n ∷ []))) ≡ Ok (number_command verb (s, n))
+number_line : (verb : NumberVerb) (word : List ℕ) (s n : ℕ) → IsOneWord word → verb_of word ≡ Some (NameAndNumber verb) → AreNames (s ∷ []) → AreFit (n ∷ []) → reading (spelled word (s ∷ []) (n ∷ [])) ≡ Ok (number_command verb (s, n))
 number_line verb word s n plain is below fit =
-    rw (
-      words_of-line word (s ∷ []) (n ∷ []) (lacks_by_test 32 word plain) below fit,
-      is,
-      name_of-letter s (All-head (λ s. s < 16) s [] below),
-      number_of-decimal n (All-head (λ m. m ≤ greatest) n [] fit),
-      numbers-number_command verb (s, n),
-      all_fit (n ∷ []) fit,
-    )
+    verb_line (NameAndNumber verb) word (s ∷ []) (n ∷ []) plain is below fit
+    ∙ rw (name_of-letter s (All-head (λ s. s < 16) s [] below), number_of-decimal n (All-head (λ m. m ≤ greatest) n [] fit), numbers-number_command verb (s, n), all_fit (n ∷ []) fit)
 
-pair_line : (verb : PairVerb) (word : List ℕ) (s t : ℕ) → list_all (λ b. not (b == 32)) word ≡ true → verb_of word ≡ Some (TwoNames verb) → All (λ s. s < 16) (s ∷ t ∷ []) → reading (word ++ (flat_map letter (s ∷ t ∷ []) ++ flat_map figures [])) ≡ Ok (pair_command verb (s, t))
+pair_line : (verb : PairVerb) (word : List ℕ) (s t : ℕ) → IsOneWord word → verb_of word ≡ Some (TwoNames verb) → AreNames (s ∷ t ∷ []) → reading (spelled word (s ∷ t ∷ []) []) ≡ Ok (pair_command verb (s, t))
 pair_line verb word s t plain is below =
-    rw (
-      words_of-line word (s ∷ t ∷ []) [] (lacks_by_test 32 word plain) below (All-nil (λ m. m ≤ greatest)),
-      is,
-      name_of-letter s (All-head (λ s. s < 16) s (t ∷ []) below),
-      name_of-letter t (All-head (λ s. s < 16) t [] (All-tail (λ s. s < 16) s (t ∷ []) below)),
-      numbers-pair_command verb (s, t),
-    )
+    let second : t < 16 = All-head (λ s. s < 16) t [] (All-tail (λ s. s < 16) s (t ∷ []) below) in
+    verb_line (TwoNames verb) word (s ∷ t ∷ []) [] plain is below (All-nil (λ m. m ≤ greatest))
+    ∙ rw (name_of-letter s (All-head (λ s. s < 16) s (t ∷ []) below), name_of-letter t second, numbers-pair_command verb (s, t))
 
-extend_line : (word : List ℕ) (s : ℕ) (ns : List ℕ) → list_all (λ b. not (b == 32)) word ≡ true → verb_of word ≡ Some Extend → All (λ s. s < 16) (s ∷ []) → All (λ m. m ≤ greatest) ns → reading (word ++ (flat_map letter (s ∷ []) ++ flat_map figures ns)) ≡ Ok (command.Extend s ns)
+extend_line : (word : List ℕ) (s : ℕ) (ns : List ℕ) → IsOneWord word → verb_of word ≡ Some Extend → AreNames (s ∷ []) → AreFit ns → reading (spelled word (s ∷ []) ns) ≡ Ok (command.Extend s ns)
 extend_line word s ns plain is below fit =
-    rw (
-      words_of-line word (s ∷ []) ns (lacks_by_test 32 word plain) below fit,
-      is,
-      name_of-letter s (All-head (λ s. s < 16) s [] below),
-      all_numbers-decimal ns fit,
-      all_fit ns fit,
-    )
+    verb_line Extend word (s ∷ []) ns plain is below fit
+    ∙ rw (name_of-letter s (All-head (λ s. s < 16) s [] below), all_numbers-decimal ns fit, all_fit ns fit)
 
-rest_iter_line : (verb word : List ℕ) (s n : ℕ) → list_all (λ b. not (b == 32)) verb ≡ true → verb_of verb ≡ Some Rest → list_all (λ b. not (b == 32)) word ≡ true → walk_of word ≡ Some One → All (λ s. s < 16) (s ∷ []) → All (λ m. m ≤ greatest) (n ∷ []) → reading (verb ++ 32 ∷ (word ++ (flat_map letter (s ∷ []) ++ flat_map figures (n ∷ [])))) ≡ Ok (command.RestIter s n)
-rest_iter_line verb word s n one is two walk below fit =
-    rw (
-      parts_at-first 32 verb (word ++ (flat_map letter (s ∷ []) ++ flat_map figures (n ∷ []))) (lacks_by_test 32 verb one),
-      is,
-      words_of-line word (s ∷ []) (n ∷ []) (lacks_by_test 32 word two) below fit,
-      walk,
-      name_of-letter s (All-head (λ s. s < 16) s [] below),
-      number_of-decimal n (All-head (λ m. m ≤ greatest) n [] fit),
-      all_fit (n ∷ []) fit,
-    )
+rest_iter_line : (verb word : List ℕ) (s n : ℕ) → IsOneWord verb → verb_of verb ≡ Some Rest → IsOneWord word → walk_of word ≡ Some One → AreNames (s ∷ []) → AreFit (n ∷ []) → reading (verb ++ 32 ∷ (spelled word (s ∷ []) (n ∷ []))) ≡ Ok (command.RestIter s n)
+rest_iter_line verb word s n one rest two is below fit =
+    rest_line One verb word (s ∷ []) (n ∷ []) one rest two is below fit
+    ∙ rw (name_of-letter s (All-head (λ s. s < 16) s [] below), number_of-decimal n (All-head (λ m. m ≤ greatest) n [] fit), all_fit (n ∷ []) fit)
 
-rest_two_line : (merge : Merge) (verb word : List ℕ) (s t n : ℕ) → list_all (λ b. not (b == 32)) verb ≡ true → verb_of verb ≡ Some Rest → list_all (λ b. not (b == 32)) word ≡ true → walk_of word ≡ Some (Two merge) → All (λ s. s < 16) (s ∷ t ∷ []) → All (λ m. m ≤ greatest) (n ∷ []) → reading (verb ++ 32 ∷ (word ++ (flat_map letter (s ∷ t ∷ []) ++ flat_map figures (n ∷ [])))) ≡ Ok (command.RestWalk merge s t n)
-rest_two_line merge verb word s t n one is two walk below fit =
-    rw (
-      parts_at-first 32 verb (word ++ (flat_map letter (s ∷ t ∷ []) ++ flat_map figures (n ∷ []))) (lacks_by_test 32 verb one),
-      is,
-      words_of-line word (s ∷ t ∷ []) (n ∷ []) (lacks_by_test 32 word two) below fit,
-      walk,
-      name_of-letter s (All-head (λ s. s < 16) s (t ∷ []) below),
-      name_of-letter t (All-head (λ s. s < 16) t [] (All-tail (λ s. s < 16) s (t ∷ []) below)),
-      number_of-decimal n (All-head (λ m. m ≤ greatest) n [] fit),
-      all_fit (n ∷ []) fit,
-    )
+rest_two_line : (merge : Merge) (verb word : List ℕ) (s t n : ℕ) → IsOneWord verb → verb_of verb ≡ Some Rest → IsOneWord word → walk_of word ≡ Some (Two merge) → AreNames (s ∷ t ∷ []) → AreFit (n ∷ []) → reading (verb ++ 32 ∷ (spelled word (s ∷ t ∷ []) (n ∷ []))) ≡ Ok (command.RestWalk merge s t n)
+rest_two_line merge verb word s t n one rest two is below fit =
+    let second : t < 16 = All-head (λ s. s < 16) t [] (All-tail (λ s. s < 16) s (t ∷ []) below) in
+    rest_line (Two merge) verb word (s ∷ t ∷ []) (n ∷ []) one rest two is below fit
+    ∙ rw (name_of-letter s (All-head (λ s. s < 16) s (t ∷ []) below), name_of-letter t second, number_of-decimal n (All-head (λ m. m ≤ greatest) n [] fit), all_fit (n ∷ []) fit)
 
-split_off_line : (word : List ℕ) (s n t : ℕ) → list_all (λ b. not (b == 32)) word ≡ true → verb_of word ≡ Some SplitOff → All (λ s. s < 16) (s ∷ t ∷ []) → All (λ m. m ≤ greatest) (n ∷ []) → reading (word ++ (letter s ++ (figures n ++ letter t))) ≡ Ok (command.SplitOff s n t)
+split_off_line : (word : List ℕ) (s n t : ℕ) → IsOneWord word → verb_of word ≡ Some SplitOff → AreNames (s ∷ t ∷ []) → AreFit (n ∷ []) → reading (word ++ (letter s ++ (figures n ++ letter t))) ≡ Ok (command.SplitOff s n t)
 split_off_line word s n t plain is below fit =
     let last : t < 16 = All-head (λ s. s < 16) t [] (All-tail (λ s. s < 16) s (t ∷ []) below) in
     rw (
