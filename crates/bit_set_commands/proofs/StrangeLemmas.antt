@@ -1,5 +1,5 @@
 -- A line with an empty word, or with a byte that no command has, is a bad command.
-use Rattle.std.proofs.Common.{◌≡◌, ⊎_elim, ℕ, zero, suc, ◌<◌, Bool, true, false, ◌&&◌, ◌||◌, ◌==◌, nat_lt, nat_le, List, [], ◌∷◌, length, get_or, Option, None, Some, Err, inl, inr, arith, refl, ap, sym, ◌∙◌, leb-true, le-leb}
+use Rattle.std.proofs.Common.{◌≡◌, ⊎_elim, ℕ, Bool, true, false, ◌&&◌, ◌||◌, ◌==◌, nat_lt, nat_le, List, [], ◌∷◌, length, Option, None, Some, Err, inl, inr, arith, refl, ap, sym, ◌∙◌, leb-true, le-leb}
 use Rattle.std.specs.Char.{is_ascii_digit, is_ascii_lowercase}
 use Rattle.std.specs.Cmp.Lexicographic.{same_text}
 use Rattle.std.specs.Int.{is_in_range}

@@ -1,5 +1,5 @@
 -- A set of the array is changed by another, which is taken out meanwhile.
-use Rattle.std.proofs.Common.{◌≡◌, ℕ, ◌+◌, ◌<◌, List, [], length, get_or, map, set, IfSome, Some, refl, sym, subst, ap, ◌∙◌, ne_eqb}
+use Rattle.std.proofs.Common.{◌≡◌, ℕ, ◌<◌, List, [], length, get_or, map, set, IfSome, Some, refl, sym, subst, ap, ◌∙◌, ne_eqb}
 use Rattle.std.proofs.lemmas.List.{set-set, set-get_or, map-set, get_or-map, get_or-set_other, get_or_default, set_comm}
 use Rattle.bit_set.specs.Bits.{Bits}
 use Rattle.bit_set_commands.specs.declared.commands.Command.{Command}

@@ -1,7 +1,9 @@
 -- What single commands rest on: items up to the greatest number, walks, and an array of sets.
 use Rattle.std.proofs.Common.{◌≡◌, ◌==◌, if◌then◌else◌, cond, not, Bool, ℕ, ◌+◌, ◌<◌, ◌≤◌, true, false, eqb, List, [], ◌∷◌, ◌++◌, length, get_or, take, drop, map, set, Some, refl, sym, subst, ap, ◌∙◌, arith}
+use Rattle.std.proofs.Common.{Result, OnErr}
 use Rattle.std.proofs.lemmas.Bool.{ne_eqb}
-use Rattle.std.proofs.lemmas.List.{append_assoc, take_more, take-append-drop, map-id, set-set, set-get_or, map-set, get_or-map, get_or-set_other, get_or_default, set_comm}
+use Rattle.std.proofs.lemmas.Result.{on_err_weaker}
+use Rattle.std.proofs.lemmas.List.{append_assoc, take_more, take-append-drop, map-id, set-get_or, map-set, get_or-map}
 use Rattle.std.proofs.lemmas.List.Elements.{All-take}
 use Rattle.std.proofs.lemmas.Iterator.{YieldsList, YieldsList-from_slice}
 use Rattle.std.proofs.lemmas.Iterator.Consumers.{YieldsList-from_copied, YieldsList-so_far, YieldsList-turn}
@@ -11,8 +13,7 @@ use Rattle.std.proofs.iter.Yields.{copies, fronts}
 use Rattle.std.specs.Iterator.{HoldsAlong, YieldsThen}
 use Rattle.std.specs.List.{All, list_any}
 use Rattle.bit_set.specs.Bits.{Bits}
-use Rattle.bit_set.specs.Sets.{bound_of, elements, elements_from, has, put, union}
-use Rattle.bit_set_run.specs.Capacities.{bits_at, Becomes, GrowsTo}
+use Rattle.bit_set.specs.Sets.{bound_of, elements, elements_from, has, put}
 use Rattle.bit_set_run.specs.Elements.{elements_of}
 use Rattle.bit_set_commands.specs.declared.commands.Command.TheVariants.{Insert}
 use Rattle.bit_set_commands.specs.declared.commands.Reply.TheVariants.{Truth, Element}
@@ -62,18 +63,23 @@ stands_before all items item front within is =
     ∙ append_assoc items (item ∷ []) (drop (length items + 1) all)
 
 -- the set of a name is the one at its place
-pub set_at : (sets : List Bits) (place name : ℕ) (d : Bits) → place ≡ name → place < length sets → get_or (map elements_of sets) name [] ≡ elements_of (get_or sets place d)
-set_at sets place name d at within = ap (λ p. get_or (map elements_of sets) p []) (sym at) ∙ get_or-map elements_of sets place d [] within
+pub set_at : (sets : List Bits) (place name : ℕ) (d : Bits) → length sets ≡ 16 → place < 16 → place ≡ name → get_or (map elements_of sets) name [] ≡ elements_of (get_or sets place d)
+set_at sets place name d all within at = ap (λ p. get_or (map elements_of sets) p []) (sym at) ∙ get_or-map elements_of sets place d [] (omega arith)
 
 -- one set of the array is changed by f
-pub change_is : (sets : List Bits) (place name : ℕ) (d set_now : Bits) (f : List ℕ → List ℕ) → place ≡ name → place < length sets → elements_of set_now ≡ f (elements_of (get_or sets place d)) → map elements_of (set sets place set_now) ≡ set (map elements_of sets) name (f (get_or (map elements_of sets) name []))
-change_is sets place name d set_now f at within changed =
-    map-set elements_of sets place set_now ∙ ap (λ t. set (map elements_of sets) place t) (changed ∙ ap f (sym (get_or-map elements_of sets place d [] within))) ∙ ap (λ p. set (map elements_of sets) p (f (get_or (map elements_of sets) p []))) at
+pub change_is : (sets : List Bits) (place name : ℕ) (d set_now : Bits) (f : List ℕ → List ℕ) → length sets ≡ 16 → place < 16 → place ≡ name → elements_of set_now ≡ f (elements_of (get_or sets place d)) → map elements_of (set sets place set_now) ≡ set (map elements_of sets) name (f (get_or (map elements_of sets) name []))
+change_is sets place name d set_now f all within at changed =
+    map-set elements_of sets place set_now ∙ ap (λ t. set (map elements_of sets) place t) (changed ∙ ap f (sym (set_at sets place place d all within refl))) ∙ ap (λ p. set (map elements_of sets) p (f (get_or (map elements_of sets) p []))) at
 
 -- one set of the array is as it was
-pub no_change_is : (sets : List Bits) (place : ℕ) (d set_now : Bits) → place < length sets → elements_of set_now ≡ elements_of (get_or sets place d) → map elements_of (set sets place set_now) ≡ map elements_of sets
-no_change_is sets place d set_now within same =
-    change_is sets place place d set_now (λ s. s) refl within same ∙ set-get_or (map elements_of sets) place []
+pub no_change_is : (sets : List Bits) (place : ℕ) (d set_now : Bits) → length sets ≡ 16 → place < 16 → elements_of set_now ≡ elements_of (get_or sets place d) → map elements_of (set sets place set_now) ≡ map elements_of sets
+no_change_is sets place d set_now all within same =
+    change_is sets place place d set_now (λ s. s) all within refl same ∙ set-get_or (map elements_of sets) place []
+
+-- the same at an error, which comes only where P holds of its elements
+pub refused_at : {T E Same : Type 0} (r : Result T E) (sets : List Bits) (place name : ℕ) (d set_now : Bits) (P : List ℕ → Type 0) → length sets ≡ 16 → place < 16 → place ≡ name → (Same → elements_of set_now ≡ elements_of (get_or sets place d)) → OnErr r (P (elements_of (get_or sets place d)) × Same) → OnErr r (P (get_or (map elements_of sets) name []) × (map elements_of (set sets place set_now) ≡ map elements_of sets))
+refused_at r sets place name d set_now P all within at same =
+    on_err_weaker r (λ refused. (subst P (sym (set_at sets place name d all within at)) refused.0, no_change_is sets place d set_now all within (same refused.1)))
 
 -- what an insert leaves, the greatest number included
 pub sets-insert : (sets : List (List ℕ)) (name n : ℕ) → set sets name (if n == greatest then get_or sets name [] else put (get_or sets name []) n) ≡ (step sets (Insert name n)).sets
