@@ -1,6 +1,6 @@
 -- Reads and writes one after another, at a reader and a writer whose bytes are known.
-use Rattle.std.proofs.Common.{◌≡◌, ℕ, ◌+◌, ◌<◌, ◌≤◌, List, [], ◌++◌, length, take, drop, Option, refl, sym, ap, ◌∙◌, append_assoc, arith}
-use Rattle.std.proofs.KnownBytes.{Appends-nil, Appends-trans, Consumes-trans}
+use Rattle.std.proofs.Common.{◌≡◌, ℕ, ◌+◌, ◌<◌, ◌≤◌, List, [], ◌++◌, length, take, drop, Option, sym, ap, ◌∙◌, append_assoc, arith}
+use Rattle.std.proofs.KnownBytes.{Appends-trans, Consumes-trans}
 use Rattle.std.proofs.lemmas.List.{take-append-drop, length-append, length-take-le, take-append-le}
 use Rattle.std.specs.Io.KnownBytes.{Consumes, Appends}
 use Rattle.bit_set_run.specs.Streams.{limit, GaveCount, GaveSome}
@@ -16,9 +16,6 @@ pub record HasSent (old new : Option (List ℕ)) (text rest : List ℕ) : Type 0
   pub sent : List ℕ
   pub parts : text ≡ sent ++ rest
   pub written : Appends old new sent
-
-pub HasSent-start : (known : Option (List ℕ)) (text : List ℕ) → HasSent known known text text
-HasSent-start known text = record { sent = []; parts = refl; written = Appends-nil known }
 
 pub HasSent-more : (old mid new : Option (List ℕ)) (text rest : List ℕ) (n : ℕ) → HasSent old mid text rest → Appends mid new (take n rest) → HasSent old new text (drop n rest)
 HasSent-more old mid new text rest n so_far write = record {
