@@ -5,6 +5,7 @@ ghost use Rattle.bit_set.specs.Sets.{elements};
 
 use crate::expect::{expect, expect_eq, ok};
 use crate::sets::{set_of, set_of_bytes};
+use crate::steps::{has_just, len_of};
 use bit_set::bit_vec::Merge;
 use bit_set::laws::collected_walks;
 use bit_set::{BitBlock, BitSet, SetError};
@@ -42,9 +43,8 @@ fn becomes(
     (same, elements, len): (&BitSet, &[usize], usize),
 ) {
     ok(rt, merge_in(set, merge, other));
-    expect(rt, set.iter().eq(elements.iter().copied()));
-    expect(rt, *set == *same);
-    expect_eq(rt, &set.get_ref().len(), &len);
+    expect(rt, has_just(set, elements) && *set == *same);
+    expect_eq(rt, &len_of(set), &len);
 }
 
 // Two sets that are merged, the byte of the set that the first becomes, and its elements and length.
@@ -128,55 +128,45 @@ const RELATIONS: &[(Parts, Parts, [bool; 2])] = &[
     ((&[0b1010_0010], &[]), (&[], &[]), [false, true]),
 ];
 
+// Whether a set is within another, and apart from it.
+fn relations<B: BitBlock>(a: &BitSet<B>, b: &BitSet<B>) -> [bool; 2] {
+    [a.is_subset(b), a.is_disjoint(b)]
+}
+
 #[test]
 fn sets_are_compared(rt: HostRuntime) {
     for row in RELATIONS {
         let (first, second, wanted) = *row;
         let set = made(&rt, rt.alloc(), first);
         let other = made(&rt, rt.alloc(), second);
-        expect_eq(
-            &rt,
-            &[set.is_subset(&other), set.is_disjoint(&other)],
-            &wanted,
-        );
+        expect_eq(&rt, &relations(&set, &other), &wanted);
     }
 }
 
-// Whether a set is in another that has one number more, that one in it, and whether they have nothing in
-// common.
-fn results<B: BitBlock>(rt: &impl Abort, alloc: Global) -> [bool; 3] {
+// A set is in another that has one number more, that one is not in it, and they have something in common.
+fn less_and_more<B: BitBlock>(rt: &impl Abort, alloc: Global) {
     let less = set_of::<B>(rt, alloc, &[1, 160]);
     let more = set_of(rt, alloc, &[1, 160, 24]);
-    [
-        less.is_subset(&more),
-        less.is_superset(&more),
-        less.is_disjoint(&more),
-    ]
+    expect_eq(rt, &relations(&less, &more), &[true, false]);
+    expect(rt, !less.is_superset(&more));
 }
 
 // How many elements two sets of numbers become, by one merge after another.
-fn counts<B: BitBlock>(rt: &impl Abort, alloc: Global) -> [usize; 4] {
-    let mut set = set_of::<B>(rt, alloc, &[1, 3, 5, 9, 11, 160, 19, 24, 200]);
-    let other = set_of(rt, alloc, &[1, 5, 9, 13, 19]);
-    let mut counts = [0; 4];
-    for (place, merge) in [
-        Merge::Union,
-        Merge::Difference,
-        Merge::Symmetric,
-        Merge::Intersection,
-    ]
-    .iter()
-    .enumerate()
-    {
-        ok(rt, merge_in(&mut set, *merge, &other));
-        counts[place] = set.count();
-    }
-    counts
-}
+const COUNTS: &[(Merge, usize)] = &[
+    (Merge::Union, 10),
+    (Merge::Difference, 5),
+    (Merge::Symmetric, 10),
+    (Merge::Intersection, 5),
+];
 
 fn become_one<B: BitBlock>(rt: &impl Abort, alloc: Global) {
-    expect_eq(rt, &counts::<B>(rt, alloc), &[10, 5, 10, 5]);
-    expect_eq(rt, &results::<B>(rt, alloc), &[true, false, false]);
+    let mut set = set_of::<B>(rt, alloc, &[1, 3, 5, 9, 11, 160, 19, 24, 200]);
+    let other = set_of(rt, alloc, &[1, 5, 9, 13, 19]);
+    for (merge, count) in COUNTS {
+        ok(rt, merge_in(&mut set, *merge, &other));
+        expect_eq(rt, &set.count(), count);
+    }
+    less_and_more::<B>(rt, alloc);
 }
 
 #[test]
@@ -207,6 +197,6 @@ fn a_walk_collects_what_is_left_in_place(rt: HostRuntime) {
     let mut set = set_of::<u32>(&rt, rt.alloc(), &[11, 1, 3]);
     let other = set_of(&rt, rt.alloc(), &[2, 11]);
     let collected = ok(&rt, collect_and_unite(rt.alloc(), &mut set, &other));
-    expect(&rt, collected.iter().eq([1, 2, 3, 11]));
-    expect(&rt, set.iter().eq([1, 2, 3, 11]));
+    expect(&rt, has_just(&collected, &[1, 2, 3, 11]));
+    expect(&rt, has_just(&set, &[1, 2, 3, 11]));
 }

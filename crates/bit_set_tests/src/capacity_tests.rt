@@ -3,17 +3,21 @@ ghost use Rattle.std.specs.Prelude.{◌≡◌, ◌<◌, ◌≤◌, All, IsOk, le
 
 use crate::expect::{expect, expect_eq, ok};
 use crate::sets::{set_of, set_of_bytes};
+use crate::steps::{Step, has_just, take, take_new, take_of};
 use bit_set::{BitBlock, BitSet, SetError};
 use block24::Block24;
 use std::alloc::Global;
 use std::process::Abort;
 
 // The length of the set of some numbers, and that once it is shrunk.
-fn has_lengths<B: BitBlock>(rt: &impl Abort, alloc: Global, numbers: &[usize], wanted: [usize; 2]) {
-    let mut set = set_of::<B>(rt, alloc, numbers);
-    let before = set.get_ref().len();
-    ok(rt, set.shrink_to_fit());
-    expect_eq(rt, &[before, set.get_ref().len()], &wanted);
+fn has_lengths<B: BitBlock>(
+    rt: &impl Abort,
+    alloc: Global,
+    numbers: &[usize],
+    [before, after]: [usize; 2],
+) {
+    let steps = [Step::Len(before), Step::Shrink, Step::Len(after)];
+    take_of::<B>(rt, alloc, numbers, &steps);
 }
 
 #[test]
@@ -34,11 +38,13 @@ fn has_length_without<B: BitBlock>(
     (numbers, gone): (&[usize], usize),
     len: usize,
 ) {
-    let mut set = set_of::<B>(rt, alloc, numbers);
-    ok(rt, set.shrink_to_fit());
-    set.remove(gone);
-    ok(rt, set.shrink_to_fit());
-    expect_eq(rt, &set.get_ref().len(), &len);
+    let steps = [
+        Step::Shrink,
+        Step::Remove(gone, true),
+        Step::Shrink,
+        Step::Len(len),
+    ];
+    take_of::<B>(rt, alloc, numbers, &steps);
 }
 
 #[test]
@@ -50,10 +56,8 @@ fn blocks_of_zeros_are_cut(rt: HostRuntime) {
 
 // {3} has so many elements once it is shrunk and filled.
 fn fills<B: BitBlock>(rt: &impl Abort, alloc: Global, count: usize) {
-    let mut set = set_of::<B>(rt, alloc, &[3]);
-    ok(rt, set.shrink_to_fit());
-    set.get_mut().fill(true);
-    expect_eq(rt, &set.count(), &count);
+    let steps = [Step::Shrink, Step::Fill, Step::Count(count)];
+    take_of::<B>(rt, alloc, &[3], &steps);
 }
 
 #[test]
@@ -83,7 +87,7 @@ fn with_one_written(alloc: Global) -> Result<BitSet, SetError> {
 #[test]
 fn what_is_written_is_the_set(rt: HostRuntime) {
     let set = ok(&rt, with_one_written(rt.alloc()));
-    expect(&rt, set.iter().eq([0, 1, 3]));
+    expect(&rt, has_just(&set, &[0, 1, 3]));
 }
 
 #[test]
@@ -101,76 +105,68 @@ fn the_bit_vector_of_a_union_is_handed_out(rt: HostRuntime) {
     expect_eq(&rt, &set.into_bit_vec().get(3), &Some(true));
 }
 
-// The capacities of a set before and after it is shrunk.
-fn capacities(rt: &impl Abort, set: &mut BitSet) -> [usize; 2] {
-    let before = set.capacity();
-    ok(rt, set.shrink_to_fit());
-    [before, set.capacity()]
-}
+const NEW: &[Step] = &[
+    Step::Capacity(0),
+    Step::Shrink,
+    Step::Capacity(0),
+    Step::Insert(3, true),
+    Step::CapacityFrom(1),
+    Step::Shrink,
+    Step::CapacityFrom(1),
+    Step::Elements(&[3]),
+];
 
 #[test]
 fn a_new_set_has_no_capacity(rt: HostRuntime) {
-    let mut set = BitSet::new(rt.alloc());
-    expect_eq(&rt, &capacities(&rt, &mut set), &[0, 0]);
-    ok(&rt, set.insert(3));
-    let [before, after] = capacities(&rt, &mut set);
-    expect(&rt, before > 0 && after > 0);
-    expect(&rt, set.iter().eq([3]));
+    take_new(&rt, rt.alloc(), NEW);
 }
 
-// The set {3, 98, 259} with no more capacity than it takes.
-fn shrunk_once(rt: &impl Abort, alloc: Global) -> BitSet {
-    let mut set = set_of(rt, alloc, &[259, 98, 3]);
-    ok(rt, set.shrink_to_fit());
-    expect_eq(rt, &set.count(), &3);
-    expect(rt, set.capacity() > 0);
-    set
-}
-
-// The set {3, 98} with no more capacity than it takes, which is less than {3, 98, 259} took.
-fn shrunk_twice(rt: &impl Abort, alloc: Global) -> BitSet {
-    let mut set = shrunk_once(rt, alloc);
-    let capacity = set.capacity();
-    set.remove(259);
-    ok(rt, set.shrink_to_fit());
-    expect(rt, set.capacity() < capacity);
-    set
-}
-
-// Takes all elements out. How many there are then, and whether the capacity stays.
-fn emptied(set: &mut BitSet) -> (usize, bool) {
-    let capacity = set.capacity();
-    set.make_empty();
-    (set.count(), set.capacity() == capacity)
-}
+// {3, 98} with no more capacity than it takes has less than {3, 98, 259} had.
+const GIVEN_BACK: &[Step] = &[
+    Step::Shrink,
+    Step::Count(3),
+    Step::CapacityFrom(1),
+    Step::ShrinkWithout(259),
+    Step::Elements(&[3, 98]),
+    Step::MakeEmpty,
+    Step::Count(0),
+];
 
 #[test]
 fn capacity_is_given_back(rt: HostRuntime) {
-    let mut set = shrunk_twice(&rt, rt.alloc());
-    expect(&rt, set.iter().eq([3, 98]));
-    expect_eq(&rt, &emptied(&mut set), &(0, true));
+    take_of::<u32>(&rt, rt.alloc(), &[259, 98, 3], GIVEN_BACK);
 }
+
+const ALL_GIVEN_BACK: &[Step] = &[
+    Step::Shrink,
+    Step::Count(3),
+    Step::CapacityFrom(1),
+    Step::ShrinkWithout(259),
+    Step::MakeEmpty,
+    Step::Insert(512, true),
+    Step::Elements(&[512]),
+    Step::Remove(512, true),
+    Step::Shrink,
+    Step::IsEmpty(true),
+    Step::Capacity(0),
+];
 
 #[test]
 fn all_capacity_is_given_back_by_an_empty_set(rt: HostRuntime) {
-    let mut set = shrunk_twice(&rt, rt.alloc());
-    set.make_empty();
-    ok(&rt, set.insert(512));
-    expect(&rt, set.iter().eq([512]));
-    set.remove(512);
-    ok(&rt, set.shrink_to_fit());
-    expect_eq(&rt, &(set.is_empty(), set.capacity()), &(true, 0));
+    take_of::<u32>(&rt, rt.alloc(), &[259, 98, 3], ALL_GIVEN_BACK);
 }
 
 // A new set has at least capacity for 41 once that is reserved, and this much once it is reserved exactly.
 fn reserves<B: BitBlock>(rt: &impl Abort, alloc: Global, exactly: usize) {
     let mut set = BitSet::<B>::new_general(alloc);
-    ok(rt, set.reserve_len(41));
-    expect(rt, set.capacity() >= 41);
+    take(rt, &mut set, &[Step::Reserve(41), Step::CapacityFrom(41)]);
     let mut exact = BitSet::<B>::new_general(alloc);
-    ok(rt, exact.reserve_len_exact(41));
-    ok(rt, exact.reserve_len_exact(7));
-    expect_eq(rt, &exact.capacity(), &exactly);
+    let steps = [
+        Step::ReserveExact(41),
+        Step::ReserveExact(7),
+        Step::Capacity(exactly),
+    ];
+    take(rt, &mut exact, &steps);
 }
 
 #[test]
@@ -180,13 +176,15 @@ fn capacity_is_reserved(rt: HostRuntime) {
     reserves::<u32>(&rt, rt.alloc(), 64);
 }
 
+const PAST_ALL_MEMORY: &[Step] = &[
+    Step::ReserveFails(18446744073709551615),
+    Step::Elements(&[5]),
+    Step::Len(6),
+];
+
 #[test]
 fn no_capacity_past_all_memory(rt: HostRuntime) {
-    let mut set = set_of::<u32>(&rt, rt.alloc(), &[5]);
-    expect(&rt, set.reserve_len(18446744073709551615).is_err());
-    expect(&rt, set.reserve_len_exact(18446744073709551615).is_err());
-    expect(&rt, set.iter().eq([5]));
-    expect_eq(&rt, &set.get_ref().len(), &6);
+    take_of::<u32>(&rt, rt.alloc(), &[5], PAST_ALL_MEMORY);
 }
 
 // Once 0 is in, 1 goes in for sure: they share a block.
@@ -270,5 +268,5 @@ fn within_its_capacity_a_set_never_fails(rt: HostRuntime) {
     let other = set_of(&rt, rt.alloc(), &[3, 98]);
     let mut set = BitSet::new_general(rt.alloc());
     let stays = ok(&rt, stays_within(&mut set, &other));
-    expect(&rt, stays && set.iter().eq([3, 98]));
+    expect(&rt, stays && has_just(&set, &[3, 98]));
 }

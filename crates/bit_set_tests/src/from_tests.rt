@@ -1,7 +1,7 @@
 //! The walk that begins at a number: its rows, and from each number over four widths.
 
-use crate::expect::{expect_eq, ok};
 use crate::sets::set_of;
+use crate::steps::{Step, take};
 use crate::walk_tests::{passes, set_of_one};
 use bit_set::{BitBlock, BitSet};
 use block24::Block24;
@@ -35,34 +35,37 @@ const FIRSTS: Firsts = &[
 #[test]
 fn the_first_item_is_the_least_from_there_on(rt: HostRuntime) {
     let mut set = set_of_one::<u32>(&rt, rt.alloc(), 500, 3);
-    ok(&rt, set.insert(400));
+    take(&rt, &mut set, &[Step::Insert(400, true)]);
     begins(&rt, &set, FIRSTS);
 }
 
 #[test]
 fn no_item_comes_from_a_number_on_where_there_is_none(rt: HostRuntime) {
-    let empty = BitSet::new(rt.alloc());
-    expect_eq(&rt, &empty.iter_from(0).next(), &None);
-    expect_eq(&rt, &empty.iter_from(40).next(), &None);
+    begins(&rt, &BitSet::new(rt.alloc()), &[(0, None), (40, None)]);
 }
 
 // A set of length 401 has 13 blocks of 32 bits. The bound is that of the blocks from the one of the number on, and of
 // one block where there is none.
+const BOUNDS: &[(usize, usize)] = &[
+    (0, 416),
+    (31, 416),
+    (32, 384),
+    (100, 320),
+    (400, 32),
+    (416, 32),
+    (18446744073709551615, 32),
+];
+
+fn is_bounded(rt: &impl Abort, set: &BitSet) {
+    for (from, bound) in BOUNDS {
+        let hint = set.iter_from(*from).size_hint();
+        assert_eq!(rt; hint, (0, Some(*bound)), "from {from}");
+    }
+}
+
 #[test]
 fn the_bound_is_that_of_the_blocks_from_there_on(rt: HostRuntime) {
-    let set = set_of_one::<u32>(&rt, rt.alloc(), 0, 400);
-    for (from, bound) in [
-        (0, 416),
-        (31, 416),
-        (32, 384),
-        (100, 320),
-        (400, 32),
-        (416, 32),
-        (18446744073709551615, 32),
-    ] {
-        let hint = set.iter_from(from).size_hint();
-        assert_eq!(rt; hint, (0, Some(bound)), "from {from}");
-    }
+    is_bounded(&rt, &set_of_one::<u32>(&rt, rt.alloc(), 0, 400));
 }
 
 // How many of these elements are less than a number.

@@ -2,13 +2,13 @@
 //! places: rows with their exact results.
 use crate::algebra_tests::merge_in;
 use crate::expect::{expect, expect_eq, ok};
-use crate::order_tests::feed;
+use crate::order_tests::{are_equal, expect_shown};
 use crate::sets::{set_of, set_of_bytes};
+use crate::steps::{Step, len_of, take, take_of};
 use bit_set::bit_vec::Merge;
 use bit_set::{BitBlock, BitSet, SetError};
 use block24::Block24;
 use std::alloc::{AllocError, Global};
-use std::cmp::Ordering;
 use std::process::Abort;
 
 const GREATEST: usize = 18446744073709551615;
@@ -57,26 +57,29 @@ fn counts(a: &BitSet, b: &BitSet) -> [usize; 5] {
     ]
 }
 
+// Whether they give 3 where either set has it, and nothing else.
+fn give_three(a: &BitSet, b: &BitSet) -> bool {
+    let three = Some(3);
+    counts(a, b) == [1, 1, 1, 0, 0] && firsts(a, b) == [three, three, three, None, None]
+}
+
+fn have_lengths(a: &BitSet, b: &BitSet, one: usize, two: usize) -> bool {
+    len_of(a) == one && len_of(b) == two
+}
+
 #[test]
 fn walks_see_no_length(rt: HostRuntime) {
     for (one, two) in LENGTHS {
         let a = three(&rt, rt.alloc(), one);
         let b = three(&rt, rt.alloc(), two);
-        assert_eq!(rt; counts(&a, &b), [1, 1, 1, 0, 0], "at {one} and {two}");
-        let three = Some(3);
-        expect_eq(&rt, &firsts(&a, &b), &[three, three, three, None, None]);
-        expect_eq(&rt, &[a.get_ref().len(), b.get_ref().len()], &[one, two]);
+        assert!(rt; give_three(&a, &b), "at {one} and {two}");
+        assert!(rt; have_lengths(&a, &b, one, two), "at {one} and {two}");
     }
 }
 
 // Whether each is within the other, and they are not apart.
 fn are_within_each_other(a: &BitSet, b: &BitSet) -> bool {
     a.is_subset(b) && a.is_superset(b) && !a.is_disjoint(b)
-}
-
-// Whether they are equal, in their order and in what they feed too.
-fn are_equal(a: &BitSet, b: &BitSet) -> bool {
-    *a == *b && a.cmp(b) == Ordering::Equal && feed(a) == feed(b)
 }
 
 #[test]
@@ -86,8 +89,7 @@ fn tests_and_texts_see_no_length(rt: HostRuntime) {
         let b = three(&rt, rt.alloc(), two);
         assert!(rt; are_within_each_other(&a, &b), "at {one} and {two}");
         assert!(rt; are_equal(&a, &b), "at {one} and {two}");
-        let shown = ok(&rt, format!(in rt.alloc(); "{a}"));
-        expect_eq(&rt, &shown.as_str(), &"{3}");
+        expect_shown(&rt, rt.alloc(), &a, "{3}");
     }
 }
 
@@ -101,7 +103,7 @@ fn merged(
     let mut set = three(rt, alloc, one);
     let other = three(rt, alloc, two);
     ok(rt, merge_in(&mut set, merge, &other));
-    (set.count(), set.get_ref().len())
+    (set.count(), len_of(&set))
 }
 
 #[test]
@@ -119,66 +121,73 @@ fn the_greater_length_stays(rt: HostRuntime) {
     }
 }
 
+// A number, and why it makes no set.
+const NUMBERS: &[(usize, Option<SetError>)] = &[
+    (GREATEST, Some(SetError::Element)),
+    (GREATEST - 1, Some(SetError::Memory(AllocError))),
+    (5, None),
+];
+
+fn fault_of(alloc: Global, number: usize) -> Option<SetError> {
+    BitSet::<u32>::from_iter(alloc, [number].iter().copied()).err()
+}
+
 #[test]
 fn no_set_is_made_of_the_greatest_numbers(rt: HostRuntime) {
-    let refused = SetError::Memory(AllocError);
-    for (number, fault) in [
-        (GREATEST, Some(SetError::Element)),
-        (GREATEST - 1, Some(refused)),
-        (5, None),
-    ] {
-        let made = BitSet::<u32>::from_iter(rt.alloc(), [number].iter().copied());
-        expect_eq(&rt, &made.err(), &fault);
+    for (number, fault) in NUMBERS {
+        expect_eq(&rt, &fault_of(rt.alloc(), *number), fault);
     }
 }
 
 // Each call with a number that no set has, and that is no element or asks for more memory than there is.
-fn try_each_call(rt: &impl Abort, set: &mut BitSet, number: usize, fault: SetError) {
-    expect(rt, !set.contains(number) && !set.remove(number));
-    set.truncate(number);
-    expect_eq(rt, &set.insert(number), &Err(fault));
-    expect_eq(rt, &set.extend([number].iter().copied()), &Err(fault));
-    expect(
-        rt,
-        set.reserve_len(number).is_err() && set.reserve_len_exact(number).is_err(),
-    );
-}
+const TRIED: &[Step] = &[
+    Step::Contains(GREATEST, false),
+    Step::Remove(GREATEST, false),
+    Step::Truncate(GREATEST),
+    Step::InsertFails(GREATEST, SetError::Element),
+    Step::ExtendFails(&[GREATEST], SetError::Element),
+    Step::ReserveFails(GREATEST),
+    Step::Contains(GREATEST - 1, false),
+    Step::Remove(GREATEST - 1, false),
+    Step::Truncate(GREATEST - 1),
+    Step::InsertFails(GREATEST - 1, SetError::Memory(AllocError)),
+    Step::ExtendFails(&[GREATEST - 1], SetError::Memory(AllocError)),
+    Step::ReserveFails(GREATEST - 1),
+    Step::Elements(&[5]),
+    Step::Len(6),
+];
 
 #[test]
 fn the_greatest_numbers_change_nothing(rt: HostRuntime) {
-    let mut set = set_of(&rt, rt.alloc(), &[5]);
-    try_each_call(&rt, &mut set, GREATEST, SetError::Element);
-    try_each_call(&rt, &mut set, GREATEST - 1, SetError::Memory(AllocError));
-    expect(&rt, set.iter().eq([5]));
-    expect_eq(&rt, &set.get_ref().len(), &6);
+    take_of::<u32>(&rt, rt.alloc(), &[5], TRIED);
+}
+
+fn has_no_capacity(alloc: Global, number: usize) -> bool {
+    BitSet::with_capacity(alloc, number).is_err()
+        && BitSet::<Block24>::with_capacity_general(alloc, number).is_err()
 }
 
 #[test]
 fn no_set_has_capacity_for_the_greatest_numbers(rt: HostRuntime) {
-    for number in [GREATEST, GREATEST - 1] {
-        expect(&rt, BitSet::with_capacity(rt.alloc(), number).is_err());
-        expect(
-            &rt,
-            BitSet::<Block24>::with_capacity_general(rt.alloc(), number).is_err(),
-        );
-    }
+    expect(&rt, has_no_capacity(rt.alloc(), GREATEST));
+    expect(&rt, has_no_capacity(rt.alloc(), GREATEST - 1));
 }
+
+const OF_ODD_BLOCKS: &[Step] = &[Step::Elements(&[0, 23, 24]), Step::Len(32)];
 
 #[test]
 fn bytes_fill_odd_blocks(rt: HostRuntime) {
     let bytes = [0b1000_0000, 0, 0b0000_0001, 0b1000_0000];
-    let set = set_of_bytes(&rt, rt.alloc(), &bytes);
-    expect(&rt, set.iter().eq([0, 23, 24]));
+    let mut set = set_of_bytes(&rt, rt.alloc(), &bytes);
+    take(&rt, &mut set, OF_ODD_BLOCKS);
     let blocks = [Block24(8388609), Block24(1)];
     expect_eq(&rt, &set.get_ref().storage(), &blocks.as_slice());
-    expect_eq(&rt, &set.get_ref().len(), &32);
 }
 
 #[test]
 fn odd_blocks_bound_a_walk(rt: HostRuntime) {
-    let set = set_of::<Block24>(&rt, rt.alloc(), &[400]);
-    expect_eq(&rt, &set.get_ref().storage().len(), &17);
-    expect_eq(&rt, &set.iter().size_hint(), &(0, Some(408)));
+    let steps = [Step::Blocks(17), Step::Bound(408)];
+    take_of::<Block24>(&rt, rt.alloc(), &[400], &steps);
 }
 
 // A set of 1,048,576 bytes.

@@ -2,6 +2,7 @@
 //! of blocks.
 use crate::expect::{expect, expect_eq, ok};
 use crate::sets::set_of;
+use crate::steps::{has_just, len_of};
 use bit_set::bit_vec::BitVec;
 use bit_set::{BitSet, JsonBlock, JsonError};
 use serde_json::Value;
@@ -11,11 +12,14 @@ use std::process::Abort;
 // What a text gives: a set and its length, or a fault.
 fn outcome<B: JsonBlock>(rt: &impl Abort, alloc: Global, text: &str) -> String {
     let value = ok(rt, Value::from_str(alloc, text));
-    let outcome = match BitSet::<B>::from_json(alloc, &value) {
-        Ok(set) => format!(in alloc; "{set} of {}", set.get_ref().len()),
-        Err(fault) => format!(in alloc; "{fault:?}"),
-    };
-    ok(rt, outcome)
+    match BitSet::<B>::from_json(alloc, &value) {
+        Ok(set) => shown(rt, alloc, &set),
+        Err(fault) => ok(rt, format!(in alloc; "{fault:?}")),
+    }
+}
+
+fn shown<B: JsonBlock>(rt: &impl Abort, alloc: Global, set: &BitSet<B>) -> String {
+    ok(rt, format!(in alloc; "{set} of {}", len_of(set)))
 }
 
 fn assert_outcome<B: JsonBlock>(rt: &impl Abort, alloc: Global, text: &str, wanted: &str) {
@@ -45,8 +49,7 @@ fn assert_goes_round<B: JsonBlock>(rt: &impl Abort, alloc: Global, set: &BitSet<
     let text = text_of(rt, alloc, set);
     let value = ok(rt, Value::from_str(alloc, text.as_str()));
     let back = ok(rt, BitSet::from_json(alloc, &value));
-    expect(rt, back == *set);
-    expect_eq(rt, &back.get_ref().len(), &set.get_ref().len());
+    expect(rt, back == *set && len_of(&back) == len_of(set));
 }
 
 // So does one with elements in the reach of each width.
@@ -55,26 +58,23 @@ fn goes_round<B: JsonBlock>(rt: &impl Abort, alloc: Global) {
     assert_goes_round(rt, alloc, &set);
 }
 
+fn assert_text<B: JsonBlock>(rt: &impl Abort, alloc: Global, set: &BitSet<B>, wanted: &str) {
+    let text = text_of(rt, alloc, set);
+    expect_eq(rt, &text.as_str(), &wanted);
+}
+
 #[test]
 fn a_set_is_spelt(rt: HostRuntime) {
     let set = set_of::<u32>(&rt, rt.alloc(), &[11, 42, 100, 101]);
-    let text = text_of(&rt, rt.alloc(), &set);
-    expect_eq(
-        &rt,
-        &text.as_str(),
-        &"{\"bit_vec\":{\"nbits\":102,\"storage\":[2048,1024,0,48]}}",
-    );
+    let wanted = "{\"bit_vec\":{\"nbits\":102,\"storage\":[2048,1024,0,48]}}";
+    assert_text(&rt, rt.alloc(), &set, wanted);
     assert_goes_round(&rt, rt.alloc(), &set);
 }
 
 #[test]
 fn the_empty_set_is_spelt(rt: HostRuntime) {
-    let text = text_of(&rt, rt.alloc(), &BitSet::new(rt.alloc()));
-    expect_eq(
-        &rt,
-        &text.as_str(),
-        &"{\"bit_vec\":{\"nbits\":0,\"storage\":[]}}",
-    );
+    let wanted = "{\"bit_vec\":{\"nbits\":0,\"storage\":[]}}";
+    assert_text(&rt, rt.alloc(), &BitSet::new(rt.alloc()), wanted);
 }
 
 const SHAPES: &[&str] = &[
@@ -249,6 +249,6 @@ fn a_set_is_read_and_a_list_grows_in_one_function(rt: HostRuntime) {
     let value = ok(&rt, Value::from_str(rt.alloc(), text));
     let mut lengths = Vec::new(rt.alloc());
     let set = ok(&rt, keep_length(rt.alloc(), &mut lengths, &value));
-    expect(&rt, set.iter().eq([0, 2]));
+    expect(&rt, has_just(&set, &[0, 2]));
     expect_eq(&rt, &lengths.as_slice(), &[3].as_slice());
 }

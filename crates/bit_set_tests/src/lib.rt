@@ -28,4 +28,6 @@ mod sparse_tests;
 #[cfg(test)]
 mod split_tests;
 #[cfg(test)]
+mod steps;
+#[cfg(test)]
 mod walk_tests;

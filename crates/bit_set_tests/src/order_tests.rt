@@ -3,6 +3,7 @@ ghost use Rattle.std.specs.Prelude.{◌+◌, ◌*◌, ◌%◌, ◌^◌, fold};
 
 use crate::expect::{expect, expect_eq, ok};
 use crate::sets::{set_of, set_of_bytes};
+use crate::steps::len_of;
 use bit_set::{BitBlock, BitSet};
 use block24::Block24;
 use std::alloc::Global;
@@ -61,11 +62,20 @@ fn each_element_is_fed_once(rt: HostRuntime) {
     feeds_one_and_ten::<u128>(&rt, rt.alloc(), &[10, 1]);
 }
 
-// What the set of some numbers is shown as.
-fn shows<B: BitBlock>(rt: &impl Abort, alloc: Global, numbers: &[usize], text: &str) {
-    let set = set_of::<B>(rt, alloc, numbers);
+// A set is shown as this.
+pub(crate) fn expect_shown<B: BitBlock>(
+    rt: &impl Abort,
+    alloc: Global,
+    set: &BitSet<B>,
+    text: &str,
+) {
     let shown = ok(rt, format!(in alloc; "{set}"));
     expect_eq(rt, &shown.as_str(), &text);
+}
+
+// So is the set of some numbers.
+fn shows<B: BitBlock>(rt: &impl Abort, alloc: Global, numbers: &[usize], text: &str) {
+    expect_shown(rt, alloc, &set_of::<B>(rt, alloc, numbers), text);
 }
 
 #[test]
@@ -153,31 +163,22 @@ fn a_debug_text_fails_where_the_formatter_does(rt: HostRuntime) {
     }
 }
 
-// The order of two sets, seen from each.
-fn orders<B: BitBlock>(
-    rt: &impl Abort,
-    alloc: Global,
-    a: &[usize],
-    b: &[usize],
-) -> (Ordering, Ordering) {
+// The first of two sets is less, seen from each.
+fn come_in_order<B: BitBlock>(rt: &impl Abort, alloc: Global, a: &[usize], b: &[usize]) {
     let left = set_of::<B>(rt, alloc, a);
     let right = set_of::<B>(rt, alloc, b);
-    (left.cmp(&right), right.cmp(&left))
+    let orders = (left.cmp(&right), right.cmp(&left));
+    expect_eq(rt, &orders, &(Ordering::Less, Ordering::Greater));
 }
 
 #[test]
 fn sets_compare_as_lists(rt: HostRuntime) {
-    let first = (Ordering::Less, Ordering::Greater);
-    for orders in [
-        orders::<u32>(&rt, rt.alloc(), &[0, 1], &[1]),
-        orders::<u32>(&rt, rt.alloc(), &[], &[0, 2, 6]),
-        // One that goes on past the other's blocks, and one that goes on within its own.
-        orders::<u8>(&rt, rt.alloc(), &[3], &[3, 90]),
-        orders::<u8>(&rt, rt.alloc(), &[3, 90], &[4]),
-        orders::<Block24>(&rt, rt.alloc(), &[3, 23, 24], &[3, 24]),
-    ] {
-        expect_eq(&rt, &orders, &first);
-    }
+    come_in_order::<u32>(&rt, rt.alloc(), &[0, 1], &[1]);
+    come_in_order::<u32>(&rt, rt.alloc(), &[], &[0, 2, 6]);
+    // One that goes on past the other's blocks, and one that goes on within its own.
+    come_in_order::<u8>(&rt, rt.alloc(), &[3], &[3, 90]);
+    come_in_order::<u8>(&rt, rt.alloc(), &[3, 90], &[4]);
+    come_in_order::<Block24>(&rt, rt.alloc(), &[3, 23, 24], &[3, 24]);
 }
 
 // The bytes of two sets, and the order of these. They are equal where that is.
@@ -188,14 +189,16 @@ const BYTES: &[(&[u8], &[u8], Ordering)] = &[
     (&[0], &[], Ordering::Equal),
 ];
 
+fn are_ordered(a: &BitSet, b: &BitSet, order: Ordering) -> bool {
+    a.cmp(b) == order && a.partial_cmp(b) == Some(order) && (*a == *b) == (order == Ordering::Equal)
+}
+
 #[test]
 fn bytes_compare_as_their_sets(rt: HostRuntime) {
     for (a, b, order) in BYTES {
         let left = set_of_bytes::<u32>(&rt, rt.alloc(), a);
         let right = set_of_bytes::<u32>(&rt, rt.alloc(), b);
-        expect_eq(&rt, &left.cmp(&right), order);
-        expect_eq(&rt, &left.partial_cmp(&right), &Some(*order));
-        expect_eq(&rt, &(left == right), &(*order == Ordering::Equal));
+        expect(&rt, are_ordered(&left, &right, *order));
     }
 }
 
@@ -241,11 +244,15 @@ fn lowered(rt: &impl Abort, alloc: Global) -> BitSet {
     set
 }
 
+// Whether they are equal, in their order and in what they feed too.
+pub(crate) fn are_equal(a: &BitSet, b: &BitSet) -> bool {
+    *a == *b && a.cmp(b) == Ordering::Equal && feed(a) == feed(b)
+}
+
 // Nothing tells the sets apart but their lengths, which are these.
 fn alike(rt: &impl Abort, a: &BitSet, b: &BitSet, lengths: [usize; 2]) {
-    expect(rt, *a == *b && a.cmp(b) == Ordering::Equal);
-    expect_eq(rt, &feed(a), &feed(b));
-    expect_eq(rt, &[a.get_ref().len(), b.get_ref().len()], &lengths);
+    expect(rt, are_equal(a, b));
+    expect_eq(rt, &[len_of(a), len_of(b)], &lengths);
 }
 
 #[test]
@@ -267,9 +274,7 @@ fn lengths_do_not_count_without_an_element(rt: HostRuntime) {
 
 #[test]
 fn lengths_are_not_shown(rt: HostRuntime) {
-    let lowered = lowered(&rt, rt.alloc());
-    let shown = ok(&rt, format!(in rt.alloc(); "{lowered}"));
-    expect_eq(&rt, &shown.as_str(), &"{3}");
+    expect_shown(&rt, rt.alloc(), &lowered(&rt, rt.alloc()), "{3}");
 }
 
 #[test]

@@ -1,89 +1,107 @@
-//! Rows with their exact results, each generic call once over two block types, and the texts of the faults.
+//! Rows with their exact results, each generic call once over three block types, and the texts of the faults.
 ghost use Rattle.std.specs.Prelude.{IsErrOf};
 
 use crate::expect::{expect, expect_eq, ok};
 use crate::sets::{set_of, set_of_bytes};
+use crate::steps::{Step, has_just, take, take_new, take_of, take_of_bytes};
 use bit_set::bit_vec::BitVec;
 use bit_set::{BitBlock, BitSet, SetError};
 use std::alloc::{AllocError, Global};
 use std::process::Abort;
 
-// How many elements a set has, its length, and how many blocks.
-fn sizes<B: BitBlock>(set: &BitSet<B>) -> [usize; 3] {
-    let bits = set.get_ref();
-    [set.count(), bits.len(), bits.storage().len()]
-}
+const GREATEST: usize = 18446744073709551615;
+
+const NEW_OR_NOT: &[Step] = &[
+    Step::Insert(3, true),
+    Step::Insert(3, false),
+    Step::Insert(4, true),
+    Step::Insert(4, false),
+    Step::Insert(400, true),
+    Step::Insert(400, false),
+    Step::Count(3),
+    Step::Len(401),
+    Step::Blocks(13),
+];
 
 #[test]
 fn insert_returns_what_is_new(rt: HostRuntime) {
-    let mut set = BitSet::new(rt.alloc());
-    for (value, new) in [
-        (3, true),
-        (3, false),
-        (4, true),
-        (4, false),
-        (400, true),
-        (400, false),
-    ] {
-        assert_eq!(rt; set.insert(value), Ok(new), "at {value}");
-    }
-    expect_eq(&rt, &sizes(&set), &[3, 401, 13]);
+    take_new(&rt, rt.alloc(), NEW_OR_NOT);
 }
+
+// Of 140 numbers from 0 on.
+const PAST_THE_LENGTH: &[Step] = &[
+    Step::Contains(139, true),
+    Step::Contains(140, false),
+    Step::Insert(150, true),
+    Step::Contains(140, false),
+    Step::Contains(149, false),
+    Step::Contains(150, true),
+    Step::Contains(151, false),
+    Step::Len(151),
+];
 
 #[test]
 fn insert_past_the_length_keeps_what_lies_between_out(rt: HostRuntime) {
     let ones = ok(&rt, BitVec::from_elem(rt.alloc(), 140, true));
-    let mut set = BitSet::from_bit_vec(ones);
-    let has = [set.contains(139), set.contains(140)];
-    expect_eq(&rt, &has, &[true, false]);
-    expect_eq(&rt, &set.insert(150), &Ok(true));
-    for (value, has) in [(140, false), (149, false), (150, true), (151, false)] {
-        assert_eq!(rt; set.contains(value), has, "at {value}");
-    }
-    expect_eq(&rt, &set.get_ref().len(), &151);
+    take(&rt, &mut BitSet::from_bit_vec(ones), PAST_THE_LENGTH);
 }
 
 // The greatest number is no element, and a set that it is put into stays as it is.
-fn refuses_the_greatest(rt: &impl Abort, set: &mut BitSet, elements: &[usize], len: usize) {
-    let result = set.insert(18446744073709551615);
-    expect_eq(rt, &result, &Err(SetError::Element));
-    expect(rt, set.iter().eq(elements.iter().copied()));
-    expect_eq(rt, &set.get_ref().len(), &len);
-}
+const NO_ELEMENT: &[Step] = &[
+    Step::InsertFails(GREATEST, SetError::Element),
+    Step::Elements(&[]),
+    Step::Len(0),
+    Step::IsEmpty(true),
+    Step::Insert(5, true),
+    Step::InsertFails(GREATEST, SetError::Element),
+    Step::Elements(&[5]),
+    Step::Len(6),
+];
 
 #[test]
 fn the_greatest_number_is_no_element(rt: HostRuntime) {
-    let mut set = BitSet::new(rt.alloc());
-    refuses_the_greatest(&rt, &mut set, &[], 0);
-    expect(&rt, set.is_empty());
-    expect_eq(&rt, &set.insert(5), &Ok(true));
-    refuses_the_greatest(&rt, &mut set, &[5], 6);
+    take_new(&rt, rt.alloc(), NO_ELEMENT);
 }
+
+// Of 48 numbers from 0 on.
+const CUTS: &[Step] = &[
+    Step::Truncate(40),
+    Step::Count(40),
+    Step::Len(40),
+    Step::Truncate(32),
+    Step::Count(32),
+    Step::Len(32),
+    Step::Truncate(40),
+    Step::Count(32),
+    Step::Len(32),
+    Step::Truncate(8),
+    Step::Count(8),
+    Step::Len(8),
+    Step::Truncate(0),
+    Step::Count(0),
+    Step::Len(0),
+];
 
 #[test]
 fn truncate_keeps_what_is_below(rt: HostRuntime) {
-    let mut set = set_of_bytes::<u32>(&rt, rt.alloc(), &[0xFF; 6]);
-    for (len, left) in [(40, 40), (32, 32), (40, 32), (8, 8), (0, 0)] {
-        set.truncate(len);
-        assert_eq!(rt;
-            [set.count(), set.get_ref().len()],
-            [left, left],
-            "at {len}"
-        );
-    }
+    take_of_bytes::<u32>(&rt, rt.alloc(), &[0xFF; 6], CUTS);
 }
+
+const OF_FOUR_ITEMS: &[Step] = &[
+    Step::Elements(&[0, 2, 3]),
+    Step::Count(3),
+    Step::Len(4),
+    Step::Blocks(1),
+];
 
 #[test]
 fn items_go_in_one_by_one(rt: HostRuntime) {
-    let set = set_of::<u32>(&rt, rt.alloc(), &[0, 2, 2, 3]);
-    expect(&rt, set.iter().eq([0, 2, 3]));
-    expect_eq(&rt, &sizes(&set), &[3, 4, 1]);
+    take_of::<u32>(&rt, rt.alloc(), &[0, 2, 2, 3], OF_FOUR_ITEMS);
 }
 
 #[test]
 fn no_items_need_no_memory(rt: HostRuntime) {
-    let set = set_of::<u32>(&rt, rt.alloc(), &[]);
-    expect_eq(&rt, &(set.get_ref().len(), set.capacity()), &(0, 0));
+    take_of::<u32>(&rt, rt.alloc(), &[], &[Step::Len(0), Step::Capacity(0)]);
 }
 
 // Puts a number into a set and at the end of a list: one `?` serves both.
@@ -102,79 +120,104 @@ fn a_set_and_a_list_grow_in_one_function(rt: HostRuntime) {
     for value in [7, 3] {
         ok(&rt, put_in_both(&mut set, &mut list, value));
     }
-    expect(&rt, set.iter().eq([3, 7]));
+    expect(&rt, has_just(&set, &[3, 7]));
     expect_eq(&rt, &list.as_slice(), &[7, 3].as_slice());
 }
 
+const ITEMS_BEFORE: &[Step] = &[
+    Step::ExtendFails(&[7, GREATEST, 9], SetError::Element),
+    Step::Elements(&[7]),
+];
+
 #[test]
 fn items_before_one_that_fails_stay_in(rt: HostRuntime) {
-    let mut set = BitSet::new(rt.alloc());
-    let numbers: [usize; 3] = [7, 18446744073709551615, 9];
-    let result = set.extend(numbers.iter().copied());
-    expect_eq(&rt, &result, &Err(SetError::Element));
-    expect(&rt, set.iter().eq([7]));
+    take_new(&rt, rt.alloc(), ITEMS_BEFORE);
 }
+
+const OF_100_PLACES: &[Step] = &[
+    Step::Count(0),
+    Step::Len(100),
+    Step::Blocks(4),
+    Step::IsEmpty(true),
+];
 
 #[test]
 fn sets_have_lengths(rt: HostRuntime) {
-    let empty = ok(&rt, BitSet::with_capacity(rt.alloc(), 100));
-    expect_eq(&rt, &sizes(&empty), &[0, 100, 4]);
-    expect(&rt, empty.is_empty());
+    let mut empty = ok(&rt, BitSet::with_capacity(rt.alloc(), 100));
+    take(&rt, &mut empty, OF_100_PLACES);
 }
 
 #[test]
 fn a_clone_has_the_items_and_the_length(rt: HostRuntime) {
     let set = set_of::<u32>(&rt, rt.alloc(), &[400, 1]);
-    let copy = ok(&rt, set.clone(rt.alloc()));
-    expect(&rt, copy.iter().eq([1, 400]));
-    expect_eq(&rt, &copy.get_ref().len(), &401);
+    let mut copy = ok(&rt, set.clone(rt.alloc()));
+    take(&rt, &mut copy, &[Step::Elements(&[1, 400]), Step::Len(401)]);
 }
 
-// How many elements there are as some go in and out, and the length at the end.
-fn counts<B: BitBlock>(rt: &impl Abort, alloc: Global) -> [usize; 4] {
+// Of {20, 21, 22, 23}.
+const FOUR: &[Step] = &[
+    Step::Count(4),
+    Step::Remove(22, true),
+    Step::Count(3),
+    Step::Clear,
+    Step::Count(0),
+    Step::Len(24),
+];
+
+fn four_go_in<B: BitBlock>(rt: &impl Abort, alloc: Global) {
     let mut set = ok(rt, BitSet::<B>::with_capacity_general(alloc, 20));
     ok(rt, set.extend(20..24));
-    let all = set.len();
-    set.remove(22);
-    let left = set.count();
-    set.clear();
-    [all, left, set.count(), set.get_ref().len()]
+    take(rt, &mut set, FOUR);
 }
 
-// How many elements a copy has, its length once they are out, and the length after that.
-fn copied<B: BitBlock>(rt: &impl Abort, alloc: Global) -> [usize; 3] {
+// Of a set of two bytes.
+const COPIED: &[Step] = &[
+    Step::Count(4),
+    Step::MakeEmpty,
+    Step::Len(16),
+    Step::Reset,
+    Step::Len(0),
+];
+
+fn bytes_are_copied<B: BitBlock>(rt: &impl Abort, alloc: Global) {
     let bytes = set_of_bytes::<B>(rt, alloc, &[0b0100_1010, 0b1000_0000]);
     let mut copy = BitSet::new_general(alloc);
     ok(rt, copy.clone_from(&bytes));
-    let count = copy.count();
-    copy.make_empty();
-    let len = copy.get_ref().len();
-    copy.reset();
-    [count, len, copy.get_ref().len()]
+    take(rt, &mut copy, COPIED);
 }
 
-// Whether nine ones are a set that has 8, that is not empty, and that has capacity for them.
-fn has_nine<B: BitBlock>(rt: &impl Abort, alloc: Global) -> bool {
+// Nine ones are a set that has 8, that is not empty, and that has capacity for them.
+const NINE: &[Step] = &[
+    Step::Contains(8, true),
+    Step::IsEmpty(false),
+    Step::CapacityFrom(9),
+];
+
+fn nine_are_a_set<B: BitBlock>(rt: &impl Abort, alloc: Global) {
     let nine = ok(rt, BitVec::<B>::from_elem_general(alloc, 9, true));
-    let set = BitSet::from_bit_vec_general(nine);
-    set.contains(8) && !set.is_empty() && set.capacity() >= 9
+    take(rt, &mut BitSet::from_bit_vec_general(nine), NINE);
 }
 
-// Whether one more number is new in a copy of a set of ten; and how many elements the set has, how
-// many the copy once it is cut off at 65, and the copy's length.
-fn cut<B: BitBlock>(rt: &impl Abort, alloc: Global) -> (bool, [usize; 3]) {
+// Of a copy of {60, .. 69}: one more number is new, and how many there are once the copy is cut off at 65.
+const CUT_COPY: &[Step] = &[
+    Step::Insert(100, true),
+    Step::Truncate(65),
+    Step::Count(5),
+    Step::Len(65),
+];
+
+fn a_copy_is_cut<B: BitBlock>(rt: &impl Abort, alloc: Global) {
     let set = ok(rt, BitSet::<B>::from_iter(alloc, 60..70));
     let mut copy = ok(rt, set.clone(alloc));
-    let new = ok(rt, copy.insert(100));
-    copy.truncate(65);
-    (new, [set.count(), copy.count(), copy.get_ref().len()])
+    take(rt, &mut copy, CUT_COPY);
+    expect_eq(rt, &set.count(), &10);
 }
 
 fn each_succeeds<B: BitBlock>(rt: &impl Abort, alloc: Global) {
-    expect_eq(rt, &counts::<B>(rt, alloc), &[4, 3, 0, 24]);
-    expect_eq(rt, &copied::<B>(rt, alloc), &[4, 16, 0]);
-    expect(rt, has_nine::<B>(rt, alloc));
-    expect_eq(rt, &cut::<B>(rt, alloc), &(true, [10, 5, 65]));
+    four_go_in::<B>(rt, alloc);
+    bytes_are_copied::<B>(rt, alloc);
+    nine_are_a_set::<B>(rt, alloc);
+    a_copy_is_cut::<B>(rt, alloc);
 }
 
 #[test]
@@ -184,14 +227,16 @@ fn every_call_succeeds(rt: HostRuntime) {
     each_succeeds::<u128>(&rt, rt.alloc());
 }
 
+const TOO_MUCH: &[Step] = &[
+    Step::InsertFails(18446744073709551614, SetError::Memory(AllocError)),
+    Step::Elements(&[5]),
+    Step::Len(6),
+];
+
 #[test]
 fn too_much_memory_fails(rt: HostRuntime) {
-    let mut set = set_of::<u32>(&rt, rt.alloc(), &[5]);
-    let result = set.insert(18446744073709551614);
-    expect_eq(&rt, &result, &Err(SetError::Memory(AllocError)));
-    expect(&rt, set.iter().eq([5]));
-    expect_eq(&rt, &set.get_ref().len(), &6);
-    let none = BitSet::<u8>::with_capacity_general(rt.alloc(), 18446744073709551615);
+    take_of::<u32>(&rt, rt.alloc(), &[5], TOO_MUCH);
+    let none = BitSet::<u8>::with_capacity_general(rt.alloc(), GREATEST);
     expect(&rt, none.is_err());
 }
 

@@ -5,9 +5,10 @@ ghost use Rattle.bit_words.specs.Bits.{blocks_for};
 ghost use Rattle.bit_set.specs.Sets.{elements};
 ghost use Rattle.bit_set.specs.Walk.{Walk, IsAtStart};
 
-use crate::expect::{expect, expect_eq, ok};
+use crate::expect::{expect_eq, ok};
 use crate::sets::set_of;
-use crate::walk_tests::{agrees_at_each_point, bounds, set_of_one};
+use crate::steps::{Step, take_of};
+use crate::walk_tests::{agrees_at_each_point, bounds};
 use bit_set::laws::sparse_walks;
 use bit_set::{BitBlock, BitSet, Iter};
 use block24::Block24;
@@ -52,15 +53,18 @@ fn the_bound_falls_to_a_block_where_all_are_zero(rt: HostRuntime) {
     expect_eq(&rt, &empty.iter().next(), &None);
 }
 
+const REMOVED: &[Step] = &[
+    Step::IsEmpty(false),
+    Step::Remove(400, true),
+    Step::IsEmpty(true),
+    Step::Elements(&[]),
+    Step::Shrink,
+    Step::Len(0),
+];
+
 #[test]
 fn a_removed_element_leaves_nothing(rt: HostRuntime) {
-    let mut set = set_of_one::<u32>(&rt, rt.alloc(), 0, 400);
-    expect(&rt, !set.is_empty());
-    set.remove(400);
-    expect(&rt, set.is_empty());
-    expect_eq(&rt, &set.iter().next(), &None);
-    ok(&rt, set.shrink_to_fit());
-    expect_eq(&rt, &set.get_ref().len(), &0);
+    take_of::<u32>(&rt, rt.alloc(), &[400], REMOVED);
 }
 
 // Sets whose elements are in the reach of none, one, two and three blocks of a summary, which is so many places

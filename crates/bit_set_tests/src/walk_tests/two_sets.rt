@@ -6,6 +6,7 @@ ghost use Rattle.bit_set.specs.Walk.{TwoSetWalk, StartsOverTwo};
 
 use crate::expect::expect_eq;
 use crate::sets::{set_of, set_of_bytes};
+use bit_set::bit_vec::Merge;
 use bit_set::bit_vec::operation::Operation;
 use bit_set::laws::whole_walks_over_two_sets;
 use bit_set::{BitBlock, BitSet, Difference, Intersection, TwoSets, Union};
@@ -83,34 +84,76 @@ fn bounds(a: &BitSet, b: &BitSet, items: usize) -> [(usize, Option<usize>); 3] {
     [made, stepped, walk.size_hint()]
 }
 
+// The walk over what two sets become gives these items.
+fn agrees_over<B: BitBlock>(
+    rt: &impl Abort,
+    (a, b): (&BitSet<B>, &BitSet<B>),
+    merge: Merge,
+    items: &[usize],
+) {
+    match merge {
+        Merge::Union => agrees(rt, a.union(b), items),
+        Merge::Intersection => agrees(rt, a.intersection(b), items),
+        Merge::Difference => agrees(rt, a.difference(b), items),
+        Merge::Symmetric => agrees(rt, a.symmetric_difference(b), items),
+    }
+}
+
+// The numbers of two sets.
+type Two = (&'static [usize], &'static [usize]);
+
+fn make(rt: &impl Abort, alloc: Global, (a, b): Two, merge: Merge, items: &[usize]) {
+    let first = set_of::<u32>(rt, alloc, a);
+    let second = set_of::<u32>(rt, alloc, b);
+    agrees_over(rt, (&first, &second), merge, items);
+}
+
+fn have_bounds(rt: &impl Abort, alloc: Global, (a, b): Two, items: usize, wanted: [usize; 3]) {
+    let first = set_of::<u32>(rt, alloc, a);
+    let second = set_of::<u32>(rt, alloc, b);
+    let [made, stepped, last] = wanted;
+    let wanted = [(0, Some(made)), (0, Some(stepped)), (0, Some(last))];
+    expect_eq(rt, &bounds(&first, &second, items), &wanted);
+}
+
+const OVER_103: Two = (&[11, 1, 3, 77, 103, 5], &[2, 11, 77, 5, 3]);
+
 #[test]
 fn an_intersection_lowers_its_bound(rt: HostRuntime) {
-    let a = set_of::<u32>(&rt, rt.alloc(), &[11, 1, 3, 77, 103, 5]);
-    let b = set_of::<u32>(&rt, rt.alloc(), &[2, 11, 77, 5, 3]);
-    agrees(&rt, a.intersection(&b), &[3, 5, 11, 77]);
-    let wanted = [(0, Some(78)), (0, Some(76)), (0, Some(75))];
-    expect_eq(&rt, &bounds(&a, &b, 2), &wanted);
+    make(
+        &rt,
+        rt.alloc(),
+        OVER_103,
+        Merge::Intersection,
+        &[3, 5, 11, 77],
+    );
+    have_bounds(&rt, rt.alloc(), OVER_103, 2, [78, 76, 75]);
 }
 
 // Two sets with four common elements.
-fn two_sets(rt: &impl Abort, alloc: Global) -> (BitSet, BitSet) {
-    let a = set_of(rt, alloc, &[1, 3, 5, 9, 11, 160, 19, 24, 200]);
-    let b = set_of(rt, alloc, &[1, 5, 9, 13, 19]);
-    (a, b)
-}
+const FOUR_IN_COMMON: Two = (&[1, 3, 5, 9, 11, 160, 19, 24, 200], &[1, 5, 9, 13, 19]);
 
 #[test]
 fn a_union_has_what_either_has(rt: HostRuntime) {
-    let (a, b) = two_sets(&rt, rt.alloc());
-    agrees(&rt, a.union(&b), &[1, 3, 5, 9, 11, 13, 19, 24, 160, 200]);
+    make(
+        &rt,
+        rt.alloc(),
+        FOUR_IN_COMMON,
+        Merge::Union,
+        &[1, 3, 5, 9, 11, 13, 19, 24, 160, 200],
+    );
 }
 
 #[test]
 fn an_intersection_lowers_its_bound_at_its_end(rt: HostRuntime) {
-    let (a, b) = two_sets(&rt, rt.alloc());
-    agrees(&rt, a.intersection(&b), &[1, 5, 9, 19]);
-    let wanted = [(0, Some(20)), (0, Some(16)), (0, Some(15))];
-    expect_eq(&rt, &bounds(&a, &b, 4), &wanted);
+    make(
+        &rt,
+        rt.alloc(),
+        FOUR_IN_COMMON,
+        Merge::Intersection,
+        &[1, 5, 9, 19],
+    );
+    have_bounds(&rt, rt.alloc(), FOUR_IN_COMMON, 4, [20, 16, 15]);
 }
 
 // Sets of lengths 501 and 201 over `u32` have 16 blocks and 7: a whole walk over what is in the first
@@ -131,16 +174,24 @@ fn pulls_over_two_sets()
 #[test]
 fn what_two_sets_make(rt: HostRuntime) {
     pulls_over_two_sets();
-    let a = set_of::<u32>(&rt, rt.alloc(), &[1, 3, 5, 200, 500]);
-    let b = set_of::<u32>(&rt, rt.alloc(), &[3, 200]);
-    agrees(&rt, a.difference(&b), &[1, 5, 500]);
+    make(
+        &rt,
+        rt.alloc(),
+        (&[1, 3, 5, 200, 500], &[3, 200]),
+        Merge::Difference,
+        &[1, 5, 500],
+    );
 }
 
 #[test]
 fn what_just_one_of_two_sets_has(rt: HostRuntime) {
-    let a = set_of::<u32>(&rt, rt.alloc(), &[1, 3, 5, 9, 11]);
-    let b = set_of::<u32>(&rt, rt.alloc(), &[3, 9, 14, 220]);
-    agrees(&rt, a.symmetric_difference(&b), &[1, 5, 11, 14, 220]);
+    make(
+        &rt,
+        rt.alloc(),
+        (&[1, 3, 5, 9, 11], &[3, 9, 14, 220]),
+        Merge::Symmetric,
+        &[1, 5, 11, 14, 220],
+    );
 }
 
 // What is in either set, in both, in the first alone, and in just one.
@@ -153,19 +204,19 @@ struct Lists<'a> {
 }
 
 // Each kind of walk over two sets gives its list.
-fn agree<B: BitBlock>(rt: &impl Abort, a: &BitSet<B>, b: &BitSet<B>, lists: &Lists<'_>) {
-    agrees(rt, a.union(b), lists.either);
-    agrees(rt, a.intersection(b), lists.both);
-    agrees(rt, a.difference(b), lists.alone);
-    agrees(rt, a.symmetric_difference(b), lists.one);
+fn agree<B: BitBlock>(rt: &impl Abort, sets: (&BitSet<B>, &BitSet<B>), lists: &Lists<'_>) {
+    agrees_over(rt, sets, Merge::Union, lists.either);
+    agrees_over(rt, sets, Merge::Intersection, lists.both);
+    agrees_over(rt, sets, Merge::Difference, lists.alone);
+    agrees_over(rt, sets, Merge::Symmetric, lists.one);
 }
 
 #[test]
 fn what_two_bytes_make(rt: HostRuntime) {
     let a = set_of_bytes::<u32>(&rt, rt.alloc(), &[0b0110_1000]);
     let b = set_of_bytes::<u32>(&rt, rt.alloc(), &[0b1010_0000]);
-    agree(&rt, &a, &b, &BYTES);
-    agrees(&rt, b.difference(&a), &[0]);
+    agree(&rt, (&a, &b), &BYTES);
+    agrees_over(&rt, (&b, &a), Merge::Difference, &[0]);
 }
 
 const BYTES: Lists<'static> = Lists {
@@ -201,9 +252,9 @@ const FIRST: Lists<'static> = Lists {
 fn walks_over_sets_with_no_block(rt: HostRuntime) {
     let none = BitSet::new(rt.alloc());
     let five = set_of::<u32>(&rt, rt.alloc(), &[5]);
-    agree(&rt, &none, &BitSet::new(rt.alloc()), &NOTHING);
-    agree(&rt, &none, &five, &SECOND);
-    agree(&rt, &five, &none, &FIRST);
+    agree(&rt, (&none, &BitSet::new(rt.alloc())), &NOTHING);
+    agree(&rt, (&none, &five), &SECOND);
+    agree(&rt, (&five, &none), &FIRST);
 }
 
 // A longer set beside a shorter one.
@@ -226,8 +277,8 @@ const SHORTER: Lists<'static> = Lists {
 fn agree_at_each_point<B: BitBlock>(rt: &impl Abort, alloc: Global) {
     let longer = set_of::<B>(rt, alloc, &[0, 1, 7, 8, 23, 24, 63, 64, 400]);
     let shorter = set_of::<B>(rt, alloc, &[1, 7, 9, 24, 48, 64, 65]);
-    agree(rt, &longer, &shorter, &LONGER);
-    agree(rt, &shorter, &longer, &SHORTER);
+    agree(rt, (&longer, &shorter), &LONGER);
+    agree(rt, (&shorter, &longer), &SHORTER);
 }
 
 #[test]

@@ -1,0 +1,161 @@
+// Calls on a set, one after another, each with what is wanted of it. A test is then a row of these, and the calls are
+// proved once.
+use crate::sets::{set_of, set_of_bytes};
+use bit_set::{BitBlock, BitSet, SetError};
+use std::alloc::Global;
+use std::process::Abort;
+
+#[derive(Clone, Copy)]
+pub(crate) enum Step {
+    // A number goes in, and is new or not.
+    Insert(usize, bool),
+    // A number does not go in.
+    InsertFails(usize, SetError),
+    Extend(&'static [usize]),
+    // One of the numbers does not go in.
+    ExtendFails(&'static [usize], SetError),
+    // A number goes out, and was in or not.
+    Remove(usize, bool),
+    Truncate(usize),
+    Clear,
+    // The capacity stays.
+    MakeEmpty,
+    Reset,
+    Reserve(usize),
+    ReserveExact(usize),
+    // Neither can be reserved.
+    ReserveFails(usize),
+    Shrink,
+    // A number goes out, and what is shrunk then has less capacity than before.
+    ShrinkWithout(usize),
+    // The bit vector is made true throughout.
+    Fill,
+    // What there is then.
+    Contains(usize, bool),
+    IsEmpty(bool),
+    Elements(&'static [usize]),
+    Count(usize),
+    // The length, and that in blocks.
+    Len(usize),
+    Blocks(usize),
+    Capacity(usize),
+    CapacityFrom(usize),
+    // The upper bound of the walk.
+    Bound(usize),
+}
+
+// Whether a set has just these elements.
+pub(crate) fn has_just<B: BitBlock>(set: &BitSet<B>, elements: &[usize]) -> bool {
+    set.iter().eq(elements.iter().copied())
+}
+
+pub(crate) fn len_of<B: BitBlock>(set: &BitSet<B>) -> usize {
+    set.get_ref().len()
+}
+
+fn blocks_of<B: BitBlock>(set: &BitSet<B>) -> usize {
+    set.get_ref().storage().len()
+}
+
+fn extend<B: BitBlock>(set: &mut BitSet<B>, numbers: &[usize]) -> Result<(), SetError> {
+    set.extend(numbers.iter().copied())
+}
+
+fn keeps_capacity<B: BitBlock>(set: &mut BitSet<B>) -> bool {
+    let capacity = set.capacity();
+    set.make_empty();
+    set.capacity() == capacity
+}
+
+fn shrinks_without<B: BitBlock>(set: &mut BitSet<B>, number: usize) -> bool {
+    let capacity = set.capacity();
+    set.remove(number);
+    set.shrink_to_fit().is_ok() && set.capacity() < capacity
+}
+
+fn fill<B: BitBlock>(set: &mut BitSet<B>) {
+    set.get_mut().fill(true);
+}
+
+fn refuses<B: BitBlock>(set: &mut BitSet<B>, len: usize) -> bool {
+    set.reserve_len(len).is_err() && set.reserve_len_exact(len).is_err()
+}
+
+// Makes the call, where it returns nothing.
+fn changes<B: BitBlock>(set: &mut BitSet<B>, step: Step) -> bool {
+    match step {
+        Step::Truncate(len) => set.truncate(len),
+        Step::Clear => set.clear(),
+        Step::Reset => set.reset(),
+        Step::Fill => fill(set),
+        _ => return false,
+    }
+    true
+}
+
+// Whether a set is as is wanted.
+fn is_as_wanted<B: BitBlock>(set: &BitSet<B>, step: Step) -> bool {
+    match step {
+        Step::Contains(value, is_in) => set.contains(value) == is_in,
+        Step::IsEmpty(is_empty) => set.is_empty() == is_empty,
+        Step::Elements(elements) => has_just(set, elements),
+        Step::Count(count) => set.count() == count && set.len() == count,
+        Step::Len(len) => len_of(set) == len,
+        Step::Blocks(blocks) => blocks_of(set) == blocks,
+        Step::Capacity(capacity) => set.capacity() == capacity,
+        Step::CapacityFrom(least) => set.capacity() >= least,
+        Step::Bound(bound) => set.iter().size_hint() == (0, Some(bound)),
+        _ => false,
+    }
+}
+
+// Makes the call. Whether it returns what is wanted.
+fn goes_well<B: BitBlock>(set: &mut BitSet<B>, step: Step) -> bool {
+    match step {
+        Step::Insert(value, is_new) => set.insert(value) == Ok(is_new),
+        Step::InsertFails(value, fault) => set.insert(value) == Err(fault),
+        Step::Extend(values) => extend(set, values).is_ok(),
+        Step::ExtendFails(values, fault) => extend(set, values) == Err(fault),
+        Step::Remove(value, was_in) => set.remove(value) == was_in,
+        Step::Reserve(len) => set.reserve_len(len).is_ok(),
+        Step::ReserveExact(len) => set.reserve_len_exact(len).is_ok(),
+        Step::ReserveFails(len) => refuses(set, len),
+        Step::Shrink => set.shrink_to_fit().is_ok(),
+        Step::ShrinkWithout(value) => shrinks_without(set, value),
+        Step::MakeEmpty => keeps_capacity(set),
+        Step::Truncate(_) | Step::Clear | Step::Reset | Step::Fill => changes(set, step),
+        _ => is_as_wanted(set, step),
+    }
+}
+
+// Takes the steps one after another; ends the test at one that does not come out as is wanted.
+pub(crate) fn take<B: BitBlock>(rt: &impl Abort, set: &mut BitSet<B>, steps: &[Step]) {
+    for (place, step) in steps.iter().enumerate() {
+        assert!(rt; goes_well(set, *step), "at step {place}");
+    }
+}
+
+// Takes the steps of a new set.
+pub(crate) fn take_new(rt: &impl Abort, alloc: Global, steps: &[Step]) {
+    take(rt, &mut BitSet::new(alloc), steps);
+}
+
+// Takes the steps of the set of some numbers.
+pub(crate) fn take_of<B: BitBlock>(
+    rt: &impl Abort,
+    alloc: Global,
+    numbers: &[usize],
+    steps: &[Step],
+) {
+    take(rt, &mut set_of::<B>(rt, alloc, numbers), steps);
+}
+
+// Takes the steps of the set of some bytes.
+pub(crate) fn take_of_bytes<B: BitBlock>(
+    rt: &impl Abort,
+    alloc: Global,
+    bytes: &[u8],
+    steps: &[Step],
+) {
+    take(rt, &mut set_of_bytes::<B>(rt, alloc, bytes), steps);
+}
