@@ -4,14 +4,13 @@ mod fakes;
 mod faults;
 mod tables;
 
-use crate::expect::{expect, expect_eq};
+use crate::expect::{expect, expect_eq, ok};
 use bit_set_run::{Exit, LinesFault, run_lines, start};
 use block24::Block24;
 use fakes::{EndlessReader, PieceReader, PieceWriter};
-use std::alloc::{AllocError, Global};
+use std::alloc::Global;
 use std::io::ErrorKind;
 use std::process::Abort;
-use std::test::Fail;
 
 const ELEMENT_COMMANDS: &[u8] =
     b"insert a 3\ninsert a 3\ninsert a 400\ncontains a 3\nremove a 3\ncontains a 3\ncount a\nitems a\nitems b\n";
@@ -87,40 +86,85 @@ const ROWS: &[(&[u8], &[u8])] = &[
     ),
 ];
 
-// What the program leaves at these words and this input.
-fn started(alloc: Global, words: &[String], input: &[u8]) -> (Exit, Vec<u8>) {
-    let mut reader = input;
-    let mut writer = Vec::new(alloc);
-    let exit = start(alloc, words, &mut reader, &mut writer);
-    (exit, writer)
+// How the program ends.
+const DONE: Exit = Exit {
+    status: 0,
+    text: "",
+};
+
+const MISUSED: Exit = Exit {
+    status: 2,
+    text: "usage: bitset [u8|u16|u32|u64|usize|u128]",
+};
+
+const REFUSED: Exit = Exit {
+    status: 3,
+    text: "memory refused",
+};
+
+const READ_FAILED: Exit = Exit {
+    status: 4,
+    text: "read failed",
+};
+
+const WRITE_FAILED: Exit = Exit {
+    status: 4,
+    text: "write failed",
+};
+
+const INPUT_TOO_LARGE: Exit = Exit {
+    status: 5,
+    text: "input too large",
+};
+
+// The words of the program, one for each type of blocks, and none.
+const WORDS: &[&[&str]] = &[
+    &[],
+    &["u8"],
+    &["u16"],
+    &["u32"],
+    &["u64"],
+    &["usize"],
+    &["u128"],
+];
+
+fn words_of(rt: &impl Abort, alloc: Global, words: &[&str]) -> Vec<String> {
+    let mut owned = Vec::new(alloc);
+    for word in words {
+        let word = ok(rt, String::from_str(alloc, word));
+        expect(rt, owned.push(word).is_ok());
+    }
+    owned
 }
 
-// At these words the program leaves the output of a row.
-fn check_row(rt: &impl Abort, alloc: Global, words: &[String], (input, output): (&[u8], &[u8])) {
-    let (exit, written) = started(alloc, words, input);
-    let done = Exit {
-        status: 0,
-        text: "",
-    };
-    assert_eq!(rt; exit, done, "{words:?}");
-    assert_eq!(rt; written.as_slice(), output, "{words:?}");
+// At these words and this input the program ends so, and leaves this output.
+fn check_run(
+    rt: &impl Abort,
+    alloc: Global,
+    words: &[&str],
+    (input, output): (&[u8], &[u8]),
+    wanted: Exit,
+) {
+    let owned = words_of(rt, alloc, words);
+    let mut reader = input;
+    let mut writer = Vec::new(alloc);
+    let exit = start(alloc, &owned, &mut reader, &mut writer);
+    assert_eq!(rt; exit, wanted, "{words:?}");
+    assert_eq!(rt; writer.as_slice(), output, "{words:?}");
 }
 
 #[test]
-fn replies_to_rows_under_each_word(rt: HostRuntime) -> Result<(), Fail> {
+fn replies_to_rows_under_each_word(rt: HostRuntime) {
     for row in ROWS {
-        check_row(&rt, rt.alloc(), &[], *row);
-        for word in ["u8", "u16", "u32", "u64", "usize", "u128"] {
-            let words = [String::from_str(rt.alloc(), word)?];
-            check_row(&rt, rt.alloc(), &words, *row);
+        for words in WORDS {
+            check_run(&rt, rt.alloc(), words, *row, DONE);
         }
     }
-    Ok(())
 }
 
 // The rows need no program: over blocks that no word names they come out the same.
 #[test]
-fn replies_to_rows_over_blocks_of_24_bits(rt: HostRuntime) -> Result<(), Fail> {
+fn replies_to_rows_over_blocks_of_24_bits(rt: HostRuntime) {
     for (input, output) in ROWS {
         let mut reader = *input;
         let mut writer = Vec::new(rt.alloc());
@@ -128,77 +172,48 @@ fn replies_to_rows_over_blocks_of_24_bits(rt: HostRuntime) -> Result<(), Fail> {
         expect_eq(&rt, &result, &Ok(()));
         expect_eq(&rt, &writer.as_slice(), &*output);
     }
-    Ok(())
 }
 
 // Capacity that no memory has.
-#[test]
-fn fails_for_capacity_under_each_word(rt: HostRuntime) -> Result<(), Fail> {
-    let refused = Exit {
-        status: 3,
-        text: "memory refused",
-    };
-    for input in [
-        b"reserve a 18446744073709551615\n".as_slice(),
-        b"insert a 3\nreserve_exact a 18446744073709551615\nitems a\n",
-        b"reserve a 18446744073709551614\n",
-        b"reserve_exact a 18446744073709551614\n",
-    ] {
-        for word in ["u8", "u16", "u32", "u64", "usize", "u128"] {
-            let words = [String::from_str(rt.alloc(), word)?];
-            let (exit, written) = started(rt.alloc(), &words, input);
-            assert_eq!(rt; exit, refused, "{word}");
-            assert!(rt; written.is_empty(), "{word}");
-        }
-    }
-    Ok(())
-}
+const PAST_ALL_MEMORY: &[&[u8]] = &[
+    b"reserve a 18446744073709551615\n",
+    b"insert a 3\nreserve_exact a 18446744073709551615\nitems a\n",
+    b"reserve a 18446744073709551614\n",
+    b"reserve_exact a 18446744073709551614\n",
+];
 
 #[test]
-fn rejects_other_words(rt: HostRuntime) -> Result<(), Fail> {
-    let wrong = String::from_str(rt.alloc(), "u9")?;
-    let first = String::from_str(rt.alloc(), "u8")?;
-    let second = String::from_str(rt.alloc(), "u8")?;
-    let widest = String::from_str(rt.alloc(), "u128")?;
-    let third = String::from_str(rt.alloc(), "u8")?;
-    for words in [
-        [wrong].as_slice(),
-        [first, second].as_slice(),
-        [widest, third].as_slice(),
-    ] {
-        let mut reader = reader(ELEMENT_COMMANDS);
-        let mut writer = writer(rt.alloc());
-        let exit = start(rt.alloc(), words, &mut reader, &mut writer);
-        expect_eq(
-            &rt,
-            &exit,
-            &Exit {
-                status: 2,
-                text: "usage: bitset [u8|u16|u32|u64|usize|u128]",
-            },
-        );
-        expect_eq(
-            &rt,
-            &(reader.calls, writer.calls, writer.flushes),
-            &(0, 0, 0),
-        );
+fn fails_for_capacity_under_each_word(rt: HostRuntime) {
+    for input in PAST_ALL_MEMORY {
+        for words in WORDS {
+            check_run(&rt, rt.alloc(), words, (*input, b""), REFUSED);
+        }
     }
-    Ok(())
 }
 
 // An element that no memory holds.
 #[test]
 fn says_that_memory_is_refused(rt: HostRuntime) {
-    let (exit, bytes) = started(rt.alloc(), &[], b"insert a 18446744073709551614\n");
-    expect_eq(
-        &rt,
-        &exit,
-        &Exit {
-            status: 3,
-            text: "memory refused",
-        },
-    );
-    expect(&rt, bytes.is_empty());
+    let input = b"insert a 18446744073709551614\n";
+    check_run(&rt, rt.alloc(), &[], (input, b""), REFUSED);
+}
+
+const OTHER_WORDS: &[&[&str]] = &[&["u9"], &["u8", "u8"], &["u128", "u8"]];
+
+#[test]
+fn rejects_other_words(rt: HostRuntime) {
+    for words in OTHER_WORDS {
+        let owned = words_of(&rt, rt.alloc(), words);
+        let mut reader = reader(ELEMENT_COMMANDS);
+        let mut writer = writer(rt.alloc());
+        let exit = start(rt.alloc(), &owned, &mut reader, &mut writer);
+        expect_eq(&rt, &exit, &MISUSED);
+        expect(&rt, reader.calls == 0 && is_unused(&writer));
+    }
+}
+
+fn is_unused(writer: &PieceWriter) -> bool {
+    writer.calls == 0 && writer.flushes == 0
 }
 
 #[test]
@@ -207,14 +222,7 @@ fn says_that_a_read_failed(rt: HostRuntime) {
     let mut broken = reader(ELEMENT_COMMANDS);
     broken.fails_at = 0;
     let exit = start(rt.alloc(), &[], &mut broken, &mut bytes);
-    expect_eq(
-        &rt,
-        &exit,
-        &Exit {
-            status: 4,
-            text: "read failed",
-        },
-    );
+    expect_eq(&rt, &exit, &READ_FAILED);
     expect(&rt, bytes.is_empty());
 }
 
@@ -223,16 +231,8 @@ fn says_that_an_input_is_too_large(rt: HostRuntime) {
     let mut bytes = Vec::new(rt.alloc());
     let mut endless = EndlessReader { calls: 0 };
     let exit = start(rt.alloc(), &[], &mut endless, &mut bytes);
-    expect_eq(
-        &rt,
-        &exit,
-        &Exit {
-            status: 5,
-            text: "input too large",
-        },
-    );
-    expect_eq(&rt, &endless.calls, &1_048_577);
-    expect(&rt, bytes.is_empty());
+    expect_eq(&rt, &exit, &INPUT_TOO_LARGE);
+    expect_eq(&rt, &(endless.calls, bytes.len()), &(1_048_577, 0));
 }
 
 #[test]
@@ -240,14 +240,7 @@ fn says_that_a_write_failed(rt: HostRuntime) {
     let mut closed = writer(rt.alloc());
     closed.fails_at = 0;
     let exit = start(rt.alloc(), &[], &mut reader(ELEMENT_COMMANDS), &mut closed);
-    expect_eq(
-        &rt,
-        &exit,
-        &Exit {
-            status: 4,
-            text: "write failed",
-        },
-    );
+    expect_eq(&rt, &exit, &WRITE_FAILED);
 }
 
 // A reader of these bytes, seven at a call, that does not fail.
@@ -283,25 +276,32 @@ fn check_read(rt: &impl Abort, alloc: Global, kind: ErrorKind, fails_at: usize) 
     let result = run_lines::<u32, _, _>(alloc, &mut reader, &mut writer);
     expect_eq(rt, &result, &Err(LinesFault::Read));
     assert_eq!(rt; reader.calls.saturating_sub(1), fails_at, "not tried again");
-    expect_eq(rt, &(writer.calls, writer.flushes), &(0, 0));
+    expect(rt, is_unused(&writer));
 }
 
+const READ_FAULTS: &[ErrorKind] = &[
+    ErrorKind::Other,
+    ErrorKind::Interrupted,
+    ErrorKind::UnexpectedEof,
+    ErrorKind::WouldBlock,
+    ErrorKind::TimedOut,
+    ErrorKind::OutOfMemory,
+];
+
 #[test]
-fn leaves_a_read_that_failed(rt: HostRuntime) -> Result<(), Fail> {
+fn leaves_a_read_that_failed(rt: HostRuntime) {
     let last = ELEMENT_COMMANDS.len().div_ceil(7);
-    for kind in [
-        ErrorKind::Other,
-        ErrorKind::Interrupted,
-        ErrorKind::UnexpectedEof,
-        ErrorKind::WouldBlock,
-        ErrorKind::TimedOut,
-        ErrorKind::OutOfMemory,
-    ] {
+    for kind in READ_FAULTS {
         for fails_at in [0, 1, last] {
-            check_read(&rt, rt.alloc(), kind, fails_at);
+            check_read(&rt, rt.alloc(), *kind, fails_at);
         }
     }
-    Ok(())
+}
+
+// The front of the replies that so many writes of seven bytes have written.
+fn written(writes: usize) -> &'static [u8] {
+    let count = writes.saturating_mul(7);
+    ELEMENT_REPLIES.get(..count).unwrap_or(b"?")
 }
 
 // A write that fails so is not tried again, and what was written before it stays.
@@ -314,31 +314,26 @@ fn check_write(rt: &impl Abort, alloc: Global, kind: Option<ErrorKind>, fails_at
     expect_eq(rt, &result, &Err(LinesFault::Write));
     let calls = (writer.calls.saturating_sub(1), writer.flushes);
     assert_eq!(rt; calls, (fails_at, 0), "not tried again");
-    expect_eq(
-        rt,
-        &writer.bytes.as_slice(),
-        &ELEMENT_REPLIES
-            .get(..fails_at.saturating_mul(7))
-            .unwrap_or(b"?"),
-    );
+    expect_eq(rt, &writer.bytes.as_slice(), &written(fails_at));
 }
 
+const WRITE_FAULTS: &[Option<ErrorKind>] = &[
+    Some(ErrorKind::Other),
+    Some(ErrorKind::Interrupted),
+    Some(ErrorKind::WouldBlock),
+    Some(ErrorKind::StorageFull),
+    Some(ErrorKind::WriteZero),
+    None,
+];
+
 #[test]
-fn leaves_a_write_that_failed(rt: HostRuntime) -> Result<(), Fail> {
+fn leaves_a_write_that_failed(rt: HostRuntime) {
     let last = ELEMENT_REPLIES.len().div_ceil(7).saturating_sub(1);
-    for kind in [
-        Some(ErrorKind::Other),
-        Some(ErrorKind::Interrupted),
-        Some(ErrorKind::WouldBlock),
-        Some(ErrorKind::StorageFull),
-        Some(ErrorKind::WriteZero),
-        None,
-    ] {
+    for kind in WRITE_FAULTS {
         for fails_at in [0, 1, last] {
-            check_write(&rt, rt.alloc(), kind, fails_at);
+            check_write(&rt, rt.alloc(), *kind, fails_at);
         }
     }
-    Ok(())
 }
 
 #[test]
@@ -376,62 +371,62 @@ fn leaves_a_flush_that_failed(rt: HostRuntime) {
 }
 
 // Some bytes, in lines of 64 that spell no command.
-fn long_lines(alloc: Global, count: usize) -> Result<Vec<u8>, AllocError> {
-    let mut input = vec![in alloc; b'x'; count]?;
+fn long_lines(rt: &impl Abort, alloc: Global, count: usize) -> Vec<u8> {
+    let mut input = ok(rt, vec![in alloc; b'x'; count]);
     for line in input.chunks_mut(64) {
         if let Some(last) = line.last_mut() {
             *last = b'\n';
         }
     }
-    Ok(input)
+    input
+}
+
+const FOUR_REPLIES: &[u8] = b"bad command\nbad command\nbad command\nbad command\n";
+
+// How many bytes there are, in copies of four replies to lines that spell no command.
+fn bad_commands(rt: &impl Abort, output: &[u8]) -> usize {
+    for lines in output.chunks(48) {
+        expect_eq(rt, &lines, &FOUR_REPLIES);
+    }
+    output.len()
 }
 
 #[test]
-fn takes_inputs_up_to_the_limit(rt: HostRuntime) -> Result<(), Fail> {
-    let input = long_lines(rt.alloc(), 1_048_576)?;
-    let (exit, output) = started(rt.alloc(), &[], &input);
+fn takes_inputs_up_to_the_limit(rt: HostRuntime) {
+    let input = long_lines(&rt, rt.alloc(), 1_048_576);
+    let mut reader = input.as_slice();
+    let mut writer = Vec::new(rt.alloc());
+    let exit = start(rt.alloc(), &[], &mut reader, &mut writer);
     expect_eq(&rt, &exit.status, &0);
-    expect_eq(&rt, &output.len(), &196_608);
-    for lines in output.chunks(48) {
-        expect_eq(
-            &rt,
-            &lines,
-            &b"bad command\nbad command\nbad command\nbad command\n".as_slice(),
-        );
-    }
-    Ok(())
+    expect_eq(&rt, &bad_commands(&rt, &writer), &196_608);
 }
 
 // An input of one byte more.
-fn too_large(alloc: Global) -> Result<Vec<u8>, AllocError> {
-    let mut input = long_lines(alloc, 1_048_576)?;
-    input.push(b'\n')?;
-    Ok(input)
+fn too_large(rt: &impl Abort, alloc: Global) -> Vec<u8> {
+    let mut input = long_lines(rt, alloc, 1_048_576);
+    ok(rt, input.push(b'\n'));
+    input
 }
 
 #[test]
-fn runs_no_line_of_an_input_past_the_limit(rt: HostRuntime) -> Result<(), Fail> {
-    let input = too_large(rt.alloc())?;
+fn runs_no_line_of_an_input_past_the_limit(rt: HostRuntime) {
+    let input = too_large(&rt, rt.alloc());
     let mut reader = reader(&input);
     reader.piece = usize::MAX;
     let mut writer = writer(rt.alloc());
     let result = run_lines::<u32, _, _>(rt.alloc(), &mut reader, &mut writer);
     expect_eq(&rt, &result, &Err(LinesFault::TooLarge));
-    expect_eq(&rt, &(writer.calls, writer.flushes), &(0, 0));
-    Ok(())
+    expect(&rt, is_unused(&writer));
 }
 
 #[test]
-fn says_that_an_input_is_past_the_limit(rt: HostRuntime) -> Result<(), Fail> {
-    let (exit, output) = started(rt.alloc(), &[], &too_large(rt.alloc())?);
-    expect_eq(
+fn says_that_an_input_is_past_the_limit(rt: HostRuntime) {
+    let input = too_large(&rt, rt.alloc());
+    check_run(
         &rt,
-        &exit,
-        &Exit {
-            status: 5,
-            text: "input too large",
-        },
+        rt.alloc(),
+        &[],
+        (input.as_slice(), b""),
+        INPUT_TOO_LARGE,
     );
-    expect(&rt, output.is_empty());
-    Ok(())
 }

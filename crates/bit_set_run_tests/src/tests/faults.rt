@@ -1,8 +1,8 @@
 //! The faults of runs and of lines: what becomes one, and their texts.
-use crate::expect::expect_eq;
+use crate::expect::{expect_eq, ok};
 use bit_set_run::{Command, LinesFault, RunFault, SetName, Table, run, run_lines};
 use std::alloc::{AllocError, AllocFailed, Global};
-use std::test::Fail;
+use std::process::Abort;
 
 // Runs a command, and keeps its name in a vector: both calls come to the same fault by `?`.
 fn kept_name(alloc: Global, name: SetName) -> Result<Vec<SetName>, RunFault> {
@@ -26,61 +26,53 @@ fn output_and_word(alloc: Global, mut lines: &[u8]) -> Result<Vec<u8>, LinesFaul
 // A run never comes to the place `usize::MAX`: there is no such command.
 #[test]
 fn allocation_errors_become_faults(rt: HostRuntime) {
-    expect_eq(
-        &rt,
-        &RunFault::from(AllocFailed { value: 3u8 }),
-        &RunFault::Memory(usize::MAX),
-    );
-    expect_eq(
-        &rt,
-        &RunFault::from(AllocError),
-        &RunFault::Memory(usize::MAX),
-    );
-    expect_eq(
-        &rt,
-        &LinesFault::from(AllocFailed { value: 3u8 }),
-        &LinesFault::Memory,
-    );
-    expect_eq(&rt, &LinesFault::from(AllocError), &LinesFault::Memory);
+    let nowhere = RunFault::Memory(usize::MAX);
+    expect_eq(&rt, &RunFault::from(AllocFailed { value: 3u8 }), &nowhere);
+    expect_eq(&rt, &RunFault::from(AllocError), &nowhere);
 }
 
 #[test]
-fn a_run_and_a_vector_share_their_faults(rt: HostRuntime) -> Result<(), Fail> {
-    let name = SetName::from_letter(b'c').ok_or("c")?;
-    expect_eq(
-        &rt,
-        &kept_name(rt.alloc(), name)?.as_slice(),
-        &[name].as_slice(),
-    );
-    expect_eq(
-        &rt,
-        &output_and_word(rt.alloc(), b"count a")?.as_slice(),
-        &b"0\n.".as_slice(),
-    );
-    Ok(())
+fn allocation_errors_become_faults_of_lines(rt: HostRuntime) {
+    let memory = LinesFault::Memory;
+    expect_eq(&rt, &LinesFault::from(AllocFailed { value: 3u8 }), &memory);
+    expect_eq(&rt, &LinesFault::from(AllocError), &memory);
+}
+
+fn third_name(rt: &impl Abort) -> SetName {
+    ok(rt, SetName::from_letter(b'c').ok_or("c"))
 }
 
 #[test]
-fn says_its_faults(rt: HostRuntime) -> Result<(), Fail> {
-    let name = SetName::from_letter(b'c').ok_or("c")?;
-    let text = format!(in rt.alloc();
-        "{}, {}, {}, {}, {}",
-        LinesFault::Read,
-        LinesFault::TooLarge,
-        LinesFault::Memory,
-        LinesFault::Write,
-        RunFault::Memory(3)
-    )?;
-    expect_eq(
-        &rt,
-        &text.as_str(),
-        &"read failed, input too large, memory refused, write failed, memory refused",
-    );
-    let shown = format!(in rt.alloc(); "{:?} {:?}", Command::Count(name), RunFault::Memory(3))?;
-    expect_eq(
-        &rt,
-        &shown.as_str(),
-        &"Count(SetName { place: 2 }) Memory(3)",
-    );
-    Ok(())
+fn a_run_and_a_vector_share_their_faults(rt: HostRuntime) {
+    let name = third_name(&rt);
+    let names = ok(&rt, kept_name(rt.alloc(), name));
+    expect_eq(&rt, &names.as_slice(), &[name].as_slice());
+    let output = ok(&rt, output_and_word(rt.alloc(), b"count a"));
+    expect_eq(&rt, &output.as_slice(), &b"0\n.".as_slice());
+}
+
+const FAULTS: &[(LinesFault, &str)] = &[
+    (LinesFault::Read, "read failed"),
+    (LinesFault::TooLarge, "input too large"),
+    (LinesFault::Memory, "memory refused"),
+    (LinesFault::Write, "write failed"),
+];
+
+#[test]
+fn lines_say_their_faults(rt: HostRuntime) {
+    for (fault, text) in FAULTS {
+        let said = ok(&rt, format!(in rt.alloc(); "{fault}"));
+        expect_eq(&rt, &said.as_str(), text);
+    }
+}
+
+#[test]
+fn says_its_faults(rt: HostRuntime) {
+    let fault = RunFault::Memory(3);
+    let said = ok(&rt, format!(in rt.alloc(); "{fault}"));
+    expect_eq(&rt, &said.as_str(), &"memory refused");
+    let command = Command::Count(third_name(&rt));
+    let shown = ok(&rt, format!(in rt.alloc(); "{command:?} {fault:?}"));
+    let wanted = "Count(SetName { place: 2 }) Memory(3)";
+    expect_eq(&rt, &shown.as_str(), &wanted);
 }
