@@ -1,5 +1,6 @@
 //! The walk that begins at a number: its rows, and from each number over four widths.
 
+use crate::expect::expect_eq_at;
 use crate::sets::set_of;
 use crate::steps::{Step, take};
 use crate::walk_tests::{passes, set_of_one};
@@ -13,7 +14,7 @@ type Firsts = &'static [(usize, Option<usize>)];
 
 fn begins<B: BitBlock>(rt: &impl Abort, set: &BitSet<B>, firsts: Firsts) {
     for (from, first) in firsts {
-        assert_eq!(rt; set.iter_from(*from).next(), *first, "from {from}");
+        expect_eq_at(rt, *from, &set.iter_from(*from).next(), first);
     }
 }
 
@@ -59,7 +60,7 @@ const BOUNDS: &[(usize, usize)] = &[
 fn is_bounded(rt: &impl Abort, set: &BitSet) {
     for (from, bound) in BOUNDS {
         let hint = set.iter_from(*from).size_hint();
-        assert_eq!(rt; hint, (0, Some(*bound)), "from {from}");
+        expect_eq_at(rt, *from, &hint, &(0, Some(*bound)));
     }
 }
 
@@ -82,9 +83,9 @@ fn count_below(elements: &[usize], number: usize) -> usize {
 // The walk from a number on gives these elements, and then `None`; a clone of it counts them first.
 fn agrees_from<B: BitBlock>(rt: &impl Abort, set: &BitSet<B>, from: usize, left: &[usize]) {
     let mut walk = set.iter_from(from);
-    assert_eq!(rt; walk.clone().count(), left.len(), "from {from}");
+    expect_eq_at(rt, from, &walk.clone().count(), &left.len());
     passes(rt, &mut walk, left);
-    assert_eq!(rt; [walk.next(), walk.next()], [None, None], "from {from}");
+    expect_eq_at(rt, from, &[walk.next(), walk.next()], &[None, None]);
 }
 
 // From each number below `end` on, the walk gives the elements that are no less.

@@ -67,13 +67,18 @@ fn have_lengths(a: &BitSet, b: &BitSet, one: usize, two: usize) -> bool {
     len_of(a) == one && len_of(b) == two
 }
 
+// Ends the test where this does not hold of these lengths.
+fn expect_at(rt: &impl Abort, holds: bool, one: usize, two: usize) {
+    assert!(rt; holds, "at {one} and {two}");
+}
+
 #[test]
 fn walks_see_no_length(rt: HostRuntime) {
     for (one, two) in LENGTHS {
         let a = three(&rt, rt.alloc(), one);
         let b = three(&rt, rt.alloc(), two);
-        assert!(rt; give_three(&a, &b), "at {one} and {two}");
-        assert!(rt; have_lengths(&a, &b, one, two), "at {one} and {two}");
+        expect_at(&rt, give_three(&a, &b), one, two);
+        expect_at(&rt, have_lengths(&a, &b, one, two), one, two);
     }
 }
 
@@ -87,8 +92,8 @@ fn tests_and_texts_see_no_length(rt: HostRuntime) {
     for (one, two) in LENGTHS {
         let a = three(&rt, rt.alloc(), one);
         let b = three(&rt, rt.alloc(), two);
-        assert!(rt; are_within_each_other(&a, &b), "at {one} and {two}");
-        assert!(rt; are_equal(&a, &b), "at {one} and {two}");
+        expect_at(&rt, are_within_each_other(&a, &b), one, two);
+        expect_at(&rt, are_equal(&a, &b), one, two);
         expect_shown(&rt, rt.alloc(), &a, "{3}");
     }
 }

@@ -14,16 +14,26 @@ fn outcome<B: JsonBlock>(rt: &impl Abort, alloc: Global, text: &str) -> String {
     let value = ok(rt, Value::from_str(alloc, text));
     match BitSet::<B>::from_json(alloc, &value) {
         Ok(set) => shown(rt, alloc, &set),
-        Err(fault) => ok(rt, format!(in alloc; "{fault:?}")),
+        Err(fault) => fault_shown(rt, alloc, fault),
     }
+}
+
+fn fault_shown(rt: &impl Abort, alloc: Global, fault: JsonError) -> String {
+    ok(rt, format!(in alloc; "{fault:?}"))
 }
 
 fn shown<B: JsonBlock>(rt: &impl Abort, alloc: Global, set: &BitSet<B>) -> String {
     ok(rt, format!(in alloc; "{set} of {}", len_of(set)))
 }
 
+// Ends the test where what this text gives is not what is wanted.
+fn expect_of(rt: &impl Abort, text: &str, found: &str, wanted: &str) {
+    assert_eq!(rt; found, wanted, "of {text}");
+}
+
 fn assert_outcome<B: JsonBlock>(rt: &impl Abort, alloc: Global, text: &str, wanted: &str) {
-    assert_eq!(rt; outcome::<B>(rt, alloc, text).as_str(), wanted, "of {text}");
+    let found = outcome::<B>(rt, alloc, text);
+    expect_of(rt, text, found.as_str(), wanted);
 }
 
 // The texts of `storage` and `nbits`, and the outcome.
@@ -218,17 +228,19 @@ fn a_million_elements_go_round(rt: HostRuntime) {
     assert_goes_round(&rt, rt.alloc(), &BitSet::from_bit_vec(ones));
 }
 
+const TEXTS: &[(JsonError, &str)] = &[
+    (JsonError::Shape, "not the form of a bit set"),
+    (JsonError::Number, "a number out of range"),
+    (JsonError::Blocks, "a wrong number of blocks"),
+    (JsonError::Unclean, "a bit past the length"),
+    (JsonError::Memory(AllocError), "memory refused"),
+];
+
 #[test]
 fn faults_have_texts(rt: HostRuntime) {
-    for (fault, text) in [
-        (JsonError::Shape, "not the form of a bit set"),
-        (JsonError::Number, "a number out of range"),
-        (JsonError::Blocks, "a wrong number of blocks"),
-        (JsonError::Unclean, "a bit past the length"),
-        (JsonError::Memory(AllocError), "memory refused"),
-    ] {
+    for (fault, text) in TEXTS {
         let said = ok(&rt, format!(in rt.alloc(); "{fault}"));
-        expect_eq(&rt, &said.as_str(), &text);
+        expect_eq(&rt, &said.as_str(), text);
     }
 }
 

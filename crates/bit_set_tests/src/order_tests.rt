@@ -1,7 +1,7 @@
 //! The rows of equality, order, hash and texts, with their exact results.
 ghost use Rattle.std.specs.Prelude.{◌+◌, ◌*◌, ◌%◌, ◌^◌, fold};
 
-use crate::expect::{expect, expect_eq, ok};
+use crate::expect::{expect, expect_eq, expect_eq_at, ok};
 use crate::sets::{set_of, set_of_bytes};
 use crate::steps::len_of;
 use bit_set::{BitBlock, BitSet};
@@ -141,7 +141,7 @@ fn a_text_fails_where_the_formatter_does(rt: HostRuntime) {
     let set = set_of(&rt, rt.alloc(), &[3, 4]);
     // A brace, a number, a comma, a number and a brace.
     for taken in 0..6 {
-        assert_eq!(rt; is_shown(&set, taken), taken == 5, "at {taken}");
+        expect_eq_at(&rt, taken, &is_shown(&set, taken), &(taken == 5));
     }
 }
 
@@ -159,7 +159,7 @@ fn a_debug_text_fails_where_the_formatter_does(rt: HostRuntime) {
     let calls = 100usize.saturating_sub(left);
     expect(&rt, is_shown && calls > 0);
     for taken in 0..=calls {
-        assert_eq!(rt; shown_bits(&set, taken).0, taken == calls, "at {taken}");
+        expect_eq_at(&rt, taken, &shown_bits(&set, taken).0, &(taken == calls));
     }
 }
 

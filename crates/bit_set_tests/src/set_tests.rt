@@ -240,14 +240,16 @@ fn too_much_memory_fails(rt: HostRuntime) {
     expect(&rt, none.is_err());
 }
 
+const TEXTS: &[(SetError, &str)] = &[
+    (SetError::Element, "the element does not fit"),
+    (SetError::Length, "too many bits"),
+    (SetError::Memory(AllocError), "memory refused"),
+];
+
 #[test]
 fn faults_have_texts(rt: HostRuntime) {
-    for (fault, text) in [
-        (SetError::Element, "the element does not fit"),
-        (SetError::Length, "too many bits"),
-        (SetError::Memory(AllocError), "memory refused"),
-    ] {
+    for (fault, text) in TEXTS {
         let said = ok(&rt, format!(in rt.alloc(); "{fault}"));
-        expect_eq(&rt, &said.as_str(), &text);
+        expect_eq(&rt, &said.as_str(), text);
     }
 }

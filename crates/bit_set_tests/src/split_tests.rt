@@ -2,7 +2,7 @@
 //! blocks and over 24 bits.
 ghost use Rattle.std.specs.Prelude.{◌≡◌, OnOk};
 
-use crate::expect::{expect, expect_eq, ok};
+use crate::expect::{expect, expect_eq, expect_eq_at, ok};
 use crate::sets::{set_of, set_of_bytes};
 use crate::steps::{Step, has_just, len_of, take};
 use bit_set::laws::parted_sets;
@@ -41,7 +41,7 @@ fn check_parts<B: BitBlock>(rt: &impl Abort, alloc: Global) {
     for (at, wanted) in PARTS {
         let mut set = set_of_bytes::<B>(rt, alloc, &BYTES);
         let part = ok(rt, set.split_off(alloc, at));
-        assert_eq!(rt; sizes(&set, &part), wanted, "at {at}");
+        expect_eq_at(rt, at, &sizes(&set, &part), &wanted);
     }
 }
 

@@ -1,5 +1,6 @@
 // Calls on a set, one after another, each with what is wanted of it. A test is then a row of these, and the calls are
 // proved once.
+use crate::expect::expect_eq_at;
 use crate::sets::{set_of, set_of_bytes};
 use bit_set::{BitBlock, BitSet, SetError};
 use std::alloc::Global;
@@ -131,7 +132,7 @@ fn goes_well<B: BitBlock>(set: &mut BitSet<B>, step: Step) -> bool {
 // Takes the steps one after another; ends the test at one that does not come out as is wanted.
 pub(crate) fn take<B: BitBlock>(rt: &impl Abort, set: &mut BitSet<B>, steps: &[Step]) {
     for (place, step) in steps.iter().enumerate() {
-        assert!(rt; goes_well(set, *step), "at step {place}");
+        expect_eq_at(rt, place, &goes_well(set, *step), &true);
     }
 }
 

@@ -5,7 +5,7 @@ ghost use Rattle.bit_set.specs.Walk.{Walk, IsAtStart};
 
 mod two_sets;
 
-use crate::expect::{expect_eq, ok};
+use crate::expect::{expect, expect_eq, expect_eq_at, ok};
 use crate::sets::{set_of, set_of_bytes};
 use bit_set::laws::whole_walks;
 use bit_set::{BitBlock, BitSet, Iter};
@@ -96,20 +96,28 @@ fn begins<B: BitBlock>(rt: &impl Abort, set: &BitSet<B>, items: [Option<usize>; 
     expect_eq(rt, &firsts(set), &items);
 }
 
+fn bytes_begin<B: BitBlock>(rt: &impl Abort, alloc: Global, byte: u8, items: [Option<usize>; 5]) {
+    begins(rt, &set_of_bytes::<B>(rt, alloc, &[byte]), items);
+}
+
 #[test]
 fn a_walk_over_a_byte_stays_at_its_end(rt: HostRuntime) {
-    let bytes = set_of_bytes::<u32>(&rt, rt.alloc(), &[0b0100_1010]);
-    begins(&rt, &bytes, [Some(1), Some(4), Some(6), None, None]);
-    let forty = set_of_bytes::<u8>(&rt, rt.alloc(), &[0b0001_0100]);
-    begins(&rt, &forty, [Some(3), Some(5), None, None, None]);
+    let three = [Some(1), Some(4), Some(6), None, None];
+    bytes_begin::<u32>(&rt, rt.alloc(), 0b0100_1010, three);
+    let two = [Some(3), Some(5), None, None, None];
+    bytes_begin::<u8>(&rt, rt.alloc(), 0b0001_0100, two);
+}
+
+// A set of one element, of at least this length.
+fn one_begins<B: BitBlock>(rt: &impl Abort, alloc: Global, len: usize, element: usize) {
+    let items = [Some(element), None, None, None, None];
+    begins(rt, &set_of_one::<B>(rt, alloc, len, element), items);
 }
 
 #[test]
 fn a_walk_stays_at_its_end(rt: HostRuntime) {
-    let wide = set_of_one::<u32>(&rt, rt.alloc(), 0, 400);
-    begins(&rt, &wide, [Some(400), None, None, None, None]);
-    let spacious = set_of_one::<u8>(&rt, rt.alloc(), 40, 3);
-    begins(&rt, &spacious, [Some(3), None, None, None, None]);
+    one_begins::<u32>(&rt, rt.alloc(), 0, 400);
+    one_begins::<u8>(&rt, rt.alloc(), 40, 3);
 }
 
 #[test]
@@ -118,12 +126,15 @@ fn a_walk_over_two_blocks_stays_at_its_end(rt: HostRuntime) {
     begins(&rt, &widest, [Some(127), Some(128), None, None, None]);
 }
 
+fn is_walk_over_none(set: &BitSet) -> bool {
+    set.iter().size_hint() == (0, Some(32)) && set.iter().count() == 0
+}
+
 #[test]
 fn an_empty_set_has_no_item(rt: HostRuntime) {
     let set = BitSet::new(rt.alloc());
-    expect_eq(&rt, &set.iter().size_hint(), &(0, Some(32)));
+    expect(&rt, is_walk_over_none(&set));
     begins(&rt, &set, [None; 5]);
-    expect_eq(&rt, &set.iter().count(), &0);
 }
 
 // What generic code counts.
@@ -171,12 +182,17 @@ pub(crate) fn agrees_at_each_point<B: BitBlock>(
 ) {
     for point in 0..elements.len() + 1 {
         let (passed, left) = elements.split_at(point);
-        let mut walk = set.iter();
-        passes(rt, &mut walk, passed);
-        assert_eq!(rt; walk.clone().count(), left.len(), "at {point}");
-        gives(rt, walk.clone(), left);
-        expect_eq(rt, &walk.next(), &left.first().copied());
+        agrees_past(rt, set, passed, left);
     }
+}
+
+// Past these elements.
+fn agrees_past<B: BitBlock>(rt: &impl Abort, set: &BitSet<B>, passed: &[usize], left: &[usize]) {
+    let mut walk = set.iter();
+    passes(rt, &mut walk, passed);
+    expect_eq_at(rt, passed.len(), &walk.clone().count(), &left.len());
+    gives(rt, walk.clone(), left);
+    expect_eq(rt, &walk.next(), &left.first().copied());
 }
 
 fn agrees_over<B: BitBlock>(rt: &impl Abort, alloc: Global, elements: &[usize]) {

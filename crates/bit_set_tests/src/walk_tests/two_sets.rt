@@ -4,7 +4,7 @@ ghost use Rattle.std.specs.Iterator.{YieldsThen};
 ghost use Rattle.bit_set.specs.Sets.{elements, union, difference};
 ghost use Rattle.bit_set.specs.Walk.{TwoSetWalk, StartsOverTwo};
 
-use crate::expect::expect_eq;
+use crate::expect::{expect_eq, expect_eq_at};
 use crate::sets::{set_of, set_of_bytes};
 use bit_set::bit_vec::Merge;
 use bit_set::bit_vec::operation::Operation;
@@ -66,7 +66,7 @@ fn agrees<W: AnyWalk>(rt: &impl Abort, walk: W, items: &[usize]) {
     let mut walk = walk;
     for point in 0..items.len() + 1 {
         let (_, left) = items.split_at(point);
-        assert_eq!(rt; walk.another().left(), left.len(), "at {point}");
+        expect_eq_at(rt, point, &walk.another().left(), &left.len());
         gives(rt, walk.another(), left);
         expect_eq(rt, &walk.step(), &left.first().copied());
     }
@@ -248,13 +248,17 @@ const FIRST: Lists<'static> = Lists {
     one: &[5],
 };
 
+fn agree_of<B: BitBlock>(rt: &impl Abort, alloc: Global, (a, b): Two, lists: &Lists<'_>) {
+    let first = set_of::<B>(rt, alloc, a);
+    let second = set_of::<B>(rt, alloc, b);
+    agree(rt, (&first, &second), lists);
+}
+
 #[test]
 fn walks_over_sets_with_no_block(rt: HostRuntime) {
-    let none = BitSet::new(rt.alloc());
-    let five = set_of::<u32>(&rt, rt.alloc(), &[5]);
-    agree(&rt, (&none, &BitSet::new(rt.alloc())), &NOTHING);
-    agree(&rt, (&none, &five), &SECOND);
-    agree(&rt, (&five, &none), &FIRST);
+    agree_of::<u32>(&rt, rt.alloc(), (&[], &[]), &NOTHING);
+    agree_of::<u32>(&rt, rt.alloc(), (&[], &[5]), &SECOND);
+    agree_of::<u32>(&rt, rt.alloc(), (&[5], &[]), &FIRST);
 }
 
 // A longer set beside a shorter one.
@@ -273,12 +277,14 @@ const SHORTER: Lists<'static> = Lists {
     one: &[0, 8, 9, 23, 48, 63, 65, 400],
 };
 
+const LONG: &[usize] = &[0, 1, 7, 8, 23, 24, 63, 64, 400];
+
+const SHORT: &[usize] = &[1, 7, 9, 24, 48, 64, 65];
+
 // Over two sets of a width, the longer one first, and then second.
 fn agree_at_each_point<B: BitBlock>(rt: &impl Abort, alloc: Global) {
-    let longer = set_of::<B>(rt, alloc, &[0, 1, 7, 8, 23, 24, 63, 64, 400]);
-    let shorter = set_of::<B>(rt, alloc, &[1, 7, 9, 24, 48, 64, 65]);
-    agree(rt, (&longer, &shorter), &LONGER);
-    agree(rt, (&shorter, &longer), &SHORTER);
+    agree_of::<B>(rt, alloc, (LONG, SHORT), &LONGER);
+    agree_of::<B>(rt, alloc, (SHORT, LONG), &SHORTER);
 }
 
 #[test]
