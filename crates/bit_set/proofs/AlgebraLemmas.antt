@@ -26,16 +26,12 @@ has-symmetric s t n = let both = has-union (difference s t) (difference t s) n i
 
 -- a number is a member of what two sets become as each of them has it or not
 pub has-merge_of_sets : (merge : Merge) (s t : List ℕ) (n : ℕ) → has (merge_of_sets merge s t) n ≡ merge_of_values merge (has s n) (has t n)
-has-merge_of_sets Union s t n = has-union s t n
-has-merge_of_sets Intersection s t n = has-intersection s t n
-has-merge_of_sets Difference s t n = has-difference s t n
-has-merge_of_sets Symmetric s t n = has-symmetric s t n
+has-merge_of_sets merge s t n = grind (arith, has-union s t n, has-intersection s t n, has-difference s t n, has-symmetric s t n)
 
 pub IsAscending-merge_of_sets : (merge : Merge) (s t : List ℕ) → IsAscending s → IsAscending (merge_of_sets merge s t)
-IsAscending-merge_of_sets Union s t up = IsAscending-put_all s t up
-IsAscending-merge_of_sets Intersection s t up = AscendsFrom-filter 0 (λ n. has t n) s up
-IsAscending-merge_of_sets Difference s t up = AscendsFrom-filter 0 (λ n. not (has t n)) s up
-IsAscending-merge_of_sets Symmetric s t up = IsAscending-put_all (difference s t) (difference t s) (AscendsFrom-filter 0 (λ n. not (has t n)) s up)
+IsAscending-merge_of_sets merge s t up =
+    let apart = AscendsFrom-filter 0 (λ n. not (has t n)) s up in
+    grind (arith, IsAscending-put_all s t up, AscendsFrom-filter 0 (λ n. has t n) s up, IsAscending-put_all (difference s t) (difference t s) apart)
 
 -- the set that a merged list keeps is what the sets of the two become
 pub elements-merged : (merge : Merge) (xs ys : List Bool) → elements (merge_of merge xs ys) ≡ merge_of_sets merge (elements xs) (elements ys)

@@ -69,10 +69,10 @@ pub tells_empty : (value : Bool) (s : List ℕ) → (IsTrue value ↔ (s ≡ [])
 tells_empty value s tells = (λ is m. ap (λ u. has u m) (tells.0 is), λ none. tells.1 (none_from_members s none))
 
 pub tells_same : (value : Bool) (a b : List Bool) → value ≡ same_sets (elements a) (elements b) → IsTrue value ↔ IsSameSet (elements a) (elements b)
-tells_same value a b says = (
-  λ is n. ap (λ u. has u n) ((bytes_decides (elements a) (elements b)).0 (sym says ∙ is)),
-  λ same. says ∙ (bytes_decides (elements a) (elements b)).1 (same_members (elements a) (elements b) (IsAscending-elements a) (IsAscending-elements b) same),
-)
+tells_same value a b says =
+    let same = bytes_decides (elements a) (elements b) in
+    let members = same_members (elements a) (elements b) (IsAscending-elements a) (IsAscending-elements b) in
+    grind arith
 
 pub tells_subset : (value : Bool) (s t : List ℕ) → value ≡ is_subset s t → IsTrue value ↔ IsSubset s t
 tells_subset value s t says = rw says (is_subset-members s t)

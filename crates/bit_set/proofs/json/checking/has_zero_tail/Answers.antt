@@ -30,9 +30,6 @@ returns g c =
 pub bounds-entries-entries : goal.bounds-entries-entries
 bounds-entries-entries g c = some g (goal.at.bounds-entries-entries g c).Else-used-eq0
 
-pub overflow_sub-entries : goal.overflow_sub-entries
-overflow_sub-entries g c = omega (arith, some g (goal.at.overflow_sub-entries g c).Else-used-eq0)
-
 pub block_of-last-requires : goal.block_of-last-requires
 block_of-last-requires g c =
     subst (IsEntry g.B.BitBlock.width) (sym c.index-entries-entries.is) (All-get_or (IsEntry g.B.BitBlock.width) c.args.entries.now _ _ (some g (goal.at.block_of-last-requires g c).Else-used-eq0) c.requires.each)

@@ -45,17 +45,8 @@ returns-then-at-eq0-clause-members g c = members_below (elements c.args.self.now
 pub returns-then-at-eq0-clause-part_members : goal.returns-then-at-eq0-clause-part_members
 returns-then-at-eq0-clause-part_members g c = members_from (elements c.args.self.now.values) c.args.at (returns-then-at-eq0-clause-part g c)
 
-pub returns-then-at-eq0-clause-length : goal.returns-then-at-eq0-clause-length
-returns-then-at-eq0-clause-length g c = rw (c.replace.ensures.after, c.new_general.ensures.values) (omega (arith, c.if-at-eq0.true))
-
 pub returns-then-at-eq0-clause-part_length : goal.returns-then-at-eq0-clause-part_length
 returns-then-at-eq0-clause-part_length g c = rw c.replace.ensures.value (grind (arith, nat_tests, c.if-at-eq0.true))
 
-pub returns-then-at-len-clause-length : goal.returns-then-at-len-clause-length
-returns-then-at-len-clause-length g c = omega (arith, past g c)
-
 pub returns-then-at-len-clause-part_length : goal.returns-then-at-len-clause-part_length
 returns-then-at-len-clause-part_length g c = rw c.new_general-then-at-len.ensures.values (grind (arith, nat_tests, past g c))
-
-pub returns-clause-exact : goal.returns-clause-exact
-returns-clause-exact g c _ _ = rw (← c.self.view_is) c.in_ok-bits.ensures.capacity
