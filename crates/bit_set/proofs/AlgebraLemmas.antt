@@ -7,7 +7,6 @@ use Rattle.std.specs.FinSet as set
 use Rattle.bit_words.specs.Merges.{merge_of_values, merge_of}
 use Rattle.bit_words.proofs.MergeLemmas.{get_or-merged, length-merged}
 use Rattle.bit_words.specs.declared.block.merge.Merge.{Merge}
-use Rattle.bit_words.specs.declared.block.merge.Merge.TheVariants.{Union, Intersection, Difference, Symmetric}
 use Rattle.bit_set.specs.Sets.{IsAscending, has, elements, union, intersection, difference, symmetric_difference, merge_of_sets}
 use Rattle.bit_set.proofs.SetLemmas.{AscendsFrom-filter, has-elements, has-filter, IsAscending-elements, elements-by_members, elements-padded, AscendsFrom-put}
 use Rattle.bit_set.proofs.SetLaws.{has-put_all, IsAscending-put_all, contains-has, finite, finite-put_all, same_finite}

@@ -1,4 +1,4 @@
-use Rattle.std.proofs.Common.{◌≢◌, ◌-◌, ◌%◌, ◌<◌, length, ap, sym, ◌∙◌, subst, arith}
+use Rattle.std.proofs.Common.{◌≢◌, ◌-◌, ◌%◌, ◌<◌, length, ap, sym, ◌∙◌, subst}
 use Rattle.bit_set.specs.Entries.{numbers_of, IsEntry}
 use Rattle.bit_set.proofs.JsonLemmas.{blocks_for_some, zero_tail_by_shift, counted, number_at}
 use Rattle.std.proofs.Math.Nat.{mod-lt}
