@@ -129,8 +129,8 @@ module _ (nfa : Automaton) (sets : List (List ℕ)) (next : List ℕ) (b : Build
   }
 
 -- the numbers of before are still those of the same sets
-pub kept : (old : List (List ℕ)) (set : List ℕ) (number i : ℕ) (new : List (List ℕ)) → Numbers old set number new → i < length old → set_of new i ≡ set_of old i
-kept old set number i new n lt = elim n.grows [
+pub number_kept : (old : List (List ℕ)) (set : List ℕ) (number i : ℕ) (new : List (List ℕ)) → Numbers old set number new → i < length old → set_of new i ≡ set_of old i
+number_kept old set number i new n lt = elim n.grows [
   | inl same ↦ ap (λ sets. set_of sets i) same
   | inr more ↦ ap (λ sets. set_of sets i) more.0 ∙ set_before old set i lt
 ]
@@ -145,7 +145,7 @@ as_many old set number new n = elim n.grows [
 pub row_on : (nfa : Automaton) (sets : List (List ℕ)) (next : List ℕ) (i symbol : ℕ) (set : List ℕ) (number : ℕ) (new : List (List ℕ)) → Builds nfa sets next → IsAscending set → ((s t : List ℕ) → IsAscending s → IsAscending t → ((n : ℕ) → has s n ≡ has t n) → s ≡ t) → length next ≡ i * length nfa.moves + symbol → symbol < length nfa.moves → i < length sets → IsImage (row_of nfa.moves symbol) (set_of sets i) set → Numbers sets set number new → Builds nfa new (next ++ number ∷ [])
 row_on nfa sets next i symbol set number new b up one_list is inside from image n =
     let more = as_many sets set number new n in
-    let same = kept sets set number i new n from in
+    let same = number_kept sets set number i new n from in
     builds_entry nfa new next (builds_numbered nfa sets next b set number new up (reached_on nfa sets next b i symbol set from inside image) one_list n) i symbol number is inside (omega (arith, more, from)) n.inside (rw (same, n.named) image)
 
 -- ---- the starts

@@ -9,9 +9,9 @@ use Rattle.bit_words.specs.Bits.{blocks_for, blocks_of}
 use Rattle.bit_words.specs.Nonzero.{Nonzeros, StartsPast}
 use Rattle.bit_words.specs.Digits.{is_one}
 use Rattle.bit_set.specs.Sets.{elements_from, elements, those_from}
-use Rattle.bit_set.specs.Places.{indexes, values_in, IsSparseWalk}
+use Rattle.bit_set.specs.Indexes.{indexes, values_in, IsSparseWalk}
 use Rattle.bit_set.specs.Walk.{Walk, IsAtStart, IsAtStartFrom}
-use Rattle.bit_set.proofs.PlaceLemmas.{indexes-next, value_in, values_in-blocks_of}
+use Rattle.bit_set.proofs.IndexLemmas.{indexes-next, value_in, values_in-blocks_of}
 use Rattle.bit_set.proofs.SetLemmas.{AscendsFrom-elements_from, AscendsFrom-filter, AscendsFrom-lower, has-filter, IsAscending-elements, has-below, has-elements, has-elements_from, same_members}
 use Rattle.bit_set.proofs.SparseLemmas.{seen, whole_index}
 use Rattle.bit_set.proofs.SplitLemmas.{all_from}
@@ -104,7 +104,7 @@ begins_from w number is_block values from k block it pos is lawful cut =
     let can = IsWalkable-values_of_blocks w number it.blocks values 0 pos is.numbers is.fits in
     let all = elements-values_of_blocks w number it.blocks values pos is.numbers in
     let left = left_from w number pos it.blocks values from k (number block) cut is.numbers in
-    let few : length (those_from (elements values) from) < 2 ^ 64 = omega (arith, length-filter (λ i. leb from i) (elements values), count_by-le-length (λ i. leb from i) (elements values), rw all at can.few) in
+    let few : length (those_from (elements values) from) < 2 ^ 64 = omega (arith, length-filter (λ i. leb from i) (elements values), count_by-le-length (λ i. leb from i) (elements values), rw all at can.count_fits) in
     let first : k ≡ min (from / w) (blocks_for w (length values) - 1) = cut.at ∙ ap (λ i. min (from / w) (i - 1)) many in
     record {
       walk = record {
@@ -119,7 +119,7 @@ begins_from w number is_block values from k block it pos is lawful cut =
               let whole : k * w + w * (n - (k + 1)) ≡ w * (n - 1) = (let e : n - 1 ≡ k + (n - (k + 1)) = omega (arith, cut.at) in let f = ap (λ i. w * i) e in omega (arith, f)) in
               rw length-drop (omega (arith, whole, can.fits));
           below = rw left (All-filter (λ i. leb from i) (λ i. i < 2 ^ 64) (elements values) (rw all at can.below));
-          few = rw left few;
+          count_fits = rw left few;
         };
       };
       start = record {
@@ -128,7 +128,7 @@ begins_from w number is_block values from k block it pos is lawful cut =
         index = ap (λ i. i * w) first;
         blocks = rw index_is (omega (arith, length-drop (k + 1) it.blocks, many, cut.at));
         summary = let at = ap (λ i. i / w) first in let chunks = ap (blocks_for w) many in omega (arith, is.start.summary_pulls, is.start.summary_left, at, chunks);
-        few = rw (index_is, left) few;
+        count_fits = rw (index_is, left) few;
       };
     }
 

@@ -14,7 +14,7 @@ use Rattle.serde_json.proofs.Views.{Entry, members_len-members_view}
 use Rattle.bit_words.specs.Bits.{blocks_for, blocks_of}
 use Rattle.bit_words.specs.Digits.{IsShiftedRight}
 use Rattle.bit_words.proofs.BitsLemmas.{blocks_of-lt, length-blocks_of}
-use Rattle.bit_set.proofs.PlaceLemmas.{values_in-blocks_of}
+use Rattle.bit_set.proofs.IndexLemmas.{values_in-blocks_of}
 use Rattle.bit_set.proofs.FilledLemmas.{blocks_of_zero_tail}
 use Rattle.bit_set.specs.declared.json.JsonError.{JsonError}
 use Rattle.bit_set.specs.Json.{HasNumbers, HasZeroTail, IsFault, IsFirstFault, Spells, members_in, number_in, numbers_in, bit_vec_in, storage_in, nbits_in}

@@ -9,7 +9,7 @@ pub mod ValueLemmas
 pub mod CapacityLemmas
 pub mod ItemLemmas
 pub mod ByteLemmas
-pub mod PlaceLemmas
+pub mod IndexLemmas
 pub mod WalkLemmas
 pub mod PairLemmas
 pub mod TallyLemmas
@@ -21,7 +21,7 @@ pub mod MismatchLemmas
 pub mod OrderLemmas
 pub mod JsonLemmas
 pub mod FilledLemmas
-pub mod CallLemmas
+pub mod ChangeLemmas
 pub mod CallerLemmas
 pub mod TestLemmas
 pub mod WalkCalls

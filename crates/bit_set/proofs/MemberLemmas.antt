@@ -83,7 +83,7 @@ tells_disjoint value s t says = let members = is_disjoint-members s t in grind a
 -- ---- how long a list is
 
 pub counted : (values : List Bool) → length values ≤ greatest → IsCounted values
-counted values fits = record { few = length-elements-le 0 values; fits = fits }
+counted values fits = record { at_most = length-elements-le 0 values; fits = fits }
 
 pub counted_within : (bits : Bits) → IsWithinCapacity bits → IsCounted bits.values
 counted_within bits within = counted bits.values (omega (arith, within.holds_values, within.fits))

@@ -15,7 +15,7 @@ use Rattle.bit_set.specs.Sets.{elements, intersection, merge_of_sets, has}
 use Rattle.bit_set.proofs.AlgebraLemmas.{elements-merged, IsAscending-merge_of_sets, has-intersection}
 use Rattle.bit_words.proofs.BitsLemmas.{blocks_for-le}
 use Rattle.bit_set.proofs.WalkLemmas.{length-values_of_blocks, length-blocks, elements-values_of_blocks, IsWalkable-of, All-pulled}
-use Rattle.bit_set.specs.Places.{digits_from, values_in, Ahead, PullsBlock, PullsBlockIf, IsWalkable, IsMergedBlock, IsMergedPull}
+use Rattle.bit_set.specs.Indexes.{digits_from, values_in, Ahead, PullsBlock, PullsBlockIf, IsWalkable, IsMergedBlock, IsMergedPull}
 use Rattle.std.proofs.Math.Bool.{and_comm}
 use Rattle.std.proofs.lemmas.List.Sums.{length-filter, count_by-le-length}
 use Rattle.bit_set.proofs.SetLemmas.{IsAscending-elements, length-elements-le, same_members}

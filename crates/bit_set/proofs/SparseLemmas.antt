@@ -10,10 +10,10 @@ use Rattle.std.proofs.Math.Seq.{drop-drop}
 use Rattle.bit_words.specs.Lowest.{IsLowest, IsCleared}
 use Rattle.bit_words.specs.Nonzero.{Nonzeros, PullsNonzero, Refills, nonzero_from, ones_left}
 use Rattle.bit_set.specs.Sets.{AscendsFrom, elements_from, elements}
-use Rattle.bit_set.specs.Places.{indexes, past_block, IsSparseWalk}
+use Rattle.bit_set.specs.Indexes.{indexes, past_block, IsSparseWalk}
 use Rattle.bit_set.specs.Walk.{Walk, Advances}
 use Rattle.bit_set.proofs.MemberLemmas.{takes_least}
-use Rattle.bit_set.proofs.PlaceLemmas.{AscendsFrom-indexes, indexes-zero, indexes-next, indexes-lowest, length-indexes, length-elements-block}
+use Rattle.bit_set.proofs.IndexLemmas.{AscendsFrom-indexes, indexes-zero, indexes-next, indexes-lowest, length-indexes, length-elements-block}
 use Rattle.std.proofs.Math.Nat.{mul-div_cancel}
 use Rattle.bit_set.proofs.WalkLemmas.{values_of_blocks, length-values_of_blocks, CanWalk-taken, CanWalk-moved}
 

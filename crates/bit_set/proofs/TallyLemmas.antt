@@ -5,7 +5,7 @@ use Rattle.std.proofs.lemmas.Grind.{flat_map-append}
 use Rattle.bit_words.specs.Merges.{merge_of_values, merge_of}
 use Rattle.bit_words.specs.declared.block.merge.Merge.{Merge}
 use Rattle.bit_set.specs.Sets.{elements}
-use Rattle.bit_set.specs.Places.{digits_from, values_in, IsMergedBlock}
+use Rattle.bit_set.specs.Indexes.{digits_from, values_in, IsMergedBlock}
 use Rattle.bit_set.proofs.SetLemmas.{length-elements}
 use Rattle.bit_set.proofs.WalkLemmas.{values_of_blocks, length-values_of_blocks, count_more}
 use Rattle.std.proofs.lemmas.List.Sums.{sum_by-append}

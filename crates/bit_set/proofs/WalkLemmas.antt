@@ -12,9 +12,9 @@ use Rattle.bit_words.specs.Lowest.{IsLowest, IsCleared}
 use Rattle.bit_words.proofs.BitsLemmas.{length-blocks_of}
 use Rattle.bit_set.specs.Sets.{elements_from, elements}
 use Rattle.bit_set.specs.Walk.{GoesOn, TwoSetWalk}
-use Rattle.bit_set.specs.Places.{digits_from, values_in, indexes, Ahead, PullsBlock, PullsBlockIf, IsWalkable, CanWalk, IsWalk}
+use Rattle.bit_set.specs.Indexes.{digits_from, values_in, indexes, Ahead, PullsBlock, PullsBlockIf, IsWalkable, CanWalk, IsWalk}
 use Rattle.bit_set.proofs.SetLemmas.{length-elements-le}
-use Rattle.bit_set.proofs.PlaceLemmas.{indexes-zero, indexes-next, indexes-lowest, length-digits_from, length-values_in, length-indexes-le, length-elements-block, elements-blocks_of, elements-below}
+use Rattle.bit_set.proofs.IndexLemmas.{indexes-zero, indexes-next, indexes-lowest, length-digits_from, length-values_in, length-indexes-le, length-elements-block, elements-blocks_of, elements-below}
 
 -- a pull takes one block on
 pub pulled_along : (index w m n : ℕ) → n ≡ m + 1 → index + w + w * m ≡ index + w * n
@@ -40,7 +40,7 @@ CanWalk-moved w index at m n s t can long along same = record {
   long = long;
   fits = omega (arith, can.fits, along);
   below = subst (All (λ i. i < 2 ^ 64)) (sym same) can.below;
-  few = subst (λ xs. length xs < 2 ^ 64) (sym same) can.few;
+  count_fits = subst (λ xs. length xs < 2 ^ 64) (sym same) can.count_fits;
 }
 
 pub CanWalk-pulled : {X : Type 0} (w index m : ℕ) (number : X → ℕ) (x : X) (s t : Ahead) → CanWalk w index m s → m ≡ 0 → PullsBlock w number s (Some x) t → CanWalk w (index + w) (number x) t
@@ -52,7 +52,7 @@ pub CanWalk-taken : (w index m r i : ℕ) (ahead : Ahead) → CanWalk w index m 
 CanWalk-taken w index m r i ahead can low within cleared =
     let same = indexes-lowest w index m r i ahead.values low within cleared in
     let below = subst (All (λ n. n < 2 ^ 64)) same can.below in (
-      record { long = can.long; fits = can.fits; below = All-tail (λ n. n < 2 ^ 64) (index + i) (indexes w index r ahead.values) below; few = omega (arith, can.few, ap length same) },
+      record { long = can.long; fits = can.fits; below = All-tail (λ n. n < 2 ^ 64) (index + i) (indexes w index r ahead.values) below; few = omega (arith, can.count_fits, ap length same) },
       All-head (λ n. n < 2 ^ 64) (index + i) (indexes w index r ahead.values) below,
     )
 
@@ -110,7 +110,7 @@ begun_by is_block w m s t lawful can all past long = record {
       long = long;
       fits = omega (arith, ap (λ k. w * k) past, can.fits);
       below = subst (All (λ n. n < 2 ^ 64)) (sym all) can.below;
-      few = subst (λ xs. length xs < 2 ^ 64) (sym all) can.few;
+      count_fits = subst (λ xs. length xs < 2 ^ 64) (sym all) can.count_fits;
     };
   };
   all = all;
@@ -132,7 +132,7 @@ IsWalkable-of w ahead values long blocks same fits = record {
       let past : ahead.blocks - 1 ≤ length values / w = omega (arith, blocks) in
       omega (arith, mul-le-mul_left w past, mul-div-le (length values) w);
   below = subst (All (λ n. n < 2 ^ 64)) (sym same) (elements-below (2 ^ 64) values (omega arith));
-  few = let most = length-elements-le 0 values in let many = ap length same in omega (arith, most, many);
+  count_fits = let most = length-elements-le 0 values in let many = ap length same in omega (arith, most, many);
 }
 
 -- ---- the blocks of one list of truth values

@@ -3,7 +3,7 @@ pub mod Sets
 pub mod Members
 pub mod Faults
 pub mod Effects
-pub mod Calls
+pub mod Changes
 pub mod Choices
 pub mod Capacity
 pub mod Walk
@@ -11,7 +11,7 @@ pub mod Agreement
 pub mod Texts
 pub mod Order
 pub mod Mismatches
-pub mod Places
+pub mod Indexes
 pub mod Json
 pub mod Entries
 pub mod Lends

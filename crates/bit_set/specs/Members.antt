@@ -65,5 +65,5 @@ HasTrueOf s values = (n : ℕ) → has s n ≡ get_or values n false
 
 -- The elements of a list of truth values are no more than it is long, and its length is a `usize`.
 pub record IsCounted (values : List Bool) : Type 0 where
-  pub few : length (elements values) ≤ length values
+  pub at_most : length (elements values) ≤ length values
   pub fits : length values ≤ greatest

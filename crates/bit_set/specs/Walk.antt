@@ -98,7 +98,7 @@ pub record IsAtStart (w : ℕ) (values : List Bool) (s : Walk) : Type 0 where
   pub blocks : s.blocks ≡ blocks_for w (length values) - 1
   pub summary : s.summary_pulls + s.summary_left ≡ max 1 (blocks_for w (blocks_for w (length values)))
   -- so that the elements can be counted
-  pub few : length s.left < 2 ^ 64
+  pub count_fits : length s.left < 2 ^ 64
 
 -- At the making of a walk over those elements that are `from` or above: the block of `from` is in hand, or the last
 -- one where the list ends before it.
@@ -109,7 +109,7 @@ pub record IsAtStartFrom (w : ℕ) (values : List Bool) (from : ℕ) (s : Walk) 
   pub blocks : s.blocks ≡ blocks_for w (length values) - 1 - from / w
   pub summary : s.summary_pulls + s.summary_left ≡ max 1
       (blocks_for w (blocks_for w (length values)) - min (from / w) (blocks_for w (length values) - 1) / w)
-  pub few : length s.left < 2 ^ 64
+  pub count_fits : length s.left < 2 ^ 64
 
 -- At the making of a walk over what two lists of truth values become, in blocks of w. It has pulled both once, and
 -- has as many blocks to go as the longer one.
@@ -118,7 +118,7 @@ pub record StartsOverTwo (w : ℕ) (a b : List Bool) (s : TwoSetWalk) : Type 0 w
   pub index : s.index ≡ 0
   pub blocks : s.blocks ≡ max (blocks_for w (length a)) (blocks_for w (length b)) - 1
   -- so that the elements can be counted
-  pub few : length s.left < 2 ^ 64
+  pub count_fits : length s.left < 2 ^ 64
 
 -- What whole walks over two sets give, in blocks of w. S is what contracts see of such a walk, and `walk` what that
 -- says of the walk itself.

@@ -9,8 +9,8 @@ ghost use Rattle.std.specs.List.{find, last_or, list_all, list_any, position_or_
 ghost use Rattle.bit_words.specs.Bits.{blocks_for, blocks_of, true_end};
 ghost use Rattle.serde_json.specs.Data.{Data};
 ghost use Rattle.bit_set.specs.Agreement.{WalksAgree};
-ghost use Rattle.bit_set.specs.Calls.{Change, Changes, Event, Happens, outcomes, set_after};
-ghost use Rattle.bit_set.specs.Calls.Outcome.{Done, NoMemory};
+ghost use Rattle.bit_set.specs.Changes.{Change, Changes, Event, Happens, outcomes, set_after};
+ghost use Rattle.bit_set.specs.Changes.Outcome.{Done, NoMemory};
 ghost use Rattle.bit_set.specs.Effects.{TakesIn};
 ghost use Rattle.bit_set.specs.Choices.{IsGreatest, IsLeast, IsLeastPassing};
 ghost use Rattle.bit_set.specs.Members.{HasNone, IsSameSet, TakesLeast};
@@ -324,7 +324,7 @@ pub fn values_have_one_reading()
 /// elements, over any two block types, have the same elements after the same calls, which return the same.
 /// The clause `changes` of each call says what it does; `extend` is given the items that went in, those of
 /// its `TakesIn`.
-#[tactic(auto, using(crate::proofs::CallLemmas::happens_found, crate::proofs::CallLemmas::happens_agree))]
+#[tactic(auto, using(crate::proofs::ChangeLemmas::happens_found, crate::proofs::ChangeLemmas::happens_agree))]
 pub fn calls_are_set_algebra()
     ensures elements { (old new : List Bool) (events : List Event) → All (λ e. e.outcome ≢ NoMemory) events
         → Happens old events new → elements new ≡ set_after (elements old) (map (λ e. e.call) events) }

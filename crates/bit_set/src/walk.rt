@@ -30,7 +30,7 @@ pub struct Iter<'a, B: BitBlock> {
 
 impl<'a, B: BitBlock> Model for Iter<'a, B> {
     ghost use Rattle.bit_set.specs.Walk.{Walk};
-    ghost use Rattle.bit_set.specs.Places.{indexes, past_block, IsSparseWalk};
+    ghost use Rattle.bit_set.specs.Indexes.{indexes, past_block, IsSparseWalk};
 
     ghost Value = { Walk };
 

@@ -23,7 +23,7 @@ pub enum Command {
     Reset(SetName),
     /// Reserve capacity, so that numbers below this one go into a set without memory.
     Reserve(SetName, usize),
-    /// The same, and no more capacity than that.
+    /// Reserve capacity, so that numbers below this one go into a set without memory, and no more.
     ReserveExact(SetName, usize),
     /// Give back the capacity that a set does not need for its numbers.
     Shrink(SetName),
@@ -55,7 +55,7 @@ pub enum Command {
     Compare(SetName, SetName),
     /// What is left of a walk over a set after so many of its numbers: how many, and which.
     RestIter(SetName, usize),
-    /// The same of a walk over what two sets become.
+    /// What is left of a walk over what two sets become after so many of its numbers: how many, and which.
     RestWalk(Merge, SetName, SetName, usize),
 }
 

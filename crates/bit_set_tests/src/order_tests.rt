@@ -299,7 +299,7 @@ fn sorted(rt: &impl Abort, alloc: Global) -> (usize, Option<char>) {
     (names.len(), names.get(&long).copied())
 }
 
-// The same of a map by hashes.
+// How many keys a map by hashes has of these, and what is at a longer set of the same elements.
 fn hashed(rt: &impl Abort, alloc: Global) -> (usize, Option<char>) {
     let mut names = HashMap::new(alloc);
     for (numbers, name) in KEYS {

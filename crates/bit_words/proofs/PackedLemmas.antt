@@ -69,10 +69,10 @@ kept_below w ms rs count n i e within = grind (arith, e, value_at-is, get_or_app
 -- ---- a longer list: its old last block raised, and blocks of ones after it
 
 pub ones_kept : (w : ℕ) (ms rs us : List ℕ) (old len size : ℕ) → 0 < w → size ≡ blocks_for w old → ((i : ℕ) → i / w < size → value_at w rs i ≡ (value_at w ms i || (nat_lt i len && nat_le old i))) → ((i : ℕ) → i / w < size → value_at w us i ≡ value_at w rs i) → (i : ℕ) → i < old → value_at w us i ≡ value_at w ms i
-ones_kept w ms rs us old len size pos count tail_set kept i below = grind (arith, nat_tests, blocks_for-above w old i pos below, kept i, tail_set i)
+ones_kept w ms rs us old len size pos count raised kept i below = grind (arith, nat_tests, blocks_for-above w old i pos below, kept i, raised i)
 
 pub ones_added : (w : ℕ) (ms rs us : List ℕ) (old len size : ℕ) → IsZeroFrom w ms old → ((i : ℕ) → i / w < size → value_at w rs i ≡ (value_at w ms i || (nat_lt i len && nat_le old i))) → ((i : ℕ) → i / w < size → value_at w us i ≡ value_at w rs i) → ((i : ℕ) → size ≤ i / w → value_at w us i ≡ nat_lt i len) → (i : ℕ) → old ≤ i → value_at w us i ≡ nat_lt i len
-ones_added w ms rs us old len size tail tail_set kept added i after = grind (arith, nat_tests, kept i, tail_set i, added i, tail.zero_tail i)
+ones_added w ms rs us old len size tail raised kept added i after = grind (arith, nat_tests, kept i, raised i, added i, tail.zero_tail i)
 
 -- ---- appending zeros
 

@@ -13,7 +13,7 @@ use Rattle.bit_words.specs.Lowest.{IsLowest, IsCleared}
 use Rattle.bit_words.specs.Nonzero.{nonzero_from}
 use Rattle.bit_words.specs.Pending.{CoversUsed, IsInHand, IsStoredFrom, left_from, next_at}
 use Rattle.bit_words.specs.Storage.{value_at}
-use Rattle.bit_words.specs.Summary.{is_used, short_count, KeepsSummary}
+use Rattle.bit_words.specs.Summary.{is_used, short_count, IsStoredSummary}
 use Rattle.bit_words.proofs.BitsLemmas.{blocks_for-least, blocks_for-past}
 use Rattle.bit_words.proofs.Masks.{is_one-bit, is_one-zero}
 use Rattle.bit_words.proofs.NextAtLemmas.{before_first, first_least, first_most}
@@ -99,12 +99,12 @@ module _ {X : Type 0} (w : ℕ) (number : X → ℕ) (is_block : X → Type 0) w
   long_by_stored : (xs summary : List X) → (length xs ≤ short_count w → summary ≡ []) → 0 < length summary → short_count w < length xs
   long_by_stored xs summary short some = grind (arith, short)
 
-  pub stored_from_all : (xs summary : List X) → 0 < w → KeepsSummary w number is_block xs summary → IsStoredFrom w number is_block 0 xs summary
+  pub stored_from_all : (xs summary : List X) → 0 < w → IsStoredSummary w number is_block xs summary → IsStoredFrom w number is_block 0 xs summary
   stored_from_all xs summary pos keeps = record {
     each = stored_each w number is_block xs summary keeps;
     short = keeps.short;
     enough = λ long. let enough = stored_enough w number is_block xs summary pos keeps long in omega (arith, enough);
-    few = λ some. grind (arith, pos, (keeps.long (long_by_stored xs summary keeps.short some)).packed.count, div-mul-le_self (length xs) w);
+    no_more = λ some. grind (arith, pos, (keeps.long (long_by_stored xs summary keeps.short some)).packed.count, div-mul-le_self (length xs) w);
     digit = λ long k. (keeps.long long).digit k ∙ ap (is_used (map number xs)) (let e : k ≡ 0 + k = omega arith in e);
   }
 
@@ -118,9 +118,9 @@ module _ {X : Type 0} (w : ℕ) (number : X → ℕ) (is_block : X → Type 0) w
         each = subst (All is_block) (sym left_is) (All-drop is_block n summary is.each);
         short = λ few. left_is ∙ ap (drop n) (is.short few) ∙ drop_all n [] (omega arith);
         enough = λ long. omega (arith, at, is.enough long, whole (there long));
-        few = λ some.
+        no_more = λ some.
             let within : n ≤ length summary = omega (arith, some, count) in
-            omega (arith, at, is.few (omega (arith, some, count)), whole within);
+            omega (arith, at, is.no_more (omega (arith, some, count)), whole within);
         digit = λ long k.
             ap (λ ys. value_at w (map number ys) k) left_is
             ∙ ap (λ ms. value_at w ms k) (sym (drop-map number n summary))
@@ -134,7 +134,7 @@ module _ {X : Type 0} (w : ℕ) (number : X → ℕ) (is_block : X → Type 0) w
 
   -- they are so many of those that were to come
   pub count_past : (n start to : ℕ) (xs summary : List X) → 0 < w → to ≡ start + n * w → IsStoredFrom w number is_block start xs summary → n ≤ length summary → blocks_for w (length xs - start) ≡ n + blocks_for w (length xs - to)
-  count_past n start to xs summary pos at is there = count_by n start to (length xs) pos at (grind (arith, pos, is.few, mul-le-mul_right w there))
+  count_past n start to xs summary pos at is there = count_by n start to (length xs) pos at (grind (arith, pos, is.no_more, mul-le-mul_right w there))
 
   -- blocks of it that are 0 are about blocks that are
   pub zeros_passed : (n start to : ℕ) (xs summary : List X) → 0 < w → to ≡ start + n * w → IsStoredFrom w number is_block start xs summary → n ≤ length summary → ((k : ℕ) → k < n → get_or (map number summary) k 0 ≡ 0) → left_from number start xs ≡ left_from number to xs
@@ -150,7 +150,7 @@ module _ {X : Type 0} (w : ℕ) (number : X → ℕ) (is_block : X → Type 0) w
   -- none is stored where no blocks are left
   pub stored_ended : (start : ℕ) (xs summary : List X) → IsStoredFrom w number is_block start xs summary → length xs ≤ start → summary ≡ []
   stored_ended start xs [] is end = refl
-  stored_ended start xs (next ∷ rest) is end = absurd (let few = is.few (omega arith) in omega (arith, few, end))
+  stored_ended start xs (next ∷ rest) is end = absurd (let few = is.no_more (omega arith) in omega (arith, few, end))
 
   -- some are stored of many blocks
   pub stored_some : (start : ℕ) (xs summary : List X) → IsStoredFrom w number is_block start xs summary → start < length xs → short_count w < length xs → 1 ≤ length summary

@@ -10,7 +10,7 @@ use Rattle.std.specs.Global.{Vec}
 use Rattle.bit_words.specs.Bits.{Bits, blocks_for, blocks_of}
 use Rattle.bit_words.specs.Digits.{is_one}
 use Rattle.bit_words.specs.Storage.{value_at, values_of, IsPacked, WritesInPlace, WritesValue}
-use Rattle.bit_words.specs.Summary.{is_used, shared_capacity, short_count, stored_for, IsSummary, KeepsSummary, IsStored}
+use Rattle.bit_words.specs.Summary.{is_used, shared_capacity, short_count, stored_for, IsSummary, IsStoredSummary, IsStoredList}
 use Rattle.bit_words.proofs.CapacityLemmas.{shared_enough, stored_long, stored_short}
 use Rattle.bit_words.proofs.BitsLemmas.{blocks_for-below, blocks_for-enough, whole_before}
 use Rattle.bit_words.proofs.CompareLemmas.{zero_from_digits, digit_from_zero}
@@ -97,19 +97,19 @@ summary_of_blocks w f P xs summary pos each count fits digits = summary_of_digit
 
 -- ---- kept with the list
 
-pub keeps_none : {X : Type 0} (w : ℕ) (f : X → ℕ) (P : X → Type 0) (xs summary : List X) → length xs ≤ short_count w → summary ≡ [] → KeepsSummary w f P xs summary
+pub keeps_none : {X : Type 0} (w : ℕ) (f : X → ℕ) (P : X → Type 0) (xs summary : List X) → length xs ≤ short_count w → summary ≡ [] → IsStoredSummary w f P xs summary
 keeps_none w f P xs summary few none = record {
   short = λ _. none;
   long = λ many. absurd (omega arith);
 }
 
-pub keeps_all : {X : Type 0} (w : ℕ) (f : X → ℕ) (P : X → Type 0) (xs summary : List X) → short_count w < length xs → IsSummary w f P xs summary → KeepsSummary w f P xs summary
+pub keeps_all : {X : Type 0} (w : ℕ) (f : X → ℕ) (P : X → Type 0) (xs summary : List X) → short_count w < length xs → IsSummary w f P xs summary → IsStoredSummary w f P xs summary
 keeps_all w f P xs summary many is = record {
   short = λ few. absurd (omega arith);
   long = λ _. is;
 }
 
-pub stored_nil : {X : Type 0} (w : ℕ) (f : X → ℕ) (P : X → Type 0) (xs summary : List X) → 0 < w → xs ≡ [] → summary ≡ [] → IsStored w f P xs summary 0
+pub stored_nil : {X : Type 0} (w : ℕ) (f : X → ℕ) (P : X → Type 0) (xs summary : List X) → 0 < w → xs ≡ [] → summary ≡ [] → IsStoredList w f P xs summary 0
 stored_nil w f P xs summary pos e s = record {
   packed = packed_nil w f P xs pos e;
   summary = record {
@@ -119,14 +119,14 @@ stored_nil w f P xs summary pos e s = record {
 }
 
 -- an empty list has no blocks, and stores no summary
-pub none_stored : {X : Type 0} (w n r : ℕ) (f : X → ℕ) (P : X → Type 0) (xs ss : List X) (v : Bits) → 0 < w → IsStored w f P xs ss n → record { values = values_of w (map f xs) n; capacity = r } ≡ v → length v.values ≡ 0 → (length xs ≡ 0) × (length ss ≡ 0)
+pub none_stored : {X : Type 0} (w n r : ℕ) (f : X → ℕ) (P : X → Type 0) (xs ss : List X) (v : Bits) → 0 < w → IsStoredList w f P xs ss n → record { values = values_of w (map f xs) n; capacity = r } ≡ v → length v.values ≡ 0 → (length xs ≡ 0) × (length ss ≡ 0)
 none_stored w n r f P xs ss v pos stored e none =
     let len = length_from_view w n r (map f xs) v e in
     let count : length xs ≡ 0 = stored.packed.count ∙ ap (blocks_for w) (let z : n ≡ 0 = omega (arith, len, none) in z) ∙ sym (blocks_for-none w pos) in
     (count, ap length (stored.summary.short (omega (arith, count))))
 
 -- a summary has as many blocks as are stored
-pub stored_length : {X : Type 0} (w : ℕ) (f : X → ℕ) (P : X → Type 0) (xs ss : List X) → KeepsSummary w f P xs ss → length ss ≡ stored_for w (length xs)
+pub stored_length : {X : Type 0} (w : ℕ) (f : X → ℕ) (P : X → Type 0) (xs ss : List X) → IsStoredSummary w f P xs ss → length ss ≡ stored_for w (length xs)
 stored_length w f P xs ss kept =
     ⊎_elim
     (λ (many : short_count w < length xs). (kept.long many).packed.count ∙ sym (stored_long w (length xs) many))
@@ -134,15 +134,15 @@ stored_length w f P xs ss kept =
     (cases_lt (short_count w) (length xs))
 
 -- there is capacity for the blocks that there are
-pub stored_each : {X : Type 0} (w : ℕ) (f : X → ℕ) (P : X → Type 0) (xs ss : List X) → KeepsSummary w f P xs ss → All P ss
+pub stored_each : {X : Type 0} (w : ℕ) (f : X → ℕ) (P : X → Type 0) (xs ss : List X) → IsStoredSummary w f P xs ss → All P ss
 stored_each w f P xs ss is = grind (arith, is.long, is.short, All-nil P)
 
-pub stored_enough : {X : Type 0} (w : ℕ) (f : X → ℕ) (P : X → Type 0) (xs ss : List X) → 0 < w → KeepsSummary w f P xs ss → short_count w < length xs → length xs ≤ length ss * w
+pub stored_enough : {X : Type 0} (w : ℕ) (f : X → ℕ) (P : X → Type 0) (xs ss : List X) → 0 < w → IsStoredSummary w f P xs ss → short_count w < length xs → length xs ≤ length ss * w
 stored_enough w f P xs ss pos is long =
     let whole = ap (λ k. k * w) (is.long long).packed.count in
     omega (arith, blocks_for-enough w (length xs) pos, whole)
 
-pub stored_within : {X : Type 0} (w n blocks summary : ℕ) (f : X → ℕ) (P : X → Type 0) (xs ss : List X) → 0 < w → IsStored w f P xs ss n → length xs ≤ blocks → length ss ≤ summary → length xs ≤ shared_capacity w blocks summary
+pub stored_within : {X : Type 0} (w n blocks summary : ℕ) (f : X → ℕ) (P : X → Type 0) (xs ss : List X) → 0 < w → IsStoredList w f P xs ss n → length xs ≤ blocks → length ss ≤ summary → length xs ≤ shared_capacity w blocks summary
 stored_within w n blocks summary f P xs ss pos stored first second =
     shared_enough w blocks summary (length xs) pos first (let count = stored_length w f P xs ss stored.summary in omega arith)
 

@@ -38,7 +38,7 @@ pub record IsStoredFrom {X : Type 0} (w : ℕ) (number : X → ℕ) (is_block : 
   pub each : All is_block summary
   pub short : length xs ≤ short_count w → summary ≡ []
   pub enough : short_count w < length xs → length xs ≤ start + length summary * w
-  pub few : 0 < length summary → start + length summary * w < length xs + w
+  pub no_more : 0 < length summary → start + length summary * w < length xs + w
   pub digit : short_count w < length xs → (k : ℕ)
       → value_at w (map number summary) k ≡ is_used (map number xs) (start + k)
 

@@ -31,16 +31,16 @@ abbrev pub stored_for : ℕ → ℕ → ℕ
 stored_for w count = if nat_le count (short_count w) then 0 else blocks_for w count
 
 -- The blocks xs have this summary, or no stored one where they are few.
-pub record KeepsSummary {X : Type 0} (w : ℕ) (number : X → ℕ) (is_block : X → Type 0) (xs own_summary : List X)
+pub record IsStoredSummary {X : Type 0} (w : ℕ) (number : X → ℕ) (is_block : X → Type 0) (xs own_summary : List X)
     : Type 0 where
   pub short : length xs ≤ short_count w → own_summary ≡ []
   pub long : short_count w < length xs → IsSummary w number is_block xs own_summary
 
 -- The blocks xs hold a list of n values, and this is the summary that is stored of them.
-pub record IsStored {X : Type 0} (w : ℕ) (number : X → ℕ) (is_block : X → Type 0) (xs own_summary : List X)
+pub record IsStoredList {X : Type 0} (w : ℕ) (number : X → ℕ) (is_block : X → Type 0) (xs own_summary : List X)
     (n : ℕ) : Type 0 where
   pub packed : IsPacked w number is_block xs n
-  pub summary : KeepsSummary w number is_block xs own_summary
+  pub summary : IsStoredSummary w number is_block xs own_summary
 
 -- for how many blocks there is capacity, with what is stored of their summary, where there is capacity for so many
 -- blocks of either

@@ -26,7 +26,7 @@ pub use crate::block::masks::clear_below;
 pub use crate::block::merge::Merge;
 pub use crate::block::{BitBlock, operation};
 pub use crate::packed::groups::GROUP;
-pub use crate::packed::mismatch::{
+pub use crate::packed::comparing::{
     first_mismatching_block, lowest_mismatch, mismatch_between, same_blocks,
 };
 pub use crate::packed::searching::{block_or_zero, first_nonzero_block, has_one_from};
@@ -60,7 +60,7 @@ impl<B: BitBlock> Model for BitVec<B> {
     ghost use Rattle.std.specs.Prelude.{map, vec_capacity};
     ghost use Rattle.bit_words.specs.Bits.{Bits, capacity_of};
     ghost use Rattle.bit_words.specs.Storage.{values_of};
-    ghost use Rattle.bit_words.specs.Summary.{shared_capacity, IsStored};
+    ghost use Rattle.bit_words.specs.Summary.{shared_capacity, IsStoredList};
 
     ghost Value = { Bits };
 
@@ -69,7 +69,7 @@ impl<B: BitBlock> Model for BitVec<B> {
       capacity = capacity_of B.width (shared_capacity B.width (vec_capacity v.blocks) (vec_capacity v.summary));
     } };
 
-    ghost invariant = { λ v. IsStored B.width B.number B.is_block v.blocks.items v.summary.items v.len };
+    ghost invariant = { λ v. IsStoredList B.width B.number B.is_block v.blocks.items v.summary.items v.len };
 }
 
 impl<B: BitBlock> BitVec<B> {
@@ -170,7 +170,7 @@ impl<B: BitBlock> BitVec<B> {
         ensures start { StartsPast B.width B.number 0 result }
         ensures fits { IsWithinCapacity self.now }
     {
-        Nonzero::past(self, 0, Unstored::Each)
+        Nonzero::after(self, 0, Unstored::Each)
     }
 
     /// A walk over the blocks past the one with this index, or past the last one where there are fewer, that are not
@@ -189,6 +189,6 @@ impl<B: BitBlock> BitVec<B> {
         ensures fits { IsWithinCapacity self.now }
     {
         let last = self.storage().len().saturating_sub(1);
-        Nonzero::past(self, index.min(last), Unstored::NonzeroPastZero)
+        Nonzero::after(self, index.min(last), Unstored::NonzeroPastZero)
     }
 }

@@ -6,7 +6,7 @@ pub(crate) mod bytes;
 pub(crate) mod copies;
 pub(crate) mod groups;
 pub(crate) mod inclusion;
-pub(crate) mod mismatch;
+pub(crate) mod comparing;
 pub(crate) mod ones;
 pub(crate) mod resizing;
 pub(crate) mod searching;

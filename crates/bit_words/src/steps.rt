@@ -63,7 +63,7 @@ impl Steps {
         }
     }
 
-    /// The same count, which goes on by itself.
+    /// As many steps, counted on by itself.
     #[inline]
     pub fn clone(&self) -> Self
         ensures { result ≡ self.now }

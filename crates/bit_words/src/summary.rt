@@ -5,7 +5,7 @@ ghost use Rattle.std.specs.Prelude.{◌≡◌, ◌≢◌, ℕ, ◌+◌, ◌-◌,
 ghost use Rattle.bit_words.specs.Bits.{blocks_for};
 ghost use Rattle.bit_words.specs.Digits.{is_one};
 ghost use Rattle.bit_words.specs.Storage.{value_at, IsPacked, WritesInPlace, WritesValue};
-ghost use Rattle.bit_words.specs.Summary.{is_used, short_count, stored_for, IsSummary, KeepsSummary, SaysUsed};
+ghost use Rattle.bit_words.specs.Summary.{is_used, short_count, stored_for, IsSummary, IsStoredSummary, SaysUsed};
 
 use crate::block::BitBlock;
 use crate::block::masks::with_one_if;
@@ -16,7 +16,7 @@ use crate::packed::groups::{GROUP, LONG_GROUP};
 use crate::packed::resizing::{append_bits, repeated_bit, truncate_bits};
 use std::alloc::{AllocError, Global};
 
-pub(crate) mod copies_of_both;
+pub(crate) mod copies;
 pub(crate) mod merges;
 pub(crate) mod queries;
 pub(crate) mod shared_capacity;
@@ -58,7 +58,7 @@ pub(crate) fn update_summary_bit<B: BitBlock>(
     requires of_current { B.is_block current }
     requires read { B.number current ≡ get_or (map B.number summary.old.items) (k / B.width) 0 }
     requires of_block { B.is_block block }
-    requires tail_set { bit ≡ true → not (B.number block == 0) ≡ true }
+    requires nonzero { bit ≡ true → not (B.number block == 0) ≡ true }
     ensures value { WritesValue B.width (map B.number summary.old.items) (map B.number summary.new.items) k
         (not (B.number block == 0)) }
     ensures in_place { WritesInPlace B.is_block summary.old summary.new }
@@ -180,7 +180,7 @@ pub(crate) fn uniform_summary<B: BitBlock>(
 ) -> Result<Vec<B>, AllocError>
     requires blocks { All B.is_block blocks.now }
     requires uniform { (k : ℕ) → k < length blocks.now → is_used (map B.number blocks.now) k ≡ bit }
-    ensures summary { IfOk result (λ summary. KeepsSummary B.width B.number B.is_block blocks.now summary.items) }
+    ensures summary { IfOk result (λ summary. IsStoredSummary B.width B.number B.is_block blocks.now summary.items) }
     ensures capacity { IfOk result (λ summary. vec_capacity summary ≡ stored_for B.width (length blocks.now)) }
     ensures short { length blocks.now ≤ short_count B.width → IsOk result }
 {
@@ -208,7 +208,7 @@ fn summarize<B: BitBlock>(summary: &mut Vec<B>, blocks: &[B])
 pub(crate) fn summary_of<B: BitBlock>(alloc: Global, blocks: &[B]) -> Result<Vec<B>, AllocError>
     requires blocks { All B.is_block blocks.now }
     requires fits { length blocks.now < 2 ^ 64 }
-    ensures summary { IfOk result (λ summary. KeepsSummary B.width B.number B.is_block blocks.now summary.items) }
+    ensures summary { IfOk result (λ summary. IsStoredSummary B.width B.number B.is_block blocks.now summary.items) }
     ensures capacity { IfOk result (λ summary. vec_capacity summary ≡ stored_for B.width (length blocks.now)) }
     ensures short { length blocks.now ≤ short_count B.width → IsOk result }
 {
@@ -226,7 +226,7 @@ pub(crate) fn summary_of<B: BitBlock>(alloc: Global, blocks: &[B]) -> Result<Vec
 // capacity for it.
 #[inline]
 pub(crate) fn store_summary<B: BitBlock>(summary: &mut Vec<B>, blocks: &[B], count: usize)
-    requires keeps { KeepsSummary B.width B.number B.is_block blocks.now summary.old.items }
+    requires keeps { IsStoredSummary B.width B.number B.is_block blocks.now summary.old.items }
     requires blocks { All B.is_block blocks.now }
     requires longer { length blocks.now ≤ count }
     requires capacity { stored_for B.width count ≤ vec_capacity summary.old }
@@ -274,7 +274,7 @@ pub(crate) fn append_to_summary<B: BitBlock>(
     requires last { short_count B.width < length blocks.now → bit ≡ false → (k : ℕ) → k < old
         → value_at B.width (map B.number summary.old.items) k ≡ is_used (map B.number blocks.now) k }
     requires after { (k : ℕ) → old ≤ k → k < length blocks.now → is_used (map B.number blocks.now) k ≡ bit }
-    ensures summary { KeepsSummary B.width B.number B.is_block blocks.now summary.new.items }
+    ensures summary { IsStoredSummary B.width B.number B.is_block blocks.now summary.new.items }
     ensures capacity { vec_capacity summary.new ≡ vec_capacity summary.old }
 {
     if is_short::<B>(blocks.len()) {
@@ -294,7 +294,7 @@ pub(crate) fn cut_summary<B: BitBlock>(summary: &mut Vec<B>, blocks: &[B], old: 
     requires shorter { length blocks.now ≤ old }
     requires before { short_count B.width < old → (k : ℕ) → k + 1 < length blocks.now
         → value_at B.width (map B.number summary.old.items) k ≡ is_used (map B.number blocks.now) k }
-    ensures summary { KeepsSummary B.width B.number B.is_block blocks.now summary.new.items }
+    ensures summary { IsStoredSummary B.width B.number B.is_block blocks.now summary.new.items }
     ensures capacity { vec_capacity summary.new ≡ vec_capacity summary.old }
 {
     if is_short::<B>(blocks.len()) {

@@ -107,7 +107,7 @@ const HIGH: Parts = (301, &[200, 300]);
 
 const APART: Parts = (700, &[101, 300, 699]);
 
-// The same of two of these.
+// Whether the first of two lists is within the second, and apart from it.
 fn relations_of<B: BitBlock>(
     rt: &impl Abort,
     alloc: Global,

@@ -50,7 +50,7 @@ fn refilled(walk: &mut Nonzero<'_, u32>, block: u32, index: usize) -> Option<(bo
     Some((is_nonzero, block, index))
 }
 
-// The same without the index, which may be any at the end.
+// Whether a walk refills a block, and which block that is then. The index may be any at the end.
 fn refilled_block(walk: &mut Nonzero<'_, u32>) -> Option<(bool, u32)> {
     let (is_nonzero, block, _) = refilled(walk, 0, 0)?;
     Some((is_nonzero, block))

@@ -5,7 +5,7 @@
 pub enum Ask {
     /// The blocks of a list of this length and their summary, where one is stored, and no more.
     Exact(usize),
-    /// The same where they grow: for each of the two twice what it takes, and 8 blocks at least.
+    /// The blocks and their summary where they grow: for each of the two twice what it takes, and 8 blocks at least.
     Grown(usize),
     /// So many lists, each exactly of this length.
     Lists(usize, usize),

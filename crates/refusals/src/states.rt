@@ -30,7 +30,7 @@ pub enum Capacity {
     Short,
     /// For 5001 places.
     Ample,
-    /// The same, and that is the length too.
+    /// For 5001 places, and that is the length too.
     Long,
 }
 

@@ -41,7 +41,7 @@ fn random_rows(
     rows
 }
 
-// The same numbers in a list.
+// These numbers as a list.
 fn listed(rt: &impl Abort, alloc: Global, numbers: &[usize]) -> Vec<usize> {
     let mut list = Vec::new(alloc);
     ok(rt, list.extend_from_slice(numbers));
@@ -61,7 +61,7 @@ fn set_of<B: BitBlock>(rt: &impl Abort, alloc: Global, numbers: &[usize]) -> Bit
     ok(rt, BitSet::from_iter(alloc, numbers.iter().copied()))
 }
 
-// The same graph, its rows as sets.
+// The graph of these rows, each row as a set.
 fn sets_of<B: BitBlock>(rt: &impl Abort, alloc: Global, rows: &[Vec<usize>]) -> Vec<BitSet<B>> {
     let mut sets = Vec::new(alloc);
     for row in rows {

@@ -5,7 +5,7 @@ ghost use Rattle.bit_words.specs.Bits.{blocks_for, capacity_of, whole_blocks, Is
 ghost use Rattle.bit_words.specs.Growth.{Grows};
 ghost use Rattle.bit_set.specs.Members.{IsSameSet, Updates};
 ghost use Rattle.bit_set.specs.Sets.{bound_of, elements};
-ghost use Rattle.bit_set.specs.Calls.{Change, Changes, outcome_of_result};
+ghost use Rattle.bit_set.specs.Changes.{Change, Changes, outcome_of_result};
 ghost use Rattle.bit_set.specs.Lends.{lends_bits};
 
 use crate::bit_vec::BitVec;

@@ -8,8 +8,8 @@ ghost use Rattle.bit_set.specs.Sets.{elements, has, put, those_below, without};
 ghost use Rattle.bit_set.specs.Members.{HasNone, IsCounted, IsSameSet, KeepsBelow, Updates};
 ghost use Rattle.bit_set.specs.Effects.{TakesIn};
 ghost use Rattle.bit_set.specs.Faults.{IsInsertFault};
-ghost use Rattle.bit_set.specs.Calls.{Change, Changes, outcome_of_result, outcome_of_insert};
-ghost use Rattle.bit_set.specs.Calls.Outcome.{Done, Returned};
+ghost use Rattle.bit_set.specs.Changes.{Change, Changes, outcome_of_result, outcome_of_insert};
+ghost use Rattle.bit_set.specs.Changes.Outcome.{Done, Returned};
 ghost use Rattle.bit_set.specs.Capacity.{IsPastBlocks};
 
 use crate::{BitBlock, BitSet, SetError};

@@ -4,7 +4,7 @@ ghost use Rattle.bit_words.specs.Bits.{blocks_for, capacity_of};
 ghost use Rattle.bit_words.specs.Growth.{Grows};
 ghost use Rattle.bit_set.specs.Sets.{elements, those_below, those_from, union};
 ghost use Rattle.bit_set.specs.Members.{HasNone, IsUnion, KeepsBelow, KeepsFrom};
-ghost use Rattle.bit_set.specs.Calls.{Change, Changes, outcome_of_result};
+ghost use Rattle.bit_set.specs.Changes.{Change, Changes, outcome_of_result};
 
 use crate::{BitBlock, BitSet};
 use std::alloc::{AllocError, Global};

@@ -2,7 +2,7 @@
 ghost use Rattle.std.specs.Prelude.{◌≡◌, ◌+◌, ◌<◌, ◌≤◌, ◌^◌, ◌⊎◌, max, IfSome, All, [], length};
 ghost use Rattle.bit_words.specs.Bits.{blocks_for};
 ghost use Rattle.bit_set.specs.Sets.{elements, merge_of_sets};
-ghost use Rattle.bit_set.specs.Places.{IsMergedPull, IsWalkable, PullsBlock, PullsBlockIf, ones_from, ones_of_merged};
+ghost use Rattle.bit_set.specs.Indexes.{IsMergedPull, IsWalkable, PullsBlock, PullsBlockIf, ones_from, ones_of_merged};
 
 use crate::BitBlock;
 use crate::bit_vec::operation::Operation;
@@ -23,7 +23,7 @@ pub(crate) struct Pairs<'a, B: BitBlock, O: Operation> {
 impl<'a, B: BitBlock, O: Operation> Model for Pairs<'a, B, O> {
     ghost use Rattle.std.specs.Prelude.{◌≡◌, map, max, length, All};
     ghost use Rattle.bit_words.specs.Merges.{merge_of};
-    ghost use Rattle.bit_set.specs.Places.{Ahead, values_in};
+    ghost use Rattle.bit_set.specs.Indexes.{Ahead, values_in};
 
     ghost Value = { Ahead };
 

@@ -36,7 +36,7 @@ pub type SymmetricDifference<'a, B> = TwoSets<'a, B, operation::Symmetric>;
 
 impl<'a, B: BitBlock, O: Operation> Model for TwoSets<'a, B, O> {
     ghost use Rattle.bit_set.specs.Walk.{TwoSetWalk};
-    ghost use Rattle.bit_set.specs.Places.{indexes, IsWalk};
+    ghost use Rattle.bit_set.specs.Indexes.{indexes, IsWalk};
 
     ghost Value = { TwoSetWalk };
 

@@ -10,7 +10,7 @@ use crate::packed::bytes::blocks_of_bytes;
 use crate::packed::copies::copy_of;
 use crate::packed::resizing::repeated_bit;
 use crate::packed::tail_copies::copy_bits_from;
-use crate::summary::copies_of_both::copy_summary_from;
+use crate::summary::copies::copy_summary_from;
 use crate::summary::{summary_of, uniform_summary};
 use std::alloc::{AllocError, AllocFailed, Global};
 use thiserror::Error;

@@ -7,7 +7,7 @@ use crate::bit_vec::BitVec;
 use crate::block::BitBlock;
 use crate::packed::access::{block_at, block_count, block_index, replace_bit};
 use crate::packed::resizing::{append_bits, fill_bits, truncate_bits};
-use crate::summary::copies_of_both::take_over;
+use crate::summary::copies::copy_both;
 use crate::summary::shared_capacity::reserve_shared;
 use crate::summary::{append_to_summary, cut_summary, is_short, store_summary, update_summary_bit};
 use std::alloc::AllocError;
@@ -126,7 +126,7 @@ impl<B: BitBlock> BitVec<B> {
             (self.new.capacity
             ≡ max self.old.capacity (capacity_of B.width (blocks_for B.width (length other.now.values)))) }
     {
-        take_over(
+        copy_both(
             &mut self.blocks,
             &mut self.summary,
             &other.blocks,

@@ -52,7 +52,7 @@ impl<'a, B: BitBlock> Model for Nonzero<'a, B> {
 impl<'a, B: BitBlock> Nonzero<'a, B> {
     // The walk past the block at `first`. Where there is no block, its end.
     #[inline]
-    pub(crate) fn past(bits: &'a BitVec<B>, first: usize, unstored: Unstored) -> Self
+    pub(crate) fn after(bits: &'a BitVec<B>, first: usize, unstored: Unstored) -> Self
         requires inside { first ≤ blocks_for B.width (length bits.now.values) - 1 }
         ensures blocks { map B.number result.blocks ≡ blocks_of B.width bits.now.values }
         ensures each { All B.is_block result.blocks }
@@ -60,7 +60,7 @@ impl<'a, B: BitBlock> Nonzero<'a, B> {
         ensures fits { IsWithinCapacity bits.now }
     {
         let blocks = bits.blocks.as_slice();
-        let pending = Pending::past(blocks, &bits.summary, first, unstored);
+        let pending = Pending::after(blocks, &bits.summary, first, unstored);
         let mut steps = Steps::new();
         steps.tick();
         Nonzero {

@@ -3,7 +3,7 @@ ghost use Rattle.std.specs.Prelude.{◌≡◌, ℕ, ◌+◌, ◌-◌, ◌/◌, �
 ghost use Rattle.bit_words.specs.Bits.{blocks_for};
 ghost use Rattle.bit_words.specs.Digits.{is_one};
 ghost use Rattle.bit_words.specs.Pending.{CoversUsed, Finds, IsPending, IsStoredFrom, left_from, next_at};
-ghost use Rattle.bit_words.specs.Summary.{is_used, KeepsSummary};
+ghost use Rattle.bit_words.specs.Summary.{is_used, IsStoredSummary};
 
 use crate::bit_vec::Blocks;
 use crate::block::BitBlock;
@@ -28,17 +28,17 @@ pub(crate) struct Pending<'a, B: BitBlock> {
 pub(crate) enum Unstored {
     // A bit for each block, zero or not.
     Each,
-    // The same, but where the first block is zero only for those that are not.
+    // A bit for each block, but where the first block is zero only for those that are not.
     NonzeroPastZero,
 }
 
 impl<'a, B: BitBlock> Pending<'a, B> {
     // What is pending past the block at `first`. Where there is no block, nothing.
     #[inline]
-    pub(crate) fn past(blocks: &[B], summary: &'a [B], first: usize, unstored: Unstored) -> Self
+    pub(crate) fn after(blocks: &[B], summary: &'a [B], first: usize, unstored: Unstored) -> Self
         requires each { All B.is_block blocks.now }
         requires fits { length blocks.now < 2 ^ 64 }
-        requires summary { KeepsSummary B.width B.number B.is_block blocks.now summary.now }
+        requires summary { IsStoredSummary B.width B.number B.is_block blocks.now summary.now }
         requires inside { first ≤ length blocks.now - 1 }
         ensures walk { IsPending B.width B.number B.is_block result.index result.bits blocks.now result.summary.left }
         ensures left { left_from B.number (next_at B.width result.index (B.number result.bits)) blocks.now
@@ -58,7 +58,7 @@ impl<'a, B: BitBlock> Pending<'a, B> {
         }
     }
 
-    // The same, whose count of pulls goes on from this one's.
+    // A copy, whose count of pulls goes on from this one's.
     #[inline]
     pub(crate) fn clone(&self) -> Self
         ensures { result ≡ self.now }

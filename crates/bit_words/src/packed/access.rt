@@ -130,8 +130,8 @@ pub(crate) fn set_tail<B: BitBlock>(blocks: &mut Vec<B>, len: usize, end: usize)
     let k = block_index::<B>(len);
     let last = block_at(blocks, k);
     if block_index::<B>(end) == k {
-        let tail_set = with_ones_between(last, index, bit_index::<B>(end));
-        put_block(blocks, k, tail_set);
+        let raised = with_ones_between(last, index, bit_index::<B>(end));
+        put_block(blocks, k, raised);
     } else {
         put_block(blocks, k, with_ones_from(last, index));
     }

@@ -71,7 +71,7 @@ pub(crate) fn filled_with<B: BitBlock>(mut blocks: Vec<B>, more: &[B]) -> Result
     ensures items { IfOk result (λ filled. filled.items ≡ blocks.items ++ more.now) }
     ensures len { IfOk result (λ filled. vec_len filled ≡ vec_capacity blocks) }
     ensures capacity { IfOk result (λ filled. vec_capacity filled ≡ vec_capacity blocks) }
-    ensures full { length more.now ≡ 0 → IsOk result }
+    ensures empty { length more.now ≡ 0 → IsOk result }
 {
     if more.is_empty() {
         return Ok(blocks);
@@ -120,11 +120,11 @@ fn copy_other_count<B: BitBlock>(blocks: &mut Vec<B>, from: &[B])
     ensures capacity { vec_capacity blocks.new ≡ vec_capacity blocks.old }
 {
     blocks.truncate(from.len());
-    let kept = blocks.len();
-    blocks.copy_from_slice(&from[..kept]);
+    let written_over = blocks.len();
+    blocks.copy_from_slice(&from[..written_over]);
     let alloc = *blocks.allocator();
     let owned = replace(blocks, Vec::new(alloc));
-    *blocks = with_blocks(owned, &from[kept..]);
+    *blocks = with_blocks(owned, &from[written_over..]);
 }
 
 // The blocks become those of `from`. There is capacity for them. Where they are as many, which they often are, no

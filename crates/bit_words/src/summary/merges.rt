@@ -4,7 +4,7 @@ ghost use Rattle.std.specs.Prelude.{◌≡◌, ℕ, ◌+◌, ◌*◌, ◌/◌, �
 ghost use Rattle.bit_words.specs.BlockMerges.{CanMerge, HasMerged};
 ghost use Rattle.bit_words.specs.Digits.{is_one};
 ghost use Rattle.bit_words.specs.Storage.{value_at};
-ghost use Rattle.bit_words.specs.Summary.{is_used, IsSummary, KeepsSummary, SaysUsed};
+ghost use Rattle.bit_words.specs.Summary.{is_used, IsSummary, IsStoredSummary, SaysUsed};
 ghost use Rattle.bit_words.specs.declared.block.merge.Merge.{Merge};
 
 use crate::block::BitBlock;
@@ -194,10 +194,10 @@ fn merge_any_length<B: BitBlock, O: Operation>(
     steps: &mut Steps,
 )
     requires can { CanMerge B.is_block blocks.old others.now }
-    requires summary { KeepsSummary B.width B.number B.is_block blocks.old summary.old }
+    requires summary { IsStoredSummary B.width B.number B.is_block blocks.old summary.old }
     ensures has { HasMerged O.merge B.width B.number B.is_block 0 (length blocks.old) blocks.old others.now
         blocks.new }
-    ensures summary { KeepsSummary B.width B.number B.is_block blocks.new summary.new }
+    ensures summary { IsStoredSummary B.width B.number B.is_block blocks.new summary.new }
     ensures summary_len { length summary.new ≡ length summary.old }
     ensures steps { steps.new ≡ steps.old + length blocks.old }
 {
@@ -239,11 +239,11 @@ pub(crate) fn merge_chosen<B: BitBlock>(
     steps: &mut Steps,
 )
     requires can { CanMerge B.is_block blocks.old others.now }
-    requires summary { KeepsSummary B.width B.number B.is_block blocks.old summary.old }
-    requires other_summary { KeepsSummary B.width B.number B.is_block others.now other_summary.now }
+    requires summary { IsStoredSummary B.width B.number B.is_block blocks.old summary.old }
+    requires other_summary { IsStoredSummary B.width B.number B.is_block others.now other_summary.now }
     ensures has { HasMerged merge B.width B.number B.is_block 0 (length blocks.old) blocks.old others.now
         blocks.new }
-    ensures summary { KeepsSummary B.width B.number B.is_block blocks.new summary.new }
+    ensures summary { IsStoredSummary B.width B.number B.is_block blocks.new summary.new }
     ensures summary_len { length summary.new ≡ length summary.old }
     ensures steps { steps.new ≡ steps.old + length blocks.old }
 {

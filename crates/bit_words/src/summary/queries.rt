@@ -2,7 +2,7 @@
 ghost use Rattle.std.specs.Prelude.{◌≡◌, ℕ, ◌*◌, ◌^◌, ◌<◌, ◌≤◌, ◌↔◌, All, IsTrue, get_or, length, map, take, drop, ◌≢◌, ◌-◌};
 ghost use Rattle.bit_words.specs.Storage.{value_at};
 ghost use Rattle.bit_words.specs.Nonzero.{ones_in};
-ghost use Rattle.bit_words.specs.Summary.{is_used, short_count, KeepsSummary};
+ghost use Rattle.bit_words.specs.Summary.{is_used, short_count, IsStoredSummary};
 
 use crate::block::BitBlock;
 use crate::block::operators::same;
@@ -14,7 +14,7 @@ use crate::summary::is_short;
 // Whether all blocks are 0, by the summary where one is stored.
 pub(crate) fn are_zero_by_summary<B: BitBlock>(blocks: &[B], summary: &[B]) -> bool
     requires each { All B.is_block blocks.now }
-    requires summary { KeepsSummary B.width B.number B.is_block blocks.now summary.now }
+    requires summary { IsStoredSummary B.width B.number B.is_block blocks.now summary.now }
     ensures { IsTrue result ↔ All (λ block. B.number block ≡ 0) blocks.now }
 {
     if is_short::<B>(blocks.len()) {
@@ -102,7 +102,7 @@ pub(crate) fn first_blocks<B: BitBlock>(blocks: &[B]) -> (&[B], &[B])
 // How many blocks there are up to the last that is not 0. Where a summary is stored it says among which to look.
 pub(crate) fn used_by_summary<B: BitBlock>(blocks: &[B], summary: &[B]) -> usize
     requires each { All B.is_block blocks.now }
-    requires summary { KeepsSummary B.width B.number B.is_block blocks.now summary.now }
+    requires summary { IsStoredSummary B.width B.number B.is_block blocks.now summary.now }
     ensures within { result ≤ length blocks.now }
     ensures zeros { (k : ℕ) → result ≤ k → get_or (map B.number blocks.now) k 0 ≡ 0 }
     ensures last { 0 < result → get_or (map B.number blocks.now) (result - 1) 0 ≢ 0 }

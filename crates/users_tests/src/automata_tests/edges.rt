@@ -15,7 +15,7 @@ pub(crate) struct Edges<'a> {
     pub(crate) accepting: &'a [usize],
 }
 
-/// The same as sets.
+/// The automaton of these edges.
 pub(crate) fn automaton<B: BitBlock>(rt: &impl Abort, alloc: Global, of: &Edges<'_>) -> Nfa<B> {
     let moves = moves_of(rt, alloc, of);
     let starts = set_of(rt, alloc, of.starts);

@@ -3,7 +3,7 @@ use super::differences::{are_equivalent, differ_by};
 use super::edges::Edges;
 use super::textbook::{EMPTY_WORD, NONE_ACCEPTS, NOTHING, THIRD_FROM_END, ZEROS};
 
-// The same with its states in another order, and one more way to the third from the end.
+// `THIRD_FROM_END` with its states in another order, and one more way to the third from the end.
 const THIRD_FROM_END_AGAIN: Edges<'static> = Edges {
     states: 5,
     symbols: 2,

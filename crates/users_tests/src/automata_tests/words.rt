@@ -92,7 +92,7 @@ pub(crate) fn accept_as_the_model<B: BitBlock>(
     }
 }
 
-// The same of all words of a length.
+// Both accept, of all words of a length, just those that the slow model accepts.
 fn accept_words<B: BitBlock>(
     rt: &impl Abort,
     alloc: Global,

@@ -6,7 +6,7 @@ use Rattle.bit_words.specs.Bounds.{greatest}
 use Rattle.bit_words.specs.Growth.{Grows}
 use Rattle.bit_set.specs.Sets.{elements, has, put}
 use Rattle.bit_set.specs.declared.faults.SetError.{SetError}
-use Rattle.bit_set.proofs.CallLemmas.{changes_inserted}
+use Rattle.bit_set.proofs.ChangeLemmas.{changes_inserted}
 use Rattle.bit_set.proofs.CapacityLemmas.{Grows-changed, Grows-failed, Grows-there}
 use Rattle.bit_set.proofs.MemberLemmas.{count_put, counted, counted_within, updates_put}
 use Rattle.bit_set.proofs.SetLemmas.{elements-padded, elements-set_true}

@@ -10,7 +10,7 @@ all g c =
     let it = c.self.inside in
     let left = ap (λ walk. length walk.left) c.self.view_is in (
       ones_ahead g.B.BitBlock.width g.B.BitBlock.number g.B.BitBlock.is_block (λ x is. (g.met.B.BitBlock.number_law x is).0) it.index it.block it.nonzero c.self.invariant ∙ left,
-      omega (arith, left, c.self.invariant.can.few),
+      omega (arith, left, c.self.invariant.can.count_fits),
     )
 
 pub count_ones-requires-2 : goal.count_ones-requires-2

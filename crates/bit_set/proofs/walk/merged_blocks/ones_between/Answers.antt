@@ -1,5 +1,5 @@
 use Rattle.std.proofs.Common.{◌≡◌, ◌+◌, arith}
-use Rattle.bit_set.specs.Places.{ones_from}
+use Rattle.bit_set.specs.Indexes.{ones_from}
 use Rattle.bit_set.proofs.TallyLemmas.{rows_counted}
 use Rattle.bit_set.proofs.walk.merged_blocks.ones_between.Goals.{After-count_ones-ones}
 use Rattle.bit_set.proofs.walk.merged_blocks.ones_between.Goals as goal

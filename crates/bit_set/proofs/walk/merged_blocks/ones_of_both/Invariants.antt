@@ -1,5 +1,5 @@
 use Rattle.std.proofs.Common.{◌≡◌, ◌+◌, ◌*◌}
-use Rattle.bit_set.specs.Places.{ones_from}
+use Rattle.bit_set.specs.Indexes.{ones_from}
 use Rattle.bit_set.proofs.walk.merged_blocks.ones_of_both.Given as goal
 
 -- the ones so far and those of the blocks past these groups are all

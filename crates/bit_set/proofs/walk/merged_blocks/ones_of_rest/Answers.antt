@@ -1,6 +1,6 @@
 use Rattle.std.proofs.Common.{◌≡◌, ◌+◌, [], drop, arith}
 use Rattle.std.proofs.lemmas.List.{at_drop_all}
-use Rattle.bit_set.specs.Places.{ones_of_merged}
+use Rattle.bit_set.specs.Indexes.{ones_of_merged}
 use Rattle.bit_set.proofs.TallyLemmas.{first_counted, second_counted, rest_counted}
 use Rattle.bit_set.proofs.walk.merged_blocks.ones_of_rest.Goals.{After-count_ones-ones, After-count_ones-ones-in-loop-other}
 use Rattle.bit_set.proofs.walk.merged_blocks.ones_of_rest.Goals as goal

@@ -1,5 +1,5 @@
 use Rattle.std.proofs.Common.{◌≡◌, ◌+◌, [], drop}
-use Rattle.bit_set.specs.Places.{ones_of_merged}
+use Rattle.bit_set.specs.Indexes.{ones_of_merged}
 use Rattle.bit_set.proofs.walk.merged_blocks.ones_of_rest.Given as goal
 
 -- the ones so far and those of the blocks that are left are all that the first side has

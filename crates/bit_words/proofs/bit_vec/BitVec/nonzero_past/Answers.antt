@@ -3,7 +3,7 @@ use Rattle.std.proofs.lemmas.List.{length-map}
 use Rattle.bit_words.proofs.BitsLemmas.{length-blocks_of}
 use Rattle.bit_words.proofs.bit_vec.BitVec.nonzero_past.Goals as goal
 
-pub past-requires : goal.past-requires
-past-requires g c =
+pub after-requires : goal.after-requires
+after-requires g c =
     let count = sym (length-map c.storage.result.now g.B.BitBlock.number) ∙ ap length c.storage.ensures.numbers ∙ length-blocks_of g.B.BitBlock.width c.args.self.now.values in
     record { inside = omega (arith, count, c.min.ensures, c.saturating_sub-last.ensures) }

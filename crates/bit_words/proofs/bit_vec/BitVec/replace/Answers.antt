@@ -105,9 +105,9 @@ update_summary_bit-requires g c =
       of_current = c.block_at-current.ensures.of_block;
       read = rw (← c.block_index.ensures) (rw c.deref.ensures.value at c.block_at-current.ensures.of_number);
       of_block = c.block_at-block.ensures.of_block;
-      tail_set = λ tail_set.
+      nonzero = λ one.
           ap (λ m. not (m == 0)) number
-          ∙ used_at g.B.BitBlock.width _ c.args.i c.block_index-k.result g.met.B.BitBlock.width_law.positive c.block_index-k.ensures (c.replace_bit-was.ensures.value.same ∙ tail_set);
+          ∙ used_at g.B.BitBlock.width _ c.args.i c.block_index-k.result g.met.B.BitBlock.width_law.positive c.block_index-k.ensures (c.replace_bit-was.ensures.value.same ∙ one);
     }
 
 pub invariant_of-self-2 : goal.invariant_of-self-2

@@ -1,5 +1,5 @@
 use Rattle.std.proofs.Common.{◌≡◌, ◌+◌, ◌*◌, true, inl, inr, sym, ◌∙◌, ap₂}
-use Rattle.bit_set.specs.Places.{IsWalk}
+use Rattle.bit_set.specs.Indexes.{IsWalk}
 use Rattle.bit_set.specs.Walk.{GoesOn}
 use Rattle.bit_set.proofs.WalkLemmas.{seen_of_two, went_on}
 use Rattle.bit_set.proofs.walk.two_sets.TwoSets.advance_branchless.Goals as goal

@@ -1,6 +1,6 @@
 use Rattle.std.proofs.Common.{◌≡◌, ◌+◌, ◌<◌, ◌^◌, length, ap, arith}
 use Rattle.bit_set.specs.Sets.{elements}
-use Rattle.bit_set.proofs.PlaceLemmas.{length-indexes}
+use Rattle.bit_set.proofs.IndexLemmas.{length-indexes}
 use Rattle.bit_set.proofs.walk.two_sets.TwoSets.count.Goals.{After-count_ones}
 use Rattle.bit_set.proofs.walk.two_sets.TwoSets.count.Goals as goal
 
@@ -10,7 +10,7 @@ all g c =
     let it = c.self.inside in
     let left = ap (λ walk. length walk.left) c.self.view_is in
     let many = length-indexes g.B.BitBlock.width it.index (g.B.BitBlock.number it.block) it.source.values (g.met.B.BitBlock.number_law it.block c.self.invariant.in_hand).0 in
-    (omega (arith, many, left, c.count_ones.ensures), omega (arith, left, c.self.invariant.can.few))
+    (omega (arith, many, left, c.count_ones.ensures), omega (arith, left, c.self.invariant.can.count_fits))
 
 pub count_ones-requires-2 : goal.count_ones-requires-2
 count_ones-requires-2 g c = let most = all g (goal.at.count_ones-requires-2 g c).After-count_ones in omega (arith, most)

@@ -29,5 +29,5 @@ returns-clause-start g c =
       pulls = omega (arith, c.pull_with_kind-pulled.ensures.steps.counted, c.over-source.ensures.pulls);
       index = refl;
       blocks = at.past ∙ ap (λ n. n - 1) (rw (c.get_ref.ensures, c.get_ref-2.ensures) at c.over-source.ensures.blocks);
-      few = at.walk.can.few;
+      count_fits = at.walk.can.count_fits;
     })

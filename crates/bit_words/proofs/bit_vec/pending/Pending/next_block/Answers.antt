@@ -52,7 +52,7 @@ passed g c =
     let e : reached g c + w ≡ start + n * w = omega (arith, product) in
     let within : reached g c ≤ length xs =
     ⊎_elim
-    (λ some. let few = before.few (omega (arith, some, zeros.there)) in omega (arith, few, mul-le-mul_right w zeros.there, product))
+    (λ some. let few = before.no_more (omega (arith, some, zeros.there)) in omega (arith, few, mul-le-mul_right w zeros.there, product))
     (λ none. let zero : n * w ≡ 0 * w = ap (λ k. k * w) (let e : n ≡ 0 = omega (arith, none) in e) in omega (arith, zero, product, hand.within))
     (cases_lt 0 n) in
     record {

@@ -68,7 +68,7 @@ pub record IsWalkable (w : ℕ) (ahead : Ahead) : Type 0 where
   -- each index of a block past the first can be counted
   pub fits : w * (ahead.blocks - 1) < 2 ^ 64
   pub below : All (λ n. n < 2 ^ 64) (elements ahead.values)
-  pub few : length (elements ahead.values) < 2 ^ 64
+  pub count_fits : length (elements ahead.values) < 2 ^ 64
 
 -- A walk can go over the ones of a block m and of what is ahead, m having index `index` for its first digit.
 pub record CanWalk (w index m : ℕ) (ahead : Ahead) : Type 0 where
@@ -76,7 +76,7 @@ pub record CanWalk (w index m : ℕ) (ahead : Ahead) : Type 0 where
   -- each index of a block past the one in hand can be counted
   pub fits : index + w * ahead.blocks < 2 ^ 64
   pub below : All (λ n. n < 2 ^ 64) (indexes w index m ahead.values)
-  pub few : length (indexes w index m ahead.values) < 2 ^ 64
+  pub count_fits : length (indexes w index m ahead.values) < 2 ^ 64
 
 -- The fields of a walk: the block in hand is a block value, and the walk can go on.
 pub record IsWalk (is_block : Type 0) (w index m : ℕ) (ahead : Ahead) : Type 0 where

@@ -1,5 +1,5 @@
 use Rattle.bit_words.proofs.MismatchLemmas.{none_of_different, different_of_same}
-use Rattle.bit_words.proofs.packed.mismatch.or_mismatch.Goals as goal
+use Rattle.bit_words.proofs.packed.comparing.or_mismatch.Goals as goal
 
 pub returns-clause-none : goal.returns-clause-none
 returns-clause-none g c =

@@ -1,5 +1,5 @@
 use Rattle.bit_words.proofs.MismatchLemmas.{different_some, lowest_mismatch_is}
-use Rattle.bit_words.proofs.packed.mismatch.lowest_mismatch.Goals as goal
+use Rattle.bit_words.proofs.packed.comparing.lowest_mismatch.Goals as goal
 
 pub take_lowest_one-requires-clause-not_zero : goal.take_lowest_one-requires-clause-not_zero
 take_lowest_one-requires-clause-not_zero g c =

@@ -1,6 +1,6 @@
 use Rattle.std.proofs.Common.{length, vec_capacity, arith}
 use Rattle.bit_words.proofs.CapacityLemmas.{stored_from_shared}
-use Rattle.bit_words.proofs.summary.copies_of_both.take_over_any.Goals as goal
+use Rattle.bit_words.proofs.summary.copies.copy_both_general.Goals as goal
 
 pub copy_blocks-requires-then-have_capacity : goal.copy_blocks-requires-then-have_capacity
 copy_blocks-requires-then-have_capacity g c =

@@ -18,7 +18,7 @@ use Rattle.bit_words.specs.Bits.{blocks_of}
 use Rattle.bit_words.specs.Lowest.{IsLowest, IsCleared}
 use Rattle.bit_words.specs.Digits.{is_one}
 use Rattle.bit_set.specs.Sets.{AscendsFrom, elements_from, elements}
-use Rattle.bit_set.specs.Places.{digits_from, values_in, indexes}
+use Rattle.bit_set.specs.Indexes.{digits_from, values_in, indexes}
 use Rattle.std.proofs.lemmas.Bool.Decides.{nat_tests}
 
 -- digits that are 0 are passed over

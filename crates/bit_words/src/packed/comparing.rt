@@ -1,4 +1,4 @@
-// Where lists of blocks differ. A block past the end of a list counts as 0.
+// Whether lists of blocks are the same, and where they differ. A block past the end of a list counts as 0.
 ghost use Rattle.std.specs.Prelude.{◌≡◌, ◌≢◌, ℕ, ◌+◌, ◌*◌, ◌<◌, ◌≤◌, ◌==◌, ◌↔◌, All, IsTrue, MatchOption, get_or, length, map};
 ghost use Rattle.bit_words.specs.Comparisons.{CanCompare};
 ghost use Rattle.bit_words.specs.Mismatches.{IsFirstBlockMismatch, IsLowestMismatch};

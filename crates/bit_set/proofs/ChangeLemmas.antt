@@ -3,9 +3,9 @@ use Rattle.std.proofs.Common.{◌≡◌, ◌≢◌, ℕ, ◌<◌, not, Bool, Lis
 use Rattle.std.proofs.lemmas.Bool.Decides.{nat_tests}
 use Rattle.std.proofs.lemmas.List.Elements.{All-head, All-tail}
 use Rattle.bit_words.specs.Bounds.{greatest}
-use Rattle.bit_set.specs.Calls.{Change, Changes, Event, Happens, Outcome, elements_after, outcome_of_result, outcome_of, outcomes, set_after}
-use Rattle.bit_set.specs.Calls.Change.{Insert, ShrinkToFit}
-use Rattle.bit_set.specs.Calls.Outcome.{NoMemory, Returned}
+use Rattle.bit_set.specs.Changes.{Change, Changes, Event, Happens, Outcome, elements_after, outcome_of_result, outcome_of, outcomes, set_after}
+use Rattle.bit_set.specs.Changes.Change.{Insert, ShrinkToFit}
+use Rattle.bit_set.specs.Changes.Outcome.{NoMemory, Returned}
 use Rattle.bit_set.specs.Sets.{elements, has, put}
 
 -- ---- one call

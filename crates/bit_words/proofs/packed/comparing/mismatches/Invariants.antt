@@ -1,5 +1,5 @@
 use Rattle.std.proofs.Common.{◌≡◌, ℕ, ◌<◌, ◌≤◌, ◌↔◌, get_or, map}
-use Rattle.bit_words.proofs.packed.mismatch.mismatches.Given as goal
+use Rattle.bit_words.proofs.packed.comparing.mismatches.Given as goal
 
 abbrev pub invariant-loop-k : goal.invariant-loop-k
 invariant-loop-k g l = record {

@@ -4,9 +4,9 @@ use Rattle.std.proofs.lemmas.List.{drop_min}
 use Rattle.bit_words.specs.Pending.{IsStoredFrom}
 use Rattle.bit_words.specs.Summary.{short_count}
 use Rattle.bit_words.proofs.PendingLemmas.{IsCutPast, IsInHand-cut, count_from, left-cut, stored_from_all, stored_past, stored_some}
-use Rattle.bit_words.proofs.bit_vec.pending.Pending.past.Given.{Over}
-use Rattle.bit_words.proofs.bit_vec.pending.Pending.past.Goals.{After-over-rest}
-use Rattle.bit_words.proofs.bit_vec.pending.Pending.past.Goals as goal
+use Rattle.bit_words.proofs.bit_vec.pending.Pending.after.Given.{Over}
+use Rattle.bit_words.proofs.bit_vec.pending.Pending.after.Goals.{After-over-rest}
+use Rattle.bit_words.proofs.bit_vec.pending.Pending.after.Goals as goal
 
 -- what is stored of the summary from the block for the first one on
 stored : (g : Over) (c : After-over-rest g) → IsStoredFrom g.B.BitBlock.width g.B.BitBlock.number g.B.BitBlock.is_block (c.args.first / g.B.BitBlock.width * g.B.BitBlock.width) c.args.blocks.now c.over-rest.result.left

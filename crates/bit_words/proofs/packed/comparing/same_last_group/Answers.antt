@@ -1,6 +1,6 @@
 use Rattle.std.proofs.Common.{ℕ, ◌+◌, ◌-◌, get_or, get_or-drop, length, map, ap, ◌∙◌, sym, arith}
 use Rattle.std.proofs.lemmas.List.{drop-map}
-use Rattle.bit_words.proofs.packed.mismatch.same_last_group.Goals as goal
+use Rattle.bit_words.proofs.packed.comparing.same_last_group.Goals as goal
 
 pub returns : goal.returns
 returns g c =

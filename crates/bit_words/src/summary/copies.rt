@@ -1,6 +1,6 @@
 // Copies of blocks together with their summary, whole or from a block on.
 ghost use Rattle.std.specs.Prelude.{◌≡◌, ◌-◌, ◌<◌, All, IfOk, OnErr, OnOk, length, map, max, vec_capacity, ℕ, false};
-ghost use Rattle.bit_words.specs.Summary.{shared_capacity, is_used, short_count, stored_for, KeepsSummary};
+ghost use Rattle.bit_words.specs.Summary.{shared_capacity, is_used, short_count, stored_for, IsStoredSummary};
 ghost use Rattle.bit_words.specs.Storage.{value_at, IsPacked};
 
 use crate::block::BitBlock;
@@ -13,7 +13,7 @@ use std::alloc::{AllocError, Global};
 // The blocks become those of `from`, and so does their summary. Where capacity for either is missing, both are
 // new vectors.
 #[inline]
-pub(crate) fn take_over<B: BitBlock>(
+pub(crate) fn copy_both<B: BitBlock>(
     blocks: &mut Vec<B>,
     summary: &mut Vec<B>,
     from: &[B],
@@ -35,12 +35,12 @@ pub(crate) fn take_over<B: BitBlock>(
         blocks.copy_from_slice(from);
         return Ok(());
     }
-    take_over_any(blocks, summary, from, from_summary)
+    copy_both_general(blocks, summary, from, from_summary)
 }
 
-// The same of any lists. It is a call of its own, so that few registers are saved above.
+// What `copy_both` does, of any lists. It is a call of its own, so that few registers are saved above.
 #[inline(never)]
-fn take_over_any<B: BitBlock>(
+fn copy_both_general<B: BitBlock>(
     blocks: &mut Vec<B>,
     summary: &mut Vec<B>,
     from: &[B],
@@ -65,8 +65,8 @@ fn take_over_any<B: BitBlock>(
     replace_both(blocks, summary, from, from_summary)
 }
 
-// The same where capacity for either is missing. It is a call of its own, so that where it is there no register is
-// saved for what is rare.
+// What `copy_both` does where capacity for either is missing. It is a call of its own, so that where it is there no
+// register is saved for what is rare.
 #[cold]
 #[inline(never)]
 fn replace_both<B: BitBlock>(
@@ -105,7 +105,7 @@ pub(crate) fn copy_summary_from<B: BitBlock>(
     requires before { (q : ℕ) → q < k → is_used (map B.number blocks.now) q ≡ false }
     requires after { short_count B.width < length blocks.now → (q : ℕ) → k < q
         → value_at B.width (map B.number summary.now) q ≡ is_used (map B.number blocks.now) q }
-    ensures summary { IfOk result (λ copy. KeepsSummary B.width B.number B.is_block blocks.now copy.items) }
+    ensures summary { IfOk result (λ copy. IsStoredSummary B.width B.number B.is_block blocks.now copy.items) }
     ensures capacity { IfOk result (λ copy. vec_capacity copy ≡ stored_for B.width (length blocks.now)) }
 {
     if is_short::<B>(blocks.len()) {

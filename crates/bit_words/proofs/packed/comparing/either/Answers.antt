@@ -1,5 +1,5 @@
 use Rattle.bit_words.proofs.MismatchLemmas.{none_of_either, either_of_none}
-use Rattle.bit_words.proofs.packed.mismatch.either.Goals as goal
+use Rattle.bit_words.proofs.packed.comparing.either.Goals as goal
 
 pub returns-clause-none : goal.returns-clause-none
 returns-clause-none g c =
