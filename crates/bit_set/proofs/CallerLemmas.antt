@@ -1,23 +1,9 @@
 -- What a caller cites of sets that are made of chains.
-use Rattle.std.proofs.Common.{◌≡◌, ℕ, ◌+◌, Bool, not, ◌&&◌, ltb, filter, Option, List, [], Result, Bor, refl, sym, ap, ◌∙◌, zero, suc, arith, length, subst}
-use Rattle.std.specs.Prelude.{IfOk}
-use Rattle.std.specs.BTreeMap.{BTreeMap, get_by}
-use Rattle.std.specs.Fn.{Mut, CalledAt}
-use Rattle.std.specs.Iterator.{Drains}
-use Rattle.std.specs.Iterator.Adapters.{filter_source, filter_callee, filter_steps}
-use Rattle.std.specs.List.{range_with_len}
-use Rattle.std.proofs.iter.Yields.{nat_range_steps}
-use Rattle.std.proofs.lemmas.Bool.Decides.{nat_tests}
-use Rattle.std.proofs.lemmas.Iterator.{YieldsList, YieldsList-from_range}
-use Rattle.std.proofs.lemmas.Iterator.Adapters.{fact_from_collect}
-use Rattle.std.proofs.lemmas.Iterator.Consumers.{YieldsList-at, YieldsList-from_filter, YieldsList-from_shown}
-use Rattle.std.proofs.lemmas.Result.{IfOk-weaker}
+use Rattle.std.proofs.{Common.{◌≡◌, ℕ, ◌+◌, Bool, not, ◌&&◌, ltb, filter, Option, List, [], Result, Bor, refl, sym, ap, ◌∙◌, zero, suc, arith, length, subst}, iter.Yields.nat_range_steps, lemmas.Bool.Decides.nat_tests}
+use Rattle.std.{proofs.lemmas.{Iterator.{YieldsList, YieldsList-from_range, Adapters.fact_from_collect, Consumers.{YieldsList-at, YieldsList-from_filter, YieldsList-from_shown}}, Result.IfOk-weaker}, specs.Prelude.IfOk}
+use Rattle.std.specs.{BTreeMap.{BTreeMap, get_by}, Fn.{Mut, CalledAt}, Iterator.{Drains, Adapters.{filter_source, filter_callee, filter_steps}}, List.range_with_len}
 use Rattle.bit_words.specs.Bits.{Bits}
-use Rattle.bit_set.specs.Members.{IsSameSet}
-use Rattle.bit_set.specs.Order.{order_of_sets}
-use Rattle.bit_set.specs.Sets.{bound_of, elements, has, put_all}
-use Rattle.bit_set.specs.Walk.{Walk, Advances}
-use Rattle.bit_set.proofs.SetLemmas.{IsAscending-elements, has-filter, same_members}
+use Rattle.bit_set.{specs.{Members.IsSameSet, Order.order_of_sets, Sets.{bound_of, elements, has, put_all}, Walk.{Walk, Advances}}, proofs.SetLemmas.{IsAscending-elements, has-filter, same_members}}
 
 module _ {S V E : Type 0} {steps : S → Option ℕ → S → Type 0} {s : S} {all : List ℕ} where
   -- what is made of a chain by `from_iter` is made of all that the chain gives

@@ -1,9 +1,5 @@
 -- What the walks give in order, so that std's chains go on from them.
-use Rattle.std.proofs.Common.{List, Option, None, true, length, refl, ap}
-use Rattle.std.specs.Iterator.{Yields, Drains}
-use Rattle.std.specs.Iterator.Runs.{YieldsInOrder, WholeRun}
-use Rattle.std.proofs.iter.runs.Made.{run, to_end}
-use Rattle.std.proofs.iter.runs.Sources.{from_front, as_is}
+use Rattle.std.{proofs.{Common.{List, Option, None, true, length, refl, ap}, iter.runs.{Made.{run, to_end}, Sources.{from_front, as_is}}}, specs.Iterator.{Yields, Drains, Runs.{YieldsInOrder, WholeRun}}}
 use Rattle.bit_set.specs.Walk.{Advances, AdvancesByEach, AdvancesWithBound}
 
 pub runs_of_walk : {w : _} → YieldsInOrder (Advances w) (λ walk. walk.left)

@@ -1,12 +1,8 @@
 -- What one call, and then many, make of a set.
-use Rattle.std.proofs.Common.{◌≡◌, ◌≢◌, ℕ, ◌<◌, not, Bool, List, [], ◌∷◌, map, All, Result, refl, ap, arith}
-use Rattle.std.proofs.lemmas.Bool.Decides.{nat_tests}
-use Rattle.std.proofs.lemmas.List.Elements.{All-head, All-tail}
+use Rattle.std.proofs.{Common.{◌≡◌, ◌≢◌, ℕ, ◌<◌, not, Bool, List, [], ◌∷◌, map, All, Result, refl, ap, arith}, lemmas.{Bool.Decides.nat_tests, List.Elements.{All-head, All-tail}}}
 use Rattle.bit_words.specs.Bounds.{greatest}
-use Rattle.bit_set.specs.Changes.{Change, Changes, Event, Happens, Outcome, elements_after, outcome_of_result, outcome_of, outcomes, set_after}
-use Rattle.bit_set.specs.Changes.Change.{Insert, ShrinkToFit}
-use Rattle.bit_set.specs.Changes.Outcome.{NoMemory, Returned}
-use Rattle.bit_set.specs.Sets.{elements, has, put}
+use Rattle.bit_set.specs.{Changes.{Change, Change.{Insert, ShrinkToFit}, Changes, Event, Happens, Outcome, Outcome.{NoMemory, Returned}, elements_after, outcome_of_result, outcome_of, outcomes, set_after}, Sets.elements}
+use Rattle.bit_set.specs.Sets.{has, put}
 
 -- ---- one call
 

@@ -1,21 +1,10 @@
 -- A walk that starts at any number: what is left of the first block, and of the blocks past it.
 use Rattle.std.proofs.Common.{◌≡◌, ℕ, zero, suc, ◌+◌, ◌-◌, ◌*◌, ◌/◌, ◌%◌, ◌^◌, ◌<◌, ◌≤◌, Bool, false, ◌&&◌, leb, List, ◌∷◌, map, length, drop, get_or, get_or-drop, min, All, refl, sym, ap, ◌∙◌, arith, mod-lt, mul-le-mul_right, div-add-mod'}
-use Rattle.std.proofs.lemmas.Bool.Decides.{nat_tests}
-use Rattle.std.proofs.lemmas.List.{drop-map, get_or_past, length-drop, length-map}
-use Rattle.std.proofs.lemmas.List.Elements.{All-filter}
-use Rattle.std.proofs.lemmas.List.Sums.{count_by-le-length, length-filter}
-use Rattle.std.proofs.lemmas.Nat.Bits.{bit_at-zero}
-use Rattle.bit_words.specs.Bits.{blocks_for, blocks_of}
-use Rattle.bit_words.specs.Nonzero.{Nonzeros, StartsPast}
-use Rattle.bit_words.specs.Digits.{is_one}
-use Rattle.bit_set.specs.Sets.{elements_from, elements, those_from}
-use Rattle.bit_set.specs.Indexes.{indexes, values_in, IsSparseWalk}
-use Rattle.bit_set.specs.Walk.{Walk, IsAtStart, IsAtStartFrom}
-use Rattle.bit_set.proofs.IndexLemmas.{indexes-next, value_in, values_in-blocks_of}
-use Rattle.bit_set.proofs.SetLemmas.{AscendsFrom-elements_from, AscendsFrom-filter, AscendsFrom-lower, has-filter, IsAscending-elements, has-below, has-elements, has-elements_from, same_members}
-use Rattle.bit_set.proofs.SparseLemmas.{seen, whole_index}
-use Rattle.bit_set.proofs.SplitLemmas.{all_from}
-use Rattle.bit_set.proofs.WalkLemmas.{IsWalkable-values_of_blocks, elements-values_of_blocks, values_of_blocks, length-blocks, length-values_of_blocks}
+use Rattle.std.proofs.lemmas.{Bool.Decides.nat_tests, List.{drop-map, get_or_past, length-drop, length-map, Elements.All-filter, Sums.{count_by-le-length, length-filter}}, Nat.Bits.bit_at-zero}
+use Rattle.bit_words.specs.{Bits.{blocks_for, blocks_of}, Nonzero.{Nonzeros, StartsPast}, Digits.is_one}
+use Rattle.bit_set.{specs.{Sets.{elements_from, elements, those_from}, Indexes.{indexes, values_in, IsSparseWalk}, Walk.{Walk, IsAtStart, IsAtStartFrom}}, proofs.IndexLemmas.{indexes-next, value_in, values_in-blocks_of}}
+use Rattle.bit_set.proofs.{SetLemmas.{AscendsFrom-elements_from, AscendsFrom-filter, AscendsFrom-lower, has-filter, IsAscending-elements, has-below, has-elements, has-elements_from, same_members}, SparseLemmas.seen}
+use Rattle.bit_set.proofs.{SparseLemmas.whole_index, SplitLemmas.all_from, WalkLemmas.{IsWalkable-values_of_blocks, elements-values_of_blocks, values_of_blocks, length-blocks, length-values_of_blocks}}
 
 -- the block of a number, or one before, begins at the number or before
 pub begins_by : (w u from n k : ℕ) → u ≡ w → k ≡ min (from / w) n → k * u ≤ from

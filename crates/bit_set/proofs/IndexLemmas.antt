@@ -1,25 +1,11 @@
 -- The indexes of the ones of blocks: a block of zeros, the lowest one, how many there are, and those of a list of truth
 -- values.
 use Rattle.std.proofs.Common.{◌≡◌, ℕ, zero, suc, ◌+◌, ◌-◌, ◌*◌, ◌/◌, ◌%◌, ◌^◌, ◌<◌, ◌≤◌, Bool, true, false, cond, eqb, List, [], ◌∷◌, ◌++◌, length, get_or, All, count_ones, refl, sym, ap, ◌∙◌, subst, inl, inr, arith, ap₂}
-use Rattle.std.specs.Int.{bit_at}
-use Rattle.std.specs.List.{sum_by, range_with_len, count_by}
-use Rattle.std.proofs.lemmas.Bool.{cases_lt}
-use Rattle.std.proofs.lemmas.Nat.Bits.{bit_at-lt}
-use Rattle.std.proofs.lemmas.List.{length-append, get_or_append_left, get_or-append_right}
-use Rattle.std.proofs.lemmas.List.Elements.{All-nil, All-cons}
-use Rattle.std.proofs.lemmas.List.Sums.{sum_by-cons, sum_by-append}
-use Rattle.std.proofs.Math.Nat.{div-add-mod', mod-lt}
-use Rattle.bit_words.proofs.BitsLemmas.{blocks_of-digit, read_back}
-use Rattle.bit_words.proofs.OnesLemmas.{ones_are_digits}
-use Rattle.bit_words.proofs.Masks.{is_one-bit, is_one-zero}
-use Rattle.bit_set.proofs.SetLemmas.{AscendsFrom-elements_from, elements-alike, length-elements-le, length-elements_from_both, length-elements}
-use Rattle.std.proofs.lemmas.List.FromFn.{length-map-range_with_len, get_or-map-range_with_len}
-use Rattle.bit_words.specs.Bits.{blocks_of}
-use Rattle.bit_words.specs.Lowest.{IsLowest, IsCleared}
-use Rattle.bit_words.specs.Digits.{is_one}
-use Rattle.bit_set.specs.Sets.{AscendsFrom, elements_from, elements}
-use Rattle.bit_set.specs.Indexes.{digits_from, values_in, indexes}
-use Rattle.std.proofs.lemmas.Bool.Decides.{nat_tests}
+use Rattle.std.proofs.lemmas.{Bool.{cases_lt, Decides.nat_tests}, Nat.Bits.bit_at-lt, List.{length-append, get_or_append_left, get_or-append_right, Elements.{All-nil, All-cons}, Sums.{sum_by-cons, sum_by-append}}}
+use Rattle.std.{proofs.{lemmas.List.FromFn.{length-map-range_with_len, get_or-map-range_with_len}, Math.Nat.{div-add-mod', mod-lt}}, specs.{Int.bit_at, List.{sum_by, range_with_len, count_by}}}
+use Rattle.bit_words.{proofs.{BitsLemmas.{blocks_of-digit, read_back}, OnesLemmas.ones_are_digits, Masks.{is_one-bit, is_one-zero}}, specs.{Bits.blocks_of, Lowest.{IsLowest, IsCleared}, Digits.is_one}}
+use Rattle.bit_set.{proofs.SetLemmas.{AscendsFrom-elements_from, elements-alike, length-elements-le, length-elements_from_both, length-elements}, specs.{Sets.{AscendsFrom, elements_from, elements}, Indexes.digits_from}}
+use Rattle.bit_set.specs.Indexes.{values_in, indexes}
 
 -- digits that are 0 are passed over
 zeros_passed : (a w p : ℕ) (bs : List Bool) → elements_from p (digits_from 0 a w ++ bs) ≡ elements_from (p + w) bs

@@ -1,14 +1,8 @@
 -- Items that come into a set one by one.
 use Rattle.std.proofs.Common.{◌<◌, ◌≤◌, ◌≡◌, ◌≢◌, ℕ, ◌+◌, ◌↔◌, max, Bool, ◌||◌, List, [], ◌∷◌, ◌++◌, length, sym, ap, ◌∙◌, arith}
-use Rattle.bit_set.specs.Members.{IsSameSet}
-use Rattle.bit_set.specs.Sets.{elements, has, put, put_all, bound_of}
-use Rattle.bit_set.specs.Effects.{TakesIn}
+use Rattle.bit_set.specs.{Members.IsSameSet, Sets.{elements, has, put, put_all, bound_of}, Effects.TakesIn, Faults.IsInsertFault, declared.faults.SetError.{SetError, TheVariants.{Element, Length}}}
+use Rattle.bit_set.proofs.{SizeLemmas.put_all-append, MemberLemmas.members_put_all}
 use Rattle.bit_words.specs.Bounds.{greatest}
-use Rattle.bit_set.specs.Faults.{IsInsertFault}
-use Rattle.bit_set.specs.declared.faults.SetError.{SetError}
-use Rattle.bit_set.specs.declared.faults.SetError.TheVariants.{Element, Length}
-use Rattle.bit_set.proofs.SizeLemmas.{put_all-append}
-use Rattle.bit_set.proofs.MemberLemmas.{members_put_all}
 
 bound_of-push : (items : List ℕ) (n : ℕ) → bound_of (items ++ n ∷ []) ≡ max (bound_of items) (n + 1)
 bound_of-push [] n = omega arith

@@ -1,25 +1,12 @@
 -- Lemmas on the JSON form: the members of an object, the numbers of an array, and what a value spells.
 use Rattle.std.proofs.Common.{◌≡◌, ◌≢◌, ◌==◌, ◌↔◌, ℕ, ◌+◌, ◌-◌, ◌*◌, ◌/◌, ◌%◌, ◌^◌, ◌<◌, Bool, false, codes, is_some, List, [], ◌∷◌, length, map, get_or, All, Option, Some, None, IsTrue, option_map, option_and_then, refl, sym, ap, ◌∙◌, pow_pos, unwrap_or, ok_or, Err, arith}
-use Rattle.std.proofs.lemmas.List.{length-map, get_or-map, ext_get_or}
-use Rattle.std.proofs.lemmas.List.Elements.{All-nil, All-cons, All-head, All-tail, All-map, All-weaker, All-from_get_or}
-use Rattle.std.proofs.lemmas.Bool.Decides.{nat_tests}
-use Rattle.std.proofs.lemmas.Nat.Bits.{bit_at-zero, same_from_bits_below}
-use Rattle.std.proofs.lemmas.Option.{same_Some}
-use Rattle.std.proofs.Math.Nat.{div-add-mod', mod-lt}
-use Rattle.serde_json.specs.Data.{Data, array, member, no_members, number, object, unsigned}
-use Rattle.serde_json.specs.Events.{members_len}
-use Rattle.serde_json.specs.View.{view, items_of, items_view, members_view}
-use Rattle.serde_json.specs.declared.value.Value.{Value}
+use Rattle.std.proofs.lemmas.{List.{length-map, get_or-map, ext_get_or, Elements.{All-nil, All-cons, All-head, All-tail, All-map, All-weaker, All-from_get_or}}, Bool.Decides.nat_tests, Nat.Bits.bit_at-zero}
+use Rattle.std.proofs.{lemmas.{Nat.Bits.same_from_bits_below, Option.same_Some}, Math.Nat.{div-add-mod', mod-lt}}
+use Rattle.serde_json.specs.{Data.{Data, array, member, no_members, number, object, unsigned}, Events.members_len, View.{view, items_of, items_view, members_view}, declared.value.Value.Value, Find.as_object}
 use Rattle.serde_json.proofs.Views.{Entry, members_len-members_view}
-use Rattle.bit_words.specs.Bits.{blocks_for, blocks_of}
-use Rattle.bit_words.specs.Digits.{IsShiftedRight}
-use Rattle.bit_words.proofs.BitsLemmas.{blocks_of-lt, length-blocks_of}
-use Rattle.bit_set.proofs.IndexLemmas.{values_in-blocks_of}
-use Rattle.bit_set.proofs.FilledLemmas.{blocks_of_zero_tail}
-use Rattle.bit_set.specs.declared.json.JsonError.{JsonError}
-use Rattle.bit_set.specs.Json.{HasNumbers, HasZeroTail, IsFault, IsFirstFault, Spells, members_in, number_in, numbers_in, bit_vec_in, storage_in, nbits_in}
-use Rattle.bit_set.specs.Entries.{AreNumbers, AreParts, HasLength, IsEntry, number_of_entry, numbers_of}
-use Rattle.serde_json.specs.Find.{as_object}
+use Rattle.bit_words.{specs.{Bits.{blocks_for, blocks_of}, Digits.IsShiftedRight}, proofs.BitsLemmas.{blocks_of-lt, length-blocks_of}}
+use Rattle.bit_set.{proofs.{IndexLemmas.values_in-blocks_of, FilledLemmas.blocks_of_zero_tail}, specs.{declared.json.JsonError.JsonError, Json.{HasNumbers, HasZeroTail, IsFault, IsFirstFault, Spells, members_in}}}
+use Rattle.bit_set.specs.{Json.{number_in, numbers_in, bit_vec_in, storage_in, nbits_in}, Entries.{AreNumbers, AreParts, HasLength, IsEntry, number_of_entry, numbers_of}}
 
 -- ---- the shape
 

@@ -1,24 +1,10 @@
 -- What the first mismatch of lists of blocks says of the sets that they hold.
-use Rattle.std.proofs.Common.{◌≡◌, ℕ, ◌+◌, ◌*◌, ◌/◌, ◌%◌, ◌^◌, ◌<◌, ◌≤◌, Bool, true, false, not, eqb, List, get_or, length, sym, ap, ◌∙◌, ◌↔◌, subst, inl, inr, arith}
-use Rattle.std.specs.Cmp.Lexicographic.{bytes_decides}
-use Rattle.std.specs.Prelude.{IsTrue}
-use Rattle.std.specs.Int.{bit_at}
-use Rattle.std.proofs.lemmas.Bool.{cases_eq}
-use Rattle.std.proofs.lemmas.Bool.Decides.{nat_tests}
-use Rattle.std.proofs.lemmas.Nat.Bits.{bit_at-lt, bit_at-zero, same_from_bits_below}
-use Rattle.std.proofs.Math.Nat.{div-add-mod', mod-lt, mul-le-mul_right, lt_of_mul-lt-mul_right}
-use Rattle.bit_words.specs.Bits.{blocks_of, digit_of}
-use Rattle.bit_words.specs.Mismatches.{IsFirstBlockMismatch, IsFirstNonzeroBlock, IsLowestMismatch}
-use Rattle.bit_words.proofs.BitsLemmas.{blocks_of-digit, blocks_of-lt, read_back}
+use Rattle.std.proofs.{Common.{◌≡◌, ℕ, ◌+◌, ◌*◌, ◌/◌, ◌%◌, ◌^◌, ◌<◌, ◌≤◌, Bool, true, false, not, eqb, List, get_or, length, sym, ap, ◌∙◌, ◌↔◌, subst, inl, inr, arith}, lemmas.Bool.{cases_eq, Decides.nat_tests}}
+use Rattle.std.{proofs.{lemmas.Nat.{Bits.{bit_at-lt, bit_at-zero, same_from_bits_below}, le-div}, Math.Nat.{div-add-mod', mod-lt, mul-le-mul_right, lt_of_mul-lt-mul_right}}, specs.Cmp.Lexicographic.bytes_decides}
+use Rattle.std.specs.{Prelude.IsTrue, Int.bit_at}
+use Rattle.bit_words.{specs.{Bits.{blocks_of, digit_of}, Mismatches.{IsFirstBlockMismatch, IsFirstNonzeroBlock, IsLowestMismatch}}, proofs.BitsLemmas.{blocks_of-digit, blocks_of-lt, read_back}}
 use Rattle.bit_words.proofs.LowestLemmas.{lowest_found}
-use Rattle.bit_set.specs.Sets.{elements, has}
-use Rattle.bit_set.specs.Mismatches.{IsFirstMismatch}
-use Rattle.bit_set.specs.Order.{same_sets}
-use Rattle.bit_set.proofs.OrderLemmas.{same_where_all_agree}
-use Rattle.bit_set.proofs.SetLemmas.{has-elements}
-use Rattle.bit_set.proofs.SubsetLemmas.{same_tests}
-use Rattle.std.proofs.lemmas.Nat.{le-div}
-use Rattle.bit_set.proofs.ValueLemmas.{has-within}
+use Rattle.bit_set.{specs.{Sets.{elements, has}, Mismatches.IsFirstMismatch, Order.same_sets}, proofs.{OrderLemmas.same_where_all_agree, SetLemmas.has-elements, SubsetLemmas.same_tests, ValueLemmas.has-within}}
 
 -- ---- the blocks of a list of truth values
 

@@ -1,17 +1,8 @@
 -- How two sets compare, from the least number that just one of them has.
-use Rattle.std.proofs.Common.{◌≡◌, ℕ, ◌+◌, ◌<◌, ◌≤◌, Bool, true, false, not, ltb, List, [], ◌∷◌, refl, sym, ap, ◌∙◌, arith, inl, inr, ◌||◌}
-use Rattle.std.proofs.Math.Bool.{not-not}
-use Rattle.std.proofs.lemmas.Bool.{true≢false, lt-ltb, not-false, cases_order, ne_eqb}
-use Rattle.std.specs.Cmp.{nat_cmp_total, tied_itself}
-use Rattle.std.specs.Cmp.Lexicographic.{nat_list_cmp_total, bytes_decides}
-use Rattle.std.specs.Ordering.{ordering_then, ordering_reverse, MatchOrdering}
-use Rattle.std.specs.declared.cmp.Ordering.{Ordering}
-use Rattle.std.specs.declared.cmp.Ordering.TheVariants.{Less, Equal, Greater}
-use Rattle.bit_set.specs.Sets.{elements, has, AscendsFrom}
-use Rattle.bit_set.specs.Order.{order_of_sets, same_sets}
-use Rattle.bit_set.specs.Mismatches.{IsFirstMismatch}
-use Rattle.std.proofs.lemmas.Bool.Decides.{nat_tests}
-use Rattle.bit_set.proofs.SetLemmas.{IsAscending-elements, same_members, has-below, has-first}
+use Rattle.std.proofs.{Common.{◌≡◌, ℕ, ◌+◌, ◌<◌, ◌≤◌, Bool, true, false, not, ltb, List, [], ◌∷◌, refl, sym, ap, ◌∙◌, arith, inl, inr, ◌||◌}, Math.Bool.not-not, lemmas.Bool.{true≢false, lt-ltb, not-false, cases_order}}
+use Rattle.std.{proofs.lemmas.Bool.{ne_eqb, Decides.nat_tests}, specs.{Cmp.{nat_cmp_total, tied_itself, Lexicographic.{nat_list_cmp_total, bytes_decides}}, Ordering.{ordering_then, ordering_reverse, MatchOrdering}}}
+use Rattle.std.specs.declared.cmp.Ordering.{Ordering, TheVariants.{Less, Equal, Greater}}
+use Rattle.bit_set.{specs.{Sets.{elements, has, AscendsFrom}, Order.{order_of_sets, same_sets}, Mismatches.IsFirstMismatch}, proofs.SetLemmas.{IsAscending-elements, same_members, has-below, has-first}}
 
 -- lists with one first number compare as the others do
 pub order-cons : (p : ℕ) (s t : List ℕ) → order_of_sets (p ∷ s) (p ∷ t) ≡ order_of_sets s t

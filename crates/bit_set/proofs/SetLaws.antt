@@ -1,14 +1,8 @@
 -- What `put_all` and `bound_of` do, and the sets of `specs/Sets.antt` as finite sets of std.
-use Rattle.std.proofs.Common.{◌≡◌, ℕ, ◌+◌, ◌<◌, ◌≤◌, Bool, true, false, ◌||◌, List, [], ◌∷◌, length, filter, slice_get, IsTrue, ◌↔◌, Some, sym, ap, ◌∙◌, refl, arith}
-use Rattle.std.proofs.lemmas.Bool.{eqb-true}
-use Rattle.std.proofs.lemmas.Bool.Decides.{nat_tests}
-use Rattle.std.proofs.lemmas.List.{ext_get_or, get_or_past}
-use Rattle.std.proofs.lemmas.Option.{get_or_from_slice_get, slice_get_cases}
-use Rattle.std.specs.Cmp.{nat_cmp_total, unsigned_tied}
-use Rattle.std.specs.Ordering.{nat_cmp, is_eq}
+use Rattle.std.proofs.{Common.{◌≡◌, ℕ, ◌+◌, ◌<◌, ◌≤◌, Bool, true, false, ◌||◌, List, [], ◌∷◌, length, filter, slice_get, IsTrue, ◌↔◌, Some, sym, ap, ◌∙◌, refl, arith}, lemmas.Bool.{eqb-true, Decides.nat_tests}}
+use Rattle.std.{proofs.lemmas.{List.{ext_get_or, get_or_past}, Option.{get_or_from_slice_get, slice_get_cases}}, specs.{Cmp.{nat_cmp_total, unsigned_tied}, Ordering.{nat_cmp, is_eq}}}
 use Rattle.std.specs.FinSet as set
-use Rattle.bit_set.specs.Sets.{AscendsFrom, IsAscending, has, put, without, elements, put_all, bound_of}
-use Rattle.bit_set.proofs.SetLemmas.{AscendsFrom-put, has-below, has-put, has-filter, has-without, has-elements, same_members}
+use Rattle.bit_set.{specs.Sets.{AscendsFrom, IsAscending, has, put, without, elements, put_all, bound_of}, proofs.SetLemmas.{AscendsFrom-put, has-below, has-put, has-filter, has-without, has-elements, same_members}}
 
 pub has-put_all : (s items : List ℕ) (m : ℕ) → has (put_all s items) m ≡ (has items m || has s m)
 has-put_all s [] m = refl

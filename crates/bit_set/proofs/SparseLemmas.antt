@@ -1,21 +1,10 @@
 -- A walk that goes by the blocks that are not 0: its making, the step to the next such block, and the end.
 use Rattle.std.proofs.Common.{◌≡◌, ℕ, ◌+◌, ◌-◌, ◌*◌, ◌/◌, ◌^◌, ◌<◌, ◌≤◌, ◌==◌, true, false, not, if◌then◌else◌, List, [], ◌∷◌, length, drop, All, Some, None, count_ones, refl, sym, ap, ◌∙◌, subst, arith, inl, inr, ap₂}
-use Rattle.std.proofs.lemmas.Bool.{cases_eq, true≢false, cond_both, eqb-true, eqb-false, ne_eqb, eq-eqb}
-use Rattle.std.proofs.lemmas.Bool.Decides.{nat_tests}
-use Rattle.std.proofs.lemmas.Nat.{div-mul-add, ones_le_self}
-use Rattle.std.proofs.lemmas.List.{drop_all, length-drop}
-use Rattle.std.proofs.lemmas.List.Elements.{All-drop, All-head, All-tail}
-use Rattle.std.proofs.lemmas.List.Sums.{sum_by-cons}
-use Rattle.std.proofs.Math.Seq.{drop-drop}
-use Rattle.bit_words.specs.Lowest.{IsLowest, IsCleared}
-use Rattle.bit_words.specs.Nonzero.{Nonzeros, PullsNonzero, Refills, nonzero_from, ones_left}
-use Rattle.bit_set.specs.Sets.{AscendsFrom, elements_from, elements}
-use Rattle.bit_set.specs.Indexes.{indexes, past_block, IsSparseWalk}
-use Rattle.bit_set.specs.Walk.{Walk, Advances}
-use Rattle.bit_set.proofs.MemberLemmas.{takes_least}
-use Rattle.bit_set.proofs.IndexLemmas.{AscendsFrom-indexes, indexes-zero, indexes-next, indexes-lowest, length-indexes, length-elements-block}
-use Rattle.std.proofs.Math.Nat.{mul-div_cancel}
-use Rattle.bit_set.proofs.WalkLemmas.{values_of_blocks, length-values_of_blocks, CanWalk-taken, CanWalk-moved}
+use Rattle.std.proofs.lemmas.{Bool.{cases_eq, true≢false, cond_both, eqb-true, eqb-false, ne_eqb, eq-eqb, Decides.nat_tests}, Nat.{div-mul-add, ones_le_self}, List.{drop_all, length-drop, Elements.{All-drop, All-head}}}
+use Rattle.std.proofs.{lemmas.List.{Elements.All-tail, Sums.sum_by-cons}, Math.{Seq.drop-drop, Nat.mul-div_cancel}}
+use Rattle.bit_words.specs.{Lowest.{IsLowest, IsCleared}, Nonzero.{Nonzeros, PullsNonzero, Refills, nonzero_from, ones_left}}
+use Rattle.bit_set.{specs.{Sets.{AscendsFrom, elements_from, elements}, Indexes.{indexes, past_block, IsSparseWalk}, Walk.{Walk, Advances}}, proofs.{MemberLemmas.takes_least, IndexLemmas.AscendsFrom-indexes}}
+use Rattle.bit_set.proofs.{IndexLemmas.{indexes-zero, indexes-next, indexes-lowest, length-indexes, length-elements-block}, WalkLemmas.{values_of_blocks, length-values_of_blocks, CanWalk-taken, CanWalk-moved}}
 
 -- ---- the first block that is not 0
 

@@ -1,9 +1,7 @@
 -- A set in two parts: those below a number, and the others.
-use Rattle.std.proofs.Common.{◌≡◌, ℕ, ◌-◌, ◌<◌, ◌≤◌, max, min, false, ltb, if◌then◌else◌, nat_lt, nat_le, List, Bool, [], ◌++◌, length, drop, replicate, ap₂, ◌∙◌, arith, IsTrue}
-use Rattle.std.proofs.lemmas.Bool.Decides.{nat_tests}
+use Rattle.std.proofs.{Common.{◌≡◌, ℕ, ◌-◌, ◌<◌, ◌≤◌, max, min, false, ltb, if◌then◌else◌, nat_lt, nat_le, List, Bool, [], ◌++◌, length, drop, replicate, ap₂, ◌∙◌, arith, IsTrue}, lemmas.Bool.Decides.nat_tests}
 use Rattle.std.proofs.lemmas.List.{get_or-drop, get_or-replicate, get_or_append_left, get_or-append_right, get_or_past, length-replicate}
-use Rattle.bit_set.specs.Sets.{IsAscending, has, elements, those_below, those_from, union}
-use Rattle.bit_set.proofs.SetLemmas.{AscendsFrom-filter, IsAscending-elements, elements-kept, has-filter, same_members}
+use Rattle.bit_set.{specs.Sets.{IsAscending, has, elements, those_below, those_from, union}, proofs.SetLemmas.{AscendsFrom-filter, IsAscending-elements, elements-kept, has-filter, same_members}}
 use Rattle.bit_set.proofs.SetLaws.{IsAscending-put_all, has-put_all, same_values}
 
 pub elements-tail : (bs : List Bool) (n : ℕ) → elements (replicate n false ++ drop n bs) ≡ those_from (elements bs) n

@@ -1,12 +1,7 @@
 -- What a bit vector does to the set that it keeps.
-use Rattle.std.proofs.Common.{◌≡◌, ℕ, ◌<◌, ◌≤◌, Bool, true, false, ◌↔◌, ltb, List, [], length, set, take, replicate, slice_get, Some, sym, ap, ◌∙◌, arith, length-take}
-use Rattle.std.specs.Option.{unwrap_or}
-use Rattle.std.specs.List.{All}
-use Rattle.std.proofs.lemmas.Bool.Decides.{nat_tests}
-use Rattle.std.proofs.lemmas.List.{get_or-take, get_or_default, get_or_past, set-get_or}
-use Rattle.std.proofs.lemmas.Option.{get_or_from_slice_get, unwrap_or-slice_get}
-use Rattle.bit_set.specs.Sets.{has, elements, those_below}
-use Rattle.bit_set.proofs.SetLemmas.{has-elements, elements-by_members, elements-kept, elements-padded}
+use Rattle.std.proofs.{Common.{◌≡◌, ℕ, ◌<◌, ◌≤◌, Bool, true, false, ◌↔◌, ltb, List, [], length, set, take, replicate, slice_get, Some, sym, ap, ◌∙◌, arith, length-take}, lemmas.{Bool.Decides.nat_tests, List.get_or-take}}
+use Rattle.std.{proofs.lemmas.{List.{get_or_default, get_or_past, set-get_or}, Option.{get_or_from_slice_get, unwrap_or-slice_get}}, specs.{Option.unwrap_or, List.All}}
+use Rattle.bit_set.{specs.Sets.{has, elements, those_below}, proofs.SetLemmas.{has-elements, elements-by_members, elements-kept, elements-padded}}
 
 pub has-slice_get : (bs : List Bool) (k : ℕ) → unwrap_or (slice_get bs k) false ≡ has (elements bs) k
 has-slice_get bs k = unwrap_or-slice_get bs k false ∙ sym (has-elements bs k)

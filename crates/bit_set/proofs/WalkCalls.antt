@@ -1,20 +1,8 @@
 -- What walks over two sets give, and what `eq`, `max`, `min` and `find` of a walk return.
-use Rattle.std.proofs.Common.{◌≡◌, ℕ, List, [], ◌∷◌, Bool, true, false, ◌&&◌, Option, nat_eq, sym, ap, ap₂, ◌∙◌, subst, length, Bor, IsTrue, MatchOption, arith}
-use Rattle.std.specs.Fn.{Mut, CalledAt}
-use Rattle.std.specs.Option.{IfSome}
-use Rattle.std.specs.List.{AllZip}
-use Rattle.std.specs.Ordering.{max_by_ordering, min_by_ordering, nat_cmp}
-use Rattle.std.specs.Cmp.Lexicographic.{pointwise}
-use Rattle.std.specs.Iterator.{AlwaysYields, YieldsThen, ComparesItemsByEq, FindsItem, PicksByCmp}
-use Rattle.std.proofs.lemmas.Iterator.{YieldsList}
-use Rattle.std.proofs.lemmas.Iterator.Adapters.{option_map_id}
-use Rattle.std.proofs.lemmas.Iterator.Consumers.{YieldsList-from_shown, max_from_yields_List, min_from_yields_List}
-use Rattle.std.proofs.lemmas.Iterator.Search.{find_from_yields_List}
-use Rattle.bit_set.specs.Choices.{IsGreatest, IsLeast, IsLeastPassing}
-use Rattle.bit_set.specs.Members.{HasNone}
-use Rattle.bit_set.specs.Order.{same_sets}
-use Rattle.bit_set.specs.Sets.{IsAscending, has}
-use Rattle.bit_set.specs.Walk.{TwoSetWalk, BoundedWalk, AdvancesByEach, AdvancesWithBound}
+use Rattle.std.proofs.{Common.{◌≡◌, ℕ, List, [], ◌∷◌, Bool, true, false, ◌&&◌, Option, nat_eq, sym, ap, ap₂, ◌∙◌, subst, length, Bor, IsTrue, MatchOption, arith}, lemmas.Iterator.{YieldsList, Adapters.option_map_id}}
+use Rattle.std.{proofs.lemmas.Iterator.{Consumers.{YieldsList-from_shown, max_from_yields_List, min_from_yields_List}, Search.find_from_yields_List}, specs.{Fn.{Mut, CalledAt}, Option.IfSome, List.AllZip}}
+use Rattle.std.specs.{Ordering.{max_by_ordering, min_by_ordering, nat_cmp}, Cmp.Lexicographic.pointwise, Iterator.{AlwaysYields, YieldsThen, ComparesItemsByEq, FindsItem, PicksByCmp}}
+use Rattle.bit_set.specs.{Choices.{IsGreatest, IsLeast, IsLeastPassing}, Members.HasNone, Order.same_sets, Sets.{IsAscending, has}, Walk.{TwoSetWalk, BoundedWalk, AdvancesByEach, AdvancesWithBound}}
 use Rattle.bit_set.proofs.TestLemmas.{finds, greatest_of, least_of}
 
 -- ---- what a walk gives

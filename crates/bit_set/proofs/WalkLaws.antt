@@ -1,22 +1,11 @@
 -- What whole walks give, by one step after another, how often they pull, and which blocks they pass.
 use Rattle.std.proofs.Common.{◌≡◌, ℕ, ◌+◌, ◌-◌, ◌*◌, ◌/◌, ◌<◌, ◌≤◌, max, Bool, List, [], ◌∷◌, length, Option, Some, None, refl, sym, ap, ◌∙◌, arith, ◌==◌, ◌&&◌, false, nat_lt, if◌then◌else◌, map, div-add-mod', ap₂, subst, ◌++◌, take, cond, ◌||◌, drop}
-use Rattle.std.specs.Iterator.{Yields, YieldsFirst, YieldsThen, Drains}
-use Rattle.std.proofs.Math.Bool.{or-false, and-false}
-use Rattle.std.proofs.Math.Nat.{mod-lt, lt_of_mul-lt-mul_left, zero-div}
-use Rattle.std.proofs.lemmas.Nat.{le-div}
-use Rattle.std.proofs.lemmas.Bool.{ne_eqb, cond_both, ltb-true}
-use Rattle.bit_words.specs.Bits.{blocks_for}
-use Rattle.bit_words.specs.declared.block.merge.Merge.{Merge}
-use Rattle.bit_set.specs.Agreement.{WalksAgree}
-use Rattle.bit_set.specs.Sets.{IsAscending, has, elements, put_all, merge_of_sets, AscendsFrom}
-use Rattle.bit_set.specs.Walk.{Walk, TwoSetWalk, Advances, AdvancesByEach, IsWalkedOut, IsWalkedOutByEach, IsAtStart, StartsOverTwo, WalksOverTwo, blocks_past}
-use Rattle.bit_set.proofs.SetLemmas.{same_members, IsAscending-elements, at_cond}
-use Rattle.bit_set.proofs.SetLaws.{has-put_all, IsAscending-put_all}
-use Rattle.bit_set.proofs.AlgebraLemmas.{IsAscending-merge_of_sets}
-use Rattle.std.proofs.lemmas.Bool.Decides.{nat_tests}
-use Rattle.std.proofs.Math.Seq.{drop-append_seam, take-append_seam}
-use Rattle.std.proofs.lemmas.List.{append-nil}
-use Rattle.bit_set.proofs.SparseLemmas.{whole_index}
+use Rattle.std.proofs.{Math.{Bool.{or-false, and-false}, Nat.{mod-lt, lt_of_mul-lt-mul_left, zero-div}, Seq.{drop-append_seam, take-append_seam}}, lemmas.{Nat.le-div, Bool.{ne_eqb, cond_both, ltb-true}}}
+use Rattle.std.{proofs.lemmas.{Bool.Decides.nat_tests, List.append-nil}, specs.Iterator.{Yields, YieldsFirst, YieldsThen, Drains}}
+use Rattle.bit_words.specs.{Bits.blocks_for, declared.block.merge.Merge.Merge}
+use Rattle.bit_set.specs.{Agreement.WalksAgree, Sets.{IsAscending, has, elements, put_all, merge_of_sets, AscendsFrom}, Walk.{Walk, TwoSetWalk, Advances, AdvancesByEach, IsWalkedOut, IsWalkedOutByEach, IsAtStart}}
+use Rattle.bit_set.{specs.Walk.{StartsOverTwo, WalksOverTwo, blocks_past}, proofs.{SetLemmas.{same_members, IsAscending-elements, at_cond}, SetLaws.{has-put_all, IsAscending-put_all}}}
+use Rattle.bit_set.proofs.{AlgebraLemmas.IsAscending-merge_of_sets, SparseLemmas.whole_index}
 
 -- ---- calls of any kind
 

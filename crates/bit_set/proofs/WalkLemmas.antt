@@ -1,20 +1,12 @@
 -- What a pull and a taken item do to a walk.
 use Rattle.std.proofs.Common.{◌≡◌, ℕ, ◌+◌, ◌-◌, ◌*◌, ◌^◌, ◌<◌, ◌≤◌, ◌/◌, Bool, List, [], ◌∷◌, ◌++◌, map, length, All, Option, Some, None, true, false, ◌⊎◌, inl, inr, refl, count_ones, sym, ap, ◌∙◌, subst, arith}
-use mir.Val.{bool_byte}
-use Rattle.std.specs.Prelude.{IfSome}
-use Rattle.std.specs.Option.{SomeIff, unwrap_or}
+use Rattle.std.{proofs.{Math.Nat.{mul-suc, mul-le-mul_left, mul-div-le}, lemmas.List.{length-map, Elements.{All-nil, All-head, All-tail, All-same, All-rest}}}, specs.{Prelude.IfSome, Option.{SomeIff, unwrap_or}}}
 use Rattle.std.specs.Iterator.{UpTo, at_most, YieldsFirst}
-use Rattle.std.proofs.Math.Nat.{mul-suc, mul-le-mul_left, mul-div-le}
-use Rattle.std.proofs.lemmas.List.{length-map}
-use Rattle.std.proofs.lemmas.List.Elements.{All-nil, All-head, All-tail, All-same, All-rest}
-use Rattle.bit_words.specs.Bits.{blocks_of, blocks_for}
-use Rattle.bit_words.specs.Lowest.{IsLowest, IsCleared}
-use Rattle.bit_words.proofs.BitsLemmas.{length-blocks_of}
-use Rattle.bit_set.specs.Sets.{elements_from, elements}
-use Rattle.bit_set.specs.Walk.{GoesOn, TwoSetWalk}
-use Rattle.bit_set.specs.Indexes.{digits_from, values_in, indexes, Ahead, PullsBlock, PullsBlockIf, IsWalkable, CanWalk, IsWalk}
-use Rattle.bit_set.proofs.SetLemmas.{length-elements-le}
-use Rattle.bit_set.proofs.IndexLemmas.{indexes-zero, indexes-next, indexes-lowest, length-digits_from, length-values_in, length-indexes-le, length-elements-block, elements-blocks_of, elements-below}
+use mir.Val.{bool_byte}
+use Rattle.bit_words.{specs.{Bits.{blocks_of, blocks_for}, Lowest.{IsLowest, IsCleared}}, proofs.BitsLemmas.length-blocks_of}
+use Rattle.bit_set.specs.{Sets.{elements_from, elements}, Walk.{GoesOn, TwoSetWalk}, Indexes.{digits_from, values_in, indexes, Ahead, PullsBlock, PullsBlockIf, IsWalkable, CanWalk, IsWalk}}
+use Rattle.bit_set.proofs.{SetLemmas.length-elements-le, IndexLemmas.{indexes-zero, indexes-next, indexes-lowest, length-digits_from, length-values_in, length-indexes-le, length-elements-block, elements-blocks_of}}
+use Rattle.bit_set.proofs.IndexLemmas.{elements-below}
 
 -- a pull takes one block on
 pub pulled_along : (index w m n : ℕ) → n ≡ m + 1 → index + w + w * m ≡ index + w * n

@@ -1,6 +1,5 @@
 -- Walks of one kind over two block types.
-use Rattle.std.specs.Prelude.{◌≡◌, ℕ, List, length, Option, None}
-use Rattle.std.specs.Iterator.{Yields, YieldsThen}
+use Rattle.std.specs.{Prelude.{◌≡◌, ℕ, List, length, Option, None}, Iterator.{Yields, YieldsThen}}
 
 -- Two walks, of which contracts see an S and a T, and what is left of each. Where that is the same, they give the same.
 pub record WalksAgree {S T : Type 0} (left : S → List ℕ) (next : S → Option ℕ → S → Type 0)

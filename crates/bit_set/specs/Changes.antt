@@ -1,9 +1,7 @@
 -- What calls make of the elements of a set, and what they return. No block, length or capacity occurs in it.
 use Rattle.std.specs.Prelude.{◌≡◌, ℕ, ◌==◌, not, if◌then◌else◌, Bool, List, [], ◌∷◌, Result, Ok, Err}
-use Rattle.bit_set.specs.declared.faults.SetError.{SetError}
-use Rattle.bit_set.specs.declared.faults.SetError.TheVariants.{Element, Length, Memory}
+use Rattle.bit_set.specs.{declared.faults.SetError.{SetError, TheVariants.{Element, Length, Memory}}, Sets.{difference, elements, has, intersection, put, put_all, symmetric_difference, those_below, union, without}}
 use Rattle.bit_words.specs.Bounds.{greatest}
-use Rattle.bit_set.specs.Sets.{difference, elements, has, intersection, put, put_all, symmetric_difference, those_below, union, without}
 
 -- a call that changes a set, with what it is given: numbers, and of a second set its elements
 pub data Change : Type 0 where

@@ -1,8 +1,6 @@
 -- The entries of an array of JSON beside the numbers that they spell. No public clause cites this.
 use Rattle.std.specs.Prelude.{◌≡◌, ◌≢◌, ℕ, ◌+◌, ◌^◌, ◌<◌, Bool, false, ◌||◌, List, length, map, get_or, All, Some, unwrap_or}
-use Rattle.serde_json.specs.Data.{Data, Items, number, unsigned}
-use Rattle.serde_json.specs.View.{view}
-use Rattle.serde_json.specs.declared.value.Value.{Value}
+use Rattle.serde_json.specs.{Data.{Data, Items, number, unsigned}, View.view, declared.value.Value.Value}
 use Rattle.bit_words.specs.Digits.{is_one}
 use Rattle.bit_set.specs.Json.{HasShape, number_in, storage_in, nbits_in}
 

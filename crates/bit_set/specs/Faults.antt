@@ -1,10 +1,8 @@
 -- Why a set does not take a number in.
 use Rattle.std.specs.Prelude.{◌≡◌, ℕ, ◌<◌, ◌≤◌}
-use Rattle.bit_words.specs.Bounds.{greatest}
-use Rattle.bit_words.specs.declared.bit_vec.constructors.BitsError.{BitsError}
+use Rattle.bit_words.specs.{Bounds.greatest, declared.bit_vec.constructors.BitsError.BitsError}
 use Rattle.bit_words.specs.declared.bit_vec.constructors.BitsError.TheVariants.{Length as BitsLength, Memory as BitsMemory}
-use Rattle.bit_set.specs.declared.faults.SetError.{SetError}
-use Rattle.bit_set.specs.declared.faults.SetError.TheVariants.{Element, Length, Memory}
+use Rattle.bit_set.specs.declared.faults.SetError.{SetError, TheVariants.{Element, Length, Memory}}
 
 -- the fault of a set where its bit vector has this one
 abbrev pub of_bits : BitsError → SetError

@@ -1,10 +1,6 @@
 -- Where the ones of blocks are. No public clause cites this.
-use Rattle.std.specs.Prelude.{◌≡◌, ℕ, ◌+◌, ◌-◌, ◌*◌, ◌/◌, ◌^◌, ◌<◌, ◌≤◌, Bool, true, false, List, [], ◌++◌, map, length, drop, All, Option, Some, None, MatchOption, IsSomeAnd}
-use Rattle.std.specs.List.{range_with_len, flat_map}
-use Rattle.bit_words.specs.Digits.{is_one}
-use Rattle.bit_words.specs.Nonzero.{Nonzeros, nonzero_from}
-use Rattle.bit_words.specs.Merges.{merge_of_values, merge_of}
-use Rattle.bit_words.specs.declared.block.merge.Merge.{Merge}
+use Rattle.std.specs.{Prelude.{◌≡◌, ℕ, ◌+◌, ◌-◌, ◌*◌, ◌/◌, ◌^◌, ◌<◌, ◌≤◌, Bool, true, false, List, [], ◌++◌, map, length, drop, All, Option, Some, None, MatchOption, IsSomeAnd}, List.{range_with_len, flat_map}}
+use Rattle.bit_words.specs.{Digits.is_one, Nonzero.{Nonzeros, nonzero_from}, Merges.{merge_of_values, merge_of}, declared.block.merge.Merge.Merge}
 use Rattle.bit_set.specs.Sets.{elements_from, elements}
 
 -- the w binary digits of m from digit a on, as truth values

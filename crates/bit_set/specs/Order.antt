@@ -1,9 +1,5 @@
 -- How sets compare: as the lists of their members in ascending order, and by nothing else.
-use Rattle.std.specs.Prelude.{ℕ, Bool, List, nat_eq}
-use Rattle.std.specs.List.{flat_map}
-use Rattle.std.specs.Cmp.Lexicographic.{pointwise, slice_cmp}
-use Rattle.std.specs.Ordering.{nat_cmp}
-use Rattle.std.specs.declared.cmp.Ordering.{Ordering}
+use Rattle.std.specs.{Prelude.{ℕ, Bool, List, nat_eq}, List.flat_map, Cmp.Lexicographic.{pointwise, slice_cmp}, Ordering.nat_cmp, declared.cmp.Ordering.Ordering}
 use Rattle.std.specs.Hash as fed
 
 -- whether two sets are the same

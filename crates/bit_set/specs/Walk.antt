@@ -1,10 +1,8 @@
 -- Walks over the elements of a set, block by block.
-use Rattle.std.specs.Prelude.{◌≡◌, ℕ, ◌+◌, ◌-◌, ◌*◌, ◌/◌, ◌^◌, ◌<◌, ◌≤◌, ◌==◌, max, min, Bool, nat_lt, if◌then◌else◌, List, [], ◌∷◌, length, ⊤, Option, Some, None, MatchOption}
-use Rattle.std.specs.Iterator.{YieldsFirst, YieldsThen, Drains}
-use Rattle.bit_words.specs.Bits.{blocks_for}
-use Rattle.bit_words.specs.declared.block.merge.Merge.{Merge}
-use Rattle.bit_set.specs.Members.{TakesLeast}
-use Rattle.bit_set.specs.Sets.{elements, merge_of_sets, those_from}
+use Rattle.std.specs.{Prelude.{◌≡◌, ℕ, ◌+◌, ◌-◌, ◌*◌, ◌/◌, ◌^◌, ◌<◌, ◌≤◌, ◌==◌, max, min, Bool, nat_lt, if◌then◌else◌, List, [], ◌∷◌, length, ⊤, Option, Some, None, MatchOption}, Iterator.{YieldsFirst, YieldsThen}}
+use Rattle.std.specs.Iterator.{Drains}
+use Rattle.bit_words.specs.{Bits.blocks_for, declared.block.merge.Merge.Merge}
+use Rattle.bit_set.specs.{Members.TakesLeast, Sets.{elements, merge_of_sets, those_from}}
 
 -- What contracts see of a walk over a set: the elements that are left, how often its block source gave it a block, or
 -- the end, the first number of the block in hand, and how many blocks are past that block; how often a block of

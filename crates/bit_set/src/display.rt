@@ -1,9 +1,6 @@
 //! The texts of a set.
-ghost use Rattle.std.specs.Prelude.{◌++◌, Some, codes, decimal};
-ghost use Rattle.std.specs.Fmt.{DisplaysOnOk};
-ghost use Rattle.std.specs.List.{flat_map};
-ghost use Rattle.bit_set.specs.Sets.{elements};
-ghost use Rattle.bit_set.specs.Texts.{items_text};
+ghost use Rattle.std.specs.{Prelude.{◌++◌, Some, codes, decimal}, Fmt.DisplaysOnOk, List.flat_map};
+ghost use Rattle.bit_set.specs.{Sets.elements, Texts.items_text};
 
 use crate::{BitBlock, BitSet, Iter};
 use std::fmt;

@@ -1,8 +1,6 @@
 //! The hash of a set: that of its elements alone.
-ghost use Rattle.std.specs.Cmp.Lexicographic.{bytes_decides};
-ghost use Rattle.std.proofs.Common.{ap};
-ghost use Rattle.bit_set.specs.Sets.{elements};
-ghost use Rattle.bit_set.specs.Order.{fed_of_set};
+ghost use Rattle.std.{specs.Cmp.Lexicographic.bytes_decides, proofs.Common.ap};
+ghost use Rattle.bit_set.specs.{Sets.elements, Order.fed_of_set};
 
 use crate::{BitBlock, BitSet};
 use std::hash::{Hash, Hasher};

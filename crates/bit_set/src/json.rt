@@ -3,10 +3,7 @@
 ghost use Rattle.std.specs.Prelude.{◌≡◌, Bool, List, [], alloc_error, IfErr, IfOk, IsErrOf, IsOk, length};
 ghost use Rattle.bit_words.specs.Bits.{blocks_for, blocks_of, capacity_of};
 ghost use Rattle.serde_json.specs.View.{view};
-ghost use Rattle.bit_set.specs.Json.{IsFault, IsFirstFault, Spells};
-ghost use Rattle.bit_set.specs.declared.json.JsonError.{JsonError};
-ghost use Rattle.bit_set.specs.Members.{IsSameSet};
-ghost use Rattle.bit_set.specs.Sets.{elements};
+ghost use Rattle.bit_set.specs.{Json.{IsFault, IsFirstFault, Spells}, declared.json.JsonError.JsonError, Members.IsSameSet, Sets.elements};
 
 use crate::BitSet;
 use serde_json::Value;

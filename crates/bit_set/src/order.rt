@@ -1,15 +1,9 @@
 //! Equality and order of sets: those of the lists of their elements in ascending order, found block
 //! by block.
-ghost use Rattle.std.specs.Prelude.{◌≡◌, ℕ, ◌≤◌, ◌↔◌, IsTrue, MatchOption, Some, get_or, true, false};
-ghost use Rattle.std.specs.Cmp.{on_equiv, on_per, on_po, on_total, partial_equiv_from_equiv};
-ghost use Rattle.std.specs.Ordering.{MatchOrdering};
-ghost use Rattle.std.specs.Cmp.Lexicographic.{nat_list_cmp_total, nat_list_eq_equiv, texts_po, texts_ties};
-ghost use Rattle.std.proofs.Common.{refl};
-ghost use Rattle.bit_words.specs.Bits.{blocks_of};
-ghost use Rattle.bit_words.specs.Mismatches.{IsFirstBlockMismatch};
-ghost use Rattle.bit_set.specs.Members.{IsSameSet};
-ghost use Rattle.bit_set.specs.Sets.{elements, has};
-ghost use Rattle.bit_set.specs.Order.{same_sets, order_of_sets};
+ghost use Rattle.std.specs.{Prelude.{◌≡◌, ℕ, ◌≤◌, ◌↔◌, IsTrue, MatchOption, Some, get_or, true, false}, Cmp.{on_equiv, on_per, on_po, on_total, partial_equiv_from_equiv, Lexicographic.nat_list_cmp_total}};
+ghost use Rattle.std.{specs.{Cmp.Lexicographic.{nat_list_eq_equiv, texts_po, texts_ties}, Ordering.MatchOrdering}, proofs.Common.refl};
+ghost use Rattle.bit_words.specs.{Bits.blocks_of, Mismatches.IsFirstBlockMismatch};
+ghost use Rattle.bit_set.specs.{Members.IsSameSet, Sets.{elements, has}, Order.{same_sets, order_of_sets}};
 
 use crate::bit_vec::{
     GROUP, block_or_zero, first_mismatching_block, first_nonzero_block, has_one_from,

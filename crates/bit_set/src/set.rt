@@ -2,8 +2,7 @@
 // are beside it.
 ghost use Rattle.std.specs.Prelude.{◌≡◌, ◌<◌, ◌≤◌, ◌↔◌, IsTrue, [], length};
 ghost use Rattle.bit_words.specs.Bits.{IsCapacityOfBlocks};
-ghost use Rattle.bit_set.specs.Members.{HasNone, IsCounted};
-ghost use Rattle.bit_set.specs.Sets.{elements, has};
+ghost use Rattle.bit_set.specs.{Members.{HasNone, IsCounted}, Sets.{elements, has}};
 
 use crate::BitBlock;
 use crate::bit_vec::BitVec;

@@ -1,10 +1,6 @@
 //! The walks over a set's elements, and over what two sets make.
-ghost use Rattle.std.specs.Prelude.{◌≡◌, IfSome, length};
-ghost use Rattle.std.specs.Iterator.{UpTo, item_count};
-ghost use Rattle.std.specs.Iterator.Runs.{YieldsInOrder};
-ghost use Rattle.std.specs.Iterator.SizeHint.{IsWithinCount};
-ghost use Rattle.bit_set.specs.Sets.{elements, those_from};
-ghost use Rattle.bit_set.specs.Walk.{Advances, IsAtStart, IsAtStartFrom, bound_on_rest};
+ghost use Rattle.std.specs.{Prelude.{◌≡◌, IfSome, length}, Iterator.{UpTo, item_count, Runs.YieldsInOrder, SizeHint.IsWithinCount}};
+ghost use Rattle.bit_set.specs.{Sets.{elements, those_from}, Walk.{Advances, IsAtStart, IsAtStartFrom, bound_on_rest}};
 
 use crate::bit_vec::{BitVec, Nonzero, block_or_zero, clear_below, take_lowest_one};
 use crate::{BitBlock, BitSet};
@@ -29,8 +25,7 @@ pub struct Iter<'a, B: BitBlock> {
 }
 
 impl<'a, B: BitBlock> Model for Iter<'a, B> {
-    ghost use Rattle.bit_set.specs.Walk.{Walk};
-    ghost use Rattle.bit_set.specs.Indexes.{indexes, past_block, IsSparseWalk};
+    ghost use Rattle.bit_set.specs.{Walk.Walk, Indexes.{indexes, past_block, IsSparseWalk}};
 
     ghost Value = { Walk };
 

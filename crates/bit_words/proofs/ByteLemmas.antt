@@ -1,17 +1,9 @@
 -- The values of bytes: a byte turned round, one moved into its place in a block, and the list of all.
 use Rattle.std.proofs.Common.{Bool, ◌≡◌, ℕ, zero, suc, ◌+◌, ◌-◌, ◌*◌, ◌/◌, ◌%◌, ◌^◌, ◌<◌, ◌≤◌, false, ◌&&◌, ◌||◌, ◌==◌, nat_lt, List, [], ◌∷◌, length, get_or, refl, sym, ap, ap₂, ◌∙◌, arith, mod-lt, div-add-mod', w8, min, slice_range, get_or-take, get_or-drop, length-take, length-append}
-use Rattle.std.proofs.lemmas.Nat.Bits.{bit_at-suc, bit_at_lowest, bit_at_above}
-use Rattle.std.proofs.lemmas.List.{get_or_past, get_or_append_left, get_or-append_right}
-use Rattle.std.proofs.lemmas.List.FromFn.{get_or-map-range_with_len}
-use Rattle.std.specs.Int.{bit_at, reverse_bits, reverse_bits_onto}
-use Rattle.bit_words.specs.Bits.{blocks_for, values_of_byte, values_of_bytes}
-use Rattle.bit_words.proofs.BitsLemmas.{blocks_for-least, blocks_for-below}
-use Rattle.bit_words.proofs.StorageLemmas.{value_at-is, value_at-past}
-use Rattle.bit_words.specs.Digits.{IsWidth, IsEither, IsShiftedLeft, is_one}
-use Rattle.bit_words.specs.Bytes.{byte_value}
-use Rattle.bit_words.specs.Storage.{value_at}
-use Rattle.bit_words.proofs.Masks.{is_one-either, is_one-zero}
-use Rattle.std.proofs.lemmas.Bool.Decides.{nat_tests}
+use Rattle.std.{proofs.lemmas.{Nat.Bits.{bit_at-suc, bit_at_lowest, bit_at_above}, List.{get_or_past, get_or_append_left, get_or-append_right, FromFn.get_or-map-range_with_len}, Bool.Decides.nat_tests}, specs.Int.bit_at}
+use Rattle.std.specs.Int.{reverse_bits, reverse_bits_onto}
+use Rattle.bit_words.{specs.{Bits.{blocks_for, values_of_byte, values_of_bytes}, Digits.{IsWidth, IsEither, IsShiftedLeft, is_one}, Bytes.byte_value, Storage.value_at}, proofs.BitsLemmas.blocks_for-least}
+use Rattle.bit_words.proofs.{BitsLemmas.blocks_for-below, StorageLemmas.{value_at-is, value_at-past}, Masks.{is_one-either, is_one-zero}}
 
 -- ---- a byte turned round
 

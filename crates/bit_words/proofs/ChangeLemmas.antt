@@ -1,13 +1,8 @@
 -- What a write of one block does to the value at every index.
 use Rattle.std.proofs.Common.{◌≡◌, ◌≢◌, ℕ, ◌+◌, ◌*◌, ◌/◌, ◌%◌, ◌^◌, ◌<◌, ◌≤◌, ◌==◌, Bool, ◌&&◌, ◌||◌, nat_lt, nat_le, List, length, get_or, set, refl, sym, ap, ◌∙◌, arith, div-add-mod', mod-lt, div-lt_iff_lt-mul, div-mul-le_self}
+use Rattle.std.proofs.lemmas.{Bool.Decides.nat_tests, Nat.Bits.same_from_bits_below}
 use mathlib.Core.Bool.{beq}
-use Rattle.std.proofs.lemmas.Bool.Decides.{nat_tests}
-use Rattle.std.proofs.lemmas.Nat.Bits.{same_from_bits_below}
-use Rattle.bit_words.specs.Bits.{blocks_for}
-use Rattle.bit_words.specs.Digits.{is_one}
-use Rattle.bit_words.specs.Storage.{value_at, WritesValue}
-use Rattle.bit_words.proofs.StorageLemmas.{same_digit, value_at-is, value_at-past, value_at-set_same, value_at-set_other}
-use Rattle.bit_words.proofs.TestLemmas.{above_and}
+use Rattle.bit_words.{specs.{Bits.blocks_for, Digits.is_one, Storage.{value_at, WritesValue}}, proofs.{StorageLemmas.{same_digit, value_at-is, value_at-past, value_at-set_same, value_at-set_other}, TestLemmas.above_and}}
 use Rattle.bit_words.proofs.BitsLemmas.{index_below}
 
 -- ---- within one block, places follow indexes

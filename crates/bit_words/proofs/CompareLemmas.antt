@@ -1,21 +1,9 @@
 -- When the blocks of two lists merge to zeros, and what that says of the lists.
 use Rattle.std.proofs.Common.{◌≡◌, ◌≢◌, ℕ, ◌+◌, ◌*◌, ◌/◌, ◌%◌, ◌^◌, ◌<◌, ◌≤◌, ◌↔◌, ◌==◌, Bool, true, false, List, length, map, get_or, slice_get, Some, refl, ◌⊎◌, min, sym, ap, ap₂, ◌∙◌, arith, mod-lt, pow_pos}
-use Rattle.std.proofs.lemmas.Bool.{eq-eqb, false≢true}
-use Rattle.std.proofs.lemmas.List.{get_or_past, length-map}
-use Rattle.std.proofs.lemmas.Nat.Bits.{bit_at-zero, same_from_bits_below}
-use Rattle.std.proofs.lemmas.Option.{get_or_from_slice_get}
-use Rattle.bit_words.specs.declared.block.merge.Merge.{Merge}
-use Rattle.bit_words.specs.declared.block.merge.Merge.TheVariants.{Intersection, Difference}
-use Rattle.bit_words.specs.Bits.{Bits, IsFirstTrue}
-use Rattle.bit_words.specs.Merges.{merge_of_values, merge_of}
-use Rattle.bit_words.specs.BlockMerges.{MergesToZero, MergesToFalse, IsFirstMerged}
-use Rattle.bit_words.specs.Digits.{is_one}
-use Rattle.bit_words.specs.Storage.{value_at, values_of, IsZeroFrom}
-use Rattle.bit_words.proofs.BitsLemmas.{index_below, slice_get_from_true}
-use Rattle.bit_words.proofs.Masks.{is_one-zero}
-use Rattle.bit_words.proofs.StorageLemmas.{value_at-is, value_at-index, value_at-past, get_or-values_of_zero_tail}
-use Rattle.bit_words.proofs.MergeLemmas.{get_or-merged}
-use Rattle.bit_words.proofs.VectorLemmas.{bit_from_false}
+use Rattle.std.proofs.lemmas.{Bool.{eq-eqb, false≢true}, List.{get_or_past, length-map}, Nat.Bits.{bit_at-zero, same_from_bits_below}, Option.get_or_from_slice_get}
+use Rattle.bit_words.specs.{declared.block.merge.Merge.{Merge, TheVariants.{Intersection, Difference}}, Bits.{Bits, IsFirstTrue}, Merges.{merge_of_values, merge_of}, BlockMerges.{MergesToZero, MergesToFalse}}
+use Rattle.bit_words.{specs.{BlockMerges.IsFirstMerged, Digits.is_one, Storage.{value_at, values_of, IsZeroFrom}}, proofs.{BitsLemmas.{index_below, slice_get_from_true}, Masks.is_one-zero, StorageLemmas.value_at-is}}
+use Rattle.bit_words.proofs.{StorageLemmas.{value_at-index, value_at-past, get_or-values_of_zero_tail}, MergeLemmas.get_or-merged, VectorLemmas.bit_from_false}
 
 -- ---- blocks
 

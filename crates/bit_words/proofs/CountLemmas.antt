@@ -1,19 +1,7 @@
 -- How many ones blocks have, by a summary of them.
-use Rattle.std.proofs.Common.{◌≡◌, ℕ, zero, suc, ◌+◌, ◌*◌, ◌<◌, Bool, List, [], ◌∷◌, map, take, drop, get_or, get_or-take, get_or-drop, length-take, count_ones, refl, sym, ap, ◌∙◌, ⊎_elim, arith}
-use Rattle.std.proofs.lemmas.Bool.{cases_lt}
-use Rattle.std.proofs.lemmas.Bool.Decides.{nat_tests}
-use Rattle.std.proofs.lemmas.List.{take-map, drop-map, get_or_past}
-use Rattle.std.proofs.Math.Seq.{take-add}
-use Rattle.std.proofs.lemmas.List.Sums.{sum_by-append, sum_by-cons}
-use Rattle.bit_words.specs.Storage.{value_at}
-use Rattle.std.specs.List.{sum_by, count_by}
-use Rattle.bit_words.specs.Bits.{blocks_of}
-use Rattle.bit_words.specs.Nonzero.{ones_in}
-use Rattle.bit_words.specs.Summary.{is_used}
-use Rattle.bit_words.proofs.LowestLemmas.{ones_zero}
-use Rattle.bit_words.proofs.OnesLemmas.{blocks_ones}
-use Rattle.bit_words.proofs.Masks.{is_one-zero}
-use Rattle.bit_words.proofs.StorageLemmas.{value_at-index}
+use Rattle.std.proofs.{Common.{◌≡◌, ℕ, zero, suc, ◌+◌, ◌*◌, ◌<◌, Bool, List, [], ◌∷◌, map, take, drop, get_or, get_or-take, get_or-drop, length-take, count_ones, refl, sym, ap, ◌∙◌, ⊎_elim, arith}, lemmas.Bool.cases_lt}
+use Rattle.std.{proofs.{lemmas.{Bool.Decides.nat_tests, List.{take-map, drop-map, get_or_past, Sums.{sum_by-append, sum_by-cons}}}, Math.Seq.take-add}, specs.List.{sum_by, count_by}}
+use Rattle.bit_words.{specs.{Storage.value_at, Bits.blocks_of, Nonzero.ones_in, Summary.is_used}, proofs.{LowestLemmas.ones_zero, OnesLemmas.blocks_ones, Masks.is_one-zero, StorageLemmas.value_at-index}}
 
 module _ {X : Type 0} (number : X → ℕ) where
   -- those of some blocks, and of the next ones

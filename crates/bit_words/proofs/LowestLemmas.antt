@@ -1,13 +1,7 @@
 -- The lowest 1 of a number.
-use Rattle.std.proofs.Common.{⊎_elim, ◌≡◌, ◌≢◌, ℕ, zero, suc, ◌+◌, ◌-◌, ◌*◌, ◌/◌, ◌%◌, ◌^◌, ◌<◌, min, count_ones, ap, ◌∙◌, arith}
-use Rattle.std.specs.Int.{bit_at}
-use Rattle.std.proofs.Math.Nat.{pow-suc}
-use Rattle.std.proofs.lemmas.Bool.{cases_lt}
-use Rattle.std.proofs.lemmas.Nat.{pow_pos, pow_below, ones_cat, ones_le_self, zero_from_ones}
-use Rattle.std.proofs.lemmas.Nat.Bits.{bit_at_lowest, bit_at-suc, bit_at-pow_same, bit_at-pow_other, bit_at-lt, same_from_bits_below}
-use Rattle.bit_words.specs.DigitLaws.{bit_at-complement}
-use Rattle.bit_words.proofs.Words.{complement-number}
-use Rattle.bit_words.specs.Lowest.{LowestIsFound}
+use Rattle.std.proofs.{Common.{⊎_elim, ◌≡◌, ◌≢◌, ℕ, zero, suc, ◌+◌, ◌-◌, ◌*◌, ◌/◌, ◌%◌, ◌^◌, ◌<◌, min, count_ones, ap, ◌∙◌, arith}, Math.Nat.pow-suc, lemmas.{Bool.cases_lt, Nat.{pow_pos, pow_below, ones_cat}}}
+use Rattle.std.{proofs.lemmas.Nat.{ones_le_self, zero_from_ones, Bits.{bit_at_lowest, bit_at-suc, bit_at-pow_same, bit_at-pow_other, bit_at-lt, same_from_bits_below}}, specs.Int.bit_at}
+use Rattle.bit_words.{specs.{DigitLaws.bit_at-complement, Lowest.LowestIsFound}, proofs.Words.complement-number}
 
 -- The digits of m and of m - 1 on each side of the lowest 1
 record Sides (m i : ℕ) : Type 0 where

@@ -1,9 +1,6 @@
 -- The steps that take the lowest 1 off a block, at the numbers of the blocks.
-use Rattle.std.proofs.Common.{◌≡◌, ℕ, ◌+◌, ◌-◌, ◌^◌, ◌<◌, count_ones, sym, ap, ◌∙◌, subst, arith}
-use Rattle.bit_words.specs.Digits.{IsBoth}
-use Rattle.bit_words.specs.Lowest.{IsLowest, IsCleared, IsIsolated}
-use Rattle.bit_words.proofs.LowestLemmas.{lowest_found}
-use Rattle.std.proofs.lemmas.Nat.{pow_pos}
+use Rattle.std.proofs.{Common.{◌≡◌, ℕ, ◌+◌, ◌-◌, ◌^◌, ◌<◌, count_ones, sym, ap, ◌∙◌, subst, arith}, lemmas.Nat.pow_pos}
+use Rattle.bit_words.{specs.{Digits.IsBoth, Lowest.{IsLowest, IsCleared, IsIsolated}}, proofs.LowestLemmas.lowest_found}
 
 pub isolated : (w m n l : ℕ) → 0 < m → m < 2 ^ w → l < 2 ^ w → n ≡ 2 ^ w - m → IsBoth w m n l → IsIsolated w m l
 isolated w m n l pos small fits is both =

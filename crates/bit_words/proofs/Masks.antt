@@ -1,8 +1,6 @@
 -- A digit of a block that an operator gives, as a test. `masks.rt` names the set.
-use Rattle.std.proofs.Common.{◌≡◌, ◌≢◌, ℕ, ◌-◌, ◌^◌, ◌<◌, true, false, not, ◌&&◌, ◌||◌, ◌==◌, nat_lt, nat_le, refl, ap, ◌∙◌, arith}
-use Rattle.std.specs.Int.{bit_at}
-use Rattle.std.proofs.lemmas.Bool.Decides.{nat_tests}
-use Rattle.std.proofs.lemmas.Nat.Bits.{bit_at-lt, bit_at-zero, bit_at-pow_same, bit_at-pow_other, bit_at_ones, bit_at_ones_above}
+use Rattle.std.proofs.{Common.{◌≡◌, ◌≢◌, ℕ, ◌-◌, ◌^◌, ◌<◌, true, false, not, ◌&&◌, ◌||◌, ◌==◌, nat_lt, nat_le, refl, ap, ◌∙◌, arith}, lemmas.{Bool.Decides.nat_tests, Nat.Bits.{bit_at-lt, bit_at-zero, bit_at-pow_same}}}
+use Rattle.std.{proofs.lemmas.Nat.Bits.{bit_at-pow_other, bit_at_ones, bit_at_ones_above}, specs.Int.bit_at}
 use Rattle.bit_words.specs.Digits.{IsBoth, IsEither, IsDifferent, IsComplement, is_one}
 
 pub is_one-both : (w m n r j : ℕ) → IsBoth w m n r → j < w → is_one r j ≡ (is_one m j && is_one n j)

@@ -1,12 +1,8 @@
 -- What a merge of blocks does to the value at every index, and what the merge of two lists is there.
 use Rattle.std.proofs.Common.{◌≡◌, ℕ, zero, suc, ◌+◌, ◌/◌, ◌%◌, ◌<◌, ◌≤◌, max, Bool, false, List, [], ◌∷◌, map, length, get_or, set, All, refl, sym, arith, mod-lt, get_or-set_same, get_or-set_other}
 use Rattle.std.proofs.lemmas.List.{get_or_past, length-map}
-use Rattle.bit_words.specs.declared.block.merge.Merge.{Merge}
-use Rattle.bit_words.specs.Merges.{merge_of_values, merge_of}
-use Rattle.bit_words.specs.BlockMerges.{HasMerged}
-use Rattle.bit_words.specs.Digits.{is_one}
-use Rattle.bit_words.specs.Storage.{value_at, values_of, IsZeroFrom}
-use Rattle.bit_words.proofs.StorageLemmas.{length-values_of, values_of-same, get_or-values_of_zero_tail, value_at-is, value_at-past}
+use Rattle.bit_words.{specs.{declared.block.merge.Merge.Merge, Merges.{merge_of_values, merge_of}, BlockMerges.HasMerged, Digits.is_one, Storage.{value_at, values_of, IsZeroFrom}}, proofs.StorageLemmas.length-values_of}
+use Rattle.bit_words.proofs.StorageLemmas.{values_of-same, get_or-values_of_zero_tail, value_at-is, value_at-past}
 
 -- ---- two lists
 

@@ -1,14 +1,8 @@
 -- Where blocks differ, by their digits.
-use Rattle.std.proofs.Common.{◌≡◌, ◌≢◌, ℕ, ◌+◌, ◌-◌, ◌^◌, ◌<◌, ◌≤◌, Bool, true, false, not, eqb, sym, ◌∙◌, arith}
-use Rattle.std.specs.Bool.{OnTrue, OnFalse}
-use Rattle.std.specs.Int.{bit_at}
+use Rattle.std.proofs.{Common.{◌≡◌, ◌≢◌, ℕ, ◌+◌, ◌-◌, ◌^◌, ◌<◌, ◌≤◌, Bool, true, false, not, eqb, sym, ◌∙◌, arith}, lemmas.Nat.{Bits.{bit_at-lt, bit_at-zero, bit_at_above, same_from_bits_below}, pow_pos}}
+use Rattle.std.specs.{Bool.{OnTrue, OnFalse}, Int.bit_at}
 use borrow.Author.Tests.{eqb-true, eqb-false}
-use Rattle.std.proofs.lemmas.Nat.Bits.{bit_at-lt, bit_at-zero, bit_at_above, same_from_bits_below}
-use Rattle.std.proofs.lemmas.Nat.{pow_pos}
-use Rattle.bit_words.specs.Digits.{IsEither, IsDifferent, IsShiftedRight}
-use Rattle.bit_words.specs.Lowest.{IsLowest}
-use Rattle.bit_words.specs.Mismatches.{IsLowestMismatch}
-use Rattle.bit_words.proofs.LowestLemmas.{lowest_found}
+use Rattle.bit_words.{specs.{Digits.{IsEither, IsDifferent, IsShiftedRight}, Lowest.IsLowest, Mismatches.IsLowestMismatch}, proofs.LowestLemmas.lowest_found}
 
 -- ---- the digits of one block
 

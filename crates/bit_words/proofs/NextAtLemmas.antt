@@ -1,9 +1,6 @@
 -- The block from which a walk goes on.
 use Rattle.std.proofs.Common.{◌≡◌, ℕ, zero, suc, ◌+◌, ◌<◌, ◌≤◌, Bool, true, false, ap, arith}
-use Rattle.bit_words.specs.Digits.{is_one}
-use Rattle.bit_words.specs.Lowest.{IsLowest}
-use Rattle.bit_words.specs.Pending.{first_true, next_at}
-use Rattle.bit_words.proofs.Masks.{is_one-bit, is_one-zero}
+use Rattle.bit_words.{specs.{Digits.is_one, Lowest.IsLowest, Pending.{first_true, next_at}}, proofs.Masks.{is_one-bit, is_one-zero}}
 
 -- ---- the first truth value that is true
 

@@ -1,13 +1,7 @@
 -- What appending, keeping and filling whole blocks does to the value at every index.
 use Rattle.std.proofs.Common.{◌≡◌, ℕ, ◌+◌, ◌-◌, ◌/◌, ◌%◌, ◌^◌, ◌<◌, ◌≤◌, false, ◌&&◌, ◌||◌, nat_lt, nat_le, List, [], ◌∷◌, ◌++◌, map, length, get_or, take, replicate, refl, ap, ◌∙◌, arith, append_assoc, mod-lt, get_or-take, set, ◌≢◌, get_or-set_same, get_or-set_other}
-use Rattle.std.proofs.lemmas.Bool.Decides.{nat_tests}
-use Rattle.std.proofs.lemmas.List.{get_or_append_left, get_or-append_right, get_or_past, get_or-replicate, length-replicate, length-append, map-append, take_more}
-use Rattle.std.proofs.lemmas.Grind.{replicate_next}
-use Rattle.bit_words.specs.Bits.{blocks_for}
-use Rattle.bit_words.specs.Storage.{value_at, FillsFirst, IsZeroFrom}
-use Rattle.bit_words.proofs.Masks.{is_one-ones, is_one-zero}
-use Rattle.bit_words.proofs.BitsLemmas.{blocks_for-above}
-use Rattle.bit_words.proofs.StorageLemmas.{value_at-is, value_at-past}
+use Rattle.std.proofs.lemmas.{Bool.Decides.nat_tests, List.{get_or_append_left, get_or-append_right, get_or_past, get_or-replicate, length-replicate, length-append, map-append, take_more}, Grind.replicate_next}
+use Rattle.bit_words.{specs.{Bits.blocks_for, Storage.{value_at, FillsFirst, IsZeroFrom}}, proofs.{Masks.{is_one-ones, is_one-zero}, BitsLemmas.blocks_for-above, StorageLemmas.{value_at-is, value_at-past}}}
 use Rattle.bit_words.proofs.ChangeLemmas.{div_lt, nat_lt-indexes}
 
 -- ---- whole blocks

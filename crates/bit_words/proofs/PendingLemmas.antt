@@ -1,25 +1,9 @@
 -- The walk over the blocks that are not 0, by the pending bits of a summary.
 use Rattle.std.proofs.Common.{◌≡◌, ◌≢◌, ℕ, zero, suc, ◌+◌, ◌-◌, ◌*◌, ◌/◌, ◌%◌, ◌^◌, ◌<◌, ◌≤◌, true, false, not, leb, ◌&&◌, if◌then◌else◌, ◌==◌, List, [], ◌∷◌, map, drop, length, slice_get, Some, get_or, All, refl, sym, ap, subst, ◌∙◌, arith, mul-le-mul_right, div-mul-le_self}
-use Rattle.std.proofs.lemmas.Bool.{true≢false}
-use Rattle.std.proofs.lemmas.Bool.Decides.{nat_tests}
-use Rattle.std.proofs.lemmas.List.{drop_more, drop_all, drop-map, length-drop}
-use Rattle.std.proofs.lemmas.List.Elements.{All-drop}
-use Rattle.std.proofs.lemmas.Option.{get_or_from_slice_get}
-use Rattle.std.proofs.Math.Nat.{div-lt_iff_lt-mul}
-use Rattle.std.proofs.Math.Seq.{drop-drop}
-use Rattle.bit_words.specs.Bits.{blocks_for}
-use Rattle.bit_words.specs.Digits.{is_one}
-use Rattle.bit_words.specs.Lowest.{IsLowest, IsCleared}
-use Rattle.bit_words.specs.Nonzero.{nonzero_from}
-use Rattle.bit_words.specs.Pending.{CoversUsed, IsInHand, IsStoredFrom, left_from, next_at}
-use Rattle.bit_words.specs.Storage.{value_at}
-use Rattle.bit_words.specs.Summary.{is_used, short_count, IsStoredSummary}
-use Rattle.bit_words.proofs.BitsLemmas.{blocks_for-least, blocks_for-past}
-use Rattle.bit_words.proofs.Masks.{is_one-bit, is_one-zero}
-use Rattle.bit_words.proofs.NextAtLemmas.{before_first, first_least, first_most}
-use Rattle.bit_words.proofs.StorageLemmas.{value_at-is, value_at-index}
-use Rattle.bit_words.proofs.SummaryLemmas.{stored_each, stored_enough}
-use Rattle.bit_words.proofs.ZeroLemmas.{dropped, nonzero_inside, value_at-drop}
+use Rattle.std.proofs.{lemmas.{Bool.{true≢false, Decides.nat_tests}, List.{drop_more, drop_all, drop-map, length-drop, Elements.All-drop}, Option.get_or_from_slice_get}, Math.{Nat.div-lt_iff_lt-mul, Seq.drop-drop}}
+use Rattle.bit_words.specs.{Bits.blocks_for, Digits.is_one, Lowest.{IsLowest, IsCleared}, Nonzero.nonzero_from, Pending.{CoversUsed, IsInHand, IsStoredFrom, left_from, next_at}, Storage.value_at, Summary.is_used}
+use Rattle.bit_words.{specs.Summary.{short_count, IsStoredSummary}, proofs.{BitsLemmas.{blocks_for-least, blocks_for-past}, Masks.{is_one-bit, is_one-zero}, NextAtLemmas.{before_first, first_least, first_most}}}
+use Rattle.bit_words.proofs.{StorageLemmas.{value_at-is, value_at-index}, SummaryLemmas.{stored_each, stored_enough}, ZeroLemmas.{dropped, nonzero_inside, value_at-drop}}
 
 -- ---- blocks that are 0 are passed
 

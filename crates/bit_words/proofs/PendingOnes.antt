@@ -1,18 +1,8 @@
 -- The ones of the blocks that a walk has left.
-use Rattle.std.proofs.Common.{◌≡◌, ℕ, ◌+◌, ◌-◌, ◌*◌, ◌<◌, ◌≤◌, not, ◌==◌, List, [], ◌∷◌, map, drop, take, length, count_ones, refl, sym, ap, ◌∙◌, arith}
-use Rattle.std.proofs.lemmas.List.{drop-take, length-drop}
-use Rattle.std.proofs.lemmas.List.Sums.{sum_by-cons, sum_by-take-drop}
-use Rattle.std.proofs.Math.Seq.{drop-drop}
-use Rattle.std.proofs.lemmas.Bool.Decides.{nat_tests}
-use Rattle.bit_words.specs.Digits.{is_one}
-use Rattle.bit_words.specs.Lowest.{IsLowest}
-use Rattle.bit_words.specs.Nonzero.{nonzero_from, ones_in, ones_left}
-use Rattle.bit_words.specs.Pending.{IsStoredFrom, left_from, next_at}
-use Rattle.bit_words.specs.Storage.{value_at}
-use Rattle.bit_words.specs.Summary.{is_used, short_count}
-use Rattle.bit_words.proofs.LowestLemmas.{ones_zero}
-use Rattle.bit_words.proofs.NextAtLemmas.{first_most, next_at-lowest, next_at-zero}
-use Rattle.bit_words.proofs.ZeroLemmas.{dropped}
+use Rattle.std.proofs.{Common.{◌≡◌, ℕ, ◌+◌, ◌-◌, ◌*◌, ◌<◌, ◌≤◌, not, ◌==◌, List, [], ◌∷◌, map, drop, take, length, count_ones, refl, sym, ap, ◌∙◌, arith}, lemmas.List.{drop-take, length-drop, Sums.sum_by-cons}}
+use Rattle.std.proofs.{lemmas.{List.Sums.sum_by-take-drop, Bool.Decides.nat_tests}, Math.Seq.drop-drop}
+use Rattle.bit_words.specs.{Digits.is_one, Lowest.IsLowest, Nonzero.{nonzero_from, ones_in, ones_left}, Pending.{IsStoredFrom, left_from, next_at}, Storage.value_at, Summary.{is_used, short_count}}
+use Rattle.bit_words.proofs.{LowestLemmas.ones_zero, NextAtLemmas.{first_most, next_at-lowest, next_at-zero}, ZeroLemmas.dropped}
 
 module _ {X : Type 0} (w : ℕ) (number : X → ℕ) (is_block : X → Type 0) where
   ones_nonzero : (k : ℕ) (xs : List X) → ones_left number (nonzero_from number k xs) ≡ ones_in number xs

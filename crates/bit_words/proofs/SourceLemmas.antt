@@ -1,6 +1,5 @@
 -- A whole walk over blocks.
-use Rattle.std.proofs.Common.{◌≡◌, ◌+◌, List, [], ◌∷◌, length, None, sym, ap, ◌∙◌, arith}
-use Rattle.std.specs.Iterator.{YieldsThen}
+use Rattle.std.{proofs.Common.{◌≡◌, ◌+◌, List, [], ◌∷◌, length, None, sym, ap, ◌∙◌, arith}, specs.Iterator.YieldsThen}
 use Rattle.bit_words.specs.Source.{Source, Pulls}
 
 pub walked : {X : Type 0} (s t : Source X) (xs : List X) → YieldsThen Pulls s xs None t → (xs ≡ s.left) × (t.pulls ≡ s.pulls + length xs + 1)

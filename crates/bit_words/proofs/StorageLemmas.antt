@@ -1,15 +1,8 @@
 -- How the blocks of a bit vector hold its list, by index.
 use Rattle.std.proofs.Common.{◌≡◌, ◌≢◌, ℕ, zero, suc, ◌+◌, ◌-◌, ◌*◌, ◌/◌, ◌%◌, ◌^◌, ◌<◌, ◌≤◌, Bool, false, ◌==◌, List, ◌++◌, length, get_or, take, set, replicate, refl, sym, ap, ◌∙◌, arith, length-take, length-append, length-set, get_or-take, get_or-set_same, get_or-set_other}
-use Rattle.std.proofs.lemmas.Grind.{common_steps}
-use Rattle.std.proofs.lemmas.Nat.Bits.{bit_at-zero, same_from_bits_below, bit_at-lt}
-use Rattle.std.proofs.lemmas.Nat.{div-mul-add, mod-mul-add}
-use Rattle.std.proofs.lemmas.List.FromFn.{length-map-range_with_len, get_or-map-range_with_len}
-use Rattle.std.proofs.lemmas.List.{get_or_past, ext_get_or, get_or-replicate, length-replicate}
-use Rattle.std.specs.Int.{bit_at}
-use Rattle.bit_words.specs.Bits.{blocks_for, digit_of, blocks_of}
-use Rattle.bit_words.specs.Digits.{is_one}
-use Rattle.bit_words.specs.Storage.{value_at, values_of, IsZeroFrom}
-use Rattle.bit_words.proofs.BitsLemmas.{blocks_of-digit, blocks_of-lt, length-blocks_of}
+use Rattle.std.proofs.lemmas.{Grind.common_steps, Nat.{Bits.{bit_at-zero, same_from_bits_below, bit_at-lt}, div-mul-add, mod-mul-add}, List.{FromFn.{length-map-range_with_len, get_or-map-range_with_len}, get_or_past}}
+use Rattle.std.{proofs.lemmas.List.{ext_get_or, get_or-replicate, length-replicate}, specs.Int.bit_at}
+use Rattle.bit_words.{specs.{Bits.{blocks_for, digit_of, blocks_of}, Digits.is_one, Storage.{value_at, values_of, IsZeroFrom}}, proofs.BitsLemmas.{blocks_of-digit, blocks_of-lt, length-blocks_of}}
 
 -- ---- one value
 

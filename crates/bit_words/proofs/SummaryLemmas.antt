@@ -1,21 +1,10 @@
 -- What the summary says of the blocks, and how it follows their changes.
 use Rattle.std.proofs.Common.{◌≡◌, ◌≢◌, ℕ, ◌+◌, ◌*◌, ◌/◌, ◌%◌, ◌^◌, ◌<◌, ◌≤◌, Bool, true, false, not, ◌==◌, List, [], map, length, get_or, set, All, sym, ap, ◌∙◌, arith, ⊎_elim, mod-lt, div-add-mod', get_or-set_same, get_or-set_other, mul-le-mul_right}
-use Rattle.std.proofs.lemmas.Bool.{cases_lt}
-use Rattle.std.proofs.lemmas.Bool.Decides.{nat_tests}
-use Rattle.std.proofs.lemmas.List.{get_or_past, length-map}
-use Rattle.std.proofs.lemmas.List.Elements.{All-nil}
-use Rattle.std.proofs.lemmas.Nat.{div-mul-add}
-use Rattle.std.proofs.lemmas.Nat.Bits.{same_from_bits_below}
-use Rattle.std.specs.Global.{Vec}
-use Rattle.bit_words.specs.Bits.{Bits, blocks_for, blocks_of}
-use Rattle.bit_words.specs.Digits.{is_one}
-use Rattle.bit_words.specs.Storage.{value_at, values_of, IsPacked, WritesInPlace, WritesValue}
-use Rattle.bit_words.specs.Summary.{is_used, shared_capacity, short_count, stored_for, IsSummary, IsStoredSummary, IsStoredList}
-use Rattle.bit_words.proofs.CapacityLemmas.{shared_enough, stored_long, stored_short}
-use Rattle.bit_words.proofs.BitsLemmas.{blocks_for-below, blocks_for-enough, whole_before}
-use Rattle.bit_words.proofs.CompareLemmas.{zero_from_digits, digit_from_zero}
-use Rattle.bit_words.proofs.StorageLemmas.{blocks-values_of, same_digit, value_at-is, value_at-past, value_at-index}
-use Rattle.bit_words.proofs.VectorLemmas.{blocks_for-none, length_from_view, numbers_below, packed_nil}
+use Rattle.std.{proofs.lemmas.{Bool.{cases_lt, Decides.nat_tests}, List.{get_or_past, length-map, Elements.All-nil}, Nat.{div-mul-add, Bits.same_from_bits_below}}, specs.Global.Vec}
+use Rattle.bit_words.specs.{Bits.{Bits, blocks_for, blocks_of}, Digits.is_one, Storage.{value_at, values_of, IsPacked, WritesInPlace, WritesValue}, Summary.{is_used, shared_capacity, short_count, stored_for, IsSummary}}
+use Rattle.bit_words.{specs.Summary.{IsStoredSummary, IsStoredList}, proofs.{CapacityLemmas.{shared_enough, stored_long, stored_short}, BitsLemmas.{blocks_for-below, blocks_for-enough, whole_before}}}
+use Rattle.bit_words.proofs.{CompareLemmas.{zero_from_digits, digit_from_zero}, StorageLemmas.{blocks-values_of, same_digit, value_at-is, value_at-past, value_at-index}, VectorLemmas.{blocks_for-none, length_from_view}}
+use Rattle.bit_words.proofs.VectorLemmas.{numbers_below, packed_nil}
 
 -- the blocks of a packed list are those of its values
 pub packed_blocks : {X : Type 0} (w n : ℕ) (f : X → ℕ) (P : X → Type 0) (xs : List X) → 0 < w → ((x : X) → P x → f x < 2 ^ w) → IsPacked w f P xs n → map f xs ≡ blocks_of w (values_of w (map f xs) n)

@@ -1,16 +1,9 @@
 -- What a copy of the tail of a list holds, by index, and what its summary says.
 use Rattle.std.proofs.Common.{◌≡◌, ◌≢◌, ℕ, ◌+◌, ◌-◌, ◌/◌, ◌%◌, ◌^◌, ◌<◌, ◌≤◌, false, ◌&&◌, nat_le, List, [], ◌++◌, map, length, get_or, set, take, drop, replicate, All, sym, ap, ap₂, ◌∙◌, arith, mod-lt, length-append, take_all, div-lt_iff_lt-mul, ◌*◌}
-use Rattle.std.proofs.lemmas.Bool.Decides.{nat_tests}
-use Rattle.std.proofs.lemmas.List.Elements.{All-same, All-append, All-drop}
-use Rattle.std.proofs.lemmas.List.{drop-map, map-append, get_or-drop, get_or-replicate, get_or_append_left, get_or-append_right, length-replicate, length-drop}
-use Rattle.bit_words.specs.Digits.{is_one}
-use Rattle.bit_words.specs.Storage.{value_at, values_of, IsPacked}
-use Rattle.bit_words.specs.Summary.{is_used}
-use Rattle.bit_words.proofs.BitsLemmas.{index_below}
-use Rattle.bit_words.proofs.ChangeLemmas.{nat_le-indexes, div_lt, read_at, written_same, written_other}
-use Rattle.bit_words.proofs.Masks.{is_one-zero}
-use Rattle.bit_words.proofs.StorageLemmas.{value_at-is, values_of-same, length-values_of, get_or-values_of}
-use Rattle.bit_words.proofs.SummaryLemmas.{same_use, unused_from_false}
+use Rattle.std.proofs.lemmas.{Bool.Decides.nat_tests, List.{Elements.{All-same, All-append, All-drop}, drop-map, map-append, get_or-drop, get_or-replicate, get_or_append_left, get_or-append_right, length-replicate}}
+use Rattle.std.proofs.lemmas.List.{length-drop}
+use Rattle.bit_words.{specs.{Digits.is_one, Storage.{value_at, values_of, IsPacked}, Summary.is_used}, proofs.{BitsLemmas.index_below, ChangeLemmas.{nat_le-indexes, div_lt, read_at, written_same, written_other}}}
+use Rattle.bit_words.proofs.{Masks.is_one-zero, StorageLemmas.{value_at-is, values_of-same, length-values_of, get_or-values_of}, SummaryLemmas.{same_use, unused_from_false}}
 
 -- a slice from an index to the end
 rest_sliced : {X : Type 0} (n : ℕ) (xs : List X) → take (length xs - n) (drop n xs) ≡ drop n xs

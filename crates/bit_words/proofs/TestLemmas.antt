@@ -1,6 +1,5 @@
 -- What a test of an index says, alone and beside a second one.
-use Rattle.std.proofs.Common.{◌≡◌, ℕ, ◌<◌, ◌≤◌, Bool, true, false, ◌&&◌, nat_lt, nat_le, ap, arith}
-use Rattle.std.proofs.lemmas.Bool.Decides.{nat_tests}
+use Rattle.std.proofs.{Common.{◌≡◌, ℕ, ◌<◌, ◌≤◌, Bool, true, false, ◌&&◌, nat_lt, nat_le, ap, arith}, lemmas.Bool.Decides.nat_tests}
 
 pub below_true : (len i : ℕ) → i < len → nat_lt i len ≡ true
 below_true len i h = grind (arith, nat_tests)

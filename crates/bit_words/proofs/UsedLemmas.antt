@@ -1,10 +1,6 @@
 -- Which of the blocks of a list a block of its summary says are not 0, as it is made.
-use Rattle.std.proofs.Common.{◌≡◌, ◌≢◌, ℕ, ◌+◌, ◌-◌, ◌<◌, not, List, map, get_or, ◌∙◌, arith, ⊎_elim}
-use Rattle.std.proofs.lemmas.Bool.{cases_lt}
-use Rattle.std.proofs.lemmas.Bool.Decides.{nat_tests}
-use Rattle.bit_words.specs.Digits.{IsEither, IsShiftedLeft, is_one}
-use Rattle.bit_words.specs.Summary.{is_used, SaysUsed}
-use Rattle.bit_words.proofs.Masks.{is_one-either}
+use Rattle.std.proofs.{Common.{◌≡◌, ◌≢◌, ℕ, ◌+◌, ◌-◌, ◌<◌, List, map, get_or, ◌∙◌, arith, ⊎_elim}, lemmas.Bool.{cases_lt, Decides.nat_tests}}
+use Rattle.bit_words.{specs.{Digits.{IsEither, IsShiftedLeft, is_one}, Summary.{is_used, SaysUsed}}, proofs.Masks.is_one-either}
 
 module _ {X : Type 0} (w : ℕ) (f : X → ℕ) (P : X → Type 0) where
   -- of one block more

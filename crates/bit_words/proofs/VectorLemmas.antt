@@ -1,17 +1,9 @@
 -- What the calls of a bit vector cite: its length, its capacity and its list.
 use Rattle.std.proofs.Common.{◌≡◌, ℕ, ◌+◌, ◌-◌, ◌*◌, ◌/◌, ◌^◌, ◌<◌, ◌≤◌, max, Bool, false, zero, suc, List, [], ◌∷◌, map, length, get_or, refl, sym, ap, ◌∙◌, arith, Some, None, slice_get, All, mul-le-mul_right, pow_pos}
-use Rattle.std.proofs.lemmas.Bool.Decides.{nat_tests}
-use Rattle.std.proofs.lemmas.List.{get_or-map, length-map}
-use Rattle.std.proofs.lemmas.List.Elements.{All-tail}
-use Rattle.std.proofs.lemmas.Nat.Bits.{bit_at-lt, bit_at-zero, same_from_bits_below}
+use Rattle.std.proofs.lemmas.{Bool.Decides.nat_tests, List.{get_or-map, length-map, Elements.All-tail}, Nat.Bits.{bit_at-lt, bit_at-zero, same_from_bits_below}, Option.{slice_get-get_or, slice_get_past}}
 use Rattle.std.specs.Int.{bit_at}
-use Rattle.std.proofs.lemmas.Option.{slice_get-get_or, slice_get_past}
-use Rattle.bit_words.specs.Bits.{Bits, IsWithinCapacity, IsCapacityOfBlocks, blocks_for, capacity_of}
-use Rattle.bit_words.specs.Digits.{is_one}
-use Rattle.bit_words.specs.Storage.{value_at, values_of, IsPacked}
-use Rattle.bit_words.proofs.BitsLemmas.{blocks_for-enough, blocks_for-least}
-use Rattle.bit_words.proofs.StorageLemmas.{length-values_of, value_at-past, get_or-values_of, value_at-is, value_at-index}
-use Rattle.bit_words.proofs.Masks.{is_one-zero}
+use Rattle.bit_words.{specs.{Bits.{Bits, IsWithinCapacity, IsCapacityOfBlocks, blocks_for, capacity_of}, Digits.is_one, Storage.{value_at, values_of, IsPacked}}, proofs.BitsLemmas.{blocks_for-enough, blocks_for-least}}
+use Rattle.bit_words.proofs.{StorageLemmas.{length-values_of, value_at-past, get_or-values_of, value_at-is, value_at-index}, Masks.is_one-zero}
 
 -- ---- the length and the capacity
 

@@ -1,9 +1,6 @@
 -- What the blocks of two lists become, digit by digit. No public clause cites this.
 use Rattle.std.specs.Prelude.{◌≡◌, ℕ, ◌<◌, ◌≤◌, true, false, List, map, length, get_or, All}
-use Rattle.bit_words.specs.Digits.{is_one}
-use Rattle.bit_words.specs.Merges.{merge_of_values}
-use Rattle.bit_words.specs.Storage.{value_at}
-use Rattle.bit_words.specs.declared.block.merge.Merge.{Merge}
+use Rattle.bit_words.specs.{Digits.is_one, Merges.merge_of_values, Storage.value_at, declared.block.merge.Merge.Merge}
 
 -- digit by digit, the first blocks of two lists merge to 0
 pub record MergesToZero (merge : Merge) (w : ℕ) (ms ns : List ℕ) (count : ℕ) : Type 0 where

@@ -1,7 +1,6 @@
 -- What the operators of a block do to the binary digits of its number.
 -- Digit i of m is `bit_at m i`, that is `m / 2 ^ i % 2`. A block has w digits, and m, n and r are numbers of blocks.
-use Rattle.std.specs.Prelude.{◌≡◌, ℕ, ◌+◌, ◌-◌, ◌%◌, ◌^◌, ◌<◌, ◌≤◌, ◌==◌, min, max, Bool}
-use Rattle.std.specs.Int.{bit_at}
+use Rattle.std.specs.{Prelude.{◌≡◌, ℕ, ◌+◌, ◌-◌, ◌%◌, ◌^◌, ◌<◌, ◌≤◌, ◌==◌, min, max, Bool}, Int.bit_at}
 
 -- whether digit j of m is 1
 abbrev pub is_one : ℕ → ℕ → Bool

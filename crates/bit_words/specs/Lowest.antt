@@ -1,6 +1,5 @@
 -- The lowest 1 among the binary digits of a number.
-use Rattle.std.specs.Prelude.{◌≡◌, ◌≢◌, ℕ, ◌+◌, ◌-◌, ◌^◌, ◌<◌, ◌≤◌, count_ones}
-use Rattle.std.specs.Int.{bit_at}
+use Rattle.std.specs.{Prelude.{◌≡◌, ◌≢◌, ℕ, ◌+◌, ◌-◌, ◌^◌, ◌<◌, ◌≤◌, count_ones}, Int.bit_at}
 use Rattle.bit_words.specs.Digits.{IsBoth, IsComplement}
 
 -- Digit i of m is 1, and those below it are 0.

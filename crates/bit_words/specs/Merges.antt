@@ -1,7 +1,6 @@
 -- What two lists of truth values become, value by value.
 use Rattle.std.specs.Prelude.{Bool, false, not, ◌&&◌, ◌||◌, List, [], ◌∷◌}
-use Rattle.bit_words.specs.declared.block.merge.Merge.{Merge}
-use Rattle.bit_words.specs.declared.block.merge.Merge.TheVariants.{Union, Intersection, Difference, Symmetric}
+use Rattle.bit_words.specs.declared.block.merge.Merge.{Merge, TheVariants.{Union, Intersection, Difference, Symmetric}}
 
 -- what two values become: in either, in both, in the first alone, in just one
 abbrev pub merge_of_values : Merge → Bool → Bool → Bool

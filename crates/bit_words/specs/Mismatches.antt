@@ -1,6 +1,5 @@
 -- Where two lists of blocks and two blocks first differ.
-use Rattle.std.specs.Prelude.{◌≡◌, ◌≢◌, ℕ, ◌+◌, ◌<◌, ◌≤◌, List, get_or}
-use Rattle.std.specs.Int.{bit_at}
+use Rattle.std.specs.{Prelude.{◌≡◌, ◌≢◌, ℕ, ◌+◌, ◌<◌, ◌≤◌, List, get_or}, Int.bit_at}
 
 -- k is the first index at which the blocks differ, where those past the end of a list are 0
 pub record IsFirstBlockMismatch (ms ns : List ℕ) (k : ℕ) : Type 0 where

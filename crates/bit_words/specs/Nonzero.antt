@@ -1,8 +1,6 @@
 -- A walk over the blocks that are not 0, each with its index.
-use Rattle.std.specs.Prelude.{◌≡◌, ℕ, ◌+◌, ◌-◌, ◌*◌, ◌/◌, ◌==◌, Bool, true, false, not, None, Some, ◌≤◌, if◌then◌else◌, min, List, [], ◌∷◌, Option, MatchOption, drop, length}
-use Rattle.std.specs.Int.RustNames.{count_ones}
-use Rattle.std.specs.Iterator.{YieldsFirst}
-use Rattle.std.specs.List.{sum_by}
+use Rattle.std.specs.{Prelude.{◌≡◌, ℕ, ◌+◌, ◌-◌, ◌*◌, ◌/◌, ◌==◌, Bool, true, false, not, None, Some, ◌≤◌, if◌then◌else◌, min, List, [], ◌∷◌, Option, MatchOption, drop, length}, Int.RustNames.count_ones}
+use Rattle.std.specs.{Iterator.YieldsFirst, List.sum_by}
 use Rattle.bit_words.specs.Bits.{blocks_for}
 
 -- What contracts see of such a walk: all blocks that it goes over; those that are left, each with its

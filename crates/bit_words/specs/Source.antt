@@ -1,6 +1,5 @@
 -- A walk over blocks: what is left, and how many times it was pulled.
-use Rattle.std.specs.Prelude.{◌≡◌, ℕ, ◌+◌, Bool, true, false, List, Option, IsSomeAnd}
-use Rattle.std.specs.Iterator.{YieldsFirst}
+use Rattle.std.specs.{Prelude.{◌≡◌, ℕ, ◌+◌, Bool, true, false, List, Option, IsSomeAnd}, Iterator.YieldsFirst}
 
 pub record Source (X : Type 0) : Type 0 where
   pub left : List X

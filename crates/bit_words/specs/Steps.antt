@@ -1,8 +1,6 @@
 -- How far a chain of links goes.
 use Rattle.std.specs.Prelude.{ℕ, ◌+◌}
-use Rattle.bit_words.specs.declared.steps.Link.{Link}
-use Rattle.bit_words.specs.declared.steps.Link.TheVariants.{Zero}
-use Rattle.bit_words.specs.declared.steps.Link.{More', Same'}
+use Rattle.bit_words.specs.declared.steps.Link.{Link, More', Same', TheVariants.Zero}
 
 -- one for each link that says `More`
 abbrev pub depth : Link → ℕ

@@ -1,9 +1,6 @@
 -- How a vector of blocks holds a list of truth values. No public clause cites this.
-use Rattle.std.specs.Prelude.{◌≡◌, ◌≢◌, ℕ, ◌^◌, ◌/◌, ◌%◌, ◌<◌, ◌≤◌, Bool, false, List, map, length, get_or, All, vec_len, vec_capacity}
-use Rattle.std.specs.Global.{Vec}
-use Rattle.std.specs.List.{range_with_len}
-use Rattle.bit_words.specs.Bits.{blocks_for}
-use Rattle.bit_words.specs.Digits.{is_one}
+use Rattle.std.specs.{Prelude.{◌≡◌, ◌≢◌, ℕ, ◌^◌, ◌/◌, ◌%◌, ◌<◌, ◌≤◌, Bool, false, List, map, length, get_or, All, vec_len, vec_capacity}, Global.Vec, List.range_with_len}
+use Rattle.bit_words.specs.{Bits.blocks_for, Digits.is_one}
 
 -- value i is digit i % w of block i / w, and false where there is no such block
 unfoldable pub value_at : ℕ → List ℕ → ℕ → Bool

@@ -1,8 +1,6 @@
 -- The summary of a vector of blocks: which of them are not 0. No public clause cites this.
 use Rattle.std.specs.Prelude.{◌≡◌, ℕ, ◌+◌, ◌*◌, ◌<◌, ◌≤◌, ◌&&◌, Bool, not, nat_lt, nat_le, if◌then◌else◌, min, max, List, [], map, length, get_or, ◌==◌}
-use Rattle.bit_words.specs.Bits.{blocks_for}
-use Rattle.bit_words.specs.Digits.{is_one}
-use Rattle.bit_words.specs.Storage.{value_at, IsPacked}
+use Rattle.bit_words.specs.{Bits.blocks_for, Digits.is_one, Storage.{value_at, IsPacked}}
 
 -- whether block k is not 0
 abbrev pub is_used : List ℕ → ℕ → Bool

@@ -1,8 +1,6 @@
 //! Bit vectors over blocks of any lawful type.
-ghost use Rattle.std.specs.Prelude.{◌≡◌, ◌+◌, ◌-◌, ◌/◌, ◌↔◌, All, IsTrue, drop, false, length, map, min, slice_get};
-ghost use Rattle.std.specs.List.{count_by};
-ghost use Rattle.bit_words.specs.Bits.{blocks_for, blocks_of, IsCapacityOfBlocks, IsWithinCapacity};
-ghost use Rattle.bit_words.specs.Nonzero.{before_first, StartsPast};
+ghost use Rattle.std.specs.{Prelude.{◌≡◌, ◌+◌, ◌-◌, ◌/◌, ◌↔◌, All, IsTrue, drop, false, length, map, min, slice_get}, List.count_by};
+ghost use Rattle.bit_words.specs.{Bits.{blocks_for, blocks_of, IsCapacityOfBlocks, IsWithinCapacity}, Nonzero.{before_first, StartsPast}};
 
 use crate::bit_vec::pending::Unstored;
 use crate::packed::access::get_bit;
@@ -25,10 +23,10 @@ pub use crate::block::lowest::take_lowest_one;
 pub use crate::block::masks::clear_below;
 pub use crate::block::merge::Merge;
 pub use crate::block::{BitBlock, operation};
-pub use crate::packed::groups::GROUP;
 pub use crate::packed::comparing::{
     first_mismatching_block, lowest_mismatch, mismatch_between, same_blocks,
 };
+pub use crate::packed::groups::GROUP;
 pub use crate::packed::searching::{block_or_zero, first_nonzero_block, has_one_from};
 pub use crate::steps::Steps;
 pub use blocks::Blocks;
@@ -58,9 +56,7 @@ pub struct BitVec<B: BitBlock = u32> {
 
 impl<B: BitBlock> Model for BitVec<B> {
     ghost use Rattle.std.specs.Prelude.{map, vec_capacity};
-    ghost use Rattle.bit_words.specs.Bits.{Bits, capacity_of};
-    ghost use Rattle.bit_words.specs.Storage.{values_of};
-    ghost use Rattle.bit_words.specs.Summary.{shared_capacity, IsStoredList};
+    ghost use Rattle.bit_words.specs.{Bits.{Bits, capacity_of}, Storage.values_of, Summary.{shared_capacity, IsStoredList}};
 
     ghost Value = { Bits };
 

@@ -1,7 +1,6 @@
 // What a type of blocks has to be. The types themselves, and what is computed of one or two blocks, are in the
 // folder; nothing here knows of a list.
-ghost use Rattle.std.specs.Prelude.{◌≡◌, ℕ, ◌+◌, ◌^◌, ◌<◌, ◌≤◌, ◌↔◌, true};
-ghost use Rattle.std.specs.Int.RustNames.{count_ones};
+ghost use Rattle.std.specs.{Prelude.{◌≡◌, ℕ, ◌+◌, ◌^◌, ◌<◌, ◌≤◌, ◌↔◌, true}, Int.RustNames.count_ones};
 ghost use Rattle.bit_words.specs.Digits.{IsWidth, IsBoth, IsEither, IsDifferent, IsComplement, IsShiftedLeft, IsShiftedRight};
 
 use std::ops::{Add, BitAnd, BitOr, BitXor, Not, Sub};

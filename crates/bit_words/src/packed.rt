@@ -3,10 +3,10 @@
 pub(crate) mod access;
 pub(crate) mod block_merges;
 pub(crate) mod bytes;
+pub(crate) mod comparing;
 pub(crate) mod copies;
 pub(crate) mod groups;
 pub(crate) mod inclusion;
-pub(crate) mod comparing;
 pub(crate) mod ones;
 pub(crate) mod resizing;
 pub(crate) mod searching;

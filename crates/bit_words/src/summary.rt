@@ -2,10 +2,7 @@
 // in blocks as well, and so changed by `packed`. This folder keeps the two in step, but where all bits become one value
 // or none is left: `fill` and `remove_all` of a bit vector do the same to both.
 ghost use Rattle.std.specs.Prelude.{◌≡◌, ◌≢◌, ℕ, ◌+◌, ◌-◌, ◌*◌, ◌/◌, ◌^◌, ◌<◌, ◌≤◌, ◌==◌, ◌&&◌, ◌||◌, All, IfOk, IsOk, get_or, not, nat_le, nat_lt, [], length, map, min, false, true, vec_len, vec_capacity};
-ghost use Rattle.bit_words.specs.Bits.{blocks_for};
-ghost use Rattle.bit_words.specs.Digits.{is_one};
-ghost use Rattle.bit_words.specs.Storage.{value_at, IsPacked, WritesInPlace, WritesValue};
-ghost use Rattle.bit_words.specs.Summary.{is_used, short_count, stored_for, IsSummary, IsStoredSummary, SaysUsed};
+ghost use Rattle.bit_words.specs.{Bits.blocks_for, Digits.is_one, Storage.{value_at, IsPacked, WritesInPlace, WritesValue}, Summary.{is_used, short_count, stored_for, IsSummary, IsStoredSummary, SaysUsed}};
 
 use crate::block::BitBlock;
 use crate::block::masks::with_one_if;

@@ -2,8 +2,7 @@
 ghost use Rattle.std.specs.Prelude.{◌≡◌, ◌≢◌, ◌↔◌, ℕ, List, All, IsTrue, IfOk, IfErr, MatchOption, Some, length, map};
 ghost use Rattle.bit_words.specs.Bits.{blocks_for};
 ghost use Rattle.serde_json.specs.View.{view, items_view};
-ghost use Rattle.bit_set.specs.Json.{HasShape, HasZeroTail, IsFirstFault, Spells, members_in, number_in};
-ghost use Rattle.bit_set.specs.Entries.{AreParts, HasLength, IsEntry, numbers_of};
+ghost use Rattle.bit_set.specs.{Json.{HasShape, HasZeroTail, IsFirstFault, Spells, members_in, number_in}, Entries.{AreParts, HasLength, IsEntry, numbers_of}};
 
 use super::{JsonBlock, JsonError};
 use serde_json::Value;

@@ -1,7 +1,6 @@
 // Writing of blocks and a length as a value.
 ghost use Rattle.std.specs.Prelude.{◌≡◌, All, IfOk, codes, map};
-ghost use Rattle.serde_json.specs.Data.{array, member, no_members, number, object, unsigned};
-ghost use Rattle.serde_json.specs.View.{items_view, view};
+ghost use Rattle.serde_json.specs.{Data.{array, member, no_members, number, object, unsigned}, View.{items_view, view}};
 ghost use Rattle.bit_set.specs.Entries.{AreNumbers};
 
 use super::JsonBlock;

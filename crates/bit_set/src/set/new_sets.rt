@@ -1,13 +1,8 @@
 // Calls that make a set.
-ghost use Rattle.std.specs.Prelude.{◌≡◌, ◌≢◌, ℕ, ◌+◌, ◌-◌, ◌*◌, ◌<◌, ◌≤◌, ◌↔◌, IfOk, IfErr, IsOk, IsErrOf, IsTrue, List, [], length, slice_index, Some};
-ghost use Rattle.std.specs.Int.{bit_at};
-ghost use Rattle.std.specs.Iterator.{Drains, IsFinite, YieldsThen};
+ghost use Rattle.std.specs.{Prelude.{◌≡◌, ◌≢◌, ℕ, ◌+◌, ◌-◌, ◌*◌, ◌<◌, ◌≤◌, ◌↔◌, IfOk, IfErr, IsOk, IsErrOf, IsTrue, List, [], length, slice_index, Some}, Int.bit_at, Iterator.{Drains, IsFinite, YieldsThen}};
 ghost use Rattle.std.specs.Iterator.Runs.{WholeRun};
-ghost use Rattle.bit_words.specs.Bits.{blocks_for, capacity_of, values_of_bytes};
-ghost use Rattle.bit_set.specs.Sets.{bound_of, elements, has, put_all};
-ghost use Rattle.bit_set.specs.Members.{HasNone, HasTrueOf, IsSameSet};
-ghost use Rattle.bit_words.specs.Bounds.{greatest};
-ghost use Rattle.bit_set.specs.Capacity.{IsPastBlocks};
+ghost use Rattle.bit_words.specs.{Bits.{blocks_for, capacity_of, values_of_bytes}, Bounds.greatest};
+ghost use Rattle.bit_set.specs.{Sets.{bound_of, elements, has, put_all}, Members.{HasNone, HasTrueOf, IsSameSet}, Capacity.IsPastBlocks};
 
 use crate::bit_vec::BitVec;
 use crate::{BitBlock, BitSet, SetError};

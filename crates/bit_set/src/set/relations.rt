@@ -1,7 +1,6 @@
 // Calls that say how the elements of two sets lie to each other.
 ghost use Rattle.std.specs.Prelude.{◌≡◌, ◌↔◌, IsTrue};
-ghost use Rattle.bit_set.specs.Members.{IsDisjoint, IsSubset};
-ghost use Rattle.bit_set.specs.Sets.{elements, is_subset, is_disjoint};
+ghost use Rattle.bit_set.specs.{Members.{IsDisjoint, IsSubset}, Sets.{elements, is_subset, is_disjoint}};
 
 use crate::bit_vec::Steps;
 use crate::{BitBlock, BitSet};

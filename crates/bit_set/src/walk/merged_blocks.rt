@@ -1,8 +1,7 @@
 // The blocks of two sets, merged.
 ghost use Rattle.std.specs.Prelude.{◌≡◌, ◌+◌, ◌<◌, ◌≤◌, ◌^◌, ◌⊎◌, max, IfSome, All, [], length};
 ghost use Rattle.bit_words.specs.Bits.{blocks_for};
-ghost use Rattle.bit_set.specs.Sets.{elements, merge_of_sets};
-ghost use Rattle.bit_set.specs.Indexes.{IsMergedPull, IsWalkable, PullsBlock, PullsBlockIf, ones_from, ones_of_merged};
+ghost use Rattle.bit_set.specs.{Sets.{elements, merge_of_sets}, Indexes.{IsMergedPull, IsWalkable, PullsBlock, PullsBlockIf, ones_from, ones_of_merged}};
 
 use crate::BitBlock;
 use crate::bit_vec::operation::Operation;

@@ -1,11 +1,7 @@
 // The walk over what two sets become, by a type for each operation.
-ghost use Rattle.std.specs.Prelude.{◌≡◌, IfSome, length};
-ghost use Rattle.std.specs.Iterator.{UpTo, item_count};
-ghost use Rattle.std.specs.Iterator.Runs.{YieldsInOrder};
-ghost use Rattle.std.specs.Iterator.SizeHint.{IsWithinCount};
-ghost use Rattle.bit_set.specs.Members.{IsDifference, IsMerged, IsSymmetricDifference, IsUnion};
-ghost use Rattle.bit_set.specs.Sets.{elements, merge_of_sets, union, difference, symmetric_difference};
-ghost use Rattle.bit_set.specs.Walk.{AdvancesByEach, GoesOn, StartsOverTwo, bound_on_rest};
+ghost use Rattle.std.specs.{Prelude.{◌≡◌, IfSome, length}, Iterator.{UpTo, item_count, Runs.YieldsInOrder, SizeHint.IsWithinCount}};
+ghost use Rattle.bit_set.specs.{Members.{IsDifference, IsMerged, IsSymmetricDifference, IsUnion}, Sets.{elements, merge_of_sets, union, difference, symmetric_difference}, Walk.{AdvancesByEach, GoesOn, StartsOverTwo}};
+ghost use Rattle.bit_set.specs.Walk.{bound_on_rest};
 
 use super::merged_blocks::Pairs;
 use crate::bit_vec::operation::{self, Operation};
@@ -35,8 +31,7 @@ pub type Difference<'a, B> = TwoSets<'a, B, operation::Difference>;
 pub type SymmetricDifference<'a, B> = TwoSets<'a, B, operation::Symmetric>;
 
 impl<'a, B: BitBlock, O: Operation> Model for TwoSets<'a, B, O> {
-    ghost use Rattle.bit_set.specs.Walk.{TwoSetWalk};
-    ghost use Rattle.bit_set.specs.Indexes.{indexes, IsWalk};
+    ghost use Rattle.bit_set.specs.{Walk.TwoSetWalk, Indexes.{indexes, IsWalk}};
 
     ghost Value = { TwoSetWalk };
 

@@ -1,7 +1,5 @@
 // The walk over all blocks of a bit vector.
-ghost use Rattle.std.specs.Prelude.{◌≡◌, ℕ, ◌+◌, ◌<◌, ◌≤◌, All, IfSome, Some, drop, get_or, length, map};
-ghost use Rattle.std.specs.Iterator.{UpTo, item_count};
-ghost use Rattle.std.specs.Iterator.SizeHint.{IsWithinCount};
+ghost use Rattle.std.specs.{Prelude.{◌≡◌, ℕ, ◌+◌, ◌<◌, ◌≤◌, All, IfSome, Some, drop, get_or, length, map}, Iterator.{UpTo, item_count, SizeHint.IsWithinCount}};
 ghost use Rattle.bit_words.specs.Source.{PullsIf};
 
 use crate::block::BitBlock;

@@ -1,8 +1,6 @@
 // Calls that say how the true values of two lists lie to each other.
 ghost use Rattle.std.specs.Prelude.{◌≡◌, ◌≢◌, ℕ, ◌+◌, ◌/◌, ◌≤◌, ◌↔◌, IsTrue, Some, length, min, slice_get, true};
-ghost use Rattle.bit_words.specs.Bits.{IsFirstTrue, blocks_for};
-ghost use Rattle.bit_words.specs.Merges.{merge_of};
-ghost use Rattle.bit_words.specs.declared.block.merge.Merge.{Merge};
+ghost use Rattle.bit_words.specs.{Bits.{IsFirstTrue, blocks_for}, Merges.merge_of, declared.block.merge.Merge.Merge};
 
 use crate::bit_vec::BitVec;
 use crate::block::BitBlock;

@@ -1,7 +1,6 @@
 // Calls that make a bit vector.
 ghost use Rattle.std.specs.Prelude.{◌≡◌, ◌*◌, ◌<◌, ◌≤◌, ◌↔◌, ◌++◌, [], alloc_error, drop, false, length, replicate, IfOk, IsErrOf, IsOk};
-ghost use Rattle.bit_words.specs.Bits.{blocks_for, capacity_of, values_of_bytes};
-ghost use Rattle.bit_words.specs.declared.bit_vec.constructors.BitsError.TheVariants.{Memory};
+ghost use Rattle.bit_words.specs.{Bits.{blocks_for, capacity_of, values_of_bytes}, declared.bit_vec.constructors.BitsError.TheVariants.Memory};
 
 use crate::bit_vec::BitVec;
 use crate::block::BitBlock;

@@ -1,7 +1,6 @@
 // Calls that change the list in place.
 ghost use Rattle.std.specs.Prelude.{◌≡◌, ◌+◌, ◌<◌, ◌≤◌, [], ◌++◌, length, max, replicate, slice_get, slice_set, take, Some, OnOk};
-ghost use Rattle.bit_words.specs.Bits.{blocks_for, capacity_of};
-ghost use Rattle.bit_words.specs.Growth.{Grows};
+ghost use Rattle.bit_words.specs.{Bits.{blocks_for, capacity_of}, Growth.Grows};
 
 use crate::bit_vec::BitVec;
 use crate::block::BitBlock;

@@ -1,6 +1,5 @@
 // The walk over the first block of a bit vector, and then those that are not 0.
-ghost use Rattle.std.specs.Prelude.{◌≡◌};
-ghost use Rattle.std.specs.Iterator.{item_count};
+ghost use Rattle.std.specs.{Prelude.◌≡◌, Iterator.item_count};
 ghost use Rattle.bit_words.specs.Nonzero.{before_first, StartsPast};
 
 use crate::bit_vec::Nonzero;

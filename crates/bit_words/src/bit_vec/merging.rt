@@ -1,7 +1,6 @@
 // Calls that merge a second list into the list.
 ghost use Rattle.std.specs.Prelude.{◌≡◌, ◌+◌, ◌≤◌, length};
-ghost use Rattle.bit_words.specs.Bits.{blocks_for};
-ghost use Rattle.bit_words.specs.Merges.{merge_of};
+ghost use Rattle.bit_words.specs.{Bits.blocks_for, Merges.merge_of};
 
 use crate::bit_vec::BitVec;
 use crate::block::BitBlock;

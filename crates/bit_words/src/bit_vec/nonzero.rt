@@ -1,8 +1,6 @@
 // The walk over the blocks of a bit vector that are not 0, by its summary.
-ghost use Rattle.std.specs.Prelude.{◌≡◌, ℕ, ◌+◌, ◌-◌, ◌*◌, ◌<◌, ◌≤◌, ◌^◌, All, IfSome, Some, length, map, slice_get};
-ghost use Rattle.std.specs.Iterator.{item_count};
-ghost use Rattle.bit_words.specs.Bits.{blocks_for, blocks_of, IsWithinCapacity};
-ghost use Rattle.bit_words.specs.Nonzero.{ones_left, PullsNonzero, Refills, StartsPast};
+ghost use Rattle.std.specs.{Prelude.{◌≡◌, ℕ, ◌+◌, ◌-◌, ◌*◌, ◌<◌, ◌≤◌, ◌^◌, All, IfSome, Some, length, map, slice_get}, Iterator.item_count};
+ghost use Rattle.bit_words.specs.{Bits.{blocks_for, blocks_of, IsWithinCapacity}, Nonzero.{ones_left, PullsNonzero, Refills, StartsPast}};
 
 use crate::bit_vec::BitVec;
 use crate::bit_vec::pending::{Pending, Unstored};
@@ -31,9 +29,7 @@ pub struct Nonzero<'a, B: BitBlock> {
 
 impl<'a, B: BitBlock> Model for Nonzero<'a, B> {
     ghost use Rattle.std.specs.Prelude.{◌+◌, ◌-◌, length};
-    ghost use Rattle.bit_words.specs.Bits.{blocks_for};
-    ghost use Rattle.bit_words.specs.Nonzero.{Nonzeros};
-    ghost use Rattle.bit_words.specs.Pending.{IsPending, left_from, next_at};
+    ghost use Rattle.bit_words.specs.{Bits.blocks_for, Nonzero.Nonzeros, Pending.{IsPending, left_from, next_at}};
 
     ghost Value = { Nonzeros B };
 

@@ -1,9 +1,6 @@
 // The blocks that a walk has still to look at, by the summary.
 ghost use Rattle.std.specs.Prelude.{◌≡◌, ℕ, ◌+◌, ◌-◌, ◌/◌, ◌<◌, ◌≤◌, ◌^◌, All, drop, get_or, length, map, nat_lt};
-ghost use Rattle.bit_words.specs.Bits.{blocks_for};
-ghost use Rattle.bit_words.specs.Digits.{is_one};
-ghost use Rattle.bit_words.specs.Pending.{CoversUsed, Finds, IsPending, IsStoredFrom, left_from, next_at};
-ghost use Rattle.bit_words.specs.Summary.{is_used, IsStoredSummary};
+ghost use Rattle.bit_words.specs.{Bits.blocks_for, Digits.is_one, Pending.{CoversUsed, Finds, IsPending, IsStoredFrom, left_from, next_at}, Summary.{is_used, IsStoredSummary}};
 
 use crate::bit_vec::Blocks;
 use crate::block::BitBlock;

@@ -3,8 +3,7 @@
 // repository writes.
 #![tactic(auto, using(crate::specs::DigitLaws::shifted_left, crate::specs::DigitLaws::shifted_right))]
 
-ghost use Rattle.std.specs.Prelude.{◌^◌, ◌<◌, refl};
-ghost use Rattle.std.proofs.Common.{lit<};
+ghost use Rattle.std.{specs.Prelude.{◌^◌, ◌<◌, refl}, proofs.Common.lit<};
 ghost use Rattle.bit_words.specs.DigitLaws.{both, either, different, complement, added, subtracted, compared};
 
 use crate::block::BitBlock;

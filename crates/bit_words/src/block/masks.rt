@@ -1,7 +1,6 @@
 // A block with some of its bits written. Each clause is by digit, as the test that it is 1. Lists of blocks are in
 // `packed`.
-ghost use Rattle.std.specs.Prelude.{◌≡◌, ◌≢◌, ℕ, ◌<◌, ◌==◌, ◌&&◌, ◌||◌, false, nat_lt, nat_le};
-ghost use Rattle.std.specs.Int.{bit_at};
+ghost use Rattle.std.specs.{Prelude.{◌≡◌, ◌≢◌, ℕ, ◌<◌, ◌==◌, ◌&&◌, ◌||◌, false, nat_lt, nat_le}, Int.bit_at};
 ghost use Rattle.bit_words.specs.Digits.{is_one};
 
 use crate::block::BitBlock;

@@ -1,6 +1,5 @@
 // The four ways to make two blocks one. Lists of blocks are merged in `packed`.
-ghost use Rattle.std.specs.Prelude.{◌≡◌, ℕ, ◌<◌, ◌==◌};
-ghost use Rattle.std.specs.Int.{bit_at};
+ghost use Rattle.std.specs.{Prelude.{◌≡◌, ℕ, ◌<◌, ◌==◌}, Int.bit_at};
 ghost use Rattle.bit_words.specs.Merges.{merge_of_values};
 
 use crate::block::BitBlock;

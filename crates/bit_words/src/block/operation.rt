@@ -1,8 +1,6 @@
 //! The four merges, each by a type.
-ghost use Rattle.std.specs.Prelude.{◌≡◌, ℕ, ◌<◌, ◌==◌};
-ghost use Rattle.std.specs.Int.{bit_at};
-ghost use Rattle.bit_words.specs.Merges.{merge_of_values};
-ghost use Rattle.bit_words.specs.declared.block.merge.Merge.{Merge};
+ghost use Rattle.std.specs.{Prelude.{◌≡◌, ℕ, ◌<◌, ◌==◌}, Int.bit_at};
+ghost use Rattle.bit_words.specs.{Merges.merge_of_values, declared.block.merge.Merge.Merge};
 
 use crate::block::BitBlock;
 use crate::block::operators::{block_and, block_not, block_or, block_xor};

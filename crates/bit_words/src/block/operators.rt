@@ -1,7 +1,6 @@
 // The operators of a block type, each as a function whose clauses name the digits and the number of the result.
 // Generic code calls these, and so cites no law of an operator.
-ghost use Rattle.std.specs.Prelude.{◌≡◌, ◌-◌, ◌*◌, ◌/◌, ◌%◌, ◌^◌, ◌<◌, ◌≤◌, ◌==◌, bit_and, bit_or};
-ghost use Rattle.std.specs.Int.{bit_at};
+ghost use Rattle.std.specs.{Prelude.{◌≡◌, ◌-◌, ◌*◌, ◌/◌, ◌%◌, ◌^◌, ◌<◌, ◌≤◌, ◌==◌, bit_and, bit_or}, Int.bit_at};
 ghost use Rattle.bit_words.specs.Digits.{IsBoth, IsEither, IsDifferent, IsComplement, IsShiftedLeft, IsShiftedRight};
 
 use crate::block::BitBlock;

@@ -1,9 +1,6 @@
 // Blocks made of bytes: the highest bit of a byte is the first of eight.
 ghost use Rattle.std.specs.Prelude.{◌≡◌, ℕ, ◌+◌, ◌*◌, ◌^◌, ◌<◌, ◌≤◌, ◌&&◌, All, map, nat_lt, length, vec_capacity, IfOk, IsOk};
-ghost use Rattle.bit_words.specs.Bits.{blocks_for};
-ghost use Rattle.bit_words.specs.Bytes.{byte_value};
-ghost use Rattle.bit_words.specs.Digits.{is_one};
-ghost use Rattle.bit_words.specs.Storage.{value_at};
+ghost use Rattle.bit_words.specs.{Bits.blocks_for, Bytes.byte_value, Digits.is_one, Storage.value_at};
 
 use crate::block::BitBlock;
 use crate::block::operators::{block_or, shift_left};

@@ -1,7 +1,6 @@
 // Whether lists of blocks are the same, and where they differ. A block past the end of a list counts as 0.
 ghost use Rattle.std.specs.Prelude.{◌≡◌, ◌≢◌, ℕ, ◌+◌, ◌*◌, ◌<◌, ◌≤◌, ◌==◌, ◌↔◌, All, IsTrue, MatchOption, get_or, length, map};
-ghost use Rattle.bit_words.specs.Comparisons.{CanCompare};
-ghost use Rattle.bit_words.specs.Mismatches.{IsFirstBlockMismatch, IsLowestMismatch};
+ghost use Rattle.bit_words.specs.{Comparisons.CanCompare, Mismatches.{IsFirstBlockMismatch, IsLowestMismatch}};
 
 use crate::block::BitBlock;
 use crate::block::lowest::take_lowest_one;

@@ -1,8 +1,6 @@
 // Whether the blocks of two lists merge to zeros: within one another, or apart.
 ghost use Rattle.std.specs.Prelude.{◌≡◌, ◌≢◌, ℕ, ◌+◌, ◌/◌, ◌<◌, ◌≤◌, ◌↔◌, All, IsTrue, length, map, get_or, min};
-ghost use Rattle.bit_words.specs.declared.block.merge.Merge.{Merge};
-ghost use Rattle.bit_words.specs.BlockMerges.{IsFirstMerged, MergesToFalse, MergesToZero};
-ghost use Rattle.bit_words.specs.Comparisons.{CanCompare, TakesSteps};
+ghost use Rattle.bit_words.specs.{declared.block.merge.Merge.Merge, BlockMerges.{IsFirstMerged, MergesToFalse, MergesToZero}, Comparisons.{CanCompare, TakesSteps}};
 
 use crate::block::BitBlock;
 use crate::block::operation::{Difference, Intersection, Operation};

@@ -1,7 +1,6 @@
 // A list of bits that grows, is cut or is filled: the bits past its length stay 0. Memory is asked for elsewhere.
 ghost use Rattle.std.specs.Prelude.{◌≡◌, ℕ, ◌-◌, ◌/◌, ◌<◌, ◌≤◌, ◌++◌, All, IfOk, IsOk, false, nat_lt, map, replicate, take, vec_len, vec_capacity};
-ghost use Rattle.bit_words.specs.Bits.{blocks_for};
-ghost use Rattle.bit_words.specs.Storage.{value_at, IsPacked, WritesInPlace};
+ghost use Rattle.bit_words.specs.{Bits.blocks_for, Storage.{value_at, IsPacked, WritesInPlace}};
 
 use crate::block::BitBlock;
 use crate::block::operators::{all_ones, ones_below};

@@ -1,7 +1,5 @@
 // What is looked for in a list of blocks, and in one of them.
-ghost use Rattle.std.specs.Prelude.{◌≡◌, ℕ, ◌<◌, ◌≤◌, All, MatchOption, get_or, map};
-ghost use Rattle.std.specs.Bool.{OnTrue, OnFalse};
-ghost use Rattle.std.specs.Int.{bit_at};
+ghost use Rattle.std.specs.{Prelude.{◌≡◌, ℕ, ◌<◌, ◌≤◌, All, MatchOption, get_or, map}, Bool.{OnTrue, OnFalse}, Int.bit_at};
 ghost use Rattle.bit_words.specs.Mismatches.{IsFirstNonzeroBlock};
 
 use crate::block::BitBlock;

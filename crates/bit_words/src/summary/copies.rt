@@ -1,7 +1,6 @@
 // Copies of blocks together with their summary, whole or from a block on.
 ghost use Rattle.std.specs.Prelude.{◌≡◌, ◌-◌, ◌<◌, All, IfOk, OnErr, OnOk, length, map, max, vec_capacity, ℕ, false};
-ghost use Rattle.bit_words.specs.Summary.{shared_capacity, is_used, short_count, stored_for, IsStoredSummary};
-ghost use Rattle.bit_words.specs.Storage.{value_at, IsPacked};
+ghost use Rattle.bit_words.specs.{Summary.{shared_capacity, is_used, short_count, stored_for, IsStoredSummary}, Storage.{value_at, IsPacked}};
 
 use crate::block::BitBlock;
 use crate::packed::copies::{copy_blocks, copy_of};

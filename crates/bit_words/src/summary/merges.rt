@@ -1,11 +1,7 @@
 // Merges of the blocks of two lists that have summaries: of a union it is the union of the summaries, and of the
 // others each block of it is made while the blocks that it is about are merged.
 ghost use Rattle.std.specs.Prelude.{◌≡◌, ℕ, ◌+◌, ◌*◌, ◌/◌, ◌<◌, ◌≤◌, All, get_or, length, map};
-ghost use Rattle.bit_words.specs.BlockMerges.{CanMerge, HasMerged};
-ghost use Rattle.bit_words.specs.Digits.{is_one};
-ghost use Rattle.bit_words.specs.Storage.{value_at};
-ghost use Rattle.bit_words.specs.Summary.{is_used, IsSummary, IsStoredSummary, SaysUsed};
-ghost use Rattle.bit_words.specs.declared.block.merge.Merge.{Merge};
+ghost use Rattle.bit_words.specs.{BlockMerges.{CanMerge, HasMerged}, Digits.is_one, Storage.value_at, Summary.{is_used, IsSummary, IsStoredSummary, SaysUsed}, declared.block.merge.Merge.Merge};
 
 use crate::block::BitBlock;
 use crate::block::masks::{cut_below, with_one_if};

@@ -1,8 +1,6 @@
 // What is found faster by a summary: the ones of the blocks, and the last block that is not 0. Changes nothing.
 ghost use Rattle.std.specs.Prelude.{◌≡◌, ℕ, ◌*◌, ◌^◌, ◌<◌, ◌≤◌, ◌↔◌, All, IsTrue, get_or, length, map, take, drop, ◌≢◌, ◌-◌};
-ghost use Rattle.bit_words.specs.Storage.{value_at};
-ghost use Rattle.bit_words.specs.Nonzero.{ones_in};
-ghost use Rattle.bit_words.specs.Summary.{is_used, short_count, IsStoredSummary};
+ghost use Rattle.bit_words.specs.{Storage.value_at, Nonzero.ones_in, Summary.{is_used, short_count, IsStoredSummary}};
 
 use crate::block::BitBlock;
 use crate::block::operators::same;

@@ -1,7 +1,6 @@
 // Capacity for blocks and their summary at once, and what is left where one of the two fails. No bit changes here.
 ghost use Rattle.std.specs.Prelude.{◌≡◌, ◌-◌, ◌<◌, ◌≤◌, false, IsTrue, OnErr, OnOk, length, max, vec_len, vec_capacity};
-ghost use Rattle.bit_words.specs.Growth.{Reserves, ReservesShared};
-ghost use Rattle.bit_words.specs.Summary.{shared_capacity};
+ghost use Rattle.bit_words.specs.{Growth.{Reserves, ReservesShared}, Summary.shared_capacity};
 
 use crate::block::BitBlock;
 use crate::summary::stored_count;

@@ -1,8 +1,4 @@
-use Rattle.std.proofs.Common.{[], ◌++◌, ap, sym, ◌∙◌, arith, append_assoc, rules}
-use Rattle.std.specs.Prelude.{codes, decimal}
-use Rattle.std.specs.List.{flat_map}
-use Rattle.std.proofs.Output.{has_written_append}
-use Rattle.std.proofs.lemmas.Grind.{common_steps}
+use Rattle.std.{proofs.{Common.{[], ◌++◌, ap, sym, ◌∙◌, arith, append_assoc, rules}, Output.has_written_append, lemmas.Grind.common_steps}, specs.{Prelude.{codes, decimal}, List.flat_map}}
 use Rattle.bit_set.proofs.display.write_rest.Goals as goal
 
 pub loop-item-init : goal.loop-item-init

@@ -1,7 +1,4 @@
-use Rattle.std.proofs.Common.{◌≡◌, ℕ, List, ◌++◌}
-use Rattle.std.specs.Prelude.{codes, decimal}
-use Rattle.std.specs.List.{flat_map}
-use Rattle.std.specs.Fmt.{HasWritten, IsPlainFormatter}
+use Rattle.std.{proofs.Common.{◌≡◌, ℕ, List, ◌++◌}, specs.{Prelude.{codes, decimal}, List.flat_map, Fmt.{HasWritten, IsPlainFormatter}}}
 use Rattle.bit_set.proofs.display.write_rest.Given as goal
 
 -- what is written and what is left, each item with its comma, are the text

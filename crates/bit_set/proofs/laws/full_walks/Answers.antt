@@ -1,5 +1,4 @@
-use Rattle.bit_set.specs.Walk.{AdvancesByEach, AdvancesWithBound}
-use Rattle.bit_set.proofs.WalkLaws.{full_walk, full_walk_by_each}
+use Rattle.bit_set.{specs.Walk.{AdvancesByEach, AdvancesWithBound}, proofs.WalkLaws.{full_walk, full_walk_by_each}}
 use Rattle.bit_set.proofs.laws.full_walks.Goals as goal
 
 pub returns : goal.returns

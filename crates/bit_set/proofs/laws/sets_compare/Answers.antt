@@ -1,9 +1,6 @@
-use Rattle.std.proofs.Common.{◌≡◌, ℕ, ◌<◌, List, [], ◌∷◌, ◌++◌, refl, ap, arith, ◌∙◌}
-use Rattle.std.specs.Cmp.{Equal-is}
-use Rattle.std.specs.Cmp.Lexicographic.{bytes_decides, nat_list_cmp_total, nat_list_eq_equiv, texts_ties}
+use Rattle.std.{proofs.Common.{◌≡◌, ℕ, ◌<◌, List, [], ◌∷◌, ◌++◌, refl, ap, arith, ◌∙◌}, specs.Cmp.{Equal-is, Lexicographic.{bytes_decides, nat_list_cmp_total, nat_list_eq_equiv, texts_ties}}}
 use Rattle.std.specs.declared.cmp.Ordering.TheVariants.{Less}
-use Rattle.bit_set.specs.Order.{order_of_sets, fed_of_set}
-use Rattle.bit_set.proofs.OrderLemmas.{order-cons, order-first}
+use Rattle.bit_set.{specs.Order.{order_of_sets, fed_of_set}, proofs.OrderLemmas.{order-cons, order-first}}
 use Rattle.bit_set.proofs.laws.sets_compare.Goals as goal
 
 goes_on : (front s t : List ℕ) (x y : ℕ) → x < y → order_of_sets (front ++ x ∷ s) (front ++ y ∷ t) ≡ Less

@@ -1,7 +1,5 @@
 use Rattle.std.proofs.Common.{◌+◌, ◌/◌, length, ap, ◌∙◌, arith}
-use Rattle.bit_set.proofs.SetLemmas.{AscendsFrom-lower}
-use Rattle.bit_set.proofs.WalkLaws.{pulled_sparsely, pulled_whole, summary_pulled, has-blocks_past, AscendsFrom-blocks_past, walked_out}
-use Rattle.bit_set.specs.Walk.{blocks_past}
+use Rattle.bit_set.{proofs.{SetLemmas.AscendsFrom-lower, WalkLaws.{pulled_sparsely, pulled_whole, summary_pulled, has-blocks_past, AscendsFrom-blocks_past, walked_out}}, specs.Walk.blocks_past}
 use Rattle.bit_set.proofs.laws.sparse_walks.Goals as goal
 
 pub returns : goal.returns

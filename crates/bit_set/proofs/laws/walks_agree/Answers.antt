@@ -1,5 +1,4 @@
-use Rattle.bit_set.specs.Walk.{AdvancesByEach}
-use Rattle.bit_set.proofs.WalkLaws.{walks-agree}
+use Rattle.bit_set.{specs.Walk.AdvancesByEach, proofs.WalkLaws.walks-agree}
 use Rattle.bit_set.proofs.laws.walks_agree.Goals as goal
 
 pub returns : goal.returns

@@ -1,8 +1,5 @@
-use Rattle.std.proofs.Common.{◌≡◌, ℕ, ◌<◌, map, length, arith, ◌*◌}
-use Rattle.std.proofs.lemmas.List.{length-map}
-use Rattle.bit_words.specs.Bits.{blocks_for}
-use Rattle.bit_words.proofs.SummaryLemmas.{summary_put, summary_of_blocks}
-use Rattle.bit_words.proofs.BitsLemmas.{whole_before}
+use Rattle.std.proofs.{Common.{◌≡◌, ℕ, ◌<◌, map, length, arith, ◌*◌}, lemmas.List.length-map}
+use Rattle.bit_words.{specs.Bits.blocks_for, proofs.{SummaryLemmas.{summary_put, summary_of_blocks}, BitsLemmas.whole_before}}
 use Rattle.bit_words.proofs.summary.summarize.Goals as goal
 
 pub loop-q-preserved : goal.loop-q-preserved

@@ -1,6 +1,5 @@
 use Rattle.std.proofs.Common.{◌≡◌, ℕ, ◌+◌, ◌*◌, ◌<◌, All, map, get_or, vec_len, vec_capacity}
-use Rattle.bit_words.specs.Digits.{is_one}
-use Rattle.bit_words.specs.Summary.{is_used}
+use Rattle.bit_words.specs.{Digits.is_one, Summary.is_used}
 use Rattle.bit_words.proofs.summary.summarize.Given as goal
 
 abbrev pub invariant-loop-q : goal.invariant-loop-q

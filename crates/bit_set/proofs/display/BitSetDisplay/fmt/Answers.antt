@@ -1,10 +1,5 @@
-use Rattle.std.proofs.Common.{◌≡◌, ◌∷◌, [], ◌++◌, refl, subst, sym, ap, ◌∙◌, append_assoc, rules, arith}
-use Rattle.std.specs.Prelude.{codes, decimal}
-use Rattle.std.specs.List.{flat_map}
-use Rattle.std.proofs.lemmas.Grind.{common_steps, put_four}
-use Rattle.std.specs.Fmt.{HasWritten}
-use Rattle.bit_set.specs.Sets.{elements}
-use Rattle.bit_set.proofs.display.BitSetDisplay.fmt.Goals.{in-Some+in_ok-write+in_ok-write_rest, in_default}
+use Rattle.std.{proofs.{Common.{◌≡◌, ◌∷◌, [], ◌++◌, refl, subst, sym, ap, ◌∙◌, append_assoc, rules, arith}, lemmas.Grind.{common_steps, put_four}}, specs.{Prelude.{codes, decimal}, List.flat_map, Fmt.HasWritten}}
+use Rattle.bit_set.{specs.Sets.elements, proofs.display.BitSetDisplay.fmt.Goals.{in-Some+in_ok-write+in_ok-write_rest, in_default}}
 use Rattle.bit_set.proofs.display.BitSetDisplay.fmt.Goals as goal
 
 pub returns-clause-writes : goal.returns-clause-writes

@@ -1,7 +1,5 @@
-use Rattle.std.proofs.Common.{◌≡◌}
-use Rattle.std.specs.List.{fold}
-use Rattle.bit_set.specs.Sets.{elements}
-use Rattle.bit_set.specs.Order.{fed_of_set}
+use Rattle.std.{proofs.Common.◌≡◌, specs.List.fold}
+use Rattle.bit_set.specs.{Sets.elements, Order.fed_of_set}
 use Rattle.bit_set.proofs.hash.BitSetHash.hash.Given as goal
 
 -- what is left is still to be fed

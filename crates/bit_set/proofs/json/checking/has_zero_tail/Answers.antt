@@ -1,9 +1,5 @@
-use Rattle.std.proofs.Common.{◌≢◌, ◌-◌, ◌%◌, ◌<◌, length, ap, sym, ◌∙◌, subst}
-use Rattle.bit_set.specs.Entries.{numbers_of, IsEntry}
-use Rattle.bit_set.proofs.JsonLemmas.{blocks_for_some, zero_tail_by_shift, counted, number_at}
-use Rattle.std.proofs.Math.Nat.{mod-lt}
-use Rattle.std.proofs.lemmas.List.Elements.{All-get_or}
-use Rattle.bit_set.proofs.json.checking.has_zero_tail.Goals.{Else-used-eq0}
+use Rattle.std.proofs.{Common.{◌≢◌, ◌-◌, ◌%◌, ◌<◌, length, ap, sym, ◌∙◌, subst}, Math.Nat.mod-lt, lemmas.List.Elements.All-get_or}
+use Rattle.bit_set.{specs.Entries.{numbers_of, IsEntry}, proofs.{JsonLemmas.{blocks_for_some, zero_tail_by_shift, counted, number_at}, json.checking.has_zero_tail.Goals.Else-used-eq0}}
 use Rattle.bit_set.proofs.json.checking.has_zero_tail.Goals as goal
 
 -- the last block is not full

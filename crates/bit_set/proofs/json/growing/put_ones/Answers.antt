@@ -1,8 +1,5 @@
-use Rattle.std.proofs.Common.{◌+◌, ◌∙◌, ◌<◌, [], ap, length, refl, sym, arith}
-use Rattle.std.proofs.lemmas.Bool.{not-false}
-use Rattle.bit_set.proofs.IndexLemmas.{indexes-lowest}
-use Rattle.bit_set.proofs.FilledLemmas.{put_all, put_nothing, put_lowest, lowest_is_one}
-use Rattle.bit_set.proofs.json.growing.put_ones.Goals.{After-take_lowest_one-lowest}
+use Rattle.std.proofs.{Common.{◌+◌, ◌∙◌, ◌<◌, [], ap, length, refl, sym, arith}, lemmas.Bool.not-false}
+use Rattle.bit_set.proofs.{IndexLemmas.indexes-lowest, FilledLemmas.{put_all, put_nothing, put_lowest, lowest_is_one}, json.growing.put_ones.Goals.After-take_lowest_one-lowest}
 use Rattle.bit_set.proofs.json.growing.put_ones.Goals as goal
 
 -- the index of the one that was taken is within the list

@@ -1,6 +1,5 @@
 use Rattle.std.proofs.Common.{◌≡◌, [], length}
-use Rattle.bit_set.specs.Entries.{IsPartlyPut}
-use Rattle.bit_set.specs.Indexes.{indexes}
+use Rattle.bit_set.specs.{Entries.IsPartlyPut, Indexes.indexes}
 use Rattle.bit_set.proofs.json.growing.put_ones.Given as goal
 
 -- what was taken off the block is put

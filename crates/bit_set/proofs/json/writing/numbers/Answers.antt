@@ -1,6 +1,4 @@
-use Rattle.std.proofs.Common.{◌≡◌, arith, subst, sym, take, take_all}
-use Rattle.std.proofs.lemmas.Grind.{common_steps}
-use Rattle.std.proofs.lemmas.List.Elements.{All-get_or}
+use Rattle.std.proofs.{Common.{◌≡◌, arith, subst, sym, take, take_all}, lemmas.{Grind.common_steps, List.Elements.All-get_or}}
 use Rattle.bit_set.proofs.json.writing.numbers.Goals as goal
 
 pub to_number-requires : goal.to_number-requires

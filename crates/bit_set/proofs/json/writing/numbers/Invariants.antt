@@ -1,5 +1,4 @@
-use Rattle.std.proofs.Common.{take}
-use Rattle.std.specs.Prelude.{map}
+use Rattle.std.{proofs.Common.take, specs.Prelude.map}
 use Rattle.bit_set.specs.Entries.{AreNumbers}
 use Rattle.bit_set.proofs.json.writing.numbers.Given as goal
 

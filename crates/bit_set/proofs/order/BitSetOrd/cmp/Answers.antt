@@ -1,5 +1,4 @@
-use Rattle.std.proofs.Common.{◌≡◌, not, get_or, ap, sym, ◌∙◌, arith}
-use Rattle.std.proofs.lemmas.Bool.{not-false, true≢false}
+use Rattle.std.proofs.{Common.{◌≡◌, not, get_or, ap, sym, ◌∙◌, arith}, lemmas.Bool.{not-false, true≢false}}
 use Rattle.bit_words.specs.Bits.{blocks_of}
 use Rattle.bit_set.proofs.order.BitSetOrd.cmp.Goals as goal
 

@@ -1,10 +1,5 @@
-use Rattle.std.proofs.Common.{[], ◌∷◌, ◌++◌, ◌<◌, length, refl, ap, sym, ◌∙◌, arith}
-use Rattle.std.proofs.lemmas.Bool.{true≢false}
-use Rattle.std.specs.declared.option.Option.TheVariants.{Some}
-use Rattle.std.proofs.iter.Next.{Yields-more}
-use Rattle.std.proofs.lemmas.List.Elements.{All-pop}
-use Rattle.bit_set.proofs.ChainLemmas.{run_of_calls}
-use Rattle.bit_set.proofs.ItemLemmas.{TakesIn-more}
+use Rattle.std.{proofs.{Common.{[], ◌∷◌, ◌++◌, ◌<◌, length, refl, ap, sym, ◌∙◌, arith}, lemmas.{Bool.true≢false, List.Elements.All-pop}, iter.Next.Yields-more}, specs.declared.option.Option.TheVariants.Some}
+use Rattle.bit_set.proofs.{ChainLemmas.run_of_calls, ItemLemmas.TakesIn-more}
 use Rattle.bit_set.proofs.set.BitSet.extend.Goals as goal
 
 pub loop-item-preserved : goal.loop-item-preserved

@@ -1,8 +1,5 @@
-use Rattle.std.proofs.Common.{subst}
-use Rattle.bit_set.specs.Capacity.{IsPastBlocks}
-use Rattle.std.proofs.lemmas.Result.{err_from_is_err_and}
-use Rattle.bit_set.proofs.ChainLemmas.{run_to_end}
-use Rattle.bit_set.proofs.ItemLemmas.{TakesIn-empty, TakesIn-past, IsInsertFault-fault}
+use Rattle.std.proofs.{Common.subst, lemmas.Result.err_from_is_err_and}
+use Rattle.bit_set.{specs.Capacity.IsPastBlocks, proofs.{ChainLemmas.run_to_end, ItemLemmas.{TakesIn-empty, TakesIn-past, IsInsertFault-fault}}}
 use Rattle.bit_set.proofs.set.BitSet.from_iter.Goals as goal
 
 pub returns-clause-ok : goal.returns-clause-ok

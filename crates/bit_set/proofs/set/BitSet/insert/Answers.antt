@@ -1,18 +1,9 @@
-use Rattle.std.proofs.Common.{◌≡◌, ◌+◌, ◌-◌, ◌<◌, ◌≤◌, ℕ, length, Bool, not, true, false, sym, ap, ◌∙◌, refl, arith, length-append, Ok}
-use Rattle.std.proofs.lemmas.List.{length-replicate, length-set}
-use Rattle.std.proofs.lemmas.Result.{err_from_is_err_and}
-use Rattle.bit_words.specs.Bits.{Bits}
-use Rattle.bit_words.specs.Bounds.{greatest}
-use Rattle.bit_words.specs.Growth.{Grows}
-use Rattle.bit_set.specs.Sets.{elements, has, put}
-use Rattle.bit_set.specs.declared.faults.SetError.{SetError}
-use Rattle.bit_set.proofs.ChangeLemmas.{changes_inserted}
-use Rattle.bit_set.proofs.CapacityLemmas.{Grows-changed, Grows-failed, Grows-there}
-use Rattle.bit_set.proofs.MemberLemmas.{count_put, counted, counted_within, updates_put}
-use Rattle.bit_set.proofs.SetLemmas.{elements-padded, elements-set_true}
-use Rattle.bit_set.proofs.ValueLemmas.{has-read, has-within, written_again}
-use Rattle.bit_set.proofs.set.BitSet.insert.Goals as goal
+use Rattle.std.proofs.{Common.{◌≡◌, ◌+◌, ◌-◌, ◌<◌, ◌≤◌, ℕ, length, Bool, not, true, false, sym, ap, ◌∙◌, refl, arith, length-append, Ok}, lemmas.{List.{length-replicate, length-set}, Result.err_from_is_err_and}}
+use Rattle.bit_words.specs.{Bits.Bits, Bounds.greatest, Growth.Grows}
+use Rattle.bit_set.{specs.{Sets.{elements, has, put}, declared.faults.SetError.SetError}, proofs.{ChangeLemmas.changes_inserted, CapacityLemmas.{Grows-changed, Grows-failed, Grows-there}, MemberLemmas.count_put}}
+use Rattle.bit_set.proofs.{MemberLemmas.{counted, counted_within, updates_put}, SetLemmas.{elements-padded, elements-set_true}, ValueLemmas.{has-read, has-within, written_again}}
 use Rattle.bit_set.proofs.set.BitSet.insert.Goals.{then-value-len+in_ok-lengthen_past, else-value-len}
+use Rattle.bit_set.proofs.set.BitSet.insert.Goals as goal
 
 -- the set once it is long enough for the value
 record IsLong (value : ℕ) (old mid : Bits) : Type 0 where

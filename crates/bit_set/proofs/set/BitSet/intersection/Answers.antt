@@ -1,6 +1,5 @@
 use Rattle.std.proofs.Common.{length, ap, ◌∙◌, arith}
-use Rattle.bit_set.proofs.ChainLemmas.{runs_with_bound}
-use Rattle.bit_set.proofs.PairLemmas.{length-intersection}
+use Rattle.bit_set.proofs.{ChainLemmas.runs_with_bound, PairLemmas.length-intersection}
 use Rattle.bit_set.proofs.set.BitSet.intersection.Goals as goal
 
 pub invariant_of-result : goal.invariant_of-result

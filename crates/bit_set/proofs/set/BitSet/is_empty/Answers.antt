@@ -1,6 +1,4 @@
-use Rattle.bit_set.proofs.ValueLemmas.{empty_where_all_false}
-use Rattle.bit_set.proofs.MemberLemmas.{tells_empty}
-use Rattle.bit_set.specs.Sets.{elements}
+use Rattle.bit_set.{proofs.{ValueLemmas.empty_where_all_false, MemberLemmas.tells_empty}, specs.Sets.elements}
 use Rattle.bit_set.proofs.set.BitSet.is_empty.Goals as goal
 
 pub returns-clause-elements : goal.returns-clause-elements

@@ -1,5 +1,4 @@
-use Rattle.std.proofs.Common.{◌≡◌, ◌+◌, ◌-◌, length, arith}
-use Rattle.std.proofs.lemmas.Result.{err_from_is_err_and}
+use Rattle.std.proofs.{Common.{◌≡◌, ◌+◌, ◌-◌, length, arith}, lemmas.Result.err_from_is_err_and}
 use Rattle.bit_set.proofs.set.BitSet.lengthen.Goals as goal
 
 pub returns-in_err-grow-clause-grows : goal.returns-in_err-grow-clause-grows

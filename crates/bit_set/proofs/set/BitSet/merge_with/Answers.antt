@@ -1,7 +1,5 @@
 use Rattle.std.proofs.Common.{◌-◌, length}
-use Rattle.bit_set.proofs.AlgebraLemmas.{elements-lengthened, length-lengthened}
-use Rattle.bit_set.specs.Sets.{elements}
-use Rattle.bit_set.proofs.MemberLemmas.{members_merged}
+use Rattle.bit_set.{proofs.{AlgebraLemmas.{elements-lengthened, length-lengthened}, MemberLemmas.members_merged}, specs.Sets.elements}
 use Rattle.bit_set.proofs.set.BitSet.merge_with.Goals as goal
 
 pub returns-clause-elements : goal.returns-clause-elements

@@ -1,5 +1,4 @@
-use Rattle.std.proofs.Common.{◌-◌, ap, ◌∙◌}
-use Rattle.std.proofs.lemmas.Result.{on_ok_weaker}
+use Rattle.std.proofs.{Common.{◌-◌, ap, ◌∙◌}, lemmas.Result.on_ok_weaker}
 use Rattle.bit_set.proofs.CapacityLemmas.{capacity_for_length}
 use Rattle.bit_set.proofs.set.BitSet.reserve_len_exact.Goals as goal
 

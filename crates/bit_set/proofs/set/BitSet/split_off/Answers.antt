@@ -1,8 +1,5 @@
-use Rattle.std.proofs.Common.{◌≤◌, length, refl, arith}
-use Rattle.std.proofs.lemmas.Bool.Decides.{nat_tests}
-use Rattle.bit_set.specs.Sets.{elements}
-use Rattle.bit_set.proofs.MemberLemmas.{members_below, members_from}
-use Rattle.bit_set.proofs.SplitLemmas.{all_below, all_from, elements-tail, none_below, none_from}
+use Rattle.std.proofs.{Common.{◌≤◌, length, refl, arith}, lemmas.Bool.Decides.nat_tests}
+use Rattle.bit_set.{specs.Sets.elements, proofs.{MemberLemmas.{members_below, members_from}, SplitLemmas.{all_below, all_from, elements-tail, none_below, none_from}}}
 use Rattle.bit_set.proofs.set.BitSet.split_off.Goals.{After-new_general-then-at-len}
 use Rattle.bit_set.proofs.set.BitSet.split_off.Goals as goal
 

@@ -1,5 +1,4 @@
-use Rattle.std.proofs.Common.{◌≡◌, ap, ◌∙◌, length, map}
-use Rattle.std.proofs.lemmas.Result.{IfOk-weaker}
+use Rattle.std.proofs.{Common.{◌≡◌, ap, ◌∙◌, length, map}, lemmas.Result.IfOk-weaker}
 use Rattle.serde_json.specs.View.{view}
 use Rattle.bit_words.specs.Bits.{blocks_of}
 use Rattle.bit_set.proofs.JsonLemmas.{written_spells}

@@ -1,7 +1,5 @@
 use Rattle.std.proofs.Common.{refl}
-use Rattle.bit_set.proofs.ValueLemmas.{elements-take}
-use Rattle.bit_set.proofs.MemberLemmas.{members_below}
-use Rattle.bit_set.specs.Sets.{elements}
+use Rattle.bit_set.{proofs.{ValueLemmas.elements-take, MemberLemmas.members_below}, specs.Sets.elements}
 use Rattle.bit_set.proofs.set.BitSet.truncate.Goals as goal
 
 pub returns-clause-elements : goal.returns-clause-elements

@@ -1,10 +1,6 @@
-use Rattle.std.proofs.Common.{◌≡◌, ◌-◌, ◌*◌, ◌&&◌, ◌∙◌, map, get_or, ap, sym, arith}
-use Rattle.std.proofs.lemmas.Bool.{le-leb}
+use Rattle.std.proofs.{Common.{◌≡◌, ◌-◌, ◌*◌, ◌&&◌, ◌∙◌, map, get_or, ap, sym, arith}, lemmas.Bool.le-leb, Math.Nat.zero-div}
 use Rattle.bit_words.specs.Digits.{is_one}
-use Rattle.bit_set.proofs.FromLemmas.{BeginsFrom, begins_from, starts_at_all}
-use Rattle.bit_set.proofs.SparseLemmas.{seen}
-use Rattle.bit_set.proofs.walk.Iter.over.Goals.{After-block_or_zero}
-use Rattle.std.proofs.Math.Nat.{zero-div}
+use Rattle.bit_set.proofs.{FromLemmas.{BeginsFrom, begins_from, starts_at_all}, SparseLemmas.seen, walk.Iter.over.Goals.After-block_or_zero}
 use Rattle.bit_set.proofs.walk.Iter.over.Goals as goal
 
 -- the walk as it is made

@@ -1,10 +1,6 @@
-use Rattle.std.proofs.Common.{◌≡◌, ℕ, ◌-◌, ◌*◌, ◌/◌, ◌<◌, ◌&&◌, leb, min, length, get_or, ap, sym, subst, ◌∙◌, arith, ap₂}
-use Rattle.std.proofs.lemmas.List.{length-map}
-use Rattle.bit_words.specs.Digits.{is_one}
-use Rattle.bit_words.specs.Nonzero.{StartsPast}
-use Rattle.bit_set.proofs.FromLemmas.{BeginsFrom, begins_from, begins_by}
-use Rattle.bit_set.proofs.SparseLemmas.{seen}
-use Rattle.bit_set.proofs.walk.Iter.over_from.Goals.{After-clear_below}
+use Rattle.std.proofs.{Common.{◌≡◌, ℕ, ◌-◌, ◌*◌, ◌/◌, ◌<◌, ◌&&◌, leb, min, length, get_or, ap, sym, subst, ◌∙◌, arith, ap₂}, lemmas.List.length-map}
+use Rattle.bit_words.specs.{Digits.is_one, Nonzero.StartsPast}
+use Rattle.bit_set.proofs.{FromLemmas.{BeginsFrom, begins_from, begins_by}, SparseLemmas.seen, walk.Iter.over_from.Goals.After-clear_below}
 use Rattle.bit_set.proofs.walk.Iter.over_from.Goals as goal
 
 -- the walk as it is made

@@ -1,7 +1,5 @@
 use Rattle.std.proofs.Common.{◌≡◌, ◌+◌, arith}
-use Rattle.bit_set.specs.Indexes.{ones_from}
-use Rattle.bit_set.proofs.TallyLemmas.{rows_counted}
-use Rattle.bit_set.proofs.walk.merged_blocks.ones_between.Goals.{After-count_ones-ones}
+use Rattle.bit_set.{specs.Indexes.ones_from, proofs.{TallyLemmas.rows_counted, walk.merged_blocks.ones_between.Goals.After-count_ones-ones}}
 use Rattle.bit_set.proofs.walk.merged_blocks.ones_between.Goals as goal
 
 counted : (g : _) (c : After-count_ones-ones g) → c.loop-i.ones + c.count_ones-ones.result + ones_from g.B.BitBlock.width g.B.BitBlock.number g.O.Operation.merge c.args.first.now c.args.second.now (c.loop-i.i + 1)

@@ -1,8 +1,5 @@
-use Rattle.std.proofs.Common.{◌≡◌, ◌+◌, [], drop, arith}
-use Rattle.std.proofs.lemmas.List.{at_drop_all}
-use Rattle.bit_set.specs.Indexes.{ones_of_merged}
-use Rattle.bit_set.proofs.TallyLemmas.{first_counted, second_counted, rest_counted}
-use Rattle.bit_set.proofs.walk.merged_blocks.ones_of_rest.Goals.{After-count_ones-ones, After-count_ones-ones-in-loop-other}
+use Rattle.std.proofs.{Common.{◌≡◌, ◌+◌, [], drop, arith}, lemmas.List.at_drop_all}
+use Rattle.bit_set.{specs.Indexes.ones_of_merged, proofs.{TallyLemmas.{first_counted, second_counted, rest_counted}, walk.merged_blocks.ones_of_rest.Goals.{After-count_ones-ones, After-count_ones-ones-in-loop-other}}}
 use Rattle.bit_set.proofs.walk.merged_blocks.ones_of_rest.Goals as goal
 
 first : (g : _) (c : After-count_ones-ones g) →

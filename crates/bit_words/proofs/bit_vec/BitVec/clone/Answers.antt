@@ -1,7 +1,5 @@
-use Rattle.std.proofs.Common.{length, sym, arith}
-use Rattle.std.proofs.lemmas.Bool.{true≢false}
-use Rattle.bit_words.proofs.CapacityLemmas.{capacity_of_copy}
-use Rattle.bit_words.proofs.SummaryLemmas.{none_stored, stored_length}
+use Rattle.std.proofs.{Common.{length, sym, arith}, lemmas.Bool.true≢false}
+use Rattle.bit_words.proofs.{CapacityLemmas.capacity_of_copy, SummaryLemmas.{none_stored, stored_length}}
 use Rattle.bit_words.proofs.bit_vec.BitVec.clone.Goals as goal
 
 pub returns-in_err-blocks-clause-empty : goal.returns-in_err-blocks-clause-empty

@@ -1,12 +1,5 @@
-use Rattle.std.proofs.Common.{◌≡◌, map, ◌∙◌, arith}
-use Rattle.std.proofs.lemmas.List.Sums.{count_by-le-length}
-use Rattle.std.specs.List.{count_by}
-use Rattle.bit_words.specs.Nonzero.{ones_in}
-use Rattle.bit_words.specs.Storage.{values_of}
-use Rattle.bit_words.proofs.CountLemmas.{ones_in-values}
-use Rattle.bit_words.proofs.StorageLemmas.{length-values_of}
-use Rattle.bit_words.proofs.SummaryLemmas.{packed_blocks}
-use Rattle.bit_words.proofs.bit_vec.BitVec.count_ones.Given.{Over}
+use Rattle.std.{proofs.{Common.{◌≡◌, map, ◌∙◌, arith}, lemmas.List.Sums.count_by-le-length}, specs.List.count_by}
+use Rattle.bit_words.{specs.{Nonzero.ones_in, Storage.values_of}, proofs.{CountLemmas.ones_in-values, StorageLemmas.length-values_of, SummaryLemmas.packed_blocks, bit_vec.BitVec.count_ones.Given.Over}}
 use Rattle.bit_words.proofs.bit_vec.BitVec.count_ones.Goals.{After-self}
 use Rattle.bit_words.proofs.bit_vec.BitVec.count_ones.Goals as goal
 

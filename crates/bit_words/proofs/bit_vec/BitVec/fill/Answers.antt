@@ -1,7 +1,5 @@
 use Rattle.std.proofs.Common.{◌≡◌, ◌∙◌, sym, ap, replicate, length, arith}
-use Rattle.bit_words.proofs.StorageLemmas.{values_of-replicate}
-use Rattle.bit_words.proofs.SummaryLemmas.{filled_summary, keeps_all}
-use Rattle.bit_words.proofs.VectorLemmas.{length_from_view}
+use Rattle.bit_words.proofs.{StorageLemmas.values_of-replicate, SummaryLemmas.{filled_summary, keeps_all}, VectorLemmas.length_from_view}
 use Rattle.bit_words.proofs.bit_vec.BitVec.fill.Goals as goal
 
 pub returns-then-not-is_short-clause-values : goal.returns-then-not-is_short-clause-values

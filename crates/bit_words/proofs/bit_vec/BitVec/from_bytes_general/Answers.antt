@@ -1,7 +1,5 @@
 use Rattle.std.proofs.Common.{◌≡◌, ◌*◌, length, sym, ap, ◌∙◌, arith}
-use Rattle.bit_words.specs.Bits.{blocks_for}
-use Rattle.bit_words.proofs.ByteLemmas.{byte_value-past, length-values_of_bytes, get_or-values_of_bytes}
-use Rattle.bit_words.proofs.StorageLemmas.{values_of-same}
+use Rattle.bit_words.{specs.Bits.blocks_for, proofs.{ByteLemmas.{byte_value-past, length-values_of_bytes, get_or-values_of_bytes}, StorageLemmas.values_of-same}}
 use Rattle.bit_words.proofs.bit_vec.BitVec.from_bytes_general.Goals as goal
 
 pub invariant_of-result : goal.invariant_of-result

@@ -1,12 +1,6 @@
-use Rattle.std.proofs.Common.{◌≡◌, map, vec_capacity, refl, sym, ap, ◌∙◌, arith}
-use Rattle.std.proofs.lemmas.Bool.{true≢false}
-use Rattle.std.proofs.lemmas.Result.{err_from_is_err_and}
-use Rattle.bit_words.specs.Bits.{blocks_for, capacity_of}
-use Rattle.bit_words.specs.Summary.{shared_capacity}
-use Rattle.bit_words.proofs.CapacityLemmas.{shared_whole}
-use Rattle.bit_words.proofs.StorageLemmas.{values_of-replicate}
-use Rattle.bit_words.proofs.SummaryLemmas.{use_of_values}
-use Rattle.bit_words.proofs.VectorLemmas.{blocks_for-none, le-capacity_of, numbers_below}
+use Rattle.std.proofs.{Common.{◌≡◌, map, vec_capacity, refl, sym, ap, ◌∙◌, arith}, lemmas.{Bool.true≢false, Result.err_from_is_err_and}}
+use Rattle.bit_words.{specs.{Bits.{blocks_for, capacity_of}, Summary.shared_capacity}, proofs.{CapacityLemmas.shared_whole, StorageLemmas.values_of-replicate, SummaryLemmas.use_of_values, VectorLemmas.blocks_for-none}}
+use Rattle.bit_words.proofs.VectorLemmas.{le-capacity_of, numbers_below}
 use Rattle.bit_words.proofs.bit_vec.BitVec.from_elem_general.Goals as goal
 
 pub returns-in_err-blocks : goal.returns-in_err-blocks

@@ -1,8 +1,5 @@
 use Rattle.std.proofs.Common.{◌+◌, vec_capacity, ◌++◌, replicate, refl, sym, ap, ◌∙◌, arith}
-use Rattle.bit_words.proofs.GrowthLemmas.{Grows-blocks, Reserves-within}
-use Rattle.bit_words.proofs.StorageLemmas.{values_of-append}
-use Rattle.bit_words.proofs.SummaryLemmas.{stored_within}
-use Rattle.bit_words.proofs.VectorLemmas.{length_from_view}
+use Rattle.bit_words.proofs.{GrowthLemmas.{Grows-blocks, Reserves-within}, StorageLemmas.values_of-append, SummaryLemmas.stored_within, VectorLemmas.length_from_view}
 use Rattle.bit_words.proofs.bit_vec.BitVec.grow.Goals as goal
 
 pub overflow_add-len : goal.overflow_add-len

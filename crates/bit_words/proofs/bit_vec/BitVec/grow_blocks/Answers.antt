@@ -1,14 +1,6 @@
-use Rattle.std.proofs.Common.{◌≡◌, ℕ, ◌+◌, ◌*◌, ◌^◌, ◌<◌, ◌++◌, ◌∙◌, All, List, get_or, length, map, vec_capacity, replicate, sym, ap, ap₂, arith}
-use Rattle.std.proofs.lemmas.Result.{err_from_is_err_and}
-use Rattle.bit_words.specs.Bits.{capacity_of}
-use Rattle.bit_words.specs.Summary.{shared_capacity}
-use Rattle.bit_words.proofs.CapacityLemmas.{stored_from_shared}
-use Rattle.bit_words.proofs.GrowthLemmas.{Grows-blocks, Grows-kept}
-use Rattle.bit_words.proofs.StorageLemmas.{values_of-append}
-use Rattle.bit_words.proofs.SummaryLemmas.{kept_use, kept_with_zeros, same_use, use_of_added}
-use Rattle.bit_words.proofs.BitsLemmas.{blocks_for-le}
-use Rattle.bit_words.proofs.VectorLemmas.{length_from_view, numbers_below}
-use Rattle.bit_words.proofs.bit_vec.BitVec.grow_blocks.Given.{Over}
+use Rattle.std.proofs.{Common.{◌≡◌, ℕ, ◌+◌, ◌*◌, ◌^◌, ◌<◌, ◌++◌, ◌∙◌, All, List, get_or, length, map, vec_capacity, replicate, sym, ap, ap₂, arith}, lemmas.Result.err_from_is_err_and}
+use Rattle.bit_words.{specs.{Bits.capacity_of, Summary.shared_capacity}, proofs.{CapacityLemmas.stored_from_shared, GrowthLemmas.{Grows-blocks, Grows-kept}, StorageLemmas.values_of-append, SummaryLemmas.kept_use}}
+use Rattle.bit_words.proofs.{SummaryLemmas.{kept_with_zeros, same_use, use_of_added}, BitsLemmas.blocks_for-le, VectorLemmas.{length_from_view, numbers_below}, bit_vec.BitVec.grow_blocks.Given.Over}
 use Rattle.bit_words.proofs.bit_vec.BitVec.grow_blocks.Goals as goal
 
 small : (g : Over) (xs : List g.row.B.Denot) → All g.B.BitBlock.is_block xs → (k : ℕ) → get_or (map g.B.BitBlock.number xs) k 0 < 2 ^ g.B.BitBlock.width

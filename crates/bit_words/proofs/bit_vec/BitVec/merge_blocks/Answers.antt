@@ -1,12 +1,6 @@
-use Rattle.std.proofs.Common.{◌≡◌, ℕ, ◌∙◌, ap₂, ◌++◌, map, drop, length, take, arith}
-use Rattle.std.proofs.lemmas.List.{take_at}
-use Rattle.bit_words.specs.Merges.{merge_of, merge_of_values}
-use Rattle.bit_words.specs.Storage.{value_at}
-use Rattle.bit_words.proofs.BitsLemmas.{blocks_for-le}
-use Rattle.bit_words.proofs.MergeLemmas.{merged_lists, merged_zero_tail, merges_of_values}
-use Rattle.bit_words.proofs.VectorLemmas.{length_from_view, no_longer_from_views}
-use Rattle.bit_words.proofs.bit_vec.BitVec.merge_blocks.Given.{Over}
-use Rattle.bit_words.proofs.bit_vec.BitVec.merge_blocks.Goals.{After-merge_chosen}
+use Rattle.std.proofs.{Common.{◌≡◌, ℕ, ◌∙◌, ap₂, ◌++◌, map, drop, length, take, arith}, lemmas.List.take_at}
+use Rattle.bit_words.{specs.{Merges.{merge_of, merge_of_values}, Storage.value_at}, proofs.{BitsLemmas.blocks_for-le, MergeLemmas.{merged_lists, merged_zero_tail, merges_of_values}, VectorLemmas.length_from_view}}
+use Rattle.bit_words.proofs.{VectorLemmas.no_longer_from_views, bit_vec.BitVec.merge_blocks.{Given.Over, Goals.After-merge_chosen}}
 use Rattle.bit_words.proofs.bit_vec.BitVec.merge_blocks.Goals as goal
 
 pub merge_chosen-requires-clause-can : goal.merge_chosen-requires-clause-can

@@ -1,5 +1,4 @@
-use Rattle.bit_words.proofs.SummaryLemmas.{stored_nil}
-use Rattle.bit_words.proofs.VectorLemmas.{values_of-none}
+use Rattle.bit_words.proofs.{SummaryLemmas.stored_nil, VectorLemmas.values_of-none}
 use Rattle.bit_words.proofs.bit_vec.BitVec.remove_all.Goals as goal
 
 pub invariant_of-self : goal.invariant_of-self

@@ -1,13 +1,6 @@
-use Rattle.std.proofs.Common.{◌≡◌, ℕ, ◌≤◌, ◌+◌, ◌*◌, ◌/◌, ◌%◌, ◌<◌, ◌∙◌, ◌==◌, Bool, true, List, not, sym, ap, ap₂, length, vec_capacity, set, Some, arith, map, mod-lt, div-add-mod'}
-use Rattle.std.specs.Global.{Vec}
-use Rattle.bit_words.specs.Bits.{capacity_of}
-use Rattle.bit_words.specs.Storage.{value_at, IsPacked, WritesInPlace, WritesValue}
-use Rattle.bit_words.specs.Summary.{is_used, shared_capacity, short_count}
-use Rattle.bit_words.proofs.BitsLemmas.{blocks_for-above}
-use Rattle.bit_words.proofs.StorageLemmas.{values_of-set}
-use Rattle.bit_words.proofs.SummaryLemmas.{changed_summary, keeps_all, keeps_none, used_from_true}
-use Rattle.bit_words.proofs.VectorLemmas.{length_from_view, slice_get-values_of}
-use Rattle.bit_words.proofs.bit_vec.BitVec.replace.Given.{Over}
+use Rattle.std.{proofs.Common.{◌≡◌, ℕ, ◌≤◌, ◌+◌, ◌*◌, ◌/◌, ◌%◌, ◌<◌, ◌∙◌, ◌==◌, Bool, true, List, not, sym, ap, ap₂, length, vec_capacity, set, Some, arith, map, mod-lt, div-add-mod'}, specs.Global.Vec}
+use Rattle.bit_words.{specs.{Bits.capacity_of, Storage.{value_at, IsPacked, WritesInPlace, WritesValue}, Summary.{is_used, shared_capacity, short_count}}, proofs.BitsLemmas.blocks_for-above}
+use Rattle.bit_words.proofs.{StorageLemmas.values_of-set, SummaryLemmas.{changed_summary, keeps_all, keeps_none, used_from_true}, VectorLemmas.{length_from_view, slice_get-values_of}, bit_vec.BitVec.replace.Given.Over}
 use Rattle.bit_words.proofs.bit_vec.BitVec.replace.Goals.{After-self, Else-is_short}
 use Rattle.bit_words.proofs.bit_vec.BitVec.replace.Goals as goal
 

@@ -1,8 +1,5 @@
 use Rattle.std.proofs.Common.{◌∙◌, sym, ap, map, take, take_all, arith}
-use Rattle.bit_words.proofs.StorageLemmas.{values_of-take}
-use Rattle.bit_words.proofs.SummaryLemmas.{kept_use}
-use Rattle.bit_words.proofs.BitsLemmas.{blocks_for-le}
-use Rattle.bit_words.proofs.VectorLemmas.{length_from_view, numbers_below}
+use Rattle.bit_words.proofs.{StorageLemmas.values_of-take, SummaryLemmas.kept_use, BitsLemmas.blocks_for-le, VectorLemmas.{length_from_view, numbers_below}}
 use Rattle.bit_words.proofs.bit_vec.BitVec.truncate.Goals as goal
 
 pub returns-then-n-self-clause-values : goal.returns-then-n-self-clause-values

@@ -1,6 +1,5 @@
 use Rattle.std.proofs.Common.{◌+◌, ◌<◌, ◌^◌, arith}
-use Rattle.bit_words.proofs.block.lowest.wrapping_neg.Given.{Over}
-use Rattle.bit_words.proofs.block.lowest.wrapping_neg.Goals.{After-one}
+use Rattle.bit_words.proofs.block.lowest.wrapping_neg.{Given.Over, Goals.After-one}
 use Rattle.bit_words.proofs.block.lowest.wrapping_neg.Goals as goal
 
 fits : (g : Over) (c : After-one g) → g.B.BitBlock.number c.block_not.result + g.B.BitBlock.number c.one.result < 2 ^ g.B.BitBlock.width

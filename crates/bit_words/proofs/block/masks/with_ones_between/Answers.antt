@@ -1,6 +1,5 @@
 use Rattle.std.proofs.Common.{◌||◌, ap, ◌∙◌}
-use Rattle.bit_words.specs.Digits.{is_one}
-use Rattle.bit_words.proofs.Masks.{is_one-either}
+use Rattle.bit_words.{specs.Digits.is_one, proofs.Masks.is_one-either}
 use Rattle.bit_words.proofs.block.masks.with_ones_between.Goals as goal
 
 pub returns-clause-digits : goal.returns-clause-digits

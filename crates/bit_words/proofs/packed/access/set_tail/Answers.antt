@@ -1,5 +1,4 @@
-use Rattle.std.proofs.Common.{arith}
-use Rattle.std.proofs.lemmas.List.{length-map}
+use Rattle.std.proofs.{Common.arith, lemmas.List.length-map}
 use Rattle.bit_words.proofs.ChangeLemmas.{value_at-raised, digits_between, digits_from}
 use Rattle.bit_words.proofs.packed.access.set_tail.Goals as goal
 

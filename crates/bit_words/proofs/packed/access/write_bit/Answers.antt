@@ -1,5 +1,4 @@
-use Rattle.std.proofs.Common.{arith}
-use Rattle.std.proofs.lemmas.List.{length-map}
+use Rattle.std.proofs.{Common.arith, lemmas.List.length-map}
 use Rattle.bit_words.proofs.ChangeLemmas.{put_bit}
 use Rattle.bit_words.proofs.packed.access.write_bit.Goals as goal
 

@@ -1,5 +1,4 @@
-use Rattle.std.proofs.Common.{◌<◌, ◌∙◌, get_or, sym, ap, map, length, arith, get_or-set_same}
-use Rattle.std.proofs.lemmas.List.{length-map}
+use Rattle.std.proofs.{Common.{◌<◌, ◌∙◌, get_or, sym, ap, map, length, arith, get_or-set_same}, lemmas.List.length-map}
 use Rattle.bit_words.proofs.MergeLemmas.{merged_put}
 use Rattle.bit_words.proofs.packed.block_merges.merge_block.Goals as goal
 

@@ -1,5 +1,4 @@
-use Rattle.std.proofs.Common.{◌≡◌, ◌+◌, [], get_or, length, refl, sym, ◌∙◌, arith}
-use Rattle.std.proofs.lemmas.List.{get_or_past}
+use Rattle.std.proofs.{Common.{◌≡◌, ◌+◌, [], get_or, length, refl, sym, ◌∙◌, arith}, lemmas.List.get_or_past}
 use Rattle.bit_words.proofs.MergeLemmas.{merged_none, merged_more, merged_put}
 use Rattle.bit_words.proofs.packed.block_merges.merge_rest.Goals as goal
 

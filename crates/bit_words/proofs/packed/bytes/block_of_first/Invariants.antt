@@ -1,6 +1,5 @@
 use Rattle.std.proofs.Common.{◌≡◌, ℕ, ◌*◌, ◌<◌, ◌&&◌, nat_lt}
-use Rattle.bit_words.specs.Bytes.{byte_value}
-use Rattle.bit_words.specs.Digits.{is_one}
+use Rattle.bit_words.specs.{Bytes.byte_value, Digits.is_one}
 use Rattle.bit_words.proofs.packed.bytes.block_of_first.Given as goal
 
 abbrev pub invariant-loop-index : goal.invariant-loop-index

@@ -1,10 +1,5 @@
-use Rattle.std.proofs.Common.{◌≡◌, ℕ, ◌+◌, ◌*◌, ◌<◌, ◌++◌, List, [], ◌∷◌, get_or, map, length, ◌∙◌, arith}
-use Rattle.std.proofs.lemmas.List.{length-map, get_or_append_left, get_or-append_right}
-use Rattle.std.proofs.lemmas.List.Elements.{All-same, All-push}
-use Rattle.bit_words.specs.Bytes.{byte_value}
-use Rattle.bit_words.specs.Digits.{is_one}
-use Rattle.bit_words.proofs.ByteLemmas.{blocks-byte_value}
-use Rattle.bit_words.proofs.PackedLemmas.{map-pushed}
+use Rattle.std.proofs.{Common.{◌≡◌, ℕ, ◌+◌, ◌*◌, ◌<◌, ◌++◌, List, [], ◌∷◌, get_or, map, length, ◌∙◌, arith}, lemmas.List.{length-map, get_or_append_left, get_or-append_right, Elements.{All-same, All-push}}}
+use Rattle.bit_words.{specs.{Bytes.byte_value, Digits.is_one}, proofs.{ByteLemmas.blocks-byte_value, PackedLemmas.map-pushed}}
 use Rattle.bit_words.proofs.packed.bytes.blocks_of_bytes.Goals as goal
 
 -- one block more, after k of them

@@ -1,6 +1,5 @@
 use Rattle.std.proofs.Common.{◌≡◌, ℕ, ◌+◌, ◌*◌, ◌<◌, map, get_or, All, vec_len, vec_capacity}
-use Rattle.bit_words.specs.Bytes.{byte_value}
-use Rattle.bit_words.specs.Digits.{is_one}
+use Rattle.bit_words.specs.{Bytes.byte_value, Digits.is_one}
 use Rattle.bit_words.proofs.packed.bytes.blocks_of_bytes.Given as goal
 
 abbrev pub invariant-loop-k : goal.invariant-loop-k

@@ -1,7 +1,5 @@
 use Rattle.std.proofs.Common.{◌+◌, ◌*◌, ◌/◌, ◌<◌, ◌≤◌, ◌^◌, length, refl, arith, rules}
-use Rattle.bit_words.proofs.ByteLemmas.{whole_bytes, first_byte_below, part-values}
-use Rattle.bit_words.proofs.packed.bytes.bytes_of_block.Given.{Over}
-use Rattle.bit_words.proofs.packed.bytes.bytes_of_block.Goals.{After-bits-step}
+use Rattle.bit_words.proofs.{ByteLemmas.{whole_bytes, first_byte_below, part-values}, packed.bytes.bytes_of_block.{Given.Over, Goals.After-bits-step}}
 use Rattle.bit_words.proofs.packed.bytes.bytes_of_block.Goals as goal
 
 below : (g : Over) (c : After-bits-step g) → c.args.k * (c.bits-step.result / 8) < length c.args.bytes.now

@@ -1,5 +1,4 @@
-use Rattle.std.proofs.Common.{ℕ, ◌+◌, ◌-◌, get_or, get_or-drop, length, map, ap, ◌∙◌, sym, arith}
-use Rattle.std.proofs.lemmas.List.{drop-map}
+use Rattle.std.proofs.{Common.{ℕ, ◌+◌, ◌-◌, get_or, get_or-drop, length, map, ap, ◌∙◌, sym, arith}, lemmas.List.drop-map}
 use Rattle.bit_words.proofs.packed.comparing.same_last_group.Goals as goal
 
 pub returns : goal.returns

@@ -1,5 +1,4 @@
-use Rattle.std.proofs.Common.{◌≡◌, ◌-◌, vec_len, arith}
-use Rattle.std.proofs.lemmas.List.Elements.{All-same, All-push}
+use Rattle.std.proofs.{Common.{◌≡◌, ◌-◌, vec_len, arith}, lemmas.List.Elements.{All-same, All-push}}
 use Rattle.bit_words.proofs.PackedLemmas.{map-pushed}
 use Rattle.bit_words.proofs.packed.copies.push_copies.Goals as goal
 

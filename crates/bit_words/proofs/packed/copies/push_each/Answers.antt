@@ -1,5 +1,4 @@
-use Rattle.std.proofs.Common.{◌++◌, ap, ◌∙◌, arith}
-use Rattle.std.proofs.lemmas.List.{take_all}
+use Rattle.std.proofs.{Common.{◌++◌, ap, ◌∙◌, arith}, lemmas.List.take_all}
 use Rattle.bit_words.proofs.PackedLemmas.{block_pushed}
 use Rattle.bit_words.proofs.packed.copies.push_each.Goals as goal
 

@@ -1,5 +1,4 @@
-use Rattle.std.proofs.Common.{vec_len, arith, ◌∙◌, ◌≡◌, ◌-◌, refl, append-nil}
-use Rattle.std.proofs.lemmas.List.Elements.{All-same, All-push}
+use Rattle.std.proofs.{Common.{vec_len, arith, ◌∙◌, ◌≡◌, ◌-◌, refl, append-nil}, lemmas.List.Elements.{All-same, All-push}}
 use Rattle.bit_words.proofs.PackedLemmas.{copy_pushed}
 use Rattle.bit_words.proofs.packed.copies.with_copies.Goals as goal
 

@@ -1,7 +1,5 @@
-use Rattle.std.proofs.Common.{◌≤◌, ◌/◌, ◌∙◌, sym, arith}
-use Rattle.std.proofs.lemmas.Bool.{false≢true}
-use Rattle.bit_words.proofs.CompareLemmas.{difference_of_blocks, first_is_past, first_of_rest, shorter_end, zero_before_first}
-use Rattle.bit_words.proofs.VectorLemmas.{numbers_below}
+use Rattle.std.proofs.{Common.{◌≤◌, ◌/◌, ◌∙◌, sym, arith}, lemmas.Bool.false≢true}
+use Rattle.bit_words.proofs.{CompareLemmas.{difference_of_blocks, first_is_past, first_of_rest, shorter_end, zero_before_first}, VectorLemmas.numbers_below}
 use Rattle.bit_words.proofs.packed.inclusion.difference_is_zero.Goals as goal
 
 pub returns-then-first_merge_to_zero : goal.returns-then-first_merge_to_zero

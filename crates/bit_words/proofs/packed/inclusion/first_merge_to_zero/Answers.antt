@@ -1,10 +1,6 @@
-use Rattle.std.proofs.Common.{◌≡◌, ℕ, ◌+◌, ◌<◌, List, get_or, sym, ◌∙◌, arith}
-use Rattle.std.proofs.lemmas.Bool.{false≢true, eqb-true}
-use Rattle.bit_words.specs.BlockMerges.{MergesToZero}
-use Rattle.bit_words.specs.Digits.{is_one}
-use Rattle.bit_words.specs.Merges.{merge_of_values}
-use Rattle.bit_words.specs.declared.block.merge.Merge.{Merge}
-use Rattle.bit_words.proofs.CompareLemmas.{digit_from_zero, mismatch_zero, merge_of_zeros, first_is_here, first_is_past}
+use Rattle.std.proofs.{Common.{◌≡◌, ℕ, ◌+◌, ◌<◌, List, get_or, sym, ◌∙◌, arith}, lemmas.Bool.{false≢true, eqb-true}}
+use Rattle.bit_words.{specs.{BlockMerges.MergesToZero, Digits.is_one, Merges.merge_of_values, declared.block.merge.Merge.Merge}, proofs.CompareLemmas.{digit_from_zero, mismatch_zero, merge_of_zeros, first_is_here}}
+use Rattle.bit_words.proofs.CompareLemmas.{first_is_past}
 use Rattle.bit_words.proofs.packed.inclusion.first_merge_to_zero.Goals as goal
 
 -- one block more merges to 0

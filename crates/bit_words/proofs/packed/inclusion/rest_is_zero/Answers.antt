@@ -1,5 +1,4 @@
-use Rattle.std.proofs.Common.{arith, refl}
-use Rattle.std.proofs.lemmas.List.{get_or_past, length-map}
+use Rattle.std.proofs.{Common.{arith, refl}, lemmas.List.{get_or_past, length-map}}
 use Rattle.bit_words.proofs.packed.inclusion.rest_is_zero.Goals as goal
 
 pub returns-clause-zero : goal.returns-clause-zero

@@ -1,5 +1,4 @@
-use Rattle.std.proofs.Common.{◌+◌, count_ones, take_all, ap, ◌∙◌, arith}
-use Rattle.std.proofs.lemmas.List.Sums.{sum_by_more_le}
+use Rattle.std.proofs.{Common.{◌+◌, count_ones, take_all, ap, ◌∙◌, arith}, lemmas.List.Sums.sum_by_more_le}
 use Rattle.bit_words.specs.Nonzero.{ones_in}
 use Rattle.bit_words.proofs.packed.ones.add_ones.Goals as goal
 

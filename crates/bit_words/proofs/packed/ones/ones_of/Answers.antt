@@ -1,6 +1,4 @@
-use Rattle.std.proofs.Common.{◌≡◌, ℕ, ◌+◌, ◌*◌, ◌/◌, count_ones, List, drop, length, take, sym, ap, ◌∙◌, arith}
-use Rattle.std.proofs.lemmas.List.{take-append-drop}
-use Rattle.std.proofs.lemmas.List.Sums.{sum_by-append}
+use Rattle.std.proofs.{Common.{◌≡◌, ℕ, ◌+◌, ◌*◌, ◌/◌, count_ones, List, drop, length, take, sym, ap, ◌∙◌, arith}, lemmas.List.{take-append-drop, Sums.sum_by-append}}
 use Rattle.bit_words.specs.Nonzero.{ones_in}
 use Rattle.bit_words.proofs.packed.ones.ones_of.Goals as goal
 

@@ -1,8 +1,5 @@
-use Rattle.std.proofs.Common.{◌≡◌, ◌+◌, ◌*◌, count_ones, take, ap, arith}
-use Rattle.std.proofs.lemmas.List.Elements.{All-same, All-take, All-drop}
-use Rattle.std.proofs.lemmas.List.Sums.{sum_by-take-le}
-use Rattle.bit_words.specs.Nonzero.{ones_in}
-use Rattle.bit_words.proofs.CountLemmas.{ones_in-more}
+use Rattle.std.proofs.{Common.{◌≡◌, ◌+◌, ◌*◌, count_ones, take, ap, arith}, lemmas.List.{Elements.{All-same, All-take, All-drop}, Sums.sum_by-take-le}}
+use Rattle.bit_words.{specs.Nonzero.ones_in, proofs.CountLemmas.ones_in-more}
 use Rattle.bit_words.proofs.packed.ones.ones_of_groups.Goals as goal
 
 pub add_ones-ones-requires-clause-each : goal.add_ones-ones-requires-clause-each

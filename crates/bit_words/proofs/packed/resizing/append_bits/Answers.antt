@@ -1,8 +1,5 @@
-use Rattle.std.proofs.Common.{vec_len, ◌∙◌, sym, arith}
-use Rattle.std.proofs.lemmas.List.{length-map}
-use Rattle.bit_words.proofs.BitsLemmas.{blocks_for-le}
-use Rattle.bit_words.proofs.PackedLemmas.{ones_kept, ones_added, zeros_kept, zeros_added}
-use Rattle.bit_words.proofs.TestLemmas.{above_false, below_true}
+use Rattle.std.proofs.{Common.{vec_len, ◌∙◌, sym, arith}, lemmas.List.length-map}
+use Rattle.bit_words.proofs.{BitsLemmas.blocks_for-le, PackedLemmas.{ones_kept, ones_added, zeros_kept, zeros_added}, TestLemmas.{above_false, below_true}}
 use Rattle.bit_words.proofs.packed.resizing.append_bits.Goals as goal
 
 pub push_ones-requires-clause-more : goal.push_ones-requires-clause-more

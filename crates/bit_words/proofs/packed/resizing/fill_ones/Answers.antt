@@ -1,5 +1,4 @@
-use Rattle.std.proofs.Common.{◌≡◌, map, length, arith}
-use Rattle.std.proofs.lemmas.List.{length-map}
+use Rattle.std.proofs.{Common.{◌≡◌, map, length, arith}, lemmas.List.length-map}
 use Rattle.bit_words.proofs.PackedLemmas.{whole_filled, cut_filled}
 use Rattle.bit_words.proofs.packed.resizing.fill_ones.Goals as goal
 

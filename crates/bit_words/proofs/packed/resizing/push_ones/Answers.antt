@@ -1,6 +1,4 @@
-use Rattle.std.proofs.Common.{◌∙◌, arith}
-use Rattle.std.proofs.lemmas.List.{length-map}
-use Rattle.std.proofs.lemmas.List.Elements.{All-same, All-push}
+use Rattle.std.proofs.{Common.{◌∙◌, arith}, lemmas.List.{length-map, Elements.{All-same, All-push}}}
 use Rattle.bit_words.proofs.PackedLemmas.{none_pushed, whole_pushed, cut_pushed, kept_below, map-pushed}
 use Rattle.bit_words.proofs.packed.resizing.push_ones.Goals as goal
 

@@ -1,7 +1,5 @@
-use Rattle.std.proofs.Common.{sym, ap, arith}
-use Rattle.std.proofs.lemmas.Bool.{true≢false}
-use Rattle.bit_words.specs.Bits.{blocks_for}
-use Rattle.bit_words.proofs.VectorLemmas.{blocks_for-none, packed_nil}
+use Rattle.std.proofs.{Common.{sym, ap, arith}, lemmas.Bool.true≢false}
+use Rattle.bit_words.{specs.Bits.blocks_for, proofs.VectorLemmas.{blocks_for-none, packed_nil}}
 use Rattle.bit_words.proofs.packed.resizing.repeated_bit.Goals as goal
 
 pub append_bits-requires-clause-packed : goal.append_bits-requires-clause-packed

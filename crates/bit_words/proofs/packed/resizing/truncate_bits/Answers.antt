@@ -1,6 +1,5 @@
 use Rattle.std.proofs.Common.{arith}
-use Rattle.bit_words.proofs.BitsLemmas.{blocks_for-le}
-use Rattle.bit_words.proofs.PackedLemmas.{cut_kept}
+use Rattle.bit_words.proofs.{BitsLemmas.blocks_for-le, PackedLemmas.cut_kept}
 use Rattle.bit_words.proofs.packed.resizing.truncate_bits.Goals as goal
 
 pub truncate_blocks-requires-clause-fewer : goal.truncate_blocks-requires-clause-fewer

@@ -1,5 +1,4 @@
-use Rattle.std.proofs.Common.{◌∙◌, ap, map, sym}
-use Rattle.std.proofs.lemmas.List.{take-map}
+use Rattle.std.proofs.{Common.{◌∙◌, ap, map, sym}, lemmas.List.take-map}
 use Rattle.bit_words.proofs.packed.resizing.truncate_blocks.Goals as goal
 
 pub returns-clause-numbers : goal.returns-clause-numbers

@@ -1,5 +1,4 @@
-use Rattle.std.proofs.Common.{arith}
-use Rattle.std.proofs.lemmas.List.{get_or_past, length-map}
+use Rattle.std.proofs.{Common.arith, lemmas.List.{get_or_past, length-map}}
 use Rattle.bit_words.proofs.packed.searching.first_nonzero_block.Goals as goal
 
 pub returns : goal.returns

@@ -1,5 +1,4 @@
-use Rattle.std.proofs.Common.{arith}
-use Rattle.std.proofs.lemmas.List.{length-map}
+use Rattle.std.proofs.{Common.arith, lemmas.List.length-map}
 use Rattle.bit_words.proofs.TailLemmas.{tail_whole, tail_cut}
 use Rattle.bit_words.proofs.packed.tail_copies.copy_bits_from.Goals as goal
 

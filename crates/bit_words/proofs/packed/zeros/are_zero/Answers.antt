@@ -1,9 +1,5 @@
-use Rattle.std.proofs.Common.{length, arith}
-use Rattle.std.proofs.lemmas.Bool.{eqb-true}
-use Rattle.std.proofs.lemmas.Bool.Decides.{nat_tests}
-use Rattle.std.proofs.lemmas.List.{get_or_past, length-map}
-use Rattle.bit_words.proofs.VectorLemmas.{all_zero_map}
-use Rattle.bit_words.proofs.ZeroLemmas.{all_zero}
+use Rattle.std.proofs.{Common.{length, arith}, lemmas.{Bool.{eqb-true, Decides.nat_tests}, List.{get_or_past, length-map}}}
+use Rattle.bit_words.proofs.{VectorLemmas.all_zero_map, ZeroLemmas.all_zero}
 use Rattle.bit_words.proofs.packed.zeros.are_zero.Goals as goal
 
 pub returns : goal.returns

@@ -1,10 +1,5 @@
-use Rattle.std.proofs.Common.{◌≡◌, ◌+◌, ◌*◌, ◌/◌, ◌%◌, ◌∙◌, ◌==◌, not, refl, sym, ap, map, length, arith, ⊎_elim, div-mul-le_self, mul-le-mul_right}
-use Rattle.std.proofs.lemmas.Bool.{cases_lt}
-use Rattle.bit_words.specs.Digits.{is_one}
-use Rattle.bit_words.proofs.BitsLemmas.{block_past}
-use Rattle.bit_words.proofs.MergeLemmas.{merged_more}
-use Rattle.bit_words.proofs.StorageLemmas.{value_at-is}
-use Rattle.bit_words.proofs.SummaryLemmas.{summary_of_blocks}
+use Rattle.std.proofs.{Common.{◌≡◌, ◌+◌, ◌*◌, ◌/◌, ◌%◌, ◌∙◌, ◌==◌, not, refl, sym, ap, map, length, arith, ⊎_elim, div-mul-le_self, mul-le-mul_right}, lemmas.Bool.cases_lt}
+use Rattle.bit_words.{specs.Digits.is_one, proofs.{BitsLemmas.block_past, MergeLemmas.merged_more, StorageLemmas.value_at-is, SummaryLemmas.summary_of_blocks}}
 use Rattle.bit_words.proofs.summary.merges.merge_long.Goals as goal
 
 -- the blocks of whole chunks are among the others, and those of the chunk after them are the last

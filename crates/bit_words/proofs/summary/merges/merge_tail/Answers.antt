@@ -1,14 +1,6 @@
 use Rattle.std.proofs.Common.{◌≡◌, ℕ, ◌+◌, ◌-◌, ◌*◌, ◌<◌, ◌≤◌, ◌∙◌, false, List, [], refl, sym, ap, ap₂, map, get_or, length, arith}
-use Rattle.bit_words.specs.BlockMerges.{HasMerged}
-use Rattle.bit_words.specs.Digits.{is_one}
-use Rattle.bit_words.specs.Merges.{merge_of_values}
-use Rattle.bit_words.specs.Summary.{is_used}
-use Rattle.bit_words.specs.declared.block.merge.Merge.{Merge}
-use Rattle.bit_words.specs.Storage.{value_at}
-use Rattle.bit_words.proofs.Masks.{is_one-zero}
-use Rattle.bit_words.proofs.MergeLemmas.{merged_more, merged_with_none}
-use Rattle.bit_words.proofs.SummaryMergeLemmas.{tail_digits, use_past_others}
-use Rattle.bit_words.proofs.UsedLemmas.{says_kept}
+use Rattle.bit_words.{specs.{BlockMerges.HasMerged, Digits.is_one, Merges.merge_of_values, Summary.is_used, declared.block.merge.Merge.Merge, Storage.value_at}, proofs.{Masks.is_one-zero, MergeLemmas.merged_more}}
+use Rattle.bit_words.proofs.{MergeLemmas.merged_with_none, SummaryMergeLemmas.{tail_digits, use_past_others}, UsedLemmas.says_kept}
 use Rattle.bit_words.proofs.summary.merges.merge_tail.Goals as goal
 
 -- where the blocks begin that are left

@@ -1,10 +1,5 @@
 use Rattle.std.proofs.Common.{◌≤◌, ◌∙◌, sym, length, arith}
-use Rattle.bit_words.proofs.BitsLemmas.{blocks_for-le}
-use Rattle.bit_words.proofs.MergeLemmas.{merges_of_values}
-use Rattle.bit_words.proofs.SummaryLemmas.{summary_of_digits}
-use Rattle.bit_words.proofs.SummaryMergeLemmas.{union_use}
-use Rattle.bit_words.proofs.summary.merges.unite_long.Given.{Over}
-use Rattle.bit_words.proofs.summary.merges.unite_long.Goals.{After-merge_each}
+use Rattle.bit_words.proofs.{BitsLemmas.blocks_for-le, MergeLemmas.merges_of_values, SummaryLemmas.summary_of_digits, SummaryMergeLemmas.union_use, summary.merges.unite_long.{Given.Over, Goals.After-merge_each}}
 use Rattle.bit_words.proofs.summary.merges.unite_long.Goals as goal
 
 -- the other summary has no more blocks

@@ -1,5 +1,4 @@
-use Rattle.std.proofs.Common.{◌≡◌, ◌*◌, ◌^◌, ◌-◌, min, length, length-take, sym, ap, ◌∙◌, ⊎_elim, arith}
-use Rattle.std.proofs.lemmas.Bool.{cases_lt}
+use Rattle.std.proofs.{Common.{◌≡◌, ◌*◌, ◌^◌, ◌-◌, min, length, length-take, sym, ap, ◌∙◌, ⊎_elim, arith}, lemmas.Bool.cases_lt}
 use Rattle.bit_words.proofs.ZeroLemmas.{front_read, zero_past_chunks}
 use Rattle.bit_words.proofs.summary.queries.used_by_summary.Goals as goal
 

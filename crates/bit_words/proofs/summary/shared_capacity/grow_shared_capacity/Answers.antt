@@ -1,8 +1,5 @@
-use Rattle.std.proofs.Common.{◌≡◌, ◌<◌, ◌≤◌, ◌∙◌, ap, vec_capacity, arith}
-use Rattle.std.proofs.lemmas.Result.{on_ok_weaker, on_err_weaker}
-use Rattle.bit_words.specs.Summary.{shared_capacity, stored_for}
-use Rattle.bit_words.proofs.CapacityLemmas.{shared_enough, shared_by_blocks, shared_by_summary}
-use Rattle.bit_words.proofs.GrowthLemmas.{Reserves-le}
+use Rattle.std.proofs.{Common.{◌≡◌, ◌<◌, ◌≤◌, ◌∙◌, ap, vec_capacity, arith}, lemmas.Result.{on_ok_weaker, on_err_weaker}}
+use Rattle.bit_words.{specs.Summary.{shared_capacity, stored_for}, proofs.{CapacityLemmas.{shared_enough, shared_by_blocks, shared_by_summary}, GrowthLemmas.Reserves-le}}
 use Rattle.bit_words.proofs.summary.shared_capacity.grow_shared_capacity.Goals as goal
 
 -- the summary first

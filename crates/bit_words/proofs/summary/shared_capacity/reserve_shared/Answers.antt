@@ -1,6 +1,5 @@
 use Rattle.std.proofs.Common.{vec_capacity, arith}
-use Rattle.bit_words.proofs.CapacityLemmas.{stored_from_shared}
-use Rattle.bit_words.proofs.GrowthLemmas.{Reserves-within}
+use Rattle.bit_words.proofs.{CapacityLemmas.stored_from_shared, GrowthLemmas.Reserves-within}
 use Rattle.bit_words.proofs.summary.shared_capacity.reserve_shared.Goals as goal
 
 pub returns-then-have_capacity-clause-capacity : goal.returns-then-have_capacity-clause-capacity

@@ -1,7 +1,5 @@
 use Rattle.std.proofs.Common.{◌≡◌, ℕ, ◌<◌, ◌≤◌, max, true, refl, vec_capacity, arith, Result, OnOk}
-use Rattle.bit_words.specs.Growth.{ReservesShared}
-use Rattle.bit_words.specs.Summary.{shared_capacity, stored_for}
-use Rattle.bit_words.proofs.CapacityLemmas.{shared_short_summary, shared_whole}
+use Rattle.bit_words.{specs.{Growth.ReservesShared, Summary.{shared_capacity, stored_for}}, proofs.CapacityLemmas.{shared_short_summary, shared_whole}}
 use Rattle.bit_words.proofs.summary.shared_capacity.reserve_shared_exact.Goals as goal
 
 -- what is made is just what was asked for

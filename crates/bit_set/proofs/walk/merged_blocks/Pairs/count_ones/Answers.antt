@@ -1,8 +1,5 @@
 use Rattle.std.proofs.Common.{◌≡◌, ◌+◌, ◌-◌, length, arith, drop, take}
-use Rattle.bit_set.specs.Sets.{elements}
-use Rattle.bit_set.proofs.PairLemmas.{both_held}
-use Rattle.bit_set.proofs.TallyLemmas.{rows_cut_at, rest_ended}
-use Rattle.bit_set.proofs.walk.merged_blocks.Pairs.count_ones.Goals.{After-min-both}
+use Rattle.bit_set.{specs.Sets.elements, proofs.{PairLemmas.both_held, TallyLemmas.{rows_cut_at, rest_ended}, walk.merged_blocks.Pairs.count_ones.Goals.After-min-both}}
 use Rattle.bit_set.proofs.walk.merged_blocks.Pairs.count_ones.Goals as goal
 
 -- the ones up to the end of the shorter side and those past it are all

@@ -1,7 +1,5 @@
-use Rattle.std.proofs.Common.{◌≡◌, All, subst}
-use Rattle.std.specs.Prelude.{IfSome}
-use Rattle.bit_set.proofs.PairLemmas.{both_pulled_if, same_pulls_if, All-next_if}
-use Rattle.bit_set.proofs.walk.merged_blocks.Pairs.pull_if.Goals.{After-next_if-2}
+use Rattle.std.{proofs.Common.{◌≡◌, All, subst}, specs.Prelude.IfSome}
+use Rattle.bit_set.proofs.{PairLemmas.{both_pulled_if, same_pulls_if, All-next_if}, walk.merged_blocks.Pairs.pull_if.Goals.After-next_if-2}
 use Rattle.bit_set.proofs.walk.merged_blocks.Pairs.pull_if.Goals as goal
 
 pub of_blocks-requires-clause-left : goal.of_blocks-requires-clause-left

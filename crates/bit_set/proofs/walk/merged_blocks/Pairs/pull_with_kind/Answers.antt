@@ -1,6 +1,5 @@
 use Rattle.std.proofs.Common.{arith}
-use Rattle.bit_set.proofs.WalkLemmas.{All-pulled}
-use Rattle.bit_set.proofs.PairLemmas.{both_pulled}
+use Rattle.bit_set.proofs.{WalkLemmas.All-pulled, PairLemmas.both_pulled}
 use Rattle.bit_set.proofs.walk.merged_blocks.Pairs.pull_with_kind.Goals as goal
 
 pub merge_of_blocks-block-requires-clause-first : goal.merge_of_blocks-block-requires-clause-first

@@ -1,9 +1,6 @@
 use Rattle.std.proofs.Common.{◌≡◌, ◌+◌, ◌*◌, true, inl, inr, sym, ◌∙◌, ap₂}
-use Rattle.bit_set.specs.Indexes.{IsWalk}
-use Rattle.bit_set.specs.Walk.{GoesOn}
-use Rattle.bit_set.proofs.WalkLemmas.{seen_of_two, went_on}
+use Rattle.bit_set.{specs.{Indexes.IsWalk, Walk.GoesOn}, proofs.{WalkLemmas.{seen_of_two, went_on}, walk.two_sets.TwoSets.advance_branchless.Goals.{After-bits, then-used_up, else-used_up}}}
 use Rattle.bit_set.proofs.walk.two_sets.TwoSets.advance_branchless.Goals as goal
-use Rattle.bit_set.proofs.walk.two_sets.TwoSets.advance_branchless.Goals.{After-bits, then-used_up, else-used_up}
 
 went : (g : _) (c : After-bits g) →
     let w = g.B.BitBlock.width in

@@ -1,10 +1,7 @@
-use Rattle.std.proofs.Common.{ℕ, ◌≡◌, ◌+◌, ◌<◌, ◌∙◌, true, false, not, None, Some, List, [], ◌∷◌, get_or, drop, length, sym, ap, ap₂, arith}
-use Rattle.std.proofs.lemmas.Bool.{true≢false}
-use Rattle.std.proofs.lemmas.List.{length-drop, get_or-drop, drop_all, drop_more}
-use Rattle.std.specs.Bool.{then_some}
-use Rattle.bit_words.proofs.bit_vec.blocks.Blocks.next_if.Given.{Over}
+use Rattle.std.proofs.{Common.{ℕ, ◌≡◌, ◌+◌, ◌<◌, ◌∙◌, true, false, not, None, Some, List, [], ◌∷◌, get_or, drop, length, sym, ap, ap₂, arith}, lemmas.{Bool.true≢false, List.{length-drop, get_or-drop, drop_all}}}
+use Rattle.std.{proofs.lemmas.List.drop_more, specs.Bool.then_some}
+use Rattle.bit_words.proofs.bit_vec.blocks.Blocks.next_if.{Given.Over, Goals.{Joined-wanted, then-wanted, else-wanted, then-wanted-2, else-wanted-2}}
 use Rattle.bit_words.proofs.bit_vec.blocks.Blocks.next_if.Goals as goal
-use Rattle.bit_words.proofs.bit_vec.blocks.Blocks.next_if.Goals.{Joined-wanted, then-wanted, else-wanted, then-wanted-2, else-wanted-2}
 use mir.Val.{bool_byte}
 
 -- what the pull, where the block is wanted, leaves as it was, and that it is counted

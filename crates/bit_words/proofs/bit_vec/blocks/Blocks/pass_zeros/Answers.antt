@@ -1,8 +1,5 @@
-use Rattle.std.proofs.Common.{◌≤◌, ◌+◌, drop, length, sym, ap, ◌∙◌, arith}
-use Rattle.std.proofs.lemmas.List.{length-drop}
-use Rattle.std.proofs.Math.Seq.{drop-drop}
-use Rattle.bit_words.proofs.bit_vec.blocks.Blocks.pass_zeros.Given.{Over}
-use Rattle.bit_words.proofs.bit_vec.blocks.Blocks.pass_zeros.Goals.{After-zeros_before-zeros}
+use Rattle.std.proofs.{Common.{◌≤◌, ◌+◌, drop, length, sym, ap, ◌∙◌, arith}, lemmas.List.length-drop, Math.Seq.drop-drop}
+use Rattle.bit_words.proofs.bit_vec.blocks.Blocks.pass_zeros.{Given.Over, Goals.After-zeros_before-zeros}
 use Rattle.bit_words.proofs.bit_vec.blocks.Blocks.pass_zeros.Goals as goal
 
 within : (g : Over) (c : After-zeros_before-zeros g) → c.self.inside.at + c.zeros_before-zeros.result ≤ length c.self.inside.blocks.now

@@ -1,8 +1,5 @@
 use Rattle.std.proofs.Common.{length, sym, ap, ◌∙◌, arith}
-use Rattle.bit_words.specs.Bits.{blocks_for}
-use Rattle.bit_words.proofs.GrowthLemmas.{stored_within_capacity}
-use Rattle.bit_words.proofs.SummaryLemmas.{packed_blocks}
-use Rattle.bit_words.proofs.VectorLemmas.{length_from_view}
+use Rattle.bit_words.{specs.Bits.blocks_for, proofs.{GrowthLemmas.stored_within_capacity, SummaryLemmas.packed_blocks, VectorLemmas.length_from_view}}
 use Rattle.bit_words.proofs.bit_vec.nonzero.Nonzero.after.Goals as goal
 
 pub returns-clause-blocks : goal.returns-clause-blocks

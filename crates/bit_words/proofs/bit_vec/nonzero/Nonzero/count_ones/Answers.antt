@@ -1,9 +1,5 @@
-use Rattle.std.proofs.Common.{◌≡◌, ◌+◌, take, drop, sym, ap, ◌∙◌, arith}
-use Rattle.std.proofs.lemmas.Bool.Decides.{nat_tests}
-use Rattle.std.proofs.lemmas.List.Elements.{All-take, All-drop}
-use Rattle.bit_words.specs.Nonzero.{ones_in, ones_left}
-use Rattle.bit_words.proofs.PendingOnes.{enough_rest, left-ones_split, left-ones_past, left-ones_rest, tells_rest}
-use Rattle.bit_words.proofs.bit_vec.nonzero.Nonzero.count_ones.Given.{Over}
+use Rattle.std.proofs.{Common.{◌≡◌, ◌+◌, take, drop, sym, ap, ◌∙◌, arith}, lemmas.{Bool.Decides.nat_tests, List.Elements.{All-take, All-drop}}}
+use Rattle.bit_words.{specs.Nonzero.{ones_in, ones_left}, proofs.{PendingOnes.{enough_rest, left-ones_split, left-ones_past, left-ones_rest, tells_rest}, bit_vec.nonzero.Nonzero.count_ones.Given.Over}}
 use Rattle.bit_words.proofs.bit_vec.nonzero.Nonzero.count_ones.Goals.{After-ones_of}
 use Rattle.bit_words.proofs.bit_vec.nonzero.Nonzero.count_ones.Goals as goal
 

@@ -1,9 +1,5 @@
-use Rattle.std.proofs.Common.{◌≡◌, Bool, true, false, not, ◌==◌, ◌∷◌, if◌then◌else◌, length, refl, sym, ap, subst, ◌∙◌, arith}
-use Rattle.std.proofs.lemmas.Bool.{eqb-false}
-use Rattle.std.proofs.lemmas.Option.{get_or_from_slice_get}
-use Rattle.bit_words.specs.Pending.{left_from, next_at}
-use Rattle.bit_words.proofs.bit_vec.nonzero.Nonzero.pull.Given.{Over}
-use Rattle.bit_words.proofs.bit_vec.nonzero.Nonzero.pull.Goals.{After-at-block}
+use Rattle.std.proofs.{Common.{◌≡◌, Bool, true, false, not, ◌==◌, ◌∷◌, if◌then◌else◌, length, refl, sym, ap, subst, ◌∙◌, arith}, lemmas.{Bool.eqb-false, Option.get_or_from_slice_get}}
+use Rattle.bit_words.{specs.Pending.{left_from, next_at}, proofs.bit_vec.nonzero.Nonzero.pull.{Given.Over, Goals.After-at-block}}
 use Rattle.bit_words.proofs.bit_vec.nonzero.Nonzero.pull.Goals as goal
 
 turned : (b c : Bool) → not b ≡ c → b ≡ not c

@@ -1,11 +1,6 @@
-use Rattle.std.proofs.Common.{◌+◌, ◌*◌, ◌/◌, ◌%◌, ◌<◌, ◌≤◌, min, drop, length, ap, ◌∙◌, arith, mod-lt, div-add-mod'}
-use Rattle.std.proofs.Math.Nat.{div-lt_iff_lt-mul}
-use Rattle.std.proofs.lemmas.List.{drop_min}
-use Rattle.bit_words.specs.Pending.{IsStoredFrom}
-use Rattle.bit_words.specs.Summary.{short_count}
-use Rattle.bit_words.proofs.PendingLemmas.{IsCutPast, IsInHand-cut, count_from, left-cut, stored_from_all, stored_past, stored_some}
-use Rattle.bit_words.proofs.bit_vec.pending.Pending.after.Given.{Over}
-use Rattle.bit_words.proofs.bit_vec.pending.Pending.after.Goals.{After-over-rest}
+use Rattle.std.proofs.{Common.{◌+◌, ◌*◌, ◌/◌, ◌%◌, ◌<◌, ◌≤◌, min, drop, length, ap, ◌∙◌, arith, mod-lt, div-add-mod'}, Math.Nat.div-lt_iff_lt-mul, lemmas.List.drop_min}
+use Rattle.bit_words.{specs.{Pending.IsStoredFrom, Summary.short_count}, proofs.PendingLemmas.{IsCutPast, IsInHand-cut, count_from, left-cut, stored_from_all, stored_past, stored_some}}
+use Rattle.bit_words.proofs.bit_vec.pending.Pending.after.{Given.Over, Goals.After-over-rest}
 use Rattle.bit_words.proofs.bit_vec.pending.Pending.after.Goals as goal
 
 -- what is stored of the summary from the block for the first one on

@@ -1,17 +1,8 @@
-use Rattle.std.proofs.Common.{◌≡◌, ℕ, ◌+◌, ◌-◌, ◌*◌, ◌<◌, ◌≤◌, ◌==◌, ◌∷◌, if◌then◌else◌, List, [], Option, None, Some, length, refl, sym, ap, ◌∙◌, subst, arith, ⊎_elim, mul-le-mul_right}
-use Rattle.std.proofs.lemmas.Bool.{cases_lt}
-use Rattle.std.proofs.lemmas.Bool.Decides.{nat_tests}
-use Rattle.std.proofs.lemmas.List.{drop_all}
-use Rattle.std.specs.Iterator.{YieldsFirst}
-use Rattle.bit_words.specs.Bits.{blocks_for}
-use Rattle.bit_words.specs.Nonzero.{nonzero_from}
-use Rattle.bit_words.specs.Pending.{IsPending, IsStoredFrom, left_from, next_at}
-use Rattle.bit_words.proofs.BitsLemmas.{blocks_for-least}
-use Rattle.bit_words.proofs.Masks.{is_one-bit}
-use Rattle.bit_words.proofs.NextAtLemmas.{next_at-lowest, next_at-zero}
-use Rattle.bit_words.proofs.PendingLemmas.{IsInHand-taken, IsInHand-zero, count_by, count_past, left-covered, left-here, left-taken, stored_ended, stored_past, stored_some, zeros_passed}
-use Rattle.bit_words.proofs.bit_vec.pending.Pending.next_block.Given.{Over}
-use Rattle.bit_words.proofs.bit_vec.pending.Pending.next_block.Goals.{After-bits}
+use Rattle.std.proofs.{Common.{◌≡◌, ℕ, ◌+◌, ◌-◌, ◌*◌, ◌<◌, ◌≤◌, ◌==◌, ◌∷◌, if◌then◌else◌, List, [], Option, None, Some, length, refl, sym, ap, ◌∙◌, subst, arith, ⊎_elim, mul-le-mul_right}, lemmas.Bool.cases_lt}
+use Rattle.std.{proofs.lemmas.{Bool.Decides.nat_tests, List.drop_all}, specs.Iterator.YieldsFirst}
+use Rattle.bit_words.{specs.{Bits.blocks_for, Nonzero.nonzero_from, Pending.{IsPending, IsStoredFrom, left_from, next_at}}, proofs.{BitsLemmas.blocks_for-least, Masks.is_one-bit, NextAtLemmas.next_at-lowest}}
+use Rattle.bit_words.proofs.{NextAtLemmas.next_at-zero, PendingLemmas.{IsInHand-taken, IsInHand-zero, count_by, count_past, left-covered, left-here, left-taken, stored_ended, stored_past, stored_some, zeros_passed}}
+use Rattle.bit_words.proofs.bit_vec.pending.Pending.next_block.{Given.Over, Goals.After-bits}
 use Rattle.bit_words.proofs.bit_vec.pending.Pending.next_block.Goals as goal
 
 -- a pull past the end leaves nothing

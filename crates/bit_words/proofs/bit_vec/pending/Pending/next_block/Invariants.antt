@@ -1,6 +1,5 @@
 use Rattle.std.proofs.Common.{◌≡◌, ◌+◌, ◌-◌, ◌≤◌, length}
-use Rattle.bit_words.specs.Bits.{blocks_for}
-use Rattle.bit_words.specs.Pending.{IsPending, left_from, next_at}
+use Rattle.bit_words.specs.{Bits.blocks_for, Pending.{IsPending, left_from, next_at}}
 use Rattle.bit_words.proofs.bit_vec.pending.Pending.next_block.Given as goal
 
 -- the same is left, and what was pulled came out of the summary

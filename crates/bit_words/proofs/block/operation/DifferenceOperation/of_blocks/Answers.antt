@@ -1,6 +1,5 @@
 use Rattle.std.proofs.Common.{◌&&◌, ap, ◌∙◌}
-use Rattle.bit_words.specs.Digits.{is_one}
-use Rattle.bit_words.proofs.Masks.{is_one-both, is_one-complement}
+use Rattle.bit_words.{specs.Digits.is_one, proofs.Masks.{is_one-both, is_one-complement}}
 use Rattle.bit_words.proofs.block.operation.DifferenceOperation.of_blocks.Goals as goal
 
 pub returns-clause-digits : goal.returns-clause-digits
