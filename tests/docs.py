@@ -7,7 +7,7 @@
 - A ```antt block begins with the name of a file, and the rest of it is in a file of that name. README's crate `mine` is
   `uses` here.
 - Each clause that a CALLING.md quotes below a line 'fn ..' is a clause of that function.
-- Each example of a doc comment is in a test.
+- Each example of a doc comment is in a test, with a macro or with `expect` and `expect_eq`.
 - docs/SPEED.md has the tables that bench/tables makes of the figures in docs/speed.
 - Each public function of `bit_words` and `bit_set` but the laws is called by `diff_calls`, or diff/README.md names it.
 - Each link of a document leads to a file, and to a heading where it names one.
@@ -26,6 +26,13 @@ CLAUSE = re.compile(r"^\s+(requires|ensures)\b\s*([\w ]*?)\s*[:{]")
 def lines_of(text):
     """The lines without their indentation."""
     return [line.strip() for line in text.splitlines()]
+
+
+def as_in_documents(line):
+    """The line of a test, with the macros in place of `expect`, `expect_eq` and what they take to end a test."""
+    line = re.sub(r"^expect\(&?rt, (.*)\);$", r"assert!(\1);", line)
+    line = re.sub(r"^expect_eq\(&?rt, &(.*), &(.*)\);$", r"assert_eq!(\1, \2);", line)
+    return line.replace("!(rt; ", "!(")
 
 
 def is_in(wanted, lines):
@@ -226,7 +233,7 @@ def main():
     check = Check()
     sources = {path: lines_of(path.read_text(encoding="utf-8")) for path in sorted(root.glob("crates/*/src/**/*.rt"))}
     # A test passes `rt`, by which it prints, to `assert!`; no example does.
-    tests = [[line.replace("!(rt; ", "!(") for line in lines] for lines in sources.values() if "#[test]" in lines]
+    tests = [[as_in_documents(line) for line in lines] for lines in sources.values() if "#[test]" in lines]
     documents = [root / "README.md", *sorted(root.glob("crates/*/CALLING.md"))]
     for document in documents:
         check_examples(check, root, document, [*sources.values(), *tests])
