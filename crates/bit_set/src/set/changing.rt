@@ -120,10 +120,12 @@ impl<B: BitBlock> BitSet<B> {
 
     /// Takes every element out; the length stays. Writes each block once.
     pub fn make_empty(&mut self)
+        ensures whole { self.new ≡ record {
+          values = replicate (length self.old.values) false;
+          capacity = self.old.capacity;
+        } }
         ensures elements { elements self.new.values ≡ [] }
         ensures members { HasNone (elements self.new.values) }
-        ensures length { length self.new.values ≡ length self.old.values }
-        ensures capacity { self.new.capacity ≡ self.old.capacity }
         ensures changes { Changes Change.MakeEmpty self.old.values Done self.new.values }
     {
         self.bits.fill(false);
@@ -132,10 +134,12 @@ impl<B: BitBlock> BitSet<B> {
     /// Takes every element out: the older name of [`BitSet::make_empty`].
     #[inline]
     pub fn clear(&mut self)
+        ensures whole { self.new ≡ record {
+          values = replicate (length self.old.values) false;
+          capacity = self.old.capacity;
+        } }
         ensures elements { elements self.new.values ≡ [] }
         ensures members { HasNone (elements self.new.values) }
-        ensures length { length self.new.values ≡ length self.old.values }
-        ensures capacity { self.new.capacity ≡ self.old.capacity }
         ensures changes { Changes Change.MakeEmpty self.old.values Done self.new.values }
     {
         self.make_empty();

@@ -13,7 +13,7 @@ loop-state-init g c = record {
   can_next = tt;
   finite = tt;
   gathers = rw c.into_iter-state-iterator.ensures.into_iter_gives.0.left (gathers_none _ _ _ c.make_empty.ensures.members);
-  capacity = λ _. c.make_empty.ensures.capacity;
+  capacity = λ _. ap (λ bits. bits.capacity) c.make_empty.ensures.whole;
 }
 
 pub returns-in_err-union_with-in-Some-get-clause-succeeds : goal.returns-in_err-union_with-in-Some-get-clause-succeeds
