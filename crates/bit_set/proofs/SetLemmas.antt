@@ -14,6 +14,10 @@ pub has-below : (low : ℕ) (xs : List ℕ) (n : ℕ) → AscendsFrom low xs →
 has-below low [] n h lt = refl
 has-below low (x ∷ xs) n h lt = let rest = has-below (x + 1) xs n h.1 in grind (arith, nat_tests)
 
+-- a first member is a member
+pub has-first : (x : ℕ) (xs : List ℕ) → has (x ∷ xs) x ≡ true
+has-first x xs = grind (arith, nat_tests)
+
 -- ascending lists with the same members are one list
 same_members_from : (low : ℕ) (xs ys : List ℕ) → AscendsFrom low xs → AscendsFrom low ys → ((n : ℕ) → has xs n ≡ has ys n) → xs ≡ ys
 same_members_from low [] [] hx hy same = refl

@@ -4,7 +4,7 @@ use Rattle.std.proofs.{Math.{Bool.{or-false, and-false}, Nat.{mod-lt, lt_of_mul-
 use Rattle.std.{proofs.lemmas.{Bool.Decides.nat_tests, List.append-nil}, specs.Iterator.{Yields, YieldsFirst, YieldsThen, Drains}}
 use Rattle.bit_words.specs.{Bits.blocks_for, declared.block.merge.Merge.Merge}
 use Rattle.bit_set.specs.{Agreement.WalksAgree, Sets.{IsAscending, has, elements, put_all, merge_of_sets, AscendsFrom}, Walk.{Walk, TwoSetWalk, Advances, AdvancesByEach, IsWalkedOut, IsWalkedOutByEach, IsAtStart}}
-use Rattle.bit_set.{specs.Walk.{StartsOverTwo, WalksOverTwo, blocks_past}, proofs.{SetLemmas.{same_members, IsAscending-elements, at_cond}, SetLaws.{has-put_all, IsAscending-put_all}}}
+use Rattle.bit_set.{specs.Walk.{StartsOverTwo, WalksOverTwo, blocks_past}, proofs.{SetLemmas.{same_members, IsAscending-elements}, SetLaws.{has-put_all, IsAscending-put_all}}}
 use Rattle.bit_set.proofs.{AlgebraLemmas.IsAscending-merge_of_sets, SparseLemmas.whole_index}
 
 -- ---- calls of any kind
@@ -137,6 +137,10 @@ none_before w low (x ∷ xs) q pos up before =
 past_step : (k q b : ℕ) (others next same : Bool) → next ≡ (nat_lt b q && others) → same ≡ (nat_lt k q && others) → (q < b → others ≡ false)
     → cond (nat_lt k b) ((b == q) || next) same ≡ (nat_lt k q && ((b == q) || others))
 past_step k q b others next same next_is same_is none = grind (arith, nat_tests)
+
+-- a function goes into a choice
+at_cond : {A B : Type 0} (f : A → B) (b : Bool) (x y : A) → f (cond b x y) ≡ cond b (f x) (f y)
+at_cond f b x y = grind arith
 
 -- they are those past it that a number is in
 pub has-blocks_past : (w k low : ℕ) (xs : List ℕ) (q : ℕ) → 0 < w → AscendsFrom low xs → has (blocks_past w k xs) q ≡ (nat_lt k q && has (map (λ n. n / w) xs) q)

@@ -44,7 +44,7 @@ pub CanWalk-taken : (w index m r i : ℕ) (ahead : Ahead) → CanWalk w index m 
 CanWalk-taken w index m r i ahead can low within cleared =
     let same = indexes-lowest w index m r i ahead.values low within cleared in
     let below = subst (All (λ n. n < 2 ^ 64)) same can.below in (
-      record { long = can.long; fits = can.fits; below = All-tail (λ n. n < 2 ^ 64) (index + i) (indexes w index r ahead.values) below; few = omega (arith, can.count_fits, ap length same) },
+      record { long = can.long; fits = can.fits; below = All-tail (λ n. n < 2 ^ 64) (index + i) (indexes w index r ahead.values) below; count_fits = omega (arith, can.count_fits, ap length same) },
       All-head (λ n. n < 2 ^ 64) (index + i) (indexes w index r ahead.values) below,
     )
 
