@@ -12,6 +12,7 @@ pub mod PackedLemmas
 pub mod ByteLemmas
 pub mod SourceLemmas
 pub mod MergeLemmas
+pub mod NotedMergeLemmas
 pub mod CompareLemmas
 pub mod MismatchLemmas
 pub mod CapacityLemmas

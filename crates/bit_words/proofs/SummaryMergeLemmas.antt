@@ -29,7 +29,7 @@ stays m w a b same small also digits =
     grind (arith, same)
 
 -- whether a block that was merged with none is 0
-used_isolated : (m : Merge) (w a b : ℕ) → a < 2 ^ w → b < 2 ^ w → ((j : ℕ) → j < w → is_one b j ≡ merge_of_values m (is_one a j) false) → not (b == 0) ≡ merge_of_values m (not (a == 0)) false
+pub used_isolated : (m : Merge) (w a b : ℕ) → a < 2 ^ w → b < 2 ^ w → ((j : ℕ) → j < w → is_one b j ≡ merge_of_values m (is_one a j) false) → not (b == 0) ≡ merge_of_values m (not (a == 0)) false
 used_isolated Union w a b small also digits = stays Union w a b or-false small also digits
 used_isolated Intersection w a b small also digits =
     used_from_zero b (zero_from_digits w b also (λ j index. digits j index ∙ and-false (is_one a j))) ∙ sym (and-false (not (a == 0)))

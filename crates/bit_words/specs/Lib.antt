@@ -12,6 +12,7 @@ pub mod Pending
 pub mod Nonzero
 pub mod Merges
 pub mod BlockMerges
+pub mod NotedMerges
 pub mod Comparisons
 pub mod Mismatches
 pub mod Growth

@@ -17,6 +17,7 @@ mod editing;
 mod first_and_nonzero;
 mod merging;
 mod nonzero;
+mod noted_merging;
 mod pending;
 
 pub use crate::block::lowest::take_lowest_one;

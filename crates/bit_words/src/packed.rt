@@ -7,6 +7,7 @@ pub(crate) mod comparing;
 pub(crate) mod copies;
 pub(crate) mod groups;
 pub(crate) mod inclusion;
+pub(crate) mod noted_merges;
 pub(crate) mod ones;
 pub(crate) mod resizing;
 pub(crate) mod searching;

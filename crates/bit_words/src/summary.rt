@@ -15,6 +15,7 @@ use std::alloc::{AllocError, Global};
 
 pub(crate) mod copies;
 pub(crate) mod merges;
+pub(crate) mod noted_merges;
 pub(crate) mod queries;
 pub(crate) mod shared_capacity;
 

@@ -249,7 +249,7 @@ fn same_by_search<B: BitBlock>(a: &[B], b: &[B]) -> bool
 
 // A block that is 0 just where `seen` is and the other two are the same.
 #[inline]
-fn or_mismatch<B: BitBlock>(seen: B, a: B, b: B) -> B
+pub(crate) fn or_mismatch<B: BitBlock>(seen: B, a: B, b: B) -> B
     requires seen { B.is_block seen }
     requires left { B.is_block a }
     requires right { B.is_block b }

@@ -1,0 +1,62 @@
+// Calls that merge other lists into the list, and say whether it changed.
+ghost use Rattle.std.specs.Prelude.{◌≡◌, ◌+◌, ◌≤◌, ◌↔◌, false, length, take};
+ghost use Rattle.bit_words.specs.{Bits.blocks_for, Merges.merge_of, declared.block.merge.Merge.Merge};
+
+use crate::bit_vec::BitVec;
+use crate::block::BitBlock;
+use crate::block::merge::Merge;
+use crate::block::operation::Union;
+use crate::steps::Steps;
+use crate::summary::noted_merges::{merge_and_note, merge_chosen_and_note};
+
+impl<B: BitBlock> BitVec<B> {
+    /// Each value becomes its merge with that of `other`, as [`merge_blocks`](Self::merge_blocks) has it, and whether a
+    /// value changed is returned. The other must not be longer. Writes each block once, one step a block, and takes no
+    /// memory.
+    ///
+    /// ```
+    /// assert!(bits.merge_changes(&other, Merge::Union, &mut steps));
+    /// assert!(!bits.merge_changes(&other, Merge::Union, &mut steps));
+    /// ```
+    #[inline(always)]
+    pub fn merge_changes(&mut self, other: &Self, merge: Merge, steps: &mut Steps) -> bool
+        requires { length other.now.values ≤ length self.old.values }
+        ensures values { self.new.values ≡ merge_of merge self.old.values other.now.values }
+        ensures kept { (result ≡ false) ↔ (self.new.values ≡ self.old.values) }
+        ensures capacity { self.new.capacity ≡ self.old.capacity }
+        ensures steps { steps.new ≡ steps.old + blocks_for B.width (length self.old.values) }
+    {
+        merge_chosen_and_note(
+            self.blocks.as_mut_slice(),
+            self.summary.as_mut_slice(),
+            &other.blocks,
+            merge,
+            steps,
+        )
+    }
+
+    /// What is true in `other` and not in `except` becomes true, and whether a value changed is returned. The other must
+    /// not be longer; `except` is false past its end, and may be. One pass over the three lists, which writes each block
+    /// once, one step a block, and takes no memory.
+    ///
+    /// ```
+    /// // live |= live_after & !assigned
+    /// let grew = live.unite_difference(&live_after, &assigned, &mut steps);
+    /// ```
+    pub fn unite_difference(&mut self, other: &Self, except: &Self, steps: &mut Steps) -> bool
+        requires { length other.now.values ≤ length self.old.values }
+        ensures values { self.new.values ≡ merge_of Merge.Union self.old.values
+            (merge_of Merge.Difference other.now.values (take (length other.now.values) except.now.values)) }
+        ensures kept { (result ≡ false) ↔ (self.new.values ≡ self.old.values) }
+        ensures capacity { self.new.capacity ≡ self.old.capacity }
+        ensures steps { steps.new ≡ steps.old + blocks_for B.width (length self.old.values) }
+    {
+        merge_and_note::<B, Union>(
+            self.blocks.as_mut_slice(),
+            self.summary.as_mut_slice(),
+            &other.blocks,
+            &except.blocks,
+            steps,
+        )
+    }
+}
