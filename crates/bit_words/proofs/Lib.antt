@@ -13,6 +13,9 @@ pub mod ByteLemmas
 pub mod SourceLemmas
 pub mod MergeLemmas
 pub mod NotedMergeLemmas
+pub mod SpanLemmas
+pub mod SummarySpanLemmas
+pub mod RangeLemmas
 pub mod CompareLemmas
 pub mod MismatchLemmas
 pub mod CapacityLemmas

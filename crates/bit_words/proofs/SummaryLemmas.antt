@@ -74,8 +74,8 @@ summary_updated w f P xs old new p inside packed right written in_place =
     (λ k within. grind (arith, written.same, written.others k, right k within))
 
 -- the digits of one more block of the summary
-pub summary_put : (w : ℕ) (ms ss ns : List ℕ) (k n : ℕ) → k < length ss → ns ≡ set ss k n → ((j : ℕ) → j < w → is_one n j ≡ is_used ms (k * w + j)) → ((q j : ℕ) → q < k → j < w → is_one (get_or ss q 0) j ≡ is_used ms (q * w + j)) → (q j : ℕ) → q < k + 1 → j < w → is_one (get_or ns q 0) j ≡ is_used ms (q * w + j)
-summary_put w ms ss ns k n within e digits before q j below index = grind (arith, get_or-set_same ss k n 0 within, get_or-set_other ss k q n 0)
+pub summary_put : (w : ℕ) (ms ss ns : List ℕ) (start k n : ℕ) → k < length ss → ns ≡ set ss k n → ((j : ℕ) → j < w → is_one n j ≡ is_used ms (k * w + j)) → ((q j : ℕ) → start ≤ q → q < k → j < w → is_one (get_or ss q 0) j ≡ is_used ms (q * w + j)) → (q j : ℕ) → start ≤ q → q < k + 1 → j < w → is_one (get_or ns q 0) j ≡ is_used ms (q * w + j)
+summary_put w ms ss ns start k n within e digits before q j from below index = grind (arith, get_or-set_same ss k n 0 within, get_or-set_other ss k q n 0)
 
 -- all of them
 pub summary_of_blocks : {X : Type 0} (w : ℕ) (f : X → ℕ) (P : X → Type 0) (xs summary : List X) → 0 < w → All P summary → length summary ≡ blocks_for w (length xs) → length xs < 2 ^ 64 → ((q j : ℕ) → q < length summary → j < w → is_one (get_or (map f summary) q 0) j ≡ is_used (map f xs) (q * w + j)) → IsSummary w f P xs summary

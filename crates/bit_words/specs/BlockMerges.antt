@@ -24,6 +24,12 @@ pub record IsMergedBetween (merge : Merge) (w start end : ℕ) (ms os ns : List 
   pub before : (k : ℕ) → k < start → get_or ns k 0 ≡ get_or ms k 0
   pub after : (k : ℕ) → end ≤ k → get_or ns k 0 ≡ get_or ms k 0
 
+-- the values from a on and below b of the blocks ms became what they merge to with true; the others are those of ms
+pub record IsMergedSpan (merge : Merge) (w a b : ℕ) (ms ns : List ℕ) : Type 0 where
+  pub inside : (i : ℕ) → a ≤ i → i < b → value_at w ns i ≡ merge_of_values merge (value_at w ms i) true
+  pub before : (i : ℕ) → i < a → value_at w ns i ≡ value_at w ms i
+  pub after : (i : ℕ) → b ≤ i → value_at w ns i ≡ value_at w ms i
+
 -- The blocks xs can be merged with the blocks os: these are no more.
 pub record CanMerge {X : Type 0} (is_block : X → Type 0) (xs os : List X) : Type 0 where
   pub fewer : length os ≤ length xs

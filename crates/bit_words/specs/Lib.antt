@@ -15,4 +15,5 @@ pub mod BlockMerges
 pub mod NotedMerges
 pub mod Comparisons
 pub mod Mismatches
+pub mod Ranges
 pub mod Growth

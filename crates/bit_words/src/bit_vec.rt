@@ -19,6 +19,7 @@ mod merging;
 mod nonzero;
 mod noted_merging;
 mod pending;
+mod ranges;
 
 pub use crate::block::lowest::take_lowest_one;
 pub use crate::block::masks::clear_below;

@@ -18,6 +18,7 @@ pub(crate) mod merges;
 pub(crate) mod noted_merges;
 pub(crate) mod queries;
 pub(crate) mod shared_capacity;
+pub(crate) mod spans;
 
 #[inline]
 pub(crate) fn is_nonzero<B: BitBlock>(block: B) -> bool
@@ -197,7 +198,31 @@ fn summarize<B: BitBlock>(summary: &mut Vec<B>, blocks: &[B])
     ensures summary { IsSummary B.width B.number B.is_block blocks.now summary.new.items }
     ensures capacity { vec_capacity summary.new ≡ vec_capacity summary.old }
 {
-    for q in 0..summary.len() {
+    summarize_between(summary, blocks, 0, summary.len());
+}
+
+// Makes the blocks of the summary from `start` on and below `end` anew, whatever they were.
+pub(crate) fn summarize_between<B: BitBlock>(
+    summary: &mut Vec<B>,
+    blocks: &[B],
+    start: usize,
+    end: usize,
+)
+    requires forward { start ≤ end }
+    requires in_summary { end ≤ vec_len summary.old }
+    requires in_blocks { end ≤ blocks_for B.width (length blocks.now) }
+    requires each { All B.is_block summary.old.items }
+    requires blocks { All B.is_block blocks.now }
+    requires fits { length blocks.now < 2 ^ 64 }
+    ensures digits { (q j : ℕ) → start ≤ q → q < end → j < B.width
+        → is_one (get_or (map B.number summary.new.items) q 0) j ≡ is_used (map B.number blocks.now) (q * B.width + j) }
+    ensures before { (q : ℕ) → q < start
+        → get_or (map B.number summary.new.items) q 0 ≡ get_or (map B.number summary.old.items) q 0 }
+    ensures after { (q : ℕ) → end ≤ q
+        → get_or (map B.number summary.new.items) q 0 ≡ get_or (map B.number summary.old.items) q 0 }
+    ensures in_place { WritesInPlace B.is_block summary.old summary.new }
+{
+    for q in start..end {
         put_block(summary, q, used_from(blocks, q * B::bits()));
     }
 }

@@ -42,7 +42,7 @@ pub(crate) fn with_one_if<B: BitBlock>(block: B, index: usize, bit: bool) -> B
 
 // The block whose bits from `index` on are 1, and no others.
 #[inline]
-fn ones_from<B: BitBlock>(index: usize) -> B
+pub(crate) fn ones_from<B: BitBlock>(index: usize) -> B
     requires { index < B.width }
     ensures of_block { B.is_block result }
     ensures digits { (j : ℕ) → j < B.width → is_one (B.number result) j ≡ nat_le index j }
@@ -65,7 +65,7 @@ pub(crate) fn with_ones_from<B: BitBlock>(block: B, index: usize) -> B
 
 // The block whose bits from `start` to before `end` are 1, and no others.
 #[inline]
-fn ones_between<B: BitBlock>(start: usize, end: usize) -> B
+pub(crate) fn ones_between<B: BitBlock>(start: usize, end: usize) -> B
     requires from { start < B.width }
     requires to { end < B.width }
     ensures of_block { B.is_block result }

@@ -15,7 +15,7 @@ loop-q-preserved g c =
     c.loop-q.invariant.done p j below index ∙ ap (λ m. not (m == 0)) (sym (c.merge_chunk-digits.ensures.has.merged.before (p * w + j) (omega (arith, le)))) in
     record {
       has = merged_more _ _ _ _ 0 (q * w) ((q + 1) * w) _ _ _ _ _ _ (omega arith) (omega arith) refl refl c.loop-q.invariant.has c.merge_chunk-digits.ensures.has;
-      done = summary_put w ns ss _ q _ within c.put_in.ensures.numbers c.merge_chunk-digits.ensures.digits done;
+      done = λ p j below index. summary_put w ns ss _ 0 q _ within c.put_in.ensures.numbers c.merge_chunk-digits.ensures.digits (λ r i _ early inside. done r i early inside) p j (omega arith) below index;
       past = λ p from. let other : p ≢ q = omega arith in ap (λ xs. get_or xs p 0) c.put_in.ensures.numbers ∙ get_or-set_other ss q p _ 0 other ∙ c.loop-q.invariant.past p (omega arith);
       each_sum = c.put_in.ensures.each;
       summary_len = omega arith;

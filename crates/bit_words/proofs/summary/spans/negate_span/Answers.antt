@@ -1,0 +1,55 @@
+use Rattle.std.proofs.Common.{◌≡◌, ◌<◌, ◌-◌, ◌*◌, ◌/◌, length, map, arith, ap, ◌∙◌, div-lt_iff_lt-mul}
+use Rattle.bit_words.specs.{Bits.blocks_for, Summary.short_count}
+use Rattle.bit_words.proofs.{ChangeLemmas.div_le, SummaryLemmas.{keeps_all, summary_of_digits}, SummarySpanLemmas.{anew_use, in_chunks}, VectorLemmas.numbers_below}
+use Rattle.bit_words.proofs.summary.spans.negate_span.{Given.Over, Goals.After-block_index-last}
+use Rattle.bit_words.proofs.summary.spans.negate_span.Goals as goal
+
+many : (g : Over) (c : After-block_index-last g) → short_count g.B.BitBlock.width < length c.args.blocks.now.items
+many g c = let long = c.is_short.ensures.long c.if-is_short.false in omega (arith, long, c.merge_span.ensures.in_place.len)
+
+-- the last block of the span has its bit in the summary
+in_summary : (g : Over) (c : After-block_index-last g) → c.block_index-last.result < length c.args.summary.now.items
+in_summary g c =
+    let w = g.B.BitBlock.width in
+    let pos = g.met.B.BitBlock.width_law.positive in
+    let i = c.args.end - 1 in
+    let within : i < length c.args.blocks.now.items * w = rw (← c.args.blocks.now.ok.0) (omega arith) in
+    rw (c.block_index-last.ensures, c.block_index-2.ensures) (in_chunks w (i / w) _ _ c.args.blocks.now.items _ pos (c.requires.summary.long (many g c)) ((div-lt_iff_lt-mul pos).1 within))
+
+pub summarize_between-requires-clause-forward : goal.summarize_between-requires-clause-forward
+summarize_between-requires-clause-forward g c =
+    let w = g.B.BitBlock.width in
+    let pos = g.met.B.BitBlock.width_law.positive in
+    let le = div_le w c.args.start (c.args.end - 1) pos (omega arith) in
+    omega (arith, div_le w (c.args.start / w) ((c.args.end - 1) / w) pos le, c.block_index-first.ensures ∙ ap (λ k. k / w) c.block_index.ensures, c.block_index-last.ensures ∙ ap (λ k. k / w) c.block_index-2.ensures)
+
+pub summarize_between-requires-clause-in_summary : goal.summarize_between-requires-clause-in_summary
+summarize_between-requires-clause-in_summary g c =
+    omega (arith, in_summary g (goal.at.summarize_between-requires-clause-in_summary g c).After-block_index-last)
+
+pub summarize_between-requires-clause-in_blocks : goal.summarize_between-requires-clause-in_blocks
+summarize_between-requires-clause-in_blocks g c =
+    let at = (goal.at.summarize_between-requires-clause-in_blocks g c).After-block_index-last in
+    let len : length c.deref.result.now ≡ length c.args.blocks.now.items = omega (arith, ap length c.deref.ensures.value, c.merge_span.ensures.in_place.len) in
+    rw len (omega (arith, in_summary g at, (c.requires.summary.long (many g at)).packed.count))
+
+pub returns-clause-summary : goal.returns-clause-summary
+returns-clause-summary g c =
+    let w = g.B.BitBlock.width in
+    let f = g.B.BitBlock.number in
+    let P = g.B.BitBlock.is_block in
+    let long = many g (goal.at.returns-clause-summary g c).After-block_index-last in
+    let said = c.requires.summary.long long in
+    let olds = c.args.blocks.now.items in
+    let news = c.merge_span.new.blocks.items in
+    let size : length olds ≡ length news = omega (arith, c.merge_span.ensures.in_place.len) in
+    let made = c.summarize_between.ensures in
+    keeps_all w f P news _ (omega (arith, long, c.merge_span.ensures.in_place.len)) (
+    summary_of_digits w f P news _ made.in_place.each
+    (omega (arith, said.packed.count ∙ ap (blocks_for w) size, made.in_place.len))
+    (omega (arith, said.packed.fits, c.merge_span.ensures.in_place.len))
+    (anew_use _ w c.args.start c.args.end _ _ (map f olds) (map f news) (map f c.args.summary.now.items) _ g.met.B.BitBlock.width_law.positive
+    (numbers_below w f P olds (λ x is. (g.met.B.BitBlock.number_law x is).0) c.requires.each)
+    (numbers_below w f P news (λ x is. (g.met.B.BitBlock.number_law x is).0) c.merge_span.ensures.in_place.each)
+    (c.block_index-first.ensures ∙ ap (λ k. k / w) c.block_index.ensures) (c.block_index-last.ensures ∙ ap (λ k. k / w) c.block_index-2.ensures)
+    c.merge_span.ensures.span said.digit (rw c.deref.ensures.value at made.digits) made.before made.after))
