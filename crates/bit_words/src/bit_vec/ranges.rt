@@ -1,5 +1,5 @@
 // Calls on the values in a range of indexes.
-ghost use Rattle.std.specs.Prelude.{◌≡◌, ◌≤◌, length, not};
+ghost use Rattle.std.specs.Prelude.{◌≡◌, ◌<◌, ◌≤◌, length, not};
 ghost use Rattle.bit_words.specs.Ranges.{changed_in_range};
 
 use crate::bit_vec::BitVec;
@@ -18,7 +18,7 @@ impl<B: BitBlock> BitVec<B> {
     /// assert_eq!(bits.storage(), [0b11100].as_slice());
     /// ```
     pub fn fill_range(&mut self, range: Range<usize>, bit: bool)
-        requires { range.end ≤ length self.old.values }
+        requires { range.start < range.end → range.end ≤ length self.old.values }
         ensures values { self.new.values ≡ changed_in_range (λ _. bit) range.start range.end self.old.values }
         ensures capacity { self.new.capacity ≡ self.old.capacity }
     {
@@ -34,7 +34,7 @@ impl<B: BitBlock> BitVec<B> {
 
     /// Turns each value in the range; none where the range is empty. Writes each block of the range once.
     pub fn negate_range(&mut self, range: Range<usize>)
-        requires { range.end ≤ length self.old.values }
+        requires { range.start < range.end → range.end ≤ length self.old.values }
         ensures values { self.new.values ≡ changed_in_range not range.start range.end self.old.values }
         ensures capacity { self.new.capacity ≡ self.old.capacity }
     {

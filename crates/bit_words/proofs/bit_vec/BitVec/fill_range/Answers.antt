@@ -4,15 +4,15 @@ use Rattle.bit_words.proofs.bit_vec.BitVec.fill_range.Goals as goal
 
 pub fill_span-requires-clause-within : goal.fill_span-requires-clause-within
 fill_span-requires-clause-within g c =
-    end_in_blocks _ _ c.self.inside.len _ _ c.self.inside.blocks g.met.B.BitBlock.width_law.positive (omega (arith, length_from_view _ _ _ _ _ c.self.view_is, c.requires)) c.self.invariant.packed
+    end_in_blocks _ _ c.self.inside.len _ _ c.self.inside.blocks g.met.B.BitBlock.width_law.positive (omega (arith, length_from_view _ _ _ _ _ c.self.view_is, c.requires c.if-range.false)) c.self.invariant.packed
 
 pub fill_span-requires-else-bit-clause-within : goal.fill_span-requires-else-bit-clause-within
 fill_span-requires-else-bit-clause-within g c =
-    end_in_blocks _ _ c.self.inside.len _ _ c.self.inside.blocks g.met.B.BitBlock.width_law.positive (omega (arith, length_from_view _ _ _ _ _ c.self.view_is, c.requires)) c.self.invariant.packed
+    end_in_blocks _ _ c.self.inside.len _ _ c.self.inside.blocks g.met.B.BitBlock.width_law.positive (omega (arith, length_from_view _ _ _ _ _ c.self.view_is, c.requires c.if-range.false)) c.self.invariant.packed
 
 pub invariant_of-self : goal.invariant_of-self
 invariant_of-self g c = record {
-  packed = span_packed _ _ _ _ _ _ _ c.self.inside.blocks c.fill_span.new.blocks (omega (arith, length_from_view _ _ _ _ _ c.self.view_is, c.requires)) c.self.invariant.packed c.fill_span.ensures.span c.fill_span.ensures.in_place;
+  packed = span_packed _ _ _ _ _ _ _ c.self.inside.blocks c.fill_span.new.blocks (omega (arith, length_from_view _ _ _ _ _ c.self.view_is, c.requires c.if-range.false)) c.self.invariant.packed c.fill_span.ensures.span c.fill_span.ensures.in_place;
   summary = c.fill_span.ensures.summary;
 }
 
@@ -24,10 +24,10 @@ cleared b x is = grind arith
 
 pub returns-then-bit-clause-values : goal.returns-then-bit-clause-values
 returns-then-bit-clause-values g c =
-    values_of-changed _ (λ _. c.args.bit) _ _ _ _ _ _ (λ x. set c.args.bit x c.if-bit.true) (omega (arith, length_from_view _ _ _ _ _ c.self.view_is, c.requires)) c.fill_span.ensures.span
+    values_of-changed _ (λ _. c.args.bit) _ _ _ _ _ _ (λ x. set c.args.bit x c.if-bit.true) (omega (arith, length_from_view _ _ _ _ _ c.self.view_is, c.requires c.if-range.false)) c.fill_span.ensures.span
     ∙ ap (λ v. changed_in_range (λ _. c.args.bit) c.args.range.start c.args.range.end v.values) c.self.view_is
 
 pub returns-else-bit-clause-values : goal.returns-else-bit-clause-values
 returns-else-bit-clause-values g c =
-    values_of-changed _ (λ _. c.args.bit) _ _ _ _ _ _ (λ x. cleared c.args.bit x c.if-bit.false) (omega (arith, length_from_view _ _ _ _ _ c.self.view_is, c.requires)) c.fill_span-else-bit.ensures.span
+    values_of-changed _ (λ _. c.args.bit) _ _ _ _ _ _ (λ x. cleared c.args.bit x c.if-bit.false) (omega (arith, length_from_view _ _ _ _ _ c.self.view_is, c.requires c.if-range.false)) c.fill_span-else-bit.ensures.span
     ∙ ap (λ v. changed_in_range (λ _. c.args.bit) c.args.range.start c.args.range.end v.values) c.self.view_is
