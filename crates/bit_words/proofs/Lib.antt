@@ -2,6 +2,7 @@ pub mod Words
 pub mod BitsLemmas
 pub mod LowestLemmas
 pub mod LowestStep
+pub mod HighestLemmas
 pub mod OnesLemmas
 pub mod StorageLemmas
 pub mod Masks
@@ -24,6 +25,7 @@ pub mod UsedLemmas
 pub mod SummaryMergeLemmas
 pub mod TailLemmas
 pub mod ZeroLemmas
+pub mod SearchLemmas
 pub mod NextAtLemmas
 pub mod PendingLemmas
 pub mod PendingOnes

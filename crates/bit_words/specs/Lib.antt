@@ -2,10 +2,12 @@ pub mod Bounds
 pub mod Digits
 pub mod DigitLaws
 pub mod Bits
+pub mod Searches
 pub mod Storage
 pub mod Bytes
 pub mod Steps
 pub mod Lowest
+pub mod Highest
 pub mod Source
 pub mod Summary
 pub mod Pending

@@ -20,6 +20,7 @@ mod nonzero;
 mod noted_merging;
 mod pending;
 mod ranges;
+mod searching;
 
 pub use crate::block::lowest::take_lowest_one;
 pub use crate::block::masks::clear_below;

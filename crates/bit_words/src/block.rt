@@ -5,6 +5,7 @@ ghost use Rattle.bit_words.specs.Digits.{IsWidth, IsBoth, IsEither, IsDifferent,
 
 use std::ops::{Add, BitAnd, BitOr, BitXor, Not, Sub};
 
+pub(crate) mod highest;
 pub(crate) mod integers;
 pub(crate) mod lowest;
 pub(crate) mod masks;

@@ -28,6 +28,18 @@ pub fn take_lowest_one<B: BitBlock>(block: &mut B) -> usize
     below.count_ones()
 }
 
+// The index of the lowest 1 of a block that is not zero.
+#[inline]
+pub(crate) fn lowest_one<B: BitBlock>(block: B) -> usize
+    requires of_block { B.is_block block }
+    requires not_zero { 0 < B.number block }
+    ensures within { result < B.width }
+    ensures lowest { IsLowest (B.number block) result }
+{
+    let mut rest = block;
+    take_lowest_one(&mut rest)
+}
+
 // The lowest 1 of a block, and zeros else.
 #[inline]
 fn isolate_lowest_one<B: BitBlock>(block: B) -> B

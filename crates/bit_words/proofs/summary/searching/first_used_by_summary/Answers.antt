@@ -1,0 +1,13 @@
+use Rattle.std.proofs.Common.{map}
+use Rattle.bit_words.{specs.{Storage.value_at, Summary.is_used}, proofs.SearchLemmas.{finds_from_same, value_fits}}
+use Rattle.bit_words.proofs.summary.searching.first_used_by_summary.Goals as goal
+
+pub first_one-requires : goal.first_one-requires
+first_one-requires g c =
+    let is = c.requires.summary.long (c.is_short.ensures.long c.if-is_short.false) in
+    record { each = is.packed.each; fits = value_fits _ _ _ is.packed.tail is.packed.fits }
+
+pub returns-else-is_short : goal.returns-else-is_short
+returns-else-is_short g c =
+    let is = c.requires.summary.long (c.is_short.ensures.long c.if-is_short.false) in
+    finds_from_same (value_at g.B.BitBlock.width (map g.B.BitBlock.number c.args.summary.now)) (is_used (map g.B.BitBlock.number c.args.blocks.now)) _ _ is.digit c.first_one.ensures

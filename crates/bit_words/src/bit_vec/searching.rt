@@ -1,0 +1,58 @@
+// Calls that look for the next value that is true, or false, in either direction.
+ghost use Rattle.std.specs.Prelude.{◌≤◌, false, get_or, length, max, not};
+ghost use Rattle.bit_words.specs.Searches.{FindsBefore, FindsFrom, IsFirstFrom};
+
+use crate::bit_vec::BitVec;
+use crate::block::BitBlock;
+use crate::packed::searching::first_zero;
+use crate::summary::searching::{first_one_by_summary, last_one_by_summary};
+
+impl<B: BitBlock> BitVec<B> {
+    /// The first index from `n` on at which the list is true, or `None`. Reads the block of `n`, the summary from there up
+    /// to the next block that is not zero, and that block; of few blocks, which store no summary, each block up to there.
+    ///
+    /// ```
+    /// // Of 100 values, those at 3 and 70 are true.
+    /// assert_eq!(bits.first_one_from(3), Some(3));
+    /// assert_eq!(bits.first_one_from(4), Some(70));
+    /// assert_eq!(bits.first_one_from(71), None);
+    /// ```
+    pub fn first_one_from(&self, n: usize) -> Option<usize>
+        ensures { FindsFrom (λ i. get_or self.now.values i false) n result }
+    {
+        first_one_by_summary(&self.blocks, &self.summary, n)
+    }
+
+    /// The last index below `n` at which the list is true, or `None`. Reads the block of `n`, the summary from there down
+    /// to the next block that is not zero, and that block; of few blocks, which store no summary, each block down to there.
+    ///
+    /// ```
+    /// // Of 100 values, those at 3 and 70 are true.
+    /// assert_eq!(bits.last_one_before(100), Some(70));
+    /// assert_eq!(bits.last_one_before(70), Some(3));
+    /// assert_eq!(bits.last_one_before(3), None);
+    /// ```
+    pub fn last_one_before(&self, n: usize) -> Option<usize>
+        ensures { FindsBefore (λ i. get_or self.now.values i false) n result }
+    {
+        last_one_by_summary(&self.blocks, &self.summary, n)
+    }
+    /// The first index from `n` on at which the list is not true, at or past its length at most. Reads each block from
+    /// that of `n` up to that of the index.
+    ///
+    /// ```
+    /// // Of 100 values, all but those at 3 and 70 are true.
+    /// assert_eq!(bits.first_zero_from(3), 3);
+    /// assert_eq!(bits.first_zero_from(4), 70);
+    /// assert_eq!(bits.first_zero_from(71), 100);
+    /// ```
+    pub fn first_zero_from(&self, n: usize) -> usize
+        ensures first { IsFirstFrom (λ i. not (get_or self.now.values i false)) n result }
+        ensures within { result ≤ max n (length self.now.values) }
+    {
+        if n >= self.len {
+            return n;
+        }
+        first_zero(&self.blocks, self.len, n)
+    }
+}

@@ -1,0 +1,75 @@
+// The next 1 of a list of bits in either direction, by the summary where one is stored.
+ghost use Rattle.std.specs.Prelude.{◌≡◌, ℕ, ◌^◌, ◌<◌, All, map, true};
+ghost use Rattle.bit_words.specs.{Searches.{FindsBefore, FindsFrom}, Storage.value_at, Summary.{is_used, IsStoredSummary}};
+
+use crate::block::BitBlock;
+use crate::packed::access::block_index;
+use crate::packed::searching::{
+    first_in_block, first_of_block, first_one, first_used, last_in_block, last_of_block, last_one,
+    last_used,
+};
+use crate::summary::is_short;
+
+// The first block, from the one at `from` on, that is not 0.
+#[inline]
+fn first_used_by_summary<B: BitBlock>(blocks: &[B], summary: &[B], from: usize) -> Option<usize>
+    requires each { All B.is_block blocks.now }
+    requires summary { IsStoredSummary B.width B.number B.is_block blocks.now summary.now }
+    ensures { FindsFrom (is_used (map B.number blocks.now)) from result }
+{
+    if is_short::<B>(blocks.len()) {
+        first_used(blocks, from)
+    } else {
+        first_one(summary, from)
+    }
+}
+
+// The last block before the one at `end` that is not 0.
+#[inline]
+fn last_used_by_summary<B: BitBlock>(blocks: &[B], summary: &[B], end: usize) -> Option<usize>
+    requires each { All B.is_block blocks.now }
+    requires summary { IsStoredSummary B.width B.number B.is_block blocks.now summary.now }
+    ensures { FindsBefore (is_used (map B.number blocks.now)) end result }
+{
+    if is_short::<B>(blocks.len()) {
+        last_used(blocks, end)
+    } else {
+        last_one(summary, end)
+    }
+}
+
+// The first 1 from `from` on: in the block that it is in, or in the next one that is not 0.
+pub(crate) fn first_one_by_summary<B: BitBlock>(
+    blocks: &[B],
+    summary: &[B],
+    from: usize,
+) -> Option<usize>
+    requires each { All B.is_block blocks.now }
+    requires summary { IsStoredSummary B.width B.number B.is_block blocks.now summary.now }
+    requires fits { (i : ℕ) → value_at B.width (map B.number blocks.now) i ≡ true → i < 2 ^ 64 }
+    ensures { FindsFrom (value_at B.width (map B.number blocks.now)) from result }
+{
+    if let Some(i) = first_in_block(blocks, from) {
+        return Some(i);
+    }
+    let k = first_used_by_summary(blocks, summary, block_index::<B>(from) + 1)?;
+    Some(first_of_block(blocks, k))
+}
+
+// The last 1 below `end`: in the block that it is in, or in the last one before it that is not 0.
+pub(crate) fn last_one_by_summary<B: BitBlock>(
+    blocks: &[B],
+    summary: &[B],
+    end: usize,
+) -> Option<usize>
+    requires each { All B.is_block blocks.now }
+    requires summary { IsStoredSummary B.width B.number B.is_block blocks.now summary.now }
+    requires fits { (i : ℕ) → value_at B.width (map B.number blocks.now) i ≡ true → i < 2 ^ 64 }
+    ensures { FindsBefore (value_at B.width (map B.number blocks.now)) end result }
+{
+    if let Some(i) = last_in_block(blocks, end) {
+        return Some(i);
+    }
+    let k = last_used_by_summary(blocks, summary, block_index::<B>(end))?;
+    Some(last_of_block(blocks, k))
+}
