@@ -1,5 +1,5 @@
 -- The walk over the blocks that are not 0, by the pending bits of a summary.
-use Rattle.std.proofs.Common.{◌≡◌, ◌≢◌, ℕ, zero, suc, ◌+◌, ◌-◌, ◌*◌, ◌/◌, ◌%◌, ◌^◌, ◌<◌, ◌≤◌, true, false, not, leb, ◌&&◌, if◌then◌else◌, ◌==◌, List, [], ◌∷◌, map, drop, length, slice_get, Some, get_or, All, refl, sym, ap, subst, ◌∙◌, arith, mul-le-mul_right, div-mul-le_self}
+use Rattle.std.proofs.Common.{◌≡◌, ◌≢◌, ℕ, zero, suc, ◌+◌, ◌-◌, ◌*◌, ◌/◌, ◌%◌, ◌^◌, ◌<◌, ◌≤◌, true, false, not, leb, nat_lt, ◌&&◌, if◌then◌else◌, ◌==◌, List, [], ◌∷◌, map, drop, length, slice_get, Some, get_or, All, refl, sym, ap, subst, ◌∙◌, arith, mul-le-mul_right, div-mul-le_self}
 use Rattle.std.proofs.{lemmas.{Bool.{true≢false, Decides.nat_tests}, List.{drop_more, drop_all, drop-map, length-drop, Elements.All-drop}, Option.get_or_from_slice_get}, Math.{Nat.div-lt_iff_lt-mul, Seq.drop-drop}}
 use Rattle.bit_words.specs.{Bits.blocks_for, Digits.is_one, Lowest.{IsLowest, IsCleared}, Nonzero.nonzero_from, Pending.{CoversUsed, IsInHand, IsStoredFrom, left_from, next_at}, Storage.value_at, Summary.is_used}
 use Rattle.bit_words.{specs.Summary.{short_count, IsStoredSummary}, proofs.{BitsLemmas.{blocks_for-least, blocks_for-past}, Masks.{is_one-bit, is_one-zero}, NextAtLemmas.{before_first, first_least, first_most}}}
@@ -147,6 +147,13 @@ module _ {X : Type 0} (w : ℕ) (number : X → ℕ) (is_block : X → Type 0) w
   CoversUsed-exact start m xs digits = record {
     inside = λ j within one. nonzero_inside number (start + j) xs (grind (arith, digits j within));
     covers = λ j within used. grind (arith, digits j within);
+  }
+
+  -- digits of as many blocks as there are
+  pub CoversUsed-all : (start m : ℕ) (xs : List X) → start ≤ length xs → ((j : ℕ) → j < w → is_one m j ≡ nat_lt j (length xs - start)) → CoversUsed w number xs start m
+  CoversUsed-all start m xs within digits = record {
+    inside = λ j to one. grind (arith, nat_tests, digits j to);
+    covers = λ j to used. let inside = nonzero_inside number (start + j) xs used in grind (arith, nat_tests, digits j to);
   }
 
   -- the digits of the next stored block

@@ -17,3 +17,6 @@ returns g c =
       most = rw (length_from_view _ _ _ _ _ c.self.view_is, length_from_view _ _ _ _ _ c.other.view_is) (omega (arith, steps.at_most));
       all = λ yes. let exact = steps.all yes in rw (length_from_view _ _ _ _ _ c.self.view_is, length_from_view _ _ _ _ _ c.other.view_is) (omega (arith, exact));
     }
+
+pub intersection_is_zero-requires : goal.intersection_is_zero-requires
+intersection_is_zero-requires g c = rw (c.deref.ensures.value, c.deref-2.ensures.value) (record { each = c.self.invariant.packed.each; others = c.other.invariant.packed.each })

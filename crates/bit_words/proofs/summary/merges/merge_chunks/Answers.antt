@@ -1,5 +1,5 @@
 use Rattle.std.proofs.{Common.{◌≡◌, ◌≢◌, ℕ, ◌+◌, ◌*◌, ◌<◌, ◌≤◌, ◌∙◌, ◌==◌, not, refl, sym, ap, get_or, map, length, arith, get_or-set_other, mul-le-mul_right}, lemmas.List.length-map}
-use Rattle.bit_words.{specs.{Digits.is_one, Summary.is_used}, proofs.{MergeLemmas.merged_more, SummaryLemmas.summary_put}}
+use Rattle.bit_words.{specs.{Digits.is_one, Summary.is_used}, proofs.{MergeLemmas.{merged_none, merged_more}, SummaryLemmas.summary_put}}
 use Rattle.bit_words.proofs.summary.merges.merge_chunks.Goals as goal
 
 pub loop-q-preserved : goal.loop-q-preserved
@@ -21,3 +21,24 @@ loop-q-preserved g c =
       summary_len = omega arith;
       steps = omega arith;
     }
+
+pub loop-q-init : goal.loop-q-init
+loop-q-init g c = record {
+  has = merged_none _ _ _ _ _ _ _ _ c.requires.can.each (omega arith);
+  done = λ p j below index. absurd (omega arith);
+  past = λ p from. refl;
+  each_sum = c.requires.each_sum;
+  summary_len = omega arith;
+  steps = omega arith;
+}
+
+pub merge_chunk-digits-requires-clause-in_others : goal.merge_chunk-digits-requires-clause-in_others
+merge_chunk-digits-requires-clause-in_others g c =
+    let below : c.loop-q.q + 1 ≤ c.args.chunks = omega arith in
+    omega (arith, mul-le-mul_right g.B.BitBlock.width below, c.requires.in_others)
+
+pub returns-clause-has : goal.returns-clause-has
+returns-clause-has g c = let end : c.loop-q.q ≡ c.args.chunks = omega arith in rw end at c.loop-q.invariant.has
+
+pub put_in-requires-clause-in_bounds : goal.put_in-requires-clause-in_bounds
+put_in-requires-clause-in_bounds g c = omega arith

@@ -1,5 +1,5 @@
-use Rattle.std.proofs.{Common.{◌≡◌, ◌+◌, take, drop, sym, ap, ◌∙◌, arith}, lemmas.{Bool.Decides.nat_tests, List.Elements.{All-take, All-drop}}}
-use Rattle.bit_words.{specs.Nonzero.{ones_in, ones_left}, proofs.{PendingOnes.{enough_rest, left-ones_split, left-ones_past, left-ones_rest, tells_rest}, bit_vec.nonzero.Nonzero.count_ones.Given.Over}}
+use Rattle.std.proofs.{Common.{◌≡◌, ◌+◌, take, drop, length-take, sym, ap, ◌∙◌, arith}, lemmas.{Bool.Decides.nat_tests, List.{length-drop, Elements.{All-take, All-drop}}}}
+use Rattle.bit_words.{specs.Nonzero.{ones_in, ones_left}, proofs.{Masks.is_one-bit, PendingOnes.{enough_rest, left-ones_split, left-ones_past, left-ones_rest, tells_rest}, bit_vec.nonzero.Nonzero.count_ones.Given.Over}}
 use Rattle.bit_words.proofs.bit_vec.nonzero.Nonzero.count_ones.Goals.{After-ones_of}
 use Rattle.bit_words.proofs.bit_vec.nonzero.Nonzero.count_ones.Goals as goal
 
@@ -57,3 +57,20 @@ overflow_add-result g c = record { fits = omega (arith, both g (goal.at.overflow
 
 pub returns : goal.returns
 returns g c = both g (goal.at.returns g c).After-ones_of
+
+pub split_at-requires : goal.split_at-requires
+split_at-requires g c = c.self.invariant.hand.within
+
+pub take_lowest_one-requires-clause-of_block : goal.take_lowest_one-requires-clause-of_block
+take_lowest_one-requires-clause-of_block g c = c.self.invariant.hand.of_block
+
+pub take_lowest_one-requires-clause-not_zero : goal.take_lowest_one-requires-clause-not_zero
+take_lowest_one-requires-clause-not_zero g c = grind (arith, nat_tests, c.is_nonzero.ensures, c.if-not-is_nonzero.false)
+
+pub split_at-requires-2 : goal.split_at-requires-2
+split_at-requires-2 g c =
+    let it = c.self.inside in
+    let i = c.take_lowest_one.result in
+    let lowest = c.take_lowest_one.ensures in
+    let inside = c.self.invariant.hand.inside i lowest.within (is_one-bit 1 (g.B.BitBlock.number it.pending.bits) i lowest.lowest.one) in
+    rw (c.first_blocks.ensures.first, c.split_at.ensures.back) (omega (arith, inside, lowest.within, length-take g.B.BitBlock.width (drop it.pending.index it.blocks.now), length-drop it.pending.index it.blocks.now))
