@@ -63,3 +63,21 @@ returns g c =
           Grows-blocks _ _ _ _ _ _ _ _ _ _ _ _ _ _ _ g.met.B.BitBlock.width_law.positive c.self.invariant (omega arith) (omega arith) c.self.view_is
           (omega (arith, c.requires)) c.block_count-count.ensures (omega (arith, length_from_view _ _ _ _ _ c.self.view_is)) (ap (capacity_of w) kept) tt c.in_ok-reserve_shared.ensures.capacity.reserves;
     }
+
+pub invariant_of-self : goal.invariant_of-self
+invariant_of-self g c = rw (c.reserve_shared.ensures.items, c.reserve_shared.ensures.summary) c.self.invariant
+
+pub store_summary-requires-clause-keeps : goal.store_summary-requires-clause-keeps
+store_summary-requires-clause-keeps g c = rw (c.deref.ensures.value, c.reserve_shared.ensures.items, c.reserve_shared.ensures.summary) c.self.invariant.summary
+
+pub store_summary-requires-clause-blocks : goal.store_summary-requires-clause-blocks
+store_summary-requires-clause-blocks g c = rw (c.deref.ensures.value, c.reserve_shared.ensures.items) c.self.invariant.packed.each
+
+pub append_bits-requires-clause-packed : goal.append_bits-requires-clause-packed
+append_bits-requires-clause-packed g c = rw c.reserve_shared.ensures.items c.self.invariant.packed
+
+pub append_bits-requires-clause-capacity : goal.append_bits-requires-clause-capacity
+append_bits-requires-clause-capacity g c = omega (arith, c.in_ok-reserve_shared.ensures.capacity.reserves.ok, c.block_count-count.ensures)
+
+pub invariant_of-self-2 : goal.invariant_of-self-2
+invariant_of-self-2 g c = record { packed = c.append_bits.ensures.packed; summary = rw c.deref-2.ensures.value at c.append_to_summary.ensures.summary }

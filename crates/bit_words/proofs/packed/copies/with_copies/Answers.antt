@@ -14,3 +14,6 @@ loop-preserved g c = record {
   count = omega arith;
   capacity = c.push_reserved.ensures.capacity ∙ c.loop.invariant.capacity;
 }
+
+pub loop-smaller : goal.loop-smaller
+loop-smaller g c = omega arith

@@ -40,3 +40,27 @@ returns-then-chunks-summary-clause-digits g c =
     c.of_blocks-alone.ensures.digits j index
     ∙ ap₂ (merge_of_values m) (ap (λ n. is_one n j) c.block_at.ensures.of_number) (ap (λ n. is_one n j) c.zero.ensures.of_number ∙ is_one-zero j) in
     tail_digits m w f _ chunks count _ _ ss c.put_in.new.blocks _ _ _ _ c.if-chunks-summary.true (rw start at made) alone (rw start at c.cut_below.ensures.digits) c.block_or.ensures.of_digits c.put_in.ensures.numbers c.put_in.ensures.len c.merge_rest-then-chunks-summary.ensures.has (omega (arith, c.requires.last)) rest
+
+pub overflow_mul-start : goal.overflow_mul-start
+overflow_mul-start g c = omega (arith, begin _ c.args.chunks _ c.bits.ensures, c.requires.in_others)
+
+pub overflow_sub-count : goal.overflow_sub-count
+overflow_sub-count g c = omega (arith, begin _ c.args.chunks _ c.bits.ensures, c.requires.in_others)
+
+pub merge_group-digits-requires-clause-in_others : goal.merge_group-digits-requires-clause-in_others
+merge_group-digits-requires-clause-in_others g c = omega (arith, begin _ c.args.chunks _ c.bits.ensures, c.requires.in_others)
+
+pub merge_group-digits-requires-clause-within : goal.merge_group-digits-requires-clause-within
+merge_group-digits-requires-clause-within g c = omega (arith, begin _ c.args.chunks _ c.bits.ensures, c.requires.last)
+
+pub merge_rest-requires-clause-within : goal.merge_rest-requires-clause-within
+merge_rest-requires-clause-within g c = omega (arith, c.requires.can.fewer, c.merge_group-digits.ensures.has.len)
+
+pub cut_below-requires-clause-within : goal.cut_below-requires-clause-within
+cut_below-requires-clause-within g c = omega (arith, begin _ c.args.chunks _ c.bits.ensures, c.requires.last)
+
+pub overflow_add-chunks : goal.overflow_add-chunks
+overflow_add-chunks g c = omega (arith, c.if-chunks-summary.true)
+
+pub merge_rest-requires-then-chunks-summary-clause-within : goal.merge_rest-requires-then-chunks-summary-clause-within
+merge_rest-requires-then-chunks-summary-clause-within g c = omega (arith, c.if-chunks-summary.true, c.put_in.ensures.len)

@@ -1,4 +1,4 @@
-use Rattle.std.proofs.{Common.{ℕ, ◌≡◌, ◌+◌, ◌<◌, ◌∙◌, true, false, not, None, Some, List, [], ◌∷◌, get_or, drop, length, sym, ap, ap₂, arith}, lemmas.{Bool.true≢false, List.{length-drop, get_or-drop, drop_all}}}
+use Rattle.std.proofs.{Common.{ℕ, ◌≡◌, ◌+◌, ◌<◌, ◌≤◌, ◌∙◌, Bool, true, false, not, None, Some, List, [], ◌∷◌, get_or, drop, length, sym, ap, ap₂, arith}, lemmas.{Bool.true≢false, List.{length-drop, get_or-drop, drop_all}}}
 use Rattle.std.{proofs.lemmas.List.drop_more, specs.Bool.then_some}
 use Rattle.bit_words.proofs.bit_vec.blocks.Blocks.next_if.{Given.Over, Goals.{Joined-wanted, then-wanted, else-wanted, then-wanted-2, else-wanted-2}}
 use Rattle.bit_words.proofs.bit_vec.blocks.Blocks.next_if.Goals as goal
@@ -53,3 +53,15 @@ returns-in_default g c =
           rw some (c.zero.ensures.of_block, c.zero.ensures.of_number);
       same = λ off. rw (still off) c.self.view_is;
     }
+
+at_most_1 : (b : Bool) → bool_byte b ≤ 1
+at_most_1 true = omega arith
+at_most_1 false = omega arith
+
+pub overflow_add-self : goal.overflow_add-self
+overflow_add-self g c =
+    record { fits = omega (arith, c.from.ensures, at_most_1 c.args.wanted, length-drop c.if-wanted.self-inside.at c.if-wanted.self-inside.blocks.now, ap length c.as_slice.ensures, c.in-Some.ensures.item.3.0) }
+
+pub invariant_of-self-2 : goal.invariant_of-self-2
+invariant_of-self-2 g c =
+    omega (arith, c.from.ensures, at_most_1 c.args.wanted, length-drop c.if-wanted.self-inside.at c.if-wanted.self-inside.blocks.now, ap length c.as_slice.ensures, c.in-Some.ensures.item.3.0)
