@@ -22,6 +22,7 @@ pub mod OrderLemmas
 pub mod JsonLemmas
 pub mod FilledLemmas
 pub mod ChangeLemmas
+pub mod NotedLemmas
 pub mod CallerLemmas
 pub mod TestLemmas
 pub mod WalkCalls

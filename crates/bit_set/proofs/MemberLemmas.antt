@@ -54,7 +54,7 @@ members_merged merge s t r is m = ap (λ u. has u m) is ∙ has-merge_of_sets me
 
 -- ---- what a test says
 
-none_from_members : (s : List ℕ) → HasNone s → s ≡ []
+pub none_from_members : (s : List ℕ) → HasNone s → s ≡ []
 none_from_members [] none = refl
 none_from_members (x ∷ xs) none = let here = none x in grind (arith, nat_tests)
 

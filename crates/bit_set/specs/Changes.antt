@@ -1,7 +1,8 @@
 -- What calls make of the elements of a set, and what they return. No block, length or capacity occurs in it.
 use Rattle.std.specs.Prelude.{◌≡◌, ℕ, ◌==◌, not, if◌then◌else◌, Bool, List, [], ◌∷◌, Result, Ok, Err}
 use Rattle.bit_set.specs.{declared.faults.SetError.{SetError, TheVariants.{Element, Length, Memory}}, Sets.{difference, elements, has, intersection, put, put_all, symmetric_difference, those_below, union, without}}
-use Rattle.bit_words.specs.Bounds.{greatest}
+use Rattle.bit_set.specs.{Order.same_sets, Sets.merge_of_sets}
+use Rattle.bit_words.specs.{Bounds.greatest, declared.block.merge.Merge.Merge}
 
 -- a call that changes a set, with what it is given: numbers, and of a second set its elements
 pub data Change : Type 0 where
@@ -16,6 +17,7 @@ pub data Change : Type 0 where
   IntersectWith : (other : List ℕ) → Change
   DifferenceWith : (other : List ℕ) → Change
   SymmetricDifferenceWith : (other : List ℕ) → Change
+  MergeChanges : (merge : Merge) (other : List ℕ) → Change
   Append : (other : List ℕ) → Change
   SplitOff : (at : ℕ) → Change
   ReserveLen : (len : ℕ) → Change
@@ -42,16 +44,18 @@ elements_after (UnionWith other) s = union s other
 elements_after (IntersectWith other) s = intersection s other
 elements_after (DifferenceWith other) s = difference s other
 elements_after (SymmetricDifferenceWith other) s = symmetric_difference s other
+elements_after (MergeChanges merge other) s = merge_of_sets merge s other
 elements_after (Append other) s = union s other
 elements_after (SplitOff at) s = those_below s at
 elements_after (ReserveLen len) s = s
 elements_after (ReserveLenExact len) s = s
 elements_after ShrinkToFit s = s
 
--- how it returns: `insert` whether the number is new, `remove` whether it was in
+-- how it returns: `insert` whether the number is new, `remove` whether it was in, a merge that tells whether the set changed
 abbrev pub outcome_of : Change → List ℕ → Outcome
 outcome_of (Insert value) s = if value == greatest then NoElement else Returned (not (has s value))
 outcome_of (Remove value) s = Returned (has s value)
+outcome_of (MergeChanges merge other) s = Returned (not (same_sets s (merge_of_sets merge s other)))
 outcome_of call s = Done
 
 -- The call found the list `old` and left `new`, and this is how it returned.
@@ -71,6 +75,11 @@ outcome_of_insert (Err (Memory fault)) = NoMemory
 abbrev pub outcome_of_result : {T E : Type 0} → Result T E → Outcome
 outcome_of_result (Ok x) = Done
 outcome_of_result (Err fault) = NoMemory
+
+-- how a call returned that tells whether the set changed, and fails for memory alone
+abbrev pub outcome_of_flag : {E : Type 0} → Result Bool E → Outcome
+outcome_of_flag (Ok changed) = Returned changed
+outcome_of_flag (Err fault) = NoMemory
 
 -- a call, and how it returned
 pub record Event : Type 0 where

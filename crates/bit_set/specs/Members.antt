@@ -41,6 +41,10 @@ IsDisjoint s t = (n : ℕ) → IsTrue (has s n) → has t n ≡ false
 abbrev pub IsUnion : List ℕ → List ℕ → List ℕ → Type 0
 IsUnion s t r = (n : ℕ) → has r n ≡ (has s n || has t n)
 
+-- r has what is in s, and what is in t and not in u
+abbrev pub IsUnionWithDifference : List ℕ → List ℕ → List ℕ → List ℕ → Type 0
+IsUnionWithDifference s t u r = (n : ℕ) → has r n ≡ (has s n || (has t n && not (has u n)))
+
 -- r has what is in both
 abbrev pub IsIntersection : List ℕ → List ℕ → List ℕ → Type 0
 IsIntersection s t r = (n : ℕ) → has r n ≡ (has s n && has t n)

@@ -12,6 +12,7 @@ mod capacity;
 mod changing;
 mod in_place;
 mod new_sets;
+mod noted_changes;
 mod relations;
 mod splitting;
 

@@ -11,7 +11,7 @@ use std::alloc::AllocError;
 impl<B: BitBlock> BitSet<B> {
     // Makes the list at least `len` long: it goes on with false.
     #[inline]
-    fn lengthen(&mut self, len: usize) -> Result<(), AllocError>
+    pub(crate) fn lengthen(&mut self, len: usize) -> Result<(), AllocError>
         ensures ok { OnOk result (self.new.values ≡ self.old.values ++ replicate (len - length self.old.values) false) }
         ensures grows { Grows len result self.old self.new }
     {

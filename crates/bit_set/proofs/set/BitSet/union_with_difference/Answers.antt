@@ -1,0 +1,46 @@
+use Rattle.std.proofs.{Common.{◌∙◌, ◌-◌, ap, length, not, take}}
+use Rattle.bit_words.{specs.{declared.block.merge.Merge.TheVariants.{Difference, Union}, Merges.merge_of}}
+use Rattle.bit_set.{proofs.{AlgebraLemmas.elements-lengthened, NotedLemmas.{elements-except, length-lengthened-except, members-except, told_of_lengthened, union_count, union_kept}, SetLemmas.IsAscending-elements}, specs.{Changes.Outcome.Returned, Order.same_sets, Sets.{difference, elements, union}}}
+use Rattle.bit_set.proofs.set.BitSet.union_with_difference.Goals as goal
+
+pub returns-clause-elements : goal.returns-clause-elements
+returns-clause-elements g c =
+    let values = c.args.self.now.values in
+    let others = c.args.other.now.values in
+    let except = c.args.except.now.values in
+    rw (c.unite_difference.ensures.values, c.self.view_is, c.in_ok-lengthen.ensures.ok, c.other.view_is, c.except.view_is)
+    (elements-lengthened Union values (merge_of Difference others (take (length others) except)) (c.len.result - length values) ∙ ap (union (elements values)) (elements-except others except))
+
+pub returns-clause-members : goal.returns-clause-members
+returns-clause-members g c = members-except (elements c.args.self.now.values) (elements c.args.other.now.values) (elements c.args.except.now.values) _ (returns-clause-elements g c)
+
+pub returns-clause-length : goal.returns-clause-length
+returns-clause-length g c =
+    let values = c.args.self.now.values in
+    let others = c.args.other.now.values in
+    let except = c.args.except.now.values in
+    rw (c.unite_difference.ensures.values, c.self.view_is, c.in_ok-lengthen.ensures.ok, c.len.ensures.value, c.other.view_is, c.except.view_is)
+    (length-lengthened-except values others except)
+
+pub returns-clause-changed : goal.returns-clause-changed
+returns-clause-changed g c =
+    let long = returns-clause-length g c in
+    let len = c.len.ensures.value ∙ ap (λ bits. length bits.values) c.other.view_is in
+    told_of_lengthened c.args.self.now.values c.self.inside.bits.values c.unite_difference.new.self.values c.len.result c.unite_difference.result (ap (λ bits. bits.values) c.self.view_is ∙ c.in_ok-lengthen.ensures.ok) (rw len long) c.unite_difference.ensures.kept
+
+pub returns-clause-were_in : goal.returns-clause-were_in
+returns-clause-were_in g c =
+    let s = elements c.args.self.now.values in
+    let t = difference (elements c.args.other.now.values) (elements c.args.except.now.values) in
+    returns-clause-changed g c ∙ ap (λ u. not (same_sets s u)) (returns-clause-elements g c) ∙ ap not (union_kept s t (IsAscending-elements c.args.self.now.values))
+
+pub returns-clause-count : goal.returns-clause-count
+returns-clause-count g c =
+    let s = elements c.args.self.now.values in
+    let t = difference (elements c.args.other.now.values) (elements c.args.except.now.values) in
+    rw (returns-clause-were_in g c, returns-clause-elements g c) (union_count s t (IsAscending-elements c.args.self.now.values))
+
+pub returns-clause-changes : goal.returns-clause-changes
+returns-clause-changes g c =
+    let made = returns-clause-elements g c in
+    (made, ap (λ changed. Returned changed) (returns-clause-changed g c ∙ ap (λ s. not (same_sets (elements c.args.self.now.values) s)) made))
