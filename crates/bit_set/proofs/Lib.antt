@@ -6,6 +6,7 @@ pub mod SplitLemmas
 pub mod SubsetLemmas
 pub mod MemberLemmas
 pub mod ValueLemmas
+pub mod EndLemmas
 pub mod CapacityLemmas
 pub mod ItemLemmas
 pub mod ByteLemmas

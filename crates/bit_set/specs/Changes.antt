@@ -1,5 +1,5 @@
 -- What calls make of the elements of a set, and what they return. No block, length or capacity occurs in it.
-use Rattle.std.specs.Prelude.{◌≡◌, ℕ, ◌==◌, not, if◌then◌else◌, Bool, List, [], ◌∷◌, Result, Ok, Err}
+use Rattle.std.specs.Prelude.{◌≡◌, ℕ, ◌-◌, ◌==◌, not, if◌then◌else◌, Bool, List, [], ◌∷◌, Option, Result, Ok, Err, drop, length, slice_get, take}
 use Rattle.bit_set.specs.{declared.faults.SetError.{SetError, TheVariants.{Element, Length, Memory}}, Sets.{difference, elements, has, intersection, put, put_all, symmetric_difference, those_below, union, without}}
 use Rattle.bit_set.specs.{Order.same_sets, Sets.merge_of_sets}
 use Rattle.bit_words.specs.{Bounds.greatest, declared.block.merge.Merge.Merge}
@@ -23,11 +23,15 @@ pub data Change : Type 0 where
   ReserveLen : (len : ℕ) → Change
   ReserveLenExact : (len : ℕ) → Change
   ShrinkToFit : Change
+  PopFirst : Change
+  PopLast : Change
 
--- How a call returned: it was done; the same, and it returned this; the number is `usize::MAX`; no memory was found.
+-- How a call returned: it was done; the same, and it returned this, or gave this element; the number is `usize::MAX`; no
+-- memory was found.
 pub data Outcome : Type 0 where
   Done : Outcome
   Returned : (value : Bool) → Outcome
+  Gave : (element : Option ℕ) → Outcome
   NoElement : Outcome
   NoMemory : Outcome
 
@@ -50,12 +54,17 @@ elements_after (SplitOff at) s = those_below s at
 elements_after (ReserveLen len) s = s
 elements_after (ReserveLenExact len) s = s
 elements_after ShrinkToFit s = s
+elements_after PopFirst s = drop 1 s
+elements_after PopLast s = take (length s - 1) s
 
--- how it returns: `insert` whether the number is new, `remove` whether it was in, a merge that tells whether the set changed
+-- how it returns: `insert` whether the number is new, `remove` whether it was in, a merge that tells whether the set
+-- changed, `pop_first` the first element and `pop_last` the last
 abbrev pub outcome_of : Change → List ℕ → Outcome
 outcome_of (Insert value) s = if value == greatest then NoElement else Returned (not (has s value))
 outcome_of (Remove value) s = Returned (has s value)
 outcome_of (MergeChanges merge other) s = Returned (not (same_sets s (merge_of_sets merge s other)))
+outcome_of PopFirst s = Gave (slice_get s 0)
+outcome_of PopLast s = Gave (slice_get s (length s - 1))
 outcome_of call s = Done
 
 -- The call found the list `old` and left `new`, and this is how it returned.

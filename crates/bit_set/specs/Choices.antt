@@ -1,5 +1,5 @@
 -- Which member a search or a choice among the members gives.
-use Rattle.std.specs.Prelude.{ℕ, ◌≤◌, Bool, IsTrue, List}
+use Rattle.std.specs.Prelude.{◌≡◌, ℕ, ◌≤◌, Bool, IsTrue, List, [], ◌∷◌, ◌++◌, Option, MatchOption}
 use Rattle.bit_set.specs.Sets.{has}
 
 -- m is in the set, and no member is greater
@@ -13,3 +13,11 @@ IsLeast s m = IsTrue (has s m) × ((x : ℕ) → IsTrue (has s x) → m ≤ x)
 -- m is in the set and passes the test, and no member that is less does
 abbrev pub IsLeastPassing : (ℕ → Bool) → List ℕ → ℕ → Type 0
 IsLeastPassing p s m = IsTrue (has s m) × IsTrue (p m) × ((x : ℕ) → IsTrue (has s x) → IsTrue (p x) → m ≤ x)
+
+-- r is the first of a list, or None where it is empty
+abbrev pub IsFirstOf : List ℕ → Option ℕ → Type 0
+IsFirstOf s r = MatchOption r (s ≡ []) (λ x. (rest : List ℕ) × (s ≡ x ∷ rest))
+
+-- r is the last of a list, or None where it is empty
+abbrev pub IsLastOf : List ℕ → Option ℕ → Type 0
+IsLastOf s r = MatchOption r (s ≡ []) (λ x. (rest : List ℕ) × (s ≡ rest ++ x ∷ []))

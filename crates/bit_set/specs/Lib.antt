@@ -17,3 +17,4 @@ pub mod Entries
 pub mod Lends
 pub use Rattle.bit_words.specs.Bits
 pub use Rattle.bit_words.specs.Growth
+pub use Rattle.bit_words.specs.Searches

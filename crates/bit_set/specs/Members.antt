@@ -29,6 +29,12 @@ pub record TakesLeast (s : List ℕ) (x : ℕ) (t : List ℕ) : Type 0 where
   pub least : (n : ℕ) → IsTrue (has s n) → x ≤ n
   pub others : Updates s t x false
 
+-- x is in the set s, and the greatest in it; t has the others
+pub record TakesGreatest (s : List ℕ) (x : ℕ) (t : List ℕ) : Type 0 where
+  pub is_in : IsTrue (has s x)
+  pub greatest : (n : ℕ) → IsTrue (has s n) → n ≤ x
+  pub others : Updates s t x false
+
 -- each number of the set s is in t
 abbrev pub IsSubset : List ℕ → List ℕ → Type 0
 IsSubset s t = (n : ℕ) → IsTrue (has s n) → IsTrue (has t n)

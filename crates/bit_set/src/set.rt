@@ -10,10 +10,12 @@ use std::marker::Model;
 
 mod capacity;
 mod changing;
+mod ends;
 mod in_place;
 mod new_sets;
 mod noted_changes;
 mod relations;
+mod searching;
 mod splitting;
 
 /// A set of whole numbers below `usize::MAX`, kept as a bit vector: a number is an element exactly

@@ -1,0 +1,123 @@
+-- The first and the last of a set, and of its members from a number on or below it.
+use Rattle.std.proofs.{Common.{◌≡◌, ℕ, ◌+◌, ◌-◌, ◌<◌, ◌≤◌, Bool, true, false, not, ◌||◌, IsTrue, eqb, ltb, nat_le, List, [], ◌∷◌, ◌++◌, length, take, drop, slice_get, get_or, length-append, Option, Some, None, refl, sym, ap, ◌∙◌, arith, subst}, Math.Seq.take-append_seam}
+use Rattle.std.proofs.lemmas.{Bool.Decides.nat_tests, List.{get_or-append_right, Folds.list_any-append}, Option.slice_get-get_or}
+use Rattle.std.specs.Prelude.{IfSome, MatchOption}
+use Rattle.bit_words.{specs.{Bounds.greatest, Searches.{FindsBefore, FindsFrom, IsFirstFrom, IsLastBefore}}, proofs.SearchLemmas.{finds_before_same, finds_from_same}}
+use Rattle.bit_set.specs.{Changes.{Changes, Change.{PopFirst, PopLast}, Outcome.Gave}, Choices.{IsFirstOf, IsGreatest, IsLastOf, IsLeast}, Members.{HasNone, TakesGreatest, TakesLeast}, Sets.{AscendsFrom, IsAscending, has, elements, those_below, those_from, without}}
+use Rattle.bit_set.proofs.{MemberLemmas.{none_from_members, updates_without}, SetLemmas.{AscendsFrom-filter, has-elements, has-filter, has-first, has-without, same_members}, ValueLemmas.has-within}
+
+-- ---- lists that ascend
+
+-- from each number that no member is below
+ascends_above : (low n : ℕ) (s : List ℕ) → AscendsFrom low s → ((m : ℕ) → has s m ≡ true → n ≤ m) → AscendsFrom n s
+ascends_above low n [] up above = tt
+ascends_above low n (x ∷ xs) up above = (above x (has-first x xs), up.1)
+
+-- with one more that is above all
+ascends_pushed : (low : ℕ) (s : List ℕ) (x : ℕ) → AscendsFrom low s → low ≤ x → ((m : ℕ) → has s m ≡ true → m < x) → AscendsFrom low (s ++ x ∷ [])
+ascends_pushed low [] x up from below = (from, tt)
+ascends_pushed low (y ∷ ys) x up from below =
+    (up.0, ascends_pushed (y + 1) ys x up.1 (let first = below y (has-first y ys) in omega (arith, first)) (λ m is. below m (grind (arith, is))))
+
+has-pushed : (s : List ℕ) (x m : ℕ) → has (s ++ x ∷ []) m ≡ (has s m || eqb x m)
+has-pushed s x m = list_any-append (λ y. eqb y m) s (x ∷ []) ∙ grind arith
+
+-- the least member comes first
+pub least_first : (s : List ℕ) (x : ℕ) → IsAscending s → IsLeast s x → s ≡ x ∷ without s x
+least_first s x up least =
+    same_members s (x ∷ without s x) up (
+      omega arith,
+      ascends_above 0 (x + 1) (without s x) (AscendsFrom-filter 0 (λ y. not (eqb y x)) s up) (λ m is.
+          let member = has-without s x m in let low = least.1 m in grind (arith, nat_tests)),
+    ) (λ m. let rest = has-without s x m in let is = least.0 in grind (arith, nat_tests))
+
+-- and the greatest last
+pub greatest_last : (s : List ℕ) (x : ℕ) → IsAscending s → IsGreatest s x → s ≡ without s x ++ x ∷ []
+greatest_last s x up greatest =
+    same_members s (without s x ++ x ∷ []) up
+    (ascends_pushed 0 (without s x) x (AscendsFrom-filter 0 (λ y. not (eqb y x)) s up) (omega arith) (λ m is.
+    let member = has-without s x m in let high = greatest.1 m in grind (arith, nat_tests)))
+    (λ m. let rest = has-without s x m in let pushed = has-pushed (without s x) x m in let is = greatest.0 in grind (arith, nat_tests))
+
+-- ---- searches of a list of truth values, as of the members
+
+pub finds_members : (bs : List Bool) (n : ℕ) (r : Option ℕ) → FindsFrom (λ i. get_or bs i false) n r → FindsFrom (has (elements bs)) n r
+finds_members bs n r = finds_from_same (λ i. get_or bs i false) (has (elements bs)) n r (λ i. sym (has-elements bs i))
+
+pub finds_members_before : (bs : List Bool) (n : ℕ) (r : Option ℕ) → FindsBefore (λ i. get_or bs i false) n r → FindsBefore (has (elements bs)) n r
+finds_members_before bs n r = finds_before_same (λ i. get_or bs i false) (has (elements bs)) n r (λ i. sym (has-elements bs i))
+
+pub finds_missing : (bs : List Bool) (n i : ℕ) → IsFirstFrom (λ j. not (get_or bs j false)) n i → IsFirstFrom (λ m. not (has (elements bs) m)) n i
+finds_missing bs n i = finds_from_same (λ j. not (get_or bs j false)) (λ m. not (has (elements bs) m)) n (Some i) (λ j. ap not (sym (has-elements bs j)))
+
+-- what is found is below the length
+pub found_within : (bs : List Bool) (n : ℕ) (r : Option ℕ) → length bs ≤ greatest → FindsFrom (has (elements bs)) n r → IfSome r (λ x. (x < length bs) × (x < greatest))
+found_within bs n None fits none = tt
+found_within bs n (Some x) fits first = let below = has-within bs x first.passes in (below, omega (arith, below, fits))
+
+pub found_within_before : (bs : List Bool) (n : ℕ) (r : Option ℕ) → length bs ≤ greatest → FindsBefore (has (elements bs)) n r → IfSome r (λ x. (x < length bs) × (x < greatest))
+found_within_before bs n None fits none = tt
+found_within_before bs n (Some x) fits last = let below = has-within bs x last.passes in (below, omega (arith, below, fits))
+
+-- ---- what searches find
+
+-- the first of those from a number on
+pub first_of_those : (s : List ℕ) (n : ℕ) (r : Option ℕ) → IsAscending s → FindsFrom (has s) n r → IsFirstOf (those_from s n) r
+first_of_those s n None up none =
+    none_from_members (those_from s n) (λ m. let member = has-filter (λ y. nat_le n y) s m in let out = none m in grind (arith, nat_tests))
+first_of_those s n (Some x) up first = (
+  without (those_from s n) x,
+  least_first (those_from s n) x (AscendsFrom-filter 0 (λ y. nat_le n y) s up) (
+    (let member = has-filter (λ y. nat_le n y) s x in let is = first.passes in let reached = first.reached in grind (arith, nat_tests)),
+    λ m is. let member = has-filter (λ y. nat_le n y) s m in let between = first.between m in grind (arith, nat_tests),
+  ),
+)
+
+-- the last of those below it
+pub last_of_those : (s : List ℕ) (n : ℕ) (r : Option ℕ) → IsAscending s → FindsBefore (has s) n r → IsLastOf (those_below s n) r
+last_of_those s n None up none =
+    none_from_members (those_below s n) (λ m. let member = has-filter (λ y. ltb y n) s m in let out = none m in grind (arith, nat_tests))
+last_of_those s n (Some x) up last = (
+  without (those_below s n) x,
+  greatest_last (those_below s n) x (AscendsFrom-filter 0 (λ y. ltb y n) s up) (
+    (let member = has-filter (λ y. ltb y n) s x in let is = last.passes in let before = last.before in grind (arith, nat_tests)),
+    λ m is. let member = has-filter (λ y. ltb y n) s m in let between = last.between m in grind (arith, nat_tests),
+  ),
+)
+
+-- of all
+pub least_of_all : (s : List ℕ) (r : Option ℕ) → FindsFrom (has s) 0 r → MatchOption r (HasNone s) (IsLeast s)
+least_of_all s None none = λ m. none m (omega arith)
+least_of_all s (Some x) first = (first.passes, λ m is. let between = first.between m (omega arith) in grind arith)
+
+pub greatest_of_all : (s : List ℕ) (n : ℕ) (r : Option ℕ) → ((m : ℕ) → has s m ≡ true → m < n) → FindsBefore (has s) n r → MatchOption r (HasNone s) (IsGreatest s)
+greatest_of_all s n None within none = λ m. let below = within m in let out = none m in grind arith
+greatest_of_all s n (Some x) within last =
+    (last.passes, λ m is. let below = within m is in let between = last.between m in grind arith)
+
+-- ---- what is left where an end is taken out
+
+pub takes_first : (s t : List ℕ) (x : ℕ) → IsAscending s → IsLeast s x → t ≡ without s x → (s ≡ x ∷ t) × TakesLeast s x t
+takes_first s t x up least is = (
+  least_first s x up least ∙ ap (λ rest. x ∷ rest) (sym is),
+  record { is_in = least.0; least = least.1; others = updates_without s x is },
+)
+
+pub takes_last : (s t : List ℕ) (x : ℕ) → IsAscending s → IsGreatest s x → t ≡ without s x → (s ≡ t ++ x ∷ []) × TakesGreatest s x t
+takes_last s t x up greatest is = (
+  greatest_last s x up greatest ∙ ap (λ rest. rest ++ x ∷ []) (sym is),
+  record { is_in = greatest.0; greatest = greatest.1; others = updates_without s x is },
+)
+
+pub changes_popped_first : (old new : List Bool) (x : ℕ) → elements old ≡ x ∷ elements new → Changes PopFirst old (Gave (Some x)) new
+changes_popped_first old new x is = (sym (ap (drop 1) is), sym (ap (λ s. Gave (slice_get s 0)) is))
+
+pub changes_popped_last : (old new : List Bool) (x : ℕ) → elements old ≡ elements new ++ x ∷ [] → Changes PopLast old (Gave (Some x)) new
+changes_popped_last old new x is =
+    let rest = elements new in
+    let whole = rest ++ x ∷ [] in
+    let long : length whole - 1 ≡ length rest = omega (arith, length-append rest (x ∷ [])) in
+    let front : take (length whole - 1) whole ≡ rest = ap (λ n. take n whole) long ∙ take-append_seam rest (x ∷ []) in
+    let at : slice_get whole (length whole - 1) ≡ Some x =
+    ap (slice_get whole) long ∙ slice_get-get_or whole (length rest) x (omega (arith, length-append rest (x ∷ []))) ∙ ap Some (get_or-append_right rest (x ∷ []) (length rest) (length rest) x refl (omega arith) ∙ ap (λ n. get_or (x ∷ []) n x) (let e : length rest - length rest ≡ 0 = omega arith in e)) in
+    (sym (ap (λ s. take (length s - 1) s) is ∙ front), ap Gave (sym (ap (λ s. slice_get s (length s - 1)) is ∙ at)))

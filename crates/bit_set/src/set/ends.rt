@@ -1,0 +1,55 @@
+// Calls that take the least or the greatest element out.
+ghost use Rattle.std.specs.{Prelude.{◌≡◌, ◌+◌, MatchOption, None, if◌then◌else◌, is_some, length}, Iterator.{YieldsFirst, YieldsLast}};
+ghost use Rattle.bit_set.specs.{Changes.{Change, Changes, Outcome.Gave}, Members.{HasNone, TakesGreatest, TakesLeast}, Sets.elements};
+
+use crate::{BitBlock, BitSet};
+
+impl<B: BitBlock> BitSet<B> {
+    /// Takes the least element out, and returns it; nothing of the empty set. The length stays. It is [`BitSet::first`],
+    /// and then constant time.
+    ///
+    /// ```
+    /// let mut set = BitSet::from_bytes(alloc, &[0b0100_1010])?;
+    /// assert_eq!(set.pop_first(), Some(1));
+    /// assert!(set.iter().eq([4, 6]));
+    /// ```
+    pub fn pop_first(&mut self) -> Option<usize>
+        ensures elements { YieldsFirst elements self.old.values result self.new.values }
+        ensures members { MatchOption result (HasNone (elements self.old.values))
+            (λ x. TakesLeast (elements self.old.values) x (elements self.new.values)) }
+        ensures count { length (elements self.new.values) + (if is_some result then 1 else 0)
+            ≡ length (elements self.old.values) }
+        ensures length { length self.new.values ≡ length self.old.values }
+        ensures unchanged { result ≡ None → self.new ≡ self.old }
+        ensures capacity { self.new.capacity ≡ self.old.capacity }
+        ensures changes { Changes Change.PopFirst self.old.values (Gave result) self.new.values }
+    {
+        let value = self.first()?;
+        let _was = self.remove(value);
+        Some(value)
+    }
+
+    /// Takes the greatest element out, and returns it; nothing of the empty set. The length stays. It is
+    /// [`BitSet::last`], and then constant time.
+    ///
+    /// ```
+    /// let mut set = BitSet::from_bytes(alloc, &[0b0100_1010])?;
+    /// assert_eq!(set.pop_last(), Some(6));
+    /// assert!(set.iter().eq([1, 4]));
+    /// ```
+    pub fn pop_last(&mut self) -> Option<usize>
+        ensures elements { YieldsLast elements self.old.values result self.new.values }
+        ensures members { MatchOption result (HasNone (elements self.old.values))
+            (λ x. TakesGreatest (elements self.old.values) x (elements self.new.values)) }
+        ensures count { length (elements self.new.values) + (if is_some result then 1 else 0)
+            ≡ length (elements self.old.values) }
+        ensures length { length self.new.values ≡ length self.old.values }
+        ensures unchanged { result ≡ None → self.new ≡ self.old }
+        ensures capacity { self.new.capacity ≡ self.old.capacity }
+        ensures changes { Changes Change.PopLast self.old.values (Gave result) self.new.values }
+    {
+        let value = self.last()?;
+        let _was = self.remove(value);
+        Some(value)
+    }
+}

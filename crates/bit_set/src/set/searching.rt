@@ -1,0 +1,78 @@
+// Calls that look for the next element, or the next number that is none, in either direction.
+ghost use Rattle.std.specs.Prelude.{◌<◌, ◌≤◌, IfSome, MatchOption, length, max, not};
+ghost use Rattle.bit_words.specs.Searches.{FindsBefore, FindsFrom, IsFirstFrom};
+ghost use Rattle.bit_set.specs.{Choices.{IsFirstOf, IsGreatest, IsLastOf, IsLeast}, Members.HasNone, Sets.{elements, has, those_below, those_from}};
+
+use crate::{BitBlock, BitSet};
+
+impl<B: BitBlock> BitSet<B> {
+    /// The least element from `n` on, or `None`. Reads the block of `n`, the summary from there up to the next block that
+    /// is not zero, and that block; a set of few blocks stores no summary, and then each block up to there.
+    ///
+    /// ```
+    /// let set = BitSet::from_bytes(alloc, &[0b0100_1010])?;
+    /// assert_eq!(set.next(2), Some(4));
+    /// assert_eq!(set.next(7), None);
+    /// ```
+    pub fn next(&self, n: usize) -> Option<usize>
+        ensures elements { IsFirstOf (those_from (elements self.now.values) n) result }
+        ensures members { FindsFrom (has (elements self.now.values)) n result }
+        ensures within { IfSome result (λ x. (x < length self.now.values) × (x < usize.MAX)) }
+    {
+        prove!(self.bits.len() <= usize::MAX);
+        self.bits.first_one_from(n)
+    }
+
+    /// The greatest element below `n`, or `None`. Reads the block of `n`, the summary from there down to the next block
+    /// that is not zero, and that block; a set of few blocks stores no summary, and then each block down to there.
+    ///
+    /// ```
+    /// let set = BitSet::from_bytes(alloc, &[0b0100_1010])?;
+    /// assert_eq!(set.previous(4), Some(1));
+    /// assert_eq!(set.previous(1), None);
+    /// ```
+    pub fn previous(&self, n: usize) -> Option<usize>
+        ensures elements { IsLastOf (those_below (elements self.now.values) n) result }
+        ensures members { FindsBefore (has (elements self.now.values)) n result }
+        ensures within { IfSome result (λ x. (x < length self.now.values) × (x < usize.MAX)) }
+    {
+        prove!(self.bits.len() <= usize::MAX);
+        self.bits.last_one_before(n)
+    }
+
+    /// The least number from `n` on that is no element. There is one, since `usize::MAX` is none. Reads each block from
+    /// that of `n` up to that of the number.
+    ///
+    /// ```
+    /// let set = BitSet::from_bytes(alloc, &[0b0111_0000])?;
+    /// assert_eq!(set.next_missing(0), 0);
+    /// assert_eq!(set.next_missing(1), 4);
+    /// ```
+    pub fn next_missing(&self, n: usize) -> usize
+        ensures members { IsFirstFrom (λ m. not (has (elements self.now.values) m)) n result }
+        ensures within { result ≤ max n (length self.now.values) }
+    {
+        self.bits.first_zero_from(n)
+    }
+
+    /// The least element, or `None` of the empty set. Reads the first block, the summary up to the first block that is not
+    /// zero, and that block; a set of few blocks stores no summary, and then each block up to there.
+    pub fn first(&self) -> Option<usize>
+        ensures elements { IsFirstOf (elements self.now.values) result }
+        ensures members { MatchOption result (HasNone (elements self.now.values)) (IsLeast (elements self.now.values)) }
+        ensures within { IfSome result (λ x. (x < length self.now.values) × (x < usize.MAX)) }
+    {
+        self.next(0)
+    }
+
+    /// The greatest element, or `None` of the empty set. Reads the last block, the summary down to the last block that is
+    /// not zero, and that block; a set of few blocks stores no summary, and then each block down to there.
+    pub fn last(&self) -> Option<usize>
+        ensures elements { IsLastOf (elements self.now.values) result }
+        ensures members { MatchOption result
+            (HasNone (elements self.now.values)) (IsGreatest (elements self.now.values)) }
+        ensures within { IfSome result (λ x. (x < length self.now.values) × (x < usize.MAX)) }
+    {
+        self.previous(self.bits.len())
+    }
+}
