@@ -1,0 +1,4 @@
+pub mod AsBox
+pub mod Loans
+pub mod Sets
+pub mod Values

@@ -1,0 +1,29 @@
+-- A set that C owns owns what a box at the same types owns.
+use mir.Syntax.{impl, tnil, dnil}
+use mathlib.Core.List.{[]}
+use mathlib.Core.Path.{refl}
+use denote.Param.Laws.{Laws, of_field}
+use denote.Param.Shared.{copy_shared}
+use denote.Struct.Field.{u64-field}
+use denote.Struct.Laws.{u64-laws, u64-copy}
+use Rattle.std.proofs.BoxSteps.Form.{Bx}
+use Rattle.std.specs.Borrow.{u64}
+use Rattle.std.specs.contracts.alloc.Global as Heap
+use Rattle.std.specs.contracts.impls.GlobalAllocator.TheImpl.{ghosts, dict}
+use Rattle.std.proofs.alloc.Global.TheLaws as heap
+use Rattle.bit_words.specs.contracts.block.integers.U64BitBlock.TheImpl as block
+use Rattle.std.specs.contracts.prelude.U64PartialEq.TheImpl as eq
+use Rattle.std.specs.contracts.prelude.U64BitAnd.TheImpl as and
+use Rattle.std.specs.contracts.prelude.U64BitOr.TheImpl as or
+use Rattle.std.specs.contracts.prelude.U64BitXor.TheImpl as xor
+use Rattle.std.specs.contracts.prelude.U64Not.TheImpl as not
+use Rattle.std.specs.contracts.prelude.U64Add.TheImpl as add
+use Rattle.std.specs.contracts.prelude.U64Sub.TheImpl as sub
+use Rattle.bit_set_c.specs.Handed.{set_row}
+use Rattle.bit_set.proofs.set.BitSet.TheLaws as set
+
+abbrev pub set_laws : Laws set_row
+set_laws = set.the_row_laws u64 block.ghosts eq.ghosts and.ghosts or.ghosts xor.ghosts not.ghosts add.ghosts sub.ghosts (of_field u64-field u64-laws refl (copy_shared u64-field u64-copy))
+
+abbrev pub E : Bx
+E = record { row = set_row; laws = set_laws; al = record { row = Heap.the_row; laws = heap.the_row_laws; g = ghosts; d = dict; drops = impl [] tnil dnil } }

@@ -1,0 +1,24 @@
+-- What the answers of calls say to C.
+use Rattle.std.specs.Prelude.{ℤ, zero, suc, pos, negsuc, Bool, true, false, Result, Ok, Err, alloc_error, ⊤}
+use Rattle.std.specs.declared.alloc.AllocError.{AllocError}
+use Rattle.std.specs.declared.cmp.Ordering.{Ordering, TheVariants.{Less, Equal, Greater}}
+use Rattle.bit_set.specs.declared.faults.SetError.{SetError, TheVariants.{Element, Length, Memory}}
+
+-- of a call that fails for memory alone: whether it was done
+abbrev pub done : Bool → Result ⊤ AllocError
+done true = Ok tt
+done false = Err alloc_error
+
+-- of a call that puts numbers in: 1 where they are new, 0 where not, -1 for memory, -2 for a number that is no element
+abbrev pub inserted : ℤ → Result Bool SetError
+inserted (pos zero) = Ok false
+inserted (pos (suc zero)) = Ok true
+inserted (negsuc zero) = Err (Memory alloc_error)
+inserted (negsuc (suc zero)) = Err Element
+inserted answer = Err Length
+
+-- of a comparison: -1, 0 or 1
+abbrev pub order_answer : Ordering → ℤ
+order_answer Less = negsuc 0
+order_answer Equal = pos 0
+order_answer Greater = pos 1

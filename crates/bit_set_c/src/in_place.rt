@@ -1,0 +1,102 @@
+// Calls that make a set, in place, what it and another become. They must be two sets.
+ghost use Rattle.std.specs.Prelude.{◌≡◌, max, OnErr, OnOk, [], length};
+ghost use Rattle.bit_words.specs.Growth.{Grows};
+ghost use Rattle.bit_set.specs.{Members.{HasNone, IsDifference, IsIntersection, IsSymmetricDifference, IsUnion}, Sets.{difference, elements, intersection, symmetric_difference, union}};
+ghost use Rattle.bit_set_c.specs.{Answers.done, Handed.IsAt};
+
+use crate::handed::{Exclusive, Shared};
+
+/// Puts in what is in the other set, and returns whether it could.
+#[unsafe(no_mangle)]
+pub extern "C" fn bit_set_union_with(set: &mut Exclusive, other: &mut Shared) -> bool
+    requires here { IsAt set.ref_ptr set.old.at }
+    requires there { IsAt other.ref_ptr other.old.at }
+    ensures elements { OnOk (done result) (elements set.new.bits.values
+        ≡ union (elements set.old.bits.values) (elements other.old.bits.values)) }
+    ensures members { OnOk (done result) (IsUnion (elements set.old.bits.values) (elements other.old.bits.values)
+        (elements set.new.bits.values)) }
+    ensures length { OnOk (done result) (length set.new.bits.values
+        ≡ max (length set.old.bits.values) (length other.old.bits.values)) }
+    ensures grows { Grows (length other.old.bits.values) (done result) set.old.bits set.new.bits }
+    ensures place { set.new.at ≡ set.old.at }
+    ensures other_kept { other.new ≡ other.old }
+{
+    set.get().union_with(other.get()).is_ok()
+}
+
+/// Keeps what is in the other set too, and returns whether it could.
+#[unsafe(no_mangle)]
+pub extern "C" fn bit_set_intersect_with(set: &mut Exclusive, other: &mut Shared) -> bool
+    requires here { IsAt set.ref_ptr set.old.at }
+    requires there { IsAt other.ref_ptr other.old.at }
+    ensures elements { OnOk (done result) (elements set.new.bits.values
+        ≡ intersection (elements set.old.bits.values) (elements other.old.bits.values)) }
+    ensures members { OnOk (done result) (IsIntersection (elements set.old.bits.values) (elements other.old.bits.values)
+        (elements set.new.bits.values)) }
+    ensures length { OnOk (done result) (length set.new.bits.values
+        ≡ max (length set.old.bits.values) (length other.old.bits.values)) }
+    ensures grows { Grows (length other.old.bits.values) (done result) set.old.bits set.new.bits }
+    ensures place { set.new.at ≡ set.old.at }
+    ensures other_kept { other.new ≡ other.old }
+{
+    set.get().intersect_with(other.get()).is_ok()
+}
+
+/// Takes out what is in the other set, and returns whether it could.
+#[unsafe(no_mangle)]
+pub extern "C" fn bit_set_difference_with(set: &mut Exclusive, other: &mut Shared) -> bool
+    requires here { IsAt set.ref_ptr set.old.at }
+    requires there { IsAt other.ref_ptr other.old.at }
+    ensures elements { OnOk (done result) (elements set.new.bits.values
+        ≡ difference (elements set.old.bits.values) (elements other.old.bits.values)) }
+    ensures members { OnOk (done result) (IsDifference (elements set.old.bits.values) (elements other.old.bits.values)
+        (elements set.new.bits.values)) }
+    ensures length { OnOk (done result) (length set.new.bits.values
+        ≡ max (length set.old.bits.values) (length other.old.bits.values)) }
+    ensures grows { Grows (length other.old.bits.values) (done result) set.old.bits set.new.bits }
+    ensures place { set.new.at ≡ set.old.at }
+    ensures other_kept { other.new ≡ other.old }
+{
+    set.get().difference_with(other.get()).is_ok()
+}
+
+/// Keeps what is in just one of both sets, and returns whether it could.
+#[unsafe(no_mangle)]
+pub extern "C" fn bit_set_symmetric_difference_with(set: &mut Exclusive, other: &mut Shared) -> bool
+    requires here { IsAt set.ref_ptr set.old.at }
+    requires there { IsAt other.ref_ptr other.old.at }
+    ensures elements { OnOk (done result) (elements set.new.bits.values
+        ≡ symmetric_difference (elements set.old.bits.values) (elements other.old.bits.values)) }
+    ensures members { OnOk (done result) (IsSymmetricDifference (elements set.old.bits.values) (elements other.old.bits.values)
+        (elements set.new.bits.values)) }
+    ensures length { OnOk (done result) (length set.new.bits.values
+        ≡ max (length set.old.bits.values) (length other.old.bits.values)) }
+    ensures grows { Grows (length other.old.bits.values) (done result) set.old.bits set.new.bits }
+    ensures place { set.new.at ≡ set.old.at }
+    ensures other_kept { other.new ≡ other.old }
+{
+    set.get().symmetric_difference_with(other.get()).is_ok()
+}
+
+/// Moves what is in the other set into this, and returns whether it could.
+#[unsafe(no_mangle)]
+pub extern "C" fn bit_set_append(set: &mut Exclusive, other: &mut Exclusive) -> bool
+    requires here { IsAt set.ref_ptr set.old.at }
+    requires there { IsAt other.ref_ptr other.old.at }
+    ensures elements { OnOk (done result) (elements set.new.bits.values
+        ≡ union (elements set.old.bits.values) (elements other.old.bits.values)) }
+    ensures members { OnOk (done result) (IsUnion (elements set.old.bits.values) (elements other.old.bits.values)
+        (elements set.new.bits.values)) }
+    ensures length { OnOk (done result) (length set.new.bits.values
+        ≡ max (length set.old.bits.values) (length other.old.bits.values)) }
+    ensures emptied { OnOk (done result) (elements other.new.bits.values ≡ []) }
+    ensures other_members { OnOk (done result) (HasNone (elements other.new.bits.values)) }
+    ensures other_length { length other.new.bits.values ≡ length other.old.bits.values }
+    ensures other_capacity { other.new.bits.capacity ≡ other.old.bits.capacity }
+    ensures err_other { OnErr (done result) (other.new.bits ≡ other.old.bits) }
+    ensures grows { Grows (length other.old.bits.values) (done result) set.old.bits set.new.bits }
+    ensures place { set.new.at ≡ set.old.at }
+    ensures other_place { other.new.at ≡ other.old.at }
+{
+    set.get().append(other.get()).is_ok()
+}

@@ -1,0 +1,12 @@
+//! Sets of whole numbers for C: `c/bit_set.h` has the prototypes.
+#![tactic(auto)]
+
+mod capacity;
+mod changing;
+mod handed;
+mod in_place;
+mod making;
+mod members;
+mod parts;
+mod reading;
+mod relations;
