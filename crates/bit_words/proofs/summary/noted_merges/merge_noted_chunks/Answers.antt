@@ -30,7 +30,7 @@ loop-q-preserved g c =
     c.loop-q.invariant.done p j below index ∙ ap (λ m. not (m == 0)) (sym (one.merged.before (p * w + j) (omega (arith, le, inside)))) in
     record {
       has = noted_more _ _ _ _ 0 (min (q * w) old) (min ((q + 1) * w) old) _ _ _ _ _ _ _ (omega arith) (omega arith) c.loop-q.invariant.has one;
-      done = λ p j below index. summary_put w ns ss 0 q _ within c.put_in.ensures.numbers (rw c.bits.ensures at c.used_from.ensures.digits) (λ r i _ early inside. done r i early inside) p j (omega arith) below index;
+      done = λ p j below index. summary_put w ns ss _ 0 q _ within c.put_in.ensures.numbers (rw c.bits.ensures at c.used_from.ensures.digits) (λ r i _ early inside. done r i early inside) p j (omega arith) below index;
       past = λ p from. let other : p ≢ q = omega arith in ap (λ xs. get_or xs p 0) c.put_in.ensures.numbers ∙ get_or-set_other ss q p _ 0 other ∙ c.loop-q.invariant.past p (omega arith);
       each_sum = c.put_in.ensures.each;
       summary_len = omega arith;
