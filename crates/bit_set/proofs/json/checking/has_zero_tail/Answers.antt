@@ -1,4 +1,4 @@
-use Rattle.std.proofs.{Common.{◌≢◌, ◌-◌, ◌%◌, ◌<◌, length, ap, sym, ◌∙◌, subst}, Math.Nat.mod-lt, lemmas.List.Elements.All-get_or}
+use Rattle.std.proofs.{Common.{◌≢◌, ◌-◌, ◌%◌, ◌<◌, length, ap, sym, ◌∙◌, subst, arith}, Math.Nat.mod-lt, lemmas.List.Elements.All-get_or}
 use Rattle.bit_set.{specs.Entries.{numbers_of, IsEntry}, proofs.{JsonLemmas.{blocks_for_some, zero_tail_by_shift, counted, number_at}, json.checking.has_zero_tail.Goals.Else-used-eq0}}
 use Rattle.bit_set.proofs.json.checking.has_zero_tail.Goals as goal
 
@@ -32,3 +32,6 @@ block_of-last-requires g c =
 
 pub shift_right-requires : goal.shift_right-requires
 shift_right-requires g c = record { of_block = c.block_of-last.ensures.of_block; within = rw c.bits.ensures (mod-lt c.args.len g.met.B.BitBlock.width_law.positive) }
+
+pub overflow_sub-entries : goal.overflow_sub-entries
+overflow_sub-entries g c = omega (arith, some g (goal.at.overflow_sub-entries g c).Else-used-eq0)

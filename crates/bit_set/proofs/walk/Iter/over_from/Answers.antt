@@ -31,3 +31,15 @@ returns g c = (begun g c).start
 
 pub overflow_mul-index : goal.overflow_mul-index
 overflow_mul-index g c = let begins = begins_by c.bits.result c.bits-2.result c.args.from c.saturating_sub.result c.min-first.result (c.bits-2.ensures ∙ sym c.bits.ensures) c.min-first.ensures in omega (arith, begins, c.ranges.from.fits)
+
+pub nonzero_div-from : goal.nonzero_div-from
+nonzero_div-from g c = rw c.bits.ensures g.met.B.BitBlock.width_law.positive
+
+pub block_or_zero-requires : goal.block_or_zero-requires
+block_or_zero-requires g c = c.storage-blocks.ensures.each
+
+pub overflow_sub-from : goal.overflow_sub-from
+overflow_sub-from g c = begins_by c.bits.result c.bits-2.result c.args.from c.saturating_sub.result c.min-first.result (c.bits-2.ensures ∙ sym c.bits.ensures) c.min-first.ensures
+
+pub clear_below-requires : goal.clear_below-requires
+clear_below-requires g c = c.block_or_zero.ensures.of_block
