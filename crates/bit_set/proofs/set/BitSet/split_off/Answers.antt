@@ -47,3 +47,33 @@ returns-then-at-eq0-clause-part_length g c = rw c.replace.ensures.value (grind (
 
 pub returns-then-at-len-clause-part_length : goal.returns-then-at-len-clause-part_length
 returns-then-at-len-clause-part_length g c = rw c.new_general-then-at-len.ensures.values (grind (arith, nat_tests, past g c))
+
+pub returns-clause-elements : goal.returns-clause-elements
+returns-clause-elements g c = c.truncate.ensures.elements
+
+pub returns-clause-changes : goal.returns-clause-changes
+returns-clause-changes g c = (c.truncate.ensures.elements, refl)
+
+pub returns-clause-members : goal.returns-clause-members
+returns-clause-members g c = c.truncate.ensures.members
+
+pub returns-clause-length : goal.returns-clause-length
+returns-clause-length g c = c.truncate.ensures.length
+
+pub returns-clause-capacity : goal.returns-clause-capacity
+returns-clause-capacity g c _ = c.truncate.ensures.capacity
+
+pub returns-clause-exact : goal.returns-clause-exact
+returns-clause-exact g c _ _ = rw (← c.self.view_is) c.in_ok-bits.ensures.capacity
+
+pub returns-then-at-eq0-clause-length : goal.returns-then-at-eq0-clause-length
+returns-then-at-eq0-clause-length g c = rw (c.replace.ensures.after, c.new_general.ensures.values) (omega (arith, c.if-at-eq0.true))
+
+pub returns-then-at-len-clause-length : goal.returns-then-at-len-clause-length
+returns-then-at-len-clause-length g c = omega (arith, past g c)
+
+pub returns-then-at-len-clause-exact : goal.returns-then-at-len-clause-exact
+returns-then-at-len-clause-exact g c _ inside = absurd (omega (arith, past g c, inside))
+
+pub returns-then-at-len-clause-nothing : goal.returns-then-at-len-clause-nothing
+returns-then-at-len-clause-nothing g c _ _ = c.new_general-then-at-len.ensures.capacity

@@ -1,4 +1,4 @@
-use Rattle.std.proofs.Common.{◌≡◌, ◌+◌, ◌-◌, length, arith, drop, take}
+use Rattle.std.proofs.{Common.{◌≡◌, ◌+◌, ◌-◌, length, arith, drop, take, sym, ◌∙◌}, lemmas.List.{length-take-le, Elements.{All-drop, All-same, All-take}}}
 use Rattle.bit_set.{specs.Sets.elements, proofs.{PairLemmas.both_held, TallyLemmas.{rows_cut_at, rest_ended}, walk.merged_blocks.Pairs.count_ones.Goals.After-min-both}}
 use Rattle.bit_set.proofs.walk.merged_blocks.Pairs.count_ones.Goals as goal
 
@@ -21,11 +21,34 @@ overflow_add-result g c = omega (arith, cut g (goal.at.overflow_add-result g c).
 pub returns : goal.returns
 returns g c = let all = cut g (goal.at.returns g c).After-min-both in omega (arith, all, c.ones_of_both.ensures, c.ones_of_rest.ensures)
 
-pub ones_of_both-requires-clause-fits : goal.ones_of_both-requires-clause-fits
-ones_of_both-requires-clause-fits g c = omega (arith, cut g (goal.at.ones_of_both-requires-clause-fits g c).After-min-both, c.requires)
+pub slice_bounds-ones_of_both-end : goal.slice_bounds-ones_of_both-end
+slice_bounds-ones_of_both-end g c = omega (arith, c.min-both.ensures, length-take-le c.min-both.result c.as_slice-first.result.now)
 
-pub ones_of_rest-requires-clause-ended : goal.ones_of_rest-requires-clause-ended
-ones_of_rest-requires-clause-ended g c = rest_ended g.B.BitBlock.width g.B.BitBlock.number g.O.Operation.merge c.as_slice-first.result.now c.as_slice-second.result.now c.min-both.result c.min-both.ensures
+pub slice_bounds-ones_of_both-end-2 : goal.slice_bounds-ones_of_both-end-2
+slice_bounds-ones_of_both-end-2 g c = omega (arith, c.min-both.ensures, length-take-le c.min-both.result c.as_slice-second.result.now)
 
-pub ones_of_rest-requires-clause-fits : goal.ones_of_rest-requires-clause-fits
-ones_of_rest-requires-clause-fits g c = omega (arith, cut g (goal.at.ones_of_rest-requires-clause-fits g c).After-min-both, c.requires)
+pub ones_of_both-requires : goal.ones_of_both-requires
+ones_of_both-requires g c =
+    let is = g.B.BitBlock.is_block in
+    let k = c.min-both.result in
+    let xs = c.as_slice-first.result.now in
+    let ys = c.as_slice-second.result.now in
+    record {
+      long = length-take-le k xs (omega (arith, c.min-both.ensures)) ∙ sym (length-take-le k ys (omega (arith, c.min-both.ensures)));
+      first = All-take is k xs (All-same is xs c.self.inside.first.left c.as_slice-first.ensures c.self.invariant.0);
+      second = All-take is k ys (All-same is ys c.self.inside.second.left c.as_slice-second.ensures c.self.invariant.1);
+      fits = omega (arith, cut g (goal.at.ones_of_both-requires g c).After-min-both, c.requires);
+    }
+
+pub ones_of_rest-requires : goal.ones_of_rest-requires
+ones_of_rest-requires g c =
+    let is = g.B.BitBlock.is_block in
+    let k = c.min-both.result in
+    let xs = c.as_slice-first.result.now in
+    let ys = c.as_slice-second.result.now in
+    record {
+      ended = rest_ended g.B.BitBlock.width g.B.BitBlock.number g.O.Operation.merge xs ys k c.min-both.ensures;
+      first = All-take is _ (drop k xs) (All-drop is k xs (All-same is xs c.self.inside.first.left c.as_slice-first.ensures c.self.invariant.0));
+      second = All-take is _ (drop k ys) (All-drop is k ys (All-same is ys c.self.inside.second.left c.as_slice-second.ensures c.self.invariant.1));
+      fits = omega (arith, cut g (goal.at.ones_of_rest-requires g c).After-min-both, c.requires);
+    }
