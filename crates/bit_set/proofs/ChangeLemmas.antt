@@ -1,14 +1,18 @@
 -- What one call, and then many, make of a set.
-use Rattle.std.proofs.{Common.{◌≡◌, ◌≢◌, ℕ, ◌<◌, not, Bool, List, [], ◌∷◌, map, All, Result, refl, ap, arith}, lemmas.{Bool.Decides.nat_tests, List.Elements.{All-head, All-tail}}}
+use Rattle.std.proofs.{Common.{◌≡◌, ◌≢◌, ℕ, ◌<◌, not, Bool, true, false, List, [], ◌∷◌, map, All, Result, refl, ap, arith}, lemmas.{Bool.Decides.nat_tests, List.Elements.{All-head, All-tail}}}
 use Rattle.bit_words.specs.Bounds.{greatest}
-use Rattle.bit_set.specs.{Changes.{Change, Change.{Insert, ShrinkToFit}, Changes, Event, Happens, Outcome, Outcome.{NoMemory, Returned}, elements_after, outcome_of_result, outcome_of, outcomes, set_after}, Sets.elements}
-use Rattle.bit_set.specs.Sets.{has, put}
+use Rattle.bit_set.specs.{Changes.{Change, Change.{Insert, ShrinkToFit, Toggle}, Changes, Event, Happens, Outcome, Outcome.{NoMemory, Returned}, elements_after, outcome_of_result, outcome_of, outcomes, set_after}, Sets.elements}
+use Rattle.bit_set.specs.Sets.{has, put, without}
 
 -- ---- one call
 
 -- an element that went in
 pub changes_inserted : (value : ℕ) (new : Bool) (old next : List Bool) → value < greatest → new ≡ not (has (elements old) value) → elements next ≡ put (elements old) value → Changes (Insert value) old (Returned new) next
 changes_inserted value new old next fits says is = grind (arith, nat_tests)
+
+-- an element that was in and went out
+pub changes_toggled : (value : ℕ) (old next : List Bool) → value < greatest → has (elements old) value ≡ true → elements next ≡ without (elements old) value → Changes (Toggle value) old (Returned false) next
+changes_toggled value old next fits was is = grind (arith, nat_tests)
 
 -- the elements stay, also where no memory is found
 pub changes_shrunk : {T E : Type 0} (r : Result T E) (old next : List Bool) → elements next ≡ elements old → Changes ShrinkToFit old (outcome_of_result r) next

@@ -3,6 +3,7 @@ pub mod SetLaws
 pub mod AlgebraLemmas
 pub mod SizeLemmas
 pub mod SplitLemmas
+pub mod RangeLemmas
 pub mod SubsetLemmas
 pub mod MemberLemmas
 pub mod ValueLemmas

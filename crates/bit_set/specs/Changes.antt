@@ -1,6 +1,6 @@
 -- What calls make of the elements of a set, and what they return. No block, length or capacity occurs in it.
-use Rattle.std.specs.Prelude.{◌≡◌, ℕ, ◌-◌, ◌==◌, not, if◌then◌else◌, Bool, List, [], ◌∷◌, Option, Result, Ok, Err, drop, length, slice_get, take}
-use Rattle.bit_set.specs.{declared.faults.SetError.{SetError, TheVariants.{Element, Length, Memory}}, Sets.{difference, elements, has, intersection, put, put_all, symmetric_difference, those_below, union, without}}
+use Rattle.std.specs.Prelude.{◌≡◌, ℕ, ◌-◌, ◌==◌, max, not, if◌then◌else◌, Bool, List, [], ◌∷◌, ◌++◌, Option, Result, Ok, Err, drop, length, slice_get, take}
+use Rattle.bit_set.specs.{declared.faults.SetError.{SetError, TheVariants.{Element, Length, Memory}}, Sets.{difference, elements, has, intersection, put, put_all, symmetric_difference, those_below, those_from, union, without}, Ranges.span}
 use Rattle.bit_set.specs.{Order.same_sets, Sets.merge_of_sets}
 use Rattle.bit_words.specs.{Bounds.greatest, declared.block.merge.Merge.Merge}
 
@@ -9,6 +9,11 @@ pub data Change : Type 0 where
   Insert : (value : ℕ) → Change
   Extend : (items : List ℕ) → Change
   Remove : (value : ℕ) → Change
+  Toggle : (value : ℕ) → Change
+  Set : (value : ℕ) → (bit : Bool) → Change
+  InsertRange : (start : ℕ) → (end : ℕ) → Change
+  RemoveRange : (start : ℕ) → (end : ℕ) → Change
+  ToggleRange : (start : ℕ) → (end : ℕ) → Change
   Truncate : (len : ℕ) → Change
   MakeEmpty : Change
   Reset : Change
@@ -40,6 +45,11 @@ abbrev pub elements_after : Change → List ℕ → List ℕ
 elements_after (Insert value) s = if value == greatest then s else put s value
 elements_after (Extend items) s = put_all s items
 elements_after (Remove value) s = without s value
+elements_after (Toggle value) s = if value == greatest then s else (if has s value then without s value else put s value)
+elements_after (Set value bit) s = if bit then (if value == greatest then s else put s value) else without s value
+elements_after (InsertRange start end) s = union s (span start end)
+elements_after (RemoveRange start end) s = those_below s start ++ those_from s (max start end)
+elements_after (ToggleRange start end) s = symmetric_difference s (span start end)
 elements_after (Truncate len) s = those_below s len
 elements_after MakeEmpty s = []
 elements_after Reset s = []
@@ -57,11 +67,14 @@ elements_after ShrinkToFit s = s
 elements_after PopFirst s = drop 1 s
 elements_after PopLast s = take (length s - 1) s
 
--- how it returns: `insert` whether the number is new, `remove` whether it was in, a merge that tells whether the set
--- changed, `pop_first` the first element and `pop_last` the last
+-- how it returns: `insert` whether the number is new, `remove` whether it was in, `toggle` whether it is in now, `set`
+-- and a merge that tells so whether the set changed, `pop_first` the first element and `pop_last` the last
 abbrev pub outcome_of : Change → List ℕ → Outcome
 outcome_of (Insert value) s = if value == greatest then NoElement else Returned (not (has s value))
 outcome_of (Remove value) s = Returned (has s value)
+outcome_of (Toggle value) s = if value == greatest then NoElement else Returned (not (has s value))
+outcome_of (Set value bit) s =
+    if bit then (if value == greatest then NoElement else Returned (not (has s value))) else Returned (has s value)
 outcome_of (MergeChanges merge other) s = Returned (not (same_sets s (merge_of_sets merge s other)))
 outcome_of PopFirst s = Gave (slice_get s 0)
 outcome_of PopLast s = Gave (slice_get s (length s - 1))
@@ -73,7 +86,7 @@ Changes call old NoMemory new = elements new ≡ elements old
 Changes call old outcome new =
     (elements new ≡ elements_after call (elements old)) × (outcome ≡ outcome_of call (elements old))
 
--- how `insert` returned
+-- how `insert`, `toggle` and `set` returned
 abbrev pub outcome_of_insert : Result Bool SetError → Outcome
 outcome_of_insert (Ok new) = Returned new
 outcome_of_insert (Err Element) = NoElement

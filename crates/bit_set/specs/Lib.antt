@@ -1,6 +1,7 @@
 pub use Rattle.bit_words.specs.Bounds
 pub mod Sets
 pub mod Members
+pub mod Ranges
 pub mod Faults
 pub mod Effects
 pub mod Changes

@@ -1,6 +1,6 @@
 -- Which numbers are in a set after a call: of every number, whether it is in.
 use Rattle.std.specs.Prelude.{◌≡◌, ℕ, ◌≤◌, Bool, false, not, ◌&&◌, ◌||◌, ◌==◌, if◌then◌else◌, IsTrue, nat_le, nat_lt, List, get_or, length}
-use Rattle.bit_words.specs.{Merges.merge_of_values, declared.block.merge.Merge.Merge, Bounds.greatest}
+use Rattle.bit_words.specs.{Merges.merge_of_values, Ranges.in_range, declared.block.merge.Merge.Merge, Bounds.greatest}
 use Rattle.bit_set.specs.Sets.{elements, has}
 
 -- no number is in the set
@@ -14,6 +14,10 @@ IsSameSet s t = (n : ℕ) → has s n ≡ has t n
 -- `new` has the value exactly if b is true, and each other number exactly if `old` has
 abbrev pub Updates : List ℕ → List ℕ → ℕ → Bool → Type 0
 Updates old new value b = (n : ℕ) → has new n ≡ (if value == n then b else has old n)
+
+-- `new` has what f says of each number in the range from a to b, and each other number exactly if `old` has
+abbrev pub UpdatesRange : (Bool → Bool) → List ℕ → List ℕ → ℕ → ℕ → Type 0
+UpdatesRange f old new a b = (n : ℕ) → has new n ≡ (if in_range a b n then f (has old n) else has old n)
 
 -- `new` has what `old` has below n
 abbrev pub KeepsBelow : List ℕ → List ℕ → ℕ → Type 0

@@ -7,7 +7,7 @@ ghost use Rattle.bit_words.specs.{Bits.{blocks_for, blocks_of, true_end}, Merges
 ghost use Rattle.serde_json.specs.Data.{Data};
 ghost use Rattle.bit_set.specs.Sets.{IsAscending, has, put, put_all, without, those_below, those_from, those_new, elements, bound_of, union, intersection, difference, symmetric_difference, merge_of_sets, is_subset, is_disjoint};
 ghost use Rattle.bit_set.specs.{Agreement.WalksAgree, Changes.{Change, Changes, Event, Happens, outcomes, set_after, Outcome.{Done, NoMemory}}, Effects.TakesIn, Choices.{IsGreatest, IsLeast, IsLeastPassing}};
-ghost use Rattle.bit_set.specs.{Members.{HasNone, IsSameSet, TakesLeast}, Capacity.Run, Json.{IsFirstFault, Spells}, declared.json.JsonError.JsonError, Walk.{Walk, TwoSetWalk, BoundedWalk, IsWalkedOut, IsAtStart}};
+ghost use Rattle.bit_set.specs.{Members.{HasNone, IsSameSet, TakesLeast}, Ranges.{span, span_end, those_in_range}, Capacity.Run, Json.{IsFirstFault, Spells}, declared.json.JsonError.JsonError, Walk.{Walk, TwoSetWalk, BoundedWalk, IsWalkedOut, IsAtStart}};
 ghost use Rattle.bit_set.specs.{Walk.{IsAtStartFrom, StartsOverTwo, WalksOverTwo, blocks_past}, Order.{same_sets, order_of_sets, fed_of_set}};
 
 use crate::bit_vec::Merge;
@@ -26,6 +26,21 @@ pub fn members_of_sets()
     ensures put_all { (s items : List ℕ) (m : ℕ) → has (put_all s items) m ≡ (has items m || has s m) }
     ensures elements { (values : List Bool) (m : ℕ) → IsTrue (has (elements values) m)
         ↔ (slice_get values m ≡ Some true) }
+{}
+
+/// The numbers of a range: they are those from `a` on and below `b`, in ascending order, and none where `b` is at most
+/// `a`. What is left of a set without them is its difference with them, those of the set that are among them are the
+/// intersection, and a range that is toggled twice leaves the elements as they were.
+#[tactic(auto, using(crate::proofs::RangeLemmas::numbers_of_ranges))]
+pub fn numbers_of_ranges()
+    ensures members { (a b n : ℕ) → has (span a b) n ≡ (nat_le a n && nat_lt n b) }
+    ensures ascend { (a b : ℕ) → IsAscending (span a b) }
+    ensures count { (a b : ℕ) → length (span a b) ≡ b - a }
+    ensures bound { (a b : ℕ) → bound_of (span a b) ≡ span_end a b }
+    ensures removed { (s : List ℕ) (a b : ℕ) → IsAscending s
+        → those_below s a ++ those_from s (max a b) ≡ difference s (span a b) }
+    ensures among { (s : List ℕ) (a b : ℕ) → IsAscending s → those_in_range s a b ≡ intersection s (span a b) }
+    ensures twice { (s t : List ℕ) → IsAscending s → symmetric_difference (symmetric_difference s t) t ≡ s }
 {}
 
 /// How many members each operation leaves, of a set whose list ascends. Of items that are put in one by

@@ -14,6 +14,7 @@ mod ends;
 mod in_place;
 mod new_sets;
 mod noted_changes;
+mod ranges;
 mod relations;
 mod searching;
 mod splitting;

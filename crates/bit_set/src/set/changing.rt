@@ -107,6 +107,68 @@ impl<B: BitBlock> BitSet<B> {
         self.bits.replace(value, false)
     }
 
+    /// Takes `value` out where it is in, and puts it in where not; returns whether it is in now. Constant time, but for
+    /// a growth at or past the length. Fails as [`BitSet::insert`] does, and only where `value` is not in; elements,
+    /// length and capacity then stay.
+    ///
+    /// ```
+    /// // The set is {1, 4}.
+    /// assert!(!set.toggle(4)?);
+    /// assert!(set.toggle(2)?);
+    /// assert!(set.iter().eq([1, 2]));
+    /// ```
+    pub fn toggle(&mut self, value: usize) -> Result<bool, SetError>
+        ensures returned { IfOk result (λ now. now ≡ not (has (elements self.old.values) value)) }
+        ensures elements { OnOk result (elements self.new.values
+            ≡ (if has (elements self.old.values) value then without (elements self.old.values) value
+            else put (elements self.old.values) value)) }
+        ensures members { OnOk result (Updates (elements self.old.values) (elements self.new.values) value
+            (not (has (elements self.old.values) value))) }
+        ensures length { OnOk result (length self.new.values ≡ max (length self.old.values) (value + 1)) }
+        ensures unfit { IsErrOf result SetError.Element ↔ (value ≡ usize.MAX) }
+        ensures fails { IfErr result (λ fault. IsInsertFault fault value self.old.capacity) }
+        ensures grows { Grows (value + 1) result self.old self.new }
+        ensures changes { Changes (Change.Toggle value) self.old.values (outcome_of_insert result) self.new.values }
+    {
+        prove!(self.bits.len() <= usize::MAX);
+        if self.remove(value) {
+            return Ok(false);
+        }
+        self.insert(value)
+    }
+
+    /// Puts `value` in where `bit` is true, and takes it out where not; returns whether that changed the set. Constant
+    /// time, but for a growth at or past the length. Fails as [`BitSet::insert`] does, and only where `bit` is true;
+    /// elements, length and capacity then stay.
+    ///
+    /// ```
+    /// // The set is {1, 4}.
+    /// assert!(set.set(2, true)?);
+    /// assert!(!set.set(3, false)?);
+    /// assert!(set.iter().eq([1, 2, 4]));
+    /// ```
+    pub fn set(&mut self, value: usize, bit: bool) -> Result<bool, SetError>
+        ensures returned { IfOk result (λ changed. changed
+            ≡ (if bit then not (has (elements self.old.values) value) else has (elements self.old.values) value)) }
+        ensures elements { OnOk result (elements self.new.values
+            ≡ (if bit then put (elements self.old.values) value else without (elements self.old.values) value)) }
+        ensures members { OnOk result (Updates (elements self.old.values) (elements self.new.values) value bit) }
+        ensures length { OnOk result (length self.new.values
+            ≡ (if bit then max (length self.old.values) (value + 1) else length self.old.values)) }
+        ensures unfit { IsErrOf result SetError.Element ↔ ((bit ≡ true) × (value ≡ usize.MAX)) }
+        ensures clears { bit ≡ false → IsOk result }
+        ensures fails { IfErr result (λ fault. IsInsertFault fault value self.old.capacity) }
+        ensures grows { Grows (if bit then value + 1 else 0) result self.old self.new }
+        ensures changes { Changes (Change.Set value bit) self.old.values (outcome_of_insert result) self.new.values }
+    {
+        prove!(self.bits.len() <= usize::MAX);
+        if bit {
+            self.insert(value)
+        } else {
+            Ok(self.remove(value))
+        }
+    }
+
     /// Keeps the elements below `len`, and shortens the length to it. Writes one block at most.
     pub fn truncate(&mut self, len: usize)
         ensures elements { elements self.new.values ≡ those_below (elements self.old.values) len }

@@ -1,0 +1,121 @@
+-- What calls on a range do to a set, by its members.
+use Rattle.std.proofs.Common.{◌≡◌, ℕ, zero, suc, ◌+◌, ◌-◌, ◌<◌, ◌≤◌, max, min, Bool, true, false, not, ◌&&◌, nat_le, nat_lt, cond, List, [], ◌∷◌, ◌++◌, eqb, get_or, length, refl, sym, ap, ◌∙◌, arith, ⊎_elim}
+use Rattle.std.{proofs.lemmas.{Bool.{cases_lt, Decides.nat_tests}, List.{Folds.list_any-append, FromFn.length-range_with_len}}, specs.List.range_with_len}
+use Rattle.bit_words.{proofs.RangeLemmas.get_or-changed, specs.{declared.block.merge.Merge.TheVariants.Symmetric, Ranges.{changed_in_range, in_range}}}
+use Rattle.bit_set.specs.{Members.UpdatesRange, Ranges.{span, span_end, those_in_range}, Sets.{AscendsFrom, IsAscending, bound_of, difference, elements, has, intersection, symmetric_difference, those_below, those_from, union}}
+use Rattle.bit_set.proofs.{AlgebraLemmas.{IsAscending-merge_of_sets, has-symmetric, has-union}, SetLaws.IsAscending-put_all, SetLemmas.{AscendsFrom-filter, AscendsFrom-lower, has-elements, has-filter, has-first, same_members}, ValueLemmas.has-past}
+
+-- ---- the numbers of a range
+
+has-range_with_len : (a n k : ℕ) → has (range_with_len a n) k ≡ in_range a (a + n) k
+has-range_with_len a zero k = grind (arith, nat_tests)
+has-range_with_len a (suc n) k = let rest = has-range_with_len (a + 1) n k in grind (arith, nat_tests)
+
+AscendsFrom-range_with_len : (a n : ℕ) → AscendsFrom a (range_with_len a n)
+AscendsFrom-range_with_len a zero = tt
+AscendsFrom-range_with_len a (suc n) = (omega arith, AscendsFrom-range_with_len (a + 1) n)
+
+pub has-span : (a b k : ℕ) → has (span a b) k ≡ in_range a b k
+unfolding span
+has-span a b k = has-range_with_len a (b - a) k ∙ grind (arith, nat_tests)
+
+pub IsAscending-span : (a b : ℕ) → IsAscending (span a b)
+unfolding span
+IsAscending-span a b = AscendsFrom-lower a 0 (range_with_len a (b - a)) (omega arith) (AscendsFrom-range_with_len a (b - a))
+
+-- ---- the list of truth values
+
+-- a changed range of a list that keeps the set changes these members
+pub members_changed : (f : Bool → Bool) (a b : ℕ) (s : List ℕ) (mid new : List Bool) → elements mid ≡ s → (a < b → b ≤ length mid) → new ≡ changed_in_range f a b mid → UpdatesRange f s (elements new) a b
+members_changed f a b s mid new same within is n =
+    has-elements new n
+    ∙ ap (λ bs. get_or bs n false) is
+    ∙ get_or-changed f a b mid n within
+    ∙ ap (λ x. cond (in_range a b n) (f x) x) (sym (has-elements mid n) ∙ ap (λ t. has t n) same)
+
+-- a range that is cut at the end of the list clears the same members
+pub members_cleared : (a b c : ℕ) (bs new : List Bool) → c ≡ min b (length bs) → new ≡ changed_in_range (λ _. false) a c bs → UpdatesRange (λ _. false) (elements bs) (elements new) a b
+members_cleared a b c bs new end is n = members_changed (λ _. false) a c (elements bs) bs new refl (λ _. omega arith) is n ∙ grind (arith, nat_tests, has-past bs n)
+
+-- ---- what a set becomes
+
+pub inserted_range : (a b : ℕ) (s t : List ℕ) → IsAscending s → IsAscending t → UpdatesRange (λ _. true) s t a b → t ≡ union s (span a b)
+inserted_range a b s t up also members =
+    same_members t _ also (IsAscending-put_all s (span a b) up) (λ n. members n ∙ grind (arith, nat_tests, has-union s (span a b) n, has-span a b n))
+
+pub toggled_range : (a b : ℕ) (s t : List ℕ) → IsAscending s → IsAscending t → UpdatesRange not s t a b → t ≡ symmetric_difference s (span a b)
+toggled_range a b s t up also members =
+    same_members t _ also (IsAscending-merge_of_sets Symmetric s (span a b) up) (λ n. members n ∙ grind (arith, nat_tests, has-symmetric s (span a b) n, has-span a b n))
+
+AscendsFrom-joined : (low m : ℕ) (xs ys : List ℕ) → low ≤ m → AscendsFrom low xs → ((n : ℕ) → has xs n ≡ true → n < m) → AscendsFrom m ys → AscendsFrom low (xs ++ ys)
+AscendsFrom-joined low m [] ys le up below rest = AscendsFrom-lower m low ys le rest
+AscendsFrom-joined low m (x ∷ xs) ys le up below rest =
+    (up.0, AscendsFrom-joined (x + 1) m xs ys (let h = below x (has-first x xs) in omega arith) up.1 (λ n is. below n (grind (arith, nat_tests, is))) rest)
+
+AscendsFrom-those_from : (low m : ℕ) (s : List ℕ) → AscendsFrom low s → AscendsFrom m (those_from s m)
+AscendsFrom-those_from low m [] up = tt
+AscendsFrom-those_from low m (x ∷ xs) up =
+    let kept = AscendsFrom-filter (x + 1) (λ y. nat_le m y) xs up.1 in
+    let rest = AscendsFrom-those_from (x + 1) m xs up.1 in
+    grind (arith, nat_tests)
+
+-- a set below one number and from another on
+pub IsAscending-without_range : (a b : ℕ) (s : List ℕ) → IsAscending s → IsAscending (those_below s a ++ those_from s (max a b))
+IsAscending-without_range a b s up =
+    AscendsFrom-joined 0 (max a b) (those_below s a) (those_from s (max a b)) (omega arith) (AscendsFrom-filter 0 _ s up)
+    (λ n is. let low = has-filter (λ x. nat_lt x a) s n in grind (arith, nat_tests))
+    (AscendsFrom-those_from 0 (max a b) s up)
+
+pub has-without_range : (a b : ℕ) (s : List ℕ) (n : ℕ) → has (those_below s a ++ those_from s (max a b)) n ≡ (not (in_range a b n) && has s n)
+has-without_range a b s n =
+    let low = has-filter (λ x. nat_lt x a) s n in
+    let high = has-filter (λ x. nat_le (max a b) x) s n in
+    let both = list_any-append (λ m. eqb m n) (those_below s a) (those_from s (max a b)) in
+    grind (arith, nat_tests)
+
+pub removed_range : (a b : ℕ) (s t : List ℕ) → IsAscending s → IsAscending t → UpdatesRange (λ _. false) s t a b → t ≡ those_below s a ++ those_from s (max a b)
+removed_range a b s t up also members =
+    same_members t _ also (IsAscending-without_range a b s up) (λ n. members n ∙ grind (arith, nat_tests, has-without_range a b s n))
+
+-- ---- the laws of `src/laws.rt`
+
+pub length-span : (a b : ℕ) → length (span a b) ≡ b - a
+unfolding span
+length-span a b = length-range_with_len a (b - a)
+
+bound-range_with_len : (a n : ℕ) → bound_of (range_with_len a (suc n)) ≡ a + n + 1
+bound-range_with_len a zero = omega arith
+bound-range_with_len a (suc n) = let rest = bound-range_with_len (a + 1) n in omega (arith, rest)
+
+span-none : (a b : ℕ) → b ≤ a → span a b ≡ []
+unfolding span
+span-none a b none = ap (range_with_len a) (let e : b - a ≡ 0 = omega arith in e)
+
+bound-some : (a b : ℕ) → a < b → bound_of (span a b) ≡ b
+unfolding span
+bound-some a b some =
+    ap (λ n. bound_of (range_with_len a n)) (let e : b - a ≡ suc (b - a - 1) = omega arith in e) ∙ bound-range_with_len a (b - a - 1) ∙ omega arith
+
+pub bound-span : (a b : ℕ) → bound_of (span a b) ≡ span_end a b
+bound-span a b =
+    ⊎_elim
+    (λ some. bound-some a b some ∙ grind (arith, nat_tests, some))
+    (λ (none : b ≤ a). ap bound_of (span-none a b none) ∙ grind (arith, nat_tests, none))
+    (cases_lt a b)
+
+pub among_span : (s : List ℕ) (a b : ℕ) → IsAscending s → those_in_range s a b ≡ intersection s (span a b)
+among_span s a b up =
+    same_members _ _ (AscendsFrom-filter 0 _ s up) (AscendsFrom-filter 0 _ s up) (λ n.
+    has-filter (in_range a b) s n ∙ ap (λ x. x && has s n) (sym (has-span a b n)) ∙ sym (has-filter (λ m. has (span a b) m) s n))
+
+pub without_span : (s : List ℕ) (a b : ℕ) → IsAscending s → those_below s a ++ those_from s (max a b) ≡ difference s (span a b)
+without_span s a b up =
+    same_members _ _ (IsAscending-without_range a b s up) (AscendsFrom-filter 0 _ s up) (λ n.
+    has-without_range a b s n ∙ ap (λ x. not x && has s n) (sym (has-span a b n)) ∙ sym (has-filter (λ m. not (has (span a b) m)) s n))
+
+pub toggled_twice : (s t : List ℕ) → IsAscending s → symmetric_difference (symmetric_difference s t) t ≡ s
+toggled_twice s t up =
+    same_members _ s (IsAscending-merge_of_sets Symmetric (symmetric_difference s t) t (IsAscending-merge_of_sets Symmetric s t up)) up (λ n.
+    grind (arith, has-symmetric (symmetric_difference s t) t n, has-symmetric s t n))
+
+pub ruleset numbers_of_ranges = (has-span, IsAscending-span, length-span, bound-span, without_span, among_span, toggled_twice)

@@ -1,0 +1,14 @@
+use Rattle.std.proofs.Common.{refl, true}
+use Rattle.bit_set.proofs.{RangeLemmas.{inserted_range, members_changed}, SetLemmas.IsAscending-elements}
+use Rattle.bit_set.proofs.set.BitSet.insert_range.Goals as goal
+
+pub returns-clause-members : goal.returns-clause-members
+returns-clause-members g c =
+    members_changed (λ _. true) c.args.range.start c.args.range.end _ c.self.inside.bits.values _ (rw c.self.view_is c.in_ok-lengthen_for.ensures.same) (rw c.self.view_is c.in_ok-lengthen_for.ensures.within) c.fill_range.ensures.values
+
+pub returns-clause-elements : goal.returns-clause-elements
+returns-clause-elements g c =
+    inserted_range c.args.range.start c.args.range.end _ _ (IsAscending-elements c.args.self.now.values) (IsAscending-elements c.fill_range.new.self.values) (returns-clause-members g c)
+
+pub returns-clause-changes : goal.returns-clause-changes
+returns-clause-changes g c = (returns-clause-elements g c, refl)

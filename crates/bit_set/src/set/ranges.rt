@@ -1,0 +1,100 @@
+// Calls on the numbers of a range.
+ghost use Rattle.std.specs.Prelude.{◌≡◌, ◌-◌, ◌<◌, ◌≤◌, ◌++◌, false, length, max, not, true, IfErr, IsErrOf, OnOk};
+ghost use Rattle.bit_words.specs.{Growth.Grows};
+ghost use Rattle.bit_set.specs.{Changes.{Change, Changes, Outcome.Done, outcome_of_result}, Faults.IsInsertFault, Members.UpdatesRange, Ranges.{span, span_end}, Sets.{elements, symmetric_difference, those_below, those_from, union}};
+
+use crate::{BitBlock, BitSet, SetError};
+use std::ops::Range;
+
+impl<B: BitBlock> BitSet<B> {
+    // Makes the list at least as long as the range reaches; nothing where that is empty.
+    #[inline]
+    fn lengthen_for(&mut self, range: &Range<usize>) -> Result<(), SetError>
+        ensures same { OnOk result (elements self.new.values ≡ elements self.old.values) }
+        ensures within { OnOk result (range.now.start < range.now.end → range.now.end ≤ length self.new.values) }
+        ensures length { OnOk result (length self.new.values
+            ≡ max (length self.old.values) (span_end range.now.start range.now.end)) }
+        ensures fit { IsErrOf result SetError.Element → ⊥ }
+        ensures fails { IfErr result (λ fault. IsInsertFault fault (range.now.end - 1) self.old.capacity) }
+        ensures grows { Grows (span_end range.now.start range.now.end) result self.old self.new }
+    {
+        let end = if range.start < range.end {
+            range.end
+        } else {
+            0
+        };
+        self.lengthen(end)?;
+        Ok(())
+    }
+
+    /// Puts each number of the range in. The length becomes at least `range.end`; nothing changes where the range is
+    /// empty. Writes each block of the range once, the whole ones as a fill. Fails only where `range.end` passes the
+    /// capacity and no memory is found; elements, length and capacity then stay. Each number of a range is below
+    /// `usize::MAX`, so that `Element` never comes.
+    ///
+    /// ```
+    /// // The set is {1, 4}.
+    /// set.insert_range(3..6)?;
+    /// assert!(set.iter().eq([1, 3, 4, 5]));
+    /// ```
+    pub fn insert_range(&mut self, range: Range<usize>) -> Result<(), SetError>
+        ensures elements { OnOk result (elements self.new.values
+            ≡ union (elements self.old.values) (span range.start range.end)) }
+        ensures members { OnOk result (UpdatesRange (λ _. true) (elements self.old.values) (elements self.new.values)
+            range.start range.end) }
+        ensures length { OnOk result (length self.new.values
+            ≡ max (length self.old.values) (span_end range.start range.end)) }
+        ensures fit { IsErrOf result SetError.Element → ⊥ }
+        ensures fails { IfErr result (λ fault. IsInsertFault fault (range.end - 1) self.old.capacity) }
+        ensures grows { Grows (span_end range.start range.end) result self.old self.new }
+        ensures changes { Changes (Change.InsertRange range.start range.end)
+            self.old.values (outcome_of_result result) self.new.values }
+    {
+        self.lengthen_for(&range)?;
+        self.bits.fill_range(range, true);
+        Ok(())
+    }
+
+    /// Takes each number of the range out. The length stays. Writes each block of the range once, the whole ones as a
+    /// fill.
+    pub fn remove_range(&mut self, range: Range<usize>)
+        ensures elements { elements self.new.values ≡ those_below (elements self.old.values) range.start
+            ++ those_from (elements self.old.values) (max range.start range.end) }
+        ensures members { UpdatesRange (λ _. false) (elements self.old.values) (elements self.new.values)
+            range.start range.end }
+        ensures length { length self.new.values ≡ length self.old.values }
+        ensures capacity { self.new.capacity ≡ self.old.capacity }
+        ensures changes { Changes (Change.RemoveRange range.start range.end) self.old.values Done self.new.values }
+    {
+        let end = range.end.min(self.bits.len());
+        self.bits.fill_range(range.start..end, false);
+    }
+
+    /// Takes each number of the range out that is in, and puts each other in: of `0..n` it makes the complement below
+    /// `n`. The length becomes at least `range.end`; nothing changes where the range is empty. Writes each block of the
+    /// range once. Fails only where `range.end` passes the capacity and no memory is found; elements, length and
+    /// capacity then stay. `Element` never comes.
+    ///
+    /// ```
+    /// // The set is {1, 4}.
+    /// set.toggle_range(3..6)?;
+    /// assert!(set.iter().eq([1, 3, 5]));
+    /// ```
+    pub fn toggle_range(&mut self, range: Range<usize>) -> Result<(), SetError>
+        ensures elements { OnOk result (elements self.new.values
+            ≡ symmetric_difference (elements self.old.values) (span range.start range.end)) }
+        ensures members { OnOk result (UpdatesRange not (elements self.old.values) (elements self.new.values)
+            range.start range.end) }
+        ensures length { OnOk result (length self.new.values
+            ≡ max (length self.old.values) (span_end range.start range.end)) }
+        ensures fit { IsErrOf result SetError.Element → ⊥ }
+        ensures fails { IfErr result (λ fault. IsInsertFault fault (range.end - 1) self.old.capacity) }
+        ensures grows { Grows (span_end range.start range.end) result self.old self.new }
+        ensures changes { Changes (Change.ToggleRange range.start range.end)
+            self.old.values (outcome_of_result result) self.new.values }
+    {
+        self.lengthen_for(&range)?;
+        self.bits.negate_range(range);
+        Ok(())
+    }
+}
