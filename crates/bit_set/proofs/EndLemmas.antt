@@ -1,25 +1,25 @@
 -- The first and the last of a set, and of its members from a number on or below it.
-use Rattle.std.proofs.{Common.{◌≡◌, ℕ, ◌+◌, ◌-◌, ◌<◌, ◌≤◌, Bool, true, false, not, ◌||◌, IsTrue, eqb, ltb, nat_le, List, [], ◌∷◌, ◌++◌, length, take, drop, slice_get, get_or, length-append, Option, Some, None, refl, sym, ap, ◌∙◌, arith, subst}, Math.Seq.take-append_seam}
+use Rattle.std.proofs.{Common.{◌≡◌, ℕ, ◌+◌, ◌-◌, ◌<◌, ◌≤◌, Bool, true, false, not, ◌||◌, eqb, ltb, nat_le, List, [], ◌∷◌, ◌++◌, length, take, drop, slice_get, get_or, length-append, Option, Some, None, refl, sym, ap, ◌∙◌, arith}, Math.Seq.take-append_seam}
 use Rattle.std.proofs.lemmas.{Bool.Decides.nat_tests, List.{get_or-append_right, Folds.list_any-append}, Option.slice_get-get_or}
 use Rattle.std.specs.Prelude.{IfSome, MatchOption}
-use Rattle.bit_words.{specs.{Bounds.greatest, Searches.{FindsBefore, FindsFrom, IsFirstFrom, IsLastBefore}}, proofs.SearchLemmas.{finds_before_same, finds_from_same}}
+use Rattle.bit_words.{specs.{Bounds.greatest, Searches.{FindsBefore, FindsFrom, IsFirstFrom}}, proofs.SearchLemmas.{finds_before_same, finds_from_same}}
 use Rattle.bit_set.specs.{Changes.{Changes, Change.{PopFirst, PopLast}, Outcome.Gave}, Choices.{IsFirstOf, IsGreatest, IsLastOf, IsLeast}, Members.{HasNone, TakesGreatest, TakesLeast}, Sets.{AscendsFrom, IsAscending, has, elements, those_below, those_from, without}}
 use Rattle.bit_set.proofs.{MemberLemmas.{none_from_members, updates_without}, SetLemmas.{AscendsFrom-filter, has-elements, has-filter, has-first, has-without, same_members}, ValueLemmas.has-within}
 
 -- ---- lists that ascend
 
 -- from each number that no member is below
-ascends_above : (low n : ℕ) (s : List ℕ) → AscendsFrom low s → ((m : ℕ) → has s m ≡ true → n ≤ m) → AscendsFrom n s
+pub ascends_above : (low n : ℕ) (s : List ℕ) → AscendsFrom low s → ((m : ℕ) → has s m ≡ true → n ≤ m) → AscendsFrom n s
 ascends_above low n [] up above = tt
 ascends_above low n (x ∷ xs) up above = (above x (has-first x xs), up.1)
 
 -- with one more that is above all
-ascends_pushed : (low : ℕ) (s : List ℕ) (x : ℕ) → AscendsFrom low s → low ≤ x → ((m : ℕ) → has s m ≡ true → m < x) → AscendsFrom low (s ++ x ∷ [])
+pub ascends_pushed : (low : ℕ) (s : List ℕ) (x : ℕ) → AscendsFrom low s → low ≤ x → ((m : ℕ) → has s m ≡ true → m < x) → AscendsFrom low (s ++ x ∷ [])
 ascends_pushed low [] x up from below = (from, tt)
 ascends_pushed low (y ∷ ys) x up from below =
     (up.0, ascends_pushed (y + 1) ys x up.1 (let first = below y (has-first y ys) in omega (arith, first)) (λ m is. below m (grind (arith, is))))
 
-has-pushed : (s : List ℕ) (x m : ℕ) → has (s ++ x ∷ []) m ≡ (has s m || eqb x m)
+pub has-pushed : (s : List ℕ) (x m : ℕ) → has (s ++ x ∷ []) m ≡ (has s m || eqb x m)
 has-pushed s x m = list_any-append (λ y. eqb y m) s (x ∷ []) ∙ grind arith
 
 -- the least member comes first

@@ -8,6 +8,7 @@ pub mod SubsetLemmas
 pub mod MemberLemmas
 pub mod ValueLemmas
 pub mod EndLemmas
+pub mod RetainLemmas
 pub mod CapacityLemmas
 pub mod ItemLemmas
 pub mod ByteLemmas

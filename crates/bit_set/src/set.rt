@@ -16,6 +16,7 @@ mod new_sets;
 mod noted_changes;
 mod ranges;
 mod relations;
+mod retaining;
 mod searching;
 mod splitting;
 

@@ -1,5 +1,4 @@
-use Rattle.std.proofs.Common.{sym}
-use Rattle.bit_set.{specs.{Choices.IsFirstOf, Sets.elements}, proofs.{EndLemmas.least_of_all, SplitLemmas.all_from}}
+use Rattle.bit_set.{specs.{Sets.elements}, proofs.{EndLemmas.least_of_all, SplitLemmas.all_from}}
 use Rattle.bit_set.proofs.set.BitSet.first.Goals as goal
 
 pub returns-clause-elements : goal.returns-clause-elements
