@@ -2,9 +2,10 @@
 ghost use Rattle.std.specs.Prelude.{◌≡◌, ◌≤◌, ◌↔◌, IsTrue, [], length};
 ghost use Rattle.bit_words.specs.Bits.{IsCapacityOfBlocks};
 ghost use Rattle.bit_set.specs.{Members.{HasNone, IsCounted}, Sets.elements};
-ghost use Rattle.bit_set_c.specs.Handed.{IsAt};
+ghost use Rattle.bit_set_c.specs.{Handed.IsAt, Hash.hash_of};
 
 use crate::handed::Shared;
+use bit_set::BitSet;
 
 /// How many members there are.
 #[unsafe(no_mangle)]
@@ -48,4 +49,27 @@ pub extern "C" fn bit_set_capacity(set: &mut Shared) -> usize
     ensures kept { set.new ≡ set.old }
 {
     set.get().capacity()
+}
+
+// 2 ^ 64 over the golden ratio.
+const MULTIPLIER: u64 = 11_400_714_819_323_198_485;
+
+fn hash_members(set: &BitSet<u64>) -> u64
+    ensures { result ≡ hash_of (elements set.now.values) }
+{
+    let mut state: u64 = 1;
+    for member in set {
+        state = state.wrapping_add(member as u64).wrapping_mul(MULTIPLIER);
+    }
+    state ^ (state >> 32)
+}
+
+/// A hash of the members alone: sets that are equal have the same.
+#[unsafe(no_mangle)]
+pub extern "C" fn bit_set_hash(set: &mut Shared) -> u64
+    requires here { IsAt set.ref_ptr set.old.at }
+    ensures value { result ≡ hash_of (elements set.old.bits.values) }
+    ensures kept { set.new ≡ set.old }
+{
+    hash_members(set.get())
 }

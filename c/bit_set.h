@@ -1,0 +1,151 @@
+/* Sets of whole numbers as bits, every call of which is proved. README.md of crates/bit_set_c says what is proved, and
+ * by what it is linked. Blocks have 64 bits.
+ *
+ * What C owes, in Rust's words:
+ *
+ *   bit_set *          a Box, where it is given to `bit_set_free`, or else a &mut: it comes from a call that made it, is
+ *                      not freed yet, and during the call no other call has the same set.
+ *   const bit_set *    a &: the same, but other calls may read the set meanwhile, in other threads too. Nothing is
+ *                      written to the set.
+ *   bit_set **         a place that holds NULL. A call that returns true puts a set there, which is to be freed once;
+ *                      a call that returns false leaves NULL.
+ *   T *, size_t        so many values one after another, none of them a part of a set, which only this call writes, or
+ *                      with `const` no call. The pointer is never NULL, even to none.
+ *
+ * A pointer to a set is never NULL but for `bit_set_free`. Two sets of a call must be two where one of them is no
+ * `const`; where both are, they may be one set. A call may take memory by malloc and realloc, which with free are of
+ * one allocator; no call is made from a signal handler, or in a forked child of a process with threads.
+ *
+ * No call ends the process. `false` says that a call found no memory, and nothing changed then unless it is said below.
+ */
+#ifndef BIT_SET_H
+#define BIT_SET_H
+
+#include <stdbool.h>
+#include <stddef.h>
+#include <stdint.h>
+
+#ifdef __cplusplus
+extern "C" {
+#endif
+
+/* A set of numbers below SIZE_MAX. It has a length, which is above each member, and a capacity, which is at least the
+ * length: a number below the capacity goes in without memory. */
+typedef struct bit_set bit_set;
+
+/* ---- Making and freeing. */
+
+/* An empty set. Its length and its capacity are 0. */
+bool bit_set_new(bit_set **out);
+
+/* An empty set of this length. */
+bool bit_set_with_capacity(bit_set **out, size_t length);
+
+/* A set with the same members, of the same length. */
+bool bit_set_clone(bit_set **out, const bit_set *set);
+
+/* The set of the bits that are 1, those of each byte counted from the highest. Its length is 8 times the count. False
+ * also where that is above SIZE_MAX. */
+bool bit_set_from_bytes(bit_set **out, const uint8_t *bytes, size_t count);
+
+/* The set of these numbers, in any order. False also where one of them is SIZE_MAX. */
+bool bit_set_from_members(bit_set **out, const size_t *members, size_t count);
+
+/* Parts a set: the members below `at` stay, and the others go into a set of their own. */
+bool bit_set_split_off(bit_set **out, bit_set *set, size_t at);
+
+/* Gives the memory back. Of NULL it does nothing. */
+void bit_set_free(bit_set *set);
+
+/* ---- Members. */
+
+#define BIT_SET_NO_MEMORY (-1)
+#define BIT_SET_NO_ELEMENT (-2)
+
+/* Puts a number in. Returns 1 where it is new, 0 where it was in, BIT_SET_NO_MEMORY, or BIT_SET_NO_ELEMENT where it is
+ * SIZE_MAX; below 0 nothing changed. */
+int32_t bit_set_insert(bit_set *set, size_t value);
+
+/* Puts numbers in, one by one, up to the first that cannot go in, for memory or since it is SIZE_MAX. Returns how many
+ * went in: `count` where all did. */
+size_t bit_set_insert_members(bit_set *set, const size_t *members, size_t count);
+
+/* Takes a number out. Returns whether it was in. */
+bool bit_set_remove(bit_set *set, size_t value);
+
+/* Whether the number is a member. Any number may be asked for. */
+bool bit_set_contains(const bit_set *set, size_t value);
+
+/* The least member that is `from` or above, or SIZE_MAX where there is none. A walk over many members is faster by
+ * `bit_set_copy_members`. */
+size_t bit_set_next(const bit_set *set, size_t from);
+
+/* Copies the members that are `from` or above, in ascending order, as many as there is room for. Returns how many; the
+ * values past these stay. To walk on, ask for those from the last one plus 1. */
+size_t bit_set_copy_members(const bit_set *set, size_t from, size_t *members, size_t room);
+
+/* ---- What a set says of itself. */
+
+size_t bit_set_count(const bit_set *set);
+bool bit_set_is_empty(const bit_set *set);
+size_t bit_set_length(const bit_set *set);
+size_t bit_set_capacity(const bit_set *set);
+
+/* ---- Two sets. In each of these both may be one set. */
+
+bool bit_set_is_subset(const bit_set *set, const bit_set *other);
+bool bit_set_is_superset(const bit_set *set, const bit_set *other);
+bool bit_set_is_disjoint(const bit_set *set, const bit_set *other);
+
+/* Whether the members are the same. Lengths and capacities do not matter. */
+bool bit_set_equals(const bit_set *set, const bit_set *other);
+
+/* -1, 0 or 1, as the ascending lists of members compare, from their first difference on. */
+int32_t bit_set_compare(const bit_set *set, const bit_set *other);
+
+/* A hash of the members alone: sets that are equal have the same. It is no secret: who chooses the members can make them
+ * collide. */
+uint64_t bit_set_hash(const bit_set *set);
+
+/* ---- In place. The length becomes the greater of both. None of these fails where the length of `other` is at most the
+ * capacity of `set`. */
+
+bool bit_set_union_with(bit_set *set, const bit_set *other);
+bool bit_set_intersect_with(bit_set *set, const bit_set *other);
+bool bit_set_difference_with(bit_set *set, const bit_set *other);
+bool bit_set_symmetric_difference_with(bit_set *set, const bit_set *other);
+
+/* Moves the members of `other` into `set`; `other` is empty then, and keeps its length. */
+bool bit_set_append(bit_set *set, bit_set *other);
+
+/* `set` becomes equal to `other`, with its length. */
+bool bit_set_copy(bit_set *set, const bit_set *other);
+
+/* ---- A whole set. None of these three takes memory. */
+
+/* Keeps the members below `length`, and shortens the length to it. */
+void bit_set_truncate(bit_set *set, size_t length);
+
+/* Takes every member out; the length stays. */
+void bit_set_make_empty(bit_set *set);
+
+/* Takes every member out and makes the length 0; the capacity stays. */
+void bit_set_reset(bit_set *set);
+
+/* ---- Capacity. Members and length stay, but for `bit_set_shrink_to_fit`. */
+
+/* Makes the capacity at least `length`. */
+bool bit_set_reserve(bit_set *set, size_t length);
+
+/* The same, with no more than that takes in whole blocks. */
+bool bit_set_reserve_exact(bit_set *set, size_t length);
+
+/* Makes the length that of the blocks up to the greatest member, and gives the capacity past these back. False where
+ * some of it stayed for want of memory; the length is the new one then too. */
+bool bit_set_shrink_to_fit(bit_set *set);
+
+#ifdef __cplusplus
+}
+#endif
+
+#endif

@@ -1,0 +1,43 @@
+/* The primes below 100 by the sieve of Eratosthenes, and how many are not of the form 4n + 1. */
+#include "bit_set.h"
+#include <stdio.h>
+
+#define LIMIT 100
+
+static bool sieve(bit_set *primes) {
+    for (size_t number = 2; number < LIMIT; number++)
+        if (bit_set_insert(primes, number) < 0)
+            return false;
+    for (size_t prime = 2; prime != SIZE_MAX; prime = bit_set_next(primes, prime + 1))
+        for (size_t number = prime * prime; number < LIMIT; number += prime)
+            bit_set_remove(primes, number);
+    return true;
+}
+
+static void print(const bit_set *set) {
+    size_t members[8], from = 0, count;
+    while ((count = bit_set_copy_members(set, from, members, 8)) > 0) {
+        for (size_t i = 0; i < count; i++)
+            printf(" %zu", members[i]);
+        from = members[count - 1] + 1;
+    }
+    printf("\n");
+}
+
+int main(void) {
+    bit_set *primes = NULL, *others = NULL;
+    bool done = bit_set_new(&primes) && sieve(primes) && bit_set_clone(&others, primes);
+    if (done) {
+        for (size_t number = 1; number < LIMIT; number += 4)
+            bit_set_remove(others, number);
+        printf("%zu:", bit_set_count(primes));
+        print(primes);
+        printf("%zu of them are not 4n + 1: subset %d, disjoint %d, compare %d\n", bit_set_count(others),
+               bit_set_is_subset(others, primes), bit_set_is_disjoint(others, primes), bit_set_compare(others, primes));
+    }
+    bit_set_free(others);
+    bit_set_free(primes);
+    if (!done)
+        fprintf(stderr, "no memory\n");
+    return done ? 0 : 3;
+}

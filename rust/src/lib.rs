@@ -1,0 +1,308 @@
+//! Sets of whole numbers as bits: the API of the crate `bit-set`, over a library for C whose every call is proved.
+//!
+//! What has a bit vector in its type (`from_bit_vec`, `into_bit_vec`, `get_ref`, `get_mut`) is left out, since the library
+//! shows none. Blocks have 64 bits. A call that finds no memory ends the process, as those of `Vec` do.
+//!
+//! ```
+//! let mut set = bit_set::BitSet::new();
+//! assert!(set.insert(3));
+//! set.extend([1, 4, 1]);
+//! assert!(set.remove(4));
+//! assert!(set.iter().eq([1, 3]));
+//! ```
+#![deny(unsafe_op_in_unsafe_fn)]
+
+use std::cmp::Ordering;
+use std::fmt;
+use std::hash::{Hash, Hasher};
+use std::marker::PhantomData;
+use std::ptr::{null_mut, NonNull};
+
+mod raw;
+mod walks;
+
+pub use walks::{Difference, Intersection, Iter, SymmetricDifference, Union};
+
+/// A type of blocks that the library has.
+pub trait BitBlock: private::Sealed {}
+
+impl BitBlock for u64 {}
+
+mod private {
+    pub trait Sealed {}
+
+    impl Sealed for u64 {}
+}
+
+/// A set of `usize` below `usize::MAX`.
+pub struct BitSet<B: BitBlock = u64> {
+    set: NonNull<raw::Set>,
+    blocks: PhantomData<B>,
+}
+
+// SAFETY: a set is a block of malloc's and what that points to, and is of no thread.
+unsafe impl<B: BitBlock> Send for BitSet<B> {}
+
+// SAFETY: a call that takes a `*const` writes nothing: it is proved of a loan that is shared.
+unsafe impl<B: BitBlock> Sync for BitSet<B> {}
+
+// Ends the process where a call found no memory. No call says how much it asked for.
+#[track_caller]
+fn require(done: bool) {
+    if !done {
+        std::alloc::handle_alloc_error(std::alloc::Layout::new::<u64>());
+    }
+}
+
+impl<B: BitBlock> Drop for BitSet<B> {
+    fn drop(&mut self) {
+        // SAFETY: the set is this one's own, and is used no more.
+        unsafe { raw::bit_set_free(self.set.as_ptr()) }
+    }
+}
+
+impl BitSet<u64> {
+    /// An empty set.
+    pub fn new() -> Self {
+        Self::default()
+    }
+
+    /// An empty set, into which numbers below `nbits` go without memory.
+    pub fn with_capacity(nbits: usize) -> Self {
+        // SAFETY: `out` is null.
+        Self::made(|out| unsafe { raw::bit_set_with_capacity(out, nbits) })
+    }
+
+    /// The set of the bits that are 1, those of each byte counted from the highest.
+    pub fn from_bytes(bytes: &[u8]) -> Self {
+        // SAFETY: `out` is null, and the bytes are lent for the call.
+        Self::made(|out| unsafe { raw::bit_set_from_bytes(out, bytes.as_ptr(), bytes.len()) })
+    }
+}
+
+impl<B: BitBlock> BitSet<B> {
+    // The set that a call puts out.
+    fn made(call: impl FnOnce(*mut *mut raw::Set) -> bool) -> Self {
+        let mut out = null_mut();
+        require(call(&mut out));
+        let set = NonNull::new(out).expect("a call that was done puts a set out");
+        BitSet { set, blocks: PhantomData }
+    }
+
+    fn read(&self) -> *const raw::Set {
+        self.set.as_ptr()
+    }
+
+    fn write(&mut self) -> *mut raw::Set {
+        self.set.as_ptr()
+    }
+
+    /// Below which number an element goes in without memory.
+    pub fn capacity(&self) -> usize {
+        // SAFETY: the set is lent for the call, as in each of the calls below.
+        unsafe { raw::bit_set_capacity(self.read()) }
+    }
+
+    /// Reserves capacity for elements below `len`.
+    pub fn reserve_len(&mut self, len: usize) {
+        require(unsafe { raw::bit_set_reserve(self.write(), len) });
+    }
+
+    /// Reserves capacity for elements below `len`, and for no more.
+    pub fn reserve_len_exact(&mut self, len: usize) {
+        require(unsafe { raw::bit_set_reserve_exact(self.write(), len) });
+    }
+
+    /// Gives back the capacity that the elements do not need, as far as there is memory to move to.
+    pub fn shrink_to_fit(&mut self) {
+        unsafe { raw::bit_set_shrink_to_fit(self.write()) };
+    }
+
+    /// How many elements there are.
+    pub fn len(&self) -> usize {
+        unsafe { raw::bit_set_count(self.read()) }
+    }
+
+    /// The newer name of `len`.
+    pub fn count(&self) -> usize {
+        self.len()
+    }
+
+    /// Whether there is no element.
+    pub fn is_empty(&self) -> bool {
+        unsafe { raw::bit_set_is_empty(self.read()) }
+    }
+
+    /// The length of the bit vector: each element is below it.
+    pub fn bit_length(&self) -> usize {
+        unsafe { raw::bit_set_length(self.read()) }
+    }
+
+    /// Whether `value` is an element.
+    #[inline]
+    pub fn contains(&self, value: usize) -> bool {
+        unsafe { raw::bit_set_contains(self.read(), value) }
+    }
+
+    /// Puts `value` in, and returns whether it is new.
+    ///
+    /// # Panics
+    ///
+    /// At `usize::MAX`, which is no element.
+    #[inline]
+    pub fn insert(&mut self, value: usize) -> bool {
+        match unsafe { raw::bit_set_insert(self.write(), value) } {
+            1 => true,
+            0 => false,
+            answer => {
+                assert_ne!(answer, -2, "usize::MAX is no element");
+                require(false);
+                false
+            }
+        }
+    }
+
+    /// Takes `value` out, and returns whether it was in.
+    #[inline]
+    pub fn remove(&mut self, value: usize) -> bool {
+        unsafe { raw::bit_set_remove(self.write(), value) }
+    }
+
+    /// Takes every element out.
+    pub fn clear(&mut self) {
+        self.make_empty();
+    }
+
+    /// The newer name of `clear`.
+    pub fn make_empty(&mut self) {
+        unsafe { raw::bit_set_make_empty(self.write()) }
+    }
+
+    /// Takes every element out, and makes the length 0.
+    pub fn reset(&mut self) {
+        unsafe { raw::bit_set_reset(self.write()) }
+    }
+
+    /// Keeps the elements below `len`.
+    pub fn truncate(&mut self, len: usize) {
+        unsafe { raw::bit_set_truncate(self.write(), len) }
+    }
+
+    /// Moves what is in `other` into the set.
+    pub fn append(&mut self, other: &mut Self) {
+        require(unsafe { raw::bit_set_append(self.write(), other.write()) });
+    }
+
+    /// Parts the set: the elements below `at` stay, and the others are returned.
+    pub fn split_off(&mut self, at: usize) -> Self {
+        let set = self.write();
+        Self::made(|out| unsafe { raw::bit_set_split_off(out, set, at) })
+    }
+
+    /// Puts in what is in `other`.
+    pub fn union_with(&mut self, other: &Self) {
+        require(unsafe { raw::bit_set_union_with(self.write(), other.read()) });
+    }
+
+    /// Keeps what is in `other` too.
+    pub fn intersect_with(&mut self, other: &Self) {
+        require(unsafe { raw::bit_set_intersect_with(self.write(), other.read()) });
+    }
+
+    /// Takes out what is in `other`.
+    pub fn difference_with(&mut self, other: &Self) {
+        require(unsafe { raw::bit_set_difference_with(self.write(), other.read()) });
+    }
+
+    /// Keeps what is in just one of both.
+    pub fn symmetric_difference_with(&mut self, other: &Self) {
+        require(unsafe { raw::bit_set_symmetric_difference_with(self.write(), other.read()) });
+    }
+
+    /// Whether every element is one of `other`.
+    pub fn is_subset(&self, other: &Self) -> bool {
+        unsafe { raw::bit_set_is_subset(self.read(), other.read()) }
+    }
+
+    /// Whether every element of `other` is one of this set.
+    pub fn is_superset(&self, other: &Self) -> bool {
+        other.is_subset(self)
+    }
+
+    /// Whether no element is one of `other`.
+    pub fn is_disjoint(&self, other: &Self) -> bool {
+        unsafe { raw::bit_set_is_disjoint(self.read(), other.read()) }
+    }
+
+    // Copies the elements that are `from` or above, as many as there is room for, and returns how many.
+    fn copy_from(&self, from: usize, elements: &mut [usize]) -> usize {
+        unsafe { raw::bit_set_copy_members(self.read(), from, elements.as_mut_ptr(), elements.len()) }
+    }
+}
+
+impl<B: BitBlock> Default for BitSet<B> {
+    fn default() -> Self {
+        // SAFETY: `out` is null.
+        Self::made(|out| unsafe { raw::bit_set_new(out) })
+    }
+}
+
+impl<B: BitBlock> Clone for BitSet<B> {
+    fn clone(&self) -> Self {
+        Self::made(|out| unsafe { raw::bit_set_clone(out, self.read()) })
+    }
+
+    fn clone_from(&mut self, other: &Self) {
+        require(unsafe { raw::bit_set_copy(self.write(), other.read()) });
+    }
+}
+
+impl<B: BitBlock> Extend<usize> for BitSet<B> {
+    fn extend<I: IntoIterator<Item = usize>>(&mut self, iter: I) {
+        for value in iter {
+            self.insert(value);
+        }
+    }
+}
+
+impl<B: BitBlock> FromIterator<usize> for BitSet<B> {
+    fn from_iter<I: IntoIterator<Item = usize>>(iter: I) -> Self {
+        let mut set = Self::default();
+        set.extend(iter);
+        set
+    }
+}
+
+impl<B: BitBlock> PartialEq for BitSet<B> {
+    fn eq(&self, other: &Self) -> bool {
+        unsafe { raw::bit_set_equals(self.read(), other.read()) }
+    }
+}
+
+impl<B: BitBlock> Eq for BitSet<B> {}
+
+impl<B: BitBlock> PartialOrd for BitSet<B> {
+    fn partial_cmp(&self, other: &Self) -> Option<Ordering> {
+        Some(self.cmp(other))
+    }
+}
+
+impl<B: BitBlock> Ord for BitSet<B> {
+    fn cmp(&self, other: &Self) -> Ordering {
+        unsafe { raw::bit_set_compare(self.read(), other.read()) }.cmp(&0)
+    }
+}
+
+impl<B: BitBlock> Hash for BitSet<B> {
+    fn hash<H: Hasher>(&self, state: &mut H) {
+        for value in self {
+            value.hash(state);
+        }
+    }
+}
+
+impl<B: BitBlock> fmt::Debug for BitSet<B> {
+    fn fmt(&self, fmt: &mut fmt::Formatter<'_>) -> fmt::Result {
+        fmt.debug_set().entries(self).finish()
+    }
+}

@@ -1,0 +1,133 @@
+#!/usr/bin/env bash
+# Builds c/example.c over the library for C by the system's compilers, runs it, and runs it again with one request for
+# memory after another failing. Compares the prototypes of c/bit_set.h with what the library exports, and runs the
+# Python module where there is a python3.
+#   tests/c.sh [FOLDER]      over the library that c/build wrote into the folder; where none is given it is built
+# The last line is 'N passed, M failed'.
+set -uo pipefail
+unset CDPATH
+here="$(dirname "$(readlink -f "${BASH_SOURCE[0]}")")"
+top="$(dirname "$here")"
+passed=0
+failed=0
+
+finish() {
+    echo "$passed passed, $failed failed"
+    [ "$failed" -eq 0 ]
+    exit
+}
+
+fail() {
+    echo "FAILED: $1"
+    failed=$((failed + 1))
+}
+
+pass() { passed=$((passed + 1)); }
+
+room="$(mktemp -d)"
+trap 'rm -rf "$room"' EXIT
+if ! command -v cc > /dev/null; then
+    fail 'there is no cc to build c/example.c with'
+    finish
+fi
+if [ $# -gt 0 ]; then
+    library="$(readlink -f "$1")"
+else
+    library="$room/library"
+    if ! "$top/c/build" "$library" > "$room/said" 2>&1; then
+        cat "$room/said"
+        fail 'c/build builds no library'
+        finish
+    fi
+fi
+cd "$room" || exit 1
+
+# What the example must write, which is said here and not taken from it.
+cat > written << 'END'
+25: 2 3 5 7 11 13 17 19 23 29 31 37 41 43 47 53 59 61 67 71 73 79 83 89 97
+14 of them are not 4n + 1: subset 1, disjoint 0, compare 1
+END
+: > nothing
+echo 'no memory' > refused
+
+# Counts a run: whether it ended so, wrote what this file has and said what this one has.
+judge() {
+    local name="$1" status="$2" text="$3" said="$4"
+    if [ "$ended" -ne "$status" ]; then
+        fail "$name: it ended with status $ended, and not $status"
+    elif ! cmp wrote "$text" || ! cmp said "$said"; then
+        fail "$name: it wrote something else"
+    else
+        pass
+    fi
+}
+
+run() {
+    ended=0
+    timeout 60 "$@" > wrote 2> said || ended=$?
+}
+
+warnings=(-Wall -Wextra -Werror -pedantic)
+if cc -std=c99 "${warnings[@]}" -O2 -I"$library" "$top/c/example.c" "$library/libbit_set.a" -o example 2> said; then
+    run ./example
+    judge 'the example' 0 written nothing
+else
+    cat said
+    fail 'cc does not build the example'
+    finish
+fi
+if cc -std=c99 -I"$library" "$top/c/example.c" -L"$library" -lbit_set -Wl,-rpath,"$library" -o shared 2> said; then
+    run ./shared
+    judge 'the example over the shared object' 0 written nothing
+else
+    cat said
+    fail 'cc does not build the example over the shared object'
+fi
+if command -v c++ > /dev/null; then
+    if c++ -x c++ -fsyntax-only "${warnings[@]}" "$library/bit_set.h" 2> said; then
+        pass
+    else
+        cat said
+        fail 'the header is none of C++'
+    fi
+fi
+
+# Each request for memory failing in turn: nothing is written, and the status says so; past the last all is well.
+if cc -O1 -shared -fPIC -o shim.so "$here/shim.c"; then
+    for ((n = 1; n <= 1000; n++)); do
+        rm -f counts
+        run env LD_PRELOAD="$room/shim.so" SHIM_COUNTS=counts SHIM_FAIL="$n" ./example
+        read -r requests _ < counts
+        [ "$requests" -ge "$n" ] || break
+        # The request that fails may be that of the C library for its output, which then goes out unbuffered.
+        if [ "$ended" -eq 0 ]; then
+            judge "request $n fails" 0 written nothing
+        else
+            judge "request $n fails" 3 nothing refused
+        fi
+    done
+    judge 'past the last request' 0 written nothing
+    [ "$n" -gt 3 ] || fail "the example asked for memory $((n - 1)) times only"
+else
+    fail 'cc makes no library of tests/shim.c'
+fi
+
+# The names that are declared are those that are exported.
+sed -n 's/^[a-z].*\(bit_set_[a-z_]*\)(.*/\1/p' "$top/c/bit_set.h" | sort > declared
+nm -g --defined-only "$library/libbit_set.a" | sed -n 's/.* T //p' | sort > exported
+if [ -s declared ] && cmp declared exported; then
+    pass
+else
+    diff declared exported
+    fail 'the header declares other calls than the library has'
+fi
+
+if command -v python3 > /dev/null; then
+    if BIT_SET_LIBRARY="$library/libbit_set.so" python3 -B "$top/python/tests.py" > said 2>&1; then
+        pass
+    else
+        cat said
+        fail 'the Python module fails its tests'
+    fi
+fi
+finish
