@@ -84,6 +84,10 @@ size_t bit_set_next(const bit_set *set, size_t from);
  * values past these stay. To walk on, ask for those from the last one plus 1. */
 size_t bit_set_copy_members(const bit_set *set, size_t from, size_t *members, size_t room);
 
+/* Copies the blocks from block `from` on, as many as there is room for. Returns how many; the values past these stay.
+ * Number n is a member where bit n % 64, counted from the lowest, of block n / 64 is 1; past the last block is none. */
+size_t bit_set_copy_blocks(const bit_set *set, size_t from, uint64_t *blocks, size_t room);
+
 /* ---- What a set says of itself. */
 
 size_t bit_set_count(const bit_set *set);

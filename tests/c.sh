@@ -83,6 +83,16 @@ else
     cat said
     fail 'cc does not build the example over the shared object'
 fi
+# Of what was not given back the address sanitizer says so, where the compiler has one.
+echo 'int main(void) { return 0; }' > empty.c
+if cc -fsanitize=address empty.c -o empty 2> said && ./empty; then
+    if cc -std=c99 -g -fsanitize=address -I"$library" "$top/c/example.c" "$library/libbit_set.a" -o watched; then
+        run ./watched
+        judge 'the example under the address sanitizer' 0 written nothing
+    else
+        fail 'cc does not build the example with the address sanitizer'
+    fi
+fi
 if command -v c++ > /dev/null; then
     if c++ -x c++ -fsyntax-only "${warnings[@]}" "$library/bit_set.h" 2> said; then
         pass

@@ -234,9 +234,17 @@ impl<B: BitBlock> BitSet<B> {
         unsafe { raw::bit_set_is_disjoint(self.read(), other.read()) }
     }
 
-    // Copies the elements that are `from` or above, as many as there is room for, and returns how many.
-    fn copy_from(&self, from: usize, elements: &mut [usize]) -> usize {
-        unsafe { raw::bit_set_copy_members(self.read(), from, elements.as_mut_ptr(), elements.len()) }
+    // The least element that is `from` or above.
+    fn next_from(&self, from: usize) -> Option<usize> {
+        let element = unsafe { raw::bit_set_next(self.read(), from) };
+        (element != usize::MAX).then_some(element)
+    }
+
+    // Copies the blocks from one on, and zeros past the last.
+    fn copy_blocks(&self, from: usize, blocks: &mut [u64]) {
+        // SAFETY: the set and the blocks are lent for the call.
+        let count = unsafe { raw::bit_set_copy_blocks(self.read(), from, blocks.as_mut_ptr(), blocks.len()) };
+        blocks[count..].fill(0);
     }
 }
 

@@ -14,7 +14,8 @@ extern "C" {
     pub fn bit_set_insert(set: *mut Set, value: usize) -> i32;
     pub fn bit_set_remove(set: *mut Set, value: usize) -> bool;
     pub fn bit_set_contains(set: *const Set, value: usize) -> bool;
-    pub fn bit_set_copy_members(set: *const Set, from: usize, members: *mut usize, room: usize) -> usize;
+    pub fn bit_set_next(set: *const Set, from: usize) -> usize;
+    pub fn bit_set_copy_blocks(set: *const Set, from: usize, blocks: *mut u64, room: usize) -> usize;
     pub fn bit_set_count(set: *const Set) -> usize;
     pub fn bit_set_is_empty(set: *const Set) -> bool;
     pub fn bit_set_length(set: *const Set) -> usize;

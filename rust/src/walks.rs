@@ -1,127 +1,145 @@
-//! Walks over a set, and over what two sets make. Elements are copied in groups, and so decoded on the proved side.
+//! Walks over a set, and over what two sets make. Blocks are copied in groups, past those that are zero by a search on
+//! the proved side, and decoded here: one call for each element costs more than the whole walk.
 use crate::{BitBlock, BitSet};
-use std::iter::Peekable;
 
 const GROUP: usize = 64;
+const WIDTH: usize = u64::BITS as usize;
 
-/// The elements of a set in ascending order.
-#[derive(Clone)]
-pub struct Iter<'a, B: BitBlock = u64> {
-    set: &'a BitSet<B>,
-    group: [usize; GROUP],
-    at: usize,
-    count: usize,
-    // From where on to copy the next group, or `usize::MAX` past the last.
-    from: usize,
+type Group = [u64; GROUP];
+
+// What a walk is over: the next group of blocks.
+trait Source {
+    /// Writes the blocks from one on that is not before that of `from`, with none that has an element between them, and
+    /// returns which it is; `None` where no element is left.
+    fn fill(&self, from: usize, group: &mut Group) -> Option<usize>;
 }
 
-impl<B: BitBlock> Iter<'_, B> {
+#[derive(Clone)]
+struct Walk<S> {
+    source: S,
+    group: Group,
+    // The block of the group that is next.
+    at: usize,
+    // What is left of the block in hand, and its first number.
+    block: u64,
+    base: usize,
+    // Past the last group there is none.
+    is_over: bool,
+}
+
+impl<S: Source> Walk<S> {
+    fn over(source: S) -> Self {
+        let mut walk = Walk { source, group: [0; GROUP], at: GROUP, block: 0, base: 0, is_over: false };
+        walk.refill(0);
+        walk
+    }
+
     #[cold]
     #[inline(never)]
-    fn refill(&mut self) -> Option<usize> {
-        if self.from == usize::MAX {
-            return None;
+    fn refill(&mut self, from: usize) {
+        match self.source.fill(from, &mut self.group) {
+            Some(first) => (self.at, self.block, self.base) = (1, self.group[0], first * WIDTH),
+            None => self.is_over = true,
         }
-        self.count = self.set.copy_from(self.from, &mut self.group);
-        self.at = 0;
-        // An element is below `usize::MAX`.
-        self.from = if self.count < GROUP { usize::MAX } else { self.group[GROUP - 1] + 1 };
-        self.group[..self.count].first().map(|&first| {
-            self.at = 1;
-            first
-        })
     }
-}
-
-impl<B: BitBlock> Iterator for Iter<'_, B> {
-    type Item = usize;
 
     #[inline]
     fn next(&mut self) -> Option<usize> {
-        if self.at < self.count {
-            let element = self.group[self.at];
-            self.at += 1;
-            return Some(element);
-        }
-        self.refill()
-    }
-
-    fn size_hint(&self) -> (usize, Option<usize>) {
-        let left = self.count - self.at;
-        (left, if self.from == usize::MAX { Some(left) } else { None })
-    }
-}
-
-// The walk over two sets: what is in the first alone, in the second alone and in both, each kept or not.
-#[derive(Clone)]
-struct Merge<'a, B: BitBlock, const FIRST: bool, const SECOND: bool, const BOTH: bool> {
-    first: Peekable<Iter<'a, B>>,
-    second: Peekable<Iter<'a, B>>,
-}
-
-impl<B: BitBlock, const FIRST: bool, const SECOND: bool, const BOTH: bool> Merge<'_, B, FIRST, SECOND, BOTH> {
-    fn next(&mut self) -> Option<usize> {
-        loop {
-            let (element, kept) = match (self.first.peek(), self.second.peek()) {
-                (None, None) => return None,
-                (Some(_), None) if !FIRST => return None,
-                (None, Some(_)) if !SECOND => return None,
-                (Some(a), Some(b)) if a == b => {
-                    self.second.next();
-                    (self.first.next(), BOTH)
+        while self.block == 0 {
+            if self.at < GROUP {
+                self.block = self.group[self.at];
+                self.at += 1;
+                self.base = self.base.wrapping_add(WIDTH);
+            } else if self.is_over {
+                return None;
+            } else {
+                match self.base.checked_add(WIDTH) {
+                    Some(from) => self.refill(from),
+                    None => self.is_over = true,
                 }
-                (Some(a), Some(b)) if a > b => (self.second.next(), SECOND),
-                (Some(_), _) => (self.first.next(), FIRST),
-                (None, Some(_)) => (self.second.next(), SECOND),
-            };
-            if kept {
-                return element;
             }
         }
+        let lowest = self.block.trailing_zeros() as usize;
+        self.block &= self.block - 1;
+        Some(self.base + lowest)
+    }
+}
+
+#[derive(Clone)]
+struct One<'a, B: BitBlock>(&'a BitSet<B>);
+
+impl<B: BitBlock> Source for One<'_, B> {
+    fn fill(&self, from: usize, group: &mut Group) -> Option<usize> {
+        let first = self.0.next_from(from)? / WIDTH;
+        self.0.copy_blocks(first, group);
+        Some(first)
+    }
+}
+
+// What is in the first set alone, in the second alone and in both, each kept or not.
+#[derive(Clone)]
+struct Two<'a, B: BitBlock, const FIRST: bool, const SECOND: bool, const BOTH: bool>(&'a BitSet<B>, &'a BitSet<B>);
+
+impl<B: BitBlock, const FIRST: bool, const SECOND: bool, const BOTH: bool> Source for Two<'_, B, FIRST, SECOND, BOTH> {
+    fn fill(&self, from: usize, group: &mut Group) -> Option<usize> {
+        let Two(a, b) = self;
+        let least = match (FIRST, SECOND) {
+            (true, true) => a.next_from(from).into_iter().chain(b.next_from(from)).min()?,
+            (true, false) => a.next_from(from)?,
+            _ => a.next_from(from)?.max(b.next_from(from)?),
+        };
+        let first = least / WIDTH;
+        let mut other = [0; GROUP];
+        a.copy_blocks(first, group);
+        b.copy_blocks(first, &mut other);
+        for (x, y) in group.iter_mut().zip(other) {
+            let (alone, second, both) = (*x & !y, y & !*x, *x & y);
+            *x = if FIRST { alone } else { 0 } | if SECOND { second } else { 0 } | if BOTH { both } else { 0 };
+        }
+        Some(first)
     }
 }
 
 macro_rules! walks {
-    ($($(#[$doc:meta])* $Name:ident $name:ident $first:literal $second:literal $both:literal;)*) => {
+    ($($(#[$doc:meta])* $Name:ident over $Source:ty, $name:ident $(of $other:ident)?: $new:expr;)*) => {
         $(
             $(#[$doc])*
             #[derive(Clone)]
-            pub struct $Name<'a, B: BitBlock = u64>(Merge<'a, B, $first, $second, $both>);
+            pub struct $Name<'a, B: BitBlock = u64>(Walk<$Source>);
 
             impl<B: BitBlock> Iterator for $Name<'_, B> {
                 type Item = usize;
 
+                #[inline]
                 fn next(&mut self) -> Option<usize> {
                     self.0.next()
                 }
             }
-        )*
 
-        impl<B: BitBlock> BitSet<B> {
-            /// The elements in ascending order.
-            pub fn iter(&self) -> Iter<'_, B> {
-                Iter { set: self, group: [0; GROUP], at: 0, count: 0, from: 0 }
-            }
-
-            $(
+            impl<B: BitBlock> BitSet<B> {
                 $(#[$doc])*
-                pub fn $name<'a>(&'a self, other: &'a BitSet<B>) -> $Name<'a, B> {
-                    $Name(Merge { first: self.iter().peekable(), second: other.iter().peekable() })
+                pub fn $name<'a>(&'a self $(, $other: &'a BitSet<B>)?) -> $Name<'a, B> {
+                    let new: fn(&'a BitSet<B>, &'a BitSet<B>) -> $Source = $new;
+                    $Name(Walk::over(new(self, walks!(self $($other)?))))
                 }
-            )*
-        }
+            }
+        )*
     };
+    ($self:ident $other:ident) => { $other };
+    ($self:ident) => { $self };
 }
 
 walks! {
+    /// The elements, in ascending order.
+    Iter over One<'a, B>, iter: |set, _| One(set);
     /// What is in either set, in ascending order.
-    Union union true true true;
+    Union over Two<'a, B, true, true, true>, union of other: Two;
     /// What is in both sets, in ascending order.
-    Intersection intersection false false true;
+    Intersection over Two<'a, B, false, false, true>, intersection of other: Two;
     /// What is in the first set alone, in ascending order.
-    Difference difference true false false;
+    Difference over Two<'a, B, true, false, false>, difference of other: Two;
     /// What is in just one of two sets, in ascending order.
-    SymmetricDifference symmetric_difference true true false;
+    SymmetricDifference over Two<'a, B, true, true, false>, symmetric_difference of other: Two;
 }
 
 impl<'a, B: BitBlock> IntoIterator for &'a BitSet<B> {

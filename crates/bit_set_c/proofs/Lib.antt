@@ -1,4 +1,5 @@
 pub mod AsBox
+pub mod Blocks
 pub mod Loans
 pub mod Sets
 pub mod Values
