@@ -17,6 +17,8 @@ pub mod NotedMergeLemmas
 pub mod SpanLemmas
 pub mod SummarySpanLemmas
 pub mod RangeLemmas
+pub mod SpanCountLemmas
+pub mod RangeQueryLemmas
 pub mod CompareLemmas
 pub mod MismatchLemmas
 pub mod CapacityLemmas

@@ -1,7 +1,7 @@
 -- What merges with a span of true values do to the value at every index.
-use Rattle.std.proofs.{Common.{◌≡◌, ◌≢◌, ℕ, ◌+◌, ◌-◌, ◌*◌, ◌/◌, ◌%◌, ◌^◌, ◌<◌, ◌≤◌, Bool, true, false, ◌&&◌, nat_lt, nat_le, List, get_or, refl, sym, ap, ◌∙◌, arith, mod-lt, div-add-mod'}, lemmas.{Bool.Decides.nat_tests, Nat.div-mul-add}}
-use Rattle.bit_words.specs.{declared.block.merge.Merge.Merge, BlockMerges.IsMergedSpan, Digits.is_one, Merges.merge_of_values, Storage.value_at}
-use Rattle.bit_words.proofs.{Masks.is_one-ones, MergeLemmas.merge_of_values-none, StorageLemmas.value_at-is}
+use Rattle.std.proofs.{Common.{◌≡◌, ◌≢◌, ℕ, suc, ◌+◌, ◌-◌, ◌*◌, ◌/◌, ◌%◌, ◌^◌, ◌<◌, ◌≤◌, ◌↔◌, Bool, true, false, ◌&&◌, nat_lt, nat_le, List, get_or, refl, sym, ap, ◌∙◌, arith, mod-lt, div-add-mod', lt_of_mul-lt-mul_right}, lemmas.{Bool.Decides.nat_tests, Nat.div-mul-add}}
+use Rattle.bit_words.specs.{declared.block.merge.Merge.Merge, BlockMerges.{IsMergedSpan, MergesSpanToFalse}, Digits.is_one, Merges.merge_of_values, Storage.value_at}
+use Rattle.bit_words.proofs.{ChangeLemmas.div_le, Masks.is_one-ones, MergeLemmas.merge_of_values-none, StorageLemmas.{value_at-index, value_at-is}}
 
 -- an index in a block
 pub in_block : (w k i : ℕ) → k * w ≤ i → i < k * w + w → i / w ≡ k
@@ -10,6 +10,16 @@ in_block w k i from to = ap (λ x. x / w) (let e : i ≡ k * w + (i - k * w) = o
 -- an index, by its block and its place there
 pub parts : (w i k p : ℕ) → k ≡ i / w → p ≡ i % w → i ≡ k * w + p
 parts w i k p block place = sym (div-add-mod' i w) ∙ rw (block, place) refl
+
+-- the last block of a span, where it is not the first
+pub past_first : (w a b k q : ℕ) → 0 < w → k ≡ a / w → q ≡ b / w → a < b → k ≢ q → k + 1 ≤ q
+past_first w a b k q pos first last some other = omega (arith, div_le w a b pos (omega arith))
+
+-- the blocks before the end of a span are blocks of the list
+pub end_within : (w b q p n : ℕ) → 0 < w → b ≡ q * w + p → b ≤ n * w → q ≤ n
+end_within w b q p n pos end within =
+    let l : q < suc n = lt_of_mul-lt-mul_right w (let e : q * w < suc n * w = omega arith in e) in
+    omega arith
 
 -- ---- masks, whose ones are a span of block k
 
@@ -66,3 +76,30 @@ module _ (m : Merge) (w : ℕ) where
         before = λ i below. grind (arith, nat_tests, value i, other i, stays (value_at w ms i) keeps);
         after = λ i past. grind (arith, nat_tests, value i, other i, stays (value_at w ms i) keeps);
       }
+
+  none_of : (x : Bool) → merge_of_values m false true ≡ false → merge_of_values m false x ≡ false
+  none_of true nothing = nothing
+  none_of false nothing = merge_of_values-none m
+
+  -- ---- whether true and the values of a span merge to false
+
+  pub false-parts : (a b c p q : ℕ) (ms : List ℕ) → p ≡ b → q ≡ c → MergesSpanToFalse m w a b ms → MergesSpanToFalse m w p q ms → MergesSpanToFalse m w a c ms
+  false-parts a b c p q ms from to first second = record { value = λ i reached below. grind (arith, nat_tests, first.value i reached, second.value i) }
+
+  pub false-within : (a b p q : ℕ) (ms : List ℕ) → a ≤ p → q ≤ b → MergesSpanToFalse m w a b ms → MergesSpanToFalse m w p q ms
+  false-within a b p q ms from to is = record { value = λ i reached below. is.value i (omega arith) (omega arith) }
+
+  -- by a block and a mask, whose ones are the span
+  pub false_of_mask : (k a b mask : ℕ) (ms : List ℕ) → 0 < w → merge_of_values m false true ≡ false → k * w ≤ a → b ≤ (k + 1) * w → ((j : ℕ) → j < w → is_one mask j ≡ (nat_le a (k * w + j) && nat_lt (k * w + j) b))
+      → ((j : ℕ) → j < w → merge_of_values m (is_one mask j) (is_one (get_or ms k 0) j) ≡ false) ↔ MergesSpanToFalse m w a b ms
+  false_of_mask k a b mask ms pos nothing from to ones = (
+    λ zero. record { value = λ i reached below.
+        let here = in_block w k i (omega arith) (omega arith) in
+        let index : k * w + i % w ≡ i = ap (λ q. q * w + i % w) (sym here) ∙ div-add-mod' i w in
+        let read : value_at w ms i ≡ is_one (get_or ms k 0) (i % w) = value_at-is w ms i ∙ ap (λ q. is_one (get_or ms q 0) (i % w)) here in
+        grind (arith, nat_tests, zero (i % w) (mod-lt i pos), ones (i % w) (mod-lt i pos)) },
+    λ is j index.
+        let read = value_at-index w ms k j index in
+        let other : (x : Bool) → merge_of_values m false x ≡ false = λ x. none_of x nothing in
+        grind (arith, nat_tests, ones j index, is.value (k * w + j), other (is_one (get_or ms k 0) j)),
+  )

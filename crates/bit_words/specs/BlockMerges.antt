@@ -30,6 +30,10 @@ pub record IsMergedSpan (merge : Merge) (w a b : ℕ) (ms ns : List ℕ) : Type 
   pub before : (i : ℕ) → i < a → value_at w ns i ≡ value_at w ms i
   pub after : (i : ℕ) → b ≤ i → value_at w ns i ≡ value_at w ms i
 
+-- true and each of the values from a on and below b of the blocks ms merge to false
+pub record MergesSpanToFalse (merge : Merge) (w a b : ℕ) (ms : List ℕ) : Type 0 where
+  pub value : (i : ℕ) → a ≤ i → i < b → merge_of_values merge true (value_at w ms i) ≡ false
+
 -- The blocks xs can be merged with the blocks os: these are no more.
 pub record CanMerge {X : Type 0} (is_block : X → Type 0) (xs os : List X) : Type 0 where
   pub fewer : length os ≤ length xs

@@ -11,6 +11,7 @@ pub(crate) mod noted_merges;
 pub(crate) mod ones;
 pub(crate) mod resizing;
 pub(crate) mod searching;
+pub(crate) mod span_queries;
 pub(crate) mod spans;
 pub(crate) mod tail_copies;
 pub(crate) mod zeros;

@@ -1,10 +1,11 @@
 // Calls on the values in a range of indexes.
-ghost use Rattle.std.specs.Prelude.{◌≡◌, ◌<◌, ◌≤◌, length, not};
-ghost use Rattle.bit_words.specs.Ranges.{changed_in_range};
+ghost use Rattle.std.specs.{Prelude.{◌≡◌, ◌≢◌, ℕ, ◌<◌, ◌≤◌, ◌↔◌, IsTrue, Some, false, length, not, slice_get, true}, List.count_by};
+ghost use Rattle.bit_words.specs.Ranges.{changed_in_range, values_in_range};
 
 use crate::bit_vec::BitVec;
 use crate::block::BitBlock;
-use crate::block::operation::{Difference, Union};
+use crate::block::operation::{Difference, Intersection, Union};
+use crate::packed::span_queries::{ones_in_span, span_merges_to_false};
 use crate::summary::spans::{fill_span, negate_span};
 use std::ops::Range;
 
@@ -41,5 +42,44 @@ impl<B: BitBlock> BitVec<B> {
         if range.start < range.end {
             negate_span(&mut self.blocks, &mut self.summary, range.start, range.end);
         }
+    }
+
+    /// How many values in the range are true; indexes past the list count for none. Reads each block of the range once,
+    /// and no other.
+    pub fn count_ones_in_range(&self, range: Range<usize>) -> usize
+        ensures { result ≡ count_by (λ value. value) (values_in_range range.start range.end self.now.values) }
+    {
+        let end = range.end.min(self.len);
+        if range.start >= end {
+            return 0;
+        }
+        ones_in_span(&self.blocks, range.start, end)
+    }
+
+    /// Whether each index in the range has a true value, and so whether the range is empty or the list is long enough
+    /// and true in it. Reads blocks of the range up to the first that has a false value there.
+    pub fn all_in_range(&self, range: Range<usize>) -> bool
+        ensures { IsTrue result
+            ↔ ((i : ℕ) → range.start ≤ i → i < range.end → slice_get self.now.values i ≡ Some true) }
+    {
+        if range.start >= range.end {
+            return true;
+        }
+        if range.end > self.len {
+            return false;
+        }
+        span_merges_to_false::<B, Difference>(&self.blocks, range.start, range.end)
+    }
+
+    /// Whether an index in the range has a true value. Reads blocks of the range up to the first that has one there.
+    pub fn any_in_range(&self, range: Range<usize>) -> bool
+        ensures { (result ≡ false)
+            ↔ ((i : ℕ) → range.start ≤ i → i < range.end → slice_get self.now.values i ≢ Some true) }
+    {
+        let end = range.end.min(self.len);
+        if range.start >= end {
+            return false;
+        }
+        !span_merges_to_false::<B, Intersection>(&self.blocks, range.start, end)
     }
 }

@@ -1,5 +1,5 @@
 use Rattle.std.proofs.Common.{◌≡◌, ◌≢◌, ℕ, ◌≤◌, ◌+◌, ◌*◌, ◌/◌, ◌%◌, ◌<◌, refl, arith, map, mul-le-mul_right}
-use Rattle.bit_words.{specs.BlockMerges.IsMergedSpan, proofs.{ChangeLemmas.div_le, SpanLemmas.{mask_below, mask_between, mask_from, parts, span_more, span_of_mask}}}
+use Rattle.bit_words.{specs.BlockMerges.IsMergedSpan, proofs.{SpanLemmas.{mask_below, mask_between, mask_from, parts, past_first, span_more, span_of_mask}}}
 use Rattle.bit_words.proofs.packed.spans.merge_in.{Given.Over, Goals.After-merge_whole}
 use Rattle.bit_words.proofs.packed.spans.merge_in.Goals as goal
 
@@ -15,9 +15,7 @@ returns-then-first-last-clause-span g c =
 -- a span that ends in another block than its first has some of it before that
 last_past : (w a b k q p : ℕ) → 0 < w → k ≡ a / w → p ≡ a % w → p < w → q ≡ b / w → a < b → k ≢ q → a ≤ q * w
 last_past w a b k q p pos first low within last some other =
-    let le = div_le w a b pos (omega arith) in
-    let past : k + 1 ≤ q = omega arith in
-    omega (arith, mul-le-mul_right w past, parts w a k p first low)
+    omega (arith, mul-le-mul_right w (past_first w a b k q pos first last some other), parts w a k p first low)
 
 -- the first block, and the whole ones after it
 begun : (g : Over) (c : After-merge_whole g) → IsMergedSpan g.O.Operation.merge g.B.BitBlock.width c.args.start (c.block_index-last.result * g.B.BitBlock.width) (map g.B.BitBlock.number c.args.blocks.now) (map g.B.BitBlock.number c.merge_whole.new.blocks)
@@ -27,9 +25,7 @@ begun g c =
     let first = c.block_index-first.result in
     let last = c.block_index-last.result in
     let start = parts w c.args.start first _ c.block_index-first.ensures c.bit_index-low.ensures.value in
-    let le = div_le w c.args.start c.args.end g.met.B.BitBlock.width_law.positive (omega arith) in
-    let past : first + 1 ≤ last = omega (arith, c.if-first-last.false) in
-    let more = mul-le-mul_right w past in
+    let more = mul-le-mul_right w (past_first w c.args.start c.args.end first last g.met.B.BitBlock.width_law.positive c.block_index-first.ensures c.block_index-last.ensures c.requires.some c.if-first-last.false) in
     let one = span_of_mask m w first c.args.start ((first + 1) * w) _ _ _ g.met.B.BitBlock.width_law.positive c.requires.keeps (omega arith) (omega arith) c.merge_mask-2.ensures.digits c.merge_mask-2.ensures.others (mask_from w c.args.start first _ _ c.block_index-first.ensures c.bit_index-low.ensures.value c.ones_from.ensures.digits) in
     span_more m w c.args.start ((first + 1) * w) (last * w) _ _ _ _ _ (omega arith) more refl refl one c.merge_whole.ensures.span
 
