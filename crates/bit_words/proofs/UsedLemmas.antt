@@ -1,26 +1,40 @@
 -- Which of the blocks of a list a block of its summary says are not 0, as it is made.
-use Rattle.std.proofs.{Common.{◌≡◌, ◌≢◌, ℕ, ◌+◌, ◌-◌, ◌<◌, List, map, get_or, ◌∙◌, arith, ⊎_elim}, lemmas.Bool.{cases_lt, Decides.nat_tests}}
-use Rattle.bit_words.{specs.{Digits.{IsEither, IsShiftedLeft, is_one}, Summary.{is_used, SaysUsed}}, proofs.Masks.is_one-either}
+use Rattle.std.proofs.{Common.{◌≡◌, ◌≢◌, ℕ, ◌+◌, ◌-◌, ◌<◌, Bool, ◌&&◌, ◌||◌, ◌==◌, nat_lt, List, map, get_or, sym, ap, ap₂, ◌∙◌, arith, ⊎_elim}, Math.Bool.or-false, lemmas.Bool.{cases_eq, cases_lt, Decides.nat_tests}}
+use Rattle.bit_words.{specs.{Digits.{IsEither, IsShiftedLeft, is_one}, Summary.{is_used, SaysUsed}}, proofs.{Masks.is_one-either, TestLemmas.{above_and, below_and}}}
 
 module _ {X : Type 0} (w : ℕ) (f : X → ℕ) (P : X → Type 0) where
   -- of one block more
   pub says_more : (start k : ℕ) (xs : List X) (m n : X) → SaysUsed w f P xs start k m → P n → is_one (f n) k ≡ is_used (map f xs) (start + k) → ((q : ℕ) → q < w → q ≢ k → is_one (f n) q ≡ is_one (f m) q) → SaysUsed w f P xs start (k + 1) n
-  says_more start k xs m n before of_block here others = record {
-    of_block = of_block;
-    digit = λ q within. grind (arith, nat_tests, before.digit q within, others q within);
-  }
+  says_more start k xs m n before of_block here others =
+      let used : ℕ → Bool = λ q. is_used (map f xs) (start + q) in
+      record {
+        of_block = of_block;
+        digit = λ q within.
+            ⊎_elim
+            (λ e. ap (is_one (f n)) e ∙ here ∙ sym (ap used e) ∙ sym (below_and (k + 1) q (used q) (omega arith)))
+            (λ ne.
+            let same : nat_lt q k ≡ nat_lt q (k + 1) = grind (arith, nat_tests) in
+            others q within ne ∙ before.digit q within ∙ ap (λ t. t && used q) same)
+            (cases_eq q k);
+      }
 
   -- of a group more, whose digits are moved to their place
   pub says_group : (start from k c d : ℕ) (xs : List X) (m p s r : X) → from ≡ start + k → d ≡ k + c → SaysUsed w f P xs start k m → SaysUsed w f P xs from c p → IsShiftedLeft w (f p) k (f s) → IsEither w (f m) (f s) (f r) → P r → SaysUsed w f P xs start d r
-  says_group start from k c d xs m p s r e last before group moved either of_block = record {
-    of_block = of_block;
-    digit = λ j within.
-        is_one-either w (f m) (f s) (f r) j either within
-        ∙ ⊎_elim
-        (λ low. grind (arith, nat_tests, before.digit j within, moved.zeros j low))
-        (λ high. let back : j - k + k ≡ j = omega arith in grind (arith, nat_tests, back, before.digit j within, group.digit (j - k), moved.moved (j - k)))
-        (cases_lt j k);
-  }
+  says_group start from k c d xs m p s r e last before group moved either of_block =
+      let used : ℕ → Bool = is_used (map f xs) in record {
+        of_block = of_block;
+        digit = λ j within.
+            is_one-either w (f m) (f s) (f r) j either within
+            ∙ ⊎_elim
+            (λ low. rw (before.digit j within, below_and k j (used (start + j)) low, below_and d j (used (start + j)) (omega arith), ap (λ x. x == 1) (moved.zeros j low)) (or-false _))
+            (λ high.
+            let back : j - k + k ≡ j = omega arith in
+            let same : nat_lt (j - k) c ≡ nat_lt j d = grind (arith, nat_tests) in
+            let index : from + (j - k) ≡ start + j = omega arith in
+            let digit : is_one (f s) j ≡ is_one (f p) (j - k) = rw back at (ap (λ x. x == 1) (moved.moved (j - k) (omega arith))) in
+            ap₂ (λ x y. x || y) (before.digit j within ∙ above_and k j (used (start + j)) high) (digit ∙ group.digit (j - k) (omega arith) ∙ ap₂ (λ t x. t && used x) same index))
+            (cases_lt j k);
+      }
 
   -- where a block past those is written
   pub says_kept : (start k : ℕ) (xs ys : List X) (m : X) → ((q : ℕ) → q < start + k → get_or (map f ys) q 0 ≡ get_or (map f xs) q 0) → SaysUsed w f P xs start k m → SaysUsed w f P ys start k m
