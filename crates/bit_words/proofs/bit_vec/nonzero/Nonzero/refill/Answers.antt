@@ -1,4 +1,4 @@
-use Rattle.std.proofs.{Common.{◌*◌, true, false, refl, sym, ap, ◌∙◌, arith, rules}, lemmas.Bool.{true≢false, Decides.nat_tests}}
+use Rattle.std.proofs.{Common.{◌*◌, refl, sym, ap, ◌∙◌, arith, rules}, lemmas.Bool.{true≢false, Decides.nat_tests}}
 use Rattle.bit_words.proofs.bit_vec.nonzero.Nonzero.refill.Goals as goal
 
 pub returns-then-is_nonzero-clause-refills : goal.returns-then-is_nonzero-clause-refills
