@@ -2,7 +2,7 @@
 use Rattle.std.proofs.Common.{◌≡◌, ℕ, zero, suc, ◌+◌, ◌-◌, ◌*◌, ◌/◌, ◌%◌, ◌^◌, ◌<◌, ◌≤◌, Bool, false, ◌&&◌, leb, List, ◌∷◌, map, length, drop, get_or, get_or-drop, min, All, refl, sym, ap, ◌∙◌, arith, mod-lt, mul-le-mul_right, div-add-mod'}
 use Rattle.std.proofs.lemmas.{Bool.Decides.nat_tests, List.{drop-map, get_or_past, length-drop, length-map, Elements.All-filter, Sums.{count_by-le-length, length-filter}}, Nat.Bits.bit_at-zero}
 use Rattle.bit_words.specs.{Bits.{blocks_for, blocks_of}, Nonzero.{Nonzeros, StartsPast}, Digits.is_one}
-use Rattle.bit_set.{specs.{Sets.{elements_from, elements, those_from}, Indexes.{indexes, values_in, IsSparseWalk}, Walk.{Walk, IsAtStart, IsAtStartFrom}}, proofs.IndexLemmas.{indexes-next, value_in, values_in-blocks_of}}
+use Rattle.bit_set.{specs.{Sets.{elements_from, elements, those_from}, Indexes.{indexes, values_in, IsSparseWalk}, Walk.{Walk, IsAtStart, IsAtStartFrom, IsAtFirstBlock, IsAtBlockOf}}, proofs.IndexLemmas.{indexes-next, value_in, values_in-blocks_of}}
 use Rattle.bit_set.proofs.{SetLemmas.{AscendsFrom-elements_from, AscendsFrom-filter, AscendsFrom-lower, has-filter, IsAscending-elements, has-below, has-elements, has-elements_from, same_members}, SparseLemmas.seen}
 use Rattle.bit_set.proofs.{SparseLemmas.whole_index, SplitLemmas.all_from, WalkLemmas.{IsWalkable-values_of_blocks, elements-values_of_blocks, values_of_blocks, length-blocks, length-values_of_blocks}}
 
@@ -85,6 +85,7 @@ pub record BeginsFrom {X : Type 0} (w : ℕ) (number : X → ℕ) (is_block : X 
 
 pub begins_from : {X : Type 0} (w : ℕ) (number : X → ℕ) (is_block : X → Type 0) (values : List Bool) (from k : ℕ) (block : X) (it : Nonzeros X) → 0 < w → IsPast w number is_block values k it → is_block block → IsCut w number it.blocks from k (number block)
     → BeginsFrom w number is_block values from (k * w) block it (seen w number is_block (k * w) block it)
+unfolding IsAtBlockOf
 begins_from w number is_block values from k block it pos is lawful cut =
     let n = length it.blocks in
     let rest = drop (k + 1) it.blocks in
@@ -113,16 +114,19 @@ begins_from w number is_block values from k block it pos is lawful cut =
       };
       start = record {
         left = rw index_is left;
-        pulls = is.start.pulls;
-        index = ap (λ i. i * w) first;
-        blocks = rw index_is (omega (arith, length-drop (k + 1) it.blocks, many, cut.at));
-        summary = let at = ap (λ i. i / w) first in let chunks = ap (blocks_for w) many in omega (arith, is.start.summary_pulls, is.start.summary_left, at, chunks);
         count_fits = rw (index_is, left) few;
+        at = record {
+          pulls = is.start.pulls;
+          index = ap (λ i. i * w) first;
+          blocks = rw index_is (omega (arith, length-drop (k + 1) it.blocks, many, cut.at));
+          summary = let at = ap (λ i. i / w) first in let chunks = ap (blocks_for w) many in omega (arith, is.start.summary_pulls, is.start.summary_left, at, chunks);
+        };
       };
     }
 
 -- from 0 on it is the walk over all
 pub starts_at_all : (w : ℕ) (values : List Bool) (t : Walk) → 0 < w → IsAtStartFrom w values 0 t → IsAtStart w values t
+unfolding IsAtFirstBlock IsAtBlockOf
 starts_at_all w values t pos start =
     let all = all_from values in
     let zero_index : 0 / w ≡ 0 = ap (λ n. n / w) (let e : 0 ≡ 0 * w = omega arith in e) ∙ whole_index w 0 pos in

@@ -3,7 +3,7 @@ use Rattle.std.proofs.Common.{◌≡◌, ℕ, ◌+◌, ◌-◌, ◌*◌, ◌/◌
 use Rattle.std.proofs.lemmas.{Bool.{cases_eq, true≢false, cond_both, eqb-true, eqb-false, ne_eqb, eq-eqb, Decides.nat_tests}, Nat.{div-mul-add, ones_le_self}, List.{drop_all, length-drop, Elements.{All-drop, All-head}}}
 use Rattle.std.proofs.{lemmas.List.{Elements.All-tail, Sums.sum_by-cons}, Math.{Seq.drop-drop, Nat.mul-div_cancel}}
 use Rattle.bit_words.specs.{Lowest.{IsLowest, IsCleared}, Nonzero.{Nonzeros, PullsNonzero, Refills, nonzero_from, ones_left}}
-use Rattle.bit_set.{specs.{Sets.{AscendsFrom, elements_from, elements}, Indexes.{indexes, past_block, IsSparseWalk}, Walk.{Walk, Advances}}, proofs.{MemberLemmas.takes_least, IndexLemmas.AscendsFrom-indexes}}
+use Rattle.bit_set.{specs.{Sets.{AscendsFrom, elements_from, elements}, Indexes.{indexes, past_block, IsSparseWalk}, Walk.{Walk, Advances, PullsBlocks}}, proofs.{MemberLemmas.takes_least, IndexLemmas.AscendsFrom-indexes}}
 use Rattle.bit_set.proofs.{IndexLemmas.{indexes-zero, indexes-next, indexes-lowest, length-indexes, length-elements-block}, WalkLemmas.{values_of_blocks, length-values_of_blocks, CanWalk-taken, CanWalk-moved}}
 
 -- ---- the first block that is not 0
@@ -134,6 +134,7 @@ module _ {X : Type 0} (w : ℕ) (number : X → ℕ) (is_block : X → Type 0) (
 
   ends : (index : ℕ) (block x : X) (s t : Nonzeros X) → IsSparseWalk w number is_block index block s → number block ≡ 0 → is_block x → number x ≡ 0 → PullsNonzero s None t
       → IsSparseWalk w number is_block ((length s.blocks - 1) * w) x t × Advances w (seen w number is_block index block s) None (seen w number is_block ((length s.blocks - 1) * w) x t)
+  unfolding PullsBlocks
   ends index block x s t is used_up lawful nothing pull =
       let n = length s.blocks - 1 in
       let none : drop (n + 1) s.blocks ≡ [] = drop_all (n + 1) s.blocks (omega arith) in
@@ -144,12 +145,14 @@ module _ {X : Type 0} (w : ℕ) (number : X → ℕ) (is_block : X → Type 0) (
         record {
           item = (ended, to.same ∙ ended);
           first = tt;
-          goes_on = omega (arith, pull.counted);
-          pulled = omega (arith, pull.counted);
-          along = to.along;
-          at = omega (arith, to.fewer, whole_index w n pos, length-drop (index / w + 1) s.blocks, is.inside);
-          sparse = pull.counted;
-          summary = pull.summary;
+          pulls = record {
+            goes_on = omega (arith, pull.counted);
+            pulled = omega (arith, pull.counted);
+            along = to.along;
+            at = omega (arith, to.fewer, whole_index w n pos, length-drop (index / w + 1) s.blocks, is.inside);
+            sparse = pull.counted;
+            summary = pull.summary;
+          };
         },
       )
 
@@ -182,6 +185,7 @@ module _ {X : Type 0} (w : ℕ) (number : X → ℕ) (is_block : X → Type 0) (
   -- the lowest one of the block that was reached is taken
   pub given_one : (s : Walk) (index i : ℕ) (block r : X) (it : Nonzeros X) → Reaches w number is_block s index block it (seen w number is_block index block it) → is_block r
       → IsLowest (number block) i → i < w → IsCleared w (number block) i (number r) → IsSparseWalk w number is_block index r it × (index + i < 2 ^ 64) × Advances w s (Some (index + i)) (seen w number is_block index r it)
+  unfolding PullsBlocks
   given_one s index i block r it to lawful low within cleared =
       let is = to.moved.walk in
       let ahead = past_block w number index it.blocks it.pulls in
@@ -193,16 +197,18 @@ module _ {X : Type 0} (w : ℕ) (number : X → ℕ) (is_block : X → Type 0) (
         record {
           item = item;
           first = takes_least index s.left (index + i) _ (subst (AscendsFrom index) to.moved.same (AscendsFrom-indexes w index (number block) ahead.values)) item;
-          goes_on = omega (arith, to.pulls);
-          pulled = pulls_by (s.index / w) (index / w) it.pulls s.pulls _ _ to.moved.onward to.pulls to.moved.fewer;
-          along = to.moved.along;
-          at = (omega arith, omega (arith, within));
-          sparse = record {
-            onward = omega (arith, to.moved.onward, index_is);
-            index = is.whole ∙ ap (λ n. n * w) (sym index_is);
-            pulls = to.pulls ∙ ap (λ n. s.pulls + (if s.index / w == n then 0 else 1)) (sym index_is);
+          pulls = record {
+            goes_on = omega (arith, to.pulls);
+            pulled = pulls_by (s.index / w) (index / w) it.pulls s.pulls _ _ to.moved.onward to.pulls to.moved.fewer;
+            along = to.moved.along;
+            at = (omega arith, omega (arith, within));
+            sparse = record {
+              onward = omega (arith, to.moved.onward, index_is);
+              index = is.whole ∙ ap (λ n. n * w) (sym index_is);
+              pulls = to.pulls ∙ ap (λ n. s.pulls + (if s.index / w == n then 0 else 1)) (sym index_is);
+            };
+            summary = to.summary;
           };
-          summary = to.summary;
         },
       )
 

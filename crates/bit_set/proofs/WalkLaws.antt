@@ -3,7 +3,7 @@ use Rattle.std.proofs.Common.{◌≡◌, ℕ, ◌+◌, ◌-◌, ◌*◌, ◌/◌
 use Rattle.std.proofs.{Math.{Bool.{or-false, and-false}, Nat.{mod-lt, lt_of_mul-lt-mul_left, zero-div}, Seq.{drop-append_seam, take-append_seam}}, lemmas.{Nat.le-div, Bool.{ne_eqb, cond_both, ltb-true}}}
 use Rattle.std.{proofs.lemmas.{Bool.Decides.nat_tests, List.append-nil}, specs.Iterator.{Yields, YieldsFirst, YieldsThen, Drains}}
 use Rattle.bit_words.specs.{Bits.blocks_for, declared.block.merge.Merge.Merge}
-use Rattle.bit_set.specs.{Agreement.WalksAgree, Sets.{IsAscending, has, elements, put_all, merge_of_sets, AscendsFrom}, Walk.{Walk, TwoSetWalk, Advances, AdvancesByEach, IsWalkedOut, IsWalkedOutByEach, IsAtStart}}
+use Rattle.bit_set.specs.{Agreement.WalksAgree, Sets.{IsAscending, has, elements, put_all, merge_of_sets, AscendsFrom}, Walk.{Walk, TwoSetWalk, Advances, PullsBlocks, PullsEachBlock, IsAtFirstBlock, IsAtFirstBlocks, AdvancesByEach, IsWalkedOut, IsWalkedOutByEach, IsAtStart}}
 use Rattle.bit_set.{specs.Walk.{StartsOverTwo, WalksOverTwo, blocks_past}, proofs.{SetLemmas.{same_members, IsAscending-elements}, SetLaws.{has-put_all, IsAscending-put_all}}}
 use Rattle.bit_set.proofs.{AlgebraLemmas.IsAscending-merge_of_sets, SparseLemmas.whole_index}
 
@@ -53,15 +53,17 @@ module _ {S : Type 0} (w : ℕ) (index blocks : S → ℕ) (steps : S → Option
 
 module _ (w : ℕ) where
   pub walked_out : (s t : Walk) (items : List ℕ) → YieldsThen (Advances w) s items None t → IsWalkedOut s items t
+  unfolding PullsBlocks
   walked_out s t items run =
       let all = all_left (λ u. u.left) (Advances w) (λ u v r step. step.item) s t items run in
-      let passed = kept (Advances w) (λ u. u.pulls + u.blocks ≤ s.pulls + s.blocks) (λ u v x step le. omega (arith, step.pulled, le)) s run.0 items run.1 (omega arith) in
-      record { all = all.0; ended = all.1; pulled = let last = run.2.pulled in omega (arith, last, passed) }
+      let passed = kept (Advances w) (λ u. u.pulls + u.blocks ≤ s.pulls + s.blocks) (λ u v x step le. omega (arith, step.pulls.pulled, le)) s run.0 items run.1 (omega arith) in
+      record { all = all.0; ended = all.1; pulled = let last = run.2.pulls.pulled in omega (arith, last, passed) }
 
   pub walked_whole : (values : List Bool) (s t : Walk) (items : List ℕ) → IsAtStart w values s → YieldsThen (Advances w) s items None t → (items ≡ elements values) × (t.pulls ≤ max 1 (blocks_for w (length values)) + 1)
+  unfolding IsAtFirstBlock
   walked_whole values s t items start run =
       let out = walked_out s t items run in
-      (out.all ∙ start.left, omega (arith, out.pulled, start.pulls, start.blocks))
+      (out.all ∙ start.left, omega (arith, out.pulled, start.at.pulls, start.at.blocks))
 
   pub none_for_good : (s t : Walk) (r : Option ℕ) → s.left ≡ [] → Advances w s r t → (r ≡ None) × (t.left ≡ [])
   none_for_good = none_after (λ u. u.left) (Advances w) (λ u v r step. step.item)
@@ -70,8 +72,9 @@ module _ (w : ℕ) where
   counted s items run = ap length (walked_out s run.0 items run.1).all
 
   pub in_hand : 0 < w → (values : List Bool) (s t : Walk) (items : List ℕ) (x : ℕ) → IsAtStart w values s → YieldsThen (Advances w) s items (Some x) t → t.blocks ≡ blocks_for w (length values) - 1 - x / w
+  unfolding PullsBlocks IsAtFirstBlock
   in_hand pos values s t items x start run =
-      in_hand_of w (λ u. u.index) (λ u. u.blocks) (Advances w) (λ u v r step. step.along) (λ u v y step. step.at) (blocks_for w (length values) - 1) s t items x pos start.index start.blocks run
+      in_hand_of w (λ u. u.index) (λ u. u.blocks) (Advances w) (λ u v r step. step.pulls.along) (λ u v y step. step.pulls.at) (blocks_for w (length values) - 1) s t items x pos start.at.index start.at.blocks run
 
   pub full_walk : (a : List Bool) (s t : Walk) (items : List ℕ) → IsAtStart w a s → YieldsThen (Advances w) s items None t → t.pulls ≤ blocks_for w (length a) + 2
   full_walk a s t items start run = let whole = (walked_whole a s t items start run).1 in omega arith
@@ -80,23 +83,26 @@ module _ (w : ℕ) where
 
 module _ {S : Type 0} (w : ℕ) (walk : S → TwoSetWalk) (next : S → Option ℕ → S → Type 0) (pos : 0 < w) (each : (s t : S) (r : Option ℕ) → next s r t → AdvancesByEach w (walk s) r (walk t)) where
   pub out : (s t : S) (items : List ℕ) → YieldsThen next s items None t → IsWalkedOutByEach (walk s) items (walk t)
+  unfolding PullsEachBlock
   out s t items run =
       let all = all_left (λ u. (walk u).left) next (λ u v r step. (each u v r step).item) s t items run in
-      let passed = kept next (λ u. (walk u).pulls + (walk u).blocks ≡ (walk s).pulls + (walk s).blocks) (λ u v x step is. (each u v (Some x) step).pulled ∙ is) s run.0 items run.1 refl in
-      record { all = all.0; ended = all.1; pulled = let last = (each run.0 t None run.2).pulled in omega (arith, last, passed) }
+      let passed = kept next (λ u. (walk u).pulls + (walk u).blocks ≡ (walk s).pulls + (walk s).blocks) (λ u v x step is. (each u v (Some x) step).pulls.pulled ∙ is) s run.0 items run.1 refl in
+      record { all = all.0; ended = all.1; pulled = let last = (each run.0 t None run.2).pulls.pulled in omega (arith, last, passed) }
 
   pub over_two : (merge : Merge) → WalksOverTwo w merge walk next
+  unfolding PullsEachBlock IsAtFirstBlocks
   over_two merge = record {
     rest = out;
-    whole = λ a b s t items left start run. let ended = out s t items run in (ended.all ∙ left, omega (arith, ended.pulled, start.pulls, start.blocks));
+    whole = λ a b s t items left start run. let ended = out s t items run in (ended.all ∙ left, omega (arith, ended.pulled, start.at.pulls, start.at.blocks));
     in_hand = λ a b s t items x start run.
-        in_hand_of w (λ u. (walk u).index) (λ u. (walk u).blocks) next (λ u v r step. (each u v r step).along) (λ u v y step. (each u v (Some y) step).at) (max (blocks_for w (length a)) (blocks_for w (length b)) - 1) s t items x pos start.index start.blocks run;
+        in_hand_of w (λ u. (walk u).index) (λ u. (walk u).blocks) next (λ u v r step. (each u v r step).pulls.along) (λ u v y step. (each u v (Some y) step).pulls.at) (max (blocks_for w (length a)) (blocks_for w (length b)) - 1) s t items x pos start.at.index start.at.blocks run;
     for_good = λ s t r. none_after (λ u. (walk u).left) next (λ u v q step. (each u v q step).item) s t r;
     count = λ s items run. ap length (out s run.0 items run.1).all;
   }
 
   pub full_walk_by_each : (a b : List Bool) (s t : S) (items : List ℕ) → StartsOverTwo w a b (walk s) → YieldsThen next s items None t → (walk t).pulls ≤ max (blocks_for w (length a)) (blocks_for w (length b)) + 2
-  full_walk_by_each a b s t items start run = let ended = out s t items run in omega (arith, ended.pulled, start.pulls, start.blocks)
+  unfolding IsAtFirstBlocks
+  full_walk_by_each a b s t items start run = let ended = out s t items run in omega (arith, ended.pulled, start.at.pulls, start.at.blocks)
 
 -- ---- walks over two block types
 
@@ -157,22 +163,25 @@ length-blocks_past w k x xs onward = grind (arith, nat_tests)
 -- ---- how often whole walks pull
 
 pub pulled_sparsely : (w : ℕ) (s t : Walk) (items : List ℕ) → 0 < w → YieldsThen (Advances w) s items None t → t.pulls ≡ s.pulls + length (blocks_past w (s.index / w) s.left) + 1
+unfolding PullsBlocks
 pulled_sparsely w s t [] pos run =
     let none = ap (λ xs. length (blocks_past w (s.index / w) xs)) (ap (λ walk. walk.left) run.1 ∙ run.2.item.0) in
-    omega (arith, run.2.sparse, ap (λ walk. walk.pulls) run.1, none)
+    omega (arith, run.2.pulls.sparse, ap (λ walk. walk.pulls) run.1, none)
 pulled_sparsely w s t (x ∷ xs) pos run =
     let mid = run.1.0 in
-    let found = run.1.1.sparse in
+    let found = run.1.1.pulls.sparse in
     let block : mid.index / w ≡ x / w = ap (λ n. n / w) found.index ∙ whole_index w (x / w) pos in
     rw run.1.1.item (omega (arith, rw block at (pulled_sparsely w mid t xs pos (run.0, run.1.2, run.2)), found.pulls, length-blocks_past w (s.index / w) x mid.left found.onward))
 
 pub pulled_whole : (w : ℕ) (values : List Bool) (s t : Walk) (items : List ℕ) → 0 < w → IsAtStart w values s → YieldsThen (Advances w) s items None t → t.pulls ≡ length (blocks_past w 0 (elements values)) + 2
+unfolding IsAtFirstBlock
 pulled_whole w values s t items pos start run =
-    let first : s.index / w ≡ 0 = ap (λ n. n / w) start.index ∙ zero-div w in
-    omega (arith, rw (first, start.left) at (pulled_sparsely w s t items pos run), start.pulls)
+    let first : s.index / w ≡ 0 = ap (λ n. n / w) start.at.index ∙ zero-div w in
+    omega (arith, rw (first, start.left) at (pulled_sparsely w s t items pos run), start.at.pulls)
 
 -- the summary's blocks are pulled once each, and once more at the end
 pub summary_pulled : (w : ℕ) (s t : Walk) (items : List ℕ) → YieldsThen (Advances w) s items None t → t.summary_pulls ≡ s.summary_pulls + s.summary_left + 1
+unfolding PullsBlocks
 summary_pulled w s t items run =
-    let passed = kept (Advances w) (λ u. u.summary_pulls + u.summary_left ≡ s.summary_pulls + s.summary_left) (λ u v x step is. step.summary ∙ is) s run.0 items run.1 refl in
-    omega (arith, run.2.summary.0, passed)
+    let passed = kept (Advances w) (λ u. u.summary_pulls + u.summary_left ≡ s.summary_pulls + s.summary_left) (λ u v x step is. step.pulls.summary ∙ is) s run.0 items run.1 refl in
+    omega (arith, run.2.pulls.summary.0, passed)

@@ -21,12 +21,9 @@ pub record FindsBlock (w : ℕ) (s : Walk) (x : ℕ) (t : Walk) : Type 0 where
   pub index : t.index ≡ x / w * w
   pub pulls : t.pulls ≡ s.pulls + (if s.index / w == x / w then 0 else 1)
 
--- A call of `next` on s gave r and left t, over blocks of w: the first of what was left, which is the least,
--- or None at the end, which stays. It pulled each block that it passed once at most, and once more where it found the
--- end. The block in hand is then the one that has the item, or the last.
-pub record Advances (w : ℕ) (s : Walk) (r : Option ℕ) (t : Walk) : Type 0 where
-  pub item : YieldsFirst (λ walk. walk.left) s r t
-  pub first : MatchOption r ⊤ (λ x. TakesLeast s.left x t.left)
+-- How a call of `next` that gave r went from s to t along blocks of w. It pulled each block that it passed once at most,
+-- and once more where it found the end. The block in hand is then the one that has the item, or the last.
+pub record Pulls (w : ℕ) (s : Walk) (r : Option ℕ) (t : Walk) : Type 0 where
   pub goes_on : s.pulls ≤ t.pulls
   pub pulled : MatchOption r (t.pulls ≤ s.pulls + s.blocks + 1) (λ _. t.pulls + t.blocks ≤ s.pulls + s.blocks)
   pub along : t.index + w * t.blocks ≡ s.index + w * s.blocks
@@ -34,6 +31,17 @@ pub record Advances (w : ℕ) (s : Walk) (r : Option ℕ) (t : Walk) : Type 0 wh
   pub sparse : MatchOption r (t.pulls ≡ s.pulls + 1) (λ x. FindsBlock w s x t)
   pub summary : MatchOption r ((t.summary_pulls ≡ s.summary_pulls + s.summary_left + 1) × (t.summary_left ≡ 0))
       (λ _. t.summary_pulls + t.summary_left ≡ s.summary_pulls + s.summary_left)
+
+-- the same, not opened where a proof does not ask for it: a loop over a set is about the elements alone
+unfoldable pub PullsBlocks : ℕ → Walk → Option ℕ → Walk → Type 0
+PullsBlocks w s r t = Pulls w s r t
+
+-- A call of `next` on s gave r and left t, over blocks of w: the first of what was left, which is the least,
+-- or None at the end, which stays.
+pub record Advances (w : ℕ) (s : Walk) (r : Option ℕ) (t : Walk) : Type 0 where
+  pub item : YieldsFirst (λ walk. walk.left) s r t
+  pub first : MatchOption r ⊤ (λ x. TakesLeast s.left x t.left)
+  pub pulls : PullsBlocks w s r t
 
 -- the blocks of w past block k that have one of the numbers, which ascend: each once, in order
 abbrev pub blocks_past : ℕ → ℕ → List ℕ → List ℕ
@@ -48,14 +56,22 @@ pub record TwoSetWalk : Type 0 where
   pub index : ℕ
   pub blocks : ℕ
 
--- A call of `next` on such a walk, which pulls each block that it passes just once, and once more where it finds the
--- end.
-pub record AdvancesByEach (w : ℕ) (s : TwoSetWalk) (r : Option ℕ) (t : TwoSetWalk) : Type 0 where
-  pub item : YieldsFirst (λ walk. walk.left) s r t
+-- How a call of `next` on such a walk that gave r went from s to t along blocks of w: it pulled each block that it passed
+-- just once, and once more where it found the end.
+pub record PullsEach (w : ℕ) (s : TwoSetWalk) (r : Option ℕ) (t : TwoSetWalk) : Type 0 where
   pub goes_on : s.pulls ≤ t.pulls
   pub pulled : MatchOption r (t.pulls ≡ s.pulls + s.blocks + 1) (λ _. t.pulls + t.blocks ≡ s.pulls + s.blocks)
   pub along : t.index + w * t.blocks ≡ s.index + w * s.blocks
   pub at : MatchOption r (t.blocks ≡ 0) (λ x. (t.index ≤ x) × (x < t.index + w))
+
+-- the same, shut like `PullsBlocks`
+unfoldable pub PullsEachBlock : ℕ → TwoSetWalk → Option ℕ → TwoSetWalk → Type 0
+PullsEachBlock w s r t = PullsEach w s r t
+
+-- A call of `next` on such a walk.
+pub record AdvancesByEach (w : ℕ) (s : TwoSetWalk) (r : Option ℕ) (t : TwoSetWalk) : Type 0 where
+  pub item : YieldsFirst (λ walk. walk.left) s r t
+  pub pulls : PullsEachBlock w s r t
 
 -- A walk went on to the next block or stayed, and what is left stayed.
 pub record GoesOn (w : ℕ) (s t : TwoSetWalk) : Type 0 where
@@ -87,36 +103,57 @@ pub record IsWalkedOutByEach (s : TwoSetWalk) (items : List ℕ) (t : TwoSetWalk
   pub ended : t.left ≡ []
   pub pulled : t.pulls ≡ s.pulls + s.blocks + 1
 
--- At the making of a walk over the elements of a list of truth values, in blocks of w. It has pulled one block, or
--- found that there is none.
-pub record IsAtStart (w : ℕ) (values : List Bool) (s : Walk) : Type 0 where
-  pub left : s.left ≡ elements values
+-- Where a walk over a list of truth values is at its making, in blocks of w. It has pulled one block, or found that there
+-- is none.
+pub record FirstPull (w : ℕ) (values : List Bool) (s : Walk) : Type 0 where
   pub pulls : s.pulls ≡ 1
   pub index : s.index ≡ 0
   pub blocks : s.blocks ≡ blocks_for w (length values) - 1
   pub summary : s.summary_pulls + s.summary_left ≡ max 1 (blocks_for w (blocks_for w (length values)))
-  -- so that the elements can be counted
-  pub count_fits : length s.left < 2 ^ 64
 
--- At the making of a walk over those elements that are `from` or above: the block of `from` is in hand, or the last
--- one where the list ends before it.
-pub record IsAtStartFrom (w : ℕ) (values : List Bool) (from : ℕ) (s : Walk) : Type 0 where
-  pub left : s.left ≡ those_from (elements values) from
+-- Where one is that begins at a number: the block of `from` is in hand, or the last one where the list ends before it.
+pub record FirstPullFrom (w : ℕ) (values : List Bool) (from : ℕ) (s : Walk) : Type 0 where
   pub pulls : s.pulls ≡ 1
   pub index : s.index ≡ min (from / w) (blocks_for w (length values) - 1) * w
   pub blocks : s.blocks ≡ blocks_for w (length values) - 1 - from / w
   pub summary : s.summary_pulls + s.summary_left ≡ max 1
       (blocks_for w (blocks_for w (length values)) - min (from / w) (blocks_for w (length values) - 1) / w)
-  pub count_fits : length s.left < 2 ^ 64
 
--- At the making of a walk over what two lists of truth values become, in blocks of w. It has pulled both once, and
--- has as many blocks to go as the longer one.
-pub record StartsOverTwo (w : ℕ) (a b : List Bool) (s : TwoSetWalk) : Type 0 where
+-- Where a walk over what two lists become is at its making. It has pulled both once, and has as many blocks to go as the
+-- longer one.
+pub record FirstPullOfTwo (w : ℕ) (a b : List Bool) (s : TwoSetWalk) : Type 0 where
   pub pulls : s.pulls ≡ 1
   pub index : s.index ≡ 0
   pub blocks : s.blocks ≡ max (blocks_for w (length a)) (blocks_for w (length b)) - 1
+
+-- these three, shut like `PullsBlocks`
+unfoldable pub IsAtFirstBlock : ℕ → List Bool → Walk → Type 0
+IsAtFirstBlock w values s = FirstPull w values s
+
+unfoldable pub IsAtBlockOf : ℕ → List Bool → ℕ → Walk → Type 0
+IsAtBlockOf w values from s = FirstPullFrom w values from s
+
+unfoldable pub IsAtFirstBlocks : ℕ → List Bool → List Bool → TwoSetWalk → Type 0
+IsAtFirstBlocks w a b s = FirstPullOfTwo w a b s
+
+-- At the making of a walk over the elements of a list of truth values, in blocks of w.
+pub record IsAtStart (w : ℕ) (values : List Bool) (s : Walk) : Type 0 where
+  pub left : s.left ≡ elements values
   -- so that the elements can be counted
   pub count_fits : length s.left < 2 ^ 64
+  pub at : IsAtFirstBlock w values s
+
+-- At the making of a walk over those elements that are `from` or above.
+pub record IsAtStartFrom (w : ℕ) (values : List Bool) (from : ℕ) (s : Walk) : Type 0 where
+  pub left : s.left ≡ those_from (elements values) from
+  pub count_fits : length s.left < 2 ^ 64
+  pub at : IsAtBlockOf w values from s
+
+-- At the making of a walk over what two lists of truth values become, in blocks of w.
+pub record StartsOverTwo (w : ℕ) (a b : List Bool) (s : TwoSetWalk) : Type 0 where
+  -- so that the elements can be counted
+  pub count_fits : length s.left < 2 ^ 64
+  pub at : IsAtFirstBlocks w a b s
 
 -- What whole walks over two sets give, in blocks of w. S is what contracts see of such a walk, and `walk` what that
 -- says of the walk itself.

@@ -1,5 +1,5 @@
 use Rattle.std.{proofs.Common.{◌-◌, refl, ap, ◌∙◌, arith}, specs.Option.unwrap_or}
-use Rattle.bit_set.{specs.Sets.elements, proofs.{MemberLemmas.members_merged, WalkLemmas.{IsBegun, begun}, walk.two_sets.TwoSets.over.Goals.After-zero}}
+use Rattle.bit_set.{specs.{Sets.elements, Walk.IsAtFirstBlocks}, proofs.{MemberLemmas.members_merged, WalkLemmas.{IsBegun, begun}, walk.two_sets.TwoSets.over.Goals.After-zero}}
 use Rattle.bit_set.proofs.walk.two_sets.TwoSets.over.Goals as goal
 
 at_start : (g : _) (c : After-zero g) →
@@ -19,11 +19,14 @@ pub returns-clause-members : goal.returns-clause-members
 returns-clause-members g c = members_merged g.O.Operation.merge (elements c.args.first.now.values) (elements c.args.second.now.values) _ (returns-clause-left g c)
 
 pub returns-clause-start : goal.returns-clause-start
+unfolding IsAtFirstBlocks
 returns-clause-start g c =
     let at = at_start g (goal.at.returns-clause-start g c).After-zero in
     rw c.unwrap_or-block.ensures (record {
-      pulls = omega (arith, c.pull_with_kind-pulled.ensures.steps.counted, c.over-source.ensures.pulls);
-      index = refl;
-      blocks = at.past ∙ ap (λ n. n - 1) (rw (c.get_ref.ensures, c.get_ref-2.ensures) at c.over-source.ensures.blocks);
       count_fits = at.walk.can.count_fits;
+      at = record {
+        pulls = omega (arith, c.pull_with_kind-pulled.ensures.steps.counted, c.over-source.ensures.pulls);
+        index = refl;
+        blocks = at.past ∙ ap (λ n. n - 1) (rw (c.get_ref.ensures, c.get_ref-2.ensures) at c.over-source.ensures.blocks);
+      };
     })
