@@ -1,5 +1,6 @@
 -- What a caller cites of sets that are made of chains.
-use Rattle.std.proofs.{Common.{◌≡◌, ℕ, ◌+◌, Bool, not, ◌&&◌, ltb, filter, Option, List, [], Result, Bor, refl, sym, ap, ◌∙◌, zero, suc, arith, length, subst}, iter.Yields.nat_range_steps, lemmas.Bool.Decides.nat_tests}
+use Rattle.std.proofs.{Common.{◌≡◌, ℕ, ◌+◌, ◌-◌, ◌<◌, ◌≤◌, Bool, not, ◌&&◌, ltb, filter, take, Option, List, [], ◌∷◌, Result, Bor, refl, sym, ap, ◌∙◌, zero, suc, append_assoc, arith, length, subst}, iter.Yields.nat_range_steps, lemmas.Bool.Decides.nat_tests}
+use Rattle.std.proofs.lemmas.{List.append-nil, List.Sums.{length-filter, count_by-le-length}}
 use Rattle.std.{proofs.lemmas.{Iterator.{YieldsList, YieldsList-from_range, Adapters.fact_from_collect, Consumers.{YieldsList-at, YieldsList-from_filter, YieldsList-from_shown}}, Result.IfOk-weaker}, specs.Prelude.IfOk}
 use Rattle.std.specs.{BTreeMap.{BTreeMap, get_by}, Fn.{Mut, CalledAt}, Iterator.{Drains, Adapters.{filter_source, filter_callee, filter_steps}}, List.range_with_len}
 use Rattle.bit_words.specs.Bits.{Bits}
@@ -40,3 +41,15 @@ pub same_key : {V : Type 0} (a b : Bits) (map : BTreeMap Bits V) → IsSameSet (
     → get_by (λ (t : Bits). order_of_sets (elements b.values) (elements t.values)) map ≡ get_by (λ (t : Bits). order_of_sets (elements a.values) (elements t.values)) map
 same_key a b map same =
     ap (λ l. get_by (λ (t : Bits). order_of_sets l (elements t.values)) map) (sym (same_members _ _ (IsAscending-elements a.values) (IsAscending-elements b.values) same))
+
+-- a test keeps no more than there is
+pub length-filter-le : (p : ℕ → Bool) (s : List ℕ) → length (filter p s) ≤ length s
+length-filter-le p s = omega (arith, length-filter p s, count_by-le-length p s)
+
+-- the front of a list that has a first
+pub take-first : (n x : ℕ) (xs : List ℕ) → 0 < n → take n (x ∷ xs) ≡ x ∷ take (n - 1) xs
+take-first zero x xs pos = absurd (omega arith)
+take-first (suc n) x xs pos = let less : n ≡ suc n - 1 = omega arith in ap (λ k. x ∷ take k xs) less
+
+-- what loops over a set use, for `grind`: a crate names it once, at its root
+pub ruleset set_steps = (nat_tests, length-filter-le, take-first, append_assoc, append-nil)

@@ -1,5 +1,5 @@
 //! Loops over sets. Each is proved by its invariant alone, but for those with an `Answers.antt` in `proofs/`.
-ghost use Rattle.std.specs.Prelude.{◌≡◌, ◌≢◌, ℕ, ◌+◌, ◌-◌, ◌<◌, ◌≤◌, ◌^◌, ◌%◌, ◌==◌, ◌&&◌, ◌↔◌, false, nat_le, sum, Any, IfErr, IfNone, IfOk, IfSome, IsTrue, MatchOption, OnOk, length, slice_index_or};
+ghost use Rattle.std.specs.Prelude.{◌≡◌, ◌≢◌, ℕ, ◌+◌, ◌-◌, ◌*◌, ◌/◌, ◌<◌, ◌≤◌, ◌^◌, ◌%◌, ◌==◌, ◌&&◌, ◌↔◌, false, filter, nat_le, sum, take, Any, IfErr, IfNone, IfOk, IfSome, IsTrue, MatchOption, OnOk, length, slice_index_or};
 ghost use Rattle.std.specs.List.{list_any};
 ghost use Rattle.bit_set.specs.Choices.{IsGreatest};
 ghost use Rattle.bit_set.specs.Members.{HasNone, IsDifference, IsDisjoint, IsSameSet, IsSubset, IsUnion};
@@ -228,4 +228,72 @@ pub fn close<B: BitBlock>(set: &mut BitSet<B>, next: &[usize]) -> Result<(), Set
         }
     }
     Ok(())
+}
+
+/// How many members are odd.
+#[tactic(auto, using(bit_set::proofs::CallerLemmas::set_steps))]
+pub fn count_odd<B: BitBlock>(set: &BitSet<B>) -> usize
+    ensures { result ≡ length (filter (λ x. x % 2 == 1) (elements set.now.values)) }
+{
+    let mut count = 0;
+    for member in set {
+        if member % 2 == 1 {
+            count += 1;
+        }
+    }
+    count
+}
+
+/// The first ten members.
+#[tactic(auto, using(bit_set::proofs::CallerLemmas::set_steps))]
+pub fn first_ten<B: BitBlock>(alloc: Global, set: &BitSet<B>) -> Result<Vec<usize>, AllocError>
+    ensures { IfOk result (λ first. first.items ≡ take 10 (elements set.now.values)) }
+{
+    let mut first = Vec::new(alloc);
+    for member in set {
+        if first.len() == 10 {
+            break;
+        }
+        first.push(member)?;
+    }
+    Ok(first)
+}
+
+/// Twice each member.
+#[tactic(auto, using(bit_set::proofs::CallerLemmas::set_steps))]
+pub fn doubles<B: BitBlock>(alloc: Global, set: &BitSet<B>) -> Result<BitSet<B>, SetError>
+    ensures members { IfOk result (λ doubles. (x : ℕ) → has (elements doubles.values) x
+        ≡ (x % 2 == 0 && has (elements set.now.values) (x / 2))) }
+    ensures unfit { IfErr result (λ fault. fault ≡ SetError.Element
+        → (m : ℕ) × IsTrue (has (elements set.now.values) m) × (usize.MAX ≤ m * 2)) }
+{
+    let mut doubles = BitSet::new_general(alloc);
+    for member in set {
+        let double = member.checked_mul(2).ok_or(SetError::Element)?;
+        doubles.insert(double)?;
+    }
+    Ok(doubles)
+}
+
+/// The numbers that a walk meets which goes from each to its `next`, from `start` on, up to one that it met before or
+/// that has none.
+#[tactic(auto, using(bit_set::proofs::CallerLemmas::set_steps))]
+pub fn follow<B: BitBlock>(
+    alloc: Global,
+    next: &[usize],
+    start: usize,
+) -> Result<BitSet<B>, SetError>
+    ensures starts { IfOk result (λ seen. IsTrue (has (elements seen.values) start)) }
+    ensures closed { IfOk result (λ seen. (k d : ℕ) → k < length next.now → IsTrue (has (elements seen.values) k)
+        → IsTrue (has (elements seen.values) (slice_index_or next.now k d))) }
+{
+    let mut seen = BitSet::new_general(alloc);
+    let mut at = start;
+    while seen.insert(at)? {
+        if at >= next.len() {
+            return Ok(seen);
+        }
+        at = next[at];
+    }
+    Ok(seen)
 }

@@ -142,3 +142,18 @@ fn a_set_is_closed(rt: HostRuntime) {
     ok(&rt, close(&mut set, &[2, 0, 300, 0, 2]));
     has_members(&rt, &set, &[2, 4, 300]);
 }
+
+#[test]
+fn members_are_counted_and_doubled(rt: HostRuntime) {
+    let set = set_of::<u32>(&rt, rt.alloc(), &[1, 2, 70]);
+    expect_eq(&rt, &count_odd(&set), &1);
+    let first = ok(&rt, first_ten(rt.alloc(), &set));
+    expect_eq(&rt, &first.len(), &3);
+    has_members(&rt, &ok(&rt, doubles(rt.alloc(), &set)), &[2, 4, 140]);
+}
+
+#[test]
+fn a_walk_along_a_row_ends(rt: HostRuntime) {
+    let seen = ok(&rt, follow::<u8>(rt.alloc(), &[2, 0, 300], 1));
+    has_members(&rt, &seen, &[0, 1, 2, 300]);
+}
