@@ -33,60 +33,60 @@ fn merge_noted<B: BitBlock, O: Operation>(
     or_mismatch(seen, old, merged)
 }
 
-// The blocks from `start` to before `end` become their merges with the others, except for the ones of `except`. All
-// three lists have them.
+// The `count` blocks from `start` on become their merges with the others, except for the ones of `except`. All three
+// lists have them. The compiler makes vector code of this, and short code where it knows the count.
 #[inline]
-fn merge_apart<B: BitBlock, O: Operation>(
+pub(crate) fn merge_apart<B: BitBlock, O: Operation>(
     blocks: &mut [B],
     others: &[B],
     except: &[B],
     start: usize,
-    end: usize,
+    count: usize,
     seen: B,
     steps: &mut Steps,
 ) -> B
-    requires forward { start ≤ end }
-    requires within { end ≤ length blocks.old }
-    requires in_others { start < end → end ≤ length others.now }
-    requires in_except { start < end → end ≤ length except.now }
+    requires within { start + count ≤ length blocks.old }
+    requires in_others { 0 < count → start + count ≤ length others.now }
+    requires in_except { 0 < count → start + count ≤ length except.now }
     requires each { All B.is_block blocks.old }
     requires others { All B.is_block others.now }
     requires except { All B.is_block except.now }
     requires of_seen { B.is_block seen }
-    ensures has { HasNoted O.merge B.width B.number B.is_block start end
+    ensures has { HasNoted O.merge B.width B.number B.is_block start (start + count)
         (except_at (map B.number others.now) (map B.number except.now)) blocks.old seen blocks.new result }
-    ensures steps { steps.new + start ≡ steps.old + end }
+    ensures steps { steps.new ≡ steps.old + count }
 {
     let mut change = seen;
-    for k in start..end {
+    for j in 0..count {
+        let k = start + j;
         let other = Difference::of_blocks(block_at(others, k), block_at(except, k));
         change = merge_noted::<B, O>(blocks, k, other, change, steps);
     }
     change
 }
 
-// The blocks from `start` to before `end` become their merges with the others, which have them too.
+// The `count` blocks from `start` on become their merges with the others, which have them too.
 #[inline]
-fn merge_alone<B: BitBlock, O: Operation>(
+pub(crate) fn merge_alone<B: BitBlock, O: Operation>(
     blocks: &mut [B],
     others: &[B],
     start: usize,
-    end: usize,
+    count: usize,
     seen: B,
     steps: &mut Steps,
 ) -> B
-    requires forward { start ≤ end }
-    requires within { end ≤ length blocks.old }
-    requires in_others { start < end → end ≤ length others.now }
+    requires within { start + count ≤ length blocks.old }
+    requires in_others { 0 < count → start + count ≤ length others.now }
     requires each { All B.is_block blocks.old }
     requires others { All B.is_block others.now }
     requires of_seen { B.is_block seen }
-    ensures has { HasNoted O.merge B.width B.number B.is_block start end
+    ensures has { HasNoted O.merge B.width B.number B.is_block start (start + count)
         (λ k j. is_one (get_or (map B.number others.now) k 0) j) blocks.old seen blocks.new result }
-    ensures steps { steps.new + start ≡ steps.old + end }
+    ensures steps { steps.new ≡ steps.old + count }
 {
     let mut change = seen;
-    for k in start..end {
+    for j in 0..count {
+        let k = start + j;
         change = merge_noted::<B, O>(blocks, k, block_at(others, k), change, steps);
     }
     change
@@ -142,7 +142,7 @@ pub(crate) fn merge_between<B: BitBlock, O: Operation>(
 {
     let reached = others.len().max(start).min(end);
     let both = except.len().max(start).min(reached);
-    let first = merge_apart::<B, O>(blocks, others, except, start, both, seen, steps);
-    let second = merge_alone::<B, O>(blocks, others, both, reached, first, steps);
+    let first = merge_apart::<B, O>(blocks, others, except, start, both - start, seen, steps);
+    let second = merge_alone::<B, O>(blocks, others, both, reached - both, first, steps);
     merge_past::<B, O>(blocks, reached, end, second, steps)
 }

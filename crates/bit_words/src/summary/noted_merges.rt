@@ -1,7 +1,7 @@
-// Merges of the blocks of a list that has a summary, which say whether a block changed. Each block of the summary is made
-// after the blocks that it is about, while these are at hand.
-ghost use Rattle.std.specs.Prelude.{◌≡◌, ℕ, ◌+◌, ◌*◌, ◌^◌, ◌<◌, ◌≤◌, ◌↔◌, [], All, false, get_or, length, map, min};
-ghost use Rattle.bit_words.specs.{Bits.blocks_for, Digits.is_one, NotedMerges.{except_at, AreKept, HasMergedWith, HasNoted}, Summary.{is_used, IsSummary, IsStoredSummary}};
+// Merges of the blocks of a list that has a summary, which say whether a block changed. A block of the summary
+// is made anew after the blocks that it is about, while these are at hand, and only where one of them changed.
+ghost use Rattle.std.specs.Prelude.{◌≡◌, ◌≢◌, ℕ, ◌+◌, ◌*◌, ◌<◌, ◌≤◌, ◌↔◌, [], All, false, get_or, length, map, min};
+ghost use Rattle.bit_words.specs.{Digits.is_one, NotedMerges.{except_at, AreKept, HasMergedWith, HasNoted}, Summary.{is_used, IsSummary, IsStoredSummary}};
 
 use crate::block::BitBlock;
 use crate::block::merge::Merge;
@@ -9,11 +9,68 @@ use crate::block::operation::{Difference, Intersection, Operation, Symmetric, Un
 use crate::block::operators::same;
 use crate::packed::access::{block_count, put_in};
 use crate::packed::block_merges::merge_rest;
-use crate::packed::noted_merges::{merge_between, merge_past};
+use crate::packed::comparing::either;
+use crate::packed::noted_merges::{merge_alone, merge_apart, merge_between, merge_past};
 use crate::steps::Steps;
-use crate::summary::{is_short, used_from};
+use crate::summary::{is_nonzero, is_short, used_from};
 
-// The blocks that the first `chunks` blocks of the summary are about become their merges, and these are made anew.
+// As many of the blocks from `start` on as a block has bits, or all of them, become their merges. Where all of these have
+// another, the compiler knows the count.
+#[inline]
+fn merge_noted_chunk<B: BitBlock, O: Operation>(
+    blocks: &mut [B],
+    others: &[B],
+    except: &[B],
+    start: usize,
+    seen: B,
+    steps: &mut Steps,
+) -> B
+    requires in_bounds { start ≤ length blocks.old }
+    requires each { All B.is_block blocks.old }
+    requires others { All B.is_block others.now }
+    requires except { All B.is_block except.now }
+    requires of_seen { B.is_block seen }
+    ensures has { HasNoted O.merge B.width B.number B.is_block start (min (start + B.width) (length blocks.old))
+        (except_at (map B.number others.now) (map B.number except.now)) blocks.old seen blocks.new result }
+    ensures steps { steps.new + start ≡ steps.old + min (start + B.width) (length blocks.old) }
+{
+    let width = B::bits();
+    let end = blocks.len();
+    if width <= others.len().min(end).saturating_sub(start) {
+        if width <= except.len().saturating_sub(start) {
+            return merge_apart::<B, O>(blocks, others, except, start, width, seen, steps);
+        }
+        if except.len() <= start {
+            return merge_alone::<B, O>(blocks, others, start, width, seen, steps);
+        }
+    }
+    let reached = start + width.min(end - start);
+    merge_between::<B, O>(blocks, others, except, start, reached, seen, steps)
+}
+
+// Makes block `q` of the summary anew where `part` is not 0: where one of the blocks that it is about changed.
+#[inline]
+fn follow_chunk<B: BitBlock>(summary: &mut [B], blocks: &[B], q: usize, part: B)
+    requires in_summary { q < length summary.old }
+    requires in_bounds { q * B.width ≤ length blocks.now }
+    requires each_sum { All B.is_block summary.old }
+    requires each { All B.is_block blocks.now }
+    requires of_part { B.is_block part }
+    requires kept { B.number part ≡ 0 → (j : ℕ) → j < B.width
+        → is_one (get_or (map B.number summary.old) q 0) j ≡ is_used (map B.number blocks.now) (q * B.width + j) }
+    ensures digits { (j : ℕ) → j < B.width
+        → is_one (get_or (map B.number summary.new) q 0) j ≡ is_used (map B.number blocks.now) (q * B.width + j) }
+    ensures others { (p : ℕ) → p ≢ q
+        → get_or (map B.number summary.new) p 0 ≡ get_or (map B.number summary.old) p 0 }
+    ensures each_sum { All B.is_block summary.new }
+    ensures summary_len { length summary.new ≡ length summary.old }
+{
+    if is_nonzero(part) {
+        put_in(summary, q, used_from(blocks, q * B::bits()));
+    }
+}
+
+// The blocks that the first `chunks` blocks of the summary are about become their merges, and these follow.
 #[inline]
 fn merge_noted_chunks<B: BitBlock, O: Operation>(
     blocks: &mut [B],
@@ -28,10 +85,8 @@ fn merge_noted_chunks<B: BitBlock, O: Operation>(
     requires others { All B.is_block others.now }
     requires except { All B.is_block except.now }
     requires of_seen { B.is_block seen }
-    requires each_sum { All B.is_block summary.old }
-    requires count { length summary.old ≡ blocks_for B.width (length blocks.old) }
+    requires summary { IsSummary B.width B.number B.is_block blocks.old summary.old }
     requires in_summary { chunks ≤ length summary.old }
-    requires fits { length blocks.old < 2 ^ 64 }
     ensures has { HasNoted O.merge B.width B.number B.is_block 0 (min (chunks * B.width) (length blocks.old))
         (except_at (map B.number others.now) (map B.number except.now)) blocks.old seen blocks.new result }
     ensures digits { (q j : ℕ) → q < chunks → j < B.width
@@ -42,12 +97,13 @@ fn merge_noted_chunks<B: BitBlock, O: Operation>(
     ensures summary_len { length summary.new ≡ length summary.old }
     ensures steps { steps.new ≡ steps.old + min (chunks * B.width) (length blocks.old) }
 {
+    let zero = B::zero();
     let mut change = seen;
     for q in 0..chunks {
         let start = q * B::bits();
-        let end = start + B::bits().min(blocks.len() - start);
-        change = merge_between::<B, O>(blocks, others, except, start, end, change, steps);
-        put_in(summary, q, used_from(blocks, start));
+        let part = merge_noted_chunk::<B, O>(blocks, others, except, start, zero, steps);
+        follow_chunk(summary, blocks, q, part);
+        change = either(change, part);
     }
     change
 }
