@@ -9,6 +9,7 @@ pub mod MemberLemmas
 pub mod ValueLemmas
 pub mod EndLemmas
 pub mod RetainLemmas
+pub mod RangeQueryLemmas
 pub mod CapacityLemmas
 pub mod ItemLemmas
 pub mod ByteLemmas

@@ -1,7 +1,7 @@
 // Calls on the numbers of a range.
-ghost use Rattle.std.specs.Prelude.{◌≡◌, ◌-◌, ◌<◌, ◌≤◌, ◌++◌, false, length, max, not, true, IfErr, IsErrOf, OnOk};
+ghost use Rattle.std.specs.Prelude.{◌≡◌, ℕ, ◌-◌, ◌<◌, ◌≤◌, ◌↔◌, ◌++◌, false, length, max, not, true, IfErr, IsErrOf, IsTrue, OnOk};
 ghost use Rattle.bit_words.specs.{Growth.Grows};
-ghost use Rattle.bit_set.specs.{Changes.{Change, Changes, Outcome.Done, outcome_of_result}, Faults.IsInsertFault, Members.UpdatesRange, Ranges.{span, span_end}, Sets.{elements, symmetric_difference, those_below, those_from, union}};
+ghost use Rattle.bit_set.specs.{Changes.{Change, Changes, Outcome.Done, outcome_of_result}, Faults.IsInsertFault, Members.UpdatesRange, Ranges.{span, span_end, those_in_range}, Sets.{elements, has, is_disjoint, is_subset, symmetric_difference, those_below, those_from, union}};
 
 use crate::{BitBlock, BitSet, SetError};
 use std::ops::Range;
@@ -96,5 +96,37 @@ impl<B: BitBlock> BitSet<B> {
         self.lengthen_for(&range)?;
         self.bits.negate_range(range);
         Ok(())
+    }
+
+    /// Whether every number of the range is in, and so whether the range is empty. Reads blocks of the range up to the
+    /// first that lacks one.
+    pub fn contains_all_in_range(&self, range: Range<usize>) -> bool
+        ensures returned { result ≡ is_subset (span range.start range.end) (elements self.now.values) }
+        ensures members { IsTrue result ↔ ((n : ℕ) → range.start ≤ n → n < range.end
+            → IsTrue (has (elements self.now.values) n)) }
+    {
+        self.bits.all_in_range(range)
+    }
+
+    /// Whether a number of the range is in. Reads blocks of the range up to the first that has one.
+    pub fn contains_any_in_range(&self, range: Range<usize>) -> bool
+        ensures returned { result ≡ not (is_disjoint (span range.start range.end) (elements self.now.values)) }
+        ensures members { (result ≡ false) ↔ ((n : ℕ) → range.start ≤ n → n < range.end
+            → has (elements self.now.values) n ≡ false) }
+    {
+        self.bits.any_in_range(range)
+    }
+
+    /// How many numbers of the range are in: of `0..n`, the rank of `n`. Reads each block of the range once, and no
+    /// other.
+    ///
+    /// ```
+    /// // The set is {1, 3, 4, 5}.
+    /// assert_eq!(set.count_in_range(3..5), 2);
+    /// ```
+    pub fn count_in_range(&self, range: Range<usize>) -> usize
+        ensures { result ≡ length (those_in_range (elements self.now.values) range.start range.end) }
+    {
+        self.bits.count_ones_in_range(range)
     }
 }
