@@ -1,9 +1,9 @@
 -- The values of bytes: a byte turned round, one moved into its place in a block, and the list of all.
-use Rattle.std.proofs.Common.{Bool, ◌≡◌, ℕ, zero, suc, ◌+◌, ◌-◌, ◌*◌, ◌/◌, ◌%◌, ◌^◌, ◌<◌, ◌≤◌, false, ◌&&◌, ◌||◌, ◌==◌, nat_lt, List, [], ◌∷◌, length, get_or, refl, sym, ap, ap₂, ◌∙◌, arith, mod-lt, div-add-mod', w8, min, slice_range, get_or-take, get_or-drop, length-take, length-append}
-use Rattle.std.{proofs.lemmas.{Nat.Bits.{bit_at-suc, bit_at_lowest, bit_at_above}, List.{get_or_past, get_or_append_left, get_or-append_right, FromFn.get_or-map-range_with_len}, Bool.Decides.nat_tests}, specs.Int.bit_at}
+use Rattle.std.proofs.Common.{Bool, ◌≡◌, ℕ, zero, suc, ◌+◌, ◌-◌, ◌*◌, ◌/◌, ◌%◌, ◌^◌, ◌<◌, ◌≤◌, false, ◌&&◌, ◌||◌, ◌==◌, nat_lt, List, [], ◌∷◌, ◌++◌, length, get_or, refl, sym, ap, ap₂, ◌∙◌, arith, mod-lt, div-add-mod', w8, min, slice_range, get_or-take, get_or-drop, length-take, length-append, pow-suc, div-lt_iff_lt-mul, replicate, ⊎_elim, pow_mono}
+use Rattle.std.{proofs.lemmas.{Nat.Bits.{bit_at-suc, bit_at_lowest, bit_at_above}, List.{ext_get_or, get_or_past, get_or_append_left, get_or-append_right, get_or-replicate, length-replicate, FromFn.get_or-map-range_with_len}, Bool.{cases_lt, Decides.nat_tests}}, specs.Int.bit_at}
 use Rattle.std.specs.Int.{reverse_bits, reverse_bits_onto}
-use Rattle.bit_words.{specs.{Bits.{blocks_for, values_of_byte, values_of_bytes}, Digits.{IsWidth, IsEither, IsShiftedLeft, is_one}, Bytes.byte_value, Storage.value_at}, proofs.BitsLemmas.blocks_for-least}
-use Rattle.bit_words.proofs.{BitsLemmas.blocks_for-below, StorageLemmas.{value_at-is, value_at-past}, Masks.{is_one-either, is_one-zero}}
+use Rattle.bit_words.{specs.{Bits.{Bits, blocks_for, digit_of, values_of_byte, values_of_bytes}, Digits.{IsWidth, IsEither, IsShiftedLeft, is_one}, Bytes.byte_value, Storage.{value_at, values_of, IsZeroFrom}}, proofs.BitsLemmas.{blocks_for-enough, blocks_for-least, read_back}}
+use Rattle.bit_words.proofs.{BitsLemmas.blocks_for-below, StorageLemmas.{value_at-index, value_at-is, value_at-past}, Masks.{is_one-either, is_one-zero}, CompareLemmas.value_in_view, VectorLemmas.length_from_view}
 
 -- ---- a byte turned round
 
@@ -98,3 +98,70 @@ get_or-values_of_bytes (byte ∷ bytes) i =
 
 pub blocks-byte_value : (w : ℕ) (ms : List ℕ) (bytes : List ℕ) → 0 < w → length ms ≡ blocks_for w (8 * length bytes) → ((q j : ℕ) → q < length ms → j < w → is_one (get_or ms q 0) j ≡ byte_value bytes (q * w + j)) → (i : ℕ) → value_at w ms i ≡ byte_value bytes i
 blocks-byte_value w ms bytes pos count digits i = grind (arith, value_at-is, value_at-past, digits (i / w) (i % w), mod-lt i pos, div-add-mod' i w, byte_value-past, blocks_for-below w (8 * length bytes) i pos)
+
+-- ---- the bytes of a list
+
+-- a value pushed in below those of a byte
+pub byte_pushed : (a d j : ℕ) (v : Bool) (f : ℕ → Bool) → d ≡ digit_of v → f j ≡ v → ((i : ℕ) → i < j → is_one a (j - 1 - i) ≡ f i) → (i : ℕ) → i < j + 1 → is_one (2 * a + d) (j + 1 - 1 - i) ≡ f i
+byte_pushed a d j v f digit here before i within =
+    grind (arith, nat_tests, read_back v, bit_at_lowest (2 * a + d), bit_at-suc (2 * a + d) (j - 1 - i), before i)
+
+pub byte_stays_small : (a d j : ℕ) → a < 2 ^ j → d < 2 → 2 * a + d < 2 ^ (j + 1)
+byte_stays_small a d j small digit =
+    let same : 2 ^ (j + 1) ≡ 2 ^ suc j = ap (λ n. 2 ^ n) (let e : j + 1 ≡ suc j = omega arith in e) in
+    omega (arith, same, pow-suc 2 j)
+
+pub byte_fits : (a d j : ℕ) → a < 2 ^ j → d < 2 → j < 8 → 2 * a + d < 2 ^ 8
+byte_fits a d j small digit within = let more = pow_mono (let e : j + 1 ≤ 8 = omega arith in e) in omega (arith, byte_stays_small a d j small digit, more)
+
+-- byte q has the values from 8 * q on, of a block of s bytes
+pub byte_in_block : (w b q len : ℕ) → IsWidth w → b ≡ w → 8 * q < len * w → q / (b / 8) < len
+byte_in_block w b q len width wide within =
+    let bytes = whole_bytes w b width wide in
+    let pos : 0 < b / 8 = omega (arith, bytes, width.positive) in
+    (div-lt_iff_lt-mul pos).1 (let e : len * (8 * (b / 8)) ≡ 8 * (len * (b / 8)) = omega arith in omega (arith, rw bytes at within, e))
+
+pub byte_index : (w b q j : ℕ) → IsWidth w → b ≡ w → j < 8 → 8 * (q % (b / 8)) + j < w
+byte_index w b q j width wide within =
+    let bytes = whole_bytes w b width wide in
+    let below = mod-lt q (let pos : 0 < b / 8 = omega (arith, bytes, width.positive) in pos) in
+    omega (arith, bytes, below)
+
+pub byte_value_at : (w b q j : ℕ) (ms : List ℕ) → IsWidth w → b ≡ w → j < 8 → value_at w ms (8 * q + j) ≡ is_one (get_or ms (q / (b / 8)) 0) (8 * (q % (b / 8)) + j)
+byte_value_at w b q j ms width wide within =
+    let s : ℕ = b / 8 in
+    let bytes : w ≡ 8 * s = whole_bytes w b width wide in
+    let split : q / s * s + q % s ≡ q = div-add-mod' q s in
+    let whole : q / s * w ≡ 8 * (q / s * s) = rw bytes (omega arith) in
+    ap (value_at w ms) (let e : 8 * q + j ≡ q / s * w + (8 * (q % s) + j) = omega (arith, split, whole) in e) ∙ value_at-index w ms (q / s) (8 * (q % s) + j) (byte_index w b q j width wide within)
+
+-- one byte more
+pub byte_more : (bs ns : List ℕ) (x q : ℕ) (f : ℕ → Bool) → length bs ≡ q → ns ≡ bs ++ x ∷ [] → ((j : ℕ) → j < 8 → is_one x (7 - j) ≡ f (8 * q + j)) → ((k j : ℕ) → k < q → j < 8 → is_one (get_or bs k 0) (7 - j) ≡ f (8 * k + j)) → (k j : ℕ) → k < q + 1 → j < 8 → is_one (get_or ns k 0) (7 - j) ≡ f (8 * k + j)
+byte_more bs ns x q f long is here before k j within index =
+    grind (arith, is, get_or_append_left bs (x ∷ []) 0 k, get_or-append_right bs (x ∷ []) q k 0 long, before k j, here j index)
+
+-- all of them
+pub bytes_values : (w len : ℕ) (ms bs : List ℕ) → length bs ≡ blocks_for 8 len → IsZeroFrom w ms len → ((k j : ℕ) → k < length bs → j < 8 → is_one (get_or bs k 0) (7 - j) ≡ value_at w ms (8 * k + j)) → (i : ℕ) → byte_value bs i ≡ value_at w ms i
+bytes_values w len ms bs long tail digits i =
+    ⊎_elim
+    (λ (within : i / 8 < length bs). byte_value-is bs i (i / 8) (i % 8) refl refl ∙ digits (i / 8) (i % 8) within (omega arith) ∙ ap (value_at w ms) (let e : 8 * (i / 8) + i % 8 ≡ i = omega arith in e))
+    (λ (past : length bs ≤ i / 8). byte_value-past bs i (omega (arith, past)) ∙ sym (tail.zero_tail i (omega (arith, past, long, blocks_for-enough 8 len (omega arith)))))
+    (cases_lt (i / 8) (length bs))
+
+-- the list that they spell goes on with false values up to a whole byte
+pub values_of_bytes_are : (w len r : ℕ) (ms bs : List ℕ) (v : Bits) → record { values = values_of w ms len; capacity = r } ≡ v → IsZeroFrom w ms len → length bs ≡ blocks_for 8 len → ((i : ℕ) → byte_value bs i ≡ value_at w ms i) → values_of_bytes bs ≡ v.values ++ replicate (8 * length bs - length v.values) false
+values_of_bytes_are w len r ms bs v e tail long same =
+    let more : ℕ = 8 * length bs - length v.values in
+    let enough = blocks_for-enough 8 len (omega arith) in
+    ext_get_or false (values_of_bytes bs) (v.values ++ replicate more false)
+    (length-values_of_bytes bs ∙ omega (arith, length-append v.values (replicate more false), length-replicate more false, length_from_view w len r ms v e, enough, long))
+    (λ i within.
+    let here = get_or-values_of_bytes bs i ∙ same i ∙ sym (value_in_view w len r ms v e tail i) in
+    let front = get_or_append_left v.values (replicate more false) false i in
+    let rest = get_or-append_right v.values (replicate more false) (length v.values) i false refl in
+    let none = get_or-replicate more (i - length v.values) false false in
+    let past = get_or_past (replicate more false) (i - length v.values) false in
+    grind (arith, length-replicate more false, get_or_past v.values i false))
+
+pub digit_below : (d : ℕ) (v : Bool) → d ≡ digit_of v → d < 2
+digit_below d v is = grind arith

@@ -9,6 +9,7 @@ use crate::summary::short_limit;
 use std::marker::Model;
 
 mod blocks;
+mod bytes;
 mod capacity;
 mod comparing;
 mod constructors;

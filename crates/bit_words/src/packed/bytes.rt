@@ -1,10 +1,10 @@
-// Blocks made of bytes: the highest bit of a byte is the first of eight.
-ghost use Rattle.std.specs.Prelude.{◌≡◌, ℕ, ◌+◌, ◌*◌, ◌^◌, ◌<◌, ◌≤◌, ◌&&◌, All, map, nat_lt, length, vec_capacity, IfOk, IsOk};
-ghost use Rattle.bit_words.specs.{Bits.blocks_for, Bytes.byte_value, Digits.is_one, Storage.value_at};
+// Blocks made of bytes, and bytes of blocks: the highest bit of a byte is the first of eight.
+ghost use Rattle.std.specs.Prelude.{◌≡◌, ℕ, ◌+◌, ◌*◌, ◌-◌, ◌^◌, ◌<◌, ◌≤◌, ◌&&◌, All, map, nat_lt, length, vec_capacity, IfOk, IsOk};
+ghost use Rattle.bit_words.specs.{Bits.{blocks_for, digit_of}, Bytes.byte_value, Digits.is_one, Storage.{value_at, IsPacked}};
 
 use crate::block::BitBlock;
-use crate::block::operators::{block_or, shift_left};
-use crate::packed::access::block_count;
+use crate::block::operators::{block_or, has_one_at, shift_left};
+use crate::packed::access::{block_at, block_count};
 use std::alloc::{AllocError, Global};
 
 // The blocks of the values of all bytes.
@@ -73,4 +73,51 @@ fn block_of_first<B: BitBlock>(bytes: &[u8], count: usize) -> B
         block = block_or(block, shift_left(digits, 8 * index));
     }
     block
+}
+
+// The bytes of `len` values, and zeros past these in the last byte.
+pub(crate) fn bytes_of<B: BitBlock>(
+    alloc: Global,
+    blocks: &[B],
+    len: usize,
+) -> Result<Vec<u8>, AllocError>
+    requires { IsPacked B.width B.number B.is_block blocks.now len }
+    ensures values { IfOk result
+        (λ bytes. (i : ℕ) → byte_value bytes.items i ≡ value_at B.width (map B.number blocks.now) i) }
+    ensures len { IfOk result (λ bytes. length bytes.items ≡ blocks_for 8 len) }
+    ensures empty { len ≡ 0 → IsOk result }
+{
+    let count = len.div_ceil(8);
+    let mut bytes = Vec::with_capacity(alloc, count)?;
+    for q in 0..count {
+        bytes.push_reserved(byte_of(blocks, q));
+    }
+    Ok(bytes)
+}
+
+// Eight values, from `8 * q` on.
+#[inline]
+fn byte_of<B: BitBlock>(blocks: &[B], q: usize) -> u8
+    requires in_bounds { 8 * q < length blocks.now * B.width }
+    requires each { All B.is_block blocks.now }
+    ensures { (j : ℕ) → j < 8 → is_one result (7 - j) ≡ value_at B.width (map B.number blocks.now) (8 * q + j) }
+{
+    let step = B::bits() / 8;
+    let block = block_at(blocks, q / step);
+    let start = 8 * (q % step);
+    let mut byte = 0u8;
+    for j in 0..8 {
+        byte = 2 * byte + digit_at(block, start + j);
+    }
+    byte
+}
+
+// A bit of a block as a number.
+#[inline]
+fn digit_at<B: BitBlock>(block: B, index: usize) -> u8
+    requires of_block { B.is_block block }
+    requires within { index < B.width }
+    ensures { result ≡ digit_of (is_one (B.number block) index) }
+{
+    if has_one_at(block, index) { 1 } else { 0 }
 }

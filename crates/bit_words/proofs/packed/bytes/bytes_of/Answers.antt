@@ -1,0 +1,14 @@
+use Rattle.std.proofs.Common.{map, arith}
+use Rattle.bit_words.{specs.Storage.value_at, proofs.ByteLemmas.{byte_more, bytes_values}}
+use Rattle.bit_words.proofs.packed.bytes.bytes_of.Goals as goal
+
+pub loop-q-preserved : goal.loop-q-preserved
+loop-q-preserved g c = record {
+  count = omega arith;
+  capacity = omega arith;
+  digits = byte_more c.loop-q.bytes.items _ _ c.loop-q.q (value_at g.B.BitBlock.width (map g.B.BitBlock.number c.args.blocks.now)) (omega arith) c.push_reserved.ensures.items c.byte_of.ensures c.loop-q.invariant.digits;
+}
+
+pub returns-clause-values : goal.returns-clause-values
+returns-clause-values g c =
+    bytes_values g.B.BitBlock.width c.args.len (map g.B.BitBlock.number c.args.blocks.now) c.loop-q.bytes.items (omega arith) c.requires.tail (λ k j below index. c.loop-q.invariant.digits k j (omega (arith, below)) index)
