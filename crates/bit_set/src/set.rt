@@ -8,6 +8,7 @@ use crate::BitBlock;
 use crate::bit_vec::BitVec;
 use std::marker::Model;
 
+mod bytes;
 mod capacity;
 mod changing;
 mod ends;
