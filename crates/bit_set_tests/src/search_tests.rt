@@ -1,7 +1,8 @@
-//! Searches for the next element in either direction, and the ends taken out, over sets with a summary and without one.
+//! Searches for the next element in either direction, and the ends taken out, over sets with a summary and without one;
+//! what a test keeps, and the bytes of a set.
 
-use crate::expect::{expect_eq, expect_eq_at};
-use crate::sets::set_of;
+use crate::expect::{expect_eq, expect_eq_at, ok};
+use crate::sets::{set_of, set_of_bytes};
 use bit_set::BitBlock;
 use block24::Block24;
 use std::alloc::Global;
@@ -56,4 +57,19 @@ fn the_ends_are_taken_out(rt: HostRuntime) {
     ends_are_taken::<u8>(&rt, rt.alloc());
     ends_are_taken::<Block24>(&rt, rt.alloc());
     ends_are_taken::<u64>(&rt, rt.alloc());
+}
+
+#[test]
+fn the_even_elements_are_kept(rt: HostRuntime) {
+    let mut set = set_of::<u32>(&rt, rt.alloc(), &[1, 4, 5, 6, 5000]);
+    set.retain(|value| value % 2 == 0);
+    expect_eq(&rt, &(set.count(), set.first()), &(3, Some(4)));
+}
+
+#[test]
+fn the_bytes_are_those_that_were_read(rt: HostRuntime) {
+    let bytes = [0b0100_1010, 3, 0, 255];
+    let set = set_of_bytes::<Block24>(&rt, rt.alloc(), &bytes);
+    let written = ok(&rt, set.to_bytes(rt.alloc()));
+    expect_eq(&rt, &written.as_slice(), &bytes.as_slice());
 }
