@@ -6,7 +6,7 @@ use Rattle.bit_set.specs.Members.{HasNone, Updates}
 use Rattle.bit_set.specs.Sets.{has}
 use Rattle.dataflow.specs.Flow.{Enters, Flow, HasAllDue, Reaches, block_at, made, onward, set_at}
 use Rattle.dataflow.specs.Worklist.{AreOnTheWay, PutsBack, TakesIn, place_of}
-use Rattle.dataflow.proofs.TakeLemmas.{in_push}
+use Rattle.dataflow.proofs.TakeLemmas.{in_push, same_lists}
 
 -- a block with a source is a block
 pub with_source : (blocks : List Flow) (b s : ℕ) → has (block_at blocks b).sources s ≡ true → b < length blocks
@@ -171,15 +171,6 @@ lacks_less (x ∷ xs) (y ∷ ys) zero long inside others grew few =
     let rest : ys ≡ xs = same_lists xs ys (omega (arith, long)) (λ c. others (suc c) (λ is. omega (arith, is))) in
     let same : lacking ys ≡ lacking xs = ap lacking rest in
     omega (arith, same, grew, few)
-  where
-    same_lists : (xs ys : List (List ℕ)) → length ys ≡ length xs → ((c : ℕ) → set_at ys c ≡ set_at xs c) → ys ≡ xs
-    same_lists [] [] long each = refl
-    same_lists [] (y ∷ ys) long each = absurd (omega (arith, long))
-    same_lists (x ∷ xs) [] long each = absurd (omega (arith, long))
-    same_lists (x ∷ xs) (y ∷ ys) long each =
-        let head : y ≡ x = each 0 in
-        let tail : ys ≡ xs = same_lists xs ys (omega (arith, long)) (λ c. each (suc c)) in
-        cc
 lacks_less (x ∷ xs) (y ∷ ys) (suc n) long inside others grew few =
     let head : y ≡ x = others 0 (λ is. omega (arith, is)) in
     let as_long : length y ≡ length x = ap length head in

@@ -1,14 +1,16 @@
 -- What one visit does to a set.
 use Rattle.std.proofs.Common.{◌≡◌, ◌≢◌, ℕ, ◌+◌, ◌<◌, ◌≤◌, Bool, true, false, not, ◌||◌, ◌&&◌, cond, eqb, filter, suc, zero, set, take, inl, inr, List, [], ◌∷◌, ◌++◌, length, map, get_or, refl, sym, ap, ◌∙◌, arith}
-use Rattle.std.proofs.lemmas.Bool.{true≢false, eq-eqb, eqb-true, or_cases, or_left, or_right}
+use Rattle.std.proofs.lemmas.Bool.{true≢false, cases_eq, eq-eqb, eqb-true, or_cases, or_left, or_right}
 use Rattle.std.proofs.lemmas.List.{get_or_default, get_or_past, get_or-set_other, get_or-set_same, length-map, length-set, map-append, map-set, take_more}
 use Rattle.std.proofs.Math.ListN.{get_or-map}
 use Rattle.std.proofs.Math.Seq.{take-append_seam}
+use Rattle.std.specs.Cmp.Lexicographic.{bytes_decides}
 use Rattle.bit_set.specs.Bits.{Bits}
-use Rattle.bit_set.specs.Members.{IsDifference, IsUnion}
-use Rattle.bit_set.specs.Sets.{elements, has, is_subset, put_all, those_new, union}
-use Rattle.dataflow.specs.Flow.{Enters, Flow, lists_of, set_at}
-use Rattle.dataflow.specs.Worklist.{IsGathered, TakesIn}
+use Rattle.bit_set.specs.Members.{IsUnionWithDifference}
+use Rattle.bit_set.specs.Order.{same_sets}
+use Rattle.bit_set.specs.Sets.{elements, has}
+use Rattle.dataflow.specs.Flow.{Flow, lists_of, set_at}
+use Rattle.dataflow.specs.Worklist.{TakesIn, Transfers}
 
 -- ---- what is read of lists
 
@@ -17,6 +19,16 @@ mapped f xs i x d lt is = get_or_default (map f xs) i d (f x) (omega (arith, lt,
 
 pub mapped_past : {X Y : Type 0} (f : X → Y) (xs : List X) (i : ℕ) (d : Y) → length xs ≤ i → get_or (map f xs) i d ≡ d
 mapped_past f xs i d past = get_or_past (map f xs) i d (omega (arith, past, length-map xs f))
+
+-- lists of one length that read the same
+pub same_lists : (xs ys : List (List ℕ)) → length ys ≡ length xs → ((c : ℕ) → set_at ys c ≡ set_at xs c) → ys ≡ xs
+same_lists [] [] long each = refl
+same_lists [] (y ∷ ys) long each = absurd (omega (arith, long))
+same_lists (x ∷ xs) [] long each = absurd (omega (arith, long))
+same_lists (x ∷ xs) (y ∷ ys) long each =
+    let head : y ≡ x = each 0 in
+    let tail : ys ≡ xs = same_lists xs ys (omega (arith, long)) (λ c. each (suc c)) in
+    cc
 
 -- ---- a set is written
 
@@ -32,14 +44,6 @@ as_long sets i set_of = omega (arith, length-map (set sets i set_of) (λ (s : Bi
 -- what is read of the sets
 pub read_set : (sets : List Bits) (s : ℕ) (it : Bits) → it ≡ get_or sets s (record { values = []; capacity = 0 }) → elements it.values ≡ set_at (lists_of sets) s
 read_set sets s it is = ap (λ (r : Bits). elements r.values) is ∙ sym (get_or-map (λ (r : Bits). elements r.values) sets s (record { values = []; capacity = 0 }))
-
--- past the end there is nothing
-pub union_past : (sets : List Bits) (s : ℕ) (into : List ℕ) → length sets ≤ s → IsUnion into (set_at (lists_of sets) s) into
-union_past sets s into past v = sym (or_none (has into v)) ∙ ap (λ r. has into v || has r v) (sym (mapped_past (λ (r : Bits). elements r.values) sets s [] past))
-  where
-    or_none : (b : Bool) → (b || false) ≡ b
-    or_none true = refl
-    or_none false = refl
 
 pub written_back : {X : Type 0} (new past : List X) (count : ℕ) → count ≡ length new → take count (new ++ past) ≡ new
 written_back new past count is = ap (λ n. take n (new ++ past)) is ∙ take-append_seam new past
@@ -58,6 +62,16 @@ of_filter p (x ∷ xs) n h = elim (p x) as (λ b. has (cond b (x ∷ filter p xs
   | false ↦ λ h. or_right (eqb x n) _ (of_filter p xs n h)
 ] h
 
+pub and_true : (a b : Bool) → a ≡ true → b ≡ false → (a && not b) ≡ true
+and_true true false is none = refl
+and_true true true is none = absurd (true≢false none)
+and_true false b is none = absurd (true≢false (sym is))
+
+pub of_and : (a b : Bool) → (a && not b) ≡ true → (a ≡ true) × (b ≡ false)
+of_and true false h = (refl, refl)
+of_and true true h = absurd (true≢false (sym h))
+of_and false b h = absurd (true≢false (sym h))
+
 -- ---- a set is pushed
 
 pub push_generated : {X : Type 0} (f : X → List ℕ) (blocks : List X) (i : ℕ) (x : X) (sets : List Bits) (new : Bits) → i < length blocks → x ≡ get_or blocks i x → lists_of sets ≡ map f (take i blocks) → elements new.values ≡ f x → lists_of (sets ++ new ∷ []) ≡ map f (take (i + 1) blocks)
@@ -74,7 +88,7 @@ few_on (x ∷ xs) s limit few low (suc b) = few_on xs s limit (λ c. few (suc c)
 pub few_pushed : (sets : List Bits) (new : Bits) (limit : ℕ) → ((b : ℕ) → length (set_at (lists_of sets) b) < limit) → length (elements new.values) < limit → (b : ℕ) → length (set_at (lists_of (sets ++ new ∷ [])) b) < limit
 few_pushed sets new limit few low = rw (map-append (λ (r : Bits). elements r.values) sets (new ∷ [])) (few_on (lists_of sets) (elements new.values) limit few low)
 
--- ---- the union of the sets of some blocks
+-- ---- what the sets of some blocks have and is not killed
 
 pub in_push : (xs : List ℕ) (x n : ℕ) → has (xs ++ x ∷ []) n ≡ (has xs n || eqb x n)
 in_push [] x n = or_false (eqb x n)
@@ -88,63 +102,80 @@ in_push (y ∷ ys) x n = ap (λ b. eqb y n || b) (in_push ys x n) ∙ shift (eqb
     shift true b c = refl
     shift false b c = refl
 
-pub gathered_on : (sources : List ℕ) (sets : List (List ℕ)) (s : ℕ) (into new : List ℕ) → IsGathered sources sets into → IsUnion into (set_at sets s) new → IsGathered (sources ++ s ∷ []) sets new
-gathered_on sources sets s into new g members v = (
-  λ h. elim (or_cases (has into v) (has (set_at sets s) v) (sym (members v) ∙ h)) [
-    | inl before ↦ let p = (g v).0 before in (p.0, in_push sources s p.0 ∙ or_left (has sources p.0) _ p.1, p.2)
-    | inr now ↦ (s, in_push sources s s ∙ or_right (has sources s) _ (eq-eqb s s refl), now)
-  ],
-  λ p. members v ∙ elim (or_cases (has sources p.0) (eqb s p.0) (sym (in_push sources s p.0) ∙ p.1)) [
-    | inl before ↦ or_left (has into v) _ ((g v).1 (p.0, before, p.2))
-    | inr same ↦ or_right (has into v) _ (ap (λ n. has (set_at sets n) v) (eqb-true s p.0 same) ∙ p.2)
-  ],
-)
+module _ (sources killed : List ℕ) (sets : List (List ℕ)) (old into : List ℕ) (t : Transfers sources killed sets old into) where
+  -- one more source
+  pub transfers_on : (s : ℕ) (new : List ℕ) → IsUnionWithDifference into (set_at sets s) killed new → Transfers (sources ++ s ∷ []) killed sets old new
+  transfers_on s new members v = (
+    λ h. elim (or_cases (has into v) (has (set_at sets s) v && not (has killed v)) (sym (members v) ∙ h)) [
+      | inl before ↦ elim ((t v).0 before) [ inl was ↦ inl was | inr p ↦ inr ((p.0.0, in_push sources s p.0.0 ∙ or_left (has sources p.0.0) _ p.0.1, p.0.2), p.1) ]
+      | inr now ↦ let p = of_and (has (set_at sets s) v) (has killed v) now in inr ((s, in_push sources s s ∙ or_right (has sources s) _ (eq-eqb s s refl), p.0), p.1)
+    ],
+    λ h. elim h [
+      | inl was ↦ members v ∙ or_left (has into v) _ ((t v).1 (inl was))
+      | inr p ↦ members v ∙ elim (or_cases (has sources p.0.0) (eqb s p.0.0) (sym (in_push sources s p.0.0) ∙ p.0.1)) [
+        | inl before ↦ or_left (has into v) _ ((t v).1 (inr ((p.0.0, before, p.0.2), p.1)))
+        | inr same ↦ or_right (has into v) _ (and_true _ _ (ap (λ n. has (set_at sets n) v) (eqb-true s p.0.0 same) ∙ p.0.2) p.1)
+      ]
+    ],
+  )
 
--- ---- what is new is counted
+  -- a source that is no block has no set
+  pub transfers_past : (s : ℕ) → set_at sets s ≡ [] → Transfers (sources ++ s ∷ []) killed sets old into
+  transfers_past s none = transfers_on s into (λ v. sym (or_none (has into v)) ∙ ap (λ r. has into v || (has r v && not (has killed v))) (sym none))
+    where
+      or_none : (b : Bool) → (b || false) ≡ b
+      or_none true = refl
+      or_none false = refl
 
-some_of : (xs : List ℕ) (n : ℕ) → has xs n ≡ true → 0 < length xs
-some_of [] n h = absurd (true≢false (sym h))
-some_of (x ∷ xs) n h = omega arith
+-- ---- whether something was new
 
-outside : (s t : List ℕ) → is_subset s t ≡ false → (n : ℕ) × (has s n ≡ true) × (has t n ≡ false)
-outside [] t h = absurd (true≢false h)
-outside (x ∷ xs) t h = elim (has t x) as (λ b. has t x ≡ b → (b && is_subset xs t) ≡ false → (n : ℕ) × (has (x ∷ xs) n ≡ true) × (has t n ≡ false)) [
-  | false ↦ λ e rest. (x, or_left (eqb x x) _ (eq-eqb x x refl), e)
-  | true ↦ λ e rest. let p = outside xs t rest in (p.0, or_right (eqb x p.0) _ p.1, p.2)
-] refl h
+pub same_on : (before now : Bool) (old into new : List ℕ) → (before ≡ false → into ≡ old) → now ≡ not (same_sets into new) → (before || now) ≡ false → new ≡ old
+same_on true now old into new same told h = absurd (true≢false h)
+same_on false now old into new same told h = sym ((bytes_decides into new).0 (is_so (same_sets into new) (sym told ∙ h))) ∙ same refl
+  where
+    is_so : (b : Bool) → not b ≡ false → b ≡ true
+    is_so true none = refl
+    is_so false none = absurd (true≢false none)
 
-pub grows : (s t new : List ℕ) → is_subset t s ≡ false → new ≡ union s t → length (put_all s t) ≡ length s + length (those_new s t) → ((n : ℕ) → has (those_new s t) n ≡ (not (has s n) && has t n)) → length s < length new
-grows s t new more is long members =
-    let p = outside t s more in
-    let fresh : has (those_new s t) p.0 ≡ true = members p.0 ∙ ap (λ b. not b && has t p.0) p.2 ∙ p.1 in
-    let some = some_of (those_new s t) p.0 fresh in
-    let as_long : length new ≡ length (put_all s t) = ap length is in
-    omega (arith, some, as_long, long)
+pub grew_on : (before now : Bool) (old into new : List ℕ) → (before ≡ false → into ≡ old) → (before ≡ true → length old < length into) → length into + cond now 1 0 ≤ length new → (before || now) ≡ true → length old < length new
+grew_on true now old into new same grew count h = let more = grew refl in omega (arith, more, count)
+grew_on false true old into new same grew count h = let as_long : length into ≡ length old = ap length (same refl) in omega (arith, as_long, count)
+grew_on false false old into new same grew count h = absurd (true≢false (sym h))
 
 -- ---- the set of one block
 
-pub and_true : (a b : Bool) → a ≡ true → b ≡ false → (a && not b) ≡ true
-and_true true false is none = refl
-and_true true true is none = absurd (true≢false none)
-and_true false b is none = absurd (true≢false (sym is))
+-- A set is taken out of its place, and another put in there.
+module _ (sets : List Bits) (b : ℕ) (none own : Bits) (lt : b < length sets) where
+  pub put_back : set_at (lists_of (set (set sets b none) b own)) b ≡ elements own.values
+  put_back = written (set sets b none) b own (omega (arith, lt, length-set sets b none))
 
-pub of_and : (a b : Bool) → (a && not b) ≡ true → (a ≡ true) × (b ≡ false)
-of_and true false h = (refl, refl)
-of_and true true h = absurd (true≢false (sym h))
-of_and false b h = absurd (true≢false (sym h))
+  pub others_back : (c : ℕ) → c ≢ b → set_at (lists_of (set (set sets b none) b own)) c ≡ set_at (lists_of sets) c
+  others_back c other = others_stay (set sets b none) b own c other ∙ others_stay sets b none c other
 
-module _ (block : Flow) (b : ℕ) (old : List (List ℕ)) (gathered spare : List ℕ) (g : IsGathered block.sources old gathered) (difference : IsDifference gathered block.killed spare) where
-  enters : (v : ℕ) → has spare v ≡ true → Enters block old v × (has block.killed v ≡ false)
-  enters v h = let p = of_and (has gathered v) (has block.killed v) (sym (difference v) ∙ h) in ((g v).0 p.0, p.1)
+  pub as_many_back : length (lists_of (set (set sets b none) b own)) ≡ length (lists_of sets)
+  as_many_back = as_long (set sets b none) b own ∙ as_long sets b none
 
-  entered : (v : ℕ) → Enters block old v → has block.killed v ≡ false → has spare v ≡ true
-  entered v p passes = difference v ∙ and_true (has gathered v) (has block.killed v) ((g v).1 p) passes
+  pub same_back : elements own.values ≡ set_at (lists_of sets) b → lists_of (set (set sets b none) b own) ≡ lists_of sets
+  same_back same = same_lists (lists_of sets) (lists_of (set (set sets b none) b own)) as_many_back (λ c. elim (cases_eq c b) [
+    | inl is ↦ ap (λ n. set_at (lists_of (set (set sets b none) b own)) n) is ∙ put_back ∙ same ∙ ap (λ n. set_at (lists_of sets) n) (sym is)
+    | inr other ↦ others_back c other
+  ])
 
-  pub takes_union : (new : List (List ℕ)) → length new ≡ length old → ((c : ℕ) → c ≢ b → set_at new c ≡ set_at old c) → IsUnion (set_at old b) spare (set_at new b) → TakesIn block b old new
-  takes_union new long others members = record {
-    long = long;
-    others = others;
-    kept = λ v h. members v ∙ or_left (has (set_at old b) v) _ h;
-    takes = λ v p passes. members v ∙ or_right (has (set_at old b) v) _ (entered v p passes);
-    only = λ v h. elim (or_cases (has (set_at old b) v) (has spare v) (sym (members v) ∙ h)) [ inl before ↦ inl before | inr more ↦ inr (enters v more) ];
-  }
+-- The block's own set is empty while the others are read.
+pub takes_transfer : (block : Flow) (b : ℕ) (old read new : List (List ℕ)) → length new ≡ length old → set_at read b ≡ [] → ((c : ℕ) → c ≢ b → set_at read c ≡ set_at old c) → ((c : ℕ) → c ≢ b → set_at new c ≡ set_at old c) → Transfers block.sources block.killed read (set_at old b) (set_at new b) → TakesIn block b old new
+takes_transfer block b old read new long none apart others t = record {
+  long = long;
+  others = others;
+  kept = λ v h. (t v).1 (inl h);
+  takes = λ v p passes. (t v).1 (elim (cases_eq p.0 b) [
+    | inl is ↦ inl (ap (λ s. has (set_at old s) v) (sym is) ∙ p.2)
+    | inr other ↦ inr ((p.0, p.1, ap (λ s. has s v) (apart p.0 other) ∙ p.2), passes)
+  ]);
+  only = λ v h. elim ((t v).0 h) [
+    | inl was ↦ inl was
+    | inr p ↦ elim (cases_eq p.0.0 b) [
+      | inl is ↦ absurd (true≢false (sym p.0.2 ∙ ap (λ s. has (set_at read s) v) is ∙ ap (λ s. has s v) none))
+      | inr other ↦ inr ((p.0.0, p.0.1, ap (λ s. has s v) (sym (apart p.0.0 other)) ∙ p.0.2), p.1)
+    ]
+  ];
+}

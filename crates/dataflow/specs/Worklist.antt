@@ -32,10 +32,10 @@ pub record AddsDependent (sources : List ℕ) (b : ℕ) (old new : List (Vec ℕ
   pub adds : (s : ℕ) → s < length old → IsTrue (has sources s) → IsTrue (has (row_at new s) b)
   pub only : (c s : ℕ) → IsTrue (has (row_at new s) c) → IsTrue (has (row_at old s) c) ⊎ (c ≡ b)
 
--- the set has what is in the sets of the sources
-abbrev pub IsGathered : List ℕ → List (List ℕ) → List ℕ → Type 0
-IsGathered sources sets into = (v : ℕ) → IsTrue (has into v)
-    ↔ ((s : ℕ) × IsTrue (has sources s) × IsTrue (has (set_at sets s) v))
+-- `new` has what is in `old`, and what is in the set of a source and is not killed
+abbrev pub Transfers : List ℕ → List ℕ → List (List ℕ) → List ℕ → List ℕ → Type 0
+Transfers sources killed sets old new = (v : ℕ) → IsTrue (has new v) ↔ (IsTrue (has old v)
+    ⊎ (((s : ℕ) × IsTrue (has sources s) × IsTrue (has (set_at sets s) v)) × (has killed v ≡ false)))
 
 -- The set of block b took in what enters the block and is not killed.
 pub record TakesIn (block : Flow) (b : ℕ) (old new : List (List ℕ)) : Type 0 where

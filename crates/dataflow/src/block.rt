@@ -9,10 +9,8 @@ use bit_set::{BitBlock, BitSet};
 pub trait Block<B: BitBlock> {
     ghost flow: { Self → Flow };
 
-    // How long the two sets are, whose elements are in `flow`.
+    // How long the set is that is generated.
     ghost generated_length: { Self → ℕ };
-
-    ghost killed_length: { Self → ℕ };
 
     /// The blocks from which values flow into this one: its successors where the analysis goes backward, its
     /// predecessors where it goes forward. From a number that is no block nothing flows. Constant time.
@@ -26,8 +24,7 @@ pub trait Block<B: BitBlock> {
 
     /// The values that do not pass through the block. What it generates itself it does not kill. Constant time.
     fn killed(&self) -> &BitSet<B>
-        ensures elements { elements result.now.values ≡ (flow self.now).killed }
-        ensures length { length result.now.values ≡ killed_length self.now };
+        ensures { elements result.now.values ≡ (flow self.now).killed };
 }
 
 /// A block as the three parts of its equation.
@@ -52,8 +49,6 @@ impl<B: BitBlock> Block<B> for FlowBlock<B> {
     } };
 
     ghost generated_length = { λ block. length block.generated.values };
-
-    ghost killed_length = { λ block. length block.killed.values };
 
     #[inline]
     fn sources(&self) -> &[usize] {

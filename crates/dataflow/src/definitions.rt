@@ -32,8 +32,6 @@ impl<B: BitBlock> Block<B> for DefinitionBlock<B> {
 
     ghost generated_length = { λ block. length block.defined.values };
 
-    ghost killed_length = { λ block. length block.overwritten.values };
-
     #[inline]
     fn sources(&self) -> &[usize] {
         self.predecessors.as_slice()

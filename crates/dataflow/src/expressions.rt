@@ -38,8 +38,6 @@ impl<'a, B: BitBlock> Block<B> for MissingBlock<'a, B> {
 
     ghost generated_length = { λ it. length it.missing.values };
 
-    ghost killed_length = { λ it. length it.block.now.computed.values };
-
     #[inline]
     fn sources(&self) -> &[usize] {
         self.block.predecessors.as_slice()

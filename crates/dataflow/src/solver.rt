@@ -3,21 +3,23 @@ ghost use Rattle.std.specs.Prelude.{◌≡◌, ◌<◌, ◌^◌, ℕ, IfOk, IsOk
 ghost use Rattle.std.specs.List.{fold};
 ghost use Rattle.bit_set.specs.Sets.{elements, has};
 ghost use Rattle.dataflow.specs.Flow.{AreReached, Flow, HasAllDue, IsLeastSolution, lists_of, set_at};
-ghost use Rattle.dataflow.specs.Worklist.{AreDependents, AreOnTheWay, IsGathered, TakesIn};
+ghost use Rattle.dataflow.specs.Worklist.{AreDependents, AreOnTheWay, TakesIn, Transfers};
 
 use crate::Block;
 use crate::dependents::dependents_of;
 use crate::waiting::{all_below, flows_back, next_waiting, place, put_back};
-use bit_set::laws::{sets_ascend, sizes_of_sets};
+use bit_set::laws::sizes_of_sets;
 use bit_set::{BitBlock, BitSet};
 use std::alloc::{AllocError, Global};
+use std::mem;
 
 /// For each block the set of the values that reach it: what it generates, and what its sources have and it does
 /// not kill. Of all sets that meet these equations they are the least. Fails only where memory runs out, and never of
 /// no blocks.
 ///
-/// A block is visited again only after a set that flows into it grew. A visit unites the sets of the block's
-/// sources, takes out what it kills, and compares. Sets get the capacity for the longest before the first visit.
+/// A block is visited again only after a set that flows into it grew. A visit is one pass over the set of each source,
+/// which puts in what the block does not kill and tells whether that is new. Sets get the capacity for the longest before
+/// the first visit, so a visit takes no memory.
 pub fn solve<B: BitBlock, N: Block<B>>(
     alloc: Global,
     blocks: &[N],
@@ -33,16 +35,13 @@ pub fn solve<B: BitBlock, N: Block<B>>(
     Ok(sets)
 }
 
-// The length of the longest set that a block has, and 0 of no blocks.
+// The length of the longest set that a block generates, and 0 of no blocks.
 fn longest<B: BitBlock, N: Block<B>>(blocks: &[N]) -> usize
-    ensures { result ≡ fold (λ most block. max (max most (N.generated_length block)) (N.killed_length block))
-        0 blocks.now }
+    ensures { result ≡ fold (λ most block. max most (N.generated_length block)) 0 blocks.now }
 {
     let mut longest: usize = 0;
     for block in blocks {
-        longest = longest
-            .max(block.generated().get_ref().len())
-            .max(block.killed().get_ref().len());
+        longest = longest.max(block.generated().get_ref().len());
     }
     longest
 }
@@ -84,13 +83,12 @@ fn settle<B: BitBlock, N: Block<B>>(
     let count = blocks.len();
     let from_last = flows_back(blocks);
     let mut waiting = all_below::<usize>(alloc, count)?;
-    let mut spare = BitSet::new_general(alloc);
     let mut from = 0;
     while let Some(next) = next_waiting(&waiting, from) {
         waiting.remove(next);
         from = next + 1;
         let number = place(count, from_last, next);
-        if take_in(&blocks[number], number, sets, &mut spare)? {
+        if take_in(alloc, &blocks[number], number, sets)? {
             put_back(
                 dependents[number].as_slice(),
                 count,
@@ -105,67 +103,47 @@ fn settle<B: BitBlock, N: Block<B>>(
 
 // The set of a block takes in what enters the block and is not killed. Returns whether it grew.
 fn take_in<B: BitBlock, N: Block<B>>(
+    alloc: Global,
     block: &N,
     number: usize,
     sets: &mut [BitSet<B>],
-    spare: &mut BitSet<B>,
 ) -> Result<bool, AllocError>
     requires { number < length sets.old }
     ensures takes { OnOk result (TakesIn (N.flow block.now) number (lists_of sets.old) (lists_of sets.new)) }
-    ensures same { IfOk result (λ grew. grew ≡ false → sets.new ≡ sets.old) }
+    ensures same { IfOk result (λ grew. grew ≡ false → lists_of sets.new ≡ lists_of sets.old) }
     ensures grew { IfOk result (λ grew. grew ≡ true
         → length (set_at (lists_of sets.old) number) < length (set_at (lists_of sets.new) number)) }
     ensures few { IfOk result (λ grew. grew ≡ true → length (set_at (lists_of sets.new) number) < 2 ^ 64) }
 {
-    gather(block.sources(), sets, spare)?;
-    spare.difference_with(block.killed())?;
-    if spare.is_subset(&sets[number]) {
-        return Ok(false);
-    }
-    sets_ascend();
-    sizes_of_sets();
-    sets[number].union_with(spare)?;
-    bounded(&sets[number]);
-    Ok(true)
+    // The set is taken out of its place, so that it can be changed while the others are read. It takes no memory. A block
+    // that is its own source reads the empty set there: what the block has needs not go in.
+    let mut own = mem::replace(&mut sets[number], BitSet::new_general(alloc));
+    let grew = transfer(block.sources(), block.killed(), sets, &mut own)?;
+    bounded(&own);
+    sets[number] = own;
+    Ok(grew)
 }
 
-// Makes `into` the union of the sets of the sources. One pass over each.
-fn gather<B: BitBlock>(
+// Puts in what the sets of the sources have and is not killed. Returns whether some of it was not in. One pass a source.
+fn transfer<B: BitBlock>(
     sources: &[usize],
+    killed: &BitSet<B>,
     sets: &[BitSet<B>],
     into: &mut BitSet<B>,
-) -> Result<(), AllocError>
-    ensures { OnOk result (IsGathered sources.now (lists_of sets.now) (elements into.new.values)) }
+) -> Result<bool, AllocError>
+    ensures transfers { OnOk result (Transfers sources.now (elements killed.now.values) (lists_of sets.now)
+        (elements into.old.values) (elements into.new.values)) }
+    ensures same { IfOk result (λ grew. grew ≡ false → elements into.new.values ≡ elements into.old.values) }
+    ensures grew { IfOk result (λ grew. grew ≡ true
+        → length (elements into.old.values) < length (elements into.new.values)) }
 {
-    if sources.is_empty() {
-        into.make_empty();
-        return Ok(());
-    }
-    copy_set(sets, sources[0], into)?;
-    let others = &sources[1..];
-    for &source in others {
+    let mut grew = false;
+    for &source in sources {
         if let Some(set) = sets.get(source) {
-            into.union_with(set)?;
+            grew |= into.union_with_difference(set, killed)?;
         }
     }
-    Ok(())
-}
-
-// Makes `into` the set of one block, or empty where there is no such block.
-fn copy_set<B: BitBlock>(
-    sets: &[BitSet<B>],
-    source: usize,
-    into: &mut BitSet<B>,
-) -> Result<(), AllocError>
-    ensures { OnOk result (elements into.new.values ≡ set_at (lists_of sets.now) source) }
-{
-    match sets.get(source) {
-        Some(set) => into.clone_from(set),
-        None => {
-            into.make_empty();
-            Ok(())
-        }
-    }
+    Ok(grew)
 }
 
 // How many elements there can be.

@@ -31,8 +31,6 @@ impl<B: BitBlock> Block<B> for VariableBlock<B> {
 
     ghost generated_length = { λ block. length block.used.values };
 
-    ghost killed_length = { λ block. length block.assigned.values };
-
     #[inline]
     fn sources(&self) -> &[usize] {
         self.successors.as_slice()

@@ -3,4 +3,4 @@ use Rattle.std.specs.List.{fold}
 use Rattle.dataflow.proofs.solver.longest.Given as goal
 
 abbrev pub invariant-loop-block : goal.invariant-loop-block
-invariant-loop-block g l = l.longest ≡ fold (λ most block. max (max most (g.N.Block.generated_length block)) (g.N.Block.killed_length block)) 0 (take l.block-index l.blocks)
+invariant-loop-block g l = l.longest ≡ fold (λ most block. max most (g.N.Block.generated_length block)) 0 (take l.block-index l.blocks)

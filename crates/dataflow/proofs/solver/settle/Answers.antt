@@ -58,7 +58,7 @@ loop-next-smaller g c =
           let less : lacking (lists_of c.take_in.new.sets) < lacking (lists_of c.loop-next.sets) = nearer (map g.N.Block.flow blocks) _ number _ _ c.loop-next.invariant.way takes (omega (arith, inside, as_many)) (c.in_ok-take_in.ensures.grew w.if-branch.true) in
           omega (arith, less, few)
       | else-branch w ↦
-          let same : lacking (lists_of c.take_in.new.sets) ≡ lacking (lists_of c.loop-next.sets) = ap (λ (sets : List Bits). lacking (lists_of sets)) (c.in_ok-take_in.ensures.same w.if-branch.false) in
+          let same : lacking (lists_of c.take_in.new.sets) ≡ lacking (lists_of c.loop-next.sets) = ap lacking (c.in_ok-take_in.ensures.same w.if-branch.false) in
           let fewer : length (elements c.remove.new.self.values) + 1 ≡ length (elements c.loop-next.waiting.values) = one_less _ _ c.remove.result c.remove.ensures.count (c.remove.ensures.returned ∙ c.in-Some.ensures.some) in
           let now : length (elements c.if-branch.waiting.values) ≡ length (elements c.remove.new.self.values) = ap (λ (set : Bits). length (elements set.values)) w.waiting-is in
           omega (arith, same, fewer, now)
@@ -105,7 +105,7 @@ loop-next-preserved g c =
           let same = c.in_ok-take_in.ensures.same w.if-branch.false in
           rw w.waiting-is (record {
             way = rw same it.way;
-            settled = visited_same flows count from_last number p old new was rest long low c.place-number.ensures.value takes c.remove.ensures.members it.settled (ap lists_of same);
+            settled = visited_same flows count from_last number p old new was rest long low c.place-number.ensures.value takes c.remove.ensures.members it.settled same;
             below = λ q h. it.below q (waited was rest p c.remove.ensures.members q h);
             capacity = omega (arith, capacity, enough);
           })
