@@ -57,6 +57,19 @@ calls! {
         IntersectWith "intersect_with" "st"
         DifferenceWith "difference_with" "st"
         SymmetricDifferenceWith "symmetric_difference_with" "st"
+        UnionChanges "union_changes" "st"
+        IntersectionChanges "intersection_changes" "st"
+        DifferenceChanges "difference_changes" "st"
+        SymmetricDifferenceChanges "symmetric_difference_changes" "st"
+        UnionWithDifference "union_with_difference" "stn"
+        InsertRange "insert_range" "snm"
+        RemoveRange "remove_range" "snm"
+        ToggleRange "toggle_range" "snm"
+        Toggle "toggle" "sn"
+        Set "set" "snb"
+        PopFirst "pop_first" "s"
+        PopLast "pop_last" "s"
+        Retain "retain" "sn"
     }
     Move {
         Clone "clone" "st"
@@ -80,6 +93,15 @@ calls! {
         Display "display" "s"
         Debug "debug" "s"
         Json "json" "s"
+        ContainsAllInRange "contains_all_in_range" "snm"
+        ContainsAnyInRange "contains_any_in_range" "snm"
+        CountInRange "count_in_range" "snm"
+        First "first" "s"
+        Last "last" "s"
+        Next "next" "sn"
+        Previous "previous" "sn"
+        NextMissing "next_missing" "sn"
+        ToBytes "to_bytes" "s"
     }
     Walk {
         Iter "iter" "snm"
@@ -106,6 +128,14 @@ calls! {
         BitsMergeIntersection "bits.merge_intersection" "st"
         BitsMergeDifference "bits.merge_difference" "st"
         BitsMergeSymmetric "bits.merge_symmetric" "st"
+        BitsMergeChangesUnion "bits.merge_changes_union" "st"
+        BitsMergeChangesIntersection "bits.merge_changes_intersection" "st"
+        BitsMergeChangesDifference "bits.merge_changes_difference" "st"
+        BitsMergeChangesSymmetric "bits.merge_changes_symmetric" "st"
+        BitsUniteDifference "bits.unite_difference" "stn"
+        BitsSetRange "bits.set_range" "snm"
+        BitsClearRange "bits.clear_range" "snm"
+        BitsNegateRange "bits.negate_range" "snm"
     }
     Look {
         BitsLen "bits.len" "s"
@@ -125,6 +155,13 @@ calls! {
         BitsIsSubsetOf "bits.is_subset_of" "st"
         BitsIsDisjointFrom "bits.is_disjoint_from" "st"
         BitsDebug "bits.debug" "s"
+        BitsCountOnesInRange "bits.count_ones_in_range" "snm"
+        BitsAllInRange "bits.all_in_range" "snm"
+        BitsAnyInRange "bits.any_in_range" "snm"
+        BitsFirstOneFrom "bits.first_one_from" "sn"
+        BitsLastOneBefore "bits.last_one_before" "sn"
+        BitsFirstZeroFrom "bits.first_zero_from" "sn"
+        BitsToBytes "bits.to_bytes" "s"
     }
 }
 

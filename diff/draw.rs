@@ -73,7 +73,33 @@ impl Draw {
         let set = &sets[line.set];
         let is_far = self.random.once_in(400);
         match line.call {
-            Call::Insert if is_far => line.first = usize::MAX,
+            Call::Insert | Call::Toggle | Call::Set if is_far => line.first = usize::MAX,
+            Call::Next | Call::Previous | Call::NextMissing if is_far => {
+                line.first = usize::MAX - self.random.below(2);
+            }
+            Call::InsertRange | Call::ToggleRange => self.range(line, set),
+            Call::RemoveRange
+            | Call::ContainsAllInRange
+            | Call::ContainsAnyInRange
+            | Call::CountInRange
+            | Call::BitsSetRange
+            | Call::BitsClearRange
+            | Call::BitsNegateRange
+            | Call::BitsCountOnesInRange
+            | Call::BitsAllInRange
+            | Call::BitsAnyInRange => {
+                self.range(line, set);
+                if is_far {
+                    line.second = usize::MAX - self.random.below(2);
+                }
+            }
+            Call::Toggle | Call::Set | Call::Next | Call::Previous | Call::NextMissing => {
+                line.first = self.element(set);
+            }
+            Call::BitsFirstOneFrom | Call::BitsLastOneBefore | Call::BitsFirstZeroFrom => {
+                line.first = self.element(set);
+            }
+            Call::UnionWithDifference | Call::BitsUniteDifference => line.first = self.random.below(4),
             Call::Contains | Call::Remove | Call::Truncate if is_far => line.first = usize::MAX - self.random.below(2),
             Call::BitsGet | Call::SplitOff if is_far => line.first = usize::MAX - self.random.below(2),
             Call::Insert | Call::Remove | Call::Contains => line.first = self.element(set),
@@ -141,6 +167,18 @@ impl Draw {
             4 => self.random.below(self.most),
             _ => self.length(),
         }
+    }
+
+    /// A range from an element on, which may be empty. Long ones are for scripts of short sets.
+    fn range(&mut self, line: &mut Line, set: &Model) {
+        line.first = self.element(set);
+        let is_short = self.most > 20_000 && !self.random.once_in(12);
+        line.second = match self.random.below(4) {
+            0 if !is_short => self.element(set),
+            1 if !is_short => self.length(),
+            2 => line.first + self.random.below(3),
+            _ => line.first + self.random.below(3 * width()),
+        };
     }
 
     /// The block of such an element, or one far past all blocks.

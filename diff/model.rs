@@ -5,6 +5,7 @@ use std::cell::Cell;
 use std::cmp::Ordering;
 use std::collections::BTreeSet;
 use std::hash::{Hash, Hasher};
+use std::ops::Range;
 
 thread_local! {
     static WIDTH: Cell<usize> = const { Cell::new(32) };
@@ -53,6 +54,26 @@ impl Model {
         Ok(true)
     }
 
+    /// Puts each number of a range in, or takes it out where it is in and that is asked for.
+    fn turn_range(&mut self, from: usize, to: usize, takes_out: bool) {
+        for number in from..to {
+            if !self.elements.insert(number) && takes_out {
+                self.elements.remove(&number);
+            }
+        }
+        if from < to {
+            self.len = self.len.max(to);
+        }
+    }
+
+    fn clear_range(&mut self, range: Range<usize>) {
+        self.elements.retain(|element| !range.contains(element));
+    }
+
+    fn within(&self, from: usize, to: usize) -> impl Iterator<Item = &usize> {
+        self.elements.range(from..to.max(from))
+    }
+
     fn truncate(&mut self, len: usize) {
         if len < self.len {
             self.elements.split_off(&len);
@@ -73,9 +94,9 @@ impl Model {
     fn merge(&mut self, call: Call, other: &Model) {
         let (one, two) = (&self.elements, &other.elements);
         self.elements = match call {
-            Call::UnionWith | Call::BitsMergeUnion => one | two,
-            Call::IntersectWith | Call::BitsMergeIntersection => one & two,
-            Call::DifferenceWith | Call::BitsMergeDifference => one - two,
+            Call::UnionWith | Call::UnionChanges | Call::BitsMergeUnion | Call::BitsMergeChangesUnion => one | two,
+            Call::IntersectWith | Call::IntersectionChanges | Call::BitsMergeIntersection | Call::BitsMergeChangesIntersection => one & two,
+            Call::DifferenceWith | Call::DifferenceChanges | Call::BitsMergeDifference | Call::BitsMergeChangesDifference => one - two,
             _ => one ^ two,
         };
         self.len = self.len.max(other.len);
@@ -159,6 +180,18 @@ impl Set for Model {
             Call::MakeEmpty | Call::Clear => self.elements.clear(),
             Call::Reset => *self = Model::default(),
             Call::ShrinkToFit => self.cut_zero_blocks(),
+            Call::InsertRange | Call::ToggleRange => {
+                self.turn_range(line.first, line.second, line.call == Call::ToggleRange);
+            }
+            Call::RemoveRange => self.clear_range(line.first..line.second),
+            Call::Toggle => {
+                let was = self.elements.contains(&line.first);
+                self.insert(line.first)?;
+                return Ok(!was || !self.elements.remove(&line.first));
+            }
+            Call::Set if line.bit() => return self.insert(line.first),
+            Call::Set => return Ok(self.elements.remove(&line.first)),
+            Call::Retain => self.elements.retain(|element| element % 3 != line.first % 3),
             _ => {}
         }
         Ok(true)
@@ -255,6 +288,53 @@ impl Set for Model {
         self.elements.iter().copied().collect()
     }
 
+    fn united_with_difference(&mut self, one: &Model, two: Option<&Model>) -> bool {
+        let count = self.elements.len();
+        let left_out = |number: &usize| two.is_some_and(|two| two.elements.contains(number));
+        self.elements.extend(one.elements.iter().filter(|number| !left_out(number)));
+        self.len = self.len.max(one.len);
+        self.elements.len() != count
+    }
+
+    fn popped(&mut self, call: Call) -> Option<usize> {
+        if call == Call::PopFirst { self.elements.pop_first() } else { self.elements.pop_last() }
+    }
+
+    fn read_range(&self, call: Call, from: usize, to: usize) -> usize {
+        let count = self.within(from, to).count();
+        match call {
+            Call::CountInRange | Call::BitsCountOnesInRange => count,
+            Call::ContainsAnyInRange | Call::BitsAnyInRange => usize::from(count > 0),
+            _ => usize::from(count == to.saturating_sub(from)),
+        }
+    }
+
+    fn found(&self, call: Call, number: usize) -> Option<usize> {
+        match call {
+            Call::First => self.elements.first(),
+            Call::Last => self.elements.last(),
+            Call::Next | Call::BitsFirstOneFrom => self.elements.range(number..).next(),
+            _ => self.elements.range(..number).next_back(),
+        }
+        .copied()
+    }
+
+    fn next_missing(&self, number: usize) -> usize {
+        let mut missing = number;
+        while self.elements.contains(&missing) {
+            missing += 1;
+        }
+        missing
+    }
+
+    fn to_bytes(&self) -> Vec<u8> {
+        let mut bytes = vec![0; self.len.div_ceil(8)];
+        for element in &self.elements {
+            bytes[element / 8] |= 128 >> (element % 8);
+        }
+        bytes
+    }
+
     fn bits_written(&mut self, line: &Line, other: &Model) -> Option<bool> {
         match line.call {
             Call::BitsSet | Call::BitsReplace => return Some(self.put(line.first, line.bit())),
@@ -264,6 +344,11 @@ impl Set for Model {
             Call::BitsGrow => self.grow(line.first, line.bit()),
             Call::BitsCutZeroBlocks => self.cut_zero_blocks(),
             Call::BitsCloneFrom => *self = other.clone(),
+            Call::BitsSetRange | Call::BitsNegateRange => {
+                let to = line.second.min(self.len);
+                self.turn_range(line.first, to, line.call == Call::BitsNegateRange);
+            }
+            Call::BitsClearRange => self.clear_range(line.first..line.second),
             Call::BitsReserve | Call::BitsReserveExact | Call::BitsShrinkToFit => {}
             merge => self.merge(merge, other),
         }

@@ -215,6 +215,30 @@ impl<B: Block> Set for Peer<B> {
         elements
     }
 
+    fn united_with_difference(&mut self, _one: &Self, _two: Option<&Self>) -> bool {
+        unreachable!("by the model")
+    }
+
+    fn popped(&mut self, _call: Call) -> Option<usize> {
+        unreachable!("by the model")
+    }
+
+    fn read_range(&self, _call: Call, _from: usize, _to: usize) -> usize {
+        unreachable!("by the model")
+    }
+
+    fn found(&self, _call: Call, _number: usize) -> Option<usize> {
+        unreachable!("by the model")
+    }
+
+    fn next_missing(&self, _number: usize) -> usize {
+        unreachable!("by the model")
+    }
+
+    fn to_bytes(&self) -> Vec<u8> {
+        unreachable!("by the model")
+    }
+
     fn bits_written(&mut self, line: &Line, other: &Self) -> Option<bool> {
         self.edit(|bits| match line.call {
             Call::BitsSet => bits.set(line.first, line.bit()),

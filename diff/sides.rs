@@ -40,6 +40,13 @@ pub trait Set: Sized + Ord + Hash + Clone {
     fn json(&self) -> Option<String>;
     fn walk<'a>(&'a self, line: &Line, other: &'a Self) -> Box<dyn Walk + 'a>;
     fn elements(&self) -> Vec<usize>;
+    /// The call that changes this set by two others, and whether it did.
+    fn united_with_difference(&mut self, one: &Self, two: Option<&Self>) -> bool;
+    fn popped(&mut self, call: Call) -> Option<usize>;
+    fn read_range(&self, call: Call, from: usize, to: usize) -> usize;
+    fn found(&self, call: Call, number: usize) -> Option<usize>;
+    fn next_missing(&self, number: usize) -> usize;
+    fn to_bytes(&self) -> Vec<u8>;
     fn bits_written(&mut self, line: &Line, other: &Self) -> Option<bool>;
     fn bits_len(&self) -> usize;
     fn bits_get(&self, place: usize) -> Option<bool>;
@@ -86,8 +93,12 @@ impl Answers {
     }
 
     pub fn text(&mut self, text: &str) {
-        self.number(text.len());
-        self.0.extend(text.bytes().map(usize::from));
+        self.bytes(text.as_bytes());
+    }
+
+    fn bytes(&mut self, bytes: &[u8]) {
+        self.number(bytes.len());
+        self.0.extend(bytes.iter().copied().map(usize::from));
     }
 
     fn change(&mut self, ended: Result<bool, Refused>) {
@@ -141,6 +152,15 @@ pub fn answer<S: Set>(sets: &mut [S; 4], line: &Line, answers: &mut Answers) {
         Group::Read => read(&sets[line.set], &sets[line.other], line, answers),
         Group::Walk => walk(&sets[line.set], &sets[line.other], line, answers),
         _ if line.is_idle() => {}
+        _ if line.call == Call::BitsUniteDifference && sets[line.set].bits_len() < sets[line.other].bits_len() => {}
+        _ if matches!(line.call, Call::UnionWithDifference | Call::BitsUniteDifference) => {
+            let mut set = sets[line.set].clone();
+            let third = line.first % 4;
+            let two = if third == line.set { None } else { Some(&sets[third]) };
+            let changed = set.united_with_difference(&sets[line.other], two);
+            sets[line.set] = set;
+            answers.truth(changed);
+        }
         group => {
             let [set, other] = sets.get_disjoint_mut([line.set, line.other]).expect("two sets");
             match group {
@@ -167,6 +187,15 @@ fn change<S: Set>(set: &mut S, other: &S, line: &Line, answers: &mut Answers) {
         Call::UnionWith | Call::IntersectWith | Call::DifferenceWith | Call::SymmetricDifferenceWith => {
             set.merged(line.call, other)
         }
+        Call::UnionChanges
+        | Call::IntersectionChanges
+        | Call::DifferenceChanges
+        | Call::SymmetricDifferenceChanges => {
+            let before = set.elements();
+            set.merged(line.call, other);
+            answers.truth(set.elements() != before);
+        }
+        Call::PopFirst | Call::PopLast => answers.item(set.popped(line.call)),
         _ => answers.change(set.changed(line)),
     }
 }
@@ -205,6 +234,12 @@ fn read<S: Set>(set: &S, other: &S, line: &Line, answers: &mut Answers) {
         }
         Call::Display => answers.text(&set.display()),
         Call::Debug => answers.text(&set.debug()),
+        Call::ContainsAllInRange | Call::ContainsAnyInRange | Call::CountInRange => {
+            answers.number(set.read_range(line.call, line.first, line.second))
+        }
+        Call::First | Call::Last | Call::Next | Call::Previous => answers.item(set.found(line.call, line.first)),
+        Call::NextMissing => answers.number(set.next_missing(line.first)),
+        Call::ToBytes => answers.bytes(&set.to_bytes()),
         _ => {
             if let Some(text) = set.json() {
                 answers.text(&text);
@@ -244,6 +279,16 @@ fn walk<S: Set>(set: &S, other: &S, line: &Line, answers: &mut Answers) {
 fn write<S: Set>(set: &mut S, other: &S, line: &Line, answers: &mut Answers) {
     let len = set.bits_len();
     match line.call {
+        Call::BitsMergeChangesUnion
+        | Call::BitsMergeChangesIntersection
+        | Call::BitsMergeChangesDifference
+        | Call::BitsMergeChangesSymmetric => {
+            if len >= other.bits_len() {
+                let before = set.elements();
+                let _nothing = set.bits_written(line, other);
+                answers.truth(set.elements() != before);
+            }
+        }
         Call::BitsSet | Call::BitsReplace if len <= line.first => answers.bit(None),
         Call::BitsSet | Call::BitsReplace => {
             let was = set.bits_written(line, other);
@@ -276,6 +321,12 @@ fn look<S: Set>(set: &S, other: &S, line: &Line, answers: &mut Answers) {
         Call::BitsBlock => single(&set.bits_storage(), &other.bits_storage(), line, answers),
         Call::BitsIsSubsetOf => answers.truth(set.bits_is_subset_of(other)),
         Call::BitsIsDisjointFrom => answers.truth(set.bits_is_disjoint_from(other)),
+        Call::BitsCountOnesInRange | Call::BitsAllInRange | Call::BitsAnyInRange => {
+            answers.number(set.read_range(line.call, line.first, line.second))
+        }
+        Call::BitsFirstOneFrom | Call::BitsLastOneBefore => answers.item(set.found(line.call, line.first)),
+        Call::BitsFirstZeroFrom => answers.number(set.next_missing(line.first)),
+        Call::BitsToBytes => answers.bytes(&set.to_bytes()),
         _ => answers.text(&set.bits_debug()),
     }
 }

@@ -60,7 +60,11 @@ impl Answers {
 
     // The length of the text, and its bytes.
     pub(crate) fn text(&mut self, text: &str) -> Result<(), AllocError> {
-        let bytes = text.as_bytes();
+        self.bytes(text.as_bytes())
+    }
+
+    // How many bytes there are, and these.
+    pub(crate) fn bytes(&mut self, bytes: &[u8]) -> Result<(), AllocError> {
         self.number(bytes.len())?;
         for byte in bytes {
             self.number(usize::from(*byte))?;

@@ -13,6 +13,41 @@ fn merge<B: BitBlock>(bits: &mut BitVec<B>, other: &BitVec<B>, merge: Merge) {
     }
 }
 
+// Likewise, and whether the list changed.
+fn merge_changes<B: BitBlock>(
+    bits: &mut BitVec<B>,
+    other: &BitVec<B>,
+    merge: Merge,
+    answers: &mut Answers,
+) -> Result<(), AllocError> {
+    if other.len() > bits.len() {
+        return Ok(());
+    }
+    answers.truth(bits.merge_changes(other, merge, &mut Steps::new()))
+}
+
+// What the second list has and the third has not, where the second is no longer than the first.
+pub(crate) fn unite_difference<B: BitBlock>(
+    bits: &mut BitVec<B>,
+    (other, except): (&BitVec<B>, &BitVec<B>),
+    answers: &mut Answers,
+) -> Result<(), AllocError> {
+    if other.len() > bits.len() {
+        return Ok(());
+    }
+    answers.truth(bits.unite_difference(other, except, &mut Steps::new()))
+}
+
+// Calls on a range, as far as the list goes.
+fn write_range<B: BitBlock>(writing: Writing, bits: &mut BitVec<B>, (start, end): (usize, usize)) {
+    let range = start..end.min(bits.len());
+    match writing {
+        Writing::SetRange => bits.fill_range(range, true),
+        Writing::ClearRange => bits.fill_range(range, false),
+        _ => bits.negate_range(range),
+    }
+}
+
 // Calls at a place, where there is one.
 fn write_at<B: BitBlock>(
     writing: Writing,
@@ -71,6 +106,16 @@ pub(crate) fn write<B: BitBlock>(
         Writing::MergeIntersection => merge(bits, other, Merge::Intersection),
         Writing::MergeDifference => merge(bits, other, Merge::Difference),
         Writing::MergeSymmetric => merge(bits, other, Merge::Symmetric),
+        Writing::MergeChangesUnion => merge_changes(bits, other, Merge::Union, answers)?,
+        Writing::MergeChangesIntersection => {
+            merge_changes(bits, other, Merge::Intersection, answers)?
+        }
+        Writing::MergeChangesDifference => merge_changes(bits, other, Merge::Difference, answers)?,
+        Writing::MergeChangesSymmetric => merge_changes(bits, other, Merge::Symmetric, answers)?,
+        Writing::UniteDifference => {}
+        Writing::SetRange | Writing::ClearRange | Writing::NegateRange => {
+            write_range(writing, bits, (number, line.second))
+        }
     }
     Ok(())
 }

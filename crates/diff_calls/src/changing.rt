@@ -32,6 +32,12 @@ fn changed_alone<B: BitBlock>(
         Changing::ReserveLen => set.reserve_len(number)?,
         Changing::ReserveLenExact => set.reserve_len_exact(number)?,
         Changing::ShrinkToFit => set.shrink_to_fit()?,
+        Changing::InsertRange => set.insert_range(number..line.second)?,
+        Changing::RemoveRange => set.remove_range(number..line.second),
+        Changing::ToggleRange => set.toggle_range(number..line.second)?,
+        Changing::Toggle => return set.toggle(number),
+        Changing::Set => return set.set(number, line.second == 1),
+        Changing::Retain => set.retain(|element| element % 3 != number % 3),
         _ => {}
     }
     Ok(true)
@@ -51,6 +57,14 @@ pub(crate) fn change<B: BitBlock>(
         Changing::IntersectWith => set.intersect_with(other),
         Changing::DifferenceWith => set.difference_with(other),
         Changing::SymmetricDifferenceWith => set.symmetric_difference_with(other),
+        Changing::UnionChanges => answers.truth(set.union_changes(other)?),
+        Changing::IntersectionChanges => answers.truth(set.intersection_changes(other)?),
+        Changing::DifferenceChanges => answers.truth(set.difference_changes(other)?),
+        Changing::SymmetricDifferenceChanges => {
+            answers.truth(set.symmetric_difference_changes(other)?)
+        }
+        Changing::PopFirst => answers.item(set.pop_first()),
+        Changing::PopLast => answers.item(set.pop_last()),
         _ => answers.change(changed_alone(changing, set, line)),
     }
 }

@@ -36,5 +36,14 @@ pub(crate) fn look<B: Width>(
             answers.truth(bits.is_disjoint_from(other, &mut Steps::new()))
         }
         Looking::Debug => answers.text(&format!(in alloc; "{bits:?}")?),
+        Looking::CountOnesInRange => {
+            answers.number(bits.count_ones_in_range(line.first..line.second))
+        }
+        Looking::AllInRange => answers.truth(bits.all_in_range(line.first..line.second)),
+        Looking::AnyInRange => answers.truth(bits.any_in_range(line.first..line.second)),
+        Looking::FirstOneFrom => answers.item(bits.first_one_from(line.first)),
+        Looking::LastOneBefore => answers.item(bits.last_one_before(line.first)),
+        Looking::FirstZeroFrom => answers.number(bits.first_zero_from(line.first)),
+        Looking::ToBytes => answers.bytes(&bits.to_bytes(alloc)?),
     }
 }

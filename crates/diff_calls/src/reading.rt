@@ -28,7 +28,7 @@ pub(crate) fn read<B: Width>(
     alloc: Global,
     reading: Reading,
     (set, other): (&BitSet<B>, &BitSet<B>),
-    number: usize,
+    (number, end): (usize, usize),
     answers: &mut Answers,
 ) -> Result<(), AllocError> {
     match reading {
@@ -46,5 +46,14 @@ pub(crate) fn read<B: Width>(
         Reading::Display => answers.text(&format!(in alloc; "{set}")?),
         Reading::Debug => answers.text(&format!(in alloc; "{set:?}")?),
         Reading::Json => B::through_json(alloc, set, answers),
+        Reading::ContainsAllInRange => answers.truth(set.contains_all_in_range(number..end)),
+        Reading::ContainsAnyInRange => answers.truth(set.contains_any_in_range(number..end)),
+        Reading::CountInRange => answers.number(set.count_in_range(number..end)),
+        Reading::First => answers.item(set.first()),
+        Reading::Last => answers.item(set.last()),
+        Reading::Next => answers.item(set.next(number)),
+        Reading::Previous => answers.item(set.previous(number)),
+        Reading::NextMissing => answers.number(set.next_missing(number)),
+        Reading::ToBytes => answers.bytes(&set.to_bytes(alloc)?),
     }
 }

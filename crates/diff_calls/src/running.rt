@@ -1,8 +1,8 @@
 // A script, from its words to the words that its calls return.
 use crate::answers::Answers;
-use crate::bits::write;
+use crate::bits::{unite_difference, write};
 use crate::blocks::storage;
-use crate::calls::Call;
+use crate::calls::{Call, Changing, Writing};
 use crate::changing::{change, move_over};
 use crate::lines::Line;
 use crate::looking::look;
@@ -79,6 +79,28 @@ impl<B: Width> Sets<B> {
         Ok(())
     }
 
+    // Puts what the second set has and the third has not into the first. The first is empty where it is the third.
+    fn fuse(
+        &mut self,
+        alloc: Global,
+        line: &Line<'_>,
+        answers: &mut Answers,
+    ) -> Result<(), AllocError> {
+        if line.set % 4 == line.other % 4 {
+            return Ok(());
+        }
+        let mut set = mem::replace(self.named_mut(line.set), BitSet::new_general(alloc));
+        let (other, except) = (self.named(line.other), self.named(line.first));
+        match line.call {
+            Call::Write(_) => {
+                unite_difference(set.get_mut(), (other.get_ref(), except.get_ref()), answers)?
+            }
+            _ => answers.truth(set.union_with_difference(other, except)?)?,
+        }
+        *self.named_mut(line.set) = set;
+        Ok(())
+    }
+
     // Makes the call of a line.
     fn call(
         &mut self,
@@ -90,12 +112,14 @@ impl<B: Width> Sets<B> {
             Call::Make(making) => self.make(line, made(alloc, making, line), answers),
             Call::Read(reading) => {
                 let sets = (self.named(line.set), self.named(line.other));
-                read(alloc, reading, sets, line.first, answers)
+                read(alloc, reading, sets, (line.first, line.second), answers)
             }
             Call::Walk(walking) => {
                 let sets = (self.named(line.set), self.named(line.other));
                 walk_over(walking, sets, line, answers)
             }
+            Call::Change(Changing::UnionWithDifference) | Call::Write(Writing::UniteDifference) =>
+                self.fuse(alloc, line, answers),
             _ => self.change(alloc, line, answers),
         }
     }

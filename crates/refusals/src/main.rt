@@ -4,11 +4,14 @@
 
 mod asks;
 mod bits;
+mod ends;
 mod failing_writers;
 mod faults;
 mod flow_problems;
 mod json;
 mod new_values;
+mod noted;
+mod ranges;
 mod rows;
 mod runs;
 mod sets;
@@ -33,6 +36,8 @@ fn words(rt: &HostRuntime) -> Result<Vec<String>, Fault> {
 // The calls of sets and bit vectors that each type of blocks has, over one of them.
 fn over_sets<B: BitBlock>(sweep: &mut Sweep<'_>) {
     sets::all::<B>(sweep);
+    noted::all::<B>(sweep);
+    ranges::all::<B>(sweep);
     splits::all::<B>(sweep);
     new_values::all::<B>(sweep);
     bits::all::<B>(sweep);

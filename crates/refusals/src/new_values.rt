@@ -18,6 +18,7 @@ enum Making {
     BitsFromBytes,
     BitsClone,
     BitsCloneTail,
+    ToBytes,
 }
 
 #[derive(Clone, Copy)]
@@ -117,6 +118,17 @@ const ROWS: &[Row<OnSets<Making>>] = &[
             failed: FIRST,
         },
     },
+    Row {
+        name: "to_bytes",
+        asks: &[Ask::Other(1, 626), Ask::Exact(5008)],
+        call: OnSets {
+            call: Making::ToBytes,
+            capacity: Capacity::Exact,
+            returned: State::Of(&[3, 7, 5000], 5008),
+            lent: LENT,
+            failed: FIRST,
+        },
+    },
 ];
 
 // The calls that are over blocks of 32 bits alone.
@@ -212,11 +224,18 @@ fn copied_set<B: BitBlock>(
     }
 }
 
+// The set of the bytes that a set becomes.
+fn there_and_back<B: BitBlock>(alloc: Global, lent: &BitSet<B>) -> Result<BitSet<B>, Fault> {
+    let bytes = lent.to_bytes(alloc)?;
+    Ok(BitSet::from_bytes_general(alloc, &bytes)?)
+}
+
 fn new_set<B: BitBlock>(alloc: Global, call: Making, lent: &BitSet<B>) -> Result<BitSet<B>, Fault> {
     match call {
         Making::WithCapacity | Making::Clone => Ok(copied_set(alloc, call, lent)?),
         Making::FromBytes => Ok(BitSet::from_bytes_general(alloc, &BYTES)?),
         Making::FromIter => Ok(set_of(alloc, &[9, 450, 5000])?),
+        Making::ToBytes => there_and_back(alloc, lent),
         _ => Ok(BitSet::from_bit_vec_general(new_bits(alloc, call, lent.get_ref())?)),
     }
 }

@@ -2,10 +2,10 @@
 ghost use Rattle.std.specs.Prelude.{◌+◌, ◌%◌, ◌^◌, length};
 ghost use Rattle.std.specs.Iterator.{IsFinite};
 
-use crate::failing_writers;
 use crate::faults::Fault;
 use crate::states::{Capacity, FIRST, LENT, Sets, State};
 use crate::sweep::{Row, Sweep, Trial};
+use crate::{ends, failing_writers};
 use bit_set::bit_vec::{BitVec, Merge, Steps};
 use bit_set::{BitBlock, BitSet};
 use bit_set_run::{Numbers, SetName, Table};
@@ -49,6 +49,9 @@ enum Kind {
     BitWalks,
     NonzeroWalks,
     BitChanges,
+    Ends,
+    Ranges,
+    BitEnds,
 }
 
 // A group, its results, and what it leaves of the set.
@@ -124,6 +127,21 @@ const ROWS: &[Row<Group>] = &[
         name: "bit_changes",
         asks: &[],
         call: Group(Kind::BitChanges, [1, 1, 448, 1, 0, 0], EMPTY),
+    },
+    Row {
+        name: "ends",
+        asks: &[],
+        call: Group(Kind::Ends, [3, 447, 447, 3, 4, 450], State::Of(&[], 5001)),
+    },
+    Row {
+        name: "ranges",
+        asks: &[],
+        call: Group(Kind::Ranges, [2, 0, 1, 1, 3, 2], State::Of(&[1, 446], 5001)),
+    },
+    Row {
+        name: "bit_ends",
+        asks: &[],
+        call: Group(Kind::BitEnds, [2, 0, 1, 447, 3, 4], LONG),
     },
 ];
 
@@ -369,6 +387,7 @@ fn read<B: BitBlock>(kind: Kind, set: &BitSet<B>, lent: &BitSet<B>) -> [usize; 6
         Kind::Counts => counts(set, lent),
         Kind::Bits => bits(set.get_ref(), lent.get_ref()),
         Kind::BitWalks => bit_walks(set.get_ref()),
+        Kind::BitEnds => ends::of_bits(set.get_ref()),
         _ => nonzero_walks(set.get_ref()),
     }
 }
@@ -379,6 +398,8 @@ fn results<B: BitBlock>(alloc: Global, kind: Kind, sets: &mut Sets<B>) -> [usize
         Kind::Moves => moves(alloc, &mut sets.set),
         Kind::Texts => shown(&mut sets.set),
         Kind::Changes => changes(&mut sets.set),
+        Kind::Ends => ends::of_set(&mut sets.set),
+        Kind::Ranges => ends::of_ranges(&mut sets.set),
         Kind::BitChanges => bit_changes(sets.set.get_mut(), sets.lent.get_ref()),
         _ => read(kind, &sets.set, &sets.lent),
     }

@@ -1,0 +1,124 @@
+// Calls that change a set by another and say whether they did.
+use crate::asks::Ask;
+use crate::faults::Fault;
+use crate::rows::{Call, OnSets};
+use crate::states::{Capacity, FIRST, LENT, Sets, State};
+use crate::sweep::{Row, Sweep};
+use bit_set::{BitBlock, BitSet};
+use std::alloc::{AllocError, Global};
+
+#[derive(Clone, Copy)]
+enum Noted {
+    Union,
+    Intersection,
+    Difference,
+    Symmetric,
+    UnionWithDifference,
+}
+
+const ROWS: &[Row<OnSets<Noted>>] = &[
+    Row {
+        name: "union_changes",
+        asks: &[Ask::Grown(5001)],
+        call: OnSets {
+            call: Noted::Union,
+            capacity: Capacity::Short,
+            returned: State::Of(&[3, 7, 447, 5000], 5001),
+            lent: LENT,
+            failed: FIRST,
+        },
+    },
+    Row {
+        name: "union_changes_within",
+        asks: &[],
+        call: OnSets {
+            call: Noted::Union,
+            capacity: Capacity::Ample,
+            returned: State::Of(&[3, 7, 447, 5000], 5001),
+            lent: LENT,
+            failed: FIRST,
+        },
+    },
+    Row {
+        name: "intersection_changes",
+        asks: &[Ask::Grown(5001)],
+        call: OnSets {
+            call: Noted::Intersection,
+            capacity: Capacity::Short,
+            returned: State::Of(&[3], 5001),
+            lent: LENT,
+            failed: FIRST,
+        },
+    },
+    Row {
+        name: "difference_changes",
+        asks: &[Ask::Grown(5001)],
+        call: OnSets {
+            call: Noted::Difference,
+            capacity: Capacity::Short,
+            returned: State::Of(&[447], 5001),
+            lent: LENT,
+            failed: FIRST,
+        },
+    },
+    Row {
+        name: "symmetric_difference_changes",
+        asks: &[Ask::Grown(5001)],
+        call: OnSets {
+            call: Noted::Symmetric,
+            capacity: Capacity::Short,
+            returned: State::Of(&[7, 447, 5000], 5001),
+            lent: LENT,
+            failed: FIRST,
+        },
+    },
+    Row {
+        name: "union_with_difference",
+        asks: &[Ask::Grown(5001)],
+        call: OnSets {
+            call: Noted::UnionWithDifference,
+            capacity: Capacity::Short,
+            returned: State::Of(&[3, 7, 447, 5000], 5001),
+            lent: LENT,
+            failed: FIRST,
+        },
+    },
+    Row {
+        name: "union_with_difference_within",
+        asks: &[],
+        call: OnSets {
+            call: Noted::UnionWithDifference,
+            capacity: Capacity::Ample,
+            returned: State::Of(&[3, 7, 447, 5000], 5001),
+            lent: LENT,
+            failed: FIRST,
+        },
+    },
+];
+
+// Each call changes the set.
+fn noted<B: BitBlock>(
+    alloc: Global,
+    call: Noted,
+    set: &mut BitSet<B>,
+    lent: &BitSet<B>,
+) -> Result<bool, AllocError> {
+    match call {
+        Noted::Union => set.union_changes(lent),
+        Noted::Intersection => set.intersection_changes(lent),
+        Noted::Difference => set.difference_changes(lent),
+        Noted::Symmetric => set.symmetric_difference_changes(lent),
+        Noted::UnionWithDifference => set.union_with_difference(lent, &BitSet::new_general(alloc)),
+    }
+}
+
+impl<B: BitBlock> Call<B> for Noted {
+    fn make(self, alloc: Global, sets: &mut Sets<B>) -> Result<bool, Fault> {
+        Ok(noted(alloc, self, &mut sets.set, &sets.lent)?)
+    }
+}
+
+/// Makes these calls.
+pub fn all<B: BitBlock>(sweep: &mut Sweep<'_>) {
+    sweep.over::<OnSets<Noted>, Sets<B>>(ROWS);
+}
