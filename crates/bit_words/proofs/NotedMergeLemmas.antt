@@ -80,17 +80,6 @@ module _ {X : Type 0} (m : Merge) (w : ℕ) (f : X → ℕ) (P : X → Type 0) w
   pub noted_at : (p q a b : ℕ) (other : ℕ → ℕ → Bool) (xs ys : List X) (s t : X) → p ≡ a → q ≡ b → HasNoted m w f P p q other xs s ys t → HasNoted m w f P a b other xs s ys t
   noted_at p q a b other xs ys s t from to is = rw (sym from, sym to) is
 
-  -- with what was seen before, where it was noted from 0 on
-  pub noted_joined : (start end : ℕ) (other : ℕ → ℕ → Bool) (xs ys : List X) (t z u v : X) → f z ≡ 0 → P v → ((f v ≡ 0) ↔ ((f t ≡ 0) × (f u ≡ 0))) → HasNoted m w f P start end other xs z ys u → HasNoted m w f P start end other xs t ys v
-  noted_joined start end other xs ys t z u v naught of_block both is = record {
-    merged = is.merged;
-    of_block = of_block;
-    noted = (
-      λ none. let parts = both.0 none in (parts.0, (is.noted.0 parts.1).1),
-      λ kept. both.1 (kept.0, is.noted.1 (naught, kept.1)),
-    );
-  }
-
   -- one of them
   pub noted_put : (k a b n : ℕ) (xs ys : List X) (s t : X) → k < length xs → map f ys ≡ set (map f xs) k n → All P ys → length ys ≡ length xs → a ≡ get_or (map f xs) k 0 → ((j : ℕ) → j < w → is_one n j ≡ merge_of_values m (is_one a j) (is_one b j)) → P t → ((f t ≡ 0) ↔ ((f s ≡ 0) × (a ≡ n))) → HasNoted m w f P k (k + 1) (λ q j. is_one b j) xs s ys t
   noted_put k a b n xs ys s t within e each len read digits of_block noted =
@@ -139,23 +128,6 @@ module _ {X : Type 0} (m : Merge) (w : ℕ) (f : X → ℕ) (P : X → Type 0) w
     };
     fits = packed.fits;
   }
-
-  -- past the others, whether a block is not 0 is merged with none
-  pub use_noted_past : (k : ℕ) (xs os ys : List X) (es : List ℕ) → ((x : X) → P x → f x < 2 ^ w) → All P xs → length os ≤ k → HasMergedWith m w f P 0 (length xs) (except_at (map f os) es) xs ys → is_used (map f ys) k ≡ merge_of_values m (is_used (map f xs) k) false
-  use_noted_past k xs os ys es below each past is =
-      ⊎_elim
-      (λ within. used_isolated m w _ _ (numbers_below w f P xs below each k) (numbers_below w f P ys below is.each k) (λ j index.
-      is.digit k j (omega arith) within index ∙ ap (merge_of_values m (is_one (get_or (map f xs) k 0) j)) (sym (except_past (map f os) es k j (rw length-map past)))))
-      (λ outside. let len = is.len in grind (arith, used_past (map f ys) k, used_past (map f xs) k, length-map, merge_of_values-none m))
-      (cases_lt k (length xs))
-
--- a block of a summary says the same where none of the blocks that it is about changed
-pub says_kept_chunk : (w : ℕ) (ms ns os ss old : List ℕ) (q : ℕ) → ((k : ℕ) → q * w ≤ k → get_or ns k 0 ≡ get_or ms k 0) → ((k : ℕ) → get_or os k 0 ≡ get_or ns k 0) → get_or ss q 0 ≡ get_or old q 0 → ((k : ℕ) → value_at w old k ≡ is_used ms k) → (j : ℕ) → j < w → is_one (get_or ss q 0) j ≡ is_used os (q * w + j)
-says_kept_chunk w ms ns os ss old q before kept same digits j index =
-    ap (λ n. is_one n j) same
-    ∙ sym (value_at-index w old q j index)
-    ∙ digits (q * w + j)
-    ∙ ap (λ n. not (n == 0)) (sym (kept (q * w + j) ∙ before (q * w + j) (omega arith)))
 
 -- ---- lists
 

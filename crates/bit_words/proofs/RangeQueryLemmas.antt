@@ -4,6 +4,7 @@ use Rattle.std.proofs.lemmas.Bool.{false≢true}
 use Rattle.std.{proofs.lemmas.List.{ext_get_or, FromFn.{get_or-map-range_with_len, length-map-range_with_len}, Sums.sum_by-cons}, specs.List.{count_by, range_with_len}}
 use Rattle.bit_words.specs.{declared.block.merge.Merge.TheVariants.{Difference, Intersection}, Bits.Bits, BlockMerges.MergesSpanToFalse, Ranges.values_in_range, Storage.{IsZeroFrom, value_at, values_of}}
 use Rattle.bit_words.proofs.{CompareLemmas.true_at, StorageLemmas.{get_or-values_of, length-values_of}}
+
 trues_of_map : (f : ℕ → Bool) (xs : List ℕ) → count_by (λ value. value) (map f xs) ≡ count_by f xs
 trues_of_map f [] = refl
 trues_of_map f (x ∷ xs) =
@@ -35,9 +36,11 @@ none_in_view w a b n r end ms v e tail cut = (
   λ falses i reached below is.
       let one = (true_at w n r ms v e tail i).0 is in
       grind (arith, one, tail.zero_tail i, falses.value i reached),
-  λ none. record { value = λ i reached below.
-      let no = λ (one : value_at w ms i ≡ true). none i reached (omega (arith, below)) ((true_at w n r ms v e tail i).1 one) in
-      grind (arith, no) },
+  λ none. record {
+    value = λ i reached below.
+        let no = λ (one : value_at w ms i ≡ true). none i reached (omega (arith, below)) ((true_at w n r ms v e tail i).1 one) in
+        grind (arith, no);
+  },
 )
 
 -- a range that reaches past the list has a value that is not true

@@ -93,11 +93,13 @@ module _ (m : Merge) (w : ℕ) where
   pub false_of_mask : (k a b mask : ℕ) (ms : List ℕ) → 0 < w → merge_of_values m false true ≡ false → k * w ≤ a → b ≤ (k + 1) * w → ((j : ℕ) → j < w → is_one mask j ≡ (nat_le a (k * w + j) && nat_lt (k * w + j) b))
       → ((j : ℕ) → j < w → merge_of_values m (is_one mask j) (is_one (get_or ms k 0) j) ≡ false) ↔ MergesSpanToFalse m w a b ms
   false_of_mask k a b mask ms pos nothing from to ones = (
-    λ zero. record { value = λ i reached below.
-        let here = in_block w k i (omega arith) (omega arith) in
-        let index : k * w + i % w ≡ i = ap (λ q. q * w + i % w) (sym here) ∙ div-add-mod' i w in
-        let read : value_at w ms i ≡ is_one (get_or ms k 0) (i % w) = value_at-is w ms i ∙ ap (λ q. is_one (get_or ms q 0) (i % w)) here in
-        grind (arith, nat_tests, zero (i % w) (mod-lt i pos), ones (i % w) (mod-lt i pos)) },
+    λ zero. record {
+      value = λ i reached below.
+          let here = in_block w k i (omega arith) (omega arith) in
+          let index : k * w + i % w ≡ i = ap (λ q. q * w + i % w) (sym here) ∙ div-add-mod' i w in
+          let read : value_at w ms i ≡ is_one (get_or ms k 0) (i % w) = value_at-is w ms i ∙ ap (λ q. is_one (get_or ms q 0) (i % w)) here in
+          grind (arith, nat_tests, zero (i % w) (mod-lt i pos), ones (i % w) (mod-lt i pos));
+    },
     λ is j index.
         let read = value_at-index w ms k j index in
         let other : (x : Bool) → merge_of_values m false x ≡ false = λ x. none_of x nothing in

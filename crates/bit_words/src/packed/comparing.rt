@@ -261,7 +261,7 @@ pub(crate) fn or_mismatch<B: BitBlock>(seen: B, a: B, b: B) -> B
 
 // A block that is 0 just where both are.
 #[inline]
-pub(crate) fn either<B: BitBlock>(a: B, b: B) -> B
+fn either<B: BitBlock>(a: B, b: B) -> B
     requires left { B.is_block a }
     requires right { B.is_block b }
     ensures of_block { B.is_block result }

@@ -36,7 +36,7 @@ fn merge_noted<B: BitBlock, O: Operation>(
 // The `count` blocks from `start` on become their merges with the others, except for the ones of `except`. All three
 // lists have them. The compiler makes vector code of this, and short code where it knows the count.
 #[inline]
-pub(crate) fn merge_apart<B: BitBlock, O: Operation>(
+fn merge_apart<B: BitBlock, O: Operation>(
     blocks: &mut [B],
     others: &[B],
     except: &[B],
@@ -67,7 +67,7 @@ pub(crate) fn merge_apart<B: BitBlock, O: Operation>(
 
 // The `count` blocks from `start` on become their merges with the others, which have them too.
 #[inline]
-pub(crate) fn merge_alone<B: BitBlock, O: Operation>(
+fn merge_alone<B: BitBlock, O: Operation>(
     blocks: &mut [B],
     others: &[B],
     start: usize,
@@ -95,7 +95,7 @@ pub(crate) fn merge_alone<B: BitBlock, O: Operation>(
 // The blocks from `start` to before `end` become their merges with a block of zeros. Only an intersection changes them:
 // otherwise the compiler takes out the loop.
 #[inline]
-pub(crate) fn merge_past<B: BitBlock, O: Operation>(
+fn merge_past<B: BitBlock, O: Operation>(
     blocks: &mut [B],
     start: usize,
     end: usize,

@@ -24,9 +24,10 @@ returns-then-not-masks_to_zero g c =
     let block = false_of_mask m w k (k * w) ((k + 1) * w) _ ms g.met.B.BitBlock.width_law.positive c.requires.nothing (omega arith) (omega arith) (mask_whole w k _ c.all_ones-ones.ensures.of_number) in
     let from = mul-le-mul_right w c.loop-k.auto.k in
     let next : k + 1 ≤ c.args.end = omega arith in
-    let to = mul-le-mul_right w next in
-    (λ yes. absurd (false≢true yes),
-    λ all. absurd (false≢true (sym c.if-not-masks_to_zero.true ∙ c.masks_to_zero.ensures.1 (block.1 (false-within m w (c.args.first * w) (c.args.end * w) (k * w) ((k + 1) * w) ms from to all)))))
+    let to = mul-le-mul_right w next in (
+      λ yes. absurd (false≢true yes),
+      λ all. absurd (false≢true (sym c.if-not-masks_to_zero.true ∙ c.masks_to_zero.ensures.1 (block.1 (false-within m w (c.args.first * w) (c.args.end * w) (k * w) ((k + 1) * w) ms from to all)))),
+    )
 
 pub returns : goal.returns
 returns g c =

@@ -29,9 +29,10 @@ returns-then-not-masks_to_zero g c =
     let last = c.block_index-last.result in
     let end = parts w c.args.end last _ c.block_index-last.ensures c.bit_index-high.ensures.value in
     let more = mul-le-mul_right w (past_first w c.args.start c.args.end first last g.met.B.BitBlock.width_law.positive c.block_index-first.ensures c.block_index-last.ensures c.requires.some c.if-first-last.false) in
-    let tells = front g (goal.at.returns-then-not-masks_to_zero g c).After-masks_to_zero-2 in
-    (λ yes. absurd (false≢true yes),
-    λ all. absurd (false≢true (sym c.if-not-masks_to_zero.true ∙ tells.1 (false-within g.O.Operation.merge w c.args.start c.args.end c.args.start ((first + 1) * w) _ (omega arith) (omega (arith, more, end)) all))))
+    let tells = front g (goal.at.returns-then-not-masks_to_zero g c).After-masks_to_zero-2 in (
+      λ yes. absurd (false≢true yes),
+      λ all. absurd (false≢true (sym c.if-not-masks_to_zero.true ∙ tells.1 (false-within g.O.Operation.merge w c.args.start c.args.end c.args.start ((first + 1) * w) _ (omega arith) (omega (arith, more, end)) all))),
+    )
 
 -- up to the last block
 begun : (g : Over) (c : After-ones_merge_to_zero g) → MergesSpanToFalse g.O.Operation.merge g.B.BitBlock.width c.args.start ((c.block_index-first.result + 1) * g.B.BitBlock.width) (map g.B.BitBlock.number c.args.blocks.now) → c.ones_merge_to_zero.result ≡ true → MergesSpanToFalse g.O.Operation.merge g.B.BitBlock.width c.args.start (c.block_index-last.result * g.B.BitBlock.width) (map g.B.BitBlock.number c.args.blocks.now)
@@ -59,6 +60,7 @@ returns-else-high-eq0 g c =
     let start = parts w c.args.start c.block_index-first.result _ c.block_index-first.ensures c.bit_index-low.ensures.value in
     let more = mul-le-mul_right w (past_first w c.args.start c.args.end c.block_index-first.result last g.met.B.BitBlock.width_law.positive c.block_index-first.ensures c.block_index-last.ensures c.requires.some c.if-first-last.false) in
     let before = begun g at.After-ones_merge_to_zero ((front g at.After-masks_to_zero-2).0 c.if-not-masks_to_zero.false) c.if-not-ones_merge_to_zero.false in
-    let mask = false_of_mask m w last (last * w) c.args.end _ ms g.met.B.BitBlock.width_law.positive c.requires.nothing (omega arith) (omega (arith, end)) (mask_below w c.args.end last _ _ c.block_index-last.ensures c.bit_index-high.ensures.value c.ones_below.ensures.of_number) in
-    (λ yes. false-parts m w c.args.start (last * w) c.args.end _ _ ms refl refl before (mask.0 (c.masks_to_zero-else-high-eq0.ensures.0 yes)),
-    λ all. c.masks_to_zero-else-high-eq0.ensures.1 (mask.1 (false-within m w c.args.start c.args.end (last * w) c.args.end ms (omega (arith, more, start)) (omega arith) all)))
+    let mask = false_of_mask m w last (last * w) c.args.end _ ms g.met.B.BitBlock.width_law.positive c.requires.nothing (omega arith) (omega (arith, end)) (mask_below w c.args.end last _ _ c.block_index-last.ensures c.bit_index-high.ensures.value c.ones_below.ensures.of_number) in (
+      λ yes. false-parts m w c.args.start (last * w) c.args.end _ _ ms refl refl before (mask.0 (c.masks_to_zero-else-high-eq0.ensures.0 yes)),
+      λ all. c.masks_to_zero-else-high-eq0.ensures.1 (mask.1 (false-within m w c.args.start c.args.end (last * w) c.args.end ms (omega (arith, more, start)) (omega arith) all)),
+    )
