@@ -1,6 +1,7 @@
 //! Loops over sets. Each is proved by its invariant alone, but for those with an `Answers.antt` in `proofs/`.
-ghost use Rattle.std.specs.Prelude.{◌≡◌, ◌≢◌, ℕ, ◌+◌, ◌-◌, ◌*◌, ◌/◌, ◌<◌, ◌≤◌, ◌^◌, ◌%◌, ◌==◌, ◌&&◌, ◌↔◌, false, filter, nat_le, sum, take, Any, IfErr, IfNone, IfOk, IfSome, IsTrue, MatchOption, OnOk, length, slice_index_or};
+ghost use Rattle.std.specs.Prelude.{◌≡◌, ◌≢◌, ℕ, ◌+◌, ◌-◌, ◌*◌, ◌/◌, ◌<◌, ◌≤◌, ◌^◌, ◌%◌, ◌==◌, ◌&&◌, ◌↔◌, false, filter, nat_le, sum, take, Any, IfErr, IfNone, IfOk, IfSome, IsTrue, List, MatchOption, OnOk, length, slice_index_or};
 ghost use Rattle.std.specs.List.{list_any};
+ghost use Rattle.bit_set.specs.Bits.{Bits};
 ghost use Rattle.bit_set.specs.Choices.{IsGreatest};
 ghost use Rattle.bit_set.specs.Members.{HasNone, IsDifference, IsDisjoint, IsSameSet, IsSubset, IsUnion};
 ghost use Rattle.bit_set.specs.Sets.{elements, has};
@@ -296,4 +297,31 @@ pub fn follow<B: BitBlock>(
         at = next[at];
     }
     Ok(seen)
+}
+
+/// Puts in the rows of the members, until nothing is new: the least set that has what was in, and with each member what
+/// is in its row. Where memory runs out, part of that is in.
+pub fn close_by_rows<B: BitBlock>(set: &mut BitSet<B>, rows: &[BitSet<B>]) -> Result<(), AllocError>
+    ensures more { IsSubset (elements set.old.values) (elements set.new.values) }
+    ensures closed { OnOk result ((x : ℕ) (d : Bits) → x < length rows.now → IsTrue (has (elements set.new.values) x)
+        → IsSubset (elements (slice_index_or rows.now x d).values) (elements set.new.values)) }
+    ensures least { (other : List ℕ) → IsSubset (elements set.old.values) other
+        → ((x : ℕ) (d : Bits) → x < length rows.now → IsTrue (has other x)
+        → IsSubset (elements (slice_index_or rows.now x d).values) other)
+        → IsSubset (elements set.new.values) other }
+{
+    laws::sets_in_one_another();
+    laws::sizes_of_sets();
+    let mut at = 0;
+    while at < rows.len() {
+        prove!(set.capacity() <= usize::MAX);
+        if !set.contains(at) {
+            at += 1;
+        } else if set.union_changes(&rows[at])? {
+            at = 0;
+        } else {
+            at += 1;
+        }
+    }
+    Ok(())
 }
