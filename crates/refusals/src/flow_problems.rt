@@ -65,10 +65,10 @@ const CHAIN: &[Block] = &[
     ),
 ];
 
-// The memory that a call over the ring may ask for: twelve sets and a spare one, the blocks that wait, and for each block
-// a row of those that follow it. Nothing is asked for when a block is visited again.
+// The memory that a call over the ring may ask for: twelve sets, the blocks that wait, and for each block a row of those
+// that follow it. Nothing is asked for when a block is visited.
 const RING_ASKS: &[Ask] = &[
-    Ask::Lists(13, 5001),
+    Ask::Lists(12, 5001),
     Ask::Other(1, 8),
     Ask::Other(2, BLOCKS * (24 + 56)),
     Ask::Other(BLOCKS, BLOCKS * 32),
@@ -78,7 +78,7 @@ const RING_ASKS: &[Ask] = &[
 const CHAIN_ASKS: &[Ask] = &[
     Ask::Lists(13, 5001),
     Ask::Other(1, BLOCKS * 64),
-    Ask::Lists(13, 5001),
+    Ask::Lists(12, 5001),
     Ask::Other(1, 8),
     Ask::Other(2, BLOCKS * (24 + 56)),
     Ask::Other(BLOCKS, BLOCKS * 32),
