@@ -20,12 +20,7 @@ const FOUND: &[Found] = &[
     (4999, Some(5000), 4999, Some(3)),
     (5000, Some(5000), 5001, Some(3)),
     (5001, None, 5001, Some(5000)),
-    (
-        18446744073709551615,
-        None,
-        18446744073709551615,
-        Some(5000),
-    ),
+    (18446744073709551615, None, 18446744073709551615, Some(5000)),
 ];
 
 fn finds<B: BitBlock>(rt: &impl Abort, alloc: Global) {

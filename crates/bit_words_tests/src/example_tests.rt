@@ -1,9 +1,11 @@
 //! The examples of the doc comments, as they are there.
+use crate::expect::{expect, expect_eq, ok};
+use crate::lists::{list_of, put};
 use bit_words::bit_vec::{
-    BitVec, BitsError, clear_below, first_mismatching_block, first_nonzero_block, lowest_mismatch,
-    mismatch_between, same_blocks, take_lowest_one,
+    BitVec, BitsError, Merge, Steps, clear_below, first_mismatching_block, first_nonzero_block,
+    lowest_mismatch, mismatch_between, same_blocks, take_lowest_one,
 };
-use std::alloc::AllocError;
+use std::alloc::{AllocError, Global};
 use std::process::Abort;
 use std::test::Fail;
 
@@ -60,4 +62,89 @@ fn where_blocks_differ_and_are_not_zero(rt: HostRuntime) {
     assert_eq!(rt; mismatch_between(&[7u8, 1, 3], &[7, 2, 4], 1, 3), Some(1));
     assert_eq!(rt; first_nonzero_block(&[1u8, 0, 4], 1), Some(2));
     assert_eq!(rt; lowest_mismatch(0b0101u8, 0b1001), 2);
+}
+
+#[test]
+fn a_range_of_a_list_is_filled(rt: HostRuntime) {
+    let mut bits = list_of::<u32>(&rt, rt.alloc(), 10, &[]);
+    if bits.len() >= 5 {
+        // Of ten values all are false.
+        bits.fill_range(2..5, true);
+        expect_eq(&rt, &bits.storage(), &[0b11100].as_slice());
+    }
+}
+
+#[test]
+fn the_next_true_value_is_found(rt: HostRuntime) {
+    let bits = list_of::<u32>(&rt, rt.alloc(), 100, &[3, 70]);
+    // Of 100 values, those at 3 and 70 are true.
+    expect_eq(&rt, &bits.first_one_from(3), &Some(3));
+    expect_eq(&rt, &bits.first_one_from(4), &Some(70));
+    expect_eq(&rt, &bits.first_one_from(71), &None);
+}
+
+#[test]
+fn the_true_value_before_is_found(rt: HostRuntime) {
+    let bits = list_of::<u32>(&rt, rt.alloc(), 100, &[3, 70]);
+    // Of 100 values, those at 3 and 70 are true.
+    expect_eq(&rt, &bits.last_one_before(100), &Some(70));
+    expect_eq(&rt, &bits.last_one_before(70), &Some(3));
+    expect_eq(&rt, &bits.last_one_before(3), &None);
+}
+
+#[test]
+fn the_next_false_value_is_found(rt: HostRuntime) {
+    let mut bits = list_of::<u32>(&rt, rt.alloc(), 100, &[]);
+    bits.fill(true);
+    put(&mut bits, 3, false);
+    put(&mut bits, 70, false);
+    // Of 100 values, all but those at 3 and 70 are true.
+    expect_eq(&rt, &bits.first_zero_from(3), &3);
+    expect_eq(&rt, &bits.first_zero_from(4), &70);
+    expect_eq(&rt, &bits.first_zero_from(71), &100);
+}
+
+fn ten_values_written(rt: &impl Abort, alloc: Global) -> Result<(), AllocError> {
+    let bits = list_of::<u32>(rt, alloc, 10, &[1, 9]);
+    // Of 10 values, those at 1 and 9 are true.
+    let bytes = bits.to_bytes(alloc)?;
+    expect_eq(rt, &bytes.as_slice(), &[64, 64].as_slice());
+    Ok(())
+}
+
+#[test]
+fn a_list_is_written_as_bytes(rt: HostRuntime) {
+    ok(&rt, ten_values_written(&rt, rt.alloc()));
+}
+
+fn a_merge_twice(rt: &impl Abort, bits: &mut BitVec, other: BitVec) {
+    let mut steps = Steps::new();
+    if other.len() <= bits.len() {
+        expect(rt, bits.merge_changes(&other, Merge::Union, &mut steps));
+        expect(rt, !bits.merge_changes(&other, Merge::Union, &mut steps));
+    }
+}
+
+#[test]
+fn a_merge_changes_a_list_once(rt: HostRuntime) {
+    let mut bits = list_of(&rt, rt.alloc(), 70, &[3]);
+    let other = list_of(&rt, rt.alloc(), 70, &[3, 69]);
+    a_merge_twice(&rt, &mut bits, other);
+}
+
+fn a_transfer(rt: &impl Abort, live: &mut BitVec, live_after: BitVec, assigned: BitVec) {
+    let mut steps = Steps::new();
+    if live_after.len() <= live.len() {
+        // live |= live_after & !assigned
+        let grew = live.unite_difference(&live_after, &assigned, &mut steps);
+        expect(rt, grew && live.first_one_from(3) == Some(5));
+    }
+}
+
+#[test]
+fn what_is_assigned_is_not_united(rt: HostRuntime) {
+    let mut live = list_of(&rt, rt.alloc(), 10, &[2]);
+    let live_after = list_of(&rt, rt.alloc(), 10, &[4, 5]);
+    let assigned = list_of(&rt, rt.alloc(), 10, &[4]);
+    a_transfer(&rt, &mut live, live_after, assigned);
 }

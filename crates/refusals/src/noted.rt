@@ -97,7 +97,7 @@ const ROWS: &[Row<OnSets<Noted>>] = &[
 ];
 
 // Each call changes the set.
-fn noted<B: BitBlock>(
+fn changed_by<B: BitBlock>(
     alloc: Global,
     call: Noted,
     set: &mut BitSet<B>,
@@ -114,7 +114,7 @@ fn noted<B: BitBlock>(
 
 impl<B: BitBlock> Call<B> for Noted {
     fn make(self, alloc: Global, sets: &mut Sets<B>) -> Result<bool, Fault> {
-        Ok(noted(alloc, self, &mut sets.set, &sets.lent)?)
+        Ok(changed_by(alloc, self, &mut sets.set, &sets.lent)?)
     }
 }
 

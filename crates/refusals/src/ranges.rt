@@ -84,7 +84,7 @@ const ROWS: &[Row<OnSets<Ranged>>] = &[
     },
 ];
 
-fn ranged<B: BitBlock>(call: Ranged, set: &mut BitSet<B>) -> Result<(), SetError> {
+fn put_range<B: BitBlock>(call: Ranged, set: &mut BitSet<B>) -> Result<(), SetError> {
     match call {
         Ranged::InsertRange => set.insert_range(500..5001),
         _ => set.toggle_range(447..5001),
@@ -103,7 +103,7 @@ impl<B: BitBlock> Call<B> for Ranged {
         match self {
             Ranged::Toggle | Ranged::Set => Ok(turned(self, &mut sets.set)?),
             _ => {
-                ranged(self, &mut sets.set)?;
+                put_range(self, &mut sets.set)?;
                 Ok(true)
             }
         }

@@ -13,7 +13,8 @@ impl<B: BitBlock> BitSet<B> {
     ///
     /// ```
     /// let set = BitSet::from_bytes(alloc, &[0b0100_1010])?;
-    /// assert_eq!(set.to_bytes(alloc)?.as_slice(), [0b0100_1010].as_slice());
+    /// let bytes = set.to_bytes(alloc)?;
+    /// assert_eq!(bytes.as_slice(), [0b0100_1010].as_slice());
     /// ```
     pub fn to_bytes(&self, alloc: Global) -> Result<Vec<u8>, AllocError>
         ensures elements { IfOk result (λ bytes. elements (values_of_bytes bytes.items) ≡ elements self.now.values) }

@@ -14,7 +14,8 @@ impl<B: BitBlock> BitVec<B> {
     ///
     /// ```
     /// // Of 10 values, those at 1 and 9 are true.
-    /// assert_eq!(bits.to_bytes(alloc)?.as_slice(), [0b0100_0000, 0b0100_0000].as_slice());
+    /// let bytes = bits.to_bytes(alloc)?;
+    /// assert_eq!(bytes.as_slice(), [64, 64].as_slice());
     /// ```
     pub fn to_bytes(&self, alloc: Global) -> Result<Vec<u8>, AllocError>
         ensures values { IfOk result (λ bytes. values_of_bytes bytes.items
