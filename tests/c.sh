@@ -2,7 +2,8 @@
 # Builds c/example.c over the library for C by the system's compilers, runs it, and runs it again with one request for
 # memory after another failing. Compares the prototypes of c/bit_set.h with what the library exports, and runs the
 # Python module where there is a python3.
-#   tests/c.sh [FOLDER]      over the library that c/build wrote into the folder; where none is given it is built
+#   tests/c.sh [FOLDER]      over the library that c/build wrote into the folder; where none is given it is built, over
+#                            the libraries as `rt ci` has just proved them here
 # The last line is 'N passed, M failed'.
 set -uo pipefail
 unset CDPATH
@@ -34,7 +35,7 @@ if [ $# -gt 0 ]; then
     library="$(readlink -f "$1")"
 else
     library="$room/library"
-    if ! "$top/c/build" "$library" > "$room/said" 2>&1; then
+    if ! "$top/c/build" "$library" --proved > "$room/said" 2>&1; then
         cat "$room/said"
         fail 'c/build builds no library'
         finish
