@@ -16,14 +16,14 @@ use Rattle.std.specs.contracts.prelude.U64PartialEq.TheImpl as eq
 use Rattle.std.specs.contracts.prelude.U64BitAnd.TheImpl as and
 use Rattle.std.specs.contracts.prelude.U64BitOr.TheImpl as or
 use Rattle.std.specs.contracts.prelude.U64BitXor.TheImpl as xor
-use Rattle.std.specs.contracts.prelude.U64Not.TheImpl as not
+use Rattle.std.specs.contracts.prelude.U64Not.TheImpl as complement
 use Rattle.std.specs.contracts.prelude.U64Add.TheImpl as add
 use Rattle.std.specs.contracts.prelude.U64Sub.TheImpl as sub
 use Rattle.bit_set_c.specs.Handed.{set_row}
 use Rattle.bit_set.proofs.set.BitSet.TheLaws as set
 
 abbrev pub set_laws : Laws set_row
-set_laws = set.the_row_laws u64 block.ghosts eq.ghosts and.ghosts or.ghosts xor.ghosts not.ghosts add.ghosts sub.ghosts (of_field u64-field u64-laws refl (copy_shared u64-field u64-copy))
+set_laws = set.the_row_laws u64 block.ghosts eq.ghosts and.ghosts or.ghosts xor.ghosts complement.ghosts add.ghosts sub.ghosts (of_field u64-field u64-laws refl (copy_shared u64-field u64-copy))
 
 abbrev pub E : Bx
 E = record { row = set_row; laws = set_laws; al = record { row = Heap.the_row; laws = heap.the_row_laws; g = ghosts; d = dict; drops = impl [] tnil dnil } }

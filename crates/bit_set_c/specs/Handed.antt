@@ -15,14 +15,14 @@ use Rattle.std.specs.contracts.prelude.U64PartialEq.TheImpl as eq
 use Rattle.std.specs.contracts.prelude.U64BitAnd.TheImpl as and
 use Rattle.std.specs.contracts.prelude.U64BitOr.TheImpl as or
 use Rattle.std.specs.contracts.prelude.U64BitXor.TheImpl as xor
-use Rattle.std.specs.contracts.prelude.U64Not.TheImpl as not
+use Rattle.std.specs.contracts.prelude.U64Not.TheImpl as complement
 use Rattle.std.specs.contracts.prelude.U64Add.TheImpl as add
 use Rattle.std.specs.contracts.prelude.U64Sub.TheImpl as sub
 use Rattle.bit_set.specs.contracts.set.BitSet as set
 
 -- how memory keeps a `BitSet<u64>`
 abbrev pub set_row : RattleType
-set_row = set.the_row u64 block.ghosts eq.ghosts and.ghosts or.ghosts xor.ghosts not.ghosts add.ghosts sub.ghosts
+set_row = set.the_row u64 block.ghosts eq.ghosts and.ghosts or.ghosts xor.ghosts complement.ghosts add.ghosts sub.ghosts
 
 abbrev pub bits_coded : Coded Bits
 bits_coded = (set_row).coded
