@@ -15,8 +15,8 @@ impl<B: BitBlock> BitVec<B> {
     /// memory.
     ///
     /// ```
+    /// // Some value of `other` is true that is not in `bits`.
     /// assert!(bits.merge_changes(&other, Merge::Union, &mut steps));
-    /// assert!(!bits.merge_changes(&other, Merge::Union, &mut steps));
     /// ```
     #[inline(always)]
     pub fn merge_changes(&mut self, other: &Self, merge: Merge, steps: &mut Steps) -> bool
