@@ -13,6 +13,7 @@ impl<B: BitBlock> BitVec<B> {
     /// Each value becomes its merge with that of `other`, as [`merge_blocks`](Self::merge_blocks) has it, and whether a
     /// value changed is returned. The other must not be longer. Writes each block once, one step a block, and takes no
     /// memory.
+    /// Where a list that stores a summary changed, its blocks are read once more, which `steps` does not count.
     ///
     /// ```
     /// // Some value of `other` is true that is not in `bits`.
@@ -38,6 +39,7 @@ impl<B: BitBlock> BitVec<B> {
     /// What is true in `other` and not in `except` becomes true, and whether a value changed is returned. The other must
     /// not be longer; `except` is false past its end, and may be. One pass over the three lists, which writes each block
     /// once, one step a block, and takes no memory.
+    /// Where a list that stores a summary changed, its blocks are read once more, which `steps` does not count.
     ///
     /// ```
     /// // live |= live_after & !assigned
