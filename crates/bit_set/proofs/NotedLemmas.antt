@@ -36,9 +36,6 @@ pub told_of_lengthened : (old mid new : List Bool) (len : ℕ) (changed : Bool) 
 told_of_lengthened old mid new len changed is long tells =
     told_of_lists old mid new changed (ap elements is ∙ elements-padded old (len - length old)) (omega (arith, long, ap length is, length-append old (replicate (len - length old) false), length-replicate (len - length old) false)) tells
 
-pub changes_told : {E : Type 0} (merge : Merge) (other : List ℕ) (old new : Bits) (r : Result Bool E) → OnOk r (elements new.values ≡ merge_of_sets merge (elements old.values) other) → IfOk r (λ changed. changed ≡ not (same_sets (elements old.values) (elements new.values))) → OnErr r (new ≡ old) → Changes (MergeChanges merge other) old.values (outcome_of_flag r) new.values
-changes_told merge other old new r made tells kept = grind arith
-
 -- ---- whether a set stays
 
 kept_by_test : (s r : List ℕ) (b : Bool) → IsAscending s → IsAscending r → ((b ≡ true) ↔ ((n : ℕ) → has r n ≡ has s n)) → same_sets s r ≡ b

@@ -111,9 +111,6 @@ byte_stays_small a d j small digit =
     let same : 2 ^ (j + 1) ≡ 2 ^ suc j = ap (λ n. 2 ^ n) (let e : j + 1 ≡ suc j = omega arith in e) in
     omega (arith, same, pow-suc 2 j)
 
-pub byte_fits : (a d j : ℕ) → a < 2 ^ j → d < 2 → j < 8 → 2 * a + d < 2 ^ 8
-byte_fits a d j small digit within = let more = pow_mono (let e : j + 1 ≤ 8 = omega arith in e) in omega (arith, byte_stays_small a d j small digit, more)
-
 -- byte q has the values from 8 * q on, of a block of s bytes
 pub byte_in_block : (w b q len : ℕ) → IsWidth w → b ≡ w → 8 * q < len * w → q / (b / 8) < len
 byte_in_block w b q len width wide within =

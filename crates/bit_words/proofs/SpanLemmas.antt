@@ -42,9 +42,6 @@ mask_whole w k x ones =
     ones_span w k (k * w) ((k + 1) * w) 0 w x (omega arith) (omega arith) (λ j index. is_one-ones x w j ones ∙ grind (arith, nat_tests))
 
 module _ (m : Merge) (w : ℕ) where
-  pub span_none : (a b : ℕ) (ms : List ℕ) → b ≤ a → IsMergedSpan m w a b ms ms
-  span_none a b ms empty = record { inside = λ i from to. absurd (omega arith); before = λ i _. refl; after = λ i _. refl }
-
   -- one span after another
   pub span_more : (a b c p q : ℕ) (ms ns rs : List ℕ) → a ≤ b → b ≤ c → p ≡ b → q ≡ c → IsMergedSpan m w a b ms ns → IsMergedSpan m w p q ns rs → IsMergedSpan m w a c ms rs
   span_more a b c p q ms ns rs le also from to first second = record {
