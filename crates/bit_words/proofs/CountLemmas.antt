@@ -1,6 +1,6 @@
 -- How many ones blocks have, by a summary of them.
-use Rattle.std.proofs.{Common.{◌≡◌, ℕ, zero, suc, ◌+◌, ◌*◌, ◌<◌, Bool, List, [], ◌∷◌, map, take, drop, get_or, get_or-take, get_or-drop, length-take, count_ones, refl, sym, ap, ◌∙◌, ⊎_elim, arith}, lemmas.Bool.cases_lt}
-use Rattle.std.{proofs.{lemmas.{Bool.Decides.nat_tests, List.{take-map, drop-map, get_or_past, Sums.{sum_by-append, sum_by-cons}}}, Math.Seq.take-add}, specs.List.{sum_by, count_by}}
+use Rattle.std.proofs.{Common.{◌≡◌, ℕ, zero, suc, ◌+◌, ◌*◌, ◌<◌, Bool, List, [], ◌∷◌, map, take, drop, get_or, get_or-take, get_or-drop, length, length-take, count_ones, refl, sym, ap, ◌∙◌, ⊎_elim, arith}, lemmas.Bool.cases_lt}
+use Rattle.std.{proofs.{lemmas.{Bool.Decides.nat_tests, List.{take-map, drop-map, get_or_past, length-map, Sums.{sum_by-append, sum_by-cons}}}, Math.Seq.take-add}, specs.List.{sum_by, count_by}}
 use Rattle.bit_words.{specs.{Storage.value_at, Bits.blocks_of, Nonzero.ones_in, Summary.is_used}, proofs.{LowestLemmas.ones_zero, OnesLemmas.blocks_ones, Masks.is_one-zero, StorageLemmas.value_at-index}}
 
 module _ {X : Type 0} (number : X → ℕ) where
@@ -20,16 +20,16 @@ module _ {X : Type 0} (number : X → ℕ) where
       grind (arith, ones_in-more (i * w) (n * w) xs)
 
   -- a slice of blocks of which the summary has no bit
-  pub chunk_none : (w i : ℕ) (xs summary : List X) → ((k : ℕ) → value_at w (map number summary) k ≡ is_used (map number xs) k) → get_or (map number summary) i 0 ≡ 0 → ones_in number (take w (drop (i * w) xs)) ≡ 0
+  pub chunk_none : (w i : ℕ) (xs summary : List X) → ((k : ℕ) → k < length xs → value_at w (map number summary) k ≡ is_used (map number xs) k) → get_or (map number summary) i 0 ≡ 0 → ones_in number (take w (drop (i * w) xs)) ≡ 0
   chunk_none w i xs summary digit none = ones_in-none (take w (drop (i * w) xs)) (λ j.
       rw (sym (take-map number w (drop (i * w) xs)), sym (drop-map number (i * w) xs))
       (⊎_elim
-      (λ within. grind (arith, nat_tests, get_or-take w (drop (i * w) (map number xs)) j 0 within, get_or-drop (i * w) (map number xs) j 0, digit (i * w + j), value_at-index w (map number summary) i j within, is_one-zero j))
+      (λ within. grind (arith, nat_tests, get_or-take w (drop (i * w) (map number xs)) j 0 within, get_or-drop (i * w) (map number xs) j 0, digit (i * w + j), value_at-index w (map number summary) i j within, is_one-zero j, get_or_past (map number xs) (i * w + j) 0, length-map xs number))
       (λ past. get_or_past _ j 0 (omega (arith, length-take w (drop (i * w) (map number xs)))))
       (cases_lt j w)))
 
   -- slices of blocks of which the summary has no bit
-  pub chunks_none : (w i n : ℕ) (xs summary : List X) → ((k : ℕ) → value_at w (map number summary) k ≡ is_used (map number xs) k) → ((j : ℕ) → j < n → get_or (map number summary) (i + j) 0 ≡ 0)
+  pub chunks_none : (w i n : ℕ) (xs summary : List X) → ((k : ℕ) → k < length xs → value_at w (map number summary) k ≡ is_used (map number xs) k) → ((j : ℕ) → j < n → get_or (map number summary) (i + j) 0 ≡ 0)
       → ones_in number (take (i * w) xs) ≡ ones_in number (take ((i + n) * w) xs)
   chunks_none w i zero xs summary digit none = ap (λ m. ones_in number (take (m * w) xs)) (let e : i ≡ i + 0 = omega arith in e)
   chunks_none w i (suc n) xs summary digit none =

@@ -28,6 +28,7 @@ pub mod SummaryMergeLemmas
 pub mod TailLemmas
 pub mod ZeroLemmas
 pub mod SearchLemmas
+pub mod LastLemmas
 pub mod NextAtLemmas
 pub mod PendingLemmas
 pub mod PendingOnes

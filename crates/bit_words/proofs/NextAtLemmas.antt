@@ -13,7 +13,7 @@ pub first_most : (f : ℕ → Bool) (n : ℕ) → first_true f n ≤ n
 first_most f zero = omega arith
 first_most f (suc n) = grind (arith, first_most (λ k. f (suc k)) n)
 
-at_first : (f : ℕ → Bool) (n : ℕ) → first_true f n < n → f (first_true f n) ≡ true
+pub at_first : (f : ℕ → Bool) (n : ℕ) → first_true f n < n → f (first_true f n) ≡ true
 at_first f zero within = absurd (omega (arith, within))
 at_first f (suc n) within = grind (arith, at_first (λ k. f (suc k)) n)
 

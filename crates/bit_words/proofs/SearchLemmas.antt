@@ -14,13 +14,16 @@ finds_from_same p q n (Some i) same first = record {
   between = λ j from before. sym (same j) ∙ first.between j from before;
 }
 
-pub finds_before_same : (p q : ℕ → Bool) (n : ℕ) (r : Option ℕ) → ((i : ℕ) → p i ≡ q i) → FindsBefore p n r → FindsBefore q n r
-finds_before_same p q n None same none = λ j below. sym (same j) ∙ none j below
-finds_before_same p q n (Some i) same last = record {
-  passes = sym (same i) ∙ last.passes;
+pub finds_before_below : (p q : ℕ → Bool) (n : ℕ) (r : Option ℕ) → ((i : ℕ) → i < n → p i ≡ q i) → FindsBefore p n r → FindsBefore q n r
+finds_before_below p q n None same none = λ j below. sym (same j below) ∙ none j below
+finds_before_below p q n (Some i) same last = record {
+  passes = sym (same i last.before) ∙ last.passes;
   before = last.before;
-  between = λ j past below. sym (same j) ∙ last.between j past below;
+  between = λ j past below. sym (same j below) ∙ last.between j past below;
 }
+
+pub finds_before_same : (p q : ℕ → Bool) (n : ℕ) (r : Option ℕ) → ((i : ℕ) → p i ≡ q i) → FindsBefore p n r → FindsBefore q n r
+finds_before_same p q n r same found = finds_before_below p q n r (λ i _. same i) found
 
 -- ---- what is true is below the length
 

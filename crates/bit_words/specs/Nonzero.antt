@@ -1,6 +1,6 @@
 -- A walk over the blocks that are not 0, each with its index.
-use Rattle.std.specs.{Prelude.{◌≡◌, ℕ, ◌+◌, ◌-◌, ◌*◌, ◌/◌, ◌==◌, Bool, true, false, not, None, Some, ◌≤◌, if◌then◌else◌, min, List, [], ◌∷◌, Option, MatchOption, drop, length}, Int.RustNames.count_ones}
-use Rattle.std.specs.{Iterator.YieldsFirst, List.sum_by}
+use Rattle.std.specs.{Prelude.{◌≡◌, ℕ, ◌+◌, ◌-◌, ◌*◌, ◌/◌, ◌==◌, Bool, true, false, not, None, Some, ◌≤◌, if◌then◌else◌, min, List, [], ◌∷◌, Option, MatchOption, ⊤, drop, length}, Int.RustNames.count_ones}
+use Rattle.std.specs.{Iterator.{YieldsFirst, YieldsLast}, List.sum_by}
 use Rattle.bit_words.specs.Bits.{blocks_for}
 
 -- What contracts see of such a walk: all blocks that it goes over; those that are left, each with its
@@ -22,6 +22,32 @@ pub record PullsNonzero {X : Type 0} (s : Nonzeros X) (r : Option (ℕ × X)) (t
   pub goes_on : s.summary_pulls ≤ t.summary_pulls
   pub summary : MatchOption r ((t.summary_pulls ≡ s.summary_pulls + s.summary_left + 1) × (t.summary_left ≡ 0))
       (λ _. t.summary_pulls + t.summary_left ≡ s.summary_pulls + s.summary_left)
+
+-- The same, where an end that was found counts no pull.
+pub record TakesFirst {X : Type 0} (s : Nonzeros X) (r : Option (ℕ × X)) (t : Nonzeros X) : Type 0 where
+  pub item : YieldsFirst (λ walk. walk.left) s r t
+  pub same : t.blocks ≡ s.blocks
+  pub counted : MatchOption r (t.pulls ≡ s.pulls) (λ _. t.pulls ≡ s.pulls + 1)
+  pub goes_on : s.summary_pulls ≤ t.summary_pulls
+  pub summary : t.summary_pulls + t.summary_left ≡ s.summary_pulls + s.summary_left
+  pub ended : MatchOption r (t.summary_left ≡ 0) (λ _. ⊤)
+
+-- A pull at the back that gave r: the last of what was left, or the end found. It pulls no block of the summary, and
+-- those past it are not pulled any more.
+pub record PullsLast {X : Type 0} (s : Nonzeros X) (r : Option (ℕ × X)) (t : Nonzeros X) : Type 0 where
+  pub item : YieldsLast (λ walk. walk.left) s r t
+  pub same : t.blocks ≡ s.blocks
+  pub counted : t.pulls ≡ s.pulls + 1
+  pub summary : t.summary_pulls ≡ s.summary_pulls
+  pub summary_left : t.summary_left ≤ s.summary_left
+
+-- The same, where an end that was found counts no pull.
+pub record TakesLast {X : Type 0} (s : Nonzeros X) (r : Option (ℕ × X)) (t : Nonzeros X) : Type 0 where
+  pub item : YieldsLast (λ walk. walk.left) s r t
+  pub same : t.blocks ≡ s.blocks
+  pub counted : MatchOption r (t.pulls ≡ s.pulls) (λ _. t.pulls ≡ s.pulls + 1)
+  pub summary : t.summary_pulls ≡ s.summary_pulls
+  pub summary_left : t.summary_left ≤ s.summary_left
 
 -- the blocks that are not 0, each with its index, where the first has index k
 abbrev pub nonzero_from : {X : Type 0} → (X → ℕ) → ℕ → List X → List (ℕ × X)

@@ -67,6 +67,34 @@ fn a_refill_passes_zero_blocks(rt: HostRuntime) {
     expect_eq(&rt, &refilled_block(&mut walk), &Some((false, 0)));
 }
 
+// The indices that a walk gives by calls from the front and from the back in turn, the front first.
+fn from_both_ends<B: BitBlock>(walk: &mut Nonzero<'_, B>) -> [Option<usize>; 4] {
+    let first = walk.next();
+    let last = walk.next_back();
+    let second = walk.next();
+    let end = walk.next_back();
+    [first, last, second, end].map(|entry| Some(entry?.0))
+}
+
+// The indices of the last three blocks of a walk, from the back.
+fn from_the_back<B: BitBlock>(walk: &mut Nonzero<'_, B>) -> [Option<usize>; 3] {
+    [walk.next_back(), walk.next_back(), walk.next_back()].map(|entry| Some(entry?.0))
+}
+
+#[test]
+fn both_ends_take_of_the_same_blocks(rt: HostRuntime) {
+    // Few blocks, with no summary, and many.
+    for len in [2_000, 20_000] {
+        let bits = list_of::<u32>(&rt, rt.alloc(), len, &[3, 40, 500, 1999]);
+        let mut walk = bits.nonzero_past_first();
+        expect_eq(&rt, &from_both_ends(&mut walk), &[Some(1), Some(62), Some(15), None]);
+        expect_eq(&rt, &walk.next(), &None);
+        let mut walk = bits.nonzero_past(1);
+        expect_eq(&rt, &from_the_back(&mut walk), &[Some(62), Some(15), None]);
+        expect_eq(&rt, &walk.next(), &None);
+    }
+}
+
 // How many values of a list are true, and whether none is.
 fn trues_of<B: BitBlock>(bits: &BitVec<B>) -> (usize, bool) {
     (bits.count_ones(), bits.none())

@@ -1,5 +1,5 @@
 // The walk over all blocks of a bit vector.
-ghost use Rattle.std.specs.{Prelude.{◌≡◌, ℕ, ◌+◌, ◌<◌, ◌≤◌, All, IfSome, Some, drop, get_or, length, map}, Iterator.{UpTo, item_count, SizeHint.IsWithinCount}};
+ghost use Rattle.std.specs.{Prelude.{◌≡◌, ℕ, ◌+◌, ◌<◌, ◌≤◌, All, IfSome, Some, drop, get_or, length, map, take}, Iterator.{UpTo, item_count, SizeHint.IsWithinCount}};
 ghost use Rattle.bit_words.specs.Source.{PullsIf};
 
 use crate::block::BitBlock;
@@ -85,6 +85,16 @@ impl<'a, B: BitBlock> Blocks<'a, B> {
         self.steps.tick_by(zeros);
         self.at += zeros;
         zeros
+    }
+
+    // Leaves only so many of the blocks that are left.
+    #[inline]
+    pub(crate) fn keep_first(&mut self, count: usize)
+        ensures left { self.new.left ≡ take count self.old.left }
+        ensures pulls { self.new.pulls ≡ self.old.pulls }
+    {
+        let end = self.at + count.min(self.blocks.len() - self.at);
+        self.blocks = self.blocks.split_at(end).0;
     }
 
     /// How many blocks are left. Constant time.

@@ -1,6 +1,6 @@
 // The walk over the blocks of a bit vector that are not 0, by its summary.
-ghost use Rattle.std.specs.{Prelude.{◌≡◌, ℕ, ◌+◌, ◌-◌, ◌*◌, ◌<◌, ◌≤◌, ◌^◌, All, IfSome, Some, length, map, slice_get}, Iterator.item_count};
-ghost use Rattle.bit_words.specs.{Bits.{blocks_for, blocks_of, IsWithinCapacity}, Nonzero.{ones_left, PullsNonzero, Refills, StartsPast}};
+ghost use Rattle.std.specs.{Prelude.{◌≡◌, ℕ, ◌+◌, ◌-◌, ◌*◌, ◌<◌, ◌≤◌, ◌^◌, All, IfSome, Some, [], length, map, slice_get}, Iterator.item_count};
+ghost use Rattle.bit_words.specs.{Bits.{blocks_for, blocks_of, IsWithinCapacity}, Nonzero.{ones_left, PullsLast, PullsNonzero, Refills, StartsPast, TakesFirst, TakesLast}};
 
 use crate::bit_vec::BitVec;
 use crate::bit_vec::pending::{Pending, Unstored};
@@ -14,7 +14,7 @@ use crate::summary::queries::{first_blocks, ones_by_summary};
 use std::marker::Model;
 
 /// A walk over the blocks of a bit vector that are not zero, past the one at which it was made, each with its index, in
-/// ascending order. It finds them by the summary, and so passes over as many zero blocks at once as a block has bits.
+/// ascending order, from both ends. It finds them by the summary, and so passes over as many zero blocks at once as a block has bits.
 /// Of few blocks no summary is stored: then it looks at each block.
 ///
 /// Contracts see all its blocks, those that are left, `pulls`, and how many times a block of the summary was pulled, or
@@ -35,14 +35,15 @@ impl<'a, B: BitBlock> Model for Nonzero<'a, B> {
 
     ghost view = { λ it. record {
       blocks = it.blocks.now;
-      left = left_from B.number (next_at B.width it.pending.index (B.number it.pending.bits)) it.blocks.now;
+      left = left_from B.number (next_at B.width it.pending.index (B.number it.pending.bits)) it.pending.end
+          it.blocks.now;
       pulls = it.steps;
       summary_pulls = it.pending.summary.pulls;
-      summary_left = blocks_for B.width (length it.blocks.now - (it.pending.index + B.width));
+      summary_left = blocks_for B.width (it.pending.end - (it.pending.index + B.width));
     } };
 
-    ghost invariant = { λ it.
-        IsPending B.width B.number B.is_block it.pending.index it.pending.bits it.blocks.now it.pending.summary.left };
+    ghost invariant = { λ it. IsPending B.width B.number B.is_block
+        it.pending.index it.pending.end it.pending.bits it.blocks.now it.pending.summary.left };
 }
 
 impl<'a, B: BitBlock> Nonzero<'a, B> {
@@ -115,14 +116,74 @@ impl<'a, B: BitBlock> Nonzero<'a, B> {
         ensures found { IfSome result (λ entry. (entry.0 < length self.old.blocks)
             × B.is_block entry.1 × (0 < B.number entry.1)) }
     {
-        self.steps.tick();
+        let next = self.take_first();
+        if next.is_none() {
+            self.count_end();
+        }
+        next
+    }
+
+    // The last block, with its index, or the end.
+    #[inline]
+    fn pull_last(&mut self) -> Option<(usize, B)>
+        ensures steps { PullsLast self.old result self.new }
+        ensures found { IfSome result (λ entry. (entry.0 < length self.old.blocks)
+            × B.is_block entry.1 × (0 < B.number entry.1)) }
+    {
+        let last = self.take_last();
+        if last.is_none() {
+            self.steps.tick();
+        }
+        last
+    }
+
+    // The next block, with its index, as a pull. Where there is none it counts no pull.
+    #[inline(always)]
+    fn take_first(&mut self) -> Option<(usize, B)>
+        ensures steps { TakesFirst self.old result self.new }
+        ensures found { IfSome result (λ entry. (entry.0 < length self.old.blocks)
+            × B.is_block entry.1 × (0 < B.number entry.1)) }
+    {
         while let Some(k) = self.pending.next_block(self.blocks) {
             let block = at(self.blocks, k);
             if is_nonzero(block) {
+                self.steps.tick();
                 return Some((k, block));
             }
         }
         None
+    }
+
+    // The last block, with its index, as a pull. Where there is none it counts no pull.
+    #[inline]
+    fn take_last(&mut self) -> Option<(usize, B)>
+        ensures steps { TakesLast self.old result self.new }
+        ensures found { IfSome result (λ entry. (entry.0 < length self.old.blocks)
+            × B.is_block entry.1 × (0 < B.number entry.1)) }
+    {
+        while let Some(k) = self.pending.last_block(self.blocks) {
+            let block = at(self.blocks, k);
+            if is_nonzero(block) {
+                self.steps.tick();
+                return Some((k, block));
+            }
+        }
+        None
+    }
+
+    // Counts the end that `take_first` found as a pull.
+    #[inline]
+    fn count_end(&mut self)
+        requires left { self.old.left ≡ [] }
+        requires summary { self.old.summary_left ≡ 0 }
+        ensures blocks { self.new.blocks ≡ self.old.blocks }
+        ensures left { self.new.left ≡ [] }
+        ensures pulls { self.new.pulls ≡ self.old.pulls + 1 }
+        ensures summary_pulls { self.new.summary_pulls ≡ self.old.summary_pulls + 1 }
+        ensures summary_left { self.new.summary_left ≡ 0 }
+    {
+        self.steps.tick();
+        let _end = self.pending.summary.next();
     }
 
     /// How many ones the blocks that are left have. Adds up those of each, and passes over as many blocks
@@ -131,7 +192,8 @@ impl<'a, B: BitBlock> Nonzero<'a, B> {
         requires fits { ones_left B.number self.left < 2 ^ 64 }
         ensures { result ≡ ones_left B.number self.entry.left }
     {
-        let (chunk, rest) = first_blocks(self.blocks.split_at(self.pending.index).1);
+        let before = self.blocks.split_at(self.pending.end).0;
+        let (chunk, rest) = first_blocks(before.split_at(self.pending.index).1);
         let ones = ones_by_summary(rest, self.pending.summary.as_slice());
         let mut pending = self.pending.bits;
         if !is_nonzero(pending) {
@@ -156,6 +218,19 @@ impl<'a, B: BitBlock> Iterator for Nonzero<'a, B> {
     #[inline(always)]
     fn next(&mut self) -> Option<(usize, B)> {
         self.pull()
+    }
+}
+
+impl<'a, B: BitBlock> DoubleEndedIterator for Nonzero<'a, B> {
+    ghost use Rattle.bit_words.specs.Nonzero.{PullsLast};
+
+    ghost next_back_gives = { PullsLast };
+
+    /// The last block that is not zero, with its index. Both ends take of the same blocks. It passes over zero blocks as
+    /// [`next`](Iterator::next) does, and counts no pull of the summary.
+    #[inline]
+    fn next_back(&mut self) -> Option<(usize, B)> {
+        self.pull_last()
     }
 }
 

@@ -1,13 +1,16 @@
 // The blocks that a walk has still to look at, by the summary.
 ghost use Rattle.std.specs.Prelude.{◌≡◌, ℕ, ◌+◌, ◌-◌, ◌/◌, ◌<◌, ◌≤◌, ◌^◌, All, drop, get_or, length, map, nat_lt};
-ghost use Rattle.bit_words.specs.{Bits.blocks_for, Digits.is_one, Pending.{CoversUsed, Finds, IsPending, IsStoredFrom, left_from, next_at}, Summary.{is_used, IsStoredSummary}};
+ghost use Rattle.bit_words.specs.{Bits.blocks_for, Digits.is_one, Pending.{CoversUsed, Finds, FindsLast, FindsLastPending, IsPending, IsStoredFrom, left_from, next_at}, Summary.{is_used, IsStoredSummary}};
 
 use crate::bit_vec::Blocks;
 use crate::block::BitBlock;
+use crate::block::highest::highest_one;
 use crate::block::lowest::take_lowest_one;
-use crate::block::masks::clear_below;
+use crate::block::masks::{clear_below, clear_from};
 use crate::block::operators::{all_ones, ones_below};
+use crate::packed::access::block_count;
 use crate::packed::searching::block_or_zero;
+use crate::summary::searching::last_used_from;
 use crate::summary::{is_nonzero, used_from};
 
 // What of a summary is left, and of its block in hand.
@@ -18,6 +21,8 @@ pub(crate) struct Pending<'a, B: BitBlock> {
     pub(crate) bits: B,
     // The index of the block that its lowest digit is about.
     pub(crate) index: usize,
+    // The index of the block before which those that are left are: the others were taken from the back.
+    pub(crate) end: usize,
 }
 
 // What is made up for a block of the summary where none is stored.
@@ -37,9 +42,11 @@ impl<'a, B: BitBlock> Pending<'a, B> {
         requires fits { length blocks.now < 2 ^ 64 }
         requires summary { IsStoredSummary B.width B.number B.is_block blocks.now summary.now }
         requires inside { first ≤ length blocks.now - 1 }
-        ensures walk { IsPending B.width B.number B.is_block result.index result.bits blocks.now result.summary.left }
-        ensures left { left_from B.number (next_at B.width result.index (B.number result.bits)) blocks.now
-            ≡ left_from B.number (first + 1) blocks.now }
+        ensures walk { IsPending B.width B.number B.is_block
+            result.index result.end result.bits blocks.now result.summary.left }
+        ensures end { result.end ≡ length blocks.now }
+        ensures left { left_from B.number (next_at B.width result.index (B.number result.bits)) result.end blocks.now
+            ≡ left_from B.number (first + 1) result.end blocks.now }
         ensures pulls { result.summary.pulls ≡ 1 }
         ensures count { blocks_for B.width (length blocks.now - (result.index + B.width))
             ≡ blocks_for B.width (length blocks.now) - 1 - first / B.width }
@@ -47,11 +54,13 @@ impl<'a, B: BitBlock> Pending<'a, B> {
         let chunk = first / B::bits();
         let index = chunk * B::bits();
         let mut rest = Blocks::over(summary.split_at(chunk.min(summary.len())).1);
-        let used = pull_used(&mut rest, blocks, index, unstored);
+        let end = blocks.len();
+        let used = pull_used(&mut rest, blocks, index, end, unstored);
         Pending {
             summary: rest,
             bits: clear_below(used, first % B::bits() + 1),
             index,
+            end,
         }
     }
 
@@ -64,6 +73,7 @@ impl<'a, B: BitBlock> Pending<'a, B> {
             summary: self.summary.clone(),
             bits: self.bits,
             index: self.index,
+            end: self.end,
         }
     }
 
@@ -72,25 +82,79 @@ impl<'a, B: BitBlock> Pending<'a, B> {
     #[inline(always)]
     pub(crate) fn next_block(&mut self, blocks: &[B]) -> Option<usize>
         requires walk { IsPending B.width B.number B.is_block
-            self.old.index self.old.bits blocks.now self.old.summary.left }
+            self.old.index self.old.end self.old.bits blocks.now self.old.summary.left }
         ensures walk { IsPending B.width B.number B.is_block
-            self.new.index self.new.bits blocks.now self.new.summary.left }
-        ensures found { Finds B.width B.number blocks.now self.old.index (B.number self.old.bits) self.old.summary.pulls
+            self.new.index self.new.end self.new.bits blocks.now self.new.summary.left }
+        ensures end { self.new.end ≡ self.old.end }
+        ensures found { Finds B.width B.number blocks.now
+            self.new.end self.old.index (B.number self.old.bits) self.old.summary.pulls
             result self.new.index (B.number self.new.bits) self.new.summary.pulls }
     {
         while !is_nonzero(self.bits) {
             // `index` goes with the block of the summary in hand: on by those that are passed over, and by one more
             // only where there are blocks for it.
-            self.index += pass_zero_chunks(&mut self.summary, blocks.len() - self.index)
-                * B::bits();
-            if blocks.len() - self.index <= B::bits() {
-                let _end = self.summary.next();
+            self.index += pass_zero_chunks(&mut self.summary, self.end - self.index) * B::bits();
+            if self.end - self.index <= B::bits() {
                 return None;
             }
             self.index += B::bits();
-            self.bits = pull_used(&mut self.summary, blocks, self.index, Unstored::Each);
+            let (index, end) = (self.index, self.end);
+            self.bits = pull_used(&mut self.summary, blocks, index, end, Unstored::Each);
         }
         Some(self.index + take_lowest_one(&mut self.bits))
+    }
+
+    // Takes the highest bit that is pending, or that the summary has past these, and returns the index of the block that
+    // it is about: `end` is there then. Where there is none, nothing is left, so that a later call looks at no more.
+    #[inline]
+    pub(crate) fn last_block(&mut self, blocks: &[B]) -> Option<usize>
+        requires walk { IsPending B.width B.number B.is_block
+            self.old.index self.old.end self.old.bits blocks.now self.old.summary.left }
+        ensures walk { IsPending B.width B.number B.is_block
+            self.new.index self.new.end self.new.bits blocks.now self.new.summary.left }
+        ensures found { FindsLast B.width B.number blocks.now
+            self.old.index (B.number self.old.bits) self.old.end result (B.number self.new.bits) self.new.end }
+        ensures index { self.new.index ≡ self.old.index }
+        ensures pulls { self.new.summary.pulls ≡ self.old.summary.pulls }
+    {
+        let found = self.find_last(blocks);
+        let end = found.unwrap_or(self.index);
+        let past = (end - self.index).saturating_sub(B::bits());
+        self.bits = clear_from(self.bits, end - self.index);
+        self.summary.keep_first(block_count::<B>(past));
+        self.end = end;
+        found
+    }
+
+    // The last block that a bit is about: of those past the block of the summary in hand, or else of that one.
+    #[inline]
+    fn find_last(&self, blocks: &[B]) -> Option<usize>
+        requires { IsPending B.width B.number B.is_block
+            self.now.index self.now.end self.now.bits blocks.now self.now.summary.left }
+        ensures { FindsLastPending B.number blocks.now
+            (next_at B.width self.now.index (B.number self.now.bits)) self.now.end result }
+    {
+        if let Some(k) = self.find_last_past_hand(blocks) {
+            return Some(k);
+        }
+        if !is_nonzero(self.bits) {
+            return None;
+        }
+        Some(self.index + highest_one(self.bits))
+    }
+
+    #[inline]
+    fn find_last_past_hand(&self, blocks: &[B]) -> Option<usize>
+        requires { IsPending B.width B.number B.is_block
+            self.now.index self.now.end self.now.bits blocks.now self.now.summary.left }
+        ensures { FindsLastPending B.number blocks.now (self.now.index + B.width) self.now.end result }
+    {
+        if self.end - self.index <= B::bits() {
+            return None;
+        }
+        let start = self.index + B::bits();
+        let found = last_used_from(blocks, self.summary.as_slice(), start, self.end)?;
+        Some(start + found)
     }
 }
 
@@ -110,32 +174,34 @@ fn pass_zero_chunks<B: BitBlock>(summary: &mut Blocks<'_, B>, count: usize) -> u
     summary.pass_zeros()
 }
 
-// The next block of the summary, which is about the blocks from `start` on, or what is made up where none is stored.
-// Counts one pull.
+// The next block of the summary, which is about the blocks from `start` on, or what is made up where none is stored. It
+// has no bit of a block from `end` on. Counts one pull.
 #[inline(always)]
 fn pull_used<B: BitBlock>(
     summary: &mut Blocks<'_, B>,
     blocks: &[B],
     start: usize,
+    end: usize,
     unstored: Unstored,
 ) -> B
-    requires in_bounds { start ≤ length blocks.now }
+    requires in_bounds { start ≤ end }
+    requires to { end ≤ length blocks.now }
     requires each { All B.is_block blocks.now }
-    requires stored { IsStoredFrom B.width B.number B.is_block start blocks.now summary.old.left }
+    requires stored { IsStoredFrom B.width B.number B.is_block start end blocks.now summary.old.left }
     ensures of_block { B.is_block result }
-    ensures digits { CoversUsed B.width B.number blocks.now start (B.number result) }
+    ensures digits { CoversUsed B.width B.number blocks.now start end (B.number result) }
     ensures left { summary.new.left ≡ drop 1 summary.old.left }
     ensures pulls { summary.new.pulls ≡ summary.old.pulls + 1 }
 {
     let pulled = summary.next();
     if let Some(used) = pulled {
-        return used;
+        return clear_from(used, end - start);
     }
     match unstored {
         Unstored::NonzeroPastZero if !is_nonzero(block_or_zero(blocks, start)) => {
-            used_of_few(blocks, start)
+            clear_from(used_of_few(blocks, start), end - start)
         }
-        _ => ones_for(blocks.len() - start),
+        _ => ones_for(end - start),
     }
 }
 

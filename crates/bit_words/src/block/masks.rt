@@ -133,3 +133,18 @@ pub fn clear_below<B: BitBlock>(block: B, index: usize) -> B
         B::zero()
     }
 }
+
+// The bits from `index` on become 0; where the block has none there, it stays.
+#[inline]
+pub(crate) fn clear_from<B: BitBlock>(block: B, index: usize) -> B
+    requires { B.is_block block }
+    ensures of_block { B.is_block result }
+    ensures digits { (j : ℕ) → j < B.width
+        → is_one (B.number result) j ≡ (nat_lt j index && is_one (B.number block) j) }
+{
+    if index < B::bits() {
+        cut_from(block, index)
+    } else {
+        block
+    }
+}

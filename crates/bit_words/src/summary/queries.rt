@@ -30,7 +30,8 @@ pub(crate) fn ones_by_summary<B: BitBlock>(blocks: &[B], summary: &[B]) -> usize
     requires summary { All B.is_block summary.now }
     requires enough { short_count B.width < length blocks.now → length blocks.now ≤ length summary.now * B.width }
     requires digit { short_count B.width < length blocks.now
-        → (k : ℕ) → value_at B.width (map B.number summary.now) k ≡ is_used (map B.number blocks.now) k }
+        → (k : ℕ) → k < length blocks.now
+        → value_at B.width (map B.number summary.now) k ≡ is_used (map B.number blocks.now) k }
     requires fits { ones_in B.number blocks.now < 2 ^ 64 }
     ensures { result ≡ ones_in B.number blocks.now }
 {
@@ -49,7 +50,8 @@ fn ones_of_runs<B: BitBlock>(blocks: &[B], summary: &[B]) -> usize
     requires each { All B.is_block blocks.now }
     requires summary { All B.is_block summary.now }
     requires enough { length blocks.now ≤ length summary.now * B.width }
-    requires digit { (k : ℕ) → value_at B.width (map B.number summary.now) k ≡ is_used (map B.number blocks.now) k }
+    requires digit { (k : ℕ) → k < length blocks.now
+        → value_at B.width (map B.number summary.now) k ≡ is_used (map B.number blocks.now) k }
     requires fits { ones_in B.number blocks.now < 2 ^ 64 }
     ensures { result ≡ ones_in B.number blocks.now }
 {

@@ -1,6 +1,6 @@
 // The next 1 of a list of bits in either direction, by the summary where one is stored.
-ghost use Rattle.std.specs.Prelude.{◌≡◌, ℕ, ◌^◌, ◌<◌, All, map, true};
-ghost use Rattle.bit_words.specs.{Searches.{FindsBefore, FindsFrom}, Storage.value_at, Summary.{is_used, IsStoredSummary}};
+ghost use Rattle.std.specs.Prelude.{◌≡◌, ℕ, ◌+◌, ◌-◌, ◌^◌, ◌<◌, ◌≤◌, All, length, map, true};
+ghost use Rattle.bit_words.specs.{Pending.IsStoredFrom, Searches.{FindsBefore, FindsFrom}, Storage.value_at, Summary.{is_used, IsStoredSummary}};
 
 use crate::block::BitBlock;
 use crate::packed::access::block_index;
@@ -35,6 +35,30 @@ fn last_used_by_summary<B: BitBlock>(blocks: &[B], summary: &[B], end: usize) ->
         last_used(blocks, end)
     } else {
         last_one(summary, end)
+    }
+}
+
+// The last block that is not 0 of those from `start` on and before the one at `end`, where `summary` is what is stored
+// for these: how many come before it.
+#[inline]
+pub(crate) fn last_used_from<B: BitBlock>(
+    blocks: &[B],
+    summary: &[B],
+    start: usize,
+    end: usize,
+) -> Option<usize>
+    requires within { start ≤ end }
+    requires chunk { B.width ≤ start }
+    requires to { end ≤ length blocks.now }
+    requires fits { length blocks.now < 2 ^ 64 }
+    requires each { All B.is_block blocks.now }
+    requires stored { IsStoredFrom B.width B.number B.is_block start end blocks.now summary.now }
+    ensures { FindsBefore (λ j. is_used (map B.number blocks.now) (start + j)) (end - start) result }
+{
+    if is_short::<B>(blocks.len()) {
+        last_used(blocks.split_at(start).1, end - start)
+    } else {
+        last_one(summary, end - start)
     }
 }
 

@@ -20,6 +20,6 @@ ones_by_summary-requires g c =
       each = c.self.invariant.packed.each;
       summary = stored_each _ _ _ _ _ c.self.invariant.summary;
       enough = stored_enough _ _ _ _ _ g.met.B.BitBlock.width_law.positive c.self.invariant.summary;
-      digit = λ long. (c.self.invariant.summary.long long).digit;
+      digit = λ long k _. (c.self.invariant.summary.long long).digit k;
       fits = omega (arith, counted, count_by-le-length (λ value. value) values, length-values_of g.B.BitBlock.width (map g.B.BitBlock.number c.self.inside.blocks.items) c.self.inside.len, c.self.invariant.packed.fits);
     })

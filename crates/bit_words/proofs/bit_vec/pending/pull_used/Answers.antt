@@ -3,12 +3,12 @@ use Rattle.bit_words.proofs.bit_vec.pending.pull_used.Goals as goal
 
 pub returns-in-Some-clause-digits : goal.returns-in-Some-clause-digits
 returns-in-Some-clause-digits g c =
-    CoversUsed-stored g.B.BitBlock.width g.B.BitBlock.number g.B.BitBlock.is_block c.args.start c.in-Some.used c.args.blocks.now c.args.summary.now.left c.next-pulled.new.self.left c.in-Some.ensures.steps.item c.requires.stored
+    CoversUsed-stored g.B.BitBlock.width g.B.BitBlock.number g.B.BitBlock.is_block c.args.start c.args.end (g.B.BitBlock.number c.clear_from.result) c.in-Some.used c.args.blocks.now c.args.summary.now.left c.next-pulled.new.self.left c.requires.in_bounds c.in-Some.ensures.steps.item c.requires.stored c.clear_from.ensures.digits
 
 pub returns-in-NonzeroPastZero-clause-digits : goal.returns-in-NonzeroPastZero-clause-digits
 returns-in-NonzeroPastZero-clause-digits g c =
-    CoversUsed-exact g.B.BitBlock.width g.B.BitBlock.number g.B.BitBlock.is_block c.args.start (g.B.BitBlock.number c.used_of_few.result) c.args.blocks.now c.used_of_few.ensures.digits
+    CoversUsed-exact g.B.BitBlock.width g.B.BitBlock.number g.B.BitBlock.is_block c.args.start c.args.end (g.B.BitBlock.number c.used_of_few.result) (g.B.BitBlock.number c.clear_from-in-NonzeroPastZero.result) c.args.blocks.now c.requires.in_bounds (λ j within _. c.used_of_few.ensures.digits j within) c.clear_from-in-NonzeroPastZero.ensures.digits
 
 pub returns-in_default-unstored-clause-digits : goal.returns-in_default-unstored-clause-digits
 returns-in_default-unstored-clause-digits g c =
-    CoversUsed-all g.B.BitBlock.width g.B.BitBlock.number g.B.BitBlock.is_block c.args.start (g.B.BitBlock.number c.ones_for.result) c.args.blocks.now c.requires.in_bounds c.ones_for.ensures.digits
+    CoversUsed-all g.B.BitBlock.width g.B.BitBlock.number g.B.BitBlock.is_block c.args.start c.args.end (g.B.BitBlock.number c.ones_for.result) c.args.blocks.now c.requires.in_bounds c.ones_for.ensures.digits

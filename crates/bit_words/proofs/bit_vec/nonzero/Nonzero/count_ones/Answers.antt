@@ -10,14 +10,16 @@ ones_by_summary-ones-requires g c =
     let is_block = g.B.BitBlock.is_block in
     let it = c.self.inside in
     let at = it.pending.index in
-    let xs = it.blocks.now in
+    let end = it.pending.end in
+    let ys = take end it.blocks.now in
     let left = ap (λ walk. ones_left number walk.left) c.self.view_is in
-    rw (c.as_slice.ensures, c.first_blocks.ensures.rest, c.split_at.ensures.back) (record {
-      each = All-drop is_block w (drop at xs) (All-drop is_block at xs c.self.invariant.hand.each);
+    let hand = c.self.invariant.hand in
+    rw (c.as_slice.ensures, c.first_blocks.ensures.rest ∙ ap (drop g.B.BitBlock.width) (c.split_at-2.ensures.back ∙ ap (drop c.self.inside.pending.index) c.split_at.ensures.front)) (record {
+      each = All-drop is_block w (drop at ys) (All-drop is_block at ys (All-take is_block end it.blocks.now hand.each));
       summary = c.self.invariant.stored.each;
-      enough = enough_rest w number is_block at xs it.pending.summary.left c.self.invariant.stored;
-      digit = tells_rest w number is_block at xs it.pending.summary.left c.self.invariant.stored;
-      fits = omega (arith, left-ones_rest w number is_block at (number it.pending.bits) xs, left, c.requires.fits);
+      enough = enough_rest w number is_block at end it.blocks.now it.pending.summary.left hand.ends c.self.invariant.stored;
+      digit = tells_rest w number is_block at end it.blocks.now it.pending.summary.left hand.ends c.self.invariant.stored;
+      fits = omega (arith, left-ones_rest w number is_block at (number it.pending.bits) ys, left, c.requires.fits);
     })
 
 pub returns-then-not-is_nonzero : goal.returns-then-not-is_nonzero
@@ -26,19 +28,19 @@ returns-then-not-is_nonzero g c =
     let it = c.self.inside in
     let used_up : number it.pending.bits ≡ 0 = grind (arith, nat_tests, c.is_nonzero.ensures, c.if-not-is_nonzero.true) in
     c.ones_by_summary-ones.ensures
-    ∙ ap (ones_in number) (c.first_blocks.ensures.rest ∙ ap (drop g.B.BitBlock.width) c.split_at.ensures.back)
-    ∙ sym (left-ones_past g.B.BitBlock.width number g.B.BitBlock.is_block it.pending.index (number it.pending.bits) it.blocks.now used_up)
+    ∙ ap (ones_in number) (c.first_blocks.ensures.rest ∙ ap (drop g.B.BitBlock.width) (c.split_at-2.ensures.back ∙ ap (drop c.self.inside.pending.index) c.split_at.ensures.front))
+    ∙ sym (left-ones_past g.B.BitBlock.width number g.B.BitBlock.is_block it.pending.index (number it.pending.bits) (take it.pending.end it.blocks.now) used_up)
     ∙ ap (λ walk. ones_left number walk.left) c.self.view_is
 
 pub ones_of-requires : goal.ones_of-requires
 ones_of-requires g c =
     let is_block = g.B.BitBlock.is_block in
     let at = c.self.inside.pending.index in
-    let chunk = drop at c.self.inside.blocks.now in
+    let ys = take c.self.inside.pending.end c.self.inside.blocks.now in
     let lowest = c.take_lowest_one.ensures in
     let all = left-ones_split g.B.BitBlock.width g.B.BitBlock.number is_block at c.take_lowest_one.result _ _ _ lowest.lowest lowest.within (ap (λ walk. walk.left) c.self.view_is) in
-    rw (c.split_at-2.ensures.back, c.first_blocks.ensures.first, c.split_at.ensures.back) (record {
-      each = All-drop is_block c.take_lowest_one.result _ (All-take is_block g.B.BitBlock.width chunk (All-drop is_block at _ c.self.invariant.hand.each));
+    rw (c.split_at-3.ensures.back, c.first_blocks.ensures.first ∙ ap (take g.B.BitBlock.width) (c.split_at-2.ensures.back ∙ ap (drop c.self.inside.pending.index) c.split_at.ensures.front)) (record {
+      each = All-drop is_block c.take_lowest_one.result _ (All-take is_block g.B.BitBlock.width (drop at ys) (All-drop is_block at ys (All-take is_block c.self.inside.pending.end c.self.inside.blocks.now c.self.invariant.hand.each)));
       fits = omega (arith, all, c.requires.fits);
     })
 
@@ -48,8 +50,8 @@ both g c =
     let number = g.B.BitBlock.number in
     let lowest = c.take_lowest_one.ensures in
     let all = left-ones_split g.B.BitBlock.width number g.B.BitBlock.is_block c.self.inside.pending.index c.take_lowest_one.result _ _ _ lowest.lowest lowest.within (ap (λ walk. walk.left) c.self.view_is) in
-    let rest = c.ones_by_summary-ones.ensures ∙ ap (ones_in number) (c.first_blocks.ensures.rest ∙ ap (drop g.B.BitBlock.width) c.split_at.ensures.back) in
-    let chunk = c.ones_of.ensures ∙ ap (ones_in number) (c.split_at-2.ensures.back ∙ ap (drop c.take_lowest_one.result) (c.first_blocks.ensures.first ∙ ap (take g.B.BitBlock.width) c.split_at.ensures.back)) in
+    let rest = c.ones_by_summary-ones.ensures ∙ ap (ones_in number) (c.first_blocks.ensures.rest ∙ ap (drop g.B.BitBlock.width) (c.split_at-2.ensures.back ∙ ap (drop c.self.inside.pending.index) c.split_at.ensures.front)) in
+    let chunk = c.ones_of.ensures ∙ ap (ones_in number) (c.split_at-3.ensures.back ∙ ap (drop c.take_lowest_one.result) (c.first_blocks.ensures.first ∙ ap (take g.B.BitBlock.width) (c.split_at-2.ensures.back ∙ ap (drop c.self.inside.pending.index) c.split_at.ensures.front))) in
     omega (arith, all, rest, chunk)
 
 pub overflow_add-result : goal.overflow_add-result
@@ -59,7 +61,10 @@ pub returns : goal.returns
 returns g c = both g (goal.at.returns g c).After-ones_of
 
 pub split_at-requires : goal.split_at-requires
-split_at-requires g c = c.self.invariant.hand.within
+split_at-requires g c = c.self.invariant.hand.ends
+
+pub split_at-requires-2 : goal.split_at-requires-2
+split_at-requires-2 g c = omega (arith, c.self.invariant.hand.ends, c.self.invariant.hand.within, c.split_at.ensures.front_len)
 
 pub take_lowest_one-requires-clause-of_block : goal.take_lowest_one-requires-clause-of_block
 take_lowest_one-requires-clause-of_block g c = c.self.invariant.hand.of_block
@@ -67,10 +72,11 @@ take_lowest_one-requires-clause-of_block g c = c.self.invariant.hand.of_block
 pub take_lowest_one-requires-clause-not_zero : goal.take_lowest_one-requires-clause-not_zero
 take_lowest_one-requires-clause-not_zero g c = grind (arith, nat_tests, c.is_nonzero.ensures, c.if-not-is_nonzero.false)
 
-pub split_at-requires-2 : goal.split_at-requires-2
-split_at-requires-2 g c =
+pub split_at-requires-3 : goal.split_at-requires-3
+split_at-requires-3 g c =
     let it = c.self.inside in
     let i = c.take_lowest_one.result in
     let lowest = c.take_lowest_one.ensures in
+    let ys = take it.pending.end it.blocks.now in
     let inside = c.self.invariant.hand.inside i lowest.within (is_one-bit 1 (g.B.BitBlock.number it.pending.bits) i lowest.lowest.one) in
-    rw (c.first_blocks.ensures.first, c.split_at.ensures.back) (omega (arith, inside, lowest.within, length-take g.B.BitBlock.width (drop it.pending.index it.blocks.now), length-drop it.pending.index it.blocks.now))
+    rw (c.first_blocks.ensures.first ∙ ap (take g.B.BitBlock.width) (c.split_at-2.ensures.back ∙ ap (drop c.self.inside.pending.index) c.split_at.ensures.front)) (omega (arith, inside, c.self.invariant.hand.ends, lowest.within, length-take g.B.BitBlock.width (drop it.pending.index ys), length-drop it.pending.index ys, length-take it.pending.end it.blocks.now))

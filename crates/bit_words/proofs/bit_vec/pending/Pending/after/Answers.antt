@@ -1,10 +1,10 @@
-use Rattle.std.proofs.{Common.{◌+◌, ◌*◌, ◌/◌, ◌%◌, ◌<◌, ◌≤◌, min, drop, length, ap, ◌∙◌, arith, mod-lt, div-add-mod'}, Math.Nat.div-lt_iff_lt-mul, lemmas.List.drop_min}
+use Rattle.std.proofs.{Common.{◌+◌, ◌*◌, ◌/◌, ◌%◌, ◌<◌, ◌≤◌, min, drop, length, refl, ap, ◌∙◌, arith, mod-lt, div-add-mod'}, Math.Nat.div-lt_iff_lt-mul, lemmas.List.drop_min}
 use Rattle.bit_words.{specs.{Pending.IsStoredFrom, Summary.short_count}, proofs.PendingLemmas.{IsCutPast, IsInHand-cut, count_from, left-cut, stored_from_all, stored_past, stored_some}}
 use Rattle.bit_words.proofs.bit_vec.pending.Pending.after.{Given.Over, Goals.After-over-rest}
 use Rattle.bit_words.proofs.bit_vec.pending.Pending.after.Goals as goal
 
 -- what is stored of the summary from the block for the first one on
-stored : (g : Over) (c : After-over-rest g) → IsStoredFrom g.B.BitBlock.width g.B.BitBlock.number g.B.BitBlock.is_block (c.args.first / g.B.BitBlock.width * g.B.BitBlock.width) c.args.blocks.now c.over-rest.result.left
+stored : (g : Over) (c : After-over-rest g) → IsStoredFrom g.B.BitBlock.width g.B.BitBlock.number g.B.BitBlock.is_block (c.args.first / g.B.BitBlock.width * g.B.BitBlock.width) (length c.args.blocks.now) c.args.blocks.now c.over-rest.result.left
 stored g c =
     let w = g.B.BitBlock.width in
     let pos = g.met.B.BitBlock.width_law.positive in
@@ -13,7 +13,7 @@ stored g c =
     let q = c.args.first / w in
     let all = stored_from_all w g.B.BitBlock.number g.B.BitBlock.is_block xs summary pos c.requires.summary in
     let there : short_count w < length xs → q ≤ length summary = λ long. let less = (div-lt_iff_lt-mul {k = w} pos).1 (let most : c.args.first < length summary * w = omega (arith, all.enough long, c.requires.inside, long) in most) in omega (arith, less) in
-    stored_past w g.B.BitBlock.number g.B.BitBlock.is_block q 0 (q * w) xs summary c.over-rest.result.left pos (omega arith) all there
+    stored_past w g.B.BitBlock.number g.B.BitBlock.is_block q 0 (q * w) (length xs) xs summary c.over-rest.result.left pos (omega arith) all there
     (c.over-rest.ensures.left
     ∙ c.split_at.ensures.back
     ∙ ap (λ n. drop n summary) (c.min.ensures ∙ ap (λ n. min (c.args.first / n) (length summary)) c.bits.ensures)
@@ -31,24 +31,26 @@ returns g c =
     let xs = c.args.blocks.now in
     let first = c.args.first in
     let start = first / w * w in
+    let end = length xs in
     let whole = div-add-mod' first w in
     let rest = stored g (goal.at.returns g c).After-over-rest in
     let used = c.pull_used-used.result in
     let bits = c.clear_below.result in
-    let cut : IsCutPast w number is_block start (first % w) used bits xs = record {
+    let cut : IsCutPast w number is_block start end (first % w) used bits xs = record {
       covers = rw (c.bits.ensures, c.bits-2.ensures) at c.pull_used-used.ensures.digits;
       of_block = c.clear_below.ensures.of_block;
       cut = rw c.bits-3.ensures at c.clear_below.ensures.digits;
     } in
     rw (c.bits.ensures, c.bits-2.ensures) (record {
       walk = record {
-        hand = IsInHand-cut w number is_block start (first % w) used bits xs c.requires.each c.requires.fits (omega (arith, whole, c.requires.inside)) cut;
-        stored = stored_past w number is_block 1 start (start + w) xs c.over-rest.result.left c.pull_used-used.new.summary.left pos (omega arith) rest
-            (λ long. stored_some w number is_block start xs c.over-rest.result.left rest (omega (arith, whole, c.requires.inside, long)) long) c.pull_used-used.ensures.left;
+        hand = IsInHand-cut w number is_block start end (first % w) used bits xs c.requires.each c.requires.fits (omega (arith, whole, c.requires.inside)) (omega arith) cut;
+        stored = stored_past w number is_block 1 start (start + w) end xs c.over-rest.result.left c.pull_used-used.new.summary.left pos (omega arith) rest
+            (λ long. stored_some w number is_block start end xs c.over-rest.result.left rest (omega (arith, whole, c.requires.inside, long)) long) c.pull_used-used.ensures.left;
       };
-      left = left-cut w number is_block start (first % w) first used bits xs (mod-lt first pos) (omega (arith, whole)) cut;
+      end = refl;
+      left = left-cut w number is_block start end (first % w) first used bits xs (mod-lt first pos) (omega (arith, whole)) cut;
       pulls = omega (arith, c.pull_used-used.ensures.pulls, c.over-rest.ensures.pulls);
-      count = count_from w (first / w) start (length xs) pos (omega arith) (omega (arith, whole, c.requires.inside));
+      count = count_from w (first / w) start end pos (omega arith) (omega (arith, whole, c.requires.inside));
     })
 
 pub nonzero_div-chunk : goal.nonzero_div-chunk
