@@ -1,5 +1,5 @@
 -- What is in a range and what is not, and what searches find: the laws of `src/laws/ranges.rt`.
-use Rattle.std.proofs.Common.{◌≡◌, ℕ, ◌+◌, ◌<◌, ◌≤◌, ◌↔◌, Bool, true, false, not, ◌&&◌, ◌||◌, cond, eqb, ltb, nat_le, List, [], ◌∷◌, ◌++◌, IsTrue, length, filter, Option, Some, None, refl, sym, ap, ◌∙◌, arith, subst}
+use Rattle.std.proofs.Common.{◌≡◌, ℕ, ◌+◌, ◌<◌, ◌≤◌, ◌↔◌, Bool, true, not, ◌||◌, eqb, ltb, nat_le, List, [], ◌∷◌, ◌++◌, IsTrue, length, filter, Option, Some, None, refl, sym, ap, ◌∙◌, arith, subst}
 use Rattle.std.proofs.lemmas.Bool.{false≢true, Decides.nat_tests}
 use Rattle.std.specs.Prelude.{MatchOption}
 use Rattle.bit_words.specs.{Ranges.in_range, Searches.{FindsBefore, FindsFrom}}

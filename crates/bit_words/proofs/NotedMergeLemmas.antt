@@ -1,7 +1,7 @@
 -- What a merge that says whether a block changed does, some blocks at a time, and what that says of the list.
-use Rattle.std.proofs.{Common.{◌≡◌, ℕ, ◌+◌, ◌*◌, ◌/◌, ◌%◌, ◌^◌, ◌<◌, ◌≤◌, ◌↔◌, Bool, false, not, ◌==◌, ◌&&◌, List, [], map, length, get_or, set, take, All, refl, sym, ap, ap₂, ◌∙◌, arith, ⊎_elim, mod-lt, length-take, get_or-take, get_or-set_same, get_or-set_other}, lemmas.{Bool.{cases_eq, cases_lt}, List.{get_or_past, length-map}}}
-use Rattle.bit_words.specs.{declared.block.merge.Merge.{Merge, TheVariants.Difference}, Merges.{merge_of_values, merge_of}, Digits.is_one, NotedMerges.{except_at, AreKept, HasMergedWith, HasNoted}, Storage.{value_at, values_of, IsPacked, IsZeroFrom}, Summary.is_used}
-use Rattle.bit_words.proofs.{Masks.is_one-zero, MergeLemmas.{get_or-merged, length-merged, merge_of_values-none}, StorageLemmas.{get_or-values_of, get_or-values_of_zero_tail, length-values_of, value_at-index, value_at-is, value_at-past, values_of-same}, SummaryLemmas.{same_block, used_past}, SummaryMergeLemmas.used_isolated, VectorLemmas.numbers_below}
+use Rattle.std.proofs.{Common.{◌≡◌, ℕ, ◌+◌, ◌*◌, ◌/◌, ◌%◌, ◌^◌, ◌<◌, ◌≤◌, ◌↔◌, Bool, false, not, ◌&&◌, List, [], map, length, get_or, set, take, All, refl, sym, ap, ap₂, ◌∙◌, arith, ⊎_elim, mod-lt, length-take, get_or-take, get_or-set_same, get_or-set_other}, lemmas.{Bool.{cases_eq, cases_lt}, List.{get_or_past, length-map}}}
+use Rattle.bit_words.specs.{declared.block.merge.Merge.{Merge, TheVariants.Difference}, Merges.{merge_of_values, merge_of}, Digits.is_one, NotedMerges.{except_at, AreKept, HasMergedWith, HasNoted}, Storage.{value_at, values_of, IsPacked, IsZeroFrom}}
+use Rattle.bit_words.proofs.{Masks.is_one-zero, MergeLemmas.{get_or-merged, length-merged, merge_of_values-none}, StorageLemmas.{get_or-values_of, get_or-values_of_zero_tail, length-values_of, value_at-is, value_at-past, values_of-same}, SummaryLemmas.{same_block}}
 
 -- ---- the other digits
 

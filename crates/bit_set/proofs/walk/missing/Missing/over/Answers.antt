@@ -1,6 +1,6 @@
-use Rattle.std.proofs.Common.{◌≡◌, ℕ, ◌+◌, ◌-◌, ◌*◌, ◌/◌, ◌<◌, ◌≤◌, ◌&&◌, min, not, nat_le, nat_lt, false, get_or, length, sym, ap, ap₂, ◌∙◌, arith, div-add-mod', mod-lt}
+use Rattle.std.proofs.Common.{◌≡◌, ◌-◌, ◌*◌, ◌/◌, ◌&&◌, nat_le, ap, ap₂, ◌∙◌}
 use Rattle.bit_words.specs.Digits.{is_one}
-use Rattle.bit_set.{specs.Missing.{IsMissingWalk, missing_left}, proofs.{MissingLemmas.{BeginsMissing, begins_missing}, walk.missing.Missing.over.Goals.After-clear_below}}
+use Rattle.bit_set.{proofs.{MissingLemmas.{BeginsMissing, begins_missing}, walk.missing.Missing.over.Goals.After-clear_below}}
 use Rattle.bit_set.proofs.walk.missing.Missing.over.Goals as goal
 
 -- the walk as it is made
