@@ -15,12 +15,14 @@ pub mod ItemLemmas
 pub mod ByteLemmas
 pub mod IndexLemmas
 pub mod WalkLemmas
+pub mod MissingLemmas
 pub mod PairLemmas
 pub mod TallyLemmas
 pub mod SparseLemmas
 pub mod ChainLemmas
 pub mod FromLemmas
 pub mod WalkLaws
+pub mod MissingLaws
 pub mod MismatchLemmas
 pub mod OrderLemmas
 pub mod JsonLemmas

@@ -25,10 +25,10 @@ module _ {S : Type 0} (left : S → List ℕ) (steps : S → Option ℕ → S �
   front s t [] run = ap left run
   front s t (x ∷ xs) run = first s run.0 (Some x) run.1 ∙ ap (λ ys. x ∷ ys) (front run.0 t xs run.2)
 
-  all_left : (s t : S) (items : List ℕ) → YieldsThen steps s items None t → (items ≡ left s) × (left t ≡ [])
+  pub all_left : (s t : S) (items : List ℕ) → YieldsThen steps s items None t → (items ≡ left s) × (left t ≡ [])
   all_left s t items run = let last = first run.0 t None run.2 in (sym (front s run.0 items run.1 ∙ ap (λ ys. items ++ ys) last.0 ∙ append-nil items), last.1)
 
-  none_after : (s t : S) (r : Option ℕ) → left s ≡ [] → steps s r t → (r ≡ None) × (left t ≡ [])
+  pub none_after : (s t : S) (r : Option ℕ) → left s ≡ [] → steps s r t → (r ≡ None) × (left t ≡ [])
   none_after s t r ended step = let item = first s t r step in grind arith
 
   pub collected : (merge : Merge) (a b c : List Bool) (s : S) (items : List ℕ) → left s ≡ merge_of_sets merge (elements a) (elements b) → Drains steps s items → elements c ≡ put_all [] items → elements c ≡ merge_of_sets merge (elements a) (elements b)

@@ -13,6 +13,7 @@ pub mod Texts
 pub mod Order
 pub mod Mismatches
 pub mod Indexes
+pub mod Missing
 pub mod Json
 pub mod Entries
 pub mod Lends

@@ -16,6 +16,10 @@ use std::cmp::Ordering;
 use std::fmt::Display;
 use std::hash::Hash;
 
+mod ranges;
+
+pub use ranges::{ends_of_searches, parts_of_ranges, walks_over_missing};
+
 /// What each operation does to the members of a set.
 #[tactic(auto, using(crate::proofs::SetLaws::members_of_sets))]
 pub fn members_of_sets()

@@ -8,9 +8,11 @@ use std::marker::Model;
 
 mod intersection;
 mod merged_blocks;
+mod missing;
 mod two_sets;
 
 pub use intersection::Intersection;
+pub use missing::Missing;
 pub use two_sets::{Difference, SymmetricDifference, TwoSets, Union};
 
 /// The elements of a set in ascending order, each once. Looks at no block of the set that is zero, but at

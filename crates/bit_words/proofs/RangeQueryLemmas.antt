@@ -1,9 +1,9 @@
 -- What is asked of the values in a range, by the value at every index.
-use Rattle.std.proofs.Common.{◌≡◌, ◌≢◌, ℕ, ◌+◌, ◌-◌, ◌<◌, ◌≤◌, ◌↔◌, min, Bool, IsTrue, true, false, cond, List, [], ◌∷◌, length, take, drop, map, slice_get, Some, refl, sym, ap, ◌∙◌, arith, length-take, length-drop, get_or-take, get_or-drop}
-use Rattle.std.proofs.lemmas.Bool.{false≢true}
+use Rattle.std.proofs.Common.{◌≡◌, ◌≢◌, ℕ, ◌+◌, ◌-◌, ◌*◌, ◌<◌, ◌≤◌, ◌↔◌, ◌==◌, ◌&&◌, min, Bool, IsTrue, true, false, not, nat_lt, cond, List, [], ◌∷◌, get_or, length, take, drop, map, slice_get, Some, refl, sym, ap, ap₂, ◌∙◌, arith, length-take, length-drop, get_or-take, get_or-drop}
+use Rattle.std.proofs.lemmas.Bool.{false≢true, lt-ltb, Decides.nat_tests}
 use Rattle.std.{proofs.lemmas.List.{ext_get_or, FromFn.{get_or-map-range_with_len, length-map-range_with_len}, Sums.sum_by-cons}, specs.List.{count_by, range_with_len}}
-use Rattle.bit_words.specs.{declared.block.merge.Merge.TheVariants.{Difference, Intersection}, Bits.Bits, BlockMerges.MergesSpanToFalse, Ranges.values_in_range, Storage.{IsZeroFrom, value_at, values_of}}
-use Rattle.bit_words.proofs.{CompareLemmas.true_at, StorageLemmas.{get_or-values_of, length-values_of}}
+use Rattle.bit_words.specs.{declared.block.merge.Merge.TheVariants.{Difference, Intersection}, Bits.{Bits, blocks_of}, BlockMerges.MergesSpanToFalse, Digits.{IsComplement, is_one}, Ranges.values_in_range, Storage.{IsZeroFrom, value_at, values_of}}
+use Rattle.bit_words.proofs.{BitsLemmas.{blocks_of-digit, read_back}, CompareLemmas.true_at, Masks.is_one-complement, StorageLemmas.{get_or-values_of, length-values_of}}
 
 trues_of_map : (f : ℕ → Bool) (xs : List ℕ) → count_by (λ value. value) (map f xs) ≡ count_by f xs
 trues_of_map f [] = refl
@@ -54,3 +54,32 @@ not_all_past w a b n r ms v e tail some past = (
 pub none_past : (w a b n r end : ℕ) (ms : List ℕ) (v : Bits) → record { values = values_of w ms n; capacity = r } ≡ v → IsZeroFrom w ms n → end ≡ min b n → end ≤ a → (i : ℕ) → a ≤ i → i < b → slice_get v.values i ≢ Some true
 none_past w a b n r end ms v e tail cut empty i reached below is =
     false≢true (sym (tail.zero_tail i (omega arith)) ∙ (true_at w n r ms v e tail i).0 is)
+
+-- ---- which values of a block are not true
+
+zero_digit : (w k j b z : ℕ) (ms : List ℕ) (values : List Bool) → ms ≡ blocks_of w values → b ≡ get_or ms k 0 → IsComplement w b z → j < w → is_one z j ≡ not (get_or values (k * w + j) false)
+zero_digit w k j b z ms values same read turned within =
+    is_one-complement w b z j turned within
+    ∙ ap (λ m. not (is_one m j)) (read ∙ ap (λ xs. get_or xs k 0) same)
+    ∙ ap (λ d. not (d == 1)) (blocks_of-digit w k j values within)
+    ∙ ap not (read_back (get_or values (k * w + j) false))
+
+-- of all of them, where the range goes on past the block
+pub zeros_of_block : (w k end : ℕ) (b z : ℕ) (ms : List ℕ) (values : List Bool) → ms ≡ blocks_of w values → b ≡ get_or ms k 0 → IsComplement w b z → k * w + w ≤ end
+    → (j : ℕ) → j < w → is_one z j ≡ (nat_lt (k * w + j) end && not (get_or values (k * w + j) false))
+zeros_of_block w k end b z ms values same read turned on j within =
+    let digit = zero_digit w k j b z ms values same read turned within in
+    let below : nat_lt (k * w + j) end ≡ true = lt-ltb (k * w + j) end (omega arith) in
+    digit ∙ ap (λ t. t && not (get_or values (k * w + j) false)) (sym below)
+
+-- and of those below its end
+pub zeros_below : (w k end : ℕ) (b z r below : ℕ) (ms : List ℕ) (values : List Bool) → ms ≡ blocks_of w values → b ≡ get_or ms k 0 → IsComplement w b z → below + k * w ≡ end
+    → ((j : ℕ) → j < w → is_one r j ≡ (nat_lt j below && is_one z j))
+    → (j : ℕ) → j < w → is_one r j ≡ (nat_lt (k * w + j) end && not (get_or values (k * w + j) false))
+zeros_below w k end b z r below ms values same read turned to cut j within =
+    let digit = zero_digit w k j b z ms values same read turned within in
+    let moved : nat_lt j below ≡ nat_lt (k * w + j) end = shifted (k * w) j below end to in
+    cut j within ∙ ap₂ (λ s t. s && t) moved digit
+  where
+    shifted : (p i n m : ℕ) → n + p ≡ m → nat_lt i n ≡ nat_lt (p + i) m
+    shifted p i n m is = grind (arith, nat_tests)
