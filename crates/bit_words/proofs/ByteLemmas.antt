@@ -1,5 +1,5 @@
 -- The values of bytes: a byte turned round, one moved into its place in a block, and the list of all.
-use Rattle.std.proofs.Common.{Bool, ◌≡◌, ℕ, zero, suc, ◌+◌, ◌-◌, ◌*◌, ◌/◌, ◌%◌, ◌^◌, ◌<◌, ◌≤◌, false, ◌&&◌, ◌||◌, ◌==◌, nat_lt, List, [], ◌∷◌, ◌++◌, length, get_or, refl, sym, ap, ap₂, ◌∙◌, arith, mod-lt, div-add-mod', w8, min, slice_range, get_or-take, get_or-drop, length-take, length-append, pow-suc, div-lt_iff_lt-mul, replicate, ⊎_elim, pow_mono}
+use Rattle.std.proofs.Common.{Bool, ◌≡◌, ℕ, zero, suc, ◌+◌, ◌-◌, ◌*◌, ◌/◌, ◌%◌, ◌^◌, ◌<◌, ◌≤◌, false, ◌&&◌, ◌||◌, ◌==◌, nat_lt, List, [], ◌∷◌, ◌++◌, length, get_or, refl, sym, ap, ap₂, ◌∙◌, arith, mod-lt, div-add-mod', w8, min, slice_range, get_or-take, get_or-drop, length-take, length-append, pow-suc, div-lt_iff_lt-mul, replicate, ⊎_elim}
 use Rattle.std.{proofs.lemmas.{Nat.Bits.{bit_at-suc, bit_at_lowest, bit_at_above}, List.{ext_get_or, get_or_past, get_or_append_left, get_or-append_right, get_or-replicate, length-replicate, FromFn.get_or-map-range_with_len}, Bool.{cases_lt, Decides.nat_tests}}, specs.Int.bit_at}
 use Rattle.std.specs.Int.{reverse_bits, reverse_bits_onto}
 use Rattle.bit_words.{specs.{Bits.{Bits, blocks_for, digit_of, values_of_byte, values_of_bytes}, Digits.{IsWidth, IsEither, IsShiftedLeft, is_one}, Bytes.byte_value, Storage.{value_at, values_of, IsZeroFrom}}, proofs.BitsLemmas.{blocks_for-enough, blocks_for-least, read_back}}
