@@ -1,7 +1,11 @@
 -- What the blocks of a list become where they are merged with those of a second list except for the ones of a third, and
--- whether a block changed. No public clause cites this.
-use Rattle.std.specs.Prelude.{◌≡◌, ℕ, ◌<◌, ◌≤◌, ◌↔◌, ◌&&◌, Bool, not, List, map, length, get_or, All}
+-- which of them stay. No public clause cites this.
+use Rattle.std.specs.Prelude.{◌≡◌, ℕ, ◌<◌, ◌≤◌, ◌&&◌, Bool, not, List, map, length, get_or, All}
 use Rattle.bit_words.specs.{Digits.is_one, Merges.merge_of_values, declared.block.merge.Merge.Merge}
+
+-- whether digit j of block k is 1
+abbrev pub other_at : List ℕ → ℕ → ℕ → Bool
+other_at os k j = is_one (get_or os k 0) j
 
 -- whether digit j of block k is 1 in the first list and not in the second
 abbrev pub except_at : List ℕ → List ℕ → ℕ → ℕ → Bool
@@ -22,9 +26,9 @@ pub record HasMergedWith {X : Type 0} (merge : Merge) (w : ℕ) (number : X → 
   pub each : All is_block ys
   pub len : length ys ≡ length xs
 
--- They became so, and `change` is 0 just where `seen` is and none of them changed.
-pub record HasNoted {X : Type 0} (merge : Merge) (w : ℕ) (number : X → ℕ) (is_block : X → Type 0) (start end : ℕ)
-    (other : ℕ → ℕ → Bool) (xs : List X) (seen : X) (ys : List X) (change : X) : Type 0 where
-  pub merged : HasMergedWith merge w number is_block start end other xs ys
-  pub of_block : is_block change
-  pub noted : (number change ≡ 0) ↔ ((number seen ≡ 0) × AreKept (map number xs) (map number ys))
+-- Digit by digit, the blocks from start to before end are what they merge to with the other digits: they stay.
+pub record Stay {X : Type 0} (merge : Merge) (w : ℕ) (number : X → ℕ) (start end : ℕ) (other : ℕ → ℕ → Bool)
+    (xs : List X) : Type 0 where
+  pub digit : (k j : ℕ) → start ≤ k → k < end → j < w
+      → is_one (get_or (map number xs) k 0) j
+      ≡ merge_of_values merge (is_one (get_or (map number xs) k 0) j) (other k j)

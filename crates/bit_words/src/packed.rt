@@ -3,11 +3,12 @@
 pub(crate) mod access;
 pub(crate) mod block_merges;
 pub(crate) mod bytes;
+pub(crate) mod changes;
 pub(crate) mod comparing;
 pub(crate) mod copies;
+pub(crate) mod except_merges;
 pub(crate) mod groups;
 pub(crate) mod inclusion;
-pub(crate) mod noted_merges;
 pub(crate) mod ones;
 pub(crate) mod resizing;
 pub(crate) mod searching;

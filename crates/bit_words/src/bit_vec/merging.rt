@@ -24,6 +24,7 @@ impl<B: BitBlock> BitVec<B> {
             &other.blocks,
             &other.summary,
             merge,
+            0,
             steps,
         );
     }

@@ -5,15 +5,13 @@ ghost use Rattle.bit_words.specs.{Bits.blocks_for, Merges.merge_of, declared.blo
 use crate::bit_vec::BitVec;
 use crate::block::BitBlock;
 use crate::block::merge::Merge;
-use crate::block::operation::Union;
 use crate::steps::Steps;
-use crate::summary::noted_merges::{merge_and_note, merge_chosen_and_note};
+use crate::summary::noted_merges::{merge_and_note, unite_and_note};
 
 impl<B: BitBlock> BitVec<B> {
     /// Each value becomes its merge with that of `other`, as [`merge_blocks`](Self::merge_blocks) has it, and whether a
-    /// value changed is returned. The other must not be longer. Writes each block once, one step a block, and takes no
-    /// memory.
-    /// Where a list that stores a summary changed, its blocks are read once more, which `steps` does not count.
+    /// value changed is returned. The other must not be longer. One pass, one step a block, and no memory. Blocks are
+    /// written from the first group on of which one changes: that group is read twice, and counts once.
     ///
     /// ```
     /// // Some value of `other` is true that is not in `bits`.
@@ -27,19 +25,19 @@ impl<B: BitBlock> BitVec<B> {
         ensures capacity { self.new.capacity ≡ self.old.capacity }
         ensures steps { steps.new ≡ steps.old + blocks_for B.width (length self.old.values) }
     {
-        merge_chosen_and_note(
+        merge_and_note(
             self.blocks.as_mut_slice(),
             self.summary.as_mut_slice(),
             &other.blocks,
+            &other.summary,
             merge,
             steps,
         )
     }
 
     /// What is true in `other` and not in `except` becomes true, and whether a value changed is returned. The other must
-    /// not be longer; `except` is false past its end, and may be. One pass over the three lists, which writes each block
-    /// once, one step a block, and takes no memory.
-    /// Where a list that stores a summary changed, its blocks are read once more, which `steps` does not count.
+    /// not be longer; `except` is false past its end, and may be. One pass over the three lists, one step a block, and no
+    /// memory. Blocks are written from the first group on of which one changes: that group is read twice, and counts once.
     ///
     /// ```
     /// // live |= live_after & !assigned
@@ -53,7 +51,7 @@ impl<B: BitBlock> BitVec<B> {
         ensures capacity { self.new.capacity ≡ self.old.capacity }
         ensures steps { steps.new ≡ steps.old + blocks_for B.width (length self.old.values) }
     {
-        merge_and_note::<B, Union>(
+        unite_and_note(
             self.blocks.as_mut_slice(),
             self.summary.as_mut_slice(),
             &other.blocks,

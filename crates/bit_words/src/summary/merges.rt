@@ -1,7 +1,7 @@
 // Merges of the blocks of two lists that have summaries: of a union it is the union of the summaries, and of the
 // others each block of it is made while the blocks that it is about are merged.
 ghost use Rattle.std.specs.Prelude.{◌≡◌, ℕ, ◌+◌, ◌*◌, ◌/◌, ◌<◌, ◌≤◌, All, get_or, length, map};
-ghost use Rattle.bit_words.specs.{BlockMerges.{CanMerge, HasMerged}, Digits.is_one, Storage.value_at, Summary.{is_used, IsSummary, IsStoredSummary, SaysUsed}, declared.block.merge.Merge.Merge};
+ghost use Rattle.bit_words.specs.{BlockMerges.{CanMerge, HasMerged}, Digits.is_one, NotedMerges.{other_at, Stay}, Storage.value_at, Summary.{is_used, IsSummary, IsStoredSummary, SaysUsed}, declared.block.merge.Merge.Merge};
 
 use crate::block::BitBlock;
 use crate::block::masks::{cut_below, with_one_if};
@@ -94,30 +94,35 @@ fn merge_chunk<B: BitBlock, O: Operation>(
     }
 }
 
-// The blocks that the first `chunks` blocks of the summary are about become their merges, and these are made anew.
+// The blocks that the blocks of the summary from `from` to before `chunks` are about become their merges, and these are made
+// anew.
 fn merge_chunks<B: BitBlock, O: Operation>(
     blocks: &mut [B],
     summary: &mut [B],
     others: &[B],
+    from: usize,
     chunks: usize,
     steps: &mut Steps,
 )
     requires can { CanMerge B.is_block blocks.old others.now }
+    requires forward { from ≤ chunks }
     requires in_others { chunks * B.width ≤ length others.now }
     requires in_summary { chunks ≤ length summary.old }
     requires each_sum { All B.is_block summary.old }
-    ensures has { HasMerged O.merge B.width B.number B.is_block 0 (chunks * B.width) blocks.old
+    ensures has { HasMerged O.merge B.width B.number B.is_block (from * B.width) (chunks * B.width) blocks.old
         others.now blocks.new }
-    ensures digits { (q j : ℕ) → q < chunks → j < B.width
+    ensures digits { (q j : ℕ) → from ≤ q → q < chunks → j < B.width
         → is_one (get_or (map B.number summary.new) q 0) j
         ≡ is_used (map B.number blocks.new) (q * B.width + j) }
+    ensures before { (q : ℕ) → q < from
+        → get_or (map B.number summary.new) q 0 ≡ get_or (map B.number summary.old) q 0 }
     ensures past { (q : ℕ) → chunks ≤ q
         → get_or (map B.number summary.new) q 0 ≡ get_or (map B.number summary.old) q 0 }
     ensures each_sum { All B.is_block summary.new }
     ensures summary_len { length summary.new ≡ length summary.old }
-    ensures steps { steps.new ≡ steps.old + chunks * B.width }
+    ensures steps { steps.new + from * B.width ≡ steps.old + chunks * B.width }
 {
-    for q in 0..chunks {
+    for q in from..chunks {
         let digits = merge_chunk::<B, O>(blocks, others, q, steps);
         put_in(summary, q, digits);
     }
@@ -160,16 +165,19 @@ fn merge_tail<B: BitBlock, O: Operation>(
 }
 
 // Each block becomes its merge with the other of its index, or with zeros where there is none, and the summary is
-// that of what they become. It is a call of its own, so that what picks the merge is short and goes into its caller,
-// which knows the merge.
+// that of what they become. The blocks before `start` stay, and are passed over but for the few whose block of the summary is
+// made anew. It is a call of its own, so that what picks the merge is short and goes into its caller, which knows the merge.
 #[inline(never)]
 fn merge_long<B: BitBlock, O: Operation>(
     blocks: &mut [B],
     summary: &mut [B],
     others: &[B],
+    start: usize,
     steps: &mut Steps,
 )
     requires can { CanMerge B.is_block blocks.old others.now }
+    requires from { start ≤ length others.now }
+    requires stay { Stay O.merge B.width B.number 0 start (other_at (map B.number others.now)) blocks.old }
     requires summary { IsSummary B.width B.number B.is_block blocks.old summary.old }
     ensures has { HasMerged O.merge B.width B.number B.is_block 0 (length blocks.old) blocks.old others.now
         blocks.new }
@@ -177,19 +185,24 @@ fn merge_long<B: BitBlock, O: Operation>(
     ensures steps { steps.new ≡ steps.old + length blocks.old }
 {
     let chunks = block_index::<B>(others.len());
-    merge_chunks::<B, O>(blocks, summary, others, chunks, steps);
+    let from = block_index::<B>(start);
+    steps.tick_by(from * B::bits());
+    merge_chunks::<B, O>(blocks, summary, others, from, chunks, steps);
     merge_tail::<B, O>(blocks, summary, others, chunks, steps);
 }
 
-// Each block becomes its merge, of a list of any length: of a short one no summary is stored.
+// Each block becomes its merge, of a list of any length: of a short one no summary is stored. Those before `start` stay.
 #[inline]
 fn merge_any_length<B: BitBlock, O: Operation>(
     blocks: &mut [B],
     summary: &mut [B],
     others: &[B],
+    start: usize,
     steps: &mut Steps,
 )
     requires can { CanMerge B.is_block blocks.old others.now }
+    requires from { start ≤ length others.now }
+    requires stay { Stay O.merge B.width B.number 0 start (other_at (map B.number others.now)) blocks.old }
     requires summary { IsStoredSummary B.width B.number B.is_block blocks.old summary.old }
     ensures has { HasMerged O.merge B.width B.number B.is_block 0 (length blocks.old) blocks.old others.now
         blocks.new }
@@ -198,21 +211,25 @@ fn merge_any_length<B: BitBlock, O: Operation>(
     ensures steps { steps.new ≡ steps.old + length blocks.old }
 {
     if is_short::<B>(blocks.len()) {
-        merge_each::<B, O>(blocks, others, 0, steps);
+        steps.tick_by(start);
+        merge_each::<B, O>(blocks, others, start, steps);
     } else {
-        merge_long::<B, O>(blocks, summary, others, steps);
+        merge_long::<B, O>(blocks, summary, others, start, steps);
     }
 }
 
-// A union of two long lists: its summary is the union of theirs.
+// A union of two long lists: its summary is the union of theirs. The blocks before `start` stay.
 fn unite_long<B: BitBlock>(
     blocks: &mut [B],
     summary: &mut [B],
     others: &[B],
     other_summary: &[B],
+    start: usize,
     steps: &mut Steps,
 )
     requires can { CanMerge B.is_block blocks.old others.now }
+    requires from { start ≤ length others.now }
+    requires stay { Stay Merge.Union B.width B.number 0 start (other_at (map B.number others.now)) blocks.old }
     requires summary { IsSummary B.width B.number B.is_block blocks.old summary.old }
     requires other_summary { IsSummary B.width B.number B.is_block others.now other_summary.now }
     ensures has { HasMerged Merge.Union B.width B.number B.is_block 0 (length blocks.old) blocks.old others.now
@@ -220,11 +237,12 @@ fn unite_long<B: BitBlock>(
     ensures summary { IsSummary B.width B.number B.is_block blocks.new summary.new }
     ensures steps { steps.new ≡ steps.old + length blocks.old }
 {
-    merge_each::<B, Union>(blocks, others, 0, steps);
+    steps.tick_by(start);
+    merge_each::<B, Union>(blocks, others, start, steps);
     merge_each::<B, Union>(summary, other_summary, 0, &mut Steps::new());
 }
 
-// The merge that is named, of lists of any length. Only a union needs the others' summary.
+// The merge that is named, of lists of any length, whose blocks before `start` stay. Only a union needs the others' summary.
 #[inline(always)]
 pub(crate) fn merge_chosen<B: BitBlock>(
     blocks: &mut [B],
@@ -232,9 +250,12 @@ pub(crate) fn merge_chosen<B: BitBlock>(
     others: &[B],
     other_summary: &[B],
     merge: Merge,
+    start: usize,
     steps: &mut Steps,
 )
     requires can { CanMerge B.is_block blocks.old others.now }
+    requires from { start ≤ length others.now }
+    requires stay { Stay merge B.width B.number 0 start (other_at (map B.number others.now)) blocks.old }
     requires summary { IsStoredSummary B.width B.number B.is_block blocks.old summary.old }
     requires other_summary { IsStoredSummary B.width B.number B.is_block others.now other_summary.now }
     ensures has { HasMerged merge B.width B.number B.is_block 0 (length blocks.old) blocks.old others.now
@@ -247,13 +268,17 @@ pub(crate) fn merge_chosen<B: BitBlock>(
         // Where only the others are short, the summary is made as for the other merges.
         Merge::Union => {
             if is_short::<B>(others.len()) {
-                merge_any_length::<B, Union>(blocks, summary, others, steps);
+                merge_any_length::<B, Union>(blocks, summary, others, start, steps);
             } else {
-                unite_long(blocks, summary, others, other_summary, steps);
+                unite_long(blocks, summary, others, other_summary, start, steps);
             }
         }
-        Merge::Intersection => merge_any_length::<B, Intersection>(blocks, summary, others, steps),
-        Merge::Difference => merge_any_length::<B, Difference>(blocks, summary, others, steps),
-        Merge::Symmetric => merge_any_length::<B, Symmetric>(blocks, summary, others, steps),
+        Merge::Intersection => merge_any_length::<B, Intersection>(
+            blocks, summary, others, start, steps,
+        ),
+        Merge::Difference => merge_any_length::<B, Difference>(
+            blocks, summary, others, start, steps,
+        ),
+        Merge::Symmetric => merge_any_length::<B, Symmetric>(blocks, summary, others, start, steps),
     }
 }

@@ -1,162 +1,163 @@
-// Merges of the blocks of a list that has a summary, which say whether a block changed. The summary is made anew where one
-// did.
-ghost use Rattle.std.specs.Prelude.{◌≡◌, ℕ, ◌+◌, ◌^◌, ◌<◌, ◌≤◌, ◌↔◌, [], All, false, length, map};
-ghost use Rattle.bit_words.specs.{Bits.blocks_for, NotedMerges.{except_at, AreKept, HasMergedWith, HasNoted}, Summary.{IsSummary, IsStoredSummary}};
+// Merges of the blocks of a list that say whether one changed. The list is looked at up to the first blocks that change, and
+// merged from there on.
+ghost use Rattle.std.specs.Prelude.{◌≡◌, ℕ, ◌+◌, ◌*◌, ◌<◌, ◌≤◌, ◌↔◌, All, IfNone, IfSome, false, length, map};
+ghost use Rattle.bit_words.specs.{BlockMerges.{CanMerge, HasMerged}, NotedMerges.{except_at, other_at, AreKept, HasMergedWith, Stay}, Summary.{IsSummary, IsStoredSummary}, declared.block.merge.Merge.Merge};
 
 use crate::block::BitBlock;
 use crate::block::merge::Merge;
-use crate::block::operation::{Difference, Intersection, Operation, Symmetric, Union};
-use crate::block::operators::same;
-use crate::packed::access::put_in;
-use crate::packed::noted_merges::merge_between;
+use crate::block::operation::{Difference, Intersection, Symmetric, Union};
+use crate::packed::access::{block_index, put_in};
+use crate::packed::changes::{first_change, first_change_except};
+use crate::packed::except_merges::unite_between;
 use crate::steps::Steps;
-use crate::summary::{is_nonzero, is_short, used_from};
+use crate::summary::merges::merge_chosen;
+use crate::summary::{is_short, used_from};
 
-// Makes the summary anew, over one that has as many blocks as it takes.
-fn make_summary_anew<B: BitBlock>(summary: &mut [B], blocks: &[B])
-    requires count { length summary.old ≡ blocks_for B.width (length blocks.now) }
-    requires each_sum { All B.is_block summary.old }
-    requires each { All B.is_block blocks.now }
-    requires fits { length blocks.now < 2 ^ 64 }
-    ensures summary { IsSummary B.width B.number B.is_block blocks.now summary.new }
-    ensures summary_len { length summary.new ≡ length summary.old }
+// Where the list begins to change by the merge that is named, or `None` where no block changes.
+#[inline(always)]
+fn first_change_by<B: BitBlock>(blocks: &[B], others: &[B], merge: Merge) -> Option<usize>
+    requires can { CanMerge B.is_block blocks.now others.now }
+    ensures within { IfSome result (λ start. start ≤ length others.now) }
+    ensures stay { IfSome result (λ start. Stay merge B.width B.number 0 start
+        (other_at (map B.number others.now)) blocks.now) }
+    ensures changes { IfSome result (λ start. Stay merge B.width B.number 0 (length blocks.now)
+        (other_at (map B.number others.now)) blocks.now → ⊥) }
+    ensures none { IfNone result (Stay merge B.width B.number 0 (length blocks.now)
+        (other_at (map B.number others.now)) blocks.now) }
 {
-    for q in 0..summary.len() {
-        put_in(summary, q, used_from(blocks, q * B::bits()));
+    match merge {
+        Merge::Union => first_change::<B, Union>(blocks, others),
+        Merge::Intersection => first_change::<B, Intersection>(blocks, others),
+        Merge::Difference => first_change::<B, Difference>(blocks, others),
+        Merge::Symmetric => first_change::<B, Symmetric>(blocks, others),
     }
 }
 
-// Each block becomes its merge, and the summary is that of what they become. The loop over the blocks has no case inside,
-// and the summary is made anew only where a block changed.
-#[inline(never)]
-fn merge_noted_long<B: BitBlock, O: Operation>(
+// The merge that is named, and whether a block changed.
+#[inline(always)]
+pub(crate) fn merge_and_note<B: BitBlock>(
     blocks: &mut [B],
     summary: &mut [B],
     others: &[B],
-    except: &[B],
-    seen: B,
+    other_summary: &[B],
+    merge: Merge,
     steps: &mut Steps,
-) -> B
-    requires each { All B.is_block blocks.old }
-    requires others { All B.is_block others.now }
-    requires except { All B.is_block except.now }
-    requires of_seen { B.is_block seen }
-    requires summary { IsSummary B.width B.number B.is_block blocks.old summary.old }
-    ensures has { HasNoted O.merge B.width B.number B.is_block 0 (length blocks.old)
-        (except_at (map B.number others.now) (map B.number except.now)) blocks.old seen blocks.new result }
-    ensures summary { IsSummary B.width B.number B.is_block blocks.new summary.new }
+) -> bool
+    requires can { CanMerge B.is_block blocks.old others.now }
+    requires summary { IsStoredSummary B.width B.number B.is_block blocks.old summary.old }
+    requires other_summary { IsStoredSummary B.width B.number B.is_block others.now other_summary.now }
+    ensures has { HasMerged merge B.width B.number B.is_block 0 (length blocks.old) blocks.old others.now
+        blocks.new }
+    ensures kept { (result ≡ false) ↔ AreKept (map B.number blocks.old) (map B.number blocks.new) }
+    ensures summary { IsStoredSummary B.width B.number B.is_block blocks.new summary.new }
     ensures summary_len { length summary.new ≡ length summary.old }
     ensures steps { steps.new ≡ steps.old + length blocks.old }
 {
-    let end = blocks.len();
-    let change = merge_between::<B, O>(blocks, others, except, 0, end, seen, steps);
-    follow_blocks(summary, blocks, change);
-    change
-}
-
-// Makes the summary anew where `change` is not 0: where a block changed.
-#[inline]
-fn follow_blocks<B: BitBlock>(summary: &mut [B], blocks: &[B], change: B)
-    requires count { length summary.old ≡ blocks_for B.width (length blocks.now) }
-    requires each_sum { All B.is_block summary.old }
-    requires each { All B.is_block blocks.now }
-    requires fits { length blocks.now < 2 ^ 64 }
-    requires of_change { B.is_block change }
-    requires kept { B.number change ≡ 0 → IsSummary B.width B.number B.is_block blocks.now summary.old }
-    ensures summary { IsSummary B.width B.number B.is_block blocks.now summary.new }
-    ensures summary_len { length summary.new ≡ length summary.old }
-{
-    if is_nonzero(change) {
-        make_summary_anew(summary, blocks);
+    match first_change_by(blocks, others, merge) {
+        None => {
+            steps.tick_by(blocks.len());
+            false
+        }
+        Some(start) => {
+            merge_chosen(blocks, summary, others, other_summary, merge, start, steps);
+            true
+        }
     }
 }
 
-// Each block becomes its merge, of a list of any length: of a short one no summary is stored.
-#[inline]
-fn merge_noted_any<B: BitBlock, O: Operation>(
+// The blocks that the blocks of the summary from `from` on are about become their unions with the others except for the
+// ones of `except`, and these are made anew.
+#[inline(never)]
+fn unite_chunks<B: BitBlock>(
     blocks: &mut [B],
     summary: &mut [B],
     others: &[B],
     except: &[B],
-    seen: B,
+    from: usize,
     steps: &mut Steps,
-) -> B
-    requires fewer { length others.now ≤ length blocks.old }
+)
     requires each { All B.is_block blocks.old }
     requires others { All B.is_block others.now }
     requires except { All B.is_block except.now }
-    requires of_seen { B.is_block seen }
+    requires summary { IsSummary B.width B.number B.is_block blocks.old summary.old }
+    requires in_blocks { from * B.width ≤ length blocks.old }
+    requires in_summary { from ≤ length summary.old }
+    ensures has { HasMergedWith Merge.Union B.width B.number B.is_block (from * B.width) (length blocks.old)
+        (except_at (map B.number others.now) (map B.number except.now)) blocks.old blocks.new }
+    ensures summary { IsSummary B.width B.number B.is_block blocks.new summary.new }
+    ensures summary_len { length summary.new ≡ length summary.old }
+    ensures steps { steps.new + from * B.width ≡ steps.old + length blocks.old }
+{
+    let width = B::bits();
+    for q in from..summary.len() {
+        let start = q * width;
+        let end = start + width.min(blocks.len() - start);
+        unite_between(blocks, others, except, start, end, steps);
+        put_in(summary, q, used_from(blocks, start));
+    }
+}
+
+// The blocks from `start` on become their unions with the others except for the ones of `except`, of a list of any length:
+// of a short one no summary is stored. Those before `start` stay.
+#[inline]
+fn unite_from<B: BitBlock>(
+    blocks: &mut [B],
+    summary: &mut [B],
+    others: &[B],
+    except: &[B],
+    start: usize,
+    steps: &mut Steps,
+)
+    requires can { CanMerge B.is_block blocks.old others.now }
+    requires except { All B.is_block except.now }
+    requires from { start ≤ length others.now }
+    requires stay { Stay Merge.Union B.width B.number 0 start
+        (except_at (map B.number others.now) (map B.number except.now)) blocks.old }
     requires summary { IsStoredSummary B.width B.number B.is_block blocks.old summary.old }
-    ensures has { HasNoted O.merge B.width B.number B.is_block 0 (length blocks.old)
-        (except_at (map B.number others.now) (map B.number except.now)) blocks.old seen blocks.new result }
+    ensures has { HasMergedWith Merge.Union B.width B.number B.is_block 0 (length blocks.old)
+        (except_at (map B.number others.now) (map B.number except.now)) blocks.old blocks.new }
     ensures summary { IsStoredSummary B.width B.number B.is_block blocks.new summary.new }
     ensures summary_len { length summary.new ≡ length summary.old }
     ensures steps { steps.new ≡ steps.old + length blocks.old }
 {
     let end = blocks.len();
     if is_short::<B>(end) {
-        merge_between::<B, O>(blocks, others, except, 0, end, seen, steps)
+        steps.tick_by(start);
+        unite_between(blocks, others, except, start, end, steps);
     } else {
-        merge_noted_long::<B, O>(blocks, summary, others, except, seen, steps)
+        let from = block_index::<B>(start);
+        steps.tick_by(from * B::bits());
+        unite_chunks(blocks, summary, others, except, from, steps);
     }
 }
 
-// Each block becomes its merge with the others, except for the ones of `except`, and whether one changed is returned.
+// Each block becomes its union with the others, except for the ones of `except`, and whether one changed is returned.
 #[inline]
-pub(crate) fn merge_and_note<B: BitBlock, O: Operation>(
+pub(crate) fn unite_and_note<B: BitBlock>(
     blocks: &mut [B],
     summary: &mut [B],
     others: &[B],
     except: &[B],
     steps: &mut Steps,
 ) -> bool
-    requires fewer { length others.now ≤ length blocks.old }
-    requires each { All B.is_block blocks.old }
-    requires others { All B.is_block others.now }
+    requires can { CanMerge B.is_block blocks.old others.now }
     requires except { All B.is_block except.now }
     requires summary { IsStoredSummary B.width B.number B.is_block blocks.old summary.old }
-    ensures has { HasMergedWith O.merge B.width B.number B.is_block 0 (length blocks.old)
+    ensures has { HasMergedWith Merge.Union B.width B.number B.is_block 0 (length blocks.old)
         (except_at (map B.number others.now) (map B.number except.now)) blocks.old blocks.new }
     ensures kept { (result ≡ false) ↔ AreKept (map B.number blocks.old) (map B.number blocks.new) }
     ensures summary { IsStoredSummary B.width B.number B.is_block blocks.new summary.new }
     ensures summary_len { length summary.new ≡ length summary.old }
     ensures steps { steps.new ≡ steps.old + length blocks.old }
 {
-    let zero = B::zero();
-    let change = merge_noted_any::<B, O>(blocks, summary, others, except, zero, steps);
-    !same(change, zero)
-}
-
-// The merge that is named, with all of the others.
-#[inline(always)]
-pub(crate) fn merge_chosen_and_note<B: BitBlock>(
-    blocks: &mut [B],
-    summary: &mut [B],
-    others: &[B],
-    merge: Merge,
-    steps: &mut Steps,
-) -> bool
-    requires fewer { length others.now ≤ length blocks.old }
-    requires each { All B.is_block blocks.old }
-    requires others { All B.is_block others.now }
-    requires summary { IsStoredSummary B.width B.number B.is_block blocks.old summary.old }
-    ensures has { HasMergedWith merge B.width B.number B.is_block 0 (length blocks.old)
-        (except_at (map B.number others.now) []) blocks.old blocks.new }
-    ensures kept { (result ≡ false) ↔ AreKept (map B.number blocks.old) (map B.number blocks.new) }
-    ensures summary { IsStoredSummary B.width B.number B.is_block blocks.new summary.new }
-    ensures summary_len { length summary.new ≡ length summary.old }
-    ensures steps { steps.new ≡ steps.old + length blocks.old }
-{
-    match merge {
-        Merge::Union => merge_and_note::<B, Union>(blocks, summary, others, &[], steps),
-        Merge::Intersection => merge_and_note::<B, Intersection>(
-            blocks,
-            summary,
-            others,
-            &[],
-            steps,
-        ),
-        Merge::Difference => merge_and_note::<B, Difference>(blocks, summary, others, &[], steps),
-        Merge::Symmetric => merge_and_note::<B, Symmetric>(blocks, summary, others, &[], steps),
+    match first_change_except(blocks, others, except) {
+        None => {
+            steps.tick_by(blocks.len());
+            false
+        }
+        Some(start) => {
+            unite_from(blocks, summary, others, except, start, steps);
+            true
+        }
     }
 }

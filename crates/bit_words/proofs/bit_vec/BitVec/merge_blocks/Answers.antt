@@ -1,5 +1,5 @@
 use Rattle.std.proofs.{Common.{◌≡◌, ℕ, ◌∙◌, ap₂, ◌++◌, map, drop, length, take, arith}, lemmas.List.take_at}
-use Rattle.bit_words.{specs.{Merges.{merge_of, merge_of_values}, Storage.value_at}, proofs.{BitsLemmas.blocks_for-le, MergeLemmas.{merged_lists, merged_zero_tail, merges_of_values}, VectorLemmas.length_from_view}}
+use Rattle.bit_words.{specs.{Merges.{merge_of, merge_of_values}, Storage.value_at}, proofs.{BitsLemmas.blocks_for-le, MergeLemmas.{merged_lists, merged_zero_tail, merges_of_values}, NotedMergeLemmas.stay_none, VectorLemmas.length_from_view}}
 use Rattle.bit_words.proofs.{VectorLemmas.no_longer_from_views, bit_vec.BitVec.merge_blocks.{Given.Over, Goals.After-merge_chosen}}
 use Rattle.bit_words.proofs.bit_vec.BitVec.merge_blocks.Goals as goal
 
@@ -50,3 +50,7 @@ returns-clause-values g c =
 
 pub returns-clause-steps : goal.returns-clause-steps
 returns-clause-steps g c = rw (length_from_view _ _ _ _ _ c.self.view_is) (omega (arith, c.self.invariant.packed.count))
+
+-- no block is passed over
+pub merge_chosen-requires-clause-stay : goal.merge_chosen-requires-clause-stay
+merge_chosen-requires-clause-stay g c = stay_none _ _ _ 0 0 _ _ (omega arith)

@@ -9,13 +9,14 @@ loop-q-preserved g c =
     let ns = map g.B.BitBlock.number c.merge_chunk-digits.new.blocks in
     let ss = map g.B.BitBlock.number c.loop-q.summary in
     let within : q < length ss = rw length-map (omega arith) in
-    let done : (p j : ℕ) → p < q → j < w → is_one (get_or ss p 0) j ≡ is_used ns (p * w + j) = λ p j below index.
+    let done : (p j : ℕ) → c.args.from ≤ p → p < q → j < w → is_one (get_or ss p 0) j ≡ is_used ns (p * w + j) = λ p j from below index.
     let first : p + 1 ≤ q = omega arith in
     let le = mul-le-mul_right w first in
-    c.loop-q.invariant.done p j below index ∙ ap (λ m. not (m == 0)) (sym (c.merge_chunk-digits.ensures.has.merged.before (p * w + j) (omega (arith, le)))) in
+    c.loop-q.invariant.done p j from below index ∙ ap (λ m. not (m == 0)) (sym (c.merge_chunk-digits.ensures.has.merged.before (p * w + j) (omega (arith, le)))) in
     record {
-      has = merged_more _ _ _ _ 0 (q * w) ((q + 1) * w) _ _ _ _ _ _ (omega arith) (omega arith) refl refl c.loop-q.invariant.has c.merge_chunk-digits.ensures.has;
-      done = λ p j below index. summary_put w ns ss _ 0 q _ within c.put_in.ensures.numbers c.merge_chunk-digits.ensures.digits (λ r i _ early inside. done r i early inside) p j (omega arith) below index;
+      has = merged_more _ _ _ _ (c.args.from * w) (q * w) ((q + 1) * w) _ _ _ _ _ _ (mul-le-mul_right w c.loop-q.auto.q) (omega arith) refl refl c.loop-q.invariant.has c.merge_chunk-digits.ensures.has;
+      done = λ p j from below index. summary_put w ns ss _ c.args.from q _ within c.put_in.ensures.numbers c.merge_chunk-digits.ensures.digits (λ r i late early inside. done r i late early inside) p j from below index;
+      before = λ p first. let other : p ≢ q = omega (arith, c.loop-q.auto.q) in ap (λ xs. get_or xs p 0) c.put_in.ensures.numbers ∙ get_or-set_other ss q p _ 0 other ∙ c.loop-q.invariant.before p first;
       past = λ p from. let other : p ≢ q = omega arith in ap (λ xs. get_or xs p 0) c.put_in.ensures.numbers ∙ get_or-set_other ss q p _ 0 other ∙ c.loop-q.invariant.past p (omega arith);
       each_sum = c.put_in.ensures.each;
       summary_len = omega arith;
@@ -25,7 +26,8 @@ loop-q-preserved g c =
 pub loop-q-init : goal.loop-q-init
 loop-q-init g c = record {
   has = merged_none _ _ _ _ _ _ _ _ c.requires.can.each (omega arith);
-  done = λ p j below index. absurd (omega arith);
+  done = λ p j from below index. absurd (omega arith);
+  before = λ p first. refl;
   past = λ p from. refl;
   each_sum = c.requires.each_sum;
   summary_len = omega arith;

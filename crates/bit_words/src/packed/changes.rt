@@ -1,0 +1,204 @@
+// Where a merge first changes a list of blocks. Groups of blocks are looked at, each by one test, up to the first of which a
+// block changes, and none is written.
+ghost use Rattle.std.specs.Prelude.{◌≡◌, ℕ, ◌+◌, ◌<◌, ◌≤◌, ◌↔◌, All, IfNone, IfSome, IsTrue, false, length, map};
+ghost use Rattle.bit_words.specs.{BlockMerges.CanMerge, Digits.is_one, NotedMerges.{except_at, other_at, Stay}, declared.block.merge.Merge.Merge};
+
+use crate::block::BitBlock;
+use crate::block::operation::{Difference, Operation, Union};
+use crate::block::operators::same;
+use crate::packed::access::block_at;
+use crate::packed::comparing::or_mismatch;
+use crate::packed::groups::GROUP;
+
+// A block that is 0 just where `seen` is and block `k` stays where it is merged with `other`.
+#[inline(always)]
+fn or_change<B: BitBlock, O: Operation>(blocks: &[B], k: usize, other: B, seen: B) -> B
+    requires in_bounds { k < length blocks.now }
+    requires each { All B.is_block blocks.now }
+    requires of_other { B.is_block other }
+    requires of_seen { B.is_block seen }
+    ensures of_block { B.is_block result }
+    ensures none { (B.number result ≡ 0) ↔ ((B.number seen ≡ 0)
+        × Stay O.merge B.width B.number k (k + 1) (λ q j. is_one (B.number other) j) blocks.now) }
+{
+    let old = block_at(blocks, k);
+    or_mismatch(seen, old, O::of_blocks(old, other))
+}
+
+// A block that is 0 just where the `count` blocks from `start` on stay. The compiler makes vector code of it where it
+// knows the count.
+#[inline(always)]
+fn changes<B: BitBlock, O: Operation>(blocks: &[B], others: &[B], start: usize, count: usize) -> B
+    requires can { CanMerge B.is_block blocks.now others.now }
+    requires within { start + count ≤ length others.now }
+    ensures of_block { B.is_block result }
+    ensures none { (B.number result ≡ 0)
+        ↔ Stay O.merge B.width B.number start (start + count) (other_at (map B.number others.now)) blocks.now }
+{
+    let mut change = B::zero();
+    for k in start..start + count {
+        change = or_change::<B, O>(blocks, k, block_at(others, k), change);
+    }
+    change
+}
+
+// The same, where the others are merged except for the ones of `except`.
+#[inline(always)]
+fn changes_except<B: BitBlock, O: Operation>(
+    blocks: &[B],
+    others: &[B],
+    except: &[B],
+    start: usize,
+    count: usize,
+) -> B
+    requires can { CanMerge B.is_block blocks.now others.now }
+    requires except { All B.is_block except.now }
+    requires within { start + count ≤ length others.now }
+    requires in_except { start + count ≤ length except.now }
+    ensures of_block { B.is_block result }
+    ensures none { (B.number result ≡ 0) ↔ Stay O.merge B.width B.number start (start + count)
+        (except_at (map B.number others.now) (map B.number except.now)) blocks.now }
+{
+    let mut change = B::zero();
+    for k in start..start + count {
+        let other = Difference::of_blocks(block_at(others, k), block_at(except, k));
+        change = or_change::<B, O>(blocks, k, other, change);
+    }
+    change
+}
+
+// Whether the blocks from `start` on stay where they are merged with zeros. Only an intersection changes them: otherwise
+// the compiler takes out the loop.
+#[inline]
+fn stay_past<B: BitBlock, O: Operation>(blocks: &[B], start: usize) -> bool
+    requires each { All B.is_block blocks.now }
+    requires within { start ≤ length blocks.now }
+    ensures { IsTrue result
+        ↔ Stay O.merge B.width B.number start (length blocks.now) (λ k j. false) blocks.now }
+{
+    let zero = B::zero();
+    let mut change = zero;
+    for k in start..blocks.len() {
+        change = or_change::<B, O>(blocks, k, zero, change);
+    }
+    same(change, zero)
+}
+
+// Where the first group from `start` on begins of which a block changes, or else the end of the others.
+#[inline(always)]
+fn stay_until<B: BitBlock, O: Operation>(blocks: &[B], others: &[B], start: usize) -> usize
+    requires can { CanMerge B.is_block blocks.now others.now }
+    requires from { start ≤ length others.now }
+    ensures forward { start ≤ result }
+    ensures within { result ≤ length others.now }
+    ensures stay { Stay O.merge B.width B.number start result (other_at (map B.number others.now)) blocks.now }
+    ensures stops { result < length others.now → Stay O.merge B.width B.number start (length others.now)
+        (other_at (map B.number others.now)) blocks.now → ⊥ }
+{
+    let groups = (others.len() - start) / GROUP;
+    for group in 0..groups {
+        let begin = start + group * GROUP;
+        if !same(changes::<B, O>(blocks, others, begin, GROUP), B::zero()) {
+            return begin;
+        }
+    }
+    let begin = start + groups * GROUP;
+    if same(
+        changes::<B, O>(blocks, others, begin, others.len() - begin),
+        B::zero(),
+    ) {
+        others.len()
+    } else {
+        begin
+    }
+}
+
+// The same from the first block on up to before `end`, where the others are merged except for the ones of `except`.
+#[inline(always)]
+fn stay_until_except<B: BitBlock, O: Operation>(
+    blocks: &[B],
+    others: &[B],
+    except: &[B],
+    end: usize,
+) -> usize
+    requires can { CanMerge B.is_block blocks.now others.now }
+    requires except { All B.is_block except.now }
+    requires in_others { end ≤ length others.now }
+    requires in_except { end ≤ length except.now }
+    ensures within { result ≤ end }
+    ensures stay { Stay O.merge B.width B.number 0 result
+        (except_at (map B.number others.now) (map B.number except.now)) blocks.now }
+    ensures stops { result < end → Stay O.merge B.width B.number 0 end
+        (except_at (map B.number others.now) (map B.number except.now)) blocks.now → ⊥ }
+{
+    let groups = end / GROUP;
+    for group in 0..groups {
+        let begin = group * GROUP;
+        if !same(
+            changes_except::<B, O>(blocks, others, except, begin, GROUP),
+            B::zero(),
+        ) {
+            return begin;
+        }
+    }
+    let begin = groups * GROUP;
+    if same(
+        changes_except::<B, O>(blocks, others, except, begin, end - begin),
+        B::zero(),
+    ) {
+        end
+    } else {
+        begin
+    }
+}
+
+// Where the list begins to change where it is merged with the others: a group of blocks of which one changes, or the end of
+// the others. `None` where no block changes.
+#[inline(always)]
+pub(crate) fn first_change<B: BitBlock, O: Operation>(blocks: &[B], others: &[B]) -> Option<usize>
+    requires can { CanMerge B.is_block blocks.now others.now }
+    ensures within { IfSome result (λ start. start ≤ length others.now) }
+    ensures stay { IfSome result (λ start. Stay O.merge B.width B.number 0 start
+        (other_at (map B.number others.now)) blocks.now) }
+    ensures changes { IfSome result (λ start. Stay O.merge B.width B.number 0 (length blocks.now)
+        (other_at (map B.number others.now)) blocks.now → ⊥) }
+    ensures none { IfNone result (Stay O.merge B.width B.number 0 (length blocks.now)
+        (other_at (map B.number others.now)) blocks.now) }
+{
+    let start = stay_until::<B, O>(blocks, others, 0);
+    if start < others.len() || !stay_past::<B, O>(blocks, start) {
+        Some(start)
+    } else {
+        None
+    }
+}
+
+// The same of a union with the others except for the ones of `except`. Past the others a union changes nothing.
+#[inline(always)]
+pub(crate) fn first_change_except<B: BitBlock>(
+    blocks: &[B],
+    others: &[B],
+    except: &[B],
+) -> Option<usize>
+    requires can { CanMerge B.is_block blocks.now others.now }
+    requires except { All B.is_block except.now }
+    ensures within { IfSome result (λ start. start ≤ length others.now) }
+    ensures stay { IfSome result (λ start. Stay Merge.Union B.width B.number 0 start
+        (except_at (map B.number others.now) (map B.number except.now)) blocks.now) }
+    ensures changes { IfSome result (λ start. Stay Merge.Union B.width B.number 0 (length blocks.now)
+        (except_at (map B.number others.now) (map B.number except.now)) blocks.now → ⊥) }
+    ensures none { IfNone result (Stay Merge.Union B.width B.number 0 (length blocks.now)
+        (except_at (map B.number others.now) (map B.number except.now)) blocks.now) }
+{
+    let both = others.len().min(except.len());
+    let apart = stay_until_except::<B, Union>(blocks, others, except, both);
+    if apart < both {
+        return Some(apart);
+    }
+    let start = stay_until::<B, Union>(blocks, others, both);
+    if start < others.len() {
+        Some(start)
+    } else {
+        None
+    }
+}
