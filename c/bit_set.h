@@ -1,5 +1,6 @@
 /* Sets of whole numbers as bits, every call of which is proved. README.md of crates/bit_set_c says what is proved, and
- * by what it is linked. Blocks have 64 bits.
+ * by what it is linked. Here blocks have 64 bits. The calls are there over blocks of 32 bits and of 64, each in a header
+ * of its own, and a program may use both; capacities come in whole blocks.
  *
  * What C owes, in Rust's words:
  *
@@ -12,9 +13,13 @@
  *   T *, size_t        so many values one after another, none of them a part of a set, which only this call writes, or
  *                      with `const` no call. The pointer is never NULL, even to none.
  *
- * A pointer to a set is never NULL but for `bit_set_free`. Two sets of a call must be two where one of them is no
- * `const`; where both are, they may be one set. A call may take memory by malloc and realloc, which with free are of
- * one allocator; no call is made from a signal handler, or in a forked child of a process with threads.
+ * So the sets of a call must be two where one of them is no `const`; where both are `const`, they may be one set. Each
+ * group of calls below says which it is. A NULL for a set, or for a place where one is put, is the caller's fault in
+ * every call but `bit_set_free`, which does nothing then. Numbers may be any: what a call does with one that fits no set
+ * is said at the call.
+ *
+ * A call may take memory by malloc and realloc, which with free are of one allocator; no call is made from a signal
+ * handler, or in a forked child of a process with threads.
  *
  * No call ends the process. `false` says that a call found no memory, and nothing changed then unless it is said below.
  */
@@ -32,6 +37,8 @@ extern "C" {
 /* A set of numbers below SIZE_MAX. It has a length, which is above each member, and a capacity, which is at least the
  * length: a number below the capacity goes in without memory. */
 typedef struct bit_set bit_set;
+
+typedef uint64_t bit_set_block;
 
 /* ---- Making and freeing. */
 
@@ -86,7 +93,12 @@ size_t bit_set_copy_members(const bit_set *set, size_t from, size_t *members, si
 
 /* Copies the blocks from block `from` on, as many as there is room for. Returns how many; the values past these stay.
  * Number n is a member where bit n % 64, counted from the lowest, of block n / 64 is 1; past the last block is none. */
-size_t bit_set_copy_blocks(const bit_set *set, size_t from, uint64_t *blocks, size_t room);
+size_t bit_set_copy_blocks(const bit_set *set, size_t from, bit_set_block *blocks, size_t room);
+
+/* Makes the blocks from block `from` on these: the bits of the blocks, as above, say which numbers of theirs are members,
+ * and other numbers stay as they were. The length becomes at least that of `from + count` blocks, unless `count` is 0.
+ * False also where that is above SIZE_MAX. */
+bool bit_set_put_blocks(bit_set *set, size_t from, const bit_set_block *blocks, size_t count);
 
 /* ---- What a set says of itself. */
 
@@ -95,7 +107,7 @@ bool bit_set_is_empty(const bit_set *set);
 size_t bit_set_length(const bit_set *set);
 size_t bit_set_capacity(const bit_set *set);
 
-/* ---- Two sets. In each of these both may be one set. */
+/* ---- Two sets, which are read. In each of these both may be one set. */
 
 bool bit_set_is_subset(const bit_set *set, const bit_set *other);
 bool bit_set_is_superset(const bit_set *set, const bit_set *other);
@@ -111,8 +123,8 @@ int32_t bit_set_compare(const bit_set *set, const bit_set *other);
  * collide. */
 uint64_t bit_set_hash(const bit_set *set);
 
-/* ---- In place. The length becomes the greater of both. None of these fails where the length of `other` is at most the
- * capacity of `set`. */
+/* ---- In place. In none of these may both be one set. The length becomes the greater of both. None of these fails where
+ * the length of `other` is at most the capacity of `set`. */
 
 bool bit_set_union_with(bit_set *set, const bit_set *other);
 bool bit_set_intersect_with(bit_set *set, const bit_set *other);

@@ -56,6 +56,10 @@ def _require(done):
         raise MemoryError("a bit set found no memory")
 
 
+def _set_of(members):
+    return members if isinstance(members, BitSet) else BitSet(members)
+
+
 class BitSet(MutableSet):
     """A set of numbers from 0 to MAX_ELEMENT, as a MutableSet of collections.abc."""
 
@@ -119,13 +123,52 @@ class BitSet(MutableSet):
 
     __copy__ = copy
 
-    def update(self, members):
-        """Puts the members of an iterable in, those before one that cannot go in too."""
-        if isinstance(members, BitSet):
-            self |= members
-            return
-        for number in members:
-            self.add(number)
+    def __reduce__(self):
+        return type(self), (list(self),)
+
+    def update(self, *others):
+        """Puts the members of iterables in, those before one that cannot go in too."""
+        for members in others:
+            if isinstance(members, BitSet):
+                self |= members
+            else:
+                for number in members:
+                    self.add(number)
+
+    def intersection_update(self, *others):
+        for members in others:
+            self &= _set_of(members)
+
+    def difference_update(self, *others):
+        for members in others:
+            self -= _set_of(members)
+
+    def symmetric_difference_update(self, members):
+        self ^= _set_of(members)
+
+    def union(self, *others):
+        new = self.copy()
+        new.update(*others)
+        return new
+
+    def intersection(self, *others):
+        new = self.copy()
+        new.intersection_update(*others)
+        return new
+
+    def difference(self, *others):
+        new = self.copy()
+        new.difference_update(*others)
+        return new
+
+    def symmetric_difference(self, members):
+        return self ^ _set_of(members)
+
+    def issubset(self, members):
+        return self <= _set_of(members)
+
+    def issuperset(self, members):
+        return self >= _set_of(members)
 
     def isdisjoint(self, other):
         if isinstance(other, BitSet):

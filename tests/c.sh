@@ -1,7 +1,7 @@
 #!/usr/bin/env bash
 # Builds c/example.c over the library for C by the system's compilers, runs it, and runs it again with one request for
-# memory after another failing. Compares the prototypes of c/bit_set.h with what the library exports, and runs the
-# Python module where there is a python3.
+# memory after another failing; the first over blocks of 32 bits too. Compares the prototypes of both headers with what
+# the library exports, and runs the Python module where there is a python3.
 #   tests/c.sh [FOLDER]      over the library that c/build wrote into the folder; where none is given it is built, over
 #                            the libraries as `rt ci` has just proved them here
 # The last line is 'N passed, M failed'.
@@ -84,6 +84,15 @@ else
     cat said
     fail 'cc does not build the example over the shared object'
 fi
+# The example reads the same where each name of a call is that of the other header.
+sed 's/bit_set/bit_set32/g' "$top/c/example.c" > example32.c
+if cc -std=c99 "${warnings[@]}" -O2 -I"$library" example32.c "$library/libbit_set.a" -o example32 2> said; then
+    run ./example32
+    judge 'the example over blocks of 32 bits' 0 written nothing
+else
+    cat said
+    fail 'cc does not build the example over blocks of 32 bits'
+fi
 # Of what was not given back the address sanitizer says so, where the compiler has one.
 echo 'int main(void) { return 0; }' > empty.c
 if cc -fsanitize=address empty.c -o empty 2> said && ./empty; then
@@ -95,11 +104,12 @@ if cc -fsanitize=address empty.c -o empty 2> said && ./empty; then
     fi
 fi
 if command -v c++ > /dev/null; then
-    if c++ -x c++ -fsyntax-only "${warnings[@]}" "$library/bit_set.h" 2> said; then
+    printf '#include "bit_set.h"\n#include "bit_set32.h"\n' > both.cc
+    if c++ -fsyntax-only "${warnings[@]}" -I"$library" both.cc 2> said; then
         pass
     else
         cat said
-        fail 'the header is none of C++'
+        fail 'the headers are none of C++'
     fi
 fi
 
@@ -124,13 +134,13 @@ else
 fi
 
 # The names that are declared are those that are exported.
-sed -n 's/^[a-z].*\(bit_set_[a-z_]*\)(.*/\1/p' "$top/c/bit_set.h" | sort > declared
+sed -n 's/^[a-z].*\(bit_set\(32\)\?_[a-z_]*\)(.*/\1/p' "$library/bit_set.h" "$library/bit_set32.h" | sort > declared
 nm -g --defined-only "$library/libbit_set.a" | sed -n 's/.* T //p' | sort > exported
 if [ -s declared ] && cmp declared exported; then
     pass
 else
     diff declared exported
-    fail 'the header declares other calls than the library has'
+    fail 'the headers declare other calls than the library has'
 fi
 
 if command -v python3 > /dev/null; then

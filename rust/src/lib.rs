@@ -1,7 +1,8 @@
 //! Sets of whole numbers as bits: the API of the crate `bit-set`, over a library for C whose every call is proved.
 //!
 //! What has a bit vector in its type (`from_bit_vec`, `into_bit_vec`, `get_ref`, `get_mut`) is left out, since the library
-//! shows none. Blocks have 64 bits. A call that finds no memory ends the process, as those of `Vec` do.
+//! shows none, and so are the features `serde`, `miniserde`, `nanoserde` and `borsh` of 0.8, whose form is a bit vector's.
+//! Blocks have 32 bits, or 64. A call that finds no memory ends the process, as those of `Vec` do.
 //!
 //! ```
 //! let mut set = bit_set::BitSet::new();
@@ -16,26 +17,25 @@ use std::cmp::Ordering;
 use std::fmt;
 use std::hash::{Hash, Hasher};
 use std::marker::PhantomData;
+use std::mem::size_of;
 use std::ptr::{null_mut, NonNull};
 
 mod raw;
 mod walks;
 
+use raw::Calls;
+
 pub use walks::{Difference, Intersection, Iter, SymmetricDifference, Union};
 
 /// A type of blocks that the library has.
-pub trait BitBlock: private::Sealed {}
+pub trait BitBlock: raw::Calls {}
+
+impl BitBlock for u32 {}
 
 impl BitBlock for u64 {}
 
-mod private {
-    pub trait Sealed {}
-
-    impl Sealed for u64 {}
-}
-
 /// A set of `usize` below `usize::MAX`.
-pub struct BitSet<B: BitBlock = u64> {
+pub struct BitSet<B: BitBlock = u32> {
     set: NonNull<raw::Set>,
     blocks: PhantomData<B>,
 }
@@ -57,11 +57,11 @@ fn require(done: bool) {
 impl<B: BitBlock> Drop for BitSet<B> {
     fn drop(&mut self) {
         // SAFETY: the set is this one's own, and is used no more.
-        unsafe { raw::bit_set_free(self.set.as_ptr()) }
+        unsafe { B::free(self.set.as_ptr()) }
     }
 }
 
-impl BitSet<u64> {
+impl BitSet<u32> {
     /// An empty set.
     pub fn new() -> Self {
         Self::default()
@@ -70,13 +70,13 @@ impl BitSet<u64> {
     /// An empty set, into which numbers below `nbits` go without memory.
     pub fn with_capacity(nbits: usize) -> Self {
         // SAFETY: `out` is null.
-        Self::made(|out| unsafe { raw::bit_set_with_capacity(out, nbits) })
+        Self::made(|out| unsafe { u32::with_capacity(out, nbits) })
     }
 
     /// The set of the bits that are 1, those of each byte counted from the highest.
     pub fn from_bytes(bytes: &[u8]) -> Self {
         // SAFETY: `out` is null, and the bytes are lent for the call.
-        Self::made(|out| unsafe { raw::bit_set_from_bytes(out, bytes.as_ptr(), bytes.len()) })
+        Self::made(|out| unsafe { u32::from_bytes(out, bytes.as_ptr(), bytes.len()) })
     }
 }
 
@@ -100,27 +100,27 @@ impl<B: BitBlock> BitSet<B> {
     /// Below which number an element goes in without memory.
     pub fn capacity(&self) -> usize {
         // SAFETY: the set is lent for the call, as in each of the calls below.
-        unsafe { raw::bit_set_capacity(self.read()) }
+        unsafe { B::capacity(self.read()) }
     }
 
     /// Reserves capacity for elements below `len`.
     pub fn reserve_len(&mut self, len: usize) {
-        require(unsafe { raw::bit_set_reserve(self.write(), len) });
+        require(unsafe { B::reserve(self.write(), len) });
     }
 
     /// Reserves capacity for elements below `len`, and for no more.
     pub fn reserve_len_exact(&mut self, len: usize) {
-        require(unsafe { raw::bit_set_reserve_exact(self.write(), len) });
+        require(unsafe { B::reserve_exact(self.write(), len) });
     }
 
     /// Gives back the capacity that the elements do not need, as far as there is memory to move to.
     pub fn shrink_to_fit(&mut self) {
-        unsafe { raw::bit_set_shrink_to_fit(self.write()) };
+        unsafe { B::shrink_to_fit(self.write()) };
     }
 
     /// How many elements there are.
     pub fn len(&self) -> usize {
-        unsafe { raw::bit_set_count(self.read()) }
+        unsafe { B::count(self.read()) }
     }
 
     /// The newer name of `len`.
@@ -130,18 +130,18 @@ impl<B: BitBlock> BitSet<B> {
 
     /// Whether there is no element.
     pub fn is_empty(&self) -> bool {
-        unsafe { raw::bit_set_is_empty(self.read()) }
+        unsafe { B::is_empty(self.read()) }
     }
 
     /// The length of the bit vector: each element is below it.
     pub fn bit_length(&self) -> usize {
-        unsafe { raw::bit_set_length(self.read()) }
+        unsafe { B::length(self.read()) }
     }
 
     /// Whether `value` is an element.
     #[inline]
     pub fn contains(&self, value: usize) -> bool {
-        unsafe { raw::bit_set_contains(self.read(), value) }
+        unsafe { B::contains(self.read(), value) }
     }
 
     /// Puts `value` in, and returns whether it is new.
@@ -151,7 +151,7 @@ impl<B: BitBlock> BitSet<B> {
     /// At `usize::MAX`, which is no element.
     #[inline]
     pub fn insert(&mut self, value: usize) -> bool {
-        match unsafe { raw::bit_set_insert(self.write(), value) } {
+        match unsafe { B::insert(self.write(), value) } {
             1 => true,
             0 => false,
             answer => {
@@ -165,7 +165,7 @@ impl<B: BitBlock> BitSet<B> {
     /// Takes `value` out, and returns whether it was in.
     #[inline]
     pub fn remove(&mut self, value: usize) -> bool {
-        unsafe { raw::bit_set_remove(self.write(), value) }
+        unsafe { B::remove(self.write(), value) }
     }
 
     /// Takes every element out.
@@ -175,53 +175,53 @@ impl<B: BitBlock> BitSet<B> {
 
     /// The newer name of `clear`.
     pub fn make_empty(&mut self) {
-        unsafe { raw::bit_set_make_empty(self.write()) }
+        unsafe { B::make_empty(self.write()) }
     }
 
     /// Takes every element out, and makes the length 0.
     pub fn reset(&mut self) {
-        unsafe { raw::bit_set_reset(self.write()) }
+        unsafe { B::reset(self.write()) }
     }
 
     /// Keeps the elements below `len`.
     pub fn truncate(&mut self, len: usize) {
-        unsafe { raw::bit_set_truncate(self.write(), len) }
+        unsafe { B::truncate(self.write(), len) }
     }
 
     /// Moves what is in `other` into the set.
     pub fn append(&mut self, other: &mut Self) {
-        require(unsafe { raw::bit_set_append(self.write(), other.write()) });
+        require(unsafe { B::append(self.write(), other.write()) });
     }
 
     /// Parts the set: the elements below `at` stay, and the others are returned.
     pub fn split_off(&mut self, at: usize) -> Self {
         let set = self.write();
-        Self::made(|out| unsafe { raw::bit_set_split_off(out, set, at) })
+        Self::made(|out| unsafe { B::split_off(out, set, at) })
     }
 
     /// Puts in what is in `other`.
     pub fn union_with(&mut self, other: &Self) {
-        require(unsafe { raw::bit_set_union_with(self.write(), other.read()) });
+        require(unsafe { B::union_with(self.write(), other.read()) });
     }
 
     /// Keeps what is in `other` too.
     pub fn intersect_with(&mut self, other: &Self) {
-        require(unsafe { raw::bit_set_intersect_with(self.write(), other.read()) });
+        require(unsafe { B::intersect_with(self.write(), other.read()) });
     }
 
     /// Takes out what is in `other`.
     pub fn difference_with(&mut self, other: &Self) {
-        require(unsafe { raw::bit_set_difference_with(self.write(), other.read()) });
+        require(unsafe { B::difference_with(self.write(), other.read()) });
     }
 
     /// Keeps what is in just one of both.
     pub fn symmetric_difference_with(&mut self, other: &Self) {
-        require(unsafe { raw::bit_set_symmetric_difference_with(self.write(), other.read()) });
+        require(unsafe { B::symmetric_difference_with(self.write(), other.read()) });
     }
 
     /// Whether every element is one of `other`.
     pub fn is_subset(&self, other: &Self) -> bool {
-        unsafe { raw::bit_set_is_subset(self.read(), other.read()) }
+        unsafe { B::is_subset(self.read(), other.read()) }
     }
 
     /// Whether every element of `other` is one of this set.
@@ -231,37 +231,44 @@ impl<B: BitBlock> BitSet<B> {
 
     /// Whether no element is one of `other`.
     pub fn is_disjoint(&self, other: &Self) -> bool {
-        unsafe { raw::bit_set_is_disjoint(self.read(), other.read()) }
+        unsafe { B::is_disjoint(self.read(), other.read()) }
     }
 
     // The least element that is `from` or above.
     fn next_from(&self, from: usize) -> Option<usize> {
-        let element = unsafe { raw::bit_set_next(self.read(), from) };
+        let element = unsafe { B::next(self.read(), from) };
         (element != usize::MAX).then_some(element)
     }
 
-    // Copies the blocks from one on, and zeros past the last.
-    fn copy_blocks(&self, from: usize, blocks: &mut [u64]) {
-        // SAFETY: the set and the blocks are lent for the call.
-        let count = unsafe { raw::bit_set_copy_blocks(self.read(), from, blocks.as_mut_ptr(), blocks.len()) };
-        blocks[count..].fill(0);
+    // Copies the words of 64 bits from one on, and zeros past the last.
+    fn copy_words(&self, from: usize, words: &mut [u64]) {
+        let parts = size_of::<u64>() / size_of::<B>();
+        let (blocks, room) = (words.as_mut_ptr().cast::<B>(), words.len() * parts);
+        // SAFETY: the set and the words are lent for the call, and a word is as many blocks as there are parts.
+        unsafe {
+            let count = B::copy_blocks(self.read(), from * parts, blocks, room);
+            blocks.add(count).write_bytes(0, room - count);
+        }
+        if cfg!(target_endian = "big") && parts == 2 {
+            words.iter_mut().for_each(|word| *word = word.rotate_left(32));
+        }
     }
 }
 
 impl<B: BitBlock> Default for BitSet<B> {
     fn default() -> Self {
         // SAFETY: `out` is null.
-        Self::made(|out| unsafe { raw::bit_set_new(out) })
+        Self::made(|out| unsafe { B::new(out) })
     }
 }
 
 impl<B: BitBlock> Clone for BitSet<B> {
     fn clone(&self) -> Self {
-        Self::made(|out| unsafe { raw::bit_set_clone(out, self.read()) })
+        Self::made(|out| unsafe { B::clone(out, self.read()) })
     }
 
     fn clone_from(&mut self, other: &Self) {
-        require(unsafe { raw::bit_set_copy(self.write(), other.read()) });
+        require(unsafe { B::copy(self.write(), other.read()) });
     }
 }
 
@@ -283,7 +290,7 @@ impl<B: BitBlock> FromIterator<usize> for BitSet<B> {
 
 impl<B: BitBlock> PartialEq for BitSet<B> {
     fn eq(&self, other: &Self) -> bool {
-        unsafe { raw::bit_set_equals(self.read(), other.read()) }
+        unsafe { B::equals(self.read(), other.read()) }
     }
 }
 
@@ -297,7 +304,7 @@ impl<B: BitBlock> PartialOrd for BitSet<B> {
 
 impl<B: BitBlock> Ord for BitSet<B> {
     fn cmp(&self, other: &Self) -> Ordering {
-        unsafe { raw::bit_set_compare(self.read(), other.read()) }.cmp(&0)
+        unsafe { B::compare(self.read(), other.read()) }.cmp(&0)
     }
 }
 

@@ -71,7 +71,7 @@ struct One<'a, B: BitBlock>(&'a BitSet<B>);
 impl<B: BitBlock> Source for One<'_, B> {
     fn fill(&self, from: usize, group: &mut Group) -> Option<usize> {
         let first = self.0.next_from(from)? / WIDTH;
-        self.0.copy_blocks(first, group);
+        self.0.copy_words(first, group);
         Some(first)
     }
 }
@@ -90,8 +90,8 @@ impl<B: BitBlock, const FIRST: bool, const SECOND: bool, const BOTH: bool> Sourc
         };
         let first = least / WIDTH;
         let mut other = [0; GROUP];
-        a.copy_blocks(first, group);
-        b.copy_blocks(first, &mut other);
+        a.copy_words(first, group);
+        b.copy_words(first, &mut other);
         for (x, y) in group.iter_mut().zip(other) {
             let (alone, second, both) = (*x & !y, y & !*x, *x & y);
             *x = if FIRST { alone } else { 0 } | if SECOND { second } else { 0 } | if BOTH { both } else { 0 };
@@ -105,7 +105,7 @@ macro_rules! walks {
         $(
             $(#[$doc])*
             #[derive(Clone)]
-            pub struct $Name<'a, B: BitBlock = u64>(Walk<$Source>);
+            pub struct $Name<'a, B: BitBlock = u32>(Walk<$Source>);
 
             impl<B: BitBlock> Iterator for $Name<'_, B> {
                 type Item = usize;

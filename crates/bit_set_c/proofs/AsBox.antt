@@ -2,7 +2,7 @@
 use denote.Signature.{Slot, plain}
 use Rattle.std.specs.contracts.alloc.Global as Heap
 use Rattle.std.specs.contracts.impls.GlobalAllocator.TheImpl.{ghosts}
-use Rattle.bit_set_c.specs.Handed.{set_row}
+use Rattle.bit_set_c.specs.Block.{set_row}
 use Rattle.bit_set_c.specs.contracts.handed.Owned as Owned
 use Rattle.bit_set_c.specs.contracts.parts.Parts as Parts
 pub use Rattle.bit_set_c.proofs.Sets.{E}

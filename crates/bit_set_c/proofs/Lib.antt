@@ -1,6 +1,7 @@
 pub mod AsBox
-pub mod Blocks
+pub mod BlockNumbers
 pub mod Bounds
+pub mod Filling
 pub mod Loans
 pub mod Sets
 pub mod Values

@@ -19,7 +19,7 @@ use Rattle.std.specs.contracts.prelude.U64BitXor.TheImpl as xor
 use Rattle.std.specs.contracts.prelude.U64Not.TheImpl as complement
 use Rattle.std.specs.contracts.prelude.U64Add.TheImpl as add
 use Rattle.std.specs.contracts.prelude.U64Sub.TheImpl as sub
-use Rattle.bit_set_c.specs.Handed.{set_row}
+use Rattle.bit_set_c.specs.Block.{set_row}
 use Rattle.bit_set.proofs.set.BitSet.TheLaws as set
 
 abbrev pub set_laws : Laws set_row

@@ -1,6 +1,6 @@
 -- What C hands over of a set: the box that it owns, or a loan for a call.
 use Rattle.std.specs.Prelude.{◌≡◌, ℕ, zero, suc, Option, Some, None}
-use Rattle.std.specs.Borrow.{Fml, RattleType, u64, ffalse}
+use Rattle.std.specs.Borrow.{Fml, ffalse}
 use Rattle.std.specs.Box.Ownership.{box_owns}
 use Rattle.std.specs.Coded.{Coded, coded_option}
 use Rattle.std.specs.Global.{Global}
@@ -10,19 +10,7 @@ use base.Fraction.{full_share, left}
 use denote.Memory.{hidden_shr}
 use denote.RawPtr.{Ptr, block_ptr, null_ptr}
 use Rattle.bit_words.specs.Bits.{Bits}
-use Rattle.bit_words.specs.contracts.block.integers.U64BitBlock.TheImpl as block
-use Rattle.std.specs.contracts.prelude.U64PartialEq.TheImpl as eq
-use Rattle.std.specs.contracts.prelude.U64BitAnd.TheImpl as and
-use Rattle.std.specs.contracts.prelude.U64BitOr.TheImpl as or
-use Rattle.std.specs.contracts.prelude.U64BitXor.TheImpl as xor
-use Rattle.std.specs.contracts.prelude.U64Not.TheImpl as complement
-use Rattle.std.specs.contracts.prelude.U64Add.TheImpl as add
-use Rattle.std.specs.contracts.prelude.U64Sub.TheImpl as sub
-use Rattle.bit_set.specs.contracts.set.BitSet as set
-
--- how memory keeps a `BitSet<u64>`
-abbrev pub set_row : RattleType
-set_row = set.the_row u64 block.ghosts eq.ghosts and.ghosts or.ghosts xor.ghosts complement.ghosts add.ghosts sub.ghosts
+use Rattle.bit_set_c.specs.Block.{set_row}
 
 abbrev pub bits_coded : Coded Bits
 bits_coded = (set_row).coded

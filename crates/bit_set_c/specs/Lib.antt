@@ -1,4 +1,5 @@
 pub mod Answers
+pub mod Block
 pub mod Handed
 pub mod Hash
 pub mod Lends

@@ -2,7 +2,7 @@
 ghost use Rattle.std.specs.Prelude.{◌≡◌, ◌*◌, ◌<◌, ◌≤◌, max, IsOk, OnErr, OnOk, [], length};
 ghost use Rattle.bit_words.specs.{Bits.{blocks_for, capacity_of, whole_blocks}, Growth.Grows};
 ghost use Rattle.bit_set.specs.{Members.IsSameSet, Sets.{bound_of, elements}};
-ghost use Rattle.bit_set_c.specs.{Answers.done, Handed.IsAt};
+ghost use Rattle.bit_set_c.specs.{Answers.done, Block.width, Handed.IsAt};
 
 use crate::handed::Exclusive;
 
@@ -24,7 +24,7 @@ pub extern "C" fn bit_set_reserve_exact(set: &mut Exclusive, len: usize) -> bool
     ensures values { set.new.bits.values ≡ set.old.bits.values }
     ensures grows { Grows len (done result) set.old.bits set.new.bits }
     ensures exact { OnOk (done result) (set.new.bits.capacity
-        ≡ max set.old.bits.capacity (capacity_of 64 (blocks_for 64 len))) }
+        ≡ max set.old.bits.capacity (capacity_of width (blocks_for width len))) }
     ensures place { set.new.at ≡ set.old.at }
 {
     set.get().reserve_len_exact(len).is_ok()
@@ -36,10 +36,10 @@ pub extern "C" fn bit_set_shrink_to_fit(set: &mut Exclusive) -> bool
     requires here { IsAt set.ref_ptr set.old.at }
     ensures elements { elements set.new.bits.values ≡ elements set.old.bits.values }
     ensures members { IsSameSet (elements set.new.bits.values) (elements set.old.bits.values) }
-    ensures length { length set.new.bits.values ≡ whole_blocks 64 set.old.bits.values }
+    ensures length { length set.new.bits.values ≡ whole_blocks width set.old.bits.values }
     ensures ok { OnOk (done result) (set.new.bits.capacity
-        ≡ capacity_of 64 (blocks_for 64 (length set.new.bits.values))) }
-    ensures err { OnErr (done result) (capacity_of 64 (blocks_for 64 (length set.new.bits.values))
+        ≡ capacity_of width (blocks_for width (length set.new.bits.values))) }
+    ensures err { OnErr (done result) (capacity_of width (blocks_for width (length set.new.bits.values))
         < set.new.bits.capacity) }
     ensures capacity { set.new.bits.capacity ≤ set.old.bits.capacity }
     ensures empty { elements set.old.bits.values ≡ [] → IsOk (done result) }

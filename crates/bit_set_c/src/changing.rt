@@ -2,7 +2,7 @@
 ghost use Rattle.std.specs.Prelude.{◌≡◌, max, min, OnOk, false, [], length, replicate};
 ghost use Rattle.bit_words.specs.{Bits.{blocks_for, capacity_of}, Growth.Grows};
 ghost use Rattle.bit_set.specs.{Members.{HasNone, IsSameSet, KeepsBelow}, Sets.{elements, those_below}};
-ghost use Rattle.bit_set_c.specs.{Answers.done, Handed.IsAt};
+ghost use Rattle.bit_set_c.specs.{Answers.done, Block.width, Handed.IsAt};
 
 use crate::handed::{Exclusive, Shared};
 
@@ -54,7 +54,7 @@ pub extern "C" fn bit_set_copy(set: &mut Exclusive, other: &mut Shared) -> bool
         (IsSameSet (elements set.new.bits.values) (elements other.old.bits.values)) }
     ensures grows { Grows (length other.old.bits.values) (done result) set.old.bits set.new.bits }
     ensures exact { OnOk (done result) (set.new.bits.capacity ≡ max set.old.bits.capacity
-        (capacity_of 64 (blocks_for 64 (length other.old.bits.values)))) }
+        (capacity_of width (blocks_for width (length other.old.bits.values)))) }
     ensures place { set.new.at ≡ set.old.at }
     ensures other_kept { other.new ≡ other.old }
 {

@@ -1,6 +1,8 @@
 //! Sets of whole numbers for C: `c/bit_set.h` has the prototypes.
 #![tactic(auto)]
 
+mod block;
+mod blocks;
 mod capacity;
 mod changing;
 mod handed;

@@ -2,8 +2,9 @@
 ghost use Rattle.std.specs.Prelude.{◌≡◌, ◌≤◌, ◌↔◌, IsTrue, [], length};
 ghost use Rattle.bit_words.specs.Bits.{IsCapacityOfBlocks};
 ghost use Rattle.bit_set.specs.{Members.{HasNone, IsCounted}, Sets.elements};
-ghost use Rattle.bit_set_c.specs.{Handed.IsAt, Hash.hash_of};
+ghost use Rattle.bit_set_c.specs.{Block.width, Handed.IsAt, Hash.hash_of};
 
+use crate::block::Block;
 use crate::handed::Shared;
 use bit_set::BitSet;
 
@@ -45,7 +46,7 @@ pub extern "C" fn bit_set_capacity(set: &mut Shared) -> usize
     requires here { IsAt set.ref_ptr set.old.at }
     ensures value { result ≡ set.old.bits.capacity }
     ensures holds_values { length set.old.bits.values ≤ result }
-    ensures whole { IsCapacityOfBlocks 64 set.old.bits }
+    ensures whole { IsCapacityOfBlocks width set.old.bits }
     ensures kept { set.new ≡ set.old }
 {
     set.get().capacity()
@@ -54,7 +55,7 @@ pub extern "C" fn bit_set_capacity(set: &mut Shared) -> usize
 // 2 ^ 64 over the golden ratio.
 const MULTIPLIER: u64 = 11_400_714_819_323_198_485;
 
-fn hash_members(set: &BitSet<u64>) -> u64
+fn hash_members(set: &BitSet<Block>) -> u64
     ensures { result ≡ hash_of (elements set.now.values) }
 {
     let mut state: u64 = 1;

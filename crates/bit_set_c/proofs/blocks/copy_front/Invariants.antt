@@ -1,5 +1,5 @@
 use Rattle.std.proofs.Common.{◌≡◌, ◌≤◌, drop, length, take}
-use Rattle.bit_set_c.proofs.members.copy_front.Given as goal
+use Rattle.bit_set_c.proofs.blocks.copy_front.Given as goal
 
 -- what is copied so far, and the rest of the slice is as it was
 abbrev pub invariant-loop-block : goal.invariant-loop-block

@@ -1,4 +1,4 @@
--- A block of 64 bits is its own number.
+-- A block is its own number.
 use Rattle.std.proofs.Common.{◌≡◌, ℕ, List, map}
 use Rattle.std.proofs.lemmas.List.{map-id}
 

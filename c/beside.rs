@@ -1,0 +1,82 @@
+//! A million random calls, from a fixed seed, on sets of this library and of the crate `bit-set`, over blocks of 32 bits
+//! and of 64.
+use peer::BitSet as Peer;
+
+const SETS: usize = 4;
+
+struct Draws(u64);
+
+impl Draws {
+    fn below(&mut self, n: usize) -> usize {
+        self.0 ^= self.0 << 13;
+        self.0 ^= self.0 >> 7;
+        self.0 ^= self.0 << 17;
+        (self.0 % n as u64) as usize
+    }
+}
+
+macro_rules! beside {
+    ($($name:ident over $block:ty, seed $seed:literal;)*) => {
+        $(
+            #[test]
+            fn $name() {
+                let mut draws = Draws($seed);
+                let mut ours: Vec<bit_set::BitSet<$block>> = (0..SETS).map(|_| Default::default()).collect();
+                let mut theirs: Vec<Peer<$block>> = (0..SETS).map(|_| Default::default()).collect();
+                for _ in 0..500_000 {
+                    let call = draws.below(1000);
+                    let (i, j) = (draws.below(SETS), draws.below(SETS));
+                    let bound = [70, 600, 20_000][draws.below(3)];
+                    let value = draws.below(bound);
+                    let (x, y) = (&mut ours[i], &mut theirs[i]);
+                    match call {
+                        0..=399 => assert_eq!(x.insert(value), y.insert(value)),
+                        400..=699 => assert_eq!(x.remove(value), y.remove(value)),
+                        700..=849 => assert_eq!(x.contains(value), y.contains(value)),
+                        850..=879 => assert_eq!((x.len(), x.is_empty()), (y.len(), y.is_empty())),
+                        880..=889 => assert!(x.iter().eq(y.iter())),
+                        890..=894 => {
+                            x.shrink_to_fit();
+                            y.shrink_to_fit();
+                        }
+                        895..=899 => {
+                            x.reserve_len(value);
+                            y.reserve_len(value);
+                        }
+                        900 => {
+                            x.clear();
+                            y.clear();
+                        }
+                        _ if i == j => assert!(x.is_subset(x) && y.is_subset(y)),
+                        _ => {
+                            let (a, b) = (x.clone(), y.clone());
+                            let (x, y) = (&mut ours[j], &mut theirs[j]);
+                            match call {
+                                901..=910 => (x.union_with(&a), y.union_with(&b)),
+                                911..=920 => (x.intersect_with(&a), y.intersect_with(&b)),
+                                921..=930 => (x.difference_with(&a), y.difference_with(&b)),
+                                931..=940 => (x.symmetric_difference_with(&a), y.symmetric_difference_with(&b)),
+                                941..=945 => (x.clone_from(&a), y.clone_from(&b)),
+                                _ => ((), ()),
+                            };
+                            assert!(x.union(&a).eq(y.union(&b)) && x.intersection(&a).eq(y.intersection(&b)));
+                            assert!(x.difference(&a).eq(y.difference(&b)));
+                            assert!(x.symmetric_difference(&a).eq(y.symmetric_difference(&b)));
+                            assert_eq!((x.is_subset(&a), x.is_superset(&a)), (y.is_subset(&b), y.is_superset(&b)));
+                            assert_eq!((x.is_disjoint(&a), *x == a, (*x).cmp(&a)), (y.is_disjoint(&b), *y == b, (*y).cmp(&b)));
+                        }
+                    }
+                }
+                for (x, y) in ours.iter().zip(&theirs) {
+                    assert!(x.iter().eq(y.iter()));
+                    assert_eq!(format!("{x:?}"), format!("{y:?}"));
+                }
+            }
+        )*
+    };
+}
+
+beside! {
+    narrow_blocks over u32, seed 1;
+    wide_blocks over u64, seed 2;
+}

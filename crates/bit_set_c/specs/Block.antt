@@ -1,0 +1,20 @@
+-- The blocks of the sets, as `src/block.rt` has them.
+use Rattle.std.specs.Prelude.{ℕ}
+use Rattle.std.specs.Borrow.{RattleType, u64}
+use Rattle.bit_words.specs.contracts.block.integers.U64BitBlock.TheImpl as block
+use Rattle.std.specs.contracts.prelude.U64PartialEq.TheImpl as eq
+use Rattle.std.specs.contracts.prelude.U64BitAnd.TheImpl as and
+use Rattle.std.specs.contracts.prelude.U64BitOr.TheImpl as or
+use Rattle.std.specs.contracts.prelude.U64BitXor.TheImpl as xor
+use Rattle.std.specs.contracts.prelude.U64Not.TheImpl as complement
+use Rattle.std.specs.contracts.prelude.U64Add.TheImpl as add
+use Rattle.std.specs.contracts.prelude.U64Sub.TheImpl as sub
+use Rattle.bit_set.specs.contracts.set.BitSet as set
+
+-- how many bits a block has
+abbrev pub width : ℕ
+width = 64
+
+-- how memory keeps a set
+abbrev pub set_row : RattleType
+set_row = set.the_row u64 block.ghosts eq.ghosts and.ghosts or.ghosts xor.ghosts complement.ghosts add.ghosts sub.ghosts

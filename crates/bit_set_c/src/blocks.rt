@@ -1,0 +1,134 @@
+// The blocks of a set, copied out and in.
+ghost use Rattle.std.specs.Prelude.{◌≡◌, ◌≢◌, ℕ, ◌+◌, ◌*◌, ◌^◌, ◌<◌, ◌≤◌, ◌-◌, ◌++◌, false, drop, get_or, length, max, min, replicate, slice_index, take, OnErr, OnOk};
+ghost use Rattle.bit_words.specs.{Bits.blocks_of, Digits.is_one, Growth.Grows, Ranges.in_range};
+ghost use Rattle.bit_set.specs.{Ranges.span_end, Sets.{elements, has}};
+ghost use Rattle.bit_set_c.specs.{Answers.done, Block.width, Handed.IsAt};
+
+use crate::block::{Block, WIDTH};
+use crate::handed::{Exclusive, Shared};
+use bit_set::BitSet;
+use bit_words::bit_vec::{BitVec, take_lowest_one};
+
+// The blocks from one on.
+#[tactic(auto, using(crate::proofs::BlockNumbers::numbers_are_blocks, std::proofs::lemmas::List::drop_all))]
+fn blocks_from(set: &BitSet<Block>, from: usize) -> &[Block]
+    ensures { result.now ≡ drop from (blocks_of width set.now.values) }
+{
+    let blocks = set.get_ref().storage();
+    if from > blocks.len() {
+        return &[];
+    }
+    &blocks[from..]
+}
+
+fn copy_front(from: &[Block], to: &mut [Block]) -> usize
+    ensures count { result ≡ min (length to.old) (length from.now) }
+    ensures values { take result to.new ≡ take result from.now }
+    ensures others { drop result to.new ≡ drop result to.old }
+{
+    let mut done = 0;
+    for &block in from {
+        if done == to.len() {
+            return done;
+        }
+        to[done] = block;
+        done += 1;
+    }
+    done
+}
+
+/// Copies the blocks from one on, as many as there is room for, and returns how many.
+#[unsafe(no_mangle)]
+pub extern "C" fn bit_set_copy_blocks(set: &mut Shared, from: usize, blocks: &mut [Block]) -> usize
+    requires here { IsAt set.ref_ptr set.old.at }
+    ensures count { result ≡ min (length blocks.old) (length (drop from (blocks_of width set.old.bits.values))) }
+    ensures values { take result blocks.new ≡ take result (drop from (blocks_of width set.old.bits.values)) }
+    ensures others { drop result blocks.new ≡ drop result blocks.old }
+    ensures kept { set.new ≡ set.old }
+{
+    copy_front(blocks_from(set.get(), from), blocks)
+}
+
+// Makes the values from `index` on, which are false, those of the block's bits, one step for each 1.
+fn put_ones(bits: &mut BitVec<Block>, index: usize, mut block: Block)
+    requires within { index + width ≤ length bits.old.values }
+    requires counted { length bits.old.values < 2 ^ 64 }
+    requires falses { (j : ℕ) → j < width → get_or bits.old.values (index + j) false ≡ false }
+    ensures values { (j : ℕ) → j < width → get_or bits.new.values (index + j) false ≡ is_one block j }
+    ensures others { (i : ℕ) → ((j : ℕ) → j < width → i ≢ index + j)
+        → get_or bits.new.values i false ≡ get_or bits.old.values i false }
+    ensures length { length bits.new.values ≡ length bits.old.values }
+    ensures capacity { bits.new.capacity ≡ bits.old.capacity }
+{
+    while block != 0 {
+        let lowest = take_lowest_one(&mut block);
+        bits.set(index + lowest, true);
+    }
+}
+
+// Makes the list at least `len` long, and returns whether there was memory for it.
+fn lengthen(bits: &mut BitVec<Block>, len: usize) -> bool
+    ensures values { OnOk (done result) (bits.new.values
+        ≡ bits.old.values ++ replicate (len - length bits.old.values) false) }
+    ensures grows { Grows len (done result) bits.old bits.new }
+{
+    let old = bits.len();
+    // For the proof alone: the capacity holds the list.
+    prove!(old <= bits.capacity());
+    len <= old || bits.grow(len - old, false).is_ok()
+}
+
+// Makes the blocks from one on those, and returns whether there was memory for it and a `usize` for the length.
+fn put_blocks(bits: &mut BitVec<Block>, from: usize, blocks: &[Block]) -> bool
+    ensures blocks { OnOk (done result) ((k j : ℕ) → k < length blocks.now → j < width
+        → get_or bits.new.values ((from + k) * width + j) false ≡ is_one (slice_index blocks.now k) j) }
+    ensures others { OnOk (done result) ((i : ℕ)
+        → in_range (from * width) ((from + length blocks.now) * width) i ≡ false
+        → get_or bits.new.values i false ≡ get_or bits.old.values i false) }
+    ensures length { OnOk (done result) (length bits.new.values
+        ≡ max (length bits.old.values) (span_end (from * width) ((from + length blocks.now) * width))) }
+    ensures too_long { usize.MAX < span_end (from * width) ((from + length blocks.now) * width) → result ≡ false }
+    ensures grows { Grows (span_end (from * width) ((from + length blocks.now) * width)) (done result)
+        bits.old bits.new }
+{
+    // For the proof alone: the capacity holds the list, and is a `usize`.
+    prove!(bits.len() <= bits.capacity());
+    if blocks.is_empty() {
+        return true;
+    }
+    let Some(end) = from
+        .checked_add(blocks.len())
+        .and_then(|end| end.checked_mul(WIDTH))
+    else {
+        return false;
+    };
+    if !lengthen(bits, end) {
+        return false;
+    }
+    bits.fill_range(from * WIDTH..end, false);
+    for (k, &block) in blocks.iter().enumerate() {
+        put_ones(bits, (from + k) * WIDTH, block);
+    }
+    true
+}
+
+/// Makes the blocks from one on those, as far as they go, and returns whether it could: nothing changed where there is
+/// no memory, or the length would be above `usize::MAX`. One step for each block and for each 1 in it.
+#[tactic(auto, using(bit_set::proofs::MemberLemmas::reads))]
+#[unsafe(no_mangle)]
+pub extern "C" fn bit_set_put_blocks(set: &mut Exclusive, from: usize, blocks: &[Block]) -> bool
+    requires here { IsAt set.ref_ptr set.old.at }
+    ensures blocks { OnOk (done result) ((k j : ℕ) → k < length blocks.now → j < width
+        → has (elements set.new.bits.values) ((from + k) * width + j) ≡ is_one (slice_index blocks.now k) j) }
+    ensures others { OnOk (done result) ((n : ℕ)
+        → in_range (from * width) ((from + length blocks.now) * width) n ≡ false
+        → has (elements set.new.bits.values) n ≡ has (elements set.old.bits.values) n) }
+    ensures length { OnOk (done result) (length set.new.bits.values
+        ≡ max (length set.old.bits.values) (span_end (from * width) ((from + length blocks.now) * width))) }
+    ensures too_long { usize.MAX < span_end (from * width) ((from + length blocks.now) * width) → result ≡ false }
+    ensures grows { Grows (span_end (from * width) ((from + length blocks.now) * width)) (done result)
+        set.old.bits set.new.bits }
+    ensures place { set.new.at ≡ set.old.at }
+{
+    put_blocks(set.get().get_mut(), from, blocks)
+}

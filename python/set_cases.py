@@ -1,0 +1,55 @@
+"""Runs those cases of Python's own test.test_set that are of sets of numbers, with BitSet in place of set.
+
+python3 set_cases.py          needs the package test of Python's library
+"""
+
+import sys
+import unittest
+
+from test import test_set
+
+from bit_set import BitSet
+
+# The classes whose sets have numbers alone.
+CLASSES = (
+    "TestBasicOpsEmpty",
+    "TestBasicOpsSingleton",
+    "TestBinaryOps",
+    "TestUpdateOps",
+    "TestSubsetEqualEmpty",
+    "TestSubsetEqualNonEmpty",
+    "TestSubsetEmptyNonEmpty",
+    "TestSubsetPartial",
+    "TestSubsetNonOverlap",
+    "TestOnlySetsNumeric",
+    "TestOnlySetsOperator",
+    "TestCopyingEmpty",
+    "TestCopyingSingleton",
+)
+
+# Of these the cases that ask for what is no part of a MutableSet: how `set` is printed, and how many items a walk over
+# it says are left.
+OTHERS = ("test_repr", "test_iteration")
+
+
+def main():
+    test_set.set = BitSet
+    test_set.empty_set = BitSet()
+    suite = unittest.TestSuite()
+    for name in CLASSES:
+        for case in unittest.defaultTestLoader.loadTestsFromTestCase(numbers_of(getattr(test_set, name))):
+            if case.id().rsplit(".", 1)[1] not in OTHERS:
+                suite.addTest(case)
+    return 0 if unittest.TextTestRunner(verbosity=0).run(suite).wasSuccessful() else 1
+
+
+# The class with BitSet for each set that it was made with.
+def numbers_of(cases):
+    for name in ("left", "right"):
+        if hasattr(cases, name):
+            setattr(cases, name, BitSet(getattr(cases, name)))
+    return cases
+
+
+if __name__ == "__main__":
+    sys.exit(main())
