@@ -1,36 +1,39 @@
 -- What a caller cites of sets that are made of chains.
-use Rattle.std.proofs.{Common.{◌≡◌, ℕ, ◌+◌, ◌-◌, ◌<◌, ◌≤◌, Bool, not, ◌&&◌, ltb, filter, take, Option, List, [], ◌∷◌, Result, Bor, refl, sym, ap, ◌∙◌, zero, suc, append_assoc, arith, length, subst}, iter.Yields.nat_range_steps, lemmas.Bool.Decides.nat_tests}
+use Rattle.std.proofs.{Common.{◌≡◌, ℕ, ◌+◌, ◌-◌, ◌<◌, ◌≤◌, Bool, ◌&&◌, nat_le, ltb, filter, take, Option, List, [], ◌∷◌, Result, Bor, refl, sym, ap, ◌∙◌, zero, suc, append_assoc, arith, length, subst}, iter.Yields.nat_range_steps, lemmas.Bool.Decides.nat_tests}
 use Rattle.std.proofs.lemmas.{List.append-nil, List.Sums.{length-filter, count_by-le-length}}
 use Rattle.std.{proofs.lemmas.{Iterator.{YieldsList, YieldsList-from_range, Adapters.fact_from_collect, Consumers.{YieldsList-at, YieldsList-from_filter, YieldsList-from_shown}}, Result.IfOk-weaker}, specs.Prelude.IfOk}
 use Rattle.std.specs.{BTreeMap.{BTreeMap, get_by}, Fn.{Mut, CalledAt}, Iterator.{Drains, Adapters.{filter_source, filter_callee, filter_steps}}, List.range_with_len}
 use Rattle.bit_words.specs.Bits.{Bits}
-use Rattle.bit_set.{specs.{Members.IsSameSet, Order.order_of_sets, Sets.{bound_of, elements, has, put_all}, Walk.{Walk, Advances}}, proofs.SetLemmas.{IsAscending-elements, has-filter, same_members}}
+use Rattle.bit_set.{specs.{Members.IsSameSet, Order.order_of_sets, Sets.{bound_of, elements, has, put_all}, Walk.{Walk, Advances}}, proofs.{RangeLemmas.has-range_with_len, SetLemmas.{IsAscending-elements, has-filter, same_members}, TestLemmas.filter_none}}
 
 module _ {S V E : Type 0} {steps : S → Option ℕ → S → Type 0} {s : S} {all : List ℕ} where
   -- what is made of a chain by `from_iter` is made of all that the chain gives
   pub made_of_chain : (Q : List ℕ → V → Type 0) (r : Result V E) → IfOk r (λ v. (items : List ℕ) × Drains steps s items × Q items v) → YieldsList steps (λ x. x) s all → IfOk r (λ v. Q all v)
   made_of_chain Q r made gives = fact_from_collect Q r (IfOk-weaker r _ _ (λ v m. (m.0, (m.1.1.0, m.1.1.1, λ _. (m.1.0, m.1.1.2)), m.2)) made) gives
 
--- the members of numbers that count up
-has-range : (a n m : ℕ) → has (range_with_len a n) m ≡ (not (ltb m a) && ltb m (a + n))
-has-range a zero m = grind (arith, nat_tests)
-has-range a (suc n) m = let rest = has-range (a + 1) n m in grind (arith, nat_tests)
+-- the numbers of a range that pass a test
+has-passing : (test : ℕ → Bool) (a b m : ℕ) → has (filter test (range_with_len a (b - a))) m ≡ (nat_le a m && ltb m b && test m)
+has-passing test a b m =
+    let kept = has-filter test (range_with_len a (b - a)) m in let range = has-range_with_len a (b - a) m in grind (arith, nat_tests)
 
--- the numbers below n that pass a test
-has-passing : (test : ℕ → Bool) (n m : ℕ) → has (filter test (range_with_len 0 n)) m ≡ (ltb m n && test m)
-has-passing test n m =
-    let kept = has-filter test (range_with_len 0 n) m in let range = has-range 0 n m in grind (arith, nat_tests)
+-- a set that `from_iter` makes of `(a..b).filter(..)`
+pub members-from_filtered_range : {E F : Type 0} {g : Mut F (Bor ℕ × Unit {0}) Bool} {f : F} {a b : ℕ} {s : _} (test : ℕ → Bool) (r : Result Bits E)
+    → IfOk r (λ set. (items : List ℕ) × Drains (filter_steps nat_range_steps g) s items × (elements set.values ≡ put_all [] items) × (length set.values ≡ bound_of items) × IsSameSet (elements set.values) items)
+    → filter_source s ≡ record { start = a; end = b } → filter_callee s ≡ f → ((x : ℕ) (v : Bool) (q : F) → CalledAt g f x v q → (q ≡ f) × (v ≡ test x))
+    → IfOk r (λ set. (m : ℕ) → has (elements set.values) m ≡ (nat_le a m && ltb m b && test m))
+members-from_filtered_range {g = g} {a = a} {b = b} {s = s} test r made source callee called =
+    let numbers = range_with_len a (b - a) in
+    let gives : YieldsList (filter_steps nat_range_steps g) (λ x. x) s (filter test numbers) = YieldsList-from_filter g test (YieldsList-at source (YieldsList-from_range a b (b - a) refl refl)) callee called in
+    IfOk-weaker r _ _ (λ set same m. same m ∙ has-passing test a b m)
+    (made_of_chain {steps = filter_steps nat_range_steps g} {s = s} (λ items set. IsSameSet (elements set.values) items) r (IfOk-weaker r _ _ (λ set m. (m.0, m.1, m.4)) made) gives)
 
 -- a set that `from_iter` makes of `(0..n).filter(..)`
 pub members-from_filter : {E F : Type 0} {g : Mut F (Bor ℕ × Unit {0}) Bool} {f : F} {n : ℕ} {s : _} (test : ℕ → Bool) (r : Result Bits E)
     → IfOk r (λ set. (items : List ℕ) × Drains (filter_steps nat_range_steps g) s items × (elements set.values ≡ put_all [] items) × (length set.values ≡ bound_of items) × IsSameSet (elements set.values) items)
     → filter_source s ≡ record { start = 0; end = n } → filter_callee s ≡ f → ((x : ℕ) (b : Bool) (q : F) → CalledAt g f x b q → (q ≡ f) × (b ≡ test x))
     → IfOk r (λ set. (m : ℕ) → has (elements set.values) m ≡ (ltb m n && test m))
-members-from_filter {g = g} {n = n} {s = s} test r made source callee called =
-    let numbers = range_with_len 0 n in
-    let gives : YieldsList (filter_steps nat_range_steps g) (λ x. x) s (filter test numbers) = YieldsList-from_filter g test (YieldsList-at source (YieldsList-from_range 0 n n refl (omega arith))) callee called in
-    IfOk-weaker r _ _ (λ set same m. same m ∙ has-passing test n m)
-    (made_of_chain {steps = filter_steps nat_range_steps g} {s = s} (λ items set. IsSameSet (elements set.values) items) r (IfOk-weaker r _ _ (λ set m. (m.0, m.1, m.4)) made) gives)
+members-from_filter {g = g} test r made source callee called =
+    IfOk-weaker r _ _ (λ set members m. members m ∙ grind (arith, nat_tests)) (members-from_filtered_range {g = g} test r made source callee called)
 
 -- what a walk over a set gives
 pub gives_left : (w : ℕ) (s : Walk) {xs : List ℕ} → s.left ≡ xs → YieldsList (Advances w) (λ x. x) s xs
@@ -52,4 +55,4 @@ take-first zero x xs pos = absurd (omega arith)
 take-first (suc n) x xs pos = let less : n ≡ suc n - 1 = omega arith in ap (λ k. x ∷ take k xs) less
 
 -- what loops over a set use, for `grind`: a crate names it once, at its root
-pub ruleset set_steps = (nat_tests, length-filter-le, take-first, append_assoc, append-nil)
+pub ruleset set_steps = (nat_tests, has-filter, filter_none, length-filter-le, take-first, append_assoc, append-nil)

@@ -8,17 +8,21 @@ use Rattle.bit_set.specs.Sets.{has, put, without}
 
 -- an element that went in
 pub changes_inserted : (value : ℕ) (new : Bool) (old next : List Bool) → value < greatest → new ≡ not (has (elements old) value) → elements next ≡ put (elements old) value → Changes (Insert value) old (Returned new) next
+unfolding Changes
 changes_inserted value new old next fits says is = grind (arith, nat_tests)
 
 -- an element that was in and went out
 pub changes_toggled : (value : ℕ) (old next : List Bool) → value < greatest → has (elements old) value ≡ true → elements next ≡ without (elements old) value → Changes (Toggle value) old (Returned false) next
+unfolding Changes
 changes_toggled value old next fits was is = grind (arith, nat_tests)
 
 -- the elements stay, also where no memory is found
 pub changes_shrunk : {T E : Type 0} (r : Result T E) (old next : List Bool) → elements next ≡ elements old → Changes ShrinkToFit old (outcome_of_result r) next
+unfolding Changes
 changes_shrunk r old next same = grind arith
 
 found : (call : Change) (old new : List Bool) (outcome : Outcome) → outcome ≢ NoMemory → Changes call old outcome new → (elements new ≡ elements_after call (elements old)) × (outcome ≡ outcome_of call (elements old))
+unfolding Changes
 found call old new outcome some is = grind arith
 
 -- ---- one after another

@@ -110,9 +110,11 @@ takes_last s t x up greatest is = (
 )
 
 pub changes_popped_first : (old new : List Bool) (x : ℕ) → elements old ≡ x ∷ elements new → Changes PopFirst old (Gave (Some x)) new
+unfolding Changes
 changes_popped_first old new x is = (sym (ap (drop 1) is), sym (ap (λ s. Gave (slice_get s 0)) is))
 
 pub changes_popped_last : (old new : List Bool) (x : ℕ) → elements old ≡ elements new ++ x ∷ [] → Changes PopLast old (Gave (Some x)) new
+unfolding Changes
 changes_popped_last old new x is =
     let rest = elements new in
     let whole = rest ++ x ∷ [] in

@@ -7,7 +7,7 @@ use Rattle.bit_set.proofs.{AlgebraLemmas.{IsAscending-merge_of_sets, has-symmetr
 
 -- ---- the numbers of a range
 
-has-range_with_len : (a n k : ℕ) → has (range_with_len a n) k ≡ in_range a (a + n) k
+pub has-range_with_len : (a n k : ℕ) → has (range_with_len a n) k ≡ in_range a (a + n) k
 has-range_with_len a zero k = grind (arith, nat_tests)
 has-range_with_len a (suc n) k = let rest = has-range_with_len (a + 1) n k in grind (arith, nat_tests)
 

@@ -1,5 +1,5 @@
 -- What tests and choices among the members of a set say of the members.
-use Rattle.std.proofs.{Common.{◌≡◌, ℕ, ◌+◌, ◌-◌, ◌≤◌, ◌&&◌, max, min, Bool, false, nat_le, List, [], ◌∷◌, map, length, Option, Some, None, IsTrue, MatchOption, refl, arith}, lemmas.Bool.Decides.nat_tests}
+use Rattle.std.proofs.{Common.{◌≡◌, ℕ, ◌+◌, ◌-◌, ◌≤◌, ◌&&◌, ◌⊎◌, inl, max, min, Bool, false, filter, nat_le, List, [], ◌∷◌, map, length, Option, Some, None, IsTrue, MatchOption, refl, arith}, lemmas.Bool.Decides.nat_tests}
 use Rattle.std.specs.List.{find, fold, last_or, list_any, position_or_len, reduce}
 use Rattle.bit_set.{specs.{Choices.{IsGreatest, IsLeast, IsLeastPassing}, Members.HasNone, Sets.{AscendsFrom, IsAscending, has, those_below}}, proofs.{SetLemmas.{has-below, has-filter}, SetLaws.has-put_all}}
 
@@ -12,6 +12,11 @@ any_passes p (y ∷ ys) is = let rest = any_passes p ys in grind (arith, nat_tes
 pub any_from_one : (p : ℕ → Bool) (s : List ℕ) (x : ℕ) → IsTrue (has s x) → IsTrue (p x) → IsTrue (list_any p s)
 any_from_one p [] x is passes = grind arith
 any_from_one p (y ∷ ys) x is passes = let rest = any_from_one p ys x in grind (arith, nat_tests)
+
+-- a test keeps nothing, or some member passes it
+pub filter_none : (p : ℕ → Bool) (s : List ℕ) → (filter p s ≡ []) ⊎ ((x : ℕ) × IsTrue (has s x) × IsTrue (p x))
+filter_none p [] = inl refl
+filter_none p (y ∷ ys) = let rest = filter_none p ys in grind (arith, nat_tests)
 
 -- ---- the first that passes, of a list that ascends, is the least that does, and its place the number of members below it
 

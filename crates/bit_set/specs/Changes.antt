@@ -80,8 +80,9 @@ outcome_of PopFirst s = Gave (slice_get s 0)
 outcome_of PopLast s = Gave (slice_get s (length s - 1))
 outcome_of call s = Done
 
--- The call found the list `old` and left `new`, and this is how it returned.
-abbrev pub Changes : Change → List Bool → Outcome → List Bool → Type 0
+-- The call found the list `old` and left `new`, and this is how it returned. It is not opened where a proof does not ask
+-- for it: a loop over a set goes by the other clauses of each call.
+unfoldable pub Changes : Change → List Bool → Outcome → List Bool → Type 0
 Changes call old NoMemory new = elements new ≡ elements old
 Changes call old outcome new =
     (elements new ≡ elements_after call (elements old)) × (outcome ≡ outcome_of call (elements old))

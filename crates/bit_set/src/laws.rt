@@ -330,7 +330,7 @@ pub fn values_have_one_reading()
 /// elements, over any two block types, have the same elements after the same calls, which return the same.
 /// The clause `changes` of each call says what it does; `extend` is given the items that went in, those of
 /// its `TakesIn`.
-#[tactic(auto, using(crate::proofs::ChangeLemmas::happens_found, crate::proofs::ChangeLemmas::happens_agree))]
+#[tactic(auto, using(crate::proofs::ChangeLemmas::happens_found, crate::proofs::ChangeLemmas::happens_agree), unfolding(crate::specs::Changes::Changes))]
 pub fn calls_are_set_algebra()
     ensures elements { (old new : List Bool) (events : List Event) → All (λ e. e.outcome ≢ NoMemory) events
         → Happens old events new → elements new ≡ set_after (elements old) (map (λ e. e.call) events) }

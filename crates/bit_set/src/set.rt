@@ -1,5 +1,7 @@
 // A set, and the calls that read it. Those that make or change one are in the folder; walks, order, texts and JSON
 // are beside it.
+#![tactic(auto, unfolding(crate::specs::Changes::Changes))]
+
 ghost use Rattle.std.specs.Prelude.{◌≡◌, ◌<◌, ◌≤◌, ◌↔◌, IsTrue, [], length};
 ghost use Rattle.bit_words.specs.Bits.{IsCapacityOfBlocks};
 ghost use Rattle.bit_set.specs.{Members.{HasNone, IsCounted}, Sets.{elements, has}};

@@ -1,5 +1,6 @@
 use Rattle.std.proofs.Common.{refl, true}
 use Rattle.bit_set.proofs.{RangeLemmas.{inserted_range, members_changed}, SetLemmas.IsAscending-elements}
+use Rattle.bit_set.specs.Changes.{Changes}
 use Rattle.bit_set.proofs.set.BitSet.insert_range.Goals as goal
 
 pub returns-clause-members : goal.returns-clause-members
@@ -11,4 +12,5 @@ returns-clause-elements g c =
     inserted_range c.args.range.start c.args.range.end _ _ (IsAscending-elements c.args.self.now.values) (IsAscending-elements c.fill_range.new.self.values) (returns-clause-members g c)
 
 pub returns-clause-changes : goal.returns-clause-changes
+unfolding Changes
 returns-clause-changes g c = (returns-clause-elements g c, refl)

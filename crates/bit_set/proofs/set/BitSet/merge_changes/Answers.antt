@@ -1,5 +1,5 @@
 use Rattle.std.proofs.Common.{◌-◌, ◌∙◌, ap, length, not}
-use Rattle.bit_set.{proofs.{AlgebraLemmas.{elements-lengthened, length-lengthened}, MemberLemmas.members_merged, NotedLemmas.told_of_lengthened}, specs.{Changes.Outcome.Returned, Order.same_sets, Sets.elements}}
+use Rattle.bit_set.{proofs.{AlgebraLemmas.{elements-lengthened, length-lengthened}, MemberLemmas.members_merged, NotedLemmas.told_of_lengthened}, specs.{Changes.{Changes, Outcome.Returned}, Order.same_sets, Sets.elements}}
 use Rattle.bit_set.proofs.set.BitSet.merge_changes.Goals as goal
 
 pub returns-clause-elements : goal.returns-clause-elements
@@ -22,6 +22,7 @@ returns-clause-changed g c =
     told_of_lengthened c.args.self.now.values c.self.inside.bits.values c.merge_changes.new.self.values c.len.result c.merge_changes.result (ap (λ bits. bits.values) c.self.view_is ∙ c.in_ok-lengthen.ensures.ok) (rw len long) c.merge_changes.ensures.kept
 
 pub returns-clause-changes : goal.returns-clause-changes
+unfolding Changes
 returns-clause-changes g c =
     let made = returns-clause-elements g c in
     (made, ap (λ changed. Returned changed) (returns-clause-changed g c ∙ ap (λ s. not (same_sets (elements c.args.self.now.values) s)) made))

@@ -1,6 +1,6 @@
 use Rattle.std.proofs.Common.{ℕ, Bool, false, List, sym, ap, ap₂, ◌∙◌, arith}
 use Rattle.bit_words.specs.Bits.{Bits}
-use Rattle.bit_set.{specs.{Sets.elements, Changes.Outcome.Returned}, proofs.{SetLemmas.{IsAscending-elements, elements-set_false, without_absent}, ValueLemmas.{has-past, has-read, written_again}}}
+use Rattle.bit_set.{specs.{Sets.elements, Changes.{Changes, Outcome.Returned}}, proofs.{SetLemmas.{IsAscending-elements, elements-set_false, without_absent}, ValueLemmas.{has-past, has-read, written_again}}}
 use Rattle.bit_set.proofs.MemberLemmas.{count_without, updates_without}
 use Rattle.bit_set.proofs.set.BitSet.remove.Goals as goal
 
@@ -19,9 +19,11 @@ pub returns-clause-elements : goal.returns-clause-elements
 returns-clause-elements g c = rw (c.replace.ensures.values, ← c.self.view_is) (elements-set_false c.self.inside.bits.values c.args.value (omega arith))
 
 pub returns-then-value-len-clause-changes : goal.returns-then-value-len-clause-changes
+unfolding Changes
 returns-then-value-len-clause-changes g c = (returns-then-value-len-clause-elements g c, ap Returned (returns-then-value-len-clause-returned g c))
 
 pub returns-clause-changes : goal.returns-clause-changes
+unfolding Changes
 returns-clause-changes g c = (returns-clause-elements g c, ap Returned (returns-clause-returned g c))
 
 pub returns-then-value-len-clause-members : goal.returns-then-value-len-clause-members

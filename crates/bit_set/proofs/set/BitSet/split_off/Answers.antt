@@ -1,6 +1,7 @@
 use Rattle.std.proofs.{Common.{◌≤◌, length, refl, arith}, lemmas.Bool.Decides.nat_tests}
 use Rattle.bit_set.{specs.Sets.elements, proofs.{MemberLemmas.{members_below, members_from}, SplitLemmas.{all_below, all_from, elements-tail, none_below, none_from}}}
 use Rattle.bit_set.proofs.set.BitSet.split_off.Goals.{After-new_general-then-at-len}
+use Rattle.bit_set.specs.Changes.{Changes}
 use Rattle.bit_set.proofs.set.BitSet.split_off.Goals as goal
 
 past : (g : _) (c : After-new_general-then-at-len g) → length c.args.self.now.values ≤ c.args.at
@@ -22,9 +23,11 @@ pub returns-clause-part : goal.returns-clause-part
 returns-clause-part g c = rw (c.in_ok-bits.ensures.values, ← c.self.view_is) (elements-tail c.self.inside.bits.values c.args.at)
 
 pub returns-then-at-eq0-clause-changes : goal.returns-then-at-eq0-clause-changes
+unfolding Changes
 returns-then-at-eq0-clause-changes g c = (returns-then-at-eq0-clause-elements g c, refl)
 
 pub returns-then-at-len-clause-changes : goal.returns-then-at-len-clause-changes
+unfolding Changes
 returns-then-at-len-clause-changes g c = (returns-then-at-len-clause-elements g c, refl)
 
 pub returns-then-at-len-clause-members : goal.returns-then-at-len-clause-members
@@ -52,6 +55,7 @@ pub returns-clause-elements : goal.returns-clause-elements
 returns-clause-elements g c = c.truncate.ensures.elements
 
 pub returns-clause-changes : goal.returns-clause-changes
+unfolding Changes
 returns-clause-changes g c = (c.truncate.ensures.elements, refl)
 
 pub returns-clause-members : goal.returns-clause-members

@@ -1,5 +1,6 @@
 use Rattle.std.proofs.Common.{not, refl}
 use Rattle.bit_set.proofs.{RangeLemmas.{toggled_range, members_changed}, SetLemmas.IsAscending-elements}
+use Rattle.bit_set.specs.Changes.{Changes}
 use Rattle.bit_set.proofs.set.BitSet.toggle_range.Goals as goal
 
 pub returns-clause-members : goal.returns-clause-members
@@ -11,4 +12,5 @@ returns-clause-elements g c =
     toggled_range c.args.range.start c.args.range.end _ _ (IsAscending-elements c.args.self.now.values) (IsAscending-elements c.negate_range.new.self.values) (returns-clause-members g c)
 
 pub returns-clause-changes : goal.returns-clause-changes
+unfolding Changes
 returns-clause-changes g c = (returns-clause-elements g c, refl)

@@ -1,6 +1,6 @@
 use Rattle.std.proofs.{Common.{◌∙◌, ◌-◌, ap, length, not, take}}
 use Rattle.bit_words.{specs.{declared.block.merge.Merge.TheVariants.{Difference, Union}, Merges.merge_of}}
-use Rattle.bit_set.{proofs.{AlgebraLemmas.elements-lengthened, NotedLemmas.{elements-except, length-lengthened-except, members-except, told_of_lengthened, union_count, union_kept}, SetLemmas.IsAscending-elements}, specs.{Changes.Outcome.Returned, Order.same_sets, Sets.{difference, elements, union}}}
+use Rattle.bit_set.{proofs.{AlgebraLemmas.elements-lengthened, NotedLemmas.{elements-except, length-lengthened-except, members-except, told_of_lengthened, union_count, union_kept}, SetLemmas.IsAscending-elements}, specs.{Changes.{Changes, Outcome.Returned}, Order.same_sets, Sets.{difference, elements, union}}}
 use Rattle.bit_set.proofs.set.BitSet.union_with_difference.Goals as goal
 
 pub returns-clause-elements : goal.returns-clause-elements
@@ -41,6 +41,7 @@ returns-clause-count g c =
     rw (returns-clause-were_in g c, returns-clause-elements g c) (union_count s t (IsAscending-elements c.args.self.now.values))
 
 pub returns-clause-changes : goal.returns-clause-changes
+unfolding Changes
 returns-clause-changes g c =
     let made = returns-clause-elements g c in
     (made, ap (λ changed. Returned changed) (returns-clause-changed g c ∙ ap (λ s. not (same_sets (elements c.args.self.now.values) s)) made))
