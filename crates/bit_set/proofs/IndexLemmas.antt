@@ -42,6 +42,10 @@ pub indexes-zero : (w p : ℕ) (bs : List Bool) → indexes w p 0 bs ≡ element
 unfolding indexes
 indexes-zero w p bs = zeros_passed 0 w p bs
 
+-- of a block of zeros, with nothing past it
+pub indexes-none : (w p m : ℕ) → m ≡ 0 → indexes w p m [] ≡ []
+indexes-none w p m none = ap (λ k. indexes w p k []) none ∙ indexes-zero w p []
+
 -- the values past the first block are those of the next one
 pub indexes-next : (w p m : ℕ) (bs cs : List Bool) → bs ≡ digits_from m 0 w ++ cs → elements_from p bs ≡ indexes w p m cs
 unfolding indexes

@@ -47,12 +47,12 @@ pub toggled_range : (a b : ℕ) (s t : List ℕ) → IsAscending s → IsAscendi
 toggled_range a b s t up also members =
     same_members t _ also (IsAscending-merge_of_sets Symmetric s (span a b) up) (λ n. members n ∙ grind (arith, nat_tests, has-symmetric s (span a b) n, has-span a b n))
 
-AscendsFrom-joined : (low m : ℕ) (xs ys : List ℕ) → low ≤ m → AscendsFrom low xs → ((n : ℕ) → has xs n ≡ true → n < m) → AscendsFrom m ys → AscendsFrom low (xs ++ ys)
+pub AscendsFrom-joined : (low m : ℕ) (xs ys : List ℕ) → low ≤ m → AscendsFrom low xs → ((n : ℕ) → has xs n ≡ true → n < m) → AscendsFrom m ys → AscendsFrom low (xs ++ ys)
 AscendsFrom-joined low m [] ys le up below rest = AscendsFrom-lower m low ys le rest
 AscendsFrom-joined low m (x ∷ xs) ys le up below rest =
     (up.0, AscendsFrom-joined (x + 1) m xs ys (let h = below x (has-first x xs) in omega arith) up.1 (λ n is. below n (grind (arith, nat_tests, is))) rest)
 
-AscendsFrom-those_from : (low m : ℕ) (s : List ℕ) → AscendsFrom low s → AscendsFrom m (those_from s m)
+pub AscendsFrom-those_from : (low m : ℕ) (s : List ℕ) → AscendsFrom low s → AscendsFrom m (those_from s m)
 AscendsFrom-those_from low m [] up = tt
 AscendsFrom-those_from low m (x ∷ xs) up =
     let kept = AscendsFrom-filter (x + 1) (λ y. nat_le m y) xs up.1 in

@@ -19,7 +19,7 @@ pub has-first : (x : ℕ) (xs : List ℕ) → has (x ∷ xs) x ≡ true
 has-first x xs = grind (arith, nat_tests)
 
 -- ascending lists with the same members are one list
-same_members_from : (low : ℕ) (xs ys : List ℕ) → AscendsFrom low xs → AscendsFrom low ys → ((n : ℕ) → has xs n ≡ has ys n) → xs ≡ ys
+pub same_members_from : (low : ℕ) (xs ys : List ℕ) → AscendsFrom low xs → AscendsFrom low ys → ((n : ℕ) → has xs n ≡ has ys n) → xs ≡ ys
 same_members_from low [] [] hx hy same = refl
 same_members_from low [] (y ∷ ys) hx hy same = let here = same y in grind (arith, nat_tests)
 same_members_from low (x ∷ xs) [] hx hy same = let here = same x in grind (arith, nat_tests)

@@ -1,4 +1,5 @@
 -- What calls make of the elements of a set, and what they return. No block, length or capacity occurs in it.
+use Rattle.std.specs.List.{items_where_true}
 use Rattle.std.specs.Prelude.{◌≡◌, ℕ, ◌-◌, ◌==◌, max, not, if◌then◌else◌, Bool, List, [], ◌∷◌, ◌++◌, Option, Result, Ok, Err, drop, length, slice_get, take}
 use Rattle.bit_set.specs.{declared.faults.SetError.{SetError, TheVariants.{Element, Length, Memory}}, Sets.{difference, elements, has, intersection, put, put_all, symmetric_difference, those_below, those_from, union, without}, Ranges.span}
 use Rattle.bit_set.specs.{Order.same_sets, Sets.merge_of_sets}
@@ -30,6 +31,7 @@ pub data Change : Type 0 where
   ShrinkToFit : Change
   PopFirst : Change
   PopLast : Change
+  Retain : (answers : List Bool) → Change
 
 -- How a call returned: it was done; the same, and it returned this, or gave this element; the number is `usize::MAX`; no
 -- memory was found.
@@ -40,7 +42,8 @@ pub data Outcome : Type 0 where
   NoElement : Outcome
   NoMemory : Outcome
 
--- the elements after a call that found memory; an `extend` is given the items that went in
+-- the elements after a call that found memory; an `extend` is given the items that went in, and a `retain` what its closure
+-- returned
 abbrev pub elements_after : Change → List ℕ → List ℕ
 elements_after (Insert value) s = if value == greatest then s else put s value
 elements_after (Extend items) s = put_all s items
@@ -66,6 +69,7 @@ elements_after (ReserveLenExact len) s = s
 elements_after ShrinkToFit s = s
 elements_after PopFirst s = drop 1 s
 elements_after PopLast s = take (length s - 1) s
+elements_after (Retain answers) s = items_where_true answers s
 
 -- how it returns: `insert` whether the number is new, `remove` whether it was in, `toggle` whether it is in now, `set`
 -- and a merge that tells so whether the set changed, `pop_first` the first element and `pop_last` the last

@@ -19,6 +19,7 @@ pub mod SummarySpanLemmas
 pub mod RangeLemmas
 pub mod SpanCountLemmas
 pub mod RangeQueryLemmas
+pub mod KeepLemmas
 pub mod CompareLemmas
 pub mod MismatchLemmas
 pub mod CapacityLemmas

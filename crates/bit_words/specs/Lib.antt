@@ -18,4 +18,5 @@ pub mod NotedMerges
 pub mod Comparisons
 pub mod Mismatches
 pub mod Ranges
+pub mod Kept
 pub mod Growth

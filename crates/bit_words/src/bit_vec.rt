@@ -19,12 +19,13 @@ mod first_and_nonzero;
 mod merging;
 mod nonzero;
 mod noted_merging;
+mod one_block;
 mod pending;
 mod ranges;
 mod searching;
 
 pub use crate::block::lowest::take_lowest_one;
-pub use crate::block::masks::clear_below;
+pub use crate::block::masks::{clear_below, with_bit};
 pub use crate::block::merge::Merge;
 pub use crate::block::{BitBlock, operation};
 pub use crate::packed::comparing::{

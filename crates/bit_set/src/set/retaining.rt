@@ -1,12 +1,36 @@
 // The call that keeps the elements that pass a test.
-ghost use Rattle.std.specs.{Prelude.{◌≡◌, length}, List.Retain.IsFiltered};
-ghost use Rattle.bit_set.specs.Sets.{elements};
+ghost use Rattle.std.specs.{Prelude.{◌≡◌, ℕ, ◌^◌, ◌<◌, All, Bool, List, [], length}, List.Retain.IsFiltered};
+ghost use Rattle.bit_set.specs.{Changes.{Change, Changes, Outcome.Done}, Retained.{HasTested, ones}, Sets.elements};
 
+use crate::bit_vec::{block_or_zero, take_lowest_one, with_bit};
 use crate::{BitBlock, BitSet};
+
+// The block with those of its ones at which `keep` returns true, called at the index of each in ascending order. The
+// first digit has the index `index`.
+#[inline]
+fn kept_ones<B: BitBlock, F: FnMut(usize) -> bool>(block: B, index: usize, keep: &mut F) -> B
+    requires callable { F.IsAlwaysCallable keep.old }
+    requires of_block { B.is_block block }
+    requires fits { All (λ n. n < 2 ^ 64) (ones B.width index (B.number block)) }
+    ensures of_block { B.is_block result }
+    ensures tested { HasTested (λ state value passed next. F.step state value passed next) keep.old
+        (ones B.width index (B.number block)) keep.new (ones B.width index (B.number result)) [] }
+    ensures callable { F.IsAlwaysCallable keep.new }
+{
+    let mut rest = block;
+    let mut kept = block;
+    while rest != B::zero() {
+        let bit = take_lowest_one(&mut rest);
+        if !keep(index + bit) {
+            kept = with_bit(kept, bit, false);
+        }
+    }
+    kept
+}
 
 impl<B: BitBlock> BitSet<B> {
     /// Keeps the elements at which `keep` returns true. It is called once for each, in ascending order. The length stays.
-    /// One search for the next element each, which is constant time within a block.
+    /// One search for the next block that is not zero each, and one write of it; constant time within a block.
     ///
     /// ```
     /// let mut set = BitSet::from_bytes(alloc, &[0b0100_1010])?;
@@ -19,13 +43,17 @@ impl<B: BitBlock> BitSet<B> {
             (elements self.old.values) (elements self.new.values) }
         ensures length { length self.new.values ≡ length self.old.values }
         ensures capacity { self.new.capacity ≡ self.old.capacity }
+        ensures changes { (answers : List Bool)
+            × Changes (Change.Retain answers) self.old.values Done self.new.values }
     {
         let mut from = 0;
         while let Some(value) = self.next(from) {
-            if !keep(value) {
-                self.remove(value);
-            }
-            from = value + 1;
+            let k = value / B::bits();
+            let index = k * B::bits();
+            let block = block_or_zero(self.bits.storage(), k);
+            let kept = kept_ones(block, index, &mut keep);
+            self.bits.keep_in_block(k, kept);
+            from = index.saturating_add(B::bits());
         }
     }
 }

@@ -1,13 +1,10 @@
 // Calls on the values in a range of indexes.
-ghost use Rattle.std.specs.{Prelude.{◌≡◌, ◌≢◌, ℕ, ◌+◌, ◌*◌, ◌<◌, ◌≤◌, ◌↔◌, ◌&&◌, IsTrue, Some, false, get_or, length, nat_lt, not, slice_get, true}, List.count_by};
-ghost use Rattle.bit_words.specs.{Digits.is_one, Ranges.{changed_in_range, values_in_range}};
+ghost use Rattle.std.specs.{Prelude.{◌≡◌, ◌≢◌, ℕ, ◌<◌, ◌≤◌, ◌↔◌, IsTrue, Some, false, length, not, slice_get, true}, List.count_by};
+ghost use Rattle.bit_words.specs.Ranges.{changed_in_range, values_in_range};
 
 use crate::bit_vec::BitVec;
 use crate::block::BitBlock;
-use crate::block::masks::cut_from;
 use crate::block::operation::{Difference, Intersection, Union};
-use crate::block::operators::block_not;
-use crate::packed::searching::block_or_zero;
 use crate::packed::span_queries::{ones_in_span, span_merges_to_false};
 use crate::summary::spans::{fill_span, negate_span};
 use std::ops::Range;
@@ -84,28 +81,5 @@ impl<B: BitBlock> BitVec<B> {
             return false;
         }
         !span_merges_to_false::<B, Intersection>(&self.blocks, range.start, end)
-    }
-
-    /// Which values of block `k` are not true, as a block: a 1 at each index that has none and is below `end`. Past the
-    /// list no value is true. Constant time.
-    ///
-    /// ```
-    /// // Of ten values over blocks of 8 bits, those at 1 and 8 are true.
-    /// assert_eq!(bits.zeros_in_block(0, 5), 0b1_1101);
-    /// assert_eq!(bits.zeros_in_block(1, 12), 0b1110);
-    /// ```
-    #[inline]
-    pub fn zeros_in_block(&self, k: usize, end: usize) -> B
-        requires { k * B.width ≤ end }
-        ensures of_block { B.is_block result }
-        ensures digits { (j : ℕ) → j < B.width → is_one (B.number result) j
-            ≡ (nat_lt (k * B.width + j) end && not (get_or self.now.values (k * B.width + j) false)) }
-    {
-        let zeros = block_not(block_or_zero(self.storage(), k));
-        let below = end - k * B::bits();
-        if below >= B::bits() {
-            return zeros;
-        }
-        cut_from(zeros, below)
     }
 }

@@ -6,14 +6,20 @@ ghost use Rattle.bit_words.specs.Digits.{is_one};
 use crate::block::BitBlock;
 use crate::block::operators::{block_and, block_not, block_or, one_at, ones_below};
 
-// The bit at `index` becomes `bit`.
+/// The block with its digit at `index` made `bit`. Constant time.
+///
+/// ```
+/// assert_eq!(with_bit(0b0110u8, 1, false), 0b0100);
+/// assert_eq!(with_bit(0b0110u8, 0, true), 0b0111);
+/// ```
 #[inline]
-pub(crate) fn with_bit<B: BitBlock>(block: B, index: usize, bit: bool) -> B
+pub fn with_bit<B: BitBlock>(block: B, index: usize, bit: bool) -> B
     requires of_block { B.is_block block }
     requires within { index < B.width }
     ensures of_block { B.is_block result }
-    ensures same { is_one (B.number result) index ≡ bit }
-    ensures others { (j : ℕ) → j < B.width → j ≢ index → is_one (B.number result) j ≡ is_one (B.number block) j }
+    ensures same { (bit_at (B.number result) index == 1) ≡ bit }
+    ensures others { (j : ℕ) → j < B.width → j ≢ index
+        → (bit_at (B.number result) j == 1) ≡ (bit_at (B.number block) j == 1) }
 {
     let mask = one_at(index);
     if bit {
