@@ -1,8 +1,8 @@
 -- What a merge that says whether a block changed does, some blocks at a time, which blocks stay, and what that says of the
 -- list.
-use Rattle.std.proofs.{Math.Bool.or-false, Common.{◌≡◌, ℕ, ◌+◌, ◌*◌, ◌/◌, ◌%◌, ◌^◌, ◌<◌, ◌≤◌, ◌↔◌, Bool, false, not, ◌&&◌, ◌||◌, List, map, length, get_or, set, take, All, refl, sym, ap, ap₂, ◌∙◌, arith, ⊎_elim, mod-lt, length-take, get_or-take, get_or-set_same, get_or-set_other}, lemmas.{Bool.{cases_lt}, List.{get_or_past, length-map}, Nat.Bits.same_from_bits_below}}
-use Rattle.bit_words.specs.{declared.block.merge.Merge.{Merge, TheVariants.{Difference, Union}}, Merges.{merge_of_values, merge_of}, Digits.is_one, NotedMerges.{except_at, other_at, AreKept, HasMergedWith, Stay}, BlockMerges.HasMerged, Storage.{value_at, values_of, IsPacked, IsZeroFrom}}
-use Rattle.bit_words.proofs.{Masks.is_one-zero, MergeLemmas.{get_or-merged, length-merged, merge_of_values-none}, StorageLemmas.{get_or-values_of, get_or-values_of_zero_tail, same_digit, length-values_of, value_at-is, value_at-past, values_of-same}, SummaryLemmas.{same_block}}
+use Rattle.std.proofs.{Math.Bool.or-false, Common.{◌≡◌, ℕ, ◌+◌, ◌*◌, ◌/◌, ◌%◌, ◌^◌, ◌<◌, ◌≤◌, ◌↔◌, Bool, false, true, not, ◌==◌, ◌&&◌, ◌||◌, List, map, length, get_or, set, take, All, refl, sym, ap, ap₂, ◌∙◌, arith, ⊎_elim, mod-lt, length-take, get_or-take, get_or-set_same, get_or-set_other}, lemmas.{Bool.{cases_eq, cases_lt}, List.{get_or_past, length-map}, Nat.Bits.same_from_bits_below}}
+use Rattle.bit_words.specs.{declared.block.merge.Merge.{Merge, TheVariants.{Difference, Union}}, Merges.{merge_of_values, merge_of}, Digits.is_one, NotedMerges.{except_at, other_at, AreKept, HasMergedWith, Stay}, BlockMerges.HasMerged, Storage.{value_at, values_of, IsPacked, IsZeroFrom}, Summary.is_used}
+use Rattle.bit_words.proofs.{CompareLemmas.zero_from_digits, Masks.is_one-zero, MergeLemmas.{get_or-merged, length-merged, merge_of_values-none}, StorageLemmas.{get_or-values_of, get_or-values_of_zero_tail, same_digit, length-values_of, value_at-is, value_at-past, values_of-same}, SummaryLemmas.{same_block}, VectorLemmas.numbers_below}
 
 -- ---- the other digits
 
@@ -246,3 +246,25 @@ kept_lists w ms ns len small also zero_tail more = (
   λ same k. same_block w ns ms k (also k) (small k) (λ j index.
       sym (get_or-values_of_zero_tail w ns len (k * w + j) more) ∙ ap (λ bs. get_or bs (k * w + j) false) same ∙ get_or-values_of_zero_tail w ms len (k * w + j) zero_tail),
 )
+
+-- ---- the summary of a union
+
+-- whether a block is not 0 stays as it was where the others have nothing, or it was not 0 before
+used_kept : (w m o e n : ℕ) → m < 2 ^ w → n < 2 ^ w → ((j : ℕ) → j < w → is_one n j ≡ (is_one m j || (is_one o j && not (is_one e j)))) → (not (o == 0) ≡ true → not (m == 0) ≡ true) → not (n == 0) ≡ not (m == 0)
+used_kept w m o e n small also digits kept =
+    ⊎_elim
+    (λ zero.
+    let none : o ≡ 0 = grind (arith, kept) in
+    let all : n ≡ 0 = zero_from_digits w n also (λ j index. grind (arith, digits j index, is_one-zero)) in
+    grind arith)
+    (λ some.
+    let still : n ≡ 0 → m ≡ 0 = λ all. zero_from_digits w m small (λ j index. grind (arith, digits j index, is_one-zero)) in
+    grind (arith, still))
+    (cases_eq m 0)
+
+pub used_of_union : {X : Type 0} (w : ℕ) (f : X → ℕ) (P : X → Type 0) (end : ℕ) (os es : List ℕ) (xs ys : List X) → ((x : X) → P x → f x < 2 ^ w) → All P xs → HasMergedWith Union w f P 0 end (except_at os es) xs ys → (k : ℕ) → (is_used os k ≡ true → is_used (map f xs) k ≡ true) → is_used (map f ys) k ≡ is_used (map f xs) k
+used_of_union w f P end os es xs ys below each is k kept =
+    ⊎_elim
+    (λ inside. used_kept w (get_or (map f xs) k 0) (get_or os k 0) (get_or es k 0) (get_or (map f ys) k 0) (numbers_below w f P xs below each k) (numbers_below w f P ys below is.each k) (λ j index. is.digit k j (omega arith) inside index) kept)
+    (λ past. ap (λ n. not (n == 0)) (is.after k past))
+    (cases_lt k end)

@@ -58,9 +58,9 @@ pub(crate) fn next_waiting(waiting: &BitSet<usize>, from: usize) -> Option<usize
     ensures some { IfSome result (λ p. IsTrue (has (elements waiting.now.values) p)) }
     ensures none { IfNone result (HasNone (elements waiting.now.values)) }
 {
-    match waiting.iter_from(from).next() {
+    match waiting.next(from) {
         Some(place) => Some(place),
-        None => waiting.iter().next(),
+        None => waiting.first(),
     }
 }
 

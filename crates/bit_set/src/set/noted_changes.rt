@@ -1,4 +1,5 @@
-// Calls that make a set, in place, what it and others become, and tell whether that changed it.
+// Calls that make a set, in place, what it and others become, and tell whether that changed it. They write no block before
+// the first that change.
 ghost use Rattle.std.specs.Prelude.{◌≡◌, ◌+◌, ◌≤◌, ◌↔◌, max, not, if◌then◌else◌, IfOk, OnOk, [], length, false};
 ghost use Rattle.bit_words.specs.Growth.{Grows};
 ghost use Rattle.bit_set.specs.Members.{IsDifference, IsIntersection, IsMerged, IsSymmetricDifference, IsUnion, IsUnionWithDifference};
@@ -35,7 +36,6 @@ impl<B: BitBlock> BitSet<B> {
     /// Puts in what is in `other`, as [`BitSet::union_with`] does, and returns whether some of it was not in. The length
     /// becomes the greater of both. One pass over the blocks. Fails only where the length of `other` passes the capacity
     /// and no memory is found; elements, length and capacity then stay.
-    /// Where a set that stores a summary changed, its blocks are read once more.
     ///
     /// ```
     /// assert!(set.union_changes(&other)?);
@@ -63,7 +63,6 @@ impl<B: BitBlock> BitSet<B> {
     /// Keeps what is in `other` too, as [`BitSet::intersect_with`] does, and returns whether something was not. The length
     /// becomes the greater of both. One pass over the blocks. Fails only where the length of `other` passes the capacity
     /// and no memory is found; elements, length and capacity then stay.
-    /// Where a set that stores a summary changed, its blocks are read once more.
     pub fn intersection_changes(&mut self, other: &Self) -> Result<bool, AllocError>
         ensures elements { OnOk result (elements self.new.values
             ≡ intersection (elements self.old.values) (elements other.now.values)) }
@@ -86,7 +85,6 @@ impl<B: BitBlock> BitSet<B> {
     /// Takes out what is in `other`, as [`BitSet::difference_with`] does, and returns whether some of it was in. The
     /// length becomes the greater of both. One pass over the blocks. Fails only where the length of `other` passes the
     /// capacity and no memory is found; elements, length and capacity then stay.
-    /// Where a set that stores a summary changed, its blocks are read once more.
     pub fn difference_changes(&mut self, other: &Self) -> Result<bool, AllocError>
         ensures elements { OnOk result (elements self.new.values
             ≡ difference (elements self.old.values) (elements other.now.values)) }
@@ -110,7 +108,6 @@ impl<B: BitBlock> BitSet<B> {
     /// returns whether that changed the set, which is so unless `other` is empty. The length becomes the greater of
     /// both. One pass over the blocks. Fails only where the length of `other` passes the capacity and no memory is found;
     /// elements, length and capacity then stay.
-    /// Where a set that stores a summary changed, its blocks are read once more.
     pub fn symmetric_difference_changes(&mut self, other: &Self) -> Result<bool, AllocError>
         ensures elements { OnOk result (elements self.new.values
             ≡ symmetric_difference (elements self.old.values) (elements other.now.values)) }
@@ -131,7 +128,6 @@ impl<B: BitBlock> BitSet<B> {
     /// greater of the set's own and that of `other`. One pass over the blocks of all three sets, and no memory within the
     /// capacity. Fails only where the length of `other` passes the capacity and no memory is found; elements, length and
     /// capacity then stay.
-    /// Where a set that stores a summary changed, its blocks are read once more.
     ///
     /// ```
     /// // What flows into a block of code from one after it, in an analysis that goes backward.

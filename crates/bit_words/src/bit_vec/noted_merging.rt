@@ -55,6 +55,7 @@ impl<B: BitBlock> BitVec<B> {
             self.blocks.as_mut_slice(),
             self.summary.as_mut_slice(),
             &other.blocks,
+            &other.summary,
             &except.blocks,
             steps,
         )

@@ -1,17 +1,17 @@
 // Merges of the blocks of a list that say whether one changed. The list is looked at up to the first blocks that change, and
 // merged from there on.
-ghost use Rattle.std.specs.Prelude.{◌≡◌, ℕ, ◌+◌, ◌*◌, ◌<◌, ◌≤◌, ◌↔◌, All, IfNone, IfSome, false, length, map};
-ghost use Rattle.bit_words.specs.{BlockMerges.{CanMerge, HasMerged}, NotedMerges.{except_at, other_at, AreKept, HasMergedWith, Stay}, Summary.{IsSummary, IsStoredSummary}, declared.block.merge.Merge.Merge};
+ghost use Rattle.std.specs.Prelude.{◌≡◌, ℕ, ◌+◌, ◌*◌, ◌^◌, ◌<◌, ◌≤◌, ◌↔◌, All, IfNone, IfSome, false, length, map, true};
+ghost use Rattle.bit_words.specs.{Bits.blocks_for, BlockMerges.{CanMerge, HasMerged}, NotedMerges.{except_at, other_at, AreKept, HasMergedWith, Stay}, Digits.is_one, Storage.value_at, Summary.{is_used, IsSummary, IsStoredSummary}, declared.block.merge.Merge.Merge};
 
 use crate::block::BitBlock;
 use crate::block::merge::Merge;
-use crate::block::operation::{Difference, Intersection, Symmetric, Union};
-use crate::packed::access::{block_index, put_in};
+use crate::block::operation::{Difference, Intersection, Operation, Symmetric, Union};
+use crate::packed::access::{block_at, block_index, put_in};
 use crate::packed::changes::{first_change, first_change_except};
 use crate::packed::except_merges::unite_between;
 use crate::steps::Steps;
 use crate::summary::merges::merge_chosen;
-use crate::summary::{is_short, used_from};
+use crate::summary::{is_nonzero, is_short, used_from};
 
 // Where the list begins to change by the merge that is named, or `None` where no block changes.
 #[inline(always)]
@@ -97,6 +97,83 @@ fn unite_chunks<B: BitBlock>(
     }
 }
 
+// What block `q` of a summary becomes, which was `own`, where blocks took in what others have, of which `other` is the block
+// of the summary. It stays where each block that may have taken something in was not 0 before.
+#[inline]
+fn followed<B: BitBlock>(blocks: &[B], q: usize, own: B, other: B) -> B
+    requires in_bounds { q * B.width ≤ length blocks.now }
+    requires each { All B.is_block blocks.now }
+    requires of_own { B.is_block own }
+    requires of_other { B.is_block other }
+    requires kept { (j : ℕ) → j < B.width
+        → (is_one (B.number other) j ≡ true → is_one (B.number own) j ≡ true)
+        → is_used (map B.number blocks.now) (q * B.width + j) ≡ is_one (B.number own) j }
+    ensures of_block { B.is_block result }
+    ensures digits { (j : ℕ) → j < B.width
+        → is_one (B.number result) j ≡ is_used (map B.number blocks.now) (q * B.width + j) }
+{
+    if is_nonzero(Difference::of_blocks(other, own)) {
+        used_from(blocks, q * B::bits())
+    } else {
+        own
+    }
+}
+
+// The summary becomes that of blocks that took in what others have. No block is read where the summaries say enough.
+fn follow_others<B: BitBlock>(blocks: &[B], summary: &mut [B], other_summary: &[B])
+    requires count { length summary.old ≡ blocks_for B.width (length blocks.now) }
+    requires fewer { length other_summary.now ≤ length summary.old }
+    requires each { All B.is_block blocks.now }
+    requires each_sum { All B.is_block summary.old }
+    requires each_other { All B.is_block other_summary.now }
+    requires fits { length blocks.now < 2 ^ 64 }
+    requires kept { (k : ℕ) → (value_at B.width (map B.number other_summary.now) k ≡ true
+        → value_at B.width (map B.number summary.old) k ≡ true)
+        → is_used (map B.number blocks.now) k ≡ value_at B.width (map B.number summary.old) k }
+    ensures summary { IsSummary B.width B.number B.is_block blocks.now summary.new }
+    ensures summary_len { length summary.new ≡ length summary.old }
+{
+    for q in 0..other_summary.len() {
+        let own = block_at(summary, q);
+        put_in(
+            summary,
+            q,
+            followed(blocks, q, own, block_at(other_summary, q)),
+        );
+    }
+}
+
+// The blocks of a long list from `start` on become their unions with the others, which are many too, except for the ones of
+// `except`. Those before `start` stay.
+#[inline(never)]
+fn unite_long_except<B: BitBlock>(
+    blocks: &mut [B],
+    summary: &mut [B],
+    others: &[B],
+    other_summary: &[B],
+    except: &[B],
+    start: usize,
+    steps: &mut Steps,
+)
+    requires can { CanMerge B.is_block blocks.old others.now }
+    requires except { All B.is_block except.now }
+    requires from { start ≤ length others.now }
+    requires stay { Stay Merge.Union B.width B.number 0 start
+        (except_at (map B.number others.now) (map B.number except.now)) blocks.old }
+    requires summary { IsSummary B.width B.number B.is_block blocks.old summary.old }
+    requires other_summary { IsSummary B.width B.number B.is_block others.now other_summary.now }
+    ensures has { HasMergedWith Merge.Union B.width B.number B.is_block 0 (length blocks.old)
+        (except_at (map B.number others.now) (map B.number except.now)) blocks.old blocks.new }
+    ensures summary { IsSummary B.width B.number B.is_block blocks.new summary.new }
+    ensures summary_len { length summary.new ≡ length summary.old }
+    ensures steps { steps.new ≡ steps.old + length blocks.old }
+{
+    let end = blocks.len();
+    steps.tick_by(start);
+    unite_between(blocks, others, except, start, end, steps);
+    follow_others(blocks, summary, other_summary);
+}
+
 // The blocks from `start` on become their unions with the others except for the ones of `except`, of a list of any length:
 // of a short one no summary is stored. Those before `start` stay.
 #[inline]
@@ -104,6 +181,7 @@ fn unite_from<B: BitBlock>(
     blocks: &mut [B],
     summary: &mut [B],
     others: &[B],
+    other_summary: &[B],
     except: &[B],
     start: usize,
     steps: &mut Steps,
@@ -114,6 +192,7 @@ fn unite_from<B: BitBlock>(
     requires stay { Stay Merge.Union B.width B.number 0 start
         (except_at (map B.number others.now) (map B.number except.now)) blocks.old }
     requires summary { IsStoredSummary B.width B.number B.is_block blocks.old summary.old }
+    requires other_summary { IsStoredSummary B.width B.number B.is_block others.now other_summary.now }
     ensures has { HasMergedWith Merge.Union B.width B.number B.is_block 0 (length blocks.old)
         (except_at (map B.number others.now) (map B.number except.now)) blocks.old blocks.new }
     ensures summary { IsStoredSummary B.width B.number B.is_block blocks.new summary.new }
@@ -124,6 +203,8 @@ fn unite_from<B: BitBlock>(
     if is_short::<B>(end) {
         steps.tick_by(start);
         unite_between(blocks, others, except, start, end, steps);
+    } else if !is_short::<B>(others.len()) {
+        unite_long_except(blocks, summary, others, other_summary, except, start, steps);
     } else {
         let from = block_index::<B>(start);
         steps.tick_by(from * B::bits());
@@ -137,12 +218,14 @@ pub(crate) fn unite_and_note<B: BitBlock>(
     blocks: &mut [B],
     summary: &mut [B],
     others: &[B],
+    other_summary: &[B],
     except: &[B],
     steps: &mut Steps,
 ) -> bool
     requires can { CanMerge B.is_block blocks.old others.now }
     requires except { All B.is_block except.now }
     requires summary { IsStoredSummary B.width B.number B.is_block blocks.old summary.old }
+    requires other_summary { IsStoredSummary B.width B.number B.is_block others.now other_summary.now }
     ensures has { HasMergedWith Merge.Union B.width B.number B.is_block 0 (length blocks.old)
         (except_at (map B.number others.now) (map B.number except.now)) blocks.old blocks.new }
     ensures kept { (result ≡ false) ↔ AreKept (map B.number blocks.old) (map B.number blocks.new) }
@@ -156,7 +239,7 @@ pub(crate) fn unite_and_note<B: BitBlock>(
             false
         }
         Some(start) => {
-            unite_from(blocks, summary, others, except, start, steps);
+            unite_from(blocks, summary, others, other_summary, except, start, steps);
             true
         }
     }

@@ -12,7 +12,7 @@ fewer g c =
 
 -- what the blocks became
 merged : (g : Over) (c : After-unite_and_note g) → HasMergedWith Union g.B.BitBlock.width g.B.BitBlock.number g.B.BitBlock.is_block 0 (length c.self.inside.blocks.items) (except_at (map g.B.BitBlock.number c.other.inside.blocks.items) (map g.B.BitBlock.number c.except.inside.blocks.items)) c.self.inside.blocks.items c.unite_and_note.new.blocks
-merged g c = rw (c.as_mut_slice.ensures.value, c.deref.ensures.value, c.deref-2.ensures.value) at c.unite_and_note.ensures.has
+merged g c = rw (c.as_mut_slice.ensures.value, c.deref.ensures.value, c.deref-3.ensures.value) at c.unite_and_note.ensures.has
 
 packed : (g : Over) (c : After-unite_and_note g) → IsPacked g.B.BitBlock.width g.B.BitBlock.number g.B.BitBlock.is_block c.unite_and_note.new.blocks c.self.inside.len
 packed g c =

@@ -1,0 +1,22 @@
+use Rattle.std.proofs.Common.{◌∙◌, length, map, sym, arith}
+use Rattle.bit_words.{specs.{declared.block.merge.Merge.TheVariants.Union, NotedMerges.{except_at, HasMergedWith}}, proofs.{BitsLemmas.blocks_for-le, NotedMergeLemmas.{used_of_union, with_past_stay}}}
+use Rattle.bit_words.proofs.summary.noted_merges.unite_long_except.{Given.Over, Goals.After-unite_between}
+use Rattle.bit_words.proofs.summary.noted_merges.unite_long_except.Goals as goal
+
+-- all blocks, with those that stayed
+merged : (g : Over) (c : After-unite_between g) → HasMergedWith Union g.B.BitBlock.width g.B.BitBlock.number g.B.BitBlock.is_block 0 (length c.args.blocks.now) (except_at (map g.B.BitBlock.number c.args.others.now) (map g.B.BitBlock.number c.args.except.now)) c.args.blocks.now c.unite_between.new.blocks
+merged g c = with_past_stay _ _ _ _ c.args.start (length c.args.blocks.now) _ _ _ (omega (arith, c.requires.from, c.requires.can.fewer)) c.requires.stay c.unite_between.ensures.has
+
+pub returns-clause-has : goal.returns-clause-has
+returns-clause-has g c = merged g (goal.at.returns-clause-has g c).After-unite_between
+
+pub follow_others-requires-clause-fewer : goal.follow_others-requires-clause-fewer
+follow_others-requires-clause-fewer g c =
+    let le = blocks_for-le g.B.BitBlock.width (length c.args.others.now) (length c.args.blocks.now) g.met.B.BitBlock.width_law.positive c.requires.can.fewer in
+    omega (arith, le, c.requires.summary.packed.count, c.requires.other_summary.packed.count)
+
+pub follow_others-requires-clause-kept : goal.follow_others-requires-clause-kept
+follow_others-requires-clause-kept g c = λ k also.
+    let here = (goal.at.follow_others-requires-clause-kept g c).After-unite_between in
+    used_of_union g.B.BitBlock.width g.B.BitBlock.number _ _ _ _ c.args.blocks.now _ (λ x is. (g.met.B.BitBlock.number_law x is).0) c.requires.can.each (merged g here) k (λ h. sym (c.requires.summary.digit k) ∙ also (c.requires.other_summary.digit k ∙ h))
+    ∙ sym (c.requires.summary.digit k)
