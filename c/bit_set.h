@@ -107,6 +107,10 @@ bool bit_set_is_empty(const bit_set *set);
 size_t bit_set_length(const bit_set *set);
 size_t bit_set_capacity(const bit_set *set);
 
+/* A hash of the members alone: sets that are equal have the same. It is no secret: who chooses the members can make them
+ * collide. */
+uint64_t bit_set_hash(const bit_set *set);
+
 /* ---- Two sets, which are read. In each of these both may be one set. */
 
 bool bit_set_is_subset(const bit_set *set, const bit_set *other);
@@ -119,9 +123,13 @@ bool bit_set_equals(const bit_set *set, const bit_set *other);
 /* -1, 0 or 1, as the ascending lists of members compare, from their first difference on. */
 int32_t bit_set_compare(const bit_set *set, const bit_set *other);
 
-/* A hash of the members alone: sets that are equal have the same. It is no secret: who chooses the members can make them
- * collide. */
-uint64_t bit_set_hash(const bit_set *set);
+/* Copy the blocks of what two sets make, as `bit_set_copy_blocks` does those of one set, from block `from` on: of what is
+ * in either, in both, in the first alone, or in just one of both. There are as many blocks as the longer set has. */
+size_t bit_set_copy_union(const bit_set *set, const bit_set *other, size_t from, bit_set_block *blocks, size_t room);
+size_t bit_set_copy_intersection(const bit_set *set, const bit_set *other, size_t from, bit_set_block *blocks, size_t room);
+size_t bit_set_copy_difference(const bit_set *set, const bit_set *other, size_t from, bit_set_block *blocks, size_t room);
+size_t bit_set_copy_symmetric_difference(const bit_set *set, const bit_set *other, size_t from, bit_set_block *blocks,
+                                         size_t room);
 
 /* ---- In place. In none of these may both be one set. The length becomes the greater of both. None of these fails where
  * the length of `other` is at most the capacity of `set`. */

@@ -11,7 +11,7 @@ use bit_words::bit_vec::{BitVec, take_lowest_one};
 
 // The blocks from one on.
 #[tactic(auto, using(crate::proofs::BlockNumbers::numbers_are_blocks, std::proofs::lemmas::List::drop_all))]
-fn blocks_from(set: &BitSet<Block>, from: usize) -> &[Block]
+pub(crate) fn blocks_from(set: &BitSet<Block>, from: usize) -> &[Block]
     ensures { result.now ≡ drop from (blocks_of width set.now.values) }
 {
     let blocks = set.get_ref().storage();
@@ -26,15 +26,9 @@ fn copy_front(from: &[Block], to: &mut [Block]) -> usize
     ensures values { take result to.new ≡ take result from.now }
     ensures others { drop result to.new ≡ drop result to.old }
 {
-    let mut done = 0;
-    for &block in from {
-        if done == to.len() {
-            return done;
-        }
-        to[done] = block;
-        done += 1;
-    }
-    done
+    let count = from.len().min(to.len());
+    to[..count].copy_from_slice(&from[..count]);
+    count
 }
 
 /// Copies the blocks from one on, as many as there is room for, and returns how many.

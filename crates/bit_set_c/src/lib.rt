@@ -9,6 +9,7 @@ mod handed;
 mod in_place;
 mod making;
 mod members;
+mod merges;
 mod parts;
 mod reading;
 mod relations;

@@ -1,0 +1,134 @@
+// The blocks of what two sets make, copied out. Both may be one set.
+ghost use Rattle.std.specs.Prelude.{◌≡◌, ℕ, ◌+◌, ◌*◌, ◌<◌, drop, get_or, length, max, min, slice_index};
+ghost use Rattle.bit_words.specs.{Bits.blocks_of, Digits.is_one, Merges.merge_of_values};
+ghost use Rattle.bit_set.specs.Sets.{elements, has};
+ghost use Rattle.bit_set_c.specs.{Block.width, Handed.IsAt};
+
+use crate::block::Block;
+use crate::blocks::blocks_from;
+use crate::handed::Shared;
+use bit_set::BitSet;
+use bit_set::bit_vec::{Merge, block_or_zero};
+
+fn merge_front(a: &[Block], b: &[Block], merge: Merge, to: &mut [Block]) -> usize
+    ensures count { result ≡ min (length to.old) (max (length a.now) (length b.now)) }
+    ensures digits { (k j : ℕ) → k < result → j < width → is_one (get_or to.new k 0) j
+        ≡ merge_of_values merge (is_one (get_or a.now k 0) j) (is_one (get_or b.now k 0) j) }
+    ensures others { drop result to.new ≡ drop result to.old }
+{
+    let count = to.len().min(a.len().max(b.len()));
+    for k in 0..count {
+        to[k] = merge.of_blocks(block_or_zero(a, k), block_or_zero(b, k));
+    }
+    count
+}
+
+fn copy_merged(
+    set: &BitSet<Block>,
+    other: &BitSet<Block>,
+    merge: Merge,
+    from: usize,
+    blocks: &mut [Block],
+) -> usize
+    ensures count { result ≡ min (length blocks.old) (max (length (drop from (blocks_of width set.now.values)))
+        (length (drop from (blocks_of width other.now.values)))) }
+    ensures members { (k j : ℕ) → k < result → j < width → is_one (slice_index blocks.new k) j
+        ≡ merge_of_values merge (has (elements set.now.values) ((from + k) * width + j))
+        (has (elements other.now.values) ((from + k) * width + j)) }
+    ensures others { drop result blocks.new ≡ drop result blocks.old }
+{
+    merge_front(
+        blocks_from(set, from),
+        blocks_from(other, from),
+        merge,
+        blocks,
+    )
+}
+
+/// Copies the blocks of what is in either set, from one on, as many as there is room for, and returns how many.
+#[unsafe(no_mangle)]
+pub extern "C" fn bit_set_copy_union(
+    set: &mut Shared,
+    other: &mut Shared,
+    from: usize,
+    blocks: &mut [Block],
+) -> usize
+    requires here { IsAt set.ref_ptr set.old.at }
+    requires there { IsAt other.ref_ptr other.old.at }
+    ensures count { result ≡ min (length blocks.old) (max (length (drop from (blocks_of width set.old.bits.values)))
+        (length (drop from (blocks_of width other.old.bits.values)))) }
+    ensures members { (k j : ℕ) → k < result → j < width → is_one (slice_index blocks.new k) j
+        ≡ merge_of_values Merge.Union (has (elements set.old.bits.values) ((from + k) * width + j))
+        (has (elements other.old.bits.values) ((from + k) * width + j)) }
+    ensures others { drop result blocks.new ≡ drop result blocks.old }
+    ensures kept { set.new ≡ set.old }
+    ensures other_kept { other.new ≡ other.old }
+{
+    copy_merged(set.get(), other.get(), Merge::Union, from, blocks)
+}
+
+/// Copies the blocks of what is in both sets, from one on, as many as there is room for, and returns how many.
+#[unsafe(no_mangle)]
+pub extern "C" fn bit_set_copy_intersection(
+    set: &mut Shared,
+    other: &mut Shared,
+    from: usize,
+    blocks: &mut [Block],
+) -> usize
+    requires here { IsAt set.ref_ptr set.old.at }
+    requires there { IsAt other.ref_ptr other.old.at }
+    ensures count { result ≡ min (length blocks.old) (max (length (drop from (blocks_of width set.old.bits.values)))
+        (length (drop from (blocks_of width other.old.bits.values)))) }
+    ensures members { (k j : ℕ) → k < result → j < width → is_one (slice_index blocks.new k) j
+        ≡ merge_of_values Merge.Intersection (has (elements set.old.bits.values) ((from + k) * width + j))
+        (has (elements other.old.bits.values) ((from + k) * width + j)) }
+    ensures others { drop result blocks.new ≡ drop result blocks.old }
+    ensures kept { set.new ≡ set.old }
+    ensures other_kept { other.new ≡ other.old }
+{
+    copy_merged(set.get(), other.get(), Merge::Intersection, from, blocks)
+}
+
+/// Copies the blocks of what is in the first set alone, from one on, as many as there is room for, and returns how many.
+#[unsafe(no_mangle)]
+pub extern "C" fn bit_set_copy_difference(
+    set: &mut Shared,
+    other: &mut Shared,
+    from: usize,
+    blocks: &mut [Block],
+) -> usize
+    requires here { IsAt set.ref_ptr set.old.at }
+    requires there { IsAt other.ref_ptr other.old.at }
+    ensures count { result ≡ min (length blocks.old) (max (length (drop from (blocks_of width set.old.bits.values)))
+        (length (drop from (blocks_of width other.old.bits.values)))) }
+    ensures members { (k j : ℕ) → k < result → j < width → is_one (slice_index blocks.new k) j
+        ≡ merge_of_values Merge.Difference (has (elements set.old.bits.values) ((from + k) * width + j))
+        (has (elements other.old.bits.values) ((from + k) * width + j)) }
+    ensures others { drop result blocks.new ≡ drop result blocks.old }
+    ensures kept { set.new ≡ set.old }
+    ensures other_kept { other.new ≡ other.old }
+{
+    copy_merged(set.get(), other.get(), Merge::Difference, from, blocks)
+}
+
+/// Copies the blocks of what is in just one of both sets, from one on, as many as there is room for, and returns how many.
+#[unsafe(no_mangle)]
+pub extern "C" fn bit_set_copy_symmetric_difference(
+    set: &mut Shared,
+    other: &mut Shared,
+    from: usize,
+    blocks: &mut [Block],
+) -> usize
+    requires here { IsAt set.ref_ptr set.old.at }
+    requires there { IsAt other.ref_ptr other.old.at }
+    ensures count { result ≡ min (length blocks.old) (max (length (drop from (blocks_of width set.old.bits.values)))
+        (length (drop from (blocks_of width other.old.bits.values)))) }
+    ensures members { (k j : ℕ) → k < result → j < width → is_one (slice_index blocks.new k) j
+        ≡ merge_of_values Merge.Symmetric (has (elements set.old.bits.values) ((from + k) * width + j))
+        (has (elements other.old.bits.values) ((from + k) * width + j)) }
+    ensures others { drop result blocks.new ≡ drop result blocks.old }
+    ensures kept { set.new ≡ set.old }
+    ensures other_kept { other.new ≡ other.old }
+{
+    copy_merged(set.get(), other.get(), Merge::Symmetric, from, blocks)
+}
