@@ -36,6 +36,10 @@ pub told_of_lengthened : (old mid new : List Bool) (len : ℕ) (changed : Bool) 
 told_of_lengthened old mid new len changed is long tells =
     told_of_lists old mid new changed (ap elements is ∙ elements-padded old (len - length old)) (omega (arith, long, ap length is, length-append old (replicate (len - length old) false), length-replicate (len - length old) false)) tells
 
+-- and where no change was told of there was none
+pub told_unchanged : (s t : List ℕ) (changed : Bool) → changed ≡ not (same_sets s t) → changed ≡ false → t ≡ s
+told_unchanged s t changed tells none = let lists = bytes_decides s t in grind arith
+
 -- ---- whether a set stays
 
 kept_by_test : (s r : List ℕ) (b : Bool) → IsAscending s → IsAscending r → ((b ≡ true) ↔ ((n : ℕ) → has r n ≡ has s n)) → same_sets s r ≡ b

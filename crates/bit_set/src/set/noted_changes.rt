@@ -21,6 +21,8 @@ impl<B: BitBlock> BitSet<B> {
             (elements self.new.values)) }
         ensures changed { IfOk result (λ changed. changed
             ≡ not (same_sets (elements self.old.values) (elements self.new.values))) }
+        ensures unchanged { IfOk result (λ changed. changed ≡ false
+            → elements self.new.values ≡ elements self.old.values) }
         ensures length { OnOk result (length self.new.values ≡ max (length self.old.values) (length other.now.values)) }
         ensures grows { Grows (length other.now.values) result self.old self.new }
         ensures changes { Changes (Change.MergeChanges merge (elements other.now.values))
@@ -48,6 +50,8 @@ impl<B: BitBlock> BitSet<B> {
             (elements self.new.values)) }
         ensures changed { IfOk result (λ changed. changed
             ≡ not (same_sets (elements self.old.values) (elements self.new.values))) }
+        ensures unchanged { IfOk result (λ changed. changed ≡ false
+            → elements self.new.values ≡ elements self.old.values) }
         ensures were_in { IfOk result (λ changed. changed
             ≡ not (is_subset (elements other.now.values) (elements self.old.values))) }
         ensures count { IfOk result (λ changed. length (elements self.old.values) + (if changed then 1 else 0)
@@ -70,6 +74,8 @@ impl<B: BitBlock> BitSet<B> {
             (elements self.new.values)) }
         ensures changed { IfOk result (λ changed. changed
             ≡ not (same_sets (elements self.old.values) (elements self.new.values))) }
+        ensures unchanged { IfOk result (λ changed. changed ≡ false
+            → elements self.new.values ≡ elements self.old.values) }
         ensures were_in { IfOk result (λ changed. changed
             ≡ not (is_subset (elements self.old.values) (elements other.now.values))) }
         ensures count { IfOk result (λ changed. length (elements self.new.values) + (if changed then 1 else 0)
@@ -92,6 +98,8 @@ impl<B: BitBlock> BitSet<B> {
             (elements self.new.values)) }
         ensures changed { IfOk result (λ changed. changed
             ≡ not (same_sets (elements self.old.values) (elements self.new.values))) }
+        ensures unchanged { IfOk result (λ changed. changed ≡ false
+            → elements self.new.values ≡ elements self.old.values) }
         ensures were_apart { IfOk result (λ changed. changed
             ≡ not (is_disjoint (elements self.old.values) (elements other.now.values))) }
         ensures count { IfOk result (λ changed. length (elements self.new.values) + (if changed then 1 else 0)
@@ -115,6 +123,8 @@ impl<B: BitBlock> BitSet<B> {
             (elements self.new.values)) }
         ensures changed { IfOk result (λ changed. changed
             ≡ not (same_sets (elements self.old.values) (elements self.new.values))) }
+        ensures unchanged { IfOk result (λ changed. changed ≡ false
+            → elements self.new.values ≡ elements self.old.values) }
         ensures empty { IfOk result (λ changed. (changed ≡ false) ↔ (elements other.now.values ≡ [])) }
         ensures length { OnOk result (length self.new.values ≡ max (length self.old.values) (length other.now.values)) }
         ensures grows { Grows (length other.now.values) result self.old self.new }
@@ -140,6 +150,8 @@ impl<B: BitBlock> BitSet<B> {
             (elements except.now.values) (elements self.new.values)) }
         ensures changed { IfOk result (λ changed. changed
             ≡ not (same_sets (elements self.old.values) (elements self.new.values))) }
+        ensures unchanged { IfOk result (λ changed. changed ≡ false
+            → elements self.new.values ≡ elements self.old.values) }
         ensures were_in { IfOk result (λ changed. changed
             ≡ not (is_subset (difference (elements other.now.values) (elements except.now.values))
             (elements self.old.values))) }

@@ -1,5 +1,5 @@
 use Rattle.std.proofs.Common.{◌-◌, ◌∙◌, ap, length, not}
-use Rattle.bit_set.{proofs.{AlgebraLemmas.{elements-lengthened, length-lengthened}, MemberLemmas.members_merged, NotedLemmas.told_of_lengthened}, specs.{Changes.{Changes, Outcome.Returned}, Order.same_sets, Sets.elements}}
+use Rattle.bit_set.{proofs.{AlgebraLemmas.{elements-lengthened, length-lengthened}, MemberLemmas.members_merged, NotedLemmas.{told_of_lengthened, told_unchanged}}, specs.{Changes.{Changes, Outcome.Returned}, Order.same_sets, Sets.elements}}
 use Rattle.bit_set.proofs.set.BitSet.merge_changes.Goals as goal
 
 pub returns-clause-elements : goal.returns-clause-elements
@@ -20,6 +20,9 @@ returns-clause-changed g c =
     let long = returns-clause-length g c in
     let len = c.len.ensures.value ∙ ap (λ bits. length bits.values) c.other.view_is in
     told_of_lengthened c.args.self.now.values c.self.inside.bits.values c.merge_changes.new.self.values c.len.result c.merge_changes.result (ap (λ bits. bits.values) c.self.view_is ∙ c.in_ok-lengthen.ensures.ok) (rw len long) c.merge_changes.ensures.kept
+
+pub returns-clause-unchanged : goal.returns-clause-unchanged
+returns-clause-unchanged g c = told_unchanged (elements c.args.self.now.values) (elements c.merge_changes.new.self.values) c.merge_changes.result (returns-clause-changed g c)
 
 pub returns-clause-changes : goal.returns-clause-changes
 unfolding Changes

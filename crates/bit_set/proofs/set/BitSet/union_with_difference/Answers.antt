@@ -1,6 +1,6 @@
 use Rattle.std.proofs.{Common.{◌∙◌, ◌-◌, ap, length, not, take}}
 use Rattle.bit_words.{specs.{declared.block.merge.Merge.TheVariants.{Difference, Union}, Merges.merge_of}}
-use Rattle.bit_set.{proofs.{AlgebraLemmas.elements-lengthened, NotedLemmas.{elements-except, length-lengthened-except, members-except, told_of_lengthened, union_count, union_kept}, SetLemmas.IsAscending-elements}, specs.{Changes.{Changes, Outcome.Returned}, Order.same_sets, Sets.{difference, elements, union}}}
+use Rattle.bit_set.{proofs.{AlgebraLemmas.elements-lengthened, NotedLemmas.{elements-except, length-lengthened-except, members-except, told_of_lengthened, told_unchanged, union_count, union_kept}, SetLemmas.IsAscending-elements}, specs.{Changes.{Changes, Outcome.Returned}, Order.same_sets, Sets.{difference, elements, union}}}
 use Rattle.bit_set.proofs.set.BitSet.union_with_difference.Goals as goal
 
 pub returns-clause-elements : goal.returns-clause-elements
@@ -39,6 +39,9 @@ returns-clause-count g c =
     let s = elements c.args.self.now.values in
     let t = difference (elements c.args.other.now.values) (elements c.args.except.now.values) in
     rw (returns-clause-were_in g c, returns-clause-elements g c) (union_count s t (IsAscending-elements c.args.self.now.values))
+
+pub returns-clause-unchanged : goal.returns-clause-unchanged
+returns-clause-unchanged g c = told_unchanged (elements c.args.self.now.values) (elements c.unite_difference.new.self.values) c.unite_difference.result (returns-clause-changed g c)
 
 pub returns-clause-changes : goal.returns-clause-changes
 unfolding Changes
