@@ -18,7 +18,9 @@ pub mod WalkLemmas
 pub mod PairLemmas
 pub mod TallyLemmas
 pub mod SparseLemmas
+pub mod HintLemmas
 pub mod ChainLemmas
+pub mod EntryLemmas
 pub mod FromLemmas
 pub mod WalkLaws
 pub mod MismatchLemmas
