@@ -119,10 +119,6 @@ fn a_hand_takes_over_the_other_block(rt: HostRuntime) {
     expect_eq(&rt, &refilled_back(&mut walk, (5, 0), (0, 384)), &over);
     let end = Some((false, (0, 0), (0, 384)));
     expect_eq(&rt, &refilled_back(&mut walk, (0, 0), (0, 384)), &end);
-    let (mut block, mut index, mut back) = (0, 0, 6);
-    assert!(rt; walk.as_slice().len() < 1000);
-    assert!(rt; walk.refill(&mut block, &mut index, &mut back, 384));
-    expect_eq(&rt, &(block, index, back), &(6, 384, 0));
 }
 
 // How many values of a list are true, and whether none is.
