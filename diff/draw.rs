@@ -110,6 +110,12 @@ impl Draw {
             Call::BitsReserve | Call::BitsReserveExact => line.first = self.length().saturating_sub(set.len),
             Call::BitsBlocks | Call::BitsNextIf => self.steps(line, set.blocks()),
             Call::BitsNonzero | Call::BitsNonzeroPastFirst => self.steps(line, set.blocks()),
+            Call::BitsNonzeroEnds | Call::BitsRefillEnds | Call::IterEnds => {
+                let is_blocks = line.call == Call::BitsNonzeroEnds;
+                self.steps(line, if is_blocks { set.blocks() } else { set.elements.len() });
+                // Which end each step takes of: now of each in turn at random, now of one for long.
+                line.second = self.random.of(&[0, usize::MAX, self.random.next() as usize]);
+            }
             Call::BitsNonzeroPast | Call::BitsRefill => {
                 let refills = line.call == Call::BitsRefill;
                 self.steps(line, if refills { set.elements.len() } else { set.blocks() });

@@ -261,6 +261,9 @@ fn walk<S: Set>(set: &S, other: &S, line: &Line, answers: &mut Answers) {
     if line.call == Call::IntoIter {
         return answers.0.extend(set.elements());
     }
+    if line.call == Call::IterEnds {
+        return iter_ends(set, line, answers);
+    }
     let mut walk = set.walk(line, other);
     // The first number of `iter_from` is where it begins.
     let steps = if line.call == Call::IterFrom { line.second } else { line.first };
@@ -274,6 +277,30 @@ fn walk<S: Set>(set: &S, other: &S, line: &Line, answers: &mut Answers) {
     answers.number(copy.count_left());
     step(&mut *on, 1, answers);
     answers.number(on.count_left());
+}
+
+/// Whether a step takes of the front: a digit of a number says it of each.
+fn is_front(ends: usize, step: usize) -> bool {
+    ends >> (step % 64) & 1 == 1
+}
+
+fn take_of<T>(left: &mut std::collections::VecDeque<T>, front: bool) -> Option<T> {
+    if front { left.pop_front() } else { left.pop_back() }
+}
+
+/// The elements from both ends. The bound is that of the blocks from the one in hand at the front to the one at the back.
+fn iter_ends<S: Set>(set: &S, line: &Line, answers: &mut Answers) {
+    let mut left = std::collections::VecDeque::from(set.elements());
+    let (mut front, mut back) = (0, set.bits_len().div_ceil(width()).max(1) - 1);
+    for step in 0..line.first {
+        answers.bounds((0, Some((1 + back - front) * width())));
+        let takes_front = is_front(line.second, step);
+        let item = take_of(&mut left, takes_front);
+        let (near, far) = if takes_front { (&mut front, back) } else { (&mut back, front) };
+        *near = item.map_or(far, |item| item / width());
+        answers.item(item);
+    }
+    answers.number(left.len());
 }
 
 fn write<S: Set>(set: &mut S, other: &S, line: &Line, answers: &mut Answers) {
@@ -316,7 +343,9 @@ fn look<S: Set>(set: &S, other: &S, line: &Line, answers: &mut Answers) {
         Call::BitsNonzero => nonzero(set, None, line.first, answers),
         Call::BitsNonzeroPastFirst => nonzero(set, Some(0), line.first, answers),
         Call::BitsNonzeroPast => nonzero(set, Some(line.first), line.second, answers),
+        Call::BitsNonzeroEnds => nonzero_ends(set, line, answers),
         Call::BitsRefill => refill(set, line.first, line.second, answers),
+        Call::BitsRefillEnds => refill_ends(set, line, answers),
         Call::BitsMismatch => mismatch(&set.bits_storage(), &other.bits_storage(), answers),
         Call::BitsBlock => single(&set.bits_storage(), &other.bits_storage(), line, answers),
         Call::BitsIsSubsetOf => answers.truth(set.bits_is_subset_of(other)),
@@ -375,6 +404,26 @@ fn nonzero<S: Set>(set: &S, past: Option<usize>, steps: usize, answers: &mut Ans
     for next in chained(entries, steps).chain(chained(after.clone(), 3)).chain(chained(after, steps)) {
         answers.item(next.map(|entry| entry.0));
         answers.next_block(next.map(|entry| *entry.1));
+    }
+}
+
+/// The blocks past the first that are not 0, from both ends.
+fn nonzero_ends<S: Set>(set: &S, line: &Line, answers: &mut Answers) {
+    let storage = set.bits_storage();
+    let entries = storage.iter().enumerate().skip(1).filter(|entry| *entry.1 != 0);
+    let mut left: std::collections::VecDeque<(usize, &u128)> = entries.collect();
+    for step in 0..line.first {
+        let entry = take_of(&mut left, is_front(line.second, step));
+        answers.item(entry.map(|entry| entry.0));
+        answers.next_block(entry.map(|entry| *entry.1));
+    }
+}
+
+/// The elements from both ends, with no bound.
+fn refill_ends<S: Set>(set: &S, line: &Line, answers: &mut Answers) {
+    let mut left = std::collections::VecDeque::from(set.elements());
+    for step in 0..line.first {
+        answers.item(take_of(&mut left, is_front(line.second, step)));
     }
 }
 

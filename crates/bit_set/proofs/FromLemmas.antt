@@ -1,9 +1,9 @@
 -- A walk that starts at any number: what is left of the first block, and of the blocks past it.
-use Rattle.std.proofs.Common.{◌≡◌, ℕ, zero, suc, ◌+◌, ◌-◌, ◌*◌, ◌/◌, ◌%◌, ◌^◌, ◌<◌, ◌≤◌, Bool, false, ◌&&◌, leb, List, ◌∷◌, map, length, drop, get_or, get_or-drop, min, All, refl, sym, ap, ◌∙◌, arith, mod-lt, mul-le-mul_right, div-add-mod'}
-use Rattle.std.proofs.lemmas.{Bool.Decides.nat_tests, List.{drop-map, get_or_past, length-drop, length-map, Elements.All-filter, Sums.{count_by-le-length, length-filter}}, Nat.Bits.bit_at-zero}
-use Rattle.bit_words.specs.{Bits.{blocks_for, blocks_of}, Nonzero.{Nonzeros, StartsPast}, Digits.is_one}
-use Rattle.bit_set.{specs.{Sets.{elements_from, elements, those_from}, Indexes.{indexes, values_in, IsSparseWalk}, Walk.{Walk, IsAtStart, IsAtStartFrom, IsAtFirstBlock, IsAtBlockOf}}, proofs.IndexLemmas.{indexes-next, value_in, values_in-blocks_of}}
-use Rattle.bit_set.proofs.{SetLemmas.{AscendsFrom-elements_from, AscendsFrom-filter, AscendsFrom-lower, has-filter, IsAscending-elements, has-below, has-elements, has-elements_from, same_members}, SparseLemmas.seen}
+use Rattle.std.proofs.Common.{◌≡◌, ℕ, zero, suc, ◌+◌, ◌-◌, ◌*◌, ◌/◌, ◌%◌, ◌^◌, ◌<◌, ◌≤◌, Bool, false, ◌&&◌, leb, List, [], ◌∷◌, ◌++◌, map, length, drop, get_or, get_or-drop, min, All, refl, sym, ap, ap₂, ◌∙◌, subst, arith, mod-lt, mul-le-mul_right, div-add-mod'}
+use Rattle.std.proofs.lemmas.{Bool.Decides.nat_tests, List.{append-nil, drop-map, get_or_past, length-drop, length-map, Elements.{All-drop, All-filter}, Sums.{count_by-le-length, length-filter}}, Nat.Bits.bit_at-zero}
+use Rattle.bit_words.specs.{Bits.{blocks_for, blocks_of}, Nonzero.{Hand, Nonzeros, StartsPast}, Digits.is_one}
+use Rattle.bit_set.{specs.{Sets.{AscendsFrom, IsAscending, elements_from, elements, those_from}, Indexes.{indexes, indexes_of, left_between, seen_of, values_in, IsSparseWalk}, Walk.{Walk, IsAtStart, IsAtStartFrom, IsAtFirstBlock, IsAtBlockOf, blocks_past}}, proofs.IndexLemmas.{indexes-apart, indexes-below, indexes-next, indexes-zero, value_in, values_in-blocks_of}}
+use Rattle.bit_set.proofs.{SetLemmas.{AscendsFrom-elements_from, AscendsFrom-filter, AscendsFrom-lower, has-filter, IsAscending-elements, has-below, has-elements, has-elements_from, same_members}, EntryLemmas.{ascends_entries, blocks_of_entries, each_entry, indexes_of-nonzero, passed_in_block}}
 use Rattle.bit_set.proofs.{SparseLemmas.whole_index, SplitLemmas.all_from, WalkLemmas.{IsWalkable-values_of_blocks, elements-values_of_blocks, values_of_blocks, length-blocks, length-values_of_blocks}}
 
 -- the block of a number, or one before, begins at the number or before
@@ -78,51 +78,77 @@ pub record IsPast {X : Type 0} (w : ℕ) (number : X → ℕ) (is_block : X → 
   pub start : StartsPast w number k it
   pub fits : length values < 2 ^ 64
 
--- With this block in hand at `index` a walk over the blocks of these values is at its start.
-pub record BeginsFrom {X : Type 0} (w : ℕ) (number : X → ℕ) (is_block : X → Type 0) (values : List Bool) (from index : ℕ) (block : X) (it : Nonzeros X) (t : Walk) : Type 0 where
-  pub walk : IsSparseWalk w number is_block index block it
-  pub start : IsAtStartFrom w values from t
+-- With these blocks in hand a walk over the blocks of these values is at its start.
+pub record BeginsFrom {X : Type 0} (w : ℕ) (number : X → ℕ) (is_block : X → Type 0) (values : List Bool) (from : ℕ) (front : Hand X) (it : Nonzeros X) (back : Hand X) : Type 0 where
+  pub walk : IsSparseWalk w number is_block front it back
+  pub start : IsAtStartFrom w values from (seen_of w number front it back)
 
-pub begins_from : {X : Type 0} (w : ℕ) (number : X → ℕ) (is_block : X → Type 0) (values : List Bool) (from k : ℕ) (block : X) (it : Nonzeros X) → 0 < w → IsPast w number is_block values k it → is_block block → IsCut w number it.blocks from k (number block)
-    → BeginsFrom w number is_block values from (k * w) block it (seen w number is_block (k * w) block it)
+pub begins_from : {X : Type 0} (w : ℕ) (number : X → ℕ) (is_block : X → Type 0) (values : List Bool) (from k : ℕ) (block naught : X) (it : Nonzeros X) → 0 < w → ((x : X) → is_block x → number x < 2 ^ w) → IsPast w number is_block values k it → is_block block → is_block naught → number naught ≡ 0
+    → IsCut w number it.blocks from k (number block) → BeginsFrom w number is_block values from (record { block = block; index = k * w }) it (record { block = naught; index = (length it.blocks - 1) * w })
 unfolding IsAtBlockOf
-begins_from w number is_block values from k block it pos is lawful cut =
+begins_from {X = X} w number is_block values from k block naught it pos small is lawful lawful_naught none cut =
     let n = length it.blocks in
     let rest = drop (k + 1) it.blocks in
+    let front : Hand X = record { block = block; index = k * w } in
+    let back : Hand X = record { block = naught; index = (n - 1) * w } in
+    let bs = values_of_blocks w number rest in
+    let ones = indexes w (k * w) (number block) [] in
     let index_is : k * w / w ≡ k = whole_index w k pos in
+    let last_is : (n - 1) * w / w ≡ n - 1 = whole_index w (n - 1) pos in
     let many = length-blocks w number it.blocks values is.numbers in
     let can = IsWalkable-values_of_blocks w number it.blocks values 0 pos is.numbers is.fits in
     let all = elements-values_of_blocks w number it.blocks values pos is.numbers in
-    let left = left_from w number pos it.blocks values from k (number block) cut is.numbers in
+    let each = All-drop is_block (k + 1) it.blocks is.each in
+    let next : k * w + w ≡ (k + 1) * w = omega arith in
+    let inner : indexes_of w number it.left ≡ elements_from (k * w + w) bs = ap (indexes_of w number) is.start.left ∙ indexes_of-nonzero w number (k + 1) rest ∙ ap (λ p. elements_from p bs) (sym next) in
+    let at_back : indexes w ((n - 1) * w) (number naught) [] ≡ [] = ap (λ m. indexes w ((n - 1) * w) m []) none ∙ indexes-zero w ((n - 1) * w) [] in
+    let left : left_between w number front it.left back ≡ those_from (elements values) from =
+    ap₂ (λ xs ys. ones ++ (xs ++ ys)) inner at_back
+    ∙ ap (λ xs. ones ++ xs) (append-nil (elements_from (k * w + w) bs))
+    ∙ sym (indexes-apart w (k * w) (number block) bs)
+    ∙ left_from w number pos it.blocks values from k (number block) cut is.numbers in
     let few : length (those_from (elements values) from) < 2 ^ 64 = omega (arith, length-filter (λ i. leb from i) (elements values), count_by-le-length (λ i. leb from i) (elements values), rw all at can.count_fits) in
+    let up : IsAscending (those_from (elements values) from) = AscendsFrom-filter 0 (λ i. leb from i) (elements values) (IsAscending-elements values) in
+    let below : All (λ i. i < 2 ^ 64) (those_from (elements values) from) = All-filter (λ i. leb from i) (λ i. i < 2 ^ 64) (elements values) (rw all at can.below) in
     let first : k ≡ min (from / w) (blocks_for w (length values) - 1) = cut.at ∙ ap (λ i. min (from / w) (i - 1)) many in
+    let past : AscendsFrom (k + 1) (map (λ (entry : ℕ × X). entry.0) it.left ++ (n - 1 + 1) ∷ []) =
+    subst (λ entries. AscendsFrom (k + 1) (map (λ (entry : ℕ × X). entry.0) entries ++ (n - 1 + 1) ∷ [])) (sym is.start.left) (ascends_entries w number (k + 1) (n - 1 + 1) rest (let count = length-drop (k + 1) it.blocks in omega (arith, count, cut.at))) in
+    let in_blocks : length (blocks_past w k (left_between w number front it.left back)) ≡ length it.left =
+    ap length (passed_in_block w k ones (indexes_of w number it.left ++ indexes w ((n - 1) * w) (number naught) []) pos (rw next at (indexes-below w (k * w) (number block))))
+    ∙ ap (λ xs. length (blocks_past w k xs)) (ap (λ ys. indexes_of w number it.left ++ ys) at_back ∙ append-nil (indexes_of w number it.left))
+    ∙ ap (λ entries. length (blocks_past w k (indexes_of w number entries))) is.start.left
+    ∙ blocks_of_entries w number is_block small k (k + 1) rest pos (omega arith) each
+    ∙ ap length (sym is.start.left) in
     record {
       walk = record {
         in_hand = lawful;
-        each = is.each;
-        left = rw index_is is.start.left;
-        whole = rw index_is refl;
-        inside = rw index_is (omega (arith, cut.at));
-        can = rw index_is record {
-          long = length-values_of_blocks w number rest;
-          fits =
-              let whole : k * w + w * (n - (k + 1)) ≡ w * (n - 1) = (let e : n - 1 ≡ k + (n - (k + 1)) = omega (arith, cut.at) in let f = ap (λ i. w * i) e in omega (arith, f)) in
-              rw length-drop (omega (arith, whole, can.fits));
-          below = rw left (All-filter (λ i. leb from i) (λ i. i < 2 ^ 64) (elements values) (rw all at can.below));
-          count_fits = rw left few;
-        };
+        at_back = lawful_naught;
+        each = subst (All (λ (entry : ℕ × X). is_block entry.1)) (sym is.start.left) (each_entry w number is_block (k + 1) rest each);
+        whole = ap (λ j. j * w) (sym index_is);
+        whole_back = ap (λ j. j * w) (sym last_is);
+        past = rw (index_is, last_is) past;
+        inside = omega (arith, last_is);
+        fits = omega (arith, can.fits);
+        ascends = subst IsAscending (sym left) up;
+        below = subst (All (λ i. i < 2 ^ 64)) (sym left) below;
+        count_fits = omega (arith, ap length left, few);
       };
       start = record {
-        left = rw index_is left;
-        count_fits = rw (index_is, left) few;
+        left = left;
+        count_fits = omega (arith, ap length left, few);
         at = record {
           pulls = is.start.pulls;
           index = ap (λ i. i * w) first;
-          blocks = rw index_is (omega (arith, length-drop (k + 1) it.blocks, many, cut.at));
+          blocks = omega (arith, index_is, last_is, many, cut.at);
+          nonzero = sym in_blocks ∙ ap₂ (λ j xs. length (blocks_past w j xs)) (sym index_is) left;
           summary = let at = ap (λ i. i / w) first in let chunks = ap (blocks_for w) many in omega (arith, is.start.summary_pulls, is.start.summary_left, at, chunks);
         };
       };
     }
+
+-- the index of the last block is a `usize`
+pub last_fits : {X : Type 0} (w : ℕ) (number : X → ℕ) (blocks : List X) (values : List Bool) → 0 < w → map number blocks ≡ blocks_of w values → length values < 2 ^ 64 → (length blocks - 1) * w < 2 ^ 64
+last_fits w number blocks values pos numbers fits = let can = IsWalkable-values_of_blocks w number blocks values 0 pos numbers fits in omega (arith, can.fits)
 
 -- from 0 on it is the walk over all
 pub starts_at_all : (w : ℕ) (values : List Bool) (t : Walk) → 0 < w → IsAtStartFrom w values 0 t → IsAtStart w values t

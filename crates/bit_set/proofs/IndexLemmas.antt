@@ -1,9 +1,9 @@
 -- The indexes of the ones of blocks: a block of zeros, the lowest one, how many there are, and those of a list of truth
 -- values.
 use Rattle.std.proofs.Common.{◌≡◌, ℕ, zero, suc, ◌+◌, ◌-◌, ◌*◌, ◌/◌, ◌%◌, ◌^◌, ◌<◌, ◌≤◌, Bool, true, false, cond, eqb, List, [], ◌∷◌, ◌++◌, length, get_or, All, count_ones, refl, sym, ap, ◌∙◌, subst, inl, inr, arith, ap₂}
-use Rattle.std.proofs.lemmas.{Bool.{cases_lt, Decides.nat_tests}, Nat.Bits.bit_at-lt, List.{length-append, get_or_append_left, get_or-append_right, Elements.{All-nil, All-cons}, Sums.{sum_by-cons, sum_by-append}}}
+use Rattle.std.proofs.lemmas.{Bool.{cases_lt, Decides.nat_tests}, Nat.Bits.{bit_at-lt, bit_at_above}, List.{append-nil, length-append, get_or_append_left, get_or-append_right, Elements.{All-nil, All-cons}, Sums.{sum_by-cons, sum_by-append}}}
 use Rattle.std.{proofs.{lemmas.List.FromFn.{length-map-range_with_len, get_or-map-range_with_len}, Math.Nat.{div-add-mod', mod-lt}}, specs.{Int.bit_at, List.{sum_by, range_with_len, count_by}}}
-use Rattle.bit_words.{proofs.{BitsLemmas.{blocks_of-digit, read_back}, OnesLemmas.ones_are_digits, Masks.{is_one-bit, is_one-zero}}, specs.{Bits.blocks_of, Lowest.{IsLowest, IsCleared}, Digits.is_one}}
+use Rattle.bit_words.{proofs.{BitsLemmas.{blocks_of-digit, read_back}, OnesLemmas.ones_are_digits, Masks.{is_one-bit, is_one-zero}}, specs.{Bits.blocks_of, Highest.IsHighest, Lowest.{IsLowest, IsCleared}, Digits.is_one}}
 use Rattle.bit_set.{proofs.SetLemmas.{AscendsFrom-elements_from, elements-alike, length-elements-le, length-elements_from_both, length-elements}, specs.{Sets.{AscendsFrom, elements_from, elements}, Indexes.digits_from}}
 use Rattle.bit_set.specs.Indexes.{values_in, indexes}
 
@@ -62,6 +62,57 @@ indexes-lowest w p m r i bs low within cleared =
     let whole : 0 + w ≡ w = omega arith in
     lowest_from m r i 0 w p bs low (subst (λ x. IsCleared x m i r) (sym whole) cleared) (omega arith) (omega arith)
     ∙ ap (λ x. x ∷ elements_from p (digits_from r 0 w ++ bs)) (let e : p + (i - 0) ≡ p + i = omega arith in e)
+
+-- ---- the highest 1 of a block alone
+
+none_from : (m a w p : ℕ) → ((k : ℕ) → a ≤ k → bit_at m k ≡ 0) → elements_from p (digits_from m a w ++ []) ≡ []
+none_from m a zero p none = refl
+none_from m a (suc w) p none = rw (is_one-bit 0 m a (none a (omega arith))) (none_from m (a + 1) w (p + 1) (λ k from. none k (omega (arith, from))))
+
+-- it comes last, after the ones of the digits without it
+highest_from : (m r i a w p : ℕ) → IsHighest m i → IsCleared (a + w) m i r → ((k : ℕ) → i ≤ k → bit_at r k ≡ 0) → a ≤ i → i < a + w → elements_from p (digits_from m a w ++ []) ≡ elements_from p (digits_from r a w ++ []) ++ (p + (i - a)) ∷ []
+highest_from m r i a zero p high cleared none from within = absurd (omega arith)
+highest_from m r i a (suc w) p high cleared none from within =
+    elim (cases_lt a i) [
+      | inl below ↦
+          let same : is_one m a ≡ is_one r a = ap (λ d. eqb d 1) (sym (cleared.kept a (omega arith) (λ e. omega (arith, e)))) in
+          let along : a + suc w ≡ a + 1 + w = omega arith in
+          let index : p + (i - a) ≡ p + 1 + (i - (a + 1)) = omega arith in
+          let rest = highest_from m r i (a + 1) w (p + 1) high (subst (λ x. IsCleared x m i r) along cleared) none (omega arith) (omega arith) in
+          rw (same, index, rest) (grind arith)
+      | inr past ↦
+          let here : i ≡ a = omega arith in
+          let one = is_one-bit 1 m a (ap (bit_at m) (sym here) ∙ high.one) in
+          let zero_here = is_one-bit 0 r a (none a (omega (arith, here))) in
+          let index : p + (i - a) ≡ p = omega arith in
+          rw (one, zero_here, index, none_from m (a + 1) w (p + 1) (λ k after. high.zeros k (omega (arith, after, here))), none_from r (a + 1) w (p + 1) (λ k after. none k (omega (arith, after, here)))) refl
+    ]
+
+-- what the digits without it have above it
+cleared_above : (w m r i : ℕ) → IsHighest m i → IsCleared w m i r → r < 2 ^ w → (k : ℕ) → i ≤ k → bit_at r k ≡ 0
+cleared_above w m r i high cleared small k from = grind (arith, cleared.cleared, cleared.kept k, high.zeros k, bit_at_above r w k small)
+
+pub indexes-highest : (w p m r i : ℕ) → IsHighest m i → i < w → IsCleared w m i r → r < 2 ^ w → indexes w p m [] ≡ indexes w p r [] ++ (p + i) ∷ []
+unfolding indexes
+indexes-highest w p m r i high within cleared small =
+    let whole : 0 + w ≡ w = omega arith in
+    highest_from m r i 0 w p high (subst (λ x. IsCleared x m i r) (sym whole) cleared) (cleared_above w m r i high cleared small) (omega arith) (omega arith)
+    ∙ ap (λ x. elements_from p (digits_from r 0 w ++ []) ++ x ∷ []) (let e : p + (i - 0) ≡ p + i = omega arith in e)
+
+-- ---- a block and what is past it, apart
+
+elements_from-append : (p : ℕ) (xs ys : List Bool) → elements_from p (xs ++ ys) ≡ elements_from p xs ++ elements_from (p + length xs) ys
+elements_from-append p [] ys = ap (λ n. elements_from n ys) (let e : p ≡ p + 0 = omega arith in e)
+elements_from-append p (x ∷ xs) ys =
+    let rest = elements_from-append (p + 1) xs ys in
+    let e : p + 1 + length xs ≡ p + suc (length xs) = omega arith in
+    rw (rest, e) (grind arith)
+
+pub indexes-apart : (w p m : ℕ) (bs : List Bool) → indexes w p m bs ≡ indexes w p m [] ++ elements_from (p + w) bs
+unfolding indexes
+indexes-apart w p m bs =
+    elements_from-append p (digits_from m 0 w) bs
+    ∙ ap₂ (λ xs n. elements_from p xs ++ elements_from (p + n) bs) (sym (append-nil (digits_from m 0 w))) (length-map-range_with_len (is_one m) 0 w)
 
 -- ---- those of a list of truth values
 
@@ -131,6 +182,11 @@ elements_from-below : (p bound : ℕ) (bs : List Bool) → p + length bs ≤ bou
 elements_from-below p bound [] fits = All-nil (λ n. n < bound)
 elements_from-below p bound (true ∷ bs) fits = All-cons (λ n. n < bound) p _ (omega arith) (elements_from-below (p + 1) bound bs (omega arith))
 elements_from-below p bound (false ∷ bs) fits = elements_from-below (p + 1) bound bs (omega arith)
+
+-- those of a block alone
+pub indexes-below : (w p m : ℕ) → All (λ n. n < p + w) (indexes w p m [])
+unfolding indexes
+indexes-below w p m = elements_from-below p (p + w) (digits_from m 0 w ++ []) (let count = length-digits_from m w [] in omega (arith, count))
 
 pub elements-below : (bound : ℕ) (values : List Bool) → length values ≤ bound → All (λ n. n < bound) (elements values)
 elements-below bound values fits = elements_from-below 0 bound values (omega arith)

@@ -19,7 +19,9 @@ pub mod MissingLemmas
 pub mod PairLemmas
 pub mod TallyLemmas
 pub mod SparseLemmas
+pub mod HintLemmas
 pub mod ChainLemmas
+pub mod EntryLemmas
 pub mod FromLemmas
 pub mod WalkLaws
 pub mod MissingLaws

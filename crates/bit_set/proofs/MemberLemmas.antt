@@ -1,10 +1,10 @@
 -- What calls make of a set, as of every number whether it is in, and of how many there are.
-use Rattle.std.proofs.{Common.{◌≡◌, ℕ, ◌+◌, ◌≤◌, Bool, true, false, not, ◌↔◌, cond, ◌||◌, ltb, nat_le, List, [], ◌∷◌, length, refl, sym, ap, subst, ◌∙◌, arith, IsTrue}, lemmas.Bool.{eq-eqb, Decides.nat_tests}}
+use Rattle.std.proofs.{Common.{◌≡◌, ℕ, ◌+◌, ◌<◌, ◌≤◌, ◌==◌, ◌++◌, Bool, true, false, not, ◌↔◌, cond, ◌||◌, ltb, nat_le, List, [], ◌∷◌, length, refl, sym, ap, subst, ◌∙◌, arith, IsTrue}, lemmas.Bool.{eq-eqb, true≢false, Decides.nat_tests}}
 use Rattle.std.specs.Cmp.Lexicographic.{bytes_decides}
 use Rattle.bit_words.specs.{Bits.{Bits, IsWithinCapacity}, declared.block.merge.Merge.Merge, Bounds.greatest}
-use Rattle.bit_set.specs.{Members.{HasNone, IsCounted, IsDisjoint, IsMerged, IsSameSet, IsSubset, IsUnion, KeepsBelow, KeepsFrom, TakesLeast, Updates}, Order.same_sets, Sets.{AscendsFrom, IsAscending, elements, has}}
+use Rattle.bit_set.specs.{Members.{HasNone, IsCounted, IsDisjoint, IsMerged, IsSameSet, IsSubset, IsUnion, KeepsBelow, KeepsFrom, TakesGreatest, TakesLeast, Updates}, Order.same_sets, Sets.{AscendsFrom, IsAscending, elements, has}}
 use Rattle.bit_set.{specs.Sets.{is_disjoint, is_subset, merge_of_sets, put, put_all, those_below, those_from, without}, proofs.{ValueLemmas.{has-slice_get, has-within}, AlgebraLemmas.{has-merge_of_sets, has-union}}}
-use Rattle.bit_set.proofs.{SetLemmas.{has-elements, length-elements, AscendsFrom-lower, IsAscending-elements, has-filter, has-put, has-without, length-elements-le, same_members}, SizeLemmas.{length-put, length-without}}
+use Rattle.bit_set.proofs.{SetLemmas.{has-elements, length-elements, AscendsFrom-lower, AscendsFrom-reach, IsAscending-elements, has-filter, has-put, has-without, length-elements-le, same_members}, SizeLemmas.{length-put, length-without}}
 use Rattle.bit_set.proofs.{SizeLemmas.{least-first, without-first}, SubsetLemmas.{is_disjoint-members, is_subset-members, is_subset-no_difference, is_disjoint-no_intersection, is_subset-both_ways, is_subset-finite}}
 use Rattle.bit_set.proofs.SubsetLemmas.{each_passes, all_pass}
 
@@ -36,6 +36,29 @@ takes_least low s x t up is =
       is_in = ap (λ u. has u x) is ∙ ap (λ b. b || has t x) (eq-eqb x x refl);
       least = λ n within. least-first x t n ascending (ap (λ u. has u n) (sym is) ∙ within);
       others = updates_without s x (sym (without_least low s x t up is));
+    }
+
+-- those before the last of an ascending list are below it
+init_below : (low : ℕ) (t : List ℕ) (x n : ℕ) → AscendsFrom low (t ++ x ∷ []) → has t n ≡ true → n < x
+init_below low [] x n up within = absurd (true≢false (sym within))
+init_below low (y ∷ ys) x n up within =
+    let reach = AscendsFrom-reach (y + 1) ys x up.1 in
+    let rest = init_below (y + 1) ys x n up.1 in
+    grind (arith, nat_tests)
+
+has-last : (t : List ℕ) (x n : ℕ) → has (t ++ x ∷ []) n ≡ (has t n || x == n)
+has-last [] x n = grind arith
+has-last (y ∷ ys) x n = let rest = has-last ys x n in grind arith
+
+-- the last of an ascending list is taken out
+pub takes_greatest : (s t : List ℕ) (x : ℕ) → IsAscending s → s ≡ t ++ x ∷ [] → TakesGreatest s x t
+takes_greatest s t x up is =
+    let ascending : AscendsFrom 0 (t ++ x ∷ []) = subst IsAscending is up in
+    let member = λ (n : ℕ). ap (λ u. has u n) is ∙ has-last t x n in
+    record {
+      is_in = let here = member x in grind (arith, nat_tests);
+      greatest = λ n within. let here = member n in let below = init_below 0 t x n ascending in grind (arith, nat_tests);
+      others = λ n. let here = member n in let below = init_below 0 t x n ascending in grind (arith, nat_tests);
     }
 
 -- ---- several sets

@@ -9,6 +9,16 @@ pub AscendsFrom-lower : (low lower : ℕ) (xs : List ℕ) → lower ≤ low → 
 AscendsFrom-lower low lower [] le h = tt
 AscendsFrom-lower low lower (x ∷ xs) le h = (omega (arith, le, h.0), h.1)
 
+-- the last is no smaller
+pub AscendsFrom-reach : (low : ℕ) (xs : List ℕ) (x : ℕ) → AscendsFrom low (xs ++ x ∷ []) → low ≤ x
+AscendsFrom-reach low [] x up = up.0
+AscendsFrom-reach low (y ∷ ys) x up = omega (arith, up.0, AscendsFrom-reach (y + 1) ys x up.1)
+
+-- without it they ascend
+pub AscendsFrom-init : (low : ℕ) (xs : List ℕ) (x : ℕ) → AscendsFrom low (xs ++ x ∷ []) → AscendsFrom low xs
+AscendsFrom-init low [] x up = tt
+AscendsFrom-init low (y ∷ ys) x up = (up.0, AscendsFrom-init (y + 1) ys x up.1)
+
 -- no number below the first is a member
 pub has-below : (low : ℕ) (xs : List ℕ) (n : ℕ) → AscendsFrom low xs → n < low → has xs n ≡ false
 has-below low [] n h lt = refl

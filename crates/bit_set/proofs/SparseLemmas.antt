@@ -1,213 +1,446 @@
--- A walk that goes by the blocks that are not 0: its making, the step to the next such block, and the end.
-use Rattle.std.proofs.Common.{◌≡◌, ℕ, ◌+◌, ◌-◌, ◌*◌, ◌/◌, ◌^◌, ◌<◌, ◌≤◌, ◌==◌, true, false, not, if◌then◌else◌, List, [], ◌∷◌, length, drop, All, Some, None, count_ones, refl, sym, ap, ◌∙◌, subst, arith, inl, inr, ap₂}
-use Rattle.std.proofs.lemmas.{Bool.{cases_eq, true≢false, cond_both, eqb-true, eqb-false, ne_eqb, eq-eqb, Decides.nat_tests}, Nat.{div-mul-add, ones_le_self}, List.{drop_all, length-drop, Elements.{All-drop, All-head}}}
-use Rattle.std.proofs.{lemmas.List.{Elements.All-tail, Sums.sum_by-cons}, Math.{Seq.drop-drop, Nat.mul-div_cancel}}
-use Rattle.bit_words.specs.{Lowest.{IsLowest, IsCleared}, Nonzero.{Nonzeros, PullsNonzero, Refills, nonzero_from, ones_left}}
-use Rattle.bit_set.{specs.{Sets.{AscendsFrom, elements_from, elements}, Indexes.{indexes, past_block, IsSparseWalk}, Walk.{Walk, Advances, PullsBlocks}}, proofs.{MemberLemmas.takes_least, IndexLemmas.AscendsFrom-indexes}}
-use Rattle.bit_set.proofs.{IndexLemmas.{indexes-zero, indexes-next, indexes-lowest, length-indexes, length-elements-block}, WalkLemmas.{values_of_blocks, length-values_of_blocks, CanWalk-taken, CanWalk-moved}}
-
--- ---- the first block that is not 0
-
--- Of some blocks from block k on, block q is the first that is not 0. It is x, and rest are those past it.
-pub record IsNext {X : Type 0} (w : ℕ) (number : X → ℕ) (blocks : List X) (k q : ℕ) (x : X) (rest : List (ℕ × X)) : Type 0 where
-  pub onward : k ≤ q
-  pub here : drop q blocks ≡ x ∷ drop (q + 1) blocks
-  pub some : 0 < number x
-  pub past : rest ≡ nonzero_from number (q + 1) (drop (q + 1) blocks)
-  pub same : elements_from (k * w) (values_of_blocks w number (drop k blocks)) ≡ indexes w (q * w) (number x) (values_of_blocks w number (drop (q + 1) blocks))
-
--- these are the blocks from block k on that are not 0: where there is none, there is no place
-abbrev Next : {X : Type 0} → ℕ → (X → ℕ) → List X → ℕ → List (ℕ × X) → Type 0
-Next w number blocks k [] = elements_from (k * w) (values_of_blocks w number (drop k blocks)) ≡ []
-Next w number blocks k (entry ∷ rest) = IsNext w number blocks k entry.0 entry.1 rest
-
-module _ {X : Type 0} (w : ℕ) (number : X → ℕ) where
-  -- a block that is 0 is passed
-  next_passed : (blocks : List X) (k : ℕ) (y : X) (entries : List (ℕ × X)) → drop k blocks ≡ y ∷ drop (k + 1) blocks → number y ≡ 0 → Next w number blocks (k + 1) entries → Next w number blocks k entries
-  next_passed blocks k y entries here none is = by_entries entries is
-    where
-      passed : elements_from (k * w) (values_of_blocks w number (drop k blocks)) ≡ elements_from ((k + 1) * w) (values_of_blocks w number (drop (k + 1) blocks))
-      passed =
-          indexes-next w (k * w) (number y) _ _ (ap (values_of_blocks w number) here)
-          ∙ ap (λ m. indexes w (k * w) m (values_of_blocks w number (drop (k + 1) blocks))) none
-          ∙ indexes-zero w (k * w) _
-          ∙ ap (λ n. elements_from n (values_of_blocks w number (drop (k + 1) blocks))) (let e : k * w + w ≡ (k + 1) * w = omega arith in e)
-
-      by_entries : (entries : List (ℕ × X)) → Next w number blocks (k + 1) entries → Next w number blocks k entries
-      by_entries [] is = passed ∙ is
-      by_entries (entry ∷ rest) is = record { onward = omega (arith, is.onward); here = is.here; some = is.some; past = is.past; same = passed ∙ is.same }
-
-  next_nonzero : (blocks : List X) (k : ℕ) (xs : List X) → drop k blocks ≡ xs → Next w number blocks k (nonzero_from number k xs)
-  next_nonzero blocks k [] at = ap (λ ys. elements_from (k * w) (values_of_blocks w number ys)) at
-  next_nonzero blocks k (y ∷ ys) at =
-      let next : drop (k + 1) blocks ≡ ys = sym (drop-drop 1 k blocks) ∙ ap (drop 1) at in
-      let here : drop k blocks ≡ y ∷ drop (k + 1) blocks = at ∙ ap (λ zs. y ∷ zs) (sym next) in
-      cond_both (number y == 0) (nonzero_from number (k + 1) ys) ((k, y) ∷ nonzero_from number (k + 1) ys) (Next w number blocks k)
-      (λ is. next_passed blocks k y (nonzero_from number (k + 1) ys) here (eqb-true (number y) 0 is) (next_nonzero blocks (k + 1) ys next))
-      (λ is. record {
-        onward = omega arith;
-        here = here;
-        some = let other = eqb-false (number y) 0 is in omega (arith, other);
-        past = ap (nonzero_from number (k + 1)) (sym next);
-        same = indexes-next w (k * w) (number y) _ _ (ap (values_of_blocks w number) here);
-      })
-
--- ---- a walk and the block in hand
-
-module _ {X : Type 0} (w : ℕ) (number : X → ℕ) (is_block : X → Type 0) where
-  -- what contracts see of a walk that has this block in hand
-  abbrev pub seen : ℕ → X → Nonzeros X → Walk
-  seen index block it =
-      let past = past_block w number index it.blocks it.pulls in
-      record { left = indexes w index (number block) past.values; pulls = it.pulls; index = index; blocks = past.blocks; summary_pulls = it.summary_pulls; summary_left = it.summary_left }
-
--- A walk s went on to the block x at `at`, and is now t: the same is left.
-pub record Moved {X : Type 0} (w : ℕ) (number : X → ℕ) (is_block : X → Type 0) (s : Walk) (at : ℕ) (x : X) (it : Nonzeros X) (t : Walk) : Type 0 where
-  pub walk : IsSparseWalk w number is_block at x it
-  pub same : t.left ≡ s.left
-  pub onward : s.index / w ≤ at / w
-  pub fewer : t.blocks + (at / w - s.index / w) ≡ s.blocks
-  pub along : at + w * t.blocks ≡ s.index + w * s.blocks
-
--- It went on to one that is not 0, with no pull, or with one to another block.
-pub record Reaches {X : Type 0} (w : ℕ) (number : X → ℕ) (is_block : X → Type 0) (s : Walk) (at : ℕ) (block : X) (it : Nonzeros X) (t : Walk) : Type 0 where
-  pub moved : Moved w number is_block s at block it t
-  pub pulls : t.pulls ≡ s.pulls + (if s.index / w == at / w then 0 else 1)
-  pub summary : t.summary_pulls + t.summary_left ≡ s.summary_pulls + s.summary_left
+-- A walk that goes by the blocks that are not 0, with one of them in hand at either end: a step to the next such block, an
+-- element taken out of it, and the end.
+use Rattle.std.proofs.Common.{◌≡◌, ℕ, zero, suc, ◌+◌, ◌-◌, ◌*◌, ◌/◌, ◌^◌, ◌<◌, ◌≤◌, ◌==◌, min, Bool, true, false, if◌then◌else◌, List, [], ◌∷◌, ◌++◌, map, length, All, Some, None, count_ones, refl, sym, ap, ◌∙◌, subst, arith, inl, inr, ap₂, length-append}
+use Rattle.std.proofs.lemmas.{Bool.{cond_both, ne_eqb, eq-eqb, true≢false, Decides.nat_tests}, Nat.div-mul-add, List.{append-nil, append_assoc, map-append, Elements.{All-nil, All-cons, All-head, All-tail}, Sums.{sum_by-cons}}}
+use Rattle.std.proofs.Math.Nat.{mul-div_cancel}
+use Rattle.bit_words.specs.{Highest.IsHighest, Lowest.{IsLowest, IsCleared}, Nonzero.{Fills, Hand, Nonzeros, PullsLast, PullsNonzero, Refills, RunsOut, Stays, TakesFirst, TakesLast, TakesOver, ones_left}}
+use Rattle.bit_set.{specs.{Sets.{AscendsFrom, IsAscending}, Indexes.{indexes, indexes_of, left_between, seen_of, IsSparseWalk}, Walk.{Walk, Advances, AdvancesBack, PullsBlocks, PullsBlocksBack}}, proofs.{MemberLemmas.{takes_greatest, takes_least}, SetLemmas.{AscendsFrom-init, AscendsFrom-lower, AscendsFrom-reach}}}
+use Rattle.bit_set.proofs.IndexLemmas.{indexes-zero, indexes-lowest, indexes-highest, length-indexes}
 
 pub whole_index : (w q : ℕ) → 0 < w → q * w / w ≡ q
 whole_index w q pos = mul-div_cancel q pos
 
--- a pull leads to another block
-pulls_by : (old new p q m n : ℕ) → old ≤ new → p ≡ q + (if old == new then 0 else 1) → m + (new - old) ≡ n → p + m ≤ q + n
-pulls_by old new p q m n onward counted fewer = grind (arith, nat_tests)
+-- ---- lists without their last item
+
+All-init : {X : Type 0} (P : X → Type 0) (xs : List X) (x : X) → All P (xs ++ x ∷ []) → All P xs
+All-init P [] x each = All-nil P
+All-init P (y ∷ ys) x each = All-cons P y ys (All-head P y (ys ++ x ∷ []) each) (All-init P ys x (All-tail P y (ys ++ x ∷ []) each))
+
+All-last : {X : Type 0} (P : X → Type 0) (xs : List X) (x : X) → All P (xs ++ x ∷ []) → P x
+All-last P [] x each = All-head P x [] each
+All-last P (y ∷ ys) x each = All-last P ys x (All-tail P y (ys ++ x ∷ []) each)
+
+-- the one above the last but one is enough
+ascends-cut : (low k s : ℕ) (xs : List ℕ) → AscendsFrom low (xs ++ k ∷ [] ++ s ∷ []) → AscendsFrom low (xs ++ (k + 1) ∷ []) × (k < s)
+ascends-cut low k s [] up = ((omega (arith, up.0), tt), omega (arith, up.1.0))
+ascends-cut low k s (x ∷ xs) up = let rest = ascends-cut (x + 1) k s xs up.1 in ((up.0, rest.0), rest.1)
+
+-- ---- what is left
+
+no_indexes : (w p m : ℕ) → m ≡ 0 → indexes w p m [] ≡ []
+no_indexes w p m none = ap (λ n. indexes w p n []) none ∙ indexes-zero w p []
+
+module _ {X : Type 0} (w : ℕ) (number : X → ℕ) where
+  indexes_of-pushed : (entries : List (ℕ × X)) (entry : ℕ × X) → indexes_of w number (entries ++ entry ∷ []) ≡ indexes_of w number entries ++ indexes w (entry.0 * w) (number entry.1) []
+  indexes_of-pushed [] entry = append-nil (indexes w (entry.0 * w) (number entry.1) [])
+  indexes_of-pushed (first ∷ entries) entry =
+      ap (λ xs. indexes w (first.0 * w) (number first.1) [] ++ xs) (indexes_of-pushed entries entry)
+      ∙ sym (append_assoc (indexes w (first.0 * w) (number first.1) []) (indexes_of w number entries) (indexes w (entry.0 * w) (number entry.1) []))
+
+-- A walk s has these blocks in hand now, and the same is left.
+pub record Reaches {X : Type 0} (w : ℕ) (number : X → ℕ) (is_block : X → Type 0) (s : Walk) (front : Hand X) (it : Nonzeros X) (back : Hand X) : Type 0 where
+  pub walk : IsSparseWalk w number is_block front it back
+  pub same : left_between w number front it.left back ≡ s.left
+  pub kept : it.pulls + length it.left ≡ s.pulls + s.nonzero_left
+
+-- It went on from the front.
+pub record ReachesNext {X : Type 0} (w : ℕ) (number : X → ℕ) (is_block : X → Type 0) (s : Walk) (front : Hand X) (it : Nonzeros X) (back : Hand X) : Type 0 where
+  pub reached : Reaches w number is_block s front it back
+  pub onward : s.index / w ≤ front.index / w
+  pub along : front.index + w * (back.index / w - front.index / w) ≡ s.index + w * s.blocks
+  pub fewer : back.index / w - front.index / w + (front.index / w - s.index / w) ≡ s.blocks
+  pub pulls : it.pulls ≡ s.pulls + (if s.index / w == front.index / w then 0 else min 1 s.nonzero_left)
+  pub summary : it.summary_pulls + it.summary_left ≡ s.summary_pulls + s.summary_left
+
+-- It went on from the back.
+pub record ReachesLast {X : Type 0} (w : ℕ) (number : X → ℕ) (is_block : X → Type 0) (s : Walk) (front : Hand X) (it : Nonzeros X) (back : Hand X) : Type 0 where
+  pub reached : Reaches w number is_block s front it back
+  pub goes_on : s.pulls ≤ it.pulls
+  pub index : front.index ≡ s.index
+  pub fewer : back.index / w - front.index / w ≤ s.blocks
+  pub summary : it.summary_pulls ≡ s.summary_pulls
+  pub summary_left : it.summary_left ≤ s.summary_left
+
+no_pull : (b : Bool) (n p : ℕ) → n ≡ 0 → p ≡ p + (if b then 0 else min 1 n)
+no_pull b n p none = grind (arith, none)
 
 module _ {X : Type 0} (w : ℕ) (number : X → ℕ) (is_block : X → Type 0) (pos : 0 < w) where
-  move : (index n : ℕ) (block x : X) (s t : Nonzeros X) → IsSparseWalk w number is_block index block s → is_block x → t.blocks ≡ s.blocks → index / w ≤ n → n ≤ length s.blocks - 1
-      → t.left ≡ nonzero_from number (n + 1) (drop (n + 1) s.blocks)
-      → indexes w (n * w) (number x) (values_of_blocks w number (drop (n + 1) s.blocks)) ≡ indexes w index (number block) (values_of_blocks w number (drop (index / w + 1) s.blocks))
-      → Moved w number is_block (seen w number is_block index block s) (n * w) x t (seen w number is_block (n * w) x t)
-  move index n block x s t is lawful all onward inside left same =
-      let k = index / w in
-      let at : n * w / w ≡ n = whole_index w n pos in
-      let rest : drop (n * w / w + 1) t.blocks ≡ drop (n + 1) s.blocks = ap₂ (λ j xs. drop (j + 1) xs) at all in
-      let fewer : length (drop (n * w / w + 1) t.blocks) + (n - k) ≡ length (drop (k + 1) s.blocks) = omega (arith, ap length rest, length-drop (n + 1) s.blocks, length-drop (k + 1) s.blocks, onward, inside) in
-      let at_index = ap (λ j. j * w) (let e : n ≡ k + (n - k) = omega (arith, onward) in e) in
-      let along : n * w + w * length (drop (n * w / w + 1) t.blocks) ≡ index + w * length (drop (k + 1) s.blocks) = omega (arith, is.whole, ap (λ j. w * j) fewer, at_index) in
-      let still = ap (λ xs. indexes w (n * w) (number x) (values_of_blocks w number xs)) rest ∙ same in
+  -- the block in hand at the back is none before the one at the front
+  pub ends_apart : (front back : Hand X) (it : Nonzeros X) → IsSparseWalk w number is_block front it back → front.index / w ≤ back.index / w
+  ends_apart front back it is = let reach = AscendsFrom-reach (front.index / w + 1) (map (λ entry. entry.0) it.left) (back.index / w + 1) is.past in omega (arith, reach)
+
+  no_entries : {entries : List (ℕ × X)} → entries ≡ [] → All (λ (entry : ℕ × X). is_block entry.1) entries
+  no_entries none = subst (All (λ (entry : ℕ × X). is_block entry.1)) (sym none) (All-nil (λ (entry : ℕ × X). is_block entry.1))
+
+  -- from the front to the back it is as far
+  along_by : (p q b : ℕ) → p ≡ p / w * w → q ≡ q / w * w → p / w ≤ b → q / w ≤ b → p + w * (b - p / w) ≡ q + w * (b - q / w)
+  along_by p q b whole_p whole_q within_p within_q =
+      let e = ap (λ n. w * n) (let e : p / w + (b - p / w) ≡ q / w + (b - q / w) = omega (arith, within_p, within_q) in e) in
+      omega (arith, whole_p, whole_q, e)
+
+  -- what holds of what is left goes over
+  moved : (front back new other : Hand X) (s t : Nonzeros X) → IsSparseWalk w number is_block front s back → is_block new.block → is_block other.block → All (λ (entry : ℕ × X). is_block entry.1) t.left → t.blocks ≡ s.blocks → new.index ≡ new.index / w * w → other.index ≡ other.index / w * w
+      → AscendsFrom (new.index / w + 1) (map (λ entry. entry.0) t.left ++ (other.index / w + 1) ∷ []) → other.index / w ≤ back.index / w → left_between w number new t.left other ≡ left_between w number front s.left back
+      → IsSparseWalk w number is_block new t other
+  moved front back new other s t is lawful lawful_too each blocks whole whole_too past inside same = record {
+    in_hand = lawful;
+    at_back = lawful_too;
+    each = each;
+    whole = whole;
+    whole_back = whole_too;
+    past = past;
+    inside = let count = ap length blocks in omega (arith, inside, is.inside, count);
+    fits = subst (λ xs. (length xs - 1) * w < 2 ^ 64) (sym blocks) is.fits;
+    ascends = subst IsAscending (sym same) is.ascends;
+    below = subst (All (λ n. n < 2 ^ 64)) (sym same) is.below;
+    count_fits = subst (λ xs. length xs < 2 ^ 64) (sym same) is.count_fits;
+  }
+
+  -- ---- the hand at the front
+
+  stays_next : (front back : Hand X) (s : Nonzeros X) → IsSparseWalk w number is_block front s back → ReachesNext w number is_block (seen_of w number front s back) front s back
+  stays_next front back s is = record {
+    reached = record { walk = is; same = refl; kept = refl };
+    onward = omega arith;
+    along = refl;
+    fewer = omega arith;
+    pulls = (let e : s.pulls ≡ s.pulls + 0 = omega arith in e) ∙ ap (λ b. s.pulls + (if b then 0 else min 1 (length s.left))) (sym (eq-eqb (front.index / w) (front.index / w) refl));
+    summary = refl;
+  }
+
+  fills_next : (front back new : Hand X) (s t : Nonzeros X) (k : ℕ) → IsSparseWalk w number is_block front s back → is_block new.block → number front.block ≡ 0 → TakesFirst s (Some (k, new.block)) t → new.index ≡ k * w
+      → ReachesNext w number is_block (seen_of w number front s back) new t back
+  fills_next front back new s t k is lawful used_up pull index =
+      let at : new.index / w ≡ k = ap (λ n. n / w) index ∙ whole_index w k pos in
+      let up = subst (λ entries. AscendsFrom (front.index / w + 1) (map (λ entry. entry.0) entries ++ (back.index / w + 1) ∷ [])) pull.item is.past in
+      let reach = AscendsFrom-reach (k + 1) (map (λ entry. entry.0) t.left) (back.index / w + 1) up.1 in
+      let apart = ends_apart front back s is in
+      let at_back = indexes w back.index (number back.block) [] in
+      let same : left_between w number new t.left back ≡ left_between w number front s.left back =
+      sym (
+        ap₂ (λ xs entries. xs ++ (indexes_of w number entries ++ at_back)) (no_indexes w front.index (number front.block) used_up) pull.item
+        ∙ append_assoc (indexes w (k * w) (number new.block) []) (indexes_of w number t.left) at_back
+        ∙ ap (λ p. indexes w p (number new.block) [] ++ (indexes_of w number t.left ++ at_back)) (sym index)
+      ) in
+      let other : (front.index / w == new.index / w) ≡ false = ne_eqb _ _ (λ e. omega (arith, e, at, up.0)) in
+      let count = ap length pull.item in
+      let whole : new.index ≡ new.index / w * w = index ∙ ap (λ n. n * w) (sym at) in
       record {
-        walk = record {
-          in_hand = lawful;
-          each = subst (All is_block) (sym all) is.each;
-          left = left ∙ ap₂ (λ j xs. nonzero_from number (j + 1) xs) (sym at) (sym rest);
-          whole = ap (λ j. j * w) (sym at);
-          inside = omega (arith, at, inside, ap length all);
-          can = CanWalk-moved w index (n * w) (number block) (number x) _ _ is.can (length-values_of_blocks w number _) along still;
+        reached = record {
+          walk = moved front back new back s t is lawful is.at_back (All-tail (λ (entry : ℕ × X). is_block entry.1) (k, new.block) t.left (subst (All (λ (entry : ℕ × X). is_block entry.1)) pull.item is.each)) pull.same whole is.whole_back (subst (λ n. AscendsFrom (n + 1) (map (λ entry. entry.0) t.left ++ (back.index / w + 1) ∷ [])) (sym at) up.1) (omega arith) same;
+          same = same;
+          kept = omega (arith, pull.counted, count);
         };
-        same = still;
-        onward = omega (arith, at, onward);
-        fewer = omega (arith, at, fewer);
-        along = along;
-      }
-
-  -- where the block in hand is used up, the nonzero blocks past it say what is left
-  past_used_up : (index : ℕ) (block : X) (s : Nonzeros X) → IsSparseWalk w number is_block index block s → number block ≡ 0
-      → indexes w index (number block) (values_of_blocks w number (drop (index / w + 1) s.blocks)) ≡ elements_from ((index / w + 1) * w) (values_of_blocks w number (drop (index / w + 1) s.blocks))
-  past_used_up index block s is used_up =
-      let bs = values_of_blocks w number (drop (index / w + 1) s.blocks) in
-      ap (λ m. indexes w index m bs) used_up ∙ indexes-zero w index bs ∙ ap (λ n. elements_from n bs) (let e : index + w ≡ (index / w + 1) * w = omega (arith, is.whole) in e)
-
-  next_left : (index : ℕ) (block : X) (s : Nonzeros X) (entries : List (ℕ × X)) → IsSparseWalk w number is_block index block s → s.left ≡ entries → Next w number s.blocks (index / w + 1) entries
-  next_left index block s entries is left = subst (Next w number s.blocks (index / w + 1)) (sym is.left ∙ left) (next_nonzero w number s.blocks (index / w + 1) _ refl)
-
-  jumps : (index q : ℕ) (block x : X) (s t : Nonzeros X) → IsSparseWalk w number is_block index block s → number block ≡ 0 → PullsNonzero s (Some (q, x)) t
-      → Reaches w number is_block (seen w number is_block index block s) (q * w) x t (seen w number is_block (q * w) x t)
-  jumps index q block x s t is used_up pull =
-      let next : IsNext w number s.blocks (index / w + 1) q x t.left = next_left index block s ((q, x) ∷ t.left) is pull.item in
-      let lawful = All-head is_block x _ (subst (All is_block) next.here (All-drop is_block q s.blocks is.each)) in
-      let other : (index / w == q * w / w) ≡ false = ne_eqb _ _ (λ e. omega (arith, e, whole_index w q pos, next.onward)) in
-      record {
-        moved = move index q block x s t is lawful pull.same (omega (arith, next.onward)) (omega (arith, ap length next.here, length-drop q s.blocks)) next.past (sym (past_used_up index block s is used_up ∙ next.same));
-        pulls = pull.counted ∙ ap (λ b. s.pulls + (if b then 0 else 1)) (sym other);
+        onward = omega (arith, at, up.0);
+        along = along_by new.index front.index (back.index / w) whole is.whole (omega (arith, at, reach)) apart;
+        fewer = omega (arith, at, reach, up.0, apart);
+        pulls = grind (arith, nat_tests, pull.counted, other, count);
         summary = pull.summary;
       }
 
-  ends : (index : ℕ) (block x : X) (s t : Nonzeros X) → IsSparseWalk w number is_block index block s → number block ≡ 0 → is_block x → number x ≡ 0 → PullsNonzero s None t
-      → IsSparseWalk w number is_block ((length s.blocks - 1) * w) x t × Advances w (seen w number is_block index block s) None (seen w number is_block ((length s.blocks - 1) * w) x t)
+  takes_over_next : (front back new other : Hand X) (s t : Nonzeros X) → IsSparseWalk w number is_block front s back → is_block other.block → number front.block ≡ 0 → TakesFirst s None t → new ≡ back → other.index ≡ back.index → number other.block ≡ 0
+      → ReachesNext w number is_block (seen_of w number front s back) new t other
+  takes_over_next front back new other s t is lawful used_up look taken index other_used_up =
+      let apart = ends_apart front back s is in
+      let at_back = indexes w back.index (number back.block) [] in
+      let same : left_between w number back t.left other ≡ left_between w number front s.left back =
+      ap₂ (λ entries xs. at_back ++ (indexes_of w number entries ++ xs)) look.item.1 (no_indexes w other.index (number other.block) other_used_up)
+      ∙ append-nil at_back
+      ∙ sym (ap₂ (λ xs entries. xs ++ (indexes_of w number entries ++ at_back)) (no_indexes w front.index (number front.block) used_up) look.item.0) in
+      let left = ap length look.item.1 in
+      let was = ap length look.item.0 in
+      let at = ap (λ n. n / w) index in
+      let whole : other.index ≡ other.index / w * w = index ∙ is.whole_back ∙ ap (λ n. n * w) (sym at) in
+      let past : AscendsFrom (back.index / w + 1) (map (λ entry. entry.0) t.left ++ (other.index / w + 1) ∷ []) = subst (λ entries. AscendsFrom (back.index / w + 1) (map (λ (entry : ℕ × X). entry.0) entries ++ (other.index / w + 1) ∷ [])) (sym look.item.1) (omega (arith, at), tt) in
+      rw taken (record {
+        reached = record {
+          walk = moved front back back other s t is is.at_back lawful (no_entries look.item.1) look.same is.whole_back whole past (omega (arith, at)) same;
+          same = same;
+          kept = omega (arith, look.counted, left, was);
+        };
+        onward = apart;
+        along = (rw at (along_by back.index front.index (back.index / w) is.whole_back is.whole (omega arith) apart));
+        fewer = omega (arith, at, apart);
+        pulls = look.counted ∙ no_pull _ (length s.left) s.pulls was;
+        summary = look.summary;
+      })
+
+  -- a refill that found a block, or had one
+  pub refilled : (front back new other : Hand X) (s t : Nonzeros X) → IsSparseWalk w number is_block front s back → is_block new.block → is_block other.block → Refills TakesFirst PullsNonzero w number s front back true t new other
+      → ReachesNext w number is_block (seen_of w number front s back) new t other
+  refilled front back new other s t is lawful lawful_too found =
+      elim found [
+        | inl stays ↦ rw (stays.walk, stays.hand_stays, stays.other_stays) (stays_next front back s is)
+        | inr past ↦ elim past [
+            | inl fills ↦ rw fills.other_stays (fills_next front back new s t fills.k is lawful fills.used_up fills.pulled fills.index)
+            | inr rest ↦ elim rest [
+                | inl takes ↦ takes_over_next front back new other s t is lawful_too takes.used_up takes.none_left takes.taken takes.other_index takes.other_used_up
+                | inr out ↦ absurd (true≢false out.not_found)
+              ]
+          ]
+      ]
+
+  -- one that found none
+  pub refilled-end : (front back new other : Hand X) (s t : Nonzeros X) → IsSparseWalk w number is_block front s back → Refills TakesFirst PullsNonzero w number s front back false t new other
+      → (IsSparseWalk w number is_block (record { block = new.block; index = back.index }) t other × Advances w (seen_of w number front s back) None (seen_of w number (record { block = new.block; index = back.index }) t other))
   unfolding PullsBlocks
-  ends index block x s t is used_up lawful nothing pull =
-      let n = length s.blocks - 1 in
-      let none : drop (n + 1) s.blocks ≡ [] = drop_all (n + 1) s.blocks (omega arith) in
-      let ended = past_used_up index block s is used_up ∙ next_left index block s [] is pull.item.0 in
-      let empty = ap₂ (λ m xs. indexes w (n * w) m (values_of_blocks w number xs)) nothing none ∙ indexes-zero w (n * w) [] in
-      let to = move index n block x s t is lawful pull.same is.inside (omega arith) (pull.item.1 ∙ ap (nonzero_from number (n + 1)) (sym none)) (empty ∙ sym ended) in (
-        to.walk,
+  refilled-end front back new other s t is found =
+      elim found [
+        | inl stays ↦ absurd (true≢false (sym stays.is_found))
+        | inr past ↦ elim past [
+            | inl fills ↦ absurd (true≢false (sym fills.is_found))
+            | inr rest ↦ elim rest [
+                | inl takes ↦ absurd (true≢false (sym takes.is_found))
+                | inr out ↦ rw (out.hand_stays, out.other_stays) (ended out)
+              ]
+          ]
+      ]
+    where
+      ended : RunsOut PullsNonzero number s front back false t new other
+          → (IsSparseWalk w number is_block (record { block = front.block; index = back.index }) t back × Advances w (seen_of w number front s back) None (seen_of w number (record { block = front.block; index = back.index }) t back))
+      ended out =
+          let apart = ends_apart front back s is in
+          let was : left_between w number front s.left back ≡ [] =
+          ap₂ (λ xs entries. xs ++ (indexes_of w number entries ++ indexes w back.index (number back.block) [])) (no_indexes w front.index (number front.block) out.used_up) out.end.item.0 ∙ no_indexes w back.index (number back.block) out.other_used_up in
+          let now : left_between w number (record { block = front.block; index = back.index }) t.left back ≡ [] =
+          ap₂ (λ xs entries. xs ++ (indexes_of w number entries ++ indexes w back.index (number back.block) [])) (no_indexes w back.index (number front.block) out.used_up) out.end.item.1 ∙ no_indexes w back.index (number back.block) out.other_used_up in
+          let none = ap length out.end.item.1 in
+          let none_before = ap length out.end.item.0 in (
+            moved front back (record { block = front.block; index = back.index }) back s t is is.in_hand is.at_back (no_entries out.end.item.1) out.end.same is.whole_back is.whole_back
+            (subst (λ entries. AscendsFrom (back.index / w + 1) (map (λ (entry : ℕ × X). entry.0) entries ++ (back.index / w + 1) ∷ [])) (sym out.end.item.1) (omega arith, tt))
+            (omega arith) (now ∙ sym was),
+            record {
+              item = (was, now);
+              first = tt;
+              pulls = record {
+                goes_on = omega (arith, out.end.counted);
+                pulled = omega (arith, out.end.counted);
+                along = along_by back.index front.index (back.index / w) is.whole_back is.whole (omega arith) apart;
+                at = omega arith;
+                sparse = out.end.counted;
+                nonzero = (none_before, none);
+                summary = out.end.summary;
+              };
+            },
+          )
+
+  -- the lowest one of the block that was reached is taken
+  pub given_one : (s : Walk) (front back : Hand X) (i : ℕ) (r : X) (it : Nonzeros X) → ReachesNext w number is_block s front it back → is_block r → IsLowest (number front.block) i → i < w → IsCleared w (number front.block) i (number r)
+      → (IsSparseWalk w number is_block (record { block = r; index = front.index }) it back × (front.index + i < 2 ^ 64) × Advances w s (Some (front.index + i)) (seen_of w number (record { block = r; index = front.index }) it back))
+  unfolding PullsBlocks
+  given_one s front back i r it to lawful low within cleared =
+      let is = to.reached.walk in
+      let rest = indexes_of w number it.left ++ indexes w back.index (number back.block) [] in
+      let new : Hand X = record { block = r; index = front.index } in
+      let taken : left_between w number front it.left back ≡ (front.index + i) ∷ left_between w number new it.left back =
+      ap (λ xs. xs ++ rest) (indexes-lowest w front.index (number front.block) (number r) i [] low within cleared) in
+      let up = subst IsAscending taken is.ascends in
+      let below = subst (All (λ n. n < 2 ^ 64)) taken is.below in
+      let item : s.left ≡ (front.index + i) ∷ left_between w number new it.left back = sym to.reached.same ∙ taken in
+      let index_is : (front.index + i) / w ≡ front.index / w = ap (λ n. (n + i) / w) is.whole ∙ div-mul-add (front.index / w) w i within in
+      let most : (if s.index / w == front.index / w then 0 else min 1 s.nonzero_left) ≤ front.index / w - s.index / w = grind (arith, nat_tests, to.onward) in (
         record {
-          item = (ended, to.same ∙ ended);
-          first = tt;
+          in_hand = lawful;
+          at_back = is.at_back;
+          each = is.each;
+          whole = is.whole;
+          whole_back = is.whole_back;
+          past = is.past;
+          inside = is.inside;
+          fits = is.fits;
+          ascends = AscendsFrom-lower (front.index + i + 1) 0 _ (omega arith) up.1;
+          below = All-tail (λ n. n < 2 ^ 64) (front.index + i) _ below;
+          count_fits = omega (arith, is.count_fits, ap length taken);
+        },
+        All-head (λ n. n < 2 ^ 64) (front.index + i) _ below,
+        record {
+          item = item;
+          first = takes_least 0 s.left (front.index + i) _ (subst IsAscending to.reached.same is.ascends) item;
           pulls = record {
-            goes_on = omega (arith, pull.counted);
-            pulled = omega (arith, pull.counted);
+            goes_on = omega (arith, to.pulls);
+            pulled = omega (arith, to.pulls, most, to.fewer);
             along = to.along;
-            at = omega (arith, to.fewer, whole_index w n pos, length-drop (index / w + 1) s.blocks, is.inside);
-            sparse = pull.counted;
-            summary = pull.summary;
+            at = (omega arith, omega (arith, within));
+            sparse = record {
+              onward = omega (arith, to.onward, index_is);
+              index = is.whole ∙ ap (λ n. n * w) (sym index_is);
+              pulls = to.pulls ∙ ap (λ n. s.pulls + (if s.index / w == n then 0 else min 1 s.nonzero_left)) (sym index_is);
+            };
+            nonzero = to.reached.kept;
+            summary = to.summary;
           };
         },
       )
 
-  -- a refill that found a block, or had one
-  pub refilled : (index at : ℕ) (block x : X) (s t : Nonzeros X) → IsSparseWalk w number is_block index block s → is_block x → Refills w number s (number block) index true t x at → Reaches w number is_block (seen w number is_block index block s) at x t (seen w number is_block at x t)
-  refilled index at block x s t is lawful found =
-      elim (cases_eq (number block) 0) [
-        | inl none ↦ let (k, at_is, pull) = found.next none refl in rw at_is (jumps index k block x s t is none pull)
-        | inr there ↦
-            let test : not (number block == 0) ≡ true = ap not (ne_eqb (number block) 0 there) in
-            let (same, walk_is, number_is, index_is) = found.stays test in
-            let here : (index / w == index / w * w / w) ≡ true = eq-eqb _ _ (sym (whole_index w (index / w) pos)) in
-            rw (walk_is, index_is ∙ is.whole) (record {
-              moved = move index (index / w) block x s s is lawful refl (omega arith) is.inside is.left (ap₂ (λ j m. indexes w j m (values_of_blocks w number (drop (index / w + 1) s.blocks))) (sym is.whole) number_is);
-              pulls = (let e : s.pulls ≡ s.pulls + 0 = omega arith in e) ∙ ap (λ b. s.pulls + (if b then 0 else 1)) (sym here);
-              summary = refl;
-            })
+  -- ---- the hand at the back
+
+  stays_last : (front back : Hand X) (s : Nonzeros X) → IsSparseWalk w number is_block front s back → ReachesLast w number is_block (seen_of w number front s back) front s back
+  stays_last front back s is = record {
+    reached = record { walk = is; same = refl; kept = refl };
+    goes_on = omega arith;
+    index = refl;
+    fewer = omega arith;
+    summary = refl;
+    summary_left = omega arith;
+  }
+
+  fills_last : (front back new : Hand X) (s t : Nonzeros X) (k : ℕ) → IsSparseWalk w number is_block front s back → is_block new.block → number back.block ≡ 0 → TakesLast s (Some (k, new.block)) t → new.index ≡ k * w
+      → ReachesLast w number is_block (seen_of w number front s back) front t new
+  fills_last front back new s t k is lawful used_up pull index =
+      let at : new.index / w ≡ k = ap (λ n. n / w) index ∙ whole_index w k pos in
+      let numbers : map (λ (entry : ℕ × X). entry.0) s.left ≡ map (λ (entry : ℕ × X). entry.0) t.left ++ k ∷ [] = ap (map (λ (entry : ℕ × X). entry.0)) pull.item ∙ map-append (λ (entry : ℕ × X). entry.0) t.left ((k, new.block) ∷ []) in
+      let up = ascends-cut (front.index / w + 1) k (back.index / w + 1) (map (λ entry. entry.0) t.left) (subst (λ ks. AscendsFrom (front.index / w + 1) (ks ++ (back.index / w + 1) ∷ [])) numbers is.past) in
+      let at_front = indexes w front.index (number front.block) [] in
+      let same : left_between w number front t.left new ≡ left_between w number front s.left back =
+      sym (
+        ap₂ (λ entries xs. at_front ++ (indexes_of w number entries ++ xs)) pull.item (no_indexes w back.index (number back.block) used_up)
+        ∙ ap (λ xs. at_front ++ xs) (
+          append-nil (indexes_of w number (t.left ++ (k, new.block) ∷ []))
+          ∙ indexes_of-pushed w number t.left (k, new.block)
+          ∙ ap (λ p. indexes_of w number t.left ++ indexes w p (number new.block) []) (sym index)
+        )
+      ) in
+      let count = ap length pull.item ∙ length-append t.left ((k, new.block) ∷ []) in
+      record {
+        reached = record {
+          walk = moved front back front new s t is is.in_hand lawful (All-init (λ (entry : ℕ × X). is_block entry.1) t.left (k, new.block) (subst (All (λ (entry : ℕ × X). is_block entry.1)) pull.item is.each)) pull.same is.whole (index ∙ ap (λ n. n * w) (sym at)) (subst (λ n. AscendsFrom (front.index / w + 1) (map (λ entry. entry.0) t.left ++ (n + 1) ∷ [])) (sym at) up.0) (omega (arith, at, up.1)) same;
+          same = same;
+          kept = omega (arith, pull.counted, count);
+        };
+        goes_on = omega (arith, pull.counted);
+        index = refl;
+        fewer = omega (arith, at, up.1);
+        summary = pull.summary;
+        summary_left = pull.summary_left;
+      }
+
+  takes_over_last : (front back new other : Hand X) (s t : Nonzeros X) → IsSparseWalk w number is_block front s back → is_block other.block → number back.block ≡ 0 → TakesLast s None t → new ≡ front → other.index ≡ front.index → number other.block ≡ 0
+      → ReachesLast w number is_block (seen_of w number front s back) other t new
+  takes_over_last front back new other s t is lawful used_up look taken index other_used_up =
+      let apart = ends_apart front back s is in
+      let at_front = indexes w front.index (number front.block) [] in
+      let same : left_between w number other t.left front ≡ left_between w number front s.left back =
+      ap₂ (λ xs entries. xs ++ (indexes_of w number entries ++ at_front)) (no_indexes w other.index (number other.block) other_used_up) look.item.1
+      ∙ sym (append-nil at_front)
+      ∙ sym (ap₂ (λ entries xs. at_front ++ (indexes_of w number entries ++ xs)) look.item.0 (no_indexes w back.index (number back.block) used_up)) in
+      let left = ap length look.item.1 in
+      let was = ap length look.item.0 in
+      let at = ap (λ n. n / w) index in
+      let whole : other.index ≡ other.index / w * w = index ∙ is.whole ∙ ap (λ n. n * w) (sym at) in
+      let past : AscendsFrom (other.index / w + 1) (map (λ entry. entry.0) t.left ++ (front.index / w + 1) ∷ []) = subst (λ entries. AscendsFrom (other.index / w + 1) (map (λ (entry : ℕ × X). entry.0) entries ++ (front.index / w + 1) ∷ [])) (sym look.item.1) (omega (arith, at), tt) in
+      rw taken (record {
+        reached = record {
+          walk = moved front back other front s t is lawful is.in_hand (no_entries look.item.1) look.same whole is.whole past apart same;
+          same = same;
+          kept = omega (arith, look.counted, left, was);
+        };
+        goes_on = omega (arith, look.counted);
+        index = index;
+        fewer = omega (arith, at);
+        summary = look.summary;
+        summary_left = look.summary_left;
+      })
+
+  pub refilled_back : (front back new other : Hand X) (s t : Nonzeros X) → IsSparseWalk w number is_block front s back → is_block new.block → is_block other.block → Refills TakesLast PullsLast w number s back front true t new other
+      → ReachesLast w number is_block (seen_of w number front s back) other t new
+  refilled_back front back new other s t is lawful lawful_too found =
+      elim found [
+        | inl stays ↦ rw (stays.walk, stays.hand_stays, stays.other_stays) (stays_last front back s is)
+        | inr past ↦ elim past [
+            | inl fills ↦ rw fills.other_stays (fills_last front back new s t fills.k is lawful fills.used_up fills.pulled fills.index)
+            | inr rest ↦ elim rest [
+                | inl takes ↦ takes_over_last front back new other s t is lawful_too takes.used_up takes.none_left takes.taken takes.other_index takes.other_used_up
+                | inr out ↦ absurd (true≢false out.not_found)
+              ]
+          ]
       ]
 
-  -- one that found none
-  pub refilled-end : (index at last : ℕ) (block x : X) (s t : Nonzeros X) → IsSparseWalk w number is_block index block s → is_block x → Refills w number s (number block) index false t x at
-      → last ≡ (length t.blocks - 1) * w → IsSparseWalk w number is_block last x t × Advances w (seen w number is_block index block s) None (seen w number is_block last x t)
-  refilled-end index at last block x s t is lawful found last_is =
-      let nothing : number x ≡ 0 = let test = found.some in grind (arith, nat_tests) in
-      elim (cases_eq (number block) 0) [
-        | inl none ↦ let pull = found.ends none refl in rw (last_is ∙ ap (λ xs. (length xs - 1) * w) pull.same) (ends index block x s t is none lawful nothing pull)
-        | inr there ↦ absurd (true≢false (sym (found.stays (ap not (ne_eqb (number block) 0 there))).0))
+  pub refilled_back-end : (front back new other : Hand X) (s t : Nonzeros X) → IsSparseWalk w number is_block front s back → Refills TakesLast PullsLast w number s back front false t new other
+      → (IsSparseWalk w number is_block other t (record { block = new.block; index = front.index }) × AdvancesBack w (seen_of w number front s back) None (seen_of w number other t (record { block = new.block; index = front.index })))
+  unfolding PullsBlocksBack
+  refilled_back-end front back new other s t is found =
+      elim found [
+        | inl stays ↦ absurd (true≢false (sym stays.is_found))
+        | inr past ↦ elim past [
+            | inl fills ↦ absurd (true≢false (sym fills.is_found))
+            | inr rest ↦ elim rest [
+                | inl takes ↦ absurd (true≢false (sym takes.is_found))
+                | inr out ↦ rw (out.hand_stays, out.other_stays) (ended out)
+              ]
+          ]
       ]
+    where
+      ended : RunsOut PullsLast number s back front false t new other
+          → (IsSparseWalk w number is_block front t (record { block = back.block; index = front.index }) × AdvancesBack w (seen_of w number front s back) None (seen_of w number front t (record { block = back.block; index = front.index })))
+      ended out =
+          let apart = ends_apart front back s is in
+          let was : left_between w number front s.left back ≡ [] =
+          ap₂ (λ xs entries. xs ++ (indexes_of w number entries ++ indexes w back.index (number back.block) [])) (no_indexes w front.index (number front.block) out.other_used_up) out.end.item.0 ∙ no_indexes w back.index (number back.block) out.used_up in
+          let now : left_between w number front t.left (record { block = back.block; index = front.index }) ≡ [] =
+          ap₂ (λ xs entries. xs ++ (indexes_of w number entries ++ indexes w front.index (number back.block) [])) (no_indexes w front.index (number front.block) out.other_used_up) out.end.item.1 ∙ no_indexes w front.index (number back.block) out.used_up in (
+            moved front back front (record { block = back.block; index = front.index }) s t is is.in_hand is.at_back (no_entries out.end.item.1) out.end.same is.whole is.whole
+            (subst (λ entries. AscendsFrom (front.index / w + 1) (map (λ (entry : ℕ × X). entry.0) entries ++ (front.index / w + 1) ∷ [])) (sym out.end.item.1) (omega arith, tt))
+            apart (now ∙ sym was),
+            record {
+              item = (was, now);
+              last = tt;
+              pulls = record {
+                pulled = (out.end.counted, ap length out.end.item.0, ap length out.end.item.1);
+                goes_on = omega (arith, out.end.counted);
+                index = refl;
+                fewer = omega arith;
+                at = omega arith;
+                summary = out.end.summary;
+                summary_left = out.end.summary_left;
+              };
+            },
+          )
 
-  -- the lowest one of the block that was reached is taken
-  pub given_one : (s : Walk) (index i : ℕ) (block r : X) (it : Nonzeros X) → Reaches w number is_block s index block it (seen w number is_block index block it) → is_block r
-      → IsLowest (number block) i → i < w → IsCleared w (number block) i (number r) → IsSparseWalk w number is_block index r it × (index + i < 2 ^ 64) × Advances w s (Some (index + i)) (seen w number is_block index r it)
-  unfolding PullsBlocks
-  given_one s index i block r it to lawful low within cleared =
-      let is = to.moved.walk in
-      let ahead = past_block w number index it.blocks it.pulls in
-      let taken = CanWalk-taken w index (number block) (number r) i ahead is.can low within cleared in
-      let index_is : (index + i) / w ≡ index / w = ap (λ n. (n + i) / w) is.whole ∙ div-mul-add (index / w) w i within in
-      let item : s.left ≡ (index + i) ∷ indexes w index (number r) ahead.values = sym to.moved.same ∙ indexes-lowest w index (number block) (number r) i ahead.values low within cleared in (
-        record { in_hand = lawful; each = is.each; left = is.left; whole = is.whole; inside = is.inside; can = taken.0 },
-        taken.1,
+  -- the highest one of the block that was reached is taken
+  pub given_last : (s : Walk) (front back : Hand X) (i : ℕ) (r : X) (it : Nonzeros X) → ReachesLast w number is_block s front it back → is_block r → number r < 2 ^ w → IsHighest (number back.block) i → i < w → IsCleared w (number back.block) i (number r)
+      → (IsSparseWalk w number is_block front it (record { block = r; index = back.index }) × (back.index + i < 2 ^ 64) × AdvancesBack w s (Some (back.index + i)) (seen_of w number front it (record { block = r; index = back.index })))
+  unfolding PullsBlocksBack
+  given_last s front back i r it to lawful small high within cleared =
+      let is = to.reached.walk in
+      let apart = ends_apart front back it is in
+      let new : Hand X = record { block = r; index = back.index } in
+      let at_front = indexes w front.index (number front.block) [] in
+      let inner = indexes_of w number it.left in
+      let last = indexes w back.index (number r) [] in
+      let x = back.index + i in
+      let taken : left_between w number front it.left back ≡ left_between w number front it.left new ++ x ∷ [] =
+      ap (λ xs. at_front ++ (inner ++ xs)) (indexes-highest w back.index (number back.block) (number r) i high within cleared small)
+      ∙ ap (λ xs. at_front ++ xs) (sym (append_assoc inner last (x ∷ [])))
+      ∙ sym (append_assoc at_front (inner ++ last) (x ∷ [])) in
+      let up : IsAscending (left_between w number front it.left new ++ x ∷ []) = subst IsAscending taken is.ascends in
+      let below = subst (All (λ n. n < 2 ^ 64)) taken is.below in
+      let item : s.left ≡ left_between w number front it.left new ++ x ∷ [] = sym to.reached.same ∙ taken in
+      let index_is : x / w ≡ back.index / w = ap (λ n. (n + i) / w) is.whole_back ∙ div-mul-add (back.index / w) w i within in (
+        record {
+          in_hand = is.in_hand;
+          at_back = lawful;
+          each = is.each;
+          whole = is.whole;
+          whole_back = is.whole_back;
+          past = is.past;
+          inside = is.inside;
+          fits = is.fits;
+          ascends = AscendsFrom-init 0 _ x up;
+          below = All-init (λ n. n < 2 ^ 64) (left_between w number front it.left new) x below;
+          count_fits = omega (arith, is.count_fits, ap length taken ∙ length-append (left_between w number front it.left new) (x ∷ []));
+        },
+        All-last (λ n. n < 2 ^ 64) (left_between w number front it.left new) x below,
         record {
           item = item;
-          first = takes_least index s.left (index + i) _ (subst (AscendsFrom index) to.moved.same (AscendsFrom-indexes w index (number block) ahead.values)) item;
+          last = takes_greatest s.left _ x (subst IsAscending to.reached.same is.ascends) item;
           pulls = record {
-            goes_on = omega (arith, to.pulls);
-            pulled = pulls_by (s.index / w) (index / w) it.pulls s.pulls _ _ to.moved.onward to.pulls to.moved.fewer;
-            along = to.moved.along;
-            at = (omega arith, omega (arith, within));
-            sparse = record {
-              onward = omega (arith, to.moved.onward, index_is);
-              index = is.whole ∙ ap (λ n. n * w) (sym index_is);
-              pulls = to.pulls ∙ ap (λ n. s.pulls + (if s.index / w == n then 0 else 1)) (sym index_is);
-            };
+            pulled = to.reached.kept;
+            goes_on = to.goes_on;
+            index = to.index;
+            fewer = to.fewer;
+            at = omega (arith, apart, index_is);
             summary = to.summary;
+            summary_left = to.summary_left;
           };
         },
       )
@@ -215,19 +448,20 @@ module _ {X : Type 0} (w : ℕ) (number : X → ℕ) (is_block : X → Type 0) (
 -- ---- how many are left
 
 module _ {X : Type 0} (w : ℕ) (number : X → ℕ) (is_block : X → Type 0) (small : (x : X) → is_block x → number x < 2 ^ w) where
-  -- the blocks that are 0 have no ones
-  ones_of_nonzero : (k : ℕ) (xs : List X) → All is_block xs → ones_left number (nonzero_from number k xs) ≡ length (elements (values_of_blocks w number xs))
-  ones_of_nonzero k [] each = refl
-  ones_of_nonzero k (y ∷ ys) each =
-      let rest = ones_of_nonzero (k + 1) ys (All-tail is_block y ys each) in
-      let block = length-elements-block w (number y) (values_of_blocks w number ys) (small y (All-head is_block y ys each)) in
-      cond_both (number y == 0) (nonzero_from number (k + 1) ys) ((k, y) ∷ nonzero_from number (k + 1) ys) (λ entries. ones_left number entries ≡ length (elements (values_of_blocks w number (y ∷ ys))))
-      (λ is. omega (arith, rest, block, ones_le_self (number y), eqb-true (number y) 0 is))
-      (λ is. omega (arith, rest, block, sum_by-cons (λ entry. count_ones (number entry.1)) (k, y) (nonzero_from number (k + 1) ys)))
+  ones_of_block : (p : ℕ) (x : X) → is_block x → length (indexes w p (number x) []) ≡ count_ones (number x)
+  ones_of_block p x lawful = let count = length-indexes w p (number x) [] (small x lawful) in omega (arith, count)
 
-  -- those of the block in hand and of the blocks past it
-  pub ones_ahead : (index : ℕ) (block : X) (it : Nonzeros X) → IsSparseWalk w number is_block index block it → count_ones (number block) + ones_left number it.left ≡ length (seen w number is_block index block it).left
-  ones_ahead index block it is =
-      let xs = drop (index / w + 1) it.blocks in
-      let past = ap (ones_left number) is.left ∙ ones_of_nonzero (index / w + 1) xs (All-drop is_block (index / w + 1) it.blocks is.each) in
-      omega (arith, past, length-indexes w index (number block) (values_of_blocks w number xs) (small block is.in_hand))
+  ones_of_entries : (entries : List (ℕ × X)) → All (λ (entry : ℕ × X). is_block entry.1) entries → length (indexes_of w number entries) ≡ ones_left number entries
+  ones_of_entries [] each = refl
+  ones_of_entries (entry ∷ entries) each =
+      let rest = ones_of_entries entries (All-tail (λ (e : ℕ × X). is_block e.1) entry entries each) in
+      let first = ones_of_block (entry.0 * w) entry.1 (All-head (λ (e : ℕ × X). is_block e.1) entry entries each) in
+      omega (arith, rest, first, length-append (indexes w (entry.0 * w) (number entry.1) []) (indexes_of w number entries), sum_by-cons (λ (e : ℕ × X). count_ones (number e.1)) entry entries)
+
+  -- those of the block in hand, of the blocks to pull, and of the one at the back
+  pub ones_ahead : (front back : Hand X) (it : Nonzeros X) → IsSparseWalk w number is_block front it back → count_ones (number front.block) + ones_left number it.left + count_ones (number back.block) ≡ length (left_between w number front it.left back)
+  ones_ahead front back it is =
+      let first = indexes w front.index (number front.block) [] in
+      let inner = indexes_of w number it.left in
+      let last = indexes w back.index (number back.block) [] in
+      omega (arith, length-append first (inner ++ last), length-append inner last, ones_of_block front.index front.block is.in_hand, ones_of_entries it.left is.each, ones_of_block back.index back.block is.at_back)

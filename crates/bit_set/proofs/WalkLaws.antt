@@ -1,9 +1,9 @@
 -- What whole walks give, by one step after another, how often they pull, and which blocks they pass.
-use Rattle.std.proofs.Common.{◌≡◌, ℕ, ◌+◌, ◌-◌, ◌*◌, ◌/◌, ◌<◌, ◌≤◌, max, Bool, List, [], ◌∷◌, length, Option, Some, None, refl, sym, ap, ◌∙◌, arith, ◌==◌, ◌&&◌, false, nat_lt, if◌then◌else◌, map, div-add-mod', ap₂, subst, ◌++◌, take, cond, ◌||◌, drop}
+use Rattle.std.proofs.Common.{◌≡◌, ℕ, ◌+◌, ◌-◌, ◌*◌, ◌/◌, ◌<◌, ◌≤◌, max, Bool, List, [], ◌∷◌, length, length-append, min, Option, Some, None, refl, sym, ap, ◌∙◌, arith, ◌==◌, ◌&&◌, true, false, nat_lt, if◌then◌else◌, map, div-add-mod', ap₂, subst, ◌++◌, take, cond, ◌||◌, drop}
 use Rattle.std.proofs.{Math.{Bool.{or-false, and-false}, Nat.{mod-lt, lt_of_mul-lt-mul_left, zero-div}, Seq.{drop-append_seam, take-append_seam}}, lemmas.{Nat.le-div, Bool.{ne_eqb, cond_both, ltb-true}}}
 use Rattle.std.{proofs.lemmas.{Bool.Decides.nat_tests, List.append-nil}, specs.Iterator.{Yields, YieldsFirst, YieldsThen, Drains}}
 use Rattle.bit_words.specs.{Bits.blocks_for, declared.block.merge.Merge.Merge}
-use Rattle.bit_set.specs.{Agreement.WalksAgree, Sets.{IsAscending, has, elements, put_all, merge_of_sets, AscendsFrom}, Walk.{Walk, TwoSetWalk, Advances, PullsBlocks, PullsEachBlock, IsAtFirstBlock, IsAtFirstBlocks, AdvancesByEach, IsWalkedOut, IsWalkedOutByEach, IsAtStart}}
+use Rattle.bit_set.specs.{Agreement.WalksAgree, Sets.{IsAscending, has, elements, put_all, merge_of_sets, AscendsFrom}, Walk.{Walk, TwoSetWalk, Advances, AdvancesBack, CallsEnd, GivesFromEnds, in_order, PullsBlocks, PullsBlocksBack, PullsEachBlock, IsAtFirstBlock, IsAtFirstBlocks, AdvancesByEach, IsWalkedOut, IsWalkedOutByEach, IsAtStart}}
 use Rattle.bit_set.{specs.Walk.{StartsOverTwo, WalksOverTwo, blocks_past}, proofs.{SetLemmas.{same_members, IsAscending-elements}, SetLaws.{has-put_all, IsAscending-put_all}}}
 use Rattle.bit_set.proofs.{AlgebraLemmas.IsAscending-merge_of_sets, SparseLemmas.whole_index}
 
@@ -162,22 +162,57 @@ length-blocks_past w k x xs onward = grind (arith, nat_tests)
 
 -- ---- how often whole walks pull
 
-pub pulled_sparsely : (w : ℕ) (s t : Walk) (items : List ℕ) → 0 < w → YieldsThen (Advances w) s items None t → t.pulls ≡ s.pulls + length (blocks_past w (s.index / w) s.left) + 1
+-- each block that is not 0 is pulled once, and once more the end
+pub pulled_sparsely : (w : ℕ) (s t : Walk) (items : List ℕ) → YieldsThen (Advances w) s items None t → t.pulls ≡ s.pulls + s.nonzero_left + 1
 unfolding PullsBlocks
-pulled_sparsely w s t [] pos run =
-    let none = ap (λ xs. length (blocks_past w (s.index / w) xs)) (ap (λ walk. walk.left) run.1 ∙ run.2.item.0) in
-    omega (arith, run.2.pulls.sparse, ap (λ walk. walk.pulls) run.1, none)
-pulled_sparsely w s t (x ∷ xs) pos run =
+pulled_sparsely w s t items run =
+    let passed = kept (Advances w) (λ u. u.pulls + u.nonzero_left ≡ s.pulls + s.nonzero_left) (λ u v x step is. step.pulls.nonzero ∙ is) s run.0 items run.1 refl in
+    omega (arith, run.2.pulls.sparse, run.2.pulls.nonzero, passed)
+
+at_most_one : (b : Bool) (n : ℕ) → (if b then 0 else min 1 n) ≤ (if b then 0 else 1)
+at_most_one b n = grind arith
+
+-- no more than the blocks past the one in hand that an element lies in
+pub pulled_at_most : (w : ℕ) (s t : Walk) (items : List ℕ) → 0 < w → YieldsThen (Advances w) s items None t → t.pulls ≤ s.pulls + length (blocks_past w (s.index / w) s.left) + 1
+unfolding PullsBlocks
+pulled_at_most w s t [] pos run = omega (arith, run.2.pulls.sparse, ap (λ walk. walk.pulls) run.1)
+pulled_at_most w s t (x ∷ xs) pos run =
     let mid = run.1.0 in
     let found = run.1.1.pulls.sparse in
     let block : mid.index / w ≡ x / w = ap (λ n. n / w) found.index ∙ whole_index w (x / w) pos in
-    rw run.1.1.item (omega (arith, rw block at (pulled_sparsely w mid t xs pos (run.0, run.1.2, run.2)), found.pulls, length-blocks_past w (s.index / w) x mid.left found.onward))
+    rw run.1.1.item (omega (arith, rw block at (pulled_at_most w mid t xs pos (run.0, run.1.2, run.2)), found.pulls, at_most_one (s.index / w == x / w) s.nonzero_left, length-blocks_past w (s.index / w) x mid.left found.onward))
 
-pub pulled_whole : (w : ℕ) (values : List Bool) (s t : Walk) (items : List ℕ) → 0 < w → IsAtStart w values s → YieldsThen (Advances w) s items None t → t.pulls ≡ length (blocks_past w 0 (elements values)) + 2
+pub pulled_whole : (w : ℕ) (values : List Bool) (s t : Walk) (items : List ℕ) → IsAtStart w values s → YieldsThen (Advances w) s items None t → t.pulls ≡ length (blocks_past w 0 (elements values)) + 2
 unfolding IsAtFirstBlock
-pulled_whole w values s t items pos start run =
-    let first : s.index / w ≡ 0 = ap (λ n. n / w) start.at.index ∙ zero-div w in
-    omega (arith, rw (first, start.left) at (pulled_sparsely w s t items pos run), start.at.pulls)
+pulled_whole w values s t items start run = omega (arith, pulled_sparsely w s t items run, start.at.pulls, start.at.nonzero)
+
+-- ---- walks from both ends
+
+-- what is left after some calls, and what they pulled
+from_ends : (w : ℕ) (s t : Walk) (calls : List (Bool × ℕ)) → GivesFromEnds w s calls t → t.left ≡ [] → (s.left ≡ in_order calls) × (t.pulls + t.nonzero_left ≡ s.pulls + s.nonzero_left)
+unfolding PullsBlocks PullsBlocksBack
+from_ends w s t [] run none = (ap (λ walk. walk.left) run ∙ none, sym (ap (λ walk. walk.pulls + walk.nonzero_left) run))
+from_ends w s t ((true, x) ∷ calls) run none =
+    let rest = from_ends w run.0 t calls run.2 none in
+    (run.1.item ∙ ap (λ xs. x ∷ xs) rest.0, rest.1 ∙ run.1.pulls.nonzero)
+from_ends w s t ((false, x) ∷ calls) run none =
+    let rest = from_ends w run.0 t calls run.2 none in
+    (run.1.item ∙ ap (λ xs. xs ++ x ∷ []) rest.0, rest.1 ∙ run.1.pulls.pulled)
+
+pub both_ends : (w : ℕ) (s t u : Walk) (calls : List (Bool × ℕ)) (front : Bool) → GivesFromEnds w s calls t → CallsEnd w front t None u → (s.left ≡ in_order calls) × (u.left ≡ []) × (u.pulls ≡ s.pulls + s.nonzero_left + 1)
+unfolding PullsBlocks PullsBlocksBack
+both_ends w s t u calls true run end = let all = from_ends w s t calls run end.item.0 in (all.0, end.item.1, omega (arith, all.1, end.pulls.sparse, end.pulls.nonzero))
+both_ends w s t u calls false run end = let all = from_ends w s t calls run end.item.0 in (all.0, end.item.1, omega (arith, all.1, end.pulls.pulled))
+
+pub both_ends_whole : (w : ℕ) (values : List Bool) (s t u : Walk) (calls : List (Bool × ℕ)) (front : Bool) → IsAtStart w values s → GivesFromEnds w s calls t → CallsEnd w front t None u → (in_order calls ≡ elements values) × (u.pulls ≡ length (blocks_past w 0 (elements values)) + 2)
+unfolding IsAtFirstBlock
+both_ends_whole w values s t u calls front start run end =
+    let all = both_ends w s t u calls front run end in
+    (sym all.0 ∙ start.left, omega (arith, all.2, start.at.pulls, start.at.nonzero))
+
+pub none_back_for_good : (w : ℕ) (s t : Walk) (r : Option ℕ) → s.left ≡ [] → AdvancesBack w s r t → (r ≡ None) × (t.left ≡ [])
+none_back_for_good w s t None ended step = (refl, step.item.1)
+none_back_for_good w s t (Some x) ended step = let long = ap length (sym ended ∙ step.item) ∙ length-append t.left (x ∷ []) in absurd (omega (arith, long))
 
 -- the summary's blocks are pulled once each, and once more at the end
 pub summary_pulled : (w : ℕ) (s t : Walk) (items : List ℕ) → YieldsThen (Advances w) s items None t → t.summary_pulls ≡ s.summary_pulls + s.summary_left + 1

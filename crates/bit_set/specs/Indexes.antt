@@ -1,7 +1,7 @@
 -- Where the ones of blocks are. No public clause cites this.
-use Rattle.std.specs.{Prelude.{◌≡◌, ℕ, ◌+◌, ◌-◌, ◌*◌, ◌/◌, ◌^◌, ◌<◌, ◌≤◌, Bool, true, false, List, [], ◌++◌, map, length, drop, All, Option, Some, None, MatchOption, IsSomeAnd}, List.{range_with_len, flat_map}}
-use Rattle.bit_words.specs.{Digits.is_one, Nonzero.{Nonzeros, nonzero_from}, Merges.{merge_of_values, merge_of}, declared.block.merge.Merge.Merge}
-use Rattle.bit_set.specs.Sets.{elements_from, elements}
+use Rattle.std.specs.{Prelude.{◌≡◌, ℕ, ◌+◌, ◌-◌, ◌*◌, ◌/◌, ◌^◌, ◌<◌, ◌≤◌, Bool, true, false, List, [], ◌∷◌, ◌++◌, map, length, drop, All, Option, Some, None, MatchOption, IsSomeAnd}, List.{range_with_len, flat_map}}
+use Rattle.bit_words.specs.{Digits.is_one, Nonzero.{Hand, Nonzeros}, Merges.{merge_of_values, merge_of}, declared.block.merge.Merge.Merge}
+use Rattle.bit_set.specs.{Sets.{AscendsFrom, IsAscending, elements_from, elements}, Walk.Walk}
 
 -- the w binary digits of m from digit a on, as truth values
 abbrev pub digits_from : ℕ → ℕ → ℕ → List Bool
@@ -79,21 +79,41 @@ pub record IsWalk (is_block : Type 0) (w index m : ℕ) (ahead : Ahead) : Type 0
   pub in_hand : is_block
   pub can : CanWalk w index m ahead
 
--- Of all these blocks, what lies past the one whose first digit has index `index`.
-abbrev pub past_block : {X : Type 0} → ℕ → (X → ℕ) → ℕ → List X → ℕ → Ahead
-past_block w number index xs pulls =
-    let past = drop (index / w + 1) xs in record {
-      values = values_in w (map number past);
-      blocks = length past;
-      pulls = pulls;
-    }
+-- the indexes of the ones of blocks of w digits, each of which comes with its index among the blocks
+abbrev pub indexes_of : {X : Type 0} → ℕ → (X → ℕ) → List (ℕ × X) → List ℕ
+indexes_of w number [] = []
+indexes_of w number (entry ∷ entries) = indexes w (entry.0 * w) (number entry.1) [] ++ indexes_of w number entries
 
--- The fields of a walk that goes by the blocks that are not 0: those past the one in hand are all that it has to pull.
-pub record IsSparseWalk {X : Type 0} (w : ℕ) (number : X → ℕ) (is_block : X → Type 0) (index : ℕ) (block : X)
-    (it : Nonzeros X) : Type 0 where
-  pub in_hand : is_block block
-  pub each : All is_block it.blocks
-  pub left : it.left ≡ nonzero_from number (index / w + 1) (drop (index / w + 1) it.blocks)
-  pub whole : index ≡ index / w * w
-  pub inside : index / w ≤ length it.blocks - 1
-  pub can : CanWalk w index (number block) (past_block w number index it.blocks it.pulls)
+-- what a walk has left: of the block in hand at the front, of those that it has still to pull, and of the one at the back
+abbrev pub left_between : {X : Type 0} → ℕ → (X → ℕ) → Hand X → List (ℕ × X) → Hand X → List ℕ
+left_between w number front entries back =
+    indexes w front.index (number front.block) [] ++ (indexes_of w number entries
+    ++ indexes w back.index (number back.block) [])
+
+-- what contracts see of a walk that has these two blocks in hand
+abbrev pub seen_of : {X : Type 0} → ℕ → (X → ℕ) → Hand X → Nonzeros X → Hand X → Walk
+seen_of w number front it back = record {
+  left = left_between w number front it.left back;
+  pulls = it.pulls;
+  index = front.index;
+  blocks = back.index / w - front.index / w;
+  nonzero_left = length it.left;
+  summary_pulls = it.summary_pulls;
+  summary_left = it.summary_left;
+}
+
+-- The fields of a walk that goes by the blocks that are not 0. Those that it has still to pull lie past the one in hand
+-- at the front, none past the one at the back, and the indexes ascend.
+pub record IsSparseWalk {X : Type 0} (w : ℕ) (number : X → ℕ) (is_block : X → Type 0) (front : Hand X)
+    (it : Nonzeros X) (back : Hand X) : Type 0 where
+  pub in_hand : is_block front.block
+  pub at_back : is_block back.block
+  pub each : All (λ entry. is_block entry.1) it.left
+  pub whole : front.index ≡ front.index / w * w
+  pub whole_back : back.index ≡ back.index / w * w
+  pub past : AscendsFrom (front.index / w + 1) (map (λ entry. entry.0) it.left ++ (back.index / w + 1) ∷ [])
+  pub inside : back.index / w ≤ length it.blocks - 1
+  pub fits : (length it.blocks - 1) * w < 2 ^ 64
+  pub ascends : IsAscending (left_between w number front it.left back)
+  pub below : All (λ n. n < 2 ^ 64) (left_between w number front it.left back)
+  pub count_fits : length (left_between w number front it.left back) < 2 ^ 64

@@ -1,25 +1,28 @@
 -- Walks over the elements of a set, block by block.
-use Rattle.std.specs.{Prelude.{◌≡◌, ℕ, ◌+◌, ◌-◌, ◌*◌, ◌/◌, ◌^◌, ◌<◌, ◌≤◌, ◌==◌, max, min, Bool, nat_lt, if◌then◌else◌, List, [], ◌∷◌, length, ⊤, Option, Some, None, MatchOption}, Iterator.{YieldsFirst, YieldsThen}}
+use Rattle.std.specs.{Prelude.{◌≡◌, ℕ, ◌+◌, ◌-◌, ◌*◌, ◌/◌, ◌^◌, ◌<◌, ◌≤◌, ◌==◌, max, min, Bool, true, false, nat_lt, if◌then◌else◌, List, [], ◌∷◌, ◌++◌, length, ⊤, Option, Some, None, MatchOption}, Iterator.{YieldsFirst, YieldsLast, YieldsThen}}
 use Rattle.std.specs.Iterator.{Drains}
 use Rattle.bit_words.specs.{Bits.blocks_for, declared.block.merge.Merge.Merge}
-use Rattle.bit_set.specs.{Members.TakesLeast, Sets.{elements, merge_of_sets, those_from}}
+use Rattle.bit_set.specs.{Members.{TakesGreatest, TakesLeast}, Sets.{elements, merge_of_sets, those_from}}
 
 -- What contracts see of a walk over a set: the elements that are left, how often its block source gave it a block, or
--- the end, the first number of the block in hand, and how many blocks are past that block; how often a block of
--- the summary was pulled, and how many of these are left.
+-- the end, the first number of the block in hand, and how many blocks are past that block, up to the one in hand at
+-- the back; how many blocks that are not 0 it has still to pull; how often a block of the summary was pulled, and how
+-- many of these are left.
 pub record Walk : Type 0 where
   pub left : List ℕ
   pub pulls : ℕ
   pub index : ℕ
   pub blocks : ℕ
+  pub nonzero_left : ℕ
   pub summary_pulls : ℕ
   pub summary_left : ℕ
 
--- The item x was found in the block in hand with no pull, or else by one, in a block past it.
+-- The item x was found in the block in hand with no pull, or else by one, in a block past it; where none is left to
+-- pull, in the block that was pulled at the back.
 pub record FindsBlock (w : ℕ) (s : Walk) (x : ℕ) (t : Walk) : Type 0 where
   pub onward : s.index / w ≤ x / w
   pub index : t.index ≡ x / w * w
-  pub pulls : t.pulls ≡ s.pulls + (if s.index / w == x / w then 0 else 1)
+  pub pulls : t.pulls ≡ s.pulls + (if s.index / w == x / w then 0 else min 1 s.nonzero_left)
 
 -- How a call of `next` that gave r went from s to t along blocks of w. It pulled each block that it passed once at most,
 -- and once more where it found the end. The block in hand is then the one that has the item, or the last.
@@ -29,6 +32,8 @@ pub record Pulls (w : ℕ) (s : Walk) (r : Option ℕ) (t : Walk) : Type 0 where
   pub along : t.index + w * t.blocks ≡ s.index + w * s.blocks
   pub at : MatchOption r (t.blocks ≡ 0) (λ x. (t.index ≤ x) × (x < t.index + w))
   pub sparse : MatchOption r (t.pulls ≡ s.pulls + 1) (λ x. FindsBlock w s x t)
+  pub nonzero : MatchOption r ((s.nonzero_left ≡ 0) × (t.nonzero_left ≡ 0))
+      (λ _. t.pulls + t.nonzero_left ≡ s.pulls + s.nonzero_left)
   pub summary : MatchOption r ((t.summary_pulls ≡ s.summary_pulls + s.summary_left + 1) × (t.summary_left ≡ 0))
       (λ _. t.summary_pulls + t.summary_left ≡ s.summary_pulls + s.summary_left)
 
@@ -42,6 +47,45 @@ pub record Advances (w : ℕ) (s : Walk) (r : Option ℕ) (t : Walk) : Type 0 wh
   pub item : YieldsFirst (λ walk. walk.left) s r t
   pub first : MatchOption r ⊤ (λ x. TakesLeast s.left x t.left)
   pub pulls : PullsBlocks w s r t
+
+-- How a call of `next_back` that gave r went from s to t along blocks of w. It pulled the last block that is not 0 once
+-- at most, and once more where it found the end. The block in hand at the back is then the one that has the item. It
+-- pulled none of the summary's blocks.
+pub record PullsBack (w : ℕ) (s : Walk) (r : Option ℕ) (t : Walk) : Type 0 where
+  pub pulled : MatchOption r ((t.pulls ≡ s.pulls + 1) × (s.nonzero_left ≡ 0) × (t.nonzero_left ≡ 0))
+      (λ _. t.pulls + t.nonzero_left ≡ s.pulls + s.nonzero_left)
+  pub goes_on : s.pulls ≤ t.pulls
+  pub index : t.index ≡ s.index
+  pub fewer : t.blocks ≤ s.blocks
+  pub at : MatchOption r (t.blocks ≡ 0) (λ x. t.index / w + t.blocks ≡ x / w)
+  pub summary : t.summary_pulls ≡ s.summary_pulls
+  pub summary_left : t.summary_left ≤ s.summary_left
+
+-- the same, shut like `PullsBlocks`
+unfoldable pub PullsBlocksBack : ℕ → Walk → Option ℕ → Walk → Type 0
+PullsBlocksBack w s r t = PullsBack w s r t
+
+-- A call of `next_back` on s gave r and left t, over blocks of w: the last of what was left, which is the greatest, or
+-- None at the end, which stays.
+pub record AdvancesBack (w : ℕ) (s : Walk) (r : Option ℕ) (t : Walk) : Type 0 where
+  pub item : YieldsLast (λ walk. walk.left) s r t
+  pub last : MatchOption r ⊤ (λ x. TakesGreatest s.left x t.left)
+  pub pulls : PullsBlocksBack w s r t
+
+-- a call at one of the ends: at the front, or else at the back
+abbrev pub CallsEnd : ℕ → Bool → Walk → Option ℕ → Walk → Type 0
+CallsEnd w true s r t = Advances w s r t
+CallsEnd w false s r t = AdvancesBack w s r t
+
+-- From s, such calls gave these items, each with whether it came from the front, and left t.
+abbrev pub GivesFromEnds : ℕ → Walk → List (Bool × ℕ) → Walk → Type 0
+GivesFromEnds w s [] t = s ≡ t
+GivesFromEnds w s (call ∷ calls) t = (u : Walk) × CallsEnd w call.0 s (Some call.1) u × GivesFromEnds w u calls t
+
+-- these items in ascending order: those from the front as they came, and those from the back before the later ones
+abbrev pub in_order : List (Bool × ℕ) → List ℕ
+in_order [] = []
+in_order (call ∷ calls) = if call.0 then call.1 ∷ in_order calls else in_order calls ++ call.1 ∷ []
 
 -- the blocks of w past block k that have one of the numbers, which ascend: each once, in order
 abbrev pub blocks_past : ℕ → ℕ → List ℕ → List ℕ
@@ -109,6 +153,7 @@ pub record FirstPull (w : ℕ) (values : List Bool) (s : Walk) : Type 0 where
   pub pulls : s.pulls ≡ 1
   pub index : s.index ≡ 0
   pub blocks : s.blocks ≡ blocks_for w (length values) - 1
+  pub nonzero : s.nonzero_left ≡ length (blocks_past w 0 (elements values))
   pub summary : s.summary_pulls + s.summary_left ≡ max 1 (blocks_for w (blocks_for w (length values)))
 
 -- Where one is that begins at a number: the block of `from` is in hand, or the last one where the list ends before it.
@@ -116,6 +161,7 @@ pub record FirstPullFrom (w : ℕ) (values : List Bool) (from : ℕ) (s : Walk) 
   pub pulls : s.pulls ≡ 1
   pub index : s.index ≡ min (from / w) (blocks_for w (length values) - 1) * w
   pub blocks : s.blocks ≡ blocks_for w (length values) - 1 - from / w
+  pub nonzero : s.nonzero_left ≡ length (blocks_past w (s.index / w) (those_from (elements values) from))
   pub summary : s.summary_pulls + s.summary_left ≡ max 1
       (blocks_for w (blocks_for w (length values)) - min (from / w) (blocks_for w (length values) - 1) / w)
 

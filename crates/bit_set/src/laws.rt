@@ -8,7 +8,7 @@ ghost use Rattle.serde_json.specs.Data.{Data};
 ghost use Rattle.bit_set.specs.Sets.{IsAscending, has, put, put_all, without, those_below, those_from, those_new, elements, bound_of, union, intersection, difference, symmetric_difference, merge_of_sets, is_subset, is_disjoint};
 ghost use Rattle.bit_set.specs.{Agreement.WalksAgree, Changes.{Change, Changes, Event, Happens, outcomes, set_after, Outcome.{Done, NoMemory}}, Effects.TakesIn, Choices.{IsGreatest, IsLeast, IsLeastPassing}};
 ghost use Rattle.bit_set.specs.{Members.{HasNone, IsSameSet, TakesLeast}, Ranges.{span, span_end, those_in_range}, Capacity.Run, Json.{IsFirstFault, Spells}, declared.json.JsonError.JsonError, Walk.{Walk, TwoSetWalk, BoundedWalk, IsWalkedOut, IsAtStart}};
-ghost use Rattle.bit_set.specs.{Walk.{IsAtStartFrom, StartsOverTwo, WalksOverTwo, blocks_past}, Order.{same_sets, order_of_sets, fed_of_set}};
+ghost use Rattle.bit_set.specs.{Walk.{IsAtStartFrom, CallsEnd, GivesFromEnds, in_order, StartsOverTwo, WalksOverTwo, blocks_past}, Order.{same_sets, order_of_sets, fed_of_set}};
 
 use crate::bit_vec::Merge;
 use crate::{BitBlock, BitSet, Difference, Intersection, Iter, SymmetricDifference, Union};
@@ -236,14 +236,17 @@ pub fn whole_walks<B: BitBlock + 'static>()
 {}
 
 /// How often whole walks over a set pull. From any point up to the first `None` there is just one pull more
-/// than there are nonzero blocks past the block in hand; from the making on, when block 0 is in hand, zero
-/// or not, there are two more; so it is where a walk begins at any number, of the blocks past that of this number.
+/// than there are nonzero blocks that are not yet pulled, which are no more than lie past the block in hand; from the
+/// making on, when block 0 is in hand, zero or not, there are two more than lie past it; so it is where a walk begins at
+/// any number, of the blocks past that of this number.
 /// The blocks of the summary are pulled once each, and once more at the end.
 /// The nonzero blocks past block `k` are the blocks past it that an element which is left lies in, each once
 /// and in ascending order.
 pub fn sparse_walks<B: BitBlock + 'static>()
     ensures rest { (s t : Walk) (items : List ℕ) → YieldsThen ⟦<Iter<'static, B> as Iterator>⟧.next_gives s items None t
-        → t.pulls ≡ s.pulls + length (blocks_past B.width (s.index / B.width) s.left) + 1 }
+        → t.pulls ≡ s.pulls + s.nonzero_left + 1 }
+    ensures at_most { (s t : Walk) (items : List ℕ) → YieldsThen ⟦<Iter<'static, B> as Iterator>⟧.next_gives s items None t
+        → t.pulls ≤ s.pulls + length (blocks_past B.width (s.index / B.width) s.left) + 1 }
     ensures whole { (values : List Bool) (s t : Walk) (items : List ℕ) → IsAtStart B.width values s
         → YieldsThen ⟦<Iter<'static, B> as Iterator>⟧.next_gives s items None t
         → t.pulls ≡ length (blocks_past B.width 0 (elements values)) + 2 }
@@ -257,6 +260,21 @@ pub fn sparse_walks<B: BitBlock + 'static>()
     ensures members { (k q : ℕ) (numbers : List ℕ) → IsAscending numbers
         → has (blocks_past B.width k numbers) q ≡ (nat_lt k q && has (map (λ n. n / B.width) numbers) q) }
     ensures ascend { (k : ℕ) (numbers : List ℕ) → IsAscending (blocks_past B.width k numbers) }
+{}
+
+/// What a walk over a set gives from both ends, by calls of `next` and `next_back` in any mixture up to the first `None`:
+/// those from the front, and after them those from the back, the last one first, are all that was left. There is just one
+/// pull more than there are nonzero blocks that are not yet pulled, whichever end took them; from the making on there are
+/// two more than nonzero blocks past block 0.
+pub fn walks_from_both_ends<B: BitBlock + 'static>()
+    ensures rest { (s t u : Walk) (calls : List (Bool × ℕ)) (front : Bool) → GivesFromEnds B.width s calls t
+        → CallsEnd B.width front t None u
+        → (s.left ≡ in_order calls) × (u.left ≡ []) × (u.pulls ≡ s.pulls + s.nonzero_left + 1) }
+    ensures whole { (values : List Bool) (s t u : Walk) (calls : List (Bool × ℕ)) (front : Bool)
+        → IsAtStart B.width values s → GivesFromEnds B.width s calls t → CallsEnd B.width front t None u
+        → (in_order calls ≡ elements values) × (u.pulls ≡ length (blocks_past B.width 0 (elements values)) + 2) }
+    ensures for_good { (s t : Walk) (r : Option ℕ) → s.left ≡ [] → CallsEnd B.width false s r t
+        → (r ≡ None) × (t.left ≡ []) }
 {}
 
 /// What whole walks over two sets give, for each of the four. As above, but the pulls are exact: from any

@@ -1,8 +1,8 @@
 //! The walks over a set's elements, and over what two sets make.
 ghost use Rattle.std.specs.{Prelude.{◌≡◌, IfSome, length}, Iterator.{UpTo, item_count, Runs.YieldsInOrder, SizeHint.IsWithinCount}};
-ghost use Rattle.bit_set.specs.{Sets.{elements, those_from}, Walk.{Advances, IsAtStart, IsAtStartFrom, bound_on_rest}};
+ghost use Rattle.bit_set.specs.{Sets.{elements, those_from}, Walk.{Advances, AdvancesBack, IsAtStart, IsAtStartFrom, bound_on_rest}};
 
-use crate::bit_vec::{BitVec, Nonzero, block_or_zero, clear_below, take_lowest_one};
+use crate::bit_vec::{BitVec, Nonzero, block_or_zero, clear_below, take_highest_one, take_lowest_one};
 use crate::{BitBlock, BitSet};
 use std::marker::Model;
 
@@ -15,33 +15,31 @@ pub use intersection::Intersection;
 pub use missing::Missing;
 pub use two_sets::{Difference, SymmetricDifference, TwoSets, Union};
 
-/// The elements of a set in ascending order, each once. Looks at no block of the set that is zero, but at
-/// the first; where the set has few blocks and stores no summary, at each.
+/// The elements of a set in ascending order, each once, from both ends. Looks at no block of the set that is zero, but
+/// at the first; where the set has few blocks and stores no summary, at each.
 #[derive(Drop)]
 pub struct Iter<'a, B: BitBlock> {
     nonzero: Nonzero<'a, B>,
-    // What is left of the block in hand.
+    // What is left of the block in hand at the front.
     block: B,
     // The index of its lowest bit.
     index: usize,
+    // What is left of the block in hand at the back: zeros, before one is pulled there.
+    back: B,
+    // The index of its lowest bit, or of the last block's.
+    back_index: usize,
 }
 
 impl<'a, B: BitBlock> Model for Iter<'a, B> {
-    ghost use Rattle.bit_set.specs.{Walk.Walk, Indexes.{indexes, past_block, IsSparseWalk}};
+    ghost use Rattle.bit_set.specs.{Walk.Walk, Indexes.{seen_of, IsSparseWalk}};
 
     ghost Value = { Walk };
 
-    ghost view = { λ it. let past = past_block B.width B.number it.index it.nonzero.blocks it.nonzero.pulls in
-        record {
-          left = indexes B.width it.index (B.number it.block) past.values;
-          pulls = it.nonzero.pulls;
-          index = it.index;
-          blocks = past.blocks;
-          summary_pulls = it.nonzero.summary_pulls;
-          summary_left = it.nonzero.summary_left;
-        } };
+    ghost view = { λ it. seen_of B.width B.number (record { block = it.block; index = it.index }) it.nonzero
+        (record { block = it.back; index = it.back_index }) };
 
-    ghost invariant = { λ it. IsSparseWalk B.width B.number B.is_block it.index it.block it.nonzero };
+    ghost invariant = { λ it. IsSparseWalk B.width B.number B.is_block (record { block = it.block; index = it.index })
+        it.nonzero (record { block = it.back; index = it.back_index }) };
 }
 
 impl<'a, B: BitBlock> Iter<'a, B> {
@@ -50,10 +48,13 @@ impl<'a, B: BitBlock> Iter<'a, B> {
     pub(crate) fn over(bits: &'a BitVec<B>) -> Self
         ensures { IsAtStart B.width bits.now.values result }
     {
+        let blocks = bits.storage();
         Iter {
             nonzero: bits.nonzero_past_first(),
-            block: block_or_zero(bits.storage(), 0),
+            block: block_or_zero(blocks, 0),
             index: 0,
+            back: B::zero(),
+            back_index: blocks.len().saturating_sub(1) * B::bits(),
         }
     }
 
@@ -63,12 +64,15 @@ impl<'a, B: BitBlock> Iter<'a, B> {
         ensures { IsAtStartFrom B.width bits.now.values from result }
     {
         let blocks = bits.storage();
-        let first = (from / B::bits()).min(blocks.len().saturating_sub(1));
+        let last = blocks.len().saturating_sub(1);
+        let first = (from / B::bits()).min(last);
         let index = first * B::bits();
         Iter {
             nonzero: bits.nonzero_past(first),
             block: clear_below(block_or_zero(blocks, first), from - index),
             index,
+            back: B::zero(),
+            back_index: last * B::bits(),
         }
     }
 
@@ -77,7 +81,7 @@ impl<'a, B: BitBlock> Iter<'a, B> {
     pub fn count(self) -> usize
         ensures { result ≡ length self.entry.left }
     {
-        self.block.count_ones() + self.nonzero.count_ones()
+        self.block.count_ones() + self.nonzero.count_ones() + self.back.count_ones()
     }
 
     /// Another walk over what is left. It counts its pulls on from this one's. Constant time.
@@ -89,6 +93,8 @@ impl<'a, B: BitBlock> Iter<'a, B> {
             nonzero: self.nonzero.clone(),
             block: self.block,
             index: self.index,
+            back: self.back,
+            back_index: self.back_index,
         }
     }
 }
@@ -104,17 +110,19 @@ impl<'a, B: BitBlock> Iterator for Iter<'a, B> {
     /// is not zero by the summary; constant time within a block.
     #[inline]
     fn next(&mut self) -> Option<usize> {
-        if !self.nonzero.refill(&mut self.block, &mut self.index) {
+        let back_index = self.back_index;
+        let (block, index, back) = (&mut self.block, &mut self.index, &mut self.back);
+        if !self.nonzero.refill(block, index, back, back_index) {
             // On to the last block, however far it is: those before it are zeros, and `size_hint` counts the
             // blocks past `index`.
-            self.index = self.nonzero.as_slice().len().saturating_sub(1) * B::bits();
+            self.index = back_index;
             return None;
         }
         Some(self.index + take_lowest_one(&mut self.block))
     }
 
-    /// From 0 up to the bits of the block in hand and of the blocks past it, or to no bound where a
-    /// `usize` is too small for that. There is always a block in hand, one of zeros at the end and over a
+    /// From 0 up to the bits of the blocks from the one in hand at the front to the one at the back, or to no bound
+    /// where a `usize` is too small for that. There is always a block in hand, one of zeros at the end and over a
     /// set of length 0: so its bits count, of such a set too. Constant time.
     #[inline]
     fn size_hint(&self) -> (usize, Option<usize>)
@@ -122,9 +130,24 @@ impl<'a, B: BitBlock> Iterator for Iter<'a, B> {
         ensures lower { IsWithinCount result.0 (item_count (λ walk. walk.left) self.now) }
         ensures upper { IfSome result.1 (UpTo (item_count (λ walk. walk.left) self.now)) }
     {
-        let passed = self.index / B::bits() + 1;
-        let past = self.nonzero.as_slice().len().saturating_sub(passed);
-        (0, (1 + past).checked_mul(B::bits()))
+        (0, (self.back_index - self.index).checked_add(B::bits()))
+    }
+}
+
+impl<'a, B: BitBlock> DoubleEndedIterator for Iter<'a, B> {
+    ghost next_back_gives = { AdvancesBack B.width };
+
+    /// The greatest element that is left, and from the end on `None` for good. Both ends take of the same elements. Goes
+    /// on to the last block that is not zero by the summary; within a block as many steps as its width has binary digits.
+    #[inline]
+    fn next_back(&mut self) -> Option<usize> {
+        let index = self.index;
+        let (block, back, back_index) = (&mut self.block, &mut self.back, &mut self.back_index);
+        if !self.nonzero.refill_back(back, back_index, block, index) {
+            self.back_index = index;
+            return None;
+        }
+        Some(self.back_index + take_highest_one(&mut self.back))
     }
 }
 

@@ -126,6 +126,29 @@ fn a_walk_over_two_blocks_stays_at_its_end(rt: HostRuntime) {
     begins(&rt, &widest, [Some(127), Some(128), None, None, None]);
 }
 
+// What calls from the back, the front, the back, the front and the back in turn give.
+fn from_both_ends<B: BitBlock>(set: &BitSet<B>) -> [Option<usize>; 5] {
+    let mut walk = set.iter();
+    [
+        walk.next_back(),
+        walk.next(),
+        walk.next_back(),
+        walk.next(),
+        walk.next_back(),
+    ]
+}
+
+#[test]
+fn both_ends_take_of_the_same_elements(rt: HostRuntime) {
+    let apart = set_of::<u8>(&rt, rt.alloc(), &[3, 400, 5, 4]);
+    let items = [Some(400), Some(3), Some(5), Some(4), None];
+    expect_eq(&rt, &from_both_ends(&apart), &items);
+    let one_block = set_of::<u32>(&rt, rt.alloc(), &[1, 2, 3]);
+    let items = [Some(3), Some(1), Some(2), None, None];
+    expect_eq(&rt, &from_both_ends(&one_block), &items);
+    assert!(rt; apart.iter().rev().eq([400, 5, 4, 3]));
+}
+
 fn is_walk_over_none(set: &BitSet) -> bool {
     set.iter().size_hint() == (0, Some(32)) && set.iter().count() == 0
 }

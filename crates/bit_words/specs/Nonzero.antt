@@ -1,5 +1,5 @@
 -- A walk over the blocks that are not 0, each with its index.
-use Rattle.std.specs.{Prelude.{◌≡◌, ℕ, ◌+◌, ◌-◌, ◌*◌, ◌/◌, ◌==◌, Bool, true, false, not, None, Some, ◌≤◌, if◌then◌else◌, min, List, [], ◌∷◌, Option, MatchOption, ⊤, drop, length}, Int.RustNames.count_ones}
+use Rattle.std.specs.{Prelude.{◌≡◌, ℕ, ◌+◌, ◌-◌, ◌*◌, ◌/◌, ◌==◌, ◌<◌, ◌⊎◌, Bool, true, false, None, Some, ◌≤◌, if◌then◌else◌, min, List, [], ◌∷◌, Option, MatchOption, ⊤, drop, length}, Int.RustNames.count_ones}
 use Rattle.std.specs.{Iterator.{YieldsFirst, YieldsLast}, List.sum_by}
 use Rattle.bit_words.specs.Bits.{blocks_for}
 
@@ -85,11 +85,57 @@ ones_in number xs = sum_by (λ x. count_ones (number x)) xs
 abbrev pub ones_left : {X : Type 0} → (X → ℕ) → List (ℕ × X) → ℕ
 ones_left number left = sum_by (λ entry. count_ones (number entry.1)) left
 
--- A call of `refill` on s with a block m, which left t and the block x, whose first bit has the index `at`. Where m is
--- not 0 nothing changed. Else it is a pull; at the end the block is still 0.
-pub record Refills {X : Type 0} (w : ℕ) (number : X → ℕ) (s : Nonzeros X) (m index : ℕ) (found : Bool) (t : Nonzeros X)
-    (x : X) (at : ℕ) : Type 0 where
-  pub some : found ≡ not (number x == 0)
-  pub stays : not (m == 0) ≡ true → (found ≡ true) × (t ≡ s) × (number x ≡ m) × (at ≡ index)
-  pub next : m ≡ 0 → found ≡ true → (k : ℕ) × (at ≡ k * w) × PullsNonzero s (Some (k, x)) t
-  pub ends : m ≡ 0 → found ≡ false → PullsNonzero s None t
+-- a block that a walk has in hand, and the index of its first digit
+pub record Hand (X : Type 0) : Type 0 where
+  pub block : X
+  pub index : ℕ
+
+-- A call of `refill` or `refill_back` on s for a hand whose block was not 0, which left t: nothing changed.
+pub record Stays {X : Type 0} (number : X → ℕ) (s : Nonzeros X) (hand other : Hand X) (found : Bool) (t : Nonzeros X)
+    (new new_other : Hand X) : Type 0 where
+  pub some : 0 < number hand.block
+  pub is_found : found ≡ true
+  pub walk : t ≡ s
+  pub hand_stays : new ≡ hand
+  pub other_stays : new_other ≡ other
+
+-- For a hand whose block was 0 it is a pull.
+pub record Fills {X : Type 0} (takes : Nonzeros X → Option (ℕ × X) → Nonzeros X → Type 0) (w : ℕ) (number : X → ℕ)
+    (s : Nonzeros X) (hand other : Hand X) (found : Bool) (t : Nonzeros X) (new new_other : Hand X) : Type 0 where
+  pub used_up : number hand.block ≡ 0
+  pub is_found : found ≡ true
+  pub k : ℕ
+  pub pulled : takes s (Some (k, new.block)) t
+  pub some : 0 < number new.block
+  pub index : new.index ≡ k * w
+  pub other_stays : new_other ≡ other
+
+-- Where none is left the block in the other hand goes over to this one. No pull is counted.
+pub record TakesOver {X : Type 0} (takes : Nonzeros X → Option (ℕ × X) → Nonzeros X → Type 0) (number : X → ℕ)
+    (s : Nonzeros X) (hand other : Hand X) (found : Bool) (t : Nonzeros X) (new new_other : Hand X) : Type 0 where
+  pub used_up : number hand.block ≡ 0
+  pub is_found : found ≡ true
+  pub none_left : takes s None t
+  pub some : 0 < number other.block
+  pub taken : new ≡ other
+  pub other_index : new_other.index ≡ other.index
+  pub other_used_up : number new_other.block ≡ 0
+
+-- Where that is 0 too the end was found, which is a pull.
+pub record RunsOut {X : Type 0} (pulls : Nonzeros X → Option (ℕ × X) → Nonzeros X → Type 0) (number : X → ℕ)
+    (s : Nonzeros X) (hand other : Hand X) (found : Bool) (t : Nonzeros X) (new new_other : Hand X) : Type 0 where
+  pub used_up : number hand.block ≡ 0
+  pub not_found : found ≡ false
+  pub end : pulls s None t
+  pub other_used_up : number other.block ≡ 0
+  pub hand_stays : new ≡ hand
+  pub other_stays : new_other ≡ other
+
+-- one of these four
+abbrev pub Refills : {X : Type 0} → (Nonzeros X → Option (ℕ × X) → Nonzeros X → Type 0)
+    → (Nonzeros X → Option (ℕ × X) → Nonzeros X → Type 0) → ℕ → (X → ℕ) → Nonzeros X → Hand X → Hand X → Bool
+    → Nonzeros X → Hand X → Hand X → Type 0
+Refills takes pulls w number s hand other found t new new_other =
+    Stays number s hand other found t new new_other ⊎ (Fills takes w number s hand other found t new new_other
+    ⊎ (TakesOver takes number s hand other found t new new_other
+    ⊎ RunsOut pulls number s hand other found t new new_other))

@@ -24,6 +24,7 @@ mod pending;
 mod ranges;
 mod searching;
 
+pub use crate::block::highest::take_highest_one;
 pub use crate::block::lowest::take_lowest_one;
 pub use crate::block::masks::{clear_below, with_bit};
 pub use crate::block::merge::Merge;

@@ -3,7 +3,8 @@ use crate::expect::{expect, expect_eq, ok};
 use crate::lists::{list_of, put};
 use bit_words::bit_vec::{
     BitVec, BitsError, Merge, Steps, clear_below, first_mismatching_block, first_nonzero_block,
-    lowest_mismatch, mismatch_between, same_blocks, take_lowest_one,
+    lowest_mismatch, mismatch_between, same_blocks, take_highest_one,
+    take_lowest_one,
 };
 use std::alloc::{AllocError, Global};
 use std::process::Abort;
@@ -14,6 +15,13 @@ fn the_lowest_one_of_a_block(rt: HostRuntime) {
     let mut block = 0b0110u8;
     assert_eq!(rt; take_lowest_one(&mut block), 1);
     assert_eq!(rt; block, 0b0100);
+}
+
+#[test]
+fn the_highest_one_of_a_block(rt: HostRuntime) {
+    let mut block = 0b0110u8;
+    assert_eq!(rt; take_highest_one(&mut block), 2);
+    assert_eq!(rt; block, 0b0010);
 }
 
 #[test]

@@ -45,8 +45,8 @@ fn refilled(walk: &mut Nonzero<'_, u32>, block: u32, index: usize) -> Option<(bo
     if walk.as_slice().len() >= 1000 {
         return None;
     }
-    let (mut block, mut index) = (block, index);
-    let is_nonzero = walk.refill(&mut block, &mut index);
+    let (mut block, mut index, mut back) = (block, index, 0);
+    let is_nonzero = walk.refill(&mut block, &mut index, &mut back, 0);
     Some((is_nonzero, block, index))
 }
 
@@ -93,6 +93,32 @@ fn both_ends_take_of_the_same_blocks(rt: HostRuntime) {
         expect_eq(&rt, &from_the_back(&mut walk), &[Some(62), Some(15), None]);
         expect_eq(&rt, &walk.next(), &None);
     }
+}
+
+// The blocks and indexes that the two hands of a walk have after a refill at the back.
+fn refilled_back(
+    walk: &mut Nonzero<'_, u32>,
+    (block, index): (u32, usize),
+    (back, back_index): (u32, usize),
+) -> Option<(bool, (u32, usize), (u32, usize))> {
+    if walk.as_slice().len() >= 1000 {
+        return None;
+    }
+    let (mut block, mut back, mut back_index) = (block, back, back_index);
+    let is_nonzero = walk.refill_back(&mut back, &mut back_index, &mut block, index);
+    Some((is_nonzero, (block, index), (back, back_index)))
+}
+
+#[test]
+fn a_hand_takes_over_the_other_block(rt: HostRuntime) {
+    let bits = list_of::<u32>(&rt, rt.alloc(), 401, &[400]);
+    let mut walk = bits.nonzero_past_first();
+    let last = Some((true, (5, 0), (0x1_0000, 384)));
+    expect_eq(&rt, &refilled_back(&mut walk, (5, 0), (0, 384)), &last);
+    let over = Some((true, (0, 0), (5, 0)));
+    expect_eq(&rt, &refilled_back(&mut walk, (5, 0), (0, 384)), &over);
+    let end = Some((false, (0, 0), (0, 384)));
+    expect_eq(&rt, &refilled_back(&mut walk, (0, 0), (0, 384)), &end);
 }
 
 // How many values of a list are true, and whether none is.

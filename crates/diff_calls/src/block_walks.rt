@@ -3,7 +3,9 @@ use crate::answers::Answers;
 use crate::blocks::next_block;
 use crate::widths::Width;
 use bit_set::BitBlock;
-use bit_set::bit_vec::{BitVec, Blocks, FirstAndNonzero, Nonzero, block_or_zero, take_lowest_one};
+use bit_set::bit_vec::{
+    BitVec, Blocks, FirstAndNonzero, Nonzero, block_or_zero, take_highest_one, take_lowest_one,
+};
 use std::alloc::AllocError;
 
 // So many steps of a walk over blocks, and before each of them the bounds on what is left.
@@ -122,21 +124,28 @@ pub(crate) fn nonzero_past<B: Width>(
     take(walk, steps, answers)
 }
 
-// The lowest place that is left in the block in hand, or else in those that the walk gives.
-fn next_place<B: Width>(
-    walk: &mut Nonzero<'_, B>,
-    block: &mut B,
-    index: &mut usize,
-) -> Option<usize>
-    requires { B.is_block block.old }
-    ensures { B.is_block block.new }
-{
-    // A bit vector has no more places than a number says, which is not known here.
-    walk.as_slice().len().checked_mul(B::bits())?;
-    if !walk.refill(block, index) {
-        return None;
+// Whether a step takes of the front: a digit of a number says it of each.
+pub(crate) fn is_front(ends: usize, step: usize) -> bool {
+    (ends >> (step % 64)) % 2 == 1
+}
+
+// The blocks past the first that are not 0, from both ends.
+pub(crate) fn nonzero_ends<B: Width>(
+    bits: &BitVec<B>,
+    (steps, ends): (usize, usize),
+    answers: &mut Answers,
+) -> Result<(), AllocError> {
+    let mut walk = bits.nonzero_past_first();
+    for step in 0..steps {
+        let entry = if is_front(ends, step) {
+            walk.next()
+        } else {
+            walk.next_back()
+        };
+        answers.item(entry.map(|entry| entry.0))?;
+        next_block(entry.map(|entry| entry.1), answers)?;
     }
-    index.checked_add(take_lowest_one(block))
+    Ok(())
 }
 
 // So many places from a block on at which the bit vector is true, by a block that is filled again and again.
@@ -148,8 +157,70 @@ pub(crate) fn refill<B: Width>(
     let mut walk = bits.nonzero_past(first);
     let mut block = block_or_zero(bits.storage(), first);
     let mut index = first.wrapping_mul(B::bits());
+    let mut back = B::zero();
     for step in 0..steps {
-        answers.item(next_place(&mut walk, &mut block, &mut index))?;
+        answers.item(first_place(&mut walk, &mut block, &mut index, &mut back, 0))?;
+    }
+    Ok(())
+}
+
+// The highest place that is left in the block in hand at the back, or else in those that the walk gives, or in the block
+// in hand at the front.
+fn last_place<B: Width>(
+    walk: &mut Nonzero<'_, B>,
+    back: &mut B,
+    back_index: &mut usize,
+    block: &mut B,
+    index: usize,
+) -> Option<usize>
+    requires back { B.is_block back.old }
+    requires front { B.is_block block.old }
+    ensures back { B.is_block back.new }
+    ensures front { B.is_block block.new }
+{
+    walk.as_slice().len().checked_mul(B::bits())?;
+    if !walk.refill_back(back, back_index, block, index) {
+        return None;
+    }
+    back_index.checked_add(take_highest_one(back))
+}
+
+// The lowest place by two hands.
+fn first_place<B: Width>(
+    walk: &mut Nonzero<'_, B>,
+    block: &mut B,
+    index: &mut usize,
+    back: &mut B,
+    back_index: usize,
+) -> Option<usize>
+    requires front { B.is_block block.old }
+    requires back { B.is_block back.old }
+    ensures front { B.is_block block.new }
+    ensures back { B.is_block back.new }
+{
+    walk.as_slice().len().checked_mul(B::bits())?;
+    if !walk.refill(block, index, back, back_index) {
+        return None;
+    }
+    index.checked_add(take_lowest_one(block))
+}
+
+// So many places at which the bit vector is true, from both ends, by a block in hand at each.
+pub(crate) fn refill_ends<B: Width>(
+    bits: &BitVec<B>,
+    (steps, ends): (usize, usize),
+    answers: &mut Answers,
+) -> Result<(), AllocError> {
+    let mut walk = bits.nonzero_past_first();
+    let (mut block, mut index) = (block_or_zero(bits.storage(), 0), 0);
+    let (mut back, mut back_index) = (B::zero(), 0);
+    for step in 0..steps {
+        let place = if is_front(ends, step) {
+            first_place(&mut walk, &mut block, &mut index, &mut back, back_index)
+        } else {
+            last_place(&mut walk, &mut back, &mut back_index, &mut block, index)
+        };
+        answers.item(place)?;
     }
     Ok(())
 }

@@ -1,6 +1,8 @@
 // Calls that read the bit vector that a set lends.
 use crate::answers::Answers;
-use crate::block_walks::{blocks, next_if, nonzero, nonzero_past, refill};
+use crate::block_walks::{
+    blocks, next_if, nonzero, nonzero_ends, nonzero_past, refill, refill_ends,
+};
 use crate::blocks::{mismatch, single, storage};
 use crate::calls::Looking;
 use crate::lines::Line;
@@ -28,7 +30,9 @@ pub(crate) fn look<B: Width>(
         Looking::Nonzero => nonzero(bits, line.first, answers),
         Looking::NonzeroPastFirst => nonzero_past(bits.nonzero_past_first(), line.first, answers),
         Looking::NonzeroPast => nonzero_past(bits.nonzero_past(line.first), line.second, answers),
+        Looking::NonzeroEnds => nonzero_ends(bits, numbers, answers),
         Looking::Refill => refill(bits, numbers, answers),
+        Looking::RefillEnds => refill_ends(bits, numbers, answers),
         Looking::Mismatch => mismatch((bits, other), answers),
         Looking::Block => single((bits, other), numbers, answers),
         Looking::IsSubsetOf => answers.truth(bits.is_subset_of(other, &mut Steps::new())),

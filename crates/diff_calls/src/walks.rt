@@ -1,5 +1,6 @@
 // Walks that are taken some steps, copied and counted.
 use crate::answers::Answers;
+use crate::block_walks::is_front;
 use crate::calls::Walking;
 use crate::lines::Line;
 use bit_set::{BitBlock, BitSet, Difference, Intersection, Iter, SymmetricDifference, Union};
@@ -104,6 +105,25 @@ fn take<W: Walk>(
     answers.number(walk.count_left())
 }
 
+// So many steps at the ends that the digits of a number say, with the bounds on what is left before each of them; and how
+// many items are left then.
+fn take_ends<B: BitBlock>(
+    mut walk: Iter<'_, B>,
+    (steps, ends): (usize, usize),
+    answers: &mut Answers,
+) -> Result<(), AllocError> {
+    for step in 0..steps {
+        answers.bounds(walk.size_hint())?;
+        let item = if is_front(ends, step) {
+            walk.next()
+        } else {
+            walk.next_back()
+        };
+        answers.item(item)?;
+    }
+    answers.number(walk.count())
+}
+
 // All elements in a loop.
 fn loop_over<B: BitBlock>(set: &BitSet<B>, answers: &mut Answers) -> Result<(), AllocError> {
     for element in set {
@@ -127,6 +147,7 @@ pub(crate) fn walk_over<B: BitBlock>(
             (line.second, line.second),
             answers,
         ),
+        Walking::IterEnds => take_ends(set.iter(), steps, answers),
         Walking::Union => take(set.union(other), steps, answers),
         Walking::Intersection => take(set.intersection(other), steps, answers),
         Walking::Difference => take(set.difference(other), steps, answers),

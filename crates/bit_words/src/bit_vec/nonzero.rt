@@ -1,5 +1,5 @@
 // The walk over the blocks of a bit vector that are not 0, by its summary.
-ghost use Rattle.std.specs.{Prelude.{◌≡◌, ℕ, ◌+◌, ◌-◌, ◌*◌, ◌<◌, ◌≤◌, ◌^◌, All, IfSome, Some, [], length, map, slice_get}, Iterator.item_count};
+ghost use Rattle.std.specs.{Prelude.{◌≡◌, ℕ, ◌+◌, ◌-◌, ◌*◌, ◌<◌, ◌≤◌, ◌^◌, ◌==◌, All, IfSome, not, Some, [], length, map, slice_get}, Iterator.item_count};
 ghost use Rattle.bit_words.specs.{Bits.{blocks_for, blocks_of, IsWithinCapacity}, Nonzero.{ones_left, PullsLast, PullsNonzero, Refills, StartsPast, TakesFirst, TakesLast}};
 
 use crate::bit_vec::BitVec;
@@ -87,26 +87,84 @@ impl<'a, B: BitBlock> Nonzero<'a, B> {
         }
     }
 
-    /// Where `block` is zero, makes it the next block that is not zero, and `index` that of its first bit; else it
-    /// changes nothing. Returns whether `block` is not zero then: at the end it stays zero, and `index` may be any.
+    /// Fills the hand at the front of a walk by two hands: where `block` is zero, makes it the next block that is not
+    /// zero, and `index` that of its first bit. Where none is left it takes over the block in the other hand, `back`,
+    /// which is zero then. Returns whether `block` is not zero then: at the end both are zero.
     /// Of few blocks it looks at each, and those that are zero count no pull.
     #[inline(always)]
-    pub fn refill(&mut self, block: &mut B, index: &mut usize) -> bool
+    pub fn refill(
+        &mut self,
+        block: &mut B,
+        index: &mut usize,
+        back: &mut B,
+        back_index: usize,
+    ) -> bool
         requires of_block { B.is_block block.old }
+        requires of_back { B.is_block back.old }
         requires fits { (length self.old.blocks - 1) * B.width < 2 ^ 64 }
         ensures of_block { B.is_block block.new }
-        ensures refills { Refills B.width B.number
-            self.old (B.number block.old) index.old result self.new block.new index.new }
+        ensures of_back { B.is_block back.new }
+        ensures found { result ≡ not (B.number block.new == 0) }
+        ensures refills { Refills TakesFirst PullsNonzero B.width B.number
+            self.old (record { block = block.old; index = index.old }) (record { block = back.old; index = back_index })
+            result
+            self.new (record { block = block.new; index = index.new }) (record { block = back.new; index = back_index }) }
     {
         if is_nonzero(*block) {
             return true;
         }
-        let Some((k, next)) = self.pull() else {
-            return false;
-        };
-        *block = next;
-        *index = k * B::bits();
-        true
+        if let Some((k, next)) = self.take_first() {
+            *block = next;
+            *index = k * B::bits();
+            return true;
+        }
+        if is_nonzero(*back) {
+            *block = *back;
+            *index = back_index;
+            *back = B::zero();
+            return true;
+        }
+        self.count_end();
+        false
+    }
+
+    /// The same for the hand at the back: where `back` is zero, makes it the last block that is left, and where none is
+    /// left, takes over the block at the front.
+    #[inline]
+    pub fn refill_back(
+        &mut self,
+        back: &mut B,
+        back_index: &mut usize,
+        block: &mut B,
+        index: usize,
+    ) -> bool
+        requires of_back { B.is_block back.old }
+        requires of_block { B.is_block block.old }
+        requires fits { (length self.old.blocks - 1) * B.width < 2 ^ 64 }
+        ensures of_back { B.is_block back.new }
+        ensures of_block { B.is_block block.new }
+        ensures found { result ≡ not (B.number back.new == 0) }
+        ensures refills { Refills TakesLast PullsLast B.width B.number
+            self.old (record { block = back.old; index = back_index.old }) (record { block = block.old; index = index })
+            result
+            self.new (record { block = back.new; index = back_index.new }) (record { block = block.new; index = index }) }
+    {
+        if is_nonzero(*back) {
+            return true;
+        }
+        if let Some((k, last)) = self.take_last() {
+            *back = last;
+            *back_index = k * B::bits();
+            return true;
+        }
+        if is_nonzero(*block) {
+            *back = *block;
+            *back_index = index;
+            *block = B::zero();
+            return true;
+        }
+        self.steps.tick();
+        false
     }
 
     // The next block, with its index, or the end.
