@@ -205,7 +205,7 @@ def public_functions(root):
     for crate in ("bit_words", "bit_set"):
         for source in sorted((root / "crates" / crate / "src").rglob("*.rt")):
             kind = None
-            for line in [] if source.name == "laws.rt" else source.read_text(encoding="utf-8").splitlines():
+            for line in [] if "laws" in (source.stem, source.parent.name) else source.read_text(encoding="utf-8").splitlines():
                 if head := re.match(r"impl(?:<.*?>)? (?:.* for )?(\w+)", line):
                     kind = head[1]
                 elif line.startswith("}"):

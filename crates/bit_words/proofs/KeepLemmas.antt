@@ -1,6 +1,6 @@
 -- A list of which one block was cut down to some of its ones.
-use Rattle.std.{specs.Global.Vec, proofs.Common.{◌≡◌, ◌≢◌, ℕ, ◌+◌, ◌*◌, ◌/◌, ◌%◌, ◌^◌, ◌<◌, ◌≤◌, Bool, true, false, not, ◌&&◌, ◌==◌, List, length, get_or, map, set, vec_len, refl, sym, ap, ◌∙◌, arith, ⊎_elim, mod-lt, div-add-mod', lt_of_mul-lt-mul_right}}
-use Rattle.std.proofs.lemmas.{Bool.{cases_eq}, List.{get_or-set_other, get_or-set_same, length-map}, Nat.div-mul-add}
+use Rattle.std.{specs.Global.Vec, proofs.Common.{◌≡◌, ◌≢◌, ℕ, ◌+◌, ◌*◌, ◌/◌, ◌%◌, ◌<◌, not, ◌&&◌, ◌==◌, List, length, get_or, map, set, sym, ap, ◌∙◌, arith, ⊎_elim, mod-lt, div-add-mod', lt_of_mul-lt-mul_right}}
+use Rattle.std.proofs.lemmas.{Bool.{cases_eq}, List.{get_or-set_other, get_or-set_same}}
 use Rattle.bit_words.specs.{Bits.{Bits, blocks_for}, Digits.{IsBoth, is_one}, Kept.KeepsInBlock, Storage.{value_at, values_of, IsPacked, IsZeroFrom, WritesInPlace, WritesValue}, Summary.{is_used, IsSummary}}
 use Rattle.bit_words.proofs.{BitsLemmas.blocks_for-enough, Masks.is_one-both, StorageLemmas.{get_or-values_of_zero_tail, length-values_of, value_at-index, value_at-set_other}, SummaryLemmas.summary_updated}
 

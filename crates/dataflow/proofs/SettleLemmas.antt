@@ -1,8 +1,8 @@
 -- Visits of blocks that wait, one after another.
 use Rattle.std.proofs.Common.{◌≡◌, ◌≢◌, ℕ, ◌+◌, ◌-◌, ◌^◌, ◌<◌, Bool, true, false, cond, suc, zero, eqb, ◌⊎◌, inl, inr, List, [], ◌∷◌, ◌++◌, length, map, refl, sym, ap, ◌∙◌, ◌↔◌, arith}
-use Rattle.std.proofs.lemmas.Bool.{true≢false, cases_eq, cases_lt, eq-eqb, eqb-true, ne_eqb, or_cases}
+use Rattle.std.proofs.lemmas.Bool.{true≢false, cases_eq, cases_lt, eq-eqb, eqb-true, ne_eqb, or_cases, Decides.nat_tests}
 use Rattle.std.proofs.lemmas.List.{get_or_past, length-map}
-use Rattle.bit_set.specs.Members.{HasNone, Updates}
+use Rattle.bit_set.specs.Members.{HasNone, Updates, UpdatesRange}
 use Rattle.bit_set.specs.Sets.{has}
 use Rattle.dataflow.specs.Flow.{Enters, Flow, HasAllDue, Reaches, block_at, made, onward, set_at}
 use Rattle.dataflow.specs.Worklist.{AreOnTheWay, PutsBack, TakesIn, place_of}
@@ -66,15 +66,12 @@ module _ (place : ℕ → ℕ) (count : ℕ) (dependents old mid new : List ℕ)
     ];
   }
 
--- all places below one more wait
-pub all_below_on : (n : ℕ) (old new : List ℕ) → Updates old new n true → ((p : ℕ) → (has old p ≡ true) ↔ (p < n)) → (p : ℕ) → (has new p ≡ true) ↔ (p < n + 1)
-all_below_on n old new updates each p = elim (cases_eq n p) [
-  | inl is ↦ (λ h. omega (arith, is), λ lt. updates p ∙ ap (λ it. cond it true (has old p)) (eq-eqb n p is))
-  | inr other ↦ (
-    λ h. let lt = (each p).0 (sym (updates p ∙ ap (λ it. cond it true (has old p)) (ne_eqb n p other)) ∙ h) in omega (arith, lt),
-    λ lt. updates p ∙ ap (λ it. cond it true (has old p)) (ne_eqb n p other) ∙ (each p).1 (omega (arith, lt, other)),
-  )
-]
+-- all places below n wait, once they are put in where none waits
+pub all_below_in : (n : ℕ) (old new : List ℕ) → HasNone old → UpdatesRange (λ _. true) old new 0 n → (p : ℕ) → (has new p ≡ true) ↔ (p < n)
+all_below_in n old new none updates p =
+    let is = updates p in
+    let out = none p in
+    (λ h. grind (arith, nat_tests, is, out, h), λ lt. grind (arith, nat_tests, is, out, lt))
 
 -- ---- the first sets
 

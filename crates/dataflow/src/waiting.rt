@@ -46,9 +46,7 @@ pub(crate) fn all_below<B: BitBlock>(alloc: Global, count: usize) -> Result<BitS
     ensures none { count ≡ 0 → IsOk result }
 {
     let mut set = BitSet::with_capacity_general(alloc, count)?;
-    for number in 0..count {
-        set.insert(number).unwrap();
-    }
+    set.insert_range(0..count).unwrap();
     Ok(set)
 }
 

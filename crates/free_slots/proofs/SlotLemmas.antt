@@ -5,6 +5,7 @@ use Rattle.std.proofs.Math.Bool.{and-false}
 use Rattle.std.proofs.lemmas.List.{length-replicate}
 use Rattle.std.proofs.lemmas.Option.{slice_get_within}
 use Rattle.std.specs.List.{range_with_len}
+use Rattle.bit_set.specs.Choices.{IsFirstOf}
 use Rattle.bit_set.specs.Sets.{AscendsFrom, IsAscending, elements, elements_from, has, put, those_from, without}
 use Rattle.free_slots.specs.Runs.{Happens}
 use Rattle.free_slots.specs.Runs.Event.{GiveBack}
@@ -70,10 +71,10 @@ lowest_of values slot rest ascends places at =
     }
 
 -- where a walk over all that are free gave r first
-pub first_found : (values : List Bool) (all rest : List ℕ) (r : Option ℕ) → IsAscending (elements values) → ((m : ℕ) → (has (elements values) m ≡ true) ↔ (slice_get values m ≡ Some true)) → all ≡ elements values → MatchOption r ((all ≡ []) × (rest ≡ [])) (λ slot. all ≡ slot ∷ rest)
+pub first_found : (values : List Bool) (all : List ℕ) (r : Option ℕ) → IsAscending (elements values) → ((m : ℕ) → (has (elements values) m ≡ true) ↔ (slice_get values m ≡ Some true)) → all ≡ elements values → IsFirstOf all r
     → MatchOption r (elements values ≡ []) (λ slot. IsLowestFree (table_of values) 0 slot)
-first_found values all rest None ascends places is found = sym is ∙ found.0
-first_found values all rest (Some slot) ascends places is found = lowest_of values slot rest ascends places (sym is ∙ found)
+first_found values all None ascends places is found = sym is ∙ found
+first_found values all (Some slot) ascends places is found = lowest_of values slot found.0 ascends places (sym is ∙ found.1)
 
 pub left : (old new : List Bool) (free : List ℕ) → length new ≡ length old → elements new ≡ free → table_of new ≡ record { len = length old; free = free }
 left old new free long is = same_table (length new) (length old) (elements new) free (table_of new) long is refl

@@ -105,7 +105,7 @@ impl<B: BitBlock> Slots<B> {
         if self.given <= self.searched && self.free.contains(self.given) {
             return Some(self.given);
         }
-        self.free.iter_from(self.searched).next()
+        self.free.next(self.searched)
     }
 
     /// Takes the lowest free slot that is at or above `slot`, and returns it; `None` where each of these is taken.
@@ -119,7 +119,7 @@ impl<B: BitBlock> Slots<B> {
     {
         members_of_sets();
         sets_ascend();
-        let taken = self.free.iter_from(slot).next()?;
+        let taken = self.free.next(slot)?;
         self.free.remove(taken);
         self.searched = after_taking(self.searched, slot, taken);
         Some(taken)

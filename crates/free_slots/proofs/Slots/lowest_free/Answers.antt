@@ -1,5 +1,5 @@
 use Rattle.std.proofs.Common.{◌≡◌, ◌<◌, false, sym, ◌∙◌, arith}
-use Rattle.bit_set.specs.Sets.{elements, has}
+use Rattle.bit_set.specs.Sets.{elements, has, those_from}
 use Rattle.free_slots.proofs.SlotLemmas.{all_from, first_found, none_below}
 use Rattle.free_slots.proofs.Slots.lowest_free.Goals.{else-self-via-then-self+else-contains, else-self-via-else-self}
 use Rattle.free_slots.proofs.Slots.lowest_free.Goals as goal
@@ -15,5 +15,5 @@ returns g c =
       | else-self-via-then-self+else-contains at ↦ λ below. sym at.contains.ensures.value ∙ at.if-contains.false
       | else-self-via-else-self at ↦ λ below. absurd (omega (arith, below, at.if-self.false))
     ] in
-    let all = c.iter_from.ensures.left ∙ all_from s searched (none_below s given searched c.self.invariant.1 not_given) in
-    rw (← c.self.view_is) (first_found values c.iter_from.result.left c.next.new.self.left c.next.result (c.sets_ascend.ensures.elements values) (c.members_of_sets.ensures.elements values) all c.next.ensures.steps.item)
+    let all = all_from s searched (none_below s given searched c.self.invariant.1 not_given) in
+    rw (← c.self.view_is) (first_found values (those_from s searched) c.next.result (c.sets_ascend.ensures.elements values) (c.members_of_sets.ensures.elements values) all c.next.ensures.elements)

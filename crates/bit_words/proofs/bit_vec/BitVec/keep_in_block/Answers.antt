@@ -1,5 +1,5 @@
 use Rattle.std.proofs.lemmas.List.{length-map}
-use Rattle.std.proofs.Common.{◌≡◌, ◌<◌, ◌≤◌, length, get_or, map, ap, ◌∙◌, arith}
+use Rattle.std.proofs.Common.{◌<◌, length, map, arith}
 use Rattle.bit_words.specs.Summary.{short_count}
 use Rattle.bit_words.proofs.{KeepLemmas.{KeptBlock, block_inside, kept_block, kept_packed, kept_summary, kept_values}, SummaryLemmas.{keeps_all, keeps_none}, SummarySpanLemmas.in_chunks, VectorLemmas.length_from_view}
 use Rattle.bit_words.proofs.bit_vec.BitVec.keep_in_block.{Given.Over, Goals.{After-put_block, After-self, Else-is_short}}
