@@ -23,6 +23,11 @@ unsafe extern "C" {
     fn bench_merge_intersection(a: Numbers, m: usize, b: Numbers, n: usize, turns: usize) -> usize;
     fn bench_merge_difference(a: Numbers, m: usize, b: Numbers, n: usize, turns: usize) -> usize;
     fn bench_merge_symmetric_difference(a: Numbers, m: usize, b: Numbers, n: usize, turns: usize) -> usize;
+    fn bench_change_union(a: Numbers, m: usize, b: Numbers, n: usize, turns: usize) -> usize;
+    fn bench_change_intersection(a: Numbers, m: usize, b: Numbers, n: usize, turns: usize) -> usize;
+    fn bench_change_difference(a: Numbers, m: usize, b: Numbers, n: usize, turns: usize) -> usize;
+    fn bench_change_symmetric_difference(a: Numbers, m: usize, b: Numbers, n: usize, turns: usize) -> usize;
+    fn bench_change_by_difference(a: Numbers, m: usize, b: Numbers, n: usize, turns: usize) -> usize;
     fn bench_append(a: Numbers, m: usize, b: Numbers, n: usize, turns: usize) -> usize;
     fn bench_split_off(members: Numbers, m: usize, turns: usize) -> usize;
     fn bench_is_disjoint(a: Numbers, m: usize, b: Numbers, n: usize, turns: usize) -> usize;
@@ -35,6 +40,7 @@ struct Here {
     walk: OnPair,
     count: OnPair,
     merge: OnPair,
+    change: OnPair,
 }
 
 /// The same call of a peer.
@@ -42,6 +48,7 @@ struct Peer<S> {
     sum_of: fn(&S, &S) -> usize,
     count_of: fn(&S, &S) -> usize,
     merge_into: fn(&mut S, &S),
+    change: fn(&mut S, &S) -> bool,
 }
 
 impl<S: Set> Peer<S> {
@@ -67,37 +74,54 @@ impl<S: Set> Peer<S> {
             usize::from(one.remove(turn))
         })
     }
+
+    fn change(&self, (mut one, other): (S, S), turns: usize) -> usize {
+        total(turns, |turn| {
+            let changes = (self.change)(&mut one, &other);
+            usize::from(one.remove(turn)) + usize::from(changes)
+        })
+    }
 }
 
 /// The calls of one name, of any peer.
 macro_rules! peer {
-    ($call:ident, $call_with:ident) => {
+    ($call:ident, $call_with:ident, $changes:ident) => {
         Peer {
             sum_of: |one, other| sum(one.$call(other)),
             count_of: |one, other| one.$call(other).count(),
             merge_into: |one, other| one.$call_with(other),
+            change: |one, other| one.$changes(other),
         }
     };
 }
 
-const UNION: Here = Here { name: "union", walk: bench_walk_union, count: bench_count_union, merge: bench_merge_union };
+const UNION: Here = Here {
+    name: "union",
+    walk: bench_walk_union,
+    count: bench_count_union,
+    merge: bench_merge_union,
+    change: bench_change_union,
+};
 const INTERSECTION: Here = Here {
     name: "intersection",
     walk: bench_walk_intersection,
     count: bench_count_intersection,
     merge: bench_merge_intersection,
+    change: bench_change_intersection,
 };
 const DIFFERENCE: Here = Here {
     name: "difference",
     walk: bench_walk_difference,
     count: bench_count_difference,
     merge: bench_merge_difference,
+    change: bench_change_difference,
 };
 const SYMMETRIC_DIFFERENCE: Here = Here {
     name: "symmetric difference",
     walk: bench_walk_symmetric_difference,
     count: bench_count_symmetric_difference,
     merge: bench_merge_symmetric_difference,
+    change: bench_change_symmetric_difference,
 };
 
 fn rows_of(table: &mut Table, density: &Density, calls: Here, peer: Peer<BitSet>, other_peer: Peer<FixedBitSet>) {
@@ -126,19 +150,25 @@ fn rows_of(table: &mut Table, density: &Density, calls: Here, peer: Peer<BitSet>
         &|_, turns| peer.merge(sets(), turns),
         &|_, turns| other_peer.merge(fixed_sets(), turns),
     ]);
+    table.row(&format!("{name} in place that tells of a change, {label}"), work("block", blocks), &[
+        &|_, turns| here(calls.change, turns),
+        &|_, turns| peer.change(sets(), turns),
+        &|_, turns| other_peer.change(fixed_sets(), turns),
+    ]);
 }
 
 pub fn rows(table: &mut Table, density: &Density) {
-    rows_of(table, density, UNION, peer!(union, union_with), peer!(union, union_with));
-    rows_of(table, density, INTERSECTION, peer!(intersection, intersect_with), peer!(intersection, intersect_with));
-    rows_of(table, density, DIFFERENCE, peer!(difference, difference_with), peer!(difference, difference_with));
+    rows_of(table, density, UNION, peer!(union, union_with, union_changes), peer!(union, union_with, union_changes));
+    rows_of(table, density, INTERSECTION, peer!(intersection, intersect_with, intersection_changes), peer!(intersection, intersect_with, intersection_changes));
+    rows_of(table, density, DIFFERENCE, peer!(difference, difference_with, difference_changes), peer!(difference, difference_with, difference_changes));
     rows_of(
         table,
         density,
         SYMMETRIC_DIFFERENCE,
-        peer!(symmetric_difference, symmetric_difference_with),
-        peer!(symmetric_difference, symmetric_difference_with),
+        peer!(symmetric_difference, symmetric_difference_with, symmetric_difference_changes),
+        peer!(symmetric_difference, symmetric_difference_with, symmetric_difference_changes),
     );
+    row_of_union_with_difference(table, density);
 }
 
 fn grown(numbers: &[usize]) -> BitSet {
@@ -184,6 +214,31 @@ pub fn rows_of_moves(table: &mut Table, density: &Density) {
     table.row(&format!("`split_off` in the middle, and `append` of the part, {label}"), work(), &[
         &|_, turns| unsafe { bench_split_off(ms, m, turns) },
         &|_, turns| part_and_join(members, turns),
+    ]);
+}
+
+fn unite_difference<S: Set>((mut one, other): (S, S), turns: usize) -> usize {
+    let mut except = one.clone();
+    except.difference_with(&other);
+    let mut copy = other.clone();
+    total(turns, |turn| {
+        copy.clone_from(&other);
+        copy.difference_with(&except);
+        let changes = one.union_changes(&copy);
+        usize::from(one.remove(turn)) + usize::from(changes)
+    })
+}
+
+/// The union with a difference, which the peers make of a copy.
+fn row_of_union_with_difference(table: &mut Table, density: &Density) {
+    let Density { label, len, members, numbers } = density;
+    let work = Work { unit: "block", units: len.div_ceil(32), turns: 4, numbers: &[] };
+    table.row(&format!("`union_with_difference`, {label}"), work, &[
+        &|_, turns| unsafe {
+            bench_change_by_difference(members.as_ptr(), members.len(), numbers.as_ptr(), numbers.len(), turns)
+        },
+        &|_, turns| unite_difference((BitSet::<u32>::of(*len, members), BitSet::of(*len, numbers)), turns),
+        &|_, turns| unite_difference((FixedBitSet::of(*len, members), FixedBitSet::of(*len, numbers)), turns),
     ]);
 }
 

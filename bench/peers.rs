@@ -24,6 +24,44 @@ pub trait Set: Clone + Ord {
     fn is_disjoint(&self, other: &Self) -> bool;
     fn is_subset(&self, other: &Self) -> bool;
 
+    /// The union in place, and whether it changed the set. Neither peer has such a call: it looks first. The three below
+    /// are like it.
+    #[inline]
+    fn union_changes(&mut self, other: &Self) -> bool {
+        let changes = !other.is_subset(self);
+        if changes {
+            self.union_with(other);
+        }
+        changes
+    }
+
+    #[inline]
+    fn intersection_changes(&mut self, other: &Self) -> bool {
+        let changes = !self.is_subset(other);
+        if changes {
+            self.intersect_with(other);
+        }
+        changes
+    }
+
+    #[inline]
+    fn difference_changes(&mut self, other: &Self) -> bool {
+        let changes = !self.is_disjoint(other);
+        if changes {
+            self.difference_with(other);
+        }
+        changes
+    }
+
+    #[inline]
+    fn symmetric_difference_changes(&mut self, other: &Self) -> bool {
+        let changes = other.walk().next().is_some();
+        if changes {
+            self.symmetric_difference_with(other);
+        }
+        changes
+    }
+
     /// The set of the numbers, as long as `len`, which is above each of them.
     fn of(len: usize, numbers: &[usize]) -> Self {
         let mut set = Self::for_numbers_below(len);

@@ -24,6 +24,19 @@ unsafe extern "C" {
         n: usize,
         turns: usize,
     ) -> usize;
+    fn bench_small_union_changes(len: usize, a: Numbers, m: usize, b: Numbers, n: usize, turns: usize) -> usize;
+    fn bench_small_intersection_changes(len: usize, a: Numbers, m: usize, b: Numbers, n: usize, turns: usize) -> usize;
+    fn bench_small_difference_changes(len: usize, a: Numbers, m: usize, b: Numbers, n: usize, turns: usize) -> usize;
+    fn bench_small_symmetric_difference_changes(
+        len: usize,
+        a: Numbers,
+        m: usize,
+        b: Numbers,
+        n: usize,
+        turns: usize,
+    ) -> usize;
+    fn bench_small_union_with_difference(len: usize, a: Numbers, m: usize, b: Numbers, n: usize, turns: usize) -> usize;
+    fn bench_small_difference_of_a_copy(len: usize, a: Numbers, m: usize, b: Numbers, n: usize, turns: usize) -> usize;
     fn bench_small_clone(len: usize, a: Numbers, m: usize, b: Numbers, n: usize, turns: usize) -> usize;
     fn bench_small_clone_from(len: usize, a: Numbers, m: usize, b: Numbers, n: usize, turns: usize) -> usize;
     fn bench_small_with_capacity(len: usize, a: Numbers, m: usize, b: Numbers, n: usize, turns: usize) -> usize;
@@ -117,6 +130,58 @@ fn difference_with<S: Set>(input: &Input, turns: usize) -> usize {
 
 fn symmetric_difference_with<S: Set>(input: &Input, turns: usize) -> usize {
     change(input, turns, S::symmetric_difference_with)
+}
+
+/// The same for a call that tells whether it changed the set. Adds up how often it did.
+#[inline(always)]
+fn tell<S: Set>(input: &Input, turns: usize, mut call: impl FnMut(&mut S, &S) -> bool) -> usize {
+    let mut sets = input.two_firsts();
+    let other = input.one_second();
+    let changes = total(turns, |turn| sets.get_mut(turn % 2).map_or(0, |set| usize::from(call(set, &other))));
+    changes + sets.iter().map(S::count).sum::<usize>()
+}
+
+fn union_changes<S: Set>(input: &Input, turns: usize) -> usize {
+    tell(input, turns, S::union_changes)
+}
+
+fn intersection_changes<S: Set>(input: &Input, turns: usize) -> usize {
+    tell(input, turns, S::intersection_changes)
+}
+
+fn difference_changes<S: Set>(input: &Input, turns: usize) -> usize {
+    tell(input, turns, S::difference_changes)
+}
+
+fn symmetric_difference_changes<S: Set>(input: &Input, turns: usize) -> usize {
+    tell(input, turns, S::symmetric_difference_changes)
+}
+
+/// What the second numbers have and the first have not goes in, and whether that changed the set is told.
+fn union_with_difference<S: Set>(input: &Input, turns: usize) -> usize {
+    let except: S = input.rest();
+    let mut copy = except.clone();
+    tell(input, turns, |set: &mut S, other| {
+        copy.clone_from(other);
+        copy.difference_with(&except);
+        set.union_changes(&copy)
+    })
+}
+
+/// The same by two merges over a copy, which do not tell.
+fn difference_of_a_copy<S: Set>(input: &Input, turns: usize) -> usize {
+    let except: S = input.rest();
+    let mut copy = except.clone();
+    let mut sets: Vec<S> = input.two_firsts();
+    let other: S = input.one_second();
+    for turn in 0..turns {
+        if let Some(set) = sets.get_mut(turn % 2) {
+            copy.clone_from(&other);
+            copy.difference_with(&except);
+            set.union_with(&copy);
+        }
+    }
+    sets.iter().map(S::count).sum()
 }
 
 fn clone<S: Set>(input: &Input, turns: usize) -> usize {
@@ -231,11 +296,17 @@ macro_rules! call {
 }
 
 #[rustfmt::skip]
-pub const CALLS: [Call; 18] = [
+pub const CALLS: [Call; 24] = [
     call!("`union_with`", bench_small_union_with, union_with),
     call!("`intersect_with`", bench_small_intersect_with, intersect_with),
     call!("`difference_with`", bench_small_difference_with, difference_with),
     call!("`symmetric_difference_with`", bench_small_symmetric_difference_with, symmetric_difference_with),
+    call!("`union_changes`", bench_small_union_changes, union_changes),
+    call!("`intersection_changes`", bench_small_intersection_changes, intersection_changes),
+    call!("`difference_changes`", bench_small_difference_changes, difference_changes),
+    call!("`symmetric_difference_changes`", bench_small_symmetric_difference_changes, symmetric_difference_changes),
+    call!("`union_with_difference`", bench_small_union_with_difference, union_with_difference),
+    call!("`difference_with` of a copy, and `union_with`", bench_small_difference_of_a_copy, difference_of_a_copy),
     call!("`clone`", bench_small_clone, clone),
     call!("`clone_from`", bench_small_clone_from, clone_from),
     Call {

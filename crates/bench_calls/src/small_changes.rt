@@ -1,7 +1,7 @@
 // Calls that change or make sets of a few blocks. Turns take one of two sets in turn, so that no turn can be the result
 // of another.
 use crate::input_sets::set_of;
-use crate::two_sets::merge_into;
+use crate::two_sets::{change_by, merge_into};
 use bit_set::bit_vec::Merge;
 use bit_set::{BitSet, SetError};
 use std::alloc::Global;
@@ -62,6 +62,71 @@ fn merge_turns(
     for turn in 0..turns {
         if let Some(set) = sets.get_mut(turn % 2) {
             merge_into(merge, set, &other)?;
+        }
+    }
+    Ok(count_all(sets.as_slice()))
+}
+
+// The same merges, by the calls that tell whether they changed the set. Adds up how often they did.
+#[inline(always)]
+fn change_turns(
+    alloc: Global,
+    merge: Merge,
+    len: usize,
+    first: &[usize],
+    second: &[usize],
+    turns: usize,
+) -> Result<usize, SetError> {
+    let mut sets = two_of(alloc, len, first)?;
+    let other = set_of(alloc, len, second)?;
+    let mut changes = 0usize;
+    for turn in 0..turns {
+        if let Some(set) = sets.get_mut(turn % 2) {
+            changes = changes.wrapping_add(usize::from(change_by(merge, set, &other)?));
+        }
+    }
+    Ok(changes.wrapping_add(count_all(sets.as_slice())))
+}
+
+// Each turn puts in what the second numbers have and the first have not.
+fn fused_turns(
+    alloc: Global,
+    len: usize,
+    first: &[usize],
+    second: &[usize],
+    turns: usize,
+) -> Result<usize, SetError> {
+    let mut sets = two_of(alloc, len, first)?;
+    let other = set_of(alloc, len, second)?;
+    let except = without(alloc, len, first, second)?;
+    let mut changes = 0usize;
+    for turn in 0..turns {
+        if let Some(set) = sets.get_mut(turn % 2) {
+            changes = changes.wrapping_add(usize::from(set.union_with_difference(
+                &other, &except,
+            )?));
+        }
+    }
+    Ok(changes.wrapping_add(count_all(sets.as_slice())))
+}
+
+// The same by two merges over a copy, which do not tell whether the set changed.
+fn parted_turns(
+    alloc: Global,
+    len: usize,
+    first: &[usize],
+    second: &[usize],
+    turns: usize,
+) -> Result<usize, SetError> {
+    let mut sets = two_of(alloc, len, first)?;
+    let other = set_of(alloc, len, second)?;
+    let except = without(alloc, len, first, second)?;
+    let mut copy = other.clone(alloc)?;
+    for turn in 0..turns {
+        if let Some(set) = sets.get_mut(turn % 2) {
+            copy.clone_from(&other)?;
+            copy.difference_with(&except)?;
+            set.union_with(&copy)?;
         }
     }
     Ok(count_all(sets.as_slice()))
@@ -221,6 +286,72 @@ pub extern "C" fn bench_small_symmetric_difference_with(
     turns: usize,
 ) -> usize {
     merge_turns(alloc, Merge::Symmetric, len, first, second, turns).unwrap_or(usize::MAX)
+}
+
+#[unsafe(no_mangle)]
+pub extern "C" fn bench_small_union_changes(
+    alloc: Global,
+    len: usize,
+    first: &[usize],
+    second: &[usize],
+    turns: usize,
+) -> usize {
+    change_turns(alloc, Merge::Union, len, first, second, turns).unwrap_or(usize::MAX)
+}
+
+#[unsafe(no_mangle)]
+pub extern "C" fn bench_small_intersection_changes(
+    alloc: Global,
+    len: usize,
+    first: &[usize],
+    second: &[usize],
+    turns: usize,
+) -> usize {
+    change_turns(alloc, Merge::Intersection, len, first, second, turns).unwrap_or(usize::MAX)
+}
+
+#[unsafe(no_mangle)]
+pub extern "C" fn bench_small_difference_changes(
+    alloc: Global,
+    len: usize,
+    first: &[usize],
+    second: &[usize],
+    turns: usize,
+) -> usize {
+    change_turns(alloc, Merge::Difference, len, first, second, turns).unwrap_or(usize::MAX)
+}
+
+#[unsafe(no_mangle)]
+pub extern "C" fn bench_small_symmetric_difference_changes(
+    alloc: Global,
+    len: usize,
+    first: &[usize],
+    second: &[usize],
+    turns: usize,
+) -> usize {
+    change_turns(alloc, Merge::Symmetric, len, first, second, turns).unwrap_or(usize::MAX)
+}
+
+#[unsafe(no_mangle)]
+pub extern "C" fn bench_small_union_with_difference(
+    alloc: Global,
+    len: usize,
+    first: &[usize],
+    second: &[usize],
+    turns: usize,
+) -> usize {
+    fused_turns(alloc, len, first, second, turns).unwrap_or(usize::MAX)
+}
+
+#[unsafe(no_mangle)]
+pub extern "C" fn bench_small_difference_of_a_copy(
+    alloc: Global,
+    len: usize,
+    first: &[usize],
+    second: &[usize],
+    turns: usize,
+) -> usize {
+    parted_turns(alloc, len, first, second, turns).unwrap_or(usize::MAX)
 }
 
 #[unsafe(no_mangle)]

@@ -50,6 +50,20 @@ pub(crate) fn merge_into<B: BitBlock>(
     }
 }
 
+#[inline(always)]
+pub(crate) fn change_by<B: BitBlock>(
+    merge: Merge,
+    one: &mut BitSet<B>,
+    other: &BitSet<B>,
+) -> Result<bool, AllocError> {
+    match merge {
+        Merge::Union => one.union_changes(other),
+        Merge::Intersection => one.intersection_changes(other),
+        Merge::Difference => one.difference_changes(other),
+        Merge::Symmetric => one.symmetric_difference_changes(other),
+    }
+}
+
 // One number leaves after each turn, so that no turn can be the result of another.
 pub(crate) fn walk_merged<B: BitBlock>(
     alloc: Global,
@@ -98,6 +112,43 @@ pub(crate) fn merge_in_place<B: BitBlock>(
     for turn in 0..turns {
         merge_into(merge, &mut one, &other)?;
         were = were.wrapping_add(usize::from(one.remove(turn)));
+    }
+    Ok(were)
+}
+
+// The same by the calls that tell whether the set changed.
+fn change_in_place(
+    alloc: Global,
+    merge: Merge,
+    first: &[usize],
+    second: &[usize],
+    turns: usize,
+) -> Result<usize, SetError> {
+    let mut one = set_of::<u32>(alloc, 0, first)?;
+    let other = set_of(alloc, 0, second)?;
+    let mut were = 0usize;
+    for turn in 0..turns {
+        let changes = change_by(merge, &mut one, &other)?;
+        were = were.wrapping_add(usize::from(one.remove(turn)) + usize::from(changes));
+    }
+    Ok(were)
+}
+
+// What the second numbers have and the first have not goes in.
+fn unite_in_place(
+    alloc: Global,
+    first: &[usize],
+    second: &[usize],
+    turns: usize,
+) -> Result<usize, SetError> {
+    let mut one = set_of::<u32>(alloc, 0, first)?;
+    let other = set_of(alloc, 0, second)?;
+    let mut except = set_of(alloc, 0, first)?;
+    except.difference_with(&other)?;
+    let mut were = 0usize;
+    for turn in 0..turns {
+        let changes = one.union_with_difference(&other, &except)?;
+        were = were.wrapping_add(usize::from(one.remove(turn)) + usize::from(changes));
     }
     Ok(were)
 }
@@ -312,4 +363,54 @@ pub extern "C" fn bench_merge_symmetric_difference(
     turns: usize,
 ) -> usize {
     merge_in_place::<u32>(alloc, Merge::Symmetric, first, second, turns).unwrap_or(usize::MAX)
+}
+
+#[unsafe(no_mangle)]
+pub extern "C" fn bench_change_union(
+    alloc: Global,
+    first: &[usize],
+    second: &[usize],
+    turns: usize,
+) -> usize {
+    change_in_place(alloc, Merge::Union, first, second, turns).unwrap_or(usize::MAX)
+}
+
+#[unsafe(no_mangle)]
+pub extern "C" fn bench_change_intersection(
+    alloc: Global,
+    first: &[usize],
+    second: &[usize],
+    turns: usize,
+) -> usize {
+    change_in_place(alloc, Merge::Intersection, first, second, turns).unwrap_or(usize::MAX)
+}
+
+#[unsafe(no_mangle)]
+pub extern "C" fn bench_change_difference(
+    alloc: Global,
+    first: &[usize],
+    second: &[usize],
+    turns: usize,
+) -> usize {
+    change_in_place(alloc, Merge::Difference, first, second, turns).unwrap_or(usize::MAX)
+}
+
+#[unsafe(no_mangle)]
+pub extern "C" fn bench_change_symmetric_difference(
+    alloc: Global,
+    first: &[usize],
+    second: &[usize],
+    turns: usize,
+) -> usize {
+    change_in_place(alloc, Merge::Symmetric, first, second, turns).unwrap_or(usize::MAX)
+}
+
+#[unsafe(no_mangle)]
+pub extern "C" fn bench_change_by_difference(
+    alloc: Global,
+    first: &[usize],
+    second: &[usize],
+    turns: usize,
+) -> usize {
+    unite_in_place(alloc, first, second, turns).unwrap_or(usize::MAX)
 }

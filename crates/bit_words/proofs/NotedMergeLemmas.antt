@@ -150,10 +150,6 @@ module _ {X : Type 0} (m : Merge) (w : ℕ) (f : X → ℕ) where
     ),
   )
 
-  -- where those before some stay, all of them stay just where these do
-  pub stay_rest : (a b c : ℕ) (other : ℕ → ℕ → Bool) (xs : List X) → a ≤ b → (Stay m w f b c other xs → ⊥) → Stay m w f a c other xs → ⊥
-  stay_rest a b c other xs le never is = never (stay_part a b c c other xs le (omega arith) is)
-
 -- those of a union that are past the others
 pub stay_to_end : {X : Type 0} (w : ℕ) (f : X → ℕ) (a b : ℕ) (os es : List ℕ) (xs : List X) → length os ≤ a → Stay Union w f 0 a (except_at os es) xs → Stay Union w f 0 b (except_at os es) xs
 stay_to_end w f a b os es xs past is = record {
@@ -198,24 +194,6 @@ module _ {X : Type 0} (m : Merge) (w : ℕ) (f : X → ℕ) (P : X → Type 0) w
     each = is.each;
     len = is.len;
   }
-
-  -- all stay
-  pub merged_of_stay : (end : ℕ) (xs os : List X) → All P xs → Stay m w f 0 end (other_at (map f os)) xs → HasMerged m w f P 0 end xs os xs
-  merged_of_stay end xs os each stay = record {
-    merged = record { digit = stay.digit; before = λ k h. refl; after = λ k h. refl };
-    each = each;
-    len = refl;
-  }
-
-  pub with_of_stay : (end : ℕ) (other : ℕ → ℕ → Bool) (xs : List X) → All P xs → Stay m w f 0 end other xs → HasMergedWith m w f P 0 end other xs xs
-  with_of_stay end other xs each stay = record { digit = stay.digit; before = λ k h. refl; after = λ k h. refl; each = each; len = refl }
-
-  -- what was merged and kept stays
-  pub stay_of_merged : (end : ℕ) (xs os ys : List X) → HasMerged m w f P 0 end xs os ys → AreKept (map f xs) (map f ys) → Stay m w f 0 end (other_at (map f os)) xs
-  stay_of_merged end xs os ys is kept = record { digit = λ k j from below index. ap (λ n. is_one n j) (sym (kept k)) ∙ is.merged.digit k j from below index }
-
-  pub stay_of_with : (end : ℕ) (other : ℕ → ℕ → Bool) (xs ys : List X) → HasMergedWith m w f P 0 end other xs ys → AreKept (map f xs) (map f ys) → Stay m w f 0 end other xs
-  stay_of_with end other xs ys is kept = record { digit = λ k j from below index. ap (λ n. is_one n j) (sym (kept k)) ∙ is.digit k j from below index }
 
 -- ---- lists
 
