@@ -1,19 +1,9 @@
 //! A million random calls, from a fixed seed, on sets of this library and of the crate `bit-set`, over blocks of 32 bits
 //! and of 64.
+use clients::Draws;
 use peer::BitSet as Peer;
 
 const SETS: usize = 4;
-
-struct Draws(u64);
-
-impl Draws {
-    fn below(&mut self, n: usize) -> usize {
-        self.0 ^= self.0 << 13;
-        self.0 ^= self.0 >> 7;
-        self.0 ^= self.0 << 17;
-        (self.0 % n as u64) as usize
-    }
-}
 
 macro_rules! beside {
     ($($name:ident over $block:ty, seed $seed:literal;)*) => {

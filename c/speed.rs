@@ -1,22 +1,12 @@
 //! Times calls of this library through its Rust package beside the crate `bit-set`, both over blocks of one width and in
 //! one program: the least of many rounds, in turns. `speed ROW SIDE TIMES` runs one side of a row so often, to count
 //! instructions.
+use clients::Draws;
 use std::hint::black_box;
 use std::time::Instant;
 
 const LIMIT: usize = 1 << 20;
 const ROUNDS: usize = 60;
-
-struct Draws(u64);
-
-impl Draws {
-    fn below(&mut self, n: usize) -> usize {
-        self.0 ^= self.0 << 13;
-        self.0 ^= self.0 >> 7;
-        self.0 ^= self.0 << 17;
-        (self.0 % n as u64) as usize
-    }
-}
 
 macro_rules! sides {
     ($($name:ident is $set:path;)*) => {
@@ -50,7 +40,7 @@ macro_rules! sides {
                         "intersection" => Box::new(move || set.intersection(&other).fold(0, |a, n| a ^ n)),
                         "difference" => Box::new(move || set.difference(&other).fold(0, |a, n| a ^ n)),
                         "symmetric" => Box::new(move || set.symmetric_difference(&other).fold(0, |a, n| a ^ n)),
-                        _ => panic!("there is no row {name}"),
+                        _ => panic!("there is no row {}", name),
                     }
                 }
             }
