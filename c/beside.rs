@@ -1,19 +1,9 @@
 //! A million random calls, from a fixed seed, on sets of this library and of the crate `bit-set`, over blocks of 32 bits
 //! and of 64.
+use clients::Draws;
 use peer::BitSet as Peer;
 
 const SETS: usize = 4;
-
-struct Draws(u64);
-
-impl Draws {
-    fn below(&mut self, n: usize) -> usize {
-        self.0 ^= self.0 << 13;
-        self.0 ^= self.0 >> 7;
-        self.0 ^= self.0 << 17;
-        (self.0 % n as u64) as usize
-    }
-}
 
 macro_rules! beside {
     ($($name:ident over $block:ty, seed $seed:literal;)*) => {
@@ -26,24 +16,27 @@ macro_rules! beside {
                 for _ in 0..500_000 {
                     let call = draws.below(1000);
                     let (i, j) = (draws.below(SETS), draws.below(SETS));
-                    let bound = [70, 600, 20_000][draws.below(3)];
+                    let bound = [70, 600, 5000][draws.below(3)];
                     let value = draws.below(bound);
                     let (x, y) = (&mut ours[i], &mut theirs[i]);
                     match call {
-                        0..=399 => assert_eq!(x.insert(value), y.insert(value)),
-                        400..=699 => assert_eq!(x.remove(value), y.remove(value)),
-                        700..=849 => assert_eq!(x.contains(value), y.contains(value)),
-                        850..=879 => assert_eq!((x.len(), x.is_empty()), (y.len(), y.is_empty())),
-                        880..=889 => assert!(x.iter().eq(y.iter())),
-                        890..=894 => {
+                        0..=449 => assert_eq!(x.insert(value), y.insert(value)),
+                        450..=769 => assert_eq!(x.remove(value), y.remove(value)),
+                        770..=929 => assert_eq!(x.contains(value), y.contains(value)),
+                        930..=959 => assert_eq!((x.len(), x.is_empty()), (y.len(), y.is_empty())),
+                        960..=964 => assert!(x.iter().eq(y.iter())),
+                        965..=969 => {
                             x.shrink_to_fit();
-                            y.shrink_to_fit();
+                            // Of an empty set `bit-set` keeps the length of a block that it does not have.
+                            if !y.is_empty() {
+                                y.shrink_to_fit();
+                            }
                         }
-                        895..=899 => {
+                        970..=974 => {
                             x.reserve_len(value);
                             y.reserve_len(value);
                         }
-                        900 => {
+                        975 => {
                             x.clear();
                             y.clear();
                         }
@@ -52,11 +45,11 @@ macro_rules! beside {
                             let (a, b) = (x.clone(), y.clone());
                             let (x, y) = (&mut ours[j], &mut theirs[j]);
                             match call {
-                                901..=910 => (x.union_with(&a), y.union_with(&b)),
-                                911..=920 => (x.intersect_with(&a), y.intersect_with(&b)),
-                                921..=930 => (x.difference_with(&a), y.difference_with(&b)),
-                                931..=940 => (x.symmetric_difference_with(&a), y.symmetric_difference_with(&b)),
-                                941..=945 => (x.clone_from(&a), y.clone_from(&b)),
+                                976..=979 => (x.union_with(&a), y.union_with(&b)),
+                                980..=983 => (x.intersect_with(&a), y.intersect_with(&b)),
+                                984..=987 => (x.difference_with(&a), y.difference_with(&b)),
+                                988..=991 => (x.symmetric_difference_with(&a), y.symmetric_difference_with(&b)),
+                                992..=995 => (x.clone_from(&a), y.clone_from(&b)),
                                 _ => ((), ()),
                             };
                             assert!(x.union(&a).eq(y.union(&b)) && x.intersection(&a).eq(y.intersection(&b)));

@@ -18,6 +18,10 @@ static uint64_t reads(const bit_set *set, const bit_set *other) {
     sum += bit_set_is_disjoint(set, other) + bit_set_equals(set, other) + (uint64_t)bit_set_compare(set, other);
     sum += bit_set_copy_members(set, LIMIT / 2, members, ROOM) + members[ROOM - 1];
     sum += bit_set_copy_blocks(set, 1, blocks, ROOM) + blocks[ROOM - 1];
+    sum += bit_set_copy_union(set, other, 1, blocks, ROOM) + blocks[ROOM - 1];
+    sum += bit_set_copy_intersection(set, other, 1, blocks, ROOM) + blocks[ROOM - 1];
+    sum += bit_set_copy_difference(set, other, 1, blocks, ROOM) + blocks[ROOM - 1];
+    sum += bit_set_copy_symmetric_difference(set, other, 1, blocks, ROOM) + blocks[ROOM - 1];
     for (size_t number = 0; number < LIMIT; number += 7)
         sum += bit_set_contains(set, number) + bit_set_next(set, number);
     return sum;

@@ -24,7 +24,6 @@ CLASSES = (
     "TestOnlySetsNumeric",
     "TestOnlySetsOperator",
     "TestCopyingEmpty",
-    "TestCopyingSingleton",
 )
 
 # Of these the cases that ask for what is no part of a MutableSet: how `set` is printed, and how many items a walk over

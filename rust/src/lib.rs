@@ -239,19 +239,17 @@ impl<B: BitBlock> BitSet<B> {
         let element = unsafe { B::next(self.read(), from) };
         (element != usize::MAX).then_some(element)
     }
+}
 
-    // Copies the words of 64 bits from one on, and zeros past the last.
-    fn copy_words(&self, from: usize, words: &mut [u64]) {
-        let parts = size_of::<u64>() / size_of::<B>();
-        let (blocks, room) = (words.as_mut_ptr().cast::<B>(), words.len() * parts);
-        // SAFETY: the set and the words are lent for the call, and a word is as many blocks as there are parts.
-        unsafe {
-            let count = B::copy_blocks(self.read(), from * parts, blocks, room);
-            blocks.add(count).write_bytes(0, room - count);
-        }
-        if cfg!(target_endian = "big") && parts == 2 {
-            words.iter_mut().for_each(|word| *word = word.rotate_left(32));
-        }
+// Fills the words of 64 bits from one on with blocks, by a call that copies these, and with zeros past the last.
+fn copy_words<B: BitBlock>(from: usize, words: &mut [u64], call: impl FnOnce(usize, *mut B, usize) -> usize) {
+    let parts = size_of::<u64>() / size_of::<B>();
+    let (blocks, room) = (words.as_mut_ptr().cast::<B>(), words.len() * parts);
+    let count = call(from * parts, blocks, room);
+    // SAFETY: a word is as many blocks as there are parts, and the call wrote no more of them than there is room for.
+    unsafe { blocks.add(count).write_bytes(0, room - count) };
+    if cfg!(target_endian = "big") && parts == 2 {
+        words.iter_mut().for_each(|word| *word = word.rotate_left(32));
     }
 }
 

@@ -10,7 +10,10 @@ macro_rules! calls {
         calls!(trait $list);
         $(calls!(impl $block $prefix $list);)*
     };
-    (trait { $($name:ident($($argument:ident: $type:ty),*) $(-> $result:ty)?;)* }) => {
+    (trait {
+        $($name:ident($($argument:ident: $type:ty),*) $(-> $result:ty)?;)*
+        $([$copy:ident of $($set:ident),*])*
+    }) => {
         /// The calls on sets of such blocks.
         ///
         /// # Safety
@@ -18,10 +21,13 @@ macro_rules! calls {
         /// Each asks what the header asks.
         pub trait Calls: Sized {
             $(unsafe fn $name($($argument: $type),*) $(-> $result)?;)*
-            unsafe fn copy_blocks(set: *const Set, from: usize, blocks: *mut Self, room: usize) -> usize;
+            $(unsafe fn $copy($($set: *const Set),*, from: usize, blocks: *mut Self, room: usize) -> usize;)*
         }
     };
-    (impl $block:ident $prefix:literal { $($name:ident($($argument:ident: $type:ty),*) $(-> $result:ty)?;)* }) => {
+    (impl $block:ident $prefix:literal {
+        $($name:ident($($argument:ident: $type:ty),*) $(-> $result:ty)?;)*
+        $([$copy:ident of $($set:ident),*])*
+    }) => {
         impl Calls for $block {
             $(
                 #[inline(always)]
@@ -35,15 +41,17 @@ macro_rules! calls {
                 }
             )*
 
-            #[inline(always)]
-            unsafe fn copy_blocks(set: *const Set, from: usize, blocks: *mut Self, room: usize) -> usize {
-                extern "C" {
-                    #[link_name = concat!($prefix, "copy_blocks")]
-                    fn call(set: *const Set, from: usize, blocks: *mut $block, room: usize) -> usize;
+            $(
+                #[inline(always)]
+                unsafe fn $copy($($set: *const Set),*, from: usize, blocks: *mut Self, room: usize) -> usize {
+                    extern "C" {
+                        #[link_name = concat!($prefix, stringify!($copy))]
+                        fn call($($set: *const Set),*, from: usize, blocks: *mut $block, room: usize) -> usize;
+                    }
+                    // SAFETY: it is as the caller says.
+                    unsafe { call($($set),*, from, blocks, room) }
                 }
-                // SAFETY: it is as the caller says.
-                unsafe { call(set, from, blocks, room) }
-            }
+            )*
         }
     };
 }
@@ -80,5 +88,10 @@ calls! {
         reserve(set: *mut Set, length: usize) -> bool;
         reserve_exact(set: *mut Set, length: usize) -> bool;
         shrink_to_fit(set: *mut Set) -> bool;
+        [copy_blocks of set]
+        [copy_union of set, other]
+        [copy_intersection of set, other]
+        [copy_difference of set, other]
+        [copy_symmetric_difference of set, other]
     }
 }

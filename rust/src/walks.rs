@@ -1,8 +1,9 @@
 //! Walks over a set, and over what two sets make. Blocks are copied in groups, past those that are zero by a search on
 //! the proved side, and decoded here: one call for each element costs more than the whole walk.
-use crate::{BitBlock, BitSet};
+use crate::{copy_words, BitBlock, BitSet};
 
-const GROUP: usize = 64;
+const GROUP: usize = 128;
+const FEW: usize = 8;
 const WIDTH: usize = u64::BITS as usize;
 
 type Group = [u64; GROUP];
@@ -11,53 +12,57 @@ type Group = [u64; GROUP];
 trait Source {
     /// Writes the blocks from one on that is not before that of `from`, with none that has an element between them, and
     /// returns which it is; `None` where no element is left.
-    fn fill(&self, from: usize, group: &mut Group) -> Option<usize>;
+    fn fill(&self, from: usize, group: &mut [u64]) -> Option<usize>;
 }
 
 #[derive(Clone)]
 struct Walk<S> {
     source: S,
     group: Group,
-    // The block of the group that is next.
+    // Which block the group begins with, the one of the group that is next, and where the group ends.
+    first: usize,
     at: usize,
+    end: usize,
+    // How many blocks the next group has: few where those that are not zero are far apart.
+    size: usize,
     // What is left of the block in hand, and its first number.
     block: u64,
     base: usize,
-    // Past the last group there is none.
-    is_over: bool,
 }
 
 impl<S: Source> Walk<S> {
     fn over(source: S) -> Self {
-        let mut walk = Walk { source, group: [0; GROUP], at: GROUP, block: 0, base: 0, is_over: false };
-        walk.refill(0);
-        walk
+        Walk { source, group: [0; GROUP], first: 0, at: 0, end: 0, size: FEW, block: 0, base: 0 }
     }
 
-    #[cold]
-    #[inline(never)]
-    fn refill(&mut self, from: usize) {
-        match self.source.fill(from, &mut self.group) {
-            Some(first) => (self.at, self.block, self.base) = (1, self.group[0], first * WIDTH),
-            None => self.is_over = true,
+    // Takes the next block that is not zero in hand, and returns whether there is one. What is written here is no part of
+    // the group, and so stays in registers of the caller's loop.
+    #[inline(always)]
+    fn advance(&mut self) -> bool {
+        loop {
+            while self.at < self.end {
+                let at = self.at;
+                self.at += 1;
+                self.block = self.group[at % GROUP];
+                if self.block != 0 {
+                    self.base = (self.first + at) * WIDTH;
+                    return true;
+                }
+            }
+            let next = self.first + self.end;
+            let Some(first) = next.checked_mul(WIDTH).and_then(|from| self.source.fill(from, &mut self.group[..self.size]))
+            else {
+                return false;
+            };
+            (self.first, self.at, self.end) = (first, 0, self.size);
+            self.size = if first - next < FEW { GROUP.min(2 * self.size) } else { FEW };
         }
     }
 
     #[inline]
     fn next(&mut self) -> Option<usize> {
-        while self.block == 0 {
-            if self.at < GROUP {
-                self.block = self.group[self.at];
-                self.at += 1;
-                self.base = self.base.wrapping_add(WIDTH);
-            } else if self.is_over {
-                return None;
-            } else {
-                match self.base.checked_add(WIDTH) {
-                    Some(from) => self.refill(from),
-                    None => self.is_over = true,
-                }
-            }
+        if self.block == 0 && !self.advance() {
+            return None;
         }
         let lowest = self.block.trailing_zeros() as usize;
         self.block &= self.block - 1;
@@ -69,33 +74,41 @@ impl<S: Source> Walk<S> {
 struct One<'a, B: BitBlock>(&'a BitSet<B>);
 
 impl<B: BitBlock> Source for One<'_, B> {
-    fn fill(&self, from: usize, group: &mut Group) -> Option<usize> {
+    #[inline(never)]
+    fn fill(&self, from: usize, group: &mut [u64]) -> Option<usize> {
         let first = self.0.next_from(from)? / WIDTH;
-        self.0.copy_words(first, group);
+        // SAFETY: the set and the group are lent for the call, as below.
+        copy_words(first, group, |from, blocks, room| unsafe { B::copy_blocks(self.0.read(), from, blocks, room) });
         Some(first)
     }
 }
 
-// What is in the first set alone, in the second alone and in both, each kept or not.
-#[derive(Clone)]
-struct Two<'a, B: BitBlock, const FIRST: bool, const SECOND: bool, const BOTH: bool>(&'a BitSet<B>, &'a BitSet<B>);
+const UNION: u8 = 0;
+const INTERSECTION: u8 = 1;
+const DIFFERENCE: u8 = 2;
+const SYMMETRIC: u8 = 3;
 
-impl<B: BitBlock, const FIRST: bool, const SECOND: bool, const BOTH: bool> Source for Two<'_, B, FIRST, SECOND, BOTH> {
-    fn fill(&self, from: usize, group: &mut Group) -> Option<usize> {
+// What two sets make.
+#[derive(Clone)]
+struct Two<'a, B: BitBlock, const MERGE: u8>(&'a BitSet<B>, &'a BitSet<B>);
+
+impl<B: BitBlock, const MERGE: u8> Source for Two<'_, B, MERGE> {
+    #[inline(never)]
+    fn fill(&self, from: usize, group: &mut [u64]) -> Option<usize> {
         let Two(a, b) = self;
-        let least = match (FIRST, SECOND) {
-            (true, true) => a.next_from(from).into_iter().chain(b.next_from(from)).min()?,
-            (true, false) => a.next_from(from)?,
-            _ => a.next_from(from)?.max(b.next_from(from)?),
+        let least = match MERGE {
+            DIFFERENCE => a.next_from(from)?,
+            INTERSECTION => a.next_from(from)?.max(b.next_from(from)?),
+            _ => a.next_from(from).into_iter().chain(b.next_from(from)).min()?,
         };
         let first = least / WIDTH;
-        let mut other = [0; GROUP];
-        a.copy_words(first, group);
-        b.copy_words(first, &mut other);
-        for (x, y) in group.iter_mut().zip(other) {
-            let (alone, second, both) = (*x & !y, y & !*x, *x & y);
-            *x = if FIRST { alone } else { 0 } | if SECOND { second } else { 0 } | if BOTH { both } else { 0 };
-        }
+        let call = match MERGE {
+            UNION => B::copy_union,
+            INTERSECTION => B::copy_intersection,
+            DIFFERENCE => B::copy_difference,
+            _ => B::copy_symmetric_difference,
+        };
+        copy_words(first, group, |from, blocks, room| unsafe { call(a.read(), b.read(), from, blocks, room) });
         Some(first)
     }
 }
@@ -133,13 +146,13 @@ walks! {
     /// The elements, in ascending order.
     Iter over One<'a, B>, iter: |set, _| One(set);
     /// What is in either set, in ascending order.
-    Union over Two<'a, B, true, true, true>, union of other: Two;
+    Union over Two<'a, B, { UNION }>, union of other: Two;
     /// What is in both sets, in ascending order.
-    Intersection over Two<'a, B, false, false, true>, intersection of other: Two;
+    Intersection over Two<'a, B, { INTERSECTION }>, intersection of other: Two;
     /// What is in the first set alone, in ascending order.
-    Difference over Two<'a, B, true, false, false>, difference of other: Two;
+    Difference over Two<'a, B, { DIFFERENCE }>, difference of other: Two;
     /// What is in just one of two sets, in ascending order.
-    SymmetricDifference over Two<'a, B, true, true, false>, symmetric_difference of other: Two;
+    SymmetricDifference over Two<'a, B, { SYMMETRIC }>, symmetric_difference of other: Two;
 }
 
 impl<'a, B: BitBlock> IntoIterator for &'a BitSet<B> {

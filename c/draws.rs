@@ -1,0 +1,12 @@
+//! Numbers that look random, the same for each run.
+pub struct Draws(pub u64);
+
+impl Draws {
+    /// One below `n`.
+    pub fn below(&mut self, n: usize) -> usize {
+        self.0 ^= self.0 << 13;
+        self.0 ^= self.0 >> 7;
+        self.0 ^= self.0 << 17;
+        (self.0 % n as u64) as usize
+    }
+}
