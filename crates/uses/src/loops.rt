@@ -1,10 +1,10 @@
 //! Loops over sets. Each is proved by its invariant alone, but for those with an `Answers.antt` in `proofs/`.
-ghost use Rattle.std.specs.Prelude.{◌≡◌, ◌≢◌, ℕ, ◌+◌, ◌-◌, ◌*◌, ◌/◌, ◌<◌, ◌≤◌, ◌^◌, ◌%◌, ◌==◌, ◌&&◌, ◌↔◌, false, filter, nat_le, sum, take, Any, IfErr, IfNone, IfOk, IfSome, IsTrue, List, MatchOption, OnOk, length, slice_index_or};
+ghost use Rattle.std.specs.Prelude.{◌≡◌, ◌≢◌, ℕ, ◌+◌, ◌-◌, ◌*◌, ◌/◌, ◌<◌, ◌≤◌, ◌^◌, ◌%◌, ◌==◌, ◌&&◌, ◌||◌, ◌↔◌, false, true, filter, nat_le, sum, take, Any, IfErr, IfNone, IfOk, IfSome, IsTrue, List, MatchOption, OnOk, length, slice_index_or};
 ghost use Rattle.std.specs.List.{list_any};
 ghost use Rattle.bit_set.specs.Bits.{Bits};
 ghost use Rattle.bit_set.specs.Choices.{IsGreatest};
 ghost use Rattle.bit_set.specs.Members.{HasNone, IsDifference, IsDisjoint, IsSameSet, IsSubset, IsUnion};
-ghost use Rattle.bit_set.specs.Sets.{elements, has};
+ghost use Rattle.bit_set.specs.Sets.{elements, has, is_disjoint, is_subset, those_below, those_from};
 
 use bit_set::{BitBlock, BitSet, SetError, laws};
 use std::alloc::{AllocError, Global};
@@ -274,6 +274,105 @@ pub fn doubles<B: BitBlock>(alloc: Global, set: &BitSet<B>) -> Result<BitSet<B>,
         doubles.insert(double)?;
     }
     Ok(doubles)
+}
+
+/// The members below `n`, in ascending order.
+#[tactic(auto, using(bit_set::proofs::CallerLemmas::set_steps))]
+pub fn list_below<B: BitBlock>(
+    alloc: Global,
+    set: &BitSet<B>,
+    n: usize,
+) -> Result<Vec<usize>, AllocError>
+    ensures { IfOk result (λ low. low.items ≡ those_below (elements set.now.values) n) }
+{
+    let mut low = Vec::new(alloc);
+    for member in set {
+        if member >= n {
+            break;
+        }
+        low.push(member)?;
+    }
+    Ok(low)
+}
+
+/// How many members are below `n`, and how many are not: a walk that is left at `n`, and a second one from there.
+#[tactic(auto, using(bit_set::proofs::CallerLemmas::set_steps))]
+pub fn counts_at<B: BitBlock>(set: &BitSet<B>, n: usize) -> (usize, usize)
+    ensures low { result.0 ≡ length (those_below (elements set.now.values) n) }
+    ensures high { result.1 ≡ length (those_from (elements set.now.values) n) }
+{
+    let mut low = 0;
+    for member in set {
+        if member >= n {
+            break;
+        }
+        low += 1;
+    }
+    let mut high = 0;
+    for _member in set.iter_from(n) {
+        high += 1;
+    }
+    (low, high)
+}
+
+/// Whether some member has the number after it in the set too.
+#[tactic(auto, using(bit_set::proofs::CallerLemmas::set_steps))]
+pub fn has_neighbours<B: BitBlock>(set: &BitSet<B>) -> bool
+    ensures { IsTrue result ↔ ((m : ℕ) × IsTrue (has (elements set.now.values) m)
+        × IsTrue (has (elements set.now.values) (m + 1))) }
+{
+    for member in set {
+        prove!(set.contains(member));
+        if set.contains(member + 1) {
+            return true;
+        }
+    }
+    false
+}
+
+/// All to which `next` leads from `start`, by a list of what is still to do.
+#[tactic(auto, using(bit_set::proofs::CallerLemmas::set_steps))]
+pub fn reach<B: BitBlock>(
+    alloc: Global,
+    next: &[usize],
+    start: usize,
+) -> Result<BitSet<B>, SetError>
+    ensures starts { IfOk result (λ seen. IsTrue (has (elements seen.values) start)) }
+    ensures closed { IfOk result (λ seen. (k d : ℕ) → k < length next.now → IsTrue (has (elements seen.values) k)
+        → IsTrue (has (elements seen.values) (slice_index_or next.now k d))) }
+{
+    let mut seen = BitSet::new_general(alloc);
+    let mut todo = Vec::new(alloc);
+    todo.push(start)?;
+    while let Some(at) = todo.pop() {
+        if seen.insert(at)? && at < next.len() {
+            todo.push(next[at])?;
+        }
+    }
+    Ok(seen)
+}
+
+/// Takes in each set of a row that it meets, until it meets no other.
+#[tactic(auto, using(bit_set::proofs::CallerLemmas::set_steps))]
+pub fn merge_met<B: BitBlock>(set: &mut BitSet<B>, rows: &[BitSet<B>]) -> Result<(), AllocError>
+    ensures more { IsSubset (elements set.old.values) (elements set.new.values) }
+    ensures met { OnOk result ((k : ℕ) (d : Bits) → k < length rows.now
+        → (is_disjoint (elements set.new.values) (elements (slice_index_or rows.now k d).values)
+        || is_subset (elements (slice_index_or rows.now k d).values) (elements set.new.values)) ≡ true) }
+{
+    laws::sizes_of_sets();
+    let mut at = 0;
+    while at < rows.len() {
+        prove!(set.capacity() <= usize::MAX);
+        if set.is_disjoint(&rows[at]) {
+            at += 1;
+        } else if set.union_changes(&rows[at])? {
+            at = 0;
+        } else {
+            at += 1;
+        }
+    }
+    Ok(())
 }
 
 /// The numbers that a walk meets which goes from each to its `next`, from `start` on, up to one that it met before or

@@ -161,3 +161,26 @@ fn a_walk_along_a_row_ends(rt: HostRuntime) {
     let seen = ok(&rt, follow::<u8>(rt.alloc(), &[2, 0, 300], 1));
     has_members(&rt, &seen, &[0, 1, 2, 300]);
 }
+
+#[test]
+fn members_are_listed_and_counted_at_a_number(rt: HostRuntime) {
+    let set = set_of::<u32>(&rt, rt.alloc(), &[1, 2, 70]);
+    let low = ok(&rt, list_below(rt.alloc(), &set, 70));
+    expect_eq(&rt, &low.len(), &2);
+    expect_eq(&rt, &counts_at(&set, 2), &(1, 2));
+    expect_eq(&rt, &has_neighbours(&set), &true);
+}
+
+#[test]
+fn what_leads_on_is_reached(rt: HostRuntime) {
+    let seen = ok(&rt, reach::<u8>(rt.alloc(), &[2, 0, 300], 1));
+    has_members(&rt, &seen, &[0, 1, 2, 300]);
+}
+
+#[test]
+fn sets_that_are_met_are_taken_in(rt: HostRuntime) {
+    let rows = [&[3, 4], &[1, 3], &[5, 600]].map(|numbers| set_of::<u8>(&rt, rt.alloc(), numbers));
+    let mut set = set_of::<u8>(&rt, rt.alloc(), &[1]);
+    ok(&rt, merge_met(&mut set, &rows));
+    has_members(&rt, &set, &[1, 3, 4]);
+}
