@@ -75,9 +75,9 @@ module _ {X : Type 0} (w : ℕ) (number : X → ℕ) where
       cond_both (number x == 0) (nonzero_from number (q + 1) xs) ((q, x) ∷ nonzero_from number (q + 1) xs) (λ entries. length (blocks_past w k (indexes_of w number entries)) ≡ length entries)
       (λ _. blocks_of_entries is_block small k (q + 1) xs pos (omega (arith, before)) others)
       (λ some.
-          let m = number x in
-          let rest = indexes_of w number (nonzero_from number (q + 1) xs) in
-          let is_some : indexes w (q * w) m [] ≡ [] → ⊥ = some_index w (q * w) m (let other = eqb-false m 0 some in omega (arith, other)) (small x (All-head is_block x xs each)) in
-          let block = ap length (blocks_of_entry k q m (indexes w (q * w) m []) rest pos before refl is_some) in
-          let more = blocks_of_entries is_block small q (q + 1) xs pos (omega arith) others in
-          omega (arith, block, more))
+      let m = number x in
+      let rest = indexes_of w number (nonzero_from number (q + 1) xs) in
+      let is_some : indexes w (q * w) m [] ≡ [] → ⊥ = some_index w (q * w) m (let other = eqb-false m 0 some in omega (arith, other)) (small x (All-head is_block x xs each)) in
+      let block = ap length (blocks_of_entry k q m (indexes w (q * w) m []) rest pos before refl is_some) in
+      let more = blocks_of_entries is_block small q (q + 1) xs pos (omega arith) others in
+      omega (arith, block, more))

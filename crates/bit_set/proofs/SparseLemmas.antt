@@ -118,9 +118,9 @@ module _ {X : Type 0} (w : ℕ) (number : X → ℕ) (is_block : X → Type 0) (
       let at_back = indexes w back.index (number back.block) [] in
       let same : left_between w number new t.left back ≡ left_between w number front s.left back =
       sym (
-        ap₂ (λ xs entries. xs ++ (indexes_of w number entries ++ at_back)) (no_indexes w front.index (number front.block) used_up) pull.item
-        ∙ append_assoc (indexes w (k * w) (number new.block) []) (indexes_of w number t.left) at_back
-        ∙ ap (λ p. indexes w p (number new.block) [] ++ (indexes_of w number t.left ++ at_back)) (sym index)
+      ap₂ (λ xs entries. xs ++ (indexes_of w number entries ++ at_back)) (no_indexes w front.index (number front.block) used_up) pull.item
+      ∙ append_assoc (indexes w (k * w) (number new.block) []) (indexes_of w number t.left) at_back
+      ∙ ap (λ p. indexes w p (number new.block) [] ++ (indexes_of w number t.left ++ at_back)) (sym index)
       ) in
       let other : (front.index / w == new.index / w) ≡ false = ne_eqb _ _ (λ e. omega (arith, e, at, up.0)) in
       let count = ap length pull.item in
@@ -172,12 +172,12 @@ module _ {X : Type 0} (w : ℕ) (number : X → ℕ) (is_block : X → Type 0) (
       elim found [
         | inl stays ↦ rw (stays.walk, stays.hand_stays, stays.other_stays) (stays_next front back s is)
         | inr past ↦ elim past [
-            | inl fills ↦ rw fills.other_stays (fills_next front back new s t fills.k is lawful fills.used_up fills.pulled fills.index)
-            | inr rest ↦ elim rest [
-                | inl takes ↦ takes_over_next front back new other s t is lawful_too takes.used_up takes.none_left takes.taken takes.other_index takes.other_used_up
-                | inr out ↦ absurd (true≢false out.not_found)
-              ]
+          | inl fills ↦ rw fills.other_stays (fills_next front back new s t fills.k is lawful fills.used_up fills.pulled fills.index)
+          | inr rest ↦ elim rest [
+            | inl takes ↦ takes_over_next front back new other s t is lawful_too takes.used_up takes.none_left takes.taken takes.other_index takes.other_used_up
+            | inr out ↦ absurd (true≢false out.not_found)
           ]
+        ]
       ]
 
   -- one that found none
@@ -188,12 +188,12 @@ module _ {X : Type 0} (w : ℕ) (number : X → ℕ) (is_block : X → Type 0) (
       elim found [
         | inl stays ↦ absurd (true≢false (sym stays.is_found))
         | inr past ↦ elim past [
-            | inl fills ↦ absurd (true≢false (sym fills.is_found))
-            | inr rest ↦ elim rest [
-                | inl takes ↦ absurd (true≢false (sym takes.is_found))
-                | inr out ↦ rw (out.hand_stays, out.other_stays) (ended out)
-              ]
+          | inl fills ↦ absurd (true≢false (sym fills.is_found))
+          | inr rest ↦ elim rest [
+            | inl takes ↦ absurd (true≢false (sym takes.is_found))
+            | inr out ↦ rw (out.hand_stays, out.other_stays) (ended out)
           ]
+        ]
       ]
     where
       ended : RunsOut PullsNonzero number s front back false t new other
@@ -207,8 +207,8 @@ module _ {X : Type 0} (w : ℕ) (number : X → ℕ) (is_block : X → Type 0) (
           let none = ap length out.end.item.1 in
           let none_before = ap length out.end.item.0 in (
             moved front back (record { block = front.block; index = back.index }) back s t is is.in_hand is.at_back (no_entries out.end.item.1) out.end.same is.whole_back is.whole_back
-            (subst (λ entries. AscendsFrom (back.index / w + 1) (map (λ (entry : ℕ × X). entry.0) entries ++ (back.index / w + 1) ∷ [])) (sym out.end.item.1) (omega arith, tt))
-            (omega arith) (now ∙ sym was),
+                (subst (λ entries. AscendsFrom (back.index / w + 1) (map (λ (entry : ℕ × X). entry.0) entries ++ (back.index / w + 1) ∷ [])) (sym out.end.item.1) (omega arith, tt))
+                (omega arith) (now ∙ sym was),
             record {
               item = (was, now);
               first = tt;
@@ -293,12 +293,12 @@ module _ {X : Type 0} (w : ℕ) (number : X → ℕ) (is_block : X → Type 0) (
       let at_front = indexes w front.index (number front.block) [] in
       let same : left_between w number front t.left new ≡ left_between w number front s.left back =
       sym (
-        ap₂ (λ entries xs. at_front ++ (indexes_of w number entries ++ xs)) pull.item (no_indexes w back.index (number back.block) used_up)
-        ∙ ap (λ xs. at_front ++ xs) (
-          append-nil (indexes_of w number (t.left ++ (k, new.block) ∷ []))
-          ∙ indexes_of-pushed w number t.left (k, new.block)
-          ∙ ap (λ p. indexes_of w number t.left ++ indexes w p (number new.block) []) (sym index)
-        )
+      ap₂ (λ entries xs. at_front ++ (indexes_of w number entries ++ xs)) pull.item (no_indexes w back.index (number back.block) used_up)
+      ∙ ap (λ xs. at_front ++ xs) (
+      append-nil (indexes_of w number (t.left ++ (k, new.block) ∷ []))
+      ∙ indexes_of-pushed w number t.left (k, new.block)
+      ∙ ap (λ p. indexes_of w number t.left ++ indexes w p (number new.block) []) (sym index)
+      )
       ) in
       let count = ap length pull.item ∙ length-append t.left ((k, new.block) ∷ []) in
       record {
@@ -347,12 +347,12 @@ module _ {X : Type 0} (w : ℕ) (number : X → ℕ) (is_block : X → Type 0) (
       elim found [
         | inl stays ↦ rw (stays.walk, stays.hand_stays, stays.other_stays) (stays_last front back s is)
         | inr past ↦ elim past [
-            | inl fills ↦ rw fills.other_stays (fills_last front back new s t fills.k is lawful fills.used_up fills.pulled fills.index)
-            | inr rest ↦ elim rest [
-                | inl takes ↦ takes_over_last front back new other s t is lawful_too takes.used_up takes.none_left takes.taken takes.other_index takes.other_used_up
-                | inr out ↦ absurd (true≢false out.not_found)
-              ]
+          | inl fills ↦ rw fills.other_stays (fills_last front back new s t fills.k is lawful fills.used_up fills.pulled fills.index)
+          | inr rest ↦ elim rest [
+            | inl takes ↦ takes_over_last front back new other s t is lawful_too takes.used_up takes.none_left takes.taken takes.other_index takes.other_used_up
+            | inr out ↦ absurd (true≢false out.not_found)
           ]
+        ]
       ]
 
   pub refilled_back-end : (front back new other : Hand X) (s t : Nonzeros X) → IsSparseWalk w number is_block front s back → Refills TakesLast PullsLast w number s back front false t new other
@@ -362,12 +362,12 @@ module _ {X : Type 0} (w : ℕ) (number : X → ℕ) (is_block : X → Type 0) (
       elim found [
         | inl stays ↦ absurd (true≢false (sym stays.is_found))
         | inr past ↦ elim past [
-            | inl fills ↦ absurd (true≢false (sym fills.is_found))
-            | inr rest ↦ elim rest [
-                | inl takes ↦ absurd (true≢false (sym takes.is_found))
-                | inr out ↦ rw (out.hand_stays, out.other_stays) (ended out)
-              ]
+          | inl fills ↦ absurd (true≢false (sym fills.is_found))
+          | inr rest ↦ elim rest [
+            | inl takes ↦ absurd (true≢false (sym takes.is_found))
+            | inr out ↦ rw (out.hand_stays, out.other_stays) (ended out)
           ]
+        ]
       ]
     where
       ended : RunsOut PullsLast number s back front false t new other
@@ -379,8 +379,8 @@ module _ {X : Type 0} (w : ℕ) (number : X → ℕ) (is_block : X → Type 0) (
           let now : left_between w number front t.left (record { block = back.block; index = front.index }) ≡ [] =
           ap₂ (λ xs entries. xs ++ (indexes_of w number entries ++ indexes w front.index (number back.block) [])) (no_indexes w front.index (number front.block) out.other_used_up) out.end.item.1 ∙ no_indexes w front.index (number back.block) out.used_up in (
             moved front back front (record { block = back.block; index = front.index }) s t is is.in_hand is.at_back (no_entries out.end.item.1) out.end.same is.whole is.whole
-            (subst (λ entries. AscendsFrom (front.index / w + 1) (map (λ (entry : ℕ × X). entry.0) entries ++ (front.index / w + 1) ∷ [])) (sym out.end.item.1) (omega arith, tt))
-            apart (now ∙ sym was),
+                (subst (λ entries. AscendsFrom (front.index / w + 1) (map (λ (entry : ℕ × X). entry.0) entries ++ (front.index / w + 1) ∷ [])) (sym out.end.item.1) (omega arith, tt))
+                apart (now ∙ sym was),
             record {
               item = (was, now);
               last = tt;

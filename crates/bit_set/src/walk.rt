@@ -2,7 +2,9 @@
 ghost use Rattle.std.specs.{Prelude.{◌≡◌, IfSome, length}, Iterator.{UpTo, item_count, Runs.YieldsInOrder, SizeHint.IsWithinCount}};
 ghost use Rattle.bit_set.specs.{Sets.{elements, those_from}, Walk.{Advances, AdvancesBack, IsAtStart, IsAtStartFrom, bound_on_rest}};
 
-use crate::bit_vec::{BitVec, Nonzero, block_or_zero, clear_below, take_highest_one, take_lowest_one};
+use crate::bit_vec::{
+    BitVec, Nonzero, block_or_zero, clear_below, take_highest_one, take_lowest_one,
+};
 use crate::{BitBlock, BitSet};
 use std::marker::Model;
 

@@ -3,8 +3,7 @@ use crate::expect::{expect, expect_eq, ok};
 use crate::lists::{list_of, put};
 use bit_words::bit_vec::{
     BitVec, BitsError, Merge, Steps, clear_below, first_mismatching_block, first_nonzero_block,
-    lowest_mismatch, mismatch_between, same_blocks, take_highest_one,
-    take_lowest_one,
+    lowest_mismatch, mismatch_between, same_blocks, take_highest_one, take_lowest_one,
 };
 use std::alloc::{AllocError, Global};
 use std::process::Abort;

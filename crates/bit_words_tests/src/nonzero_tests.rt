@@ -87,7 +87,11 @@ fn both_ends_take_of_the_same_blocks(rt: HostRuntime) {
     for len in [2_000, 20_000] {
         let bits = list_of::<u32>(&rt, rt.alloc(), len, &[3, 40, 500, 1999]);
         let mut walk = bits.nonzero_past_first();
-        expect_eq(&rt, &from_both_ends(&mut walk), &[Some(1), Some(62), Some(15), None]);
+        expect_eq(
+            &rt,
+            &from_both_ends(&mut walk),
+            &[Some(1), Some(62), Some(15), None],
+        );
         expect_eq(&rt, &walk.next(), &None);
         let mut walk = bits.nonzero_past(1);
         expect_eq(&rt, &from_the_back(&mut walk), &[Some(62), Some(15), None]);
