@@ -1,12 +1,11 @@
 -- For each block the blocks that it flows into.
-use Rattle.std.proofs.Common.{◌≡◌, ◌≢◌, ℕ, ◌+◌, ◌<◌, ◌≤◌, true, eqb, inl, inr, List, [], ◌∷◌, ◌++◌, length, map, get_or, set, refl, sym, ap, ◌∙◌, arith}
-use Rattle.std.proofs.lemmas.Bool.{true≢false, cases_eq, eq-eqb, eqb-true, or_cases, or_left, or_right}
+use Rattle.std.proofs.Common.{◌≡◌, ◌≢◌, ℕ, ◌<◌, ◌≤◌, true, eqb, inl, inr, List, [], ◌∷◌, ◌++◌, length, map, get_or, set, refl, sym, ap, ◌∙◌, arith}
+use Rattle.std.proofs.lemmas.Bool.{cases_eq, eq-eqb, eqb-true, or_cases, or_left, or_right}
 use Rattle.std.proofs.lemmas.List.{get_or-set_other, get_or-set_same, length-set, map-set}
 use Rattle.std.specs.Global.{Vec}
 use Rattle.bit_set.specs.Sets.{has}
 use Rattle.dataflow.specs.Flow.{Flow, block_at}
-use Rattle.dataflow.specs.Worklist.{AddsDependent, AreDependents, row_at}
-use Rattle.dataflow.proofs.SettleLemmas.{with_source}
+use Rattle.dataflow.specs.Worklist.{AddsDependent, row_at}
 use Rattle.dataflow.proofs.TakeLemmas.{in_push, mapped}
 
 -- ---- a row is written

@@ -1,5 +1,5 @@
 -- What one visit does to a set.
-use Rattle.std.proofs.Common.{◌≡◌, ◌≢◌, ℕ, ◌+◌, ◌<◌, ◌≤◌, Bool, true, false, not, ◌||◌, ◌&&◌, cond, eqb, filter, suc, zero, set, take, inl, inr, List, [], ◌∷◌, ◌++◌, length, map, get_or, refl, sym, ap, ◌∙◌, arith}
+use Rattle.std.proofs.Common.{◌≡◌, ◌≢◌, ℕ, ◌+◌, ◌<◌, ◌≤◌, Bool, true, false, not, ◌||◌, ◌&&◌, cond, eqb, suc, zero, set, take, inl, inr, List, [], ◌∷◌, ◌++◌, length, map, get_or, refl, sym, ap, ◌∙◌, arith}
 use Rattle.std.proofs.lemmas.Bool.{true≢false, cases_eq, eq-eqb, eqb-true, or_cases, or_left, or_right}
 use Rattle.std.proofs.lemmas.List.{get_or_default, get_or_past, get_or-set_other, get_or-set_same, length-map, length-set, map-append, map-set, take_more}
 use Rattle.std.proofs.Math.ListN.{get_or-map}
@@ -54,13 +54,6 @@ pub at_member : (xs : List ℕ) (i : ℕ) → i < length xs → has xs (get_or x
 at_member [] i lt = absurd (omega (arith, lt))
 at_member (x ∷ xs) zero lt = or_left (eqb x x) _ (eq-eqb x x refl)
 at_member (x ∷ xs) (suc i) lt = or_right (eqb x (get_or xs i 0)) _ (at_member xs i (omega (arith, lt)))
-
-pub of_filter : (p : ℕ → Bool) (xs : List ℕ) (n : ℕ) → has (filter p xs) n ≡ true → has xs n ≡ true
-of_filter p [] n h = h
-of_filter p (x ∷ xs) n h = elim (p x) as (λ b. has (cond b (x ∷ filter p xs) (filter p xs)) n ≡ true → has (x ∷ xs) n ≡ true) [
-  | true ↦ λ h. elim (or_cases (eqb x n) (has (filter p xs) n) h) [ inl is ↦ or_left (eqb x n) _ is | inr more ↦ or_right (eqb x n) _ (of_filter p xs n more) ]
-  | false ↦ λ h. or_right (eqb x n) _ (of_filter p xs n h)
-] h
 
 pub and_true : (a b : Bool) → a ≡ true → b ≡ false → (a && not b) ≡ true
 and_true true false is none = refl

@@ -1,4 +1,4 @@
-use Rattle.std.proofs.Common.{◌≡◌, ◌<◌, ◌^◌, [], length, set, sym, ap, ◌∙◌}
+use Rattle.std.proofs.Common.{◌≡◌, [], set, ap, ◌∙◌}
 use Rattle.std.proofs.lemmas.List.{get_or_default}
 use Rattle.bit_set.specs.Sets.{elements}
 use Rattle.dataflow.specs.Flow.{lists_of, set_at}
