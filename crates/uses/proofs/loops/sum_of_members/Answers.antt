@@ -1,4 +1,4 @@
-use Rattle.std.proofs.Common.{◌≡◌, ◌+◌, ◌∙◌, ap, sum, arith}
+use Rattle.std.proofs.Common.{◌∙◌, ap, sum, arith}
 use Rattle.std.proofs.lemmas.List.Sums.{sum_by-cons}
 use Rattle.uses.proofs.loops.sum_of_members.Goals as goal
 
