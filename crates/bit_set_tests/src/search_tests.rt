@@ -1,7 +1,7 @@
 //! Searches for the next element in either direction, and the ends taken out, over sets with a summary and without one;
 //! what a test keeps, and the bytes of a set.
 
-use crate::expect::{expect_eq, expect_eq_at, ok};
+use crate::expect::{expect, expect_eq, expect_eq_at, ok};
 use crate::sets::{set_of, set_of_bytes};
 use bit_set::BitBlock;
 use block24::Block24;
@@ -36,6 +36,22 @@ fn the_next_element_is_found(rt: HostRuntime) {
     finds::<u8>(&rt, rt.alloc());
     finds::<Block24>(&rt, rt.alloc());
     finds::<u64>(&rt, rt.alloc());
+}
+
+fn misses<B: BitBlock>(rt: &impl Abort, alloc: Global) {
+    let set = set_of::<B>(rt, alloc, &[0, 1, 3, 62, 63, 64]);
+    expect(rt, set.missing(1..5).eq([2, 4]));
+    expect(rt, set.missing(60..67).eq([60, 61, 65, 66]));
+    expect(rt, set.missing(500..502).eq([500, 501]));
+    expect_eq(rt, &set.missing(0..1000).count(), &994);
+    expect_eq(rt, &set.missing(5..5).next(), &None);
+}
+
+#[test]
+fn what_is_missing_is_walked_over(rt: HostRuntime) {
+    misses::<u8>(&rt, rt.alloc());
+    misses::<Block24>(&rt, rt.alloc());
+    misses::<u64>(&rt, rt.alloc());
 }
 
 fn ends_are_taken<B: BitBlock>(rt: &impl Abort, alloc: Global) {

@@ -111,6 +111,16 @@ fn the_next_false_value_is_found(rt: HostRuntime) {
     expect_eq(&rt, &bits.first_zero_from(71), &100);
 }
 
+#[test]
+fn the_false_values_of_a_block(rt: HostRuntime) {
+    let bits = list_of::<u8>(&rt, rt.alloc(), 10, &[1, 8]);
+    // Of ten values over blocks of 8 bits, those at 1 and 8 are true.
+    if u8::bits() == 8 {
+        expect_eq(&rt, &bits.zeros_in_block(0, 5), &0b1_1101);
+        expect_eq(&rt, &bits.zeros_in_block(1, 12), &0b1110);
+    }
+}
+
 fn ten_values_written(rt: &impl Abort, alloc: Global) -> Result<(), AllocError> {
     let bits = list_of::<u32>(rt, alloc, 10, &[1, 9]);
     // Of 10 values, those at 1 and 9 are true.
