@@ -108,6 +108,7 @@ calls! {
         IntoIter "into_iter" "s"
         IterFrom "iter_from" "snm"
         IterEnds "iter_ends" "snm"
+        Missing "missing" "snm"
         Union "union" "stnm"
         Intersection "intersection" "stnm"
         Difference "difference" "stnm"
@@ -137,6 +138,7 @@ calls! {
         BitsSetRange "bits.set_range" "snm"
         BitsClearRange "bits.clear_range" "snm"
         BitsNegateRange "bits.negate_range" "snm"
+        BitsKeepInBlock "bits.keep_in_block" "stn"
     }
     Look {
         BitsLen "bits.len" "s"
@@ -164,6 +166,7 @@ calls! {
         BitsFirstOneFrom "bits.first_one_from" "sn"
         BitsLastOneBefore "bits.last_one_before" "sn"
         BitsFirstZeroFrom "bits.first_zero_from" "sn"
+        BitsZerosInBlock "bits.zeros_in_block" "snm"
         BitsToBytes "bits.to_bytes" "s"
     }
 }

@@ -82,6 +82,7 @@ impl Draw {
             | Call::ContainsAllInRange
             | Call::ContainsAnyInRange
             | Call::CountInRange
+            | Call::Missing
             | Call::BitsSetRange
             | Call::BitsClearRange
             | Call::BitsNegateRange
@@ -120,6 +121,12 @@ impl Draw {
                 let refills = line.call == Call::BitsRefill;
                 self.steps(line, if refills { set.elements.len() } else { set.blocks() });
                 line.first = self.block(set, is_far);
+            }
+            Call::BitsKeepInBlock => line.first = self.block(set, is_far),
+            Call::BitsZerosInBlock => {
+                line.first = self.block(set, is_far);
+                let from = self.element(set).max(line.first.saturating_mul(width()));
+                line.second = from.saturating_add(self.random.below(2 * width()));
             }
             Call::BitsBlock => {
                 line.first = self.block(set, is_far);

@@ -268,6 +268,11 @@ impl Set for Model {
     fn walk<'a>(&'a self, line: &Line, other: &'a Model) -> Box<dyn Walk + 'a> {
         let (one, two) = (&self.elements, &other.elements);
         let call = line.call;
+        if call == Call::Missing {
+            let first = line.first.min(line.second);
+            let index = first / width() * width();
+            return Box::new(ModelMissing { elements: one, at: first, index, end: line.second });
+        }
         let items: Vec<usize> = match call {
             Call::Iter => one.iter().copied().collect(),
             Call::IterFrom => one.range(line.first..).copied().collect(),
@@ -349,6 +354,9 @@ impl Set for Model {
                 self.turn_range(line.first, to, line.call == Call::BitsNegateRange);
             }
             Call::BitsClearRange => self.clear_range(line.first..line.second),
+            Call::BitsKeepInBlock => {
+                self.elements.retain(|number| number / width() != line.first || other.elements.contains(number));
+            }
             Call::BitsReserve | Call::BitsReserveExact | Call::BitsShrinkToFit => {}
             merge => self.merge(merge, other),
         }
@@ -431,6 +439,45 @@ impl Walk for ModelWalk {
 
     fn count_left(&self) -> usize {
         self.items.len() - self.taken
+    }
+}
+
+/// A walk over the numbers from `at` on and below `end` that are no elements. Its upper bound is how far the end is past the
+/// first number of the block in hand: that of the last item, or at the end the last block of the range.
+#[derive(Clone)]
+struct ModelMissing<'a> {
+    elements: &'a BTreeSet<usize>,
+    at: usize,
+    index: usize,
+    end: usize,
+}
+
+impl Walk for ModelMissing<'_> {
+    fn bounds(&self) -> (usize, Option<usize>) {
+        (0, Some(self.end - self.index))
+    }
+
+    fn next(&mut self) -> Option<usize> {
+        while self.at < self.end && self.elements.contains(&self.at) {
+            self.at += 1;
+        }
+        if self.at >= self.end {
+            self.index += (self.end - self.index).saturating_sub(1) / width() * width();
+            return None;
+        }
+        let item = self.at;
+        self.index = item / width() * width();
+        self.at += 1;
+        Some(item)
+    }
+
+    fn copy(&self) -> Box<dyn Walk + '_> {
+        Box::new(self.clone())
+    }
+
+    fn count_left(&self) -> usize {
+        let end = self.end.max(self.at);
+        end - self.at - self.elements.range(self.at..end).count()
     }
 }
 

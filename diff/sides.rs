@@ -265,14 +265,18 @@ fn walk<S: Set>(set: &S, other: &S, line: &Line, answers: &mut Answers) {
         return iter_ends(set, line, answers);
     }
     let mut walk = set.walk(line, other);
-    // The first number of `iter_from` is where it begins.
-    let steps = if line.call == Call::IterFrom { line.second } else { line.first };
+    let (steps, further) = match line.call {
+        // The first number of `iter_from` is where it begins, and both of `missing` are its range.
+        Call::IterFrom => (line.second, line.second),
+        Call::Missing => (line.second % 64, line.first % 64),
+        _ => (line.first, line.second),
+    };
     step(&mut *walk, steps, answers);
     // A copy borrows what it is a copy of: so the walk that goes on is a copy too.
     let (mut on, mut copy) = (walk.copy(), walk.copy());
-    step(&mut *on, line.second, answers);
+    step(&mut *on, further, answers);
     answers.number(on.count_left());
-    step(&mut *copy, line.second, answers);
+    step(&mut *copy, further, answers);
     step(&mut *copy, 1, answers);
     answers.number(copy.count_left());
     step(&mut *on, 1, answers);
@@ -355,9 +359,19 @@ fn look<S: Set>(set: &S, other: &S, line: &Line, answers: &mut Answers) {
         }
         Call::BitsFirstOneFrom | Call::BitsLastOneBefore => answers.item(set.found(line.call, line.first)),
         Call::BitsFirstZeroFrom => answers.number(set.next_missing(line.first)),
+        Call::BitsZerosInBlock => answers.block(zeros(set, line.first, line.second)),
         Call::BitsToBytes => answers.bytes(&set.to_bytes()),
         _ => answers.text(&set.bits_debug()),
     }
+}
+
+/// The bits of a block at which there is no true value, below the end; none where its first index is past the end.
+fn zeros<S: Set>(set: &S, k: usize, end: usize) -> u128 {
+    let first = k.checked_mul(width()).filter(|first| *first <= end);
+    first.map_or(0, |first| {
+        let is_zero = |bit: &usize| *bit < end - first && set.bits_get(first + bit) != Some(true);
+        (0..width()).filter(is_zero).map(|bit| 1 << bit).sum()
+    })
 }
 
 fn step_blocks(walk: &mut dyn BlockWalk, steps: usize, answers: &mut Answers) {
@@ -467,6 +481,8 @@ fn single(blocks: &[u128], others: &[u128], line: &Line, answers: &mut Answers) 
     answers.number((0..width()).filter(|j| digit(one, *j)).count());
     answers.truth((within..width()).any(|j| digit(one, j)));
     answers.block(bits(&|j| j >= place && digit(one, j)));
+    answers.block(bits(&|j| j == within || digit(one, j)));
+    answers.block(bits(&|j| j != within && digit(one, j)));
     answers.block(bits(&|j| j >= within && digit(one, j - within)));
     answers.block(bits(&|j| digit(one, j + within)));
     answers.block(bits(&|j| digit(one, j) || digit(two, j)));

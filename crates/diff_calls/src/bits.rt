@@ -3,7 +3,7 @@ use crate::answers::Answers;
 use crate::calls::Writing;
 use crate::lines::Line;
 use bit_set::BitBlock;
-use bit_set::bit_vec::{BitVec, Merge, Steps};
+use bit_set::bit_vec::{BitVec, Merge, Steps, block_or_zero};
 use std::alloc::AllocError;
 
 // Blocks are merged where the other list is no longer.
@@ -45,6 +45,16 @@ fn write_range<B: BitBlock>(writing: Writing, bits: &mut BitVec<B>, (start, end)
         Writing::SetRange => bits.fill_range(range, true),
         Writing::ClearRange => bits.fill_range(range, false),
         _ => bits.negate_range(range),
+    }
+}
+
+// What the other list has in a block too stays there, where there is such a block.
+fn keep_in_block<B: BitBlock>(bits: &mut BitVec<B>, other: &BitVec<B>, k: usize) {
+    match k.checked_mul(B::bits()) {
+        Some(first) if first < bits.len() => {
+            bits.keep_in_block(k, block_or_zero(other.storage(), k));
+        }
+        _ => {}
     }
 }
 
@@ -116,6 +126,7 @@ pub(crate) fn write<B: BitBlock>(
         Writing::SetRange | Writing::ClearRange | Writing::NegateRange => {
             write_range(writing, bits, (number, line.second))
         }
+        Writing::KeepInBlock => keep_in_block(bits, other, number),
     }
     Ok(())
 }

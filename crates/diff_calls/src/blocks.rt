@@ -3,7 +3,7 @@ use crate::answers::Answers;
 use crate::widths::Width;
 use bit_set::bit_vec::{
     BitVec, Merge, block_or_zero, clear_below, first_mismatching_block, first_nonzero_block,
-    has_one_from, lowest_mismatch, mismatch_between, same_blocks,
+    has_one_from, lowest_mismatch, mismatch_between, same_blocks, with_bit,
 };
 use std::alloc::AllocError;
 
@@ -29,6 +29,18 @@ pub(crate) fn storage<B: Width>(bits: &BitVec<B>, answers: &mut Answers) -> Resu
         block(each, answers)?;
     }
     Ok(())
+}
+
+// Which values of a block are not true, where its first index is not past the end.
+pub(crate) fn zeros<B: Width>(
+    bits: &BitVec<B>,
+    (k, end): (usize, usize),
+    answers: &mut Answers,
+) -> Result<(), AllocError> {
+    match k.checked_mul(B::bits()) {
+        Some(first) if first <= end => block(bits.zeros_in_block(k, end), answers),
+        _ => block(B::zero(), answers),
+    }
 }
 
 // The first blocks that differ, by each call that looks for them, and the lowest bit in which they do.
@@ -63,6 +75,8 @@ pub(crate) fn single<B: Width>(
     answers.number(one.count_ones())?;
     answers.truth(has_one_from(one, within))?;
     block(clear_below(one, place), answers)?;
+    block(with_bit(one, within, true), answers)?;
+    block(with_bit(one, within, false), answers)?;
     block(one.shift_left(within), answers)?;
     block(one.shift_right(within), answers)?;
     block(Merge::Union.of_blocks(one, two), answers)?;

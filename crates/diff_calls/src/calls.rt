@@ -97,6 +97,7 @@ pub(crate) enum Walking {
     IntoIter,
     IterFrom,
     IterEnds,
+    Missing,
     Union,
     Intersection,
     Difference,
@@ -129,6 +130,7 @@ pub(crate) enum Writing {
     SetRange,
     ClearRange,
     NegateRange,
+    KeepInBlock,
 }
 
 // What reads the bit vector that a set lends.
@@ -159,6 +161,7 @@ pub(crate) enum Looking {
     FirstOneFrom,
     LastOneBefore,
     FirstZeroFrom,
+    ZerosInBlock,
     ToBytes,
 }
 
@@ -248,6 +251,7 @@ const CALLS: &[Call] = &[
     Call::Walk(Walking::IntoIter),
     Call::Walk(Walking::IterFrom),
     Call::Walk(Walking::IterEnds),
+    Call::Walk(Walking::Missing),
     Call::Walk(Walking::Union),
     Call::Walk(Walking::Intersection),
     Call::Walk(Walking::Difference),
@@ -275,6 +279,7 @@ const CALLS: &[Call] = &[
     Call::Write(Writing::SetRange),
     Call::Write(Writing::ClearRange),
     Call::Write(Writing::NegateRange),
+    Call::Write(Writing::KeepInBlock),
     Call::Look(Looking::Len),
     Call::Look(Looking::Get),
     Call::Look(Looking::None),
@@ -300,6 +305,7 @@ const CALLS: &[Call] = &[
     Call::Look(Looking::FirstOneFrom),
     Call::Look(Looking::LastOneBefore),
     Call::Look(Looking::FirstZeroFrom),
+    Call::Look(Looking::ZerosInBlock),
     Call::Look(Looking::ToBytes),
 ];
 

@@ -3,7 +3,7 @@ use crate::answers::Answers;
 use crate::block_walks::{
     blocks, next_if, nonzero, nonzero_ends, nonzero_past, refill, refill_ends,
 };
-use crate::blocks::{mismatch, single, storage};
+use crate::blocks::{mismatch, single, storage, zeros};
 use crate::calls::Looking;
 use crate::lines::Line;
 use crate::widths::Width;
@@ -48,6 +48,7 @@ pub(crate) fn look<B: Width>(
         Looking::FirstOneFrom => answers.item(bits.first_one_from(line.first)),
         Looking::LastOneBefore => answers.item(bits.last_one_before(line.first)),
         Looking::FirstZeroFrom => answers.number(bits.first_zero_from(line.first)),
+        Looking::ZerosInBlock => zeros(bits, numbers, answers),
         Looking::ToBytes => answers.bytes(&bits.to_bytes(alloc)?),
     }
 }

@@ -3,7 +3,7 @@ use crate::answers::Answers;
 use crate::block_walks::is_front;
 use crate::calls::Walking;
 use crate::lines::Line;
-use bit_set::{BitBlock, BitSet, Difference, Intersection, Iter, SymmetricDifference, Union};
+use bit_set::{BitBlock, BitSet, Difference, Intersection, Iter, Missing, SymmetricDifference, Union};
 use std::alloc::AllocError;
 
 // A walk that can be copied and counted at any point.
@@ -16,6 +16,18 @@ trait Walk: Iterator<Item = usize> {
 }
 
 impl<B: BitBlock> Walk for Iter<'_, B> {
+    fn copy(&self) -> Self {
+        self.clone()
+    }
+
+    fn count_left(self) -> usize {
+        self.count()
+    }
+
+    ghost can = { λ s. tt };
+}
+
+impl<B: BitBlock> Walk for Missing<'_, B> {
     fn copy(&self) -> Self {
         self.clone()
     }
@@ -148,6 +160,11 @@ pub(crate) fn walk_over<B: BitBlock>(
             answers,
         ),
         Walking::IterEnds => take_ends(set.iter(), steps, answers),
+        Walking::Missing => take(
+            set.missing(line.first..line.second),
+            (line.second % 64, line.first % 64),
+            answers,
+        ),
         Walking::Union => take(set.union(other), steps, answers),
         Walking::Intersection => take(set.intersection(other), steps, answers),
         Walking::Difference => take(set.difference(other), steps, answers),
