@@ -67,12 +67,8 @@ pub fn lowest_free<B: BitBlock>(set: &BitSet<B>, n: usize) -> Option<usize>
     ensures lowest { IfSome result (λ x. (y : ℕ) → y < x → IsTrue (has (elements set.now.values) y)) }
     ensures none { IfNone result ((y : ℕ) → y < n → IsTrue (has (elements set.now.values) y)) }
 {
-    for number in 0..n {
-        if !set.contains(number) {
-            return Some(number);
-        }
-    }
-    None
+    let free = set.next_missing(0);
+    if free < n { Some(free) } else { None }
 }
 
 /// Takes the least member out.
