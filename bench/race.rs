@@ -5,6 +5,7 @@
 //! - `users`: libraries that use this one, beside the same loops over the sets of those crates;
 //! - `widths`: this library over three types of blocks;
 //! - `instructions`: calls on small sets, by their instructions;
+//! - `ranges`: calls on ranges of long sets, by their instructions;
 //! - `scaling`: this library's calls and users at some size and at four times that, by their instructions.
 //!
 //! Ends with status 1 where two sides give different results or a row of `scaling` takes too long, and with 2 where
@@ -17,6 +18,7 @@ mod instructions;
 mod live_variables;
 mod pairs;
 mod peers;
+mod ranges;
 mod scaling;
 mod single;
 mod small;
@@ -61,8 +63,10 @@ fn race(words: &[String]) -> Option<bool> {
         "users" => Some(users::race()),
         "widths" => Some(widths::race()),
         "instructions" => Some(instructions::race()),
+        "ranges" => Some(ranges::race()),
         "scaling" => Some(scaling::race()),
         "turns" => instructions::run_turns(rest).map(|()| true),
+        "turns-of-range" => ranges::run_turns(rest).map(|()| true),
         "turns-at" => scaling::run_turns(rest).map(|()| true),
         _ => None,
     }
@@ -74,7 +78,7 @@ fn main() -> ExitCode {
         Some(true) => ExitCode::SUCCESS,
         Some(false) => ExitCode::FAILURE,
         None => {
-            eprintln!("usage: race work | users | widths | instructions | scaling");
+            eprintln!("usage: race work | users | widths | instructions | ranges | scaling");
             ExitCode::from(2)
         }
     }

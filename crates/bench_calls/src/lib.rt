@@ -10,6 +10,7 @@ mod graphs;
 mod input_sets;
 mod inserting;
 mod live_variables;
+mod ranges;
 mod reading;
 mod slots;
 mod small_changes;

@@ -1,0 +1,131 @@
+//! Counts the instructions of calls on a range of numbers of a long set, and prints a table; and of the least element taken
+//! out until none is left, beside a walk and a `remove` each.
+use crate::callgrind;
+use crate::inputs::Random;
+use crate::peers::total;
+use fixedbitset::FixedBitSet;
+use std::io;
+
+type OnRange = unsafe extern "C" fn(len: usize, start: usize, end: usize, turns: usize) -> usize;
+
+unsafe extern "C" {
+    fn bench_insert_range(len: usize, start: usize, end: usize, turns: usize) -> usize;
+    fn bench_remove_range(len: usize, start: usize, end: usize, turns: usize) -> usize;
+    fn bench_toggle_range(len: usize, start: usize, end: usize, turns: usize) -> usize;
+    fn bench_count_in_range(len: usize, start: usize, end: usize, turns: usize) -> usize;
+    fn bench_pop_first(members: *const usize, m: usize, turns: usize) -> usize;
+    fn bench_walk_and_remove(members: *const usize, m: usize, turns: usize) -> usize;
+}
+
+/// How long the sets are, and where the ranges begin: within a block.
+const LEN: usize = 1 << 24;
+const START: usize = 5_000_003;
+const COUNTS: [(&str, usize); 2] = [("1,000", 1_000), ("1M", 1 << 20)];
+
+/// Few turns, which are subtracted from more.
+const TURNS: [usize; 2] = [2, 12];
+
+/// A call on a range, by this library and by the peer: each does the turns and returns a number.
+struct Call {
+    name: &'static str,
+    here: OnRange,
+    there: fn(set: &mut FixedBitSet, from: usize, end: usize) -> usize,
+}
+
+const CALLS: [Call; 4] = [
+    Call {
+        name: "`insert_range`",
+        here: bench_insert_range,
+        there: |set, from, end| {
+            set.insert_range(from..end);
+            usize::from(set.contains(from))
+        },
+    },
+    Call {
+        name: "`remove_range`",
+        here: bench_remove_range,
+        there: |set, from, end| {
+            set.set_range(from..end, false);
+            usize::from(set.contains(from))
+        },
+    },
+    Call {
+        name: "`toggle_range`",
+        here: bench_toggle_range,
+        there: |set, from, end| {
+            set.toggle_range(from..end);
+            usize::from(set.contains(from))
+        },
+    },
+    Call { name: "`count_in_range`", here: bench_count_in_range, there: |set, from, end| set.count_ones(from..end) },
+];
+
+/// The set of the last number below `LEN`.
+fn long_set() -> FixedBitSet {
+    let mut set = FixedBitSet::with_capacity(LEN);
+    set.insert(LEN - 1);
+    set
+}
+
+/// Does the turns of one call by one side, and prints the result: what callgrind is run on. The words are a place in the
+/// list of calls, or `pop`, a side, how many numbers and how many turns. `None` where they are not.
+pub fn run_turns(words: &[String]) -> Option<()> {
+    let [call, side, count, turns] = words else { return None };
+    let (count, turns): (usize, usize) = (count.parse().ok()?, turns.parse().ok()?);
+    let result = if call == "pop" {
+        let members = Random::start().numbers_below(16 * count, count);
+        let (m, ms) = (members.len(), members.as_ptr());
+        match side.as_str() {
+            "here" => unsafe { bench_pop_first(ms, m, turns) },
+            _ => unsafe { bench_walk_and_remove(ms, m, turns) },
+        }
+    } else {
+        let call = CALLS.get(call.parse::<usize>().ok()?)?;
+        let end = START + count;
+        match side.as_str() {
+            "here" => unsafe { (call.here)(LEN, START, end, turns) },
+            _ => {
+                let mut set = long_set();
+                total(turns, |turn| (call.there)(&mut set, START + turn % 2, end))
+            }
+        }
+    };
+    println!("{result}");
+    Some(())
+}
+
+/// The instructions a turn of both sides, and whether these gave the same results.
+fn sides(call: &str, count: usize) -> io::Result<([f64; 2], bool)> {
+    let words = |side: &str| ["turns-of-range".to_string(), call.to_string(), side.to_string(), count.to_string()];
+    let (here, result) = callgrind::of_a_turn(&words("here"), TURNS)?;
+    let (there, other) = callgrind::of_a_turn(&words("there"), TURNS)?;
+    Ok(([here, there], result == other))
+}
+
+/// Prints the rows. Whether the sides of each gave the same results.
+fn rows() -> io::Result<bool> {
+    let mut agrees = true;
+    for (label, count) in COUNTS {
+        for (place, call) in CALLS.iter().enumerate() {
+            let ([here, there], same) = sides(&place.to_string(), count)?;
+            println!("| {} | {label} in 16M | {here:.0} | {there:.0} | {:.2} |", call.name, here / there);
+            agrees &= same;
+        }
+    }
+    let ([here, there], same) = sides("pop", 1 << 16)?;
+    println!("| `pop_first` till empty, beside a walk and a `remove` each | 64k in 1M | {here:.0} | {there:.0} | {:.2} |", here / there);
+    Ok(agrees && same)
+}
+
+/// Prints the table, or that valgrind is missing. Whether the sides of each row gave the same results.
+pub fn race() -> bool {
+    if !callgrind::is_there() {
+        return true;
+    }
+    println!("| Instructions | Numbers | here (`u64`) | `fixedbitset` | ratio |");
+    println!("|---|---|---|---|---|");
+    rows().unwrap_or_else(|fault| {
+        println!("the instructions of the next row were not counted: {fault}");
+        false
+    })
+}
