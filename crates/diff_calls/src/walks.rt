@@ -3,7 +3,9 @@ use crate::answers::Answers;
 use crate::block_walks::is_front;
 use crate::calls::Walking;
 use crate::lines::Line;
-use bit_set::{BitBlock, BitSet, Difference, Intersection, Iter, Missing, SymmetricDifference, Union};
+use bit_set::{
+    BitBlock, BitSet, Difference, Intersection, Iter, Missing, SymmetricDifference, Union,
+};
 use std::alloc::AllocError;
 
 // A walk that can be copied and counted at any point.
