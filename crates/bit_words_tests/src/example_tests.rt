@@ -3,7 +3,7 @@ use crate::expect::{expect, expect_eq, ok};
 use crate::lists::{list_of, put};
 use bit_words::bit_vec::{
     BitVec, BitsError, Merge, Steps, clear_below, first_mismatching_block, first_nonzero_block,
-    lowest_mismatch, mismatch_between, same_blocks, take_highest_one, take_lowest_one,
+    lowest_mismatch, mismatch_between, same_blocks, take_highest_one, take_lowest_one, with_bit,
 };
 use std::alloc::{AllocError, Global};
 use std::process::Abort;
@@ -115,10 +115,27 @@ fn the_next_false_value_is_found(rt: HostRuntime) {
 fn the_false_values_of_a_block(rt: HostRuntime) {
     let bits = list_of::<u8>(&rt, rt.alloc(), 10, &[1, 8]);
     // Of ten values over blocks of 8 bits, those at 1 and 8 are true.
-    if u8::bits() == 8 {
-        expect_eq(&rt, &bits.zeros_in_block(0, 5), &0b1_1101);
-        expect_eq(&rt, &bits.zeros_in_block(1, 12), &0b1110);
+    expect_eq(&rt, &bits.zeros_in_block(0, 5), &0b1_1101);
+    expect_eq(&rt, &bits.zeros_in_block(1, 12), &0b1110);
+}
+
+fn some_values_kept(rt: &impl Abort, bits: &mut BitVec<u8>) {
+    if bits.len() > 0 {
+        // Of ten values over blocks of 8 bits, those at 1, 2 and 8 are true.
+        bits.keep_in_block(0, 0b100);
+        expect_eq(rt, &bits.storage(), &[0b100, 0b1].as_slice());
     }
+}
+
+#[test]
+fn some_values_of_a_block_are_kept(rt: HostRuntime) {
+    some_values_kept(&rt, &mut list_of::<u8>(&rt, rt.alloc(), 10, &[1, 2, 8]));
+}
+
+#[test]
+fn a_bit_is_written(rt: HostRuntime) {
+    expect_eq(&rt, &with_bit(0b0110u8, 1, false), &0b0100);
+    expect_eq(&rt, &with_bit(0b0110u8, 0, true), &0b0111);
 }
 
 fn ten_values_written(rt: &impl Abort, alloc: Global) -> Result<(), AllocError> {
