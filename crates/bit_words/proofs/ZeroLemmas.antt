@@ -1,12 +1,8 @@
 -- Blocks that are 0, by themselves and by a summary.
-use Rattle.std.proofs.Common.{◌≡◌, ℕ, suc, ◌+◌, ◌-◌, ◌*◌, ◌/◌, ◌%◌, ◌^◌, ◌<◌, ◌≤◌, ◌↔◌, true, List, [], ◌∷◌, min, map, drop, take, length, get_or, get_or-take, get_or-drop, All, sym, ap, ◌∙◌, arith, mod-lt, div-add-mod'}
-use Rattle.std.proofs.lemmas.{Nat.le-div, List.{get_or_past, length-map, drop-map, take-map, Elements.{All-nil, All-cons}}, Bool.Decides.nat_tests}
-use Rattle.bit_words.{specs.{Digits.is_one, Storage.value_at, Summary.{is_used, IsSummary}}, proofs.{CompareLemmas.zero_from_digits, Masks.is_one-zero, StorageLemmas.{value_at-is, value_at-index}}}
+use Rattle.std.proofs.Common.{◌≡◌, ℕ, suc, ◌+◌, ◌-◌, ◌*◌, ◌/◌, ◌%◌, ◌^◌, ◌<◌, ◌≤◌, ◌↔◌, List, [], ◌∷◌, min, map, drop, take, length, get_or, get_or-take, get_or-drop, All, sym, ap, ◌∙◌, arith, mod-lt, div-add-mod'}
+use Rattle.std.proofs.lemmas.{Nat.le-div, List.{get_or_past, length-map, drop-map, take-map, Elements.{All-nil, All-cons}}}
+use Rattle.bit_words.{specs.{Digits.is_one, Storage.value_at, Summary.{IsSummary}}, proofs.{CompareLemmas.zero_from_digits, Masks.is_one-zero, StorageLemmas.{value_at-is, value_at-index}}}
 use Rattle.bit_words.proofs.{SummaryLemmas.{used_from_zero, zero_from_unused}, VectorLemmas.{numbers_below, all_zero_map}}
-
--- what is not 0 is a block
-pub nonzero_inside : {X : Type 0} (number : X → ℕ) (k : ℕ) (xs : List X) → is_used (map number xs) k ≡ true → k < length xs
-nonzero_inside number k xs some = grind (arith, nat_tests, get_or_past, length-map)
 
 -- what lies past the first blocks
 pub dropped : {X : Type 0} (number : X → ℕ) (n j : ℕ) (xs : List X) → get_or (map number (drop n xs)) j 0 ≡ get_or (map number xs) (n + j) 0
