@@ -67,18 +67,27 @@ fn a_refill_passes_zero_blocks(rt: HostRuntime) {
     expect_eq(&rt, &refilled_block(&mut walk), &Some((false, 0)));
 }
 
+fn first_left<B: BitBlock>(walk: &mut Nonzero<'_, B>) -> Option<usize> {
+    Some(walk.next()?.0)
+}
+
+fn last_left<B: BitBlock>(walk: &mut Nonzero<'_, B>) -> Option<usize> {
+    Some(walk.next_back()?.0)
+}
+
 // The indices that a walk gives by calls from the front and from the back in turn, the front first.
 fn from_both_ends<B: BitBlock>(walk: &mut Nonzero<'_, B>) -> [Option<usize>; 4] {
-    let first = walk.next();
-    let last = walk.next_back();
-    let second = walk.next();
-    let end = walk.next_back();
-    [first, last, second, end].map(|entry| Some(entry?.0))
+    [
+        first_left(walk),
+        last_left(walk),
+        first_left(walk),
+        last_left(walk),
+    ]
 }
 
 // The indices of the last three blocks of a walk, from the back.
 fn from_the_back<B: BitBlock>(walk: &mut Nonzero<'_, B>) -> [Option<usize>; 3] {
-    [walk.next_back(), walk.next_back(), walk.next_back()].map(|entry| Some(entry?.0))
+    [last_left(walk), last_left(walk), last_left(walk)]
 }
 
 #[test]
