@@ -115,7 +115,8 @@ impl Draw {
                 let is_blocks = line.call == Call::BitsNonzeroEnds;
                 self.steps(line, if is_blocks { set.blocks() } else { set.elements.len() });
                 // Which end each step takes of: now of each in turn at random, now of one for long.
-                line.second = self.random.of(&[0, usize::MAX, self.random.next() as usize]);
+                let mixed = self.random.next() as usize;
+                line.second = self.random.of(&[0, usize::MAX, mixed]);
             }
             Call::BitsNonzeroPast | Call::BitsRefill => {
                 let refills = line.call == Call::BitsRefill;
