@@ -1,6 +1,6 @@
 // Where a merge first changes a list of blocks. Groups of blocks are looked at, each by one test, up to the first of which a
 // block changes, and none is written.
-ghost use Rattle.std.specs.Prelude.{◌≡◌, ℕ, ◌+◌, ◌<◌, ◌≤◌, ◌↔◌, All, IfNone, IfSome, IsTrue, false, length, map};
+ghost use Rattle.std.specs.Prelude.{◌≡◌, ℕ, ◌+◌, ◌*◌, ◌<◌, ◌≤◌, ◌↔◌, All, IfNone, IfSome, IsTrue, false, length, map};
 ghost use Rattle.bit_words.specs.{BlockMerges.CanMerge, Digits.is_one, NotedMerges.{except_at, other_at, Stay}, declared.block.merge.Merge.Merge};
 
 use crate::block::BitBlock;
@@ -8,7 +8,7 @@ use crate::block::operation::{Difference, Operation, Union};
 use crate::block::operators::same;
 use crate::packed::access::block_at;
 use crate::packed::comparing::or_mismatch;
-use crate::packed::groups::GROUP;
+use crate::packed::groups::{GROUP, LONG_GROUP};
 
 // A block that is 0 just where `seen` is and block `k` stays where it is merged with `other`.
 #[inline(always)]
@@ -84,7 +84,35 @@ fn stay_past<B: BitBlock, O: Operation>(blocks: &[B], start: usize) -> bool
     same(change, zero)
 }
 
-// Where the first group from `start` on begins of which a block changes, or else the end of the others.
+// Which of the `groups` groups of `size` blocks from `start` on is the first of which a block changes, or else `groups`.
+#[inline(always)]
+fn changed_group<B: BitBlock, O: Operation>(
+    blocks: &[B],
+    others: &[B],
+    start: usize,
+    groups: usize,
+    size: usize,
+) -> usize
+    requires can { CanMerge B.is_block blocks.now others.now }
+    requires in_others { start + groups * size ≤ length others.now }
+    ensures within { result ≤ groups }
+    ensures stay { Stay O.merge B.width B.number start (start + result * size) (other_at (map B.number others.now)) blocks.now }
+    ensures stops { result < groups → Stay O.merge B.width B.number start (start + groups * size)
+        (other_at (map B.number others.now)) blocks.now → ⊥ }
+{
+    for group in 0..groups {
+        if !same(
+            changes::<B, O>(blocks, others, start + group * size, size),
+            B::zero(),
+        ) {
+            return group;
+        }
+    }
+    groups
+}
+
+// Where the first group from `start` on begins of which a block changes, or else the end of the others. Groups are long
+// ones, and where no more of these are left, short ones.
 #[inline(always)]
 fn stay_until<B: BitBlock, O: Operation>(blocks: &[B], others: &[B], start: usize) -> usize
     requires can { CanMerge B.is_block blocks.now others.now }
@@ -95,14 +123,18 @@ fn stay_until<B: BitBlock, O: Operation>(blocks: &[B], others: &[B], start: usiz
     ensures stops { result < length others.now → Stay O.merge B.width B.number start (length others.now)
         (other_at (map B.number others.now)) blocks.now → ⊥ }
 {
-    let groups = (others.len() - start) / GROUP;
-    for group in 0..groups {
-        let begin = start + group * GROUP;
-        if !same(changes::<B, O>(blocks, others, begin, GROUP), B::zero()) {
-            return begin;
-        }
+    let long = (others.len() - start) / LONG_GROUP;
+    let stayed = changed_group::<B, O>(blocks, others, start, long, LONG_GROUP);
+    let begin = start + stayed * LONG_GROUP;
+    if stayed < long {
+        return begin;
     }
-    let begin = start + groups * GROUP;
+    let groups = (others.len() - begin) / GROUP;
+    let stayed = changed_group::<B, O>(blocks, others, begin, groups, GROUP);
+    let begin = begin + stayed * GROUP;
+    if stayed < groups {
+        return begin;
+    }
     if same(
         changes::<B, O>(blocks, others, begin, others.len() - begin),
         B::zero(),
@@ -113,7 +145,39 @@ fn stay_until<B: BitBlock, O: Operation>(blocks: &[B], others: &[B], start: usiz
     }
 }
 
-// The same from the first block on up to before `end`, where the others are merged except for the ones of `except`.
+// The same as `changed_group`, where the others are merged except for the ones of `except`.
+#[inline(always)]
+fn changed_group_except<B: BitBlock, O: Operation>(
+    blocks: &[B],
+    others: &[B],
+    except: &[B],
+    start: usize,
+    groups: usize,
+    size: usize,
+) -> usize
+    requires can { CanMerge B.is_block blocks.now others.now }
+    requires except { All B.is_block except.now }
+    requires in_others { start + groups * size ≤ length others.now }
+    requires in_except { start + groups * size ≤ length except.now }
+    ensures within { result ≤ groups }
+    ensures stay { Stay O.merge B.width B.number start (start + result * size)
+        (except_at (map B.number others.now) (map B.number except.now)) blocks.now }
+    ensures stops { result < groups → Stay O.merge B.width B.number start (start + groups * size)
+        (except_at (map B.number others.now) (map B.number except.now)) blocks.now → ⊥ }
+{
+    for group in 0..groups {
+        if !same(
+            changes_except::<B, O>(blocks, others, except, start + group * size, size),
+            B::zero(),
+        ) {
+            return group;
+        }
+    }
+    groups
+}
+
+// The same as `stay_until` from the first block on up to before `end`, where the others are merged except for the ones of
+// `except`.
 #[inline(always)]
 fn stay_until_except<B: BitBlock, O: Operation>(
     blocks: &[B],
@@ -131,17 +195,18 @@ fn stay_until_except<B: BitBlock, O: Operation>(
     ensures stops { result < end → Stay O.merge B.width B.number 0 end
         (except_at (map B.number others.now) (map B.number except.now)) blocks.now → ⊥ }
 {
-    let groups = end / GROUP;
-    for group in 0..groups {
-        let begin = group * GROUP;
-        if !same(
-            changes_except::<B, O>(blocks, others, except, begin, GROUP),
-            B::zero(),
-        ) {
-            return begin;
-        }
+    let long = end / LONG_GROUP;
+    let stayed = changed_group_except::<B, O>(blocks, others, except, 0, long, LONG_GROUP);
+    let begin = stayed * LONG_GROUP;
+    if stayed < long {
+        return begin;
     }
-    let begin = groups * GROUP;
+    let groups = (end - begin) / GROUP;
+    let stayed = changed_group_except::<B, O>(blocks, others, except, begin, groups, GROUP);
+    let begin = begin + stayed * GROUP;
+    if stayed < groups {
+        return begin;
+    }
     if same(
         changes_except::<B, O>(blocks, others, except, begin, end - begin),
         B::zero(),
@@ -194,6 +259,9 @@ pub(crate) fn first_change_except<B: BitBlock>(
     let apart = stay_until_except::<B, Union>(blocks, others, except, both);
     if apart < both {
         return Some(apart);
+    }
+    if both == others.len() {
+        return None;
     }
     let start = stay_until::<B, Union>(blocks, others, both);
     if start < others.len() {

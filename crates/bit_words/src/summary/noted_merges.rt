@@ -176,7 +176,7 @@ fn unite_long_except<B: BitBlock>(
 
 // The blocks from `start` on become their unions with the others except for the ones of `except`, of a list of any length:
 // of a short one no summary is stored. Those before `start` stay.
-#[inline]
+#[inline(never)]
 fn unite_from<B: BitBlock>(
     blocks: &mut [B],
     summary: &mut [B],
