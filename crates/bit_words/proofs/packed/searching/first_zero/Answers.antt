@@ -1,6 +1,9 @@
 use Rattle.std.proofs.Common.{◌*◌, not, map, ap, arith, mul-le-mul_right}
-use Rattle.bit_words.{specs.Storage.value_at, proofs.{BitsLemmas.blocks_for-enough, SearchLemmas.none_more}}
+use Rattle.bit_words.{specs.Storage.value_at, proofs.{BitsLemmas.blocks_for-enough, SearchLemmas.{none_more, zero_within}}}
 use Rattle.bit_words.proofs.packed.searching.first_zero.Goals as goal
+
+pub zero_in_block-requires-clause-fits : goal.zero_in_block-requires-clause-fits
+zero_in_block-requires-clause-fits g c = λ i first. omega (arith, zero_within _ _ c.args.len i _ c.requires.packed.tail (omega arith) first)
 
 pub loop-k-preserved : goal.loop-k-preserved
 loop-k-preserved g c =
