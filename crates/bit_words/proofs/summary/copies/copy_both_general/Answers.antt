@@ -1,13 +1,6 @@
-use Rattle.std.proofs.{Common.{◌≡◌, ℕ, ◌<◌, ◌≤◌, ◌∙◌, max, length, vec_capacity, Result, OnOk, Ok, Err, arith}, lemmas.Result.on_err_weaker}
-use Rattle.bit_words.proofs.CapacityLemmas.{shared_whole, stored_from_shared}
+use Rattle.std.proofs.{Common.{◌∙◌, length, vec_capacity, Result, OnOk, Ok, Err, arith}, lemmas.Result.on_err_weaker}
+use Rattle.bit_words.proofs.CapacityLemmas.{capacity_kept, capacity_raised, shared_whole, stored_from_shared}
 use Rattle.bit_words.proofs.summary.copies.copy_both_general.Goals as goal
-
--- the capacity that is kept, or else that of the copy
-kept : (a n : ℕ) → n ≤ a → a ≡ max a n
-kept a n enough = omega arith
-
-copied : (a n : ℕ) → a < n → n ≡ max a n
-copied a n short = omega arith
 
 both_on_ok : {T E P Q R : Type 0} (r : Result T E) → (P → Q → R) → OnOk r P → OnOk r Q → OnOk r R
 both_on_ok (Ok x) f p q = f p q
@@ -30,7 +23,7 @@ returns-then-have_capacity-clause-summary g c = c.copy_blocks-then-have_capacity
 
 pub returns-then-have_capacity-clause-exact : goal.returns-then-have_capacity-clause-exact
 returns-then-have_capacity-clause-exact g c =
-    rw (c.copy_blocks.ensures.capacity, c.copy_blocks-then-have_capacity.ensures.capacity) (kept _ _ (c.have_capacity.ensures.yes c.if-have_capacity.true))
+    rw (c.copy_blocks.ensures.capacity, c.copy_blocks-then-have_capacity.ensures.capacity) (capacity_kept _ _ (c.have_capacity.ensures.yes c.if-have_capacity.true))
 
 pub returns-clause-items : goal.returns-clause-items
 returns-clause-items g c = c.replace_both.ensures.items
@@ -41,7 +34,7 @@ returns-clause-summary g c = c.replace_both.ensures.summary
 pub returns-clause-exact : goal.returns-clause-exact
 returns-clause-exact g c =
     both_on_ok c.replace_both.result (λ first second.
-    shared_whole g.B.BitBlock.width (length c.args.from.now) _ _ g.met.B.BitBlock.width_law.positive first (second ∙ c.requires.count) ∙ copied _ _ (c.have_capacity.ensures.no c.if-have_capacity.false)) c.replace_both.ensures.capacity c.replace_both.ensures.summary_capacity
+    shared_whole g.B.BitBlock.width (length c.args.from.now) _ _ g.met.B.BitBlock.width_law.positive first (second ∙ c.requires.count) ∙ capacity_raised _ _ (c.have_capacity.ensures.no c.if-have_capacity.false)) c.replace_both.ensures.capacity c.replace_both.ensures.summary_capacity
 
 pub returns-clause-err : goal.returns-clause-err
 returns-clause-err g c = c.replace_both.ensures.err

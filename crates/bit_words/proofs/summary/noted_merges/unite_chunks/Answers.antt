@@ -83,3 +83,11 @@ returns-clause-summary g c =
     ∙ ap (λ m. not (m == 0)) (sym (c.loop-q.invariant.has.before (q * w + j) inside)))
     (λ later. c.loop-q.invariant.done q j later (omega arith) index)
     (cases_lt q c.args.from))
+
+pub returns-clause-steps : goal.returns-clause-steps
+returns-clause-steps g c =
+    let w = g.B.BitBlock.width in
+    let len = length c.args.blocks.now in
+    let count : c.loop-q.q * w ≡ length c.args.summary.now * w = ap (λ n. n * w) (let end : c.loop-q.q ≡ length c.args.summary.now = omega arith in end) in
+    let whole : len ≤ length c.args.summary.now * w = rw c.requires.summary.packed.count (blocks_for-enough w len g.met.B.BitBlock.width_law.positive) in
+    omega (arith, count, whole, c.loop-q.invariant.steps)
