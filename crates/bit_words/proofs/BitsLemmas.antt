@@ -42,6 +42,10 @@ blocks_for-le w m n pos h = blocks_for-least w m (blocks_for w n) pos (omega (ar
 pub whole_before : (w n k : ℕ) → 0 < w → k < blocks_for w n → k * w < n
 whole_before w n k pos h = grind (arith, blocks_for-least w n k pos)
 
+-- where block k begins, of as many as hold n values; b is what `bits()` returned
+pub block_begins : (w n k b count : ℕ) → 0 < w → b ≡ w → count ≡ blocks_for w n → k < count → k * b < n
+block_begins w n k b count pos wide blocks within = rw wide (whole_before w n k pos (omega arith))
+
 -- those of the values past the first of them
 pub blocks_for-past : (w q n : ℕ) → 0 < w → q * w < n + w → blocks_for w n ≡ q + blocks_for w (n - q * w)
 blocks_for-past w q n pos before =

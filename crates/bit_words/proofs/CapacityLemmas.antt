@@ -75,6 +75,13 @@ pub ruleset shared_tests = (shared_enough, shared_short_blocks, shared_short_sum
 pub shared_le : (w blocks summary more_blocks more_summary : ℕ) → blocks ≤ more_blocks → summary ≤ more_summary → shared_capacity w blocks summary ≤ shared_capacity w more_blocks more_summary
 shared_le w blocks summary more_blocks more_summary first second = let more = mul-le-mul_right w second in omega arith
 
+-- the capacity is kept where it is enough, and else becomes what is asked for
+pub capacity_kept : (a n : ℕ) → n ≤ a → a ≡ max a n
+capacity_kept a n enough = omega arith
+
+pub capacity_raised : (a n : ℕ) → a < n → n ≡ max a n
+capacity_raised a n short = omega arith
+
 -- what has less capacity of the two says
 pub shared_by_blocks : (w blocks summary more : ℕ) → 0 < w → stored_for w blocks ≤ summary → summary ≤ more → shared_capacity w blocks more ≡ shared_capacity w blocks summary
 shared_by_blocks w blocks summary more pos enough le = omega (arith, shared_for_summary w blocks summary pos enough, mul-le-mul_right w le)

@@ -1,5 +1,5 @@
 -- Where blocks differ, by their digits.
-use Rattle.std.proofs.{Common.{◌≡◌, ◌≢◌, ℕ, ◌+◌, ◌-◌, ◌^◌, ◌<◌, ◌≤◌, Bool, true, false, not, eqb, sym, ◌∙◌, arith}, lemmas.Nat.{Bits.{bit_at-lt, bit_at-zero, bit_at_above, same_from_bits_below}, pow_pos}}
+use Rattle.std.proofs.{Common.{◌≡◌, ◌≢◌, ℕ, ◌+◌, ◌-◌, ◌^◌, ◌<◌, ◌≤◌, ◌↔◌, Bool, true, false, not, eqb, sym, ◌∙◌, arith}, lemmas.Nat.{Bits.{bit_at-lt, bit_at-zero, bit_at_above, same_from_bits_below}, pow_pos}}
 use Rattle.std.specs.{Bool.{OnTrue, OnFalse}, Int.bit_at}
 use borrow.Author.Tests.{eqb-true, eqb-false}
 use Rattle.bit_words.{specs.{Digits.{IsEither, IsDifferent, IsShiftedRight}, Lowest.IsLowest, Mismatches.IsLowestMismatch}, proofs.LowestLemmas.lowest_found}
@@ -48,3 +48,10 @@ on_mismatch a b false P is then = then (eqb-false a b (sym is))
 pub on_alike : (a b : ℕ) (c : Bool) (P : Type 0) → c ≡ eqb a b → (a ≡ b → P) → OnFalse (not c) P
 on_alike a b true P is then = then (eqb-true a b (sym is))
 on_alike a b false P is then = tt
+
+-- what a test says that a block is 0, of what holds just where it is 0
+pub on_none : (P : Type 0) (a b : ℕ) (c : Bool) → c ≡ eqb a b → b ≡ 0 → (a ≡ 0) ↔ P → c ≡ true → P
+on_none P a b c is zero tells same = tells.0 (eqb-true a b (sym is ∙ same) ∙ zero)
+
+pub on_some : (P : Type 0) (a b : ℕ) (c : Bool) → c ≡ eqb a b → b ≡ 0 → (a ≡ 0) ↔ P → c ≡ false → P → ⊥
+on_some P a b c is zero tells other holds = eqb-false a b (sym is ∙ other) (tells.1 holds ∙ sym zero)

@@ -31,6 +31,34 @@ module _ {X : Type 0} (m : Merge) (w : ℕ) (f : X → ℕ) (P : X → Type 0) w
   }
 
   -- some more of them
+  -- where all of them stay
+  pub with_stay : (start end : ℕ) (other : ℕ → ℕ → Bool) (xs : List X) → All P xs → Stay m w f start end other xs → HasMergedWith m w f P start end other xs xs
+  with_stay start end other xs each stay = record {
+    digit = stay.digit;
+    before = λ k first. refl;
+    after = λ k past. refl;
+    each = each;
+    len = refl;
+  }
+
+  pub merged_stay : (start end : ℕ) (xs os : List X) → All P xs → Stay m w f start end (other_at (map f os)) xs → HasMerged m w f P start end xs os xs
+  merged_stay start end xs os each stay = record {
+    merged = record { digit = stay.digit; before = λ k first. refl; after = λ k past. refl };
+    each = each;
+    len = refl;
+  }
+
+  -- they stay where none changed
+  pub kept_stay : (start end : ℕ) (other : ℕ → ℕ → Bool) (xs ys : List X) → HasMergedWith m w f P start end other xs ys → AreKept (map f xs) (map f ys) → Stay m w f start end other xs
+  kept_stay start end other xs ys is kept = record {
+    digit = λ k j from below index. ap (λ n. is_one n j) (sym (kept k)) ∙ is.digit k j from below index;
+  }
+
+  pub merged_kept_stay : (start end : ℕ) (xs os ys : List X) → HasMerged m w f P start end xs os ys → AreKept (map f xs) (map f ys) → Stay m w f start end (other_at (map f os)) xs
+  merged_kept_stay start end xs os ys is kept = record {
+    digit = λ k j from below index. ap (λ n. is_one n j) (sym (kept k)) ∙ is.merged.digit k j from below index;
+  }
+
   pub with_more : (a b c : ℕ) (other : ℕ → ℕ → Bool) (xs ys zs : List X) → a ≤ b → b ≤ c → HasMergedWith m w f P a b other xs ys → HasMergedWith m w f P b c other ys zs → HasMergedWith m w f P a c other xs zs
   with_more a b c other xs ys zs le also one two = record {
     digit = λ k j from below index.

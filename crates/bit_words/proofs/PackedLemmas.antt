@@ -1,6 +1,6 @@
 -- What appending, keeping and filling whole blocks does to the value at every index.
-use Rattle.std.proofs.Common.{◌≡◌, ℕ, ◌+◌, ◌-◌, ◌/◌, ◌%◌, ◌^◌, ◌<◌, ◌≤◌, false, ◌&&◌, ◌||◌, nat_lt, nat_le, List, [], ◌∷◌, ◌++◌, map, length, get_or, take, replicate, refl, ap, ◌∙◌, arith, append_assoc, mod-lt, get_or-take, set, ◌≢◌, get_or-set_same, get_or-set_other}
-use Rattle.std.proofs.lemmas.{Bool.Decides.nat_tests, List.{get_or_append_left, get_or-append_right, get_or_past, get_or-replicate, length-replicate, length-append, map-append, take_more}, Grind.replicate_next}
+use Rattle.std.proofs.Common.{◌≡◌, ℕ, ◌+◌, ◌-◌, ◌/◌, ◌%◌, ◌^◌, ◌<◌, ◌≤◌, false, ◌&&◌, ◌||◌, nat_lt, nat_le, List, [], ◌∷◌, ◌++◌, map, length, get_or, take, replicate, refl, ap, ◌∙◌, arith, append_assoc, mod-lt, get_or-take, set, ◌≢◌, get_or-set_same, get_or-set_other, ⊎_elim}
+use Rattle.std.proofs.lemmas.{Bool.{cases_lt, Decides.nat_tests}, List.{get_or_append_left, get_or-append_right, get_or_past, get_or-replicate, length-replicate, length-append, map-append, take_more}, Grind.replicate_next}
 use Rattle.bit_words.{specs.{Bits.blocks_for, Storage.{value_at, FillsFirst, IsZeroFrom}}, proofs.{Masks.{is_one-ones, is_one-zero}, BitsLemmas.blocks_for-above, StorageLemmas.{value_at-is, value_at-past}}}
 use Rattle.bit_words.proofs.ChangeLemmas.{div_lt, nat_lt-indexes}
 
@@ -86,6 +86,18 @@ cut_kept w ms rs us len c pos count e lowered i below = grind (arith, nat_tests,
 -- past the blocks there was nothing, and nothing comes
 unwritten : (ms rs : List ℕ) (c n q : ℕ) → FillsFirst ms rs c n → c ≤ q → length ms ≤ q → get_or rs q 0 ≡ 0
 unwritten ms rs c n q fills from past = grind (arith, fills.others q, get_or_past)
+
+-- one more block that became n
+pub fills_more : (ms ns rs : List ℕ) (i n : ℕ) → i < length ns → rs ≡ set ns i n → FillsFirst ms ns i n → FillsFirst ms rs (i + 1) n
+fills_more ms ns rs i n within put is = record {
+  filled = λ k below.
+      ap (λ xs. get_or xs k 0) put
+      ∙ ⊎_elim
+      (λ (low : k < i). (let other : k ≢ i = omega arith in get_or-set_other ns i k n 0 other) ∙ is.filled k low)
+      (λ (late : i ≤ k). let here : k ≡ i = omega arith in ap (λ j. get_or (set ns i n) j 0) here ∙ get_or-set_same ns i n 0 within)
+      (cases_lt k i);
+  others = λ k past. ap (λ xs. get_or xs k 0) put ∙ (let other : k ≢ i = omega arith in get_or-set_other ns i k n 0 other) ∙ is.others k (omega arith);
+}
 
 pub whole_filled : (w : ℕ) (ms rs : List ℕ) (len n : ℕ) → 0 < w → length ms ≡ blocks_for w len → len % w ≡ 0 → n ≡ 2 ^ w - 1 → FillsFirst ms rs (len / w) n → (i : ℕ) → value_at w rs i ≡ nat_lt i len
 whole_filled w ms rs len n pos count z ones fills i =

@@ -147,6 +147,14 @@ module _ {X : Type 0} (number : X → ℕ) (xs : List X) (n count : ℕ) (zeros 
 
 -- ---- one block more that does not pass
 
+-- none up to there, and the first from there on
+pub first_past_none : (n m i : ℕ) (test : ℕ → Bool) → n ≤ m → ((j : ℕ) → n ≤ j → j < m → test j ≡ false) → IsFirstFrom test m i → IsFirstFrom test n i
+first_past_none n m i test le none first = record {
+  passes = first.passes;
+  reached = omega (arith, first.reached);
+  between = λ j from before. ⊎_elim (λ (low : j < m). none j from low) (λ (past : m ≤ j). first.between j past before) (cases_lt j m);
+}
+
 pub none_more : (w n k b : ℕ) (test : ℕ → Bool) → 0 < w → b ≡ w → ((j : ℕ) → n ≤ j → j < k * w → test j ≡ false) → ((j : ℕ) → k * b ≤ j → j < k * b / w * w + w → test j ≡ false) → (j : ℕ) → n ≤ j → j < (k + 1) * w → test j ≡ false
 none_more w n k b test pos wide before here j from below =
     let whole : k * b / w * w ≡ k * w = ap (λ x. k * x / w * w) wide ∙ ap (λ x. x * w) (ap (λ x. x / w) (let e : k * w ≡ k * w + 0 = omega arith in e) ∙ div-mul-add k w 0 pos) in

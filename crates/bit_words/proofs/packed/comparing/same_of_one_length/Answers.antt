@@ -5,3 +5,6 @@ returns g c = c.same_in_long_groups.ensures
 
 pub returns-then-count-le-LONG_GROUP : goal.returns-then-count-le-LONG_GROUP
 returns-then-count-le-LONG_GROUP g c = c.same_ends-then-count-le-LONG_GROUP.ensures
+
+pub returns-then-count : goal.returns-then-count
+returns-then-count g c = c.same_ends.ensures

@@ -1,4 +1,4 @@
-use Rattle.std.proofs.{Common.{◌++◌, ap, ◌∙◌, arith}, lemmas.List.take_all}
+use Rattle.std.proofs.{Common.{◌++◌, append-nil, refl, sym, ap, ◌∙◌, arith}, lemmas.List.take_all}
 use Rattle.bit_words.proofs.PackedLemmas.{block_pushed}
 use Rattle.bit_words.proofs.packed.copies.with_blocks.Goals as goal
 
@@ -12,3 +12,12 @@ loop-block-preserved g c = record {
 pub returns-clause-items : goal.returns-clause-items
 returns-clause-items g c =
     c.loop-block.invariant.items ∙ ap (λ xs. c.args.blocks.items ++ xs) (take_all c.loop-block.block-index c.args.more.now c.loop-block-test.false)
+
+pub push_reserved-requires : goal.push_reserved-requires
+push_reserved-requires g c = omega arith
+
+pub returns-clause-len : goal.returns-clause-len
+returns-clause-len g c = omega arith
+
+pub loop-block-init : goal.loop-block-init
+loop-block-init g c = record { items = sym (append-nil c.args.blocks.items); count = omega arith; capacity = refl }

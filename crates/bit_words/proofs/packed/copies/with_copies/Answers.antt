@@ -17,3 +17,14 @@ loop-preserved g c = record {
 
 pub loop-smaller : goal.loop-smaller
 loop-smaller g c = omega arith
+
+pub push_reserved-requires : goal.push_reserved-requires
+push_reserved-requires g c = omega arith
+
+pub returns-clause-numbers : goal.returns-clause-numbers
+returns-clause-numbers g c =
+    let end : c.loop.counter ≡ c.args.count = omega arith in
+    rw end at c.loop.invariant.numbers
+
+pub returns-clause-len : goal.returns-clause-len
+returns-clause-len g c = omega arith

@@ -19,6 +19,9 @@ found g c =
     first_from w (value_at w ms) (is_one n) c.args.from c.block_index-k.result c.bit_index.result _ c.bits.result (λ j index. read_block w ms _ _ n j c.block_index-k.ensures c.block_or_zero.ensures.of_number index) c.block_index-k.ensures c.bit_index.ensures.value
     c.lowest_one-index.result c.bits.ensures c.lowest_one-index.ensures.within c.cut_below-rest.ensures.digits c.lowest_one-index.ensures.lowest
 
+pub overflow_mul-result : goal.overflow_mul-result
+overflow_mul-result g c = omega (arith, c.requires.fits _ (found g (goal.at.overflow_mul-result g c).After-bits).passes)
+
 pub overflow_add-result : goal.overflow_add-result
 overflow_add-result g c = omega (arith, c.requires.fits _ (found g (goal.at.overflow_add-result g c).After-bits).passes)
 

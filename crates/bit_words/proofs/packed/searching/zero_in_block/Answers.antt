@@ -19,6 +19,9 @@ found g c =
     first_from w (λ j. not (value_at w ms j)) (is_one zeros) c.args.from c.block_index-k.result c.bit_index.result _ c.bits.result (λ j index. read_zeros w ms _ _ _ zeros j c.block_index-k.ensures c.block_at.ensures.of_number c.block_not.ensures.of_digits index)
     c.block_index-k.ensures c.bit_index.ensures.value c.lowest_one-index.result c.bits.ensures c.lowest_one-index.ensures.within c.cut_below-zeros.ensures.digits c.lowest_one-index.ensures.lowest
 
+pub overflow_mul-result : goal.overflow_mul-result
+overflow_mul-result g c = omega (arith, c.requires.fits _ (found g (goal.at.overflow_mul-result g c).After-bits))
+
 pub overflow_add-result : goal.overflow_add-result
 overflow_add-result g c = omega (arith, c.requires.fits _ (found g (goal.at.overflow_add-result g c).After-bits))
 

@@ -1,7 +1,32 @@
-use Rattle.std.{proofs.Common.{◌≡◌, ◌+◌, ◌-◌, ◌*◌, ◌∙◌, refl, map, arith, mul-le-mul_right}, specs.List.{count_by, range_with_len}}
+use Rattle.std.{proofs.{lemmas.List.Elements.{All-same, All-take, All-drop}, Common.{◌≡◌, ◌+◌, ◌-◌, ◌*◌, ◌∙◌, refl, map, arith, div-lt_iff_lt-mul, lt_of_mul-lt-mul_right, mul-le-mul_right}}, specs.List.{count_by, range_with_len}}
 use Rattle.bit_words.{specs.{Nonzero.ones_in, Storage.value_at}, proofs.{SpanCountLemmas.{count-le, count-parts, ones_of_blocks, ones_of_mask}, SpanLemmas.{end_within, mask_below, mask_between, mask_from, parts, past_first}, VectorLemmas.numbers_below}}
 use Rattle.bit_words.proofs.packed.span_queries.ones_in_span.{Given.Over, Goals.{After-blocks_between, After-ones_of, After-ones_under-2}}
 use Rattle.bit_words.proofs.packed.span_queries.ones_in_span.Goals as goal
+
+pub ones_under-requires-clause-in_bounds : goal.ones_under-requires-clause-in_bounds
+ones_under-requires-clause-in_bounds g c = rw c.block_index-first.ensures ((div-lt_iff_lt-mul g.met.B.BitBlock.width_law.positive).1 (omega arith))
+
+pub ones_under-begun-requires-clause-in_bounds : goal.ones_under-begun-requires-clause-in_bounds
+ones_under-begun-requires-clause-in_bounds g c = rw c.block_index-first.ensures ((div-lt_iff_lt-mul g.met.B.BitBlock.width_law.positive).1 (omega arith))
+
+pub blocks_between-requires-clause-forward : goal.blocks_between-requires-clause-forward
+blocks_between-requires-clause-forward g c =
+    past_first g.B.BitBlock.width c.args.start c.args.end _ _ g.met.B.BitBlock.width_law.positive c.block_index-first.ensures c.block_index-last.ensures c.requires.some c.if-first-last.false
+
+pub blocks_between-requires-clause-within : goal.blocks_between-requires-clause-within
+blocks_between-requires-clause-within g c =
+    let w = g.B.BitBlock.width in
+    end_within w c.args.end c.block_index-last.result _ _ g.met.B.BitBlock.width_law.positive (parts w c.args.end c.block_index-last.result _ c.block_index-last.ensures c.bit_index-high.ensures.value) c.requires.within
+
+pub ones_of-requires-clause-each : goal.ones_of-requires-clause-each
+ones_of-requires-clause-each g c =
+    let is_block = g.B.BitBlock.is_block in
+    All-same is_block _ _ c.blocks_between.ensures (All-take is_block _ _ (All-drop is_block (c.block_index-first.result + 1) c.args.blocks.now c.requires.each))
+
+pub ones_under-requires-2-clause-in_bounds : goal.ones_under-requires-2-clause-in_bounds
+ones_under-requires-2-clause-in_bounds g c =
+    let w = g.B.BitBlock.width in
+    lt_of_mul-lt-mul_right w (omega (arith, parts w c.args.end c.block_index-last.result _ c.block_index-last.ensures c.bit_index-high.ensures.value))
 
 pub returns-then-first-last : goal.returns-then-first-last
 returns-then-first-last g c =

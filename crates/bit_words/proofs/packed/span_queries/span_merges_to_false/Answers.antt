@@ -1,7 +1,27 @@
-use Rattle.std.proofs.{Common.{◌≡◌, ◌+◌, ◌*◌, ◌↔◌, ◌∙◌, IsTrue, true, refl, sym, map, arith, mul-le-mul_right}, lemmas.Bool.{eq-eqb, false≢true}}
-use Rattle.bit_words.{specs.BlockMerges.MergesSpanToFalse, proofs.SpanLemmas.{false-parts, false-within, false_of_mask, mask_below, mask_between, mask_from, parts, past_first}}
+use Rattle.std.proofs.{Common.{◌≡◌, ◌+◌, ◌*◌, ◌↔◌, ◌∙◌, IsTrue, true, refl, sym, map, arith, div-lt_iff_lt-mul, lt_of_mul-lt-mul_right, mul-le-mul_right}, lemmas.Bool.{eq-eqb, false≢true}}
+use Rattle.bit_words.{specs.BlockMerges.MergesSpanToFalse, proofs.SpanLemmas.{end_within, false-parts, false-within, false_of_mask, mask_below, mask_between, mask_from, parts, past_first}}
 use Rattle.bit_words.proofs.packed.span_queries.span_merges_to_false.{Given.Over, Goals.{After-masks_to_zero-2, After-ones_merge_to_zero}}
 use Rattle.bit_words.proofs.packed.span_queries.span_merges_to_false.Goals as goal
+
+pub masks_to_zero-requires-clause-in_bounds : goal.masks_to_zero-requires-clause-in_bounds
+masks_to_zero-requires-clause-in_bounds g c = rw c.block_index-first.ensures ((div-lt_iff_lt-mul g.met.B.BitBlock.width_law.positive).1 (omega arith))
+
+pub masks_to_zero-requires-2-clause-in_bounds : goal.masks_to_zero-requires-2-clause-in_bounds
+masks_to_zero-requires-2-clause-in_bounds g c = rw c.block_index-first.ensures ((div-lt_iff_lt-mul g.met.B.BitBlock.width_law.positive).1 (omega arith))
+
+pub ones_merge_to_zero-requires-clause-forward : goal.ones_merge_to_zero-requires-clause-forward
+ones_merge_to_zero-requires-clause-forward g c =
+    past_first g.B.BitBlock.width c.args.start c.args.end _ _ g.met.B.BitBlock.width_law.positive c.block_index-first.ensures c.block_index-last.ensures c.requires.some c.if-first-last.false
+
+pub ones_merge_to_zero-requires-clause-within : goal.ones_merge_to_zero-requires-clause-within
+ones_merge_to_zero-requires-clause-within g c =
+    let w = g.B.BitBlock.width in
+    end_within w c.args.end c.block_index-last.result _ _ g.met.B.BitBlock.width_law.positive (parts w c.args.end c.block_index-last.result _ c.block_index-last.ensures c.bit_index-high.ensures.value) c.requires.within
+
+pub masks_to_zero-requires-else-high-eq0-clause-in_bounds : goal.masks_to_zero-requires-else-high-eq0-clause-in_bounds
+masks_to_zero-requires-else-high-eq0-clause-in_bounds g c =
+    let w = g.B.BitBlock.width in
+    lt_of_mul-lt-mul_right w (omega (arith, parts w c.args.end c.block_index-last.result _ c.block_index-last.ensures c.bit_index-high.ensures.value))
 
 pub returns-then-first-last : goal.returns-then-first-last
 returns-then-first-last g c =
@@ -32,6 +52,17 @@ returns-then-not-masks_to_zero g c =
     let tells = front g (goal.at.returns-then-not-masks_to_zero g c).After-masks_to_zero-2 in (
       λ yes. absurd (false≢true yes),
       λ all. absurd (false≢true (sym c.if-not-masks_to_zero.true ∙ tells.1 (false-within g.O.Operation.merge w c.args.start c.args.end c.args.start ((first + 1) * w) _ (omega arith) (omega (arith, more, end)) all))),
+    )
+
+pub returns-then-not-ones_merge_to_zero : goal.returns-then-not-ones_merge_to_zero
+returns-then-not-ones_merge_to_zero g c =
+    let w = g.B.BitBlock.width in
+    let first = c.block_index-first.result in
+    let last = c.block_index-last.result in
+    let start = parts w c.args.start first _ c.block_index-first.ensures c.bit_index-low.ensures.value in
+    let end = parts w c.args.end last _ c.block_index-last.ensures c.bit_index-high.ensures.value in (
+      λ yes. absurd (false≢true yes),
+      λ all. absurd (false≢true (sym c.if-not-ones_merge_to_zero.true ∙ c.ones_merge_to_zero.ensures.1 (false-within g.O.Operation.merge w c.args.start c.args.end ((first + 1) * w) (last * w) _ (omega arith) (omega (arith, end)) all))),
     )
 
 -- up to the last block

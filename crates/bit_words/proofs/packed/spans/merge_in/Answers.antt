@@ -1,7 +1,27 @@
-use Rattle.std.proofs.Common.{◌≡◌, ◌≢◌, ℕ, ◌≤◌, ◌+◌, ◌*◌, ◌/◌, ◌%◌, ◌<◌, refl, arith, map, mul-le-mul_right}
-use Rattle.bit_words.{specs.BlockMerges.IsMergedSpan, proofs.{SpanLemmas.{mask_below, mask_between, mask_from, parts, past_first, span_more, span_of_mask}}}
+use Rattle.std.proofs.Common.{◌≡◌, ◌≢◌, ℕ, ◌≤◌, ◌+◌, ◌*◌, ◌/◌, ◌%◌, ◌<◌, refl, arith, map, div-lt_iff_lt-mul, lt_of_mul-lt-mul_right, mul-le-mul_right}
+use Rattle.bit_words.{specs.BlockMerges.IsMergedSpan, proofs.{SpanLemmas.{end_within, mask_below, mask_between, mask_from, parts, past_first, span_more, span_of_mask}}}
 use Rattle.bit_words.proofs.packed.spans.merge_in.{Given.Over, Goals.After-merge_whole}
 use Rattle.bit_words.proofs.packed.spans.merge_in.Goals as goal
+
+pub merge_mask-requires-clause-in_bounds : goal.merge_mask-requires-clause-in_bounds
+merge_mask-requires-clause-in_bounds g c = rw c.block_index-first.ensures ((div-lt_iff_lt-mul g.met.B.BitBlock.width_law.positive).1 (omega arith))
+
+pub merge_mask-requires-2-clause-in_bounds : goal.merge_mask-requires-2-clause-in_bounds
+merge_mask-requires-2-clause-in_bounds g c = rw c.block_index-first.ensures ((div-lt_iff_lt-mul g.met.B.BitBlock.width_law.positive).1 (omega arith))
+
+pub merge_whole-requires-clause-forward : goal.merge_whole-requires-clause-forward
+merge_whole-requires-clause-forward g c =
+    past_first g.B.BitBlock.width c.args.start c.args.end _ _ g.met.B.BitBlock.width_law.positive c.block_index-first.ensures c.block_index-last.ensures c.requires.some c.if-first-last.false
+
+pub merge_whole-requires-clause-within : goal.merge_whole-requires-clause-within
+merge_whole-requires-clause-within g c =
+    let w = g.B.BitBlock.width in
+    rw c.merge_mask-2.ensures.len (end_within w c.args.end c.block_index-last.result _ _ g.met.B.BitBlock.width_law.positive (parts w c.args.end c.block_index-last.result _ c.block_index-last.ensures c.bit_index-high.ensures.value) c.requires.within)
+
+pub merge_mask-requires-then-high-ne0-clause-in_bounds : goal.merge_mask-requires-then-high-ne0-clause-in_bounds
+merge_mask-requires-then-high-ne0-clause-in_bounds g c =
+    let w = g.B.BitBlock.width in
+    rw (c.merge_whole.ensures.len, c.merge_mask-2.ensures.len) (lt_of_mul-lt-mul_right w (omega (arith, parts w c.args.end c.block_index-last.result _ c.block_index-last.ensures c.bit_index-high.ensures.value)))
 
 pub returns-then-first-last-clause-span : goal.returns-then-first-last-clause-span
 returns-then-first-last-clause-span g c =

@@ -1,4 +1,4 @@
-use Rattle.std.proofs.Common.{◌≡◌, ℕ, ◌+◌, ◌-◌, ◌*◌, ◌<◌, ◌≤◌, ◌∙◌, false, List, [], refl, sym, ap, ap₂, map, get_or, length, arith}
+use Rattle.std.proofs.Common.{◌≡◌, ℕ, ◌+◌, ◌-◌, ◌*◌, ◌<◌, ◌≤◌, ◌≢◌, ◌∙◌, false, List, [], refl, sym, ap, ap₂, map, get_or, get_or-set_other, length, arith}
 use Rattle.bit_words.{specs.{BlockMerges.HasMerged, Digits.is_one, Merges.merge_of_values, Summary.is_used, declared.block.merge.Merge.Merge, Storage.value_at}, proofs.{Masks.is_one-zero, MergeLemmas.merged_more}}
 use Rattle.bit_words.proofs.{MergeLemmas.merged_with_none, SummaryMergeLemmas.{tail_digits, use_past_others}, UsedLemmas.says_kept}
 use Rattle.bit_words.proofs.summary.merges.merge_tail.Goals as goal
@@ -64,3 +64,40 @@ overflow_add-chunks g c = omega (arith, c.if-chunks-summary.true)
 
 pub merge_rest-requires-then-chunks-summary-clause-within : goal.merge_rest-requires-then-chunks-summary-clause-within
 merge_rest-requires-then-chunks-summary-clause-within g c = omega (arith, c.if-chunks-summary.true, c.put_in.ensures.len)
+
+pub merge_rest-requires-clause-each : goal.merge_rest-requires-clause-each
+merge_rest-requires-clause-each g c = c.merge_group-digits.ensures.has.each
+
+pub put_in-requires-clause-each : goal.put_in-requires-clause-each
+put_in-requires-clause-each g c = c.requires.each_sum
+
+pub put_in-requires-clause-of_block : goal.put_in-requires-clause-of_block
+put_in-requires-clause-of_block g c = c.block_or.ensures.of_block
+
+pub merge_rest-requires-then-chunks-summary-clause-each : goal.merge_rest-requires-then-chunks-summary-clause-each
+merge_rest-requires-then-chunks-summary-clause-each g c = c.put_in.ensures.each
+
+pub returns-then-chunks-summary-clause-before : goal.returns-then-chunks-summary-clause-before
+returns-then-chunks-summary-clause-before g c = λ q first.
+    let other : q ≢ c.args.chunks = omega arith in
+    c.merge_rest-then-chunks-summary.ensures.has.merged.before q (omega arith)
+    ∙ ap (λ ns. get_or ns q 0) c.put_in.ensures.numbers
+    ∙ get_or-set_other (map g.B.BitBlock.number c.args.summary.now) c.args.chunks q _ 0 other
+
+pub returns-then-chunks-summary-clause-each_sum : goal.returns-then-chunks-summary-clause-each_sum
+returns-then-chunks-summary-clause-each_sum g c = c.merge_rest-then-chunks-summary.ensures.has.each
+
+pub returns-then-chunks-summary-clause-summary_len : goal.returns-then-chunks-summary-clause-summary_len
+returns-then-chunks-summary-clause-summary_len g c = c.merge_rest-then-chunks-summary.ensures.has.len ∙ c.put_in.ensures.len
+
+pub returns-then-chunks-summary-clause-steps : goal.returns-then-chunks-summary-clause-steps
+returns-then-chunks-summary-clause-steps g c = omega (arith, begin _ c.args.chunks _ c.bits.ensures, c.requires.in_others, c.merge_group-digits.ensures.has.len)
+
+pub returns-else-chunks-summary-clause-digits : goal.returns-else-chunks-summary-clause-digits
+returns-else-chunks-summary-clause-digits g c = λ q j from below index. absurd (omega arith)
+
+pub returns-else-chunks-summary-clause-each_sum : goal.returns-else-chunks-summary-clause-each_sum
+returns-else-chunks-summary-clause-each_sum g c = c.requires.each_sum
+
+pub returns-else-chunks-summary-clause-steps : goal.returns-else-chunks-summary-clause-steps
+returns-else-chunks-summary-clause-steps g c = omega (arith, begin _ c.args.chunks _ c.bits.ensures, c.requires.in_others, c.merge_group-digits.ensures.has.len)

@@ -1,5 +1,5 @@
 use Rattle.std.proofs.{Common.{◌≡◌, ◌≢◌, ℕ, ◌+◌, ◌*◌, ◌<◌, ◌≤◌, ◌∙◌, ◌==◌, min, not, refl, sym, ap, ⊎_elim, get_or, map, length, arith, get_or-set_other, mul-le-mul_right}, lemmas.{Bool.cases_lt, List.length-map}}
-use Rattle.bit_words.{specs.{Digits.is_one, Summary.is_used}, proofs.{BitsLemmas.{blocks_for-enough, whole_before}, NotedMergeLemmas.{with_at, with_more, with_none}, StorageLemmas.value_at-index, SummaryLemmas.{summary_of_blocks, summary_put}}}
+use Rattle.bit_words.{specs.{Digits.is_one, Summary.is_used}, proofs.{BitsLemmas.{block_begins, blocks_for-enough, whole_before}, NotedMergeLemmas.{with_at, with_more, with_none}, StorageLemmas.value_at-index, SummaryLemmas.{summary_of_blocks, summary_put}}}
 use Rattle.bit_words.proofs.summary.noted_merges.unite_chunks.Goals as goal
 
 pub loop-q-init : goal.loop-q-init
@@ -11,6 +11,28 @@ loop-q-init g c = record {
   summary_len = refl;
   steps = omega (arith, c.requires.in_blocks);
 }
+
+pub overflow_mul-start : goal.overflow_mul-start
+overflow_mul-start g c =
+    omega (arith, block_begins g.B.BitBlock.width (length c.args.blocks.now) c.loop-q.q c.bits-width.result (length c.args.summary.now) g.met.B.BitBlock.width_law.positive c.bits-width.ensures c.requires.summary.packed.count (omega arith), c.requires.summary.packed.fits)
+
+pub overflow_sub-blocks : goal.overflow_sub-blocks
+overflow_sub-blocks g c =
+    omega (arith, block_begins g.B.BitBlock.width (length c.args.blocks.now) c.loop-q.q c.bits-width.result (length c.args.summary.now) g.met.B.BitBlock.width_law.positive c.bits-width.ensures c.requires.summary.packed.count (omega arith), c.loop-q.invariant.has.len)
+
+pub unite_between-requires-clause-within : goal.unite_between-requires-clause-within
+unite_between-requires-clause-within g c =
+    omega (arith, block_begins g.B.BitBlock.width (length c.args.blocks.now) c.loop-q.q c.bits-width.result (length c.args.summary.now) g.met.B.BitBlock.width_law.positive c.bits-width.ensures c.requires.summary.packed.count (omega arith), c.loop-q.invariant.has.len, c.min.ensures)
+
+pub unite_between-requires-clause-each : goal.unite_between-requires-clause-each
+unite_between-requires-clause-each g c = c.loop-q.invariant.has.each
+
+pub used_from-requires-clause-in_bounds : goal.used_from-requires-clause-in_bounds
+used_from-requires-clause-in_bounds g c =
+    omega (arith, block_begins g.B.BitBlock.width (length c.args.blocks.now) c.loop-q.q c.bits-width.result (length c.args.summary.now) g.met.B.BitBlock.width_law.positive c.bits-width.ensures c.requires.summary.packed.count (omega arith), c.loop-q.invariant.has.len, c.unite_between.ensures.has.len)
+
+pub used_from-requires-clause-each : goal.used_from-requires-clause-each
+used_from-requires-clause-each g c = c.unite_between.ensures.has.each
 
 pub loop-q-preserved : goal.loop-q-preserved
 loop-q-preserved g c =
@@ -61,3 +83,11 @@ returns-clause-summary g c =
     ∙ ap (λ m. not (m == 0)) (sym (c.loop-q.invariant.has.before (q * w + j) inside)))
     (λ later. c.loop-q.invariant.done q j later (omega arith) index)
     (cases_lt q c.args.from))
+
+pub returns-clause-steps : goal.returns-clause-steps
+returns-clause-steps g c =
+    let w = g.B.BitBlock.width in
+    let len = length c.args.blocks.now in
+    let count : c.loop-q.q * w ≡ length c.args.summary.now * w = ap (λ n. n * w) (let end : c.loop-q.q ≡ length c.args.summary.now = omega arith in end) in
+    let whole : len ≤ length c.args.summary.now * w = rw c.requires.summary.packed.count (blocks_for-enough w len g.met.B.BitBlock.width_law.positive) in
+    omega (arith, count, whole, c.loop-q.invariant.steps)

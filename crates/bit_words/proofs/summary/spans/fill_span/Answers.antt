@@ -1,8 +1,68 @@
-use Rattle.std.proofs.Common.{◌≡◌, ℕ, ◌<◌, ◌-◌, ◌*◌, ◌/◌, true, length, map, ap, ◌∙◌, arith, div-lt_iff_lt-mul}
+use Rattle.std.proofs.Common.{◌≡◌, ℕ, ◌<◌, ◌≤◌, ◌-◌, ◌*◌, ◌/◌, true, length, map, vec_len, sym, ap, ◌∙◌, arith, div-lt_iff_lt-mul}
 use Rattle.bit_words.specs.{Bits.blocks_for, Merges.merge_of_values, Summary.short_count}
-use Rattle.bit_words.proofs.{SummaryLemmas.{keeps_all, summary_of_digits}, SummarySpanLemmas.{ends_written, filled_use, in_chunks}, VectorLemmas.numbers_below}
+use Rattle.bit_words.proofs.{ChangeLemmas.div_le, SummaryLemmas.{keeps_all, keeps_none, stored_each, stored_enough, summary_of_digits}, SummarySpanLemmas.{ends_written, filled_use, in_chunks}, VectorLemmas.numbers_below}
 use Rattle.bit_words.proofs.summary.spans.fill_span.{Given.Over, Goals.After-merge_span-2}
 use Rattle.bit_words.proofs.summary.spans.fill_span.Goals as goal
+
+pub returns-then-is_short-clause-span : goal.returns-then-is_short-clause-span
+returns-then-is_short-clause-span g c = c.merge_span.ensures.span
+
+pub returns-then-is_short-clause-in_place : goal.returns-then-is_short-clause-in_place
+returns-then-is_short-clause-in_place g c = c.merge_span.ensures.in_place
+
+pub returns-then-is_short-clause-summary : goal.returns-then-is_short-clause-summary
+returns-then-is_short-clause-summary g c =
+    let few = c.is_short.ensures.short c.if-is_short.true in
+    keeps_none _ _ _ _ _ (omega (arith, few)) (c.requires.summary.short (omega (arith, few, c.merge_span.ensures.in_place.len)))
+
+-- a block of the span is one of the list
+in_list : (w i end len count : ℕ) → 0 < w → i < end → end ≤ len * w → len ≡ count → i / w < count
+in_list w i end len count pos below within same = rw (sym same) ((div-lt_iff_lt-mul pos).1 (omega arith))
+
+pub merge_span-requires-2-clause-some : goal.merge_span-requires-2-clause-some
+merge_span-requires-2-clause-some g c =
+    omega (arith, div_le g.B.BitBlock.width c.args.start (c.args.end - 1) g.met.B.BitBlock.width_law.positive (omega arith), c.block_index-first.ensures, c.block_index-last.ensures)
+
+pub merge_span-requires-2-clause-within : goal.merge_span-requires-2-clause-within
+merge_span-requires-2-clause-within g c =
+    let w = g.B.BitBlock.width in
+    let pos = g.met.B.BitBlock.width_law.positive in
+    let long = c.is_short.ensures.long c.if-is_short.false in
+    let enough : length c.args.blocks.now.items ≤ vec_len c.args.summary.now * w = rw c.args.summary.now.ok.0 (stored_enough w _ _ _ _ pos c.requires.summary (omega (arith, long, c.merge_span.ensures.in_place.len))) in
+    omega (arith, enough, in_list w (c.args.end - 1) c.args.end (vec_len c.args.blocks.now) _ pos (omega arith) c.requires.within c.args.blocks.now.ok.0, c.block_index-last.ensures)
+
+pub merge_span-requires-2-clause-each : goal.merge_span-requires-2-clause-each
+merge_span-requires-2-clause-each g c = stored_each _ _ _ _ _ c.requires.summary
+
+pub update_summary_at-requires-clause-in_bounds : goal.update_summary_at-requires-clause-in_bounds
+update_summary_at-requires-clause-in_bounds g c =
+    rw (c.deref.ensures.value, c.block_index-first.ensures) (in_list g.B.BitBlock.width c.args.start c.args.end (vec_len c.args.blocks.now) _ g.met.B.BitBlock.width_law.positive c.requires.some c.requires.within (omega (arith, c.merge_span.ensures.in_place.len)))
+
+pub update_summary_at-requires-clause-each : goal.update_summary_at-requires-clause-each
+update_summary_at-requires-clause-each g c = c.merge_span-2.ensures.in_place.each
+
+pub update_summary_at-requires-clause-blocks : goal.update_summary_at-requires-clause-blocks
+update_summary_at-requires-clause-blocks g c = rw c.deref.ensures.value c.merge_span.ensures.in_place.each
+
+pub update_summary_at-requires-2-clause-in_bounds : goal.update_summary_at-requires-2-clause-in_bounds
+update_summary_at-requires-2-clause-in_bounds g c =
+    rw (c.deref-2.ensures.value, c.block_index-last.ensures) (in_list g.B.BitBlock.width (c.args.end - 1) c.args.end (vec_len c.args.blocks.now) _ g.met.B.BitBlock.width_law.positive (omega arith) c.requires.within (omega (arith, c.merge_span.ensures.in_place.len)))
+
+pub update_summary_at-requires-2-clause-each : goal.update_summary_at-requires-2-clause-each
+update_summary_at-requires-2-clause-each g c = c.update_summary_at.ensures.in_place.each
+
+pub update_summary_at-requires-2-clause-blocks : goal.update_summary_at-requires-2-clause-blocks
+update_summary_at-requires-2-clause-blocks g c = rw c.deref-2.ensures.value c.merge_span.ensures.in_place.each
+
+pub returns-clause-span : goal.returns-clause-span
+returns-clause-span g c = c.merge_span.ensures.span
+
+pub returns-clause-in_place : goal.returns-clause-in_place
+returns-clause-in_place g c = c.merge_span.ensures.in_place
+
+pub returns-clause-capacity : goal.returns-clause-capacity
+returns-clause-capacity g c =
+    c.update_summary_at-2.ensures.in_place.capacity ∙ c.update_summary_at.ensures.in_place.capacity ∙ c.merge_span-2.ensures.in_place.capacity
 
 -- where the list is not short a summary is stored, and each block of the span has its bit there
 many : (g : Over) (c : After-merge_span-2 g) → short_count g.B.BitBlock.width < length c.args.blocks.now.items
