@@ -140,6 +140,3 @@ written_spells w d vs ms values n same long are form = record {
   count = length-blocks_of w values;
   zero_tail = blocks_of_zero_tail w values;
 }
-
--- the laws of `src/laws.rt` by these
-pub ruleset values_have_one_reading = (same_numbers, one_list, spelt_has_no_fault, one_fault)

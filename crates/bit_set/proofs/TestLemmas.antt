@@ -99,6 +99,4 @@ has-raised (y ∷ ys) by x = let rest = has-raised ys by x in grind (arith, nat_
 -- the laws of `src/laws.rt` by these
 pub ruleset searches_of_members = (any_passes, any_from_one, finds, places)
 
-pub ruleset ends_of_sets = (greatest_of, least_of, last_is_greatest)
-
 pub ruleset members_of_chains = (has-filter, has-put_all, mapped_member, has-mapped, has-raised)

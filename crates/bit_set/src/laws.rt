@@ -331,7 +331,6 @@ pub fn shrunk_lengths()
 /// What a value spells in JSON, in blocks of `w` bits. It has one reading: the blocks, the length, and so
 /// the list of truth values and its elements. What is written of a set and read again is that set. Where
 /// a value spells a set it has no fault, and else one at most is the first.
-#[tactic(auto, using(crate::proofs::JsonLemmas::values_have_one_reading))]
 pub fn values_have_one_reading()
     ensures reading { (w : ℕ) (value : Data) (ms ns : List ℕ) (m n : ℕ) → Spells w value ms m → Spells w value ns n
         → (ms ≡ ns) × (m ≡ n) }
@@ -453,7 +452,6 @@ pub fn searches_of_members()
 {}
 
 /// The greatest and the least member, as `max`, `min` and `last` of a walk return them.
-#[tactic(auto, using(crate::proofs::TestLemmas::ends_of_sets))]
 pub fn ends_of_sets()
     ensures greatest { (s : List ℕ) → MatchOption (reduce max s) (HasNone s) (IsGreatest s) }
     ensures least { (s : List ℕ) → MatchOption (reduce min s) (HasNone s) (IsLeast s) }

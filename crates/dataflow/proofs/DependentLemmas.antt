@@ -1,6 +1,6 @@
 -- For each block the blocks that it flows into.
-use Rattle.std.proofs.Common.{◌≡◌, ◌≢◌, ℕ, ◌<◌, ◌≤◌, true, eqb, inl, inr, List, [], ◌∷◌, ◌++◌, length, map, get_or, set, refl, sym, ap, ◌∙◌, arith}
-use Rattle.std.proofs.lemmas.Bool.{cases_eq, eq-eqb, eqb-true, or_cases, or_left, or_right}
+use Rattle.std.proofs.Common.{◌≡◌, ◌≢◌, ℕ, ◌+◌, ◌<◌, ◌≤◌, true, eqb, inl, inr, List, [], ◌∷◌, ◌++◌, length, map, get_or, set, refl, sym, ap, ◌∙◌, arith}
+use Rattle.std.proofs.lemmas.Bool.{cases_eq, eq-eqb, eqb-true, or_cases, or_left, or_right, true≢false}
 use Rattle.std.proofs.lemmas.List.{get_or-set_other, get_or-set_same, length-set, map-set}
 use Rattle.std.specs.Global.{Vec}
 use Rattle.bit_set.specs.Sets.{has}
@@ -68,3 +68,25 @@ pub record Depends (blocks : List Flow) (count : ℕ) (rows : List (Vec ℕ)) : 
   pub long : length rows ≡ length blocks
   pub all : (b s : ℕ) → b < count → s < length blocks → has (block_at blocks b).sources s ≡ true → has (row_at rows s) b ≡ true
   pub inside : (b s : ℕ) → has (row_at rows s) b ≡ true → b < count
+
+-- before the first block
+pub none_depend : (blocks : List Flow) (rows : List (Vec ℕ)) → length rows ≡ length blocks → ((s : ℕ) → row_at rows s ≡ []) → Depends blocks 0 rows
+none_depend blocks rows long empty = record {
+  long = long;
+  all = λ b s low. absurd (omega (arith, low));
+  inside = λ b s h. absurd (true≢false (sym h ∙ ap (λ r. has r b) (empty s)));
+}
+
+-- and after one more
+pub more_depend : (blocks : List Flow) (n : ℕ) (sources : List ℕ) (old new : List (Vec ℕ)) → Depends blocks n old → AddsDependent sources n old new → sources ≡ (block_at blocks n).sources → Depends blocks (n + 1) new
+more_depend blocks n sources old new before a is = record {
+  long = a.long ∙ before.long;
+  all = λ b s low lt h. elim (cases_eq b n) [
+    | inl same ↦ ap (λ m. has (row_at new s) m) same ∙ a.adds s (let long = before.long in omega (arith, lt, long)) (ap (λ l. has l s) is ∙ ap (λ m. has (block_at blocks m).sources s) (sym same) ∙ h)
+    | inr other ↦ a.kept b s (before.all b s (omega (arith, low, other)) lt h)
+  ];
+  inside = λ b s h. elim (a.only b s h) [
+    | inl was ↦ let low = before.inside b s was in omega (arith, low)
+    | inr same ↦ omega (arith, same)
+  ];
+}

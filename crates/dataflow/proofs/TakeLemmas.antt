@@ -65,12 +65,12 @@ of_and true false h = (refl, refl)
 of_and true true h = absurd (true≢false (sym h))
 of_and false b h = absurd (true≢false (sym h))
 
--- ---- a set is pushed
+-- ---- an item is pushed
 
-pub push_generated : {X : Type 0} (f : X → List ℕ) (blocks : List X) (i : ℕ) (x : X) (sets : List Bits) (new : Bits) → i < length blocks → x ≡ get_or blocks i x → lists_of sets ≡ map f (take i blocks) → elements new.values ≡ f x → lists_of (sets ++ new ∷ []) ≡ map f (take (i + 1) blocks)
-push_generated f blocks i x sets new lt is before now =
-    let longer = take_more blocks i x lt in
-    map-append (λ (r : Bits). elements r.values) sets (new ∷ []) ∙ ap (λ l. l ++ elements new.values ∷ []) before ∙ ap (λ s. map f (take i blocks) ++ s ∷ []) (now ∙ ap f is) ∙ sym (map-append f (take i blocks) (get_or blocks i x ∷ [])) ∙ ap (map f) (sym longer)
+pub push_mapped : {X Y Z : Type 0} (f : X → Z) (h : Y → Z) (xs : List X) (i : ℕ) (x : X) (ys : List Y) (y : Y) → i < length xs → x ≡ get_or xs i x → map h ys ≡ map f (take i xs) → h y ≡ f x → map h (ys ++ y ∷ []) ≡ map f (take (i + 1) xs)
+push_mapped f h xs i x ys y lt is before now =
+    let longer = take_more xs i x lt in
+    map-append h ys (y ∷ []) ∙ ap (λ l. l ++ h y ∷ []) before ∙ ap (λ z. map f (take i xs) ++ z ∷ []) (now ∙ ap f is) ∙ sym (map-append f (take i xs) (get_or xs i x ∷ [])) ∙ ap (map f) (sym longer)
 
 pub few_on : (sets : List (List ℕ)) (s : List ℕ) (limit : ℕ) → ((b : ℕ) → length (set_at sets b) < limit) → length s < limit → (b : ℕ) → length (set_at (sets ++ s ∷ []) b) < limit
 few_on [] s limit few low zero = low

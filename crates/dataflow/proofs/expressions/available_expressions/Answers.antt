@@ -1,4 +1,4 @@
-use Rattle.std.proofs.Common.{◌≡◌, ◌++◌, List, drop, length, map, take, ap, arith}
+use Rattle.std.proofs.Common.{◌≡◌, ◌++◌, List, drop, length, map, take, ap, arith, refl, sym, true≢false}
 use Rattle.std.proofs.lemmas.List.{length-map}
 use Rattle.bit_set.specs.Bits.{Bits}
 use Rattle.bit_set.specs.Sets.{elements}
@@ -60,3 +60,27 @@ returns-clause-long g c =
     let same : length (map flow_of missing) ≡ length (map (missing_flow (length blocks) all) blocks) = ap (λ (l : List Flow). length l) c.in_ok-missing.ensures.missing in
     let solved : length sets.items ≡ length missing = rw c.as_slice.ensures.value at c.in_ok-sets.ensures.long in
     rw whole (omega (arith, as_long, len, value, solved, same, length-map missing flow_of, length-map blocks (missing_flow (length blocks) all)))
+
+pub returns-clause-none : goal.returns-clause-none
+returns-clause-none g c _ _ = refl
+
+pub returns-in_err-all-clause-none : goal.returns-in_err-all-clause-none
+returns-in_err-all-clause-none g c _ none = absurd (true≢false (sym (c.in_err-all.ensures.none none)))
+
+pub returns-in_err-missing-clause-none : goal.returns-in_err-missing-clause-none
+returns-in_err-missing-clause-none g c none _ = absurd (true≢false (sym (c.in_err-missing.ensures.none none)))
+
+pub returns-in_err-sets-clause-none : goal.returns-in_err-sets-clause-none
+returns-in_err-sets-clause-none g c none _ =
+    let blocks = c.args.blocks.now in
+    let missing = c.in_ok-missing.missing.items in
+    let same : length (map flow_of missing) ≡ length (map (missing_flow (length blocks) (elements c.in_ok-all.all.values)) blocks) = ap (λ (l : List Flow). length l) c.in_ok-missing.ensures.missing in
+    absurd (true≢false (sym (c.in_err-sets.ensures.none (rw c.as_slice.ensures.value (omega (arith, none, same, length-map missing flow_of, length-map blocks (missing_flow (length blocks) (elements c.in_ok-all.all.values))))))))
+
+pub returns-in_err-complement_each-clause-none : goal.returns-in_err-complement_each-clause-none
+returns-in_err-complement_each-clause-none g c none _ =
+    let blocks = c.args.blocks.now in
+    let missing = c.in_ok-missing.missing.items in
+    let same : length (map flow_of missing) ≡ length (map (missing_flow (length blocks) (elements c.in_ok-all.all.values)) blocks) = ap (λ (l : List Flow). length l) c.in_ok-missing.ensures.missing in
+    let solved : length c.in_ok-sets.sets.items ≡ length missing = rw c.as_slice.ensures.value at c.in_ok-sets.ensures.long in
+    absurd (true≢false (sym (c.in_err-complement_each.ensures.none (rw c.as_mut_slice.ensures.value (omega (arith, none, solved, same, length-map missing flow_of, length-map blocks (missing_flow (length blocks) (elements c.in_ok-all.all.values))))))))

@@ -1,4 +1,4 @@
-use Rattle.std.proofs.Common.{◌≡◌, ℕ, Bool, true, false, ◌+◌, ◌*◌, ◌^◌, ◌<◌, [], map, length, sym, ap, ◌∙◌, arith}
+use Rattle.std.proofs.Common.{◌≡◌, ℕ, Bool, true, false, ◌+◌, ◌*◌, ◌^◌, ◌<◌, [], map, length, refl, sym, ap, ◌∙◌, arith, true≢false}
 use Rattle.std.proofs.lemmas.List.{length-map}
 use Rattle.bit_set.specs.Bits.{Bits}
 use Rattle.bit_set.specs.Sets.{elements, has}
@@ -122,3 +122,27 @@ returns-clause-sets g c = c.loop-next.invariant.way
 
 pub returns-clause-settled : goal.returns-clause-settled
 returns-clause-settled g c = none_waits _ _ _ _ c.loop-next.invariant.settled c.in_default.ensures.none c.loop-next.invariant.way.generated
+
+pub returns-clause-none : goal.returns-clause-none
+returns-clause-none g c _ = refl
+
+pub returns-in_err-waiting-clause-none : goal.returns-in_err-waiting-clause-none
+returns-in_err-waiting-clause-none g c none = absurd (true≢false (sym (c.in_err-waiting.ensures.none none)))
+
+pub returns-in_err-take_in-clause-none : goal.returns-in_err-take_in-clause-none
+returns-in_err-take_in-clause-none g c none = absurd (omega (arith, none, c.place-number.ensures.inside))
+
+pub place-number-requires : goal.place-number-requires
+place-number-requires g c = c.loop-next.invariant.below c.in-Some.next c.in-Some.ensures.some
+
+pub put_back-requires-clause-capacity : goal.put_back-requires-clause-capacity
+put_back-requires-clause-capacity g c = omega (arith, c.loop-next.invariant.capacity, c.remove.ensures.capacity)
+
+pub bounds-blocks-number : goal.bounds-blocks-number
+bounds-blocks-number g c = c.place-number.ensures.inside
+
+pub bounds-dependents-number : goal.bounds-dependents-number
+bounds-dependents-number g c = omega (arith, c.requires.dependents.long, c.place-number.ensures.inside, length-map c.args.blocks.now g.N.Block.flow)
+
+pub overflow_add-from : goal.overflow_add-from
+overflow_add-from g c = omega (arith, c.loop-next.invariant.below c.in-Some.next c.in-Some.ensures.some)

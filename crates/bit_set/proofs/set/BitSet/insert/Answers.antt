@@ -1,4 +1,4 @@
-use Rattle.std.proofs.{Common.{◌≡◌, ◌+◌, ◌-◌, ◌<◌, ◌≤◌, ℕ, length, Bool, not, true, false, sym, ap, ◌∙◌, refl, arith, length-append, Ok}, lemmas.{List.{length-replicate, length-set}, Result.err_from_is_err_and}}
+use Rattle.std.proofs.{Common.{◌≡◌, ◌+◌, ◌-◌, ◌<◌, ◌≤◌, ℕ, max, length, Bool, not, true, false, sym, ap, ◌∙◌, refl, arith, length-append, Ok}, lemmas.{List.{length-replicate, length-set}, Result.err_from_is_err_and}}
 use Rattle.bit_words.specs.{Bits.Bits, Bounds.greatest, Growth.Grows}
 use Rattle.bit_set.{specs.{Sets.{elements, has, put}, declared.faults.SetError.SetError}, proofs.{ChangeLemmas.changes_inserted, CapacityLemmas.{Grows-changed, Grows-failed, Grows-there}, MemberLemmas.count_put}}
 use Rattle.bit_set.proofs.{MemberLemmas.{counted, counted_within, updates_put}, SetLemmas.{elements-padded, elements-set_true}, ValueLemmas.{has-read, has-within, written_again}}
@@ -10,6 +10,7 @@ record IsLong (value : ℕ) (old mid : Bits) : Type 0 where
   same : elements mid.values ≡ elements old.values
   within : value < length mid.values
   fits : length mid.values ≤ greatest
+  long : length mid.values ≡ max (length old.values) (value + 1)
   kept : value < length old.values → mid ≡ old
   grows : Grows {E = SetError} (value + 1) (Ok (tt {0})) old mid
 
@@ -24,6 +25,7 @@ long g c =
             same = rw grown.values (elements-padded c.args.self.now.values (c.args.value + 1 - length c.args.self.now.values));
             within = omega (arith, size);
             fits = omega (arith, size, grown.fit);
+            long = omega (arith, size, old);
             kept = λ inside. absurd (omega (arith, inside, old));
             grows = grown.grows;
           }
@@ -34,6 +36,7 @@ long g c =
             same = refl;
             within = omega (arith, old);
             fits = omega (arith, old, fits.holds_values, fits.fits);
+            long = omega (arith, old);
             kept = λ _. refl;
             grows = Grows-there _ _ _ _ (omega (arith, capacity, fits.holds_values)) (omega (arith, old, capacity, fits.holds_values)) refl;
           }
@@ -79,3 +82,31 @@ returns-in_err-lengthen_past-clause-counted g c = rw (c.in_err-lengthen_past.ens
 
 pub returns-in_err-lengthen_past-clause-grows : goal.returns-in_err-lengthen_past-clause-grows
 returns-in_err-lengthen_past-clause-grows g c = rw (err_from_is_err_and c.from_residual.result c.from_residual.ensures.1).1 (Grows-failed _ _ _ _ _ c.in_err-lengthen_past.ensures.grows)
+
+pub returns-clause-length : goal.returns-clause-length
+returns-clause-length g c = rw (c.replace.ensures.values, c.self-2.view_is) (simp length-set (long g c).long)
+
+pub returns-clause-fit : goal.returns-clause-fit
+returns-clause-fit g c = omega (arith, (long g c).within, (long g c).fits)
+
+pub returns-clause-unfit : goal.returns-clause-unfit
+returns-clause-unfit g c = (λ none. cc, λ greatest. absurd (omega (arith, greatest, (long g c).within, (long g c).fits)))
+
+pub returns-in_err-lengthen_past-clause-unfit : goal.returns-in_err-lengthen_past-clause-unfit
+returns-in_err-lengthen_past-clause-unfit g c =
+    let p = err_from_is_err_and c.from_residual.result c.from_residual.ensures.1 in
+    let same = c.in_err-lengthen_past.ensures.unfit in
+    rw (p.1, p.2) (λ is. same.0 (cc), λ greatest. let is = same.1 greatest in cc)
+
+pub returns-in_err-lengthen_past-clause-fails : goal.returns-in_err-lengthen_past-clause-fails
+returns-in_err-lengthen_past-clause-fails g c =
+    let p = err_from_is_err_and c.from_residual.result c.from_residual.ensures.1 in
+    rw (p.1, p.2) c.in_err-lengthen_past.ensures.fails
+
+pub returns-in_err-lengthen_past-clause-past_blocks : goal.returns-in_err-lengthen_past-clause-past_blocks
+returns-in_err-lengthen_past-clause-past_blocks g c =
+    let p = err_from_is_err_and c.from_residual.result c.from_residual.ensures.1 in
+    rw (p.1, p.2) c.in_err-lengthen_past.ensures.past_blocks
+
+pub returns-in_err-lengthen_past-clause-past : goal.returns-in_err-lengthen_past-clause-past
+returns-in_err-lengthen_past-clause-past g c = rw ((err_from_is_err_and c.from_residual.result c.from_residual.ensures.1).1, ← c.self.view_is) (omega arith)
