@@ -23,6 +23,7 @@ pub mod HintLemmas
 pub mod ChainLemmas
 pub mod EntryLemmas
 pub mod FromLemmas
+pub mod PartLemmas
 pub mod WalkLaws
 pub mod MissingLaws
 pub mod MismatchLemmas
