@@ -26,6 +26,8 @@ pub mod FromLemmas
 pub mod PartLemmas
 pub mod WalkLaws
 pub mod MissingLaws
+pub mod PartLaws
+pub mod NthLemmas
 pub mod MismatchLemmas
 pub mod OrderLemmas
 pub mod JsonLemmas

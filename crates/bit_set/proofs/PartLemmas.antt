@@ -247,7 +247,7 @@ each_some {X = X} number k (x ∷ xs) =
     (λ _. rest)
     (λ some. let other = eqb-false (number x) 0 some in All-cons (λ (entry : ℕ × X). 0 < number entry.1) (k, x) _ (omega (arith, other)) rest)
 
-both_tests : (xs : List ℕ) (a b : ℕ) → IsAscending xs → those_below (those_from xs a) b ≡ those_in_range xs a b
+pub both_tests : (xs : List ℕ) (a b : ℕ) → IsAscending xs → those_below (those_from xs a) b ≡ those_in_range xs a b
 both_tests xs a b up =
     same_members _ _ (AscendsFrom-filter 0 (λ n. nat_lt n b) _ (AscendsFrom-filter 0 (λ n. nat_le a n) xs up)) (AscendsFrom-filter 0 (in_range a b) xs up)
     (λ n. grind (arith, nat_tests, has-filter (λ m. nat_lt m b) (those_from xs a) n, has-filter (λ m. nat_le a m) xs n, has-filter (in_range a b) xs n))

@@ -1,5 +1,5 @@
 -- Walks over the elements of a set, block by block.
-use Rattle.std.specs.{Prelude.{◌≡◌, ℕ, ◌+◌, ◌-◌, ◌*◌, ◌/◌, ◌^◌, ◌<◌, ◌≤◌, ◌==◌, max, min, Bool, true, false, nat_lt, if◌then◌else◌, List, [], ◌∷◌, ◌++◌, length, ⊤, Option, Some, None, MatchOption}, Iterator.{YieldsFirst, YieldsLast, YieldsThen}}
+use Rattle.std.specs.{Prelude.{◌≡◌, ℕ, ◌+◌, ◌-◌, ◌*◌, ◌/◌, ◌^◌, ◌<◌, ◌≤◌, ◌==◌, max, min, Bool, true, false, nat_lt, if◌then◌else◌, List, [], ◌∷◌, ◌++◌, drop, length, slice_get, ⊤, Option, Some, None, MatchOption}, Iterator.{YieldsFirst, YieldsLast, YieldsThen}}
 use Rattle.std.specs.Iterator.{Drains}
 use Rattle.bit_words.specs.{Bits.blocks_for, declared.block.merge.Merge.Merge}
 use Rattle.bit_set.specs.{Members.{TakesGreatest, TakesLeast}, Ranges.those_in_range, Sets.{elements, merge_of_sets, those_from}}
@@ -71,6 +71,27 @@ pub record AdvancesBack (w : ℕ) (s : Walk) (r : Option ℕ) (t : Walk) : Type 
   pub item : YieldsLast (λ walk. walk.left) s r t
   pub last : MatchOption r ⊤ (λ x. TakesGreatest s.left x t.left)
   pub pulls : PullsBlocksBack w s r t
+
+-- How calls of `next`, the last of which gave r, went from s to t along blocks of w: as one call of it where nothing was left,
+-- and else with no more pulls than there are blocks that are not 0.
+pub record PullsAlong (w : ℕ) (s : Walk) (r : Option ℕ) (t : Walk) : Type 0 where
+  pub goes_on : s.pulls ≤ t.pulls
+  pub pulled : MatchOption r ((t.pulls ≡ s.pulls + s.nonzero_left + 1) × (t.nonzero_left ≡ 0))
+      (λ _. t.pulls + t.nonzero_left ≡ s.pulls + s.nonzero_left)
+  pub along : t.index + w * t.blocks ≡ s.index + w * s.blocks
+  pub summary : MatchOption r ((t.summary_pulls ≡ s.summary_pulls + s.summary_left + 1) × (t.summary_left ≡ 0))
+      (λ _. t.summary_pulls + t.summary_left ≡ s.summary_pulls + s.summary_left)
+
+-- the same, shut like `PullsBlocks`
+unfoldable pub PullsBlocksAlong : ℕ → Walk → Option ℕ → Walk → Type 0
+PullsBlocksAlong w s r t = PullsAlong w s r t
+
+-- A call of `nth` on s gave r and left t, over blocks of w: the first n of what was left were passed, and r is the one
+-- after them, or None where there is none.
+pub record Skips (w n : ℕ) (s : Walk) (r : Option ℕ) (t : Walk) : Type 0 where
+  pub item : r ≡ slice_get s.left n
+  pub left : t.left ≡ drop (n + 1) s.left
+  pub pulls : PullsBlocksAlong w s r t
 
 -- a call at one of the ends: at the front, or else at the back
 abbrev pub CallsEnd : ℕ → Bool → Walk → Option ℕ → Walk → Type 0

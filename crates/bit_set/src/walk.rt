@@ -1,7 +1,7 @@
 //! The walks over a set's elements, and over what two sets make.
-ghost use Rattle.std.specs.{Prelude.{◌≡◌, ℕ, ◌-◌, ◌*◌, ◌/◌, ◌<◌, ◌&&◌, All, IfSome, get_or, length, map, max, min, nat_le}, Iterator.{UpTo, item_count, Runs.YieldsInOrder, SizeHint.IsWithinCount}};
+ghost use Rattle.std.specs.{Prelude.{◌≡◌, ℕ, ◌-◌, ◌*◌, ◌/◌, ◌<◌, ◌≤◌, ◌&&◌, All, IfSome, MatchOption, get_or, length, map, max, min, nat_le}, Iterator.{UpTo, item_count, Runs.YieldsInOrder, SizeHint.IsWithinCount}};
 ghost use Rattle.bit_words.specs.{Digits.is_one, Ranges.in_range};
-ghost use Rattle.bit_set.specs.{Ranges.those_in_range, Sets.{elements, has, those_from}, Walk.{Advances, AdvancesBack, IsAtStart, IsAtStartFrom, IsAtStartOfPart, bound_on_rest}};
+ghost use Rattle.bit_set.specs.{Choices.{IsFirstOf, IsGreatest, IsLastOf, IsLeast}, Members.HasNone, Ranges.those_in_range, Sets.{elements, has, those_from}, Walk.{Advances, AdvancesBack, IsAtStart, IsAtStartFrom, IsAtStartOfPart, Skips, bound_on_rest}, Indexes.past_first};
 
 use crate::bit_vec::{
     BitVec, Nonzero, block_or_zero, clear_below, clear_from, take_highest_one, take_lowest_one,
@@ -105,6 +105,68 @@ impl<'a, B: BitBlock> Iter<'a, B> {
         ensures { result ≡ length self.entry.left }
     {
         self.block.count_ones() + self.nonzero.count_ones() + self.back.count_ones()
+    }
+
+    /// The element that `n` others of those left come before, which are passed; `None` where there are no more. Passes
+    /// over a block by the count of its ones.
+    ///
+    /// ```
+    /// let mut walk = set.iter(); // over {1, 4, 6}
+    /// assert_eq!(walk.nth(1), Some(4));
+    /// assert_eq!(walk.next(), Some(6));
+    /// ```
+    pub fn nth(&mut self, n: usize) -> Option<usize>
+        ensures { Skips B.width n self.old result self.new }
+    {
+        let mut ahead = n;
+        while ahead > 0 {
+            self.next()?;
+            ahead -= 1;
+            ahead -= self.pass_block(ahead);
+        }
+        self.next()
+    }
+
+    // Passes what is left of the block in hand if that is no more than `most` elements. Returns how many it passed.
+    #[inline]
+    fn pass_block(&mut self, most: usize) -> usize
+        ensures within { result ≤ most }
+        ensures there { result ≤ length self.old.left }
+        ensures walk { self.new ≡ past_first result self.old }
+    {
+        let ones = self.block.count_ones();
+        if ones > most {
+            return 0;
+        }
+        self.block = B::zero();
+        ones
+    }
+
+    /// The greatest element that is left. It is one call of [`next_back`](DoubleEndedIterator::next_back).
+    #[inline]
+    pub fn last(mut self) -> Option<usize>
+        ensures last { IsLastOf self.entry.left result }
+        ensures members { MatchOption result (HasNone self.entry.left) (IsGreatest self.entry.left) }
+    {
+        self.next_back()
+    }
+
+    /// The greatest element that is left, as [`last`](Self::last).
+    #[inline]
+    pub fn max(mut self) -> Option<usize>
+        ensures last { IsLastOf self.entry.left result }
+        ensures members { MatchOption result (HasNone self.entry.left) (IsGreatest self.entry.left) }
+    {
+        self.next_back()
+    }
+
+    /// The least element that is left. It is one call of [`next`](Iterator::next).
+    #[inline]
+    pub fn min(mut self) -> Option<usize>
+        ensures first { IsFirstOf self.entry.left result }
+        ensures members { MatchOption result (HasNone self.entry.left) (IsLeast self.entry.left) }
+    {
+        self.next()
     }
 
     /// Another walk over what is left. It counts its pulls on from this one's. Constant time.
