@@ -1,6 +1,7 @@
 -- Calls of `next` in a row, of which those within one block may be left out.
 use Rattle.std.proofs.Common.{◌≡◌, ℕ, zero, suc, ◌+◌, ◌-◌, ◌*◌, ◌/◌, ◌^◌, ◌<◌, ◌≤◌, List, [], ◌∷◌, ◌++◌, drop, length, slice_get, All, Option, Some, None, count_ones, refl, sym, ap, ◌∙◌, subst, arith}
 use Rattle.std.proofs.{lemmas.List.{drop_all, drop-append-le, length-append, length-drop, Elements.All-drop}, Math.Seq.drop-drop}
+use Rattle.std.specs.{Iterator.YieldsLast, List.last_or}
 use Rattle.bit_words.specs.Nonzero.{Hand, Nonzeros}
 use Rattle.bit_set.{specs.{Sets.{AscendsFrom, IsAscending}, Indexes.{indexes, indexes_of, left_between, seen_of, past_first, IsSparseWalk}, Walk.{Walk, Advances, PullsBlocks, PullsBlocksAlong, Skips}}, proofs.{IndexLemmas.{indexes-none, length-indexes}, SetLemmas.AscendsFrom-lower}}
 
@@ -26,6 +27,15 @@ none_of_drop (suc d) (suc n) (y ∷ ys) to none = none_of_drop d n ys (omega (ar
 
 plus_one : (n : ℕ) (xs : List ℕ) → drop (n + 1) xs ≡ drop (suc n) xs
 plus_one n xs = ap (λ k. drop k xs) (let e : n + 1 ≡ suc n = omega arith in e)
+
+last_of_pushed : (o : Option ℕ) (xs : List ℕ) (x : ℕ) → last_or o (xs ++ x ∷ []) ≡ Some x
+last_of_pushed o [] x = refl
+last_of_pushed o (y ∷ ys) x = last_of_pushed (Some y) ys x
+
+-- what a call of `next_back` gives is the last
+pub last_given : (s t : Walk) (r : Option ℕ) → YieldsLast (λ walk. walk.left) s r t → r ≡ last_or None s.left
+last_given s t None is = ap (last_or None) (sym is.0)
+last_given s t (Some x) is = sym (ap (last_or None) is ∙ last_of_pushed None t.left x)
 
 -- ---- the block in hand
 

@@ -1,5 +1,5 @@
 //! The walks over a set's elements, and over what two sets make.
-ghost use Rattle.std.specs.{Prelude.{◌≡◌, ℕ, ◌-◌, ◌*◌, ◌/◌, ◌<◌, ◌≤◌, ◌&&◌, All, IfSome, MatchOption, get_or, length, map, max, min, nat_le}, Iterator.{UpTo, item_count, Runs.YieldsInOrder, SizeHint.IsWithinCount}};
+ghost use Rattle.std.specs.{Prelude.{◌≡◌, ℕ, ◌-◌, ◌*◌, ◌/◌, ◌<◌, ◌≤◌, ◌&&◌, All, IfSome, MatchOption, None, get_or, length, map, max, min, nat_le}, Iterator.{UpTo, item_count, Runs.YieldsInOrder, SizeHint.IsWithinCount}, List.last_or};
 ghost use Rattle.bit_words.specs.{Digits.is_one, Ranges.in_range};
 ghost use Rattle.bit_set.specs.{Choices.{IsFirstOf, IsGreatest, IsLastOf, IsLeast}, Members.HasNone, Ranges.those_in_range, Sets.{elements, has, those_from}, Walk.{Advances, AdvancesBack, IsAtStart, IsAtStartFrom, IsAtStartOfPart, Skips, bound_on_rest}, Indexes.past_first};
 
@@ -145,6 +145,7 @@ impl<'a, B: BitBlock> Iter<'a, B> {
     /// The greatest element that is left. It is one call of [`next_back`](DoubleEndedIterator::next_back).
     #[inline]
     pub fn last(mut self) -> Option<usize>
+        ensures value { result ≡ last_or None self.entry.left }
         ensures last { IsLastOf self.entry.left result }
         ensures members { MatchOption result (HasNone self.entry.left) (IsGreatest self.entry.left) }
     {
