@@ -14,7 +14,7 @@ passed_in_block w q (x ∷ xs) ys pos below =
     rw test (passed_in_block w q xs ys pos (All-tail (λ n. n < (q + 1) * w) x xs below))
 
 -- a block that is not 0 has a one
-some_index : (w p m : ℕ) → 0 < m → m < 2 ^ w → indexes w p m [] ≡ [] → ⊥
+pub some_index : (w p m : ℕ) → 0 < m → m < 2 ^ w → indexes w p m [] ≡ [] → ⊥
 unfolding indexes
 some_index w p m some small none =
     let high = highest_found w m some small in
@@ -55,7 +55,7 @@ module _ {X : Type 0} (w : ℕ) (number : X → ℕ) where
       (λ some. ap (λ ys. indexes w (q * w) (number x) [] ++ ys) rest ∙ sym (whole ∙ indexes-apart w (q * w) (number x) bs))
 
   -- and lie in as many blocks
-  blocks_of_entry : (k q m : ℕ) (ones rest : List ℕ) → 0 < w → k < q → indexes w (q * w) m [] ≡ ones → (ones ≡ [] → ⊥) → blocks_past w k (ones ++ rest) ≡ q ∷ blocks_past w q rest
+  pub blocks_of_entry : (k q m : ℕ) (ones rest : List ℕ) → 0 < w → k < q → indexes w (q * w) m [] ≡ ones → (ones ≡ [] → ⊥) → blocks_past w k (ones ++ rest) ≡ q ∷ blocks_past w q rest
   blocks_of_entry k q m [] rest pos before is some = absurd (some refl)
   blocks_of_entry k q m (x ∷ xs) rest pos before is some =
       let up = subst (AscendsFrom (q * w)) is (AscendsFrom-indexes w (q * w) m []) in

@@ -23,8 +23,11 @@ pub mod HintLemmas
 pub mod ChainLemmas
 pub mod EntryLemmas
 pub mod FromLemmas
+pub mod PartLemmas
 pub mod WalkLaws
 pub mod MissingLaws
+pub mod PartLaws
+pub mod NthLemmas
 pub mod MismatchLemmas
 pub mod OrderLemmas
 pub mod JsonLemmas

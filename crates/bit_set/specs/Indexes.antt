@@ -117,3 +117,15 @@ pub record IsSparseWalk {X : Type 0} (w : ℕ) (number : X → ℕ) (is_block : 
   pub ascends : IsAscending (left_between w number front it.left back)
   pub below : All (λ n. n < 2 ^ 64) (left_between w number front it.left back)
   pub count_fits : length (left_between w number front it.left back) < 2 ^ 64
+
+-- a walk that passed the first n elements that are left, within the block in hand
+abbrev pub past_first : ℕ → Walk → Walk
+past_first n s = record {
+  left = drop n s.left;
+  pulls = s.pulls;
+  index = s.index;
+  blocks = s.blocks;
+  nonzero_left = s.nonzero_left;
+  summary_pulls = s.summary_pulls;
+  summary_left = s.summary_left;
+}

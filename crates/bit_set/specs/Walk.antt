@@ -1,8 +1,8 @@
 -- Walks over the elements of a set, block by block.
-use Rattle.std.specs.{Prelude.{◌≡◌, ℕ, ◌+◌, ◌-◌, ◌*◌, ◌/◌, ◌^◌, ◌<◌, ◌≤◌, ◌==◌, max, min, Bool, true, false, nat_lt, if◌then◌else◌, List, [], ◌∷◌, ◌++◌, length, ⊤, Option, Some, None, MatchOption}, Iterator.{YieldsFirst, YieldsLast, YieldsThen}}
+use Rattle.std.specs.{Prelude.{◌≡◌, ℕ, ◌+◌, ◌-◌, ◌*◌, ◌/◌, ◌^◌, ◌<◌, ◌≤◌, ◌==◌, max, min, Bool, true, false, nat_lt, if◌then◌else◌, List, [], ◌∷◌, ◌++◌, drop, length, slice_get, ⊤, Option, Some, None, MatchOption}, Iterator.{YieldsFirst, YieldsLast, YieldsThen}}
 use Rattle.std.specs.Iterator.{Drains}
 use Rattle.bit_words.specs.{Bits.blocks_for, declared.block.merge.Merge.Merge}
-use Rattle.bit_set.specs.{Members.{TakesGreatest, TakesLeast}, Sets.{elements, merge_of_sets, those_from}}
+use Rattle.bit_set.specs.{Members.{TakesGreatest, TakesLeast}, Ranges.those_in_range, Sets.{elements, merge_of_sets, those_from}}
 
 -- What contracts see of a walk over a set: the elements that are left, how often its block source gave it a block, or
 -- the end, the first number of the block in hand, and how many blocks are past that block, up to the one in hand at
@@ -71,6 +71,27 @@ pub record AdvancesBack (w : ℕ) (s : Walk) (r : Option ℕ) (t : Walk) : Type 
   pub item : YieldsLast (λ walk. walk.left) s r t
   pub last : MatchOption r ⊤ (λ x. TakesGreatest s.left x t.left)
   pub pulls : PullsBlocksBack w s r t
+
+-- How calls of `next`, the last of which gave r, went from s to t along blocks of w: as one call of it where nothing was left,
+-- and else with no more pulls than there are blocks that are not 0.
+pub record PullsAlong (w : ℕ) (s : Walk) (r : Option ℕ) (t : Walk) : Type 0 where
+  pub goes_on : s.pulls ≤ t.pulls
+  pub pulled : MatchOption r ((t.pulls ≡ s.pulls + s.nonzero_left + 1) × (t.nonzero_left ≡ 0))
+      (λ _. t.pulls + t.nonzero_left ≡ s.pulls + s.nonzero_left)
+  pub along : t.index + w * t.blocks ≡ s.index + w * s.blocks
+  pub summary : MatchOption r ((t.summary_pulls ≡ s.summary_pulls + s.summary_left + 1) × (t.summary_left ≡ 0))
+      (λ _. t.summary_pulls + t.summary_left ≡ s.summary_pulls + s.summary_left)
+
+-- the same, shut like `PullsBlocks`
+unfoldable pub PullsBlocksAlong : ℕ → Walk → Option ℕ → Walk → Type 0
+PullsBlocksAlong w s r t = PullsAlong w s r t
+
+-- A call of `nth` on s gave r and left t, over blocks of w: the first n of what was left were passed, and r is the one
+-- after them, or None where there is none.
+pub record Skips (w n : ℕ) (s : Walk) (r : Option ℕ) (t : Walk) : Type 0 where
+  pub item : r ≡ slice_get s.left n
+  pub left : t.left ≡ drop (n + 1) s.left
+  pub pulls : PullsBlocksAlong w s r t
 
 -- a call at one of the ends: at the front, or else at the back
 abbrev pub CallsEnd : ℕ → Bool → Walk → Option ℕ → Walk → Type 0
@@ -165,6 +186,16 @@ pub record FirstPullFrom (w : ℕ) (values : List Bool) (from : ℕ) (s : Walk) 
   pub summary : s.summary_pulls + s.summary_left ≡ max 1
       (blocks_for w (blocks_for w (length values)) - min (from / w) (blocks_for w (length values) - 1) / w)
 
+-- Where one is that begins at a and ends before b: the block of a is in hand, or the last one, and at the back the one in
+-- which the range ends, or the last one. That is a second pull where an element of the range is in it, past the first.
+pub record FirstPullsOfPart (w : ℕ) (values : List Bool) (a b : ℕ) (s : Walk) : Type 0 where
+  pub pulls : s.pulls + s.nonzero_left
+      ≡ 1 + length (blocks_past w (s.index / w) (those_in_range (elements values) a b))
+  pub at_most : s.pulls ≤ 2
+  pub index : s.index ≡ min (a / w) (blocks_for w (length values) - 1) * w
+  pub blocks : s.blocks ≡ min ((b - 1) / w) (blocks_for w (length values) - 1) - a / w
+  pub summary : s.summary_pulls + s.summary_left ≤ max 1 (blocks_for w (blocks_for w (length values)))
+
 -- Where a walk over what two lists become is at its making. It has pulled both once, and has as many blocks to go as the
 -- longer one.
 pub record FirstPullOfTwo (w : ℕ) (a b : List Bool) (s : TwoSetWalk) : Type 0 where
@@ -172,12 +203,15 @@ pub record FirstPullOfTwo (w : ℕ) (a b : List Bool) (s : TwoSetWalk) : Type 0 
   pub index : s.index ≡ 0
   pub blocks : s.blocks ≡ max (blocks_for w (length a)) (blocks_for w (length b)) - 1
 
--- these three, shut like `PullsBlocks`
+-- these four, shut like `PullsBlocks`
 unfoldable pub IsAtFirstBlock : ℕ → List Bool → Walk → Type 0
 IsAtFirstBlock w values s = FirstPull w values s
 
 unfoldable pub IsAtBlockOf : ℕ → List Bool → ℕ → Walk → Type 0
 IsAtBlockOf w values from s = FirstPullFrom w values from s
+
+unfoldable pub IsAtBlocksOf : ℕ → List Bool → ℕ → ℕ → Walk → Type 0
+IsAtBlocksOf w values a b s = FirstPullsOfPart w values a b s
 
 unfoldable pub IsAtFirstBlocks : ℕ → List Bool → List Bool → TwoSetWalk → Type 0
 IsAtFirstBlocks w a b s = FirstPullOfTwo w a b s
@@ -194,6 +228,12 @@ pub record IsAtStartFrom (w : ℕ) (values : List Bool) (from : ℕ) (s : Walk) 
   pub left : s.left ≡ those_from (elements values) from
   pub count_fits : length s.left < 2 ^ 64
   pub at : IsAtBlockOf w values from s
+
+-- At the making of a walk over those elements that are a or above and below b.
+pub record IsAtStartOfPart (w : ℕ) (values : List Bool) (a b : ℕ) (s : Walk) : Type 0 where
+  pub left : s.left ≡ those_in_range (elements values) a b
+  pub count_fits : length s.left < 2 ^ 64
+  pub at : IsAtBlocksOf w values a b s
 
 -- At the making of a walk over what two lists of truth values become, in blocks of w.
 pub record StartsOverTwo (w : ℕ) (a b : List Bool) (s : TwoSetWalk) : Type 0 where

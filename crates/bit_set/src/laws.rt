@@ -18,7 +18,9 @@ use std::hash::Hash;
 
 mod ranges;
 
-pub use ranges::{ends_of_searches, parts_of_ranges, walks_over_missing};
+pub use ranges::{
+    ends_of_searches, parts_of_ranges, ranks_of_members, walks_over_missing, walks_over_parts,
+};
 
 /// What each operation does to the members of a set.
 #[tactic(auto, using(crate::proofs::SetLaws::members_of_sets))]

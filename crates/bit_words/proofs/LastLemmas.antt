@@ -34,7 +34,7 @@ module _ {X : Type 0} (w : ℕ) (number : X → ℕ) (is_block : X → Type 0) w
 
   -- ---- the block of the summary in hand
 
-  first_reached : (f : ℕ → Bool) (n i : ℕ) → f i ≡ true → first_true f n ≤ i
+  pub first_reached : (f : ℕ → Bool) (n i : ℕ) → f i ≡ true → first_true f n ≤ i
   first_reached f n i here = grind (arith, before_first f n i)
 
   pub last_in_hand : (index end i : ℕ) (pending : X) (xs : List X) → IsInHand w number is_block index end pending xs → IsHighest (number pending) i → i < w → ((j : ℕ) → index + w ≤ j → j < end → is_used (map number xs) j ≡ false)

@@ -30,6 +30,7 @@ pub mod TailLemmas
 pub mod ZeroLemmas
 pub mod SearchLemmas
 pub mod LastLemmas
+pub mod CutLemmas
 pub mod NextAtLemmas
 pub mod PendingLemmas
 pub mod PendingOnes

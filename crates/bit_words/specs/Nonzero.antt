@@ -1,7 +1,7 @@
 -- A walk over the blocks that are not 0, each with its index.
-use Rattle.std.specs.{Prelude.{◌≡◌, ℕ, ◌+◌, ◌-◌, ◌*◌, ◌/◌, ◌==◌, ◌<◌, ◌⊎◌, Bool, true, false, None, Some, ◌≤◌, if◌then◌else◌, min, List, [], ◌∷◌, Option, MatchOption, ⊤, drop, length}, Int.RustNames.count_ones}
+use Rattle.std.specs.{Prelude.{◌≡◌, ℕ, ◌+◌, ◌-◌, ◌*◌, ◌/◌, ◌==◌, ◌<◌, ◌⊎◌, ◌++◌, ◌&&◌, nat_lt, All, Bool, true, false, None, Some, ◌≤◌, if◌then◌else◌, min, List, [], ◌∷◌, Option, MatchOption, ⊤, drop, length}, Int.RustNames.count_ones}
 use Rattle.std.specs.{Iterator.{YieldsFirst, YieldsLast}, List.sum_by}
-use Rattle.bit_words.specs.Bits.{blocks_for}
+use Rattle.bit_words.specs.{Bits.blocks_for, Digits.is_one}
 
 -- What contracts see of such a walk: all blocks that it goes over; those that are left, each with its
 -- index; how often it was pulled; how often it pulled a block of the summary, and how many of these it
@@ -46,6 +46,22 @@ pub record TakesLast {X : Type 0} (s : Nonzeros X) (r : Option (ℕ × X)) (t : 
   pub item : YieldsLast (λ walk. walk.left) s r t
   pub same : t.blocks ≡ s.blocks
   pub counted : MatchOption r (t.pulls ≡ s.pulls) (λ _. t.pulls ≡ s.pulls + 1)
+  pub summary : t.summary_pulls ≡ s.summary_pulls
+  pub summary_left : t.summary_left ≤ s.summary_left
+
+-- A walk s ended in the block at k: t has what is left before it, and `block` the lowest `count` of w digits of that block,
+-- where it was left. This is a pull where one of them is 1.
+pub record CutsAt {X : Type 0} (w : ℕ) (number : X → ℕ) (k count : ℕ) (s : Nonzeros X) (block : X) (t : Nonzeros X) : Type 0 where
+  pub at : List (ℕ × X)
+  pub past : List (ℕ × X)
+  pub split : s.left ≡ t.left ++ (at ++ past)
+  pub before : All (λ entry. entry.0 < k) t.left
+  pub after : All (λ entry. k < entry.0) past
+  pub whole : ℕ
+  pub entry : ((at ≡ []) × (whole ≡ 0)) ⊎ ((x : X) × (at ≡ (k, x) ∷ []) × (number x ≡ whole))
+  pub digit : (j : ℕ) → j < w → is_one (number block) j ≡ (nat_lt j count && is_one whole j)
+  pub same : t.blocks ≡ s.blocks
+  pub counted : t.pulls ≡ s.pulls + min 1 (number block)
   pub summary : t.summary_pulls ≡ s.summary_pulls
   pub summary_left : t.summary_left ≤ s.summary_left
 

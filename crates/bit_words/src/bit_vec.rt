@@ -26,7 +26,7 @@ mod searching;
 
 pub use crate::block::highest::take_highest_one;
 pub use crate::block::lowest::take_lowest_one;
-pub use crate::block::masks::{clear_below, with_bit};
+pub use crate::block::masks::{clear_below, clear_from, with_bit};
 pub use crate::block::merge::Merge;
 pub use crate::block::{BitBlock, operation};
 pub use crate::packed::comparing::{

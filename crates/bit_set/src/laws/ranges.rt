@@ -1,9 +1,9 @@
 // Laws of what is in a range and what is not, and of the searches for the nearest member.
-ghost use Rattle.std.specs.{Prelude.{◌≡◌, ℕ, ◌+◌, ◌↔◌, MatchOption, None, Option, IsTrue, List, [], length, Bool}, Iterator.{Drains, YieldsThen}};
+ghost use Rattle.std.specs.{Prelude.{◌≡◌, ℕ, ◌+◌, ◌/◌, ◌≤◌, ◌++◌, ◌↔◌, MatchOption, None, Option, Some, IsTrue, List, [], length, slice_get, Bool}, Iterator.{Drains, YieldsThen}};
 ghost use Rattle.bit_words.specs.Searches.{FindsBefore, FindsFrom};
-ghost use Rattle.bit_set.specs.{Agreement.WalksAgree, Choices.{IsFirstOf, IsGreatest, IsLastOf, IsLeast}, Members.HasNone, Missing.{MissingWalk, StartsMissing}, Ranges.{span, those_in_range}, Sets.{IsAscending, difference, elements, has, is_disjoint, those_below, those_from, union}};
+ghost use Rattle.bit_set.specs.{Agreement.WalksAgree, Choices.{IsFirstOf, IsGreatest, IsLastOf, IsLeast}, Members.HasNone, Missing.{MissingWalk, StartsMissing}, Ranges.{span, those_in_range}, Sets.{IsAscending, difference, elements, has, is_disjoint, those_below, those_from, union}, Walk.{CallsEnd, GivesFromEnds, IsAtStartOfPart, Walk, blocks_past, in_order}};
 
-use crate::{BitBlock, Missing};
+use crate::{BitBlock, Iter, Missing};
 
 /// A range in two parts, what is in a set and what is not: they have nothing in common, and together they are its numbers.
 /// From 0 on, what is in a range is what is below its end; so `count_in_range(0..n)` is the rank of `n`, and what
@@ -46,4 +46,27 @@ pub fn walks_over_missing<A: BitBlock + 'static, B: BitBlock + 'static>()
         → Drains ⟦<Missing<'static, B> as Iterator>⟧.next_gives s items → length items ≡ length s.left }
     ensures agree { WalksAgree (λ walk. walk.left) ⟦<Missing<'static, A> as Iterator>⟧.next_gives
         (λ walk. walk.left) ⟦<Missing<'static, B> as Iterator>⟧.next_gives }
+{}
+
+/// What a walk over the elements of a range gives from its making on, by calls of `next` up to the first `None`, or by
+/// calls of `next` and `next_back` in any mixture: those of the range, in order. It pulls twice more than there are blocks
+/// past its first that have an element of the range. With those below the range and those past it they are the set.
+pub fn walks_over_parts<B: BitBlock + 'static>()
+    ensures joined { (s : List ℕ) (a b : ℕ) → IsAscending s → a ≤ b
+        → those_below s a ++ (those_in_range s a b ++ those_from s b) ≡ s }
+    ensures whole { (values : List Bool) (a b : ℕ) (s t : Walk) (items : List ℕ) → IsAtStartOfPart B.width values a b s
+        → YieldsThen ⟦<Iter<'static, B> as Iterator>⟧.next_gives s items None t
+        → (items ≡ those_in_range (elements values) a b)
+        × (t.pulls ≡ length (blocks_past B.width (s.index / B.width) (those_in_range (elements values) a b)) + 2) }
+    ensures both_ends { (values : List Bool) (a b : ℕ) (s t u : Walk) (calls : List (Bool × ℕ)) (front : Bool)
+        → IsAtStartOfPart B.width values a b s → GivesFromEnds B.width s calls t → CallsEnd B.width front t None u
+        → (in_order calls ≡ those_in_range (elements values) a b)
+        × (u.pulls ≡ length (blocks_past B.width (s.index / B.width) (those_in_range (elements values) a b)) + 2) }
+{}
+
+/// The rank of a member and what is selected by it: of a set whose list ascends, `x` is the member that `k` others come
+/// before exactly where it is in and `k` are below it, as `count_in_range(0..x)` counts them.
+pub fn ranks_of_members()
+    ensures selected { (s : List ℕ) (k x : ℕ) → IsAscending s → (slice_get s k ≡ Some x)
+        ↔ (IsTrue (has s x) × (length (those_in_range s 0 x) ≡ k)) }
 {}

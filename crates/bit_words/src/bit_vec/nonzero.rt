@@ -1,11 +1,12 @@
 // The walk over the blocks of a bit vector that are not 0, by its summary.
 ghost use Rattle.std.specs.{Prelude.{◌≡◌, ℕ, ◌+◌, ◌-◌, ◌*◌, ◌<◌, ◌≤◌, ◌^◌, ◌==◌, All, IfSome, not, Some, [], length, map, slice_get}, Iterator.item_count};
-ghost use Rattle.bit_words.specs.{Bits.{blocks_for, blocks_of, IsWithinCapacity}, Nonzero.{ones_left, PullsLast, PullsNonzero, Refills, StartsPast, TakesFirst, TakesLast}};
+ghost use Rattle.bit_words.specs.{Bits.{blocks_for, blocks_of, IsWithinCapacity}, Nonzero.{CutsAt, ones_left, PullsLast, PullsNonzero, Refills, StartsPast, TakesFirst, TakesLast}};
 
 use crate::bit_vec::BitVec;
 use crate::bit_vec::pending::{Pending, Unstored};
 use crate::block::BitBlock;
 use crate::block::lowest::take_lowest_one;
+use crate::block::masks::clear_from;
 use crate::packed::ones::ones_of;
 use crate::packed::searching::block_or_zero;
 use crate::steps::Steps;
@@ -165,6 +166,32 @@ impl<'a, B: BitBlock> Nonzero<'a, B> {
         }
         self.steps.tick();
         false
+    }
+
+    /// Ends the walk in the block at `k`: leaves the blocks before it alone, and returns the lowest `count` bits of that
+    /// block where it was left, or else zeros. This is a pull where one of them is 1. Constant time.
+    ///
+    /// ```
+    /// // Of 100 values, over blocks of 32 bits, those at 70 and 71 are true.
+    /// let mut walk = bits.nonzero_past(0);
+    /// assert_eq!(walk.cut_at(2, 7), 0b0100_0000);
+    /// assert_eq!(walk.next(), None);
+    /// ```
+    #[inline]
+    pub fn cut_at(&mut self, k: usize, count: usize) -> B
+        ensures of_block { B.is_block result }
+        ensures cut { CutsAt B.width B.number k count self.old result self.new }
+    {
+        let whole = if self.pending.may_have(k) {
+            at(self.blocks, k)
+        } else {
+            B::zero()
+        };
+        let block = clear_from(whole, count);
+        let end = k.max(self.pending.index).min(self.pending.end);
+        self.pending.keep_before(end);
+        self.steps.tick_by(usize::from(is_nonzero(block)));
+        block
     }
 
     // The next block, with its index, or the end.

@@ -1,5 +1,5 @@
 // The blocks that a walk has still to look at, by the summary.
-ghost use Rattle.std.specs.Prelude.{◌≡◌, ℕ, ◌+◌, ◌-◌, ◌/◌, ◌<◌, ◌≤◌, ◌^◌, All, drop, get_or, length, map, nat_lt};
+ghost use Rattle.std.specs.Prelude.{◌≡◌, ℕ, ◌+◌, ◌-◌, ◌/◌, ◌<◌, ◌≤◌, ◌^◌, ◌&&◌, All, IsTrue, drop, false, get_or, length, map, nat_lt, take};
 ghost use Rattle.bit_words.specs.{Bits.blocks_for, Digits.is_one, Pending.{CoversUsed, Finds, FindsLast, FindsLastPending, IsPending, IsStoredFrom, left_from, next_at}, Summary.{is_used, IsStoredSummary}};
 
 use crate::bit_vec::Blocks;
@@ -7,7 +7,7 @@ use crate::block::BitBlock;
 use crate::block::highest::highest_one;
 use crate::block::lowest::take_lowest_one;
 use crate::block::masks::{clear_below, clear_from};
-use crate::block::operators::{all_ones, ones_below};
+use crate::block::operators::{all_ones, has_one_at, ones_below};
 use crate::packed::access::block_count;
 use crate::packed::searching::block_or_zero;
 use crate::summary::searching::last_used_from;
@@ -118,12 +118,44 @@ impl<'a, B: BitBlock> Pending<'a, B> {
         ensures pulls { self.new.summary.pulls ≡ self.old.summary.pulls }
     {
         let found = self.find_last(blocks);
-        let end = found.unwrap_or(self.index);
+        self.keep_before(found.unwrap_or(self.index));
+        found
+    }
+
+    // Leaves what is about the blocks before the one at `end`.
+    #[inline]
+    pub(crate) fn keep_before(&mut self, end: usize)
+        requires from { self.old.index ≤ end }
+        requires to { end ≤ self.old.end }
+        requires of_block { B.is_block self.old.bits }
+        ensures of_block { B.is_block self.new.bits }
+        ensures digits { (j : ℕ) → j < B.width → is_one (B.number self.new.bits) j
+            ≡ (nat_lt j (end - self.old.index) && is_one (B.number self.old.bits) j) }
+        ensures stored { self.new.summary.left
+            ≡ take (blocks_for B.width (end - (self.old.index + B.width))) self.old.summary.left }
+        ensures end { self.new.end ≡ end }
+        ensures index { self.new.index ≡ self.old.index }
+        ensures pulls { self.new.summary.pulls ≡ self.old.summary.pulls }
+    {
         let past = (end - self.index).saturating_sub(B::bits());
         self.bits = clear_from(self.bits, end - self.index);
         self.summary.keep_first(block_count::<B>(past));
         self.end = end;
-        found
+    }
+
+    // Whether the block at `k` is among those that are left, unless it is zero.
+    #[inline]
+    pub(crate) fn may_have(&self, k: usize) -> bool
+        requires { B.is_block self.now.bits }
+        ensures left { IsTrue result → (next_at B.width self.now.index (B.number self.now.bits) ≤ k) × (k < self.now.end) }
+        ensures out { result ≡ false → k < self.now.end → self.now.index ≤ k
+            → (k < self.now.index + B.width) × (is_one (B.number self.now.bits) (k - self.now.index) ≡ false) }
+    {
+        if k < self.index || k >= self.end {
+            return false;
+        }
+        let digit = k - self.index;
+        digit >= B::bits() || has_one_at(self.bits, digit)
     }
 
     // The last block that a bit is about: of those past the block of the summary in hand, or else of that one.

@@ -140,13 +140,19 @@ pub fn clear_below<B: BitBlock>(block: B, index: usize) -> B
     }
 }
 
-// The bits from `index` on become 0; where the block has none there, it stays.
+/// A block with its digits from `index` on made 0; where it has none there, it stays. Constant time: with this a walk
+/// ends inside a block.
+///
+/// ```
+/// assert_eq!(clear_from(0b0111u8, 1), 0b0001);
+/// assert_eq!(clear_from(0b0111u8, 8), 0b0111);
+/// ```
 #[inline]
-pub(crate) fn clear_from<B: BitBlock>(block: B, index: usize) -> B
+pub fn clear_from<B: BitBlock>(block: B, index: usize) -> B
     requires { B.is_block block }
     ensures of_block { B.is_block result }
-    ensures digits { (j : ℕ) → j < B.width
-        → is_one (B.number result) j ≡ (nat_lt j index && is_one (B.number block) j) }
+    ensures digits { (j : ℕ) → j < B.width → (bit_at (B.number result) j == 1)
+        ≡ (nat_lt j index && (bit_at (B.number block) j == 1)) }
 {
     if index < B::bits() {
         cut_from(block, index)
