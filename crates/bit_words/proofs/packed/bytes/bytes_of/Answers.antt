@@ -12,3 +12,16 @@ loop-q-preserved g c = record {
 pub returns-clause-values : goal.returns-clause-values
 returns-clause-values g c =
     bytes_values g.B.BitBlock.width c.args.len (map g.B.BitBlock.number c.args.blocks.now) c.loop-q.bytes.items (omega arith) c.requires.tail (λ k j below index. c.loop-q.invariant.digits k j (omega (arith, below)) index)
+
+pub loop-q-init : goal.loop-q-init
+loop-q-init g c = record {
+  count = omega (arith, c.in_ok-bytes.ensures.len);
+  capacity = omega (arith, c.in_ok-bytes.ensures.exact);
+  digits = λ k j below index. absurd (omega arith);
+}
+
+pub push_reserved-requires : goal.push_reserved-requires
+push_reserved-requires g c = omega arith
+
+pub returns-clause-len : goal.returns-clause-len
+returns-clause-len g c = omega arith

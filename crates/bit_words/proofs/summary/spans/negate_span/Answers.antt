@@ -53,3 +53,15 @@ returns-clause-summary g c =
     (numbers_below w f P news (λ x is. (g.met.B.BitBlock.number_law x is).0) c.merge_span.ensures.in_place.each)
     (c.block_index-first.ensures ∙ ap (λ k. k / w) c.block_index.ensures) (c.block_index-last.ensures ∙ ap (λ k. k / w) c.block_index-2.ensures)
     c.merge_span.ensures.span said.digit (rw c.deref.ensures.value at made.digits) made.before made.after))
+
+pub returns-then-is_short-clause-span : goal.returns-then-is_short-clause-span
+returns-then-is_short-clause-span g c = c.merge_span.ensures.span
+
+pub returns-then-is_short-clause-in_place : goal.returns-then-is_short-clause-in_place
+returns-then-is_short-clause-in_place g c = c.merge_span.ensures.in_place
+
+pub returns-clause-span : goal.returns-clause-span
+returns-clause-span g c = c.merge_span.ensures.span
+
+pub returns-clause-in_place : goal.returns-clause-in_place
+returns-clause-in_place g c = c.merge_span.ensures.in_place
