@@ -1,5 +1,5 @@
-use Rattle.std.proofs.Common.{map, arith}
-use Rattle.bit_words.{specs.Storage.value_at, proofs.ByteLemmas.{byte_more, bytes_values}}
+use Rattle.std.proofs.Common.{◌*◌, map, ap, arith}
+use Rattle.bit_words.{specs.Storage.value_at, proofs.{BitsLemmas.blocks_for-enough, ByteLemmas.{byte_more, bytes_values}}}
 use Rattle.bit_words.proofs.packed.bytes.bytes_of.Goals as goal
 
 pub loop-q-preserved : goal.loop-q-preserved
@@ -25,3 +25,8 @@ push_reserved-requires g c = omega arith
 
 pub returns-clause-len : goal.returns-clause-len
 returns-clause-len g c = omega arith
+
+pub byte_of-requires-clause-in_bounds : goal.byte_of-requires-clause-in_bounds
+byte_of-requires-clause-in_bounds g c =
+    let w = g.B.BitBlock.width in
+    omega (arith, blocks_for-enough w c.args.len g.met.B.BitBlock.width_law.positive, ap (λ n. n * w) c.requires.count)
