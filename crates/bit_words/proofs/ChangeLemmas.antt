@@ -57,6 +57,12 @@ digits_between w s t k p e m n ke ee digits j h = grind (arith, nat_tests, div-a
 pub digits_from : (w s t k p m n : ℕ) → 0 < w → k ≡ s / w → s ≤ t → t / w ≢ k → ((j : ℕ) → j < w → is_one n j ≡ (is_one m j || nat_le p j)) → (j : ℕ) → j < w → is_one n j ≡ (is_one m j || (nat_lt (k * w + j) t && nat_le p j))
 digits_from w s t k p m n pos ke forward later digits j h = grind (arith, nat_tests, div_le w s t pos forward, index_below w k j t h, div-mul-le_self t w, digits j h)
 
+-- where the last block is full none of its values is past the end
+pub raised_none : (w : ℕ) (ms : List ℕ) (s t count i : ℕ) → 0 < w → count ≡ blocks_for w s → s % w ≡ 0 → i / w < count → value_at w ms i ≡ (value_at w ms i || (nat_lt i t && nat_le s i))
+raised_none w ms s t count i pos blocks full within =
+    let below : i < s = div_lt w i s pos (omega arith) in
+    grind (arith, nat_tests)
+
 pub value_at-raised : (w : ℕ) (ms ns : List ℕ) (s t k p m n : ℕ) → 0 < w → k ≡ s / w → p ≡ s % w → p ≢ 0 → length ms ≡ blocks_for w s → m ≡ get_or ms k 0 → ns ≡ set ms k n → ((j : ℕ) → j < w → is_one n j ≡ (is_one m j || (nat_lt (k * w + j) t && nat_le p j))) → (i : ℕ) → i / w < length ms → value_at w ns i ≡ (value_at w ms i || (nat_lt i t && nat_le s i))
 value_at-raised w ms ns s t k p m n pos ke pe nz count read e digits i within =
     grind (arith, nat_tests, div-add-mod' i w, written_same w ms ns k n i e, digits (i % w), mod-lt i pos, read_at w ms k m i read, nat_le-indexes w s i, div_lt w i s pos, written_other w ms ns k n i e)

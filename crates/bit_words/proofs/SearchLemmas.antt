@@ -1,6 +1,6 @@
 -- Where a search of a list of blocks ends.
-use Rattle.std.proofs.Common.{◌≡◌, ℕ, ◌+◌, ◌-◌, ◌*◌, ◌/◌, ◌%◌, ◌≢◌, ◌^◌, ◌<◌, ◌≤◌, Bool, true, false, not, ◌&&◌, nat_lt, nat_le, ◌==◌, List, drop, length, map, get_or, length-drop, Option, Some, None, refl, sym, ap, ◌∙◌, arith, mod-lt, div-add-mod', mul-le-mul_right, subst, ⊎_elim}
-use Rattle.std.{proofs.lemmas.{Bool.{cases_lt, eq-eqb, Decides.nat_tests}, List.{get_or_past, length-map}, Nat.div-mul-add}, specs.Int.bit_at}
+use Rattle.std.proofs.Common.{◌≡◌, ℕ, ◌+◌, ◌-◌, ◌*◌, ◌/◌, ◌%◌, ◌≢◌, ◌^◌, ◌<◌, ◌≤◌, Bool, true, false, not, ◌&&◌, nat_lt, nat_le, ◌==◌, List, drop, take, min, length, map, get_or, length-drop, get_or-take, Option, Some, None, refl, sym, ap, ◌∙◌, arith, mod-lt, div-add-mod', mul-le-mul_right, subst, ⊎_elim}
+use Rattle.std.{proofs.lemmas.{Bool.{cases_lt, eq-eqb, Decides.nat_tests}, List.{get_or_past, length-map, take-map}, Nat.div-mul-add}, specs.Int.bit_at}
 use Rattle.bit_words.specs.{Digits.{is_one, IsComplement}, Highest.IsHighest, Lowest.IsLowest, Searches.{FindsBefore, FindsFrom, IsFirstFrom, IsLastBefore}, Storage.{value_at, IsZeroFrom}, Summary.is_used}
 use Rattle.bit_words.proofs.{CompareLemmas.digit_from_zero, Masks.is_one-complement, StorageLemmas.{value_at-index}, SummaryLemmas.{false_from_unused, used_from_zero}, ZeroLemmas.dropped}
 
@@ -143,6 +143,27 @@ module _ {X : Type 0} (number : X → ℕ) (xs : List X) (n count : ℕ) (zeros 
     between = λ j from before.
         let here = ap (λ i. get_or (map number xs) i 0) (let e : n + (j - n) ≡ j = omega arith in e) in
         used_from_zero _ (sym here ∙ sym (dropped number n (j - n) xs) ∙ zeros (j - n) (omega (arith, from, before)));
+  }
+
+-- ---- the last block that is not 0, before as many that are
+
+module _ {X : Type 0} (number : X → ℕ) (xs front : List X) (n m count : ℕ) (is : front ≡ take m xs) (most : m ≡ min n (length xs)) (zeros : (k : ℕ) → count ≤ k → get_or (map number front) k 0 ≡ 0) where
+  in_front : (k : ℕ) → k < m → get_or (map number front) k 0 ≡ get_or (map number xs) k 0
+  in_front k below = ap (λ ys. get_or (map number ys) k 0) is ∙ ap (λ ms. get_or ms k 0) (sym (take-map number m xs)) ∙ get_or-take m (map number xs) k 0 below
+
+  pub none_used_past : (j : ℕ) → count ≤ j → j < n → is_used (map number xs) j ≡ false
+  none_used_past j past below =
+      used_from_zero _
+      (⊎_elim
+      (λ (inside : j < m). sym (in_front j inside) ∙ zeros j past)
+      (λ (after : m ≤ j). get_or_past (map number xs) j 0 (rw length-map (omega arith)))
+      (cases_lt j m))
+
+  pub last_used_is : 0 < count → count ≤ m → get_or (map number front) (count - 1) 0 ≢ 0 → IsLastBefore (is_used (map number xs)) n (count - 1)
+  last_used_is some within used = record {
+    passes = grind (arith, nat_tests, used, in_front (count - 1));
+    before = omega arith;
+    between = λ j past below. none_used_past j (omega (arith, past)) below;
   }
 
 -- ---- one block more that does not pass

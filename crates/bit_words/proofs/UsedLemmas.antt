@@ -1,5 +1,5 @@
 -- Which of the blocks of a list a block of its summary says are not 0, as it is made.
-use Rattle.std.proofs.{Common.{◌≡◌, ◌≢◌, ℕ, ◌+◌, ◌-◌, ◌<◌, Bool, ◌&&◌, ◌||◌, ◌==◌, nat_lt, List, map, get_or, sym, ap, ap₂, ◌∙◌, arith, ⊎_elim}, Math.Bool.or-false, lemmas.Bool.{cases_eq, cases_lt, Decides.nat_tests}}
+use Rattle.std.proofs.{Common.{◌≡◌, ◌≢◌, ℕ, ◌+◌, ◌-◌, ◌<◌, Bool, ◌&&◌, ◌||◌, ◌==◌, nat_lt, List, map, min, length, get_or, sym, ap, ap₂, ◌∙◌, arith, ⊎_elim}, Math.Bool.or-false, lemmas.{Bool.{cases_eq, cases_lt, Decides.nat_tests}, List.{get_or_past, length-map}}}
 use Rattle.bit_words.{specs.{Digits.{IsEither, IsShiftedLeft, is_one}, Summary.{is_used, SaysUsed}}, proofs.{Masks.is_one-either, TestLemmas.{above_and, below_and}}}
 
 module _ {X : Type 0} (w : ℕ) (f : X → ℕ) (P : X → Type 0) where
@@ -35,6 +35,10 @@ module _ {X : Type 0} (w : ℕ) (f : X → ℕ) (P : X → Type 0) where
             ap₂ (λ x y. x || y) (before.digit j within ∙ above_and k j (used (start + j)) high) (digit ∙ group.digit (j - k) (omega arith) ∙ ap₂ (λ t x. t && used x) same index))
             (cases_lt j k);
       }
+
+  -- of as many as there are, it says it of all
+  pub says_all : (start count : ℕ) (xs : List X) (m : X) → count ≡ min (length xs - start) w → SaysUsed w f P xs start count m → (j : ℕ) → j < w → is_one (f m) j ≡ is_used (map f xs) (start + j)
+  says_all start count xs m most says j index = grind (arith, nat_tests, says.digit j index, get_or_past (map f xs) (start + j) 0, length-map)
 
   -- where a block past those is written
   pub says_kept : (start k : ℕ) (xs ys : List X) (m : X) → ((q : ℕ) → q < start + k → get_or (map f ys) q 0 ≡ get_or (map f xs) q 0) → SaysUsed w f P xs start k m → SaysUsed w f P ys start k m

@@ -27,3 +27,18 @@ returns-else-index-ne0-clause-added g c = λ i past.
 pub returns-then-index-ne0-clause-each : goal.returns-then-index-ne0-clause-each
 returns-then-index-ne0-clause-each g c =
     All-same g.B.BitBlock.is_block _ _ c.push_reserved.ensures.items (All-push g.B.BitBlock.is_block _ _ c.push_copies.ensures.each c.ones_below.ensures.of_block)
+
+pub push_reserved-requires : goal.push_reserved-requires
+push_reserved-requires g c = omega arith
+
+pub returns-then-len-whole-clause-len : goal.returns-then-len-whole-clause-len
+returns-then-len-whole-clause-len g c = omega arith
+
+pub returns-then-index-ne0-clause-len : goal.returns-then-index-ne0-clause-len
+returns-then-index-ne0-clause-len g c = omega arith
+
+pub returns-else-index-ne0-clause-len : goal.returns-else-index-ne0-clause-len
+returns-else-index-ne0-clause-len g c = omega arith
+
+pub returns-else-index-ne0-clause-each : goal.returns-else-index-ne0-clause-each
+returns-else-index-ne0-clause-each g c = c.push_copies.ensures.each

@@ -1,4 +1,4 @@
-use Rattle.std.proofs.Common.{◌+◌, ◌*◌, refl, arith, mul-le-mul_right}
+use Rattle.std.proofs.Common.{◌≡◌, ◌+◌, ◌*◌, refl, arith, mul-le-mul_right}
 use Rattle.bit_words.proofs.SpanLemmas.{mask_whole, span_more, span_of_mask}
 use Rattle.bit_words.proofs.packed.spans.merge_whole.Goals as goal
 
@@ -14,3 +14,16 @@ loop-k-preserved g c =
       each = c.merge_mask.ensures.each;
       len = omega arith;
     }
+
+pub loop-k-init : goal.loop-k-init
+loop-k-init g c = record {
+  span = record { inside = λ i reached below. absurd (omega arith); before = λ i below. refl; after = λ i past. refl };
+  each = c.requires.each;
+  len = refl;
+}
+
+pub merge_mask-requires-clause-in_bounds : goal.merge_mask-requires-clause-in_bounds
+merge_mask-requires-clause-in_bounds g c = omega arith
+
+pub returns-clause-span : goal.returns-clause-span
+returns-clause-span g c = let end : c.loop-k.k ≡ c.args.end = omega arith in rw end at c.loop-k.invariant.span

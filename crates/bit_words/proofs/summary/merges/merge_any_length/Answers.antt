@@ -1,7 +1,22 @@
-use Rattle.std.proofs.Common.{length, arith}
-use Rattle.bit_words.proofs.NotedMergeLemmas.{merged_past_stay}
+use Rattle.std.proofs.Common.{length, ap, sym, ◌∙◌, arith}
+use Rattle.bit_words.{specs.Bits.blocks_for, proofs.{NotedMergeLemmas.merged_past_stay, SummaryLemmas.{keeps_all, keeps_none}}}
 use Rattle.bit_words.proofs.summary.merges.merge_any_length.Goals as goal
 
 pub returns-then-is_short-clause-has : goal.returns-then-is_short-clause-has
 returns-then-is_short-clause-has g c =
     merged_past_stay _ _ _ _ c.args.start (length c.args.blocks.now) _ _ _ (omega (arith, c.requires.from, c.requires.can.fewer)) c.requires.stay c.merge_each.ensures.has
+
+pub returns-then-is_short-clause-summary : goal.returns-then-is_short-clause-summary
+returns-then-is_short-clause-summary g c =
+    let few = c.is_short.ensures.short c.if-is_short.true in
+    keeps_none _ _ _ _ _ (omega (arith, few, c.merge_each.ensures.has.len)) (c.requires.summary.short few)
+
+pub merge_long-requires-clause-summary : goal.merge_long-requires-clause-summary
+merge_long-requires-clause-summary g c = c.requires.summary.long (c.is_short.ensures.long c.if-is_short.false)
+
+pub returns-else-is_short-clause-summary : goal.returns-else-is_short-clause-summary
+returns-else-is_short-clause-summary g c = keeps_all _ _ _ _ _ (omega (arith, c.is_short.ensures.long c.if-is_short.false, c.merge_long.ensures.has.len)) c.merge_long.ensures.summary
+
+pub returns-else-is_short-clause-summary_len : goal.returns-else-is_short-clause-summary_len
+returns-else-is_short-clause-summary_len g c =
+    c.merge_long.ensures.summary.packed.count ∙ ap (blocks_for g.B.BitBlock.width) c.merge_long.ensures.has.len ∙ sym (c.requires.summary.long (c.is_short.ensures.long c.if-is_short.false)).packed.count

@@ -44,3 +44,21 @@ returns-clause-has g c = let end : c.loop-q.q ≡ c.args.chunks = omega arith in
 
 pub put_in-requires-clause-in_bounds : goal.put_in-requires-clause-in_bounds
 put_in-requires-clause-in_bounds g c = omega arith
+
+pub merge_chunk-digits-requires-clause-can : goal.merge_chunk-digits-requires-clause-can
+merge_chunk-digits-requires-clause-can g c = record { fewer = omega (arith, c.loop-q.invariant.has.len, c.requires.can.fewer); each = c.loop-q.invariant.has.each; others = c.requires.can.others }
+
+pub put_in-requires-clause-each : goal.put_in-requires-clause-each
+put_in-requires-clause-each g c = c.loop-q.invariant.each_sum
+
+pub returns-clause-digits : goal.returns-clause-digits
+returns-clause-digits g c = let end : c.loop-q.q ≡ c.args.chunks = omega arith in rw end at c.loop-q.invariant.done
+
+pub returns-clause-past : goal.returns-clause-past
+returns-clause-past g c = let end : c.loop-q.q ≡ c.args.chunks = omega arith in rw end at c.loop-q.invariant.past
+
+pub returns-clause-steps : goal.returns-clause-steps
+returns-clause-steps g c = let end : c.loop-q.q ≡ c.args.chunks = omega arith in rw end at c.loop-q.invariant.steps
+
+pub returns-clause-before : goal.returns-clause-before
+returns-clause-before g c = c.loop-q.invariant.before

@@ -1,4 +1,4 @@
-use Rattle.std.proofs.Common.{◌+◌, ◌∙◌, ◌==◌, not, refl, ap, arith}
+use Rattle.std.proofs.Common.{◌≡◌, ◌+◌, ◌∙◌, ◌==◌, not, refl, ap, arith}
 use Rattle.bit_words.proofs.{MergeLemmas.merged_more, UsedLemmas.{says_kept, says_more}}
 use Rattle.bit_words.proofs.summary.merges.merge_group.Goals as goal
 
@@ -13,3 +13,15 @@ loop-j-preserved g c =
       says = says_more _ _ _ start j _ _ _ (says_kept _ _ _ start j _ _ _ one.merged.before c.loop-j.invariant.says) c.with_one_if-digits.ensures.of_block (c.with_one_if-digits.ensures.same ∙ used) c.with_one_if-digits.ensures.others;
       steps = omega arith;
     }
+
+pub merge_block-merged-requires-clause-can : goal.merge_block-merged-requires-clause-can
+merge_block-merged-requires-clause-can g c = record { fewer = omega (arith, c.loop-j.invariant.has.len, c.requires.can.fewer); each = c.loop-j.invariant.has.each; others = c.requires.can.others }
+
+pub returns-clause-has : goal.returns-clause-has
+returns-clause-has g c = let end : c.loop-j.j ≡ c.args.count = omega arith in rw end at c.loop-j.invariant.has
+
+pub returns-clause-says : goal.returns-clause-says
+returns-clause-says g c = let end : c.loop-j.j ≡ c.args.count = omega arith in rw end at c.loop-j.invariant.says
+
+pub returns-clause-steps : goal.returns-clause-steps
+returns-clause-steps g c = let end : c.loop-j.j ≡ c.args.count = omega arith in rw end at c.loop-j.invariant.steps

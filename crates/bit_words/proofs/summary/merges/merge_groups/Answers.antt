@@ -1,4 +1,4 @@
-use Rattle.std.proofs.Common.{◌+◌, ◌*◌, refl, arith}
+use Rattle.std.proofs.Common.{◌≡◌, ◌+◌, ◌*◌, refl, arith}
 use Rattle.bit_words.proofs.{MergeLemmas.merged_more, UsedLemmas.{says_group, says_kept}}
 use Rattle.bit_words.proofs.summary.merges.merge_groups.Goals as goal
 
@@ -12,3 +12,15 @@ loop-group-preserved g c =
       says = says_group _ _ _ start (start + index) index 32 _ _ _ _ _ _ refl (omega arith) (says_kept _ _ _ start index _ _ _ some.merged.before c.loop-group.invariant.says) c.merge_group-more.ensures.says c.shift_left.ensures.of_digits c.block_or-digits.ensures.of_digits c.block_or-digits.ensures.of_block;
       steps = omega arith;
     }
+
+pub merge_group-more-requires-clause-can : goal.merge_group-more-requires-clause-can
+merge_group-more-requires-clause-can g c = record { fewer = omega (arith, c.loop-group.invariant.has.len, c.requires.can.fewer); each = c.loop-group.invariant.has.each; others = c.requires.can.others }
+
+pub returns-clause-has : goal.returns-clause-has
+returns-clause-has g c = let end : c.loop-group.group ≡ c.args.groups = omega arith in rw end at c.loop-group.invariant.has
+
+pub returns-clause-says : goal.returns-clause-says
+returns-clause-says g c = let end : c.loop-group.group ≡ c.args.groups = omega arith in rw end at c.loop-group.invariant.says
+
+pub returns-clause-steps : goal.returns-clause-steps
+returns-clause-steps g c = let end : c.loop-group.group ≡ c.args.groups = omega arith in rw end at c.loop-group.invariant.steps

@@ -1,6 +1,6 @@
 use Rattle.std.proofs.Common.{◌≡◌, ◌<◌, ◌-◌, ◌*◌, ◌/◌, length, map, arith, ap, ◌∙◌, div-lt_iff_lt-mul}
 use Rattle.bit_words.specs.{Bits.blocks_for, Summary.short_count}
-use Rattle.bit_words.proofs.{ChangeLemmas.div_le, SummaryLemmas.{keeps_all, summary_of_digits}, SummarySpanLemmas.{anew_use, in_chunks}, VectorLemmas.numbers_below}
+use Rattle.bit_words.proofs.{ChangeLemmas.div_le, SummaryLemmas.{keeps_all, keeps_none, stored_each, summary_of_digits}, SummarySpanLemmas.{anew_use, in_chunks}, VectorLemmas.numbers_below}
 use Rattle.bit_words.proofs.summary.spans.negate_span.{Given.Over, Goals.After-block_index-last}
 use Rattle.bit_words.proofs.summary.spans.negate_span.Goals as goal
 
@@ -53,3 +53,29 @@ returns-clause-summary g c =
     (numbers_below w f P news (λ x is. (g.met.B.BitBlock.number_law x is).0) c.merge_span.ensures.in_place.each)
     (c.block_index-first.ensures ∙ ap (λ k. k / w) c.block_index.ensures) (c.block_index-last.ensures ∙ ap (λ k. k / w) c.block_index-2.ensures)
     c.merge_span.ensures.span said.digit (rw c.deref.ensures.value at made.digits) made.before made.after))
+
+pub returns-then-is_short-clause-span : goal.returns-then-is_short-clause-span
+returns-then-is_short-clause-span g c = c.merge_span.ensures.span
+
+pub returns-then-is_short-clause-in_place : goal.returns-then-is_short-clause-in_place
+returns-then-is_short-clause-in_place g c = c.merge_span.ensures.in_place
+
+pub returns-clause-span : goal.returns-clause-span
+returns-clause-span g c = c.merge_span.ensures.span
+
+pub returns-clause-in_place : goal.returns-clause-in_place
+returns-clause-in_place g c = c.merge_span.ensures.in_place
+
+pub returns-then-is_short-clause-summary : goal.returns-then-is_short-clause-summary
+returns-then-is_short-clause-summary g c =
+    let few = c.is_short.ensures.short c.if-is_short.true in
+    keeps_none _ _ _ _ _ (omega (arith, few)) (c.requires.summary.short (omega (arith, few, c.merge_span.ensures.in_place.len)))
+
+pub summarize_between-requires-clause-each : goal.summarize_between-requires-clause-each
+summarize_between-requires-clause-each g c = stored_each _ _ _ _ _ c.requires.summary
+
+pub summarize_between-requires-clause-blocks : goal.summarize_between-requires-clause-blocks
+summarize_between-requires-clause-blocks g c = rw c.deref.ensures.value c.merge_span.ensures.in_place.each
+
+pub returns-clause-capacity : goal.returns-clause-capacity
+returns-clause-capacity g c = c.summarize_between.ensures.in_place.capacity
