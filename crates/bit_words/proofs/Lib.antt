@@ -23,6 +23,7 @@ pub mod KeepLemmas
 pub mod CompareLemmas
 pub mod MismatchLemmas
 pub mod CapacityLemmas
+pub mod SameCapacity
 pub mod SummaryLemmas
 pub mod UsedLemmas
 pub mod SummaryMergeLemmas
@@ -33,5 +34,7 @@ pub mod LastLemmas
 pub mod NextAtLemmas
 pub mod PendingLemmas
 pub mod PendingOnes
+pub mod WalkLemmas
 pub mod CountLemmas
 pub mod GrowthLemmas
+pub mod GrownSummary
