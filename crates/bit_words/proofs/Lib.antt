@@ -23,6 +23,7 @@ pub mod KeepLemmas
 pub mod CompareLemmas
 pub mod MismatchLemmas
 pub mod CapacityLemmas
+pub mod SameCapacity
 pub mod SummaryLemmas
 pub mod UsedLemmas
 pub mod SummaryMergeLemmas
@@ -34,5 +35,7 @@ pub mod CutLemmas
 pub mod NextAtLemmas
 pub mod PendingLemmas
 pub mod PendingOnes
+pub mod WalkLemmas
 pub mod CountLemmas
 pub mod GrowthLemmas
+pub mod GrownSummary

@@ -11,12 +11,19 @@ impl<B: BitBlock> fmt::Debug for BitVec<B> {
     fn fmt<W: fmt::Write>(&self, f: &mut fmt::Formatter<W>) -> fmt::Result {
         f.write_str("BitVec { storage: \"")?;
         for i in 0..self.len {
-            if i != 0 && bit_index::<B>(i) == 0 {
-                f.write_str(" ")?;
-            }
-            let digit = if self.get(i) == Some(true) { "1" } else { "0" };
-            f.write_str(digit)?;
+            let begins_block = i != 0 && bit_index::<B>(i) == 0;
+            f.write_str(digit(self.get(i) == Some(true), begins_block))?;
         }
         write!(f, "\", nbits: {} }}", self.len)
+    }
+}
+
+// The digit of a value, past a space where it begins a block that is not the first.
+fn digit(value: bool, begins_block: bool) -> &'static str {
+    match (value, begins_block) {
+        (false, false) => "0",
+        (true, false) => "1",
+        (false, true) => " 0",
+        (true, true) => " 1",
     }
 }

@@ -194,34 +194,6 @@ impl<'a, B: BitBlock> Nonzero<'a, B> {
         block
     }
 
-    // The next block, with its index, or the end.
-    #[inline(always)]
-    fn pull(&mut self) -> Option<(usize, B)>
-        ensures steps { PullsNonzero self.old result self.new }
-        ensures found { IfSome result (λ entry. (entry.0 < length self.old.blocks)
-            × B.is_block entry.1 × (0 < B.number entry.1)) }
-    {
-        let next = self.take_first();
-        if next.is_none() {
-            self.count_end();
-        }
-        next
-    }
-
-    // The last block, with its index, or the end.
-    #[inline]
-    fn pull_last(&mut self) -> Option<(usize, B)>
-        ensures steps { PullsLast self.old result self.new }
-        ensures found { IfSome result (λ entry. (entry.0 < length self.old.blocks)
-            × B.is_block entry.1 × (0 < B.number entry.1)) }
-    {
-        let last = self.take_last();
-        if last.is_none() {
-            self.steps.tick();
-        }
-        last
-    }
-
     // The next block, with its index, as a pull. Where there is none it counts no pull.
     #[inline(always)]
     fn take_first(&mut self) -> Option<(usize, B)>
@@ -302,7 +274,11 @@ impl<'a, B: BitBlock> Iterator for Nonzero<'a, B> {
     // Where it is a call, the walk that it is called on goes through memory.
     #[inline(always)]
     fn next(&mut self) -> Option<(usize, B)> {
-        self.pull()
+        let next = self.take_first();
+        if next.is_none() {
+            self.count_end();
+        }
+        next
     }
 }
 
@@ -315,7 +291,11 @@ impl<'a, B: BitBlock> DoubleEndedIterator for Nonzero<'a, B> {
     /// [`next`](Iterator::next) does, and counts no pull of the summary.
     #[inline]
     fn next_back(&mut self) -> Option<(usize, B)> {
-        self.pull_last()
+        let last = self.take_last();
+        if last.is_none() {
+            self.steps.tick();
+        }
+        last
     }
 }
 

@@ -112,7 +112,8 @@ fn changed_group<B: BitBlock, O: Operation>(
 }
 
 // Where the first group from `start` on begins of which a block changes, or else the end of the others. Groups are long
-// ones, and where no more of these are left, short ones.
+// ones, and where no more of these are left, short ones. A list that changes at its first blocks, as most do that change, is
+// not looked at beyond a short one.
 #[inline(always)]
 fn stay_until<B: BitBlock, O: Operation>(blocks: &[B], others: &[B], start: usize) -> usize
     requires can { CanMerge B.is_block blocks.now others.now }
@@ -124,6 +125,9 @@ fn stay_until<B: BitBlock, O: Operation>(blocks: &[B], others: &[B], start: usiz
         (other_at (map B.number others.now)) blocks.now → ⊥ }
 {
     let long = (others.len() - start) / LONG_GROUP;
+    if long > 0 && changed_group::<B, O>(blocks, others, start, 1, GROUP) == 0 {
+        return start;
+    }
     let stayed = changed_group::<B, O>(blocks, others, start, long, LONG_GROUP);
     let begin = start + stayed * LONG_GROUP;
     if stayed < long {
@@ -196,6 +200,9 @@ fn stay_until_except<B: BitBlock, O: Operation>(
         (except_at (map B.number others.now) (map B.number except.now)) blocks.now → ⊥ }
 {
     let long = end / LONG_GROUP;
+    if long > 0 && changed_group_except::<B, O>(blocks, others, except, 0, 1, GROUP) == 0 {
+        return 0;
+    }
     let stayed = changed_group_except::<B, O>(blocks, others, except, 0, long, LONG_GROUP);
     let begin = stayed * LONG_GROUP;
     if stayed < long {

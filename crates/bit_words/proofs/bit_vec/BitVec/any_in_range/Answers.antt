@@ -1,5 +1,5 @@
-use Rattle.std.proofs.Common.{◌≡◌, ◌↔◌, Bool, IsTrue, true, false, not, refl, sym, ap, map, arith}
-use Rattle.bit_words.{specs.{declared.block.merge.Merge.TheVariants.Intersection, BlockMerges.MergesSpanToFalse}, proofs.RangeQueryLemmas.{none_in_view, none_past}}
+use Rattle.std.proofs.Common.{◌≡◌, ◌↔◌, ◌*◌, Bool, IsTrue, true, false, not, refl, sym, ap, map, arith}
+use Rattle.bit_words.{specs.{declared.block.merge.Merge.TheVariants.Intersection, BlockMerges.MergesSpanToFalse}, proofs.{BitsLemmas.blocks_for-enough, RangeQueryLemmas.{none_in_view, none_past}}}
 use Rattle.bit_words.proofs.bit_vec.BitVec.any_in_range.Goals as goal
 
 pub returns-then-range-end : goal.returns-then-range-end
@@ -9,6 +9,16 @@ returns-then-range-end g c =
 was : (b : Bool) → not b ≡ false → b ≡ true
 was true _ = refl
 was false known = sym known
+
+pub span_merges_to_false-requires : goal.span_merges_to_false-requires
+span_merges_to_false-requires g c =
+    let whole = ap (λ n. n * g.B.BitBlock.width) c.self.invariant.packed.count in
+    rw c.deref.ensures.value (record {
+      some = c.if-range-end.false;
+      within = omega (arith, blocks_for-enough g.B.BitBlock.width c.self.inside.len g.met.B.BitBlock.width_law.positive, whole, c.min-end.ensures);
+      each = c.self.invariant.packed.each;
+      nothing = refl;
+    })
 
 pub returns : goal.returns
 returns g c =

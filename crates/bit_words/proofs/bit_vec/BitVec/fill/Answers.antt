@@ -1,5 +1,5 @@
-use Rattle.std.proofs.Common.{◌≡◌, ◌≤◌, ◌∙◌, sym, ap, replicate, length, arith}
-use Rattle.bit_words.{specs.Summary.short_count, proofs.{StorageLemmas.values_of-replicate, SummaryLemmas.{filled_summary, keeps_all, keeps_none}, VectorLemmas.length_from_view}}
+use Rattle.std.proofs.Common.{◌≡◌, ◌≤◌, ◌∙◌, refl, sym, ap, replicate, length, arith}
+use Rattle.bit_words.{specs.Summary.short_count, proofs.{SameCapacity.same_capacity, StorageLemmas.values_of-replicate, SummaryLemmas.{filled_summary, keeps_all, keeps_none}, VectorLemmas.length_from_view}}
 use Rattle.bit_words.proofs.bit_vec.BitVec.fill.Goals as goal
 
 pub returns-then-not-is_short-clause-values : goal.returns-then-not-is_short-clause-values
@@ -28,3 +28,12 @@ invariant_of-self-else-not-is_short g c =
     let kept = c.fill_bits.ensures.packed.count in
     let short : length c.self.inside.blocks.items ≤ short_count g.B.BitBlock.width = omega (arith, c.self.invariant.packed.count, c.is_short.ensures.short c.if-not-is_short.false) in
     record { packed = c.fill_bits.ensures.packed; summary = keeps_none _ _ _ _ _ (omega arith) (c.self.invariant.summary.short short) }
+
+pub returns-then-not-is_short-clause-capacity : goal.returns-then-not-is_short-clause-capacity
+returns-then-not-is_short-clause-capacity g c = same_capacity _ _ _ _ _ _ c.fill_bits.ensures.capacity c.fill_bits-then-not-is_short.ensures.capacity (ap (λ v. v.capacity) c.self.view_is)
+
+pub returns-else-not-is_short-clause-capacity : goal.returns-else-not-is_short-clause-capacity
+returns-else-not-is_short-clause-capacity g c = same_capacity _ _ _ _ _ _ c.fill_bits.ensures.capacity refl (ap (λ v. v.capacity) c.self.view_is)
+
+pub fill_bits-requires : goal.fill_bits-requires
+fill_bits-requires g c = record { packed = c.self.invariant.packed }

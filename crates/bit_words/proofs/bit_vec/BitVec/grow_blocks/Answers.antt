@@ -1,10 +1,7 @@
 use Rattle.std.proofs.{Common.{◌≡◌, ℕ, ◌+◌, ◌*◌, ◌^◌, ◌<◌, ◌++◌, ◌∙◌, All, List, get_or, length, map, vec_capacity, replicate, sym, ap, ap₂, arith}, lemmas.Result.err_from_is_err_and}
-use Rattle.bit_words.{specs.{Bits.capacity_of, Summary.shared_capacity}, proofs.{CapacityLemmas.stored_from_shared, GrowthLemmas.{Grows-blocks, Grows-kept}, StorageLemmas.values_of-append, SummaryLemmas.kept_use}}
-use Rattle.bit_words.proofs.{SummaryLemmas.{kept_with_zeros, same_use, use_of_added}, BitsLemmas.blocks_for-le, VectorLemmas.{length_from_view, numbers_below}, bit_vec.BitVec.grow_blocks.Given.Over}
+use Rattle.bit_words.{specs.{Bits.capacity_of, Summary.shared_capacity}, proofs.{CapacityLemmas.stored_from_shared, GrowthLemmas.{Grows-blocks, Grows-kept}, StorageLemmas.values_of-append}}
+use Rattle.bit_words.proofs.{BitsLemmas.blocks_for-le, GrownSummary.{IsGrown, grown_after, grown_before, grown_last}, VectorLemmas.length_from_view}
 use Rattle.bit_words.proofs.bit_vec.BitVec.grow_blocks.Goals as goal
-
-small : (g : Over) (xs : List g.row.B.Denot) → All g.B.BitBlock.is_block xs → (k : ℕ) → get_or (map g.B.BitBlock.number xs) k 0 < 2 ^ g.B.BitBlock.width
-small g xs each = numbers_below _ _ _ xs (λ x is. (g.met.B.BitBlock.number_law x is).0) each
 
 pub overflow_add-len : goal.overflow_add-len
 overflow_add-len g c = record { fits = omega (arith, length_from_view _ _ _ _ _ c.self.view_is, c.requires) }
@@ -27,12 +24,17 @@ pub append_to_summary-requires : goal.append_to_summary-requires
 append_to_summary-requires g c =
     let w = g.B.BitBlock.width in
     let pos = g.met.B.BitBlock.width_law.positive in
-    let n = c.self.inside.len in
-    let ms = map g.B.BitBlock.number c.self.inside.blocks.items in
-    let ns = map g.B.BitBlock.number c.append_bits.new.blocks.items in
     let own = c.self.invariant.packed in
     let new = c.append_bits.ensures.packed in
-    let kept = rw c.reserve_shared.ensures.items at c.append_bits.ensures.kept in
+    let law : (x : g.row.B.Denot) → g.B.BitBlock.is_block x → g.B.BitBlock.number x < 2 ^ w = λ x is. (g.met.B.BitBlock.number_law x is).0 in
+    let grown : IsGrown w c.self.inside.len (c.self.inside.len + c.args.n) c.args.bit g.B.BitBlock.number g.B.BitBlock.is_block c.self.inside.blocks.items c.append_bits.new.blocks.items = record {
+      own = own;
+      new = new;
+      kept = rw c.reserve_shared.ensures.items at c.append_bits.ensures.kept;
+      added = c.append_bits.ensures.added;
+    } in
+    let items = ap length c.reserve_shared.ensures.items in
+    let same : length c.self.inside.blocks.items ≡ c.len-old.result = omega (arith, c.deref.ensures.len, items) in
     let old : length c.deref.result.now ≡ c.len-old.result = omega (arith, c.deref.ensures.len) in
     let count : length c.append_bits.new.blocks.items ≡ c.block_count-count.result = omega (arith, new.count) in
     let stored = rw (c.deref.ensures.value, c.reserve_shared.ensures.items, ← count) at c.store_summary.ensures.long in
@@ -40,15 +42,11 @@ append_to_summary-requires g c =
       none = rw count c.store_summary.ensures.short;
       packed = rw (← old, count) (λ many. (c.store_summary.ensures.long many).packed);
       blocks = new.each;
-      longer = omega (arith, blocks_for-le w n (n + c.args.n) pos (omega arith), ap length c.reserve_shared.ensures.items, new.count, own.count);
+      longer = omega (arith, blocks_for-le w c.self.inside.len (c.self.inside.len + c.args.n) pos (omega arith), items, new.count, own.count);
       capacity = rw count (omega (arith, stored_from_shared w _ _ _ pos c.in_ok-reserve_shared.ensures.capacity.reserves.ok));
-      before = λ many k below. (stored many).digit k ∙ kept_use w n k ms ns pos (small g _ own.each k) (small g _ new.each k) kept (omega arith);
-      last = λ many none k _.
-          (stored many).digit k
-          ∙ same_use w ms ns k (small g _ own.each k) (small g _ new.each k) (λ j _.
-          sym (kept_with_zeros w n (n + c.args.n) (k * w + j) c.args.bit ms ns none kept own.tail.zero_tail c.append_bits.ensures.added new.tail.zero_tail));
-      after = λ k from inside.
-          use_of_added w n (n + c.args.n) k ns _ pos (small g _ new.each k) (omega arith) (omega (arith, inside, new.count)) c.append_bits.ensures.added new.tail.zero_tail;
+      before = λ many k below. (stored many).digit k ∙ grown_before _ _ _ _ _ _ _ _ pos law grown k (omega (arith, below, same));
+      last = λ many none k _. (stored many).digit k ∙ grown_last _ _ _ _ _ _ _ _ pos law grown none k;
+      after = λ k from inside. grown_after _ _ _ _ _ _ _ _ pos law grown k (omega (arith, from, same)) inside;
     })
 
 pub returns : goal.returns

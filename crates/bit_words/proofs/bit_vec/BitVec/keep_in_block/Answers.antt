@@ -1,7 +1,7 @@
 use Rattle.std.proofs.lemmas.List.{length-map}
-use Rattle.std.proofs.Common.{◌<◌, length, map, arith}
+use Rattle.std.proofs.Common.{◌<◌, length, map, refl, ap, arith}
 use Rattle.bit_words.specs.Summary.{short_count}
-use Rattle.bit_words.proofs.{KeepLemmas.{KeptBlock, block_inside, kept_block, kept_packed, kept_summary, kept_values}, SummaryLemmas.{keeps_all, keeps_none}, SummarySpanLemmas.in_chunks, VectorLemmas.length_from_view}
+use Rattle.bit_words.proofs.{KeepLemmas.{KeptBlock, block_inside, kept_block, kept_packed, kept_summary, kept_values}, SameCapacity.same_capacity, SummaryLemmas.{keeps_all, keeps_none}, SummarySpanLemmas.in_chunks, VectorLemmas.length_from_view}
 use Rattle.bit_words.proofs.bit_vec.BitVec.keep_in_block.{Given.Over, Goals.{After-put_block, After-self, Else-is_short}}
 use Rattle.bit_words.proofs.bit_vec.BitVec.keep_in_block.Goals as goal
 
@@ -22,6 +22,18 @@ many g c = let long = c.is_short.ensures.long c.if-is_short.false in omega (arit
 pub block_at-requires-clause-in_bounds : goal.block_at-requires-clause-in_bounds
 block_at-requires-clause-in_bounds g c = rw c.deref.ensures.value (inside g (goal.at.block_at-requires-clause-in_bounds g c).After-self)
 
+pub block_at-requires-clause-each : goal.block_at-requires-clause-each
+block_at-requires-clause-each g c = rw c.deref.ensures.value c.self.invariant.packed.each
+
+pub block_and-block-requires : goal.block_and-block-requires
+block_and-block-requires g c = record { left = c.block_at.ensures.of_block; right = c.requires.of_block }
+
+pub put_block-requires-clause-each : goal.put_block-requires-clause-each
+put_block-requires-clause-each g c = c.self.invariant.packed.each
+
+pub put_block-requires-clause-of_block : goal.put_block-requires-clause-of_block
+put_block-requires-clause-of_block g c = c.block_and-block.ensures.of_block
+
 pub put_block-requires-clause-in_bounds : goal.put_block-requires-clause-in_bounds
 put_block-requires-clause-in_bounds g c = let here = inside g (goal.at.put_block-requires-clause-in_bounds g c).After-self in omega (arith, here)
 
@@ -37,6 +49,15 @@ invariant_of-self g c =
 pub returns-then-is_short-clause-values : goal.returns-then-is_short-clause-values
 returns-then-is_short-clause-values g c =
     kept_values _ _ _ _ _ _ _ _ g.met.B.BitBlock.width_law.positive c.self.view_is c.self.invariant.packed.tail (kept g (goal.at.returns-then-is_short-clause-values g c).After-put_block (inside g (goal.at.returns-then-is_short-clause-values g c).After-self))
+
+pub returns-then-is_short-clause-capacity : goal.returns-then-is_short-clause-capacity
+returns-then-is_short-clause-capacity g c = same_capacity _ _ _ _ _ _ c.put_block.ensures.in_place.capacity refl (ap (λ v. v.capacity) c.self.view_is)
+
+pub update_summary_at-requires-clause-each : goal.update_summary_at-requires-clause-each
+update_summary_at-requires-clause-each g c = (c.self.invariant.summary.long (many g (goal.at.update_summary_at-requires-clause-each g c).Else-is_short)).packed.each
+
+pub update_summary_at-requires-clause-blocks : goal.update_summary_at-requires-clause-blocks
+update_summary_at-requires-clause-blocks g c = rw c.deref-2.ensures.value c.put_block.ensures.in_place.each
 
 pub update_summary_at-requires-clause-in_bounds : goal.update_summary_at-requires-clause-in_bounds
 update_summary_at-requires-clause-in_bounds g c =
@@ -64,3 +85,6 @@ invariant_of-self-2 g c =
 pub returns-clause-values : goal.returns-clause-values
 returns-clause-values g c =
     kept_values _ _ _ _ _ _ _ _ g.met.B.BitBlock.width_law.positive c.self.view_is c.self.invariant.packed.tail (kept g (goal.at.returns-clause-values g c).After-put_block (inside g (goal.at.returns-clause-values g c).After-self))
+
+pub returns-clause-capacity : goal.returns-clause-capacity
+returns-clause-capacity g c = same_capacity _ _ _ _ _ _ c.put_block.ensures.in_place.capacity c.update_summary_at.ensures.in_place.capacity (ap (λ v. v.capacity) c.self.view_is)

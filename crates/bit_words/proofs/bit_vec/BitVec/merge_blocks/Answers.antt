@@ -1,4 +1,4 @@
-use Rattle.std.proofs.{Common.{◌≡◌, ℕ, ◌∙◌, ap₂, ◌++◌, map, drop, length, take, arith}, lemmas.List.take_at}
+use Rattle.std.proofs.{Common.{◌≡◌, ℕ, ◌∙◌, ap, ap₂, ◌++◌, map, drop, length, take, arith}, lemmas.List.take_at}
 use Rattle.bit_words.{specs.{Merges.{merge_of, merge_of_values}, Storage.value_at}, proofs.{BitsLemmas.blocks_for-le, MergeLemmas.{merged_lists, merged_zero_tail, merges_of_values}, NotedMergeLemmas.stay_none, VectorLemmas.length_from_view}}
 use Rattle.bit_words.proofs.{VectorLemmas.no_longer_from_views, bit_vec.BitVec.merge_blocks.{Given.Over, Goals.After-merge_chosen}}
 use Rattle.bit_words.proofs.bit_vec.BitVec.merge_blocks.Goals as goal
@@ -11,6 +11,12 @@ merge_chosen-requires-clause-can g c =
       each = c.self.invariant.packed.each;
       others = c.other.invariant.packed.each;
     })
+
+pub merge_chosen-requires-clause-summary : goal.merge_chosen-requires-clause-summary
+merge_chosen-requires-clause-summary g c = rw (c.as_mut_slice.ensures.value, c.as_mut_slice-2.ensures.value) c.self.invariant.summary
+
+pub merge_chosen-requires-clause-other_summary : goal.merge_chosen-requires-clause-other_summary
+merge_chosen-requires-clause-other_summary g c = rw (c.deref.ensures.value, c.deref-2.ensures.value) c.other.invariant.summary
 
 -- what each value became
 each : (g : Over) (c : After-merge_chosen g) → (i : ℕ) → value_at g.B.BitBlock.width (map g.B.BitBlock.number c.merge_chosen.new.blocks) i ≡ merge_of_values c.args.merge (value_at g.B.BitBlock.width (map g.B.BitBlock.number c.self.inside.blocks.items) i) (value_at g.B.BitBlock.width (map g.B.BitBlock.number c.other.inside.blocks.items) i)
@@ -54,3 +60,6 @@ returns-clause-steps g c = rw (length_from_view _ _ _ _ _ c.self.view_is) (omega
 -- no block is passed over
 pub merge_chosen-requires-clause-stay : goal.merge_chosen-requires-clause-stay
 merge_chosen-requires-clause-stay g c = stay_none _ _ _ 0 0 _ _ (omega arith)
+
+pub returns-clause-capacity : goal.returns-clause-capacity
+returns-clause-capacity g c = ap (λ v. v.capacity) c.self.view_is

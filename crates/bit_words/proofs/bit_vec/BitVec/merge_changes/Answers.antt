@@ -12,6 +12,12 @@ merge_and_note-requires-clause-can g c =
       others = c.other.invariant.packed.each;
     })
 
+pub merge_and_note-requires-clause-summary : goal.merge_and_note-requires-clause-summary
+merge_and_note-requires-clause-summary g c = rw (c.as_mut_slice.ensures.value, c.as_mut_slice-2.ensures.value) c.self.invariant.summary
+
+pub merge_and_note-requires-clause-other_summary : goal.merge_and_note-requires-clause-other_summary
+merge_and_note-requires-clause-other_summary g c = rw (c.deref.ensures.value, c.deref-2.ensures.value) c.other.invariant.summary
+
 -- what each value became
 each : (g : Over) (c : After-merge_and_note g) → (i : ℕ) → value_at g.B.BitBlock.width (map g.B.BitBlock.number c.merge_and_note.new.blocks) i ≡ merge_of_values c.args.merge (value_at g.B.BitBlock.width (map g.B.BitBlock.number c.self.inside.blocks.items) i) (value_at g.B.BitBlock.width (map g.B.BitBlock.number c.other.inside.blocks.items) i)
 each g c =
@@ -65,3 +71,6 @@ returns-clause-kept g c =
 
 pub returns-clause-steps : goal.returns-clause-steps
 returns-clause-steps g c = rw (length_from_view _ _ _ _ _ c.self.view_is) (omega (arith, c.self.invariant.packed.count))
+
+pub returns-clause-capacity : goal.returns-clause-capacity
+returns-clause-capacity g c = ap (λ v. v.capacity) c.self.view_is

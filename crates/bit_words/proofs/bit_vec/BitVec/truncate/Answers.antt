@@ -1,5 +1,5 @@
-use Rattle.std.proofs.Common.{◌∙◌, sym, ap, map, take, take_all, arith}
-use Rattle.bit_words.proofs.{StorageLemmas.values_of-take, SummaryLemmas.kept_use, BitsLemmas.blocks_for-le, VectorLemmas.{length_from_view, numbers_below}}
+use Rattle.std.proofs.Common.{◌≡◌, ◌∙◌, sym, ap, length, map, take, take_all, arith}
+use Rattle.bit_words.proofs.{SameCapacity.same_capacity, StorageLemmas.values_of-take, SummaryLemmas.kept_use, BitsLemmas.blocks_for-le, VectorLemmas.{length_from_view, numbers_below}}
 use Rattle.bit_words.proofs.bit_vec.BitVec.truncate.Goals as goal
 
 pub returns-then-n-self-clause-values : goal.returns-then-n-self-clause-values
@@ -9,6 +9,23 @@ returns-then-n-self-clause-values g c =
 pub returns-clause-values : goal.returns-clause-values
 returns-clause-values g c =
     values_of-take _ _ _ _ _ (omega arith) c.truncate_bits.ensures.kept ∙ ap (λ v. take c.args.n v.values) c.self.view_is
+
+pub truncate_bits-requires : goal.truncate_bits-requires
+truncate_bits-requires g c = record { packed = c.self.invariant.packed; shorter = omega arith }
+
+pub cut_summary-requires-clause-packed : goal.cut_summary-requires-clause-packed
+cut_summary-requires-clause-packed g c = λ long.
+    let count : length c.self.inside.blocks.items ≡ c.len-count.result = omega arith in
+    rw (← count) (c.self.invariant.summary.long (omega (arith, long))).packed
+
+pub cut_summary-requires-clause-blocks : goal.cut_summary-requires-clause-blocks
+cut_summary-requires-clause-blocks g c = rw c.deref.ensures.value c.truncate_bits.ensures.packed.each
+
+pub invariant_of-self : goal.invariant_of-self
+invariant_of-self g c = record { packed = c.truncate_bits.ensures.packed; summary = rw c.deref.ensures.value at c.cut_summary.ensures.summary }
+
+pub returns-clause-capacity : goal.returns-clause-capacity
+returns-clause-capacity g c = same_capacity _ _ _ _ _ _ c.truncate_bits.ensures.capacity c.cut_summary.ensures.capacity (ap (λ v. v.capacity) c.self.view_is)
 
 pub cut_summary-requires-clause-shorter : goal.cut_summary-requires-clause-shorter
 cut_summary-requires-clause-shorter g c =

@@ -27,6 +27,15 @@ unite_and_note-requires-clause-can g c =
       others = c.other.invariant.packed.each;
     })
 
+pub unite_and_note-requires-clause-except : goal.unite_and_note-requires-clause-except
+unite_and_note-requires-clause-except g c = rw c.deref-3.ensures.value c.except.invariant.packed.each
+
+pub unite_and_note-requires-clause-summary : goal.unite_and_note-requires-clause-summary
+unite_and_note-requires-clause-summary g c = rw (c.as_mut_slice.ensures.value, c.as_mut_slice-2.ensures.value) c.self.invariant.summary
+
+pub unite_and_note-requires-clause-other_summary : goal.unite_and_note-requires-clause-other_summary
+unite_and_note-requires-clause-other_summary g c = rw (c.deref.ensures.value, c.deref-2.ensures.value) c.other.invariant.summary
+
 pub invariant_of-self : goal.invariant_of-self
 invariant_of-self g c =
     let ys = c.unite_and_note.new.blocks in
@@ -66,3 +75,6 @@ returns-clause-kept g c =
 
 pub returns-clause-steps : goal.returns-clause-steps
 returns-clause-steps g c = rw (length_from_view _ _ _ _ _ c.self.view_is) (omega (arith, c.self.invariant.packed.count))
+
+pub returns-clause-capacity : goal.returns-clause-capacity
+returns-clause-capacity g c = ap (λ v. v.capacity) c.self.view_is

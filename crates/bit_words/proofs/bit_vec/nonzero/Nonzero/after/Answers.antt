@@ -1,5 +1,5 @@
-use Rattle.std.proofs.Common.{length, sym, ap, ◌∙◌, arith}
-use Rattle.bit_words.{specs.Bits.blocks_for, proofs.{GrowthLemmas.stored_within_capacity, SummaryLemmas.packed_blocks, VectorLemmas.length_from_view}}
+use Rattle.std.proofs.Common.{◌+◌, ◌-◌, drop, length, take_all, sym, ap, ◌∙◌, arith}
+use Rattle.bit_words.{specs.{Bits.blocks_for, Nonzero.nonzero_from, Pending.left_from}, proofs.{GrowthLemmas.stored_within_capacity, SummaryLemmas.packed_blocks, VectorLemmas.length_from_view}}
 use Rattle.bit_words.proofs.bit_vec.nonzero.Nonzero.after.Goals as goal
 
 pub returns-clause-blocks : goal.returns-clause-blocks
@@ -13,3 +13,32 @@ pub after-pending-requires-clause-inside : goal.after-pending-requires-clause-in
 after-pending-requires-clause-inside g c =
     let count = ap length c.as_slice-blocks.ensures.value ∙ c.bits.invariant.packed.count ∙ ap (blocks_for g.B.BitBlock.width) (sym (length_from_view _ _ _ _ _ c.bits.view_is)) in
     omega (arith, count, c.requires.inside)
+
+pub returns-clause-each : goal.returns-clause-each
+returns-clause-each g c = rw c.as_slice-blocks.ensures.value c.bits.invariant.packed.each
+
+pub returns-clause-start : goal.returns-clause-start
+returns-clause-start g c =
+    let w = g.B.BitBlock.width in
+    let number = g.B.BitBlock.number in
+    let next = c.args.first + 1 in
+    let xs = c.as_slice-blocks.result.now in
+    let made = c.after-pending.ensures in
+    record {
+      left = made.left ∙ ap (λ n. left_from number next n xs) made.end ∙ ap (λ ys. nonzero_from number next (drop next ys)) (take_all (length xs) xs (omega arith));
+      pulls = omega (arith, c.tick.ensures, c.new-steps.ensures);
+      summary_pulls = made.pulls;
+      summary_left = ap (λ n. blocks_for w (n - (c.after-pending.result.index + w))) made.end ∙ made.count;
+    }
+
+pub after-pending-requires-clause-each : goal.after-pending-requires-clause-each
+after-pending-requires-clause-each g c = rw c.as_slice-blocks.ensures.value c.bits.invariant.packed.each
+
+pub after-pending-requires-clause-fits : goal.after-pending-requires-clause-fits
+after-pending-requires-clause-fits g c = omega (arith, c.as_slice-blocks.type_inv.0)
+
+pub after-pending-requires-clause-summary : goal.after-pending-requires-clause-summary
+after-pending-requires-clause-summary g c = rw (c.as_slice-blocks.ensures.value, c.deref.ensures.value) c.bits.invariant.summary
+
+pub invariant_of-result : goal.invariant_of-result
+invariant_of-result g c = c.after-pending.ensures.walk

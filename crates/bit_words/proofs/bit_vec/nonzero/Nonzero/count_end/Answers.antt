@@ -23,3 +23,16 @@ invariant_of-self g c =
       hand = c.self.invariant.hand;
       stored = subst (IsStoredFrom w number is_block start end xs) (empty ∙ sym (none_past_end it.pending.summary.left c.next-end.new.self.left c.next-end.result c.next-end.ensures.steps.item empty)) c.self.invariant.stored;
     }
+
+pub returns : goal.returns
+returns g c =
+    let is = c.self.view_is in
+    let pulls = ap (λ v. v.pulls) is in
+    let summary_pulls = ap (λ v. v.summary_pulls) is in
+    record {
+      blocks = ap (λ v. v.blocks) is;
+      left = ap (λ v. v.left) is ∙ c.requires.left;
+      pulls = omega (arith, c.tick.ensures, pulls);
+      summary_pulls = omega (arith, c.next-end.ensures.steps.counted, summary_pulls);
+      summary_left = ap (λ v. v.summary_left) is ∙ c.requires.summary;
+    }
