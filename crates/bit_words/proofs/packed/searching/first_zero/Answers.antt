@@ -1,4 +1,4 @@
-use Rattle.std.proofs.Common.{◌≡◌, ◌+◌, ◌*◌, ◌≤◌, not, map, ap, arith, div-add-mod', div-lt_iff_lt-mul, mod-lt, mul-le-mul_right}
+use Rattle.std.proofs.Common.{◌≡◌, ◌+◌, ◌*◌, ◌≤◌, not, map, ap, arith, div-add-mod', mod-lt, mul-le-mul_right}
 use Rattle.bit_words.{specs.Storage.value_at, proofs.{BitsLemmas.{block_begins, blocks_for-above, blocks_for-enough}, SearchLemmas.{first_past_none, none_more, zero_within}}}
 use Rattle.bit_words.proofs.packed.searching.first_zero.Goals as goal
 

@@ -1,4 +1,4 @@
-use Rattle.std.proofs.Common.{◌≡◌, ◌≤◌, min, length, length-take, ap, ◌∙◌, arith}
+use Rattle.std.proofs.Common.{length, length-take, ap, arith}
 use Rattle.bit_words.proofs.SearchLemmas.{last_used_is, none_used_past}
 use Rattle.bit_words.proofs.packed.searching.last_used.Goals as goal
 

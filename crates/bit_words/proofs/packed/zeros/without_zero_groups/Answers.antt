@@ -1,4 +1,4 @@
-use Rattle.std.proofs.{Common.{◌≡◌, ◌+◌, ◌-◌, ◌*◌, ◌<◌, ◌≤◌, length, ⊎_elim, arith}, lemmas.{Bool.cases_lt, List.{get_or_past, length-map}}}
+use Rattle.std.proofs.{Common.{◌-◌, ◌*◌, ◌<◌, ◌≤◌, length, ⊎_elim, arith}, lemmas.{Bool.cases_lt, List.{get_or_past, length-map}}}
 use Rattle.bit_words.proofs.packed.zeros.without_zero_groups.Goals as goal
 
 pub loop-group-init : goal.loop-group-init

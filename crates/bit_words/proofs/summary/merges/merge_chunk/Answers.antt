@@ -1,4 +1,4 @@
-use Rattle.std.proofs.Common.{arith, ◌*◌, ap}
+use Rattle.std.proofs.Common.{◌≡◌, ◌+◌, ◌*◌, ◌/◌, ap, arith}
 use Rattle.bit_words.proofs.summary.merges.merge_chunk.Goals as goal
 
 pub overflow_mul-start : goal.overflow_mul-start
@@ -15,3 +15,23 @@ merge_group-requires-clause-in_others g c = let begin = ap (λ x. c.args.q * x) 
 
 pub merge_group-requires-clause-within : goal.merge_group-requires-clause-within
 merge_group-requires-clause-within g c = omega (arith, c.bits-width.ensures)
+
+pub returns-then-width-eq0-clause-has : goal.returns-then-width-eq0-clause-has
+returns-then-width-eq0-clause-has g c =
+    let bits = c.bits-width.result in
+    let at : c.args.q * bits ≡ c.args.q * g.B.BitBlock.width = ap (λ b. c.args.q * b) c.bits-width.ensures in
+    let end : c.args.q * bits + bits / 32 * 32 ≡ (c.args.q + 1) * g.B.BitBlock.width = omega (arith, at, c.bits-width.ensures, c.if-width-eq0.true) in
+    rw (end, at) at c.merge_groups.ensures.has
+
+pub returns-else-width-eq0-clause-has : goal.returns-else-width-eq0-clause-has
+returns-else-width-eq0-clause-has g c =
+    let bits = c.bits-width.result in
+    let at : c.args.q * bits ≡ c.args.q * g.B.BitBlock.width = ap (λ b. c.args.q * b) c.bits-width.ensures in
+    let end : c.args.q * bits + bits ≡ (c.args.q + 1) * g.B.BitBlock.width = omega (arith, at, c.bits-width.ensures) in
+    rw (end, at) at c.merge_group.ensures.has
+
+pub returns-then-width-eq0-clause-steps : goal.returns-then-width-eq0-clause-steps
+returns-then-width-eq0-clause-steps g c = omega (arith, c.bits-width.ensures, c.if-width-eq0.true)
+
+pub returns-else-width-eq0-clause-steps : goal.returns-else-width-eq0-clause-steps
+returns-else-width-eq0-clause-steps g c = omega (arith, c.bits-width.ensures)
