@@ -1,5 +1,5 @@
-use Rattle.std.proofs.{Common.{◌≡◌, ◌+◌, ◌*◌, ◌-◌, ◌≤◌, inl, inr, length, refl, sym, ap, ◌∙◌, mul-le-mul_right, arith, rules}, lemmas.Bool.Decides.nat_tests}
-use Rattle.bit_words.proofs.WalkLemmas.{pulled_last_end}
+use Rattle.std.proofs.{Common.{◌*◌, inl, inr, refl, sym, ap, ◌∙◌, arith, rules}, lemmas.Bool.Decides.nat_tests}
+use Rattle.bit_words.proofs.WalkLemmas.{index_fits, pulled_last_end}
 use Rattle.bit_words.proofs.bit_vec.nonzero.Nonzero.refill_back.Goals as goal
 
 pub is_nonzero-requires : goal.is_nonzero-requires
@@ -20,10 +20,7 @@ returns-then-is_nonzero g c = record {
 }
 
 pub overflow_mul-back_index : goal.overflow_mul-back_index
-overflow_mul-back_index g c =
-    let before = mul-le-mul_right g.B.BitBlock.width (let e : c.in-Some.k ≤ length c.args.self.now.blocks - 1 = omega (arith, c.in-Some.ensures.found.0) in e) in
-    let product = ap (λ b. c.in-Some.k * b) c.bits.ensures in
-    record { fits = omega (arith, before, product, c.requires.fits) }
+overflow_mul-back_index g c = record { fits = omega (arith, index_fits _ _ _ _ c.bits.ensures c.in-Some.ensures.found.0 c.requires.fits) }
 
 pub returns-in-Some-clause-refills : goal.returns-in-Some-clause-refills
 returns-in-Some-clause-refills g c = inr (inl (record {
