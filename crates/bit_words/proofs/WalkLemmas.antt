@@ -1,9 +1,16 @@
--- What a call that takes no end as a pull says of one that counts it.
-use Rattle.std.proofs.{Common.{◌≡◌, ℕ, ◌+◌, ◌≤◌, true, false, [], Option, None, Some, sym, ◌∙◌, arith}, lemmas.Bool.true≢false}
+-- What the calls of a walk over nonzero blocks cite: what a call that takes no end as a pull says of one that counts it,
+-- and that indexes fit.
+use Rattle.std.proofs.{Common.{◌≡◌, ℕ, ◌+◌, ◌-◌, ◌*◌, ◌^◌, ◌<◌, ◌≤◌, true, false, [], Option, None, Some, sym, ◌∙◌, mul-le-mul_right, arith}, lemmas.Bool.true≢false}
 use Rattle.std.specs.Option.{is_some}
 use Rattle.bit_words.specs.Nonzero.{Nonzeros, PullsLast, PullsNonzero, TakesFirst, TakesLast}
 
--- ---- at the front
+-- the index of the first bit of a block that there is
+pub index_fits : (k n w b : ℕ) → b ≡ w → k < n → (n - 1) * w < 2 ^ 64 → k * b < 2 ^ 64
+index_fits k n w b is within fits =
+    let before = mul-le-mul_right w (let e : k ≤ n - 1 = omega (arith, within) in e) in
+    rw is (omega (arith, before, fits))
+
+-- ---- a pull at the front
 
 module _ {X : Type 0} (s t : Nonzeros X) where
   pub pulled_some : (r : Option (ℕ × X)) → is_some r ≡ true → TakesFirst s r t → PullsNonzero s r t
@@ -28,7 +35,7 @@ module _ {X : Type 0} (s t u : Nonzeros X) where
   pulled_none None none = pulled_end
   pulled_none (Some entry) none = absurd (true≢false none)
 
--- ---- at the back
+-- ---- a pull at the back
 
 module _ {X : Type 0} (s t : Nonzeros X) where
   pub pulled_last_some : (r : Option (ℕ × X)) → is_some r ≡ true → TakesLast s r t → PullsLast s r t

@@ -1,4 +1,4 @@
-use Rattle.std.proofs.{Common.{◌≡◌, ℕ, ◌+◌, ◌*◌, ◌^◌, ◌<◌, ◌++◌, ◌∙◌, All, List, get_or, length, map, vec_capacity, replicate, sym, ap, ap₂, arith}, lemmas.Result.err_from_is_err_and}
+use Rattle.std.proofs.{Common.{◌≡◌, ◌+◌, ◌^◌, ◌<◌, ◌++◌, ◌∙◌, length, vec_capacity, replicate, ap, ap₂, arith}, lemmas.Result.err_from_is_err_and}
 use Rattle.bit_words.{specs.{Bits.capacity_of, Summary.shared_capacity}, proofs.{CapacityLemmas.stored_from_shared, GrowthLemmas.{Grows-blocks, Grows-kept}, StorageLemmas.values_of-append}}
 use Rattle.bit_words.proofs.{BitsLemmas.blocks_for-le, GrownSummary.{IsGrown, grown_after, grown_before, grown_last}, VectorLemmas.length_from_view}
 use Rattle.bit_words.proofs.bit_vec.BitVec.grow_blocks.Goals as goal

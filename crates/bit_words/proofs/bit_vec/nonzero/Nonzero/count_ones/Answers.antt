@@ -1,7 +1,14 @@
 use Rattle.std.proofs.{Common.{◌≡◌, ◌+◌, take, drop, length-take, sym, ap, ◌∙◌, arith}, lemmas.{Bool.Decides.nat_tests, List.{length-drop, Elements.{All-take, All-drop}}}}
 use Rattle.bit_words.{specs.Nonzero.{ones_in, ones_left}, proofs.{Masks.is_one-bit, PendingOnes.{enough_rest, left-ones_split, left-ones_past, left-ones_rest, tells_rest}, bit_vec.nonzero.Nonzero.count_ones.Given.Over}}
-use Rattle.bit_words.proofs.bit_vec.nonzero.Nonzero.count_ones.Goals.{After-ones_of}
+use Rattle.bit_words.proofs.bit_vec.nonzero.Nonzero.count_ones.Goals.{After-first_blocks, After-ones_of}
 use Rattle.bit_words.proofs.bit_vec.nonzero.Nonzero.count_ones.Goals as goal
+
+-- the blocks past the one of the summary in hand, and those of it
+rest_is : (g : Over) (c : After-first_blocks g) → c.first_blocks.result.1.now ≡ drop g.B.BitBlock.width (drop c.self.inside.pending.index (take c.self.inside.pending.end c.self.inside.blocks.now))
+rest_is g c = c.first_blocks.ensures.rest ∙ ap (drop g.B.BitBlock.width) (c.split_at-2.ensures.back ∙ ap (drop c.self.inside.pending.index) c.split_at.ensures.front)
+
+chunk_is : (g : Over) (c : After-first_blocks g) → c.first_blocks.result.0.now ≡ take g.B.BitBlock.width (drop c.self.inside.pending.index (take c.self.inside.pending.end c.self.inside.blocks.now))
+chunk_is g c = c.first_blocks.ensures.first ∙ ap (take g.B.BitBlock.width) (c.split_at-2.ensures.back ∙ ap (drop c.self.inside.pending.index) c.split_at.ensures.front)
 
 pub ones_by_summary-ones-requires : goal.ones_by_summary-ones-requires
 ones_by_summary-ones-requires g c =
@@ -14,7 +21,7 @@ ones_by_summary-ones-requires g c =
     let ys = take end it.blocks.now in
     let left = ap (λ walk. ones_left number walk.left) c.self.view_is in
     let hand = c.self.invariant.hand in
-    rw (c.as_slice.ensures, c.first_blocks.ensures.rest ∙ ap (drop g.B.BitBlock.width) (c.split_at-2.ensures.back ∙ ap (drop c.self.inside.pending.index) c.split_at.ensures.front)) (record {
+    rw (c.as_slice.ensures, rest_is g (goal.at.ones_by_summary-ones-requires g c).After-first_blocks) (record {
       each = All-drop is_block w (drop at ys) (All-drop is_block at ys (All-take is_block end it.blocks.now hand.each));
       summary = c.self.invariant.stored.each;
       enough = enough_rest w number is_block at end it.blocks.now it.pending.summary.left hand.ends c.self.invariant.stored;
@@ -28,7 +35,7 @@ returns-then-not-is_nonzero g c =
     let it = c.self.inside in
     let used_up : number it.pending.bits ≡ 0 = grind (arith, nat_tests, c.is_nonzero.ensures, c.if-not-is_nonzero.true) in
     c.ones_by_summary-ones.ensures
-    ∙ ap (ones_in number) (c.first_blocks.ensures.rest ∙ ap (drop g.B.BitBlock.width) (c.split_at-2.ensures.back ∙ ap (drop c.self.inside.pending.index) c.split_at.ensures.front))
+    ∙ ap (ones_in number) (rest_is g (goal.at.returns-then-not-is_nonzero g c).After-first_blocks)
     ∙ sym (left-ones_past g.B.BitBlock.width number g.B.BitBlock.is_block it.pending.index (number it.pending.bits) (take it.pending.end it.blocks.now) used_up)
     ∙ ap (λ walk. ones_left number walk.left) c.self.view_is
 
@@ -39,7 +46,7 @@ ones_of-requires g c =
     let ys = take c.self.inside.pending.end c.self.inside.blocks.now in
     let lowest = c.take_lowest_one.ensures in
     let all = left-ones_split g.B.BitBlock.width g.B.BitBlock.number is_block at c.take_lowest_one.result _ _ _ lowest.lowest lowest.within (ap (λ walk. walk.left) c.self.view_is) in
-    rw (c.split_at-3.ensures.back, c.first_blocks.ensures.first ∙ ap (take g.B.BitBlock.width) (c.split_at-2.ensures.back ∙ ap (drop c.self.inside.pending.index) c.split_at.ensures.front)) (record {
+    rw (c.split_at-3.ensures.back, chunk_is g (goal.at.ones_of-requires g c).After-first_blocks) (record {
       each = All-drop is_block c.take_lowest_one.result _ (All-take is_block g.B.BitBlock.width (drop at ys) (All-drop is_block at ys (All-take is_block c.self.inside.pending.end c.self.inside.blocks.now c.self.invariant.hand.each)));
       fits = omega (arith, all, c.requires.fits);
     })
@@ -79,4 +86,4 @@ split_at-requires-3 g c =
     let lowest = c.take_lowest_one.ensures in
     let ys = take it.pending.end it.blocks.now in
     let inside = c.self.invariant.hand.inside i lowest.within (is_one-bit 1 (g.B.BitBlock.number it.pending.bits) i lowest.lowest.one) in
-    rw (c.first_blocks.ensures.first ∙ ap (take g.B.BitBlock.width) (c.split_at-2.ensures.back ∙ ap (drop c.self.inside.pending.index) c.split_at.ensures.front)) (omega (arith, inside, c.self.invariant.hand.ends, lowest.within, length-take g.B.BitBlock.width (drop it.pending.index ys), length-drop it.pending.index ys, length-take it.pending.end it.blocks.now))
+    rw (chunk_is g (goal.at.split_at-requires-3 g c).After-first_blocks) (omega (arith, inside, c.self.invariant.hand.ends, lowest.within, length-take g.B.BitBlock.width (drop it.pending.index ys), length-drop it.pending.index ys, length-take it.pending.end it.blocks.now))

@@ -1,4 +1,4 @@
-use Rattle.std.proofs.Common.{◌≡◌, ap, arith}
+use Rattle.std.proofs.Common.{ap, arith}
 use Rattle.bit_words.proofs.WalkLemmas.{pulled_last_none, pulled_last_some}
 use Rattle.bit_words.proofs.bit_vec.nonzero.NonzeroDoubleEndedIterator.next_back.Goals as goal
 

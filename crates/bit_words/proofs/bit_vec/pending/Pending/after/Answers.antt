@@ -19,8 +19,13 @@ stored g c =
     ∙ ap (λ n. drop n summary) (c.min.ensures ∙ ap (λ n. min (c.args.first / n) (length summary)) c.bits.ensures)
     ∙ drop_min q summary)
 
-pub pull_used-used-requires-clause-stored : goal.pull_used-used-requires-clause-stored
-pull_used-used-requires-clause-stored g c = rw (c.bits.ensures, c.bits-2.ensures) (stored g (goal.at.pull_used-used-requires-clause-stored g c).After-over-rest)
+pub pull_used-used-requires : goal.pull_used-used-requires
+pull_used-used-requires g c = rw (c.bits.ensures, c.bits-2.ensures) (record {
+  in_bounds = omega (arith, div-add-mod' c.args.first g.B.BitBlock.width, c.requires.inside);
+  to = omega arith;
+  each = c.requires.each;
+  stored = stored g (goal.at.pull_used-used-requires g c).After-over-rest;
+})
 
 pub returns : goal.returns
 returns g c =
@@ -68,3 +73,6 @@ nonzero_rem-first g c = rw c.bits-3.ensures g.met.B.BitBlock.width_law.positive
 pub overflow_add-first : goal.overflow_add-first
 overflow_add-first g c =
     rw c.bits-3.ensures (record { fits = omega (arith, mod-lt c.args.first g.met.B.BitBlock.width_law.positive, g.met.B.BitBlock.width_law.fits) })
+
+pub clear_below-requires : goal.clear_below-requires
+clear_below-requires g c = c.pull_used-used.ensures.of_block
