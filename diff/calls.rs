@@ -108,6 +108,8 @@ calls! {
         IntoIter "into_iter" "s"
         IterFrom "iter_from" "snm"
         IterEnds "iter_ends" "snm"
+        Range "range" "snm"
+        Nth "nth" "snm"
         Missing "missing" "snm"
         Union "union" "stnm"
         Intersection "intersection" "stnm"

@@ -83,6 +83,7 @@ impl Draw {
             | Call::ContainsAnyInRange
             | Call::CountInRange
             | Call::Missing
+            | Call::Range
             | Call::BitsSetRange
             | Call::BitsClearRange
             | Call::BitsNegateRange

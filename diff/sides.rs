@@ -261,8 +261,11 @@ fn walk<S: Set>(set: &S, other: &S, line: &Line, answers: &mut Answers) {
     if line.call == Call::IntoIter {
         return answers.0.extend(set.elements());
     }
-    if line.call == Call::IterEnds {
-        return iter_ends(set, line, answers);
+    match line.call {
+        Call::IterEnds => return iter_ends(set, line, answers),
+        Call::Range => return range(set, line, answers),
+        Call::Nth => return nth(set, line, answers),
+        _ => {}
     }
     let mut walk = set.walk(line, other);
     let (steps, further) = match line.call {
@@ -294,11 +297,40 @@ fn take_of<T>(left: &mut std::collections::VecDeque<T>, front: bool) -> Option<T
 
 /// The elements from both ends. The bound is that of the blocks from the one in hand at the front to the one at the back.
 fn iter_ends<S: Set>(set: &S, line: &Line, answers: &mut Answers) {
-    let mut left = std::collections::VecDeque::from(set.elements());
-    let (mut front, mut back) = (0, set.bits_len().div_ceil(width()).max(1) - 1);
-    for step in 0..line.first {
+    take_ends(set.elements(), (0, last_block(set)), (line.first, line.second), answers);
+}
+
+fn last_block<S: Set>(set: &S) -> usize {
+    set.bits_len().div_ceil(width()).max(1) - 1
+}
+
+/// The elements of a range: at its ends, and then from both. The last block in hand is the one in which the range ends.
+fn range<S: Set>(set: &S, line: &Line, answers: &mut Answers) {
+    let among = |element: &usize| line.first <= *element && *element < line.second;
+    let elements: Vec<usize> = set.elements().into_iter().filter(among).collect();
+    for item in [elements.first(), elements.last(), elements.last()] {
+        answers.item(item.copied());
+    }
+    let last = last_block(set);
+    let front = (line.first / width()).min(last);
+    let back = (line.second.saturating_sub(1) / width()).max(front).min(last);
+    take_ends(elements, (front, back), (line.second % 64, line.first), answers);
+}
+
+fn nth<S: Set>(set: &S, line: &Line, answers: &mut Answers) {
+    let mut left = set.elements().into_iter();
+    answers.item(left.nth(line.first));
+    answers.item(left.next());
+    answers.item(left.nth(line.second));
+    answers.number(left.count());
+}
+
+fn take_ends(elements: Vec<usize>, blocks: (usize, usize), (steps, ends): (usize, usize), answers: &mut Answers) {
+    let mut left = std::collections::VecDeque::from(elements);
+    let (mut front, mut back) = blocks;
+    for step in 0..steps {
         answers.bounds((0, Some((1 + back - front) * width())));
-        let takes_front = is_front(line.second, step);
+        let takes_front = is_front(ends, step);
         let item = take_of(&mut left, takes_front);
         let (near, far) = if takes_front { (&mut front, back) } else { (&mut back, front) };
         *near = item.map_or(far, |item| item / width());

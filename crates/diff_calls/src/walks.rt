@@ -138,6 +138,31 @@ fn take_ends<B: BitBlock>(
     answers.number(walk.count())
 }
 
+// The walk over a range from both ends, and the elements at these.
+fn take_range<B: BitBlock>(
+    set: &BitSet<B>,
+    (start, end): (usize, usize),
+    answers: &mut Answers,
+) -> Result<(), AllocError> {
+    let walk = set.range(start..end);
+    answers.item(walk.clone().min())?;
+    answers.item(walk.clone().max())?;
+    answers.item(walk.clone().last())?;
+    take_ends(walk, (end % 64, start), answers)
+}
+
+// The item after so many, the next one, and the one after so many again; and how many are left then.
+fn pass_over<B: BitBlock>(
+    mut walk: Iter<'_, B>,
+    (passed, further): (usize, usize),
+    answers: &mut Answers,
+) -> Result<(), AllocError> {
+    answers.item(walk.nth(passed))?;
+    answers.item(walk.next())?;
+    answers.item(walk.nth(further))?;
+    answers.number(walk.count())
+}
+
 // All elements in a loop.
 fn loop_over<B: BitBlock>(set: &BitSet<B>, answers: &mut Answers) -> Result<(), AllocError> {
     for element in set {
@@ -162,6 +187,8 @@ pub(crate) fn walk_over<B: BitBlock>(
             answers,
         ),
         Walking::IterEnds => take_ends(set.iter(), steps, answers),
+        Walking::Range => take_range(set, steps, answers),
+        Walking::Nth => pass_over(set.iter(), steps, answers),
         Walking::Missing => take(
             set.missing(line.first..line.second),
             (line.second % 64, line.first % 64),

@@ -87,7 +87,7 @@ pub fn least<B: BitBlock>(set: &BitSet<B>) -> Option<usize>
     set.iter().min()
 }
 
-/// The last member: what `last_or` gives is the greatest by `laws::ends_of_sets`.
+/// The last member, which is the greatest.
 pub fn last<B: BitBlock>(set: &BitSet<B>) -> Option<usize>
     ensures { result ≡ last_or None (elements set.now.values) }
 {
