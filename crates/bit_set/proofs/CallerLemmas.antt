@@ -4,12 +4,19 @@ use Rattle.std.proofs.lemmas.{List.append-nil, List.Sums.{length-filter, count_b
 use Rattle.std.{proofs.lemmas.{Iterator.{YieldsList, YieldsList-from_range, Adapters.fact_from_collect, Consumers.{YieldsList-at, YieldsList-from_filter, YieldsList-from_shown}}, Result.IfOk-weaker}, specs.Prelude.IfOk}
 use Rattle.std.specs.{BTreeMap.{BTreeMap, get_by}, Fn.{Mut, CalledAt}, Iterator.{Drains, Adapters.{filter_source, filter_callee, filter_steps}}, List.range_with_len}
 use Rattle.bit_words.specs.Bits.{Bits}
-use Rattle.bit_set.{specs.{Members.IsSameSet, Order.order_of_sets, Sets.{bound_of, elements, has, put_all}, Walk.{Walk, Advances}}, proofs.{RangeLemmas.has-range_with_len, SetLemmas.{IsAscending-elements, has-filter, same_members}, TestLemmas.filter_none}}
+use Rattle.bit_set.{specs.{Members.IsSameSet, Order.order_of_sets, Sets.{bound_of, elements, has, put_all}, Walk.{Walk, Advances}}, proofs.{RangeLemmas.has-range_with_len, SetLemmas.{IsAscending-elements, has-filter, same_members}, TestLemmas.{filter_all, filter_none}}}
 
 module _ {S V E : Type 0} {steps : S → Option ℕ → S → Type 0} {s : S} {all : List ℕ} where
   -- what is made of a chain by `from_iter` is made of all that the chain gives
   pub made_of_chain : (Q : List ℕ → V → Type 0) (r : Result V E) → IfOk r (λ v. (items : List ℕ) × Drains steps s items × Q items v) → YieldsList steps (λ x. x) s all → IfOk r (λ v. Q all v)
   made_of_chain Q r made gives = fact_from_collect Q r (IfOk-weaker r _ _ (λ v m. (m.0, (m.1.1.0, m.1.1.1, λ _. (m.1.0, m.1.1.2)), m.2)) made) gives
+
+-- a set that `from_iter` makes of a chain has what the chain gives
+pub set_of_chain : {S E : Type 0} {steps : S → Option ℕ → S → Type 0} {s : S} {all : List ℕ} (r : Result Bits E)
+    → IfOk r (λ set. (items : List ℕ) × Drains steps s items × (elements set.values ≡ put_all [] items) × (length set.values ≡ bound_of items) × IsSameSet (elements set.values) items)
+    → YieldsList steps (λ x. x) s all → IfOk r (λ set. IsSameSet (elements set.values) all)
+set_of_chain r made gives =
+    made_of_chain (λ items set. IsSameSet (elements set.values) items) r (IfOk-weaker r _ _ (λ set m. (m.0, m.1, m.4)) made) gives
 
 -- the numbers of a range that pass a test
 has-passing : (test : ℕ → Bool) (a b m : ℕ) → has (filter test (range_with_len a (b - a))) m ≡ (nat_le a m && ltb m b && test m)
@@ -24,8 +31,7 @@ pub members-from_filtered_range : {E F : Type 0} {g : Mut F (Bor ℕ × Unit {0}
 members-from_filtered_range {g = g} {a = a} {b = b} {s = s} test r made source callee called =
     let numbers = range_with_len a (b - a) in
     let gives : YieldsList (filter_steps nat_range_steps g) (λ x. x) s (filter test numbers) = YieldsList-from_filter g test (YieldsList-at source (YieldsList-from_range a b (b - a) refl refl)) callee called in
-    IfOk-weaker r _ _ (λ set same m. same m ∙ has-passing test a b m)
-    (made_of_chain {steps = filter_steps nat_range_steps g} {s = s} (λ items set. IsSameSet (elements set.values) items) r (IfOk-weaker r _ _ (λ set m. (m.0, m.1, m.4)) made) gives)
+    IfOk-weaker r _ _ (λ set same m. same m ∙ has-passing test a b m) (set_of_chain {steps = filter_steps nat_range_steps g} {s = s} r made gives)
 
 -- a set that `from_iter` makes of `(0..n).filter(..)`
 pub members-from_filter : {E F : Type 0} {g : Mut F (Bor ℕ × Unit {0}) Bool} {f : F} {n : ℕ} {s : _} (test : ℕ → Bool) (r : Result Bits E)
@@ -55,4 +61,4 @@ take-first zero x xs pos = absurd (omega arith)
 take-first (suc n) x xs pos = let less : n ≡ suc n - 1 = omega arith in ap (λ k. x ∷ take k xs) less
 
 -- what loops over a set use, for `grind`: a crate names it once, at its root
-pub ruleset set_steps = (nat_tests, has-filter, filter_none, length-filter-le, take-first, append_assoc, append-nil)
+pub ruleset set_steps = (nat_tests, has-filter, filter_none, filter_all, length-filter-le, take-first, append_assoc, append-nil)

@@ -18,6 +18,11 @@ pub filter_none : (p : ℕ → Bool) (s : List ℕ) → (filter p s ≡ []) ⊎ 
 filter_none p [] = inl refl
 filter_none p (y ∷ ys) = let rest = filter_none p ys in grind (arith, nat_tests)
 
+-- a test keeps all, or some member does not pass it
+pub filter_all : (p : ℕ → Bool) (s : List ℕ) → (filter p s ≡ s) ⊎ ((x : ℕ) × IsTrue (has s x) × (p x ≡ false))
+filter_all p [] = inl refl
+filter_all p (y ∷ ys) = let rest = filter_all p ys in grind (arith, nat_tests)
+
 -- ---- the first that passes, of a list that ascends, is the least that does, and its place the number of members below it
 
 abbrev Finds : (ℕ → Bool) → List ℕ → Option ℕ → Type 0

@@ -1,5 +1,5 @@
 //! Walks over sets in chains.
-ghost use Rattle.std.specs.Prelude.{◌≡◌, ℕ, ◌/◌, ◌==◌, ◌↔◌, false, map, nat_le, nat_lt, position, Any, IfOk, IsTrue, MatchOption, None, OnOk};
+ghost use Rattle.std.specs.Prelude.{◌≡◌, ℕ, ◌/◌, ◌%◌, ◌==◌, ◌↔◌, false, filter, map, nat_le, nat_lt, position, take, Any, IfOk, IsTrue, MatchOption, None, OnOk};
 ghost use Rattle.std.specs.List.{last_or, list_all, list_any};
 ghost use Rattle.bit_set.specs.Choices.{IsGreatest, IsLeast, IsLeastPassing};
 ghost use Rattle.bit_set.specs.Members.{HasNone, IsIntersection, IsSameSet, IsUnion};
@@ -61,6 +61,13 @@ pub fn halves<A: BitBlock, B: BitBlock>(
     BitSet::from_iter(alloc, set.iter().map(|x| x / 2))
 }
 
+/// The ten least members, as a new set.
+pub fn ten_least<B: BitBlock>(alloc: Global, set: &BitSet<B>) -> Result<BitSet<B>, SetError>
+    ensures { IfOk result (λ least. IsSameSet (elements least.values) (take 10 (elements set.now.values))) }
+{
+    BitSet::from_iter(alloc, set.iter().take(10))
+}
+
 /// What both sets have, as a new one.
 pub fn common<B: BitBlock>(
     alloc: Global,
@@ -78,6 +85,14 @@ pub fn greatest<B: BitBlock>(set: &BitSet<B>) -> Option<usize>
     ensures { MatchOption result (HasNone (elements set.now.values)) (IsGreatest (elements set.now.values)) }
 {
     set.iter().max()
+}
+
+/// The greatest odd member.
+pub fn greatest_odd<B: BitBlock>(set: &BitSet<B>) -> Option<usize>
+    ensures { MatchOption result (HasNone (filter (λ x. x % 2 == 1) (elements set.now.values)))
+        (IsGreatest (filter (λ x. x % 2 == 1) (elements set.now.values))) }
+{
+    set.iter().filter(|x| *x % 2 == 1).max()
 }
 
 /// The least member.

@@ -43,6 +43,22 @@ fn sets_are_made_by_chains(rt: HostRuntime) {
     has_members(&rt, &ok(&rt, halves::<_, u8>(rt.alloc(), &b)), &[1, 150]);
 }
 
+// Eleven members.
+const ELEVEN: &[usize] = &[1, 2, 3, 5, 8, 13, 21, 34, 55, 89, 144];
+
+#[test]
+fn ten_members_are_the_least(rt: HostRuntime) {
+    let set = set_of::<u8>(&rt, rt.alloc(), ELEVEN);
+    let least = ok(&rt, ten_least(rt.alloc(), &set));
+    has_members(&rt, &least, &[1, 2, 3, 5, 8, 13, 21, 34, 55, 89]);
+}
+
+#[test]
+fn odd_members_have_a_greatest(rt: HostRuntime) {
+    let set = set_of::<u8>(&rt, rt.alloc(), ELEVEN);
+    expect_eq(&rt, &greatest_odd(&set), &Some(89));
+}
+
 #[test]
 fn members_have_places(rt: HostRuntime) {
     let set = set_of::<u8>(&rt, rt.alloc(), &[3, 70]);
