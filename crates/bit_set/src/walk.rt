@@ -111,7 +111,8 @@ impl<'a, B: BitBlock> Iter<'a, B> {
     /// over a block by the count of its ones.
     ///
     /// ```
-    /// let mut walk = set.iter(); // over {1, 4, 6}
+    /// let set = BitSet::from_bytes(alloc, &[0b0100_1010])?;
+    /// let mut walk = set.iter();
     /// assert_eq!(walk.nth(1), Some(4));
     /// assert_eq!(walk.next(), Some(6));
     /// ```

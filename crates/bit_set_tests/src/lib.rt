@@ -20,6 +20,8 @@ mod json_tests;
 #[cfg(test)]
 mod order_tests;
 #[cfg(test)]
+mod part_tests;
+#[cfg(test)]
 mod search_tests;
 #[cfg(test)]
 mod set_tests;
