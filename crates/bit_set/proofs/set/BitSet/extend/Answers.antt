@@ -1,4 +1,4 @@
-use Rattle.std.{proofs.{Common.{[], ◌∷◌, ◌++◌, ◌<◌, length, refl, ap, sym, ◌∙◌, arith}, lemmas.{Bool.true≢false, List.Elements.All-pop, Result.err_from_is_err_and}, iter.Next.Yields-more}, specs.declared.option.Option.TheVariants.Some}
+use Rattle.std.{proofs.{Common.{[], ◌∷◌, ◌++◌, ◌<◌, length, refl, ap, sym, ◌∙◌, arith}, lemmas.{Bool.true≢false, List.Elements.All-pop}, iter.Next.Yields-more}, specs.declared.option.Option.TheVariants.Some}
 use Rattle.bit_set.proofs.{ChainLemmas.run_of_calls, ItemLemmas.TakesIn-more}
 use Rattle.bit_set.proofs.set.BitSet.extend.Goals as goal
 
@@ -48,14 +48,3 @@ pub returns-in_err-insert-clause-kept : goal.returns-in_err-insert-clause-kept
 returns-in_err-insert-clause-kept g c short =
     let same = c.in_err-insert.ensures.grows.err in
     ap (λ bits. bits.capacity) same ∙ c.loop-item.invariant.kept (omega (arith, short, ap (λ bits. length bits.values) same))
-
-pub returns-in_err-insert-clause-err : goal.returns-in_err-insert-clause-err
-returns-in_err-insert-clause-err g c =
-    let p = err_from_is_err_and c.from_residual.result c.from_residual.ensures.1 in
-    let items = c.loop-item.yielded in
-    let calls = rw c.into_iter-item-iterator.ensures.into_iter_gives at c.loop-item.yielded_by in
-    let failed = c.in_err-insert.ensures in
-    rw (p.1, p.2, failed.grows.err) (items, c.in-Some.item, c.next.new.self, (c.loop-item.item-iterator, calls, c.in-Some.ensures.steps), c.loop-item.invariant.taken, failed.past, failed.fails, failed.past_blocks)
-
-pub returns-in_err-insert-clause-capacity : goal.returns-in_err-insert-clause-capacity
-returns-in_err-insert-clause-capacity g c = rw c.in_err-insert.ensures.grows.err c.loop-item.invariant.capacity

@@ -7,9 +7,3 @@ returns-clause-elements g c q r low = rw c.in_ok-bits.ensures.values (has-values
 
 pub returns-clause-length : goal.returns-clause-length
 returns-clause-length g c = rw c.in_ok-bits.ensures.values (length-values_of_bytes c.args.bytes.now)
-
-pub returns-clause-values : goal.returns-clause-values
-returns-clause-values g c = c.in_ok-bits.ensures.values
-
-pub returns-clause-capacity : goal.returns-clause-capacity
-returns-clause-capacity g c = c.in_ok-bits.ensures.capacity

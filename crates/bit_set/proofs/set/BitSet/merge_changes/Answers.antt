@@ -1,5 +1,5 @@
-use Rattle.std.proofs.{Common.{◌-◌, ◌∙◌, ap, length, not}, lemmas.Result.err_from_is_err_and}
-use Rattle.bit_set.{proofs.{AlgebraLemmas.{elements-lengthened, length-lengthened}, CapacityLemmas.{Grows-changed, Grows-failed}, MemberLemmas.members_merged, NotedLemmas.{told_of_lengthened, told_unchanged}}, specs.{Changes.{Changes, Outcome.Returned}, Order.same_sets, Sets.elements}}
+use Rattle.std.proofs.Common.{◌-◌, ◌∙◌, ap, length, not}
+use Rattle.bit_set.{proofs.{AlgebraLemmas.{elements-lengthened, length-lengthened}, MemberLemmas.members_merged, NotedLemmas.{told_of_lengthened, told_unchanged}}, specs.{Changes.{Changes, Outcome.Returned}, Order.same_sets, Sets.elements}}
 use Rattle.bit_set.proofs.set.BitSet.merge_changes.Goals as goal
 
 pub returns-clause-elements : goal.returns-clause-elements
@@ -29,13 +29,3 @@ unfolding Changes
 returns-clause-changes g c =
     let made = returns-clause-elements g c in
     (made, ap (λ changed. Returned changed) (returns-clause-changed g c ∙ ap (λ s. not (same_sets (elements c.args.self.now.values) s)) made))
-
-pub returns-clause-grows : goal.returns-clause-grows
-returns-clause-grows g c =
-    let grown = rw (c.len.ensures.value ∙ ap (λ bits. length bits.values) c.other.view_is) at c.in_ok-lengthen.ensures.grows in
-    Grows-changed _ _ _ _ _ _ (c.merge_changes.ensures.capacity ∙ ap (λ bits. bits.capacity) c.self.view_is) grown
-
-pub returns-in_err-lengthen-clause-grows : goal.returns-in_err-lengthen-clause-grows
-returns-in_err-lengthen-clause-grows g c =
-    let grown = rw (c.len.ensures.value ∙ ap (λ bits. length bits.values) c.other.view_is) at c.in_err-lengthen.ensures.grows in
-    rw (err_from_is_err_and c.from_residual.result c.from_residual.ensures.1).1 (Grows-failed _ _ _ _ _ grown)
