@@ -2,8 +2,9 @@
 use crate::expect::{expect, expect_eq, ok};
 use crate::lists::{list_of, put};
 use bit_words::bit_vec::{
-    BitVec, BitsError, Merge, Steps, clear_below, first_mismatching_block, first_nonzero_block,
-    lowest_mismatch, mismatch_between, same_blocks, take_highest_one, take_lowest_one, with_bit,
+    BitVec, BitsError, Merge, Steps, clear_below, clear_from, first_mismatching_block,
+    first_nonzero_block, lowest_mismatch, mismatch_between, same_blocks, take_highest_one,
+    take_lowest_one, with_bit,
 };
 use std::alloc::{AllocError, Global};
 use std::process::Abort;
@@ -47,9 +48,27 @@ fn blocks_that_are_not_zero(rt: HostRuntime) -> Result<(), Fail> {
 }
 
 #[test]
+fn a_walk_that_ends_in_a_block(rt: HostRuntime) -> Result<(), Fail> {
+    let mut bits = BitVec::from_elem(rt.alloc(), 100, false)?;
+    bits.set(70, true);
+    bits.set(71, true);
+    // Of 100 values, over blocks of 32 bits, those at 70 and 71 are true.
+    let mut walk = bits.nonzero_past(0);
+    assert_eq!(rt; walk.cut_at(2, 7), 0b0100_0000);
+    assert_eq!(rt; walk.next(), None);
+    Ok(())
+}
+
+#[test]
 fn a_block_without_its_lowest_digits(rt: HostRuntime) {
     assert_eq!(rt; clear_below(0b0111u8, 1), 0b0110);
     assert_eq!(rt; clear_below(0b0111u8, 8), 0);
+}
+
+#[test]
+fn a_block_without_its_highest_digits(rt: HostRuntime) {
+    assert_eq!(rt; clear_from(0b0111u8, 1), 0b0001);
+    assert_eq!(rt; clear_from(0b0111u8, 8), 0b0111);
 }
 
 #[test]
