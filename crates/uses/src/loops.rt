@@ -1,5 +1,5 @@
 //! Loops over sets. Each is proved by its invariant alone, but for those with an `Answers.antt` in `proofs/`.
-ghost use Rattle.std.specs.Prelude.{◌≡◌, ◌≢◌, ℕ, ◌+◌, ◌-◌, ◌*◌, ◌/◌, ◌<◌, ◌≤◌, ◌^◌, ◌%◌, ◌==◌, ◌&&◌, ◌||◌, ◌↔◌, false, true, filter, nat_le, sum, take, Any, IfErr, IfNone, IfOk, IfSome, IsTrue, List, MatchOption, OnOk, length, slice_index_or};
+ghost use Rattle.std.specs.Prelude.{◌≡◌, ◌≢◌, ℕ, ◌+◌, ◌-◌, ◌*◌, ◌/◌, ◌<◌, ◌≤◌, ◌^◌, ◌%◌, ◌==◌, ◌&&◌, ◌||◌, ◌↔◌, if◌then◌else◌, false, true, filter, nat_le, sum, take, Any, IfErr, IfNone, IfOk, IfSome, IsTrue, List, MatchOption, OnOk, length, slice_index_or};
 ghost use Rattle.std.specs.List.{list_any};
 ghost use Rattle.bit_set.specs.Bits.{Bits};
 ghost use Rattle.bit_set.specs.Choices.{IsGreatest};
@@ -398,6 +398,54 @@ pub fn follow<B: BitBlock>(
     Ok(seen)
 }
 
+// Takes in the row of a number where the number is in, and returns whether that changed the set.
+fn take_in_row<B: BitBlock>(
+    set: &mut BitSet<B>,
+    rows: &[BitSet<B>],
+    at: usize,
+) -> Result<bool, AllocError>
+    requires { at < length rows.now }
+    ensures more { IsSubset (elements set.old.values) (elements set.new.values) }
+    ensures closed { OnOk result ((d : Bits) → IsTrue (has (elements set.new.values) at)
+        → IsSubset (elements (slice_index_or rows.now at d).values) (elements set.new.values)) }
+    ensures least { (other : List ℕ) → IsSubset (elements set.old.values) other
+        → ((x : ℕ) (d : Bits) → x < length rows.now → IsTrue (has other x)
+        → IsSubset (elements (slice_index_or rows.now x d).values) other)
+        → IsSubset (elements set.new.values) other }
+    ensures unchanged { IfOk result (λ grew. grew ≡ false → elements set.new.values ≡ elements set.old.values) }
+    ensures count { IfOk result (λ grew. length (elements set.old.values) + (if grew then 1 else 0)
+        ≤ length (elements set.new.values)) }
+{
+    if set.contains(at) {
+        set.union_changes(&rows[at])
+    } else {
+        Ok(false)
+    }
+}
+
+// Does that for each number in turn, and returns whether one changed the set. Where none did, the rows of all that are in
+// are in.
+fn take_in_rows<B: BitBlock>(set: &mut BitSet<B>, rows: &[BitSet<B>]) -> Result<bool, AllocError>
+    ensures more { IsSubset (elements set.old.values) (elements set.new.values) }
+    ensures closed { IfOk result (λ grew. grew ≡ false → (x : ℕ) (d : Bits) → x < length rows.now
+        → IsTrue (has (elements set.new.values) x)
+        → IsSubset (elements (slice_index_or rows.now x d).values) (elements set.new.values)) }
+    ensures least { (other : List ℕ) → IsSubset (elements set.old.values) other
+        → ((x : ℕ) (d : Bits) → x < length rows.now → IsTrue (has other x)
+        → IsSubset (elements (slice_index_or rows.now x d).values) other)
+        → IsSubset (elements set.new.values) other }
+    ensures count { IfOk result (λ grew. length (elements set.old.values) + (if grew then 1 else 0)
+        ≤ length (elements set.new.values)) }
+{
+    let mut grew = false;
+    for at in 0..rows.len() {
+        if take_in_row(set, rows, at)? {
+            grew = true;
+        }
+    }
+    Ok(grew)
+}
+
 /// Puts in the rows of the members, until nothing is new: the least set that has what was in, and with each member what
 /// is in its row. Where memory runs out, part of that is in.
 pub fn close_by_rows<B: BitBlock>(set: &mut BitSet<B>, rows: &[BitSet<B>]) -> Result<(), AllocError>
@@ -409,18 +457,9 @@ pub fn close_by_rows<B: BitBlock>(set: &mut BitSet<B>, rows: &[BitSet<B>]) -> Re
         → IsSubset (elements (slice_index_or rows.now x d).values) other)
         → IsSubset (elements set.new.values) other }
 {
-    laws::sets_in_one_another();
     laws::sizes_of_sets();
-    let mut at = 0;
-    while at < rows.len() {
+    while take_in_rows(set, rows)? {
         prove!(set.capacity() <= usize::MAX);
-        if !set.contains(at) {
-            at += 1;
-        } else if set.union_changes(&rows[at])? {
-            at = 0;
-        } else {
-            at += 1;
-        }
     }
     Ok(())
 }
