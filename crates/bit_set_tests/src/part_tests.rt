@@ -10,25 +10,26 @@ use std::process::Abort;
 const ELEMENTS: [usize; 9] = [0, 3, 7, 8, 63, 64, 65, 127, 400];
 
 // Ranges, and of those elements the first and the last in each, and how many they are.
-const ENDS: &[(usize, usize, [Option<usize>; 2], usize)] = &[
-    (0, 500, [Some(0), Some(400)], 9),
-    (0, 0, [None, None], 0),
-    (3, 8, [Some(3), Some(7)], 2),
-    (4, 7, [None, None], 0),
-    (63, 65, [Some(63), Some(64)], 2),
-    (128, 400, [None, None], 0),
-    (128, 401, [Some(400), Some(400)], 1),
-    (401, 18446744073709551615, [None, None], 0),
-    (65, 64, [None, None], 0),
+const ENDS: &[(usize, usize, Option<usize>, Option<usize>, usize)] = &[
+    (0, 500, Some(0), Some(400), 9),
+    (0, 0, None, None, 0),
+    (3, 8, Some(3), Some(7), 2),
+    (4, 7, None, None, 0),
+    (63, 65, Some(63), Some(64), 2),
+    (128, 400, None, None, 0),
+    (128, 401, Some(400), Some(400), 1),
+    (401, 18446744073709551615, None, None, 0),
+    (65, 64, None, None, 0),
 ];
 
 fn ends_are_right<B: BitBlock>(rt: &impl Abort, alloc: Global) {
     let set = set_of::<B>(rt, alloc, &ELEMENTS);
     for row in ENDS {
-        let (start, end, ends, count) = *row;
+        let (start, end, least, greatest, count) = *row;
         let walk = set.range(start..end);
-        expect_eq_at(rt, start, &[walk.clone().min(), walk.clone().max()], &ends);
-        expect_eq_at(rt, start, &walk.clone().last(), &ends[1]);
+        expect_eq_at(rt, start, &walk.clone().min(), &least);
+        expect_eq_at(rt, start, &walk.clone().max(), &greatest);
+        expect_eq_at(rt, start, &walk.clone().last(), &greatest);
         expect_eq_at(rt, start, &walk.count(), &count);
     }
 }
