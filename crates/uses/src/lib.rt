@@ -25,6 +25,9 @@ pub mod loops;
 mod loops_tests;
 #[cfg(test)]
 mod tests;
+pub mod worklists;
+#[cfg(test)]
+mod worklists_tests;
 
 /// The even numbers below `n`.
 pub fn evens<B: BitBlock>(alloc: Global, n: usize) -> Result<BitSet<B>, SetError>

@@ -141,10 +141,6 @@ fn a_set_is_closed(rt: HostRuntime) {
     let mut set = set_of::<u8>(&rt, rt.alloc(), &[4]);
     ok(&rt, close(&mut set, &[2, 0, 300, 0, 2]));
     has_members(&rt, &set, &[2, 4, 300]);
-    let rows = [&[1, 2], &[3, 4], &[2, 500]].map(|numbers| set_of::<u8>(&rt, rt.alloc(), numbers));
-    let mut set = set_of::<u8>(&rt, rt.alloc(), &[0]);
-    ok(&rt, close_by_rows(&mut set, &rows));
-    has_members(&rt, &set, &[0, 1, 2, 3, 4, 500]);
 }
 
 #[test]

@@ -1,0 +1,14 @@
+use Rattle.bit_set.specs.Members.{IsSubset}
+use Rattle.bit_set.specs.Sets.{elements}
+use Rattle.uses.specs.Rows.{IsClosedBut, ReachesOnly, turns_left}
+use Rattle.uses.proofs.worklists.take_all.Given as goal
+
+abbrev pub invariant-loop : goal.invariant-loop
+invariant-loop g l = record {
+  more : IsSubset (elements l.fn.set.values) (elements l.set.values);
+  closed : IsClosedBut l.rows (elements l.set.values) (elements l.pending.values);
+  least : ReachesOnly l.rows (elements l.fn.set.values) (elements l.set.values);
+}
+
+abbrev pub decreases-loop : goal.decreases-loop
+decreases-loop g l = turns_left (elements l.set.values) (elements l.pending.values)
