@@ -4,7 +4,7 @@ mod fakes;
 mod faults;
 mod tables;
 
-use crate::expect::{expect, expect_eq, ok};
+use crate::expect::{expect, expect_eq, expect_eq_of, ok};
 use bit_set_run::{Exit, LinesFault, run_lines, start};
 use block24::Block24;
 use fakes::{EndlessReader, PieceReader, PieceWriter};
@@ -149,8 +149,8 @@ fn check_run(
     let mut reader = input;
     let mut writer = Vec::new(alloc);
     let exit = start(alloc, &owned, &mut reader, &mut writer);
-    assert_eq!(rt; exit, wanted, "{words:?}");
-    assert_eq!(rt; writer.as_slice(), output, "{words:?}");
+    expect_eq_of(rt, &words, &exit, &wanted);
+    expect_eq_of(rt, &words, &writer.as_slice(), &output);
 }
 
 #[test]
@@ -275,7 +275,7 @@ fn check_read(rt: &impl Abort, alloc: Global, kind: ErrorKind, fails_at: usize) 
     let mut writer = writer(alloc);
     let result = run_lines::<u32, _, _>(alloc, &mut reader, &mut writer);
     expect_eq(rt, &result, &Err(LinesFault::Read));
-    assert_eq!(rt; reader.calls.saturating_sub(1), fails_at, "not tried again");
+    expect_eq(rt, &reader.calls.saturating_sub(1), &fails_at);
     expect(rt, is_unused(&writer));
 }
 
@@ -313,7 +313,7 @@ fn check_write(rt: &impl Abort, alloc: Global, kind: Option<ErrorKind>, fails_at
     let result = run_lines::<u32, _, _>(alloc, &mut reader, &mut writer);
     expect_eq(rt, &result, &Err(LinesFault::Write));
     let calls = (writer.calls.saturating_sub(1), writer.flushes);
-    assert_eq!(rt; calls, (fails_at, 0), "not tried again");
+    expect_eq(rt, &calls, &(fails_at, 0));
     expect_eq(rt, &writer.bytes.as_slice(), &written(fails_at));
 }
 
@@ -343,11 +343,9 @@ fn writes_in_pieces_and_flushes(rt: HostRuntime) {
     let mut read = reader(ELEMENT_COMMANDS);
     let result = run_lines::<u32, _, _>(rt.alloc(), &mut read, &mut patient);
     expect_eq(&rt, &result, &Ok(()));
-    assert_eq!(rt;
-        read.calls,
-        ELEMENT_COMMANDS.len().div_ceil(7).saturating_add(1),
-        "none after the end"
-    );
+    // None comes after the end.
+    let calls = ELEMENT_COMMANDS.len().div_ceil(7).saturating_add(1);
+    expect_eq(&rt, &read.calls, &calls);
     expect_eq(&rt, &patient.bytes.as_slice(), &ELEMENT_REPLIES);
     expect_eq(&rt, &patient.flushes, &1);
 }

@@ -47,6 +47,14 @@ fn next_of_both<A: BitBlock + 'static, B: BitBlock + 'static>(
     (a.next(), b.next())
 }
 
+// How many items are left of two walks that have the same elements left.
+fn left_of_both<A: BitBlock, B: BitBlock>(a: &Iter<'_, A>, b: &Iter<'_, B>) -> (usize, usize)
+    requires { a.now.left ≡ b.now.left }
+    ensures { result.0 ≡ result.1 }
+{
+    (a.clone().count(), b.clone().count())
+}
+
 // The first two items of each set, and how many follow.
 fn walk_both<A: BitBlock + 'static, B: BitBlock + 'static>(
     a: &BitSet<A>,
@@ -58,12 +66,11 @@ fn walk_both<A: BitBlock + 'static, B: BitBlock + 'static>(
     let mut other = b.iter();
     let first = next_of_both(&mut walk, &mut other);
     let second = next_of_both(&mut walk, &mut other);
-    let left = walk.clone().count();
-    let other_left = other.clone().count();
+    let left = left_of_both(&walk, &other);
     prove!(first.0 == first.1);
     prove!(second.0 == second.1);
-    prove!(left == other_left);
-    (first.0, second.0, left)
+    prove!(left.0 == left.1);
+    (first.0, second.0, left.0)
 }
 
 // Puts 3, 40 and 77 into both, and 101, which is cut off again.

@@ -97,14 +97,23 @@ const MERGES: &[(Merge, Parts, Parts, (u8, &[usize], usize))] = &[
     ),
 ];
 
+// Two sets are merged so, and the first becomes the set of a byte, of these elements and this length.
+fn become_set(
+    rt: &impl Abort,
+    alloc: Global,
+    (merge, first, second): (Merge, Parts, Parts),
+    (byte, elements, len): (u8, &[usize], usize),
+) {
+    let mut set = made(rt, alloc, first);
+    let other = made(rt, alloc, second);
+    let same = set_of_bytes(rt, alloc, &[byte]);
+    becomes(rt, &mut set, (merge, &other), (&same, elements, len));
+}
+
 #[test]
 fn sets_become_one_in_place(rt: HostRuntime) {
-    for row in MERGES {
-        let (merge, first, second, (byte, elements, len)) = *row;
-        let mut set = made(&rt, rt.alloc(), first);
-        let other = made(&rt, rt.alloc(), second);
-        let same = set_of_bytes(&rt, rt.alloc(), &[byte]);
-        becomes(&rt, &mut set, (merge, &other), (&same, elements, len));
+    for (merge, first, second, wanted) in MERGES {
+        become_set(&rt, rt.alloc(), (*merge, *first, *second), *wanted);
     }
 }
 
@@ -133,26 +142,32 @@ fn relations<B: BitBlock>(a: &BitSet<B>, b: &BitSet<B>) -> [bool; 2] {
     [a.is_subset(b), a.is_disjoint(b)]
 }
 
+fn relations_of(rt: &impl Abort, alloc: Global, first: Parts, second: Parts) -> [bool; 2] {
+    let set = made(rt, alloc, first);
+    relations(&set, &made(rt, alloc, second))
+}
+
 #[test]
 fn sets_are_compared(rt: HostRuntime) {
-    for row in RELATIONS {
-        let (first, second, wanted) = *row;
-        let set = made(&rt, rt.alloc(), first);
-        let other = made(&rt, rt.alloc(), second);
-        expect_eq(&rt, &relations(&set, &other), &wanted);
+    for (first, second, wanted) in RELATIONS {
+        expect_eq(&rt, &relations_of(&rt, rt.alloc(), *first, *second), wanted);
     }
 }
 
-// Whether a set is in another, that one is not in it, and they have something in common.
-fn is_less<B: BitBlock>(less: &BitSet<B>, more: &BitSet<B>) -> bool {
-    less.is_subset(more) && !less.is_superset(more) && !less.is_disjoint(more)
+// Whether a set is in another, that one in it, and whether they have nothing in common.
+fn inclusions<B: BitBlock>(less: &BitSet<B>, more: &BitSet<B>) -> [bool; 3] {
+    [
+        less.is_subset(more),
+        less.is_superset(more),
+        less.is_disjoint(more),
+    ]
 }
 
-// So is one of two numbers in one that has one number more.
+// A set of two numbers is in one that has one number more.
 fn less_and_more<B: BitBlock>(rt: &impl Abort, alloc: Global) {
     let less = set_of::<B>(rt, alloc, &[1, 160]);
     let more = set_of::<B>(rt, alloc, &[1, 160, 24]);
-    expect(rt, is_less(&less, &more));
+    expect_eq(rt, &inclusions(&less, &more), &[true, false, false]);
 }
 
 // How many elements two sets of numbers become, by one merge after another.

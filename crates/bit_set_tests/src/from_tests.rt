@@ -4,6 +4,7 @@ use crate::expect::expect_eq_at;
 use crate::sets::set_of;
 use crate::steps::{Step, take};
 use crate::walk_tests::{passes, set_of_one};
+use crate::walks::next_of;
 use bit_set::{BitBlock, BitSet};
 use block24::Block24;
 use std::alloc::Global;
@@ -85,7 +86,12 @@ fn agrees_from<B: BitBlock>(rt: &impl Abort, set: &BitSet<B>, from: usize, left:
     let mut walk = set.iter_from(from);
     expect_eq_at(rt, from, &walk.clone().count(), &left.len());
     passes(rt, &mut walk, left);
-    expect_eq_at(rt, from, &[walk.next(), walk.next()], &[None, None]);
+    expect_eq_at(
+        rt,
+        from,
+        &[next_of(&mut walk), next_of(&mut walk)],
+        &[None, None],
+    );
 }
 
 // From each number below `end` on, the walk gives the elements that are no less.

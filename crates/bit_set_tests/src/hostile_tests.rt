@@ -3,7 +3,7 @@
 use crate::algebra_tests::merge_in;
 use crate::expect::{expect, expect_eq, ok};
 use crate::order_tests::{are_equal, expect_shown};
-use crate::sets::{set_of, set_of_bytes};
+use crate::sets::{put, set_of, set_of_bytes, unite, with_capacity};
 use crate::steps::{Step, len_of, take, take_of};
 use bit_set::bit_vec::Merge;
 use bit_set::{BitBlock, BitSet, SetError};
@@ -26,10 +26,10 @@ const LENGTHS: [(usize, usize); 6] = [
 // {3}, by a capacity for 500 or by an element that leaves again, and else by one `insert`.
 fn three(rt: &impl Abort, alloc: Global, len: usize) -> BitSet {
     let capacity = if len == 500 { len } else { 0 };
-    let mut set = ok(rt, BitSet::with_capacity(alloc, capacity));
-    ok(rt, set.insert(3));
+    let mut set = with_capacity(rt, alloc, capacity);
+    put(rt, &mut set, 3);
     if len == 401 {
-        ok(rt, set.insert(400));
+        put(rt, &mut set, 400);
         set.remove(400);
     }
     set
@@ -222,7 +222,7 @@ fn last_of_union<B: BitBlock>(a: &BitSet<B>, b: &BitSet<B>) -> (usize, Option<us
 
 // How many elements a set has once another is joined to it, and whether the other is within it.
 fn joined(rt: &impl Abort, set: &mut BitSet<u8>, other: &BitSet<u8>) -> (usize, bool) {
-    ok(rt, set.union_with(other));
+    unite(rt, set, other);
     (set.count(), other.is_subset(set))
 }
 

@@ -1,7 +1,7 @@
 //! The JSON form: rows with their exact results, from texts that `serde_json` reads, and each call over each type
 //! of blocks.
 use crate::expect::{expect, expect_eq, ok};
-use crate::sets::set_of;
+use crate::sets::{are_same, set_of};
 use crate::steps::{has_just, len_of};
 use bit_set::bit_vec::BitVec;
 use bit_set::{BitSet, JsonBlock, JsonError};
@@ -59,7 +59,8 @@ fn assert_goes_round<B: JsonBlock>(rt: &impl Abort, alloc: Global, set: &BitSet<
     let text = text_of(rt, alloc, set);
     let value = ok(rt, Value::from_str(alloc, text.as_str()));
     let back = ok(rt, BitSet::from_json(alloc, &value));
-    expect(rt, back == *set && len_of(&back) == len_of(set));
+    expect(rt, are_same(&back, set));
+    expect_eq(rt, &len_of(&back), &len_of(set));
 }
 
 // So does one with elements in the reach of each width.

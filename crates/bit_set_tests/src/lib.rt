@@ -35,3 +35,5 @@ mod split_tests;
 mod steps;
 #[cfg(test)]
 mod walk_tests;
+#[cfg(test)]
+mod walks;

@@ -2,7 +2,7 @@
 ghost use Rattle.std.specs.Prelude.{◌+◌, ◌*◌, ◌%◌, ◌^◌, fold};
 
 use crate::expect::{expect, expect_eq, expect_eq_at, ok};
-use crate::sets::{set_of, set_of_bytes};
+use crate::sets::{put, set_of, set_of_bytes, unite, with_capacity};
 use crate::steps::len_of;
 use bit_set::{BitBlock, BitSet};
 use block24::Block24;
@@ -163,12 +163,19 @@ fn a_debug_text_fails_where_the_formatter_does(rt: HostRuntime) {
     }
 }
 
+fn orders<B: BitBlock>(a: &BitSet<B>, b: &BitSet<B>) -> [Ordering; 2] {
+    [a.cmp(b), b.cmp(a)]
+}
+
 // The first of two sets is less, seen from each.
 fn come_in_order<B: BitBlock>(rt: &impl Abort, alloc: Global, a: &[usize], b: &[usize]) {
     let left = set_of::<B>(rt, alloc, a);
     let right = set_of::<B>(rt, alloc, b);
-    let orders = (left.cmp(&right), right.cmp(&left));
-    expect_eq(rt, &orders, &(Ordering::Less, Ordering::Greater));
+    expect_eq(
+        rt,
+        &orders(&left, &right),
+        &[Ordering::Less, Ordering::Greater],
+    );
 }
 
 #[test]
@@ -193,21 +200,24 @@ fn are_ordered(a: &BitSet, b: &BitSet, order: Ordering) -> bool {
     a.cmp(b) == order && a.partial_cmp(b) == Some(order) && (*a == *b) == (order == Ordering::Equal)
 }
 
+fn bytes_are_ordered(rt: &impl Abort, alloc: Global, a: &[u8], b: &[u8], order: Ordering) -> bool {
+    let left = set_of_bytes(rt, alloc, a);
+    are_ordered(&left, &set_of_bytes(rt, alloc, b), order)
+}
+
 #[test]
 fn bytes_compare_as_their_sets(rt: HostRuntime) {
     for (a, b, order) in BYTES {
-        let left = set_of_bytes::<u32>(&rt, rt.alloc(), a);
-        let right = set_of_bytes::<u32>(&rt, rt.alloc(), b);
-        expect(&rt, are_ordered(&left, &right, *order));
+        expect(&rt, bytes_are_ordered(&rt, rt.alloc(), a, b, *order));
     }
 }
 
 // The set of some of 0, 1, 7, 8 and 23, of a length of some bytes at least.
 fn some_set(rt: &impl Abort, alloc: Global, chosen: usize) -> BitSet<u8> {
-    let mut set = ok(rt, BitSet::with_capacity_general(alloc, chosen % 5 * 8));
+    let mut set = with_capacity(rt, alloc, chosen % 5 * 8);
     for (place, number) in [0, 1, 7, 8, 23].iter().enumerate() {
         if chosen >> (place as u32) & 1 == 1 {
-            ok(rt, set.insert(*number));
+            put(rt, &mut set, *number);
         }
     }
     set
@@ -232,8 +242,8 @@ fn the_order_is_that_of_the_walks(rt: HostRuntime) {
 
 // {3}, with capacity for 500 at once.
 fn spacious(rt: &impl Abort, alloc: Global) -> BitSet {
-    let mut set = ok(rt, BitSet::with_capacity(alloc, 500));
-    ok(rt, set.insert(3));
+    let mut set = with_capacity(rt, alloc, 500);
+    put(rt, &mut set, 3);
     set
 }
 
@@ -281,7 +291,7 @@ fn lengths_are_not_shown(rt: HostRuntime) {
 fn a_merged_set_is_the_set_read(rt: HostRuntime) {
     let mut merged = set_of(&rt, rt.alloc(), &[0]);
     let five = set_of(&rt, rt.alloc(), &[5]);
-    ok(&rt, merged.union_with(&five));
+    unite(&rt, &mut merged, &five);
     let read = set_of_bytes(&rt, rt.alloc(), &[0b1000_0100]);
     alike(&rt, &merged, &read, [6, 8]);
 }
@@ -289,24 +299,38 @@ fn a_merged_set_is_the_set_read(rt: HostRuntime) {
 // Three sets, two of them equal.
 const KEYS: [(&[usize], char); 3] = [(&[1, 1], 'a'), (&[0, 1], 'b'), (&[1, 0], 'c')];
 
+fn sort_in(rt: &impl Abort, alloc: Global, names: &mut BTreeMap<BitSet<u8>, char>) {
+    for (numbers, name) in KEYS {
+        ok(rt, names.insert(set_of(rt, alloc, numbers), name));
+    }
+}
+
+fn sorted_at(names: &BTreeMap<BitSet<u8>, char>, set: &BitSet<u8>) -> (usize, Option<char>) {
+    (names.len(), names.get(set).copied())
+}
+
 // How many keys a sorted map has of these, and what is at a longer set of the same elements.
 fn sorted(rt: &impl Abort, alloc: Global) -> (usize, Option<char>) {
     let mut names = BTreeMap::new(alloc);
+    sort_in(rt, alloc, &mut names);
+    sorted_at(&names, &set_of_bytes(rt, alloc, &[0b1100_0000, 0]))
+}
+
+fn hash_in(rt: &impl Abort, alloc: Global, names: &mut HashMap<BitSet<u8>, char>) {
     for (numbers, name) in KEYS {
-        ok(rt, names.insert(set_of::<u8>(rt, alloc, numbers), name));
+        ok(rt, names.insert(set_of(rt, alloc, numbers), name));
     }
-    let long = set_of_bytes(rt, alloc, &[0b1100_0000, 0]);
-    (names.len(), names.get(&long).copied())
+}
+
+fn hashed_at(names: &HashMap<BitSet<u8>, char>, set: &BitSet<u8>) -> (usize, Option<char>) {
+    (names.len(), names.get(set).copied())
 }
 
 // How many keys a map by hashes has of these, and what is at a longer set of the same elements.
 fn hashed(rt: &impl Abort, alloc: Global) -> (usize, Option<char>) {
     let mut names = HashMap::new(alloc);
-    for (numbers, name) in KEYS {
-        ok(rt, names.insert(set_of::<u8>(rt, alloc, numbers), name));
-    }
-    let long = set_of_bytes(rt, alloc, &[0b1100_0000, 0]);
-    (names.len(), names.get(&long).copied())
+    hash_in(rt, alloc, &mut names);
+    hashed_at(&names, &set_of_bytes(rt, alloc, &[0b1100_0000, 0]))
 }
 
 #[test]

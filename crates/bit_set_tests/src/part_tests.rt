@@ -2,6 +2,7 @@
 
 use crate::expect::{expect_eq, expect_eq_at};
 use crate::sets::set_of;
+use crate::walks::{next_back_of, next_of, nth_of};
 use bit_set::{BitBlock, BitSet};
 use block24::Block24;
 use std::alloc::Global;
@@ -9,8 +10,10 @@ use std::process::Abort;
 
 const ELEMENTS: [usize; 9] = [0, 3, 7, 8, 63, 64, 65, 127, 400];
 
+type Row = (usize, usize, Option<usize>, Option<usize>, usize);
+
 // Ranges, and of those elements the first and the last in each, and how many they are.
-const ENDS: &[(usize, usize, Option<usize>, Option<usize>, usize)] = &[
+const ENDS: &[Row] = &[
     (0, 500, Some(0), Some(400), 9),
     (0, 0, None, None, 0),
     (3, 8, Some(3), Some(7), 2),
@@ -22,16 +25,35 @@ const ENDS: &[(usize, usize, Option<usize>, Option<usize>, usize)] = &[
     (65, 64, None, None, 0),
 ];
 
-fn ends_are_right<B: BitBlock>(rt: &impl Abort, alloc: Global) {
-    let set = set_of::<B>(rt, alloc, &ELEMENTS);
+// The least, the greatest and the last of the elements in a range.
+fn ends_in<B: BitBlock>(set: &BitSet<B>, start: usize, end: usize) -> [Option<usize>; 3] {
+    let walk = set.range(start..end);
+    [walk.clone().min(), walk.clone().max(), walk.last()]
+}
+
+fn count_in<B: BitBlock>(set: &BitSet<B>, start: usize, end: usize) -> usize {
+    set.range(start..end).count()
+}
+
+fn has_ends<B: BitBlock>(rt: &impl Abort, set: &BitSet<B>, row: Row) {
+    let (start, end, least, greatest, count) = row;
+    expect_eq_at(
+        rt,
+        start,
+        &ends_in(set, start, end),
+        &[least, greatest, greatest],
+    );
+    expect_eq_at(rt, start, &count_in(set, start, end), &count);
+}
+
+fn each_has_ends<B: BitBlock>(rt: &impl Abort, set: &BitSet<B>) {
     for row in ENDS {
-        let (start, end, least, greatest, count) = *row;
-        let walk = set.range(start..end);
-        expect_eq_at(rt, start, &walk.clone().min(), &least);
-        expect_eq_at(rt, start, &walk.clone().max(), &greatest);
-        expect_eq_at(rt, start, &walk.clone().last(), &greatest);
-        expect_eq_at(rt, start, &walk.count(), &count);
+        has_ends(rt, set, *row);
     }
+}
+
+fn ends_are_right<B: BitBlock>(rt: &impl Abort, alloc: Global) {
+    each_has_ends(rt, &set_of::<B>(rt, alloc, &ELEMENTS));
 }
 
 #[test]
@@ -45,11 +67,11 @@ fn a_range_has_its_least_and_its_greatest_element(rt: HostRuntime) {
 fn both_ends(set: &BitSet) -> [Option<usize>; 5] {
     let mut walk = set.range(3..127);
     [
-        walk.next(),
-        walk.next_back(),
-        walk.nth(2),
-        walk.next_back(),
-        walk.next(),
+        next_of(&mut walk),
+        next_back_of(&mut walk),
+        nth_of(&mut walk, 2),
+        next_back_of(&mut walk),
+        next_of(&mut walk),
     ]
 }
 
@@ -65,7 +87,7 @@ fn a_range_is_walked_from_both_ends(rt: HostRuntime) {
 
 fn nth_and_next(set: &BitSet, n: usize) -> [Option<usize>; 2] {
     let mut walk = set.iter();
-    [walk.nth(n), walk.next()]
+    [nth_of(&mut walk, n), next_of(&mut walk)]
 }
 
 #[test]

@@ -1,9 +1,9 @@
 //! Searches for the next element in either direction, and the ends taken out, over sets with a summary and without one;
 //! what a test keeps, and the bytes of a set.
 
-use crate::expect::{expect, expect_eq, expect_eq_at, ok};
+use crate::expect::{expect, expect_eq, ok};
 use crate::sets::{set_of, set_of_bytes};
-use bit_set::BitBlock;
+use bit_set::{BitBlock, BitSet};
 use block24::Block24;
 use std::alloc::Global;
 use std::process::Abort;
@@ -23,12 +23,18 @@ const FOUND: &[Found] = &[
     (18446744073709551615, None, 18446744073709551615, Some(5000)),
 ];
 
-fn finds<B: BitBlock>(rt: &impl Abort, alloc: Global) {
-    let set = set_of::<B>(rt, alloc, &[0, 1, 3, 5000]);
-    for (n, next, missing, previous) in FOUND {
-        let found = (set.next(*n), set.next_missing(*n), set.previous(*n));
-        expect_eq_at(rt, *n, &found, &(*next, *missing, *previous));
+fn found<B: BitBlock>(set: &BitSet<B>, n: usize) -> Found {
+    (n, set.next(n), set.next_missing(n), set.previous(n))
+}
+
+fn finds_each<B: BitBlock>(rt: &impl Abort, set: &BitSet<B>) {
+    for wanted in FOUND {
+        expect_eq(rt, &found(set, wanted.0), wanted);
     }
+}
+
+fn finds<B: BitBlock>(rt: &impl Abort, alloc: Global) {
+    finds_each(rt, &set_of::<B>(rt, alloc, &[0, 1, 3, 5000]));
 }
 
 #[test]
@@ -38,13 +44,22 @@ fn the_next_element_is_found(rt: HostRuntime) {
     finds::<u64>(&rt, rt.alloc());
 }
 
+// Whether just these numbers are missing in a range.
+fn lacks<B: BitBlock>(set: &BitSet<B>, start: usize, end: usize, numbers: &[usize]) -> bool {
+    set.missing(start..end).eq(numbers.iter().copied())
+}
+
+// How many numbers below a thousand are missing, and which is the first in a range of none.
+fn missing_ends<B: BitBlock>(set: &BitSet<B>) -> (usize, Option<usize>) {
+    (set.missing(0..1000).count(), set.missing(5..5).next())
+}
+
 fn misses<B: BitBlock>(rt: &impl Abort, alloc: Global) {
     let set = set_of::<B>(rt, alloc, &[0, 1, 3, 62, 63, 64]);
-    expect(rt, set.missing(1..5).eq([2, 4]));
-    expect(rt, set.missing(60..67).eq([60, 61, 65, 66]));
-    expect(rt, set.missing(500..502).eq([500, 501]));
-    expect_eq(rt, &set.missing(0..1000).count(), &994);
-    expect_eq(rt, &set.missing(5..5).next(), &None);
+    expect(rt, lacks(&set, 1, 5, &[2, 4]));
+    expect(rt, lacks(&set, 60, 67, &[60, 61, 65, 66]));
+    expect(rt, lacks(&set, 500, 502, &[500, 501]));
+    expect_eq(rt, &missing_ends(&set), &(994, None));
 }
 
 #[test]
@@ -54,13 +69,32 @@ fn what_is_missing_is_walked_over(rt: HostRuntime) {
     misses::<u64>(&rt, rt.alloc());
 }
 
+// What a set gives at its ends, and then: the last and the first taken out, both that are left, and three more taken out.
+fn taken<B: BitBlock>(set: &mut BitSet<B>) -> [Option<usize>; 7] {
+    [
+        set.pop_last(),
+        set.pop_first(),
+        set.first(),
+        set.last(),
+        set.pop_first(),
+        set.pop_first(),
+        set.pop_last(),
+    ]
+}
+
+const TAKEN: [Option<usize>; 7] = [
+    Some(5000),
+    Some(3),
+    Some(64),
+    Some(64),
+    Some(64),
+    None,
+    None,
+];
+
 fn ends_are_taken<B: BitBlock>(rt: &impl Abort, alloc: Global) {
     let mut set = set_of::<B>(rt, alloc, &[3, 64, 5000]);
-    expect_eq(rt, &set.pop_last(), &Some(5000));
-    expect_eq(rt, &set.pop_first(), &Some(3));
-    expect_eq(rt, &(set.first(), set.last()), &(Some(64), Some(64)));
-    expect_eq(rt, &set.pop_first(), &Some(64));
-    expect_eq(rt, &(set.pop_first(), set.pop_last()), &(None, None));
+    expect_eq(rt, &taken(&mut set), &TAKEN);
 }
 
 #[test]

@@ -2,7 +2,7 @@
 ghost use Rattle.std.specs.Prelude.{IsErrOf};
 
 use crate::expect::{expect, expect_eq, ok};
-use crate::sets::{set_of, set_of_bytes};
+use crate::sets::{copy_of, set_of, set_of_bytes, with_capacity};
 use crate::steps::{Step, has_just, take, take_new, take_of, take_of_bytes};
 use bit_set::bit_vec::BitVec;
 use bit_set::{BitBlock, BitSet, SetError};
@@ -150,7 +150,7 @@ fn sets_have_lengths(rt: HostRuntime) {
 #[test]
 fn a_clone_has_the_items_and_the_length(rt: HostRuntime) {
     let set = set_of::<u32>(&rt, rt.alloc(), &[400, 1]);
-    let mut copy = ok(&rt, set.clone(rt.alloc()));
+    let mut copy = copy_of(&rt, rt.alloc(), &set);
     take(&rt, &mut copy, &[Step::Elements(&[1, 400]), Step::Len(401)]);
 }
 
@@ -164,9 +164,13 @@ const FOUR: &[Step] = &[
     Step::Len(24),
 ];
 
-fn four_go_in<B: BitBlock>(rt: &impl Abort, alloc: Global) {
-    let mut set = ok(rt, BitSet::<B>::with_capacity_general(alloc, 20));
+fn put_four<B: BitBlock>(rt: &impl Abort, set: &mut BitSet<B>) {
     ok(rt, set.extend(20..24));
+}
+
+fn four_go_in<B: BitBlock>(rt: &impl Abort, alloc: Global) {
+    let mut set = with_capacity::<B>(rt, alloc, 20);
+    put_four(rt, &mut set);
     take(rt, &mut set, FOUR);
 }
 
@@ -179,10 +183,14 @@ const COPIED: &[Step] = &[
     Step::Len(0),
 ];
 
+fn copy_into<B: BitBlock>(rt: &impl Abort, copy: &mut BitSet<B>, set: &BitSet<B>) {
+    ok(rt, copy.clone_from(set));
+}
+
 fn bytes_are_copied<B: BitBlock>(rt: &impl Abort, alloc: Global) {
     let bytes = set_of_bytes::<B>(rt, alloc, &[0b0100_1010, 0b1000_0000]);
     let mut copy = BitSet::new_general(alloc);
-    ok(rt, copy.clone_from(&bytes));
+    copy_into(rt, &mut copy, &bytes);
     take(rt, &mut copy, COPIED);
 }
 
@@ -206,11 +214,15 @@ const CUT_COPY: &[Step] = &[
     Step::Len(65),
 ];
 
+fn sixties<B: BitBlock>(rt: &impl Abort, alloc: Global) -> BitSet<B> {
+    ok(rt, BitSet::from_iter(alloc, 60..70))
+}
+
 fn a_copy_is_cut<B: BitBlock>(rt: &impl Abort, alloc: Global) {
-    let set = ok(rt, BitSet::<B>::from_iter(alloc, 60..70));
-    let mut copy = ok(rt, set.clone(alloc));
+    let mut set = sixties::<B>(rt, alloc);
+    let mut copy = copy_of(rt, alloc, &set);
     take(rt, &mut copy, CUT_COPY);
-    expect_eq(rt, &set.count(), &10);
+    take(rt, &mut set, &[Step::Count(10)]);
 }
 
 fn each_succeeds<B: BitBlock>(rt: &impl Abort, alloc: Global) {

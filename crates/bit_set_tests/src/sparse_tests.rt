@@ -8,7 +8,7 @@ ghost use Rattle.bit_set.specs.Walk.{Walk, IsAtStart};
 use crate::expect::{expect_eq, ok};
 use crate::sets::set_of;
 use crate::steps::{Step, take_of};
-use crate::walk_tests::{agrees_at_each_point, bounds};
+use crate::walk_tests::{agrees_at_each_point, block_counts, bounds};
 use bit_set::laws::sparse_walks;
 use bit_set::{BitBlock, BitSet, Iter};
 use block24::Block24;
@@ -38,9 +38,7 @@ fn pulls_of_sparse_sets()
 fn the_bound_falls_over_zero_blocks(rt: HostRuntime) {
     pulls_of_sparse_sets();
     let far = set_of::<u32>(&rt, rt.alloc(), &[0, 100000]);
-    let bits = far.get_ref();
-    let counts = [bits.storage().len(), bits.blocks().count()];
-    expect_eq(&rt, &counts, &[3126, 3126]);
+    expect_eq(&rt, &block_counts(&far), &[3126, 3126]);
     let wanted = [(0, Some(100032)), (0, Some(100032)), (0, Some(32))];
     expect_eq(&rt, &bounds(&far), &wanted);
 }

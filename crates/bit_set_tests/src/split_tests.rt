@@ -3,7 +3,7 @@
 ghost use Rattle.std.specs.Prelude.{◌≡◌, OnOk};
 
 use crate::expect::{expect, expect_eq, expect_eq_at, ok};
-use crate::sets::{set_of, set_of_bytes};
+use crate::sets::{are_same, set_of, set_of_bytes};
 use crate::steps::{Step, has_just, len_of, take};
 use bit_set::laws::parted_sets;
 use bit_set::{BitBlock, BitSet};
@@ -37,18 +37,35 @@ fn sizes<B: BitBlock>(a: &BitSet<B>, b: &BitSet<B>) -> [usize; 4] {
     [a.count(), b.count(), len_of(a), len_of(b)]
 }
 
+fn part_from<B: BitBlock>(
+    rt: &impl Abort,
+    alloc: Global,
+    set: &mut BitSet<B>,
+    at: usize,
+) -> BitSet<B> {
+    ok(rt, set.split_off(alloc, at))
+}
+
+fn join<B: BitBlock>(rt: &impl Abort, set: &mut BitSet<B>, other: &mut BitSet<B>) {
+    ok(rt, set.append(other));
+}
+
+fn sizes_of_parts<B: BitBlock>(rt: &impl Abort, alloc: Global, at: usize) -> [usize; 4] {
+    let mut set = set_of_bytes::<B>(rt, alloc, &BYTES);
+    let part = part_from(rt, alloc, &mut set, at);
+    sizes(&set, &part)
+}
+
 fn check_parts<B: BitBlock>(rt: &impl Abort, alloc: Global) {
     for (at, wanted) in PARTS {
-        let mut set = set_of_bytes::<B>(rt, alloc, &BYTES);
-        let part = ok(rt, set.split_off(alloc, at));
-        expect_eq_at(rt, at, &sizes(&set, &part), &wanted);
+        expect_eq_at(rt, at, &sizes_of_parts::<B>(rt, alloc, at), &wanted);
     }
 }
 
 // The upper part of the set of these bytes from 34 on.
 fn check_upper_part<B: BitBlock>(rt: &impl Abort, alloc: Global) {
     let mut set = set_of_bytes::<B>(rt, alloc, &BYTES);
-    let part = ok(rt, set.split_off(alloc, 34));
+    let part = part_from(rt, alloc, &mut set, 34);
     expect(rt, has_just(&part, &[34, 36, 38, 39, 40, 42, 44, 45, 47]));
 }
 
@@ -61,13 +78,14 @@ fn expect_set<B: BitBlock>(
     byte: u8,
 ) {
     let same = set_of_bytes(rt, alloc, &[byte]);
-    expect(rt, has_just(set, elements) && *set == same);
+    expect(rt, has_just(set, elements));
+    expect(rt, are_same(set, &same));
 }
 
 fn check_append<B: BitBlock>(rt: &impl Abort, alloc: Global) {
     let mut set = set_of::<B>(rt, alloc, &[2, 6]);
     let mut other = set_of::<B>(rt, alloc, &[1, 3, 6]);
-    ok(rt, set.append(&mut other));
+    join(rt, &mut set, &mut other);
     expect_set(rt, alloc, &set, &[1, 2, 3, 6], 0b0111_0010);
     take(rt, &mut other, &[Step::IsEmpty(true), Step::Len(7)]);
 }
@@ -89,7 +107,7 @@ fn split_and_join<B: BitBlock>(
 // {1, 2, 3, 6} is parted at 3 and put together again.
 fn check_parted<B: BitBlock>(rt: &impl Abort, alloc: Global) {
     let mut set = set_of::<B>(rt, alloc, &[1, 2, 3, 6]);
-    let mut part = ok(rt, set.split_off(alloc, 3));
+    let mut part = part_from(rt, alloc, &mut set, 3);
     expect_set(rt, alloc, &set, &[1, 2], 0b0110_0000);
     expect_set(rt, alloc, &part, &[3, 6], 0b0001_0010);
     expect_eq(rt, &sizes(&set, &part), &[2, 2, 3, 7]);
@@ -97,7 +115,7 @@ fn check_parted<B: BitBlock>(rt: &impl Abort, alloc: Global) {
 }
 
 fn put_together<B: BitBlock>(rt: &impl Abort, set: &mut BitSet<B>, part: &mut BitSet<B>) {
-    ok(rt, set.append(part));
+    join(rt, set, part);
     take(rt, set, &[Step::Elements(&[1, 2, 3, 6]), Step::Len(7)]);
     take(rt, part, &[Step::Len(7), Step::CapacityFrom(7)]);
 }

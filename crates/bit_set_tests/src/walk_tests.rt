@@ -6,7 +6,8 @@ ghost use Rattle.bit_set.specs.Walk.{Walk, IsAtStart};
 mod two_sets;
 
 use crate::expect::{expect, expect_eq, expect_eq_at, ok};
-use crate::sets::{set_of, set_of_bytes};
+use crate::sets::{put, set_of, set_of_bytes, with_capacity};
+use crate::walks::{hint_of, next_back_of, next_of};
 use bit_set::laws::whole_walks;
 use bit_set::{BitBlock, BitSet, Iter};
 use block24::Block24;
@@ -20,19 +21,19 @@ pub(crate) fn set_of_one<B: BitBlock>(
     len: usize,
     element: usize,
 ) -> BitSet<B> {
-    let mut set = ok(rt, BitSet::with_capacity_general(alloc, len));
-    ok(rt, set.insert(element));
+    let mut set = with_capacity(rt, alloc, len);
+    put(rt, &mut set, element);
     set
 }
 
 // The bounds on the rest: at the making, and after each of two calls of `next`.
 pub(crate) fn bounds<B: BitBlock>(set: &BitSet<B>) -> [(usize, Option<usize>); 3] {
     let mut walk = set.iter();
-    let made = walk.size_hint();
-    let _ = walk.next();
-    let stepped = walk.size_hint();
-    let _ = walk.next();
-    [made, stepped, walk.size_hint()]
+    let made = hint_of(&walk);
+    let _ = next_of(&mut walk);
+    let stepped = hint_of(&walk);
+    let _ = next_of(&mut walk);
+    [made, stepped, hint_of(&walk)]
 }
 
 // Those of a set of one element, of at least this length, are these.
@@ -65,12 +66,16 @@ fn the_bound_falls_with_the_blocks(rt: HostRuntime) {
     falls::<u8>(&rt, rt.alloc(), (40, 3), [40, 40, 8]);
 }
 
-// How many blocks {400} has, and a walk over them gives.
+// How many blocks a set has, and a walk over them gives.
+pub(crate) fn block_counts<B: BitBlock>(set: &BitSet<B>) -> [usize; 2] {
+    let bits = set.get_ref();
+    [bits.storage().len(), bits.blocks().count()]
+}
+
+// So many has {400}.
 fn has_blocks<B: BitBlock>(rt: &impl Abort, alloc: Global, count: usize) {
     let set = set_of_one::<B>(rt, alloc, 0, 400);
-    let bits = set.get_ref();
-    let counts = [bits.storage().len(), bits.blocks().count()];
-    expect_eq(rt, &counts, &[count, count]);
+    expect_eq(rt, &block_counts(&set), &[count, count]);
 }
 
 #[test]
@@ -83,11 +88,11 @@ fn a_set_has_the_blocks_of_its_length(rt: HostRuntime) {
 fn firsts<B: BitBlock>(set: &BitSet<B>) -> [Option<usize>; 5] {
     let mut walk = set.iter();
     [
-        walk.next(),
-        walk.next(),
-        walk.next(),
-        walk.next(),
-        walk.next(),
+        next_of(&mut walk),
+        next_of(&mut walk),
+        next_of(&mut walk),
+        next_of(&mut walk),
+        next_of(&mut walk),
     ]
 }
 
@@ -130,12 +135,16 @@ fn a_walk_over_two_blocks_stays_at_its_end(rt: HostRuntime) {
 fn from_both_ends<B: BitBlock>(set: &BitSet<B>) -> [Option<usize>; 5] {
     let mut walk = set.iter();
     [
-        walk.next_back(),
-        walk.next(),
-        walk.next_back(),
-        walk.next(),
-        walk.next_back(),
+        next_back_of(&mut walk),
+        next_of(&mut walk),
+        next_back_of(&mut walk),
+        next_of(&mut walk),
+        next_back_of(&mut walk),
     ]
+}
+
+fn is_from_the_back<B: BitBlock>(set: &BitSet<B>, items: &[usize]) -> bool {
+    set.iter().rev().eq(items.iter().copied())
 }
 
 #[test]
@@ -146,17 +155,17 @@ fn both_ends_take_of_the_same_elements(rt: HostRuntime) {
     let one_block = set_of::<u32>(&rt, rt.alloc(), &[1, 2, 3]);
     let items = [Some(3), Some(1), Some(2), None, None];
     expect_eq(&rt, &from_both_ends(&one_block), &items);
-    assert!(rt; apart.iter().rev().eq([400, 5, 4, 3]));
+    expect(&rt, is_from_the_back(&apart, &[400, 5, 4, 3]));
 }
 
-fn is_walk_over_none(set: &BitSet) -> bool {
-    set.iter().size_hint() == (0, Some(32)) && set.iter().count() == 0
+fn hint_and_count(set: &BitSet) -> ((usize, Option<usize>), usize) {
+    (hint_of(&set.iter()), set.iter().count())
 }
 
 #[test]
 fn an_empty_set_has_no_item(rt: HostRuntime) {
     let set = BitSet::new(rt.alloc());
-    expect(&rt, is_walk_over_none(&set));
+    expect_eq(&rt, &hint_and_count(&set), &((0, Some(32)), 0));
     begins(&rt, &set, [None; 5]);
 }
 
@@ -172,28 +181,36 @@ fn even_numbers(rt: &impl Abort, alloc: Global) -> BitSet {
     ok(rt, BitSet::from_iter(alloc, (0..5000).map(|half| half * 2)))
 }
 
+fn gives_even_numbers(rt: &impl Abort, set: &BitSet) {
+    let mut walk = set.iter();
+    for half in 0..5000 {
+        expect_eq(rt, &next_of(&mut walk), &Some(half * 2));
+    }
+    expect_eq(rt, &next_of(&mut walk), &None);
+}
+
+fn counts(set: &BitSet) -> [usize; 2] {
+    [set.iter().count(), counted(set.iter())]
+}
+
 #[test]
 fn even_numbers_are_counted(rt: HostRuntime) {
     let set = even_numbers(&rt, rt.alloc());
-    expect_eq(&rt, &[set.iter().count(), counted(set.iter())], &[5000; 2]);
-    let mut walk = set.iter();
-    for half in 0..5000 {
-        expect_eq(&rt, &walk.next(), &Some(half * 2));
-    }
-    expect_eq(&rt, &walk.next(), &None);
+    expect_eq(&rt, &counts(&set), &[5000; 2]);
+    gives_even_numbers(&rt, &set);
 }
 
 // The walk gives these items first.
 pub(crate) fn passes<B: BitBlock>(rt: &impl Abort, walk: &mut Iter<'_, B>, items: &[usize]) {
     for item in items {
-        expect_eq(rt, &walk.next(), &Some(*item));
+        expect_eq(rt, &next_of(walk), &Some(*item));
     }
 }
 
 // The walk gives these items, and no more.
 fn gives<B: BitBlock>(rt: &impl Abort, mut walk: Iter<'_, B>, items: &[usize]) {
     passes(rt, &mut walk, items);
-    expect_eq(rt, &walk.next(), &None);
+    expect_eq(rt, &next_of(&mut walk), &None);
 }
 
 // At each point of the walk over these elements, a clone counts what is left and gives it, and the
@@ -215,7 +232,7 @@ fn agrees_past<B: BitBlock>(rt: &impl Abort, set: &BitSet<B>, passed: &[usize], 
     passes(rt, &mut walk, passed);
     expect_eq_at(rt, passed.len(), &walk.clone().count(), &left.len());
     gives(rt, walk.clone(), left);
-    expect_eq(rt, &walk.next(), &left.first().copied());
+    expect_eq(rt, &next_of(&mut walk), &left.first().copied());
 }
 
 fn agrees_over<B: BitBlock>(rt: &impl Abort, alloc: Global, elements: &[usize]) {

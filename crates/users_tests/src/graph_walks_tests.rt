@@ -1,5 +1,5 @@
 //! The walks and the closure beside a slow model that has no set and no stack, over graphs of lists and of sets.
-use crate::expect::{expect, expect_eq, ok};
+use crate::expect::{expect, expect_eq, expect_eq_at, expect_of, ok};
 use bit_set::{BitBlock, BitSet, SetError};
 use graph_walks::{Graph, close, reachable, reachable_from_any, reaches_all_of};
 use std::alloc::Global;
@@ -100,6 +100,17 @@ fn is<B: BitBlock>(set: &BitSet<B>, numbers: &[usize]) -> bool {
     set.iter().eq(numbers.iter().copied())
 }
 
+// Whether a walk over a graph reaches just these nodes from one.
+fn reaches<B: BitBlock, G: Graph>(
+    rt: &impl Abort,
+    alloc: Global,
+    (graph, start): (G, usize),
+    nodes: &[usize],
+) -> bool {
+    let reached = ok(rt, reachable::<B, _>(alloc, graph, start));
+    is(&reached, nodes)
+}
+
 // From each node a walk over a graph reaches what the slow model does over its rows.
 fn check_walks<B: BitBlock, G: Graph>(
     rt: &impl Abort,
@@ -109,8 +120,8 @@ fn check_walks<B: BitBlock, G: Graph>(
 ) {
     for start in 0..LIMIT {
         let slow = slowly_reached(rt, alloc, rows, &[start]);
-        let reached = ok(rt, reachable::<B, _>(alloc, graph, start));
-        assert!(rt; is(&reached, slow.as_slice()), "from {start}");
+        let agrees = reaches::<B, _>(rt, alloc, (graph, start), slow.as_slice());
+        expect_eq_at(rt, start, &agrees, &true);
     }
 }
 
@@ -134,10 +145,10 @@ fn is_row<B: BitBlock>(sets: &[BitSet<B>], node: usize, numbers: &[usize]) -> bo
 
 // The row of a node has these nodes, and the node reaches all that each of them reaches.
 fn check_row<B: BitBlock>(rt: &impl Abort, sets: &[BitSet<B>], node: usize, slow: &[usize]) {
-    assert!(rt; is_row(sets, node, slow), "at {node}");
+    expect_eq_at(rt, node, &is_row(sets, node, slow), &true);
     for successor in slow {
         let within = reaches_all_of(sets, node, *successor);
-        assert!(rt; within, "{node} reaches {successor}");
+        expect_of(rt, (node, *successor), within);
     }
 }
 
@@ -183,12 +194,21 @@ fn line(rt: &impl Abort, alloc: Global, nodes: usize) -> Vec<Vec<usize>> {
     rows
 }
 
+// How many nodes are reached from one.
+fn count_from_one(rt: &impl Abort, alloc: Global, rows: &[Vec<usize>], start: usize) -> usize {
+    let reached = ok(rt, reachable::<u32, _>(alloc, rows, start));
+    reached.count()
+}
+
+// A node of a line of a hundred thousand, and how many are reached from it.
+const REACHED: &[(usize, usize)] = &[(0, 100_001), (40_000, 60_001), (99_999, 2), (100_000, 1)];
+
 #[test]
 fn a_line(rt: HostRuntime) {
     let rows = line(&rt, rt.alloc(), 100_000);
-    for (start, count) in [(0, 100_001), (40_000, 60_001), (99_999, 2), (100_000, 1)] {
-        let reached = ok(&rt, reachable::<u32, _>(rt.alloc(), rows.as_slice(), start));
-        assert_eq!(rt; reached.count(), count, "from {start}");
+    for (start, count) in REACHED {
+        let found = count_from_one(&rt, rt.alloc(), rows.as_slice(), *start);
+        expect_eq_at(&rt, *start, &found, count);
     }
 }
 
@@ -224,8 +244,12 @@ fn a_closed_line(rt: HostRuntime) {
     let mut sets = sets_of::<u64>(&rt, rt.alloc(), rows.as_slice());
     ok(&rt, close(rt.alloc(), sets.as_mut_slice()));
     for (node, row) in sets.iter().enumerate() {
-        assert_eq!(rt; row.count().saturating_add(node), 1000, "at {node}");
+        expect_eq_at(&rt, node, &row.count().saturating_add(node), &1000);
     }
+}
+
+fn fault_from(alloc: Global, rows: &[Vec<usize>], start: usize) -> Option<SetError> {
+    reachable::<u32, _>(alloc, rows, start).err()
 }
 
 #[test]
@@ -233,8 +257,8 @@ fn a_path_to_the_greatest_number(rt: HostRuntime) {
     let greatest = 18446744073709551615;
     let rows = rows_of(&rt, rt.alloc(), &[&[1], &[1, greatest], &[2]]);
     for start in [0, 1, greatest] {
-        let reached = reachable::<u32, _>(rt.alloc(), rows.as_slice(), start);
-        assert!(rt; reached == Err(SetError::Element), "from {start}");
+        let fault = fault_from(rt.alloc(), rows.as_slice(), start);
+        expect_eq_at(&rt, start, &fault, &Some(SetError::Element));
     }
     let alone = ok(&rt, reachable::<u32, _>(rt.alloc(), rows.as_slice(), 2));
     expect(&rt, is(&alone, &[2]));
@@ -254,7 +278,7 @@ fn a_small_closure(rt: HostRuntime) {
     expect_eq(&rt, &sets.len(), &4);
     let lists: [&[usize]; 4] = [&[1, 2, 3, 70], &[1, 3, 70], &[2], &[1, 3, 70]];
     for (node, list) in lists.iter().enumerate() {
-        assert!(rt; is_row(sets.as_slice(), node, list), "at {node}");
+        expect_eq_at(&rt, node, &is_row(sets.as_slice(), node, list), &true);
     }
 }
 
@@ -275,6 +299,6 @@ fn nodes_of_a_small_closure(rt: HostRuntime) {
     let sets = closed(&rt, rt.alloc());
     for (a, b, wanted) in REACHES {
         let reaches = reaches_all_of(sets.as_slice(), *a, *b);
-        assert_eq!(rt; reaches, *wanted, "{a} and {b}");
+        expect_of(&rt, (*a, *b), reaches == *wanted);
     }
 }

@@ -10,24 +10,10 @@ use std::alloc::{AllocError, AllocFailed, Global};
 use std::collections::BTreeMap;
 
 pub mod bits;
-#[cfg(test)]
-mod bits_tests;
 pub mod chains;
-#[cfg(test)]
-mod chains_tests;
 pub mod commands;
-#[cfg(test)]
-mod commands_tests;
-#[cfg(test)]
-mod expect;
 pub mod loops;
-#[cfg(test)]
-mod loops_tests;
-#[cfg(test)]
-mod tests;
 pub mod worklists;
-#[cfg(test)]
-mod worklists_tests;
 
 /// The even numbers below `n`.
 pub fn evens<B: BitBlock>(alloc: Global, n: usize) -> Result<BitSet<B>, SetError>

@@ -72,16 +72,20 @@ fn agrees<W: AnyWalk>(rt: &impl Abort, walk: W, items: &[usize]) {
     }
 }
 
+fn hint_of(walk: &Intersection<'_, u32>) -> (usize, Option<usize>) {
+    walk.size_hint()
+}
+
 // The bounds on what is left of an intersection: at first, after so many items, and after one more call.
 fn bounds(a: &BitSet, b: &BitSet, items: usize) -> [(usize, Option<usize>); 3] {
     let mut walk = a.intersection(b);
-    let made = walk.size_hint();
+    let made = hint_of(&walk);
     for _ in 0..items {
-        let _item = walk.next();
+        let _item = walk.step();
     }
-    let stepped = walk.size_hint();
-    let _item = walk.next();
-    [made, stepped, walk.size_hint()]
+    let stepped = hint_of(&walk);
+    let _item = walk.step();
+    [made, stepped, hint_of(&walk)]
 }
 
 // The walk over what two sets become gives these items.

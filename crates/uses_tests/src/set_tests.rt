@@ -1,16 +1,15 @@
-use super::*;
-use crate::expect::{expect, expect_eq, ok};
+//! The uses of `src/lib.rt`.
+use crate::expect::{expect_eq, ok, ok_as_said};
+use crate::sets::{has_members, set_of};
+use bit_set::BitSet;
+use std::alloc::Global;
+use std::collections::BTreeMap;
 use std::process::Abort;
-
-// The set of these numbers.
-pub(crate) fn set_of<B: BitBlock>(rt: &impl Abort, alloc: Global, numbers: &[usize]) -> BitSet<B> {
-    ok(rt, BitSet::from_iter(alloc, numbers.iter().copied()))
-}
-
-// A set has these members, and no others.
-pub(crate) fn has_members<B: BitBlock>(rt: &impl Abort, set: &BitSet<B>, wanted: &[usize]) {
-    expect(rt, set.iter().eq(wanted.iter().copied()));
-}
+use uses::chains::copy_over;
+use uses::{
+    count_below, count_common, either_without, evens, evens_by_chain, exchange, keep_under,
+    lists_of_members, lowest_free, members, put_each, take_least, toggle,
+};
 
 const EVENS: &[usize] = &[0, 2, 4, 6, 8];
 
@@ -49,9 +48,19 @@ fn a_member_comes_and_goes(rt: HostRuntime) {
 
 #[test]
 fn numbers_go_in_where_there_is_capacity(rt: HostRuntime) {
-    let mut set = ok(&rt, BitSet::<u16>::with_capacity_general(rt.alloc(), 100));
+    let mut set = ok_as_said(&rt, BitSet::<u16>::with_capacity_general(rt.alloc(), 100));
     ok(&rt, put_each(&mut set, &[99, 4, 99]));
     has_members(&rt, &set, &[4, 99]);
+}
+
+// What a call makes, without what it ensures.
+fn without(
+    rt: &impl Abort,
+    alloc: Global,
+    (a, b): (&BitSet<u16>, &BitSet<u16>),
+    c: &BitSet<u16>,
+) -> BitSet<u16> {
+    ok(rt, either_without(alloc, a, b, c))
 }
 
 #[test]
@@ -60,15 +69,14 @@ fn sets_are_joined_and_cut(rt: HostRuntime) {
     let b = set_of::<u16>(&rt, rt.alloc(), &[4, 99]);
     expect_eq(&rt, &count_common(&a, &b), &1);
     let c = set_of::<u16>(&rt, rt.alloc(), &[4, 5]);
-    let left = ok(&rt, either_without(rt.alloc(), &a, &b, &c));
-    has_members(&rt, &left, &[99, 300]);
+    has_members(&rt, &without(&rt, rt.alloc(), (&a, &b), &c), &[99, 300]);
 }
 
 #[test]
 fn a_set_is_a_key(rt: HostRuntime) {
     let mut longer = set_of::<u8>(&rt, rt.alloc(), &[0, 2, 900]);
     longer.remove(900);
-    let shorter = ok(&rt, chains::copy_over::<u8, u8>(rt.alloc(), &longer));
+    let shorter = ok_as_said(&rt, copy_over::<u8, u8>(rt.alloc(), &longer));
     lists_of_members(&shorter, &longer);
     let found = keep_under(&mut BTreeMap::new(rt.alloc()), shorter, 7, &longer);
     expect_eq(&rt, &ok(&rt, found), &Some(7));

@@ -1,6 +1,13 @@
-use crate::chains::*;
+//! The walks in chains.
 use crate::expect::{expect_eq, ok};
-use crate::tests::{has_members, set_of};
+use crate::sets::{has_members, set_of};
+use bit_set::BitSet;
+use std::alloc::Global;
+use std::process::Abort;
+use uses::chains::{
+    all_below, any_from, common, copy_over, first_from, greatest_odd, halves, last, least,
+    place_of, put_members, put_row, ten_least,
+};
 
 // A bound, whether 3 and 70 are both below it, and the least of them that is not.
 const BOUNDS: &[(usize, bool, Option<usize>)] = &[
@@ -30,17 +37,26 @@ fn members_are_put_in(rt: HostRuntime) {
     has_members(&rt, &set, &[0, 2, 3, 9, 70]);
 }
 
+// What the calls make. A function without a clause keeps what they ensure from the test.
+fn copied(rt: &impl Abort, alloc: Global, set: &BitSet<u128>) -> BitSet<u8> {
+    ok(rt, copy_over(alloc, set))
+}
+
+fn in_both(rt: &impl Abort, alloc: Global, a: &BitSet<u128>, b: &BitSet<u128>) -> BitSet<u128> {
+    ok(rt, common(alloc, a, b))
+}
+
+fn halved(rt: &impl Abort, alloc: Global, set: &BitSet<u128>) -> BitSet<u8> {
+    ok(rt, halves(alloc, set))
+}
+
 #[test]
 fn sets_are_made_by_chains(rt: HostRuntime) {
-    let a = set_of::<u128>(&rt, rt.alloc(), &[0, 2, 300]);
-    has_members(
-        &rt,
-        &ok(&rt, copy_over::<_, u8>(rt.alloc(), &a)),
-        &[0, 2, 300],
-    );
-    let b = set_of::<u128>(&rt, rt.alloc(), &[2, 3, 300]);
-    has_members(&rt, &ok(&rt, common(rt.alloc(), &a, &b)), &[2, 300]);
-    has_members(&rt, &ok(&rt, halves::<_, u8>(rt.alloc(), &b)), &[1, 150]);
+    let a = set_of(&rt, rt.alloc(), &[0, 2, 300]);
+    has_members(&rt, &copied(&rt, rt.alloc(), &a), &[0, 2, 300]);
+    let b = set_of(&rt, rt.alloc(), &[2, 3, 300]);
+    has_members(&rt, &in_both(&rt, rt.alloc(), &a, &b), &[2, 300]);
+    has_members(&rt, &halved(&rt, rt.alloc(), &b), &[1, 150]);
 }
 
 // Eleven members.

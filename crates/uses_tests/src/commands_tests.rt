@@ -1,7 +1,7 @@
-use super::*;
+//! The uses of `bit_set_run`.
 use crate::expect::{expect_eq, ok};
 use bit_set_run::{Command, Reply, SetName};
-use commands::{output_of, replies_to};
+use uses::commands::{output_of, replies_to};
 
 #[test]
 fn commands_are_run(rt: HostRuntime) {

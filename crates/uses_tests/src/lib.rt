@@ -1,0 +1,19 @@
+//! The tests of `uses`: each is run once, by public calls alone.
+#![tactic(auto)]
+
+#[cfg(test)]
+mod bits_tests;
+#[cfg(test)]
+mod chains_tests;
+#[cfg(test)]
+mod commands_tests;
+#[cfg(test)]
+mod expect;
+#[cfg(test)]
+mod loops_tests;
+#[cfg(test)]
+mod set_tests;
+#[cfg(test)]
+mod sets;
+#[cfg(test)]
+mod worklists_tests;
