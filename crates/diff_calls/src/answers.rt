@@ -10,15 +10,18 @@ const LENGTH: usize = 3;
 
 const NO_BOUND: usize = usize::MAX;
 
+// Words, until memory is refused to them or to a call. The script ends then, so no call has a path of its own for that.
 #[derive(Drop)]
 pub(crate) struct Answers {
     words: Vec<usize>,
+    is_refused: bool,
 }
 
 impl Answers {
     pub(crate) fn new(alloc: Global) -> Self {
         Answers {
             words: Vec::new(alloc),
+            is_refused: false,
         }
     }
 
@@ -26,64 +29,123 @@ impl Answers {
         &self.words
     }
 
-    pub(crate) fn number(&mut self, number: usize) -> Result<(), AllocError> {
-        Ok(self.words.push(number)?)
+    // Whether memory was refused.
+    pub(crate) fn is_refused(&self) -> bool {
+        self.is_refused
     }
 
-    pub(crate) fn truth(&mut self, truth: bool) -> Result<(), AllocError> {
-        self.number(usize::from(truth))
+    pub(crate) fn refuse(&mut self) {
+        self.is_refused = true;
+    }
+
+    pub(crate) fn number(&mut self, number: usize) {
+        if self.words.push(number).is_err() {
+            self.is_refused = true;
+        }
+    }
+
+    pub(crate) fn truth(&mut self, truth: bool) {
+        self.number(usize::from(truth));
     }
 
     // 0 for none, else one more than the number, which is below the greatest.
-    pub(crate) fn item(&mut self, item: Option<usize>) -> Result<(), AllocError> {
-        self.number(item.map_or(0, |item| item.wrapping_add(1)))
+    pub(crate) fn item(&mut self, item: Option<usize>) {
+        match item {
+            Some(item) => self.number(item.wrapping_add(1)),
+            None => self.number(0),
+        }
     }
 
     // 0 for none, else one more than the truth value.
-    pub(crate) fn bit(&mut self, bit: Option<bool>) -> Result<(), AllocError> {
-        self.item(bit.map(usize::from))
+    pub(crate) fn bit(&mut self, bit: Option<bool>) {
+        match bit {
+            Some(bit) => self.number(1 + usize::from(bit)),
+            None => self.number(0),
+        }
     }
 
-    pub(crate) fn bounds(&mut self, bounds: (usize, Option<usize>)) -> Result<(), AllocError> {
-        let (lower, upper) = bounds;
-        self.number(lower)?;
-        self.number(upper.unwrap_or(NO_BOUND))
+    pub(crate) fn bounds(&mut self, bounds: (usize, Option<usize>)) {
+        self.number(bounds.0);
+        self.number(bounds.1.unwrap_or(NO_BOUND));
     }
 
-    pub(crate) fn order(&mut self, order: Ordering) -> Result<(), AllocError> {
+    pub(crate) fn order(&mut self, order: Ordering) {
         self.number(match order {
             Ordering::Less => 0,
             Ordering::Equal => 1,
             Ordering::Greater => 2,
-        })
-    }
-
-    // The length of the text, and its bytes.
-    pub(crate) fn text(&mut self, text: &str) -> Result<(), AllocError> {
-        self.bytes(text.as_bytes())
+        });
     }
 
     // How many bytes there are, and these.
-    pub(crate) fn bytes(&mut self, bytes: &[u8]) -> Result<(), AllocError> {
-        self.number(bytes.len())?;
+    pub(crate) fn bytes(&mut self, bytes: &[u8]) {
+        self.number(bytes.len());
         for byte in bytes {
-            self.number(usize::from(*byte))?;
+            self.number(usize::from(*byte));
         }
-        Ok(())
     }
 
-    // How a call ended that returns nothing else. That memory is refused ends the script.
-    pub(crate) fn outcome(&mut self, ended: Result<(), SetError>) -> Result<(), AllocError> {
-        self.change(ended.map(|()| true))
+    // The length of the text, and its bytes.
+    pub(crate) fn text(&mut self, text: Result<String, AllocError>) {
+        match text {
+            Ok(text) => self.bytes(text.as_bytes()),
+            Err(_) => self.refuse(),
+        }
+    }
+
+    // The same of what is made as bytes.
+    pub(crate) fn made_bytes(&mut self, bytes: Result<Vec<u8>, AllocError>) {
+        match bytes {
+            Ok(bytes) => self.bytes(&bytes),
+            Err(_) => self.refuse(),
+        }
+    }
+
+    // How a call ended that fails for memory alone, and of which nothing else is said.
+    pub(crate) fn ended(&mut self, ended: Result<(), AllocError>) {
+        if ended.is_err() {
+            self.refuse();
+        }
+    }
+
+    // Likewise, where it is said that the call is done.
+    pub(crate) fn done(&mut self, ended: Result<(), AllocError>) {
+        match ended {
+            Ok(()) => self.truth(true),
+            Err(_) => self.refuse(),
+        }
+    }
+
+    // What a call returned that says whether it changed anything, and fails for memory alone.
+    pub(crate) fn told(&mut self, told: Result<bool, AllocError>) {
+        match told {
+            Ok(changed) => self.truth(changed),
+            Err(_) => self.refuse(),
+        }
+    }
+
+    // Why a call failed.
+    pub(crate) fn fault(&mut self, fault: SetError) {
+        match fault {
+            SetError::Element => self.number(ELEMENT),
+            SetError::Length => self.number(LENGTH),
+            SetError::Memory(_) => self.refuse(),
+        }
+    }
+
+    // How a call ended that returns nothing else.
+    pub(crate) fn outcome(&mut self, ended: Result<(), SetError>) {
+        match ended {
+            Ok(()) => self.truth(true),
+            Err(fault) => self.fault(fault),
+        }
     }
 
     // What a call returned that says whether it changed anything.
-    pub(crate) fn change(&mut self, ended: Result<bool, SetError>) -> Result<(), AllocError> {
+    pub(crate) fn change(&mut self, ended: Result<bool, SetError>) {
         match ended {
             Ok(changed) => self.truth(changed),
-            Err(SetError::Element) => self.number(ELEMENT),
-            Err(SetError::Length) => self.number(LENGTH),
-            Err(SetError::Memory(refused)) => Err(refused),
+            Err(fault) => self.fault(fault),
         }
     }
 }

@@ -1,50 +1,53 @@
 // Calls that change the bit vector that a set lends.
 use crate::answers::Answers;
-use crate::calls::Writing;
-use crate::lines::Line;
+use crate::calls::{Lengthening, Ranged, Writing};
 use bit_set::BitBlock;
 use bit_set::bit_vec::{BitVec, Merge, Steps, block_or_zero};
 use std::alloc::AllocError;
 
 // Blocks are merged where the other list is no longer.
-fn merge<B: BitBlock>(bits: &mut BitVec<B>, other: &BitVec<B>, merge: Merge) {
+pub(crate) fn merge_blocks<B: BitBlock>(merge: Merge, bits: &mut BitVec<B>, other: &BitVec<B>) {
     if other.len() <= bits.len() {
         bits.merge_blocks(other, merge, &mut Steps::new());
     }
 }
 
 // Likewise, and whether the list changed.
-fn merge_changes<B: BitBlock>(
+pub(crate) fn merge_and_tell<B: BitBlock>(
+    merge: Merge,
     bits: &mut BitVec<B>,
     other: &BitVec<B>,
-    merge: Merge,
     answers: &mut Answers,
-) -> Result<(), AllocError> {
-    if other.len() > bits.len() {
-        return Ok(());
+) {
+    if other.len() <= bits.len() {
+        answers.truth(bits.merge_changes(other, merge, &mut Steps::new()));
     }
-    answers.truth(bits.merge_changes(other, merge, &mut Steps::new()))
 }
 
 // What the second list has and the third has not, where the second is no longer than the first.
 pub(crate) fn unite_difference<B: BitBlock>(
     bits: &mut BitVec<B>,
-    (other, except): (&BitVec<B>, &BitVec<B>),
+    other: &BitVec<B>,
+    except: &BitVec<B>,
     answers: &mut Answers,
-) -> Result<(), AllocError> {
-    if other.len() > bits.len() {
-        return Ok(());
+) {
+    if other.len() <= bits.len() {
+        answers.truth(bits.unite_difference(other, except, &mut Steps::new()));
     }
-    answers.truth(bits.unite_difference(other, except, &mut Steps::new()))
 }
 
 // Calls on a range, as far as the list goes.
-fn write_range<B: BitBlock>(writing: Writing, bits: &mut BitVec<B>, (start, end): (usize, usize)) {
+pub(crate) fn write_range<B: BitBlock>(
+    ranged: Ranged,
+    bits: &mut BitVec<B>,
+    start: usize,
+    end: usize,
+) {
     let range = start..end.min(bits.len());
-    match writing {
-        Writing::SetRange => bits.fill_range(range, true),
-        Writing::ClearRange => bits.fill_range(range, false),
-        _ => bits.negate_range(range),
+    match ranged {
+        Ranged::Set => bits.fill_range(range, true),
+        Ranged::Clear => bits.fill_range(range, false),
+        Ranged::Negate => bits.negate_range(range),
     }
 }
 
@@ -58,75 +61,56 @@ fn keep_in_block<B: BitBlock>(bits: &mut BitVec<B>, other: &BitVec<B>, k: usize)
     }
 }
 
-// Calls at a place, where there is one.
+// Calls at a place, where there is one. What is written says whether one is, and what was or is there.
 fn write_at<B: BitBlock>(
-    writing: Writing,
     bits: &mut BitVec<B>,
-    (place, bit): (usize, bool),
-    answers: &mut Answers,
-) -> Result<(), AllocError> {
+    replaces: bool,
+    place: usize,
+    bit: bool,
+) -> Option<bool> {
     if bits.len() <= place {
-        return answers.bit(None);
+        return None;
     }
-    match writing {
-        Writing::Replace => answers.bit(Some(bits.replace(place, bit))),
-        _ => {
-            bits.set(place, bit);
-            answers.bit(Some(bit))
-        }
+    if replaces {
+        return Some(bits.replace(place, bit));
     }
+    bits.set(place, bit);
+    Some(bit)
 }
 
 // Calls for more values, where a length counts them.
-fn lengthen<B: BitBlock>(
-    writing: Writing,
+pub(crate) fn lengthen<B: BitBlock>(
+    lengthening: Lengthening,
     bits: &mut BitVec<B>,
-    (count, bit): (usize, bool),
+    count: usize,
+    bit: bool,
 ) -> Result<(), AllocError> {
     if count > usize::MAX - bits.len() {
         return Ok(());
     }
-    match writing {
-        Writing::Grow => bits.grow(count, bit),
-        Writing::Reserve => bits.reserve(count),
-        _ => bits.reserve_exact(count),
+    match lengthening {
+        Lengthening::Grow => bits.grow(count, bit),
+        Lengthening::Reserve => bits.reserve(count),
+        Lengthening::ReserveExact => bits.reserve_exact(count),
     }
 }
 
 pub(crate) fn write<B: BitBlock>(
     writing: Writing,
-    (bits, other): (&mut BitVec<B>, &BitVec<B>),
-    line: &Line<'_>,
+    bits: &mut BitVec<B>,
+    other: &BitVec<B>,
+    (number, bit): (usize, bool),
     answers: &mut Answers,
-) -> Result<(), AllocError> {
-    let number = line.first;
-    let bit = line.second == 1;
+) {
     match writing {
-        Writing::Set | Writing::Replace => write_at(writing, bits, (number, bit), answers)?,
+        Writing::Set => answers.bit(write_at(bits, false, number, bit)),
+        Writing::Replace => answers.bit(write_at(bits, true, number, bit)),
         Writing::Fill => bits.fill(bit),
         Writing::Truncate => bits.truncate(number),
         Writing::RemoveAll => bits.remove_all(),
-        Writing::Grow | Writing::Reserve | Writing::ReserveExact => {
-            lengthen(writing, bits, (number, bit))?
-        }
-        Writing::ShrinkToFit => bits.shrink_to_fit()?,
+        Writing::ShrinkToFit => answers.ended(bits.shrink_to_fit()),
         Writing::CutZeroBlocks => bits.cut_zero_blocks(),
-        Writing::CloneFrom => bits.clone_from(other)?,
-        Writing::MergeUnion => merge(bits, other, Merge::Union),
-        Writing::MergeIntersection => merge(bits, other, Merge::Intersection),
-        Writing::MergeDifference => merge(bits, other, Merge::Difference),
-        Writing::MergeSymmetric => merge(bits, other, Merge::Symmetric),
-        Writing::MergeChangesUnion => merge_changes(bits, other, Merge::Union, answers)?,
-        Writing::MergeChangesIntersection => {
-            merge_changes(bits, other, Merge::Intersection, answers)?
-        }
-        Writing::MergeChangesDifference => merge_changes(bits, other, Merge::Difference, answers)?,
-        Writing::MergeChangesSymmetric => merge_changes(bits, other, Merge::Symmetric, answers)?,
-        Writing::UniteDifference => {}
-        Writing::SetRange | Writing::ClearRange | Writing::NegateRange => {
-            write_range(writing, bits, (number, line.second))
-        }
+        Writing::CloneFrom => answers.ended(bits.clone_from(other)),
         Writing::KeepInBlock => keep_in_block(bits, other, number),
     }
-    Ok(())
 }

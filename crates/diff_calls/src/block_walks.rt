@@ -6,48 +6,39 @@ use bit_set::BitBlock;
 use bit_set::bit_vec::{
     BitVec, Blocks, FirstAndNonzero, Nonzero, block_or_zero, take_highest_one, take_lowest_one,
 };
-use std::alloc::AllocError;
 
 // So many steps of a walk over blocks, and before each of them the bounds on what is left.
-fn take_steps<B: Width>(
-    walk: &mut Blocks<'_, B>,
-    steps: usize,
-    answers: &mut Answers,
-) -> Result<(), AllocError> {
+fn take_steps<B: Width>(walk: &mut Blocks<'_, B>, steps: usize, answers: &mut Answers) {
     for _ in 0..steps {
-        answers.bounds(walk.size_hint())?;
-        next_block(walk.next(), answers)?;
+        answers.bounds(walk.size_hint());
+        next_block(walk.next(), answers);
     }
-    Ok(())
 }
 
 // A walk over some blocks, and on; a copy that was taken between; and how many blocks are left.
 pub(crate) fn blocks<B: Width>(
     bits: &BitVec<B>,
-    (steps, further): (usize, usize),
+    steps: usize,
+    further: usize,
     answers: &mut Answers,
-) -> Result<(), AllocError> {
+) {
     let mut walk = bits.blocks();
-    take_steps(&mut walk, steps, answers)?;
+    take_steps(&mut walk, steps, answers);
     let mut copy = walk.clone();
-    take_steps(&mut walk, further, answers)?;
-    take_steps(&mut copy, further, answers)?;
-    answers.number(walk.as_slice().len())?;
-    answers.number(walk.count())?;
-    answers.number(copy.count())
+    take_steps(&mut walk, further, answers);
+    take_steps(&mut copy, further, answers);
+    answers.number(walk.as_slice().len());
+    answers.number(walk.count());
+    answers.number(copy.count());
 }
 
 // Blocks of which each second one is wanted.
-pub(crate) fn next_if<B: Width>(
-    bits: &BitVec<B>,
-    steps: usize,
-    answers: &mut Answers,
-) -> Result<(), AllocError> {
+pub(crate) fn next_if<B: Width>(bits: &BitVec<B>, steps: usize, answers: &mut Answers) {
     let mut walk = bits.blocks();
     for turn in 0..steps {
-        next_block(walk.next_if(turn % 2 == 0), answers)?;
+        next_block(walk.next_if(turn % 2 == 0), answers);
     }
-    answers.number(walk.count())
+    answers.number(walk.count());
 }
 
 // A walk over blocks with their indices that can be copied at any point.
@@ -67,61 +58,53 @@ impl<B: BitBlock> Entries<B> for Nonzero<'_, B> {
     }
 }
 
-fn next_entry<B: Width, W: Entries<B>>(
-    walk: &mut W,
-    answers: &mut Answers,
-) -> Result<(), AllocError>
-    requires { (s : W) → W.can_next s }
-{
-    let next = walk.next();
-    answers.item(next.map(|entry| entry.0))?;
-    next_block(next.map(|entry| entry.1), answers)
+// An entry of such a walk: the index of a block, and the block.
+fn entry<B: Width>(entry: Option<(usize, B)>, answers: &mut Answers) {
+    match entry {
+        Some((k, block)) => {
+            answers.item(Some(k));
+            next_block(Some(block), answers);
+        }
+        None => {
+            answers.item(None);
+            next_block(None::<B>, answers);
+        }
+    }
 }
 
-fn take_entries<B: Width, W: Entries<B>>(
-    walk: &mut W,
-    steps: usize,
-    answers: &mut Answers,
-) -> Result<(), AllocError>
+fn next_entry<B: Width, W: Entries<B>>(walk: &mut W, answers: &mut Answers)
+    requires { (s : W) → W.can_next s }
+{
+    entry(walk.next(), answers);
+}
+
+fn take_entries<B: Width, W: Entries<B>>(walk: &mut W, steps: usize, answers: &mut Answers)
     requires { (s : W) → W.can_next s }
 {
     for _ in 0..steps {
-        next_entry(walk, answers)?;
+        next_entry(walk, answers);
     }
-    Ok(())
 }
 
 // A walk over so many blocks, and on, and a copy that was taken between.
-fn take<B: Width, W: Entries<B>>(
-    mut walk: W,
-    steps: usize,
-    answers: &mut Answers,
-) -> Result<(), AllocError>
+fn take<B: Width, W: Entries<B>>(mut walk: W, steps: usize, answers: &mut Answers)
     requires { (s : W) → W.can_next s }
 {
-    take_entries(&mut walk, steps, answers)?;
+    take_entries(&mut walk, steps, answers);
     let mut copy = walk.copy();
-    take_entries(&mut walk, 3, answers)?;
-    take_entries(&mut copy, steps, answers)
+    take_entries(&mut walk, 3, answers);
+    take_entries(&mut copy, steps, answers);
 }
 
 // The first block, and those after it that are not 0.
-pub(crate) fn nonzero<B: Width>(
-    bits: &BitVec<B>,
-    steps: usize,
-    answers: &mut Answers,
-) -> Result<(), AllocError> {
-    take(bits.nonzero(), steps, answers)
+pub(crate) fn nonzero<B: Width>(bits: &BitVec<B>, steps: usize, answers: &mut Answers) {
+    take(bits.nonzero(), steps, answers);
 }
 
 // The blocks past the first, or past some block, that are not 0, and how many blocks there are.
-pub(crate) fn nonzero_past<B: Width>(
-    walk: Nonzero<'_, B>,
-    steps: usize,
-    answers: &mut Answers,
-) -> Result<(), AllocError> {
-    answers.number(walk.as_slice().len())?;
-    take(walk, steps, answers)
+pub(crate) fn nonzero_past<B: Width>(walk: Nonzero<'_, B>, steps: usize, answers: &mut Answers) {
+    answers.number(walk.as_slice().len());
+    take(walk, steps, answers);
 }
 
 // Whether a step takes of the front: a digit of a number says it of each.
@@ -129,39 +112,42 @@ pub(crate) fn is_front(ends: usize, step: usize) -> bool {
     (ends >> (step % 64)) % 2 == 1
 }
 
+// The next block of the walk, at one of its ends.
+fn next_at<B: Width>(walk: &mut Nonzero<'_, B>, is_front: bool) -> Option<(usize, B)> {
+    if is_front {
+        walk.next()
+    } else {
+        walk.next_back()
+    }
+}
+
 // The blocks past the first that are not 0, from both ends.
 pub(crate) fn nonzero_ends<B: Width>(
     bits: &BitVec<B>,
-    (steps, ends): (usize, usize),
+    steps: usize,
+    ends: usize,
     answers: &mut Answers,
-) -> Result<(), AllocError> {
+) {
     let mut walk = bits.nonzero_past_first();
     for step in 0..steps {
-        let entry = if is_front(ends, step) {
-            walk.next()
-        } else {
-            walk.next_back()
-        };
-        answers.item(entry.map(|entry| entry.0))?;
-        next_block(entry.map(|entry| entry.1), answers)?;
+        entry(next_at(&mut walk, is_front(ends, step)), answers);
     }
-    Ok(())
 }
 
 // So many places from a block on at which the bit vector is true, by a block that is filled again and again.
 pub(crate) fn refill<B: Width>(
     bits: &BitVec<B>,
-    (first, steps): (usize, usize),
+    first: usize,
+    steps: usize,
     answers: &mut Answers,
-) -> Result<(), AllocError> {
+) {
     let mut walk = bits.nonzero_past(first);
     let mut block = block_or_zero(bits.storage(), first);
     let mut index = first.wrapping_mul(B::bits());
     let mut back = B::zero();
     for step in 0..steps {
-        answers.item(first_place(&mut walk, &mut block, &mut index, &mut back, 0))?;
+        answers.item(first_place(&mut walk, &mut block, &mut index, &mut back, 0));
     }
-    Ok(())
 }
 
 // The highest place that is left in the block in hand at the back, or else in those that the walk gives, or in the block
@@ -208,19 +194,18 @@ fn first_place<B: Width>(
 // So many places at which the bit vector is true, from both ends, by a block in hand at each.
 pub(crate) fn refill_ends<B: Width>(
     bits: &BitVec<B>,
-    (steps, ends): (usize, usize),
+    steps: usize,
+    ends: usize,
     answers: &mut Answers,
-) -> Result<(), AllocError> {
+) {
     let mut walk = bits.nonzero_past_first();
     let (mut block, mut index) = (block_or_zero(bits.storage(), 0), 0);
     let (mut back, mut back_index) = (B::zero(), 0);
     for step in 0..steps {
-        let place = if is_front(ends, step) {
+        answers.item(if is_front(ends, step) {
             first_place(&mut walk, &mut block, &mut index, &mut back, back_index)
         } else {
             last_place(&mut walk, &mut back, &mut back_index, &mut block, index)
-        };
-        answers.item(place)?;
+        });
     }
-    Ok(())
 }

@@ -1,60 +1,59 @@
-// The calls of a script. The place of a call in the table is its number.
+// The calls of a script, by what they take and return. The place of a call in the table is its number.
+use bit_set::bit_vec::Merge;
 
-// What makes a set, by the names of the functions of `BitSet`, and of `BitVec` behind `Bits`.
+// What makes a set.
 #[derive(Clone, Copy)]
 pub(crate) enum Making {
     New,
-    NewGeneral,
     WithCapacity,
-    WithCapacityGeneral,
     FromBytes,
-    FromBytesGeneral,
-    FromIter,
-    BitsNew,
-    BitsNewGeneral,
-    BitsFromElem,
-    BitsFromElemGeneral,
-    BitsFromBytes,
-    BitsFromBytesGeneral,
 }
 
-// What changes a set, alone or by a second one.
+// What makes the bit vector of a set.
+#[derive(Clone, Copy)]
+pub(crate) enum Listing {
+    New,
+    FromElem,
+    FromBytes,
+}
+
+// What changes a set, and may fail or says whether it did.
 #[derive(Clone, Copy)]
 pub(crate) enum Changing {
     Insert,
     Remove,
     Extend,
+    ReserveLen,
+    ReserveLenExact,
+    ShrinkToFit,
+    InsertRange,
+    ToggleRange,
+    Toggle,
+    Set,
+}
+
+// What leaves less of a set, and returns nothing.
+#[derive(Clone, Copy)]
+pub(crate) enum Lessening {
     Truncate,
     MakeEmpty,
     Clear,
     Reset,
-    ReserveLen,
-    ReserveLenExact,
-    ShrinkToFit,
-    IntoBitVec,
-    CloneFrom,
-    UnionWith,
-    IntersectWith,
-    DifferenceWith,
-    SymmetricDifferenceWith,
-    UnionChanges,
-    IntersectionChanges,
-    DifferenceChanges,
-    SymmetricDifferenceChanges,
-    UnionWithDifference,
-    InsertRange,
     RemoveRange,
-    ToggleRange,
-    Toggle,
-    Set,
-    PopFirst,
-    PopLast,
     Retain,
+}
+
+// What takes an element out of a set.
+#[derive(Clone, Copy)]
+pub(crate) enum Popping {
+    First,
+    Last,
 }
 
 // What makes a set of a second one, or changes both.
 #[derive(Clone, Copy)]
 pub(crate) enum Moving {
+    CloneFrom,
     Clone,
     Append,
     SplitOff,
@@ -62,31 +61,46 @@ pub(crate) enum Moving {
     BitsCloneTail,
 }
 
-// What reads a set, alone or beside a second one.
+// What returns a number of a set.
 #[derive(Clone, Copy)]
-pub(crate) enum Reading {
-    Contains,
+pub(crate) enum Counting {
     Count,
     Len,
+    CountInRange,
+    NextMissing,
+}
+
+// What returns a truth value of a set, alone or beside a second one.
+#[derive(Clone, Copy)]
+pub(crate) enum Asking {
+    Contains,
     IsEmpty,
     Capacity,
     IsSubset,
     IsSuperset,
     IsDisjoint,
     Eq,
+    ContainsAllInRange,
+    ContainsAnyInRange,
+}
+
+// What returns an element of a set, where there is one.
+#[derive(Clone, Copy)]
+pub(crate) enum Finding {
+    First,
+    Last,
+    Next,
+    Previous,
+}
+
+// What says of a set more than that.
+#[derive(Clone, Copy)]
+pub(crate) enum Telling {
     Cmp,
     Hash,
     Display,
     Debug,
     Json,
-    ContainsAllInRange,
-    ContainsAnyInRange,
-    CountInRange,
-    First,
-    Last,
-    Next,
-    Previous,
-    NextMissing,
     ToBytes,
 }
 
@@ -114,35 +128,65 @@ pub(crate) enum Writing {
     Fill,
     Truncate,
     RemoveAll,
-    Grow,
-    Reserve,
-    ReserveExact,
     ShrinkToFit,
     CutZeroBlocks,
     CloneFrom,
-    MergeUnion,
-    MergeIntersection,
-    MergeDifference,
-    MergeSymmetric,
-    MergeChangesUnion,
-    MergeChangesIntersection,
-    MergeChangesDifference,
-    MergeChangesSymmetric,
-    UniteDifference,
-    SetRange,
-    ClearRange,
-    NegateRange,
     KeepInBlock,
 }
 
-// What reads the bit vector that a set lends.
+// What gives it more values, or capacity for more.
+#[derive(Clone, Copy)]
+pub(crate) enum Lengthening {
+    Grow,
+    Reserve,
+    ReserveExact,
+}
+
+// What changes a range of it.
+#[derive(Clone, Copy)]
+pub(crate) enum Ranged {
+    Set,
+    Clear,
+    Negate,
+}
+
+// What returns a number of it.
+#[derive(Clone, Copy)]
+pub(crate) enum BitCounting {
+    Len,
+    CountOnes,
+    CountOnesInRange,
+    FirstZeroFrom,
+}
+
+// What returns a truth value of it, alone or beside a second one.
+#[derive(Clone, Copy)]
+pub(crate) enum BitAsking {
+    None,
+    Capacity,
+    IsSubsetOf,
+    IsDisjointFrom,
+    AllInRange,
+    AnyInRange,
+}
+
+// What returns a place in it, where there is one.
+#[derive(Clone, Copy)]
+pub(crate) enum BitFinding {
+    FirstOneFrom,
+    LastOneBefore,
+}
+
+// What makes a text or bytes of it.
+#[derive(Clone, Copy)]
+pub(crate) enum BitTelling {
+    Debug,
+    ToBytes,
+}
+
+// What reads its blocks.
 #[derive(Clone, Copy)]
 pub(crate) enum Looking {
-    Len,
-    Get,
-    None,
-    CountOnes,
-    Capacity,
     Storage,
     Blocks,
     NextIf,
@@ -154,101 +198,116 @@ pub(crate) enum Looking {
     RefillEnds,
     Mismatch,
     Block,
-    IsSubsetOf,
-    IsDisjointFrom,
-    Debug,
-    CountOnesInRange,
-    AllInRange,
-    AnyInRange,
-    FirstOneFrom,
-    LastOneBefore,
-    FirstZeroFrom,
     ZerosInBlock,
-    ToBytes,
 }
 
+// A call. Those that are named as `..General` are over blocks of any type, and those without that over blocks of 32 bits
+// alone; those named as `..AndTell` say whether they changed anything.
 #[derive(Clone, Copy)]
 pub(crate) enum Call {
     Make(Making),
+    MakeGeneral(Making),
+    FromIter,
+    List(Listing),
+    ListGeneral(Listing),
     Change(Changing),
+    Lessen(Lessening),
+    Pop(Popping),
+    IntoBitVec,
+    Combine(Merge),
+    CombineAndTell(Merge),
+    UnionWithDifference,
     Move(Moving),
-    Read(Reading),
+    Count(Counting),
+    Ask(Asking),
+    Find(Finding),
+    Tell(Telling),
     Walk(Walking),
     Write(Writing),
+    Lengthen(Lengthening),
+    WriteRange(Ranged),
+    MergeBlocks(Merge),
+    MergeAndTell(Merge),
+    UniteDifference,
+    CountBits(BitCounting),
+    AskBits(BitAsking),
+    FindBit(BitFinding),
+    Get,
+    TellBits(BitTelling),
     Look(Looking),
 }
 
 const CALLS: &[Call] = &[
     Call::Make(Making::New),
-    Call::Make(Making::NewGeneral),
+    Call::MakeGeneral(Making::New),
     Call::Make(Making::WithCapacity),
-    Call::Make(Making::WithCapacityGeneral),
+    Call::MakeGeneral(Making::WithCapacity),
     Call::Make(Making::FromBytes),
-    Call::Make(Making::FromBytesGeneral),
-    Call::Make(Making::FromIter),
-    Call::Make(Making::BitsNew),
-    Call::Make(Making::BitsNewGeneral),
-    Call::Make(Making::BitsFromElem),
-    Call::Make(Making::BitsFromElemGeneral),
-    Call::Make(Making::BitsFromBytes),
-    Call::Make(Making::BitsFromBytesGeneral),
+    Call::MakeGeneral(Making::FromBytes),
+    Call::FromIter,
+    Call::List(Listing::New),
+    Call::ListGeneral(Listing::New),
+    Call::List(Listing::FromElem),
+    Call::ListGeneral(Listing::FromElem),
+    Call::List(Listing::FromBytes),
+    Call::ListGeneral(Listing::FromBytes),
     Call::Change(Changing::Insert),
     Call::Change(Changing::Remove),
     Call::Change(Changing::Extend),
-    Call::Change(Changing::Truncate),
-    Call::Change(Changing::MakeEmpty),
-    Call::Change(Changing::Clear),
-    Call::Change(Changing::Reset),
+    Call::Lessen(Lessening::Truncate),
+    Call::Lessen(Lessening::MakeEmpty),
+    Call::Lessen(Lessening::Clear),
+    Call::Lessen(Lessening::Reset),
     Call::Change(Changing::ReserveLen),
     Call::Change(Changing::ReserveLenExact),
     Call::Change(Changing::ShrinkToFit),
-    Call::Change(Changing::IntoBitVec),
-    Call::Change(Changing::CloneFrom),
-    Call::Change(Changing::UnionWith),
-    Call::Change(Changing::IntersectWith),
-    Call::Change(Changing::DifferenceWith),
-    Call::Change(Changing::SymmetricDifferenceWith),
-    Call::Change(Changing::UnionChanges),
-    Call::Change(Changing::IntersectionChanges),
-    Call::Change(Changing::DifferenceChanges),
-    Call::Change(Changing::SymmetricDifferenceChanges),
-    Call::Change(Changing::UnionWithDifference),
+    Call::IntoBitVec,
+    Call::Move(Moving::CloneFrom),
+    Call::Combine(Merge::Union),
+    Call::Combine(Merge::Intersection),
+    Call::Combine(Merge::Difference),
+    Call::Combine(Merge::Symmetric),
+    Call::CombineAndTell(Merge::Union),
+    Call::CombineAndTell(Merge::Intersection),
+    Call::CombineAndTell(Merge::Difference),
+    Call::CombineAndTell(Merge::Symmetric),
+    Call::UnionWithDifference,
     Call::Change(Changing::InsertRange),
-    Call::Change(Changing::RemoveRange),
+    Call::Lessen(Lessening::RemoveRange),
     Call::Change(Changing::ToggleRange),
     Call::Change(Changing::Toggle),
     Call::Change(Changing::Set),
-    Call::Change(Changing::PopFirst),
-    Call::Change(Changing::PopLast),
-    Call::Change(Changing::Retain),
+    Call::Pop(Popping::First),
+    Call::Pop(Popping::Last),
+    Call::Lessen(Lessening::Retain),
     Call::Move(Moving::Clone),
     Call::Move(Moving::Append),
     Call::Move(Moving::SplitOff),
     Call::Move(Moving::BitsClone),
     Call::Move(Moving::BitsCloneTail),
-    Call::Read(Reading::Contains),
-    Call::Read(Reading::Count),
-    Call::Read(Reading::Len),
-    Call::Read(Reading::IsEmpty),
-    Call::Read(Reading::Capacity),
-    Call::Read(Reading::IsSubset),
-    Call::Read(Reading::IsSuperset),
-    Call::Read(Reading::IsDisjoint),
-    Call::Read(Reading::Eq),
-    Call::Read(Reading::Cmp),
-    Call::Read(Reading::Hash),
-    Call::Read(Reading::Display),
-    Call::Read(Reading::Debug),
-    Call::Read(Reading::Json),
-    Call::Read(Reading::ContainsAllInRange),
-    Call::Read(Reading::ContainsAnyInRange),
-    Call::Read(Reading::CountInRange),
-    Call::Read(Reading::First),
-    Call::Read(Reading::Last),
-    Call::Read(Reading::Next),
-    Call::Read(Reading::Previous),
-    Call::Read(Reading::NextMissing),
-    Call::Read(Reading::ToBytes),
+    Call::Ask(Asking::Contains),
+    Call::Count(Counting::Count),
+    Call::Count(Counting::Len),
+    Call::Ask(Asking::IsEmpty),
+    Call::Ask(Asking::Capacity),
+    Call::Ask(Asking::IsSubset),
+    Call::Ask(Asking::IsSuperset),
+    Call::Ask(Asking::IsDisjoint),
+    Call::Ask(Asking::Eq),
+    Call::Tell(Telling::Cmp),
+    Call::Tell(Telling::Hash),
+    Call::Tell(Telling::Display),
+    Call::Tell(Telling::Debug),
+    Call::Tell(Telling::Json),
+    Call::Ask(Asking::ContainsAllInRange),
+    Call::Ask(Asking::ContainsAnyInRange),
+    Call::Count(Counting::CountInRange),
+    Call::Find(Finding::First),
+    Call::Find(Finding::Last),
+    Call::Find(Finding::Next),
+    Call::Find(Finding::Previous),
+    Call::Count(Counting::NextMissing),
+    Call::Tell(Telling::ToBytes),
     Call::Walk(Walking::Iter),
     Call::Walk(Walking::IntoIter),
     Call::Walk(Walking::IterFrom),
@@ -265,30 +324,30 @@ const CALLS: &[Call] = &[
     Call::Write(Writing::Fill),
     Call::Write(Writing::Truncate),
     Call::Write(Writing::RemoveAll),
-    Call::Write(Writing::Grow),
-    Call::Write(Writing::Reserve),
-    Call::Write(Writing::ReserveExact),
+    Call::Lengthen(Lengthening::Grow),
+    Call::Lengthen(Lengthening::Reserve),
+    Call::Lengthen(Lengthening::ReserveExact),
     Call::Write(Writing::ShrinkToFit),
     Call::Write(Writing::CutZeroBlocks),
     Call::Write(Writing::CloneFrom),
-    Call::Write(Writing::MergeUnion),
-    Call::Write(Writing::MergeIntersection),
-    Call::Write(Writing::MergeDifference),
-    Call::Write(Writing::MergeSymmetric),
-    Call::Write(Writing::MergeChangesUnion),
-    Call::Write(Writing::MergeChangesIntersection),
-    Call::Write(Writing::MergeChangesDifference),
-    Call::Write(Writing::MergeChangesSymmetric),
-    Call::Write(Writing::UniteDifference),
-    Call::Write(Writing::SetRange),
-    Call::Write(Writing::ClearRange),
-    Call::Write(Writing::NegateRange),
+    Call::MergeBlocks(Merge::Union),
+    Call::MergeBlocks(Merge::Intersection),
+    Call::MergeBlocks(Merge::Difference),
+    Call::MergeBlocks(Merge::Symmetric),
+    Call::MergeAndTell(Merge::Union),
+    Call::MergeAndTell(Merge::Intersection),
+    Call::MergeAndTell(Merge::Difference),
+    Call::MergeAndTell(Merge::Symmetric),
+    Call::UniteDifference,
+    Call::WriteRange(Ranged::Set),
+    Call::WriteRange(Ranged::Clear),
+    Call::WriteRange(Ranged::Negate),
     Call::Write(Writing::KeepInBlock),
-    Call::Look(Looking::Len),
-    Call::Look(Looking::Get),
-    Call::Look(Looking::None),
-    Call::Look(Looking::CountOnes),
-    Call::Look(Looking::Capacity),
+    Call::CountBits(BitCounting::Len),
+    Call::Get,
+    Call::AskBits(BitAsking::None),
+    Call::CountBits(BitCounting::CountOnes),
+    Call::AskBits(BitAsking::Capacity),
     Call::Look(Looking::Storage),
     Call::Look(Looking::Blocks),
     Call::Look(Looking::NextIf),
@@ -300,17 +359,17 @@ const CALLS: &[Call] = &[
     Call::Look(Looking::RefillEnds),
     Call::Look(Looking::Mismatch),
     Call::Look(Looking::Block),
-    Call::Look(Looking::IsSubsetOf),
-    Call::Look(Looking::IsDisjointFrom),
-    Call::Look(Looking::Debug),
-    Call::Look(Looking::CountOnesInRange),
-    Call::Look(Looking::AllInRange),
-    Call::Look(Looking::AnyInRange),
-    Call::Look(Looking::FirstOneFrom),
-    Call::Look(Looking::LastOneBefore),
-    Call::Look(Looking::FirstZeroFrom),
+    Call::AskBits(BitAsking::IsSubsetOf),
+    Call::AskBits(BitAsking::IsDisjointFrom),
+    Call::TellBits(BitTelling::Debug),
+    Call::CountBits(BitCounting::CountOnesInRange),
+    Call::AskBits(BitAsking::AllInRange),
+    Call::AskBits(BitAsking::AnyInRange),
+    Call::FindBit(BitFinding::FirstOneFrom),
+    Call::FindBit(BitFinding::LastOneBefore),
+    Call::CountBits(BitCounting::FirstZeroFrom),
     Call::Look(Looking::ZerosInBlock),
-    Call::Look(Looking::ToBytes),
+    Call::TellBits(BitTelling::ToBytes),
 ];
 
 impl Call {

@@ -1,71 +1,123 @@
 // Calls that change a set, alone or by a second one, and those that make a set of a second one or change both.
 use crate::answers::Answers;
-use crate::calls::{Changing, Moving};
-use crate::lines::Line;
-use bit_set::{BitBlock, BitSet, SetError};
+use crate::calls::{Changing, Lessening, Moving, Popping};
+use bit_set::bit_vec::{BitVec, Merge};
+use bit_set::{BitBlock, BitSet};
 use std::alloc::{AllocError, Global};
 use std::mem;
 
 // Gives the set its own bit vector back, and returns the length.
-fn through_bit_vec<B: BitBlock>(alloc: Global, set: &mut BitSet<B>) -> usize {
+pub(crate) fn through_bit_vec<B: BitBlock>(alloc: Global, set: &mut BitSet<B>) -> usize {
     let bits = mem::replace(set, BitSet::new_general(alloc)).into_bit_vec();
     let len = bits.len();
     *set = BitSet::from_bit_vec_general(bits);
     len
 }
 
-// Calls that take one set and change it by numbers.
-fn changed_alone<B: BitBlock>(
+pub(crate) fn change<B: BitBlock>(
     changing: Changing,
     set: &mut BitSet<B>,
-    line: &Line<'_>,
-) -> Result<bool, SetError> {
-    let number = line.first;
+    (number, end): (usize, usize),
+    numbers: &[usize],
+    answers: &mut Answers,
+) {
     match changing {
-        Changing::Insert => return set.insert(number),
-        Changing::Remove => return Ok(set.remove(number)),
-        Changing::Extend => set.extend(line.numbers.iter().copied())?,
-        Changing::Truncate => set.truncate(number),
-        Changing::MakeEmpty => set.make_empty(),
-        Changing::Clear => set.clear(),
-        Changing::Reset => set.reset(),
-        Changing::ReserveLen => set.reserve_len(number)?,
-        Changing::ReserveLenExact => set.reserve_len_exact(number)?,
-        Changing::ShrinkToFit => set.shrink_to_fit()?,
-        Changing::InsertRange => set.insert_range(number..line.second)?,
-        Changing::RemoveRange => set.remove_range(number..line.second),
-        Changing::ToggleRange => set.toggle_range(number..line.second)?,
-        Changing::Toggle => return set.toggle(number),
-        Changing::Set => return set.set(number, line.second == 1),
-        Changing::Retain => set.retain(|element| element % 3 != number % 3),
-        _ => {}
+        Changing::Insert => answers.change(set.insert(number)),
+        Changing::Remove => answers.truth(set.remove(number)),
+        Changing::Extend => answers.outcome(set.extend(numbers.iter().copied())),
+        Changing::ReserveLen => answers.done(set.reserve_len(number)),
+        Changing::ReserveLenExact => answers.done(set.reserve_len_exact(number)),
+        Changing::ShrinkToFit => answers.done(set.shrink_to_fit()),
+        Changing::InsertRange => answers.outcome(set.insert_range(number..end)),
+        Changing::ToggleRange => answers.outcome(set.toggle_range(number..end)),
+        Changing::Toggle => answers.change(set.toggle(number)),
+        Changing::Set => answers.change(set.set(number, end == 1)),
     }
-    Ok(true)
 }
 
-pub(crate) fn change<B: BitBlock>(
-    alloc: Global,
-    changing: Changing,
-    (set, other): (&mut BitSet<B>, &BitSet<B>),
-    line: &Line<'_>,
-    answers: &mut Answers,
+pub(crate) fn lessen<B: BitBlock>(
+    lessening: Lessening,
+    set: &mut BitSet<B>,
+    number: usize,
+    end: usize,
+) {
+    match lessening {
+        Lessening::Truncate => set.truncate(number),
+        Lessening::MakeEmpty => set.make_empty(),
+        Lessening::Clear => set.clear(),
+        Lessening::Reset => set.reset(),
+        Lessening::RemoveRange => set.remove_range(number..end),
+        Lessening::Retain => set.retain(|element| element % 3 != number % 3),
+    }
+}
+
+pub(crate) fn pop<B: BitBlock>(popping: Popping, set: &mut BitSet<B>) -> Option<usize> {
+    match popping {
+        Popping::First => set.pop_first(),
+        Popping::Last => set.pop_last(),
+    }
+}
+
+pub(crate) fn combine<B: BitBlock>(
+    merge: Merge,
+    set: &mut BitSet<B>,
+    other: &BitSet<B>,
 ) -> Result<(), AllocError> {
-    match changing {
-        Changing::IntoBitVec => answers.number(through_bit_vec(alloc, set)),
-        Changing::CloneFrom => set.clone_from(other),
-        Changing::UnionWith => set.union_with(other),
-        Changing::IntersectWith => set.intersect_with(other),
-        Changing::DifferenceWith => set.difference_with(other),
-        Changing::SymmetricDifferenceWith => set.symmetric_difference_with(other),
-        Changing::UnionChanges => answers.truth(set.union_changes(other)?),
-        Changing::IntersectionChanges => answers.truth(set.intersection_changes(other)?),
-        Changing::DifferenceChanges => answers.truth(set.difference_changes(other)?),
-        Changing::SymmetricDifferenceChanges => {
-            answers.truth(set.symmetric_difference_changes(other)?)
-        }
-        Changing::PopFirst => answers.item(set.pop_first()),
-        Changing::PopLast => answers.item(set.pop_last()),
-        _ => answers.change(changed_alone(changing, set, line)),
+    match merge {
+        Merge::Union => set.union_with(other),
+        Merge::Intersection => set.intersect_with(other),
+        Merge::Difference => set.difference_with(other),
+        Merge::Symmetric => set.symmetric_difference_with(other),
+    }
+}
+
+pub(crate) fn combine_and_tell<B: BitBlock>(
+    merge: Merge,
+    set: &mut BitSet<B>,
+    other: &BitSet<B>,
+) -> Result<bool, AllocError> {
+    match merge {
+        Merge::Union => set.union_changes(other),
+        Merge::Intersection => set.intersection_changes(other),
+        Merge::Difference => set.difference_changes(other),
+        Merge::Symmetric => set.symmetric_difference_changes(other),
+    }
+}
+
+// Puts a set that was made in the place of one.
+fn put<B: BitBlock>(
+    place: &mut BitSet<B>,
+    made: Result<BitSet<B>, AllocError>,
+    answers: &mut Answers,
+) {
+    match made {
+        Ok(set) => *place = set,
+        Err(_) => answers.refuse(),
+    }
+}
+
+// The same of a bit vector.
+fn put_bits<B: BitBlock>(
+    place: &mut BitSet<B>,
+    made: Result<BitVec<B>, AllocError>,
+    answers: &mut Answers,
+) {
+    match made {
+        Ok(bits) => *place = BitSet::from_bit_vec_general(bits),
+        Err(_) => answers.refuse(),
+    }
+}
+
+// Makes the set the tail of a list from a place on, where that is in the list.
+fn put_tail<B: BitBlock>(
+    alloc: Global,
+    place: &mut BitSet<B>,
+    bits: &BitVec<B>,
+    at: usize,
+    answers: &mut Answers,
+) {
+    if at < bits.len() {
+        put_bits(place, bits.clone_tail(alloc, at), answers);
     }
 }
 
@@ -74,17 +126,14 @@ pub(crate) fn move_over<B: BitBlock>(
     moving: Moving,
     (set, other): (&mut BitSet<B>, &mut BitSet<B>),
     at: usize,
-) -> Result<(), AllocError> {
+    answers: &mut Answers,
+) {
     match moving {
-        Moving::Clone => *set = other.clone(alloc)?,
-        Moving::Append => set.append(other)?,
-        Moving::SplitOff => *other = set.split_off(alloc, at)?,
-        Moving::BitsClone => *set = BitSet::from_bit_vec_general(other.get_ref().clone(alloc)?),
-        Moving::BitsCloneTail => {
-            if at < other.get_ref().len() {
-                *set = BitSet::from_bit_vec_general(other.get_ref().clone_tail(alloc, at)?);
-            }
-        }
+        Moving::CloneFrom => answers.ended(set.clone_from(other)),
+        Moving::Clone => put(set, other.clone(alloc), answers),
+        Moving::Append => answers.ended(set.append(other)),
+        Moving::SplitOff => put(other, set.split_off(alloc, at), answers),
+        Moving::BitsClone => put_bits(set, other.get_ref().clone(alloc), answers),
+        Moving::BitsCloneTail => put_tail(alloc, set, other.get_ref(), at, answers),
     }
-    Ok(())
 }

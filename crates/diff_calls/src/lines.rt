@@ -17,15 +17,16 @@ pub(crate) struct Line<'a> {
 impl<'a> Line<'a> {
     // The first line of a script, and what follows it.
     pub(crate) fn first_of(script: &'a [usize]) -> Option<(Line<'a>, &'a [usize])> {
-        let (head, rest) = script.split_first_chunk::<6>()?;
-        let [call, set, other, first, second, count] = *head;
-        let (numbers, after) = rest.split_at_checked(count)?;
+        let [call, set, other, first, second, count, rest @ ..] = script else {
+            return None;
+        };
+        let (numbers, after) = rest.split_at_checked(*count)?;
         let line = Line {
-            call: Call::numbered(call)?,
-            set,
-            other,
-            first,
-            second,
+            call: Call::numbered(*call)?,
+            set: *set,
+            other: *other,
+            first: *first,
+            second: *second,
             numbers,
         };
         Some((line, after))

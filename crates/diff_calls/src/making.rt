@@ -1,12 +1,10 @@
-// Sets that are made of numbers, bytes or one truth value.
-use crate::calls::Making;
-use crate::lines::Line;
-use crate::widths::Width;
-use bit_set::bit_vec::BitVec;
-use bit_set::{BitSet, SetError};
+// Sets and bit vectors that are made of bytes, of one truth value or of nothing, over blocks of any type.
+use crate::calls::{Listing, Making};
+use bit_set::bit_vec::{BitVec, BitsError};
+use bit_set::{BitBlock, BitSet, SetError};
 use std::alloc::{AllocError, Global};
 
-fn bytes_of(alloc: Global, numbers: &[usize]) -> Result<Vec<u8>, AllocError> {
+pub(crate) fn bytes_of(alloc: Global, numbers: &[usize]) -> Result<Vec<u8>, AllocError> {
     let mut bytes = Vec::new(alloc);
     for number in numbers {
         bytes.push((*number % 256) as u8)?;
@@ -14,31 +12,56 @@ fn bytes_of(alloc: Global, numbers: &[usize]) -> Result<Vec<u8>, AllocError> {
     Ok(bytes)
 }
 
-pub(crate) fn made<B: Width>(
+// A set whose making fails for memory alone.
+pub(crate) fn sized<B: BitBlock>(
+    made: Result<BitSet<B>, AllocError>,
+) -> Result<BitSet<B>, SetError> {
+    match made {
+        Ok(set) => Ok(set),
+        Err(fault) => Err(SetError::Memory(fault)),
+    }
+}
+
+// Likewise a bit vector.
+pub(crate) fn sized_bits<B: BitBlock>(
+    made: Result<BitVec<B>, AllocError>,
+) -> Result<BitVec<B>, BitsError> {
+    match made {
+        Ok(bits) => Ok(bits),
+        Err(fault) => Err(BitsError::Memory(fault)),
+    }
+}
+
+pub(crate) fn made<B: BitBlock>(
     alloc: Global,
     making: Making,
-    line: &Line<'_>,
+    len: usize,
+    bytes: &[u8],
 ) -> Result<BitSet<B>, SetError> {
-    let len = line.first;
-    let bit = line.second == 1;
-    let bytes = bytes_of(alloc, line.numbers)?;
-    Ok(match making {
-        Making::New => B::new(alloc),
-        Making::NewGeneral => BitSet::new_general(alloc),
-        Making::WithCapacity => B::with_capacity(alloc, len)?,
-        Making::WithCapacityGeneral => BitSet::with_capacity_general(alloc, len)?,
-        Making::FromBytes => B::from_bytes(alloc, &bytes)?,
-        Making::FromBytesGeneral => BitSet::from_bytes_general(alloc, &bytes)?,
-        Making::FromIter => BitSet::from_iter(alloc, line.numbers.iter().copied())?,
-        Making::BitsNew => B::bits_new(alloc),
-        Making::BitsNewGeneral => BitSet::from_bit_vec_general(BitVec::new_general(alloc)),
-        Making::BitsFromElem => B::bits_from_elem(alloc, len, bit)?,
-        Making::BitsFromElemGeneral => {
-            BitSet::from_bit_vec_general(BitVec::from_elem_general(alloc, len, bit)?)
-        }
-        Making::BitsFromBytes => B::bits_from_bytes(alloc, &bytes)?,
-        Making::BitsFromBytesGeneral => {
-            BitSet::from_bit_vec_general(BitVec::from_bytes_general(alloc, &bytes)?)
-        }
+    match making {
+        Making::New => Ok(BitSet::new_general(alloc)),
+        Making::WithCapacity => sized(BitSet::with_capacity_general(alloc, len)),
+        Making::FromBytes => BitSet::from_bytes_general(alloc, bytes),
+    }
+}
+
+// The set of a bit vector.
+fn set_of<B: BitBlock>(made: Result<BitVec<B>, BitsError>) -> Result<BitSet<B>, SetError> {
+    match made {
+        Ok(bits) => Ok(BitSet::from_bit_vec_general(bits)),
+        Err(fault) => Err(SetError::from(fault)),
+    }
+}
+
+pub(crate) fn listed<B: BitBlock>(
+    alloc: Global,
+    listing: Listing,
+    value: (usize, bool),
+    bytes: &[u8],
+) -> Result<BitSet<B>, SetError> {
+    set_of(match listing {
+        Listing::New => Ok(BitVec::new_general(alloc)),
+        Listing::FromElem => sized_bits(BitVec::from_elem_general(alloc, value.0, value.1)),
+        Listing::FromBytes => BitVec::from_bytes_general(alloc, bytes),
     })
 }

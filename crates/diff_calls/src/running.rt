@@ -1,17 +1,18 @@
 // A script, from its words to the words that its calls return.
 use crate::answers::Answers;
-use crate::bits::{unite_difference, write};
+use crate::bits::{lengthen, merge_and_tell, merge_blocks, unite_difference, write, write_range};
 use crate::blocks::storage;
-use crate::calls::{Call, Changing, Writing};
-use crate::changing::{change, move_over};
+use crate::calls::Call;
+use crate::changing::{change, combine, combine_and_tell, lessen, move_over, pop, through_bit_vec};
 use crate::lines::Line;
-use crate::looking::look;
-use crate::making::made;
-use crate::reading::read;
+use crate::looking::{ask_bits, count_bits, find_bit, look, tell_bits};
+use crate::making::{bytes_of, listed, made};
+use crate::reading::{ask, count, find, tell};
 use crate::walks::walk_over;
 use crate::widths::Width;
+use bit_set::bit_vec::BitVec;
 use bit_set::{BitSet, SetError};
-use std::alloc::{AllocError, Global};
+use std::alloc::Global;
 use std::mem;
 
 // Four sets: a word names one by what is left of it after a division by 4.
@@ -20,11 +21,85 @@ struct Sets<B: Width> {
     sets: [BitSet<B>; 4],
 }
 
+// Calls on the bit vector that a set lends, beside that of another one.
+fn write_to<B: Width>(
+    line: &Line<'_>,
+    bits: &mut BitVec<B>,
+    other: &BitVec<B>,
+    answers: &mut Answers,
+) {
+    let (first, second) = (line.first, line.second);
+    match line.call {
+        Call::Write(writing) => write(writing, bits, other, (first, second == 1), answers),
+        Call::Lengthen(lengthening) => {
+            answers.ended(lengthen(lengthening, bits, first, second == 1));
+        }
+        Call::WriteRange(ranged) => write_range(ranged, bits, first, second),
+        Call::MergeBlocks(merge) => merge_blocks(merge, bits, other),
+        Call::MergeAndTell(merge) => merge_and_tell(merge, bits, other, answers),
+        _ => {}
+    }
+}
+
+// Those of them that read it.
+fn look_at<B: Width>(
+    alloc: Global,
+    line: &Line<'_>,
+    bits: &BitVec<B>,
+    other: &BitVec<B>,
+    answers: &mut Answers,
+) {
+    let (first, second) = (line.first, line.second);
+    match line.call {
+        Call::CountBits(counting) => answers.number(count_bits(counting, bits, first, second)),
+        Call::AskBits(asking) => answers.truth(ask_bits(asking, bits, other, (first, second))),
+        Call::FindBit(finding) => answers.item(find_bit(finding, bits, first)),
+        Call::Get => answers.bit(bits.get(first)),
+        Call::TellBits(telling) => tell_bits(alloc, telling, bits, answers),
+        Call::Look(looking) => look(looking, bits, other, (first, second), answers),
+        _ => {}
+    }
+}
+
+// Calls that may change the first set, or the second.
+fn change_by<B: Width>(
+    alloc: Global,
+    line: &Line<'_>,
+    set: &mut BitSet<B>,
+    other: &mut BitSet<B>,
+    answers: &mut Answers,
+) {
+    let (first, second) = (line.first, line.second);
+    match line.call {
+        Call::Change(changing) => change(changing, set, (first, second), line.numbers, answers),
+        Call::Lessen(lessening) => {
+            lessen(lessening, set, first, second);
+            answers.truth(true);
+        }
+        Call::Pop(popping) => answers.item(pop(popping, set)),
+        Call::IntoBitVec => answers.number(through_bit_vec(alloc, set)),
+        Call::Combine(merge) => answers.ended(combine(merge, set, other)),
+        Call::CombineAndTell(merge) => answers.told(combine_and_tell(merge, set, other)),
+        Call::Move(moving) => move_over(alloc, moving, (set, other), first, answers),
+        Call::CountBits(_)
+        | Call::AskBits(_)
+        | Call::FindBit(_)
+        | Call::Get
+        | Call::TellBits(_)
+        | Call::Look(_) => look_at(alloc, line, set.get_mut(), other.get_ref(), answers),
+        _ => write_to(line, set.get_mut(), other.get_ref(), answers),
+    }
+}
+
 impl<B: Width> Sets<B> {
     fn new(alloc: Global) -> Self {
-        let set = || BitSet::new_general(alloc);
         Sets {
-            sets: [set(), set(), set(), set()],
+            sets: [
+                BitSet::new_general(alloc),
+                BitSet::new_general(alloc),
+                BitSet::new_general(alloc),
+                BitSet::new_general(alloc),
+            ],
         }
     }
 
@@ -36,129 +111,146 @@ impl<B: Width> Sets<B> {
         &mut self.sets[name % 4]
     }
 
-    fn make(
-        &mut self,
-        line: &Line<'_>,
-        made: Result<BitSet<B>, SetError>,
-        answers: &mut Answers,
-    ) -> Result<(), AllocError> {
+    // Puts a set that was made in the place of one.
+    fn put(&mut self, name: usize, made: Result<BitSet<B>, SetError>, answers: &mut Answers) {
         match made {
             Ok(set) => {
-                *self.named_mut(line.set) = set;
-                answers.outcome(Ok(()))
+                *self.named_mut(name) = set;
+                answers.truth(true);
             }
-            Err(fault) => answers.outcome(Err(fault)),
+            Err(fault) => answers.fault(fault),
+        }
+    }
+
+    // Calls that make a set.
+    fn make(&mut self, alloc: Global, line: &Line<'_>, bytes: &[u8], answers: &mut Answers) {
+        let (name, len) = (line.set, line.first);
+        let value = (len, line.second == 1);
+        match line.call {
+            Call::Make(making) => self.put(name, B::made(alloc, making, len, bytes), answers),
+            Call::MakeGeneral(making) => {
+                self.put(name, made(alloc, making, len, bytes), answers);
+            }
+            Call::List(listing) => {
+                self.put(name, B::listed(alloc, listing, value, bytes), answers);
+            }
+            Call::ListGeneral(listing) => {
+                self.put(name, listed(alloc, listing, value, bytes), answers);
+            }
+            _ => {
+                let numbers = line.numbers.iter().copied();
+                self.put(name, BitSet::from_iter(alloc, numbers), answers);
+            }
+        }
+    }
+
+    // The same, with the bytes of a line.
+    fn make_of_bytes(&mut self, alloc: Global, line: &Line<'_>, answers: &mut Answers) {
+        match bytes_of(alloc, line.numbers) {
+            Ok(bytes) => self.make(alloc, line, &bytes, answers),
+            Err(_) => answers.refuse(),
+        }
+    }
+
+    // Calls that change nothing.
+    fn read(&self, alloc: Global, line: &Line<'_>, answers: &mut Answers) {
+        let (set, other) = (self.named(line.set), self.named(line.other));
+        let (first, second) = (line.first, line.second);
+        match line.call {
+            Call::Count(counting) => answers.number(count(counting, set, first, second)),
+            Call::Ask(asking) => answers.truth(ask(asking, set, other, (first, second))),
+            Call::Find(finding) => answers.item(find(finding, set, first)),
+            Call::Tell(telling) => tell(alloc, telling, set, other, answers),
+            Call::Walk(walking) => walk_over(walking, set, other, (first, second), answers),
+            _ => {}
         }
     }
 
     // Makes a call that may change the first set. One by a set itself is left out.
-    fn change(
-        &mut self,
-        alloc: Global,
-        line: &Line<'_>,
-        answers: &mut Answers,
-    ) -> Result<(), AllocError> {
+    fn change(&mut self, alloc: Global, line: &Line<'_>, answers: &mut Answers) {
         if line.set % 4 == line.other % 4 {
-            return Ok(());
+            return;
         }
         let mut set = mem::replace(self.named_mut(line.set), BitSet::new_general(alloc));
-        let other = self.named_mut(line.other);
-        match line.call {
-            Call::Move(moving) => move_over(alloc, moving, (&mut set, other), line.first)?,
-            Call::Write(writing) => {
-                write(writing, (set.get_mut(), other.get_ref()), line, answers)?
-            }
-            Call::Look(looking) => {
-                let lists = (&*set.get_mut(), other.get_ref());
-                look(alloc, looking, lists, line, answers)?
-            }
-            Call::Change(changing) => change(alloc, changing, (&mut set, other), line, answers)?,
-            Call::Make(_) | Call::Read(_) | Call::Walk(_) => {}
-        }
+        change_by(alloc, line, &mut set, self.named_mut(line.other), answers);
         *self.named_mut(line.set) = set;
-        Ok(())
     }
 
-    // Puts what the second set has and the third has not into the first. The first is empty where it is the third.
-    fn fuse(
-        &mut self,
-        alloc: Global,
-        line: &Line<'_>,
-        answers: &mut Answers,
-    ) -> Result<(), AllocError> {
-        if line.set % 4 == line.other % 4 {
-            return Ok(());
-        }
-        let mut set = mem::replace(self.named_mut(line.set), BitSet::new_general(alloc));
+    // Merges what the second has and the third has not into a set that was taken out of its place.
+    fn fuse_into(&self, line: &Line<'_>, set: &mut BitSet<B>, answers: &mut Answers) {
         let (other, except) = (self.named(line.other), self.named(line.first));
         match line.call {
-            Call::Write(_) => {
-                unite_difference(set.get_mut(), (other.get_ref(), except.get_ref()), answers)?
+            Call::UniteDifference => {
+                unite_difference(set.get_mut(), other.get_ref(), except.get_ref(), answers);
             }
-            _ => answers.truth(set.union_with_difference(other, except)?)?,
+            _ => answers.told(set.union_with_difference(other, except)),
         }
+    }
+
+    // Merges what the second set of a line has and the third has not into the first. The first is empty where it is the
+    // third.
+    fn fuse(&mut self, alloc: Global, line: &Line<'_>, answers: &mut Answers) {
+        if line.set % 4 == line.other % 4 {
+            return;
+        }
+        let mut set = mem::replace(self.named_mut(line.set), BitSet::new_general(alloc));
+        self.fuse_into(line, &mut set, answers);
         *self.named_mut(line.set) = set;
-        Ok(())
     }
 
     // Makes the call of a line.
-    fn call(
-        &mut self,
-        alloc: Global,
-        line: &Line<'_>,
-        answers: &mut Answers,
-    ) -> Result<(), AllocError> {
+    fn call(&mut self, alloc: Global, line: &Line<'_>, answers: &mut Answers) {
         match line.call {
-            Call::Make(making) => self.make(line, made(alloc, making, line), answers),
-            Call::Read(reading) => {
-                let sets = (self.named(line.set), self.named(line.other));
-                read(alloc, reading, sets, (line.first, line.second), answers)
+            Call::Make(_)
+            | Call::MakeGeneral(_)
+            | Call::FromIter
+            | Call::List(_)
+            | Call::ListGeneral(_) => self.make_of_bytes(alloc, line, answers),
+            Call::Count(_) | Call::Ask(_) | Call::Find(_) | Call::Tell(_) | Call::Walk(_) => {
+                self.read(alloc, line, answers);
             }
-            Call::Walk(walking) => {
-                let sets = (self.named(line.set), self.named(line.other));
-                walk_over(walking, sets, line, answers)
-            }
-            Call::Change(Changing::UnionWithDifference) | Call::Write(Writing::UniteDifference) =>
-                self.fuse(alloc, line, answers),
+            Call::UnionWithDifference | Call::UniteDifference => self.fuse(alloc, line, answers),
             _ => self.change(alloc, line, answers),
         }
     }
 
     // The lengths of both sets of a line, and whether they are within the capacities.
-    fn lengths(&self, line: &Line<'_>, answers: &mut Answers) -> Result<(), AllocError> {
+    fn lengths(&self, line: &Line<'_>, answers: &mut Answers) {
         for name in [line.set, line.other] {
             let set = self.named(name);
             let len = set.get_ref().len();
-            answers.number(len)?;
-            answers.truth(len <= set.capacity())?;
+            answers.number(len);
+            answers.truth(len <= set.capacity());
         }
-        Ok(())
     }
 
     // The blocks of all sets.
-    fn blocks(&self, answers: &mut Answers) -> Result<(), AllocError> {
+    fn blocks(&self, answers: &mut Answers) {
         for set in &self.sets {
-            storage(set.get_ref(), answers)?;
+            storage(set.get_ref(), answers);
         }
-        Ok(())
+    }
+
+    // Makes the calls of a script, each followed by the lengths of its sets, and writes the blocks of all sets at the end.
+    fn run(&mut self, alloc: Global, script: &[usize], answers: &mut Answers) {
+        let mut rest = script;
+        for _ in 0..script.len() {
+            let Some((line, after)) = Line::first_of(rest) else {
+                break;
+            };
+            self.call(alloc, &line, answers);
+            if answers.is_refused() {
+                return;
+            }
+            self.lengths(&line, answers);
+            rest = after;
+        }
+        self.blocks(answers);
     }
 }
 
-// What the calls of a script return, each followed by the lengths of its sets, and the blocks of all sets at the end.
-fn run<B: Width>(alloc: Global, script: &[usize]) -> Result<Answers, AllocError> {
-    let mut sets = Sets::<B>::new(alloc);
-    let mut answers = Answers::new(alloc);
-    let mut rest = script;
-    for _ in 0..script.len() {
-        let Some((line, after)) = Line::first_of(rest) else {
-            break;
-        };
-        sets.call(alloc, &line, &mut answers)?;
-        sets.lengths(&line, &mut answers)?;
-        rest = after;
-    }
-    sets.blocks(&mut answers)?;
-    Ok(answers)
+fn run<B: Width>(alloc: Global, script: &[usize], answers: &mut Answers) {
+    Sets::<B>::new(alloc).run(alloc, script, answers);
 }
 
 // Writes as many words as find a place.
@@ -177,19 +269,18 @@ pub extern "C" fn diff_run(
     script: &[usize],
     places: &mut [usize],
 ) -> usize {
-    let ran = match bits {
-        8 => run::<u8>(alloc, script),
-        16 => run::<u16>(alloc, script),
-        32 => run::<u32>(alloc, script),
-        64 => run::<u64>(alloc, script),
-        128 => run::<u128>(alloc, script),
-        _ => run::<usize>(alloc, script),
-    };
-    match ran {
-        Ok(answers) => {
-            copy_words(answers.words(), places);
-            answers.words().len()
-        }
-        Err(_) => usize::MAX,
+    let mut answers = Answers::new(alloc);
+    match bits {
+        8 => run::<u8>(alloc, script, &mut answers),
+        16 => run::<u16>(alloc, script, &mut answers),
+        32 => run::<u32>(alloc, script, &mut answers),
+        64 => run::<u64>(alloc, script, &mut answers),
+        128 => run::<u128>(alloc, script, &mut answers),
+        _ => run::<usize>(alloc, script, &mut answers),
     }
+    if answers.is_refused() {
+        return usize::MAX;
+    }
+    copy_words(answers.words(), places);
+    answers.words().len()
 }

@@ -2,11 +2,8 @@
 use crate::answers::Answers;
 use crate::block_walks::is_front;
 use crate::calls::Walking;
-use crate::lines::Line;
-use bit_set::{
-    BitBlock, BitSet, Difference, Intersection, Iter, Missing, SymmetricDifference, Union,
-};
-use std::alloc::AllocError;
+use bit_set::bit_vec::operation::Operation;
+use bit_set::{BitBlock, BitSet, Intersection, Iter, Missing, TwoSets};
 
 // A walk that can be copied and counted at any point.
 trait Walk: Iterator<Item = usize> {
@@ -41,18 +38,6 @@ impl<B: BitBlock> Walk for Missing<'_, B> {
     ghost can = { λ s. tt };
 }
 
-impl<B: BitBlock> Walk for Union<'_, B> {
-    fn copy(&self) -> Self {
-        self.clone()
-    }
-
-    fn count_left(self) -> usize {
-        self.count()
-    }
-
-    ghost can = { λ s. tt };
-}
-
 impl<B: BitBlock> Walk for Intersection<'_, B> {
     fn copy(&self) -> Self {
         self.clone()
@@ -65,19 +50,7 @@ impl<B: BitBlock> Walk for Intersection<'_, B> {
     ghost can = { λ s. tt };
 }
 
-impl<B: BitBlock> Walk for Difference<'_, B> {
-    fn copy(&self) -> Self {
-        self.clone()
-    }
-
-    fn count_left(self) -> usize {
-        self.count()
-    }
-
-    ghost can = { λ s. tt };
-}
-
-impl<B: BitBlock> Walk for SymmetricDifference<'_, B> {
+impl<B: BitBlock, O: Operation> Walk for TwoSets<'_, B, O> {
     fn copy(&self) -> Self {
         self.clone()
     }
@@ -90,113 +63,100 @@ impl<B: BitBlock> Walk for SymmetricDifference<'_, B> {
 }
 
 // So many steps, and before each of them the bounds on what is left.
-fn take_steps<W: Walk>(
-    walk: &mut W,
-    steps: usize,
-    answers: &mut Answers,
-) -> Result<(), AllocError> {
+fn take_steps<W: Walk>(walk: &mut W, steps: usize, answers: &mut Answers) {
     for _ in 0..steps {
-        answers.bounds(walk.size_hint())?;
-        answers.item(walk.next())?;
+        answers.bounds(walk.size_hint());
+        answers.item(walk.next());
     }
-    Ok(())
+}
+
+// How many items are left to the walk, and to a copy that was taken before. Both go on by so many steps, and the copy by
+// one more.
+fn go_on<W: Walk>(walk: &mut W, copy: &mut W, further: usize, answers: &mut Answers) {
+    take_steps(walk, further, answers);
+    answers.number(walk.copy().count_left());
+    take_steps(copy, further, answers);
+    take_steps(copy, 1, answers);
 }
 
 // A walk over so many steps, and on; a copy that was taken between; and how many items are left to each.
-fn take<W: Walk>(
-    mut walk: W,
-    (steps, further): (usize, usize),
-    answers: &mut Answers,
-) -> Result<(), AllocError> {
-    take_steps(&mut walk, steps, answers)?;
+fn take<W: Walk>(mut walk: W, steps: usize, further: usize, answers: &mut Answers) {
+    take_steps(&mut walk, steps, answers);
     let mut copy = walk.copy();
-    take_steps(&mut walk, further, answers)?;
-    answers.number(walk.copy().count_left())?;
-    take_steps(&mut copy, further, answers)?;
-    take_steps(&mut copy, 1, answers)?;
-    answers.number(copy.count_left())?;
-    take_steps(&mut walk, 1, answers)?;
-    answers.number(walk.count_left())
+    go_on(&mut walk, &mut copy, further, answers);
+    answers.number(copy.count_left());
+    take_steps(&mut walk, 1, answers);
+    answers.number(walk.count_left());
+}
+
+// The next item, at one of the ends.
+fn next_at<B: BitBlock>(walk: &mut Iter<'_, B>, is_front: bool) -> Option<usize> {
+    if is_front {
+        walk.next()
+    } else {
+        walk.next_back()
+    }
 }
 
 // So many steps at the ends that the digits of a number say, with the bounds on what is left before each of them; and how
 // many items are left then.
-fn take_ends<B: BitBlock>(
-    mut walk: Iter<'_, B>,
-    (steps, ends): (usize, usize),
-    answers: &mut Answers,
-) -> Result<(), AllocError> {
+fn take_ends<B: BitBlock>(mut walk: Iter<'_, B>, steps: usize, ends: usize, answers: &mut Answers) {
     for step in 0..steps {
-        answers.bounds(walk.size_hint())?;
-        let item = if is_front(ends, step) {
-            walk.next()
-        } else {
-            walk.next_back()
-        };
-        answers.item(item)?;
+        answers.bounds(walk.size_hint());
+        answers.item(next_at(&mut walk, is_front(ends, step)));
     }
-    answers.number(walk.count())
+    answers.number(walk.count());
 }
 
 // The walk over a range from both ends, and the elements at these.
-fn take_range<B: BitBlock>(
-    set: &BitSet<B>,
-    (start, end): (usize, usize),
-    answers: &mut Answers,
-) -> Result<(), AllocError> {
+fn take_range<B: BitBlock>(set: &BitSet<B>, start: usize, end: usize, answers: &mut Answers) {
     let walk = set.range(start..end);
-    answers.item(walk.clone().min())?;
-    answers.item(walk.clone().max())?;
-    answers.item(walk.clone().last())?;
-    take_ends(walk, (end % 64, start), answers)
+    answers.item(walk.clone().min());
+    answers.item(walk.clone().max());
+    answers.item(walk.clone().last());
+    take_ends(walk, end % 64, start, answers);
 }
 
 // The item after so many, the next one, and the one after so many again; and how many are left then.
 fn pass_over<B: BitBlock>(
     mut walk: Iter<'_, B>,
-    (passed, further): (usize, usize),
+    passed: usize,
+    further: usize,
     answers: &mut Answers,
-) -> Result<(), AllocError> {
-    answers.item(walk.nth(passed))?;
-    answers.item(walk.next())?;
-    answers.item(walk.nth(further))?;
-    answers.number(walk.count())
+) {
+    answers.item(walk.nth(passed));
+    answers.item(walk.next());
+    answers.item(walk.nth(further));
+    answers.number(walk.count());
 }
 
 // All elements in a loop.
-fn loop_over<B: BitBlock>(set: &BitSet<B>, answers: &mut Answers) -> Result<(), AllocError> {
+fn loop_over<B: BitBlock>(set: &BitSet<B>, answers: &mut Answers) {
     for element in set {
-        answers.number(element)?;
+        answers.number(element);
     }
-    Ok(())
 }
 
 pub(crate) fn walk_over<B: BitBlock>(
     walking: Walking,
-    (set, other): (&BitSet<B>, &BitSet<B>),
-    line: &Line<'_>,
+    set: &BitSet<B>,
+    other: &BitSet<B>,
+    (first, second): (usize, usize),
     answers: &mut Answers,
-) -> Result<(), AllocError> {
-    let steps = (line.first, line.second);
+) {
     match walking {
-        Walking::Iter => take(set.iter(), steps, answers),
+        Walking::Iter => take(set.iter(), first, second, answers),
         Walking::IntoIter => loop_over(set, answers),
-        Walking::IterFrom => take(
-            set.iter_from(line.first),
-            (line.second, line.second),
-            answers,
-        ),
-        Walking::IterEnds => take_ends(set.iter(), steps, answers),
-        Walking::Range => take_range(set, steps, answers),
-        Walking::Nth => pass_over(set.iter(), steps, answers),
-        Walking::Missing => take(
-            set.missing(line.first..line.second),
-            (line.second % 64, line.first % 64),
-            answers,
-        ),
-        Walking::Union => take(set.union(other), steps, answers),
-        Walking::Intersection => take(set.intersection(other), steps, answers),
-        Walking::Difference => take(set.difference(other), steps, answers),
-        Walking::SymmetricDifference => take(set.symmetric_difference(other), steps, answers),
+        Walking::IterFrom => take(set.iter_from(first), second, second, answers),
+        Walking::IterEnds => take_ends(set.iter(), first, second, answers),
+        Walking::Range => take_range(set, first, second, answers),
+        Walking::Nth => pass_over(set.iter(), first, second, answers),
+        Walking::Missing => take(set.missing(first..second), second % 64, first % 64, answers),
+        Walking::Union => take(set.union(other), first, second, answers),
+        Walking::Intersection => take(set.intersection(other), first, second, answers),
+        Walking::Difference => take(set.difference(other), first, second, answers),
+        Walking::SymmetricDifference => {
+            take(set.symmetric_difference(other), first, second, answers);
+        }
     }
 }

@@ -1,6 +1,8 @@
 // The types of blocks that scripts run over.
 use crate::answers::Answers;
-use bit_set::bit_vec::BitVec;
+use crate::calls::{Listing, Making};
+use crate::making::{listed, made, sized, sized_bits};
+use bit_set::bit_vec::{BitVec, BitsError};
 use bit_set::{BitBlock, BitSet, JsonBlock, JsonError, SetError};
 use serde_json::Value;
 use std::alloc::{AllocError, Global};
@@ -8,63 +10,72 @@ use std::alloc::{AllocError, Global};
 // What differs between the types of blocks: the calls that are at `u32` alone, the numbers of blocks, and the JSON
 // form, which `u128` lacks.
 pub(crate) trait Width: BitBlock {
-    fn new(alloc: Global) -> BitSet<Self> {
-        BitSet::new_general(alloc)
+    // A set by a call that is at `u32` alone, or by the one for any type.
+    fn made(
+        alloc: Global,
+        making: Making,
+        len: usize,
+        bytes: &[u8],
+    ) -> Result<BitSet<Self>, SetError> {
+        made(alloc, making, len, bytes)
     }
 
-    fn with_capacity(alloc: Global, len: usize) -> Result<BitSet<Self>, AllocError> {
-        BitSet::with_capacity_general(alloc, len)
-    }
-
-    fn from_bytes(alloc: Global, bytes: &[u8]) -> Result<BitSet<Self>, SetError> {
-        BitSet::from_bytes_general(alloc, bytes)
-    }
-
-    fn bits_new(alloc: Global) -> BitSet<Self> {
-        BitSet::from_bit_vec_general(BitVec::new_general(alloc))
-    }
-
-    fn bits_from_elem(alloc: Global, len: usize, bit: bool) -> Result<BitSet<Self>, AllocError> {
-        let bits = BitVec::from_elem_general(alloc, len, bit)?;
-        Ok(BitSet::from_bit_vec_general(bits))
-    }
-
-    fn bits_from_bytes(alloc: Global, bytes: &[u8]) -> Result<BitSet<Self>, SetError> {
-        let bits = BitVec::from_bytes_general(alloc, bytes)?;
-        Ok(BitSet::from_bit_vec_general(bits))
+    // Likewise the set of a bit vector.
+    fn listed(
+        alloc: Global,
+        listing: Listing,
+        value: (usize, bool),
+        bytes: &[u8],
+    ) -> Result<BitSet<Self>, SetError> {
+        listed(alloc, listing, value, bytes)
     }
 
     // The lowest 64 bits of the number, and those above.
     fn halves(self) -> (usize, usize);
 
     // The JSON form of a set, and what is read back from it.
-    fn through_json(
-        alloc: Global,
-        set: &BitSet<Self>,
-        answers: &mut Answers,
-    ) -> Result<(), AllocError>;
+    fn through_json(alloc: Global, set: &BitSet<Self>, answers: &mut Answers);
 }
 
 // What is returned where a value gives no set.
 const FAULT: usize = 9;
 
-fn there_and_back<B: JsonBlock>(
-    alloc: Global,
-    set: &BitSet<B>,
-    answers: &mut Answers,
-) -> Result<(), AllocError> {
-    let text = set.to_json(alloc)?.to_string(alloc)?;
-    answers.text(&text)?;
-    let Ok(value) = Value::from_str(alloc, &text) else {
-        return answers.number(FAULT);
-    };
-    match BitSet::<B>::from_json(alloc, &value) {
+// What is read from a value, and whether that is the set.
+fn read_back<B: JsonBlock>(alloc: Global, set: &BitSet<B>, value: &Value, answers: &mut Answers) {
+    match BitSet::<B>::from_json(alloc, value) {
         Ok(back) => {
-            answers.truth(back == *set)?;
-            answers.number(back.get_ref().len())
+            answers.truth(back == *set);
+            answers.number(back.get_ref().len());
         }
-        Err(JsonError::Memory(refused)) => Err(refused),
+        Err(JsonError::Memory(_)) => answers.refuse(),
         Err(_) => answers.number(FAULT),
+    }
+}
+
+fn read_text<B: JsonBlock>(alloc: Global, set: &BitSet<B>, text: &str, answers: &mut Answers) {
+    answers.bytes(text.as_bytes());
+    match Value::from_str(alloc, text) {
+        Ok(value) => read_back(alloc, set, &value, answers),
+        Err(_) => answers.number(FAULT),
+    }
+}
+
+fn text_of<B: JsonBlock>(alloc: Global, set: &BitSet<B>) -> Result<String, AllocError> {
+    Ok(set.to_json(alloc)?.to_string(alloc)?)
+}
+
+fn there_and_back<B: JsonBlock>(alloc: Global, set: &BitSet<B>, answers: &mut Answers) {
+    match text_of(alloc, set) {
+        Ok(text) => read_text(alloc, set, &text, answers),
+        Err(_) => answers.refuse(),
+    }
+}
+
+// The set of a bit vector, by the call that is at `u32` alone.
+fn set_of(made: Result<BitVec<u32>, BitsError>) -> Result<BitSet<u32>, SetError> {
+    match made {
+        Ok(bits) => Ok(BitSet::from_bit_vec(bits)),
+        Err(fault) => Err(SetError::from(fault)),
     }
 }
 
@@ -73,12 +84,8 @@ impl Width for u8 {
         (usize::from(self), 0)
     }
 
-    fn through_json(
-        alloc: Global,
-        set: &BitSet<u8>,
-        answers: &mut Answers,
-    ) -> Result<(), AllocError> {
-        there_and_back(alloc, set, answers)
+    fn through_json(alloc: Global, set: &BitSet<u8>, answers: &mut Answers) {
+        there_and_back(alloc, set, answers);
     }
 }
 
@@ -87,50 +94,44 @@ impl Width for u16 {
         (usize::from(self), 0)
     }
 
-    fn through_json(
-        alloc: Global,
-        set: &BitSet<u16>,
-        answers: &mut Answers,
-    ) -> Result<(), AllocError> {
-        there_and_back(alloc, set, answers)
+    fn through_json(alloc: Global, set: &BitSet<u16>, answers: &mut Answers) {
+        there_and_back(alloc, set, answers);
     }
 }
 
 impl Width for u32 {
-    fn new(alloc: Global) -> BitSet<u32> {
-        BitSet::new(alloc)
+    fn made(
+        alloc: Global,
+        making: Making,
+        len: usize,
+        bytes: &[u8],
+    ) -> Result<BitSet<u32>, SetError> {
+        match making {
+            Making::New => Ok(BitSet::new(alloc)),
+            Making::WithCapacity => sized(BitSet::with_capacity(alloc, len)),
+            Making::FromBytes => BitSet::from_bytes(alloc, bytes),
+        }
     }
 
-    fn with_capacity(alloc: Global, len: usize) -> Result<BitSet<u32>, AllocError> {
-        BitSet::with_capacity(alloc, len)
-    }
-
-    fn from_bytes(alloc: Global, bytes: &[u8]) -> Result<BitSet<u32>, SetError> {
-        BitSet::from_bytes(alloc, bytes)
-    }
-
-    fn bits_new(alloc: Global) -> BitSet<u32> {
-        BitSet::from_bit_vec(BitVec::new(alloc))
-    }
-
-    fn bits_from_elem(alloc: Global, len: usize, bit: bool) -> Result<BitSet<u32>, AllocError> {
-        Ok(BitSet::from_bit_vec(BitVec::from_elem(alloc, len, bit)?))
-    }
-
-    fn bits_from_bytes(alloc: Global, bytes: &[u8]) -> Result<BitSet<u32>, SetError> {
-        Ok(BitSet::from_bit_vec(BitVec::from_bytes(alloc, bytes)?))
+    fn listed(
+        alloc: Global,
+        listing: Listing,
+        value: (usize, bool),
+        bytes: &[u8],
+    ) -> Result<BitSet<u32>, SetError> {
+        set_of(match listing {
+            Listing::New => Ok(BitVec::new(alloc)),
+            Listing::FromElem => sized_bits(BitVec::from_elem(alloc, value.0, value.1)),
+            Listing::FromBytes => BitVec::from_bytes(alloc, bytes),
+        })
     }
 
     fn halves(self) -> (usize, usize) {
         (self as usize, 0)
     }
 
-    fn through_json(
-        alloc: Global,
-        set: &BitSet<u32>,
-        answers: &mut Answers,
-    ) -> Result<(), AllocError> {
-        there_and_back(alloc, set, answers)
+    fn through_json(alloc: Global, set: &BitSet<u32>, answers: &mut Answers) {
+        there_and_back(alloc, set, answers);
     }
 }
 
@@ -139,12 +140,8 @@ impl Width for u64 {
         (self as usize, 0)
     }
 
-    fn through_json(
-        alloc: Global,
-        set: &BitSet<u64>,
-        answers: &mut Answers,
-    ) -> Result<(), AllocError> {
-        there_and_back(alloc, set, answers)
+    fn through_json(alloc: Global, set: &BitSet<u64>, answers: &mut Answers) {
+        there_and_back(alloc, set, answers);
     }
 }
 
@@ -153,12 +150,8 @@ impl Width for usize {
         (self, 0)
     }
 
-    fn through_json(
-        alloc: Global,
-        set: &BitSet<usize>,
-        answers: &mut Answers,
-    ) -> Result<(), AllocError> {
-        there_and_back(alloc, set, answers)
+    fn through_json(alloc: Global, set: &BitSet<usize>, answers: &mut Answers) {
+        there_and_back(alloc, set, answers);
     }
 }
 
@@ -169,11 +162,5 @@ impl Width for u128 {
     }
 
     // Blocks of this type have no JSON form.
-    fn through_json(
-        _alloc: Global,
-        _set: &BitSet<u128>,
-        _answers: &mut Answers,
-    ) -> Result<(), AllocError> {
-        Ok(())
-    }
+    fn through_json(_alloc: Global, _set: &BitSet<u128>, _answers: &mut Answers) {}
 }
