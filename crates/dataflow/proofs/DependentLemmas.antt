@@ -1,27 +1,23 @@
 -- For each block the blocks that it flows into.
-use Rattle.std.proofs.Common.{◌≡◌, ◌≢◌, ℕ, ◌+◌, ◌<◌, ◌≤◌, true, eqb, inl, inr, List, [], ◌∷◌, ◌++◌, length, map, get_or, set, refl, sym, ap, ◌∙◌, arith}
+use Rattle.std.proofs.Common.{◌≡◌, ◌≢◌, ℕ, ◌+◌, ◌<◌, ◌≤◌, true, eqb, inl, inr, List, [], ◌∷◌, ◌++◌, length, set, refl, sym, ap, ◌∙◌, arith}
 use Rattle.std.proofs.lemmas.Bool.{cases_eq, eq-eqb, eqb-true, or_cases, or_left, or_right, true≢false}
-use Rattle.std.proofs.lemmas.List.{get_or-set_other, get_or-set_same, length-set, map-set}
-use Rattle.std.specs.Global.{Vec}
+use Rattle.std.proofs.lemmas.List.{get_or-set_other, get_or-set_same}
 use Rattle.bit_set.specs.Sets.{has}
 use Rattle.dataflow.specs.Flow.{Flow, block_at}
 use Rattle.dataflow.specs.Worklist.{AddsDependent, row_at}
-use Rattle.dataflow.proofs.TakeLemmas.{in_push, mapped}
+use Rattle.dataflow.proofs.TakeLemmas.{in_push}
 
 -- ---- a row is written
 
-pub row_written : (rows : List (Vec ℕ)) (x : ℕ) (row : Vec ℕ) → x < length rows → row_at (set rows x row) x ≡ row.items
-row_written rows x row lt = mapped (λ (r : Vec ℕ). r.items) (set rows x row) x row [] (omega (arith, lt, length-set rows x row)) (sym (get_or-set_same rows x row row lt))
+pub row_written : (rows : List (List ℕ)) (x : ℕ) (row : List ℕ) → x < length rows → row_at (set rows x row) x ≡ row
+row_written rows x row lt = get_or-set_same rows x row [] lt
 
-pub other_rows : (rows : List (Vec ℕ)) (x : ℕ) (row : Vec ℕ) (s : ℕ) → s ≢ x → row_at (set rows x row) s ≡ row_at rows s
-other_rows rows x row s other = ap (λ (l : List (List ℕ)). get_or l s []) (map-set (λ (r : Vec ℕ). r.items) rows x row) ∙ get_or-set_other (map (λ (r : Vec ℕ). r.items) rows) x s row.items [] other
-
-pub row_read : (rows : List (Vec ℕ)) (x : ℕ) (row : Vec ℕ) → x < length rows → row ≡ get_or rows x row → row_at rows x ≡ row.items
-row_read rows x row lt is = mapped (λ (r : Vec ℕ). r.items) rows x row [] lt is
+pub other_rows : (rows : List (List ℕ)) (x : ℕ) (row : List ℕ) (s : ℕ) → s ≢ x → row_at (set rows x row) s ≡ row_at rows s
+other_rows rows x row s other = get_or-set_other rows x s row [] other
 
 -- ---- one block, source by source
 
-module _ (sources : List ℕ) (b x : ℕ) (first old new : List (Vec ℕ)) (a : AddsDependent sources b first old) where
+module _ (sources : List ℕ) (b x : ℕ) (first old new : List (List ℕ)) (a : AddsDependent sources b first old) where
   -- a source that is a block
   pub adds_on : length new ≡ length old → ((s : ℕ) → s ≢ x → row_at new s ≡ row_at old s) → row_at new x ≡ row_at old x ++ b ∷ [] → AddsDependent (sources ++ x ∷ []) b first new
   adds_on long others here = record {
@@ -64,13 +60,13 @@ module _ (sources : List ℕ) (b x : ℕ) (first old new : List (Vec ℕ)) (a : 
 -- ---- block after block
 
 -- The rows have the first of the blocks.
-pub record Depends (blocks : List Flow) (count : ℕ) (rows : List (Vec ℕ)) : Type 0 where
+pub record Depends (blocks : List Flow) (count : ℕ) (rows : List (List ℕ)) : Type 0 where
   pub long : length rows ≡ length blocks
   pub all : (b s : ℕ) → b < count → s < length blocks → has (block_at blocks b).sources s ≡ true → has (row_at rows s) b ≡ true
   pub inside : (b s : ℕ) → has (row_at rows s) b ≡ true → b < count
 
 -- before the first block
-pub none_depend : (blocks : List Flow) (rows : List (Vec ℕ)) → length rows ≡ length blocks → ((s : ℕ) → row_at rows s ≡ []) → Depends blocks 0 rows
+pub none_depend : (blocks : List Flow) (rows : List (List ℕ)) → length rows ≡ length blocks → ((s : ℕ) → row_at rows s ≡ []) → Depends blocks 0 rows
 none_depend blocks rows long empty = record {
   long = long;
   all = λ b s low. absurd (omega (arith, low));
@@ -78,7 +74,7 @@ none_depend blocks rows long empty = record {
 }
 
 -- and after one more
-pub more_depend : (blocks : List Flow) (n : ℕ) (sources : List ℕ) (old new : List (Vec ℕ)) → Depends blocks n old → AddsDependent sources n old new → sources ≡ (block_at blocks n).sources → Depends blocks (n + 1) new
+pub more_depend : (blocks : List Flow) (n : ℕ) (sources : List ℕ) (old new : List (List ℕ)) → Depends blocks n old → AddsDependent sources n old new → sources ≡ (block_at blocks n).sources → Depends blocks (n + 1) new
 more_depend blocks n sources old new before a is = record {
   long = a.long ∙ before.long;
   all = λ b s low lt h. elim (cases_eq b n) [

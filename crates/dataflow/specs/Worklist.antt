@@ -1,7 +1,7 @@
 -- What the parts of the solver do: the blocks that wait, and the sets on their way.
 use Rattle.std.specs.Prelude.{◌≡◌, ◌≢◌, ℕ, ◌+◌, ◌-◌, ◌<◌, ◌^◌, ◌↔◌, ◌⊎◌, Bool, false, if◌then◌else◌, IsTrue, List, [], ◌∷◌, length, map, nat_lt, slice_index_or}
 use Rattle.std.specs.List.{list_any}
-use Rattle.std.specs.Global.{Vec}
+use Rattle.smallvec.specs.SmallVec.{SmallVec}
 use Rattle.bit_set.specs.Sets.{has}
 use Rattle.dataflow.specs.Flow.{Enters, Flow, Reaches, block_at, set_at}
 
@@ -15,18 +15,22 @@ flowing_back number [] = 0
 flowing_back number (block ∷ blocks) = (if list_any (λ source. nat_lt number source) block.sources then 1 else 0)
     + flowing_back (number + 1) blocks
 
+-- the rows as lists
+abbrev pub rows_of : List (SmallVec ℕ) → List (List ℕ)
+rows_of rows = map (λ row. row.items) rows
+
 -- the row of a block, and none past the last
-abbrev pub row_at : List (Vec ℕ) → ℕ → List ℕ
-row_at rows s = slice_index_or (map (λ row. row.items) rows) s []
+abbrev pub row_at : List (List ℕ) → ℕ → List ℕ
+row_at rows s = slice_index_or rows s []
 
 -- each row has all blocks that its block flows into, and no number that is none of a block
-pub record AreDependents (blocks : List Flow) (rows : List (Vec ℕ)) : Type 0 where
+pub record AreDependents (blocks : List Flow) (rows : List (List ℕ)) : Type 0 where
   pub long : length rows ≡ length blocks
   pub all : (b s : ℕ) → s < length blocks → IsTrue (has (block_at blocks b).sources s) → IsTrue (has (row_at rows s) b)
   pub inside : (b s : ℕ) → IsTrue (has (row_at rows s) b) → b < length blocks
 
 -- One block went into the rows of its sources.
-pub record AddsDependent (sources : List ℕ) (b : ℕ) (old new : List (Vec ℕ)) : Type 0 where
+pub record AddsDependent (sources : List ℕ) (b : ℕ) (old new : List (List ℕ)) : Type 0 where
   pub long : length new ≡ length old
   pub kept : (c s : ℕ) → IsTrue (has (row_at old s) c) → IsTrue (has (row_at new s) c)
   pub adds : (s : ℕ) → s < length old → IsTrue (has sources s) → IsTrue (has (row_at new s) b)

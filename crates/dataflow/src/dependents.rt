@@ -1,18 +1,22 @@
 // For each block the blocks that it flows into.
 ghost use Rattle.std.specs.Prelude.{◌≡◌, ◌<◌, ℕ, IfOk, IsOk, IsTrue, OnOk, [], length, map};
 ghost use Rattle.bit_set.specs.Sets.{has};
-ghost use Rattle.dataflow.specs.Worklist.{AddsDependent, AreDependents, row_at};
+ghost use Rattle.dataflow.specs.Worklist.{AddsDependent, AreDependents, row_at, rows_of};
 
 use crate::Block;
 use bit_set::BitBlock;
+use smallvec::SmallVec;
 use std::alloc::{AllocError, Global};
+
+// The blocks into which one block flows. Few of them take no memory.
+pub(crate) type Row = SmallVec<usize, 4>;
 
 // A row for each block, with the blocks of which it is a source.
 pub(crate) fn dependents_of<B: BitBlock, N: Block<B>>(
     alloc: Global,
     blocks: &[N],
-) -> Result<Vec<Vec<usize>>, AllocError>
-    ensures dependents { IfOk result (λ rows. AreDependents (map N.flow blocks.now) rows.items) }
+) -> Result<Vec<Row>, AllocError>
+    ensures dependents { IfOk result (λ rows. AreDependents (map N.flow blocks.now) (rows_of rows.items)) }
     ensures none { length blocks.now ≡ 0 → IsOk result }
 {
     let mut rows = empty_rows(alloc, blocks.len())?;
@@ -23,25 +27,21 @@ pub(crate) fn dependents_of<B: BitBlock, N: Block<B>>(
 }
 
 // So many rows, each with nothing.
-fn empty_rows(alloc: Global, count: usize) -> Result<Vec<Vec<usize>>, AllocError>
+fn empty_rows(alloc: Global, count: usize) -> Result<Vec<Row>, AllocError>
     ensures long { IfOk result (λ rows. length rows.items ≡ count) }
-    ensures empty { IfOk result (λ rows. (s : ℕ) → row_at rows.items s ≡ []) }
+    ensures empty { IfOk result (λ rows. (s : ℕ) → row_at (rows_of rows.items) s ≡ []) }
     ensures none { count ≡ 0 → IsOk result }
 {
     let mut rows = Vec::with_capacity(alloc, count)?;
     'rows: for _ in 0..count {
-        rows.push(Vec::new(alloc))?;
+        rows.push(SmallVec::new(alloc))?;
     }
     Ok(rows)
 }
 
 // Puts the block into the row of each of its sources.
-fn add_dependent(
-    sources: &[usize],
-    number: usize,
-    rows: &mut [Vec<usize>],
-) -> Result<(), AllocError>
-    ensures { OnOk result (AddsDependent sources.now number rows.old rows.new) }
+fn add_dependent(sources: &[usize], number: usize, rows: &mut [Row]) -> Result<(), AllocError>
+    ensures { OnOk result (AddsDependent sources.now number (rows_of rows.old) (rows_of rows.new)) }
 {
     for &source in sources {
         if source < rows.len() {

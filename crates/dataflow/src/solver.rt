@@ -3,10 +3,10 @@ ghost use Rattle.std.specs.Prelude.{◌≡◌, ◌<◌, ◌^◌, ℕ, IfOk, IsOk
 ghost use Rattle.std.specs.List.{fold};
 ghost use Rattle.bit_set.specs.Sets.{elements, has};
 ghost use Rattle.dataflow.specs.Flow.{AreReached, Flow, HasAllDue, IsLeastSolution, lists_of, set_at};
-ghost use Rattle.dataflow.specs.Worklist.{AreDependents, AreOnTheWay, TakesIn, Transfers};
+ghost use Rattle.dataflow.specs.Worklist.{AreDependents, AreOnTheWay, TakesIn, Transfers, rows_of};
 
 use crate::Block;
-use crate::dependents::dependents_of;
+use crate::dependents::{Row, dependents_of};
 use crate::waiting::{all_below, flows_back, next_waiting, place, put_back};
 use bit_set::laws::sizes_of_sets;
 use bit_set::{BitBlock, BitSet};
@@ -71,10 +71,10 @@ fn first_sets<B: BitBlock, N: Block<B>>(
 fn settle<B: BitBlock, N: Block<B>>(
     alloc: Global,
     blocks: &[N],
-    dependents: &[Vec<usize>],
+    dependents: &[Row],
     sets: &mut [BitSet<B>],
 ) -> Result<(), AllocError>
-    requires dependents { AreDependents (map N.flow blocks.now) dependents.now }
+    requires dependents { AreDependents (map N.flow blocks.now) (rows_of dependents.now) }
     requires sets { AreOnTheWay (map N.flow blocks.now) (lists_of sets.old) }
     ensures sets { OnOk result (AreOnTheWay (map N.flow blocks.now) (lists_of sets.new)) }
     ensures settled { OnOk result (HasAllDue (map N.flow blocks.now) (lists_of sets.new)) }

@@ -65,13 +65,12 @@ const CHAIN: &[Block] = &[
     ),
 ];
 
-// The memory that a call over the ring may ask for: twelve sets, the blocks that wait, and for each block a row of those
-// that follow it. Nothing is asked for when a block is visited.
+// The memory that a call over the ring may ask for: twelve sets, the blocks that wait, and a vector with the row of each
+// block, of those that follow it: these are few, and lie in the row. Nothing is asked for when a block is visited.
 const RING_ASKS: &[Ask] = &[
     Ask::Lists(12, 5001),
     Ask::Other(1, 8),
-    Ask::Other(2, BLOCKS * (24 + 56)),
-    Ask::Other(BLOCKS, BLOCKS * 32),
+    Ask::Other(2, BLOCKS * (48 + 56)),
 ];
 
 // Of expressions the set of all and those that are missing at each block come to it.
@@ -80,8 +79,7 @@ const CHAIN_ASKS: &[Ask] = &[
     Ask::Other(1, BLOCKS * 64),
     Ask::Lists(12, 5001),
     Ask::Other(1, 8),
-    Ask::Other(2, BLOCKS * (24 + 56)),
-    Ask::Other(BLOCKS, BLOCKS * 32),
+    Ask::Other(2, BLOCKS * (48 + 56)),
 ];
 
 #[derive(Clone, Copy)]

@@ -1,6 +1,7 @@
-use Rattle.std.proofs.Common.{◌≡◌, ◌<◌, [], ap, arith, drop, length, map, refl, sym, true≢false, ◌∙◌}
+use Rattle.std.proofs.Common.{◌≡◌, ℕ, [], ap, arith, drop, length, map, refl, sym, true≢false, ◌∙◌}
 use Rattle.std.proofs.lemmas.List.{length-map}
-use Rattle.dataflow.specs.Flow.{block_at}
+use Rattle.smallvec.specs.SmallVec.{SmallVec}
+use Rattle.dataflow.specs.{Flow.{block_at}, Worklist.{rows_of}}
 use Rattle.dataflow.proofs.DependentLemmas.{more_depend, none_depend}
 use Rattle.dataflow.proofs.SettleLemmas.{with_source}
 use Rattle.dataflow.proofs.TakeLemmas.{mapped, written_back}
@@ -9,7 +10,7 @@ use Rattle.dataflow.proofs.dependents.dependents_of.Goals as goal
 pub loop-number-init : goal.loop-number-init
 loop-number-init g c =
     let empty = c.in_ok-rows.ensures in
-    none_depend (map g.N.Block.flow c.args.blocks.now) c.in_ok-rows.rows.items (empty.long ∙ sym (length-map c.args.blocks.now g.N.Block.flow)) empty.empty
+    none_depend (map g.N.Block.flow c.args.blocks.now) (rows_of c.in_ok-rows.rows.items) (length-map c.in_ok-rows.rows.items (λ (r : SmallVec ℕ). r.items) ∙ empty.long ∙ sym (length-map c.args.blocks.now g.N.Block.flow)) empty.empty
 
 pub loop-number-preserved : goal.loop-number-preserved
 loop-number-preserved g c =
@@ -22,7 +23,7 @@ loop-number-preserved g c =
     let len = rows.ok in
     let value = c.as_mut_slice.ensures.len in
     rw (written_back new (drop (length new) rows.items) rows.len (omega (arith, long, len, value)))
-    (more_depend (map g.N.Block.flow blocks) number c.sources.result.now rows.items new c.loop-number.invariant (rw c.as_mut_slice.ensures.value at c.in_ok-add_dependent.ensures) (c.sources.ensures ∙ ap (λ flow. flow.sources) (sym at)))
+    (more_depend (map g.N.Block.flow blocks) number c.sources.result.now (rows_of rows.items) (rows_of new) c.loop-number.invariant (rw c.as_mut_slice.ensures.value at c.in_ok-add_dependent.ensures) (c.sources.ensures ∙ ap (λ flow. flow.sources) (sym at)))
 
 pub returns-clause-dependents : goal.returns-clause-dependents
 returns-clause-dependents g c =

@@ -1,6 +1,7 @@
 use Rattle.std.proofs.Common.{map}
+use Rattle.dataflow.specs.Worklist.{rows_of}
 use Rattle.dataflow.proofs.DependentLemmas.{Depends}
 use Rattle.dataflow.proofs.dependents.dependents_of.Given as goal
 
 abbrev pub invariant-loop-number : goal.invariant-loop-number
-invariant-loop-number g l = Depends (map g.N.Block.flow l.blocks) l.number l.rows.items
+invariant-loop-number g l = Depends (map g.N.Block.flow l.blocks) l.number (rows_of l.rows.items)

@@ -1,4 +1,4 @@
-use Rattle.std.proofs.Common.{◌≡◌, List, ℕ, ap, length, map, refl, sym, if◌then◌else◌, ◌∙◌}
+use Rattle.std.proofs.Common.{◌≡◌, List, ℕ, ap, length, map, if◌then◌else◌, ◌∙◌}
 use Rattle.std.proofs.lemmas.List.{take_all}
 use Rattle.bit_set.specs.Sets.{difference, elements}
 use Rattle.dataflow.specs.Availability.{flow_of, missing_flow, starts_with_none}

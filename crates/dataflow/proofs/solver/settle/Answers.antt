@@ -3,8 +3,8 @@ use Rattle.std.proofs.lemmas.List.{length-map}
 use Rattle.bit_set.specs.Bits.{Bits}
 use Rattle.bit_set.specs.Sets.{elements, has}
 use Rattle.dataflow.specs.Flow.{block_at, lists_of}
-use Rattle.dataflow.specs.Worklist.{TakesIn, place_of, row_at}
-use Rattle.dataflow.proofs.DependentLemmas.{row_read}
+use Rattle.dataflow.specs.Worklist.{TakesIn, place_of, row_at, rows_of}
+use Rattle.smallvec.specs.SmallVec.{SmallVec}
 use Rattle.dataflow.proofs.SettleLemmas.{all_wait, few_after, lacking, nearer, none_waits, on_the_way, one_less, visited_grown, visited_same, waited}
 use Rattle.dataflow.proofs.TakeLemmas.{mapped}
 use Rattle.dataflow.proofs.solver.settle.Goals as goal
@@ -39,8 +39,9 @@ put_back-requires-clause-inside g c b h =
     let long = dependents.long in
     let inside = c.place-number.ensures.inside in
     let as_many = length-map blocks g.N.Block.flow in
-    let lt : number < length rows = omega (arith, long, inside, as_many) in
-    let read : row_at rows number ≡ c.as_slice.result.now = row_read rows number c.index-dependents-number.result lt c.index-dependents-number.is ∙ sym c.as_slice.ensures.value in
+    let many = length-map rows (λ (r : SmallVec ℕ). r.items) in
+    let lt : number < length rows = omega (arith, long, inside, as_many, many) in
+    let read : row_at (rows_of rows) number ≡ c.as_slice.result.now = mapped (λ (r : SmallVec ℕ). r.items) rows number c.index-dependents-number.result [] lt c.index-dependents-number.is ∙ sym c.as_slice.ensures in
     let below : b < length (map g.N.Block.flow blocks) = dependents.inside b number (ap (λ s. has s b) read ∙ h) in
     omega (arith, below, as_many)
 
@@ -92,8 +93,9 @@ loop-next-preserved g c =
           let back = w.put_back.ensures.back in
           let dependents = c.requires.dependents in
           let rows_long = dependents.long in
-          let lt : number < length rows = omega (arith, rows_long, inside, long) in
-          let read : row_at rows number ≡ w.as_slice.result.now = row_read rows number w.index-dependents-number.result lt w.index-dependents-number.is ∙ sym w.as_slice.ensures.value in
+          let many = length-map rows (λ (r : SmallVec ℕ). r.items) in
+          let lt : number < length rows = omega (arith, rows_long, inside, long, many) in
+          let read : row_at (rows_of rows) number ≡ w.as_slice.result.now = mapped (λ (r : SmallVec ℕ). r.items) rows number w.index-dependents-number.result [] lt w.index-dependents-number.is ∙ sym w.as_slice.ensures in
           let kept_capacity = w.put_back.ensures.capacity in
           rw w.waiting-is (record {
             way = on_the_way flows (place_of count from_last) number p old new takes it.way (few_after old new number (2 ^ 64) takes.others it.way.few (c.in_ok-take_in.ensures.few w.if-branch.true));
@@ -142,7 +144,9 @@ pub bounds-blocks-number : goal.bounds-blocks-number
 bounds-blocks-number g c = c.place-number.ensures.inside
 
 pub bounds-dependents-number : goal.bounds-dependents-number
-bounds-dependents-number g c = omega (arith, c.requires.dependents.long, c.place-number.ensures.inside, length-map c.args.blocks.now g.N.Block.flow)
+bounds-dependents-number g c =
+    let many = length-map c.args.dependents.now (λ (r : SmallVec ℕ). r.items) in
+    omega (arith, many, c.requires.dependents.long, c.place-number.ensures.inside, length-map c.args.blocks.now g.N.Block.flow)
 
 pub overflow_add-from : goal.overflow_add-from
 overflow_add-from g c = omega (arith, c.loop-next.invariant.below c.in-Some.next c.in-Some.ensures.some)
