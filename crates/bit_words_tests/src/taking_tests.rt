@@ -10,18 +10,11 @@ fn taken<B: BitBlock>(bits: &mut BitVec<B>) -> [Option<usize>; 3] {
 }
 
 #[test]
-fn the_first_values_of_few_are_taken_out(rt: HostRuntime) {
-    let mut bits = list_of::<u8>(&rt, rt.alloc(), 100, &[3, 70]);
-    expect_eq(&rt, &bits.first_one(), &Some(3));
-    expect_eq(&rt, &taken(&mut bits), &[Some(3), Some(70), None]);
-    expect_eq(&rt, &bits.first_one(), &None);
-}
-
-#[test]
 fn the_first_values_of_many_are_taken_out(rt: HostRuntime) {
     let mut bits = list_of::<u8>(&rt, rt.alloc(), 400, &[3, 4, 330]);
     expect_eq(&rt, &taken(&mut bits), &[Some(3), Some(4), Some(330)]);
     expect_eq(&rt, &bits.take_first_one(), &None);
+    expect_eq(&rt, &bits.first_one(), &None);
 }
 
 #[test]
