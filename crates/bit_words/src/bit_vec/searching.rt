@@ -11,8 +11,8 @@ use crate::summary::taking::first_of_chunk;
 
 impl<B: BitBlock> BitVec<B> {
     /// The first index at which the list is true, or `None`. Of many blocks it reads the summary from where
-    /// [`take_first_one`](Self::take_first_one) left it, or from an earlier block that a value became true in since, and
-    /// one block of the list; of few, which store no summary, each block up to that of the index.
+    /// [`take_first_one`](Self::take_first_one) left off, or from where a value became true since, and one block of the
+    /// list; of few, which store no summary, each block up to that of the index.
     ///
     /// ```
     /// // Of 100 values, those at 3 and 70 are true.

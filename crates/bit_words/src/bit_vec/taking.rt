@@ -11,9 +11,9 @@ use crate::summary::taking::take_first_of_chunk;
 
 impl<B: BitBlock> BitVec<B> {
     /// Makes the first true value false, and returns its index; `None` where no value is true. Of many blocks it reads the
-    /// summary from where the last such call left it, or from an earlier block that a value became true in since, and one
-    /// block of the list: calls one after another read no block of the summary more than once, but for those where they find
-    /// a value. Of few, which store no summary, it reads each block up to that of the value.
+    /// summary from where the last call left off, or from where a value became true since, and one block of the list: the
+    /// calls that take out all values pass over the summary once. Of few, which store no summary, it reads each block up to
+    /// that of the value.
     ///
     /// ```
     /// // Of 100 values, those at 3 and 70 are true.
@@ -32,7 +32,10 @@ impl<B: BitBlock> BitVec<B> {
             let _was = replace_bit(&mut self.blocks, i, false);
             return Some(i);
         }
-        let chunk = first_nonzero_block(&self.summary, self.search_start)?;
+        let Some(chunk) = first_nonzero_block(&self.summary, self.search_start) else {
+            self.search_start = self.summary.len();
+            return None;
+        };
         self.search_start = chunk;
         Some(take_first_of_chunk(&mut self.blocks, &mut self.summary, chunk))
     }
