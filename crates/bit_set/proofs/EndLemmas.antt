@@ -1,10 +1,10 @@
 -- The first and the last of a set, and of its members from a number on or below it.
 use Rattle.std.proofs.{Common.{◌≡◌, ℕ, ◌+◌, ◌-◌, ◌<◌, ◌≤◌, Bool, true, false, not, ◌||◌, eqb, ltb, nat_le, List, [], ◌∷◌, ◌++◌, length, take, drop, slice_get, get_or, length-append, Option, Some, None, refl, sym, ap, ◌∙◌, arith}, Math.Seq.take-append_seam}
 use Rattle.std.proofs.lemmas.{Bool.Decides.nat_tests, List.{get_or-append_right, Folds.list_any-append}, Option.slice_get-get_or}
-use Rattle.std.specs.Prelude.{IfSome, MatchOption}
+use Rattle.std.specs.{Prelude.{IfSome, MatchOption, if◌then◌else◌, is_some, slice_set}, Iterator.{YieldsFirst}}
 use Rattle.bit_words.{specs.{Bounds.greatest, Searches.{FindsBefore, FindsFrom, IsFirstFrom}}, proofs.SearchLemmas.{finds_before_same, finds_from_same}}
 use Rattle.bit_set.specs.{Changes.{Changes, Change.{PopFirst, PopLast}, Outcome.Gave}, Choices.{IsFirstOf, IsGreatest, IsLastOf, IsLeast}, Members.{HasNone, TakesGreatest, TakesLeast}, Sets.{AscendsFrom, IsAscending, has, elements, those_below, those_from, without}}
-use Rattle.bit_set.proofs.{MemberLemmas.{none_from_members, updates_without}, SetLemmas.{AscendsFrom-filter, has-elements, has-filter, has-first, has-without, same_members}, ValueLemmas.has-within}
+use Rattle.bit_set.proofs.{MemberLemmas.{none_from_members, updates_without}, SetLemmas.{AscendsFrom-filter, IsAscending-elements, elements-set_false, has-elements, has-filter, has-first, has-without, same_members}, ValueLemmas.has-within}
 
 -- ---- lists that ascend
 
@@ -109,9 +109,28 @@ takes_last s t x up greatest is = (
   record { is_in = greatest.0; greatest = greatest.1; others = updates_without s x is },
 )
 
-pub changes_popped_first : (old new : List Bool) (x : ℕ) → elements old ≡ x ∷ elements new → Changes PopFirst old (Gave (Some x)) new
+changes_popped_first : (old new : List Bool) (x : ℕ) → elements old ≡ x ∷ elements new → Changes PopFirst old (Gave (Some x)) new
 unfolding Changes
 changes_popped_first old new x is = (sym (ap (drop 1) is), sym (ap (λ s. Gave (slice_get s 0)) is))
+
+-- where the first true value became false
+pub popped_first : (old new : List Bool) (r : Option ℕ) → FindsFrom (λ i. get_or old i false) 0 r → MatchOption r (new ≡ old) (λ i. new ≡ slice_set old i false) → YieldsFirst elements old r new × MatchOption r (HasNone (elements old)) (λ x. TakesLeast (elements old) x (elements new))
+popped_first old new None none same =
+    let members = least_of_all (elements old) None (finds_members old 0 None none) in
+    let empty = none_from_members (elements old) members in
+    ((empty, ap elements same ∙ empty), members)
+popped_first old new (Some x) first is =
+    let members = finds_members old 0 (Some x) first in
+    takes_first (elements old) (elements new) x (IsAscending-elements old) (least_of_all (elements old) (Some x) members) (ap elements is ∙ elements-set_false old x (has-within old x members.passes))
+
+pub count_popped_first : (old new : List Bool) (r : Option ℕ) → YieldsFirst elements old r new → length (elements new) + (if is_some r then 1 else 0) ≡ length (elements old)
+count_popped_first old new None none = omega (arith, ap length none.0, ap length none.1)
+count_popped_first old new (Some x) is = omega (arith, ap length is)
+
+pub changes_popped : (old new : List Bool) (r : Option ℕ) → YieldsFirst elements old r new → Changes PopFirst old (Gave r) new
+unfolding Changes
+changes_popped old new None none = (none.1 ∙ sym (ap (drop 1) none.0), sym (ap (λ s. Gave (slice_get s 0)) none.0))
+changes_popped old new (Some x) is = changes_popped_first old new x is
 
 pub changes_popped_last : (old new : List Bool) (x : ℕ) → elements old ≡ elements new ++ x ∷ [] → Changes PopLast old (Gave (Some x)) new
 unfolding Changes

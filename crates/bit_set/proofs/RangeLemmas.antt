@@ -1,5 +1,5 @@
 -- What calls on a range do to a set, by its members.
-use Rattle.std.proofs.Common.{◌≡◌, ℕ, zero, suc, ◌+◌, ◌-◌, ◌<◌, ◌≤◌, max, min, Bool, true, false, not, ◌&&◌, nat_le, nat_lt, cond, List, [], ◌∷◌, ◌++◌, eqb, get_or, length, refl, sym, ap, ◌∙◌, arith, ⊎_elim}
+use Rattle.std.proofs.Common.{◌≡◌, ℕ, zero, suc, ◌+◌, ◌-◌, ◌<◌, ◌≤◌, max, min, Bool, true, false, not, ◌&&◌, nat_le, nat_lt, cond, List, [], ◌∷◌, filter, ◌++◌, eqb, get_or, length, refl, sym, ap, ◌∙◌, arith, ⊎_elim}
 use Rattle.std.{proofs.lemmas.{Bool.{cases_lt, Decides.nat_tests}, List.{Folds.list_any-append, FromFn.length-range_with_len}}, specs.List.range_with_len}
 use Rattle.bit_words.{proofs.RangeLemmas.get_or-changed, specs.{declared.block.merge.Merge.TheVariants.Symmetric, Ranges.{changed_in_range, in_range}}}
 use Rattle.bit_set.specs.{Members.UpdatesRange, Ranges.{span, span_end, those_in_range}, Sets.{AscendsFrom, IsAscending, bound_of, difference, elements, has, intersection, symmetric_difference, those_below, those_from, union}}
@@ -22,6 +22,10 @@ has-span a b k = has-range_with_len a (b - a) k ∙ grind (arith, nat_tests)
 pub IsAscending-span : (a b : ℕ) → IsAscending (span a b)
 unfolding span
 IsAscending-span a b = AscendsFrom-lower a 0 (range_with_len a (b - a)) (omega arith) (AscendsFrom-range_with_len a (b - a))
+
+pub length-span : (a b : ℕ) → length (span a b) ≡ b - a
+unfolding span
+length-span a b = length-range_with_len a (b - a)
 
 -- ---- the list of truth values
 
@@ -77,11 +81,32 @@ pub removed_range : (a b : ℕ) (s t : List ℕ) → IsAscending s → IsAscendi
 removed_range a b s t up also members =
     same_members t _ also (IsAscending-without_range a b s up) (λ n. members n ∙ grind (arith, nat_tests, has-without_range a b s n))
 
--- ---- the laws of `src/laws.rt`
+-- ---- how many members it has then
 
-pub length-span : (a b : ℕ) → length (span a b) ≡ b - a
-unfolding span
-length-span a b = length-range_with_len a (b - a)
+pub filtered_apart : (p : ℕ → Bool) (s : List ℕ) → length (filter (λ n. not (p n)) s) + length (filter p s) ≡ length s
+filtered_apart p [] = refl
+filtered_apart p (x ∷ xs) = let rest = filtered_apart p xs in grind arith
+
+-- those outside the range stay, whatever becomes of those in it
+same_outside : (f : Bool → Bool) (a b : ℕ) (s t : List ℕ) → IsAscending s → IsAscending t → UpdatesRange f s t a b → filter (λ n. not (in_range a b n)) t ≡ filter (λ n. not (in_range a b n)) s
+same_outside f a b s t up also members =
+    same_members _ _ (AscendsFrom-filter 0 _ t also) (AscendsFrom-filter 0 _ s up) (λ n.
+    let old = has-filter (λ m. not (in_range a b m)) s n in
+    let new = has-filter (λ m. not (in_range a b m)) t n in
+    let is = members n in
+    grind arith)
+
+pub count_removed : (a b : ℕ) (s t : List ℕ) → IsAscending s → IsAscending t → UpdatesRange (λ _. false) s t a b → length t + length (those_in_range s a b) ≡ length s
+count_removed a b s t up also members =
+    let none : those_in_range t a b ≡ [] = same_members _ [] (AscendsFrom-filter 0 _ t also) tt (λ n. let in_both = has-filter (in_range a b) t n in let is = members n in grind arith) in
+    omega (arith, filtered_apart (in_range a b) s, filtered_apart (in_range a b) t, ap length (same_outside (λ _. false) a b s t up also members), ap length none)
+
+pub count_inserted : (a b : ℕ) (s t : List ℕ) → IsAscending s → IsAscending t → UpdatesRange (λ _. true) s t a b → length t + length (those_in_range s a b) ≡ length s + (b - a)
+count_inserted a b s t up also members =
+    let all : those_in_range t a b ≡ span a b = same_members _ (span a b) (AscendsFrom-filter 0 _ t also) (IsAscending-span a b) (λ n. let in_both = has-filter (in_range a b) t n in let number = has-span a b n in let is = members n in grind arith) in
+    omega (arith, filtered_apart (in_range a b) s, filtered_apart (in_range a b) t, ap length (same_outside (λ _. true) a b s t up also members), ap length all, length-span a b)
+
+-- ---- the laws of `src/laws.rt`
 
 bound-range_with_len : (a n : ℕ) → bound_of (range_with_len a (suc n)) ≡ a + n + 1
 bound-range_with_len a zero = omega arith

@@ -1,5 +1,5 @@
 -- A list of which one block was cut down to some of its ones.
-use Rattle.std.{specs.Global.Vec, proofs.Common.{◌≡◌, ◌≢◌, ℕ, ◌+◌, ◌*◌, ◌/◌, ◌%◌, ◌<◌, not, ◌&&◌, ◌==◌, List, length, get_or, map, set, sym, ap, ◌∙◌, arith, ⊎_elim, mod-lt, div-add-mod', lt_of_mul-lt-mul_right}}
+use Rattle.std.{specs.Global.Vec, proofs.Common.{◌≡◌, ◌≢◌, ℕ, ◌+◌, ◌*◌, ◌/◌, ◌%◌, ◌<◌, false, not, ◌&&◌, ◌==◌, List, length, get_or, map, set, sym, ap, ◌∙◌, arith, ⊎_elim, mod-lt, div-add-mod', lt_of_mul-lt-mul_right}}
 use Rattle.std.proofs.lemmas.{Bool.{cases_eq}, List.{get_or-set_other, get_or-set_same}}
 use Rattle.bit_words.specs.{Bits.{Bits, blocks_for}, Digits.{IsBoth, is_one}, Kept.KeepsInBlock, Storage.{value_at, values_of, IsPacked, IsZeroFrom, WritesInPlace, WritesValue}, Summary.{is_used, IsSummary}}
 use Rattle.bit_words.proofs.{BitsLemmas.blocks_for-enough, Masks.is_one-both, StorageLemmas.{get_or-values_of_zero_tail, length-values_of, value_at-index, value_at-set_other}, SummaryLemmas.summary_updated}
@@ -21,17 +21,19 @@ kept_block w k m b old ms ns within read both is = record {
   others = λ i other. ap (λ xs. value_at w xs i) is ∙ value_at-set_other w ms k b i other;
 }
 
--- past the list there are still no ones
+-- no value became true
+pub kept_less : (w k m : ℕ) (ms ns : List ℕ) → 0 < w → KeptBlock w k m ms ns → (i : ℕ) → value_at w ms i ≡ false → value_at w ns i ≡ false
+kept_less w k m ms ns pos kept i none =
+    ⊎_elim
+    (λ (here : i / w ≡ k).
+    let at : k * w + i % w ≡ i = ap (λ q. q * w + i % w) (sym here) ∙ div-add-mod' i w in
+    ap (value_at w ns) (sym at) ∙ kept.inside (i % w) (mod-lt i pos) ∙ ap (λ x. value_at w ms x && is_one m (i % w)) at ∙ ap (λ x. x && is_one m (i % w)) none)
+    (λ other. kept.others i other ∙ none)
+    (cases_eq (i / w) k)
+
+-- and so none past the list
 kept_tail : (w k m n : ℕ) (ms ns : List ℕ) → 0 < w → KeptBlock w k m ms ns → IsZeroFrom w ms n → IsZeroFrom w ns n
-kept_tail w k m n ms ns pos kept tail = record {
-  zero_tail = λ i past.
-      ⊎_elim
-      (λ (here : i / w ≡ k).
-      let at : k * w + i % w ≡ i = ap (λ q. q * w + i % w) (sym here) ∙ div-add-mod' i w in
-      ap (value_at w ns) (sym at) ∙ kept.inside (i % w) (mod-lt i pos) ∙ ap (λ x. value_at w ms x && is_one m (i % w)) at ∙ ap (λ x. x && is_one m (i % w)) (tail.zero_tail i past))
-      (λ other. kept.others i other ∙ tail.zero_tail i past)
-      (cases_eq (i / w) k);
-}
+kept_tail w k m n ms ns pos kept tail = record { zero_tail = λ i past. kept_less w k m ms ns pos kept i (tail.zero_tail i past) }
 
 pub kept_packed : {X : Type 0} (w k m n : ℕ) (f : X → ℕ) (P : X → Type 0) (xs ys : Vec X) → 0 < w → IsPacked w f P xs.items n → KeptBlock w k m (map f xs.items) (map f ys.items) → WritesInPlace P xs ys → IsPacked w f P ys.items n
 kept_packed w k m n f P xs ys pos packed kept in_place = record {

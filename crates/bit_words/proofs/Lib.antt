@@ -30,6 +30,7 @@ pub mod SummaryMergeLemmas
 pub mod TailLemmas
 pub mod ZeroLemmas
 pub mod SearchLemmas
+pub mod StartLemmas
 pub mod LastLemmas
 pub mod CutLemmas
 pub mod NextAtLemmas

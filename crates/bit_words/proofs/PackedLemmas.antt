@@ -1,7 +1,8 @@
 -- What appending, keeping and filling whole blocks does to the value at every index.
-use Rattle.std.proofs.Common.{◌≡◌, ℕ, ◌+◌, ◌-◌, ◌/◌, ◌%◌, ◌^◌, ◌<◌, ◌≤◌, false, ◌&&◌, ◌||◌, nat_lt, nat_le, List, [], ◌∷◌, ◌++◌, map, length, get_or, take, replicate, refl, ap, ◌∙◌, arith, append_assoc, mod-lt, get_or-take, set, ◌≢◌, get_or-set_same, get_or-set_other, ⊎_elim}
+use Rattle.std.proofs.Common.{◌≡◌, ℕ, ◌+◌, ◌-◌, ◌/◌, ◌%◌, ◌^◌, ◌<◌, ◌≤◌, Bool, false, ◌&&◌, ◌||◌, nat_lt, nat_le, List, [], ◌∷◌, ◌++◌, map, length, get_or, take, replicate, refl, ap, ◌∙◌, arith, append_assoc, mod-lt, get_or-take, set, ◌≢◌, get_or-set_same, get_or-set_other, ⊎_elim}
 use Rattle.std.proofs.lemmas.{Bool.{cases_lt, Decides.nat_tests}, List.{get_or_append_left, get_or-append_right, get_or_past, get_or-replicate, length-replicate, length-append, map-append, take_more}, Grind.replicate_next}
-use Rattle.bit_words.{specs.{Bits.blocks_for, Storage.{value_at, FillsFirst, IsZeroFrom}}, proofs.{Masks.{is_one-ones, is_one-zero}, BitsLemmas.blocks_for-above, StorageLemmas.{value_at-is, value_at-past}}}
+use Rattle.std.specs.Global.{Vec}
+use Rattle.bit_words.{specs.{Bits.blocks_for, Storage.{value_at, FillsFirst, IsPacked, IsZeroFrom, WritesInPlace, WritesValue}}, proofs.{Masks.{is_one-ones, is_one-zero}, BitsLemmas.blocks_for-above, StorageLemmas.{value_at-is, value_at-past}}}
 use Rattle.bit_words.proofs.ChangeLemmas.{div_lt, nat_lt-indexes}
 
 -- ---- whole blocks
@@ -112,3 +113,12 @@ cut_filled w ms rs us len m n pos count size nz ones fills cut e i =
 
 pub zeros_filled : (w : ℕ) (ms rs : List ℕ) (n : ℕ) → n ≡ 0 → FillsFirst ms rs (length ms) n → (i : ℕ) → value_at w rs i ≡ false
 zeros_filled w ms rs n z fills i = grind (arith, value_at-is, is_one-zero, fills.filled (i / w), unwritten ms rs (length ms) n (i / w) fills)
+
+-- a list of which one value is written
+pub replaced_packed : {X : Type 0} (w n i : ℕ) (f : X → ℕ) (P : X → Type 0) (xs ys : Vec X) (b : Bool) → i < n → IsPacked w f P xs.items n → WritesValue w (map f xs.items) (map f ys.items) i b → WritesInPlace P xs ys → IsPacked w f P ys.items n
+replaced_packed w n i f P xs ys b within packed value in_place = record {
+  each = in_place.each;
+  count = omega (arith, xs.ok.0, ys.ok.0, in_place.len, packed.count);
+  tail = record { zero_tail = λ j past. value.others j (λ e. omega arith) ∙ packed.tail.zero_tail j past };
+  fits = packed.fits;
+}

@@ -187,7 +187,7 @@ none_more w n k b test pos wide before here j from below =
 -- ---- past that block
 
 -- a block that is 0 has no value that is true
-unused : (w : ℕ) (ms : List ℕ) (j : ℕ) → 0 < w → is_used ms (j / w) ≡ false → value_at w ms j ≡ false
+pub unused : (w : ℕ) (ms : List ℕ) (j : ℕ) → 0 < w → is_used ms (j / w) ≡ false → value_at w ms j ≡ false
 unused w ms j pos none = ap (value_at w ms) (sym (div-add-mod' j w)) ∙ false_from_unused w ms (j / w) (j % w) (mod-lt j pos) none
 
 module _ (w : ℕ) (ms : List ℕ) (n k : ℕ) (pos : 0 < w) where

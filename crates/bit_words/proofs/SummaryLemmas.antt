@@ -98,17 +98,18 @@ keeps_all w f P xs summary many is = record {
   long = λ _. is;
 }
 
-pub stored_nil : {X : Type 0} (w : ℕ) (f : X → ℕ) (P : X → Type 0) (xs summary : List X) → 0 < w → xs ≡ [] → summary ≡ [] → IsStoredList w f P xs summary 0
+pub stored_nil : {X : Type 0} {start : ℕ} (w : ℕ) (f : X → ℕ) (P : X → Type 0) (xs summary : List X) → 0 < w → xs ≡ [] → summary ≡ [] → IsStoredList w f P xs summary 0 start
 stored_nil w f P xs summary pos e s = record {
   packed = packed_nil w f P xs pos e;
   summary = record {
     short = λ _. s;
     long = λ many. let none = ap length e in absurd (omega arith);
   };
+  start = λ many. let none = ap length e in absurd (omega arith);
 }
 
 -- an empty list has no blocks, and stores no summary
-pub none_stored : {X : Type 0} (w n r : ℕ) (f : X → ℕ) (P : X → Type 0) (xs ss : List X) (v : Bits) → 0 < w → IsStoredList w f P xs ss n → record { values = values_of w (map f xs) n; capacity = r } ≡ v → length v.values ≡ 0 → (length xs ≡ 0) × (length ss ≡ 0)
+pub none_stored : {X : Type 0} {start : ℕ} (w n r : ℕ) (f : X → ℕ) (P : X → Type 0) (xs ss : List X) (v : Bits) → 0 < w → IsStoredList w f P xs ss n start → record { values = values_of w (map f xs) n; capacity = r } ≡ v → length v.values ≡ 0 → (length xs ≡ 0) × (length ss ≡ 0)
 none_stored w n r f P xs ss v pos stored e none =
     let len = length_from_view w n r (map f xs) v e in
     let count : length xs ≡ 0 = stored.packed.count ∙ ap (blocks_for w) (let z : n ≡ 0 = omega (arith, len, none) in z) ∙ sym (blocks_for-none w pos) in
@@ -131,7 +132,7 @@ stored_enough w f P xs ss pos is long =
     let whole = ap (λ k. k * w) (is.long long).packed.count in
     omega (arith, blocks_for-enough w (length xs) pos, whole)
 
-pub stored_within : {X : Type 0} (w n blocks summary : ℕ) (f : X → ℕ) (P : X → Type 0) (xs ss : List X) → 0 < w → IsStoredList w f P xs ss n → length xs ≤ blocks → length ss ≤ summary → length xs ≤ shared_capacity w blocks summary
+pub stored_within : {X : Type 0} {start : ℕ} (w n blocks summary : ℕ) (f : X → ℕ) (P : X → Type 0) (xs ss : List X) → 0 < w → IsStoredList w f P xs ss n start → length xs ≤ blocks → length ss ≤ summary → length xs ≤ shared_capacity w blocks summary
 stored_within w n blocks summary f P xs ss pos stored first second =
     shared_enough w blocks summary (length xs) pos first (let count = stored_length w f P xs ss stored.summary in omega arith)
 

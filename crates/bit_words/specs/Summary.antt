@@ -1,5 +1,5 @@
 -- The summary of a vector of blocks: which of them are not 0. No public clause cites this.
-use Rattle.std.specs.Prelude.{◌≡◌, ℕ, ◌+◌, ◌*◌, ◌<◌, ◌≤◌, ◌&&◌, Bool, not, nat_lt, nat_le, if◌then◌else◌, min, max, List, [], map, length, get_or, ◌==◌}
+use Rattle.std.specs.Prelude.{◌≡◌, ℕ, ◌+◌, ◌*◌, ◌/◌, ◌<◌, ◌≤◌, ◌&&◌, Bool, false, not, nat_lt, nat_le, if◌then◌else◌, min, max, List, [], map, length, get_or, ◌==◌}
 use Rattle.bit_words.specs.{Bits.blocks_for, Digits.is_one, Storage.{value_at, IsPacked}}
 
 -- whether block k is not 0
@@ -34,11 +34,17 @@ pub record IsStoredSummary {X : Type 0} (w : ℕ) (number : X → ℕ) (is_block
   pub short : length xs ≤ short_count w → own_summary ≡ []
   pub long : short_count w < length xs → IsSummary w number is_block xs own_summary
 
--- The blocks xs hold a list of n values, and this is the summary that is stored of them.
+-- No value is true that a block of the summary before this one is about.
+pub record IsFalseBefore (w : ℕ) (ms : List ℕ) (chunk : ℕ) : Type 0 where
+  pub falses : (i : ℕ) → i / w / w < chunk → value_at w ms i ≡ false
+
+-- The blocks xs hold a list of n values, this is the summary that is stored of them, and a search of the summary for the
+-- first true value may start at this block of it.
 pub record IsStoredList {X : Type 0} (w : ℕ) (number : X → ℕ) (is_block : X → Type 0) (xs own_summary : List X)
-    (n : ℕ) : Type 0 where
+    (n chunk : ℕ) : Type 0 where
   pub packed : IsPacked w number is_block xs n
   pub summary : IsStoredSummary w number is_block xs own_summary
+  pub start : short_count w < length xs → IsFalseBefore w (map number xs) chunk
 
 -- for how many blocks there is capacity, with what is stored of their summary, where there is capacity for so many
 -- blocks of either

@@ -23,6 +23,7 @@ mod one_block;
 mod pending;
 mod ranges;
 mod searching;
+mod taking;
 
 pub use crate::block::highest::take_highest_one;
 pub use crate::block::lowest::take_lowest_one;
@@ -57,6 +58,8 @@ pub struct BitVec<B: BitBlock = u32> {
     blocks: Vec<B>,
     // Which of the blocks are not 0. Empty where they are few.
     summary: Vec<B>,
+    // Where a summary is stored, each block of it before this one is 0: a search for the first true value starts here.
+    search_start: usize,
     len: usize,
 }
 
@@ -71,7 +74,8 @@ impl<B: BitBlock> Model for BitVec<B> {
       capacity = capacity_of B.width (shared_capacity B.width (vec_capacity v.blocks) (vec_capacity v.summary));
     } };
 
-    ghost invariant = { λ v. IsStoredList B.width B.number B.is_block v.blocks.items v.summary.items v.len };
+    ghost invariant = { λ v. IsStoredList B.width B.number B.is_block v.blocks.items v.summary.items v.len
+        v.search_start };
 }
 
 impl<B: BitBlock> BitVec<B> {

@@ -20,6 +20,7 @@ pub(crate) mod queries;
 pub(crate) mod searching;
 pub(crate) mod shared_capacity;
 pub(crate) mod spans;
+pub(crate) mod taking;
 
 #[inline]
 pub(crate) fn is_nonzero<B: BitBlock>(block: B) -> bool
@@ -65,6 +66,26 @@ pub(crate) fn update_summary_bit<B: BitBlock>(
 {
     let used = bit || is_nonzero(block);
     let _written = write_bit(summary, k, current, used);
+}
+
+// A search of the summary starts at its block `chunk` at the latest, where a bit of a block that this is about became 1.
+#[inline]
+pub(crate) fn follow_one(start: &mut usize, chunk: usize, bit: bool)
+    ensures reached { bit ≡ true → start.new ≤ chunk }
+    ensures back { start.new ≤ start.old }
+{
+    if bit && chunk < *start {
+        *start = chunk;
+    }
+}
+
+// Where a search of the summary starts once values `bit` were appended to a list of `old` blocks: where it started, if
+// a summary was stored and these are false.
+#[inline]
+pub(crate) fn start_after_growth<B: BitBlock>(start: usize, old: usize, bit: bool) -> usize
+    ensures { 0 < result → (result ≡ start) × (bit ≡ false) × (short_count B.width < old) }
+{
+    if bit || is_short::<B>(old) { 0 } else { start }
 }
 
 // Which of the `count` blocks from `start` on are not 0, the first of them at the lowest bit.

@@ -110,6 +110,17 @@ fn the_next_true_value_is_found(rt: HostRuntime) {
 }
 
 #[test]
+fn the_first_true_value_is_found_and_taken_out(rt: HostRuntime) {
+    let mut bits = list_of::<u32>(&rt, rt.alloc(), 100, &[3, 70]);
+    // Of 100 values, those at 3 and 70 are true.
+    expect_eq(&rt, &bits.first_one(), &Some(3));
+    // Of 100 values, those at 3 and 70 are true.
+    expect_eq(&rt, &bits.take_first_one(), &Some(3));
+    expect_eq(&rt, &bits.take_first_one(), &Some(70));
+    expect_eq(&rt, &bits.take_first_one(), &None);
+}
+
+#[test]
 fn the_true_value_before_is_found(rt: HostRuntime) {
     let bits = list_of::<u32>(&rt, rt.alloc(), 100, &[3, 70]);
     // Of 100 values, those at 3 and 70 are true.

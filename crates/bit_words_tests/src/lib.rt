@@ -22,4 +22,6 @@ mod nonzero_tests;
 #[cfg(test)]
 mod tail_tests;
 #[cfg(test)]
+mod taking_tests;
+#[cfg(test)]
 mod vector_tests;

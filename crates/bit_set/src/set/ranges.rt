@@ -1,5 +1,5 @@
 // Calls on the numbers of a range.
-ghost use Rattle.std.specs.Prelude.{◌≡◌, ℕ, ◌-◌, ◌<◌, ◌≤◌, ◌↔◌, ◌++◌, false, length, max, not, true, IfErr, IsErrOf, IsTrue, OnOk};
+ghost use Rattle.std.specs.Prelude.{◌≡◌, ℕ, ◌+◌, ◌-◌, ◌<◌, ◌≤◌, ◌↔◌, ◌++◌, false, length, max, not, true, IfErr, IsErrOf, IsTrue, OnOk};
 ghost use Rattle.bit_words.specs.{Growth.Grows};
 ghost use Rattle.bit_set.specs.{Changes.{Change, Changes, Outcome.Done, outcome_of_result}, Faults.IsInsertFault, Members.UpdatesRange, Ranges.{span, span_end, those_in_range}, Sets.{elements, has, is_disjoint, is_subset, symmetric_difference, those_below, those_from, union}};
 
@@ -42,6 +42,9 @@ impl<B: BitBlock> BitSet<B> {
             ≡ union (elements self.old.values) (span range.start range.end)) }
         ensures members { OnOk result (UpdatesRange (λ _. true) (elements self.old.values) (elements self.new.values)
             range.start range.end) }
+        ensures count { OnOk result (length (elements self.new.values)
+            + length (those_in_range (elements self.old.values) range.start range.end)
+            ≡ length (elements self.old.values) + (range.end - range.start)) }
         ensures length { OnOk result (length self.new.values
             ≡ max (length self.old.values) (span_end range.start range.end)) }
         ensures fit { IsErrOf result SetError.Element → ⊥ }
@@ -62,6 +65,9 @@ impl<B: BitBlock> BitSet<B> {
             ++ those_from (elements self.old.values) (max range.start range.end) }
         ensures members { UpdatesRange (λ _. false) (elements self.old.values) (elements self.new.values)
             range.start range.end }
+        ensures count { length (elements self.new.values)
+            + length (those_in_range (elements self.old.values) range.start range.end)
+            ≡ length (elements self.old.values) }
         ensures length { length self.new.values ≡ length self.old.values }
         ensures capacity { self.new.capacity ≡ self.old.capacity }
         ensures changes { Changes (Change.RemoveRange range.start range.end) self.old.values Done self.new.values }

@@ -55,14 +55,16 @@ impl<B: BitBlock> BitSet<B> {
         self.bits.first_zero_from(n)
     }
 
-    /// The least element, or `None` of the empty set. Reads the first block, the summary up to the first block that is not
-    /// zero, and that block; a set of few blocks stores no summary, and then each block up to there.
+    /// The least element, or `None` of the empty set. Reads the summary from where [`BitSet::pop_first`] left off, or from
+    /// a lesser number that was put in since, up to the first block that is not zero, and that block; a set of few blocks
+    /// stores no summary, and then each block up to there.
     pub fn first(&self) -> Option<usize>
         ensures elements { IsFirstOf (elements self.now.values) result }
         ensures members { MatchOption result (HasNone (elements self.now.values)) (IsLeast (elements self.now.values)) }
         ensures within { IfSome result (λ x. (x < length self.now.values) × (x < usize.MAX)) }
     {
-        self.next(0)
+        prove!(self.bits.len() <= usize::MAX);
+        self.bits.first_one()
     }
 
     /// The greatest element, or `None` of the empty set. Reads the last block, the summary down to the last block that is

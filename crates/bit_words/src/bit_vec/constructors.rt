@@ -87,6 +87,7 @@ impl<B: BitBlock> BitVec<B> {
         BitVec {
             blocks: Vec::new(alloc),
             summary: Vec::new(alloc),
+            search_start: 0,
             len: 0,
         }
     }
@@ -104,6 +105,7 @@ impl<B: BitBlock> BitVec<B> {
         Ok(BitVec {
             blocks,
             summary,
+            search_start: 0,
             len: n,
         })
     }
@@ -128,6 +130,7 @@ impl<B: BitBlock> BitVec<B> {
         Ok(BitVec {
             blocks,
             summary,
+            search_start: 0,
             len,
         })
     }
@@ -145,6 +148,7 @@ impl<B: BitBlock> BitVec<B> {
         Ok(BitVec {
             blocks,
             summary,
+            search_start: self.search_start,
             len: self.len,
         })
     }
@@ -163,6 +167,7 @@ impl<B: BitBlock> BitVec<B> {
         Ok(BitVec {
             blocks,
             summary,
+            search_start: 0,
             len: self.len,
         })
     }

@@ -8,7 +8,10 @@ use crate::packed::access::{block_at, block_count, block_index, replace_bit};
 use crate::packed::resizing::{append_bits, fill_bits, truncate_bits};
 use crate::summary::copies::copy_both;
 use crate::summary::shared_capacity::reserve_shared;
-use crate::summary::{append_to_summary, cut_summary, is_short, store_summary, update_summary_bit};
+use crate::summary::{
+    append_to_summary, cut_summary, follow_one, is_short, start_after_growth, store_summary,
+    update_summary_bit,
+};
 use std::alloc::AllocError;
 
 impl<B: BitBlock> BitVec<B> {
@@ -35,11 +38,13 @@ impl<B: BitBlock> BitVec<B> {
             return replace_bit(&mut self.blocks, i, bit);
         }
         let k = block_index::<B>(i);
+        let chunk = block_index::<B>(k);
         // Read before the block is written, so that a bit of it is set in a register and not in memory.
-        let current = block_at(&self.summary, block_index::<B>(k));
+        let current = block_at(&self.summary, chunk);
         let was = replace_bit(&mut self.blocks, i, bit);
         let block = block_at(&self.blocks, k);
         update_summary_bit(&mut self.summary, current, k, block, bit);
+        follow_one(&mut self.search_start, chunk, bit);
         was
     }
 
@@ -48,6 +53,7 @@ impl<B: BitBlock> BitVec<B> {
         ensures values { self.new.values ≡ replicate (length self.old.values) bit }
         ensures capacity { self.new.capacity ≡ self.old.capacity }
     {
+        self.search_start = 0;
         fill_bits(&mut self.blocks, self.len, bit);
         if !is_short::<B>(self.blocks.len()) {
             fill_bits(&mut self.summary, self.blocks.len(), bit);
@@ -111,6 +117,7 @@ impl<B: BitBlock> BitVec<B> {
         let old = self.blocks.len();
         append_bits(&mut self.blocks, self.len, len, bit);
         append_to_summary(&mut self.summary, &self.blocks, old, bit);
+        self.search_start = start_after_growth::<B>(self.search_start, old, bit);
         self.len = len;
         Ok(())
     }
@@ -131,6 +138,7 @@ impl<B: BitBlock> BitVec<B> {
             &other.blocks,
             &other.summary,
         )?;
+        self.search_start = other.search_start;
         self.len = other.len;
         Ok(())
     }

@@ -18,6 +18,7 @@ impl<B: BitBlock> BitVec<B> {
         ensures capacity { self.new.capacity ≡ self.old.capacity }
         ensures steps { steps.new ≡ steps.old + blocks_for B.width (length self.old.values) }
     {
+        self.search_start = 0;
         merge_chosen(
             self.blocks.as_mut_slice(),
             self.summary.as_mut_slice(),

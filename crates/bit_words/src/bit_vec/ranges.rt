@@ -27,6 +27,7 @@ impl<B: BitBlock> BitVec<B> {
             return;
         }
         if bit {
+            self.search_start = 0;
             fill_span::<B, Union>(&mut self.blocks, &mut self.summary, range.start, range.end);
         } else {
             fill_span::<B, Difference>(&mut self.blocks, &mut self.summary, range.start, range.end);
@@ -40,6 +41,7 @@ impl<B: BitBlock> BitVec<B> {
         ensures capacity { self.new.capacity ≡ self.old.capacity }
     {
         if range.start < range.end {
+            self.search_start = 0;
             negate_span(&mut self.blocks, &mut self.summary, range.start, range.end);
         }
     }

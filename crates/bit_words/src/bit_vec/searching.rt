@@ -4,10 +4,30 @@ ghost use Rattle.bit_words.specs.Searches.{FindsBefore, FindsFrom, IsFirstFrom};
 
 use crate::bit_vec::BitVec;
 use crate::block::BitBlock;
-use crate::packed::searching::first_zero;
+use crate::packed::searching::{first_nonzero_block, first_one, first_zero};
+use crate::summary::is_short;
 use crate::summary::searching::{first_one_by_summary, last_one_by_summary};
+use crate::summary::taking::first_of_chunk;
 
 impl<B: BitBlock> BitVec<B> {
+    /// The first index at which the list is true, or `None`. Of many blocks it reads the summary from where
+    /// [`take_first_one`](Self::take_first_one) left off, or from where a value became true since, and one block of the
+    /// list; of few, which store no summary, each block up to that of the index.
+    ///
+    /// ```
+    /// // Of 100 values, those at 3 and 70 are true.
+    /// assert_eq!(bits.first_one(), Some(3));
+    /// ```
+    pub fn first_one(&self) -> Option<usize>
+        ensures { FindsFrom (λ i. get_or self.now.values i false) 0 result }
+    {
+        if is_short::<B>(self.blocks.len()) {
+            return first_one(&self.blocks, 0);
+        }
+        let chunk = first_nonzero_block(&self.summary, self.search_start)?;
+        Some(first_of_chunk(&self.blocks, &self.summary, chunk))
+    }
+
     /// The first index from `n` on at which the list is true, or `None`. Reads the block of `n`, the summary from there up
     /// to the next block that is not zero, and that block; of few blocks, which store no summary, each block up to there.
     ///
@@ -37,6 +57,7 @@ impl<B: BitBlock> BitVec<B> {
     {
         last_one_by_summary(&self.blocks, &self.summary, n)
     }
+
     /// The first index from `n` on at which the list is not true, at or past its length at most. Reads each block from
     /// that of `n` up to that of the index.
     ///

@@ -1,18 +1,14 @@
-use Rattle.bit_set.{specs.Sets.elements, proofs.{EndLemmas.{changes_popped_first, takes_first}, SetLemmas.IsAscending-elements}}
+use Rattle.bit_set.proofs.EndLemmas.{changes_popped, count_popped_first, popped_first}
 use Rattle.bit_set.proofs.set.BitSet.pop_first.Goals as goal
 
-pub returns-in_err-value-clause-elements : goal.returns-in_err-value-clause-elements
-returns-in_err-value-clause-elements g c = rw c.from_residual.ensures (c.in_err-value.ensures.elements, c.in_err-value.ensures.elements)
-
 pub returns-clause-elements : goal.returns-clause-elements
-returns-clause-elements g c =
-    let old = c.args.self.now.values in
-    (takes_first (elements old) (elements c.remove-was.new.self.values) c.in_ok-value.value (IsAscending-elements old) c.in_ok-value.ensures.members c.remove-was.ensures.elements).0
+returns-clause-elements g c = rw (← c.self.view_is) (popped_first c.self.inside.bits.values _ _ c.take_first_one.ensures.first c.take_first_one.ensures.values).0
 
 pub returns-clause-members : goal.returns-clause-members
-returns-clause-members g c =
-    let old = c.args.self.now.values in
-    (takes_first (elements old) (elements c.remove-was.new.self.values) c.in_ok-value.value (IsAscending-elements old) c.in_ok-value.ensures.members c.remove-was.ensures.elements).1
+returns-clause-members g c = rw (← c.self.view_is) (popped_first c.self.inside.bits.values _ _ c.take_first_one.ensures.first c.take_first_one.ensures.values).1
+
+pub returns-clause-count : goal.returns-clause-count
+returns-clause-count g c = count_popped_first c.args.self.now.values c.take_first_one.new.self.values c.take_first_one.result (returns-clause-elements g c)
 
 pub returns-clause-changes : goal.returns-clause-changes
-returns-clause-changes g c = changes_popped_first c.args.self.now.values c.remove-was.new.self.values c.in_ok-value.value (returns-clause-elements g c)
+returns-clause-changes g c = changes_popped c.args.self.now.values c.take_first_one.new.self.values c.take_first_one.result (returns-clause-elements g c)

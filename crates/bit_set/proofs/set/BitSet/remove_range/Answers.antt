@@ -1,5 +1,5 @@
 use Rattle.std.proofs.Common.{refl}
-use Rattle.bit_set.proofs.{RangeLemmas.{members_cleared, removed_range}, SetLemmas.IsAscending-elements}
+use Rattle.bit_set.proofs.{RangeLemmas.{count_removed, members_cleared, removed_range}, SetLemmas.IsAscending-elements}
 use Rattle.bit_set.specs.Changes.{Changes}
 use Rattle.bit_set.proofs.set.BitSet.remove_range.Goals as goal
 
@@ -14,3 +14,7 @@ returns-clause-elements g c =
 pub returns-clause-changes : goal.returns-clause-changes
 unfolding Changes
 returns-clause-changes g c = (returns-clause-elements g c, refl)
+
+pub returns-clause-count : goal.returns-clause-count
+returns-clause-count g c =
+    count_removed c.args.range.start c.args.range.end _ _ (IsAscending-elements c.args.self.now.values) (IsAscending-elements c.fill_range.new.self.values) (returns-clause-members g c)

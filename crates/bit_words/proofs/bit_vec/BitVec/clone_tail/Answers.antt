@@ -1,6 +1,7 @@
 use Rattle.std.proofs.Common.{◌≡◌, ◌<◌, ◌^◌, ◌∙◌, ◌++◌, false, drop, length, map, replicate, ap, arith}
 use Rattle.bit_words.{specs.Summary.stored_for, proofs.{BitsLemmas.{blocks_for-above, blocks_for-le}, CapacityLemmas.capacity_of_copy, TailLemmas.{tail_kept, tail_packed, tail_unused, values_of-tail}}}
 use Rattle.bit_words.proofs.VectorLemmas.{length_from_view, numbers_below}
+use Rattle.bit_words.proofs.StartLemmas.{false_before_none}
 use Rattle.bit_words.proofs.bit_vec.BitVec.clone_tail.Goals as goal
 
 pub copy_bits_from-requires-clause-within : goal.copy_bits_from-requires-clause-within
@@ -35,6 +36,7 @@ pub invariant_of-result : goal.invariant_of-result
 invariant_of-result g c = record {
   packed = tail_packed g.B.BitBlock.width _ c.args.at g.B.BitBlock.number _ c.self.inside.blocks.items _ c.self.invariant.packed c.in_ok-blocks.ensures.each (omega (arith, c.in_ok-blocks.ensures.len, c.deref.ensures.len)) (rw c.deref.ensures.value at c.in_ok-blocks.ensures.values);
   summary = rw c.deref-3.ensures.value at c.in_ok-summary.ensures.summary;
+  start = λ _. false_before_none _ _;
 }
 
 pub returns-clause-values : goal.returns-clause-values

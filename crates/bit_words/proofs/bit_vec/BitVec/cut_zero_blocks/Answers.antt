@@ -2,6 +2,7 @@ use Rattle.std.proofs.{Common.{◌≡◌, ◌*◌, ◌^◌, ◌<◌, ◌≤◌, 
 use Rattle.bit_words.{specs.{Bits.{blocks_for, capacity_of, true_end}, Storage.values_of, Summary.shared_capacity}, proofs.{CompareLemmas.{true_at, value_in_view}, CapacityLemmas.used_blocks-true_end}}
 use Rattle.bit_words.proofs.{CapacityLemmas.{whole_blocks-fits, whole_blocks-past, value_at-cut, zero_tail_cut, blocks_for-whole}, StorageLemmas.length-values_of, VectorLemmas.numbers_below}
 use Rattle.bit_words.proofs.bit_vec.BitVec.cut_zero_blocks.{Given.Over, Goals.After-used_by_summary-count}
+use Rattle.bit_words.proofs.StartLemmas.{false_before_less}
 use Rattle.bit_words.proofs.bit_vec.BitVec.cut_zero_blocks.Goals as goal
 
 -- the blocks up to the last that is not 0 are those up to the last true value
@@ -56,6 +57,8 @@ invariant_of-self g c =
         fits = omega (arith, c.in-Some.ensures);
       };
       summary = rw c.deref-3.ensures.value at c.cut_summary.ensures.summary;
+      start = λ many.
+          false_before_less _ _ _ _ (λ i none. value_at-cut w c.used_by_summary-count.result (map g.B.BitBlock.number c.self.inside.blocks.items) _ c.truncate_blocks.ensures.numbers (rw c.deref.ensures.value at c.used_by_summary-count.ensures.zeros) i ∙ none) (c.self.invariant.start (omega (arith, many, c.truncate_blocks.ensures.len, c.used_by_summary-count.ensures)));
     }
 
 pub returns : goal.returns

@@ -1,5 +1,6 @@
-use Rattle.std.proofs.Common.{◌≡◌, ◌∙◌, Bool, true, false, refl, sym, ap, arith}
-use Rattle.bit_words.{specs.{declared.block.merge.Merge.TheVariants.{Difference, Union}, Merges.merge_of_values, Ranges.changed_in_range}, proofs.{RangeLemmas.{changed-none, values_of-changed}, SameCapacity.same_capacity, SummarySpanLemmas.{end_in_blocks, span_packed}, VectorLemmas.length_from_view}}
+use Rattle.std.proofs.Common.{◌≡◌, ℕ, List, ◌∙◌, Bool, true, false, refl, sym, ap, arith}
+use Rattle.bit_words.{specs.{declared.block.merge.Merge.TheVariants.{Difference, Union}, BlockMerges.IsMergedSpan, Merges.merge_of_values, Ranges.changed_in_range, Storage.value_at}, proofs.{RangeLemmas.{changed-none, values_of-changed}, SameCapacity.same_capacity, SummarySpanLemmas.{end_in_blocks, span_packed}, VectorLemmas.length_from_view}}
+use Rattle.bit_words.proofs.StartLemmas.{false_before_less, false_before_none}
 use Rattle.bit_words.proofs.bit_vec.BitVec.fill_range.Goals as goal
 
 set : (b x : Bool) → b ≡ true → merge_of_values Union x true ≡ b
@@ -7,6 +8,10 @@ set b x is = grind arith
 
 cleared : (b x : Bool) → b ≡ false → merge_of_values Difference x true ≡ b
 cleared b x is = grind arith
+
+-- what is cleared makes no value true
+less : (w a b : ℕ) (ms ns : List ℕ) → IsMergedSpan Difference w a b ms ns → (i : ℕ) → value_at w ms i ≡ false → value_at w ns i ≡ false
+less w a b ms ns span i none = grind (arith, span.inside i, span.before i, span.after i, cleared false (value_at w ms i))
 
 pub fill_span-requires : goal.fill_span-requires
 fill_span-requires g c = record {
@@ -32,12 +37,14 @@ pub invariant_of-self : goal.invariant_of-self
 invariant_of-self g c = record {
   packed = span_packed _ _ _ _ _ _ _ c.self.inside.blocks c.fill_span.new.blocks (omega (arith, length_from_view _ _ _ _ _ c.self.view_is, c.requires c.if-range.false)) c.self.invariant.packed c.fill_span.ensures.span c.fill_span.ensures.in_place;
   summary = c.fill_span.ensures.summary;
+  start = λ _. false_before_none _ _;
 }
 
 pub invariant_of-self-else-bit : goal.invariant_of-self-else-bit
 invariant_of-self-else-bit g c = record {
   packed = span_packed _ _ _ _ _ _ _ c.self.inside.blocks c.fill_span-else-bit.new.blocks (omega (arith, length_from_view _ _ _ _ _ c.self.view_is, c.requires c.if-range.false)) c.self.invariant.packed c.fill_span-else-bit.ensures.span c.fill_span-else-bit.ensures.in_place;
   summary = c.fill_span-else-bit.ensures.summary;
+  start = λ many. false_before_less _ _ _ _ (less _ _ _ _ _ c.fill_span-else-bit.ensures.span) (c.self.invariant.start (omega (arith, many, c.fill_span-else-bit.ensures.in_place.len)));
 }
 
 pub returns-then-bit-clause-values : goal.returns-then-bit-clause-values

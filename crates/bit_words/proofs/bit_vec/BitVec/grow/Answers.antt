@@ -16,6 +16,7 @@ invariant_of-self g c =
         fits = omega (arith, len);
       };
       summary = c.self.invariant.summary;
+      start = c.self.invariant.start;
     }
 
 pub returns-then-block_count-len : goal.returns-then-block_count-len

@@ -1,6 +1,7 @@
 use Rattle.std.proofs.{Common.{◌≡◌, ◌+◌, ◌^◌, ◌<◌, ◌++◌, ◌∙◌, length, vec_capacity, replicate, ap, ap₂, arith}, lemmas.Result.err_from_is_err_and}
 use Rattle.bit_words.{specs.{Bits.capacity_of, Summary.shared_capacity}, proofs.{CapacityLemmas.stored_from_shared, GrowthLemmas.{Grows-blocks, Grows-kept}, StorageLemmas.values_of-append}}
 use Rattle.bit_words.proofs.{BitsLemmas.blocks_for-le, GrownSummary.{IsGrown, grown_after, grown_before, grown_last}, VectorLemmas.length_from_view}
+use Rattle.bit_words.proofs.StartLemmas.{grown_start}
 use Rattle.bit_words.proofs.bit_vec.BitVec.grow_blocks.Goals as goal
 
 pub overflow_add-len : goal.overflow_add-len
@@ -78,4 +79,11 @@ pub append_bits-requires-clause-capacity : goal.append_bits-requires-clause-capa
 append_bits-requires-clause-capacity g c = omega (arith, c.in_ok-reserve_shared.ensures.capacity.reserves.ok, c.block_count-count.ensures)
 
 pub invariant_of-self-2 : goal.invariant_of-self-2
-invariant_of-self-2 g c = record { packed = c.append_bits.ensures.packed; summary = rw c.deref-2.ensures.value at c.append_to_summary.ensures.summary }
+invariant_of-self-2 g c =
+    let items = ap length c.reserve_shared.ensures.items in
+    record {
+      packed = c.append_bits.ensures.packed;
+      summary = rw c.deref-2.ensures.value at c.append_to_summary.ensures.summary;
+      start = λ _.
+          grown_start _ _ _ _ _ _ _ c.start_after_growth-self-inside.ensures (rw c.reserve_shared.ensures.items at c.append_bits.ensures.kept) c.append_bits.ensures.added c.append_bits.ensures.packed.tail (λ many. c.self.invariant.start (omega (arith, many, c.deref.ensures.len, items)));
+    }

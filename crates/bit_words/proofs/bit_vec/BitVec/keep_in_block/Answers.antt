@@ -3,6 +3,7 @@ use Rattle.std.proofs.Common.{◌<◌, length, map, refl, ap, arith}
 use Rattle.bit_words.specs.Summary.{short_count}
 use Rattle.bit_words.proofs.{KeepLemmas.{KeptBlock, block_inside, kept_block, kept_packed, kept_summary, kept_values}, SameCapacity.same_capacity, SummaryLemmas.{keeps_all, keeps_none}, SummarySpanLemmas.in_chunks, VectorLemmas.length_from_view}
 use Rattle.bit_words.proofs.bit_vec.BitVec.keep_in_block.{Given.Over, Goals.{After-put_block, After-self, Else-is_short}}
+use Rattle.bit_words.proofs.{KeepLemmas.kept_less, StartLemmas.false_before_less}
 use Rattle.bit_words.proofs.bit_vec.BitVec.keep_in_block.Goals as goal
 
 -- there is such a block
@@ -44,6 +45,7 @@ invariant_of-self g c =
     record {
       packed = kept_packed _ _ _ _ _ _ c.self.inside.blocks c.put_block.new.blocks g.met.B.BitBlock.width_law.positive c.self.invariant.packed (kept g at.After-put_block (inside g at.After-self)) c.put_block.ensures.in_place;
       summary = keeps_none _ _ _ _ _ (omega (arith, short)) (c.self.invariant.summary.short (omega (arith, short, c.put_block.ensures.in_place.len)));
+      start = λ many. absurd (omega (arith, many, short));
     }
 
 pub returns-then-is_short-clause-values : goal.returns-then-is_short-clause-values
@@ -80,6 +82,7 @@ invariant_of-self-2 g c =
       summary = keeps_all _ _ _ _ _ (omega (arith, long, c.put_block.ensures.in_place.len)) (
           kept_summary g.B.BitBlock.width c.args.k _ g.B.BitBlock.number g.B.BitBlock.is_block c.self.inside.blocks c.put_block.new.blocks c.self.inside.summary c.update_summary_at.new.summary (omega (arith, here, c.put_block.ensures.in_place.len)) c.put_block.ensures.numbers
           c.put_block.ensures.in_place (c.self.invariant.summary.long long) (rw c.deref-2.ensures.value at c.update_summary_at.ensures.value) c.update_summary_at.ensures.in_place);
+      start = λ _. false_before_less _ _ _ _ (kept_less _ _ _ _ _ g.met.B.BitBlock.width_law.positive (kept g at.After-put_block (inside g at.After-self))) (c.self.invariant.start long);
     }
 
 pub returns-clause-values : goal.returns-clause-values

@@ -1,6 +1,7 @@
 use Rattle.std.proofs.{Common.{◌≡◌, ℕ, ◌∙◌, ap, ap₂, ◌++◌, map, drop, length, take, arith}, lemmas.List.take_at}
 use Rattle.bit_words.{specs.{Merges.{merge_of, merge_of_values}, Storage.value_at}, proofs.{BitsLemmas.blocks_for-le, MergeLemmas.{merged_lists, merged_zero_tail, merges_of_values}, NotedMergeLemmas.stay_none, VectorLemmas.length_from_view}}
 use Rattle.bit_words.proofs.{VectorLemmas.no_longer_from_views, bit_vec.BitVec.merge_blocks.{Given.Over, Goals.After-merge_chosen}}
+use Rattle.bit_words.proofs.StartLemmas.{false_before_none}
 use Rattle.bit_words.proofs.bit_vec.BitVec.merge_blocks.Goals as goal
 
 pub merge_chosen-requires-clause-can : goal.merge_chosen-requires-clause-can
@@ -42,6 +43,7 @@ invariant_of-self g c =
         fits = c.self.invariant.packed.fits;
       };
       summary = c.merge_chosen.ensures.summary;
+      start = λ _. false_before_none _ _;
     })
 
 pub returns-clause-values : goal.returns-clause-values

@@ -1,6 +1,7 @@
 use Rattle.std.proofs.{Common.{◌≡◌, ℕ, ◌∙◌, sym, ap, ap₂, ◌++◌, map, drop, length, take, arith}, lemmas.List.take_at}
 use Rattle.bit_words.{specs.{Merges.{merge_of, merge_of_values}, Storage.{value_at, IsPacked}}, proofs.{BitsLemmas.blocks_for-le, MergeLemmas.{merged_lists, merged_zero_tail, merges_of_values}, NotedMergeLemmas.kept_lists, VectorLemmas.length_from_view}}
 use Rattle.bit_words.proofs.{VectorLemmas.{no_longer_from_views, numbers_below}, bit_vec.BitVec.merge_changes.{Given.Over, Goals.After-merge_and_note}}
+use Rattle.bit_words.proofs.StartLemmas.{false_before_none}
 use Rattle.bit_words.proofs.bit_vec.BitVec.merge_changes.Goals as goal
 
 pub merge_and_note-requires-clause-can : goal.merge_and_note-requires-clause-can
@@ -44,7 +45,7 @@ invariant_of-self g c =
     let old_summary = c.self.inside.summary in
     let back : take old.len (ys ++ drop (length ys) old.items) ≡ ys = take_at ys _ old.len (omega arith) in
     let back_summary : take old_summary.len (summary ++ drop (length summary) old_summary.items) ≡ summary = take_at summary _ old_summary.len (omega arith) in
-    rw (back, back_summary) (record { packed = packed g (goal.at.invariant_of-self g c).After-merge_and_note; summary = c.merge_and_note.ensures.summary })
+    rw (back, back_summary) (record { packed = packed g (goal.at.invariant_of-self g c).After-merge_and_note; summary = c.merge_and_note.ensures.summary; start = λ _. false_before_none _ _ })
 
 pub returns-clause-values : goal.returns-clause-values
 returns-clause-values g c =

@@ -1,5 +1,6 @@
 use Rattle.std.proofs.Common.{◌≡◌, ◌∙◌, Bool, true, not, refl, sym, ap, arith}
 use Rattle.bit_words.{specs.{declared.block.merge.Merge.TheVariants.Symmetric, Merges.merge_of_values, Ranges.changed_in_range}, proofs.{RangeLemmas.{changed-none, values_of-changed}, SameCapacity.same_capacity, SummarySpanLemmas.{end_in_blocks, span_packed}, VectorLemmas.length_from_view}}
+use Rattle.bit_words.proofs.StartLemmas.{false_before_none}
 use Rattle.bit_words.proofs.bit_vec.BitVec.negate_range.Goals as goal
 
 pub negate_span-requires : goal.negate_span-requires
@@ -14,6 +15,7 @@ pub invariant_of-self : goal.invariant_of-self
 invariant_of-self g c = record {
   packed = span_packed _ _ _ _ _ _ _ c.self.inside.blocks c.negate_span.new.blocks (omega (arith, length_from_view _ _ _ _ _ c.self.view_is, c.requires c.if-range.true)) c.self.invariant.packed c.negate_span.ensures.span c.negate_span.ensures.in_place;
   summary = c.negate_span.ensures.summary;
+  start = λ _. false_before_none _ _;
 }
 
 turned : (x : Bool) → merge_of_values Symmetric x true ≡ not x

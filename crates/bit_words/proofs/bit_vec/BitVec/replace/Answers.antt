@@ -1,17 +1,9 @@
-use Rattle.std.{proofs.Common.{◌≡◌, ℕ, ◌≤◌, ◌+◌, ◌*◌, ◌/◌, ◌%◌, ◌<◌, ◌∙◌, ◌==◌, Bool, true, List, not, sym, ap, ap₂, length, vec_capacity, set, Some, arith, map, mod-lt, div-add-mod'}, specs.Global.Vec}
-use Rattle.bit_words.{specs.{Bits.capacity_of, Storage.{value_at, IsPacked, WritesInPlace, WritesValue}, Summary.{is_used, shared_capacity, short_count}}, proofs.BitsLemmas.blocks_for-above}
-use Rattle.bit_words.proofs.{StorageLemmas.values_of-set, SummaryLemmas.{changed_summary, keeps_all, keeps_none, used_from_true}, VectorLemmas.{length_from_view, slice_get-values_of}, bit_vec.BitVec.replace.Given.Over}
+use Rattle.std.{proofs.Common.{◌≡◌, ℕ, ◌≤◌, ◌+◌, ◌*◌, ◌/◌, ◌%◌, ◌<◌, ◌∙◌, ◌==◌, true, List, not, sym, ap, ap₂, length, vec_capacity, set, Some, arith, mod-lt, div-add-mod'}}
+use Rattle.bit_words.{specs.{Bits.capacity_of, Storage.{value_at}, Summary.{is_used, shared_capacity, short_count}}, proofs.BitsLemmas.blocks_for-above}
+use Rattle.bit_words.proofs.{PackedLemmas.replaced_packed, StorageLemmas.values_of-set, SummaryLemmas.{changed_summary, keeps_all, keeps_none, used_from_true}, VectorLemmas.{length_from_view, slice_get-values_of}, bit_vec.BitVec.replace.Given.Over}
+use Rattle.bit_words.proofs.StartLemmas.{false_before_written}
 use Rattle.bit_words.proofs.bit_vec.BitVec.replace.Goals.{After-self, Else-is_short}
 use Rattle.bit_words.proofs.bit_vec.BitVec.replace.Goals as goal
-
--- a list of which one value is written
-replaced_packed : {X : Type 0} (w n i : ℕ) (f : X → ℕ) (P : X → Type 0) (xs ys : Vec X) (b : Bool) → i < n → IsPacked w f P xs.items n → WritesValue w (map f xs.items) (map f ys.items) i b → WritesInPlace P xs ys → IsPacked w f P ys.items n
-replaced_packed w n i f P xs ys b within packed value in_place = record {
-  each = in_place.each;
-  count = omega (arith, xs.ok.0, ys.ok.0, in_place.len, packed.count);
-  tail = record { zero_tail = λ j past. value.others j (λ e. omega arith) ∙ packed.tail.zero_tail j past };
-  fits = packed.fits;
-}
 
 -- a block with a value that is true is not 0
 used_at : (w : ℕ) (ms : List ℕ) (i k : ℕ) → 0 < w → k ≡ i / w → value_at w ms i ≡ true → is_used ms k ≡ true
@@ -53,6 +45,7 @@ invariant_of-self g c =
     record {
       packed = replaced_packed g.B.BitBlock.width c.self.inside.len c.args.i g.B.BitBlock.number g.B.BitBlock.is_block c.self.inside.blocks c.replace_bit.new.blocks _ (in_list g (goal.at.invariant_of-self g c).After-self) c.self.invariant.packed value in_place;
       summary = keeps_none _ _ _ _ _ (omega arith) (c.self.invariant.summary.short few);
+      start = λ many. absurd (omega (arith, many, few, in_place.len));
     }
 
 pub returns-then-is_short : goal.returns-then-is_short
@@ -71,7 +64,7 @@ block_at-current-requires g c =
     let at = goal.at.block_at-current-requires g c in
     let long = many g at.Else-is_short in
     rw c.deref.ensures.value (record {
-      in_bounds = rw (c.block_index.ensures, c.block_index-k.ensures) (in_chunks g at.Else-is_short (in_blocks g at.After-self));
+      in_bounds = rw (c.block_index-chunk.ensures, c.block_index-k.ensures) (in_chunks g at.Else-is_short (in_blocks g at.After-self));
       each = (c.self.invariant.summary.long long).packed.each;
     })
 
@@ -96,7 +89,7 @@ update_summary_bit-requires g c =
       in_summary = rw c.block_index-k.ensures (omega (arith, inside));
       each = (c.self.invariant.summary.long (many g at.Else-is_short)).packed.each;
       of_current = c.block_at-current.ensures.of_block;
-      read = rw (← c.block_index.ensures) (rw c.deref.ensures.value at c.block_at-current.ensures.of_number);
+      read = rw (← c.block_index-chunk.ensures) (rw c.deref.ensures.value at c.block_at-current.ensures.of_number);
       of_block = c.block_at-block.ensures.of_block;
       nonzero = λ one.
           ap (λ m. not (m == 0)) number
@@ -116,6 +109,9 @@ invariant_of-self-2 g c =
       summary = keeps_all _ _ _ _ _ (omega arith) (
           changed_summary w c.args.i c.block_index-k.result _ _ g.B.BitBlock.number g.B.BitBlock.is_block c.self.inside.blocks c.replace_bit-was.new.blocks c.self.inside.summary c.update_summary_bit.new.summary g.met.B.BitBlock.width_law.positive (λ x is. (g.met.B.BitBlock.number_law x is).0)
           c.self.invariant.packed.each c.block_index-k.ensures (omega (arith, inside)) was.value was.in_place (c.self.invariant.summary.long long) (ap (λ m. not (m == 0)) number) c.update_summary_bit.ensures.value c.update_summary_bit.ensures.in_place);
+      start = λ _.
+          let chunk = rw c.block_index-k.ensures at c.block_index-chunk.ensures in
+          false_before_written _ _ _ _ _ _ _ _ chunk was.value c.follow_one.ensures.back c.follow_one.ensures.reached (c.self.invariant.start long);
     }
 
 pub returns : goal.returns

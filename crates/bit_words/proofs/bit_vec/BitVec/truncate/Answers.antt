@@ -1,5 +1,6 @@
 use Rattle.std.proofs.Common.{◌≡◌, ◌∙◌, sym, ap, length, map, take, take_all, arith}
 use Rattle.bit_words.proofs.{SameCapacity.same_capacity, StorageLemmas.values_of-take, SummaryLemmas.kept_use, BitsLemmas.blocks_for-le, VectorLemmas.{length_from_view, numbers_below}}
+use Rattle.bit_words.proofs.StartLemmas.{cut_less, false_before_less}
 use Rattle.bit_words.proofs.bit_vec.BitVec.truncate.Goals as goal
 
 pub returns-then-n-self-clause-values : goal.returns-then-n-self-clause-values
@@ -22,7 +23,13 @@ pub cut_summary-requires-clause-blocks : goal.cut_summary-requires-clause-blocks
 cut_summary-requires-clause-blocks g c = rw c.deref.ensures.value c.truncate_bits.ensures.packed.each
 
 pub invariant_of-self : goal.invariant_of-self
-invariant_of-self g c = record { packed = c.truncate_bits.ensures.packed; summary = rw c.deref.ensures.value at c.cut_summary.ensures.summary }
+invariant_of-self g c = record {
+  packed = c.truncate_bits.ensures.packed;
+  summary = rw c.deref.ensures.value at c.cut_summary.ensures.summary;
+  start = λ many.
+      let le = blocks_for-le g.B.BitBlock.width c.args.n c.self.inside.len g.met.B.BitBlock.width_law.positive (omega arith) in
+      false_before_less _ _ _ _ (cut_less _ _ _ _ c.truncate_bits.ensures.kept c.truncate_bits.ensures.packed.tail) (c.self.invariant.start (omega (arith, many, le, c.truncate_bits.ensures.packed.count, c.self.invariant.packed.count)));
+}
 
 pub returns-clause-capacity : goal.returns-clause-capacity
 returns-clause-capacity g c = same_capacity _ _ _ _ _ _ c.truncate_bits.ensures.capacity c.cut_summary.ensures.capacity (ap (λ v. v.capacity) c.self.view_is)

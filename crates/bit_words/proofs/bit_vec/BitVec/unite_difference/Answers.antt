@@ -1,6 +1,7 @@
 use Rattle.std.proofs.{Common.{◌≡◌, ◌≤◌, ◌∙◌, sym, ap, ap₂, ◌++◌, map, drop, length, take, arith}, lemmas.List.take_at}
 use Rattle.bit_words.{specs.{declared.block.merge.Merge.TheVariants.{Difference, Union}, Merges.merge_of, NotedMerges.{except_at, HasMergedWith}, Storage.{IsPacked}}, proofs.{BitsLemmas.blocks_for-le, NotedMergeLemmas.{kept_lists, lists_merged_except, packed_merged, values_merged_except}, VectorLemmas.length_from_view}}
 use Rattle.bit_words.proofs.{VectorLemmas.{no_longer_from_views, numbers_below}, bit_vec.BitVec.unite_difference.{Given.Over, Goals.After-unite_and_note}}
+use Rattle.bit_words.proofs.StartLemmas.{false_before_none}
 use Rattle.bit_words.proofs.bit_vec.BitVec.unite_difference.Goals as goal
 
 -- the others are no more blocks
@@ -44,7 +45,7 @@ invariant_of-self g c =
     let old_summary = c.self.inside.summary in
     let back : take old.len (ys ++ drop (length ys) old.items) ≡ ys = take_at ys _ old.len (omega arith) in
     let back_summary : take old_summary.len (summary ++ drop (length summary) old_summary.items) ≡ summary = take_at summary _ old_summary.len (omega arith) in
-    rw (back, back_summary) (record { packed = packed g (goal.at.invariant_of-self g c).After-unite_and_note; summary = c.unite_and_note.ensures.summary })
+    rw (back, back_summary) (record { packed = packed g (goal.at.invariant_of-self g c).After-unite_and_note; summary = c.unite_and_note.ensures.summary; start = λ _. false_before_none _ _ })
 
 pub returns-clause-values : goal.returns-clause-values
 returns-clause-values g c =

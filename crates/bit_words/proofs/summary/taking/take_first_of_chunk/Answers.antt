@@ -1,0 +1,50 @@
+use Rattle.std.proofs.{Common.{ℕ, ◌+◌, ◌*◌, ◌<◌, ◌==◌, false, not, map, length, sym, ap, ◌∙◌, arith}, lemmas.{Bool.true≢false, List.{get_or_past, length-map}}}
+use Rattle.bit_words.{specs.{Searches.IsFirstFrom, Storage.{WritesValue}, Summary.is_used}, proofs.{SearchLemmas.first_of_whole, StartLemmas.{first_of_first, first_used, lowest_left}, SummaryLemmas.{changed_summary, used_past}}}
+use Rattle.bit_words.proofs.summary.taking.take_first_of_chunk.{Given.Over, Goals.{After-take_lowest_one, After-put_block, then-is_nonzero, else-is_nonzero}}
+use Rattle.bit_words.proofs.summary.taking.take_first_of_chunk.Goals as goal
+
+-- the block that it is in is the first that is not 0
+block : (g : Over) (c : After-take_lowest_one g) → IsFirstFrom (is_used (map g.B.BitBlock.number c.args.blocks.now.items)) 0 (c.args.chunk * c.bits.result + c.take_lowest_one.result)
+block g c =
+    let w = g.B.BitBlock.width in
+    let f = g.B.BitBlock.number in
+    first_used w f g.B.BitBlock.is_block c.args.blocks.now.items c.args.summary.now.items g.met.B.BitBlock.width_law.positive c.requires.summary c.args.chunk _ c.requires.first
+    (first_of_whole w (map f c.args.summary.now.items) c.args.chunk _ c.bits.result c.take_lowest_one.result (rw c.deref.ensures.value at c.block_at-used.ensures.of_number) c.bits.ensures c.take_lowest_one.ensures.within c.take_lowest_one.ensures.lowest)
+
+inside : (g : Over) (c : After-take_lowest_one g) → c.args.chunk * c.bits.result + c.take_lowest_one.result < length c.args.blocks.now.items
+inside g c =
+    let k : ℕ = c.args.chunk * c.bits.result + c.take_lowest_one.result in
+    grind (arith, (block g c).passes, used_past (map g.B.BitBlock.number c.args.blocks.now.items) k, length-map)
+
+pub take_first_of_block-i-requires-clause-in_bounds : goal.take_first_of_block-i-requires-clause-in_bounds
+take_first_of_block-i-requires-clause-in_bounds g c = let here = inside g (goal.at.take_first_of_block-i-requires-clause-in_bounds g c).After-take_lowest_one in omega (arith, here)
+
+pub take_first_of_block-i-requires-clause-used : goal.take_first_of_block-i-requires-clause-used
+take_first_of_block-i-requires-clause-used g c = (block g (goal.at.take_first_of_block-i-requires-clause-used g c).After-take_lowest_one).passes
+
+pub block_at-requires-clause-in_bounds : goal.block_at-requires-clause-in_bounds
+block_at-requires-clause-in_bounds g c =
+    let here = inside g (goal.at.block_at-requires-clause-in_bounds g c).After-take_lowest_one in
+    rw c.deref-2.ensures.value (omega (arith, here, c.take_first_of_block-i.ensures.in_place.len))
+
+pub returns-clause-first : goal.returns-clause-first
+returns-clause-first g c =
+    first_of_first g.B.BitBlock.width _ _ (map g.B.BitBlock.number c.args.blocks.now.items) g.met.B.BitBlock.width_law.positive (block g (goal.at.returns-clause-first g c).After-take_lowest_one) c.take_first_of_block-i.ensures.first
+
+-- the bit of that block in the summary is left where the block is not 0 now
+left : (g : Over) (c : After-put_block g) → WritesValue g.B.BitBlock.width (map g.B.BitBlock.number c.args.summary.now.items) (map g.B.BitBlock.number c.put_block.new.blocks.items) (c.args.chunk * c.bits.result + c.take_lowest_one.result) c.is_nonzero.result
+left g c =
+    let f = g.B.BitBlock.number in
+    let taken = c.take_lowest_one in
+    lowest_left g.B.BitBlock.width c.args.chunk c.bits.result taken.result _ _ _ (map f c.args.summary.now.items) _ _ g.met.B.BitBlock.width_law.positive c.bits.ensures taken.ensures.within (grind (arith, c.requires.first.here, get_or_past))
+    (rw c.deref.ensures.value at c.block_at-used.ensures.of_number) c.put_block.ensures.numbers taken.ensures.lowest taken.ensures.cleared
+    (elim c.if-is_nonzero.branch [ then-is_nonzero w ↦ λ one. ap f w.left-is | else-is_nonzero w ↦ λ one. absurd (true≢false (sym one ∙ w.if-is_nonzero.false)) ])
+    (elim c.if-is_nonzero.branch [ then-is_nonzero w ↦ λ none. absurd (true≢false (sym w.if-is_nonzero.true ∙ none)) | else-is_nonzero w ↦ λ none. ap f w.left-is ])
+
+pub returns-clause-summary : goal.returns-clause-summary
+returns-clause-summary g c =
+    let at = goal.at.returns-clause-summary g c in
+    let taken = c.take_first_of_block-i.ensures in
+    let number = rw c.deref-2.ensures.value at c.block_at.ensures.of_number in
+    changed_summary g.B.BitBlock.width c.take_first_of_block-i.result _ false c.is_nonzero.result g.B.BitBlock.number g.B.BitBlock.is_block c.args.blocks.now c.take_first_of_block-i.new.blocks c.args.summary.now c.put_block.new.blocks g.met.B.BitBlock.width_law.positive (λ x is. (g.met.B.BitBlock.number_law x is).0)
+    c.requires.each (sym taken.of_block) (inside g at.After-take_lowest_one) taken.value taken.in_place c.requires.summary (c.is_nonzero.ensures ∙ ap (λ m. not (m == 0)) number) (left g at.After-put_block) c.put_block.ensures.in_place

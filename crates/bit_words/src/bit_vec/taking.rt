@@ -1,0 +1,42 @@
+// Calls that make a true value false.
+ghost use Rattle.std.specs.Prelude.{◌≡◌, MatchOption, false, get_or, slice_set};
+ghost use Rattle.bit_words.specs.Searches.{FindsFrom};
+
+use crate::bit_vec::BitVec;
+use crate::block::BitBlock;
+use crate::packed::access::replace_bit;
+use crate::packed::searching::{first_nonzero_block, first_one};
+use crate::summary::is_short;
+use crate::summary::taking::take_first_of_chunk;
+
+impl<B: BitBlock> BitVec<B> {
+    /// Makes the first true value false, and returns its index; `None` where no value is true. Of many blocks it reads the
+    /// summary from where the last call left off, or from where a value became true since, and one block of the list: the
+    /// calls that take out all values pass over the summary once. Of few, which store no summary, it reads each block up to
+    /// that of the value.
+    ///
+    /// ```
+    /// // Of 100 values, those at 3 and 70 are true.
+    /// assert_eq!(bits.take_first_one(), Some(3));
+    /// assert_eq!(bits.take_first_one(), Some(70));
+    /// assert_eq!(bits.take_first_one(), None);
+    /// ```
+    pub fn take_first_one(&mut self) -> Option<usize>
+        ensures first { FindsFrom (λ i. get_or self.old.values i false) 0 result }
+        ensures values { MatchOption result (self.new.values ≡ self.old.values)
+            (λ i. self.new.values ≡ slice_set self.old.values i false) }
+        ensures capacity { self.new.capacity ≡ self.old.capacity }
+    {
+        if is_short::<B>(self.blocks.len()) {
+            let i = first_one(&self.blocks, 0)?;
+            let _was = replace_bit(&mut self.blocks, i, false);
+            return Some(i);
+        }
+        let Some(chunk) = first_nonzero_block(&self.summary, self.search_start) else {
+            self.search_start = self.summary.len();
+            return None;
+        };
+        self.search_start = chunk;
+        Some(take_first_of_chunk(&mut self.blocks, &mut self.summary, chunk))
+    }
+}

@@ -1,0 +1,69 @@
+// The first 1 of a list of bits, found or taken out by the first block of its summary that is not 0.
+ghost use Rattle.std.specs.Prelude.{◌≡◌, ℕ, ◌*◌, ◌/◌, ◌^◌, ◌<◌, All, map, true, false, vec_len, vec_capacity};
+ghost use Rattle.bit_words.specs.{Mismatches.IsFirstNonzeroBlock, Searches.IsFirstFrom, Storage.{value_at, WritesInPlace, WritesValue}, Summary.{is_used, IsSummary}};
+
+use crate::block::BitBlock;
+use crate::block::lowest::take_lowest_one;
+use crate::packed::access::{block_at, put_block};
+use crate::packed::searching::first_of_block;
+use crate::summary::is_nonzero;
+
+// The first 1.
+#[inline]
+pub(crate) fn first_of_chunk<B: BitBlock>(blocks: &[B], summary: &[B], chunk: usize) -> usize
+    requires each { All B.is_block blocks.now }
+    requires summary { IsSummary B.width B.number B.is_block blocks.now summary.now }
+    requires first { IsFirstNonzeroBlock (map B.number summary.now) 0 chunk }
+    requires fits { (i : ℕ) → value_at B.width (map B.number blocks.now) i ≡ true → i < 2 ^ 64 }
+    ensures { IsFirstFrom (value_at B.width (map B.number blocks.now)) 0 result }
+{
+    first_of_block(blocks, first_of_block(summary, chunk))
+}
+
+// Takes the first 1 of a block that is not 0 out.
+#[inline]
+fn take_first_of_block<B: BitBlock>(blocks: &mut Vec<B>, k: usize) -> usize
+    requires in_bounds { k < vec_len blocks.old }
+    requires each { All B.is_block blocks.old.items }
+    requires used { is_used (map B.number blocks.old.items) k ≡ true }
+    requires fits { (i : ℕ) → value_at B.width (map B.number blocks.old.items) i ≡ true → i < 2 ^ 64 }
+    ensures first { IsFirstFrom (value_at B.width (map B.number blocks.old.items)) (k * B.width) result }
+    ensures of_block { result / B.width ≡ k }
+    ensures value { WritesValue B.width (map B.number blocks.old.items) (map B.number blocks.new.items) result false }
+    ensures in_place { WritesInPlace B.is_block blocks.old blocks.new }
+{
+    let mut block = block_at(blocks, k);
+    let index = take_lowest_one(&mut block);
+    put_block(blocks, k, block);
+    k * B::bits() + index
+}
+
+// Takes the first 1 out. No branch depends on whether its block becomes 0: in a sparse set that is random.
+#[inline]
+pub(crate) fn take_first_of_chunk<B: BitBlock>(
+    blocks: &mut Vec<B>,
+    summary: &mut Vec<B>,
+    chunk: usize,
+) -> usize
+    requires each { All B.is_block blocks.old.items }
+    requires summary { IsSummary B.width B.number B.is_block blocks.old.items summary.old.items }
+    requires first { IsFirstNonzeroBlock (map B.number summary.old.items) 0 chunk }
+    requires fits { (i : ℕ) → value_at B.width (map B.number blocks.old.items) i ≡ true → i < 2 ^ 64 }
+    ensures first { IsFirstFrom (value_at B.width (map B.number blocks.old.items)) 0 result }
+    ensures value { WritesValue B.width (map B.number blocks.old.items) (map B.number blocks.new.items) result false }
+    ensures in_place { WritesInPlace B.is_block blocks.old blocks.new }
+    ensures summary { IsSummary B.width B.number B.is_block blocks.new.items summary.new.items }
+    ensures capacity { vec_capacity summary.new ≡ vec_capacity summary.old }
+{
+    let used = block_at(summary, chunk);
+    let mut rest = used;
+    let k = chunk * B::bits() + take_lowest_one(&mut rest);
+    let i = take_first_of_block(blocks, k);
+    let left = if is_nonzero(block_at(blocks, k)) {
+        used
+    } else {
+        rest
+    };
+    put_block(summary, chunk, left);
+    i
+}
