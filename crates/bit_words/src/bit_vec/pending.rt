@@ -4,7 +4,6 @@ ghost use Rattle.bit_words.specs.{Bits.blocks_for, Digits.is_one, Pending.{Cover
 
 use crate::bit_vec::Blocks;
 use crate::block::BitBlock;
-use crate::block::highest::highest_one;
 use crate::block::lowest::take_lowest_one;
 use crate::block::masks::{clear_below, clear_from};
 use crate::block::operators::{all_ones, has_one_at, ones_below};
@@ -172,7 +171,7 @@ impl<'a, B: BitBlock> Pending<'a, B> {
         if !is_nonzero(self.bits) {
             return None;
         }
-        Some(self.index + highest_one(self.bits))
+        Some(self.index + self.bits.highest_one())
     }
 
     #[inline]
