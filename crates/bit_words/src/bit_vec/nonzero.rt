@@ -259,19 +259,6 @@ impl<'a, B: BitBlock> Nonzero<'a, B> {
         ensures within { result ≤ most }
         ensures skips { SkipsBlocks B.number self.old result self.new }
     {
-        if is_nonzero(self.pending.bits) {
-            return 0;
-        }
-        self.skip_chunks(most)
-    }
-
-    // It is a call of its own, so that a walk saves no registers for it.
-    #[inline(never)]
-    fn skip_chunks(&mut self, most: usize) -> usize
-        requires fits { ones_left B.number self.old.left < 2 ^ 64 }
-        ensures within { result ≤ most }
-        ensures skips { SkipsBlocks B.number self.old result self.new }
-    {
         let mut ones = 0;
         while let Some(more) = self.skip_chunk(most - ones) {
             ones += more;
@@ -289,7 +276,7 @@ impl<'a, B: BitBlock> Nonzero<'a, B> {
             × (self.new.summary_left < self.old.summary_left)) }
     {
         let used = self.pending.next_chunk()?.count_ones();
-        if used < B::bits() / 8 {
+        if used <= B::bits() / 16 {
             return None;
         }
         let start = self.pending.index + B::bits();

@@ -1,6 +1,6 @@
 use Rattle.std.proofs.Common.{arith}
 use Rattle.bit_words.proofs.SkipLemmas.{ones_past, skips_more, skips_none}
-use Rattle.bit_words.proofs.bit_vec.nonzero.Nonzero.skip_chunks.Goals as goal
+use Rattle.bit_words.proofs.bit_vec.nonzero.Nonzero.skip_blocks.Goals as goal
 
 pub loop-more-init : goal.loop-more-init
 loop-more-init g c = record { within = omega arith; so = skips_none g.B.BitBlock.number c.args.self.now }

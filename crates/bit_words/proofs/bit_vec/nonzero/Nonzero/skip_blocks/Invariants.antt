@@ -1,6 +1,6 @@
 use Rattle.std.proofs.Common.{◌≤◌}
 use Rattle.bit_words.specs.Nonzero.{SkipsBlocks}
-use Rattle.bit_words.proofs.bit_vec.nonzero.Nonzero.skip_chunks.Given as goal
+use Rattle.bit_words.proofs.bit_vec.nonzero.Nonzero.skip_blocks.Given as goal
 
 abbrev pub invariant-loop-more : goal.invariant-loop-more
 invariant-loop-more g l = record {
