@@ -108,7 +108,8 @@ impl<'a, B: BitBlock> Iter<'a, B> {
     }
 
     /// The element that `n` others of those left come before, which are passed; `None` where there are no more. Passes
-    /// over a block by the count of its ones.
+    /// over a block by the count of its ones, and over as many blocks at once as a block has bits where many of these are
+    /// not zero and a summary is stored.
     ///
     /// ```
     /// let set = BitSet::from_bytes(alloc, &[0b0100_1010])?;
@@ -156,11 +157,11 @@ impl<'a, B: BitBlock> Iter<'a, B> {
 
     /// The greatest element that is left, as [`last`](Self::last).
     #[inline]
-    pub fn max(mut self) -> Option<usize>
+    pub fn max(self) -> Option<usize>
         ensures last { IsLastOf self.entry.left result }
         ensures members { MatchOption result (HasNone self.entry.left) (IsGreatest self.entry.left) }
     {
-        self.next_back()
+        self.last()
     }
 
     /// The least element that is left. It is one call of [`next`](Iterator::next).
