@@ -1,6 +1,6 @@
-//! Counts the instructions of calls on a range of numbers of a long set, and prints a table; and of calls on a set of random
-//! numbers, each beside another way to the same result: the least element taken out until none is left, the walk from the
-//! back, and `nth`.
+//! Counts the instructions of calls on a range of numbers of a long set, and prints a table; and of calls on a set of
+//! random numbers, each beside another way to the same result: the least element taken out until none is left, the walk
+//! from the back, and `nth`.
 use crate::callgrind;
 use crate::inputs::Random;
 use crate::peers::total;
@@ -66,8 +66,8 @@ const CALLS: [Call; 4] = [
     Call { name: "`count_in_range`", here: bench_count_in_range, there: |set, from, end| set.count_ones(from..end) },
 ];
 
-/// A call on a set that has one in sixteen numbers, and another way to the same result. An item is what the instructions
-/// are divided by, the whole or each element.
+/// A call on a set that has one in sixteen numbers, and another way to the same result. The instructions are those of the
+/// whole call, or of each number.
 struct Pair {
     word: &'static str,
     name: &'static str,
@@ -111,8 +111,8 @@ fn long_set() -> FixedBitSet {
     set
 }
 
-/// Does the turns of one call by one side, and prints the result: what callgrind is run on. The words are a place in the
-/// list of calls, or the word of a pair, a side, how many numbers and how many turns. `None` where they are not.
+/// Does the turns of one call by one side, and prints the result: what callgrind is run on. The words are a place in
+/// the list of calls, or the word of a pair, a side, how many numbers and how many turns. `None` where they are not.
 pub fn run_turns(words: &[String]) -> Option<()> {
     let [call, side, count, turns] = words else { return None };
     let (count, turns): (usize, usize) = (count.parse().ok()?, turns.parse().ok()?);

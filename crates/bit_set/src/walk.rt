@@ -108,8 +108,8 @@ impl<'a, B: BitBlock> Iter<'a, B> {
     }
 
     /// The element that `n` others of those left come before, which are passed; `None` where there are no more. Passes
-    /// over a block by the count of its ones, and over as many blocks at once as a block has bits where many of these are
-    /// not zero and a summary is stored.
+    /// over a block by the count of its ones; where a summary is stored, over as many blocks at once as a block has
+    /// bits, unless few of these are not zero.
     ///
     /// ```
     /// let set = BitSet::from_bytes(alloc, &[0b0100_1010])?;
@@ -129,8 +129,8 @@ impl<'a, B: BitBlock> Iter<'a, B> {
         self.next()
     }
 
-    // Passes what is left of the block in hand if that is no more than `most` elements, and then blocks past it, as many
-    // at once as a block has bits. Returns how many elements it passed.
+    // Passes what is left of the block in hand if that is no more than `most` elements, and then blocks past it, as
+    // many at once as a block has bits. Returns how many elements it passed.
     #[inline]
     fn pass_blocks(&mut self, most: usize) -> usize
         ensures within { result ≤ most }

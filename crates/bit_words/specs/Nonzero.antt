@@ -101,7 +101,7 @@ ones_in number xs = sum_by (λ x. count_ones (number x)) xs
 abbrev pub ones_left : {X : Type 0} → (X → ℕ) → List (ℕ × X) → ℕ
 ones_left number left = sum_by (λ entry. count_ones (number entry.1)) left
 
--- A walk s passed over the first `count` of the blocks that were left, whose ones are `ones`, and left t. Each is a pull.
+-- A walk s passed over the first `count` of the blocks that were left, which have so many ones, and left t. Each is a pull.
 pub record SkipsBlocks {X : Type 0} (number : X → ℕ) (s : Nonzeros X) (ones : ℕ) (t : Nonzeros X) : Type 0 where
   pub count : ℕ
   pub within : count ≤ length s.left

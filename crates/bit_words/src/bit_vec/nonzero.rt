@@ -244,8 +244,9 @@ impl<'a, B: BitBlock> Nonzero<'a, B> {
     }
 
     /// Passes over blocks at the front, as many as it likes, whose ones are no more than `most`, and returns how many
-    /// ones they have. Each that is not zero is a pull. It passes over as many blocks at once as a block has bits, where
-    /// a summary is stored that says of them and many of them are not zero: else over none.
+    /// ones they have. Each that is not zero is a pull. It goes on by as many blocks at once as a block has bits: where a
+    /// block of the summary that says of them is stored, and is next, and more than a sixteenth of them are not zero.
+    /// Reads each block that it passes once.
     ///
     /// ```
     /// // Of 1000 values, all true, over blocks of 8 bits.

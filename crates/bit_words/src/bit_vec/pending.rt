@@ -103,9 +103,9 @@ impl<'a, B: BitBlock> Pending<'a, B> {
         Some(self.index + take_lowest_one(&mut self.bits))
     }
 
-    // Which blocks of the next chunk are not zero, by the stored block of the summary: the chunk is those past the block
-    // of the summary in hand, as many as a block has bits. `None` where that one is not used up yet, where none is stored
-    // and where the walk ends within the chunk.
+    // Which blocks of the next chunk are not zero, by the stored block of the summary: the chunk is those past what the
+    // block of the summary in hand is about, as many as a block has bits. `None` where that one is not used up yet,
+    // where none is stored and where the walk ends within the chunk.
     #[inline]
     pub(crate) fn next_chunk(&self) -> Option<B>
         requires walk { self.now.index ≤ self.now.end }
