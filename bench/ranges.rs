@@ -1,5 +1,6 @@
-//! Counts the instructions of calls on a range of numbers of a long set, and prints a table; and of the least element taken
-//! out until none is left, beside a walk and a `remove` each.
+//! Counts the instructions of calls on a range of numbers of a long set, and prints a table; and of calls on a set of
+//! random numbers, each beside another way to the same result: the least element taken out until none is left, the walk
+//! from the back, and `nth`.
 use crate::callgrind;
 use crate::inputs::Random;
 use crate::peers::total;
@@ -7,6 +8,7 @@ use fixedbitset::FixedBitSet;
 use std::io;
 
 type OnRange = unsafe extern "C" fn(len: usize, start: usize, end: usize, turns: usize) -> usize;
+type OnSet = unsafe extern "C" fn(members: *const usize, m: usize, turns: usize) -> usize;
 
 unsafe extern "C" {
     fn bench_insert_range(len: usize, start: usize, end: usize, turns: usize) -> usize;
@@ -15,6 +17,10 @@ unsafe extern "C" {
     fn bench_count_in_range(len: usize, start: usize, end: usize, turns: usize) -> usize;
     fn bench_pop_first(members: *const usize, m: usize, turns: usize) -> usize;
     fn bench_walk_and_remove(members: *const usize, m: usize, turns: usize) -> usize;
+    fn bench_walk_u64(members: *const usize, m: usize, turns: usize) -> usize;
+    fn bench_walk_back(members: *const usize, m: usize, turns: usize) -> usize;
+    fn bench_nth_of_middle(members: *const usize, m: usize, turns: usize) -> usize;
+    fn bench_walk_to_middle(members: *const usize, m: usize, turns: usize) -> usize;
 }
 
 /// How long the sets are, and where the ranges begin: within a block.
@@ -60,6 +66,44 @@ const CALLS: [Call; 4] = [
     Call { name: "`count_in_range`", here: bench_count_in_range, there: |set, from, end| set.count_ones(from..end) },
 ];
 
+/// A call on a set that has one in sixteen numbers, and another way to the same result. The instructions are those of the
+/// whole call, or of each number.
+struct Pair {
+    word: &'static str,
+    name: &'static str,
+    of_each: bool,
+    counts: &'static [(&'static str, usize)],
+    here: OnSet,
+    there: OnSet,
+}
+
+const PAIRS: [Pair; 3] = [
+    Pair {
+        word: "pop",
+        name: "`pop_first` till empty, beside a walk and a `remove` each",
+        of_each: false,
+        counts: &[("64k in 1M", 1 << 16)],
+        here: bench_pop_first,
+        there: bench_walk_and_remove,
+    },
+    Pair {
+        word: "back",
+        name: "`iter().rev()`, beside `iter()`, an item",
+        of_each: true,
+        counts: &[("64k in 1M", 1 << 16), ("1M in 16M", 1 << 20)],
+        here: bench_walk_back,
+        there: bench_walk_u64,
+    },
+    Pair {
+        word: "nth",
+        name: "`nth` of the middle, beside the walk to there",
+        of_each: false,
+        counts: &[("1M in 16M", 1 << 20)],
+        here: bench_nth_of_middle,
+        there: bench_walk_to_middle,
+    },
+];
+
 /// The set of the last number below `LEN`.
 fn long_set() -> FixedBitSet {
     let mut set = FixedBitSet::with_capacity(LEN);
@@ -67,17 +111,17 @@ fn long_set() -> FixedBitSet {
     set
 }
 
-/// Does the turns of one call by one side, and prints the result: what callgrind is run on. The words are a place in the
-/// list of calls, or `pop`, a side, how many numbers and how many turns. `None` where they are not.
+/// Does the turns of one call by one side, and prints the result: what callgrind is run on. The words are a place in
+/// the list of calls, or the word of a pair, a side, how many numbers and how many turns. `None` where they are not.
 pub fn run_turns(words: &[String]) -> Option<()> {
     let [call, side, count, turns] = words else { return None };
     let (count, turns): (usize, usize) = (count.parse().ok()?, turns.parse().ok()?);
-    let result = if call == "pop" {
+    let result = if let Some(pair) = PAIRS.iter().find(|pair| pair.word == call) {
         let members = Random::start().numbers_below(16 * count, count);
         let (m, ms) = (members.len(), members.as_ptr());
         match side.as_str() {
-            "here" => unsafe { bench_pop_first(ms, m, turns) },
-            _ => unsafe { bench_walk_and_remove(ms, m, turns) },
+            "here" => unsafe { (pair.here)(ms, m, turns) },
+            _ => unsafe { (pair.there)(ms, m, turns) },
         }
     } else {
         let call = CALLS.get(call.parse::<usize>().ok()?)?;
@@ -112,9 +156,16 @@ fn rows() -> io::Result<bool> {
             agrees &= same;
         }
     }
-    let ([here, there], same) = sides("pop", 1 << 16)?;
-    println!("| `pop_first` till empty, beside a walk and a `remove` each | 64k in 1M | {here:.0} | {there:.0} | {:.2} |", here / there);
-    Ok(agrees && same)
+    for pair in &PAIRS {
+        for (label, count) in pair.counts {
+            let ([here, there], same) = sides(pair.word, *count)?;
+            let (items, digits) = if pair.of_each { (*count as f64, 1) } else { (1.0, 0) };
+            let (here, there) = (here / items, there / items);
+            println!("| {} | {label} | {here:.digits$} | {there:.digits$} | {:.2} |", pair.name, here / there);
+            agrees &= same;
+        }
+    }
+    Ok(agrees)
 }
 
 /// Prints the table, or that valgrind is missing. Whether the sides of each row gave the same results.

@@ -17,4 +17,5 @@ mod small_changes;
 mod small_reads;
 mod splits;
 mod two_sets;
+mod walking;
 mod widths;

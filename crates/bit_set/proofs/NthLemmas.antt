@@ -1,9 +1,9 @@
 -- Calls of `next` in a row, of which those within one block may be left out.
-use Rattle.std.proofs.Common.{◌≡◌, ℕ, zero, suc, ◌+◌, ◌-◌, ◌*◌, ◌/◌, ◌^◌, ◌<◌, ◌≤◌, List, [], ◌∷◌, ◌++◌, drop, length, slice_get, All, Option, Some, None, count_ones, refl, sym, ap, ◌∙◌, subst, arith}
-use Rattle.std.proofs.{lemmas.List.{drop_all, drop-append-le, length-append, length-drop, Elements.All-drop}, Math.Seq.drop-drop}
+use Rattle.std.proofs.Common.{◌≡◌, ℕ, zero, suc, ◌+◌, ◌-◌, ◌*◌, ◌/◌, ◌^◌, ◌<◌, ◌≤◌, List, [], ◌∷◌, ◌++◌, drop, take, map, length, slice_get, All, Option, Some, None, count_ones, refl, sym, ap, ap₂, ◌∙◌, subst, arith}
+use Rattle.std.proofs.{lemmas.List.{append_assoc, drop_all, drop-append-le, drop-map, length-append, length-drop, length-map, take-append-drop, Elements.{All-drop, All-take}}, Math.Seq.{drop-append_seam, drop-drop}}
 use Rattle.std.specs.{Iterator.YieldsLast, List.last_or}
-use Rattle.bit_words.specs.Nonzero.{Hand, Nonzeros}
-use Rattle.bit_set.{specs.{Sets.{AscendsFrom, IsAscending}, Indexes.{indexes, indexes_of, left_between, seen_of, past_first, IsSparseWalk}, Walk.{Walk, Advances, PullsBlocks, PullsBlocksAlong, Skips}}, proofs.{IndexLemmas.{indexes-none, length-indexes}, SetLemmas.AscendsFrom-lower}}
+use Rattle.bit_words.specs.Nonzero.{Hand, Nonzeros, SkipsBlocks}
+use Rattle.bit_set.{specs.{Sets.{AscendsFrom, IsAscending}, Indexes.{indexes, indexes_of, left_between, seen_of, IsSparseWalk, Passes}, Walk.{Walk, Advances, PullsBlocks, PullsBlocksAlong, Skips}}, proofs.{IndexLemmas.{indexes-none, length-indexes}, PartLemmas.indexes_of-append, SetLemmas.AscendsFrom-lower, SparseLemmas.ones_of_entries}}
 
 -- ---- lists
 
@@ -37,13 +37,44 @@ pub last_given : (s t : Walk) (r : Option ℕ) → YieldsLast (λ walk. walk.lef
 last_given s t None is = ap (last_or None) (sym is.0)
 last_given s t (Some x) is = sym (ap (last_or None) is ∙ last_of_pushed None t.left x)
 
--- ---- the block in hand
+-- ---- elements that are passed
+
+pub some_more : (w : ℕ) (s u t : Walk) (calls n : ℕ) → Passes w calls s u → Passes w n u t → Passes w (calls + n) s t
+some_more w s u t calls n so more = record {
+  left = more.left ∙ ap (drop n) so.left ∙ drop-drop n calls s.left;
+  goes_on = omega (arith, so.goes_on, more.goes_on);
+  pulled = more.pulled ∙ so.pulled;
+  along = more.along ∙ so.along;
+  summary = more.summary ∙ so.summary;
+}
+
+-- ---- blocks that are passed
 
 module _ {X : Type 0} (w : ℕ) (number : X → ℕ) (is_block : X → Type 0) (small : (x : X) → is_block x → number x < 2 ^ w) where
+  -- what holds of what was left holds of what is past the first n of it
+  kept : (n : ℕ) (front back new : Hand X) (s t : Nonzeros X) → IsSparseWalk w number is_block front s back → is_block new.block → All (λ (entry : ℕ × X). is_block entry.1) t.left → new.index ≡ front.index
+      → AscendsFrom (front.index / w + 1) (map (λ (entry : ℕ × X). entry.0) t.left ++ (back.index / w + 1) ∷ []) → t.blocks ≡ s.blocks → left_between w number new t.left back ≡ drop n (left_between w number front s.left back)
+      → IsSparseWalk w number is_block new t back
+  kept n front back new s t is lawful each index past same left =
+      let old = left_between w number front s.left back in
+      record {
+        in_hand = lawful;
+        at_back = is.at_back;
+        each = each;
+        whole = subst (λ i. i ≡ i / w * w) (sym index) is.whole;
+        whole_back = is.whole_back;
+        past = subst (λ i. AscendsFrom (i / w + 1) (map (λ (entry : ℕ × X). entry.0) t.left ++ (back.index / w + 1) ∷ [])) (sym index) past;
+        inside = let count = ap length same in omega (arith, is.inside, count);
+        fits = subst (λ xs. (length xs - 1) * w < 2 ^ 64) (sym same) is.fits;
+        ascends = subst IsAscending (sym left) (ascends_drop n 0 old is.ascends);
+        below = subst (All (λ i. i < 2 ^ 64)) (sym left) (All-drop (λ i. i < 2 ^ 64) n old is.below);
+        count_fits = let count = ap length left in omega (arith, count, length-drop n old, is.count_fits);
+      }
+
   -- what is left of it is passed
-  pub hand_passed : (front back : Hand X) (it : Nonzeros X) (naught : X) → IsSparseWalk w number is_block front it back → is_block naught → number naught ≡ 0
+  hand_passed : (front back : Hand X) (it : Nonzeros X) (naught : X) → IsSparseWalk w number is_block front it back → is_block naught → number naught ≡ 0
       → IsSparseWalk w number is_block (record { block = naught; index = front.index }) it back × (count_ones (number front.block) ≤ length (left_between w number front it.left back))
-      × (seen_of w number (record { block = naught; index = front.index }) it back ≡ past_first (count_ones (number front.block)) (seen_of w number front it back))
+      × Passes w (count_ones (number front.block)) (seen_of w number front it back) (seen_of w number (record { block = naught; index = front.index }) it back)
   hand_passed front back it naught is lawful none =
       let n = count_ones (number front.block) in
       let ones = indexes w front.index (number front.block) [] in
@@ -53,38 +84,68 @@ module _ {X : Type 0} (w : ℕ) (number : X → ℕ) (is_block : X → Type 0) (
       let left : left_between w number (record { block = naught; index = front.index }) it.left back ≡ drop n old =
       ap (λ xs. xs ++ rest) (indexes-none w front.index (number naught) none)
       ∙ sym (drop-append-le n ones rest (omega (arith, count)) ∙ ap (λ xs. xs ++ rest) (drop_all n ones (omega (arith, count)))) in (
-        record {
-          in_hand = lawful;
-          at_back = is.at_back;
-          each = is.each;
-          whole = is.whole;
-          whole_back = is.whole_back;
-          past = is.past;
-          inside = is.inside;
-          fits = is.fits;
-          ascends = subst IsAscending (sym left) (ascends_drop n 0 old is.ascends);
-          below = subst (All (λ i. i < 2 ^ 64)) (sym left) (All-drop (λ i. i < 2 ^ 64) n old is.below);
-          count_fits = omega (arith, ap length left, length-drop n old, is.count_fits);
-        },
+        kept n front back (record { block = naught; index = front.index }) it it is lawful is.each refl is.past refl left,
         omega (arith, count, length-append ones rest),
-        ap (λ (xs : List ℕ). record { left = xs; pulls = it.pulls; index = front.index; blocks = back.index / w - front.index / w; nonzero_left = length it.left; summary_pulls = it.summary_pulls; summary_left = it.summary_left }) left,
+        record { left = left; goes_on = omega arith; pulled = refl; along = refl; summary = refl },
       )
+
+  -- blocks past it are passed where it is used up
+  blocks_passed : (front back : Hand X) (s t : Nonzeros X) (ones : ℕ) → IsSparseWalk w number is_block front s back → number front.block ≡ 0 → SkipsBlocks number s ones t
+      → IsSparseWalk w number is_block front t back × (ones ≤ length (left_between w number front s.left back)) × Passes w ones (seen_of w number front s back) (seen_of w number front t back)
+  blocks_passed front back s t ones is none skip =
+      let n : ℕ = skip.count in
+      let at_front = indexes w front.index (number front.block) [] in
+      let at_back = indexes w back.index (number back.block) [] in
+      let passed = indexes_of w number (take n s.left) in
+      let rest = indexes_of w number t.left ++ at_back in
+      let old = left_between w number front s.left back in
+      let count : length passed ≡ ones = ones_of_entries w number is_block small (take n s.left) (All-take (λ (entry : ℕ × X). is_block entry.1) n s.left is.each) ∙ sym skip.passed in
+      let parts : old ≡ passed ++ rest =
+      ap₂ (λ xs entries. xs ++ (indexes_of w number entries ++ at_back)) (indexes-none w front.index (number front.block) none) (sym (take-append-drop n s.left))
+      ∙ ap (λ xs. xs ++ at_back) (indexes_of-append w number (take n s.left) (drop n s.left))
+      ∙ append_assoc passed (indexes_of w number (drop n s.left)) at_back
+      ∙ ap (λ entries. passed ++ (indexes_of w number entries ++ at_back)) (sym skip.left) in
+      let left : left_between w number front t.left back ≡ drop ones old =
+      ap (λ xs. xs ++ rest) (indexes-none w front.index (number front.block) none)
+      ∙ sym (ap (λ k. drop k old) (sym count) ∙ ap (drop (length passed)) parts ∙ drop-append_seam passed rest) in
+      let numbers = map (λ (entry : ℕ × X). entry.0) s.left in
+      let past : AscendsFrom (front.index / w + 1) (map (λ (entry : ℕ × X). entry.0) t.left ++ (back.index / w + 1) ∷ []) =
+      subst (AscendsFrom (front.index / w + 1)) (
+      drop-append-le n numbers ((back.index / w + 1) ∷ []) (omega (arith, skip.within, length-map s.left (λ (entry : ℕ × X). entry.0)))
+      ∙ ap (λ ks. ks ++ (back.index / w + 1) ∷ []) (drop-map (λ (entry : ℕ × X). entry.0) n s.left ∙ ap (map (λ (entry : ℕ × X). entry.0)) (sym skip.left))
+      ) (ascends_drop n (front.index / w + 1) (numbers ++ (back.index / w + 1) ∷ []) is.past) in
+      let each = subst (All (λ (entry : ℕ × X). is_block entry.1)) (sym skip.left) (All-drop (λ (entry : ℕ × X). is_block entry.1) n s.left is.each) in
+      let fewer = ap length skip.left ∙ length-drop n s.left in (
+        kept ones front back front s t is is.in_hand each refl past skip.same left,
+        omega (arith, count, ap length parts, length-append passed rest),
+        record {
+          left = left;
+          goes_on = omega (arith, skip.counted);
+          pulled = omega (arith, skip.counted, skip.within, fewer);
+          along = refl;
+          summary = skip.summary;
+        },
+      )
+
+  -- both in turn
+  pub all_passed : (front back : Hand X) (s t : Nonzeros X) (naught : X) (ones : ℕ) → IsSparseWalk w number is_block front s back → is_block naught → number naught ≡ 0 → SkipsBlocks number s ones t
+      → let n = count_ones (number front.block) + ones in let new : Hand X = record { block = naught; index = front.index } in
+      IsSparseWalk w number is_block new t back × (n ≤ length (left_between w number front s.left back)) × Passes w n (seen_of w number front s back) (seen_of w number new t back)
+  all_passed front back s t naught ones is lawful none skip =
+      let n = count_ones (number front.block) in
+      let new : Hand X = record { block = naught; index = front.index } in
+      let (hand_walk, hand_there, hand_passes) = hand_passed front back s naught is lawful none in
+      let (walk, there, passes) = blocks_passed new back s t ones hand_walk none skip in
+      let fewer = ap length hand_passes.left ∙ length-drop n (left_between w number front s.left back) in
+      (walk, omega (arith, hand_there, there, fewer), some_more w (seen_of w number front s back) (seen_of w number new s back) (seen_of w number new t back) n ones hand_passes passes)
 
 -- ---- the calls so far
 
--- From s, so many calls of `next` that gave an element left u.
-pub record IsAlong (w : ℕ) (s u : Walk) (calls : ℕ) : Type 0 where
-  pub left : u.left ≡ drop calls s.left
-  pub goes_on : s.pulls ≤ u.pulls
-  pub pulled : u.pulls + u.nonzero_left ≡ s.pulls + s.nonzero_left
-  pub along : u.index + w * u.blocks ≡ s.index + w * s.blocks
-  pub summary : u.summary_pulls + u.summary_left ≡ s.summary_pulls + s.summary_left
-
 module _ (w : ℕ) where
-  pub none_yet : (s : Walk) → IsAlong w s s 0
+  pub none_yet : (s : Walk) → Passes w 0 s s
   none_yet s = record { left = refl; goes_on = omega arith; pulled = refl; along = refl; summary = refl }
 
-  pub one_more : (s u t : Walk) (calls x : ℕ) → IsAlong w s u calls → Advances w u (Some x) t → IsAlong w s t (calls + 1)
+  pub one_more : (s u t : Walk) (calls x : ℕ) → Passes w calls s u → Advances w u (Some x) t → Passes w (calls + 1) s t
   unfolding PullsBlocks
   one_more s u t calls x so step = record {
     left = sym (plus_one calls s.left ∙ (next_of_drop calls s.left t.left x (sym so.left ∙ step.item)).1);
@@ -94,17 +155,8 @@ module _ (w : ℕ) where
     summary = step.pulls.summary ∙ so.summary;
   }
 
-  pub some_more : (s u : Walk) (calls n : ℕ) → IsAlong w s u calls → IsAlong w s (past_first n u) (calls + n)
-  some_more s u calls n so = record {
-    left = ap (drop n) so.left ∙ drop-drop n calls s.left;
-    goes_on = so.goes_on;
-    pulled = so.pulled;
-    along = so.along;
-    summary = so.summary;
-  }
-
   -- the end was found on the way, or after it
-  pub skips_to_end : (s u t : Walk) (calls n : ℕ) → IsAlong w s u calls → calls ≤ n → Advances w u None t → Skips w n s None t
+  pub skips_to_end : (s u t : Walk) (calls n : ℕ) → Passes w calls s u → calls ≤ n → Advances w u None t → Skips w n s None t
   unfolding PullsBlocks PullsBlocksAlong
   skips_to_end s u t calls n so to step =
       let none = none_of_drop calls n s.left to (sym so.left ∙ step.item.0) in
@@ -119,7 +171,7 @@ module _ (w : ℕ) where
         };
       }
 
-  pub skips : (s u t : Walk) (n : ℕ) (r : Option ℕ) → IsAlong w s u n → Advances w u r t → Skips w n s r t
+  pub skips : (s u t : Walk) (n : ℕ) (r : Option ℕ) → Passes w n s u → Advances w u r t → Skips w n s r t
   unfolding PullsBlocks PullsBlocksAlong
   skips s u t n None so step = skips_to_end s u t n n so (omega arith) step
   skips s u t n (Some x) so step =

@@ -1,5 +1,5 @@
 -- A walk over a part of a set: the block in which it ends is in hand at the back.
-use Rattle.std.proofs.Common.{◌≡◌, ℕ, zero, suc, ◌+◌, ◌-◌, ◌*◌, ◌/◌, ◌^◌, ◌<◌, ◌≤◌, ◌&&◌, if◌then◌else◌, nat_lt, Bool, true, false, List, [], ◌∷◌, ◌++◌, map, length, filter, drop, ◌==◌, ◌%◌, max, nat_le, All, min, refl, sym, ap, ap₂, ◌∙◌, subst, inl, inr, arith, mul-le-mul_right, mod-lt, div-add-mod', ◌⊎◌}
+use Rattle.std.proofs.Common.{◌≡◌, ℕ, zero, suc, ◌+◌, ◌-◌, ◌*◌, ◌/◌, ◌^◌, ◌<◌, ◌≤◌, ◌&&◌, if◌then◌else◌, nat_lt, Bool, true, false, List, [], ◌∷◌, ◌++◌, map, length, drop, ◌==◌, max, nat_le, All, min, refl, sym, ap, ap₂, ◌∙◌, subst, inl, inr, arith, mul-le-mul_right, mod-lt, div-add-mod', ◌⊎◌}
 use Rattle.std.proofs.lemmas.{Bool.{cond_both, eqb-false, cases_lt, Decides.nat_tests}, List.{append-nil, append_assoc, map-append, Elements.{All-nil, All-cons, All-head, All-tail, All-filter, filter-append}, Sums.{count_by-le-length, length-filter}}}
 use Rattle.bit_words.specs.{Bits.blocks_for, Ranges.in_range, Digits.is_one, Nonzero.{CutsAt, Hand, Nonzeros, nonzero_from}}
 use Rattle.bit_set.{specs.{Sets.{AscendsFrom, IsAscending, elements, elements_from, those_below, those_from}, Ranges.those_in_range, Indexes.{digits_from, indexes, indexes_of, left_between, seen_of, IsSparseWalk}, Walk.{blocks_past, IsAtBlockOf, IsAtBlocksOf, IsAtStartOfPart}}, proofs.{EntryLemmas.{blocks_of_entry, passed_in_block, some_index}, IndexLemmas.{AscendsFrom-indexes, indexes-below, indexes-none}}}
@@ -69,7 +69,7 @@ module _ {X : Type 0} (w : ℕ) (number : X → ℕ) where
       filter-append (λ x. nat_lt x end) here (indexes_of w number entries)
       ∙ ap₂ ◌++◌ (none_kept end (entry.0 * w) here (omega (arith, first, from)) (AscendsFrom-indexes w (entry.0 * w) (number entry.1) [])) (entries_past end k entries from (All-tail (λ (e : ℕ × X). k < e.0) entry entries past))
 
-  indexes_of-append : (xs ys : List (ℕ × X)) → indexes_of w number (xs ++ ys) ≡ indexes_of w number xs ++ indexes_of w number ys
+  pub indexes_of-append : (xs ys : List (ℕ × X)) → indexes_of w number (xs ++ ys) ≡ indexes_of w number xs ++ indexes_of w number ys
   indexes_of-append [] ys = refl
   indexes_of-append (entry ∷ entries) ys =
       ap (λ zs. indexes w (entry.0 * w) (number entry.1) [] ++ zs) (indexes_of-append entries ys)

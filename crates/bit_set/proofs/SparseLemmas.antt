@@ -451,7 +451,7 @@ module _ {X : Type 0} (w : ℕ) (number : X → ℕ) (is_block : X → Type 0) (
   ones_of_block : (p : ℕ) (x : X) → is_block x → length (indexes w p (number x) []) ≡ count_ones (number x)
   ones_of_block p x lawful = let count = length-indexes w p (number x) [] (small x lawful) in omega (arith, count)
 
-  ones_of_entries : (entries : List (ℕ × X)) → All (λ (entry : ℕ × X). is_block entry.1) entries → length (indexes_of w number entries) ≡ ones_left number entries
+  pub ones_of_entries : (entries : List (ℕ × X)) → All (λ (entry : ℕ × X). is_block entry.1) entries → length (indexes_of w number entries) ≡ ones_left number entries
   ones_of_entries [] each = refl
   ones_of_entries (entry ∷ entries) each =
       let rest = ones_of_entries entries (All-tail (λ (e : ℕ × X). is_block e.1) entry entries each) in

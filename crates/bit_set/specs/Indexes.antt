@@ -118,14 +118,10 @@ pub record IsSparseWalk {X : Type 0} (w : ℕ) (number : X → ℕ) (is_block : 
   pub below : All (λ n. n < 2 ^ 64) (left_between w number front it.left back)
   pub count_fits : length (left_between w number front it.left back) < 2 ^ 64
 
--- a walk that passed the first n elements that are left, within the block in hand
-abbrev pub past_first : ℕ → Walk → Walk
-past_first n s = record {
-  left = drop n s.left;
-  pulls = s.pulls;
-  index = s.index;
-  blocks = s.blocks;
-  nonzero_left = s.nonzero_left;
-  summary_pulls = s.summary_pulls;
-  summary_left = s.summary_left;
-}
+-- A walk s passed the first n elements that are left, and pulled the blocks that it went over: t.
+pub record Passes (w n : ℕ) (s t : Walk) : Type 0 where
+  pub left : t.left ≡ drop n s.left
+  pub goes_on : s.pulls ≤ t.pulls
+  pub pulled : t.pulls + t.nonzero_left ≡ s.pulls + s.nonzero_left
+  pub along : t.index + w * t.blocks ≡ s.index + w * s.blocks
+  pub summary : t.summary_pulls + t.summary_left ≡ s.summary_pulls + s.summary_left

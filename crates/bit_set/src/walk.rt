@@ -1,7 +1,7 @@
 //! The walks over a set's elements, and over what two sets make.
 ghost use Rattle.std.specs.{Prelude.{◌≡◌, ℕ, ◌-◌, ◌*◌, ◌/◌, ◌<◌, ◌≤◌, ◌&&◌, All, IfSome, MatchOption, None, get_or, length, map, max, min, nat_le}, Iterator.{UpTo, item_count, Runs.YieldsInOrder, SizeHint.IsWithinCount}, List.last_or};
 ghost use Rattle.bit_words.specs.{Digits.is_one, Ranges.in_range};
-ghost use Rattle.bit_set.specs.{Choices.{IsFirstOf, IsGreatest, IsLastOf, IsLeast}, Members.HasNone, Ranges.those_in_range, Sets.{elements, has, those_from}, Walk.{Advances, AdvancesBack, IsAtStart, IsAtStartFrom, IsAtStartOfPart, Skips, bound_on_rest}, Indexes.past_first};
+ghost use Rattle.bit_set.specs.{Choices.{IsFirstOf, IsGreatest, IsLastOf, IsLeast}, Members.HasNone, Ranges.those_in_range, Sets.{elements, has, those_from}, Walk.{Advances, AdvancesBack, IsAtStart, IsAtStartFrom, IsAtStartOfPart, Skips, bound_on_rest}, Indexes.Passes};
 
 use crate::bit_vec::{
     BitVec, Nonzero, block_or_zero, clear_below, clear_from, take_highest_one, take_lowest_one,
@@ -108,7 +108,8 @@ impl<'a, B: BitBlock> Iter<'a, B> {
     }
 
     /// The element that `n` others of those left come before, which are passed; `None` where there are no more. Passes
-    /// over a block by the count of its ones.
+    /// over a block by the count of its ones; where a summary is stored, over as many blocks at once as a block has
+    /// bits, unless few of these are not zero.
     ///
     /// ```
     /// let set = BitSet::from_bytes(alloc, &[0b0100_1010])?;
@@ -123,24 +124,25 @@ impl<'a, B: BitBlock> Iter<'a, B> {
         while ahead > 0 {
             self.next()?;
             ahead -= 1;
-            ahead -= self.pass_block(ahead);
+            ahead -= self.pass_blocks(ahead);
         }
         self.next()
     }
 
-    // Passes what is left of the block in hand if that is no more than `most` elements. Returns how many it passed.
+    // Passes what is left of the block in hand if that is no more than `most` elements, and then blocks past it, as
+    // many at once as a block has bits. Returns how many elements it passed.
     #[inline]
-    fn pass_block(&mut self, most: usize) -> usize
+    fn pass_blocks(&mut self, most: usize) -> usize
         ensures within { result ≤ most }
         ensures there { result ≤ length self.old.left }
-        ensures walk { self.new ≡ past_first result self.old }
+        ensures walk { Passes B.width result self.old self.new }
     {
         let ones = self.block.count_ones();
         if ones > most {
             return 0;
         }
         self.block = B::zero();
-        ones
+        ones + self.nonzero.skip_blocks(most - ones)
     }
 
     /// The greatest element that is left. It is one call of [`next_back`](DoubleEndedIterator::next_back).
@@ -155,11 +157,11 @@ impl<'a, B: BitBlock> Iter<'a, B> {
 
     /// The greatest element that is left, as [`last`](Self::last).
     #[inline]
-    pub fn max(mut self) -> Option<usize>
+    pub fn max(self) -> Option<usize>
         ensures last { IsLastOf self.entry.left result }
         ensures members { MatchOption result (HasNone self.entry.left) (IsGreatest self.entry.left) }
     {
-        self.next_back()
+        self.last()
     }
 
     /// The least element that is left. It is one call of [`next`](Iterator::next).

@@ -1,6 +1,6 @@
 //! The walk over a range: its rows, and over each range of some numbers at four widths; and what passes over elements.
 
-use crate::expect::{expect_eq, expect_eq_at};
+use crate::expect::{expect_eq, expect_eq_at, ok};
 use crate::sets::set_of;
 use crate::walks::{next_back_of, next_of, nth_of};
 use bit_set::{BitBlock, BitSet};
@@ -97,4 +97,47 @@ fn a_walk_goes_on_past_the_nth_element(rt: HostRuntime) {
     expect_eq(&rt, &nth_and_next(&set, 4), &[Some(63), Some(64)]);
     expect_eq(&rt, &nth_and_next(&set, 8), &[Some(400), None]);
     expect_eq(&rt, &nth_and_next(&set, 9), &[None, None]);
+}
+
+// The set of the multiples of seven below a number.
+fn sevens<B: BitBlock>(rt: &impl Abort, alloc: Global, end: usize) -> BitSet<B> {
+    ok(rt, BitSet::from_iter(alloc, (0..end).step_by(7)))
+}
+
+// What two calls of `nth` give that pass over 2,000 elements and over 600, then the next and the last element.
+fn far_on<B: BitBlock>(set: &BitSet<B>) -> [Option<usize>; 4] {
+    let mut walk = set.iter();
+    [
+        nth_of(&mut walk, 2000),
+        nth_of(&mut walk, 600),
+        next_of(&mut walk),
+        next_back_of(&mut walk),
+    ]
+}
+
+// What passes over all but one of the elements, and what passes over all.
+fn to_the_end<B: BitBlock>(set: &BitSet<B>) -> [Option<usize>; 3] {
+    let (mut walk, mut past) = (set.iter(), set.iter());
+    [
+        nth_of(&mut walk, 2857),
+        next_of(&mut walk),
+        nth_of(&mut past, 2858),
+    ]
+}
+
+// A block of the summary says of 64 numbers over blocks of eight bits, and of 4,096 over those of 64.
+fn each_is_passed<B: BitBlock>(rt: &impl Abort, set: &BitSet<B>) {
+    expect_eq(
+        rt,
+        &far_on(set),
+        &[Some(14000), Some(18207), Some(18214), Some(19999)],
+    );
+    expect_eq(rt, &to_the_end(set), &[Some(19999), None, None]);
+}
+
+#[test]
+fn a_walk_passes_over_whole_chunks(rt: HostRuntime) {
+    each_is_passed(&rt, &sevens::<u8>(&rt, rt.alloc(), 20_000));
+    each_is_passed(&rt, &sevens::<Block24>(&rt, rt.alloc(), 20_000));
+    each_is_passed(&rt, &sevens::<u64>(&rt, rt.alloc(), 20_000));
 }

@@ -1,15 +1,16 @@
 -- The highest 1 of a number, and the ones that are filled in below it.
-use Rattle.std.proofs.Common.{◌≡◌, ℕ, ◌+◌, ◌-◌, ◌/◌, ◌%◌, ◌^◌, ◌<◌, ◌≤◌, ◌*◌, suc, ap, ◌∙◌, arith, pow_pos, pow-suc, div-lt_iff_lt-mul}
+use Rattle.std.proofs.Common.{◌≡◌, ℕ, ◌+◌, ◌-◌, ◌/◌, ◌%◌, ◌^◌, ◌<◌, ◌≤◌, ◌*◌, suc, ap, subst, ◌∙◌, arith, pow_pos, pow-suc, div-lt_iff_lt-mul}
 use Rattle.std.proofs.{Math.Pow.pow_mono, lemmas.Nat.{leading_top, le-div, Bits.{bit_at-lt, bit_at_above, bit_at_ones, bit_at_ones_above, same_from_bits_below}}}
-use Rattle.std.specs.Int.{bit_at}
+use Rattle.std.specs.Int.{bit_at, Count.count_leading_zeros}
 use Rattle.bit_words.{specs.{Digits.{IsEither, IsShiftedRight}, Highest.{IsHighest, IsFilledDown}}}
 
--- a number that is not 0 has one
-pub highest_found : (w m : ℕ) → 0 < m → m < 2 ^ w → (i : ℕ) × IsHighest m i
-highest_found w m pos fits =
+-- a number that is not 0 has one, below the zeros that lead its digits
+highest_below : (w m : ℕ) → 0 < m → m < 2 ^ w → (i : ℕ) × (count_leading_zeros w m + suc i ≡ w) × IsHighest m i
+highest_below w m pos fits =
     let top = leading_top w m pos fits in
     let i : ℕ = top.0 in (
       i,
+      top.1,
       record {
         one =
             let least = le-div 1 m (2 ^ i) (pow_pos i) (omega (arith, top.2)) in
@@ -18,6 +19,14 @@ highest_found w m pos fits =
         zeros = λ k past. bit_at_above m (suc i) k top.3 (omega (arith, past));
       },
     )
+
+pub highest_found : (w m : ℕ) → 0 < m → m < 2 ^ w → (i : ℕ) × IsHighest m i
+highest_found w m pos fits = let found = highest_below w m pos fits in (found.0, found.2)
+
+pub highest_by_zeros : (w m : ℕ) → 0 < m → m < 2 ^ w → IsHighest m (w - 1 - count_leading_zeros w m)
+highest_by_zeros w m pos fits =
+    let found = highest_below w m pos fits in
+    subst (IsHighest m) (let e : found.0 ≡ w - 1 - count_leading_zeros w m = omega (arith, found.1) in e) found.2
 
 pub highest_within : (w m i : ℕ) → m < 2 ^ w → IsHighest m i → i < w
 highest_within w m i fits high = grind (arith, bit_at_above m w i fits, high.one)

@@ -36,6 +36,7 @@ pub mod CutLemmas
 pub mod NextAtLemmas
 pub mod PendingLemmas
 pub mod PendingOnes
+pub mod SkipLemmas
 pub mod WalkLemmas
 pub mod CountLemmas
 pub mod GrowthLemmas

@@ -123,7 +123,7 @@ module _ {X : Type 0} (w : ℕ) (number : X → ℕ) (is_block : X → Type 0) w
 
   -- ---- what is stored of the summary
 
-  long_by_stored : (xs summary : List X) → (length xs ≤ short_count w → summary ≡ []) → 0 < length summary → short_count w < length xs
+  pub long_by_stored : (xs summary : List X) → (length xs ≤ short_count w → summary ≡ []) → 0 < length summary → short_count w < length xs
   long_by_stored xs summary short some = grind (arith, short)
 
   pub stored_from_all : (xs summary : List X) → 0 < w → IsStoredSummary w number is_block xs summary → IsStoredFrom w number is_block 0 (length xs) xs summary

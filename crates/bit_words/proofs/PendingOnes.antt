@@ -9,7 +9,7 @@ module _ {X : Type 0} (w : ℕ) (number : X → ℕ) (is_block : X → Type 0) w
   abbrev pub nonzero_past : ℕ → List X → List (ℕ × X)
   nonzero_past p xs = nonzero_from number p (drop p xs)
 
-  ones_nonzero : (k : ℕ) (xs : List X) → ones_left number (nonzero_from number k xs) ≡ ones_in number xs
+  pub ones_nonzero : (k : ℕ) (xs : List X) → ones_left number (nonzero_from number k xs) ≡ ones_in number xs
   ones_nonzero k [] = refl
   ones_nonzero k (x ∷ xs) =
       grind (arith, nat_tests, ones_nonzero (k + 1) xs, sum_by-cons (λ y. count_ones (number y)) x xs, sum_by-cons (λ (entry : ℕ × X). count_ones (number entry.1)) (k, x) (nonzero_from number (k + 1) xs), ones_zero)

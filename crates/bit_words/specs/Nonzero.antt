@@ -1,5 +1,5 @@
 -- A walk over the blocks that are not 0, each with its index.
-use Rattle.std.specs.{Prelude.{◌≡◌, ℕ, ◌+◌, ◌-◌, ◌*◌, ◌/◌, ◌==◌, ◌<◌, ◌⊎◌, ◌++◌, ◌&&◌, nat_lt, All, Bool, true, false, None, Some, ◌≤◌, if◌then◌else◌, min, List, [], ◌∷◌, Option, MatchOption, ⊤, drop, length}, Int.RustNames.count_ones}
+use Rattle.std.specs.{Prelude.{◌≡◌, ℕ, ◌+◌, ◌-◌, ◌*◌, ◌/◌, ◌==◌, ◌<◌, ◌⊎◌, ◌++◌, ◌&&◌, nat_lt, All, Bool, true, false, None, Some, ◌≤◌, if◌then◌else◌, min, List, [], ◌∷◌, Option, MatchOption, ⊤, drop, length, take}, Int.RustNames.count_ones}
 use Rattle.std.specs.{Iterator.{YieldsFirst, YieldsLast}, List.sum_by}
 use Rattle.bit_words.specs.{Bits.blocks_for, Digits.is_one}
 
@@ -100,6 +100,17 @@ ones_in number xs = sum_by (λ x. count_ones (number x)) xs
 -- how many binary digits are 1 of blocks that are left, each of which comes with its index
 abbrev pub ones_left : {X : Type 0} → (X → ℕ) → List (ℕ × X) → ℕ
 ones_left number left = sum_by (λ entry. count_ones (number entry.1)) left
+
+-- A walk s passed over the first `count` of the blocks that were left, which have so many ones, and left t. Each is a pull.
+pub record SkipsBlocks {X : Type 0} (number : X → ℕ) (s : Nonzeros X) (ones : ℕ) (t : Nonzeros X) : Type 0 where
+  pub count : ℕ
+  pub within : count ≤ length s.left
+  pub left : t.left ≡ drop count s.left
+  pub passed : ones ≡ ones_left number (take count s.left)
+  pub same : t.blocks ≡ s.blocks
+  pub counted : t.pulls ≡ s.pulls + count
+  pub goes_on : s.summary_pulls ≤ t.summary_pulls
+  pub summary : t.summary_pulls + t.summary_left ≡ s.summary_pulls + s.summary_left
 
 -- a block that a walk has in hand, and the index of its first digit
 pub record Hand (X : Type 0) : Type 0 where

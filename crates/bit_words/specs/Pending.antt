@@ -46,6 +46,14 @@ pub record IsPending {X : Type 0} (w : ℕ) (number : X → ℕ) (is_block : X �
   pub hand : IsInHand w number is_block index end pending xs
   pub stored : IsStoredFrom w number is_block (index + w) end xs summary
 
+-- The block in hand is used up, and the stored block `used` says which of the w blocks past those that it is about are
+-- not 0: all of these come before block `end`.
+pub record IsNextChunk {X : Type 0} (w : ℕ) (number : X → ℕ) (index end : ℕ) (pending : X) (summary : List X) (used : X)
+    : Type 0 where
+  pub used_up : number pending ≡ 0
+  pub whole : index + w + w ≤ end
+  pub first : slice_get summary 0 ≡ Some used
+
 -- The digits of m represent the w blocks of xs from `start` on and before block `end`: each block that is not 0 has its
 -- digit, and perhaps others have.
 pub record CoversUsed {X : Type 0} (w : ℕ) (number : X → ℕ) (xs : List X) (start end m : ℕ) : Type 0 where

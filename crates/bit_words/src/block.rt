@@ -1,7 +1,7 @@
 // What a type of blocks has to be. The types themselves, and what is computed of one or two blocks, are in the
 // folder; nothing here knows of a list.
 ghost use Rattle.std.specs.{Prelude.{◌≡◌, ℕ, ◌+◌, ◌^◌, ◌<◌, ◌≤◌, ◌↔◌, true}, Int.RustNames.count_ones};
-ghost use Rattle.bit_words.specs.Digits.{IsWidth, IsBoth, IsEither, IsDifferent, IsComplement, IsShiftedLeft, IsShiftedRight};
+ghost use Rattle.bit_words.specs.{Digits.{IsWidth, IsBoth, IsEither, IsDifferent, IsComplement, IsShiftedLeft, IsShiftedRight}, Highest.IsHighest};
 
 use std::ops::{Add, BitAnd, BitOr, BitXor, Not, Sub};
 
@@ -86,6 +86,24 @@ pub trait BitBlock: Copy
         requires within { distance < width }
         ensures of_block { is_block result }
         ensures of_digits { IsShiftedRight width (number self) distance (number result) };
+
+    /// The index of the highest bit that is 1, of a block that is not zero. Fills in the digits below it, in as many
+    /// steps as the width has binary digits, and counts them. A type whose processor finds it in one step says so here.
+    #[inline]
+    fn highest_one(self) -> usize
+        requires of_block { is_block self }
+        requires not_zero { 0 < number self }
+        ensures within { result < width }
+        ensures highest { IsHighest (number self) result }
+    {
+        let mut filled = self;
+        let mut distance = 1usize;
+        while distance < Self::bits() {
+            filled = filled | filled.shift_right(distance);
+            distance = distance.saturating_add(distance);
+        }
+        filled.count_ones() - 1
+    }
 
     ghost width_law: { IsWidth width };
 

@@ -48,6 +48,16 @@ fn blocks_that_are_not_zero(rt: HostRuntime) -> Result<(), Fail> {
 }
 
 #[test]
+fn a_walk_that_skips_blocks(rt: HostRuntime) -> Result<(), Fail> {
+    let bits = BitVec::<u8>::from_elem_general(rt.alloc(), 1000, true)?;
+    // Of 1000 values, all true, over blocks of 8 bits.
+    let mut walk = bits.nonzero_past(7);
+    assert_eq!(rt; walk.skip_blocks(200), 192);
+    assert_eq!(rt; walk.next(), Some((32, 0xff)));
+    Ok(())
+}
+
+#[test]
 fn a_walk_that_ends_in_a_block(rt: HostRuntime) -> Result<(), Fail> {
     let mut bits = BitVec::from_elem(rt.alloc(), 100, false)?;
     bits.set(70, true);

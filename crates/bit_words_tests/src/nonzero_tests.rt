@@ -134,6 +134,31 @@ fn a_hand_takes_over_the_other_block(rt: HostRuntime) {
     expect_eq(&rt, &refilled_back(&mut walk, (0, 0), (0, 384)), &end);
 }
 
+// How many ones the blocks have that a walk past a block skips, and the block that comes then.
+fn skipped<B: BitBlock>(bits: &BitVec<B>, first: usize, most: usize) -> (usize, Option<usize>) {
+    let mut walk = bits.nonzero_past(first);
+    let ones = walk.skip_blocks(most);
+    (ones, first_left(&mut walk))
+}
+
+#[test]
+fn whole_chunks_are_skipped(rt: HostRuntime) {
+    // A summary is stored of 33 blocks of eight bits, and of 32 none. Blocks 8 and on have two ones each.
+    let trues = [
+        64, 65, 72, 73, 80, 81, 88, 89, 96, 97, 104, 105, 112, 113, 120, 121, 128, 200, 260,
+    ];
+    let many = list_of::<u8>(&rt, rt.alloc(), 264, &trues);
+    expect_eq(&rt, &skipped(&many, 0, 15), &(0, Some(8)));
+    expect_eq(&rt, &skipped(&many, 0, 16), &(16, Some(16)));
+    expect_eq(&rt, &skipped(&many, 7, 17), &(17, Some(25)));
+    // The last chunk is not whole.
+    expect_eq(&rt, &skipped(&many, 15, 100), &(2, Some(32)));
+    // The hand has block 9 still.
+    expect_eq(&rt, &skipped(&many, 8, 100), &(0, Some(9)));
+    let few = list_of::<u8>(&rt, rt.alloc(), 256, &trues);
+    expect_eq(&rt, &skipped(&few, 7, 100), &(0, Some(8)));
+}
+
 // How many values of a list are true, and whether none is.
 fn trues_of<B: BitBlock>(bits: &BitVec<B>) -> (usize, bool) {
     (bits.count_ones(), bits.none())

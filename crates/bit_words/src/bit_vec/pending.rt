@@ -1,10 +1,9 @@
 // The blocks that a walk has still to look at, by the summary.
-ghost use Rattle.std.specs.Prelude.{◌≡◌, ℕ, ◌+◌, ◌-◌, ◌/◌, ◌<◌, ◌≤◌, ◌^◌, ◌&&◌, All, IsTrue, drop, false, get_or, length, map, nat_lt, take};
-ghost use Rattle.bit_words.specs.{Bits.blocks_for, Digits.is_one, Pending.{CoversUsed, Finds, FindsLast, FindsLastPending, IsPending, IsStoredFrom, left_from, next_at}, Summary.{is_used, IsStoredSummary}};
+ghost use Rattle.std.specs.Prelude.{◌≡◌, ℕ, ◌+◌, ◌-◌, ◌/◌, ◌<◌, ◌≤◌, ◌^◌, ◌&&◌, All, IfSome, IsTrue, drop, false, get_or, length, map, nat_lt, take};
+ghost use Rattle.bit_words.specs.{Bits.blocks_for, Digits.is_one, Pending.{CoversUsed, Finds, FindsLast, FindsLastPending, IsNextChunk, IsPending, IsStoredFrom, left_from, next_at}, Summary.{is_used, IsStoredSummary}};
 
 use crate::bit_vec::Blocks;
 use crate::block::BitBlock;
-use crate::block::highest::highest_one;
 use crate::block::lowest::take_lowest_one;
 use crate::block::masks::{clear_below, clear_from};
 use crate::block::operators::{all_ones, has_one_at, ones_below};
@@ -104,6 +103,37 @@ impl<'a, B: BitBlock> Pending<'a, B> {
         Some(self.index + take_lowest_one(&mut self.bits))
     }
 
+    // Which blocks of the next chunk are not zero, by the stored block of the summary: the chunk is those past what the
+    // block of the summary in hand is about, as many as a block has bits. `None` where that one is not used up yet,
+    // where none is stored and where the walk ends within the chunk.
+    #[inline]
+    pub(crate) fn next_chunk(&self) -> Option<B>
+        requires walk { self.now.index ≤ self.now.end }
+        requires of_block { B.is_block self.now.bits }
+        ensures { IfSome result (IsNextChunk B.width B.number
+            self.now.index self.now.end self.now.bits self.now.summary.left) }
+    {
+        if is_nonzero(self.bits) || (self.end - self.index) / B::bits() < 2 {
+            return None;
+        }
+        let used = *self.summary.as_slice().first()?;
+        Some(used)
+    }
+
+    // Passes over that chunk.
+    #[inline]
+    pub(crate) fn pass_chunk(&mut self)
+        requires fits { self.old.index + B.width < 2 ^ 64 }
+        ensures index { self.new.index ≡ self.old.index + B.width }
+        ensures end { self.new.end ≡ self.old.end }
+        ensures bits { self.new.bits ≡ self.old.bits }
+        ensures left { self.new.summary.left ≡ drop 1 self.old.summary.left }
+        ensures pulls { self.new.summary.pulls ≡ self.old.summary.pulls + 1 }
+    {
+        self.index += B::bits();
+        let _used = self.summary.next();
+    }
+
     // Takes the highest bit that is pending, or that the summary has past these, and returns the index of the block that
     // it is about: `end` is there then. Where there is none, nothing is left, so that a later call looks at no more.
     #[inline]
@@ -172,7 +202,7 @@ impl<'a, B: BitBlock> Pending<'a, B> {
         if !is_nonzero(self.bits) {
             return None;
         }
-        Some(self.index + highest_one(self.bits))
+        Some(self.index + self.bits.highest_one())
     }
 
     #[inline]

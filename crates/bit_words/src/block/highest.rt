@@ -1,13 +1,12 @@
-// The highest 1 of a block: the digits below it are filled with ones, and counted.
-ghost use Rattle.std.specs.Prelude.{◌≡◌, ℕ, ◌+◌, ◌-◌, ◌^◌, ◌<◌};
+// The highest 1 of a block.
+ghost use Rattle.std.specs.Prelude.{◌<◌};
 ghost use Rattle.bit_words.specs.{Highest.IsHighest, Lowest.IsCleared};
 
 use crate::block::BitBlock;
-use crate::block::masks::cut_from;
-use crate::block::operators::{block_or, shift_right};
+use crate::block::masks::with_bit;
 
-/// Takes the highest 1 off a block that is not zero, and returns its index. As many steps as the width has binary
-/// digits: walks from the back find their items by this step.
+/// Takes the highest 1 off a block that is not zero, and returns its index, by
+/// [`highest_one`](BitBlock::highest_one): walks from the back find their items by this step.
 ///
 /// ```
 /// let mut block = 0b0110u8;
@@ -23,35 +22,7 @@ pub fn take_highest_one<B: BitBlock>(block: &mut B) -> usize
     ensures of_block { B.is_block block.new }
     ensures cleared { IsCleared B.width (B.number block.old) result (B.number block.new) }
 {
-    let whole = *block;
-    let index = highest_one(whole);
-    *block = cut_from(whole, index);
+    let index = block.highest_one();
+    *block = with_bit(*block, index, false);
     index
-}
-
-// The index of the highest 1 of a block that is not zero.
-#[inline]
-pub(crate) fn highest_one<B: BitBlock>(block: B) -> usize
-    requires of_block { B.is_block block }
-    requires not_zero { 0 < B.number block }
-    ensures within { result < B.width }
-    ensures highest { IsHighest (B.number block) result }
-{
-    filled_down(block).count_ones() - 1
-}
-
-// The block with all digits below its highest 1 made 1. Each step fills in twice as many as the one before.
-#[inline]
-fn filled_down<B: BitBlock>(block: B) -> B
-    requires { B.is_block block }
-    ensures of_block { B.is_block result }
-    ensures filled { (i : ℕ) → IsHighest (B.number block) i → B.number result ≡ 2 ^ (i + 1) - 1 }
-{
-    let mut filled = block;
-    let mut distance = 1usize;
-    while distance < B::bits() {
-        filled = block_or(filled, shift_right(filled, distance));
-        distance = distance.saturating_add(distance);
-    }
-    filled
 }

@@ -42,6 +42,11 @@ impl BitBlock for u8 {
         self >> distance as u8
     }
 
+    #[inline]
+    fn highest_one(self) -> usize {
+        (u8::BITS - 1 - self.leading_zeros()) as usize
+    }
+
     ghost width_law = { record { positive = lit< tt; whole_bytes = refl; fits = lit< tt } };
 
     ghost number_law = { λ a is. (is, refl) };
@@ -107,6 +112,11 @@ impl BitBlock for u16 {
     #[inline]
     fn shift_right(self, distance: usize) -> u16 {
         self >> distance as u16
+    }
+
+    #[inline]
+    fn highest_one(self) -> usize {
+        (u16::BITS - 1 - self.leading_zeros()) as usize
     }
 
     ghost width_law = { record { positive = lit< tt; whole_bytes = refl; fits = lit< tt } };
@@ -176,6 +186,11 @@ impl BitBlock for u32 {
         self >> distance as u32
     }
 
+    #[inline]
+    fn highest_one(self) -> usize {
+        (u32::BITS - 1 - self.leading_zeros()) as usize
+    }
+
     ghost width_law = { record { positive = lit< tt; whole_bytes = refl; fits = lit< tt } };
 
     ghost number_law = { λ a is. (is, refl) };
@@ -241,6 +256,11 @@ impl BitBlock for u64 {
     #[inline]
     fn shift_right(self, distance: usize) -> u64 {
         self >> distance as u64
+    }
+
+    #[inline]
+    fn highest_one(self) -> usize {
+        (u64::BITS - 1 - self.leading_zeros()) as usize
     }
 
     ghost width_law = { record { positive = lit< tt; whole_bytes = refl; fits = lit< tt } };
@@ -310,6 +330,11 @@ impl BitBlock for u128 {
         self >> distance as u128
     }
 
+    #[inline]
+    fn highest_one(self) -> usize {
+        (u128::BITS - 1 - self.leading_zeros()) as usize
+    }
+
     ghost width_law = { record { positive = lit< tt; whole_bytes = refl; fits = lit< tt } };
 
     ghost number_law = { λ a is. (is, refl) };
@@ -375,6 +400,11 @@ impl BitBlock for usize {
     #[inline]
     fn shift_right(self, distance: usize) -> usize {
         self >> distance
+    }
+
+    #[inline]
+    fn highest_one(self) -> usize {
+        (usize::BITS - 1 - self.leading_zeros()) as usize
     }
 
     ghost width_law = { record { positive = lit< tt; whole_bytes = refl; fits = lit< tt } };

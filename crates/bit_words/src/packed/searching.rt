@@ -3,7 +3,6 @@ ghost use Rattle.std.specs.{Prelude.{◌≡◌, ℕ, ◌+◌, ◌*◌, ◌/◌, 
 ghost use Rattle.bit_words.specs.{Mismatches.IsFirstNonzeroBlock, Searches.{FindsBefore, FindsFrom, IsFirstFrom, IsLastBefore}, Storage.{value_at, IsPacked}, Summary.is_used};
 
 use crate::block::BitBlock;
-use crate::block::highest::highest_one;
 use crate::block::lowest::lowest_one;
 use crate::block::masks::{cut_below, cut_from};
 use crate::block::operators::{block_not, same, shift_right};
@@ -130,7 +129,7 @@ pub(crate) fn last_in_block<B: BitBlock>(blocks: &[B], end: usize) -> Option<usi
     if same(rest, B::zero()) {
         return None;
     }
-    let index = highest_one(rest);
+    let index = rest.highest_one();
     Some(k * B::bits() + index)
 }
 
@@ -142,7 +141,7 @@ pub(crate) fn last_of_block<B: BitBlock>(blocks: &[B], k: usize) -> usize
     requires used { is_used (map B.number blocks.now) k ≡ true }
     ensures { IsLastBefore (value_at B.width (map B.number blocks.now)) (k * B.width + B.width) result }
 {
-    let index = highest_one(block_or_zero(blocks, k));
+    let index = block_or_zero(blocks, k).highest_one();
     k * B::bits() + index
 }
 
