@@ -7,7 +7,9 @@ ghost use Rattle.bit_words.specs.{Bits.blocks_for, Digits.is_one, Storage.{value
 use crate::block::BitBlock;
 use crate::block::masks::{clear_below, cut_from, with_one_if};
 use crate::block::operators::{block_or, same, shift_left};
-use crate::packed::access::{block_at, block_count, block_index, put_block, replace_bit, write_bit};
+use crate::packed::access::{
+    block_at, block_count, block_index, put_block, replace_bit, write_bit,
+};
 use crate::packed::copies::push_copies;
 use crate::packed::groups::{GROUP, LONG_GROUP};
 use crate::packed::resizing::{append_bits, repeated_bit, truncate_bits};
