@@ -1,7 +1,7 @@
 -- What a merge that says whether a block changed does, some blocks at a time, which blocks stay, and what that says of the
 -- list.
 use Rattle.std.proofs.{Math.Bool.or-false, Common.{◌≡◌, ℕ, ◌+◌, ◌*◌, ◌/◌, ◌%◌, ◌^◌, ◌<◌, ◌≤◌, ◌↔◌, Bool, false, true, not, ◌==◌, ◌&&◌, ◌||◌, List, map, length, get_or, set, take, All, refl, sym, ap, ap₂, ◌∙◌, arith, ⊎_elim, mod-lt, length-take, get_or-take, get_or-set_same, get_or-set_other}, lemmas.{Bool.{cases_eq, cases_lt}, List.{get_or_past, length-map}, Nat.Bits.same_from_bits_below}}
-use Rattle.bit_words.specs.{declared.block.merge.Merge.{Merge, TheVariants.{Difference, Union}}, Merges.{merge_of_values, merge_of}, Digits.is_one, NotedMerges.{except_at, other_at, AreKept, HasMergedWith, Stay}, BlockMerges.HasMerged, Storage.{value_at, values_of, IsPacked, IsZeroFrom}, Summary.is_used}
+use Rattle.bit_words.specs.{declared.block.merge.Merge.{Merge, TheVariants.{Difference, Symmetric, Union}}, Merges.{merge_of_values, merge_of}, Digits.is_one, NotedMerges.{except_at, other_at, AreKept, HasMergedWith, Stay}, BlockMerges.HasMerged, Storage.{value_at, values_of, IsPacked, IsZeroFrom}, Summary.is_used}
 use Rattle.bit_words.proofs.{CompareLemmas.zero_from_digits, Masks.is_one-zero, MergeLemmas.{get_or-merged, length-merged, merge_of_values-none}, StorageLemmas.{get_or-values_of, get_or-values_of_zero_tail, same_digit, length-values_of, value_at-is, value_at-past, values_of-same}, SummaryLemmas.{same_block}, VectorLemmas.numbers_below}
 
 -- ---- the other digits
@@ -177,6 +177,16 @@ module _ {X : Type 0} (m : Merge) (w : ℕ) (f : X → ℕ) where
       stay_same k (k + 1) other d xs (λ q j from below index. sym (same q j from below index)) (stay_part a k (k + 1) (k + 1) other xs le (omega arith) is),
     ),
   )
+
+-- where a symmetric difference changes no block the others are 0
+other_none : (x y : Bool) → x ≡ merge_of_values Symmetric x y → y ≡ false
+other_none x false same = refl
+other_none true true same = same
+other_none false true same = sym same
+
+pub stay_zero : {X : Type 0} (w : ℕ) (f : X → ℕ) (end k : ℕ) (os : List ℕ) (xs : List X) → get_or os k 0 < 2 ^ w → k < end → Stay Symmetric w f 0 end (other_at os) xs → get_or os k 0 ≡ 0
+stay_zero w f end k os xs small below is =
+    zero_from_digits w _ small (λ j index. other_none (is_one (get_or (map f xs) k 0) j) (is_one (get_or os k 0) j) (is.digit k j (omega arith) below index))
 
 -- those of a union that are past the others
 pub stay_to_end : {X : Type 0} (w : ℕ) (f : X → ℕ) (a b : ℕ) (os es : List ℕ) (xs : List X) → length os ≤ a → Stay Union w f 0 a (except_at os es) xs → Stay Union w f 0 b (except_at os es) xs

@@ -1,8 +1,8 @@
 -- The summary of blocks that were merged with a span.
 use Rattle.std.{specs.{Global.Vec, Vec.vec_len}}
-use Rattle.std.proofs.Common.{◌≡◌, ◌≢◌, ℕ, ◌+◌, ◌-◌, ◌*◌, ◌/◌, ◌%◌, ◌^◌, ◌<◌, ◌≤◌, Bool, true, false, List, map, length, get_or, sym, ap, ◌∙◌, arith, mod-lt, div-add-mod', div-lt_iff_lt-mul}
+use Rattle.std.proofs.Common.{◌≡◌, ◌≢◌, ℕ, ◌+◌, ◌-◌, ◌*◌, ◌/◌, ◌%◌, ◌^◌, ◌<◌, ◌≤◌, Bool, true, false, List, map, length, get_or, set, min, max, sym, ap, ◌∙◌, arith, mod-lt, div-add-mod', div-lt_iff_lt-mul}
 use Rattle.bit_words.specs.{declared.block.merge.Merge.Merge, Bits.blocks_for, BlockMerges.IsMergedSpan, Digits.is_one, Merges.merge_of_values, Storage.{value_at, IsPacked, WritesInPlace, WritesValue}, Summary.{is_used, IsSummary}}
-use Rattle.bit_words.proofs.{BitsLemmas.{blocks_for-above, blocks_for-enough, index_below}, ChangeLemmas.div_lt, StorageLemmas.value_at-is, SummaryLemmas.{same_use, used_from_true, unused_from_false}}
+use Rattle.bit_words.proofs.{BitsLemmas.{blocks_for-above, blocks_for-enough, index_below}, ChangeLemmas.{written_same, written_other}, StorageLemmas.value_at-is, SummaryLemmas.{same_use, used_from_true, unused_from_false}}
 
 module _ (m : Merge) (w : ℕ) where
   -- a block before the first of the span, or past its last, is what it was
@@ -29,14 +29,35 @@ module _ (m : Merge) (w : ℕ) where
   filled_use a b first last ms ns ss ts bit pos small also from to each is said told k not_first not_last =
       grind (arith, told.inside k, told.before k, told.after k, said k, each (value_at w ss k), use_before a b k ms ns (small k) (also k) is, use_after a b k ms ns pos (small k) (also k) is, use_within a b k ms ns bit pos (also k) each is)
 
-  -- the summary whose blocks about them are made anew
-  pub anew_use : (a b first last : ℕ) (ms ns ss ts : List ℕ) → 0 < w → ((q : ℕ) → get_or ms q 0 < 2 ^ w) → ((q : ℕ) → get_or ns q 0 < 2 ^ w) → first ≡ a / w / w → last ≡ (b - 1) / w / w → IsMergedSpan m w a b ms ns → ((q : ℕ) → value_at w ss q ≡ is_used ms q) → ((q j : ℕ) → first ≤ q → q < last + 1 → j < w → is_one (get_or ts q 0) j ≡ is_used ns (q * w + j)) → ((q : ℕ) → q < first → get_or ts q 0 ≡ get_or ss q 0) → ((q : ℕ) → last + 1 ≤ q → get_or ts q 0 ≡ get_or ss q 0) → (k : ℕ) → value_at w ts k ≡ is_used ns k
-  anew_use a b first last ms ns ss ts pos small also from to is said digits before after k =
-      grind (arith, value_at-is w ts k, value_at-is w ss k, said k, digits (k / w) (k % w), mod-lt k pos, div-add-mod' k w, before (k / w), after (k / w), div_lt w k (a / w) pos, div_lt w ((b - 1) / w) k pos, use_before a b k ms ns (small k) (also k) is, use_after a b k ms ns pos (small k) (also k) is)
+  -- the summary whose bits of these blocks are made anew
+  pub anew_use : (a b first last : ℕ) (ms ns ss ts : List ℕ) → 0 < w → ((q : ℕ) → get_or ms q 0 < 2 ^ w) → ((q : ℕ) → get_or ns q 0 < 2 ^ w) → first ≡ a / w → last ≡ (b - 1) / w → IsMergedSpan m w a b ms ns → ((q : ℕ) → value_at w ss q ≡ is_used ms q) → ((k : ℕ) → first ≤ k → k < last + 1 → value_at w ts k ≡ is_used ns k) → ((k : ℕ) → k < first → value_at w ts k ≡ value_at w ss k) → ((k : ℕ) → last + 1 ≤ k → value_at w ts k ≡ value_at w ss k) → (k : ℕ) → value_at w ts k ≡ is_used ns k
+  anew_use a b first last ms ns ss ts pos small also from to is said made before after k =
+      grind (arith, said k, made k, before k, after k, use_before a b k ms ns (small k) (also k) is, use_after a b k ms ns pos (small k) (also k) is)
 
 -- and then those at the ends are written
 pub ends_written : (w first last : ℕ) (ns ss ts us : List ℕ) → ((k : ℕ) → k ≢ first → k ≢ last → value_at w ss k ≡ is_used ns k) → WritesValue w ss ts first (is_used ns first) → WritesValue w ts us last (is_used ns last) → (k : ℕ) → value_at w us k ≡ is_used ns k
 ends_written w first last ns ss ts us right one two k = grind (arith, right k, one.same, one.others k, two.same, two.others k)
+
+-- ---- a block of the summary, whose bits of a span of blocks are made anew
+
+module _ (w first end q start index count : ℕ) (ms ss ts : List ℕ) (n : ℕ) (pos : 0 < w) (put : ts ≡ set ss q n) (inside : q < length ss) (begins : first / w ≤ q) (from : start ≡ max first (q * w)) (at : index ≡ start - q * w) (many : count ≡ min (end - start) (w - index)) (forward : start ≤ end) where
+  -- the bits of the span
+  pub made_bit : ((j : ℕ) → j < count → is_one n (index + j) ≡ is_used ms (start + j)) → (k : ℕ) → k / w ≡ q → first ≤ k → k < end → value_at w ts k ≡ is_used ms k
+  made_bit made k here low high =
+      let j = k % w in
+      let whole : q * w + j ≡ k = ap (λ p. p * w + j) (sym here) ∙ div-add-mod' k w in
+      let small : j < w = mod-lt k pos in
+      let place : index + (j - index) ≡ j = omega arith in
+      let block : start + (j - index) ≡ k = omega arith in
+      written_same w ss ts q n k put inside here ∙ rw (place, block) at (made (j - index) (omega arith))
+
+  -- those before it
+  pub bit_below : ((j : ℕ) → j < index → is_one n j ≡ is_one (get_or ss q 0) j) → (k : ℕ) → k < first → value_at w ts k ≡ value_at w ss k
+  bit_below below k low = grind (arith, written_same w ss ts q n k put inside, written_other w ss ts q n k put, below (k % w), mod-lt k pos, div-add-mod' k w, value_at-is w ss k)
+
+  -- and those past it
+  pub bit_above : ((j : ℕ) → index + count ≤ j → j < w → is_one n j ≡ is_one (get_or ss q 0) j) → (k : ℕ) → end ≤ k → value_at w ts k ≡ value_at w ss k
+  bit_above above k high = grind (arith, written_same w ss ts q n k put inside, written_other w ss ts q n k put, above (k % w), mod-lt k pos, div-add-mod' k w, value_at-is w ss k)
 
 -- ---- the list and its summary
 

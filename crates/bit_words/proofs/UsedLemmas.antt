@@ -1,6 +1,6 @@
 -- Which of the blocks of a list a block of its summary says are not 0, as it is made.
-use Rattle.std.proofs.{Common.{◌≡◌, ◌≢◌, ℕ, ◌+◌, ◌-◌, ◌<◌, Bool, ◌&&◌, ◌||◌, ◌==◌, nat_lt, List, map, min, length, get_or, sym, ap, ap₂, ◌∙◌, arith, ⊎_elim}, Math.Bool.or-false, lemmas.{Bool.{cases_eq, cases_lt, Decides.nat_tests}, List.{get_or_past, length-map}}}
-use Rattle.bit_words.{specs.{Digits.{IsEither, IsShiftedLeft, is_one}, Summary.{is_used, SaysUsed}}, proofs.{Masks.is_one-either, TestLemmas.{above_and, below_and}}}
+use Rattle.std.proofs.{Common.{◌≡◌, ◌≢◌, ℕ, ◌+◌, ◌-◌, ◌<◌, ◌≤◌, Bool, false, ◌&&◌, ◌||◌, ◌==◌, nat_lt, nat_le, List, map, min, length, get_or, sym, ap, ap₂, ◌∙◌, arith, ⊎_elim}, Math.Bool.or-false, lemmas.{Bool.{cases_eq, cases_lt, Decides.nat_tests}, List.{get_or_past, length-map}}}
+use Rattle.bit_words.{specs.{Digits.{IsEither, IsShiftedLeft, is_one}, Summary.{is_used, SaysUsed}}, proofs.{Masks.is_one-either, TestLemmas.{above_and, before_and, below_and, from_and}}}
 
 module _ {X : Type 0} (w : ℕ) (f : X → ℕ) (P : X → Type 0) where
   -- of one block more
@@ -46,3 +46,29 @@ module _ {X : Type 0} (w : ℕ) (f : X → ℕ) (P : X → Type 0) where
     of_block = says.of_block;
     digit = λ j index. grind (arith, nat_tests, says.digit j index, kept (start + j));
   }
+
+-- ---- a block of the summary, in which c bits from i on are put, and the others stay
+
+module _ {X : Type 0} (w i c start : ℕ) (f : X → ℕ) (P : X → Type 0) (xs : List X) (b low high kept p s r : X) (lows : (j : ℕ) → j < w → is_one (f low) j ≡ (nat_lt j i && is_one (f b) j)) (highs : (j : ℕ) → j < w → is_one (f high) j ≡ (nat_le (i + c) j && is_one (f b) j)) (ends : IsEither w (f low) (f high) (f kept)) (says : SaysUsed w f P xs start c p) (moved : IsShiftedLeft w (f p) i (f s)) (all : IsEither w (f kept) (f s) (f r)) where
+  -- what each of its digits comes from
+  put_digit : (j : ℕ) (x y z : Bool) → j < w → (nat_lt j i && is_one (f b) j) ≡ x → (nat_le (i + c) j && is_one (f b) j) ≡ y → is_one (f s) j ≡ z → is_one (f r) j ≡ ((x || y) || z)
+  put_digit j x y z within one two three =
+      is_one-either w (f kept) (f s) (f r) j all within
+      ∙ ap₂ (λ k t. k || t) (is_one-either w (f low) (f high) (f kept) j ends within ∙ ap₂ (λ l h. l || h) (lows j within ∙ one) (highs j within ∙ two)) three
+
+  pub put_made : i + c ≤ w → (j : ℕ) → j < c → is_one (f r) (i + j) ≡ is_used (map f xs) (start + j)
+  put_made within j below =
+      let used = is_used (map f xs) (start + j) in
+      let order : j + i ≡ i + j = omega arith in
+      let digit : is_one (f s) (i + j) ≡ is_one (f p) j = rw order at (ap (λ x. x == 1) (moved.moved j (omega arith))) in
+      put_digit (i + j) false false used (omega arith) (above_and i (i + j) _ (omega arith)) (before_and (i + c) (i + j) _ (omega arith)) (digit ∙ says.digit j (omega arith) ∙ below_and c j used below)
+
+  pub put_below : (j : ℕ) → j < i → j < w → is_one (f r) j ≡ is_one (f b) j
+  put_below j under within =
+      put_digit j (is_one (f b) j) false false within (below_and i j _ under) (before_and (i + c) j _ (omega arith)) (ap (λ x. x == 1) (moved.zeros j under)) ∙ or-false _ ∙ or-false _
+
+  pub put_above : (j : ℕ) → i + c ≤ j → j < w → is_one (f r) j ≡ is_one (f b) j
+  put_above j over within =
+      let back : j - i + i ≡ j = omega arith in
+      let digit : is_one (f s) j ≡ is_one (f p) (j - i) = rw back at (ap (λ x. x == 1) (moved.moved (j - i) (omega arith))) in
+      put_digit j false (is_one (f b) j) false within (above_and i j _ (omega arith)) (from_and (i + c) j _ over) (digit ∙ says.digit (j - i) (omega arith) ∙ above_and c (j - i) _ (omega arith)) ∙ or-false _

@@ -5,9 +5,11 @@ ghost use Rattle.std.specs.Prelude.{◌≡◌, ◌≢◌, ℕ, ◌+◌, ◌-◌,
 ghost use Rattle.bit_words.specs.{Bits.blocks_for, Digits.is_one, Storage.{value_at, IsPacked, WritesInPlace, WritesValue}, Summary.{is_used, short_count, stored_for, IsSummary, IsStoredSummary, SaysUsed}};
 
 use crate::block::BitBlock;
-use crate::block::masks::with_one_if;
+use crate::block::masks::{clear_below, cut_from, with_one_if};
 use crate::block::operators::{block_or, same, shift_left};
-use crate::packed::access::{block_at, block_count, put_block, replace_bit, write_bit};
+use crate::packed::access::{
+    block_at, block_count, block_index, put_block, replace_bit, write_bit,
+};
 use crate::packed::copies::push_copies;
 use crate::packed::groups::{GROUP, LONG_GROUP};
 use crate::packed::resizing::{append_bits, repeated_bit, truncate_bits};
@@ -220,32 +222,65 @@ fn summarize<B: BitBlock>(summary: &mut Vec<B>, blocks: &[B])
     ensures summary { IsSummary B.width B.number B.is_block blocks.now summary.new.items }
     ensures capacity { vec_capacity summary.new ≡ vec_capacity summary.old }
 {
-    summarize_between(summary, blocks, 0, summary.len());
+    for q in 0..summary.len() {
+        put_block(summary, q, used_from(blocks, q * B::bits()));
+    }
 }
 
-// Makes the blocks of the summary from `start` on and below `end` anew, whatever they were.
-pub(crate) fn summarize_between<B: BitBlock>(
-    summary: &mut Vec<B>,
+// A block of a summary, whose bits from `index` on are made anew: they say which of the `count` blocks from `start` on are
+// not 0.
+#[inline]
+fn with_used_bits<B: BitBlock>(
+    block: B,
+    index: usize,
     blocks: &[B],
     start: usize,
+    count: usize,
+) -> B
+    requires of_block { B.is_block block }
+    requires index { index < B.width }
+    requires within { index + count ≤ B.width }
+    requires in_bounds { start + count ≤ length blocks.now }
+    requires each { All B.is_block blocks.now }
+    ensures of_block { B.is_block result }
+    ensures made { (j : ℕ) → j < count
+        → is_one (B.number result) (index + j) ≡ is_used (map B.number blocks.now) (start + j) }
+    ensures below { (j : ℕ) → j < index → is_one (B.number result) j ≡ is_one (B.number block) j }
+    ensures above { (j : ℕ) → index + count ≤ j → j < B.width
+        → is_one (B.number result) j ≡ is_one (B.number block) j }
+{
+    let kept = block_or(cut_from(block, index), clear_below(block, index + count));
+    block_or(kept, shift_left(bits_from(blocks, start, count), index))
+}
+
+// Makes the bits of the summary of the blocks from `first` on and below `end` anew, whatever they were.
+pub(crate) fn summarize_span<B: BitBlock>(
+    summary: &mut Vec<B>,
+    blocks: &[B],
+    first: usize,
     end: usize,
 )
-    requires forward { start ≤ end }
-    requires in_summary { end ≤ vec_len summary.old }
-    requires in_blocks { end ≤ blocks_for B.width (length blocks.now) }
+    requires forward { first ≤ end }
+    requires in_blocks { end ≤ length blocks.now }
+    requires in_summary { end ≤ vec_len summary.old * B.width }
     requires each { All B.is_block summary.old.items }
     requires blocks { All B.is_block blocks.now }
     requires fits { length blocks.now < 2 ^ 64 }
-    ensures digits { (q j : ℕ) → start ≤ q → q < end → j < B.width
-        → is_one (get_or (map B.number summary.new.items) q 0) j ≡ is_used (map B.number blocks.now) (q * B.width + j) }
-    ensures before { (q : ℕ) → q < start
-        → get_or (map B.number summary.new.items) q 0 ≡ get_or (map B.number summary.old.items) q 0 }
-    ensures after { (q : ℕ) → end ≤ q
-        → get_or (map B.number summary.new.items) q 0 ≡ get_or (map B.number summary.old.items) q 0 }
+    ensures made { (k : ℕ) → first ≤ k → k < end
+        → value_at B.width (map B.number summary.new.items) k ≡ is_used (map B.number blocks.now) k }
+    ensures before { (k : ℕ) → k < first
+        → value_at B.width (map B.number summary.new.items) k ≡ value_at B.width (map B.number summary.old.items) k }
+    ensures after { (k : ℕ) → end ≤ k
+        → value_at B.width (map B.number summary.new.items) k ≡ value_at B.width (map B.number summary.old.items) k }
     ensures in_place { WritesInPlace B.is_block summary.old summary.new }
 {
-    for q in start..end {
-        put_block(summary, q, used_from(blocks, q * B::bits()));
+    let width = B::bits();
+    for q in block_index::<B>(first)..block_count::<B>(end) {
+        let start = first.max(q * width);
+        let index = start - q * width;
+        let count = (end - start).min(width - index);
+        let own = block_at(summary, q);
+        put_block(summary, q, with_used_bits(own, index, blocks, start, count));
     }
 }
 

@@ -58,6 +58,7 @@ impl<B: BitBlock> BitSet<B> {
     /// Keeps what is in `other` too. The length becomes the greater of both. One pass over the blocks.
     /// Fails only where the length of `other` passes the capacity and no memory is found; elements, length
     /// and capacity then stay.
+    #[inline]
     pub fn intersect_with(&mut self, other: &Self) -> Result<(), AllocError>
         ensures elements { OnOk result (elements self.new.values
             ≡ intersection (elements self.old.values) (elements other.now.values)) }

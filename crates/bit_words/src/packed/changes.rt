@@ -9,6 +9,7 @@ use crate::block::operators::same;
 use crate::packed::access::block_at;
 use crate::packed::comparing::or_mismatch;
 use crate::packed::groups::{GROUP, LONG_GROUP};
+use crate::packed::zeros::zeros_before;
 
 // A block that is 0 just where `seen` is and block `k` stays where it is merged with `other`.
 #[inline(always)]
@@ -111,42 +112,59 @@ fn changed_group<B: BitBlock, O: Operation>(
     groups
 }
 
-// Where the first group from `start` on begins of which a block changes, or else the end of the others. Groups are long
-// ones, and where no more of these are left, short ones. A list that changes at its first blocks, as most do that change, is
-// not looked at beyond a short one.
+// Where the first group of the blocks from `start` on and before `end` begins of which a block changes, or `None` where all
+// of them stay. Groups are long ones, then one of half as many blocks, and a short one. What is left then is looked at in a
+// group that begins within the one before it, so that no block is looked at alone, and blocks that are fewer than a short
+// group are one. A list that changes at its first blocks, as most do that change, is not looked at beyond a short one.
 #[inline(always)]
-fn stay_until<B: BitBlock, O: Operation>(blocks: &[B], others: &[B], start: usize) -> usize
+fn first_changed<B: BitBlock, O: Operation>(
+    blocks: &[B],
+    others: &[B],
+    start: usize,
+    end: usize,
+) -> Option<usize>
     requires can { CanMerge B.is_block blocks.now others.now }
-    requires from { start ≤ length others.now }
-    ensures forward { start ≤ result }
-    ensures within { result ≤ length others.now }
-    ensures stay { Stay O.merge B.width B.number start result (other_at (map B.number others.now)) blocks.now }
-    ensures stops { result < length others.now → Stay O.merge B.width B.number start (length others.now)
-        (other_at (map B.number others.now)) blocks.now → ⊥ }
+    requires forward { start ≤ end }
+    requires in_others { end ≤ length others.now }
+    ensures within { IfSome result (λ first. first ≤ end) }
+    ensures stay { IfSome result (λ first. Stay O.merge B.width B.number start first
+        (other_at (map B.number others.now)) blocks.now) }
+    ensures changes { IfSome result (λ first. Stay O.merge B.width B.number start end
+        (other_at (map B.number others.now)) blocks.now → ⊥) }
+    ensures none { IfNone result (Stay O.merge B.width B.number start end
+        (other_at (map B.number others.now)) blocks.now) }
 {
-    let long = (others.len() - start) / LONG_GROUP;
-    if long > 0 && changed_group::<B, O>(blocks, others, start, 1, GROUP) == 0 {
-        return start;
+    if end - start < GROUP {
+        if changed_group::<B, O>(blocks, others, start, 1, end - start) == 0 {
+            return Some(start);
+        }
+        return None;
     }
-    let stayed = changed_group::<B, O>(blocks, others, start, long, LONG_GROUP);
+    let groups = (end - start) / LONG_GROUP;
+    if groups > 0 && changed_group::<B, O>(blocks, others, start, 1, GROUP) == 0 {
+        return Some(start);
+    }
+    let stayed = changed_group::<B, O>(blocks, others, start, groups, LONG_GROUP);
     let begin = start + stayed * LONG_GROUP;
-    if stayed < long {
-        return begin;
+    if stayed < groups {
+        return Some(begin);
     }
-    let groups = (others.len() - begin) / GROUP;
+    let groups = (end - begin) / (2 * GROUP);
+    let stayed = changed_group::<B, O>(blocks, others, begin, groups, 2 * GROUP);
+    let begin = begin + stayed * (2 * GROUP);
+    if stayed < groups {
+        return Some(begin);
+    }
+    let groups = (end - begin) / GROUP;
     let stayed = changed_group::<B, O>(blocks, others, begin, groups, GROUP);
     let begin = begin + stayed * GROUP;
     if stayed < groups {
-        return begin;
+        return Some(begin);
     }
-    if same(
-        changes::<B, O>(blocks, others, begin, others.len() - begin),
-        B::zero(),
-    ) {
-        others.len()
-    } else {
-        begin
+    if begin < end && changed_group::<B, O>(blocks, others, end - GROUP, 1, GROUP) == 0 {
+        return Some(begin);
     }
+    None
 }
 
 // The same as `changed_group`, where the others are merged except for the ones of `except`.
@@ -180,48 +198,61 @@ fn changed_group_except<B: BitBlock, O: Operation>(
     groups
 }
 
-// The same as `stay_until` from the first block on up to before `end`, where the others are merged except for the ones of
-// `except`.
+// The same as `first_changed`, where the others are merged except for the ones of `except`.
 #[inline(always)]
-fn stay_until_except<B: BitBlock, O: Operation>(
+fn first_changed_except<B: BitBlock, O: Operation>(
     blocks: &[B],
     others: &[B],
     except: &[B],
+    start: usize,
     end: usize,
-) -> usize
+) -> Option<usize>
     requires can { CanMerge B.is_block blocks.now others.now }
     requires except { All B.is_block except.now }
+    requires forward { start ≤ end }
     requires in_others { end ≤ length others.now }
     requires in_except { end ≤ length except.now }
-    ensures within { result ≤ end }
-    ensures stay { Stay O.merge B.width B.number 0 result
-        (except_at (map B.number others.now) (map B.number except.now)) blocks.now }
-    ensures stops { result < end → Stay O.merge B.width B.number 0 end
-        (except_at (map B.number others.now) (map B.number except.now)) blocks.now → ⊥ }
+    ensures within { IfSome result (λ first. first ≤ end) }
+    ensures stay { IfSome result (λ first. Stay O.merge B.width B.number start first
+        (except_at (map B.number others.now) (map B.number except.now)) blocks.now) }
+    ensures changes { IfSome result (λ first. Stay O.merge B.width B.number start end
+        (except_at (map B.number others.now) (map B.number except.now)) blocks.now → ⊥) }
+    ensures none { IfNone result (Stay O.merge B.width B.number start end
+        (except_at (map B.number others.now) (map B.number except.now)) blocks.now) }
 {
-    let long = end / LONG_GROUP;
-    if long > 0 && changed_group_except::<B, O>(blocks, others, except, 0, 1, GROUP) == 0 {
-        return 0;
+    if end - start < GROUP {
+        if changed_group_except::<B, O>(blocks, others, except, start, 1, end - start) == 0 {
+            return Some(start);
+        }
+        return None;
     }
-    let stayed = changed_group_except::<B, O>(blocks, others, except, 0, long, LONG_GROUP);
-    let begin = stayed * LONG_GROUP;
-    if stayed < long {
-        return begin;
+    let groups = (end - start) / LONG_GROUP;
+    if groups > 0 && changed_group_except::<B, O>(blocks, others, except, start, 1, GROUP) == 0 {
+        return Some(start);
+    }
+    let stayed = changed_group_except::<B, O>(blocks, others, except, start, groups, LONG_GROUP);
+    let begin = start + stayed * LONG_GROUP;
+    if stayed < groups {
+        return Some(begin);
+    }
+    let groups = (end - begin) / (2 * GROUP);
+    let stayed = changed_group_except::<B, O>(blocks, others, except, begin, groups, 2 * GROUP);
+    let begin = begin + stayed * (2 * GROUP);
+    if stayed < groups {
+        return Some(begin);
     }
     let groups = (end - begin) / GROUP;
     let stayed = changed_group_except::<B, O>(blocks, others, except, begin, groups, GROUP);
     let begin = begin + stayed * GROUP;
     if stayed < groups {
-        return begin;
+        return Some(begin);
     }
-    if same(
-        changes_except::<B, O>(blocks, others, except, begin, end - begin),
-        B::zero(),
-    ) {
-        end
-    } else {
-        begin
+    if begin < end
+        && changed_group_except::<B, O>(blocks, others, except, end - GROUP, 1, GROUP) == 0
+    {
+        return Some(begin);
     }
+    None
 }
 
 // Where the list begins to change where it is merged with the others: a group of blocks of which one changes, or the end of
@@ -237,15 +268,35 @@ pub(crate) fn first_change<B: BitBlock, O: Operation>(blocks: &[B], others: &[B]
     ensures none { IfNone result (Stay O.merge B.width B.number 0 (length blocks.now)
         (other_at (map B.number others.now)) blocks.now) }
 {
-    let start = stay_until::<B, O>(blocks, others, 0);
-    if start < others.len() || !stay_past::<B, O>(blocks, start) {
-        Some(start)
+    let found = first_changed::<B, O>(blocks, others, 0, others.len());
+    if found.is_some() || stay_past::<B, O>(blocks, others.len()) {
+        return found;
+    }
+    Some(others.len())
+}
+
+// The same of a symmetric difference, which changes just the blocks at which the others are not 0.
+#[inline(always)]
+pub(crate) fn first_nonzero_other<B: BitBlock>(blocks: &[B], others: &[B]) -> Option<usize>
+    requires can { CanMerge B.is_block blocks.now others.now }
+    ensures within { IfSome result (λ start. start ≤ length others.now) }
+    ensures stay { IfSome result (λ start. Stay Merge.Symmetric B.width B.number 0 start
+        (other_at (map B.number others.now)) blocks.now) }
+    ensures changes { IfSome result (λ start. Stay Merge.Symmetric B.width B.number 0 (length blocks.now)
+        (other_at (map B.number others.now)) blocks.now → ⊥) }
+    ensures none { IfNone result (Stay Merge.Symmetric B.width B.number 0 (length blocks.now)
+        (other_at (map B.number others.now)) blocks.now) }
+{
+    let zeros = zeros_before(others);
+    if zeros < others.len() {
+        Some(zeros)
     } else {
         None
     }
 }
 
-// The same of a union with the others except for the ones of `except`. Past the others a union changes nothing.
+// The same of a union with the others except for the ones of `except`, which is at least as long as they are. Past the
+// others a union changes nothing.
 #[inline(always)]
 pub(crate) fn first_change_except<B: BitBlock>(
     blocks: &[B],
@@ -254,6 +305,7 @@ pub(crate) fn first_change_except<B: BitBlock>(
 ) -> Option<usize>
     requires can { CanMerge B.is_block blocks.now others.now }
     requires except { All B.is_block except.now }
+    requires longer { length others.now ≤ length except.now }
     ensures within { IfSome result (λ start. start ≤ length others.now) }
     ensures stay { IfSome result (λ start. Stay Merge.Union B.width B.number 0 start
         (except_at (map B.number others.now) (map B.number except.now)) blocks.now) }
@@ -262,18 +314,31 @@ pub(crate) fn first_change_except<B: BitBlock>(
     ensures none { IfNone result (Stay Merge.Union B.width B.number 0 (length blocks.now)
         (except_at (map B.number others.now) (map B.number except.now)) blocks.now) }
 {
-    let both = others.len().min(except.len());
-    let apart = stay_until_except::<B, Union>(blocks, others, except, both);
-    if apart < both {
-        return Some(apart);
+    first_changed_except::<B, Union>(blocks, others, except, 0, others.len())
+}
+
+// The same where `except` is shorter.
+#[inline(always)]
+pub(crate) fn first_change_past_except<B: BitBlock>(
+    blocks: &[B],
+    others: &[B],
+    except: &[B],
+) -> Option<usize>
+    requires can { CanMerge B.is_block blocks.now others.now }
+    requires except { All B.is_block except.now }
+    requires shorter { length except.now < length others.now }
+    ensures within { IfSome result (λ start. start ≤ length others.now) }
+    ensures stay { IfSome result (λ start. Stay Merge.Union B.width B.number 0 start
+        (except_at (map B.number others.now) (map B.number except.now)) blocks.now) }
+    ensures changes { IfSome result (λ start. Stay Merge.Union B.width B.number 0 (length blocks.now)
+        (except_at (map B.number others.now) (map B.number except.now)) blocks.now → ⊥) }
+    ensures none { IfNone result (Stay Merge.Union B.width B.number 0 (length blocks.now)
+        (except_at (map B.number others.now) (map B.number except.now)) blocks.now) }
+{
+    let both = except.len();
+    let apart = first_changed_except::<B, Union>(blocks, others, except, 0, both);
+    if apart.is_some() {
+        return apart;
     }
-    if both == others.len() {
-        return None;
-    }
-    let start = stay_until::<B, Union>(blocks, others, both);
-    if start < others.len() {
-        Some(start)
-    } else {
-        None
-    }
+    first_changed::<B, Union>(blocks, others, both, others.len())
 }

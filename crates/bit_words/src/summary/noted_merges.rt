@@ -5,9 +5,11 @@ ghost use Rattle.bit_words.specs.{Bits.blocks_for, BlockMerges.{CanMerge, HasMer
 
 use crate::block::BitBlock;
 use crate::block::merge::Merge;
-use crate::block::operation::{Difference, Intersection, Operation, Symmetric, Union};
+use crate::block::operation::{Difference, Intersection, Operation, Union};
 use crate::packed::access::{block_at, block_index, put_in};
-use crate::packed::changes::{first_change, first_change_except};
+use crate::packed::changes::{
+    first_change, first_change_except, first_change_past_except, first_nonzero_other,
+};
 use crate::packed::except_merges::unite_between;
 use crate::steps::Steps;
 use crate::summary::merges::merge_chosen;
@@ -29,7 +31,7 @@ fn first_change_by<B: BitBlock>(blocks: &[B], others: &[B], merge: Merge) -> Opt
         Merge::Union => first_change::<B, Union>(blocks, others),
         Merge::Intersection => first_change::<B, Intersection>(blocks, others),
         Merge::Difference => first_change::<B, Difference>(blocks, others),
-        Merge::Symmetric => first_change::<B, Symmetric>(blocks, others),
+        Merge::Symmetric => first_nonzero_other(blocks, others),
     }
 }
 
@@ -212,6 +214,75 @@ fn unite_from<B: BitBlock>(
     }
 }
 
+// Each block becomes its union with the others, except for the ones of `except`, from where the list begins to change on, and
+// whether one changed is returned.
+#[inline(always)]
+fn unite_found<B: BitBlock>(
+    blocks: &mut [B],
+    summary: &mut [B],
+    others: &[B],
+    other_summary: &[B],
+    except: &[B],
+    found: Option<usize>,
+    steps: &mut Steps,
+) -> bool
+    requires can { CanMerge B.is_block blocks.old others.now }
+    requires except { All B.is_block except.now }
+    requires within { IfSome found (λ start. start ≤ length others.now) }
+    requires stay { IfSome found (λ start. Stay Merge.Union B.width B.number 0 start
+        (except_at (map B.number others.now) (map B.number except.now)) blocks.old) }
+    requires changes { IfSome found (λ start. Stay Merge.Union B.width B.number 0 (length blocks.old)
+        (except_at (map B.number others.now) (map B.number except.now)) blocks.old → ⊥) }
+    requires none { IfNone found (Stay Merge.Union B.width B.number 0 (length blocks.old)
+        (except_at (map B.number others.now) (map B.number except.now)) blocks.old) }
+    requires summary { IsStoredSummary B.width B.number B.is_block blocks.old summary.old }
+    requires other_summary { IsStoredSummary B.width B.number B.is_block others.now other_summary.now }
+    ensures has { HasMergedWith Merge.Union B.width B.number B.is_block 0 (length blocks.old)
+        (except_at (map B.number others.now) (map B.number except.now)) blocks.old blocks.new }
+    ensures kept { (result ≡ false) ↔ AreKept (map B.number blocks.old) (map B.number blocks.new) }
+    ensures summary { IsStoredSummary B.width B.number B.is_block blocks.new summary.new }
+    ensures summary_len { length summary.new ≡ length summary.old }
+    ensures steps { steps.new ≡ steps.old + length blocks.old }
+{
+    match found {
+        None => {
+            steps.tick_by(blocks.len());
+            false
+        }
+        Some(start) => {
+            unite_from(blocks, summary, others, other_summary, except, start, steps);
+            true
+        }
+    }
+}
+
+// `unite_and_note` where `except` is shorter than the others: a call of its own, so that the usual one saves no registers for
+// it.
+#[inline(never)]
+fn unite_past_except<B: BitBlock>(
+    blocks: &mut [B],
+    summary: &mut [B],
+    others: &[B],
+    other_summary: &[B],
+    except: &[B],
+    steps: &mut Steps,
+) -> bool
+    requires can { CanMerge B.is_block blocks.old others.now }
+    requires except { All B.is_block except.now }
+    requires shorter { length except.now < length others.now }
+    requires summary { IsStoredSummary B.width B.number B.is_block blocks.old summary.old }
+    requires other_summary { IsStoredSummary B.width B.number B.is_block others.now other_summary.now }
+    ensures has { HasMergedWith Merge.Union B.width B.number B.is_block 0 (length blocks.old)
+        (except_at (map B.number others.now) (map B.number except.now)) blocks.old blocks.new }
+    ensures kept { (result ≡ false) ↔ AreKept (map B.number blocks.old) (map B.number blocks.new) }
+    ensures summary { IsStoredSummary B.width B.number B.is_block blocks.new summary.new }
+    ensures summary_len { length summary.new ≡ length summary.old }
+    ensures steps { steps.new ≡ steps.old + length blocks.old }
+{
+    let found = first_change_past_except(blocks, others, except);
+    unite_found(blocks, summary, others, other_summary, except, found, steps)
+}
+
 // Each block becomes its union with the others, except for the ones of `except`, and whether one changed is returned.
 #[inline]
 pub(crate) fn unite_and_note<B: BitBlock>(
@@ -233,14 +304,9 @@ pub(crate) fn unite_and_note<B: BitBlock>(
     ensures summary_len { length summary.new ≡ length summary.old }
     ensures steps { steps.new ≡ steps.old + length blocks.old }
 {
-    match first_change_except(blocks, others, except) {
-        None => {
-            steps.tick_by(blocks.len());
-            false
-        }
-        Some(start) => {
-            unite_from(blocks, summary, others, other_summary, except, start, steps);
-            true
-        }
+    if except.len() < others.len() {
+        return unite_past_except(blocks, summary, others, other_summary, except, steps);
     }
+    let found = first_change_except(blocks, others, except);
+    unite_found(blocks, summary, others, other_summary, except, found, steps)
 }

@@ -6,7 +6,7 @@ use crate::block::BitBlock;
 use crate::block::operation::{Operation, Symmetric};
 use crate::packed::access::block_index;
 use crate::packed::spans::merge_span;
-use crate::summary::{is_short, summarize_between, update_summary_at};
+use crate::summary::{is_short, summarize_span, update_summary_at};
 
 // The values from `start` on and below `end`, of which there are some, all become one: true by a union, false by a
 // difference. The bits of their blocks in the summary become so too, and those of the first and the last, which may
@@ -40,8 +40,8 @@ pub(crate) fn fill_span<B: BitBlock, O: Operation>(
     update_summary_at(summary, blocks, last);
 }
 
-// Each of the values from `start` on and below `end`, of which there are some, turns. The blocks of the summary that are
-// about their blocks are made anew.
+// Each of the values from `start` on and below `end`, of which there are some, turns. The bits of their blocks in the
+// summary are made anew, since any of these may be 0 now.
 pub(crate) fn negate_span<B: BitBlock>(
     blocks: &mut Vec<B>,
     summary: &mut Vec<B>,
@@ -62,7 +62,7 @@ pub(crate) fn negate_span<B: BitBlock>(
     if is_short::<B>(blocks.len()) {
         return;
     }
-    let first = block_index::<B>(block_index::<B>(start));
-    let last = block_index::<B>(block_index::<B>(end - 1));
-    summarize_between(summary, blocks, first, last + 1);
+    let first = block_index::<B>(start);
+    let last = block_index::<B>(end - 1);
+    summarize_span(summary, blocks, first, last + 1);
 }
