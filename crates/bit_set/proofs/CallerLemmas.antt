@@ -3,7 +3,7 @@ use Rattle.std.proofs.{Common.{◌≡◌, ℕ, ◌+◌, ◌-◌, ◌<◌, ◌≤
 use Rattle.std.proofs.lemmas.{List.append-nil, List.Sums.{length-filter, count_by-le-length}}
 use Rattle.std.{proofs.lemmas.{Iterator.{YieldsList, YieldsList-from_range, Adapters.fact_from_collect, Consumers.{YieldsList-at, YieldsList-from_filter, YieldsList-from_shown}}, Result.IfOk-weaker}, specs.Prelude.IfOk}
 use Rattle.std.specs.{BTreeMap.{BTreeMap, get_by}, Fn.{Mut, CalledAt}, Iterator.{Drains, Adapters.{filter_source, filter_callee, filter_steps}}, List.range_with_len}
-use Rattle.bit_words.specs.Bits.{Bits}
+use Rattle.bit_blocks.specs.Bits.{Bits}
 use Rattle.bit_set.{specs.{Members.IsSameSet, Order.order_of_sets, Sets.{bound_of, elements, has, put_all}, Walk.{Walk, Advances}}, proofs.{RangeLemmas.has-range_with_len, SetLemmas.{IsAscending-elements, has-filter, same_members}, TestLemmas.{filter_all, filter_none}}}
 
 module _ {S V E : Type 0} {steps : S → Option ℕ → S → Type 0} {s : S} {all : List ℕ} where

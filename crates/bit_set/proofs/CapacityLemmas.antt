@@ -1,7 +1,8 @@
 -- How many blocks and how much capacity a set takes.
 use Rattle.std.proofs.Common.{◌≡◌, ℕ, ◌+◌, ◌-◌, ◌<◌, ◌≤◌, ◌↔◌, max, Bool, true, nat_lt, if◌then◌else◌, All, IsTrue, List, [], ◌∷◌, length, slice_get, Some, refl, ap, ◌∙◌, arith, mul-le-mul_right, Ok, Err}
 use Rattle.std.proofs.lemmas.{List.Elements.{All-nil, All-cons, All-head, All-tail}, Bool.Decides.nat_tests}
-use Rattle.bit_words.{specs.{Bits.{Bits, blocks_for, capacity_of, true_end, whole_blocks}, Growth.Grows}, proofs.{BitsLemmas.{blocks_for-le, blocks_for-least, blocks_for-enough}, CapacityLemmas.whole_blocks-fits}}
+use Rattle.bit_blocks.{specs.Bits.{Bits, blocks_for, capacity_of, true_end, whole_blocks}, proofs.BitsLemmas.{blocks_for-le, blocks_for-least, blocks_for-enough}}
+use Rattle.bit_words.{specs.Growth.Grows, proofs.CapacityLemmas.whole_blocks-fits}
 use Rattle.bit_set.{specs.{Sets.{elements, elements_from, bound_of}, Capacity.Run}, proofs.{SetLaws.slice_get-elements, SetLemmas.{IsAscending-elements, same_members}}}
 
 -- more values take no less capacity

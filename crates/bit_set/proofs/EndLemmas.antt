@@ -2,7 +2,8 @@
 use Rattle.std.proofs.{Common.{◌≡◌, ℕ, ◌+◌, ◌-◌, ◌<◌, ◌≤◌, Bool, true, false, not, ◌||◌, eqb, ltb, nat_le, List, [], ◌∷◌, ◌++◌, length, take, drop, slice_get, get_or, length-append, Option, Some, None, refl, sym, ap, ◌∙◌, arith}, Math.Seq.take-append_seam}
 use Rattle.std.proofs.lemmas.{Bool.Decides.nat_tests, List.{get_or-append_right, Folds.list_any-append}, Option.slice_get-get_or}
 use Rattle.std.specs.{Prelude.{IfSome, MatchOption, if◌then◌else◌, is_some, slice_set}, Iterator.{YieldsFirst}}
-use Rattle.bit_words.{specs.{Bounds.greatest, Searches.{FindsBefore, FindsFrom, IsFirstFrom}}, proofs.SearchLemmas.{finds_before_same, finds_from_same}}
+use Rattle.bit_blocks.{specs.Searches.{FindsBefore, FindsFrom, IsFirstFrom}, proofs.SearchLemmas.{finds_before_same, finds_from_same}}
+use Rattle.bit_words.specs.Bounds.{greatest}
 use Rattle.bit_set.specs.{Changes.{Changes, Change.{PopFirst, PopLast}, Outcome.Gave}, Choices.{IsFirstOf, IsGreatest, IsLastOf, IsLeast}, Members.{HasNone, TakesGreatest, TakesLeast}, Sets.{AscendsFrom, IsAscending, has, elements, those_below, those_from, without}}
 use Rattle.bit_set.proofs.{MemberLemmas.{none_from_members, updates_without}, SetLemmas.{AscendsFrom-filter, IsAscending-elements, elements-set_false, has-elements, has-filter, has-first, has-without, same_members}, ValueLemmas.has-within}
 

@@ -1,7 +1,8 @@
 -- The blocks that are not 0, each with its index: the indexes of their ones, and which blocks these lie in.
 use Rattle.std.proofs.Common.{◌≡◌, ℕ, ◌+◌, ◌-◌, ◌*◌, ◌/◌, ◌^◌, ◌<◌, ◌≤◌, ◌==◌, nat_lt, true, false, List, [], ◌∷◌, ◌++◌, map, length, get_or, All, refl, sym, ap, ◌∙◌, subst, arith}
 use Rattle.std.proofs.{lemmas.{Bool.{cond_both, eqb-true, eqb-false, true≢false, Decides.nat_tests}, Nat.div-mul-add, List.Elements.{All-nil, All-cons, All-head, All-tail}}, Math.Nat.div-lt_iff_lt-mul}
-use Rattle.bit_words.{specs.{Digits.is_one, Nonzero.nonzero_from}, proofs.{HighestLemmas.{highest_found, highest_within}, Masks.is_one-bit}}
+use Rattle.bit_blocks.{specs.Digits.is_one, proofs.{HighestLemmas.{highest_found, highest_within}, Masks.is_one-bit}}
+use Rattle.bit_words.specs.Nonzero.{nonzero_from}
 use Rattle.bit_set.{specs.{Sets.{AscendsFrom, elements_from, has}, Indexes.{digits_from, indexes, indexes_of}, Walk.blocks_past}, proofs.{IndexLemmas.{AscendsFrom-indexes, indexes-apart, indexes-below, indexes-next, indexes-zero, value_in}, SetLemmas.{AscendsFrom-lower, has-elements_from}}}
 use Rattle.bit_set.proofs.WalkLemmas.{values_of_blocks}
 

@@ -1,7 +1,8 @@
 -- A walk that starts at any number: what is left of the first block, and of the blocks past it.
 use Rattle.std.proofs.Common.{◌≡◌, ℕ, zero, suc, ◌+◌, ◌-◌, ◌*◌, ◌/◌, ◌%◌, ◌^◌, ◌<◌, ◌≤◌, Bool, false, ◌&&◌, leb, List, [], ◌∷◌, ◌++◌, map, length, drop, get_or, get_or-drop, min, All, refl, sym, ap, ap₂, ◌∙◌, subst, arith, mod-lt, mul-le-mul_right, div-add-mod'}
 use Rattle.std.proofs.lemmas.{Bool.Decides.nat_tests, List.{append-nil, drop-map, get_or_past, length-drop, length-map, Elements.{All-drop, All-filter}, Sums.{count_by-le-length, length-filter}}, Nat.Bits.bit_at-zero}
-use Rattle.bit_words.specs.{Bits.{blocks_for, blocks_of}, Nonzero.{Hand, Nonzeros, StartsPast}, Digits.is_one}
+use Rattle.bit_blocks.specs.{Bits.{blocks_for, blocks_of}, Digits.is_one}
+use Rattle.bit_words.specs.Nonzero.{Hand, Nonzeros, StartsPast}
 use Rattle.bit_set.{specs.{Sets.{AscendsFrom, IsAscending, elements_from, elements, those_from}, Indexes.{indexes, indexes_of, left_between, seen_of, values_in, IsSparseWalk}, Walk.{Walk, IsAtStart, IsAtStartFrom, IsAtFirstBlock, IsAtBlockOf, blocks_past}}, proofs.IndexLemmas.{indexes-apart, indexes-below, indexes-next, indexes-zero, value_in, values_in-blocks_of}}
 use Rattle.bit_set.proofs.{SetLemmas.{AscendsFrom-elements_from, AscendsFrom-filter, AscendsFrom-lower, has-filter, IsAscending-elements, has-below, has-elements, has-elements_from, same_members}, EntryLemmas.{ascends_entries, blocks_of_entries, each_entry, indexes_of-nonzero, passed_in_block}}
 use Rattle.bit_set.proofs.{SparseLemmas.whole_index, SplitLemmas.all_from, WalkLemmas.{IsWalkable-values_of_blocks, elements-values_of_blocks, values_of_blocks, length-blocks}}

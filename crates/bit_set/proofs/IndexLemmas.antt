@@ -3,7 +3,7 @@
 use Rattle.std.proofs.Common.{◌≡◌, ℕ, zero, suc, ◌+◌, ◌-◌, ◌*◌, ◌/◌, ◌%◌, ◌^◌, ◌<◌, ◌≤◌, Bool, true, false, cond, eqb, List, [], ◌∷◌, ◌++◌, length, get_or, All, count_ones, refl, sym, ap, ◌∙◌, subst, inl, inr, arith, ap₂}
 use Rattle.std.proofs.lemmas.{Bool.{cases_lt, Decides.nat_tests}, Nat.Bits.{bit_at-lt, bit_at_above}, List.{append-nil, length-append, get_or_append_left, get_or-append_right, Elements.{All-nil, All-cons}, Sums.{sum_by-cons, sum_by-append}}}
 use Rattle.std.{proofs.{lemmas.List.FromFn.{length-map-range_with_len, get_or-map-range_with_len}, Math.Nat.{div-add-mod', mod-lt}}, specs.{Int.bit_at, List.{sum_by, range_with_len, count_by}}}
-use Rattle.bit_words.{proofs.{BitsLemmas.{blocks_of-digit, read_back}, OnesLemmas.ones_are_digits, Masks.{is_one-bit, is_one-zero}}, specs.{Bits.blocks_of, Highest.IsHighest, Lowest.{IsLowest, IsCleared}, Digits.is_one}}
+use Rattle.bit_blocks.{proofs.{BitsLemmas.{blocks_of-digit, read_back}, OnesLemmas.ones_are_digits, Masks.{is_one-bit, is_one-zero}}, specs.{Bits.blocks_of, Highest.IsHighest, Lowest.{IsLowest, IsCleared}, Digits.is_one}}
 use Rattle.bit_set.{proofs.SetLemmas.{AscendsFrom-elements_from, elements-alike, length-elements-le, length-elements_from_both, length-elements}, specs.{Sets.{AscendsFrom, elements_from, elements}, Indexes.digits_from}}
 use Rattle.bit_set.specs.Indexes.{values_in, indexes}
 

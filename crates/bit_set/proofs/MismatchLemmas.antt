@@ -2,8 +2,8 @@
 use Rattle.std.proofs.{Common.{◌≡◌, ℕ, ◌+◌, ◌*◌, ◌/◌, ◌%◌, ◌^◌, ◌<◌, ◌≤◌, Bool, true, false, not, eqb, List, get_or, length, sym, ap, ◌∙◌, ◌↔◌, subst, inl, inr, arith}, lemmas.Bool.{cases_eq, Decides.nat_tests}}
 use Rattle.std.{proofs.{lemmas.Nat.{Bits.{bit_at-lt, bit_at-zero, same_from_bits_below}, le-div}, Math.Nat.{div-add-mod', mod-lt, mul-le-mul_right, lt_of_mul-lt-mul_right}}, specs.Cmp.Lexicographic.bytes_decides}
 use Rattle.std.specs.{Prelude.IsTrue, Int.bit_at}
-use Rattle.bit_words.{specs.{Bits.{blocks_of, digit_of}, Mismatches.{IsFirstBlockMismatch, IsFirstNonzeroBlock, IsLowestMismatch}}, proofs.BitsLemmas.{blocks_of-digit, blocks_of-lt, read_back}}
-use Rattle.bit_words.proofs.LowestLemmas.{lowest_found}
+use Rattle.bit_blocks.{specs.{Bits.{blocks_of, digit_of}, Mismatches.{IsFirstBlockMismatch, IsFirstNonzeroBlock, IsLowestMismatch}}, proofs.BitsLemmas.{blocks_of-digit, blocks_of-lt, read_back}}
+use Rattle.bit_blocks.proofs.LowestLemmas.{lowest_found}
 use Rattle.bit_set.{specs.{Sets.{elements, has}, Mismatches.IsFirstMismatch, Order.same_sets}, proofs.{OrderLemmas.same_where_all_agree, SetLemmas.has-elements, SubsetLemmas.same_tests, ValueLemmas.has-within}}
 
 -- ---- the blocks of a list of truth values

@@ -2,7 +2,7 @@
 use Rattle.std.proofs.Common.{◌≡◌, ℕ, zero, suc, ◌+◌, ◌-◌, ◌*◌, ◌/◌, ◌^◌, ◌<◌, ◌≤◌, min, Bool, true, false, not, ◌&&◌, nat_le, nat_lt, cond, List, [], ◌∷◌, ◌++◌, get_or, length, map, take, drop, All, Some, None, refl, sym, ap, ap₂, ◌∙◌, arith, subst, ⊎_elim, get_or-take, get_or-drop, length-take}
 use Rattle.std.proofs.lemmas.{Nat.div-mul-add, Bool.{cases_lt, Decides.nat_tests}, List.{get_or_append_left, get_or-append_right, get_or_past, Elements.{All-cons, All-filter, All-head, All-nil, All-tail}, Sums.sum_by-cons, FromFn.{get_or-map-range_with_len, length-map-range_with_len, length-range_with_len}}}
 use Rattle.std.{proofs.Math.Nat.{div-add-mod', mod-lt, mul-div_cancel}, specs.List.{count_by, range_with_len}}
-use Rattle.bit_words.specs.{Digits.is_one, Lowest.{IsCleared, IsLowest}, Ranges.{in_range, values_in_range}}
+use Rattle.bit_blocks.specs.{Digits.is_one, Lowest.{IsCleared, IsLowest}, Ranges.{in_range, values_in_range}}
 use Rattle.bit_set.specs.{Indexes.{digits_from, indexes}, Missing.{IsMissingWalk, MissingWalk, PassesMembers, StartsMissing, StaysInRange, missing_left, missing_values}, Ranges.span, Sets.{AscendsFrom, difference, elements, elements_from, has}}
 use Rattle.bit_set.proofs.{MemberLemmas.takes_least, IndexLemmas.{AscendsFrom-indexes, indexes-lowest, indexes-zero}, RangeLemmas.{IsAscending-span, has-span}, SetLemmas.{AscendsFrom-filter, AscendsFrom-lower, elements-alike, has-below, has-elements, has-elements_from, has-filter, length-elements, same_members}}
 

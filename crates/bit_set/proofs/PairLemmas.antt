@@ -1,8 +1,9 @@
 -- Two sides of blocks that are pulled as one.
 use Rattle.std.proofs.Common.{◌≡◌, ℕ, zero, suc, ◌+◌, ◌*◌, ◌^◌, ◌<◌, ◌≤◌, max, min, Bool, true, false, List, [], ◌∷◌, ◌++◌, map, length, All, Option, Some, None, refl, sym, ap, ◌∙◌, subst, arith, ap₂}
 use Rattle.std.{proofs.{Math.{Nat.mul-le-mul_right, Bool.and_comm}, lemmas.List.Sums.{length-filter, count_by-le-length}}, specs.{Prelude.IfSome, Iterator.YieldsFirst}}
-use Rattle.bit_words.specs.{Source.{Source, PullsIf}, Digits.is_one, Merges.{merge_of_values, merge_of}, declared.block.merge.Merge.{Merge, TheVariants.Intersection}, Bits.{blocks_of, blocks_for}}
-use Rattle.bit_words.proofs.{Masks.is_one-zero, MergeLemmas.length-merged, BitsLemmas.blocks_for-le}
+use Rattle.bit_blocks.specs.{Digits.is_one, Merges.{merge_of_values, merge_of}, declared.block.merge.Merge.{Merge, TheVariants.Intersection}, Bits.{blocks_of, blocks_for}}
+use Rattle.bit_words.specs.Source.{Source, PullsIf}
+use Rattle.bit_blocks.proofs.{Masks.is_one-zero, MergeLemmas.length-merged, BitsLemmas.blocks_for-le}
 use Rattle.bit_set.specs.{Sets.{elements, intersection, merge_of_sets, has}, Indexes.{digits_from, values_in, Ahead, PullsBlock, PullsBlockIf, IsWalkable, IsMergedBlock, IsMergedPull}}
 use Rattle.bit_set.proofs.{AlgebraLemmas.{elements-merged, IsAscending-merge_of_sets, has-intersection}, WalkLemmas.{length-values_of_blocks, length-blocks, elements-values_of_blocks, IsWalkable-of, All-pulled}}
 use Rattle.bit_set.proofs.SetLemmas.{IsAscending-elements, length-elements-le, same_members}

@@ -1,7 +1,8 @@
 -- A walk over a part of a set: the block in which it ends is in hand at the back.
 use Rattle.std.proofs.Common.{◌≡◌, ℕ, zero, suc, ◌+◌, ◌-◌, ◌*◌, ◌/◌, ◌^◌, ◌<◌, ◌≤◌, ◌&&◌, if◌then◌else◌, nat_lt, Bool, true, false, List, [], ◌∷◌, ◌++◌, map, length, drop, ◌==◌, max, nat_le, All, min, refl, sym, ap, ap₂, ◌∙◌, subst, inl, inr, arith, mul-le-mul_right, mod-lt, div-add-mod', ◌⊎◌}
 use Rattle.std.proofs.lemmas.{Bool.{cond_both, eqb-false, cases_lt, Decides.nat_tests}, List.{append-nil, append_assoc, map-append, Elements.{All-nil, All-cons, All-head, All-tail, All-filter, filter-append}, Sums.{count_by-le-length, length-filter}}}
-use Rattle.bit_words.specs.{Bits.blocks_for, Ranges.in_range, Digits.is_one, Nonzero.{CutsAt, Hand, Nonzeros, nonzero_from}}
+use Rattle.bit_blocks.specs.{Bits.blocks_for, Ranges.in_range, Digits.is_one}
+use Rattle.bit_words.specs.Nonzero.{CutsAt, Hand, Nonzeros, nonzero_from}
 use Rattle.bit_set.{specs.{Sets.{AscendsFrom, IsAscending, elements, elements_from, those_below, those_from}, Ranges.those_in_range, Indexes.{digits_from, indexes, indexes_of, left_between, seen_of, IsSparseWalk}, Walk.{blocks_past, IsAtBlockOf, IsAtBlocksOf, IsAtStartOfPart}}, proofs.{EntryLemmas.{blocks_of_entry, passed_in_block, some_index}, IndexLemmas.{AscendsFrom-indexes, indexes-below, indexes-none}}}
 use Rattle.bit_set.proofs.{FromLemmas.BeginsFrom, SetLemmas.{AscendsFrom-filter, AscendsFrom-reach, IsAscending-elements, has-filter, same_members}, SparseLemmas.{ends_apart, whole_index}}
 

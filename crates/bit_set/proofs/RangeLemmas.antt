@@ -1,7 +1,8 @@
 -- What calls on a range do to a set, by its members.
 use Rattle.std.proofs.Common.{◌≡◌, ℕ, zero, suc, ◌+◌, ◌-◌, ◌<◌, ◌≤◌, max, min, Bool, true, false, not, ◌&&◌, nat_le, nat_lt, cond, List, [], ◌∷◌, filter, ◌++◌, eqb, get_or, length, refl, sym, ap, ◌∙◌, arith, ⊎_elim}
 use Rattle.std.{proofs.lemmas.{Bool.{cases_lt, Decides.nat_tests}, List.{Folds.list_any-append, FromFn.length-range_with_len}}, specs.List.range_with_len}
-use Rattle.bit_words.{proofs.RangeLemmas.get_or-changed, specs.{declared.block.merge.Merge.TheVariants.Symmetric, Ranges.{changed_in_range, in_range}}}
+use Rattle.bit_blocks.specs.{declared.block.merge.Merge.TheVariants.Symmetric, Ranges.{changed_in_range, in_range}}
+use Rattle.bit_words.proofs.RangeLemmas.{get_or-changed}
 use Rattle.bit_set.specs.{Members.UpdatesRange, Ranges.{span, span_end, those_in_range}, Sets.{AscendsFrom, IsAscending, bound_of, difference, elements, has, intersection, symmetric_difference, those_below, those_from, union}}
 use Rattle.bit_set.proofs.{AlgebraLemmas.{IsAscending-merge_of_sets, has-symmetric, has-union}, SetLaws.IsAscending-put_all, SetLemmas.{AscendsFrom-filter, AscendsFrom-lower, has-elements, has-filter, has-first, same_members}, ValueLemmas.has-past}
 

@@ -1,7 +1,7 @@
 -- What is asked of a set about a range.
 use Rattle.std.proofs.Common.{◌≡◌, ◌≢◌, ℕ, ◌-◌, ◌<◌, ◌≤◌, ◌↔◌, Bool, IsTrue, true, false, not, cond, List, ◌++◌, length, take, drop, replicate, slice_get, Some, refl, sym, ap, ◌∙◌, arith, length-take, get_or-take, get_or-drop}
 use Rattle.std.{proofs.lemmas.{Bool.{false≢true, Decides.nat_tests}, List.{get_or-append_right, get_or-replicate, get_or_append_left, get_or_past, length-replicate, Sums.sum_by-append}}, specs.List.{count_by}}
-use Rattle.bit_words.specs.Ranges.{in_range, values_in_range}
+use Rattle.bit_blocks.specs.Ranges.{in_range, values_in_range}
 use Rattle.bit_set.specs.{Ranges.{span, those_in_range}, Sets.{elements, has, is_disjoint, is_subset}}
 use Rattle.bit_set.proofs.{RangeLemmas.has-span, SetLaws.slice_get-elements, SetLemmas.{elements-kept, length-elements}, SubsetLemmas.{is_disjoint-members, is_subset-members, same_tests}, ValueLemmas.elements-all_false}
 

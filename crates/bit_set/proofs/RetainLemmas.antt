@@ -1,7 +1,8 @@
 -- What a test that is asked of one member after another leaves of a set.
 use Rattle.std.proofs.Common.{◌≡◌, ◌≢◌, ℕ, ◌+◌, ◌-◌, ◌*◌, ◌/◌, ◌^◌, ◌<◌, ◌≤◌, min, Bool, true, false, not, ◌&&◌, ◌||◌, cond, eqb, ltb, nat_le, List, [], ◌∷◌, ◌++◌, get_or, length, refl, sym, ap, ap₂, ◌∙◌, arith, subst, append_assoc, filter, All, ⊎_elim, div-add-mod', mod-lt, mul-le-mul_right, zero, suc}
 use Rattle.std.{proofs.lemmas.{Bool.{cases_lt, false≢true, Decides.nat_tests}, List.{append-nil, get_or_past, length-append, Elements.{All-cons, All-nil, filter-append}, Folds.list_any-append, FromFn.{get_or-map-range_with_len, length-map-range_with_len}}}, specs.List.{items_where_true, Retain.{IsFiltered, ReturnsInTurn}}}
-use Rattle.bit_words.{proofs.BitsLemmas.block_past, specs.{Digits.is_one, Kept.KeepsInBlock}}
+use Rattle.bit_blocks.{proofs.BitsLemmas.block_past, specs.Digits.is_one}
+use Rattle.bit_words.specs.Kept.{KeepsInBlock}
 use Rattle.bit_set.specs.{Indexes.{digits_from, indexes}, Retained.{HasTested, ones}, Sets.{AscendsFrom, IsAscending, elements, has, those_from, without}}
 use Rattle.bit_set.proofs.{IndexLemmas.AscendsFrom-indexes, RangeLemmas.{AscendsFrom-joined, AscendsFrom-those_from}, SetLemmas.{AscendsFrom-filter, AscendsFrom-lower, IsAscending-elements, elements-kept, has-below, has-elements, has-elements_from, has-filter, has-first, has-without, same_members, same_members_from}, SizeLemmas.without-first, ValueLemmas.has-past}
 

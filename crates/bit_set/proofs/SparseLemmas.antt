@@ -3,7 +3,8 @@
 use Rattle.std.proofs.Common.{◌≡◌, ℕ, ◌+◌, ◌-◌, ◌*◌, ◌/◌, ◌^◌, ◌<◌, ◌≤◌, ◌==◌, min, Bool, true, false, if◌then◌else◌, List, [], ◌∷◌, ◌++◌, map, length, All, Some, None, count_ones, refl, sym, ap, ◌∙◌, subst, arith, inl, inr, ap₂, length-append}
 use Rattle.std.proofs.lemmas.{Bool.{ne_eqb, eq-eqb, true≢false, Decides.nat_tests}, Nat.div-mul-add, List.{append-nil, append_assoc, map-append, Elements.{All-nil, All-cons, All-head, All-tail}, Sums.{sum_by-cons}}}
 use Rattle.std.proofs.Math.Nat.{mul-div_cancel}
-use Rattle.bit_words.specs.{Highest.IsHighest, Lowest.{IsLowest, IsCleared}, Nonzero.{Hand, Nonzeros, PullsLast, PullsNonzero, Refills, RunsOut, TakesFirst, TakesLast, ones_left}}
+use Rattle.bit_blocks.specs.{Highest.IsHighest, Lowest.{IsLowest, IsCleared}}
+use Rattle.bit_words.specs.Nonzero.{Hand, Nonzeros, PullsLast, PullsNonzero, Refills, RunsOut, TakesFirst, TakesLast, ones_left}
 use Rattle.bit_set.{specs.{Sets.{AscendsFrom, IsAscending}, Indexes.{indexes, indexes_of, left_between, seen_of, IsSparseWalk}, Walk.{Walk, Advances, AdvancesBack, PullsBlocks, PullsBlocksBack}}, proofs.{MemberLemmas.{takes_greatest, takes_least}, SetLemmas.{AscendsFrom-init, AscendsFrom-lower, AscendsFrom-reach}}}
 use Rattle.bit_set.proofs.IndexLemmas.{indexes-zero, indexes-lowest, indexes-highest, length-indexes}
 

@@ -1,7 +1,7 @@
 -- How many ones slices of blocks have, block by block and side by side.
 use Rattle.std.proofs.Common.{◌≡◌, ℕ, ◌+◌, ◌-◌, ◌*◌, ◌^◌, min, ◌<◌, ◌≤◌, ◌⊎◌, Bool, List, [], ◌∷◌, ◌++◌, map, length, get_or, take, take_all, drop, count_ones, refl, sym, ap, ◌∙◌, inl, inr, arith, ap₂, cond}
 use Rattle.std.proofs.lemmas.{List.{at_drop_more, map-append, take-append-drop, length-take-le, length-drop, drop_all, Sums.sum_by-append}, Grind.flat_map-append}
-use Rattle.bit_words.specs.{Merges.{merge_of_values, merge_of}, declared.block.merge.Merge.Merge}
+use Rattle.bit_blocks.specs.{Merges.{merge_of_values, merge_of}, declared.block.merge.Merge.Merge}
 use Rattle.bit_set.{specs.{Sets.elements, Indexes.{digits_from, values_in, IsMergedBlock}}, proofs.{SetLemmas.length-elements, WalkLemmas.{values_of_blocks, length-values_of_blocks, count_more}, PairLemmas.both_held}}
 use Rattle.bit_set.proofs.PairLemmas.{both_digits, first_digits, second_digits}
 

@@ -2,7 +2,7 @@
 use Rattle.std.proofs.Common.{◌≡◌, ℕ, ◌+◌, ◌-◌, ◌*◌, ◌/◌, ◌<◌, ◌≤◌, max, Bool, List, [], ◌∷◌, length, length-append, min, Option, Some, None, refl, sym, ap, ◌∙◌, arith, ◌==◌, ◌&&◌, true, false, nat_lt, if◌then◌else◌, map, div-add-mod', ap₂, subst, ◌++◌, take, cond, ◌||◌, drop}
 use Rattle.std.proofs.{Math.{Bool.{or-false, and-false}, Nat.{mod-lt, lt_of_mul-lt-mul_left}, Seq.{drop-append_seam, take-append_seam}}, lemmas.{Nat.le-div, Bool.{ne_eqb, cond_both, ltb-true}}}
 use Rattle.std.{proofs.lemmas.{Bool.Decides.nat_tests, List.append-nil}, specs.Iterator.{Yields, YieldsFirst, YieldsThen, Drains}}
-use Rattle.bit_words.specs.{Bits.blocks_for, declared.block.merge.Merge.Merge}
+use Rattle.bit_blocks.specs.{Bits.blocks_for, declared.block.merge.Merge.Merge}
 use Rattle.bit_set.specs.{Agreement.WalksAgree, Sets.{IsAscending, has, elements, put_all, merge_of_sets, AscendsFrom}, Walk.{Walk, TwoSetWalk, Advances, AdvancesBack, CallsEnd, GivesFromEnds, in_order, PullsBlocks, PullsBlocksBack, PullsEachBlock, IsAtFirstBlock, IsAtFirstBlocks, AdvancesByEach, IsWalkedOut, IsWalkedOutByEach, IsAtStart}}
 use Rattle.bit_set.{specs.Walk.{StartsOverTwo, WalksOverTwo, blocks_past}, proofs.{SetLemmas.{same_members, IsAscending-elements}, SetLaws.{has-put_all, IsAscending-put_all}}}
 use Rattle.bit_set.proofs.{AlgebraLemmas.IsAscending-merge_of_sets, SparseLemmas.whole_index}

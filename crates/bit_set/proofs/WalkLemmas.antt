@@ -3,7 +3,7 @@ use Rattle.std.proofs.Common.{◌≡◌, ℕ, ◌+◌, ◌-◌, ◌*◌, ◌^◌
 use Rattle.std.{proofs.{Math.Nat.{mul-suc, mul-le-mul_left, mul-div-le}, lemmas.List.{length-map, Elements.{All-nil, All-head, All-tail, All-same, All-rest}}}, specs.{Prelude.IfSome, Option.{SomeIff, unwrap_or}}}
 use Rattle.std.specs.Iterator.{UpTo, at_most, YieldsFirst}
 use mir.Val.{bool_byte}
-use Rattle.bit_words.{specs.{Bits.{blocks_of, blocks_for}, Lowest.{IsLowest, IsCleared}}, proofs.BitsLemmas.length-blocks_of}
+use Rattle.bit_blocks.{specs.{Bits.{blocks_of, blocks_for}, Lowest.{IsLowest, IsCleared}}, proofs.BitsLemmas.length-blocks_of}
 use Rattle.bit_set.specs.{Sets.{elements_from, elements}, Walk.{GoesOn, TwoSetWalk}, Indexes.{digits_from, values_in, indexes, Ahead, PullsBlock, PullsBlockIf, IsWalkable, CanWalk, IsWalk}}
 use Rattle.bit_set.proofs.{SetLemmas.length-elements-le, IndexLemmas.{indexes-zero, indexes-next, indexes-lowest, length-digits_from, length-values_in, length-indexes-le, length-elements-block, elements-blocks_of}}
 use Rattle.bit_set.proofs.IndexLemmas.{elements-below}

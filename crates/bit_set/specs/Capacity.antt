@@ -1,6 +1,6 @@
 -- What calls do to the capacity of a set.
 use Rattle.std.specs.Prelude.{◌≡◌, ℕ, ◌≤◌, Bool, IsTrue, List, [], ◌∷◌, ⊤}
-use Rattle.bit_words.specs.Bits.{blocks_for, capacity_of}
+use Rattle.bit_blocks.specs.Bits.{blocks_for, capacity_of}
 use Rattle.bit_set.specs.declared.faults.SetError.{SetError, TheVariants.{Element, Length, Memory}}
 
 -- Calls on a set, one after another: each with the capacity that it needs, and whether it succeeded. Where it found that

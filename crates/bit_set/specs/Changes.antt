@@ -3,7 +3,8 @@ use Rattle.std.specs.List.{items_where_true}
 use Rattle.std.specs.Prelude.{◌≡◌, ℕ, ◌-◌, ◌==◌, max, not, if◌then◌else◌, Bool, List, [], ◌∷◌, ◌++◌, Option, Result, Ok, Err, drop, length, slice_get, take}
 use Rattle.bit_set.specs.{declared.faults.SetError.{SetError, TheVariants.{Element, Length, Memory}}, Sets.{difference, elements, has, intersection, put, put_all, symmetric_difference, those_below, those_from, union, without}, Ranges.span}
 use Rattle.bit_set.specs.{Order.same_sets, Sets.merge_of_sets}
-use Rattle.bit_words.specs.{Bounds.greatest, declared.block.merge.Merge.Merge}
+use Rattle.bit_blocks.specs.declared.block.merge.Merge.{Merge}
+use Rattle.bit_words.specs.Bounds.{greatest}
 
 -- a call that changes a set, with what it is given: numbers, and of a second set its elements
 pub data Change : Type 0 where

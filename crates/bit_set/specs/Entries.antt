@@ -1,7 +1,7 @@
 -- The entries of an array of JSON beside the numbers that they spell. No public clause cites this.
 use Rattle.std.specs.Prelude.{◌≡◌, ◌≢◌, ℕ, ◌+◌, ◌^◌, ◌<◌, Bool, false, ◌||◌, List, length, map, get_or, All, Some, unwrap_or}
 use Rattle.serde_json.specs.{Data.{Data, Items, number, unsigned}, View.view, declared.value.Value.Value}
-use Rattle.bit_words.specs.Digits.{is_one}
+use Rattle.bit_blocks.specs.Digits.{is_one}
 use Rattle.bit_set.specs.Json.{HasShape, number_in, storage_in, nbits_in}
 
 -- the number of an entry, 0 where it has none

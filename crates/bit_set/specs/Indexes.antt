@@ -1,6 +1,7 @@
 -- Where the ones of blocks are. No public clause cites this.
 use Rattle.std.specs.{Prelude.{◌≡◌, ℕ, ◌+◌, ◌-◌, ◌*◌, ◌/◌, ◌^◌, ◌<◌, ◌≤◌, Bool, true, false, List, [], ◌∷◌, ◌++◌, map, length, drop, All, Option, Some, None, MatchOption, IsSomeAnd}, List.{range_with_len, flat_map}}
-use Rattle.bit_words.specs.{Digits.is_one, Nonzero.{Hand, Nonzeros}, Merges.{merge_of_values, merge_of}, declared.block.merge.Merge.Merge}
+use Rattle.bit_blocks.specs.{Digits.is_one, Merges.{merge_of_values, merge_of}, declared.block.merge.Merge.Merge}
+use Rattle.bit_words.specs.Nonzero.{Hand, Nonzeros}
 use Rattle.bit_set.specs.{Sets.{AscendsFrom, IsAscending, elements_from, elements}, Walk.Walk}
 
 -- the w binary digits of m from digit a on, as truth values

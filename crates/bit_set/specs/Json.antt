@@ -1,7 +1,7 @@
 -- The JSON form of a bit set, over what `serde_json` says that a value is.
 use Rattle.std.specs.{Prelude.{◌≡◌, ◌≢◌, ℕ, ◌+◌, ◌-◌, ◌*◌, ◌^◌, ◌<◌, ◌≤◌, List, [], ◌∷◌, length, get_or, All, codes, Option, Some, IsSome, option_map, option_and_then}, Int.bit_at}
 use Rattle.serde_json.specs.{Data.{Data, Items, no_items, item}, Events.members_len, Find.{get, as_object, as_array, as_number, as_u64}}
-use Rattle.bit_words.specs.Bits.{blocks_for}
+use Rattle.bit_blocks.specs.Bits.{blocks_for}
 use Rattle.bit_set.specs.declared.json.JsonError.{JsonError, TheVariants.{Shape, Number, Blocks, Unclean, Memory}}
 
 -- how many members an object has

@@ -1,6 +1,6 @@
 -- What a set is once its bit vector was lent.
 use Rattle.std.specs.{Prelude.{ℕ, Bool}, Borrow.{Fml, Lends, MutBor, RattleType}}
-use Rattle.bit_words.specs.Bits.{Bits}
+use Rattle.bit_blocks.specs.Bits.{Bits}
 use Rattle.bit_words.specs.contracts.bit_vec.BitVec as bit_vec
 use Rattle.bit_set.specs.contracts.set.BitSet as bit_set
 

@@ -18,6 +18,6 @@ pub mod Retained
 pub mod Json
 pub mod Entries
 pub mod Lends
-pub use Rattle.bit_words.specs.Bits
+pub use Rattle.bit_blocks.specs.Bits
 pub use Rattle.bit_words.specs.Growth
-pub use Rattle.bit_words.specs.Searches
+pub use Rattle.bit_blocks.specs.Searches

@@ -1,6 +1,7 @@
 -- Which numbers are in a set after a call: of every number, whether it is in.
 use Rattle.std.specs.Prelude.{◌≡◌, ℕ, ◌≤◌, Bool, false, not, ◌&&◌, ◌||◌, ◌==◌, if◌then◌else◌, IsTrue, nat_le, nat_lt, List, get_or, length}
-use Rattle.bit_words.specs.{Merges.merge_of_values, Ranges.in_range, declared.block.merge.Merge.Merge, Bounds.greatest}
+use Rattle.bit_blocks.specs.{Merges.merge_of_values, Ranges.in_range, declared.block.merge.Merge.Merge}
+use Rattle.bit_words.specs.Bounds.{greatest}
 use Rattle.bit_set.specs.Sets.{elements, has}
 
 -- no number is in the set

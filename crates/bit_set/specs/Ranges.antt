@@ -1,7 +1,7 @@
 -- The numbers of a range, and the part of a set in it. The range from a to b has the numbers from a on and below b; where
 -- b ≤ a it has none.
 use Rattle.std.specs.{Prelude.{ℕ, ◌-◌, nat_lt, if◌then◌else◌, List, filter}, List.range_with_len}
-use Rattle.bit_words.specs.Ranges.{in_range}
+use Rattle.bit_blocks.specs.Ranges.{in_range}
 
 -- its numbers in ascending order: a set
 unfoldable pub span : ℕ → ℕ → List ℕ

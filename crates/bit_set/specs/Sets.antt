@@ -1,6 +1,6 @@
 -- Sets of whole numbers, each as the list of its members in ascending order.
 use Rattle.std.specs.{Prelude.{ℕ, ◌+◌, ◌≤◌, max, Bool, not, ◌==◌, nat_lt, nat_le, if◌then◌else◌, List, [], ◌∷◌, filter}, List.{list_all, list_any}}
-use Rattle.bit_words.specs.declared.block.merge.Merge.{Merge, TheVariants.{Union, Intersection, Difference, Symmetric}}
+use Rattle.bit_blocks.specs.declared.block.merge.Merge.{Merge, TheVariants.{Union, Intersection, Difference, Symmetric}}
 
 -- the numbers strictly ascend, and the first is at least `low`
 abbrev pub AscendsFrom : ℕ → List ℕ → Type 0

@@ -1,7 +1,7 @@
 -- Walks over the elements of a set, block by block.
 use Rattle.std.specs.{Prelude.{◌≡◌, ℕ, ◌+◌, ◌-◌, ◌*◌, ◌/◌, ◌^◌, ◌<◌, ◌≤◌, ◌==◌, max, min, Bool, true, false, nat_lt, if◌then◌else◌, List, [], ◌∷◌, ◌++◌, drop, length, slice_get, ⊤, Option, Some, None, MatchOption}, Iterator.{YieldsFirst, YieldsLast, YieldsThen}}
 use Rattle.std.specs.Iterator.{Drains}
-use Rattle.bit_words.specs.{Bits.blocks_for, declared.block.merge.Merge.Merge}
+use Rattle.bit_blocks.specs.{Bits.blocks_for, declared.block.merge.Merge.Merge}
 use Rattle.bit_set.specs.{Members.{TakesGreatest, TakesLeast}, Ranges.those_in_range, Sets.{elements, merge_of_sets, those_from}}
 
 -- What contracts see of a walk over a set: the elements that are left, how often its block source gave it a block, or

@@ -1,7 +1,7 @@
 //! The JSON form of sets: an object with the one member `bit_vec`, an object with the members
 //! `storage`, the numbers of the blocks, and `nbits`, the length.
 ghost use Rattle.std.specs.Prelude.{◌≡◌, Bool, List, [], alloc_error, IfErr, IfOk, IsErrOf, IsOk, length};
-ghost use Rattle.bit_words.specs.Bits.{blocks_for, blocks_of, capacity_of};
+ghost use Rattle.bit_blocks.specs.Bits.{blocks_for, blocks_of, capacity_of};
 ghost use Rattle.serde_json.specs.View.{view};
 ghost use Rattle.bit_set.specs.{Json.{IsFault, IsFirstFault, Spells}, declared.json.JsonError.JsonError, Members.IsSameSet, Sets.elements};
 

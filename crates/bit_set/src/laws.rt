@@ -3,7 +3,7 @@
 ghost use Rattle.std.specs.Prelude.{◌≡◌, ◌≢◌, ℕ, ◌+◌, ◌-◌, ◌*◌, ◌/◌, ◌<◌, ◌≤◌, ◌↔◌, ◌++◌, ◌∷◌, ◌==◌, ◌&&◌, ◌||◌, max, min, not, nat_lt, nat_le, if◌then◌else◌, Bool, true, All, IsTrue, Some, None, Option, List, [], length, map, slice_get, MatchOption, filter, false, ◌⊎◌};
 ghost use Rattle.std.specs.{Cmp.{IsEquivalence, IsTotalOrder}, Ordering.nat_cmp, Iterator.{YieldsThen, Drains}, List.{find, last_or, list_all, list_any, position_or_len, reduce}};
 ghost use Rattle.std.specs.FinSet as set;
-ghost use Rattle.bit_words.specs.{Bits.{blocks_for, blocks_of, true_end}, Merges.{merge_of_values, merge_of}, declared.block.merge.Merge.Merge};
+ghost use Rattle.bit_blocks.specs.{Bits.{blocks_for, blocks_of, true_end}, Merges.{merge_of_values, merge_of}, declared.block.merge.Merge.Merge};
 ghost use Rattle.serde_json.specs.Data.{Data};
 ghost use Rattle.bit_set.specs.Sets.{IsAscending, has, put, put_all, without, those_below, those_from, those_new, elements, bound_of, union, intersection, difference, symmetric_difference, merge_of_sets, is_subset, is_disjoint};
 ghost use Rattle.bit_set.specs.{Agreement.WalksAgree, Changes.{Change, Changes, Event, Happens, outcomes, set_after, Outcome.{Done, NoMemory}}, Effects.TakesIn, Choices.{IsGreatest, IsLeast, IsLeastPassing}};

@@ -3,7 +3,7 @@
 #![tactic(auto, unfolding(crate::specs::Changes::Changes))]
 
 ghost use Rattle.std.specs.Prelude.{◌≡◌, ◌<◌, ◌≤◌, ◌↔◌, IsTrue, [], length};
-ghost use Rattle.bit_words.specs.Bits.{IsCapacityOfBlocks};
+ghost use Rattle.bit_blocks.specs.Bits.{IsCapacityOfBlocks};
 ghost use Rattle.bit_set.specs.{Members.{HasNone, IsCounted}, Sets.{elements, has}};
 
 use crate::BitBlock;
@@ -42,7 +42,7 @@ pub struct BitSet<B: BitBlock = u32> {
 }
 
 impl<B: BitBlock> Model for BitSet<B> {
-    ghost use Rattle.bit_words.specs.Bits.{Bits};
+    ghost use Rattle.bit_blocks.specs.Bits.{Bits};
 
     ghost Value = { Bits };
 

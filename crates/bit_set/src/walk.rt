@@ -1,6 +1,6 @@
 //! The walks over a set's elements, and over what two sets make.
 ghost use Rattle.std.specs.{Prelude.{◌≡◌, ℕ, ◌-◌, ◌*◌, ◌/◌, ◌<◌, ◌≤◌, ◌&&◌, All, IfSome, MatchOption, None, get_or, length, map, max, min, nat_le}, Iterator.{UpTo, item_count, Runs.YieldsInOrder, SizeHint.IsWithinCount}, List.last_or};
-ghost use Rattle.bit_words.specs.{Digits.is_one, Ranges.in_range};
+ghost use Rattle.bit_blocks.specs.{Digits.is_one, Ranges.in_range};
 ghost use Rattle.bit_set.specs.{Choices.{IsFirstOf, IsGreatest, IsLastOf, IsLeast}, Members.HasNone, Ranges.those_in_range, Sets.{elements, has, those_from}, Walk.{Advances, AdvancesBack, IsAtStart, IsAtStartFrom, IsAtStartOfPart, Skips, bound_on_rest}, Indexes.Passes};
 
 use crate::bit_vec::{

@@ -1,6 +1,7 @@
 -- A list of truth values that is lengthened and cleared in a range.
 use Rattle.std.proofs.Common.{◌≡◌, ℕ, ◌<◌, ◌≤◌, ◌++◌, ◌∙◌, Bool, false, List, ap, cond, get_or, length, replicate}
-use Rattle.bit_words.{proofs.RangeLemmas.get_or-changed, specs.Ranges.{changed_in_range, in_range}}
+use Rattle.bit_blocks.specs.Ranges.{changed_in_range, in_range}
+use Rattle.bit_words.proofs.RangeLemmas.{get_or-changed}
 use Rattle.bit_set.proofs.SetLemmas.{get_or_padded}
 
 pub get_or-cleared : (a b n : ℕ) (bs new : List Bool) (i : ℕ) → new ≡ changed_in_range (λ _. false) a b (bs ++ replicate n false) → (a < b → b ≤ length (bs ++ replicate n false))

@@ -20,7 +20,7 @@ use denote.Steps.{nothing}
 use denote.Struct.Owning.{Owning, shape, to}
 use denote.Struct.OwningLaws.{part_out, part_in}
 use denote.Struct.Struct.{Struct}
-use Rattle.bit_words.specs.Bits.{Bits}
+use Rattle.bit_blocks.specs.Bits.{Bits}
 use Rattle.bit_set_c.specs.Block.{set_row}
 use Rattle.bit_set_c.specs.Handed.{IsAt, part, shares_set}
 use Rattle.bit_set_c.specs.Lends.{stays}

@@ -1,7 +1,7 @@
 -- What is held where there is a set.
 use Rattle.std.proofs.Common.{◌≡◌, refl, []}
 use Rattle.std.specs.Prelude.{Option, Some, None, IsSome}
-use Rattle.bit_words.specs.Bits.{Bits}
+use Rattle.bit_blocks.specs.Bits.{Bits}
 use borrow.Author.Tests.{clash}
 
 abbrev pub value_of : (o : Option Bits) → IsSome o → Bits

@@ -9,7 +9,7 @@ use base.Fml.{Lft, Share, feq, flft, fsep}
 use base.Fraction.{full_share, left}
 use denote.Memory.{hidden_shr}
 use denote.RawPtr.{Ptr, block_ptr, null_ptr}
-use Rattle.bit_words.specs.Bits.{Bits}
+use Rattle.bit_blocks.specs.Bits.{Bits}
 use Rattle.bit_set_c.specs.Block.{set_row}
 
 abbrev pub bits_coded : Coded Bits

@@ -2,7 +2,7 @@
 use Rattle.std.specs.Prelude.{◌≡◌, ⊤}
 use Rattle.std.specs.Borrow.{Fml, Lends, MutBor, follows_so}
 use mathlib.Core.Option.{none}
-use Rattle.bit_words.specs.Bits.{Bits}
+use Rattle.bit_blocks.specs.Bits.{Bits}
 use Rattle.bit_set_c.specs.Block.{set_row}
 use Rattle.bit_set_c.specs.declared.handed.Exclusive.{Exclusive}
 use Rattle.bit_set_c.specs.contracts.handed.Exclusive as exclusive

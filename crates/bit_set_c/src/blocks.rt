@@ -1,6 +1,7 @@
 // The blocks of a set, copied out and in.
 ghost use Rattle.std.specs.Prelude.{◌≡◌, ◌≢◌, ℕ, ◌+◌, ◌*◌, ◌^◌, ◌<◌, ◌≤◌, ◌-◌, ◌++◌, false, drop, get_or, length, max, min, replicate, slice_index, take, OnErr, OnOk};
-ghost use Rattle.bit_words.specs.{Bits.blocks_of, Digits.is_one, Growth.Grows, Ranges.in_range};
+ghost use Rattle.bit_blocks.specs.{Bits.blocks_of, Digits.is_one, Ranges.in_range};
+ghost use Rattle.bit_words.specs.Growth.{Grows};
 ghost use Rattle.bit_set.specs.{Ranges.span_end, Sets.{elements, has}};
 ghost use Rattle.bit_set_c.specs.{Answers.done, Block.width, Handed.IsAt};
 

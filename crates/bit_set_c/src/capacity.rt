@@ -1,6 +1,7 @@
 // Calls that change the capacity.
 ghost use Rattle.std.specs.Prelude.{◌≡◌, ◌*◌, ◌<◌, ◌≤◌, max, IsOk, OnErr, OnOk, [], length};
-ghost use Rattle.bit_words.specs.{Bits.{blocks_for, capacity_of, whole_blocks}, Growth.Grows};
+ghost use Rattle.bit_blocks.specs.Bits.{blocks_for, capacity_of, whole_blocks};
+ghost use Rattle.bit_words.specs.Growth.{Grows};
 ghost use Rattle.bit_set.specs.{Members.IsSameSet, Sets.{bound_of, elements}};
 ghost use Rattle.bit_set_c.specs.{Answers.done, Block.width, Handed.IsAt};
 

@@ -1,6 +1,7 @@
 // Calls that change a whole set.
 ghost use Rattle.std.specs.Prelude.{◌≡◌, max, min, OnOk, false, [], length, replicate};
-ghost use Rattle.bit_words.specs.{Bits.{blocks_for, capacity_of}, Growth.Grows};
+ghost use Rattle.bit_blocks.specs.Bits.{blocks_for, capacity_of};
+ghost use Rattle.bit_words.specs.Growth.{Grows};
 ghost use Rattle.bit_set.specs.{Members.{HasNone, IsSameSet, KeepsBelow}, Sets.{elements, those_below}};
 ghost use Rattle.bit_set_c.specs.{Answers.done, Block.width, Handed.IsAt};
 

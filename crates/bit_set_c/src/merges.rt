@@ -1,6 +1,6 @@
 // The blocks of what two sets make, copied out. Both may be one set.
 ghost use Rattle.std.specs.Prelude.{◌≡◌, ℕ, ◌+◌, ◌*◌, ◌<◌, drop, get_or, length, max, min, slice_index};
-ghost use Rattle.bit_words.specs.{Bits.blocks_of, Digits.is_one, Merges.merge_of_values};
+ghost use Rattle.bit_blocks.specs.{Bits.blocks_of, Digits.is_one, Merges.merge_of_values};
 ghost use Rattle.bit_set.specs.Sets.{elements, has};
 ghost use Rattle.bit_set_c.specs.{Block.width, Handed.IsAt};
 

@@ -1,6 +1,6 @@
 // What a set says of itself.
 ghost use Rattle.std.specs.Prelude.{◌≡◌, ◌≤◌, ◌↔◌, IsTrue, [], length};
-ghost use Rattle.bit_words.specs.Bits.{IsCapacityOfBlocks};
+ghost use Rattle.bit_blocks.specs.Bits.{IsCapacityOfBlocks};
 ghost use Rattle.bit_set.specs.{Members.{HasNone, IsCounted}, Sets.elements};
 ghost use Rattle.bit_set_c.specs.{Block.width, Handed.IsAt, Hash.hash_of};
 

@@ -9,8 +9,8 @@ use Rattle.std.proofs.lemmas.Bool.{and_parts, false≢true}
 use Rattle.std.proofs.lemmas.Fmt.{decimal_nonempty, digits_decimal, digits_value-decimal}
 use Rattle.std.proofs.lemmas.List.Elements.{All-cons, All-head, All-nil, All-tail}
 use Rattle.std.proofs.lemmas.Str.Parse.{IsNumeralModel, numerals_by_value, tells_all_ascii_digits}
-use Rattle.bit_words.specs.declared.block.merge.Merge.{Merge}
-use Rattle.bit_words.specs.declared.block.merge.Merge.TheVariants.{Union, Intersection, Difference, Symmetric}
+use Rattle.bit_blocks.specs.declared.block.merge.Merge.{Merge}
+use Rattle.bit_blocks.specs.declared.block.merge.Merge.TheVariants.{Union, Intersection, Difference, Symmetric}
 use Rattle.bit_set_commands.specs.declared.commands.Command.{Command}
 use Rattle.bit_set_commands.specs.declared.commands.Command.TheVariants as command
 use Rattle.bit_set_commands.specs.declared.verbs.Verb.{Verb}

@@ -1,7 +1,7 @@
 //! Sets whose elements lie far apart: the rows of the walk, and a walk at each of its points over three widths.
 ghost use Rattle.std.specs.Prelude.{◌≡◌, ℕ, Bool, None, List, [], ◌∷◌, length};
 ghost use Rattle.std.specs.Iterator.{YieldsThen};
-ghost use Rattle.bit_words.specs.Bits.{blocks_for};
+ghost use Rattle.bit_blocks.specs.Bits.{blocks_for};
 ghost use Rattle.bit_set.specs.Sets.{elements};
 ghost use Rattle.bit_set.specs.Walk.{Walk, IsAtStart};
 

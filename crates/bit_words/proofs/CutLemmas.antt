@@ -1,8 +1,9 @@
 -- A walk that ends in a block: what is left before it, and the block itself.
 use Rattle.std.proofs.Common.{◌≡◌, ℕ, ◌+◌, ◌-◌, ◌<◌, ◌≤◌, ◌==◌, false, if◌then◌else◌, List, [], ◌∷◌, ◌++◌, map, drop, take, length, slice_get, Some, All, min, max, refl, sym, ap, subst, ◌∙◌, ◌⊎◌, inl, inr, arith}
 use Rattle.std.proofs.lemmas.{Bool.{cond_both, eqb-true, cases_lt, Decides.nat_tests}, List.{append-nil, length-drop, length-take, Elements.{All-nil, All-cons}}}
-use Rattle.bit_words.specs.{Digits.is_one, Nonzero.nonzero_from, Pending.{first_true, IsInHand, left_from, next_at}, Summary.is_used}
-use Rattle.bit_words.proofs.{NextAtLemmas.{at_first}, PendingLemmas.{left-ended, left-here, left-passed, left-split}}
+use Rattle.bit_blocks.specs.{Digits.is_one, Storage.is_used}
+use Rattle.bit_words.specs.{Nonzero.nonzero_from, Pending.{first_true, IsInHand, left_from, next_at}}
+use Rattle.bit_words.proofs.{NextAtLemmas.at_first, PendingLemmas.{left-ended, left-here, left-passed, left-split}}
 
 -- ---- the indexes of what is left
 

@@ -1,6 +1,7 @@
 -- What the blocks of a list that grew say of its summary.
 use Rattle.std.proofs.Common.{◌≡◌, ℕ, ◌+◌, ◌*◌, ◌^◌, ◌<◌, ◌≤◌, Bool, false, List, map, length, get_or, sym, arith}
-use Rattle.bit_words.{specs.{Storage.{value_at, IsPacked}, Summary.is_used}, proofs.{SummaryLemmas.{kept_use, kept_with_zeros, same_use, use_of_added}, VectorLemmas.numbers_below}}
+use Rattle.bit_blocks.{specs.Storage.{value_at, IsPacked, is_used}, proofs.{UseLemmas.same_use, VectorLemmas.numbers_below}}
+use Rattle.bit_words.proofs.SummaryLemmas.{kept_use, kept_with_zeros, use_of_added}
 
 -- the blocks xs of a list of n values became ys, of a list of m values, of which those from n on are all `bit`
 pub record IsGrown {X : Type 0} (w n m : ℕ) (bit : Bool) (f : X → ℕ) (P : X → Type 0) (xs ys : List X) : Type 0 where

@@ -1,7 +1,9 @@
 -- What a growth in blocks makes of a list and its capacity for values.
 use Rattle.std.proofs.{Common.{◌≡◌, ℕ, ◌^◌, ◌<◌, ◌≤◌, max, List, map, length, refl, sym, ap, ap₂, ◌∙◌, arith, Ok, Err, Result, OnErr, OnOk}, lemmas.Result.on_err_weaker}
-use Rattle.bit_words.{specs.{Bits.{Bits, IsWithinCapacity, blocks_for, capacity_of}, Growth.{Grows, Reserves}, Storage.values_of, Summary.{shared_capacity, IsStoredList}}, proofs.CapacityLemmas.capacity_le}
-use Rattle.bit_words.proofs.{SummaryLemmas.stored_within, VectorLemmas.{blocks_from_capacity, capacity_from_view, capacity_of-short, is_within_capacity, le-capacity_of}}
+use Rattle.bit_blocks.specs.{Bits.{Bits, IsWithinCapacity, blocks_for, capacity_of}, Storage.values_of}
+use Rattle.bit_words.{specs.{Growth.{Grows, Reserves}, Summary.{shared_capacity, IsStoredList}}, proofs.CapacityLemmas.capacity_le}
+use Rattle.bit_blocks.proofs.VectorLemmas.{blocks_from_capacity, capacity_from_view, capacity_of-short, is_within_capacity, le-capacity_of}
+use Rattle.bit_words.proofs.SummaryLemmas.{stored_within}
 
 -- ---- capacity for blocks
 

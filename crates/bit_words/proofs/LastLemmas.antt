@@ -1,8 +1,10 @@
 -- The last block that a walk has left, and what is left without it.
 use Rattle.std.proofs.Common.{◌≡◌, ℕ, ◌+◌, ◌-◌, ◌*◌, ◌/◌, ◌^◌, ◌<◌, ◌≤◌, Bool, true, false, nat_lt, ◌&&◌, if◌then◌else◌, ◌==◌, List, [], ◌∷◌, ◌++◌, map, length, take, Option, Some, None, refl, ap, sym, ◌∙◌, arith}
 use Rattle.std.{proofs.{lemmas.{Bool.Decides.nat_tests, List.length-map}, Math.Nat.div-lt_iff_lt-mul}, specs.Option.unwrap_or}
-use Rattle.bit_words.specs.{Bits.blocks_for, Digits.is_one, Highest.IsHighest, Pending.{FindsLast, FindsLastPending, first_true, IsInHand, IsLastPending, IsPending, IsStoredFrom, left_from, next_at}, Searches.{FindsBefore}, Storage.value_at, Summary.is_used}
-use Rattle.bit_words.proofs.{Masks.is_one-bit, NextAtLemmas.{at_first, before_first, first_most}, PendingLemmas.{left-covered, left-ended, left-last, left-passed, stored_kept}, StorageLemmas.value_at-past}
+use Rattle.bit_blocks.specs.{Bits.blocks_for, Digits.is_one, Highest.IsHighest, Searches.FindsBefore, Storage.{value_at, is_used}}
+use Rattle.bit_words.specs.Pending.{FindsLast, FindsLastPending, first_true, IsInHand, IsLastPending, IsPending, IsStoredFrom, left_from, next_at}
+use Rattle.bit_blocks.proofs.{Masks.is_one-bit, StorageLemmas.value_at-past}
+use Rattle.bit_words.proofs.{NextAtLemmas.{at_first, before_first, first_most}, PendingLemmas.{left-covered, left-ended, left-last, left-passed, stored_kept}}
 
 -- ---- the search by a summary
 

@@ -1,6 +1,7 @@
 -- The block from which a walk goes on.
 use Rattle.std.proofs.Common.{◌≡◌, ℕ, zero, suc, ◌+◌, ◌<◌, ◌≤◌, Bool, true, false, ap, arith}
-use Rattle.bit_words.{specs.{Digits.is_one, Lowest.IsLowest, Pending.{first_true, next_at}}, proofs.Masks.{is_one-bit, is_one-zero}}
+use Rattle.bit_blocks.{specs.{Digits.is_one, Lowest.IsLowest}, proofs.Masks.{is_one-bit, is_one-zero}}
+use Rattle.bit_words.specs.Pending.{first_true, next_at}
 
 -- ---- the first truth value that is true
 

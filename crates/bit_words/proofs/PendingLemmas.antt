@@ -2,9 +2,12 @@
 use Rattle.std.proofs.Common.{◌≡◌, ◌≢◌, ℕ, zero, suc, ◌+◌, ◌-◌, ◌*◌, ◌/◌, ◌%◌, ◌^◌, ◌<◌, ◌≤◌, true, false, not, leb, nat_lt, ◌&&◌, if◌then◌else◌, ◌==◌, List, [], ◌∷◌, ◌++◌, map, drop, take, length, slice_get, Some, get_or, get_or-take, All, refl, sym, ap, subst, ◌∙◌, arith, min, mul-le-mul_right, div-mul-le_self, length-take}
 use Rattle.std.proofs.{lemmas.{Bool.{true≢false, cond_both, Decides.nat_tests}, List.{append-nil, drop_more, drop_all, drop-append-le, drop-map, get_or_past, length-drop, length-map, length-take-le, take_all, take-append-drop, take-map, take-take, Elements.{All-drop, All-take}}, Option.get_or_from_slice_get}, Math.{Nat.div-lt_iff_lt-mul, Seq.drop-drop}}
 use Rattle.std.proofs.lemmas.Grind.{div_ceil_times}
-use Rattle.bit_words.specs.{Bits.blocks_for, Digits.is_one, Lowest.{IsLowest, IsCleared}, Nonzero.nonzero_from, Pending.{CoversUsed, IsInHand, IsLastPending, IsStoredFrom, left_from, next_at}, Storage.value_at, Summary.is_used}
-use Rattle.bit_words.{specs.Summary.{short_count, IsStoredSummary}, proofs.{BitsLemmas.{blocks_for-least, blocks_for-past}, Masks.{is_one-bit, is_one-zero}, NextAtLemmas.{before_first, first_least, first_most}}}
-use Rattle.bit_words.proofs.{StorageLemmas.{value_at-is, value_at-index}, SummaryLemmas.{stored_each, stored_enough}, ZeroLemmas.{dropped, value_at-drop}}
+use Rattle.bit_blocks.specs.{Bits.blocks_for, Digits.is_one, Lowest.{IsLowest, IsCleared}, Storage.{value_at, is_used}}
+use Rattle.bit_words.specs.{Nonzero.nonzero_from, Pending.{CoversUsed, IsInHand, IsLastPending, IsStoredFrom, left_from, next_at}}
+use Rattle.bit_blocks.proofs.{BitsLemmas.{blocks_for-least, blocks_for-past}, Masks.{is_one-bit, is_one-zero}}
+use Rattle.bit_words.{specs.Summary.{short_count, IsStoredSummary}, proofs.NextAtLemmas.{before_first, first_least, first_most}}
+use Rattle.bit_blocks.proofs.{StorageLemmas.{value_at-is, value_at-index}, ZeroLemmas.{dropped, value_at-drop}}
+use Rattle.bit_words.proofs.SummaryLemmas.{stored_each, stored_enough}
 
 -- ---- blocks that are 0 are passed
 

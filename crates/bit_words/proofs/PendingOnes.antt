@@ -1,8 +1,10 @@
 -- The ones of the blocks that a walk has left.
 use Rattle.std.proofs.{Common.{◌≡◌, ℕ, ◌+◌, ◌-◌, ◌*◌, ◌<◌, ◌≤◌, not, ◌==◌, List, [], ◌∷◌, map, drop, take, length, length-take, get_or, get_or-take, count_ones, refl, sym, ap, ◌∙◌, arith}, lemmas.List.{drop-take, length-drop, take-map, Sums.sum_by-cons}}
 use Rattle.std.proofs.{lemmas.{List.Sums.sum_by-take-drop, Bool.Decides.nat_tests}, Math.Seq.drop-drop}
-use Rattle.bit_words.specs.{Digits.is_one, Lowest.IsLowest, Nonzero.{nonzero_from, ones_in, ones_left}, Pending.{IsStoredFrom, next_at}, Storage.value_at, Summary.{is_used, short_count}}
-use Rattle.bit_words.proofs.{LowestLemmas.ones_zero, NextAtLemmas.{first_most, next_at-lowest, next_at-zero}, ZeroLemmas.dropped}
+use Rattle.bit_blocks.specs.{Digits.is_one, Lowest.IsLowest, Storage.{ones_in, value_at, is_used}}
+use Rattle.bit_words.specs.{Nonzero.{nonzero_from, ones_left}, Pending.{IsStoredFrom, next_at}, Summary.short_count}
+use Rattle.bit_blocks.proofs.{LowestLemmas.ones_zero, ZeroLemmas.dropped}
+use Rattle.bit_words.proofs.NextAtLemmas.{first_most, next_at-lowest, next_at-zero}
 
 module _ {X : Type 0} (w : ℕ) (number : X → ℕ) (is_block : X → Type 0) where
   -- the blocks from block p on that are not 0

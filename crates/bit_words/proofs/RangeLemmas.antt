@@ -1,7 +1,7 @@
 -- What a change of a range does to the value at every index.
 use Rattle.std.proofs.Common.{◌≡◌, ℕ, zero, suc, ◌-◌, ◌<◌, ◌≤◌, max, Bool, true, false, cond, List, [], ◌∷◌, ◌++◌, length, get_or, take, drop, map, refl, ap, ◌∙◌, arith, ⊎_elim, length-take, length-drop, length-append, get_or-take, get_or-drop}
 use Rattle.std.proofs.lemmas.{Bool.{cases_lt, Decides.nat_tests}, List.{get_or_append_left, get_or-append_right, get_or-map, length-map, take-append-drop}}
-use Rattle.bit_words.{specs.{declared.block.merge.Merge.Merge, BlockMerges.IsMergedSpan, Merges.merge_of_values, Ranges.{changed_in_range, in_range}, Storage.values_of}, proofs.StorageLemmas.{get_or-values_of, length-values_of, values_of-same}}
+use Rattle.bit_blocks.{specs.{declared.block.merge.Merge.Merge, BlockMerges.IsMergedSpan, Merges.merge_of_values, Ranges.{changed_in_range, in_range}, Storage.values_of}, proofs.StorageLemmas.{get_or-values_of, length-values_of, values_of-same}}
 
 -- ---- the changed list
 

@@ -2,8 +2,8 @@
 use Rattle.std.proofs.Common.{◌≡◌, ◌≢◌, ℕ, ◌+◌, ◌-◌, ◌*◌, ◌<◌, ◌≤◌, ◌↔◌, ◌==◌, ◌&&◌, min, Bool, IsTrue, true, false, not, nat_lt, cond, List, [], ◌∷◌, get_or, length, take, drop, map, slice_get, Some, refl, sym, ap, ap₂, ◌∙◌, arith, length-take, length-drop, get_or-take, get_or-drop}
 use Rattle.std.proofs.lemmas.Bool.{false≢true, lt-ltb, Decides.nat_tests}
 use Rattle.std.{proofs.lemmas.List.{ext_get_or, FromFn.{get_or-map-range_with_len, length-map-range_with_len}, Sums.sum_by-cons}, specs.List.{count_by, range_with_len}}
-use Rattle.bit_words.specs.{declared.block.merge.Merge.TheVariants.{Difference, Intersection}, Bits.{Bits, blocks_of}, BlockMerges.MergesSpanToFalse, Digits.{IsComplement, is_one}, Ranges.values_in_range, Storage.{IsZeroFrom, value_at, values_of}}
-use Rattle.bit_words.proofs.{BitsLemmas.{blocks_of-digit, read_back}, CompareLemmas.true_at, Masks.is_one-complement, StorageLemmas.{get_or-values_of, length-values_of}}
+use Rattle.bit_blocks.specs.{declared.block.merge.Merge.TheVariants.{Difference, Intersection}, Bits.{Bits, blocks_of}, BlockMerges.MergesSpanToFalse, Digits.{IsComplement, is_one}, Ranges.values_in_range, Storage.{IsZeroFrom, value_at, values_of}}
+use Rattle.bit_blocks.proofs.{BitsLemmas.{blocks_of-digit, read_back}, CompareLemmas.true_at, Masks.is_one-complement, StorageLemmas.{get_or-values_of, length-values_of}}
 
 trues_of_map : (f : ℕ → Bool) (xs : List ℕ) → count_by (λ value. value) (map f xs) ≡ count_by f xs
 trues_of_map f [] = refl

@@ -1,8 +1,10 @@
 -- A walk passes over whole chunks of blocks.
 use Rattle.std.proofs.Common.{◌≡◌, ℕ, suc, ◌+◌, ◌-◌, ◌*◌, ◌^◌, ◌<◌, ◌≤◌, not, ◌==◌, List, [], ◌∷◌, ◌++◌, map, drop, take, length, length-take, slice_get, Some, All, get_or, get_or-take, count_ones, refl, sym, ap, subst, ◌∙◌, arith}
 use Rattle.std.{proofs.{lemmas.{Bool.Decides.nat_tests, List.{drop-take, length-drop, take-append-drop, take-map, take-take, Sums.{sum_by-append, sum_by-cons, sum_by-take-drop}}, Nat.Bits.bit_at-lt}, Math.Seq.{drop-drop}}, specs.{Int.bit_at, List.{range_with_len, sum_by}}}
-use Rattle.bit_words.specs.{Bits.blocks_for, Digits.is_one, Nonzero.{Nonzeros, SkipsBlocks, nonzero_from, ones_in, ones_left}, Pending.{IsNextChunk, IsPending, left_from, next_at}, Summary.is_used}
-use Rattle.bit_words.proofs.{NextAtLemmas.next_at-zero, OnesLemmas.ones_are_digits, PendingLemmas.{IsInHand-zero, count_past, left-split, long_by_stored, stored_past}, PendingOnes.ones_nonzero, StorageLemmas.value_at-index, ZeroLemmas.dropped}
+use Rattle.bit_blocks.specs.{Bits.blocks_for, Digits.is_one, Storage.{ones_in, is_used}}
+use Rattle.bit_words.specs.{Nonzero.{Nonzeros, SkipsBlocks, nonzero_from, ones_left}, Pending.{IsNextChunk, IsPending, left_from, next_at}}
+use Rattle.bit_blocks.proofs.{OnesLemmas.ones_are_digits, StorageLemmas.value_at-index, ZeroLemmas.dropped}
+use Rattle.bit_words.proofs.{NextAtLemmas.next_at-zero, PendingLemmas.{IsInHand-zero, count_past, left-split, long_by_stored, stored_past}, PendingOnes.ones_nonzero}
 
 -- ---- calls in a row
 

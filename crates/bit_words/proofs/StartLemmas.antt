@@ -1,7 +1,9 @@
 -- Where a search of the summary for the first true value may start.
 use Rattle.std.proofs.{Common.{◌≡◌, ℕ, ◌+◌, ◌*◌, ◌/◌, ◌^◌, ◌<◌, ◌≤◌, Bool, true, false, ◌==◌, List, map, length, get_or, set, All, refl, sym, ap, ◌∙◌, arith, ⊎_elim, div-add-mod', div-lt_iff_lt-mul, mul-le-mul_right}, lemmas.{Bool.cases_lt, Nat.{div-mul-add, mod-mul-add}}}
-use Rattle.bit_words.{specs.{Digits.is_one, Lowest.{IsCleared, IsLowest}, Mismatches.IsFirstNonzeroBlock, Searches.IsFirstFrom, Storage.{value_at, IsZeroFrom, WritesValue}, Summary.{is_used, short_count, IsFalseBefore, IsSummary}}, proofs.{ChangeLemmas.put_bit, CompareLemmas.zero_from_digits, SearchLemmas.{first_past_none, unused}, StorageLemmas.value_at-index}}
-use Rattle.bit_words.proofs.{SummaryLemmas.{unused_from_false, used_from_zero}, VectorLemmas.numbers_below, ZeroLemmas.zero_from_chunk}
+use Rattle.bit_blocks.{specs.{Digits.is_one, Lowest.{IsCleared, IsLowest}, Mismatches.IsFirstNonzeroBlock, Searches.IsFirstFrom, Storage.{value_at, IsZeroFrom, WritesValue, is_used}}, proofs.{ChangeLemmas.put_bit, CompareLemmas.zero_from_digits, SearchLemmas.{first_past_none, unused}, StorageLemmas.value_at-index}}
+use Rattle.bit_words.specs.Summary.{short_count, IsFalseBefore, IsSummary}
+use Rattle.bit_blocks.proofs.{UseLemmas.{unused_from_false, used_from_zero}, VectorLemmas.numbers_below}
+use Rattle.bit_words.proofs.SummaryZeros.{zero_from_chunk}
 
 -- ---- the start is kept
 

@@ -1,8 +1,9 @@
 -- The summary of blocks that were merged with a span.
 use Rattle.std.{specs.{Global.Vec, Vec.vec_len}}
 use Rattle.std.proofs.Common.{◌≡◌, ◌≢◌, ℕ, ◌+◌, ◌-◌, ◌*◌, ◌/◌, ◌%◌, ◌^◌, ◌<◌, ◌≤◌, Bool, true, false, List, map, length, get_or, set, min, max, sym, ap, ◌∙◌, arith, mod-lt, div-add-mod', div-lt_iff_lt-mul}
-use Rattle.bit_words.specs.{declared.block.merge.Merge.Merge, Bits.blocks_for, BlockMerges.IsMergedSpan, Digits.is_one, Merges.merge_of_values, Storage.{value_at, IsPacked, WritesInPlace, WritesValue}, Summary.{is_used, IsSummary}}
-use Rattle.bit_words.proofs.{BitsLemmas.{blocks_for-above, blocks_for-enough, index_below}, ChangeLemmas.{written_same, written_other}, StorageLemmas.value_at-is, SummaryLemmas.{same_use, used_from_true, unused_from_false}}
+use Rattle.bit_blocks.specs.{declared.block.merge.Merge.Merge, Bits.blocks_for, BlockMerges.IsMergedSpan, Digits.is_one, Merges.merge_of_values, Storage.{value_at, IsPacked, WritesInPlace, WritesValue, is_used}}
+use Rattle.bit_words.specs.Summary.{IsSummary}
+use Rattle.bit_blocks.proofs.{BitsLemmas.{blocks_for-above, blocks_for-enough, index_below}, ChangeLemmas.{written_same, written_other}, StorageLemmas.value_at-is, UseLemmas.{same_use, used_from_true, unused_from_false}}
 
 module _ (m : Merge) (w : ℕ) where
   -- a block before the first of the span, or past its last, is what it was

@@ -1,6 +1,7 @@
 -- Which of the blocks of a list a block of its summary says are not 0, as it is made.
 use Rattle.std.proofs.{Common.{◌≡◌, ◌≢◌, ℕ, ◌+◌, ◌-◌, ◌<◌, ◌≤◌, Bool, false, ◌&&◌, ◌||◌, ◌==◌, nat_lt, nat_le, List, map, min, length, get_or, sym, ap, ap₂, ◌∙◌, arith, ⊎_elim}, Math.Bool.or-false, lemmas.{Bool.{cases_eq, cases_lt, Decides.nat_tests}, List.{get_or_past, length-map}}}
-use Rattle.bit_words.{specs.{Digits.{IsEither, IsShiftedLeft, is_one}, Summary.{is_used, SaysUsed}}, proofs.{Masks.is_one-either, TestLemmas.{above_and, before_and, below_and, from_and}}}
+use Rattle.bit_blocks.{specs.{Digits.{IsEither, IsShiftedLeft, is_one}, Storage.is_used}, proofs.{Masks.is_one-either, TestLemmas.{above_and, before_and, below_and, from_and}}}
+use Rattle.bit_words.specs.Summary.{SaysUsed}
 
 module _ {X : Type 0} (w : ℕ) (f : X → ℕ) (P : X → Type 0) where
   -- of one block more

@@ -1,6 +1,7 @@
 -- What a growth makes of a list and its capacity.
 use Rattle.std.specs.Prelude.{◌≡◌, ℕ, ◌<◌, ◌≤◌, max, Bool, length, IsOk, IsTrue, OnErr, OnOk, Result}
-use Rattle.bit_words.specs.{Bits.Bits, Summary.{shared_capacity, stored_for}}
+use Rattle.bit_blocks.specs.Bits.{Bits}
+use Rattle.bit_words.specs.Summary.{shared_capacity, stored_for}
 
 -- A call that needs capacity for n values found `old` and left `new`. Where the capacity was there it succeeded, and
 -- the capacity stayed. It failed only where the capacity was less, and then left all as it was. No such call lowers the

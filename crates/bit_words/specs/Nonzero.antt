@@ -1,7 +1,7 @@
 -- A walk over the blocks that are not 0, each with its index.
 use Rattle.std.specs.{Prelude.{◌≡◌, ℕ, ◌+◌, ◌-◌, ◌*◌, ◌/◌, ◌==◌, ◌<◌, ◌⊎◌, ◌++◌, ◌&&◌, nat_lt, All, Bool, true, false, None, Some, ◌≤◌, if◌then◌else◌, min, List, [], ◌∷◌, Option, MatchOption, ⊤, drop, length, take}, Int.RustNames.count_ones}
 use Rattle.std.specs.{Iterator.{YieldsFirst, YieldsLast}, List.sum_by}
-use Rattle.bit_words.specs.{Bits.blocks_for, Digits.is_one}
+use Rattle.bit_blocks.specs.{Bits.blocks_for, Digits.is_one}
 
 -- What contracts see of such a walk: all blocks that it goes over; those that are left, each with its
 -- index; how often it was pulled; how often it pulled a block of the summary, and how many of these it
@@ -92,10 +92,6 @@ before_first w number it = record {
   summary_pulls = min 1 (blocks_for w (length it.blocks));
   summary_left = blocks_for w (length it.blocks) - 1;
 }
-
--- how many binary digits of blocks are 1
-abbrev pub ones_in : {X : Type 0} → (X → ℕ) → List X → ℕ
-ones_in number xs = sum_by (λ x. count_ones (number x)) xs
 
 -- how many binary digits are 1 of blocks that are left, each of which comes with its index
 abbrev pub ones_left : {X : Type 0} → (X → ℕ) → List (ℕ × X) → ℕ

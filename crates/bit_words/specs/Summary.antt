@@ -1,10 +1,6 @@
 -- The summary of a vector of blocks: which of them are not 0. No public clause cites this.
-use Rattle.std.specs.Prelude.{◌≡◌, ℕ, ◌+◌, ◌*◌, ◌/◌, ◌<◌, ◌≤◌, ◌&&◌, Bool, false, not, nat_lt, nat_le, if◌then◌else◌, min, max, List, [], map, length, get_or, ◌==◌}
-use Rattle.bit_words.specs.{Bits.blocks_for, Digits.is_one, Storage.{value_at, IsPacked}}
-
--- whether block k is not 0
-abbrev pub is_used : List ℕ → ℕ → Bool
-is_used ms k = not (get_or ms k 0 == 0)
+use Rattle.std.specs.Prelude.{◌≡◌, ℕ, ◌+◌, ◌*◌, ◌/◌, ◌<◌, ◌≤◌, ◌&&◌, false, nat_lt, nat_le, if◌then◌else◌, min, max, List, [], map, length}
+use Rattle.bit_blocks.specs.{Bits.blocks_for, Digits.is_one, Storage.{value_at, IsPacked, is_used}}
 
 -- The block says of each of the `count` blocks of xs from `start` on whether it is not 0, the first of them at the lowest
 -- bit; its other bits are 0.

@@ -1,11 +1,12 @@
 //! Bit vectors over blocks of any lawful type.
 ghost use Rattle.std.specs.{Prelude.{◌≡◌, ◌+◌, ◌-◌, ◌/◌, ◌↔◌, All, IsTrue, drop, false, length, map, min, slice_get}, List.count_by};
-ghost use Rattle.bit_words.specs.{Bits.{blocks_for, blocks_of, IsCapacityOfBlocks, IsWithinCapacity}, Nonzero.{before_first, StartsPast}};
+ghost use Rattle.bit_blocks.specs.Bits.{blocks_for, blocks_of, IsCapacityOfBlocks, IsWithinCapacity};
+ghost use Rattle.bit_words.specs.Nonzero.{before_first, StartsPast};
 
 use crate::bit_vec::pending::Unstored;
-use crate::packed::access::get_bit;
 use crate::summary::queries::{are_zero_by_summary, ones_by_summary};
 use crate::summary::short_limit;
+use bit_blocks::packed::access::get_bit;
 use std::marker::Model;
 
 mod blocks;
@@ -25,17 +26,17 @@ mod ranges;
 mod searching;
 mod taking;
 
-pub use crate::block::highest::take_highest_one;
-pub use crate::block::lowest::take_lowest_one;
-pub use crate::block::masks::{clear_below, clear_from, with_bit};
-pub use crate::block::merge::Merge;
-pub use crate::block::{BitBlock, operation};
-pub use crate::packed::comparing::{
+pub use bit_blocks::block::highest::take_highest_one;
+pub use bit_blocks::block::lowest::take_lowest_one;
+pub use bit_blocks::block::masks::{clear_below, clear_from, with_bit};
+pub use bit_blocks::block::merge::Merge;
+pub use bit_blocks::block::{BitBlock, operation};
+pub use bit_blocks::packed::comparing::{
     first_mismatching_block, lowest_mismatch, mismatch_between, same_blocks,
 };
-pub use crate::packed::groups::GROUP;
-pub use crate::packed::searching::{block_or_zero, first_nonzero_block, has_one_from};
-pub use crate::steps::Steps;
+pub use bit_blocks::packed::groups::GROUP;
+pub use bit_blocks::packed::searching::{block_or_zero, first_nonzero_block, has_one_from};
+pub use bit_blocks::steps::Steps;
 pub use blocks::Blocks;
 pub use constructors::BitsError;
 pub use first_and_nonzero::FirstAndNonzero;
@@ -65,7 +66,8 @@ pub struct BitVec<B: BitBlock = u32> {
 
 impl<B: BitBlock> Model for BitVec<B> {
     ghost use Rattle.std.specs.Prelude.{map, vec_capacity};
-    ghost use Rattle.bit_words.specs.{Bits.{Bits, capacity_of}, Storage.values_of, Summary.{shared_capacity, IsStoredList}};
+    ghost use Rattle.bit_blocks.specs.{Bits.{Bits, capacity_of}, Storage.values_of};
+    ghost use Rattle.bit_words.specs.Summary.{shared_capacity, IsStoredList};
 
     ghost Value = { Bits };
 

@@ -1,10 +1,11 @@
 //! Laws over plain numbers and lists, as the contracts of functions that do nothing.
 ghost use Rattle.std.specs.{Prelude.{◌≡◌, ℕ, ◌+◌, ◌-◌, ◌*◌, ◌^◌, ◌<◌, ◌≤◌, ◌↔◌, ◌==◌, Bool, true, Some, None, List, length, slice_get, slice_index}, Int.{bit_at, RustNames.count_ones}, Iterator.YieldsThen, List.sum_by};
 ghost use Rattle.std.specs.List.{count_by, range_with_len};
-ghost use Rattle.bit_words.specs.{Bits.{blocks_for, blocks_of, values_of_bytes, Bits, IsCapacityOfBlocks}, Source.Source, Lowest.LowestIsFound};
+ghost use Rattle.bit_blocks.specs.{Bits.{blocks_for, blocks_of, values_of_bytes, Bits, IsCapacityOfBlocks}, Lowest.LowestIsFound};
+ghost use Rattle.bit_words.specs.Source.{Source};
 
 use crate::bit_vec::Blocks;
-use crate::block::BitBlock;
+use bit_blocks::block::BitBlock;
 
 /// What the blocks of a list of truth values are. Block `k` has a 1 at digit `j` exactly where
 /// `k * w + j` is an index at which the list is true, and there are just enough blocks for the list.

@@ -1,9 +1,6 @@
-//! Blocks of bits, and the bit vector that is built on them.
+//! Bit vectors over blocks of any lawful type.
 #![tactic(auto)]
 
 pub mod bit_vec;
-mod block;
 pub mod laws;
-mod packed;
-mod steps;
 mod summary;

@@ -2,17 +2,18 @@
 // in blocks as well, and so changed by `packed`. This folder keeps the two in step, but where all bits become one value
 // or none is left: `fill` and `remove_all` of a bit vector do the same to both.
 ghost use Rattle.std.specs.Prelude.{◌≡◌, ◌≢◌, ℕ, ◌+◌, ◌-◌, ◌*◌, ◌/◌, ◌^◌, ◌<◌, ◌≤◌, ◌==◌, ◌&&◌, ◌||◌, All, IfOk, IsOk, get_or, not, nat_le, nat_lt, [], length, map, min, false, true, vec_len, vec_capacity};
-ghost use Rattle.bit_words.specs.{Bits.blocks_for, Digits.is_one, Storage.{value_at, IsPacked, WritesInPlace, WritesValue}, Summary.{is_used, short_count, stored_for, IsSummary, IsStoredSummary, SaysUsed}};
+ghost use Rattle.bit_blocks.specs.{Bits.blocks_for, Digits.is_one, Storage.{value_at, IsPacked, WritesInPlace, WritesValue, is_used}};
+ghost use Rattle.bit_words.specs.Summary.{short_count, stored_for, IsSummary, IsStoredSummary, SaysUsed};
 
-use crate::block::BitBlock;
-use crate::block::masks::{clear_below, cut_from, with_one_if};
-use crate::block::operators::{block_or, same, shift_left};
-use crate::packed::access::{
+use bit_blocks::block::BitBlock;
+use bit_blocks::block::masks::{clear_below, cut_from, with_one_if};
+use bit_blocks::block::operators::{block_or, same, shift_left};
+use bit_blocks::packed::access::{
     block_at, block_count, block_index, put_block, replace_bit, write_bit,
 };
-use crate::packed::copies::push_copies;
-use crate::packed::groups::{GROUP, LONG_GROUP};
-use crate::packed::resizing::{append_bits, repeated_bit, truncate_bits};
+use bit_blocks::packed::copies::push_copies;
+use bit_blocks::packed::groups::{GROUP, LONG_GROUP};
+use bit_blocks::packed::resizing::{append_bits, repeated_bit, truncate_bits};
 use std::alloc::{AllocError, Global};
 
 pub(crate) mod copies;

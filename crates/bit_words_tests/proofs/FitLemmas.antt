@@ -1,6 +1,7 @@
 -- The ones of the blocks of a bit vector can be counted.
 use Rattle.std.proofs.{Common.{◌≡◌, ℕ, ◌+◌, ◌^◌, ◌<◌, map, drop, count_ones, ap, arith}, lemmas.List.Sums.{count_by-le-length, sum_by-take-drop}}
-use Rattle.bit_words.{specs.{Bits.{Bits, IsWithinCapacity, blocks_of}, Nonzero.{Nonzeros, StartsPast, ones_left}}, proofs.{CountLemmas.ones_in-values, PendingOnes.ones_nonzero}}
+use Rattle.bit_blocks.{specs.Bits.{Bits, IsWithinCapacity, blocks_of}, proofs.CountLemmas.ones_in-values}
+use Rattle.bit_words.{specs.Nonzero.{Nonzeros, StartsPast, ones_left}, proofs.PendingOnes.ones_nonzero}
 
 -- those that a walk has left at its making
 pub left_fits : {X : Type 0} (w : ℕ) (number : X → ℕ) (is_block : X → Type 0) (k : ℕ) (bits : Bits) (it : Nonzeros X) → 0 < w → map number it.blocks ≡ blocks_of w bits.values → StartsPast w number k it → IsWithinCapacity bits → ones_left number it.left < 2 ^ 64

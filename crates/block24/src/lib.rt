@@ -4,7 +4,7 @@
 
 ghost use Rattle.std.specs.Prelude.{◌≡◌, ◌+◌, ◌-◌, ◌^◌, ◌<◌, ◌≤◌, refl, bit_and, bit_or, bit_xor};
 ghost use Rattle.std.proofs.Common.{lit<};
-ghost use Rattle.bit_words.specs.DigitLaws.{both, either, different, complement, added, subtracted, compared};
+ghost use Rattle.bit_blocks.specs.DigitLaws.{both, either, different, complement, added, subtracted, compared};
 
 use bit_words::bit_vec::BitBlock;
 use std::ops::{Add, BitAnd, BitOr, BitXor, Not, Sub};
@@ -114,7 +114,7 @@ impl BitBlock for Block24 {
         Block24((self.0 << distance as u32) & MASK)
     }
 
-    #[tactic(auto, using(bit_words::specs::DigitLaws::shifted_right))]
+    #[tactic(auto, using(bit_blocks::specs::DigitLaws::shifted_right))]
     fn shift_right(self, distance: usize) -> Block24 {
         Block24(self.0 >> distance as u32)
     }

@@ -1,6 +1,6 @@
 // Reading of a value, with every test that it must pass. Nothing here asks for memory.
 ghost use Rattle.std.specs.Prelude.{◌≡◌, ◌≢◌, ◌↔◌, ℕ, List, All, IsTrue, IfOk, IfErr, MatchOption, Some, length, map};
-ghost use Rattle.bit_words.specs.Bits.{blocks_for};
+ghost use Rattle.bit_blocks.specs.Bits.{blocks_for};
 ghost use Rattle.serde_json.specs.View.{view, items_view};
 ghost use Rattle.bit_set.specs.{Json.{HasShape, HasZeroTail, IsFirstFault, Spells, members_in, number_in}, Entries.{AreParts, HasLength, IsEntry, numbers_of}};
 

@@ -1,6 +1,6 @@
 // Making of the bits that were read.
 ghost use Rattle.std.specs.{Prelude.{◌≡◌, ◌≢◌, ◌+◌, ◌^◌, ◌<◌, ℕ, All, IfOk, IsOk, false, get_or, length}, Int.bit_at};
-ghost use Rattle.bit_words.specs.{Bits.{blocks_for, blocks_of, capacity_of}, Digits.is_one};
+ghost use Rattle.bit_blocks.specs.{Bits.{blocks_for, blocks_of, capacity_of}, Digits.is_one};
 ghost use Rattle.bit_set.specs.{Json.HasZeroTail, Entries.{IsEntry, numbers_of}};
 
 use super::JsonBlock;

@@ -1,6 +1,6 @@
 // The bytes of a set.
 ghost use Rattle.std.specs.Prelude.{◌≡◌, IfOk, IsOk, length};
-ghost use Rattle.bit_words.specs.Bits.{blocks_for, values_of_bytes};
+ghost use Rattle.bit_blocks.specs.Bits.{blocks_for, values_of_bytes};
 ghost use Rattle.bit_set.specs.Sets.{elements};
 
 use crate::{BitBlock, BitSet};

@@ -1,7 +1,8 @@
 // Calls that change a set in place.
 ghost use Rattle.std.specs.{Prelude.{◌≡◌, ℕ, ◌+◌, ◌-◌, ◌<◌, ◌≤◌, ◌↔◌, if◌then◌else◌, max, min, not, IfOk, IfErr, OnOk, OnErr, IsOk, IsErrOf, All, List, [], ◌++◌, length, replicate, false, true, Some}, Iterator.Drains};
 ghost use Rattle.std.specs.Iterator.{HoldsAlong, IsFinite, YieldsThen, Runs.WholeRun};
-ghost use Rattle.bit_words.specs.{Bits.{blocks_for, capacity_of}, Growth.Grows};
+ghost use Rattle.bit_blocks.specs.Bits.{blocks_for, capacity_of};
+ghost use Rattle.bit_words.specs.Growth.{Grows};
 ghost use Rattle.bit_set.specs.{Sets.{elements, has, put, those_below, without}, Members.{HasNone, IsCounted, IsSameSet, KeepsBelow, Updates}, Effects.TakesIn, Faults.IsInsertFault, Changes.{Change, Changes}};
 ghost use Rattle.bit_set.specs.{Changes.{outcome_of_result, outcome_of_insert, Outcome.{Done, Returned}}, Capacity.IsPastBlocks};
 

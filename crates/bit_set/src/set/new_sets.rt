@@ -1,7 +1,8 @@
 // Calls that make a set.
 ghost use Rattle.std.specs.{Prelude.{◌≡◌, ◌≢◌, ℕ, ◌+◌, ◌-◌, ◌*◌, ◌<◌, ◌≤◌, ◌↔◌, IfOk, IfErr, IsOk, IsErrOf, IsTrue, List, [], length, slice_index, Some}, Int.bit_at, Iterator.{Drains, IsFinite, YieldsThen}};
 ghost use Rattle.std.specs.Iterator.Runs.{WholeRun};
-ghost use Rattle.bit_words.specs.{Bits.{blocks_for, capacity_of, values_of_bytes}, Bounds.greatest};
+ghost use Rattle.bit_blocks.specs.Bits.{blocks_for, capacity_of, values_of_bytes};
+ghost use Rattle.bit_words.specs.Bounds.{greatest};
 ghost use Rattle.bit_set.specs.{Sets.{bound_of, elements, has, put_all}, Members.{HasNone, HasTrueOf, IsSameSet}, Capacity.IsPastBlocks};
 
 use crate::bit_vec::BitVec;

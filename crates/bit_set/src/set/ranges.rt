@@ -1,6 +1,6 @@
 // Calls on the numbers of a range.
 ghost use Rattle.std.specs.Prelude.{◌≡◌, ℕ, ◌+◌, ◌-◌, ◌<◌, ◌≤◌, ◌↔◌, ◌++◌, false, length, max, not, true, IfErr, IsErrOf, IsTrue, OnOk};
-ghost use Rattle.bit_words.specs.{Growth.Grows};
+ghost use Rattle.bit_words.specs.Growth.{Grows};
 ghost use Rattle.bit_set.specs.{Changes.{Change, Changes, Outcome.Done, outcome_of_result}, Faults.IsInsertFault, Members.UpdatesRange, Ranges.{span, span_end, those_in_range}, Sets.{elements, has, is_disjoint, is_subset, symmetric_difference, those_below, those_from, union}};
 
 use crate::{BitBlock, BitSet, SetError};

@@ -1,6 +1,7 @@
 // Calls that move elements from one set to another.
 ghost use Rattle.std.specs.Prelude.{◌≡◌, ◌<◌, ◌≤◌, if◌then◌else◌, nat_lt, max, min, IfOk, OnOk, OnErr, IsOk, [], length};
-ghost use Rattle.bit_words.specs.{Bits.{blocks_for, capacity_of}, Growth.Grows};
+ghost use Rattle.bit_blocks.specs.Bits.{blocks_for, capacity_of};
+ghost use Rattle.bit_words.specs.Growth.{Grows};
 ghost use Rattle.bit_set.specs.{Sets.{elements, those_below, those_from, union}, Members.{HasNone, IsUnion, KeepsBelow, KeepsFrom}, Changes.{Change, Changes, outcome_of_result}};
 
 use crate::{BitBlock, BitSet};

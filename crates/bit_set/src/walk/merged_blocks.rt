@@ -1,6 +1,6 @@
 // The blocks of two sets, merged.
 ghost use Rattle.std.specs.Prelude.{◌≡◌, ◌+◌, ◌<◌, ◌≤◌, ◌^◌, ◌⊎◌, max, IfSome, All, [], length};
-ghost use Rattle.bit_words.specs.Bits.{blocks_for};
+ghost use Rattle.bit_blocks.specs.Bits.{blocks_for};
 ghost use Rattle.bit_set.specs.{Sets.{elements, merge_of_sets}, Indexes.{IsMergedPull, IsWalkable, PullsBlock, PullsBlockIf, ones_from, ones_of_merged}};
 
 use crate::BitBlock;
@@ -21,7 +21,7 @@ pub(crate) struct Pairs<'a, B: BitBlock, O: Operation> {
 
 impl<'a, B: BitBlock, O: Operation> Model for Pairs<'a, B, O> {
     ghost use Rattle.std.specs.Prelude.{◌≡◌, map, max, length, All};
-    ghost use Rattle.bit_words.specs.Merges.{merge_of};
+    ghost use Rattle.bit_blocks.specs.Merges.{merge_of};
     ghost use Rattle.bit_set.specs.Indexes.{Ahead, values_in};
 
     ghost Value = { Ahead };

@@ -2,9 +2,9 @@
 ghost use Rattle.std.specs.{Prelude.{◌≡◌, ℕ, ◌+◌, ◌<◌, ◌≤◌, All, IfSome, Some, drop, get_or, length, map, take}, Iterator.{UpTo, item_count, SizeHint.IsWithinCount}};
 ghost use Rattle.bit_words.specs.Source.{PullsIf};
 
-use crate::block::BitBlock;
-use crate::packed::zeros::zeros_before;
-use crate::steps::Steps;
+use bit_blocks::block::BitBlock;
+use bit_blocks::packed::zeros::zeros_before;
+use bit_blocks::steps::Steps;
 use std::marker::Model;
 
 /// A walk over the blocks of a bit vector, from the first to the last.

@@ -1,10 +1,10 @@
 // The bytes of a bit vector.
 ghost use Rattle.std.specs.Prelude.{◌≡◌, ◌-◌, ◌*◌, ◌++◌, IfOk, IsOk, false, length, replicate};
-ghost use Rattle.bit_words.specs.Bits.{blocks_for, values_of_bytes};
+ghost use Rattle.bit_blocks.specs.Bits.{blocks_for, values_of_bytes};
 
 use crate::bit_vec::BitVec;
-use crate::block::BitBlock;
-use crate::packed::bytes::bytes_of;
+use bit_blocks::block::BitBlock;
+use bit_blocks::packed::bytes::bytes_of;
 use std::alloc::{AllocError, Global};
 
 impl<B: BitBlock> BitVec<B> {

@@ -1,16 +1,17 @@
 // Calls that change for how many values there is capacity, or how many blocks there are.
 ghost use Rattle.std.specs.Prelude.{◌≡◌, ℕ, ◌+◌, ◌*◌, ◌<◌, ◌≤◌, ◌↔◌, IsOk, OnErr, OnOk, Some, if◌then◌else◌, length, max, nat_le, slice_get, true};
-ghost use Rattle.bit_words.specs.{Bits.{blocks_for, capacity_of, whole_blocks, IsWithinCapacity}, Growth.Grows};
+ghost use Rattle.bit_blocks.specs.Bits.{blocks_for, capacity_of, whole_blocks, IsWithinCapacity};
+ghost use Rattle.bit_words.specs.Growth.{Grows};
 
 use crate::bit_vec::BitVec;
-use crate::block::BitBlock;
-use crate::packed::access::block_count;
-use crate::packed::resizing::truncate_blocks;
 use crate::summary::cut_summary;
 use crate::summary::queries::used_by_summary;
 use crate::summary::shared_capacity::{
     reserve_shared, reserve_shared_exact, shrink_shared_capacity,
 };
+use bit_blocks::block::BitBlock;
+use bit_blocks::packed::access::block_count;
+use bit_blocks::packed::resizing::truncate_blocks;
 use std::alloc::AllocError;
 
 impl<B: BitBlock> BitVec<B> {

@@ -1,11 +1,11 @@
 // Calls that say how the true values of two lists lie to each other.
 ghost use Rattle.std.specs.Prelude.{◌≡◌, ◌≢◌, ℕ, ◌+◌, ◌/◌, ◌≤◌, ◌↔◌, IsTrue, Some, length, min, slice_get, true};
-ghost use Rattle.bit_words.specs.{Bits.{IsFirstTrue, blocks_for}, Merges.merge_of, declared.block.merge.Merge.Merge};
+ghost use Rattle.bit_blocks.specs.{Bits.{IsFirstTrue, blocks_for}, Merges.merge_of, declared.block.merge.Merge.Merge};
 
 use crate::bit_vec::BitVec;
-use crate::block::BitBlock;
-use crate::packed::inclusion::{difference_is_zero, intersection_is_zero};
-use crate::steps::Steps;
+use bit_blocks::block::BitBlock;
+use bit_blocks::packed::inclusion::{difference_is_zero, intersection_is_zero};
+use bit_blocks::steps::Steps;
 
 impl<B: BitBlock> BitVec<B> {
     /// Whether `other` is true wherever this list is, whichever of them is longer. One step for each of

@@ -1,16 +1,17 @@
 // Calls that make a bit vector.
 ghost use Rattle.std.specs.Prelude.{◌≡◌, ◌*◌, ◌<◌, ◌≤◌, ◌↔◌, ◌++◌, [], alloc_error, drop, false, length, replicate, IfOk, IsErrOf, IsOk};
-ghost use Rattle.bit_words.specs.{Bits.{blocks_for, capacity_of, values_of_bytes}, declared.bit_vec.constructors.BitsError.TheVariants.Memory};
+ghost use Rattle.bit_blocks.specs.Bits.{blocks_for, capacity_of, values_of_bytes};
+ghost use Rattle.bit_words.specs.declared.bit_vec.constructors.BitsError.TheVariants.{Memory};
 
 use crate::bit_vec::BitVec;
-use crate::block::BitBlock;
-use crate::packed::access::block_index;
-use crate::packed::bytes::blocks_of_bytes;
-use crate::packed::copies::copy_of;
-use crate::packed::resizing::repeated_bit;
-use crate::packed::tail_copies::copy_bits_from;
 use crate::summary::copies::copy_summary_from;
 use crate::summary::{summary_of, uniform_summary};
+use bit_blocks::block::BitBlock;
+use bit_blocks::packed::access::block_index;
+use bit_blocks::packed::bytes::blocks_of_bytes;
+use bit_blocks::packed::copies::copy_of;
+use bit_blocks::packed::resizing::repeated_bit;
+use bit_blocks::packed::tail_copies::copy_bits_from;
 use std::alloc::{AllocError, AllocFailed, Global};
 use thiserror::Error;
 

@@ -1,7 +1,7 @@
 // The text of a bit vector, for who looks for a fault.
 use crate::bit_vec::BitVec;
-use crate::block::BitBlock;
-use crate::packed::access::bit_index;
+use bit_blocks::block::BitBlock;
+use bit_blocks::packed::access::bit_index;
 use std::fmt;
 
 /// `BitVec { storage: ".. ..", nbits: N }`: a digit for each value, the first of them first, with a

@@ -1,17 +1,18 @@
 // Calls that change the list in place.
 ghost use Rattle.std.specs.Prelude.{◌≡◌, ◌+◌, ◌<◌, ◌≤◌, [], ◌++◌, length, max, replicate, slice_get, slice_set, take, Some, OnOk};
-ghost use Rattle.bit_words.specs.{Bits.{blocks_for, capacity_of}, Growth.Grows};
+ghost use Rattle.bit_blocks.specs.Bits.{blocks_for, capacity_of};
+ghost use Rattle.bit_words.specs.Growth.{Grows};
 
 use crate::bit_vec::BitVec;
-use crate::block::BitBlock;
-use crate::packed::access::{block_at, block_count, block_index, replace_bit};
-use crate::packed::resizing::{append_bits, fill_bits, truncate_bits};
 use crate::summary::copies::copy_both;
 use crate::summary::shared_capacity::reserve_shared;
 use crate::summary::{
     append_to_summary, cut_summary, follow_one, is_short, start_after_growth, store_summary,
     update_summary_bit,
 };
+use bit_blocks::block::BitBlock;
+use bit_blocks::packed::access::{block_at, block_count, block_index, replace_bit};
+use bit_blocks::packed::resizing::{append_bits, fill_bits, truncate_bits};
 use std::alloc::AllocError;
 
 impl<B: BitBlock> BitVec<B> {

@@ -3,7 +3,7 @@ ghost use Rattle.std.specs.{Prelude.◌≡◌, Iterator.item_count};
 ghost use Rattle.bit_words.specs.Nonzero.{before_first, StartsPast};
 
 use crate::bit_vec::Nonzero;
-use crate::block::BitBlock;
+use bit_blocks::block::BitBlock;
 use std::marker::Model;
 
 /// A walk over the first block of a bit vector, zero or not, and then its blocks that are not zero, each with its index,

@@ -1,12 +1,12 @@
 // Calls that merge a second list into the list.
 ghost use Rattle.std.specs.Prelude.{◌≡◌, ◌+◌, ◌≤◌, length};
-ghost use Rattle.bit_words.specs.{Bits.blocks_for, Merges.merge_of};
+ghost use Rattle.bit_blocks.specs.{Bits.blocks_for, Merges.merge_of};
 
 use crate::bit_vec::BitVec;
-use crate::block::BitBlock;
-use crate::block::merge::Merge;
-use crate::steps::Steps;
 use crate::summary::merges::merge_chosen;
+use bit_blocks::block::BitBlock;
+use bit_blocks::block::merge::Merge;
+use bit_blocks::steps::Steps;
 
 impl<B: BitBlock> BitVec<B> {
     /// Each value becomes its merge with that of `other`, which is false past its end. The other must

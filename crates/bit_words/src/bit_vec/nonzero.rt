@@ -1,17 +1,18 @@
 // The walk over the blocks of a bit vector that are not 0, by its summary.
 ghost use Rattle.std.specs.{Prelude.{◌≡◌, ℕ, ◌+◌, ◌-◌, ◌*◌, ◌<◌, ◌≤◌, ◌^◌, ◌==◌, All, IfSome, None, not, Some, [], length, map, slice_get}, Iterator.item_count};
-ghost use Rattle.bit_words.specs.{Bits.{blocks_for, blocks_of, IsWithinCapacity}, Nonzero.{CutsAt, ones_left, PullsLast, PullsNonzero, Refills, SkipsBlocks, StartsPast, TakesFirst, TakesLast}};
+ghost use Rattle.bit_blocks.specs.Bits.{blocks_for, blocks_of, IsWithinCapacity};
+ghost use Rattle.bit_words.specs.Nonzero.{CutsAt, ones_left, PullsLast, PullsNonzero, Refills, SkipsBlocks, StartsPast, TakesFirst, TakesLast};
 
 use crate::bit_vec::BitVec;
 use crate::bit_vec::pending::{Pending, Unstored};
-use crate::block::BitBlock;
-use crate::block::lowest::take_lowest_one;
-use crate::block::masks::clear_from;
-use crate::packed::ones::ones_of;
-use crate::packed::searching::block_or_zero;
-use crate::steps::Steps;
 use crate::summary::is_nonzero;
 use crate::summary::queries::{first_blocks, ones_by_summary};
+use bit_blocks::block::BitBlock;
+use bit_blocks::block::lowest::take_lowest_one;
+use bit_blocks::block::masks::clear_from;
+use bit_blocks::packed::ones::ones_of;
+use bit_blocks::packed::searching::block_or_zero;
+use bit_blocks::steps::Steps;
 use std::marker::Model;
 
 /// A walk over the blocks of a bit vector that are not zero, past the one at which it was made, each with its index, in
@@ -30,7 +31,8 @@ pub struct Nonzero<'a, B: BitBlock> {
 
 impl<'a, B: BitBlock> Model for Nonzero<'a, B> {
     ghost use Rattle.std.specs.Prelude.{◌+◌, ◌-◌, length};
-    ghost use Rattle.bit_words.specs.{Bits.blocks_for, Nonzero.Nonzeros, Pending.{IsPending, left_from, next_at}};
+    ghost use Rattle.bit_blocks.specs.Bits.{blocks_for};
+    ghost use Rattle.bit_words.specs.{Nonzero.Nonzeros, Pending.{IsPending, left_from, next_at}};
 
     ghost Value = { Nonzeros B };
 

@@ -1,12 +1,12 @@
 // Calls that merge other lists into the list, and say whether it changed.
 ghost use Rattle.std.specs.Prelude.{◌≡◌, ◌+◌, ◌≤◌, ◌↔◌, false, length, take};
-ghost use Rattle.bit_words.specs.{Bits.blocks_for, Merges.merge_of, declared.block.merge.Merge.Merge};
+ghost use Rattle.bit_blocks.specs.{Bits.blocks_for, Merges.merge_of, declared.block.merge.Merge.Merge};
 
 use crate::bit_vec::BitVec;
-use crate::block::BitBlock;
-use crate::block::merge::Merge;
-use crate::steps::Steps;
 use crate::summary::noted_merges::{merge_and_note, unite_and_note};
+use bit_blocks::block::BitBlock;
+use bit_blocks::block::merge::Merge;
+use bit_blocks::steps::Steps;
 
 impl<B: BitBlock> BitVec<B> {
     /// Each value becomes its merge with that of `other`, as [`merge_blocks`](Self::merge_blocks) has it, and whether a

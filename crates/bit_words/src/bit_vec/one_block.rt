@@ -1,14 +1,15 @@
 // Calls on one block of a list.
 ghost use Rattle.std.specs.Prelude.{◌≡◌, ℕ, ◌+◌, ◌*◌, ◌<◌, ◌≤◌, ◌&&◌, false, get_or, length, nat_lt, not};
-ghost use Rattle.bit_words.specs.{Digits.is_one, Kept.KeepsInBlock};
+ghost use Rattle.bit_blocks.specs.Digits.{is_one};
+ghost use Rattle.bit_words.specs.Kept.{KeepsInBlock};
 
 use crate::bit_vec::BitVec;
-use crate::block::BitBlock;
-use crate::block::masks::cut_from;
-use crate::block::operators::{block_and, block_not};
-use crate::packed::access::{block_at, put_block};
-use crate::packed::searching::block_or_zero;
 use crate::summary::{is_short, update_summary_at};
+use bit_blocks::block::BitBlock;
+use bit_blocks::block::masks::cut_from;
+use bit_blocks::block::operators::{block_and, block_not};
+use bit_blocks::packed::access::{block_at, put_block};
+use bit_blocks::packed::searching::block_or_zero;
 
 impl<B: BitBlock> BitVec<B> {
     /// Which values of block `k` are not true, as a block: a 1 at each index that has none and is below `end`. Past the

@@ -1,16 +1,17 @@
 // The blocks that a walk has still to look at, by the summary.
 ghost use Rattle.std.specs.Prelude.{◌≡◌, ℕ, ◌+◌, ◌-◌, ◌/◌, ◌<◌, ◌≤◌, ◌^◌, ◌&&◌, All, IfSome, IsTrue, drop, false, get_or, length, map, nat_lt, take};
-ghost use Rattle.bit_words.specs.{Bits.blocks_for, Digits.is_one, Pending.{CoversUsed, Finds, FindsLast, FindsLastPending, IsNextChunk, IsPending, IsStoredFrom, left_from, next_at}, Summary.{is_used, IsStoredSummary}};
+ghost use Rattle.bit_blocks.specs.{Bits.blocks_for, Digits.is_one, Storage.is_used};
+ghost use Rattle.bit_words.specs.{Pending.{CoversUsed, Finds, FindsLast, FindsLastPending, IsNextChunk, IsPending, IsStoredFrom, left_from, next_at}, Summary.IsStoredSummary};
 
 use crate::bit_vec::Blocks;
-use crate::block::BitBlock;
-use crate::block::lowest::take_lowest_one;
-use crate::block::masks::{clear_below, clear_from};
-use crate::block::operators::{all_ones, has_one_at, ones_below};
-use crate::packed::access::block_count;
-use crate::packed::searching::block_or_zero;
 use crate::summary::searching::last_used_from;
 use crate::summary::{is_nonzero, used_from};
+use bit_blocks::block::BitBlock;
+use bit_blocks::block::lowest::take_lowest_one;
+use bit_blocks::block::masks::{clear_below, clear_from};
+use bit_blocks::block::operators::{all_ones, has_one_at, ones_below};
+use bit_blocks::packed::access::block_count;
+use bit_blocks::packed::searching::block_or_zero;
 
 // What of a summary is left, and of its block in hand.
 #[derive(Drop)]
@@ -281,7 +282,7 @@ fn used_of_few<B: BitBlock>(blocks: &[B], start: usize) -> B
 
 // A block with so many bits set, from the lowest on, or all of them.
 #[inline]
-#[tactic(auto, using(crate::proofs::Masks::masks))]
+#[tactic(auto, using(bit_blocks::proofs::Masks::masks))]
 fn ones_for<B: BitBlock>(count: usize) -> B
     ensures of_block { B.is_block result }
     ensures digits { (j : ℕ) → j < B.width → is_one (B.number result) j ≡ nat_lt j count }

@@ -1,12 +1,12 @@
 // Calls on the values in a range of indexes.
 ghost use Rattle.std.specs.{Prelude.{◌≡◌, ◌≢◌, ℕ, ◌<◌, ◌≤◌, ◌↔◌, IsTrue, Some, false, length, not, slice_get, true}, List.count_by};
-ghost use Rattle.bit_words.specs.Ranges.{changed_in_range, values_in_range};
+ghost use Rattle.bit_blocks.specs.Ranges.{changed_in_range, values_in_range};
 
 use crate::bit_vec::BitVec;
-use crate::block::BitBlock;
-use crate::block::operation::{Difference, Intersection, Union};
-use crate::packed::span_queries::{ones_in_span, span_merges_to_false};
 use crate::summary::spans::{fill_span, negate_span};
+use bit_blocks::block::BitBlock;
+use bit_blocks::block::operation::{Difference, Intersection, Union};
+use bit_blocks::packed::span_queries::{ones_in_span, span_merges_to_false};
 use std::ops::Range;
 
 impl<B: BitBlock> BitVec<B> {

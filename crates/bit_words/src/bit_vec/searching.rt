@@ -1,13 +1,13 @@
 // Calls that look for the next value that is true, or false, in either direction.
 ghost use Rattle.std.specs.Prelude.{◌≤◌, false, get_or, length, max, not};
-ghost use Rattle.bit_words.specs.Searches.{FindsBefore, FindsFrom, IsFirstFrom};
+ghost use Rattle.bit_blocks.specs.Searches.{FindsBefore, FindsFrom, IsFirstFrom};
 
 use crate::bit_vec::BitVec;
-use crate::block::BitBlock;
-use crate::packed::searching::{first_nonzero_block, first_one, first_zero};
 use crate::summary::is_short;
 use crate::summary::searching::{first_one_by_summary, last_one_by_summary};
 use crate::summary::taking::first_of_chunk;
+use bit_blocks::block::BitBlock;
+use bit_blocks::packed::searching::{first_nonzero_block, first_one, first_zero};
 
 impl<B: BitBlock> BitVec<B> {
     /// The first index at which the list is true, or `None`. Of many blocks it reads the summary from where

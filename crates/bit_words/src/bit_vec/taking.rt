@@ -1,13 +1,13 @@
 // Calls that make a true value false.
 ghost use Rattle.std.specs.Prelude.{◌≡◌, MatchOption, false, get_or, slice_set};
-ghost use Rattle.bit_words.specs.Searches.{FindsFrom};
+ghost use Rattle.bit_blocks.specs.Searches.{FindsFrom};
 
 use crate::bit_vec::BitVec;
-use crate::block::BitBlock;
-use crate::packed::access::replace_bit;
-use crate::packed::searching::{first_nonzero_block, first_one};
 use crate::summary::is_short;
 use crate::summary::taking::take_first_of_chunk;
+use bit_blocks::block::BitBlock;
+use bit_blocks::packed::access::replace_bit;
+use bit_blocks::packed::searching::{first_nonzero_block, first_one};
 
 impl<B: BitBlock> BitVec<B> {
     /// Makes the first true value false, and returns its index; `None` where no value is true. Of many blocks it reads the

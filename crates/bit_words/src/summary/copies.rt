@@ -1,12 +1,13 @@
 // Copies of blocks together with their summary, whole or from a block on.
 ghost use Rattle.std.specs.Prelude.{◌≡◌, ◌-◌, ◌<◌, All, IfOk, OnErr, OnOk, length, map, max, vec_capacity, ℕ, false};
-ghost use Rattle.bit_words.specs.{Summary.{shared_capacity, is_used, short_count, stored_for, IsStoredSummary}, Storage.{value_at, IsPacked}};
+ghost use Rattle.bit_blocks.specs.Storage.{is_used, value_at, IsPacked};
+ghost use Rattle.bit_words.specs.Summary.{shared_capacity, short_count, stored_for, IsStoredSummary};
 
-use crate::block::BitBlock;
-use crate::packed::copies::{copy_blocks, copy_of};
-use crate::packed::tail_copies::copy_bits_from;
 use crate::summary::shared_capacity::have_capacity;
 use crate::summary::{is_short, update_summary_at};
+use bit_blocks::block::BitBlock;
+use bit_blocks::packed::copies::{copy_blocks, copy_of};
+use bit_blocks::packed::tail_copies::copy_bits_from;
 use std::alloc::{AllocError, Global};
 
 // The blocks become those of `from`, and so does their summary. Where capacity for either is missing, both are

@@ -1,18 +1,19 @@
 // Merges of the blocks of two lists that have summaries: of a union it is the union of the summaries, and of the
 // others each block of it is made while the blocks that it is about are merged.
 ghost use Rattle.std.specs.Prelude.{◌≡◌, ℕ, ◌+◌, ◌*◌, ◌/◌, ◌<◌, ◌≤◌, All, get_or, length, map};
-ghost use Rattle.bit_words.specs.{BlockMerges.{CanMerge, HasMerged}, Digits.is_one, NotedMerges.{other_at, Stay}, Storage.value_at, Summary.{is_used, IsSummary, IsStoredSummary, SaysUsed}, declared.block.merge.Merge.Merge};
+ghost use Rattle.bit_blocks.specs.{BlockMerges.{CanMerge, HasMerged}, Digits.is_one, NotedMerges.{other_at, Stay}, Storage.{value_at, is_used}, declared.block.merge.Merge.Merge};
+ghost use Rattle.bit_words.specs.Summary.{IsSummary, IsStoredSummary, SaysUsed};
 
-use crate::block::BitBlock;
-use crate::block::masks::{cut_below, with_one_if};
-use crate::block::merge::Merge;
-use crate::block::operation::{Difference, Intersection, Operation, Symmetric, Union};
-use crate::block::operators::{block_or, shift_left};
-use crate::packed::access::{block_at, block_index, put_in};
-use crate::packed::block_merges::{merge_block, merge_each, merge_rest};
-use crate::packed::groups::LONG_GROUP;
-use crate::steps::Steps;
 use crate::summary::{is_nonzero, is_short};
+use bit_blocks::block::BitBlock;
+use bit_blocks::block::masks::{cut_below, with_one_if};
+use bit_blocks::block::merge::Merge;
+use bit_blocks::block::operation::{Difference, Intersection, Operation, Symmetric, Union};
+use bit_blocks::block::operators::{block_or, shift_left};
+use bit_blocks::packed::access::{block_at, block_index, put_in};
+use bit_blocks::packed::block_merges::{merge_block, merge_each, merge_rest};
+use bit_blocks::packed::groups::LONG_GROUP;
+use bit_blocks::steps::Steps;
 
 // The `count` blocks from `start` on become their merges with the others of their indexes. Returns which of them
 // are not 0 then, the first of them at the lowest bit. The compiler makes vector code of this where it knows the

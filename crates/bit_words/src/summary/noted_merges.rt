@@ -1,19 +1,20 @@
 // Merges of the blocks of a list that say whether one changed. The list is looked at up to the first blocks that change, and
 // merged from there on.
 ghost use Rattle.std.specs.Prelude.{◌≡◌, ℕ, ◌+◌, ◌*◌, ◌^◌, ◌<◌, ◌≤◌, ◌↔◌, All, IfNone, IfSome, false, length, map, true};
-ghost use Rattle.bit_words.specs.{Bits.blocks_for, BlockMerges.{CanMerge, HasMerged}, NotedMerges.{except_at, other_at, AreKept, HasMergedWith, Stay}, Digits.is_one, Storage.value_at, Summary.{is_used, IsSummary, IsStoredSummary}, declared.block.merge.Merge.Merge};
+ghost use Rattle.bit_blocks.specs.{Bits.blocks_for, BlockMerges.{CanMerge, HasMerged}, NotedMerges.{except_at, other_at, AreKept, HasMergedWith, Stay}, Digits.is_one, Storage.{value_at, is_used}, declared.block.merge.Merge.Merge};
+ghost use Rattle.bit_words.specs.Summary.{IsSummary, IsStoredSummary};
 
-use crate::block::BitBlock;
-use crate::block::merge::Merge;
-use crate::block::operation::{Difference, Intersection, Operation, Union};
-use crate::packed::access::{block_at, block_index, put_in};
-use crate::packed::changes::{
-    first_change, first_change_except, first_change_past_except, first_nonzero_other,
-};
-use crate::packed::except_merges::unite_between;
-use crate::steps::Steps;
 use crate::summary::merges::merge_chosen;
 use crate::summary::{is_nonzero, is_short, used_from};
+use bit_blocks::block::BitBlock;
+use bit_blocks::block::merge::Merge;
+use bit_blocks::block::operation::{Difference, Intersection, Operation, Union};
+use bit_blocks::packed::access::{block_at, block_index, put_in};
+use bit_blocks::packed::changes::{
+    first_change, first_change_except, first_change_past_except, first_nonzero_other,
+};
+use bit_blocks::packed::except_merges::unite_between;
+use bit_blocks::steps::Steps;
 
 // Where the list begins to change by the merge that is named, or `None` where no block changes.
 #[inline(always)]

@@ -1,13 +1,14 @@
 // What is found faster by a summary: the ones of the blocks, and the last block that is not 0. Changes nothing.
 ghost use Rattle.std.specs.Prelude.{◌≡◌, ℕ, ◌*◌, ◌^◌, ◌<◌, ◌≤◌, ◌↔◌, All, IsTrue, get_or, length, map, take, drop, ◌≢◌, ◌-◌};
-ghost use Rattle.bit_words.specs.{Storage.value_at, Nonzero.ones_in, Summary.{is_used, short_count, IsStoredSummary}};
+ghost use Rattle.bit_blocks.specs.Storage.{value_at, ones_in, is_used};
+ghost use Rattle.bit_words.specs.Summary.{short_count, IsStoredSummary};
 
-use crate::block::BitBlock;
-use crate::block::operators::same;
-use crate::packed::access::block_at;
-use crate::packed::ones::ones_of;
-use crate::packed::zeros::{are_zero, used_blocks, zeros_before};
 use crate::summary::is_short;
+use bit_blocks::block::BitBlock;
+use bit_blocks::block::operators::same;
+use bit_blocks::packed::access::block_at;
+use bit_blocks::packed::ones::ones_of;
+use bit_blocks::packed::zeros::{are_zero, used_blocks, zeros_before};
 
 // Whether all blocks are 0, by the summary where one is stored.
 pub(crate) fn are_zero_by_summary<B: BitBlock>(blocks: &[B], summary: &[B]) -> bool

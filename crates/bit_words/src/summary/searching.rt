@@ -1,14 +1,15 @@
 // The next 1 of a list of bits in either direction, by the summary where one is stored.
 ghost use Rattle.std.specs.Prelude.{◌≡◌, ℕ, ◌+◌, ◌-◌, ◌^◌, ◌<◌, ◌≤◌, All, length, map, true};
-ghost use Rattle.bit_words.specs.{Pending.IsStoredFrom, Searches.{FindsBefore, FindsFrom}, Storage.value_at, Summary.{is_used, IsStoredSummary}};
+ghost use Rattle.bit_blocks.specs.{Searches.{FindsBefore, FindsFrom}, Storage.{value_at, is_used}};
+ghost use Rattle.bit_words.specs.{Pending.IsStoredFrom, Summary.IsStoredSummary};
 
-use crate::block::BitBlock;
-use crate::packed::access::block_index;
-use crate::packed::searching::{
+use crate::summary::is_short;
+use bit_blocks::block::BitBlock;
+use bit_blocks::packed::access::block_index;
+use bit_blocks::packed::searching::{
     first_in_block, first_of_block, first_one, first_used, last_in_block, last_of_block, last_one,
     last_used,
 };
-use crate::summary::is_short;
 
 // The first block, from the one at `from` on, that is not 0.
 #[inline]

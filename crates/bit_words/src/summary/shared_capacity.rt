@@ -2,8 +2,8 @@
 ghost use Rattle.std.specs.Prelude.{◌≡◌, ◌-◌, ◌<◌, ◌≤◌, false, IsTrue, OnErr, OnOk, length, max, vec_len, vec_capacity};
 ghost use Rattle.bit_words.specs.{Growth.{Reserves, ReservesShared}, Summary.shared_capacity};
 
-use crate::block::BitBlock;
 use crate::summary::stored_count;
+use bit_blocks::block::BitBlock;
 use std::alloc::AllocError;
 
 // Reserves capacity for `count` blocks, and for no more where that is asked. Takes no memory where it is there.

@@ -1,12 +1,13 @@
 // Merges with a span, by which the summary follows.
 ghost use Rattle.std.specs.Prelude.{◌≡◌, ℕ, ◌*◌, ◌<◌, ◌≤◌, All, map, true, false, vec_len, vec_capacity, Bool};
-ghost use Rattle.bit_words.specs.{BlockMerges.IsMergedSpan, Merges.merge_of_values, Storage.WritesInPlace, Summary.IsStoredSummary, declared.block.merge.Merge.Merge};
+ghost use Rattle.bit_blocks.specs.{BlockMerges.IsMergedSpan, Merges.merge_of_values, Storage.WritesInPlace, declared.block.merge.Merge.Merge};
+ghost use Rattle.bit_words.specs.Summary.{IsStoredSummary};
 
-use crate::block::BitBlock;
-use crate::block::operation::{Operation, Symmetric};
-use crate::packed::access::block_index;
-use crate::packed::spans::merge_span;
 use crate::summary::{is_short, summarize_span, update_summary_at};
+use bit_blocks::block::BitBlock;
+use bit_blocks::block::operation::{Operation, Symmetric};
+use bit_blocks::packed::access::block_index;
+use bit_blocks::packed::spans::merge_span;
 
 // The values from `start` on and below `end`, of which there are some, all become one: true by a union, false by a
 // difference. The bits of their blocks in the summary become so too, and those of the first and the last, which may

@@ -1,12 +1,13 @@
 // The first 1 of a list of bits, found or taken out by the first block of its summary that is not 0.
 ghost use Rattle.std.specs.Prelude.{◌≡◌, ℕ, ◌*◌, ◌/◌, ◌^◌, ◌<◌, All, map, true, false, vec_len, vec_capacity};
-ghost use Rattle.bit_words.specs.{Mismatches.IsFirstNonzeroBlock, Searches.IsFirstFrom, Storage.{value_at, WritesInPlace, WritesValue}, Summary.{is_used, IsSummary}};
+ghost use Rattle.bit_blocks.specs.{Mismatches.IsFirstNonzeroBlock, Searches.IsFirstFrom, Storage.{value_at, WritesInPlace, WritesValue, is_used}};
+ghost use Rattle.bit_words.specs.Summary.{IsSummary};
 
-use crate::block::BitBlock;
-use crate::block::lowest::take_lowest_one;
-use crate::packed::access::{block_at, put_block};
-use crate::packed::searching::first_of_block;
 use crate::summary::is_nonzero;
+use bit_blocks::block::BitBlock;
+use bit_blocks::block::lowest::take_lowest_one;
+use bit_blocks::packed::access::{block_at, put_block};
+use bit_blocks::packed::searching::first_of_block;
 
 // The first 1.
 #[inline]

@@ -1,5 +1,5 @@
 use Rattle.bit_set.{specs.Walk.{AdvancesByEach, AdvancesWithBound}, proofs.WalkLaws.over_two}
-use Rattle.bit_words.specs.declared.block.merge.Merge.TheVariants.{Union, Intersection, Difference, Symmetric}
+use Rattle.bit_blocks.specs.declared.block.merge.Merge.TheVariants.{Union, Intersection, Difference, Symmetric}
 use Rattle.bit_set.proofs.laws.whole_walks_over_two_sets.Goals as goal
 
 pub returns : goal.returns

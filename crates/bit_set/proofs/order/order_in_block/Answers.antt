@@ -1,5 +1,5 @@
 use Rattle.std.proofs.Common.{sym, ◌+◌, ◌*◌, ◌<◌, ◌^◌, length, get_or, ap, ◌∙◌, arith}
-use Rattle.bit_words.specs.Bits.{blocks_of}
+use Rattle.bit_blocks.specs.Bits.{blocks_of}
 use Rattle.bit_set.{specs.{Mismatches.IsFirstMismatch, Sets.elements}, proofs.{MismatchLemmas.{first_mismatch_is, first_within}, OrderLemmas.{by_holder, by_other_holder}, order.order_in_block.Goals.After-bits}}
 use Rattle.bit_set.proofs.order.order_in_block.Goals as goal
 

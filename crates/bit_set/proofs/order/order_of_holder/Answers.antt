@@ -1,5 +1,5 @@
 use Rattle.std.proofs.Common.{◌≡◌, ◌<◌, map, ap, ◌∙◌}
-use Rattle.bit_words.specs.Bits.{blocks_of}
+use Rattle.bit_blocks.specs.Bits.{blocks_of}
 use Rattle.bit_set.proofs.{MismatchLemmas.{has_in_block, has_past_block, has_none}, order.order_of_holder.Goals.After-has_one_from}
 use Rattle.bit_set.proofs.order.order_of_holder.Goals as goal
 

@@ -1,6 +1,7 @@
 use Rattle.std.proofs.Common.{◌+◌, ◌-◌, ◌*◌, ◌∙◌, ◌≡◌, ap, arith, false, length, ⊎_elim}
 use Rattle.std.proofs.lemmas.{Bool.{cases_lt, Decides.nat_tests}, Grind.common_steps}
-use Rattle.bit_words.{proofs.RangeLemmas.length-changed, specs.Ranges.changed_in_range}
+use Rattle.bit_blocks.specs.Ranges.{changed_in_range}
+use Rattle.bit_words.proofs.RangeLemmas.{length-changed}
 use Rattle.bit_set_c.{proofs.Filling.get_or-cleared, specs.Block.width}
 use Rattle.bit_set_c.proofs.blocks.put_blocks.Goals as goal
 

@@ -1,5 +1,6 @@
 use Rattle.std.proofs.Common.{◌≡◌, ℕ, ◌+◌, ◌*◌, ◌<◌, ◌≤◌, false, true, get_or, length, max}
-use Rattle.bit_words.specs.{Digits.is_one, Growth.Grows, Ranges.in_range}
+use Rattle.bit_blocks.specs.{Digits.is_one, Ranges.in_range}
+use Rattle.bit_words.specs.Growth.{Grows}
 use Rattle.bit_set_c.specs.{Answers.done, Block.width}
 use Rattle.bit_set_c.proofs.blocks.put_blocks.Given as goal
 

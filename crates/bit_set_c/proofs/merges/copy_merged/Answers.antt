@@ -1,5 +1,5 @@
 use Rattle.std.proofs.Common.{◌≡◌, ℕ, ◌+◌, ◌*◌, ◌<◌, ◌∙◌, Bool, List, ap, drop, get_or, get_or-drop, sym}
-use Rattle.bit_words.specs.{Bits.blocks_of, Digits.is_one}
+use Rattle.bit_blocks.specs.{Bits.blocks_of, Digits.is_one}
 use Rattle.bit_set.{proofs.MismatchLemmas.has-index, specs.Sets.{elements, has}}
 use Rattle.bit_set_c.specs.Block.{width}
 use Rattle.bit_set_c.proofs.merges.copy_merged.Goals as goal

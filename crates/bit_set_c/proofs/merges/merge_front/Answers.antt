@@ -1,6 +1,6 @@
 use Rattle.std.proofs.Common.{◌≡◌, ◌∙◌, ap, arith, get_or, get_or-set_other, get_or-set_same, ⊎_elim}
 use Rattle.std.proofs.lemmas.{Bool.cases_lt, Grind.common_steps, List.map-id}
-use Rattle.bit_words.specs.Digits.{is_one}
+use Rattle.bit_blocks.specs.Digits.{is_one}
 use Rattle.bit_set_c.proofs.merges.merge_front.Goals as goal
 
 pub loop-k-preserved : goal.loop-k-preserved

@@ -1,5 +1,5 @@
 use Rattle.std.proofs.Common.{◌≡◌, ℕ, ◌<◌, drop, get_or, length}
-use Rattle.bit_words.specs.{Digits.is_one, Merges.merge_of_values}
+use Rattle.bit_blocks.specs.{Digits.is_one, Merges.merge_of_values}
 use Rattle.bit_set_c.specs.Block.{width}
 use Rattle.bit_set_c.proofs.merges.merge_front.Given as goal
 

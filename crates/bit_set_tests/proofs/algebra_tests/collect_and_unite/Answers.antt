@@ -1,5 +1,5 @@
 use Rattle.std.proofs.Common.{sym, ◌∙◌}
-use Rattle.bit_words.specs.declared.block.merge.Merge.TheVariants.{Union}
+use Rattle.bit_blocks.specs.declared.block.merge.Merge.TheVariants.{Union}
 use Rattle.bit_set_tests.proofs.algebra_tests.collect_and_unite.Goals as goal
 
 pub returns : goal.returns

@@ -1,5 +1,5 @@
 use Rattle.std.proofs.Common.{◌+◌, max, length, ap, ◌∙◌}
-use Rattle.bit_words.specs.Bits.{blocks_for}
+use Rattle.bit_blocks.specs.Bits.{blocks_for}
 use Rattle.bit_set.specs.Walk.{blocks_past}
 use Rattle.bit_set_tests.proofs.sparse_tests.pulls_of_sparse_sets.Goals as goal
 

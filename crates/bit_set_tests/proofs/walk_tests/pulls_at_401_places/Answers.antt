@@ -1,5 +1,5 @@
 use Rattle.std.proofs.Common.{◌≡◌, max, length, ap, arith}
-use Rattle.bit_words.specs.Bits.{blocks_for}
+use Rattle.bit_blocks.specs.Bits.{blocks_for}
 use Rattle.bit_set_tests.proofs.walk_tests.pulls_at_401_places.Goals as goal
 
 pub returns : goal.returns

@@ -1,5 +1,5 @@
 use Rattle.std.proofs.Common.{◌∙◌, sym, length, ◌+◌, ◌*◌}
-use Rattle.bit_words.proofs.BitsLemmas.{blocks_of-digit, blocks_of-lt, length-blocks_of, blocks_for-enough, blocks_for-least, true_from_slice_get, slice_get_from_true}
+use Rattle.bit_blocks.proofs.BitsLemmas.{blocks_of-digit, blocks_of-lt, length-blocks_of, blocks_for-enough, blocks_for-least, true_from_slice_get, slice_get_from_true}
 use Rattle.bit_words.proofs.laws.blocks_of_values.Goals as goal
 
 pub returns : goal.returns

@@ -1,4 +1,4 @@
-use Rattle.bit_words.proofs.LowestLemmas.{lowest_found}
+use Rattle.bit_blocks.proofs.LowestLemmas.{lowest_found}
 use Rattle.bit_words.proofs.laws.lowest_one.Goals as goal
 
 pub returns : goal.returns

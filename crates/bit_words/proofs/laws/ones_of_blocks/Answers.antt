@@ -1,4 +1,4 @@
-use Rattle.bit_words.proofs.OnesLemmas.{blocks_ones, ones_are_digits}
+use Rattle.bit_blocks.proofs.OnesLemmas.{blocks_ones, ones_are_digits}
 use Rattle.bit_words.proofs.laws.ones_of_blocks.Goals as goal
 
 pub returns : goal.returns

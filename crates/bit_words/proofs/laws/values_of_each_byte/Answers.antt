@@ -1,5 +1,5 @@
 use Rattle.std.proofs.{Common.{◌<◌, ◌+◌, ◌*◌, length, false, ap, ◌∙◌, Some, arith}, lemmas.Option.slice_get-get_or}
-use Rattle.bit_words.{specs.Bits.values_of_bytes, proofs.ByteLemmas.{length-values_of_bytes, get_or-values_of_bytes, byte_value-is}}
+use Rattle.bit_blocks.{specs.Bits.values_of_bytes, proofs.ByteLemmas.{length-values_of_bytes, get_or-values_of_bytes, byte_value-is}}
 use Rattle.bit_words.proofs.laws.values_of_each_byte.Goals as goal
 
 pub returns : goal.returns

@@ -1,5 +1,6 @@
 use Rattle.std.proofs.{Common.{◌∙◌, ◌-◌, length, sym, arith, ⊎_elim}, lemmas.Bool.cases_lt}
-use Rattle.bit_words.proofs.{BitsLemmas.blocks_for-above, SummaryLemmas.{keeps_all, keeps_none, is_summary, summary_updated}}
+use Rattle.bit_blocks.proofs.BitsLemmas.{blocks_for-above}
+use Rattle.bit_words.proofs.SummaryLemmas.{keeps_all, keeps_none, is_summary, summary_updated}
 use Rattle.bit_words.proofs.summary.append_to_summary.Goals as goal
 
 pub update_summary_at-requires-clause-in_summary : goal.update_summary_at-requires-clause-in_summary

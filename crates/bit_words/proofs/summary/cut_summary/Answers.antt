@@ -1,5 +1,6 @@
 use Rattle.std.proofs.Common.{◌∙◌, ◌-◌, length, arith}
-use Rattle.bit_words.proofs.{BitsLemmas.blocks_for-above, SummaryLemmas.{keeps_all, keeps_none, summary_updated}}
+use Rattle.bit_blocks.proofs.BitsLemmas.{blocks_for-above}
+use Rattle.bit_words.proofs.SummaryLemmas.{keeps_all, keeps_none, summary_updated}
 use Rattle.bit_words.proofs.summary.cut_summary.Goals as goal
 
 pub returns-then-is_short-clause-summary : goal.returns-then-is_short-clause-summary

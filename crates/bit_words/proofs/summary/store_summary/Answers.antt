@@ -1,5 +1,6 @@
 use Rattle.std.proofs.Common.{length, arith}
-use Rattle.bit_words.proofs.{BitsLemmas.blocks_for-le, CapacityLemmas.stored_long}
+use Rattle.bit_blocks.proofs.BitsLemmas.{blocks_for-le}
+use Rattle.bit_words.proofs.CapacityLemmas.{stored_long}
 use Rattle.bit_words.proofs.summary.store_summary.Goals as goal
 
 pub store_short-requires-clause-capacity : goal.store_short-requires-clause-capacity

@@ -1,5 +1,5 @@
 use Rattle.std.proofs.Common.{◌≡◌, ℕ, ◌+◌, ◌*◌, ◌<◌, ◌≤◌, map, get_or}
-use Rattle.bit_words.specs.{Digits.is_one, Storage.WritesInPlace, Summary.is_used}
+use Rattle.bit_blocks.specs.{Digits.is_one, Storage.{WritesInPlace, is_used}}
 use Rattle.bit_words.proofs.summary.summarize.Given as goal
 
 abbrev pub invariant-loop-q : goal.invariant-loop-q

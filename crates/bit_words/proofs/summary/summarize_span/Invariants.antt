@@ -1,5 +1,5 @@
 use Rattle.std.proofs.Common.{◌≡◌, ℕ, ◌/◌, ◌<◌, ◌≤◌, map}
-use Rattle.bit_words.specs.{Storage.{value_at, WritesInPlace}, Summary.is_used}
+use Rattle.bit_blocks.specs.Storage.{value_at, WritesInPlace, is_used}
 use Rattle.bit_words.proofs.summary.summarize_span.Given as goal
 
 abbrev pub invariant-loop-q : goal.invariant-loop-q

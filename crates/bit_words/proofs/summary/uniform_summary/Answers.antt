@@ -1,5 +1,6 @@
 use Rattle.std.{proofs.Common.{◌≡◌, ℕ, ◌<◌, Bool, List, length, map, sym, ◌∙◌, Ok, Err, Result}, specs.Result.IfOk}
-use Rattle.bit_words.{specs.{Storage.{value_at, IsPacked}, Summary.{is_used, short_count, IsStoredSummary}}, proofs.SummaryLemmas.{is_summary, keeps_all}}
+use Rattle.bit_blocks.specs.Storage.{value_at, IsPacked, is_used}
+use Rattle.bit_words.{specs.Summary.{short_count, IsStoredSummary}, proofs.SummaryLemmas.{is_summary, keeps_all}}
 use Rattle.bit_words.proofs.summary.uniform_summary.Goals as goal
 
 -- a list that was made of one bit is the summary of blocks that are all alike

@@ -1,6 +1,6 @@
 use Rattle.std.proofs.Common.{◌≡◌, ℕ, ◌+◌, ◌-◌, ◌*◌, ◌/◌, ◌%◌, ◌^◌, bit_and, ◌∙◌}
 use Rattle.std.proofs.lemmas.Nat.{and_mask, mod-pow-add, mod_low, mod_below, pow_pos}
-use Rattle.bit_words.specs.DigitLaws.{shifted_left}
+use Rattle.bit_blocks.specs.DigitLaws.{shifted_left}
 use Rattle.block24.proofs.Block24BitBlock.shift_left.Goals as goal
 
 -- a mask of the low k digits, past a wider limit

@@ -1,6 +1,6 @@
 use Rattle.std.proofs.{Common.{◌≡◌, ap, sym, ◌∙◌, true≢false}, lemmas.{Option.{MatchOption-at_some, MatchOption-at_none}, Result.err_from_is_err_and}}
 use Rattle.serde_json.specs.View.{view, items_view}
-use Rattle.bit_words.specs.Bits.{blocks_for}
+use Rattle.bit_blocks.specs.Bits.{blocks_for}
 use Rattle.bit_set.{specs.{Entries.{AreParts, numbers_of}, Json.HasNumbers}, proofs.{JsonLemmas.{counted, has_numbers, no_numbers, was_none}, json.checking.entries_and_len.Goals.After-div_ceil}}
 use Rattle.bit_set.proofs.json.checking.entries_and_len.Goals as goal
 

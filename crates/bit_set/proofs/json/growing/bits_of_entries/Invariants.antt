@@ -1,5 +1,5 @@
 use Rattle.std.proofs.Common.{◌≡◌, ℕ, false, get_or, length, take}
-use Rattle.bit_words.specs.{Bits.{blocks_for, capacity_of}, Storage.value_at}
+use Rattle.bit_blocks.specs.{Bits.{blocks_for, capacity_of}, Storage.value_at}
 use Rattle.bit_set.specs.Entries.{numbers_of}
 use Rattle.bit_set.proofs.json.growing.bits_of_entries.Given as goal
 

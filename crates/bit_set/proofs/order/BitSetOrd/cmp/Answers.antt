@@ -1,5 +1,5 @@
 use Rattle.std.proofs.{Common.{◌≡◌, not, get_or, ap, sym, ◌∙◌, arith}, lemmas.Bool.{not-false, true≢false}}
-use Rattle.bit_words.specs.Bits.{blocks_of}
+use Rattle.bit_blocks.specs.Bits.{blocks_of}
 use Rattle.bit_set.proofs.order.BitSetOrd.cmp.Goals as goal
 
 pub order_by-requires : goal.order_by-requires

@@ -1,5 +1,5 @@
 use Rattle.std.proofs.Common.{ap, ◌∙◌}
-use Rattle.bit_words.specs.Bits.{blocks_of}
+use Rattle.bit_blocks.specs.Bits.{blocks_of}
 use Rattle.bit_set.proofs.{MismatchLemmas.same_by_blocks, MemberLemmas.tells_same}
 use Rattle.bit_set.proofs.order.BitSetPartialEq.eq.Goals as goal
 

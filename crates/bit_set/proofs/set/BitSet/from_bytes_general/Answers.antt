@@ -1,4 +1,4 @@
-use Rattle.bit_words.proofs.ByteLemmas.{length-values_of_bytes}
+use Rattle.bit_blocks.proofs.ByteLemmas.{length-values_of_bytes}
 use Rattle.bit_set.proofs.ByteLemmas.{has-values_of_bytes}
 use Rattle.bit_set.proofs.set.BitSet.from_bytes_general.Goals as goal
 

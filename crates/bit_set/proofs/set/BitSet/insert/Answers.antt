@@ -1,5 +1,6 @@
 use Rattle.std.proofs.{Common.{◌≡◌, ◌+◌, ◌-◌, ◌<◌, ◌≤◌, ℕ, max, length, Bool, not, true, false, sym, ap, ◌∙◌, refl, arith, length-append, Ok}, lemmas.{List.{length-replicate, length-set}, Result.err_from_is_err_and}}
-use Rattle.bit_words.specs.{Bits.Bits, Bounds.greatest, Growth.Grows}
+use Rattle.bit_blocks.specs.Bits.{Bits}
+use Rattle.bit_words.specs.{Bounds.greatest, Growth.Grows}
 use Rattle.bit_set.{specs.{Sets.{elements, has, put}, declared.faults.SetError.SetError}, proofs.{ChangeLemmas.changes_inserted, CapacityLemmas.{Grows-changed, Grows-failed, Grows-there}, MemberLemmas.count_put}}
 use Rattle.bit_set.proofs.{MemberLemmas.{counted, counted_within, updates_put}, SetLemmas.{elements-padded, elements-set_true}, ValueLemmas.{has-read, has-within, written_again}}
 use Rattle.bit_set.proofs.set.BitSet.insert.Goals.{then-value-len+in_ok-lengthen_past, else-value-len}

@@ -1,5 +1,5 @@
 use Rattle.std.proofs.Common.{ap, ◌∙◌}
-use Rattle.bit_words.specs.Ranges.{in_range}
+use Rattle.bit_blocks.specs.Ranges.{in_range}
 use Rattle.bit_set.{specs.Sets.{elements, has}, proofs.{ChainLemmas.runs_of_walk, SetLemmas.has-filter}}
 use Rattle.bit_set.proofs.set.BitSet.range.Goals as goal
 

@@ -1,6 +1,7 @@
 use Rattle.std.proofs.Common.{◌≡◌, ℕ, ◌+◌, ◌-◌, ◌*◌, ◌/◌, ◌^◌, ◌<◌, ◌≤◌, ◌==◌, min, false, nat_le, get_or, length, refl, ap, ap₂, ◌∙◌, arith, subst}
 use Rattle.std.proofs.{Math.Nat.{div-add-mod'}, lemmas.Bool.Decides.nat_tests}
-use Rattle.bit_words.{proofs.BitsLemmas.{blocks_of-digit, read_back}, specs.{Bits.blocks_of, Digits.is_one, Kept.KeepsInBlock}}
+use Rattle.bit_blocks.{proofs.BitsLemmas.{blocks_of-digit, read_back}, specs.{Bits.blocks_of, Digits.is_one}}
+use Rattle.bit_words.specs.Kept.{KeepsInBlock}
 use Rattle.bit_set.specs.{Changes.Changes, Retained.{HasTested, ones}, Sets.{elements}}
 use Rattle.bit_set.proofs.{MemberLemmas.none_from_members, RetainLemmas.{below_by_members, has-block, next_at_block, retained-block, tested-all, tested-none}, SetLemmas.has-filter, SplitLemmas.all_from, ValueLemmas.has-within, set.BitSet.retain.Given.Over, set.BitSet.retain.Goals.{After-block_or_zero-block}}
 use Rattle.bit_set.proofs.set.BitSet.retain.Goals as goal

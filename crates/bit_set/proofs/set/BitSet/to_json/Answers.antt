@@ -1,6 +1,6 @@
 use Rattle.std.proofs.{Common.{◌≡◌, ap, ◌∙◌, length, map}, lemmas.Result.IfOk-weaker}
 use Rattle.serde_json.specs.View.{view}
-use Rattle.bit_words.specs.Bits.{blocks_of}
+use Rattle.bit_blocks.specs.Bits.{blocks_of}
 use Rattle.bit_set.proofs.JsonLemmas.{written_spells}
 use Rattle.bit_set.proofs.set.BitSet.to_json.Goals as goal
 

@@ -1,5 +1,5 @@
 use Rattle.std.proofs.{Common.{◌∙◌, ◌-◌, ap, length, not, take}}
-use Rattle.bit_words.{specs.{declared.block.merge.Merge.TheVariants.{Difference, Union}, Merges.merge_of}}
+use Rattle.bit_blocks.specs.{declared.block.merge.Merge.TheVariants.{Difference, Union}, Merges.merge_of}
 use Rattle.bit_set.{proofs.{AlgebraLemmas.elements-lengthened, NotedLemmas.{elements-except, length-lengthened-except, members-except, told_of_lengthened, told_unchanged, union_count, union_kept}, SetLemmas.IsAscending-elements}, specs.{Changes.{Changes, Outcome.Returned}, Order.same_sets, Sets.{difference, elements, union}}}
 use Rattle.bit_set.proofs.set.BitSet.union_with_difference.Goals as goal
 

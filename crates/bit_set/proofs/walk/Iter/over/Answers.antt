@@ -1,5 +1,5 @@
 use Rattle.std.proofs.{Common.{◌≡◌, ◌-◌, ◌*◌, ◌&&◌, ◌∙◌, map, length, get_or, ap, sym, arith}, lemmas.{Bool.le-leb, List.length-map}, Math.Nat.zero-div}
-use Rattle.bit_words.specs.Digits.{is_one}
+use Rattle.bit_blocks.specs.Digits.{is_one}
 use Rattle.bit_set.proofs.{FromLemmas.{BeginsFrom, begins_from, last_fits, starts_at_all}, walk.Iter.over.Goals.After-bits}
 use Rattle.bit_set.proofs.walk.Iter.over.Goals as goal
 

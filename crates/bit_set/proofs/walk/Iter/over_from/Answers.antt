@@ -1,5 +1,6 @@
 use Rattle.std.proofs.{Common.{◌≡◌, ℕ, ◌-◌, ◌*◌, ◌/◌, ◌<◌, ◌&&◌, leb, min, length, get_or, ap, sym, subst, ◌∙◌, arith}, lemmas.List.length-map}
-use Rattle.bit_words.specs.{Digits.is_one, Nonzero.StartsPast}
+use Rattle.bit_blocks.specs.Digits.{is_one}
+use Rattle.bit_words.specs.Nonzero.{StartsPast}
 use Rattle.bit_set.proofs.{FromLemmas.{BeginsFrom, begins_from, begins_by, last_fits}, walk.Iter.over_from.Goals.After-bits-2}
 use Rattle.bit_set.proofs.walk.Iter.over_from.Goals as goal
 

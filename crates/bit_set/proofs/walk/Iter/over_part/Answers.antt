@@ -1,5 +1,6 @@
 use Rattle.std.proofs.{Common.{◌≡◌, ℕ, ◌+◌, ◌-◌, ◌*◌, ◌/◌, ◌^◌, ◌<◌, ◌&&◌, pow_pos, leb, max, min, length, get_or, ap, sym, subst, ◌∙◌, arith}, lemmas.List.length-map}
-use Rattle.bit_words.specs.{Digits.is_one, Nonzero.{Hand, StartsPast}}
+use Rattle.bit_blocks.specs.Digits.{is_one}
+use Rattle.bit_words.specs.Nonzero.{Hand, StartsPast}
 use Rattle.bit_set.{specs.{Indexes.{seen_of, IsSparseWalk}, Walk.IsAtStartOfPart}, proofs.{FromLemmas.{BeginsFrom, begins_from}, PartLemmas.begins_part, SparseLemmas.whole_index, WalkLemmas.length-blocks, walk.Iter.over_part.Goals.After-clear_from}}
 use Rattle.bit_set.proofs.walk.Iter.over_part.Goals as goal
 

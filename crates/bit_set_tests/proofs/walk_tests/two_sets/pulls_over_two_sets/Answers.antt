@@ -1,5 +1,5 @@
 use Rattle.std.proofs.Common.{◌≡◌, ◌≤◌, max, length, ap, ◌∙◌, arith}
-use Rattle.bit_words.specs.Bits.{blocks_for}
+use Rattle.bit_blocks.specs.Bits.{blocks_for}
 use Rattle.bit_set_tests.proofs.walk_tests.two_sets.pulls_over_two_sets.Goals as goal
 
 pub returns-clause-wide : goal.returns-clause-wide

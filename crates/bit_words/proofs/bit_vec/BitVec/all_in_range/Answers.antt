@@ -1,6 +1,7 @@
-use Rattle.bit_words.proofs.{BitsLemmas.blocks_for-enough, RangeQueryLemmas.{all_in_view, not_all_past}}
+use Rattle.bit_blocks.proofs.BitsLemmas.{blocks_for-enough}
+use Rattle.bit_words.proofs.RangeQueryLemmas.{all_in_view, not_all_past}
 use Rattle.std.proofs.Common.{◌↔◌, ◌*◌, IsTrue, map, refl, ap, arith}
-use Rattle.bit_words.specs.{declared.block.merge.Merge.TheVariants.Difference, BlockMerges.MergesSpanToFalse}
+use Rattle.bit_blocks.specs.{declared.block.merge.Merge.TheVariants.Difference, BlockMerges.MergesSpanToFalse}
 use Rattle.bit_words.proofs.bit_vec.BitVec.all_in_range.Goals as goal
 
 pub returns-then-range-self : goal.returns-then-range-self

@@ -1,5 +1,6 @@
 use Rattle.std.proofs.Common.{◌≡◌, ◌↔◌, ◌*◌, Bool, IsTrue, true, false, not, refl, sym, ap, map, arith}
-use Rattle.bit_words.{specs.{declared.block.merge.Merge.TheVariants.Intersection, BlockMerges.MergesSpanToFalse}, proofs.{BitsLemmas.blocks_for-enough, RangeQueryLemmas.{none_in_view, none_past}}}
+use Rattle.bit_blocks.{specs.{declared.block.merge.Merge.TheVariants.Intersection, BlockMerges.MergesSpanToFalse}, proofs.BitsLemmas.blocks_for-enough}
+use Rattle.bit_words.proofs.RangeQueryLemmas.{none_in_view, none_past}
 use Rattle.bit_words.proofs.bit_vec.BitVec.any_in_range.Goals as goal
 
 pub returns-then-range-end : goal.returns-then-range-end

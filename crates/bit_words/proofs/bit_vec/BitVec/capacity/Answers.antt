@@ -1,5 +1,6 @@
 use Rattle.std.proofs.Common.{arith}
-use Rattle.bit_words.proofs.{GrowthLemmas.stored_within_capacity, SummaryLemmas.stored_within, VectorLemmas.is_capacity_of_blocks}
+use Rattle.bit_blocks.proofs.VectorLemmas.{is_capacity_of_blocks}
+use Rattle.bit_words.proofs.{GrowthLemmas.stored_within_capacity, SummaryLemmas.stored_within}
 use Rattle.bit_words.proofs.bit_vec.BitVec.capacity.Goals as goal
 
 pub returns-clause-fits : goal.returns-clause-fits

@@ -1,6 +1,7 @@
 use Rattle.std.proofs.{Common.{◌≡◌, ◌∙◌, length, max, vec_capacity, refl, sym, ap, ap₂, arith, Err}, lemmas.Result.err_from_is_err_and}
-use Rattle.bit_words.{specs.{Bits.{blocks_for, capacity_of}, Summary.shared_capacity}, proofs.{GrowthLemmas.{Grows-blocks, Grows-kept, Reserves-exact}, VectorLemmas.{length_from_view, capacity_from_view}}}
-use Rattle.bit_words.proofs.VectorLemmas.{capacity_of-max}
+use Rattle.bit_blocks.{specs.Bits.{blocks_for, capacity_of}, proofs.VectorLemmas.{length_from_view, capacity_from_view}}
+use Rattle.bit_words.{specs.Summary.shared_capacity, proofs.GrowthLemmas.{Grows-blocks, Grows-kept, Reserves-exact}}
+use Rattle.bit_blocks.proofs.VectorLemmas.{capacity_of-max}
 use Rattle.bit_words.proofs.bit_vec.BitVec.clone_from.Goals as goal
 
 pub returns-in_err-copy_both-clause-grows : goal.returns-in_err-copy_both-clause-grows

@@ -1,5 +1,6 @@
 use Rattle.std.{proofs.{Common.{◌≡◌, map, ◌∙◌, arith}, lemmas.List.Sums.count_by-le-length}, specs.List.count_by}
-use Rattle.bit_words.{specs.{Nonzero.ones_in, Storage.values_of}, proofs.{CountLemmas.ones_in-values, StorageLemmas.length-values_of, SummaryLemmas.{packed_blocks, stored_each, stored_enough}, bit_vec.BitVec.count_ones.Given.Over}}
+use Rattle.bit_blocks.{specs.Storage.{ones_in, values_of}, proofs.{CountLemmas.ones_in-values, StorageLemmas.length-values_of, UseLemmas.packed_blocks}}
+use Rattle.bit_words.proofs.{SummaryLemmas.{stored_each, stored_enough}, bit_vec.BitVec.count_ones.Given.Over}
 use Rattle.bit_words.proofs.bit_vec.BitVec.count_ones.Goals.{After-self}
 use Rattle.bit_words.proofs.bit_vec.BitVec.count_ones.Goals as goal
 

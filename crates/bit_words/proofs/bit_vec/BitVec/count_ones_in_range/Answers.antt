@@ -1,5 +1,6 @@
 use Rattle.std.{proofs.Common.{◌≡◌, ◌-◌, ◌*◌, sym, ap, ◌∙◌, arith, map}, specs.List.{count_by, range_with_len}}
-use Rattle.bit_words.{specs.Storage.value_at, proofs.{BitsLemmas.blocks_for-enough, RangeQueryLemmas.trues_in_view}}
+use Rattle.bit_blocks.{specs.Storage.value_at, proofs.BitsLemmas.blocks_for-enough}
+use Rattle.bit_words.proofs.RangeQueryLemmas.{trues_in_view}
 use Rattle.bit_words.proofs.bit_vec.BitVec.count_ones_in_range.Goals as goal
 
 pub returns-then-range-end : goal.returns-then-range-end

@@ -1,6 +1,8 @@
 use Rattle.std.proofs.{Common.{◌≡◌, ◌*◌, ◌^◌, ◌<◌, ◌≤◌, ◌==◌, ◌∙◌, not, map, get_or, get_or-take, sym, ap, ap₂, refl, arith, ⊎_elim}, lemmas.Bool.cases_lt}
-use Rattle.bit_words.{specs.{Bits.{blocks_for, capacity_of, true_end}, Storage.values_of, Summary.shared_capacity}, proofs.{CompareLemmas.{true_at, value_in_view}, CapacityLemmas.used_blocks-true_end}}
-use Rattle.bit_words.proofs.{CapacityLemmas.{whole_blocks-fits, whole_blocks-past, value_at-cut, zero_tail_cut, blocks_for-whole}, StorageLemmas.length-values_of, VectorLemmas.numbers_below}
+use Rattle.bit_blocks.{specs.{Bits.{blocks_for, capacity_of, true_end}, Storage.values_of}, proofs.CompareLemmas.{true_at, value_in_view}}
+use Rattle.bit_words.{specs.Summary.shared_capacity, proofs.CapacityLemmas.used_blocks-true_end}
+use Rattle.bit_blocks.proofs.{StorageLemmas.length-values_of, VectorLemmas.numbers_below}
+use Rattle.bit_words.proofs.CapacityLemmas.{whole_blocks-fits, whole_blocks-past, value_at-cut, zero_tail_cut, blocks_for-whole}
 use Rattle.bit_words.proofs.bit_vec.BitVec.cut_zero_blocks.{Given.Over, Goals.After-used_by_summary-count}
 use Rattle.bit_words.proofs.StartLemmas.{false_before_less}
 use Rattle.bit_words.proofs.bit_vec.BitVec.cut_zero_blocks.Goals as goal

@@ -1,5 +1,6 @@
 use Rattle.std.proofs.Common.{◌≡◌, ◌≤◌, ◌∙◌, refl, sym, ap, replicate, length, arith}
-use Rattle.bit_words.{specs.Summary.short_count, proofs.{SameCapacity.same_capacity, StorageLemmas.values_of-replicate, SummaryLemmas.{filled_summary, keeps_all, keeps_none}, VectorLemmas.length_from_view}}
+use Rattle.bit_blocks.proofs.{StorageLemmas.values_of-replicate, VectorLemmas.length_from_view}
+use Rattle.bit_words.{specs.Summary.short_count, proofs.{SameCapacity.same_capacity, SummaryLemmas.{filled_summary, keeps_all, keeps_none}}}
 use Rattle.bit_words.proofs.StartLemmas.{false_before_none}
 use Rattle.bit_words.proofs.bit_vec.BitVec.fill.Goals as goal
 

@@ -1,5 +1,6 @@
 use Rattle.std.proofs.Common.{◌<◌, false, get_or, length, map, sym, None, Some, arith}
-use Rattle.bit_words.{specs.{Storage.value_at, Summary.short_count}, proofs.{CompareLemmas.value_in_view, SearchLemmas.{finds_from_same, value_fits}, StartLemmas.{first_chunk, no_chunk}}}
+use Rattle.bit_blocks.{specs.Storage.value_at, proofs.{CompareLemmas.value_in_view, SearchLemmas.{finds_from_same, value_fits}}}
+use Rattle.bit_words.{specs.Summary.short_count, proofs.StartLemmas.{first_chunk, no_chunk}}
 use Rattle.bit_words.proofs.bit_vec.BitVec.first_one.{Given.Over, Goals.Else-is_short}
 use Rattle.bit_words.proofs.bit_vec.BitVec.first_one.Goals as goal
 

@@ -1,5 +1,5 @@
 use Rattle.std.proofs.Common.{false, get_or, map, sym}
-use Rattle.bit_words.{specs.Storage.value_at, proofs.{CompareLemmas.value_in_view, SearchLemmas.{finds_from_same, value_fits}}}
+use Rattle.bit_blocks.{specs.Storage.value_at, proofs.{CompareLemmas.value_in_view, SearchLemmas.{finds_from_same, value_fits}}}
 use Rattle.bit_words.proofs.bit_vec.BitVec.first_one_from.Goals as goal
 
 pub first_one_by_summary-requires : goal.first_one_by_summary-requires

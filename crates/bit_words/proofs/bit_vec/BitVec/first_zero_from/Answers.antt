@@ -1,5 +1,5 @@
 use Rattle.std.proofs.{Common.{Some, false, get_or, map, not, sym, ap, arith}, lemmas.List.get_or_past}
-use Rattle.bit_words.{specs.Storage.value_at, proofs.{CompareLemmas.value_in_view, SearchLemmas.{finds_from_same, zero_within}, VectorLemmas.length_from_view}}
+use Rattle.bit_blocks.{specs.Storage.value_at, proofs.{CompareLemmas.value_in_view, SearchLemmas.{finds_from_same, zero_within}, VectorLemmas.length_from_view}}
 use Rattle.bit_words.proofs.bit_vec.BitVec.first_zero_from.Goals as goal
 
 pub returns-then-n-self-clause-first : goal.returns-then-n-self-clause-first

@@ -1,6 +1,7 @@
 use Rattle.std.proofs.{Common.{◌≡◌, map, vec_capacity, refl, sym, ap, ◌∙◌, arith}, lemmas.{Bool.true≢false, Result.err_from_is_err_and}}
-use Rattle.bit_words.{specs.{Bits.{blocks_for, capacity_of}, Summary.shared_capacity}, proofs.{CapacityLemmas.shared_whole, StorageLemmas.values_of-replicate, SummaryLemmas.use_of_values, VectorLemmas.blocks_for-none}}
-use Rattle.bit_words.proofs.VectorLemmas.{le-capacity_of, numbers_below}
+use Rattle.bit_blocks.{specs.Bits.{blocks_for, capacity_of}, proofs.{StorageLemmas.values_of-replicate, VectorLemmas.blocks_for-none}}
+use Rattle.bit_words.{specs.Summary.shared_capacity, proofs.{CapacityLemmas.shared_whole, SummaryLemmas.use_of_values}}
+use Rattle.bit_blocks.proofs.VectorLemmas.{le-capacity_of, numbers_below}
 use Rattle.bit_words.proofs.StartLemmas.{false_before_none}
 use Rattle.bit_words.proofs.bit_vec.BitVec.from_elem_general.Goals as goal
 

@@ -1,5 +1,5 @@
 use Rattle.std.proofs.Common.{◌≡◌, map, sym, ap, ◌∙◌, Some, arith}
-use Rattle.bit_words.{specs.Storage.value_at, proofs.{BitsLemmas.blocks_for-above, VectorLemmas.{slice_get-values_of, slice_get-values_of_past}}}
+use Rattle.bit_blocks.{specs.Storage.value_at, proofs.{BitsLemmas.blocks_for-above, VectorLemmas.{slice_get-values_of, slice_get-values_of_past}}}
 use Rattle.bit_words.proofs.bit_vec.BitVec.get.Goals as goal
 
 pub returns-then-i-self : goal.returns-then-i-self

@@ -1,5 +1,6 @@
 use Rattle.std.proofs.Common.{◌+◌, vec_capacity, ◌++◌, replicate, refl, sym, ap, ◌∙◌, arith}
-use Rattle.bit_words.proofs.{GrowthLemmas.{Grows-blocks, Reserves-within}, StorageLemmas.values_of-append, SummaryLemmas.stored_within, VectorLemmas.length_from_view}
+use Rattle.bit_blocks.proofs.{StorageLemmas.values_of-append, VectorLemmas.length_from_view}
+use Rattle.bit_words.proofs.{GrowthLemmas.{Grows-blocks, Reserves-within}, SummaryLemmas.stored_within}
 use Rattle.bit_words.proofs.bit_vec.BitVec.grow.Goals as goal
 
 pub overflow_add-len : goal.overflow_add-len

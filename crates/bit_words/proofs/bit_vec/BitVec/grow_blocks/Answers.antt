@@ -1,6 +1,8 @@
 use Rattle.std.proofs.{Common.{◌≡◌, ◌+◌, ◌^◌, ◌<◌, ◌++◌, ◌∙◌, length, vec_capacity, replicate, ap, ap₂, arith}, lemmas.Result.err_from_is_err_and}
-use Rattle.bit_words.{specs.{Bits.capacity_of, Summary.shared_capacity}, proofs.{CapacityLemmas.stored_from_shared, GrowthLemmas.{Grows-blocks, Grows-kept}, StorageLemmas.values_of-append}}
-use Rattle.bit_words.proofs.{BitsLemmas.blocks_for-le, GrownSummary.{IsGrown, grown_after, grown_before, grown_last}, VectorLemmas.length_from_view}
+use Rattle.bit_blocks.{specs.Bits.capacity_of, proofs.StorageLemmas.values_of-append}
+use Rattle.bit_words.{specs.Summary.shared_capacity, proofs.{CapacityLemmas.stored_from_shared, GrowthLemmas.{Grows-blocks, Grows-kept}}}
+use Rattle.bit_blocks.proofs.{BitsLemmas.blocks_for-le, VectorLemmas.length_from_view}
+use Rattle.bit_words.proofs.GrownSummary.{IsGrown, grown_after, grown_before, grown_last}
 use Rattle.bit_words.proofs.StartLemmas.{grown_start}
 use Rattle.bit_words.proofs.bit_vec.BitVec.grow_blocks.Goals as goal
 

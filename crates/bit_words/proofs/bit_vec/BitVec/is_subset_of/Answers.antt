@@ -1,5 +1,5 @@
 use Rattle.std.proofs.Common.{◌↔◌, IsTrue, map, arith}
-use Rattle.bit_words.{specs.{declared.block.merge.Merge.TheVariants.Difference, BlockMerges.MergesToFalse}, proofs.{CompareLemmas.{first_of_lists, subset_lists}, VectorLemmas.length_from_view}}
+use Rattle.bit_blocks.{specs.{declared.block.merge.Merge.TheVariants.Difference, BlockMerges.MergesToFalse}, proofs.{CompareLemmas.{first_of_lists, subset_lists}, VectorLemmas.length_from_view}}
 use Rattle.bit_words.proofs.bit_vec.BitVec.is_subset_of.Goals as goal
 
 pub returns : goal.returns

@@ -1,7 +1,8 @@
 use Rattle.std.proofs.lemmas.List.{length-map}
 use Rattle.std.proofs.Common.{◌<◌, length, map, refl, ap, arith}
 use Rattle.bit_words.specs.Summary.{short_count}
-use Rattle.bit_words.proofs.{KeepLemmas.{KeptBlock, block_inside, kept_block, kept_packed, kept_summary, kept_values}, SameCapacity.same_capacity, SummaryLemmas.{keeps_all, keeps_none}, SummarySpanLemmas.in_chunks, VectorLemmas.length_from_view}
+use Rattle.bit_blocks.proofs.VectorLemmas.{length_from_view}
+use Rattle.bit_words.proofs.{KeepLemmas.{KeptBlock, block_inside, kept_block, kept_packed, kept_summary, kept_values}, SameCapacity.same_capacity, SummaryLemmas.{keeps_all, keeps_none}, SummarySpanLemmas.in_chunks}
 use Rattle.bit_words.proofs.bit_vec.BitVec.keep_in_block.{Given.Over, Goals.{After-put_block, After-self, Else-is_short}}
 use Rattle.bit_words.proofs.{KeepLemmas.kept_less, StartLemmas.false_before_less}
 use Rattle.bit_words.proofs.bit_vec.BitVec.keep_in_block.Goals as goal

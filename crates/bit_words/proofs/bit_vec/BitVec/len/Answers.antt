@@ -1,5 +1,6 @@
 use Rattle.std.proofs.Common.{sym, arith}
-use Rattle.bit_words.proofs.{GrowthLemmas.stored_within_capacity, VectorLemmas.length_from_view}
+use Rattle.bit_blocks.proofs.VectorLemmas.{length_from_view}
+use Rattle.bit_words.proofs.GrowthLemmas.{stored_within_capacity}
 use Rattle.bit_words.proofs.bit_vec.BitVec.len.Goals as goal
 
 pub returns : goal.returns

@@ -1,6 +1,7 @@
 use Rattle.std.proofs.{Common.{◌≡◌, ℕ, ◌∙◌, ap, ap₂, ◌++◌, map, drop, length, take, arith}, lemmas.List.take_at}
-use Rattle.bit_words.{specs.{Merges.{merge_of, merge_of_values}, Storage.value_at}, proofs.{BitsLemmas.blocks_for-le, MergeLemmas.{merged_lists, merged_zero_tail, merges_of_values}, NotedMergeLemmas.stay_none, VectorLemmas.length_from_view}}
-use Rattle.bit_words.proofs.{VectorLemmas.no_longer_from_views, bit_vec.BitVec.merge_blocks.{Given.Over, Goals.After-merge_chosen}}
+use Rattle.bit_blocks.{specs.{Merges.{merge_of, merge_of_values}, Storage.value_at}, proofs.{BitsLemmas.blocks_for-le, MergeLemmas.{merged_lists, merged_zero_tail, merges_of_values}, NotedMergeLemmas.stay_none, VectorLemmas.length_from_view}}
+use Rattle.bit_blocks.proofs.VectorLemmas.{no_longer_from_views}
+use Rattle.bit_words.proofs.bit_vec.BitVec.merge_blocks.{Given.Over, Goals.After-merge_chosen}
 use Rattle.bit_words.proofs.StartLemmas.{false_before_none}
 use Rattle.bit_words.proofs.bit_vec.BitVec.merge_blocks.Goals as goal
 

@@ -1,6 +1,7 @@
 use Rattle.std.proofs.{Common.{◌≡◌, ℕ, ◌∙◌, sym, ap, ap₂, ◌++◌, map, drop, length, take, arith}, lemmas.List.take_at}
-use Rattle.bit_words.{specs.{Merges.{merge_of, merge_of_values}, Storage.{value_at, IsPacked}}, proofs.{BitsLemmas.blocks_for-le, MergeLemmas.{merged_lists, merged_zero_tail, merges_of_values}, NotedMergeLemmas.kept_lists, VectorLemmas.length_from_view}}
-use Rattle.bit_words.proofs.{VectorLemmas.{no_longer_from_views, numbers_below}, bit_vec.BitVec.merge_changes.{Given.Over, Goals.After-merge_and_note}}
+use Rattle.bit_blocks.{specs.{Merges.{merge_of, merge_of_values}, Storage.{value_at, IsPacked}}, proofs.{BitsLemmas.blocks_for-le, MergeLemmas.{merged_lists, merged_zero_tail, merges_of_values}, NotedMergeLemmas.kept_lists, VectorLemmas.length_from_view}}
+use Rattle.bit_blocks.proofs.VectorLemmas.{no_longer_from_views, numbers_below}
+use Rattle.bit_words.proofs.bit_vec.BitVec.merge_changes.{Given.Over, Goals.After-merge_and_note}
 use Rattle.bit_words.proofs.StartLemmas.{false_before_none}
 use Rattle.bit_words.proofs.bit_vec.BitVec.merge_changes.Goals as goal
 

@@ -1,4 +1,5 @@
-use Rattle.bit_words.proofs.{SummaryLemmas.stored_nil, VectorLemmas.values_of-none}
+use Rattle.bit_blocks.proofs.VectorLemmas.{values_of-none}
+use Rattle.bit_words.proofs.SummaryLemmas.{stored_nil}
 use Rattle.bit_words.proofs.bit_vec.BitVec.new_general.Goals as goal
 
 pub invariant_of-result : goal.invariant_of-result

@@ -1,4 +1,4 @@
-use Rattle.bit_words.proofs.VectorLemmas.{all_false_from_zero, zero_from_all_false}
+use Rattle.bit_blocks.proofs.VectorLemmas.{all_false_from_zero, zero_from_all_false}
 use Rattle.bit_words.proofs.bit_vec.BitVec.none.Goals as goal
 
 pub returns : goal.returns

@@ -1,5 +1,6 @@
 use Rattle.std.proofs.{Common.{◌≡◌, ◌-◌, length, min, sym, ap, ◌∙◌, subst, arith}, lemmas.List.length-map}
-use Rattle.bit_words.{specs.Nonzero.StartsPast, proofs.BitsLemmas.length-blocks_of}
+use Rattle.bit_blocks.proofs.BitsLemmas.{length-blocks_of}
+use Rattle.bit_words.specs.Nonzero.{StartsPast}
 use Rattle.bit_words.proofs.bit_vec.BitVec.nonzero_past.Goals as goal
 
 pub after-requires : goal.after-requires

@@ -1,4 +1,5 @@
-use Rattle.bit_words.proofs.{SummaryLemmas.stored_nil, VectorLemmas.values_of-none}
+use Rattle.bit_blocks.proofs.VectorLemmas.{values_of-none}
+use Rattle.bit_words.proofs.SummaryLemmas.{stored_nil}
 use Rattle.bit_words.proofs.bit_vec.BitVec.remove_all.Goals as goal
 
 pub invariant_of-self : goal.invariant_of-self

@@ -1,5 +1,6 @@
 use Rattle.std.proofs.Common.{arith}
-use Rattle.bit_words.proofs.{GrowthLemmas.Grows-kept, VectorLemmas.length_from_view}
+use Rattle.bit_blocks.proofs.VectorLemmas.{length_from_view}
+use Rattle.bit_words.proofs.GrowthLemmas.{Grows-kept}
 use Rattle.bit_words.proofs.bit_vec.BitVec.reserve.Goals as goal
 
 pub overflow_add-self-inside : goal.overflow_add-self-inside

@@ -1,5 +1,6 @@
 use Rattle.std.proofs.{Common.{◌+◌, arith}, lemmas.Result.on_ok_weaker}
-use Rattle.bit_words.proofs.{BitsLemmas.blocks_for-le, GrowthLemmas.{Grows-kept, Reserves-exact}, VectorLemmas.{length_from_view, capacity_from_max}}
+use Rattle.bit_blocks.proofs.{BitsLemmas.blocks_for-le, VectorLemmas.{length_from_view, capacity_from_max}}
+use Rattle.bit_words.proofs.GrowthLemmas.{Grows-kept, Reserves-exact}
 use Rattle.bit_words.proofs.bit_vec.BitVec.reserve_exact.Goals as goal
 
 pub overflow_add-self-inside : goal.overflow_add-self-inside

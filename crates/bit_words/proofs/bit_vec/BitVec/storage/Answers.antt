@@ -1,5 +1,6 @@
 use Rattle.std.proofs.Common.{arith}
-use Rattle.bit_words.proofs.{GrowthLemmas.stored_within_capacity, SummaryLemmas.packed_blocks}
+use Rattle.bit_blocks.proofs.UseLemmas.{packed_blocks}
+use Rattle.bit_words.proofs.GrowthLemmas.{stored_within_capacity}
 use Rattle.bit_words.proofs.bit_vec.BitVec.storage.Goals as goal
 
 pub returns-clause-numbers : goal.returns-clause-numbers

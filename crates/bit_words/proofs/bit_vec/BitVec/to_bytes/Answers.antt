@@ -1,6 +1,6 @@
 use Rattle.std.proofs.{Common.{Result, Ok, Err, sym, ◌∙◌}}
 use Rattle.std.specs.Prelude.{IfOk}
-use Rattle.bit_words.proofs.{ByteLemmas.values_of_bytes_are, VectorLemmas.length_from_view}
+use Rattle.bit_blocks.proofs.{ByteLemmas.values_of_bytes_are, VectorLemmas.length_from_view}
 use Rattle.bit_words.proofs.bit_vec.BitVec.to_bytes.Goals as goal
 
 both : {V E : Type 0} (P Q S : V → Type 0) (r : Result V E) → IfOk r P → IfOk r Q → ((v : V) → P v → Q v → S v) → IfOk r S

@@ -1,5 +1,6 @@
 use Rattle.std.proofs.Common.{◌≡◌, ◌∙◌, sym, ap, length, map, take, take_all, arith}
-use Rattle.bit_words.proofs.{SameCapacity.same_capacity, StorageLemmas.values_of-take, SummaryLemmas.kept_use, BitsLemmas.blocks_for-le, VectorLemmas.{length_from_view, numbers_below}}
+use Rattle.bit_blocks.proofs.{StorageLemmas.values_of-take, BitsLemmas.blocks_for-le, VectorLemmas.{length_from_view, numbers_below}}
+use Rattle.bit_words.proofs.{SameCapacity.same_capacity, SummaryLemmas.kept_use}
 use Rattle.bit_words.proofs.StartLemmas.{cut_less, false_before_less}
 use Rattle.bit_words.proofs.bit_vec.BitVec.truncate.Goals as goal
 

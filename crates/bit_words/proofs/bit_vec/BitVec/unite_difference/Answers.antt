@@ -1,6 +1,7 @@
 use Rattle.std.proofs.{Common.{◌≡◌, ◌≤◌, ◌∙◌, sym, ap, ap₂, ◌++◌, map, drop, length, take, arith}, lemmas.List.take_at}
-use Rattle.bit_words.{specs.{declared.block.merge.Merge.TheVariants.{Difference, Union}, Merges.merge_of, NotedMerges.{except_at, HasMergedWith}, Storage.{IsPacked}}, proofs.{BitsLemmas.blocks_for-le, NotedMergeLemmas.{kept_lists, lists_merged_except, packed_merged, values_merged_except}, VectorLemmas.length_from_view}}
-use Rattle.bit_words.proofs.{VectorLemmas.{no_longer_from_views, numbers_below}, bit_vec.BitVec.unite_difference.{Given.Over, Goals.After-unite_and_note}}
+use Rattle.bit_blocks.{specs.{declared.block.merge.Merge.TheVariants.{Difference, Union}, Merges.merge_of, NotedMerges.{except_at, HasMergedWith}, Storage.IsPacked}, proofs.{BitsLemmas.blocks_for-le, NotedMergeLemmas.{kept_lists, lists_merged_except, packed_merged, values_merged_except}, VectorLemmas.length_from_view}}
+use Rattle.bit_blocks.proofs.VectorLemmas.{no_longer_from_views, numbers_below}
+use Rattle.bit_words.proofs.bit_vec.BitVec.unite_difference.{Given.Over, Goals.After-unite_and_note}
 use Rattle.bit_words.proofs.StartLemmas.{false_before_none}
 use Rattle.bit_words.proofs.bit_vec.BitVec.unite_difference.Goals as goal
 

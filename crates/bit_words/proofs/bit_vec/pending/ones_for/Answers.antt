@@ -1,5 +1,5 @@
 use Rattle.std.proofs.{Common.{◌≡◌, ◌≤◌, true, nat_lt, sym, ◌∙◌, arith}, lemmas.Bool.Decides.nat_tests}
-use Rattle.bit_words.proofs.Masks.{is_one-ones}
+use Rattle.bit_blocks.proofs.Masks.{is_one-ones}
 use Rattle.bit_words.proofs.bit_vec.pending.ones_for.Goals as goal
 
 pub returns-else-count-bits-clause-digits : goal.returns-else-count-bits-clause-digits

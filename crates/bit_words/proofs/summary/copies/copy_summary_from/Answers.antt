@@ -1,5 +1,6 @@
 use Rattle.std.proofs.Common.{length, arith}
-use Rattle.bit_words.proofs.{SummaryLemmas.{keeps_all, summary_updated}, TailLemmas.{tail_packed, tail_use}, BitsLemmas.{blocks_for-above, blocks_for-le}}
+use Rattle.bit_blocks.proofs.{TailLemmas.{tail_packed, tail_use}, BitsLemmas.{blocks_for-above, blocks_for-le}}
+use Rattle.bit_words.proofs.SummaryLemmas.{keeps_all, summary_updated}
 use Rattle.bit_words.proofs.summary.copies.copy_summary_from.Goals as goal
 
 pub copy_bits_from-requires-clause-within : goal.copy_bits_from-requires-clause-within

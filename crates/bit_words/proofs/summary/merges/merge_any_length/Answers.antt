@@ -1,5 +1,6 @@
 use Rattle.std.proofs.Common.{length, ap, sym, ◌∙◌, arith}
-use Rattle.bit_words.{specs.Bits.blocks_for, proofs.{NotedMergeLemmas.merged_past_stay, SummaryLemmas.{keeps_all, keeps_none}}}
+use Rattle.bit_blocks.{specs.Bits.blocks_for, proofs.NotedMergeLemmas.merged_past_stay}
+use Rattle.bit_words.proofs.SummaryLemmas.{keeps_all, keeps_none}
 use Rattle.bit_words.proofs.summary.merges.merge_any_length.Goals as goal
 
 pub returns-then-is_short-clause-has : goal.returns-then-is_short-clause-has

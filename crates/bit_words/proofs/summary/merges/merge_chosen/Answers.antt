@@ -1,5 +1,6 @@
 use Rattle.std.proofs.Common.{length, ap, sym, ◌∙◌, arith}
-use Rattle.bit_words.{specs.Bits.blocks_for, proofs.SummaryLemmas.keeps_all}
+use Rattle.bit_blocks.specs.Bits.{blocks_for}
+use Rattle.bit_words.proofs.SummaryLemmas.{keeps_all}
 use Rattle.bit_words.proofs.summary.merges.merge_chosen.Goals as goal
 
 pub returns-then-is_short : goal.returns-then-is_short

@@ -1,5 +1,6 @@
 use Rattle.std.proofs.{Common.{◌≡◌, ◌≢◌, ℕ, ◌+◌, ◌*◌, ◌<◌, ◌≤◌, ◌∙◌, ◌==◌, not, refl, sym, ap, get_or, map, length, arith, get_or-set_other, mul-le-mul_right}, lemmas.List.length-map}
-use Rattle.bit_words.{specs.{Digits.is_one, Summary.is_used}, proofs.{MergeLemmas.{merged_none, merged_more}, SummaryLemmas.summary_put}}
+use Rattle.bit_blocks.{specs.{Digits.is_one, Storage.is_used}, proofs.MergeLemmas.{merged_none, merged_more}}
+use Rattle.bit_words.proofs.SummaryLemmas.{summary_put}
 use Rattle.bit_words.proofs.summary.merges.merge_chunks.Goals as goal
 
 pub loop-q-preserved : goal.loop-q-preserved

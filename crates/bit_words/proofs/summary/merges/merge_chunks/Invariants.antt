@@ -1,5 +1,5 @@
 use Rattle.std.proofs.Common.{◌≡◌, ℕ, ◌+◌, ◌*◌, ◌<◌, ◌≤◌, All, get_or, map, length}
-use Rattle.bit_words.specs.{BlockMerges.HasMerged, Digits.is_one, Summary.is_used}
+use Rattle.bit_blocks.specs.{BlockMerges.HasMerged, Digits.is_one, Storage.is_used}
 use Rattle.bit_words.proofs.summary.merges.merge_chunks.Given as goal
 
 abbrev pub invariant-loop-q : goal.invariant-loop-q

@@ -1,5 +1,6 @@
 use Rattle.std.proofs.Common.{◌≡◌, ◌+◌, ◌∙◌, ◌==◌, not, refl, ap, arith}
-use Rattle.bit_words.proofs.{MergeLemmas.merged_more, UsedLemmas.{says_kept, says_more}}
+use Rattle.bit_blocks.proofs.MergeLemmas.{merged_more}
+use Rattle.bit_words.proofs.UsedLemmas.{says_kept, says_more}
 use Rattle.bit_words.proofs.summary.merges.merge_group.Goals as goal
 
 pub loop-j-preserved : goal.loop-j-preserved

@@ -1,5 +1,6 @@
 use Rattle.std.proofs.Common.{◌≡◌, ◌+◌, ◌*◌, refl, arith}
-use Rattle.bit_words.proofs.{MergeLemmas.merged_more, UsedLemmas.{says_group, says_kept}}
+use Rattle.bit_blocks.proofs.MergeLemmas.{merged_more}
+use Rattle.bit_words.proofs.UsedLemmas.{says_group, says_kept}
 use Rattle.bit_words.proofs.summary.merges.merge_groups.Goals as goal
 
 pub loop-group-preserved : goal.loop-group-preserved

@@ -1,5 +1,6 @@
 use Rattle.std.proofs.Common.{◌≡◌, ◌+◌, ◌*◌}
-use Rattle.bit_words.specs.{BlockMerges.HasMerged, Summary.SaysUsed}
+use Rattle.bit_blocks.specs.BlockMerges.{HasMerged}
+use Rattle.bit_words.specs.Summary.{SaysUsed}
 use Rattle.bit_words.proofs.summary.merges.merge_groups.Given as goal
 
 abbrev pub invariant-loop-group : goal.invariant-loop-group

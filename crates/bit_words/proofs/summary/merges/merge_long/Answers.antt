@@ -1,5 +1,6 @@
 use Rattle.std.proofs.{Common.{◌≡◌, ℕ, ◌+◌, ◌*◌, ◌/◌, ◌%◌, ◌<◌, ◌≤◌, ◌∙◌, ◌==◌, not, refl, sym, ap, map, length, arith, ⊎_elim, mod-lt, div-add-mod', div-mul-le_self, mul-le-mul_right}, lemmas.Bool.cases_lt}
-use Rattle.bit_words.{specs.Digits.is_one, proofs.{BitsLemmas.block_past, ChangeLemmas.div_le, MergeLemmas.merged_more, NotedMergeLemmas.{merged_past_stay, stay_part}, StorageLemmas.{value_at-index, value_at-is}, SummaryLemmas.summary_of_blocks}}
+use Rattle.bit_blocks.{specs.Digits.is_one, proofs.{BitsLemmas.block_past, ChangeLemmas.div_le, MergeLemmas.merged_more, NotedMergeLemmas.{merged_past_stay, stay_part}, StorageLemmas.{value_at-index, value_at-is}}}
+use Rattle.bit_words.proofs.SummaryLemmas.{summary_of_blocks}
 use Rattle.bit_words.proofs.summary.merges.merge_long.Goals as goal
 
 -- the blocks of whole chunks are among the others, and those of the chunk after them are the last

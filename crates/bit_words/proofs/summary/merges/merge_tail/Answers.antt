@@ -1,6 +1,7 @@
 use Rattle.std.proofs.Common.{◌≡◌, ℕ, ◌+◌, ◌-◌, ◌*◌, ◌<◌, ◌≤◌, ◌≢◌, ◌∙◌, false, List, [], refl, sym, ap, ap₂, map, get_or, get_or-set_other, length, arith}
-use Rattle.bit_words.{specs.{BlockMerges.HasMerged, Digits.is_one, Merges.merge_of_values, Summary.is_used, declared.block.merge.Merge.Merge, Storage.value_at}, proofs.{Masks.is_one-zero, MergeLemmas.merged_more}}
-use Rattle.bit_words.proofs.{MergeLemmas.merged_with_none, SummaryMergeLemmas.{tail_digits, use_past_others}, UsedLemmas.says_kept}
+use Rattle.bit_blocks.{specs.{BlockMerges.HasMerged, Digits.is_one, Merges.merge_of_values, Storage.{is_used, value_at}, declared.block.merge.Merge.Merge}, proofs.{Masks.is_one-zero, MergeLemmas.merged_more}}
+use Rattle.bit_blocks.proofs.MergeLemmas.{merged_with_none}
+use Rattle.bit_words.proofs.{SummaryMergeLemmas.{tail_digits, use_past_others}, UsedLemmas.says_kept}
 use Rattle.bit_words.proofs.summary.merges.merge_tail.Goals as goal
 
 -- where the blocks begin that are left

@@ -1,5 +1,6 @@
 use Rattle.std.proofs.Common.{◌≤◌, ◌∙◌, sym, length, arith}
-use Rattle.bit_words.proofs.{BitsLemmas.blocks_for-le, MergeLemmas.merges_of_values, NotedMergeLemmas.merged_past_stay, SummaryLemmas.summary_of_digits, SummaryMergeLemmas.union_use, summary.merges.unite_long.{Given.Over, Goals.After-merge_each}}
+use Rattle.bit_blocks.proofs.{BitsLemmas.blocks_for-le, MergeLemmas.merges_of_values, NotedMergeLemmas.merged_past_stay}
+use Rattle.bit_words.proofs.{SummaryLemmas.summary_of_digits, SummaryMergeLemmas.union_use, summary.merges.unite_long.{Given.Over, Goals.After-merge_each}}
 use Rattle.bit_words.proofs.summary.merges.unite_long.Goals as goal
 
 -- the other summary has no more blocks

@@ -1,5 +1,6 @@
 use Rattle.std.proofs.{Common.{◌≡◌, ◌≢◌, ◌+◌, ◌*◌, ◌<◌, ◌∙◌, true, sym, ap, ⊎_elim, get_or, map, length, arith, get_or-set_other}, lemmas.{Bool.{cases_lt, true≢false}, List.{get_or_past, length-map}}}
-use Rattle.bit_words.{specs.{Digits.is_one, Storage.value_at}, proofs.{BitsLemmas.whole_before, Masks.is_one-zero, StorageLemmas.value_at-index, SummaryLemmas.{summary_of_blocks, summary_put}}}
+use Rattle.bit_blocks.{specs.{Digits.is_one, Storage.value_at}, proofs.{BitsLemmas.whole_before, Masks.is_one-zero, StorageLemmas.value_at-index}}
+use Rattle.bit_words.proofs.SummaryLemmas.{summary_of_blocks, summary_put}
 use Rattle.bit_words.proofs.summary.noted_merges.follow_others.Goals as goal
 
 pub loop-q-preserved : goal.loop-q-preserved

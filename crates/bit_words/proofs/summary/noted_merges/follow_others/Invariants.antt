@@ -1,5 +1,5 @@
 use Rattle.std.proofs.Common.{◌≡◌, ℕ, ◌+◌, ◌*◌, ◌<◌, ◌≤◌, All, map, get_or, length}
-use Rattle.bit_words.specs.{Digits.is_one, Summary.is_used}
+use Rattle.bit_blocks.specs.{Digits.is_one, Storage.is_used}
 use Rattle.bit_words.proofs.summary.noted_merges.follow_others.Given as goal
 
 abbrev pub invariant-loop-q : goal.invariant-loop-q

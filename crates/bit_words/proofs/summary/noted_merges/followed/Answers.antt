@@ -1,5 +1,5 @@
 use Rattle.std.proofs.Common.{◌≡◌, ◌∙◌, sym, ap, arith}
-use Rattle.bit_words.{specs.{Digits.is_one}, proofs.Masks.is_one-zero}
+use Rattle.bit_blocks.{specs.Digits.is_one, proofs.Masks.is_one-zero}
 use Rattle.bit_words.proofs.summary.noted_merges.followed.Goals as goal
 
 pub returns-else-is_nonzero-clause-digits : goal.returns-else-is_nonzero-clause-digits

@@ -1,5 +1,5 @@
 use Rattle.std.proofs.{Common.{refl, sym}, lemmas.Bool.false≢true}
-use Rattle.bit_words.proofs.NotedMergeLemmas.{merged_kept_stay, merged_stay}
+use Rattle.bit_blocks.proofs.NotedMergeLemmas.{merged_kept_stay, merged_stay}
 use Rattle.bit_words.proofs.summary.noted_merges.merge_and_note.Goals as goal
 
 pub merge_chosen-requires-clause-from : goal.merge_chosen-requires-clause-from

@@ -1,5 +1,6 @@
 use Rattle.std.proofs.{Common.{◌≡◌, ◌≢◌, ℕ, ◌+◌, ◌*◌, ◌<◌, ◌≤◌, ◌∙◌, ◌==◌, min, not, refl, sym, ap, ⊎_elim, get_or, map, length, arith, get_or-set_other, mul-le-mul_right}, lemmas.{Bool.cases_lt, List.length-map}}
-use Rattle.bit_words.{specs.{Digits.is_one, Summary.is_used}, proofs.{BitsLemmas.{block_begins, blocks_for-enough, whole_before}, NotedMergeLemmas.{with_at, with_more, with_none}, StorageLemmas.value_at-index, SummaryLemmas.{summary_of_blocks, summary_put}}}
+use Rattle.bit_blocks.{specs.{Digits.is_one, Storage.is_used}, proofs.{BitsLemmas.{block_begins, blocks_for-enough, whole_before}, NotedMergeLemmas.{with_at, with_more, with_none}, StorageLemmas.value_at-index}}
+use Rattle.bit_words.proofs.SummaryLemmas.{summary_of_blocks, summary_put}
 use Rattle.bit_words.proofs.summary.noted_merges.unite_chunks.Goals as goal
 
 pub loop-q-init : goal.loop-q-init

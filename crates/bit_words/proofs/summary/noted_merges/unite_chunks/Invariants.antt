@@ -1,5 +1,5 @@
 use Rattle.std.proofs.Common.{◌≡◌, ℕ, ◌+◌, ◌*◌, ◌<◌, ◌≤◌, min, All, map, get_or, length}
-use Rattle.bit_words.specs.{declared.block.merge.Merge.TheVariants.Union, Digits.is_one, NotedMerges.{except_at, HasMergedWith}, Summary.is_used}
+use Rattle.bit_blocks.specs.{declared.block.merge.Merge.TheVariants.Union, Digits.is_one, NotedMerges.{except_at, HasMergedWith}, Storage.is_used}
 use Rattle.bit_words.proofs.summary.noted_merges.unite_chunks.Given as goal
 
 abbrev pub invariant-loop-q : goal.invariant-loop-q

@@ -1,5 +1,5 @@
 use Rattle.std.proofs.{Common.{refl, sym}, lemmas.Bool.false≢true}
-use Rattle.bit_words.proofs.NotedMergeLemmas.{kept_stay, with_stay}
+use Rattle.bit_blocks.proofs.NotedMergeLemmas.{kept_stay, with_stay}
 use Rattle.bit_words.proofs.summary.noted_merges.unite_found.Goals as goal
 
 pub unite_from-requires-clause-from : goal.unite_from-requires-clause-from

@@ -1,5 +1,6 @@
 use Rattle.std.proofs.Common.{◌≡◌, ◌*◌, ◌≤◌, ℕ, ◌/◌, length, refl, ap, arith, div-mul-le_self}
-use Rattle.bit_words.proofs.{ChangeLemmas.div_le, NotedMergeLemmas.{stay_part, with_past_stay}, SummaryLemmas.{keeps_all, keeps_none}}
+use Rattle.bit_blocks.proofs.{ChangeLemmas.div_le, NotedMergeLemmas.{stay_part, with_past_stay}}
+use Rattle.bit_words.proofs.SummaryLemmas.{keeps_all, keeps_none}
 use Rattle.bit_words.proofs.summary.noted_merges.unite_from.Goals as goal
 
 -- where the chunk of `start` begins; b is what `bits()` returned

@@ -1,5 +1,5 @@
 use Rattle.std.proofs.Common.{◌∙◌, length, map, sym, arith}
-use Rattle.bit_words.{specs.{declared.block.merge.Merge.TheVariants.Union, NotedMerges.{except_at, HasMergedWith}}, proofs.{BitsLemmas.blocks_for-le, NotedMergeLemmas.{used_of_union, with_past_stay}}}
+use Rattle.bit_blocks.{specs.{declared.block.merge.Merge.TheVariants.Union, NotedMerges.{except_at, HasMergedWith}}, proofs.{BitsLemmas.blocks_for-le, NotedMergeLemmas.{used_of_union, with_past_stay}}}
 use Rattle.bit_words.proofs.summary.noted_merges.unite_long_except.{Given.Over, Goals.After-unite_between}
 use Rattle.bit_words.proofs.summary.noted_merges.unite_long_except.Goals as goal
 

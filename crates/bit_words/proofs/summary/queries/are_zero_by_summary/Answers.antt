@@ -1,4 +1,4 @@
-use Rattle.bit_words.proofs.ZeroLemmas.{zero_by_summary}
+use Rattle.bit_words.proofs.SummaryZeros.{zero_by_summary}
 use Rattle.bit_words.proofs.summary.queries.are_zero_by_summary.Goals as goal
 
 pub returns-else-is_short : goal.returns-else-is_short

@@ -1,5 +1,5 @@
 use Rattle.std.proofs.Common.{◌≡◌, ◌*◌, ◌-◌, ◌≤◌, length, take}
-use Rattle.bit_words.specs.Nonzero.{ones_in}
+use Rattle.bit_blocks.specs.Storage.{ones_in}
 use Rattle.bit_words.proofs.summary.queries.ones_of_runs.Given as goal
 
 -- the chunks that were passed are counted

@@ -1,5 +1,6 @@
 use Rattle.std.proofs.{Common.{◌≡◌, ◌*◌, ◌^◌, ◌-◌, min, length, length-take, sym, ap, ◌∙◌, ⊎_elim, arith}, lemmas.Bool.cases_lt}
-use Rattle.bit_words.proofs.ZeroLemmas.{front_read, zero_past_chunks}
+use Rattle.bit_blocks.proofs.ZeroLemmas.{front_read}
+use Rattle.bit_words.proofs.SummaryZeros.{zero_past_chunks}
 use Rattle.bit_words.proofs.summary.queries.used_by_summary.Goals as goal
 
 pub returns-clause-zeros : goal.returns-clause-zeros

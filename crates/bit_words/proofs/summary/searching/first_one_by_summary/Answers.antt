@@ -1,5 +1,5 @@
 use Rattle.std.proofs.Common.{◌/◌, map, arith, div-add-mod', mod-lt}
-use Rattle.bit_words.proofs.SearchLemmas.{first_past_block, none_past_block}
+use Rattle.bit_blocks.proofs.SearchLemmas.{first_past_block, none_past_block}
 use Rattle.bit_words.proofs.summary.searching.first_one_by_summary.Goals as goal
 
 pub returns-in_err-k : goal.returns-in_err-k

@@ -1,5 +1,5 @@
 use Rattle.std.proofs.Common.{◌/◌, map, arith, div-add-mod'}
-use Rattle.bit_words.proofs.SearchLemmas.{last_before_block, none_before_block}
+use Rattle.bit_blocks.proofs.SearchLemmas.{last_before_block, none_before_block}
 use Rattle.bit_words.proofs.summary.searching.last_one_by_summary.Goals as goal
 
 pub returns-in_err-k : goal.returns-in_err-k

@@ -1,5 +1,5 @@
 use Rattle.std.proofs.Common.{map}
-use Rattle.bit_words.{specs.{Storage.value_at, Summary.is_used}, proofs.SearchLemmas.{finds_before_same, value_fits}}
+use Rattle.bit_blocks.{specs.Storage.{value_at, is_used}, proofs.SearchLemmas.{finds_before_same, value_fits}}
 use Rattle.bit_words.proofs.summary.searching.last_used_by_summary.Goals as goal
 
 pub last_one-requires : goal.last_one-requires

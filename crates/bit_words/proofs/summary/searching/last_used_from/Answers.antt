@@ -1,5 +1,6 @@
 use Rattle.std.proofs.Common.{◌==◌, ◌+◌, not, map, ap, ◌∙◌, arith}
-use Rattle.bit_words.{specs.{Storage.value_at, Summary.is_used}, proofs.{LastLemmas.stored_fits, SearchLemmas.{finds_before_below, finds_before_same}, ZeroLemmas.dropped}}
+use Rattle.bit_blocks.{specs.Storage.{value_at, is_used}, proofs.{SearchLemmas.{finds_before_below, finds_before_same}, ZeroLemmas.dropped}}
+use Rattle.bit_words.proofs.LastLemmas.{stored_fits}
 use Rattle.bit_words.proofs.summary.searching.last_used_from.Goals as goal
 
 pub last_one-requires-clause-fits : goal.last_one-requires-clause-fits

@@ -1,6 +1,8 @@
 use Rattle.std.proofs.Common.{◌≡◌, ℕ, ◌<◌, ◌≤◌, ◌-◌, ◌*◌, ◌/◌, true, length, map, vec_len, sym, ap, ◌∙◌, arith, div-lt_iff_lt-mul}
-use Rattle.bit_words.specs.{Bits.blocks_for, Merges.merge_of_values, Summary.short_count}
-use Rattle.bit_words.proofs.{ChangeLemmas.div_le, SummaryLemmas.{keeps_all, keeps_none, stored_each, stored_enough, summary_of_digits}, SummarySpanLemmas.{ends_written, filled_use, in_chunks}, VectorLemmas.numbers_below}
+use Rattle.bit_blocks.specs.{Bits.blocks_for, Merges.merge_of_values}
+use Rattle.bit_words.specs.Summary.{short_count}
+use Rattle.bit_blocks.proofs.{ChangeLemmas.div_le, VectorLemmas.numbers_below}
+use Rattle.bit_words.proofs.{SummaryLemmas.{keeps_all, keeps_none, stored_each, stored_enough, summary_of_digits}, SummarySpanLemmas.{ends_written, filled_use, in_chunks}}
 use Rattle.bit_words.proofs.summary.spans.fill_span.{Given.Over, Goals.After-merge_span-2}
 use Rattle.bit_words.proofs.summary.spans.fill_span.Goals as goal
 

@@ -1,6 +1,8 @@
 use Rattle.std.proofs.Common.{◌≡◌, ◌<◌, ◌≤◌, ◌-◌, ◌*◌, ◌/◌, length, map, vec_len, arith, ap, ◌∙◌, sym, div-lt_iff_lt-mul}
-use Rattle.bit_words.specs.{Bits.blocks_for, Summary.short_count}
-use Rattle.bit_words.proofs.{ChangeLemmas.div_le, SummaryLemmas.{keeps_all, keeps_none, stored_each, stored_enough, summary_of_digits}, SummarySpanLemmas.anew_use, VectorLemmas.numbers_below}
+use Rattle.bit_blocks.specs.Bits.{blocks_for}
+use Rattle.bit_words.specs.Summary.{short_count}
+use Rattle.bit_blocks.proofs.{ChangeLemmas.div_le, VectorLemmas.numbers_below}
+use Rattle.bit_words.proofs.{SummaryLemmas.{keeps_all, keeps_none, stored_each, stored_enough, summary_of_digits}, SummarySpanLemmas.anew_use}
 use Rattle.bit_words.proofs.summary.spans.negate_span.{Given.Over, Goals.After-block_index-last}
 use Rattle.bit_words.proofs.summary.spans.negate_span.Goals as goal
 

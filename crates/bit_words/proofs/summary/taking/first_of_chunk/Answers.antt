@@ -1,5 +1,6 @@
 use Rattle.std.proofs.Common.{map}
-use Rattle.bit_words.{specs.{Searches.IsFirstFrom, Summary.is_used}, proofs.{SearchLemmas.value_fits, StartLemmas.{first_of_first, first_used}}}
+use Rattle.bit_blocks.{specs.{Searches.IsFirstFrom, Storage.is_used}, proofs.SearchLemmas.value_fits}
+use Rattle.bit_words.proofs.StartLemmas.{first_of_first, first_used}
 use Rattle.bit_words.proofs.summary.taking.first_of_chunk.{Given.Over, Goals.After-first_of_block}
 use Rattle.bit_words.proofs.summary.taking.first_of_chunk.Goals as goal
 

@@ -1,5 +1,6 @@
 use Rattle.std.proofs.{Common.{◌+◌, ◌*◌, map, refl, sym, arith}, lemmas.{Bool.true≢false, List.length-map, Nat.div-mul-add}}
-use Rattle.bit_words.{specs.{Searches.IsFirstFrom, Storage.value_at}, proofs.{SearchLemmas.first_of_whole, StartLemmas.lowest_left}}
+use Rattle.bit_blocks.{specs.{Searches.IsFirstFrom, Storage.value_at}, proofs.SearchLemmas.first_of_whole}
+use Rattle.bit_words.proofs.StartLemmas.{lowest_left}
 use Rattle.bit_words.proofs.summary.taking.take_first_of_block.{Given.Over, Goals.After-bits}
 use Rattle.bit_words.proofs.summary.taking.take_first_of_block.Goals as goal
 

@@ -1,5 +1,6 @@
 use Rattle.std.proofs.{Common.{ℕ, ◌+◌, ◌*◌, ◌<◌, ◌==◌, false, not, map, length, sym, ap, ◌∙◌, arith}, lemmas.{Bool.true≢false, List.{get_or_past, length-map}}}
-use Rattle.bit_words.{specs.{Searches.IsFirstFrom, Storage.{WritesValue}, Summary.is_used}, proofs.{SearchLemmas.first_of_whole, StartLemmas.{first_of_first, first_used, lowest_left}, SummaryLemmas.{changed_summary, used_past}}}
+use Rattle.bit_blocks.{specs.{Searches.IsFirstFrom, Storage.{WritesValue, is_used}}, proofs.{SearchLemmas.first_of_whole, UseLemmas.used_past}}
+use Rattle.bit_words.proofs.{StartLemmas.{first_of_first, first_used, lowest_left}, SummaryLemmas.changed_summary}
 use Rattle.bit_words.proofs.summary.taking.take_first_of_chunk.{Given.Over, Goals.{After-take_lowest_one, After-put_block, then-is_nonzero, else-is_nonzero}}
 use Rattle.bit_words.proofs.summary.taking.take_first_of_chunk.Goals as goal
 

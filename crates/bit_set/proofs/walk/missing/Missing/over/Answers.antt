@@ -1,5 +1,5 @@
 use Rattle.std.proofs.Common.{◌≡◌, ◌-◌, ◌*◌, ◌/◌, ◌&&◌, nat_le, ap, ap₂, ◌∙◌}
-use Rattle.bit_words.specs.Digits.{is_one}
+use Rattle.bit_blocks.specs.Digits.{is_one}
 use Rattle.bit_set.{proofs.{MissingLemmas.{BeginsMissing, begins_missing}, walk.missing.Missing.over.Goals.After-clear_below}}
 use Rattle.bit_set.proofs.walk.missing.Missing.over.Goals as goal
 

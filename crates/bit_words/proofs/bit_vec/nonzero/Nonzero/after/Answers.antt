@@ -1,5 +1,6 @@
 use Rattle.std.proofs.Common.{◌+◌, ◌-◌, drop, length, take_all, sym, ap, ◌∙◌, arith}
-use Rattle.bit_words.{specs.{Bits.blocks_for, Nonzero.nonzero_from, Pending.left_from}, proofs.{GrowthLemmas.stored_within_capacity, SummaryLemmas.packed_blocks, VectorLemmas.length_from_view}}
+use Rattle.bit_blocks.{specs.Bits.blocks_for, proofs.{UseLemmas.packed_blocks, VectorLemmas.length_from_view}}
+use Rattle.bit_words.{specs.{Nonzero.nonzero_from, Pending.left_from}, proofs.GrowthLemmas.stored_within_capacity}
 use Rattle.bit_words.proofs.bit_vec.nonzero.Nonzero.after.Goals as goal
 
 pub returns-clause-blocks : goal.returns-clause-blocks

@@ -1,6 +1,7 @@
 use Rattle.std.proofs.Common.{◌≡◌, ◌+◌, ◌-◌, ◌*◌, ◌≤◌, [], List, Option, sym, ap, subst, ◌∙◌, arith}
 use Rattle.std.specs.Iterator.{YieldsFirst}
-use Rattle.bit_words.{specs.Pending.IsStoredFrom, proofs.{BitsLemmas.blocks_for-enough, PendingLemmas.stored_ended}}
+use Rattle.bit_blocks.proofs.BitsLemmas.{blocks_for-enough}
+use Rattle.bit_words.{specs.Pending.IsStoredFrom, proofs.PendingLemmas.stored_ended}
 use Rattle.bit_words.proofs.bit_vec.nonzero.Nonzero.count_end.Goals as goal
 
 -- a pull past the end leaves nothing

@@ -1,5 +1,6 @@
 use Rattle.std.proofs.{Common.{◌≡◌, ◌+◌, take, drop, length-take, sym, ap, ◌∙◌, arith}, lemmas.{Bool.Decides.nat_tests, List.{length-drop, Elements.{All-take, All-drop}}}}
-use Rattle.bit_words.{specs.Nonzero.{ones_in, ones_left}, proofs.{Masks.is_one-bit, PendingOnes.{enough_rest, left-ones_split, left-ones_past, left-ones_rest, tells_rest}, bit_vec.nonzero.Nonzero.count_ones.Given.Over}}
+use Rattle.bit_blocks.{specs.Storage.ones_in, proofs.Masks.is_one-bit}
+use Rattle.bit_words.{specs.Nonzero.ones_left, proofs.{PendingOnes.{enough_rest, left-ones_split, left-ones_past, left-ones_rest, tells_rest}, bit_vec.nonzero.Nonzero.count_ones.Given.Over}}
 use Rattle.bit_words.proofs.bit_vec.nonzero.Nonzero.count_ones.Goals.{After-first_blocks, After-ones_of}
 use Rattle.bit_words.proofs.bit_vec.nonzero.Nonzero.count_ones.Goals as goal
 

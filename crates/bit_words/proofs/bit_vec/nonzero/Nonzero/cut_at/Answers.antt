@@ -1,6 +1,7 @@
 use Rattle.std.proofs.Common.{◌≡◌, ℕ, ◌+◌, ◌-◌, ◌<◌, ◌++◌, All, not, ◌==◌, Bool, true, false, min, sym, ap, ap₂, subst, ◌∙◌, arith}
 use Rattle.std.proofs.lemmas.Bool.Decides.{nat_tests}
-use Rattle.bit_words.{specs.Pending.{left_from, next_at}, proofs.{BitsLemmas.blocks_for-le, CutLemmas.{IsSplitAt, split-with, split-without}, LastLemmas.{IsPending-cut_at, left-cut_at}}}
+use Rattle.bit_blocks.proofs.BitsLemmas.{blocks_for-le}
+use Rattle.bit_words.{specs.Pending.{left_from, next_at}, proofs.{CutLemmas.{IsSplitAt, split-with, split-without}, LastLemmas.{IsPending-cut_at, left-cut_at}}}
 use Rattle.bit_words.proofs.bit_vec.nonzero.Nonzero.cut_at.Goals.{After-clear_from-block, After-keep_before, then-may_have, else-may_have}
 use Rattle.bit_words.proofs.bit_vec.nonzero.Nonzero.cut_at.Goals as goal
 use mir.Val.{bool_byte}

@@ -1,5 +1,6 @@
 use Rattle.std.proofs.Common.{◌≡◌, ◌+◌, ◌-◌, ◌≤◌}
-use Rattle.bit_words.specs.{Bits.blocks_for, Pending.{IsPending, left_from, next_at}}
+use Rattle.bit_blocks.specs.Bits.{blocks_for}
+use Rattle.bit_words.specs.Pending.{IsPending, left_from, next_at}
 use Rattle.bit_words.proofs.bit_vec.nonzero.Nonzero.take_first.Given as goal
 
 -- the same is left, and what was pulled came out of the summary

@@ -1,5 +1,6 @@
 use Rattle.std.proofs.{Common.{◌≡◌, ℕ, ◌+◌, ◌-◌, ◌≤◌, Bool, true, false, not, ◌==◌, [], ◌∷◌, ◌++◌, if◌then◌else◌, length, refl, sym, ap, subst, ◌∙◌, arith}, lemmas.{Bool.eqb-false, Option.get_or_from_slice_get}}
-use Rattle.bit_words.{specs.{Bits.blocks_for, Pending.{left_from, next_at}}, proofs.{BitsLemmas.blocks_for-le, bit_vec.nonzero.Nonzero.take_last.{Given.Over, Goals.After-at-block}}}
+use Rattle.bit_blocks.{specs.Bits.blocks_for, proofs.BitsLemmas.blocks_for-le}
+use Rattle.bit_words.{specs.Pending.{left_from, next_at}, proofs.bit_vec.nonzero.Nonzero.take_last.{Given.Over, Goals.After-at-block}}
 use Rattle.bit_words.proofs.bit_vec.nonzero.Nonzero.take_last.Goals as goal
 
 turned : (b c : Bool) → not b ≡ c → b ≡ not c

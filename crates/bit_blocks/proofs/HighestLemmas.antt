@@ -1,0 +1,52 @@
+-- The highest 1 of a number, and the ones that are filled in below it.
+use Rattle.std.proofs.Common.{◌≡◌, ℕ, ◌+◌, ◌-◌, ◌/◌, ◌%◌, ◌^◌, ◌<◌, ◌≤◌, ◌*◌, suc, ap, subst, ◌∙◌, arith, pow_pos, pow-suc, div-lt_iff_lt-mul}
+use Rattle.std.proofs.{Math.Pow.pow_mono, lemmas.Nat.{leading_top, le-div, Bits.{bit_at-lt, bit_at_above, bit_at_ones, bit_at_ones_above, same_from_bits_below}}}
+use Rattle.std.specs.Int.{bit_at, Count.count_leading_zeros}
+use Rattle.bit_blocks.specs.{Digits.{IsEither, IsShiftedRight}, Highest.{IsHighest, IsFilledDown}}
+
+-- a number that is not 0 has one, below the zeros that lead its digits
+highest_below : (w m : ℕ) → 0 < m → m < 2 ^ w → (i : ℕ) × (count_leading_zeros w m + suc i ≡ w) × IsHighest m i
+highest_below w m pos fits =
+    let top = leading_top w m pos fits in
+    let i : ℕ = top.0 in (
+      i,
+      top.1,
+      record {
+        one =
+            let least = le-div 1 m (2 ^ i) (pow_pos i) (omega (arith, top.2)) in
+            let most = (div-lt_iff_lt-mul (pow_pos i)).1 (let e : m < 2 * 2 ^ i = omega (arith, top.3, pow-suc 2 i) in e) in
+            ap (λ q. q % 2) (let e : m / 2 ^ i ≡ 1 = omega (arith, least, most) in e);
+        zeros = λ k past. bit_at_above m (suc i) k top.3 (omega (arith, past));
+      },
+    )
+
+pub highest_found : (w m : ℕ) → 0 < m → m < 2 ^ w → (i : ℕ) × IsHighest m i
+highest_found w m pos fits = let found = highest_below w m pos fits in (found.0, found.2)
+
+pub highest_by_zeros : (w m : ℕ) → 0 < m → m < 2 ^ w → IsHighest m (w - 1 - count_leading_zeros w m)
+highest_by_zeros w m pos fits =
+    let found = highest_below w m pos fits in
+    subst (IsHighest m) (let e : found.0 ≡ w - 1 - count_leading_zeros w m = omega (arith, found.1) in e) found.2
+
+pub highest_within : (w m i : ℕ) → m < 2 ^ w → IsHighest m i → i < w
+highest_within w m i fits high = grind (arith, bit_at_above m w i fits, high.one)
+
+-- at first it is filled down to itself
+pub filled_at_first : (m i : ℕ) → IsHighest m i → IsFilledDown i 1 m
+filled_at_first m i high = record {
+  ones = λ k below reached. ap (bit_at m) (let e : k ≡ i = omega arith in e) ∙ high.one;
+  zeros = high.zeros;
+}
+
+-- and twice as far after a shift by as many digits
+pub filled_more : (w i d e m s n : ℕ) → i < w → n < 2 ^ w → m < 2 ^ w → IsShiftedRight w m d s → IsEither w m s n → e ≤ d + d → IsFilledDown i d m → IsFilledDown i e n
+filled_more w i d e m s n within fits small shifted either far filled = record {
+  ones = λ k below reached. grind (arith, either.digit k (omega arith), filled.ones k below, filled.ones (k + d), shifted.moved k, bit_at-lt m k, bit_at-lt s k);
+  zeros = λ k past. grind (arith, either.digit k, filled.zeros k past, filled.zeros (k + d), shifted.moved k, shifted.zeros k, bit_at_above n w k fits);
+}
+
+-- all digits from there down
+pub filled_whole : (w i d n : ℕ) → i < w → n < 2 ^ w → w ≤ d → IsFilledDown i d n → n ≡ 2 ^ (i + 1) - 1
+filled_whole w i d n within fits far filled =
+    same_from_bits_below w n (2 ^ (i + 1) - 1) fits (let whole = pow_mono (let e : i + 1 ≤ w = omega arith in e) in omega (arith, whole, pow_pos (i + 1))) (λ k inside.
+    grind (arith, filled.ones k, filled.zeros k, bit_at_ones, bit_at_ones_above))

@@ -1,0 +1,5 @@
+use Rattle.bit_blocks.proofs.HighestLemmas.{highest_by_zeros}
+use Rattle.bit_blocks.proofs.block.integers.U16BitBlock.highest_one.Goals as goal
+
+pub returns-clause-highest : goal.returns-clause-highest
+returns-clause-highest c = highest_by_zeros 16 c.args.self c.requires.not_zero c.requires.of_block

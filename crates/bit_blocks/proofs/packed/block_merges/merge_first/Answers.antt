@@ -1,0 +1,17 @@
+use Rattle.std.proofs.Common.{◌≡◌, ◌+◌, length, refl, arith}
+use Rattle.bit_blocks.proofs.MergeLemmas.{merged_none, merged_more}
+use Rattle.bit_blocks.proofs.packed.block_merges.merge_first.Goals as goal
+
+pub loop-k-init : goal.loop-k-init
+loop-k-init g c = record { has = merged_none _ _ _ _ _ _ _ _ c.requires.can.each (omega arith); steps = omega arith }
+
+pub loop-k-preserved : goal.loop-k-preserved
+loop-k-preserved g c = record {
+  has = merged_more _ _ _ _ c.args.start c.loop-k.k (c.loop-k.k + 1) _ _ _ _ _ _ c.loop-k.auto.k (omega arith) refl refl c.loop-k.invariant.has c.merge_block-merged.ensures.has;
+  steps = omega arith;
+}
+
+pub returns-clause-has : goal.returns-clause-has
+returns-clause-has g c =
+    let end : c.loop-k.k ≡ length c.args.others.now = omega arith in
+    rw end at c.loop-k.invariant.has

@@ -1,0 +1,20 @@
+use Rattle.std.proofs.Common.{◌≡◌, ◌+◌, map, arith}
+use Rattle.bit_blocks.{specs.NotedMerges.other_at, proofs.NotedMergeLemmas.{with_more, with_none, with_same}}
+use Rattle.bit_blocks.proofs.packed.except_merges.unite_alone.Goals as goal
+
+pub loop-k-init : goal.loop-k-init
+loop-k-init g c = record { has = with_none _ _ _ _ _ _ _ _ c.requires.each (omega arith); steps = omega arith }
+
+pub loop-k-preserved : goal.loop-k-preserved
+loop-k-preserved g c =
+    let k = c.loop-k.k in
+    let os = map g.B.BitBlock.number c.args.others.now in
+    let one = with_same _ _ _ _ k (k + 1) _ (other_at os) _ _ (λ q j from below index.
+    let here : k ≡ q = omega arith in
+    (let other = c.block_at.ensures.of_number in cc)) c.unite_block.ensures.has in
+    record { has = with_more _ _ _ _ c.args.start k (k + 1) _ _ _ _ c.loop-k.auto.k (omega arith) c.loop-k.invariant.has one; steps = omega arith }
+
+pub returns-clause-has : goal.returns-clause-has
+returns-clause-has g c =
+    let end : c.loop-k.k ≡ c.args.end = omega arith in
+    rw end at c.loop-k.invariant.has

@@ -1,0 +1,7 @@
+-- A list of truth values given as bytes. No public clause cites this.
+use Rattle.std.specs.Prelude.{ℕ, ◌-◌, ◌/◌, ◌%◌, Bool, List, get_or}
+use Rattle.bit_blocks.specs.Digits.{is_one}
+
+-- value i of a list of bytes, the highest digit of each byte first
+unfoldable pub byte_value : List ℕ → ℕ → Bool
+byte_value bytes i = is_one (get_or bytes (i / 8) 0) (7 - i % 8)

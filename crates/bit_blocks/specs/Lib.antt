@@ -1,0 +1,15 @@
+pub mod Digits
+pub mod DigitLaws
+pub mod Bits
+pub mod Searches
+pub mod Storage
+pub mod Bytes
+pub mod Steps
+pub mod Lowest
+pub mod Highest
+pub mod Merges
+pub mod BlockMerges
+pub mod NotedMerges
+pub mod Comparisons
+pub mod Mismatches
+pub mod Ranges

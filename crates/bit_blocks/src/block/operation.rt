@@ -1,0 +1,68 @@
+//! The four merges, each by a type.
+ghost use Rattle.std.specs.{Prelude.{◌≡◌, ℕ, ◌<◌, ◌==◌}, Int.bit_at};
+ghost use Rattle.bit_blocks.specs.{Merges.merge_of_values, declared.block.merge.Merge.Merge};
+
+use crate::block::BitBlock;
+use crate::block::operators::{block_and, block_not, block_or, block_xor};
+
+/// A `Merge` by a type. Generic code is then built once for each, with no choice inside.
+pub trait Operation {
+    ghost merge: { Merge };
+
+    /// What two blocks become, bit by bit, as `Merge::of_blocks` has it. Constant time.
+    fn of_blocks<B: BitBlock>(a: B, b: B) -> B
+        requires left { B.is_block a }
+        requires right { B.is_block b }
+        ensures of_block { B.is_block result }
+        ensures digits { (i : ℕ) → i < B.width
+            → (bit_at (B.number result) i == 1)
+            ≡ merge_of_values merge (bit_at (B.number a) i == 1) (bit_at (B.number b) i == 1) };
+}
+
+/// `Merge::Union`.
+pub struct Union;
+
+/// `Merge::Intersection`.
+pub struct Intersection;
+
+/// `Merge::Difference`.
+pub struct Difference;
+
+/// `Merge::Symmetric`.
+pub struct Symmetric;
+
+impl Operation for Union {
+    ghost merge = { Merge.Union };
+
+    #[inline]
+    fn of_blocks<B: BitBlock>(a: B, b: B) -> B {
+        block_or(a, b)
+    }
+}
+
+impl Operation for Intersection {
+    ghost merge = { Merge.Intersection };
+
+    #[inline]
+    fn of_blocks<B: BitBlock>(a: B, b: B) -> B {
+        block_and(a, b)
+    }
+}
+
+impl Operation for Difference {
+    ghost merge = { Merge.Difference };
+
+    #[inline]
+    fn of_blocks<B: BitBlock>(a: B, b: B) -> B {
+        block_and(a, block_not(b))
+    }
+}
+
+impl Operation for Symmetric {
+    ghost merge = { Merge.Symmetric };
+
+    #[inline]
+    fn of_blocks<B: BitBlock>(a: B, b: B) -> B {
+        block_xor(a, b)
+    }
+}

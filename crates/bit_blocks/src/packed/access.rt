@@ -1,0 +1,198 @@
+// Reads and writes of a vector of blocks, each by what it does to the bit at every index. They keep its length and
+// capacity unless they say otherwise, and know nothing of how many bits it holds.
+ghost use Rattle.std.specs.Prelude.{◌≡◌, ◌≢◌, ℕ, ◌<◌, ◌≤◌, ◌/◌, ◌%◌, ◌==◌, ◌&&◌, ◌||◌, ◌↔◌, All, IsTrue, length, map, set, get_or, nat_lt, nat_le, vec_len, vec_capacity, true, false};
+ghost use Rattle.bit_blocks.specs.{Bits.blocks_for, Digits.is_one, Storage.{value_at, FillsFirst, WritesInPlace, WritesValue}};
+
+use crate::block::BitBlock;
+use crate::block::masks::{cut_from, with_bit, with_ones_between, with_ones_from};
+use crate::block::operators::{has_one_at, same};
+use crate::packed::groups::BULK_WRITE;
+
+/// How many blocks a list of `len` values has.
+#[inline]
+pub fn block_count<B: BitBlock>(len: usize) -> usize
+    ensures { result ≡ blocks_for B.width len }
+{
+    len.div_ceil(B::bits())
+}
+
+/// The block in which index `i` is, and its index there.
+#[inline]
+pub fn block_index<B: BitBlock>(i: usize) -> usize
+    ensures { result ≡ i / B.width }
+{
+    i / B::bits()
+}
+
+#[inline]
+pub fn bit_index<B: BitBlock>(i: usize) -> usize
+    ensures value { result ≡ i % B.width }
+    ensures within { result < B.width }
+{
+    i % B::bits()
+}
+
+#[inline]
+pub fn block_at<B: BitBlock>(blocks: &[B], k: usize) -> B
+    requires in_bounds { k < length blocks.now }
+    requires each { All B.is_block blocks.now }
+    ensures of_block { B.is_block result }
+    ensures of_number { B.number result ≡ get_or (map B.number blocks.now) k 0 }
+{
+    blocks[k]
+}
+
+#[inline]
+pub fn put_block<B: BitBlock>(blocks: &mut Vec<B>, k: usize, block: B)
+    requires in_bounds { k < vec_len blocks.old }
+    requires each { All B.is_block blocks.old.items }
+    requires of_block { B.is_block block }
+    ensures numbers { map B.number blocks.new.items ≡ set (map B.number blocks.old.items) k (B.number block) }
+    ensures in_place { WritesInPlace B.is_block blocks.old blocks.new }
+{
+    blocks[k] = block;
+}
+
+/// Writes a block of those that are lent as a slice. Its address is in a register, so that a loop of these becomes
+/// vector code.
+#[inline]
+pub fn put_in<B: BitBlock>(blocks: &mut [B], k: usize, block: B)
+    requires in_bounds { k < length blocks.old }
+    requires each { All B.is_block blocks.old }
+    requires of_block { B.is_block block }
+    ensures numbers { map B.number blocks.new ≡ set (map B.number blocks.old) k (B.number block) }
+    ensures each { All B.is_block blocks.new }
+    ensures len { length blocks.new ≡ length blocks.old }
+{
+    blocks[k] = block;
+}
+
+#[inline]
+pub fn get_bit<B: BitBlock>(blocks: &[B], i: usize) -> bool
+    requires in_bounds { i / B.width < length blocks.now }
+    requires each { All B.is_block blocks.now }
+    ensures { result ≡ value_at B.width (map B.number blocks.now) i }
+{
+    let block = block_at(blocks, block_index::<B>(i));
+    has_one_at(block, bit_index::<B>(i))
+}
+
+/// The value at `i` becomes `bit`, where `block` is the block that it is in. What the block becomes is returned.
+#[inline]
+pub fn write_bit<B: BitBlock>(blocks: &mut Vec<B>, i: usize, block: B, bit: bool) -> B
+    requires in_bounds { i / B.width < vec_len blocks.old }
+    requires each { All B.is_block blocks.old.items }
+    requires of_block { B.is_block block }
+    requires read { B.number block ≡ get_or (map B.number blocks.old.items) (i / B.width) 0 }
+    ensures of_block { B.is_block result }
+    ensures digit { is_one (B.number result) (i % B.width) ≡ bit }
+    ensures other_digits { (j : ℕ) → j < B.width → j ≢ i % B.width
+        → is_one (B.number result) j ≡ is_one (B.number block) j }
+    ensures value { WritesValue B.width (map B.number blocks.old.items) (map B.number blocks.new.items) i bit }
+    ensures in_place { WritesInPlace B.is_block blocks.old blocks.new }
+{
+    let written = with_bit(block, bit_index::<B>(i), bit);
+    put_block(blocks, block_index::<B>(i), written);
+    written
+}
+
+/// The value at `i` becomes `bit`, and what it was is returned. It was the other where the block changes: so no bit of
+/// the old block is tested.
+#[inline]
+pub fn replace_bit<B: BitBlock>(blocks: &mut Vec<B>, i: usize, bit: bool) -> bool
+    requires in_bounds { i / B.width < vec_len blocks.old }
+    requires each { All B.is_block blocks.old.items }
+    ensures was { result ≡ value_at B.width (map B.number blocks.old.items) i }
+    ensures value { WritesValue B.width (map B.number blocks.old.items) (map B.number blocks.new.items) i bit }
+    ensures in_place { WritesInPlace B.is_block blocks.old blocks.new }
+{
+    let block = block_at(blocks, block_index::<B>(i));
+    let written = write_bit(blocks, i, block, bit);
+    same(written, block) == bit
+}
+
+// The values from `len` on, up to `end`, become true in the last block; none where it is full.
+pub(crate) fn set_tail<B: BitBlock>(blocks: &mut Vec<B>, len: usize, end: usize)
+    requires count { vec_len blocks.old ≡ blocks_for B.width len }
+    requires each { All B.is_block blocks.old.items }
+    requires forward { len ≤ end }
+    ensures values { (i : ℕ) → i / B.width < vec_len blocks.old
+        → value_at B.width (map B.number blocks.new.items) i
+        ≡ (value_at B.width (map B.number blocks.old.items) i || (nat_lt i end && nat_le len i)) }
+    ensures in_place { WritesInPlace B.is_block blocks.old blocks.new }
+{
+    let index = bit_index::<B>(len);
+    if index == 0 {
+        return;
+    }
+    let k = block_index::<B>(len);
+    let last = block_at(blocks, k);
+    if block_index::<B>(end) == k {
+        let raised = with_ones_between(last, index, bit_index::<B>(end));
+        put_block(blocks, k, raised);
+    } else {
+        put_block(blocks, k, with_ones_from(last, index));
+    }
+}
+
+/// The values from `len` on become false, where there is no block past them.
+pub fn clear_from<B: BitBlock>(blocks: &mut Vec<B>, len: usize)
+    requires count { vec_len blocks.old ≡ blocks_for B.width len }
+    requires each { All B.is_block blocks.old.items }
+    ensures values { (i : ℕ)
+        → value_at B.width (map B.number blocks.new.items) i
+        ≡ (nat_lt i len && value_at B.width (map B.number blocks.old.items) i) }
+    ensures in_place { WritesInPlace B.is_block blocks.old blocks.new }
+{
+    let index = bit_index::<B>(len);
+    if index == 0 {
+        return;
+    }
+    let k = block_index::<B>(len);
+    let block = cut_from(block_at(blocks, k), index);
+    put_block(blocks, k, block);
+}
+
+// Each of the first `count` blocks becomes `block`, as they are lent as a slice: it becomes a `memset` or vector code.
+#[inline]
+fn fill_slice<B: BitBlock>(blocks: &mut [B], count: usize, block: B)
+    requires in_bounds { count ≤ length blocks.old }
+    requires each { All B.is_block blocks.old }
+    requires of_block { B.is_block block }
+    ensures fills { FillsFirst (map B.number blocks.old) (map B.number blocks.new) count (B.number block) }
+    ensures each { All B.is_block blocks.new }
+    ensures len { length blocks.new ≡ length blocks.old }
+{
+    for k in 0..count {
+        put_in(blocks, k, block);
+    }
+}
+
+// Each of the first `count` blocks becomes `block`, one by one.
+#[inline]
+fn fill_each<B: BitBlock>(blocks: &mut Vec<B>, count: usize, block: B)
+    requires in_bounds { count ≤ vec_len blocks.old }
+    requires each { All B.is_block blocks.old.items }
+    requires of_block { B.is_block block }
+    ensures fills { FillsFirst (map B.number blocks.old.items) (map B.number blocks.new.items) count (B.number block) }
+    ensures in_place { WritesInPlace B.is_block blocks.old blocks.new }
+{
+    for k in 0..count {
+        put_block(blocks, k, block);
+    }
+}
+
+// Each of the first `count` blocks becomes `block`.
+pub(crate) fn fill_blocks<B: BitBlock>(blocks: &mut Vec<B>, count: usize, block: B)
+    requires in_bounds { count ≤ vec_len blocks.old }
+    requires each { All B.is_block blocks.old.items }
+    requires of_block { B.is_block block }
+    ensures fills { FillsFirst (map B.number blocks.old.items) (map B.number blocks.new.items) count (B.number block) }
+    ensures in_place { WritesInPlace B.is_block blocks.old blocks.new }
+{
+    if count < BULK_WRITE {
+        fill_each(blocks, count, block);
+        return;
+    }
+    fill_slice(blocks.as_mut_slice(), count, block);
+}

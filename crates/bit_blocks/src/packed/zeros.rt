@@ -1,0 +1,95 @@
+// Blocks that are 0 at the ends of a slice of blocks.
+ghost use Rattle.std.specs.Prelude.{◌≡◌, ◌≢◌, ℕ, ◌+◌, ◌-◌, ◌*◌, ◌<◌, ◌≤◌, ◌↔◌, All, IsTrue, get_or, length, map};
+
+use crate::block::BitBlock;
+use crate::block::operators::same;
+use crate::packed::access::block_at;
+use crate::packed::groups::GROUP;
+
+// Whether the blocks of the group that begins at `start` are 0. The compiler makes vector code of it.
+#[inline]
+fn is_zero_group<B: BitBlock>(blocks: &[B], start: usize) -> bool
+    requires within { start + GROUP ≤ length blocks.now }
+    requires each { All B.is_block blocks.now }
+    ensures { IsTrue result → (k : ℕ) → start ≤ k → k < start + GROUP → get_or (map B.number blocks.now) k 0 ≡ 0 }
+{
+    let mut is_zero = true;
+    for k in start..start + GROUP {
+        is_zero &= same(block_at(blocks, k), B::zero());
+    }
+    is_zero
+}
+
+// How many groups are 0 before one that is not, or before the rest that is no group.
+#[inline]
+fn zero_groups_before<B: BitBlock>(blocks: &[B]) -> usize
+    requires each { All B.is_block blocks.now }
+    ensures within { result * GROUP ≤ length blocks.now }
+    ensures zeros { (k : ℕ) → k < result * GROUP → get_or (map B.number blocks.now) k 0 ≡ 0 }
+{
+    let groups = blocks.len() / GROUP;
+    for group in 0..groups {
+        if !is_zero_group(blocks, group * GROUP) {
+            return group;
+        }
+    }
+    groups
+}
+
+/// How many blocks are 0 before the first that is not.
+#[inline]
+pub fn zeros_before<B: BitBlock>(blocks: &[B]) -> usize
+    requires each { All B.is_block blocks.now }
+    ensures within { result ≤ length blocks.now }
+    ensures zeros { (k : ℕ) → k < result → get_or (map B.number blocks.now) k 0 ≡ 0 }
+    ensures end { result < length blocks.now → get_or (map B.number blocks.now) result 0 ≢ 0 }
+{
+    // Most often it is the first: that is not worth a group.
+    if !blocks.is_empty() && !same(block_at(blocks, 0), B::zero()) {
+        return 0;
+    }
+    for k in zero_groups_before(blocks) * GROUP..blocks.len() {
+        if !same(block_at(blocks, k), B::zero()) {
+            return k;
+        }
+    }
+    blocks.len()
+}
+
+// How many blocks are left where groups of zeros at the end are taken away.
+#[inline]
+fn without_zero_groups<B: BitBlock>(blocks: &[B]) -> usize
+    requires each { All B.is_block blocks.now }
+    ensures within { result ≤ length blocks.now }
+    ensures zeros { (k : ℕ) → result ≤ k → get_or (map B.number blocks.now) k 0 ≡ 0 }
+{
+    for group in 0..blocks.len() / GROUP {
+        let end = blocks.len() - group * GROUP;
+        if !is_zero_group(blocks, end - GROUP) {
+            return end;
+        }
+    }
+    blocks.len() % GROUP
+}
+
+/// How many blocks there are up to the last that is not 0. Reads them from the last on.
+pub fn used_blocks<B: BitBlock>(blocks: &[B]) -> usize
+    requires { All B.is_block blocks.now }
+    ensures within { result ≤ length blocks.now }
+    ensures zeros { (k : ℕ) → result ≤ k → get_or (map B.number blocks.now) k 0 ≡ 0 }
+    ensures last { 0 < result → get_or (map B.number blocks.now) (result - 1) 0 ≢ 0 }
+{
+    for k in (0..without_zero_groups(blocks)).rev() {
+        if !same(block_at(blocks, k), B::zero()) {
+            return k + 1;
+        }
+    }
+    0
+}
+
+pub fn are_zero<B: BitBlock>(blocks: &[B]) -> bool
+    requires { All B.is_block blocks.now }
+    ensures { IsTrue result ↔ All (λ block. B.number block ≡ 0) blocks.now }
+{
+    zeros_before(blocks) == blocks.len()
+}

@@ -1,8 +1,0 @@
-use Rattle.std.proofs.Common.{◌||◌, ap, ◌∙◌}
-use Rattle.bit_words.{specs.Digits.is_one, proofs.Masks.is_one-either}
-use Rattle.bit_words.proofs.block.masks.with_ones_between.Goals as goal
-
-pub returns-clause-digits : goal.returns-clause-digits
-returns-clause-digits g c = λ j within.
-    is_one-either _ _ _ _ j c.block_or.ensures.of_digits within
-    ∙ ap (λ d. is_one (g.B.BitBlock.number c.args.block) j || d) (c.ones_between.ensures.digits j within)

@@ -1,7 +1,0 @@
-use Rattle.std.proofs.Common.{◌≡◌, ℕ, ◌*◌, ◌<◌, ◌≤◌, false, not, map}
-use Rattle.bit_words.specs.Storage.{value_at}
-use Rattle.bit_words.proofs.packed.searching.first_zero.Given as goal
-
-abbrev pub invariant-loop-k : goal.invariant-loop-k
-invariant-loop-k g l =
-    (j : ℕ) → l.from ≤ j → j < l.k * g.B.BitBlock.width → not (value_at g.B.BitBlock.width (map g.B.BitBlock.number l.blocks) j) ≡ false
