@@ -32,8 +32,8 @@ start() {
 # The repository that is copied from, with a file in the place of what is proved: that is a gigabyte.
 from="$room/from"
 mkdir "$from"
-(cd "$top" && tar cf - --exclude=out add crates.txt LICENSE-* crates/bit_words crates/bit_set) | tar xf - -C "$from"
-for library in bit_words bit_set; do
+(cd "$top" && tar cf - --exclude=out add crates.txt LICENSE-* crates/bit_blocks crates/bit_words crates/bit_set) | tar xf - -C "$from"
+for library in bit_blocks bit_words bit_set; do
     mkdir -p "$from/crates/$library/out/rlib"
     echo "$library" > "$from/crates/$library/out/rlib/proved"
 done
@@ -74,11 +74,11 @@ same_lines() { [ "$(sort "$1")" = "$(sort "$2")" ]; }
 
 start first
 expect 'add fails in an empty repository' add
-for library in bit_words bit_set; do
+for library in bit_blocks bit_words bit_set; do
     expect "the copy of $library is not the library" is_copy "$library"
 done
 expect 'a link of the copied documents leads nowhere' links_lead_on
-expect 'crates.txt has not the lines of the two libraries' same_lines crates.txt <(grep -E '^bit_(words|set):' "$top/crates.txt")
+expect 'crates.txt has not the lines of the libraries' same_lines crates.txt <(grep -E '^bit_(blocks|words|set):' "$top/crates.txt")
 expect 'HANDLES is not written' grep -qx 'Handles allowed: none.' HANDLES
 before="$(texts)"
 expect 'add fails where the copies are up to date' add

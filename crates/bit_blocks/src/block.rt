@@ -1,5 +1,5 @@
-// What a type of blocks has to be. The types themselves, and what is computed of one or two blocks, are in the
-// folder; nothing here knows of a list.
+//! What a type of blocks has to be. The types themselves, and what is computed of one or two blocks, are in the
+//! folder; nothing here knows of a list.
 ghost use Rattle.std.specs.{Prelude.{◌≡◌, ℕ, ◌+◌, ◌^◌, ◌<◌, ◌≤◌, ◌↔◌, true}, Int.RustNames.count_ones};
 ghost use Rattle.bit_blocks.specs.{Digits.{IsWidth, IsBoth, IsEither, IsDifferent, IsComplement, IsShiftedLeft, IsShiftedRight}, Highest.IsHighest};
 

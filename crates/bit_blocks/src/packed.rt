@@ -1,5 +1,6 @@
-// A list of bits in a vector of blocks, by functions on the vector and the length. The bits past the length are 0.
-// Nothing here knows of a summary.
+//! A list of bits in a vector of blocks, by functions on the vector and the length. The bits past the length are 0.
+//! Nothing here knows of a summary.
+
 pub mod access;
 pub mod block_merges;
 pub mod bytes;

@@ -5,6 +5,7 @@ ghost use Rattle.bit_blocks.specs.Digits.{IsBoth, IsEither, IsDifferent, IsCompl
 
 use crate::block::BitBlock;
 
+/// The block with a 1 where both have one.
 #[inline]
 pub fn block_and<B: BitBlock>(a: B, b: B) -> B
     requires left { B.is_block a }
@@ -16,6 +17,7 @@ pub fn block_and<B: BitBlock>(a: B, b: B) -> B
     a & b
 }
 
+/// The block with a 1 where either has one.
 #[inline]
 pub fn block_or<B: BitBlock>(a: B, b: B) -> B
     requires left { B.is_block a }
@@ -37,6 +39,7 @@ pub(crate) fn block_xor<B: BitBlock>(a: B, b: B) -> B
     a ^ b
 }
 
+/// The block with a 1 where this has a 0.
 #[inline]
 pub fn block_not<B: BitBlock>(a: B) -> B
     requires { B.is_block a }
@@ -58,6 +61,7 @@ pub(crate) fn block_sub<B: BitBlock>(a: B, b: B) -> B
     a - b
 }
 
+/// The block whose digits are moved up by `distance`; those that leave it are lost.
 #[inline]
 pub fn shift_left<B: BitBlock>(a: B, distance: usize) -> B
     requires left { B.is_block a }
@@ -80,6 +84,7 @@ pub(crate) fn shift_right<B: BitBlock>(a: B, distance: usize) -> B
     a.shift_right(distance)
 }
 
+/// Whether two blocks represent one number.
 #[inline]
 pub fn same<B: BitBlock>(a: B, b: B) -> bool
     requires left { B.is_block a }

@@ -16,7 +16,7 @@ pub fn block_count<B: BitBlock>(len: usize) -> usize
     len.div_ceil(B::bits())
 }
 
-/// The block in which index `i` is, and its index there.
+/// The index of the block in which value `i` is.
 #[inline]
 pub fn block_index<B: BitBlock>(i: usize) -> usize
     ensures { result ≡ i / B.width }
@@ -24,6 +24,7 @@ pub fn block_index<B: BitBlock>(i: usize) -> usize
     i / B::bits()
 }
 
+/// The index of value `i` in its block.
 #[inline]
 pub fn bit_index<B: BitBlock>(i: usize) -> usize
     ensures value { result ≡ i % B.width }
@@ -32,6 +33,7 @@ pub fn bit_index<B: BitBlock>(i: usize) -> usize
     i % B::bits()
 }
 
+/// Block `k`.
 #[inline]
 pub fn block_at<B: BitBlock>(blocks: &[B], k: usize) -> B
     requires in_bounds { k < length blocks.now }
@@ -42,6 +44,7 @@ pub fn block_at<B: BitBlock>(blocks: &[B], k: usize) -> B
     blocks[k]
 }
 
+/// Makes block `k` be `block`.
 #[inline]
 pub fn put_block<B: BitBlock>(blocks: &mut Vec<B>, k: usize, block: B)
     requires in_bounds { k < vec_len blocks.old }
@@ -67,6 +70,7 @@ pub fn put_in<B: BitBlock>(blocks: &mut [B], k: usize, block: B)
     blocks[k] = block;
 }
 
+/// The value at `i`, and false past the blocks.
 #[inline]
 pub fn get_bit<B: BitBlock>(blocks: &[B], i: usize) -> bool
     requires in_bounds { i / B.width < length blocks.now }

@@ -275,7 +275,8 @@ pub fn first_change<B: BitBlock, O: Operation>(blocks: &[B], others: &[B]) -> Op
     Some(others.len())
 }
 
-/// The same of a symmetric difference, which changes just the blocks at which the others are not 0.
+/// Where the list begins to change by a symmetric difference, which changes just the blocks at which the others are not
+/// 0: a group of blocks with one of these. `None` where no block changes.
 #[inline(always)]
 pub fn first_nonzero_other<B: BitBlock>(blocks: &[B], others: &[B]) -> Option<usize>
     requires can { CanMerge B.is_block blocks.now others.now }
@@ -295,8 +296,8 @@ pub fn first_nonzero_other<B: BitBlock>(blocks: &[B], others: &[B]) -> Option<us
     }
 }
 
-/// The same of a union with the others except for the ones of `except`, which is at least as long as they are. Past the
-/// others a union changes nothing.
+/// Where the list begins to change by a union with the others except for the ones of `except`, which is at least as long
+/// as they are: a group of blocks of which one changes. `None` where no block changes.
 #[inline(always)]
 pub fn first_change_except<B: BitBlock>(blocks: &[B], others: &[B], except: &[B]) -> Option<usize>
     requires can { CanMerge B.is_block blocks.now others.now }
@@ -313,7 +314,8 @@ pub fn first_change_except<B: BitBlock>(blocks: &[B], others: &[B], except: &[B]
     first_changed_except::<B, Union>(blocks, others, except, 0, others.len())
 }
 
-/// The same where `except` is shorter.
+/// Where the list begins to change by a union with the others except for the ones of `except`, which is shorter than
+/// they are. `None` where no block changes.
 #[inline(always)]
 pub fn first_change_past_except<B: BitBlock>(
     blocks: &[B],

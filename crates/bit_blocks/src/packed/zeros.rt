@@ -87,6 +87,7 @@ pub fn used_blocks<B: BitBlock>(blocks: &[B]) -> usize
     0
 }
 
+/// Whether all blocks are 0.
 pub fn are_zero<B: BitBlock>(blocks: &[B]) -> bool
     requires { All B.is_block blocks.now }
     ensures { IsTrue result ↔ All (λ block. B.number block ≡ 0) blocks.now }
