@@ -11,7 +11,7 @@ use Rattle.std.specs.Borrow.{u64}
 use Rattle.std.specs.contracts.alloc.Global as Heap
 use Rattle.std.specs.contracts.impls.GlobalAllocator.TheImpl.{ghosts, dict}
 use Rattle.std.proofs.alloc.Global.TheLaws as heap
-use Rattle.bit_words.specs.contracts.block.integers.U64BitBlock.TheImpl as block
+use Rattle.bit_blocks.specs.contracts.block.integers.U64BitBlock.TheImpl as block
 use Rattle.std.specs.contracts.prelude.U64PartialEq.TheImpl as eq
 use Rattle.std.specs.contracts.prelude.U64BitAnd.TheImpl as and
 use Rattle.std.specs.contracts.prelude.U64BitOr.TheImpl as or
