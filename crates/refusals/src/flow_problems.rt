@@ -70,16 +70,16 @@ const CHAIN: &[Block] = &[
 const RING_ASKS: &[Ask] = &[
     Ask::Lists(12, 5001),
     Ask::Other(1, 8),
-    Ask::Other(2, BLOCKS * (48 + 56)),
+    Ask::Other(2, BLOCKS * (48 + 64)),
 ];
 
 // Of expressions the set of all and those that are missing at each block come to it.
 const CHAIN_ASKS: &[Ask] = &[
     Ask::Lists(13, 5001),
-    Ask::Other(1, BLOCKS * 64),
+    Ask::Other(1, BLOCKS * (64 + 8)),
     Ask::Lists(12, 5001),
     Ask::Other(1, 8),
-    Ask::Other(2, BLOCKS * (48 + 56)),
+    Ask::Other(2, BLOCKS * (48 + 64)),
 ];
 
 #[derive(Clone, Copy)]

@@ -22,7 +22,7 @@ enum Call {
 }
 
 // Of determinizing: two copies of each of eight sets, of which the first is {0}, and a spare set; the accepting states;
-// the list of the sets, of 56 bytes each, and the sixteen numbers of the table, two lists that double; and a leaf of the
+// the list of the sets, of 64 bytes each, and the sixteen numbers of the table, two lists that double; and a leaf of the
 // map from sets to their numbers, with places for fifteen of both and a word for how many there are.
 const ROWS: &[Row<Call>] = &[
     Row {
@@ -41,9 +41,9 @@ const ROWS: &[Row<Call>] = &[
             Ask::Lists(2, 1),
             Ask::Lists(15, 5001),
             Ask::Exact(8),
-            Ask::Other(2, (4 + 8) * 56),
+            Ask::Other(2, (4 + 8) * 64),
             Ask::Other(3, (4 + 8 + 16) * 8),
-            Ask::Other(1, 15 * (56 + 8) + 8),
+            Ask::Other(1, 15 * (64 + 8) + 8),
         ],
         call: Call::Determinize,
     },
