@@ -188,21 +188,6 @@ pub stay_zero : {X : Type 0} (w : ℕ) (f : X → ℕ) (end k : ℕ) (os : List 
 stay_zero w f end k os xs small below is =
     zero_from_digits w _ small (λ j index. other_none (is_one (get_or (map f xs) k 0) j) (is_one (get_or os k 0) j) (is.digit k j (omega arith) below index))
 
--- those of a union that are past the others
-pub stay_to_end : {X : Type 0} (w : ℕ) (f : X → ℕ) (a b : ℕ) (os es : List ℕ) (xs : List X) → length os ≤ a → Stay Union w f 0 a (except_at os es) xs → Stay Union w f 0 b (except_at os es) xs
-stay_to_end w f a b os es xs past is = record {
-  digit = λ k j from below index.
-      ⊎_elim
-      (λ early. is.digit k j from early index)
-      (λ late. sym (or-false (is_one (get_or (map f xs) k 0) j)) ∙ ap (λ b. is_one (get_or (map f xs) k 0) j || b) (except_past os es k j (omega (arith, late))))
-      (cases_lt k a);
-}
-
--- those that both lists reach, and those that the second reaches alone
-pub stay_by_parts : {X : Type 0} (m : Merge) (w : ℕ) (f : X → ℕ) (a b c : ℕ) (os es : List ℕ) (xs : List X) → a ≡ b → ((k : ℕ) → b ≤ k → k < c → length es ≤ k) → Stay m w f 0 a (except_at os es) xs → Stay m w f b c (other_at os) xs → Stay m w f 0 c (except_at os es) xs
-stay_by_parts m w f a b c os es xs same past first second =
-    stay_more m w f 0 b c (except_at os es) xs (rw (sym same) first) (stay_same m w f b c (other_at os) (except_at os es) xs (λ k j from below index. except_none os es k j (past k from below)) second)
-
 module _ {X : Type 0} (m : Merge) (w : ℕ) (f : X → ℕ) (P : X → Type 0) where
   -- the blocks after some that stay are merged, and so all are
   pub merged_past_stay : (start end : ℕ) (xs os ys : List X) → start ≤ end → Stay m w f 0 start (other_at (map f os)) xs → HasMerged m w f P start end xs os ys → HasMerged m w f P 0 end xs os ys

@@ -228,8 +228,8 @@ fn summarize<B: BitBlock>(summary: &mut Vec<B>, blocks: &[B])
     }
 }
 
-// A block of a summary, whose bits from `index` on are made anew: they say which of the `count` blocks from `start` on are
-// not 0.
+// A block of a summary, of which `count` bits from `index` on are made anew: they say which of the blocks from `start` on
+// are not 0.
 #[inline]
 fn with_used_bits<B: BitBlock>(
     block: B,

@@ -112,10 +112,10 @@ fn changed_group<B: BitBlock, O: Operation>(
     groups
 }
 
-// Where the first group of the blocks from `start` on and before `end` begins of which a block changes, or `None` where all
-// of them stay. Groups are long ones, then one of half as many blocks, and a short one. What is left then is looked at in a
-// group that begins within the one before it, so that no block is looked at alone, and blocks that are fewer than a short
-// group are one. A list that changes at its first blocks, as most do that change, is not looked at beyond a short one.
+// Where the first group of the blocks from `start` on and before `end` begins of which a block changes, or `None` where
+// all of them stay. Groups are long ones, then one of half as many blocks, and a short one. What is left is looked at in a
+// group that begins within the one before it, so that no block is looked at alone; fewer blocks than a short group has
+// are one group. A list that changes at its first blocks, as most do that change, is not looked at beyond a short one.
 #[inline(always)]
 fn first_changed<B: BitBlock, O: Operation>(
     blocks: &[B],

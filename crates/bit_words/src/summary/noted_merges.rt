@@ -257,8 +257,8 @@ fn unite_found<B: BitBlock>(
     }
 }
 
-// `unite_and_note` where `except` is shorter than the others: a call of its own, so that the usual one saves no registers for
-// it.
+// `unite_and_note` where `except` is shorter than the others: a call of its own, so that the usual one saves no registers
+// for it.
 #[inline(never)]
 fn unite_past_except<B: BitBlock>(
     blocks: &mut [B],

@@ -1,4 +1,4 @@
-use Rattle.std.proofs.{Common.{◌≡◌, ◌≢◌, ℕ, ◌*◌, ◌<◌, ◌∙◌, List, ap, map, length, arith}, lemmas.List.length-map}
+use Rattle.std.proofs.{Common.{◌≡◌, ℕ, ◌*◌, ◌<◌, map, length, arith}, lemmas.List.length-map}
 use Rattle.bit_blocks.{specs.Bits.blocks_for, proofs.BitsLemmas.whole_before}
 use Rattle.bit_words.proofs.SummaryLemmas.{summary_of_blocks, summary_put}
 use Rattle.bit_words.proofs.summary.summarize.Goals as goal

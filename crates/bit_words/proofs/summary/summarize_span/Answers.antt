@@ -1,5 +1,5 @@
-use Rattle.std.proofs.{Common.{◌≡◌, ◌≢◌, ℕ, ◌+◌, ◌-◌, ◌*◌, ◌/◌, ◌<◌, ◌≤◌, ◌∙◌, ap, get_or, length, map, max, min, vec_len, arith, ⊎_elim, lt_of_mul-lt-mul_right}, lemmas.{Bool.cases_eq, List.length-map}}
-use Rattle.bit_blocks.{specs.{Bits.blocks_for, Digits.is_one, Storage.{value_at, is_used}}, proofs.{BitsLemmas.{blocks_for-above, whole_before}, ChangeLemmas.written_other}}
+use Rattle.std.proofs.{Common.{◌≡◌, ◌-◌, ◌*◌, ◌/◌, ◌<◌, ◌≤◌, ◌∙◌, ap, get_or, length, map, max, min, vec_len, arith, ⊎_elim, lt_of_mul-lt-mul_right}, lemmas.{Bool.cases_eq, List.length-map}}
+use Rattle.bit_blocks.{specs.Digits.is_one, proofs.{BitsLemmas.{blocks_for-above, whole_before}, ChangeLemmas.written_other}}
 use Rattle.bit_words.proofs.SummarySpanLemmas.{bit_above, bit_below, made_bit}
 use Rattle.bit_words.proofs.summary.summarize_span.{Given.Over, Goals.After-put_block}
 use Rattle.bit_words.proofs.summary.summarize_span.Goals as goal

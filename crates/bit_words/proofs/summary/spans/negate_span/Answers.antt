@@ -1,4 +1,4 @@
-use Rattle.std.proofs.Common.{◌≡◌, ◌<◌, ◌≤◌, ◌-◌, ◌*◌, ◌/◌, length, map, vec_len, arith, ap, ◌∙◌, sym, div-lt_iff_lt-mul}
+use Rattle.std.proofs.Common.{◌≡◌, ◌<◌, ◌≤◌, ◌-◌, ◌*◌, length, map, vec_len, arith, ap, ◌∙◌, div-lt_iff_lt-mul}
 use Rattle.bit_blocks.specs.Bits.{blocks_for}
 use Rattle.bit_words.specs.Summary.{short_count}
 use Rattle.bit_blocks.proofs.{ChangeLemmas.div_le, VectorLemmas.numbers_below}
