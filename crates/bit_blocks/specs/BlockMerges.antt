@@ -1,4 +1,4 @@
--- What the blocks of two lists become, digit by digit. No public clause cites this.
+-- What the blocks of two lists become, digit by digit. Of the public clauses only those of `packed` cite this.
 use Rattle.std.specs.Prelude.{◌≡◌, ℕ, ◌<◌, ◌≤◌, true, false, List, map, length, get_or, All}
 use Rattle.bit_blocks.specs.{Digits.is_one, Merges.merge_of_values, Storage.value_at, declared.block.merge.Merge.Merge}
 

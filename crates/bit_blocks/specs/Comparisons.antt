@@ -1,4 +1,5 @@
--- When two lists of blocks can be compared, and how far a comparison goes. No public clause cites this.
+-- When two lists of blocks can be compared, and how far a comparison goes. Of the public clauses only those of `packed`
+-- cite this.
 use Rattle.std.specs.Prelude.{◌≡◌, ℕ, ◌+◌, ◌/◌, ◌≤◌, Bool, IsTrue, List, length, All}
 
 -- The first `count` blocks of two lists can be compared: both have so many, and all are block values.

@@ -1,4 +1,4 @@
--- How a vector of blocks holds a list of truth values. No public clause cites this.
+-- How a vector of blocks holds a list of truth values. Of the public clauses only those of `packed` cite this.
 use Rattle.std.specs.{Prelude.{◌≡◌, ◌≢◌, ℕ, ◌^◌, ◌/◌, ◌%◌, ◌<◌, ◌≤◌, Bool, false, not, ◌==◌, List, map, length, get_or, All, vec_len, vec_capacity}, Global.Vec, List.{range_with_len, sum_by}, Int.RustNames.count_ones}
 use Rattle.bit_blocks.specs.{Bits.blocks_for, Digits.is_one}
 

@@ -20,6 +20,8 @@ mod mismatch_tests;
 #[cfg(test)]
 mod nonzero_tests;
 #[cfg(test)]
+mod packed_tests;
+#[cfg(test)]
 mod tail_tests;
 #[cfg(test)]
 mod taking_tests;

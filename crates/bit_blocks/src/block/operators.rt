@@ -84,7 +84,11 @@ pub(crate) fn shift_right<B: BitBlock>(a: B, distance: usize) -> B
     a.shift_right(distance)
 }
 
-/// Whether two blocks represent one number.
+/// Whether two blocks are the same. Constant time.
+///
+/// ```
+/// assert!(same(5u8, 5));
+/// ```
 #[inline]
 pub fn same<B: BitBlock>(a: B, b: B) -> bool
     requires left { B.is_block a }

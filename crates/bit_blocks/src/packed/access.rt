@@ -8,7 +8,11 @@ use crate::block::masks::{cut_from, with_bit, with_ones_between, with_ones_from}
 use crate::block::operators::{has_one_at, same};
 use crate::packed::groups::BULK_WRITE;
 
-/// How many blocks a list of `len` values has.
+/// How many blocks a list of `len` values has: `len / B::bits()`, rounded up. Constant time.
+///
+/// ```
+/// assert_eq!(block_count::<u8>(17), 3);
+/// ```
 #[inline]
 pub fn block_count<B: BitBlock>(len: usize) -> usize
     ensures { result ≡ blocks_for B.width len }
@@ -16,7 +20,11 @@ pub fn block_count<B: BitBlock>(len: usize) -> usize
     len.div_ceil(B::bits())
 }
 
-/// The index of the block in which value `i` is.
+/// The index of the block in which bit `i` is. Constant time: a division, which is a shift at the six types.
+///
+/// ```
+/// assert_eq!(block_index::<u8>(17), 2);
+/// ```
 #[inline]
 pub fn block_index<B: BitBlock>(i: usize) -> usize
     ensures { result ≡ i / B.width }
@@ -24,7 +32,11 @@ pub fn block_index<B: BitBlock>(i: usize) -> usize
     i / B::bits()
 }
 
-/// The index of value `i` in its block.
+/// The index that bit `i` has in its block. Constant time.
+///
+/// ```
+/// assert_eq!(bit_index::<u8>(17), 1);
+/// ```
 #[inline]
 pub fn bit_index<B: BitBlock>(i: usize) -> usize
     ensures value { result ≡ i % B.width }
@@ -33,7 +45,11 @@ pub fn bit_index<B: BitBlock>(i: usize) -> usize
     i % B::bits()
 }
 
-/// Block `k`.
+/// The block with this index, which is below their number. Constant time.
+///
+/// ```
+/// assert_eq!(block_at(&[7u8, 1], 1), 1);
+/// ```
 #[inline]
 pub fn block_at<B: BitBlock>(blocks: &[B], k: usize) -> B
     requires in_bounds { k < length blocks.now }
@@ -56,8 +72,12 @@ pub fn put_block<B: BitBlock>(blocks: &mut Vec<B>, k: usize, block: B)
     blocks[k] = block;
 }
 
-/// Writes a block of those that are lent as a slice. Its address is in a register, so that a loop of these becomes
-/// vector code.
+/// Writes a block of those that are lent as a slice. Constant time.
+///
+/// ```
+/// put_in(&mut blocks, 1, 5);
+/// ```
+// The address of a slice is in a register, so that a loop of these becomes vector code.
 #[inline]
 pub fn put_in<B: BitBlock>(blocks: &mut [B], k: usize, block: B)
     requires in_bounds { k < length blocks.old }
@@ -70,7 +90,11 @@ pub fn put_in<B: BitBlock>(blocks: &mut [B], k: usize, block: B)
     blocks[k] = block;
 }
 
-/// The value at `i`, and false past the blocks.
+/// Whether bit `i` is 1. Constant time.
+///
+/// ```
+/// assert!(get_bit(&[0u8, 0b0100], 10));
+/// ```
 #[inline]
 pub fn get_bit<B: BitBlock>(blocks: &[B], i: usize) -> bool
     requires in_bounds { i / B.width < length blocks.now }
@@ -100,8 +124,13 @@ pub fn write_bit<B: BitBlock>(blocks: &mut Vec<B>, i: usize, block: B, bit: bool
     written
 }
 
-/// The value at `i` becomes `bit`, and what it was is returned. It was the other where the block changes: so no bit of
-/// the old block is tested.
+/// Makes bit `i` be `bit`, and returns what it was. Constant time.
+///
+/// ```
+/// assert!(!replace_bit(&mut blocks, 10, true));
+/// assert!(replace_bit(&mut blocks, 10, true));
+/// ```
+// It was the other where the block changes: so no bit of the old block is tested.
 #[inline]
 pub fn replace_bit<B: BitBlock>(blocks: &mut Vec<B>, i: usize, bit: bool) -> bool
     requires in_bounds { i / B.width < vec_len blocks.old }

@@ -247,9 +247,15 @@ fn same_by_search<B: BitBlock>(a: &[B], b: &[B]) -> bool
     first_mismatching_block(a, b).is_none()
 }
 
-// A block that is 0 just where `seen` is and the other two are the same.
+/// A block that is 0 just where `seen` is and the other two are the same: so one test tells of many pairs of blocks.
+/// Constant time.
+///
+/// ```
+/// assert_eq!(or_mismatch(0u8, 5, 5), 0);
+/// assert_ne!(or_mismatch(0u8, 5, 4), 0);
+/// ```
 #[inline]
-pub(crate) fn or_mismatch<B: BitBlock>(seen: B, a: B, b: B) -> B
+pub fn or_mismatch<B: BitBlock>(seen: B, a: B, b: B) -> B
     requires seen { B.is_block seen }
     requires left { B.is_block a }
     requires right { B.is_block b }

@@ -26,7 +26,12 @@ fn with_copies<B: BitBlock>(mut blocks: Vec<B>, count: usize, block: B) -> Vec<B
     blocks
 }
 
-/// Appends copies of `block` until there are `count` blocks. There is capacity for them.
+/// Appends copies of `block` until there are `count` blocks. There is capacity for them. One write for each.
+///
+/// ```
+/// let mut blocks: Vec<u8> = Vec::with_capacity(alloc, 3)?;
+/// push_copies(&mut blocks, 3, 0);
+/// ```
 pub fn push_copies<B: BitBlock>(blocks: &mut Vec<B>, count: usize, block: B)
     requires more { vec_len blocks.old ≤ count }
     requires capacity { count ≤ vec_capacity blocks.old }
@@ -84,7 +89,12 @@ pub(crate) fn filled_with<B: BitBlock>(mut blocks: Vec<B>, more: &[B]) -> Result
     Ok(blocks)
 }
 
-/// A new vector of the same blocks, with capacity for no more.
+/// A new vector of the same blocks, with capacity for no more. Fails where memory is missing; for no blocks it never
+/// fails. One write for each.
+///
+/// ```
+/// let copy = copy_of(alloc, &blocks)?;
+/// ```
 #[inline]
 pub fn copy_of<B: BitBlock>(alloc: Global, blocks: &[B]) -> Result<Vec<B>, AllocError>
     ensures items { IfOk result (λ copy. copy.items ≡ blocks.now) }

@@ -53,7 +53,11 @@ fn rest_is_zero<B: BitBlock>(blocks: &[B], start: usize, steps: &mut Steps) -> b
     true
 }
 
-/// Whether each 1 of the blocks is one of the others.
+/// Whether each 1 of the blocks is one of the others. Takes a step for each block, up to the one that decides.
+///
+/// ```
+/// assert!(difference_is_zero(&[5u8], &[7, 1], &mut steps));
+/// ```
 pub fn difference_is_zero<B: BitBlock>(blocks: &[B], others: &[B], steps: &mut Steps) -> bool
     requires each { All B.is_block blocks.now }
     requires others { All B.is_block others.now }
@@ -67,7 +71,11 @@ pub fn difference_is_zero<B: BitBlock>(blocks: &[B], others: &[B], steps: &mut S
         && rest_is_zero(blocks, count, steps)
 }
 
-/// Whether no 1 of the blocks is one of the others.
+/// Whether no 1 of the blocks is one of the others. Takes a step for each block, up to the one that decides.
+///
+/// ```
+/// assert!(intersection_is_zero(&[5u8], &[2, 1], &mut steps));
+/// ```
 pub fn intersection_is_zero<B: BitBlock>(blocks: &[B], others: &[B], steps: &mut Steps) -> bool
     requires each { All B.is_block blocks.now }
     requires others { All B.is_block others.now }

@@ -31,7 +31,11 @@ fn ones_under<B: BitBlock>(blocks: &[B], k: usize, mask: B) -> usize
     block_and(block_at(blocks, k), mask).count_ones()
 }
 
-/// How many of these values, of which there are some, are true.
+/// How many of the bits from `start` on and below `end`, of which there are some, are 1. Adds up the ones of each block.
+///
+/// ```
+/// assert_eq!(ones_in_span(&[0b1001u8, 0b0110], 3, 10), 2);
+/// ```
 pub fn ones_in_span<B: BitBlock>(blocks: &[B], start: usize, end: usize) -> usize
     requires some { start < end }
     requires within { end ≤ length blocks.now * B.width }
@@ -85,8 +89,12 @@ fn ones_merge_to_zero<B: BitBlock, O: Operation>(blocks: &[B], first: usize, end
     true
 }
 
-/// Whether true and each of these values, of which there are some, merge to false: by a difference where all are true, by
-/// an intersection where none is. Stops at the block that decides.
+/// Whether true and each of the bits from `start` on and below `end`, of which there are some, merge to false: by a
+/// difference where all are 1, by an intersection where none is. Stops at the block that decides.
+///
+/// ```
+/// assert!(span_merges_to_false::<u8, Difference>(&[0b1000, 0b0011], 3, 4));
+/// ```
 pub fn span_merges_to_false<B: BitBlock, O: Operation>(
     blocks: &[B],
     start: usize,

@@ -71,8 +71,12 @@ fn merge_in<B: BitBlock, O: Operation>(blocks: &mut [B], start: usize, end: usiz
     }
 }
 
-/// The values from `start` on and below `end`, of which there are some, become their merges with true. Each of their
-/// blocks is written once.
+/// The bits from `start` on and below `end`, of which there are some, become their merges with true: 1 by a union, 0 by
+/// a difference. Each of their blocks is written once.
+///
+/// ```
+/// merge_span::<u8, Union>(&mut blocks, 3, 10);
+/// ```
 pub fn merge_span<B: BitBlock, O: Operation>(blocks: &mut Vec<B>, start: usize, end: usize)
     requires some { start < end }
     requires within { end ≤ vec_len blocks.old * B.width }
