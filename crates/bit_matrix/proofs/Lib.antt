@@ -1,0 +1,10 @@
+pub mod TableLemmas
+pub mod RowLemmas
+pub mod PartLemmas
+pub mod MergeLemmas
+pub mod SeenLemmas
+pub mod WalkLemmas
+pub mod SpanLemmas
+pub mod SetLemmas
+pub mod CopyLemmas
+pub mod CompareLemmas

@@ -1,0 +1,20 @@
+use Rattle.std.proofs.{Common.{◌∙◌, inl, inr, length, sym, ap, arith, true, false}, lemmas.{Bool.{cases_lt}, List.{get_or_past, length-replicate}}}
+use Rattle.bit_blocks.proofs.BitsLemmas.{whole_before}
+use Rattle.bit_set.proofs.SetLemmas.{elements-by_members}
+use Rattle.bit_matrix.proofs.SeenLemmas.{none_past, seen_columns}
+use Rattle.bit_matrix.proofs.matrix.BitMatrix.row_to_set.Goals as goal
+
+pub keep_blocks-requires-clause-count : goal.keep_blocks-requires-clause-count
+keep_blocks-requires-clause-count g c k inside =
+    let columns = seen_columns g.met.B.BitBlock.width_law.positive c.self.invariant c.self.view_is in
+    let long = ap length c.in_ok-bits.ensures.values ∙ length-replicate c.self.inside.columns true in
+    rw (long ∙ sym columns) (whole_before g.B.BitBlock.width c.args.self.now.columns k g.met.B.BitBlock.width_law.positive (omega (arith, inside, c.row_blocks.ensures.len)))
+
+pub returns-clause-elements : goal.returns-clause-elements
+returns-clause-elements g c =
+    let columns = seen_columns g.met.B.BitBlock.width_law.positive c.self.invariant c.self.view_is in
+    let long = ap length c.in_ok-bits.ensures.values ∙ length-replicate c.self.inside.columns true ∙ sym columns in
+    rw c.from_bit_vec_general.ensures.value (elements-by_members _ _ (c.row_blocks.ensures.matrix.ascends c.args.row) (λ i. elim (cases_lt i c.args.self.now.columns) [
+      | inl below ↦ c.keep_blocks.ensures.values i (omega (arith, below, long)) ∙ c.row_blocks.ensures.bits i
+      | inr past ↦ get_or_past _ i false (omega (arith, past, long, c.keep_blocks.ensures.len)) ∙ sym (none_past c.args.self.now c.row_blocks.ensures.matrix c.args.row i past)
+    ]))

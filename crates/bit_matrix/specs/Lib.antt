@@ -1,0 +1,6 @@
+pub use Rattle.bit_words.specs.Bounds
+pub mod Matrices
+pub mod Tables
+pub mod Merges
+pub mod Walks
+pub mod Compared
