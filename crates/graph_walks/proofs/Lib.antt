@@ -1,3 +1,4 @@
 pub mod WalkLemmas
 pub mod CloseLemmas
 pub mod PathLemmas
+pub mod MatrixLemmas

@@ -5,11 +5,13 @@ mod closure;
 mod graph;
 mod inclusion;
 pub mod laws;
+mod matrix;
 mod walk;
 
 pub use closure::close;
 pub use graph::Graph;
 pub use inclusion::reaches_all_of;
+pub use matrix::transitive_closure;
 pub use walk::{
     Effort, reachable, reachable_counted, reachable_from_any, reachable_from_any_counted,
 };
