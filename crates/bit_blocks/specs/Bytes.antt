@@ -1,4 +1,4 @@
--- A list of truth values given as bytes. No public clause cites this.
+-- A list of truth values given as bytes. Of the public clauses only those of `packed` cite this.
 use Rattle.std.specs.Prelude.{ℕ, ◌-◌, ◌/◌, ◌%◌, Bool, List, get_or}
 use Rattle.bit_blocks.specs.Digits.{is_one}
 

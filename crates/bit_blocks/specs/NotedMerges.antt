@@ -1,5 +1,5 @@
 -- What the blocks of a list become where they are merged with those of a second list except for the ones of a third, and
--- which of them stay. No public clause cites this.
+-- which of them stay. Of the public clauses only those of `packed` cite this.
 use Rattle.std.specs.Prelude.{◌≡◌, ℕ, ◌<◌, ◌≤◌, ◌&&◌, Bool, not, List, map, length, get_or, All}
 use Rattle.bit_blocks.specs.{Digits.is_one, Merges.merge_of_values, declared.block.merge.Merge.Merge}
 

@@ -142,9 +142,6 @@ module _ {X : Type 0} (w : ℕ) (number : X → ℕ) (is_block : X → Type 0) (
 -- ---- the calls so far
 
 module _ (w : ℕ) where
-  pub none_yet : (s : Walk) → Passes w 0 s s
-  none_yet s = record { left = refl; goes_on = omega arith; pulled = refl; along = refl; summary = refl }
-
   pub one_more : (s u t : Walk) (calls x : ℕ) → Passes w calls s u → Advances w u (Some x) t → Passes w (calls + 1) s t
   unfolding PullsBlocks
   one_more s u t calls x so step = record {

@@ -227,7 +227,8 @@ impl<'a, B: BitBlock> DoubleEndedIterator for Iter<'a, B> {
     ghost next_back_gives = { AdvancesBack B.width };
 
     /// The greatest element that is left, and from the end on `None` for good. Both ends take of the same elements. Goes
-    /// on to the last block that is not zero by the summary; within a block as many steps as its width has binary digits.
+    /// on to the last block that is not zero by the summary; constant time within a block
+    /// of the six types.
     #[inline]
     fn next_back(&mut self) -> Option<usize> {
         let index = self.index;
