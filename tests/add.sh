@@ -32,13 +32,13 @@ start() {
 # The repository that is copied from, with a file in the place of what is proved: that is a gigabyte.
 from="$room/from"
 mkdir "$from"
-(cd "$top" && tar cf - --exclude=out add crates.txt LICENSE-* crates/bit_blocks crates/bit_words crates/bit_set) | tar xf - -C "$from"
-for library in bit_blocks bit_words bit_set; do
+(cd "$top" && tar cf - --exclude=out add crates.txt LICENSE-* crates/bit_blocks crates/bit_words crates/bit_set crates/bit_matrix) | tar xf - -C "$from"
+for library in bit_blocks bit_words bit_set bit_matrix; do
     mkdir -p "$from/crates/$library/out/rlib"
     echo "$library" > "$from/crates/$library/out/rlib/proved"
 done
 
-add() { "$from/add"; }
+add() { "$from/add" "$@"; }
 
 # What a folder has, but for what rt keeps.
 texts() { find . \( -name out -o -name .git \) -prune -o -type f -print0 | LC_ALL=C sort -z | xargs -0 sha256sum; }
@@ -85,6 +85,19 @@ expect 'add fails where the copies are up to date' add
 expect 'add changes copies that are up to date' [ "$(texts)" = "$before" ]
 rm crates/bit_set/src/hash.rt
 expect 'add takes a copy that was changed for its own' refuses
+
+start table
+expect 'add fails with a matrix' add bit_matrix
+for library in bit_set bit_matrix; do
+    expect "the copy of $library beside a matrix is not the library" is_copy "$library"
+done
+expect 'a link of the documents copied with a matrix leads nowhere' links_lead_on
+expect 'crates.txt has no line of the matrix' grep -q '^bit_matrix:' crates.txt
+echo older > crates/bit_matrix/README.md
+(cd crates/bit_matrix && find . -path ./out -prune -o -type f ! -name COPIED -print0 | LC_ALL=C sort -z | xargs -0 sha256sum > COPIED)
+expect 'add fails beside a matrix that it copied' add
+expect 'add leaves an older copy of the matrix' not grep -qx older crates/bit_matrix/README.md
+expect 'add takes an argument that is no library' not add bit_graph
 
 start older
 expect 'add fails' add
