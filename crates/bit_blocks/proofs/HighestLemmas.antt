@@ -1,7 +1,7 @@
 -- The highest 1 of a number, and the ones that are filled in below it.
 use Rattle.std.proofs.Common.{◌≡◌, ℕ, ◌+◌, ◌-◌, ◌/◌, ◌%◌, ◌^◌, ◌<◌, ◌≤◌, ◌*◌, suc, ap, subst, ◌∙◌, arith, pow_pos, pow-suc, div-lt_iff_lt-mul}
-use Rattle.std.proofs.{Math.Pow.pow_mono, lemmas.Nat.{leading_top, le-div, Bits.{bit_at-lt, bit_at_above, bit_at_ones, bit_at_ones_above, same_from_bits_below}}}
-use Rattle.std.specs.Int.{bit_at, Count.count_leading_zeros}
+use Rattle.std.proofs.{Math.{Nat.mod-eq_of_lt, Pow.pow_mono}, lemmas.Nat.{and_mask, leading_top, le-div, Bits.{bit_at-lt, bit_at_above, bit_at_ones, bit_at_ones_above, same_from_bits_below}}}
+use Rattle.std.specs.Int.{bit_at, Bits.{bit_xor, xor_add_and}, Count.count_leading_zeros}
 use Rattle.bit_blocks.specs.{Digits.{IsEither, IsShiftedRight}, Highest.{IsHighest, IsFilledDown}}
 
 -- a number that is not 0 has one, below the zeros that lead its digits
@@ -23,10 +23,14 @@ highest_below w m pos fits =
 pub highest_found : (w m : ℕ) → 0 < m → m < 2 ^ w → (i : ℕ) × IsHighest m i
 highest_found w m pos fits = let found = highest_below w m pos fits in (found.0, found.2)
 
-pub highest_by_zeros : (w m : ℕ) → 0 < m → m < 2 ^ w → IsHighest m (w - 1 - count_leading_zeros w m)
-highest_by_zeros w m pos fits =
-    let found = highest_below w m pos fits in
-    subst (IsHighest m) (let e : found.0 ≡ w - 1 - count_leading_zeros w m = omega (arith, found.1) in e) found.2
+-- the zeros that lead 2 ^ k digits, each digit of their count flipped
+pub highest_by_zeros : (k m : ℕ) → 0 < m → m < 2 ^ (2 ^ k) → (bit_xor (count_leading_zeros (2 ^ k) m) (2 ^ k - 1) < 2 ^ k) × IsHighest m (bit_xor (count_leading_zeros (2 ^ k) m) (2 ^ k - 1))
+highest_by_zeros k m pos fits =
+    let found = highest_below (2 ^ k) m pos fits in
+    let zeros = count_leading_zeros (2 ^ k) m in
+    let few : zeros < 2 ^ k = omega (arith, found.1) in
+    let same : found.0 ≡ bit_xor zeros (2 ^ k - 1) = omega (arith, found.1, few, xor_add_and zeros (2 ^ k - 1), and_mask zeros k, mod-eq_of_lt few) in
+    (omega (arith, found.1, same), subst (IsHighest m) same found.2)
 
 pub highest_within : (w m i : ℕ) → m < 2 ^ w → IsHighest m i → i < w
 highest_within w m i fits high = grind (arith, bit_at_above m w i fits, high.one)

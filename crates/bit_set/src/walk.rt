@@ -229,7 +229,8 @@ impl<'a, B: BitBlock> DoubleEndedIterator for Iter<'a, B> {
     /// The greatest element that is left, and from the end on `None` for good. Both ends take of the same elements. Goes
     /// on to the last block that is not zero by the summary; constant time within a block
     /// of the six types.
-    #[inline]
+    // Where it is a call, the walk goes through memory.
+    #[inline(always)]
     fn next_back(&mut self) -> Option<usize> {
         let index = self.index;
         let (block, back, back_index) = (&mut self.block, &mut self.back, &mut self.back_index);

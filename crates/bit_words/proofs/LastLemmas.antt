@@ -1,10 +1,30 @@
 -- The last block that a walk has left, and what is left without it.
-use Rattle.std.proofs.Common.{◌≡◌, ℕ, ◌+◌, ◌-◌, ◌*◌, ◌/◌, ◌^◌, ◌<◌, ◌≤◌, Bool, true, false, nat_lt, ◌&&◌, if◌then◌else◌, ◌==◌, List, [], ◌∷◌, ◌++◌, map, length, take, Option, Some, None, refl, ap, sym, ◌∙◌, arith}
+use Rattle.std.proofs.Common.{◌≡◌, ℕ, suc, ◌+◌, ◌-◌, ◌*◌, ◌/◌, ◌%◌, ◌^◌, ◌<◌, ◌≤◌, Bool, true, false, nat_lt, ◌&&◌, if◌then◌else◌, ◌==◌, List, [], ◌∷◌, ◌++◌, map, length, take, Option, Some, None, refl, ap, sym, ◌∙◌, arith, min, mod-lt, div-add-mod', lt_of_mul-lt-mul_right}
 use Rattle.std.{proofs.{lemmas.{Bool.Decides.nat_tests, List.length-map}, Math.Nat.div-lt_iff_lt-mul}, specs.Option.unwrap_or}
 use Rattle.bit_blocks.specs.{Bits.blocks_for, Digits.is_one, Highest.IsHighest, Searches.FindsBefore, Storage.{value_at, is_used}}
 use Rattle.bit_words.specs.Pending.{FindsLast, FindsLastPending, first_true, IsInHand, IsLastPending, IsPending, IsStoredFrom, left_from, next_at}
-use Rattle.bit_blocks.proofs.{Masks.is_one-bit, StorageLemmas.value_at-past}
+use Rattle.bit_blocks.proofs.{BitsLemmas.{blocks_for-enough, blocks_for-least, blocks_for-past}, Masks.is_one-bit, StorageLemmas.value_at-past}
 use Rattle.bit_words.proofs.{NextAtLemmas.{at_first, before_first, first_most}, PendingLemmas.{left-covered, left-ended, left-last, left-passed, stored_kept}}
+
+-- ---- the last block goes
+
+-- where it was the first of its chunk, so does what the summary has of that
+pub chunk_ended : (w count : ℕ) → 0 < w → w ≤ count → count % w ≡ 0 → count / w - 1 ≡ blocks_for w (count - w)
+chunk_ended w count pos past begins =
+    let all = blocks_for-past w 1 count pos (omega (arith, past, pos)) in
+    let whole : blocks_for w count ≡ count / w = ap (λ r. count / w + min 1 r) begins ∙ omega arith in
+    let same = ap (blocks_for w) (let e : count - 1 * w ≡ count - w = omega arith in e) in
+    omega (arith, all, whole, same)
+
+-- and else not
+pub chunk_goes_on : (w count : ℕ) → 0 < w → w ≤ count → 0 < count % w → blocks_for w (count + 1 - w) ≤ blocks_for w (count - w)
+chunk_goes_on w count pos past within =
+    let all = blocks_for-past w 1 count pos (omega (arith, past, pos)) in
+    let whole : blocks_for w count ≡ count / w + 1 = let some : min 1 (count % w) ≡ 1 = omega (arith, within) in ap (λ m. count / w + m) some in
+    let same = ap (blocks_for w) (let e : count - 1 * w ≡ count - w = omega arith in e) in
+    let least : blocks_for w (count - w) ≡ count / w = omega (arith, all, whole, same) in
+    let product = ap (λ n. n * w) least in
+    blocks_for-least w (count + 1 - w) (blocks_for w (count - w)) pos (omega (arith, product, div-add-mod' count w, mod-lt count pos))
 
 -- ---- the search by a summary
 
@@ -33,6 +53,12 @@ module _ {X : Type 0} (w : ℕ) (number : X → ℕ) (is_block : X → Type 0) w
       let below : i < length summary * w = (div-lt_iff_lt-mul pos).0 here in
       let few = is.no_more (omega (arith, here)) in
       omega (arith, below, few, chunk, ends, fits)
+
+  -- no more is stored than is about the blocks that are left
+  pub stored_few : (start end : ℕ) (xs summary : List X) → 0 < w → start ≤ end → IsStoredFrom w number is_block start end xs summary → length summary ≤ blocks_for w (end - start)
+  stored_few start end xs summary pos within is =
+      let below : length summary < suc (blocks_for w (end - start)) = lt_of_mul-lt-mul_right w (grind (arith, is.no_more, blocks_for-enough w (end - start) pos, within, pos)) in
+      omega (arith, below)
 
   -- ---- the block of the summary in hand
 
@@ -129,4 +155,26 @@ module _ {X : Type 0} (w : ℕ) (number : X → ℕ) (is_block : X → Type 0) w
             ∙ ap (λ ys. if number x == 0 then ys else ys ++ (k, x) ∷ []) (sym same);
         fewer = omega (arith, last.before);
         ended = λ none. absurd (some_is none);
+      })
+
+  -- ---- the last block, where that is past the block in hand
+
+  without_last : (index end to : ℕ) (pending : X) (xs summary kept : List X) → index + w < end → to ≡ end - 1 → IsPending w number is_block index end pending xs summary → kept ≡ take (blocks_for w (to - (index + w))) summary → IsCutAt index end to pending pending xs summary kept
+  without_last index end to pending xs summary kept past to_is is kept_is = record {
+    before = is;
+    of_block = is.hand.of_block;
+    cut = λ j within. let below : nat_lt j (to - index) ≡ true = grind (arith, nat_tests, within, to_is, past) in sym (ap (λ b. b && is_one (number pending) j) below);
+    left = kept_is;
+  }
+
+  pub IsPending-last : (index end to : ℕ) (pending : X) (xs summary kept : List X) → 0 < w → index + w < end → to ≡ end - 1 → IsPending w number is_block index end pending xs summary → kept ≡ take (blocks_for w (to - (index + w))) summary → IsPending w number is_block index to pending xs kept
+  IsPending-last index end to pending xs summary kept pos past to_is is kept_is =
+      IsPending-cut_at index end to pending pending xs summary kept pos (omega (arith, to_is, past)) (omega (arith, to_is)) (without_last index end to pending xs summary kept past to_is is kept_is)
+
+  pub FindsLast-last : (index end to : ℕ) (pending : X) (xs summary kept : List X) → index + w < end → to ≡ end - 1 → IsPending w number is_block index end pending xs summary → kept ≡ take (blocks_for w (to - (index + w))) summary → FindsLast w number xs index (number pending) end (Some to) (number pending) to
+  FindsLast-last index end to pending xs summary kept past to_is is kept_is =
+      FindsLast-cut_at index end to pending pending xs summary kept (Some to) (without_last index end to pending xs summary kept past to_is is kept_is) refl (record {
+        reached = let most = first_most (is_one (number pending)) w in omega (arith, most, past, to_is);
+        before = omega (arith, past, to_is);
+        between = λ j over below. absurd (omega (arith, over, below, to_is));
       })

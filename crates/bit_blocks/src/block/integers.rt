@@ -1,6 +1,8 @@
 // The unsigned integers as blocks: a value is its own number. No other type is a block here. The six impls differ in
 // the type and its width alone. They are written out, since the merge gate takes no impl that a macro of the
 // repository writes.
+// The highest 1 is found by flipping the digits of the count of leading zeros: of a difference LLVM makes a shift of the
+// sign bit, where the 1 is cleared too, and of this the one instruction that clears a bit.
 #![tactic(auto, using(crate::specs::DigitLaws::shifted_left, crate::specs::DigitLaws::shifted_right))]
 
 ghost use Rattle.std.{specs.Prelude.{◌^◌, ◌<◌, refl}, proofs.Common.lit<};
@@ -44,7 +46,7 @@ impl BitBlock for u8 {
 
     #[inline]
     fn highest_one(self) -> usize {
-        (u8::BITS - 1 - self.leading_zeros()) as usize
+        (self.leading_zeros() ^ (u8::BITS - 1)) as usize
     }
 
     ghost width_law = { record { positive = lit< tt; whole_bytes = refl; fits = lit< tt } };
@@ -116,7 +118,7 @@ impl BitBlock for u16 {
 
     #[inline]
     fn highest_one(self) -> usize {
-        (u16::BITS - 1 - self.leading_zeros()) as usize
+        (self.leading_zeros() ^ (u16::BITS - 1)) as usize
     }
 
     ghost width_law = { record { positive = lit< tt; whole_bytes = refl; fits = lit< tt } };
@@ -188,7 +190,7 @@ impl BitBlock for u32 {
 
     #[inline]
     fn highest_one(self) -> usize {
-        (u32::BITS - 1 - self.leading_zeros()) as usize
+        (self.leading_zeros() ^ (u32::BITS - 1)) as usize
     }
 
     ghost width_law = { record { positive = lit< tt; whole_bytes = refl; fits = lit< tt } };
@@ -260,7 +262,7 @@ impl BitBlock for u64 {
 
     #[inline]
     fn highest_one(self) -> usize {
-        (u64::BITS - 1 - self.leading_zeros()) as usize
+        (self.leading_zeros() ^ (u64::BITS - 1)) as usize
     }
 
     ghost width_law = { record { positive = lit< tt; whole_bytes = refl; fits = lit< tt } };
@@ -332,7 +334,7 @@ impl BitBlock for u128 {
 
     #[inline]
     fn highest_one(self) -> usize {
-        (u128::BITS - 1 - self.leading_zeros()) as usize
+        (self.leading_zeros() ^ (u128::BITS - 1)) as usize
     }
 
     ghost width_law = { record { positive = lit< tt; whole_bytes = refl; fits = lit< tt } };
@@ -404,7 +406,7 @@ impl BitBlock for usize {
 
     #[inline]
     fn highest_one(self) -> usize {
-        (usize::BITS - 1 - self.leading_zeros()) as usize
+        (self.leading_zeros() ^ (usize::BITS - 1)) as usize
     }
 
     ghost width_law = { record { positive = lit< tt; whole_bytes = refl; fits = lit< tt } };

@@ -88,7 +88,7 @@ impl<'a, B: BitBlock> Blocks<'a, B> {
     }
 
     // Leaves only so many of the blocks that are left.
-    #[inline]
+    #[inline(always)]
     pub(crate) fn keep_first(&mut self, count: usize)
         ensures left { self.new.left ≡ take count self.old.left }
         ensures pulls { self.new.pulls ≡ self.old.pulls }

@@ -133,7 +133,7 @@ impl<'a, B: BitBlock> Nonzero<'a, B> {
 
     /// The same for the hand at the back: where `back` is zero, makes it the last block that is left, and where none is
     /// left, takes over the block at the front.
-    #[inline]
+    #[inline(always)]
     pub fn refill_back(
         &mut self,
         back: &mut B,
@@ -214,7 +214,7 @@ impl<'a, B: BitBlock> Nonzero<'a, B> {
     }
 
     // The last block, with its index, as a pull. Where there is none it counts no pull.
-    #[inline]
+    #[inline(always)]
     fn take_last(&mut self) -> Option<(usize, B)>
         ensures steps { TakesLast self.old result self.new }
         ensures found { IfSome result (λ entry. (entry.0 < length self.old.blocks)

@@ -10,7 +10,7 @@ use bit_blocks::block::BitBlock;
 use bit_blocks::block::lowest::take_lowest_one;
 use bit_blocks::block::masks::{clear_below, clear_from};
 use bit_blocks::block::operators::{all_ones, has_one_at, ones_below};
-use bit_blocks::packed::access::block_count;
+use bit_blocks::packed::access::{block_at, block_count};
 use bit_blocks::packed::searching::block_or_zero;
 
 // What of a summary is left, and of its block in hand.
@@ -136,9 +136,61 @@ impl<'a, B: BitBlock> Pending<'a, B> {
     }
 
     // Takes the highest bit that is pending, or that the summary has past these, and returns the index of the block that
-    // it is about: `end` is there then. Where there is none, nothing is left, so that a later call looks at no more.
-    #[inline]
+    // it is about: `end` is there then. Where there is none, nothing is left, so that a later call looks at no more. Most
+    // often it is the last block, past the block of the summary in hand: that takes no search.
+    #[inline(always)]
     pub(crate) fn last_block(&mut self, blocks: &[B]) -> Option<usize>
+        requires walk { IsPending B.width B.number B.is_block
+            self.old.index self.old.end self.old.bits blocks.now self.old.summary.left }
+        ensures walk { IsPending B.width B.number B.is_block
+            self.new.index self.new.end self.new.bits blocks.now self.new.summary.left }
+        ensures found { FindsLast B.width B.number blocks.now
+            self.old.index (B.number self.old.bits) self.old.end result (B.number self.new.bits) self.new.end }
+        ensures index { self.new.index ≡ self.old.index }
+        ensures pulls { self.new.summary.pulls ≡ self.old.summary.pulls }
+    {
+        if self.has_last(blocks) {
+            self.drop_last();
+        } else {
+            self.search_last(blocks)?;
+        }
+        Some(self.end)
+    }
+
+    // Whether there are blocks past the block of the summary in hand, and the last of them is not zero.
+    #[inline(always)]
+    fn has_last(&self, blocks: &[B]) -> bool
+        requires { IsPending B.width B.number B.is_block
+            self.now.index self.now.end self.now.bits blocks.now self.now.summary.left }
+        ensures { IsTrue result → self.now.index + B.width < self.now.end }
+    {
+        self.end - self.index > B::bits() && is_nonzero(block_at(blocks, self.end - 1))
+    }
+
+    // Leaves what is about the blocks before the last one, where that is past the block of the summary in hand.
+    #[inline(always)]
+    fn drop_last(&mut self)
+        requires past { self.old.index + B.width < self.old.end }
+        requires few { length self.old.summary.left
+            ≤ blocks_for B.width (self.old.end - (self.old.index + B.width)) }
+        ensures stored { self.new.summary.left
+            ≡ take (blocks_for B.width (self.new.end - (self.old.index + B.width))) self.old.summary.left }
+        ensures end { self.new.end ≡ self.old.end - 1 }
+        ensures bits { self.new.bits ≡ self.old.bits }
+        ensures index { self.new.index ≡ self.old.index }
+        ensures pulls { self.new.summary.pulls ≡ self.old.summary.pulls }
+    {
+        self.end -= 1;
+        let count = self.end - self.index;
+        // It was the first of its chunk, so that no other block needs what the summary has of that.
+        if count % B::bits() == 0 {
+            self.summary.keep_first(count / B::bits() - 1);
+        }
+    }
+
+    // The same by a search, of the block of the summary in hand too.
+    #[inline(always)]
+    fn search_last(&mut self, blocks: &[B]) -> Option<usize>
         requires walk { IsPending B.width B.number B.is_block
             self.old.index self.old.end self.old.bits blocks.now self.old.summary.left }
         ensures walk { IsPending B.width B.number B.is_block
@@ -154,7 +206,7 @@ impl<'a, B: BitBlock> Pending<'a, B> {
     }
 
     // Leaves what is about the blocks before the one at `end`.
-    #[inline]
+    #[inline(always)]
     pub(crate) fn keep_before(&mut self, end: usize)
         requires from { self.old.index ≤ end }
         requires to { end ≤ self.old.end }
@@ -190,7 +242,7 @@ impl<'a, B: BitBlock> Pending<'a, B> {
     }
 
     // The last block that a bit is about: of those past the block of the summary in hand, or else of that one.
-    #[inline]
+    #[inline(always)]
     fn find_last(&self, blocks: &[B]) -> Option<usize>
         requires { IsPending B.width B.number B.is_block
             self.now.index self.now.end self.now.bits blocks.now self.now.summary.left }
@@ -206,7 +258,7 @@ impl<'a, B: BitBlock> Pending<'a, B> {
         Some(self.index + self.bits.highest_one())
     }
 
-    #[inline]
+    #[inline(always)]
     fn find_last_past_hand(&self, blocks: &[B]) -> Option<usize>
         requires { IsPending B.width B.number B.is_block
             self.now.index self.now.end self.now.bits blocks.now self.now.summary.left }
