@@ -124,8 +124,9 @@ fn bits_of_groups<B: BitBlock>(blocks: &[B], start: usize, groups: usize) -> B
     digits
 }
 
-// The block of a summary that is about the blocks from `start` on, as many as a block has bits.
-#[inline]
+// The block of a summary that is about the blocks from `start` on, as many as a block has bits. It is a call of its own: in a
+// loop over chunks that seldom makes one anew, the compiler would get its parts ready at each turn.
+#[inline(never)]
 pub(crate) fn used_from<B: BitBlock>(blocks: &[B], start: usize) -> B
     requires in_bounds { start ≤ length blocks.now }
     requires each { All B.is_block blocks.now }

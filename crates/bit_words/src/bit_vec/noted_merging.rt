@@ -59,6 +59,7 @@ impl<B: BitBlock> BitVec<B> {
             &other.blocks,
             &other.summary,
             &except.blocks,
+            &except.summary,
             steps,
         )
     }

@@ -1,6 +1,6 @@
 // The blocks that a walk has still to look at, by the summary.
 ghost use Rattle.std.specs.Prelude.{◌≡◌, ℕ, ◌+◌, ◌-◌, ◌/◌, ◌<◌, ◌≤◌, ◌^◌, ◌&&◌, All, IfSome, IsTrue, drop, false, get_or, length, map, nat_lt, take};
-ghost use Rattle.bit_blocks.specs.{Bits.blocks_for, Digits.is_one, Storage.is_used};
+ghost use Rattle.bit_blocks.specs.{Bits.blocks_for, Digits.is_one};
 ghost use Rattle.bit_words.specs.{Pending.{CoversUsed, Finds, FindsLast, FindsLastPending, IsNextChunk, IsPending, IsStoredFrom, left_from, next_at}, Summary.IsStoredSummary};
 
 use crate::bit_vec::Blocks;
@@ -314,22 +314,10 @@ fn pull_used<B: BitBlock>(
     }
     match unstored {
         Unstored::NonzeroPastZero if !is_nonzero(block_or_zero(blocks, start)) => {
-            clear_from(used_of_few(blocks, start), end - start)
+            clear_from(used_from(blocks, start), end - start)
         }
         _ => ones_for(end - start),
     }
-}
-
-// Which of the blocks from `start` on are not zero, as many as a block has bits.
-#[inline(never)]
-fn used_of_few<B: BitBlock>(blocks: &[B], start: usize) -> B
-    requires in_bounds { start ≤ length blocks.now }
-    requires each { All B.is_block blocks.now }
-    ensures of_block { B.is_block result }
-    ensures digits { (j : ℕ) → j < B.width
-        → is_one (B.number result) j ≡ is_used (map B.number blocks.now) (start + j) }
-{
-    used_from(blocks, start)
 }
 
 // A block with so many bits set, from the lowest on, or all of them.

@@ -1,6 +1,6 @@
 // Merges of the blocks of a list that say whether one changed. The list is looked at up to the first blocks that change, and
 // merged from there on.
-ghost use Rattle.std.specs.Prelude.{◌≡◌, ℕ, ◌+◌, ◌*◌, ◌^◌, ◌<◌, ◌≤◌, ◌↔◌, All, IfNone, IfSome, false, length, map, true};
+ghost use Rattle.std.specs.Prelude.{◌≡◌, ℕ, ◌+◌, ◌*◌, ◌^◌, ◌<◌, ◌≤◌, ◌↔◌, ◌||◌, All, IfNone, IfSome, false, length, map, true};
 ghost use Rattle.bit_blocks.specs.{Bits.blocks_for, BlockMerges.{CanMerge, HasMerged}, NotedMerges.{except_at, other_at, AreKept, HasMergedWith, Stay}, Digits.is_one, Storage.{value_at, is_used}, declared.block.merge.Merge.Merge};
 ghost use Rattle.bit_words.specs.Summary.{IsSummary, IsStoredSummary};
 
@@ -100,49 +100,83 @@ fn unite_chunks<B: BitBlock>(
     }
 }
 
-// What block `q` of a summary becomes, which was `own`, where blocks took in what others have, of which `other` is the block
-// of the summary. It stays where each block that may have taken something in was not 0 before.
+// Which of the blocks that block `q` of a summary is about are not 0: that block, or what it would be where the summary has
+// none, since it is not stored or the blocks end before.
 #[inline]
-fn followed<B: BitBlock>(blocks: &[B], q: usize, own: B, other: B) -> B
-    requires in_bounds { q * B.width ≤ length blocks.now }
+fn summary_at<B: BitBlock>(blocks: &[B], summary: &[B], q: usize) -> B
     requires each { All B.is_block blocks.now }
-    requires of_own { B.is_block own }
-    requires of_other { B.is_block other }
-    requires kept { (j : ℕ) → j < B.width
-        → (is_one (B.number other) j ≡ true → is_one (B.number own) j ≡ true)
-        → is_used (map B.number blocks.now) (q * B.width + j) ≡ is_one (B.number own) j }
+    requires summary { IsStoredSummary B.width B.number B.is_block blocks.now summary.now }
+    requires fits { q * B.width < 2 ^ 64 }
     ensures of_block { B.is_block result }
     ensures digits { (j : ℕ) → j < B.width
         → is_one (B.number result) j ≡ is_used (map B.number blocks.now) (q * B.width + j) }
 {
-    if is_nonzero(Difference::of_blocks(other, own)) {
-        used_from(blocks, q * B::bits())
+    if q < summary.len() {
+        block_at(summary, q)
     } else {
-        own
+        used_from(blocks, blocks.len().min(q * B::bits()))
     }
 }
 
-// The summary becomes that of blocks that took in what others have. No block is read where the summaries say enough.
-fn follow_others<B: BitBlock>(blocks: &[B], summary: &mut [B], other_summary: &[B])
+// What block `q` of a summary becomes, which was `own`, where blocks took in what others have except for the ones of a third
+// list. `other` and `except` are the blocks of the summaries of these two. A block that was 0 and that both are about may be 0
+// still: only then are the blocks read.
+#[inline]
+fn followed<B: BitBlock>(blocks: &[B], q: usize, own: B, other: B, except: B) -> B
+    requires in_bounds { q * B.width ≤ length blocks.now }
+    requires each { All B.is_block blocks.now }
+    requires of_own { B.is_block own }
+    requires of_other { B.is_block other }
+    requires of_except { B.is_block except }
+    requires kept { (j : ℕ) → j < B.width
+        → (is_one (B.number other) j ≡ true → is_one (B.number own) j ≡ true)
+        → is_used (map B.number blocks.now) (q * B.width + j) ≡ is_one (B.number own) j }
+    requires united { (j : ℕ) → j < B.width → is_one (B.number except) j ≡ false
+        → is_used (map B.number blocks.now) (q * B.width + j)
+        ≡ (is_one (B.number own) j || is_one (B.number other) j) }
+    ensures of_block { B.is_block result }
+    ensures digits { (j : ℕ) → j < B.width
+        → is_one (B.number result) j ≡ is_used (map B.number blocks.now) (q * B.width + j) }
+{
+    let taken = Difference::of_blocks(other, own);
+    if is_nonzero(Intersection::of_blocks(taken, except)) {
+        used_from(blocks, q * B::bits())
+    } else {
+        Union::of_blocks(own, other)
+    }
+}
+
+// The summary becomes that of blocks that took in what others have except for the ones of `except`. No block is read where
+// the summaries say enough.
+fn follow_others<B: BitBlock>(
+    blocks: &[B],
+    summary: &mut [B],
+    other_summary: &[B],
+    except: &[B],
+    except_summary: &[B],
+)
     requires count { length summary.old ≡ blocks_for B.width (length blocks.now) }
     requires fewer { length other_summary.now ≤ length summary.old }
     requires each { All B.is_block blocks.now }
     requires each_sum { All B.is_block summary.old }
     requires each_other { All B.is_block other_summary.now }
+    requires each_except { All B.is_block except.now }
+    requires except_summary { IsStoredSummary B.width B.number B.is_block except.now except_summary.now }
     requires fits { length blocks.now < 2 ^ 64 }
     requires kept { (k : ℕ) → (value_at B.width (map B.number other_summary.now) k ≡ true
         → value_at B.width (map B.number summary.old) k ≡ true)
         → is_used (map B.number blocks.now) k ≡ value_at B.width (map B.number summary.old) k }
+    requires united { (k : ℕ) → is_used (map B.number except.now) k ≡ false
+        → is_used (map B.number blocks.now) k
+        ≡ (value_at B.width (map B.number summary.old) k || value_at B.width (map B.number other_summary.now) k) }
     ensures summary { IsSummary B.width B.number B.is_block blocks.now summary.new }
     ensures summary_len { length summary.new ≡ length summary.old }
 {
     for q in 0..other_summary.len() {
         let own = block_at(summary, q);
-        put_in(
-            summary,
-            q,
-            followed(blocks, q, own, block_at(other_summary, q)),
-        );
+        let other = block_at(other_summary, q);
+        let excepted = summary_at(except, except_summary, q);
+        put_in(summary, q, followed(blocks, q, own, other, excepted));
     }
 }
 
@@ -155,6 +189,7 @@ fn unite_long_except<B: BitBlock>(
     others: &[B],
     other_summary: &[B],
     except: &[B],
+    except_summary: &[B],
     start: usize,
     steps: &mut Steps,
 )
@@ -165,6 +200,7 @@ fn unite_long_except<B: BitBlock>(
         (except_at (map B.number others.now) (map B.number except.now)) blocks.old }
     requires summary { IsSummary B.width B.number B.is_block blocks.old summary.old }
     requires other_summary { IsSummary B.width B.number B.is_block others.now other_summary.now }
+    requires except_summary { IsStoredSummary B.width B.number B.is_block except.now except_summary.now }
     ensures has { HasMergedWith Merge.Union B.width B.number B.is_block 0 (length blocks.old)
         (except_at (map B.number others.now) (map B.number except.now)) blocks.old blocks.new }
     ensures summary { IsSummary B.width B.number B.is_block blocks.new summary.new }
@@ -174,18 +210,88 @@ fn unite_long_except<B: BitBlock>(
     let end = blocks.len();
     steps.tick_by(start);
     unite_between(blocks, others, except, start, end, steps);
-    follow_others(blocks, summary, other_summary);
+    follow_others(blocks, summary, other_summary, except, except_summary);
 }
 
-// The blocks from `start` on become their unions with the others except for the ones of `except`, of a list of any length:
-// of a short one no summary is stored. Those before `start` stay.
+// The blocks of a long list from `start` on become their unions with the others, except for the ones of `except`. Those
+// before `start` stay.
 #[inline(never)]
+fn unite_long_from<B: BitBlock>(
+    blocks: &mut [B],
+    summary: &mut [B],
+    others: &[B],
+    other_summary: &[B],
+    except: &[B],
+    except_summary: &[B],
+    start: usize,
+    steps: &mut Steps,
+)
+    requires can { CanMerge B.is_block blocks.old others.now }
+    requires except { All B.is_block except.now }
+    requires from { start ≤ length others.now }
+    requires stay { Stay Merge.Union B.width B.number 0 start
+        (except_at (map B.number others.now) (map B.number except.now)) blocks.old }
+    requires summary { IsSummary B.width B.number B.is_block blocks.old summary.old }
+    requires other_summary { IsStoredSummary B.width B.number B.is_block others.now other_summary.now }
+    requires except_summary { IsStoredSummary B.width B.number B.is_block except.now except_summary.now }
+    ensures has { HasMergedWith Merge.Union B.width B.number B.is_block 0 (length blocks.old)
+        (except_at (map B.number others.now) (map B.number except.now)) blocks.old blocks.new }
+    ensures summary { IsSummary B.width B.number B.is_block blocks.new summary.new }
+    ensures summary_len { length summary.new ≡ length summary.old }
+    ensures steps { steps.new ≡ steps.old + length blocks.old }
+{
+    if is_short::<B>(others.len()) {
+        let from = block_index::<B>(start);
+        steps.tick_by(from * B::bits());
+        unite_chunks(blocks, summary, others, except, from, steps);
+    } else {
+        unite_long_except(
+            blocks,
+            summary,
+            others,
+            other_summary,
+            except,
+            except_summary,
+            start,
+            steps,
+        );
+    }
+}
+
+// The blocks of a short list, which stores no summary, become their unions with the others from `start` on, except for the
+// ones of `except`. Those before `start` stay.
+#[inline(never)]
+fn unite_short_from<B: BitBlock>(
+    blocks: &mut [B],
+    others: &[B],
+    except: &[B],
+    start: usize,
+    steps: &mut Steps,
+)
+    requires can { CanMerge B.is_block blocks.old others.now }
+    requires except { All B.is_block except.now }
+    requires from { start ≤ length others.now }
+    requires stay { Stay Merge.Union B.width B.number 0 start
+        (except_at (map B.number others.now) (map B.number except.now)) blocks.old }
+    ensures has { HasMergedWith Merge.Union B.width B.number B.is_block 0 (length blocks.old)
+        (except_at (map B.number others.now) (map B.number except.now)) blocks.old blocks.new }
+    ensures steps { steps.new ≡ steps.old + length blocks.old }
+{
+    let end = blocks.len();
+    steps.tick_by(start);
+    unite_between(blocks, others, except, start, end, steps);
+}
+
+// The blocks from `start` on become their unions with the others except for the ones of `except`, of a list of any length.
+// Those before `start` stay.
+#[inline(always)]
 fn unite_from<B: BitBlock>(
     blocks: &mut [B],
     summary: &mut [B],
     others: &[B],
     other_summary: &[B],
     except: &[B],
+    except_summary: &[B],
     start: usize,
     steps: &mut Steps,
 )
@@ -196,22 +302,26 @@ fn unite_from<B: BitBlock>(
         (except_at (map B.number others.now) (map B.number except.now)) blocks.old }
     requires summary { IsStoredSummary B.width B.number B.is_block blocks.old summary.old }
     requires other_summary { IsStoredSummary B.width B.number B.is_block others.now other_summary.now }
+    requires except_summary { IsStoredSummary B.width B.number B.is_block except.now except_summary.now }
     ensures has { HasMergedWith Merge.Union B.width B.number B.is_block 0 (length blocks.old)
         (except_at (map B.number others.now) (map B.number except.now)) blocks.old blocks.new }
     ensures summary { IsStoredSummary B.width B.number B.is_block blocks.new summary.new }
     ensures summary_len { length summary.new ≡ length summary.old }
     ensures steps { steps.new ≡ steps.old + length blocks.old }
 {
-    let end = blocks.len();
-    if is_short::<B>(end) {
-        steps.tick_by(start);
-        unite_between(blocks, others, except, start, end, steps);
-    } else if !is_short::<B>(others.len()) {
-        unite_long_except(blocks, summary, others, other_summary, except, start, steps);
+    if is_short::<B>(blocks.len()) {
+        unite_short_from(blocks, others, except, start, steps);
     } else {
-        let from = block_index::<B>(start);
-        steps.tick_by(from * B::bits());
-        unite_chunks(blocks, summary, others, except, from, steps);
+        unite_long_from(
+            blocks,
+            summary,
+            others,
+            other_summary,
+            except,
+            except_summary,
+            start,
+            steps,
+        );
     }
 }
 
@@ -224,6 +334,7 @@ fn unite_found<B: BitBlock>(
     others: &[B],
     other_summary: &[B],
     except: &[B],
+    except_summary: &[B],
     found: Option<usize>,
     steps: &mut Steps,
 ) -> bool
@@ -238,6 +349,7 @@ fn unite_found<B: BitBlock>(
         (except_at (map B.number others.now) (map B.number except.now)) blocks.old) }
     requires summary { IsStoredSummary B.width B.number B.is_block blocks.old summary.old }
     requires other_summary { IsStoredSummary B.width B.number B.is_block others.now other_summary.now }
+    requires except_summary { IsStoredSummary B.width B.number B.is_block except.now except_summary.now }
     ensures has { HasMergedWith Merge.Union B.width B.number B.is_block 0 (length blocks.old)
         (except_at (map B.number others.now) (map B.number except.now)) blocks.old blocks.new }
     ensures kept { (result ≡ false) ↔ AreKept (map B.number blocks.old) (map B.number blocks.new) }
@@ -251,7 +363,16 @@ fn unite_found<B: BitBlock>(
             false
         }
         Some(start) => {
-            unite_from(blocks, summary, others, other_summary, except, start, steps);
+            unite_from(
+                blocks,
+                summary,
+                others,
+                other_summary,
+                except,
+                except_summary,
+                start,
+                steps,
+            );
             true
         }
     }
@@ -266,6 +387,7 @@ fn unite_past_except<B: BitBlock>(
     others: &[B],
     other_summary: &[B],
     except: &[B],
+    except_summary: &[B],
     steps: &mut Steps,
 ) -> bool
     requires can { CanMerge B.is_block blocks.old others.now }
@@ -273,6 +395,7 @@ fn unite_past_except<B: BitBlock>(
     requires shorter { length except.now < length others.now }
     requires summary { IsStoredSummary B.width B.number B.is_block blocks.old summary.old }
     requires other_summary { IsStoredSummary B.width B.number B.is_block others.now other_summary.now }
+    requires except_summary { IsStoredSummary B.width B.number B.is_block except.now except_summary.now }
     ensures has { HasMergedWith Merge.Union B.width B.number B.is_block 0 (length blocks.old)
         (except_at (map B.number others.now) (map B.number except.now)) blocks.old blocks.new }
     ensures kept { (result ≡ false) ↔ AreKept (map B.number blocks.old) (map B.number blocks.new) }
@@ -281,7 +404,16 @@ fn unite_past_except<B: BitBlock>(
     ensures steps { steps.new ≡ steps.old + length blocks.old }
 {
     let found = first_change_past_except(blocks, others, except);
-    unite_found(blocks, summary, others, other_summary, except, found, steps)
+    unite_found(
+        blocks,
+        summary,
+        others,
+        other_summary,
+        except,
+        except_summary,
+        found,
+        steps,
+    )
 }
 
 // Each block becomes its union with the others, except for the ones of `except`, and whether one changed is returned.
@@ -292,12 +424,14 @@ pub(crate) fn unite_and_note<B: BitBlock>(
     others: &[B],
     other_summary: &[B],
     except: &[B],
+    except_summary: &[B],
     steps: &mut Steps,
 ) -> bool
     requires can { CanMerge B.is_block blocks.old others.now }
     requires except { All B.is_block except.now }
     requires summary { IsStoredSummary B.width B.number B.is_block blocks.old summary.old }
     requires other_summary { IsStoredSummary B.width B.number B.is_block others.now other_summary.now }
+    requires except_summary { IsStoredSummary B.width B.number B.is_block except.now except_summary.now }
     ensures has { HasMergedWith Merge.Union B.width B.number B.is_block 0 (length blocks.old)
         (except_at (map B.number others.now) (map B.number except.now)) blocks.old blocks.new }
     ensures kept { (result ≡ false) ↔ AreKept (map B.number blocks.old) (map B.number blocks.new) }
@@ -306,8 +440,25 @@ pub(crate) fn unite_and_note<B: BitBlock>(
     ensures steps { steps.new ≡ steps.old + length blocks.old }
 {
     if except.len() < others.len() {
-        return unite_past_except(blocks, summary, others, other_summary, except, steps);
+        return unite_past_except(
+            blocks,
+            summary,
+            others,
+            other_summary,
+            except,
+            except_summary,
+            steps,
+        );
     }
     let found = first_change_except(blocks, others, except);
-    unite_found(blocks, summary, others, other_summary, except, found, steps)
+    unite_found(
+        blocks,
+        summary,
+        others,
+        other_summary,
+        except,
+        except_summary,
+        found,
+        steps,
+    )
 }

@@ -38,6 +38,9 @@ unite_and_note-requires-clause-summary g c = rw (c.as_mut_slice.ensures.value, c
 pub unite_and_note-requires-clause-other_summary : goal.unite_and_note-requires-clause-other_summary
 unite_and_note-requires-clause-other_summary g c = rw (c.deref.ensures.value, c.deref-2.ensures.value) c.other.invariant.summary
 
+pub unite_and_note-requires-clause-except_summary : goal.unite_and_note-requires-clause-except_summary
+unite_and_note-requires-clause-except_summary g c = rw (c.deref-3.ensures.value, c.deref-4.ensures.value) c.except.invariant.summary
+
 pub invariant_of-self : goal.invariant_of-self
 invariant_of-self g c =
     let ys = c.unite_and_note.new.blocks in

@@ -15,18 +15,18 @@ returns-in-Some g c =
       pulls = pulled.counted;
     }
 
-pub used_of_few-requires : goal.used_of_few-requires
-used_of_few-requires g c = record { in_bounds = omega (arith, c.requires.in_bounds, c.requires.to); each = c.requires.each }
+pub used_from-requires : goal.used_from-requires
+used_from-requires g c = record { in_bounds = omega (arith, c.requires.in_bounds, c.requires.to); each = c.requires.each }
 
 pub clear_from-requires-in-NonzeroPastZero : goal.clear_from-requires-in-NonzeroPastZero
-clear_from-requires-in-NonzeroPastZero g c = c.used_of_few.ensures.of_block
+clear_from-requires-in-NonzeroPastZero g c = c.used_from.ensures.of_block
 
 pub returns-in-NonzeroPastZero : goal.returns-in-NonzeroPastZero
 returns-in-NonzeroPastZero g c =
     let pulled = c.in_default.ensures.steps in
     record {
       of_block = c.clear_from-in-NonzeroPastZero.ensures.of_block;
-      digits = CoversUsed-exact g.B.BitBlock.width g.B.BitBlock.number g.B.BitBlock.is_block c.args.start c.args.end (g.B.BitBlock.number c.used_of_few.result) (g.B.BitBlock.number c.clear_from-in-NonzeroPastZero.result) c.args.blocks.now c.requires.in_bounds (λ j within _. c.used_of_few.ensures.digits j within) c.clear_from-in-NonzeroPastZero.ensures.digits;
+      digits = CoversUsed-exact g.B.BitBlock.width g.B.BitBlock.number g.B.BitBlock.is_block c.args.start c.args.end (g.B.BitBlock.number c.used_from.result) (g.B.BitBlock.number c.clear_from-in-NonzeroPastZero.result) c.args.blocks.now c.requires.in_bounds (λ j within _. c.used_from.ensures.digits j within) c.clear_from-in-NonzeroPastZero.ensures.digits;
       left = pulled.item.1 ∙ sym (ap (drop 1) pulled.item.0);
       pulls = pulled.counted;
     }

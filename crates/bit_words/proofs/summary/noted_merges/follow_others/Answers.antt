@@ -1,6 +1,7 @@
-use Rattle.std.proofs.{Common.{◌≡◌, ◌≢◌, ◌+◌, ◌*◌, ◌<◌, ◌∙◌, true, sym, ap, ⊎_elim, get_or, map, length, arith, get_or-set_other}, lemmas.{Bool.{cases_lt, true≢false}, List.{get_or_past, length-map}}}
+use Rattle.std.proofs.{Common.{◌≡◌, ◌≢◌, ℕ, ◌||◌, ◌+◌, ◌*◌, ◌<◌, ◌∙◌, true, sym, ap, ap₂, ⊎_elim, get_or, map, length, arith, get_or-set_other}, lemmas.{Bool.{cases_lt, true≢false}, List.{get_or_past, length-map}}}
 use Rattle.bit_blocks.{specs.{Digits.is_one, Storage.value_at}, proofs.{BitsLemmas.whole_before, Masks.is_one-zero, StorageLemmas.value_at-index}}
 use Rattle.bit_words.proofs.SummaryLemmas.{summary_of_blocks, summary_put}
+use Rattle.bit_words.proofs.summary.noted_merges.follow_others.{Given.Over, Goals.After-summary_at-excepted}
 use Rattle.bit_words.proofs.summary.noted_merges.follow_others.Goals as goal
 
 pub loop-q-preserved : goal.loop-q-preserved
@@ -22,15 +23,28 @@ followed-requires-clause-in_bounds g c =
     let w = g.B.BitBlock.width in
     omega (arith, whole_before w (length c.args.blocks.now) c.loop-q.q g.met.B.BitBlock.width_law.positive (omega (arith, c.requires.count)))
 
+-- the digits of both summaries that a block of them has here
+own : (g : Over) (c : After-summary_at-excepted g) → (j : ℕ) → j < g.B.BitBlock.width → is_one (g.B.BitBlock.number c.block_at-own.result) j ≡ value_at g.B.BitBlock.width (map g.B.BitBlock.number c.args.summary.now) (c.loop-q.q * g.B.BitBlock.width + j)
+own g c j index = ap (λ n. is_one n j) (c.block_at-own.ensures.of_number ∙ c.loop-q.invariant.past c.loop-q.q (omega arith)) ∙ sym (value_at-index g.B.BitBlock.width (map g.B.BitBlock.number c.args.summary.now) c.loop-q.q j index)
+
+other : (g : Over) (c : After-summary_at-excepted g) → (j : ℕ) → j < g.B.BitBlock.width → is_one (g.B.BitBlock.number c.block_at-other.result) j ≡ value_at g.B.BitBlock.width (map g.B.BitBlock.number c.args.other_summary.now) (c.loop-q.q * g.B.BitBlock.width + j)
+other g c j index = ap (λ n. is_one n j) c.block_at-other.ensures.of_number ∙ sym (value_at-index g.B.BitBlock.width (map g.B.BitBlock.number c.args.other_summary.now) c.loop-q.q j index)
+
 pub followed-requires-clause-kept : goal.followed-requires-clause-kept
 followed-requires-clause-kept g c = λ j index also.
-    let w = g.B.BitBlock.width in
-    let q = c.loop-q.q in
-    let old = map g.B.BitBlock.number c.args.summary.now in
-    let os = map g.B.BitBlock.number c.args.other_summary.now in
-    let own : is_one (g.B.BitBlock.number c.block_at-own.result) j ≡ value_at w old (q * w + j) = ap (λ n. is_one n j) (c.block_at-own.ensures.of_number ∙ c.loop-q.invariant.past q (omega arith)) ∙ sym (value_at-index w old q j index) in
-    let other : is_one (g.B.BitBlock.number c.block_at.result) j ≡ value_at w os (q * w + j) = ap (λ n. is_one n j) c.block_at.ensures.of_number ∙ sym (value_at-index w os q j index) in
-    c.requires.kept (q * w + j) (λ h. sym own ∙ also (other ∙ h)) ∙ sym own
+    let here = (goal.at.followed-requires-clause-kept g c).After-summary_at-excepted in
+    let first = own g here j index in
+    c.requires.kept (c.loop-q.q * g.B.BitBlock.width + j) (λ h. sym first ∙ also (other g here j index ∙ h)) ∙ sym first
+
+pub followed-requires-clause-united : goal.followed-requires-clause-united
+followed-requires-clause-united g c = λ j index none.
+    let here = (goal.at.followed-requires-clause-united g c).After-summary_at-excepted in
+    c.requires.united (c.loop-q.q * g.B.BitBlock.width + j) (sym (c.summary_at-excepted.ensures.digits j index) ∙ none)
+    ∙ sym (ap₂ (λ a b. a || b) (own g here j index) (other g here j index))
+
+pub summary_at-excepted-requires-clause-fits : goal.summary_at-excepted-requires-clause-fits
+summary_at-excepted-requires-clause-fits g c =
+    omega (arith, whole_before g.B.BitBlock.width (length c.args.blocks.now) c.loop-q.q g.met.B.BitBlock.width_law.positive (omega (arith, c.requires.count)), c.requires.fits)
 
 pub returns-clause-summary : goal.returns-clause-summary
 returns-clause-summary g c =

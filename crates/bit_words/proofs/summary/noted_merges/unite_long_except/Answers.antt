@@ -1,5 +1,6 @@
-use Rattle.std.proofs.Common.{◌∙◌, length, map, sym, arith}
+use Rattle.std.proofs.Common.{◌∙◌, ◌||◌, length, map, sym, ap₂, arith}
 use Rattle.bit_blocks.{specs.{declared.block.merge.Merge.TheVariants.Union, NotedMerges.{except_at, HasMergedWith}}, proofs.{BitsLemmas.blocks_for-le, NotedMergeLemmas.{used_of_union, with_past_stay}}}
+use Rattle.bit_words.proofs.SummaryMergeLemmas.{used_with_others}
 use Rattle.bit_words.proofs.summary.noted_merges.unite_long_except.{Given.Over, Goals.After-unite_between}
 use Rattle.bit_words.proofs.summary.noted_merges.unite_long_except.Goals as goal
 
@@ -20,3 +21,9 @@ follow_others-requires-clause-kept g c = λ k also.
     let here = (goal.at.follow_others-requires-clause-kept g c).After-unite_between in
     used_of_union g.B.BitBlock.width g.B.BitBlock.number _ _ _ _ c.args.blocks.now _ (λ x is. (g.met.B.BitBlock.number_law x is).0) c.requires.can.each (merged g here) k (λ h. sym (c.requires.summary.digit k) ∙ also (c.requires.other_summary.digit k ∙ h))
     ∙ sym (c.requires.summary.digit k)
+
+pub follow_others-requires-clause-united : goal.follow_others-requires-clause-united
+follow_others-requires-clause-united g c = λ k none.
+    let here = (goal.at.follow_others-requires-clause-united g c).After-unite_between in
+    used_with_others g.B.BitBlock.width g.B.BitBlock.number _ _ c.args.blocks.now c.args.others.now _ (λ x is. (g.met.B.BitBlock.number_law x is).0) c.requires.can.each c.requires.can.others c.requires.can.fewer (merged g here) k none
+    ∙ sym (ap₂ (λ a b. a || b) (c.requires.summary.digit k) (c.requires.other_summary.digit k))
