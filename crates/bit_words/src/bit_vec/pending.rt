@@ -182,13 +182,13 @@ impl<'a, B: BitBlock> Pending<'a, B> {
     {
         self.end -= 1;
         let count = self.end - self.index;
-        // It was the first of its chunk, so that no other block needs what the summary has of that.
+        // It was the first of its chunk: what the summary has of that is about no block that is left.
         if count % B::bits() == 0 {
             self.summary.keep_first(count / B::bits() - 1);
         }
     }
 
-    // The same by a search, of the block of the summary in hand too.
+    // Takes that bit by a search, which looks at the block of the summary in hand too.
     #[inline(always)]
     fn search_last(&mut self, blocks: &[B]) -> Option<usize>
         requires walk { IsPending B.width B.number B.is_block
