@@ -1,14 +1,14 @@
 -- Pairs of states that one word reaches in two tables.
-use Rattle.std.proofs.Common.{◌≡◌, ℕ, ◌+◌, ◌*◌, ◌<◌, ◌≤◌, Bool, not, true, false, cond, ◌&&◌, ltb, ◌⊎◌, inl, inr, List, [], ◌∷◌, ◌++◌, length, append_assoc, get_or, reverse, refl, sym, ap, subst, ◌∙◌, ◌↔◌, arith}
+use Rattle.std.proofs.Common.{◌≡◌, ℕ, ◌+◌, ◌*◌, ◌<◌, ◌≤◌, Bool, not, true, false, cond, ◌&&◌, ◌||◌, eqb, ltb, ◌⊎◌, inl, inr, List, [], ◌∷◌, ◌++◌, length, append_assoc, get_or, reverse, refl, sym, ap, subst, ◌∙◌, ◌↔◌, arith}
 use mathlib.Core.Bool.{beq}
-use Rattle.std.proofs.lemmas.Bool.{true≢false, cases_eq, cases_lt, eq-eqb, ne_eqb, lt-ltb, le-ltb}
+use Rattle.std.proofs.lemmas.Bool.{true≢false, cases_eq, cases_lt, eq-eqb, eqb-true, lt-ltb, le-ltb, or_cases, or_left, or_right}
 use Rattle.std.proofs.lemmas.List.{get_or_append_left, get_or_default, get_or_push, length_push, reverse-append}
-use Rattle.std.proofs.lemmas.Nat.{mul-add-lt, row_fits}
-use Rattle.bit_set.specs.Members.{Updates}
+use Rattle.std.proofs.lemmas.Nat.{row_fits}
 use Rattle.bit_set.specs.Sets.{has}
+use Rattle.bit_matrix.specs.Matrices.{ChangesRow, Matrix, has_at}
 use Rattle.automata.specs.declared.equivalence.Pair.{Pair}
 use Rattle.automata.specs.Pairs.{does_accept, step_of, symbols_of, walk_from}
-use Rattle.automata.specs.Searching.{Explores, IsLinked, IsListed, Spells, first_pair, onward, pair_at, pair_number, pairs_of, start}
+use Rattle.automata.specs.Searching.{Explores, IsLinked, IsListed, Spells, first_pair, onward, pair_at, start}
 use Rattle.automata.specs.Tables.{AcceptTheSame, IsAcceptedBy, IsAcceptedByOne, IsTable, IsWordOver, Table, end_from, next_state}
 use Rattle.automata.proofs.BuildLemmas.{one_place, place_inside}
 
@@ -32,17 +32,6 @@ step_past t state symbol past = last_false (ltb state t.states) (ltb symbol t.sy
 
 step_from_past : (t : Table) (state symbol : ℕ) → t.states ≤ state → step_of t state symbol ≡ t.states
 step_from_past t state symbol past = first_false (ltb state t.states) (ltb symbol t.symbols) _ _ (le-ltb state t.states past)
-
-step_within : (t : Table) (state symbol : ℕ) → IsTable t.states t.symbols t.next → step_of t state symbol ≤ t.states
-step_within t state symbol table = elim (cases_lt state t.states) [
-  | inl lt ↦ elim (cases_lt symbol t.symbols) [
-    | inl in_symbols ↦
-        let next = table.inside (state * t.symbols + symbol) (place_inside t.states t.symbols t.next state symbol table lt in_symbols) in
-        rw (step_at t state symbol lt in_symbols) (omega (arith, next))
-    | inr past ↦ rw (step_past t state symbol past) (omega arith)
-  ]
-  | inr past ↦ rw (step_from_past t state symbol past) (omega arith)
-]
 
 -- no word leads on from the state more
 stays : (t : Table) (word : List ℕ) → walk_from t t.states word ≡ t.states
@@ -91,36 +80,41 @@ pair_last queue p i is = get_or_push queue p first_pair i (sym is)
 before_or_last : (queue : List Pair) (p : Pair) (i : ℕ) → i < length (queue ++ p ∷ []) → (i < length queue) ⊎ (i ≡ length queue)
 before_or_last queue p i lt = elim (cases_lt i (length queue)) [ inl below ↦ inl below | inr above ↦ inr (omega (arith, lt, above, length_push queue p)) ]
 
-still_has : (met new : List ℕ) (n m : ℕ) → Updates met new n true → has met m ≡ true → has new m ≡ true
-still_has met new n m updates h = elim (cases_eq n m) [
-  | inl is ↦ updates m ∙ ap (λ b. cond b true (has met m)) (eq-eqb n m is)
-  | inr other ↦ updates m ∙ ap (λ b. cond b true (has met m)) (ne_eqb n m other) ∙ h
+-- what is met after one pair more was met: that pair, or one of those before
+met_before : (met new : Matrix) (p : Pair) (l r : ℕ) → ChangesRow met new p.left (λ c. eqb p.right c || has_at met p.left c) → has_at new l r ≡ true → ((p.left ≡ l) × (p.right ≡ r)) ⊎ (has_at met l r ≡ true)
+met_before met new p l r change h = elim (cases_eq l p.left) [
+  | inl is ↦ elim (or_cases (eqb p.right r) (has_at met p.left r) (sym (change.row r) ∙ ap (λ k. has_at new k r) (sym is) ∙ h)) [
+    | inl same ↦ inl (sym is, eqb-true p.right r same)
+    | inr before ↦ inr (ap (λ k. has_at met k r) is ∙ before)
+  ]
+  | inr other ↦ inr (ap (λ s. has s r) (sym (change.others l other)) ∙ h)
 ]
 
-now_has : (met new : List ℕ) (n : ℕ) → Updates met new n true → has new n ≡ true
-now_has met new n updates = updates n ∙ ap (λ b. cond b true (has met n)) (eq-eqb n n refl)
+still_met : (met new : Matrix) (p : Pair) (l r : ℕ) → ChangesRow met new p.left (λ c. eqb p.right c || has_at met p.left c) → has_at met l r ≡ true → has_at new l r ≡ true
+still_met met new p l r change h = elim (cases_eq l p.left) [
+  | inl is ↦ ap (λ k. has_at new k r) is ∙ change.row r ∙ or_right (eqb p.right r) (has_at met p.left r) (ap (λ k. has_at met k r) (sym is) ∙ h)
+  | inr other ↦ ap (λ s. has s r) (change.others l other) ∙ h
+]
 
-had_before : (met new : List ℕ) (n m : ℕ) → Updates met new n true → (n ≡ m → ⊥) → has new m ≡ true → has met m ≡ true
-had_before met new n m updates other h = sym (updates m ∙ ap (λ b. cond b true (has met m)) (ne_eqb n m other)) ∙ h
+now_met : (met new : Matrix) (p : Pair) → ChangesRow met new p.left (λ c. eqb p.right c || has_at met p.left c) → has_at new p.left p.right ≡ true
+now_met met new p change = change.row p.right ∙ or_left (eqb p.right p.right) _ (eq-eqb p.right p.right refl)
 
-module _ (a b : Table) (queue : List Pair) (met : List ℕ) (place : ℕ) (e : Explores a b queue met place) (new : List ℕ) (p : Pair) (updates : Updates met new (pair_number b p.left p.right) true) where
+module _ (a b : Table) (queue : List Pair) (met : Matrix) (place : ℕ) (e : Explores a b queue met place) (new : Matrix) (p : Pair) (change : ChangesRow met new p.left (λ c. eqb p.right c || has_at met p.left c)) where
   -- a pair that was met before
-  explores_old : has met (pair_number b p.left p.right) ≡ true → Explores a b queue new place
+  explores_old : has_at met p.left p.right ≡ true → Explores a b queue new place
   explores_old is_in = record {
     some = e.some;
     left_first = e.left_first;
     right_first = e.right_first;
-    left_inside = e.left_inside;
-    right_inside = e.right_inside;
     linked = e.linked;
-    listed = λ l r le_l le_r h. elim (cases_eq (pair_number b p.left p.right) (pair_number b l r)) [
-      | inl is ↦ e.listed l r le_l le_r (ap (has met) (sym is) ∙ is_in)
-      | inr other ↦ e.listed l r le_l le_r (had_before met new _ _ updates other h)
+    listed = λ l r h. elim (met_before met new p l r change h) [
+      | inl same ↦ let is : has_at met l r ≡ has_at met p.left p.right = ap (has_at met l) (sym same.1) ∙ ap (λ k. has_at met k p.right) (sym same.0) in e.listed l r (is ∙ is_in)
+      | inr before ↦ e.listed l r before
     ];
-    closed = λ i symbol lt inside before. still_has met new _ _ updates (e.closed i symbol lt inside before);
+    closed = λ i symbol lt inside before. still_met met new p _ _ change (e.closed i symbol lt inside before);
   }
 
-  module _ (fits : place ≤ length queue * symbols_of a b) (parent : p.parent < length queue) (left_le : p.left ≤ a.states) (right_le : p.right ≤ b.states) (left_is : p.left ≡ step_of a (pair_at queue p.parent).left p.symbol) (right_is : p.right ≡ step_of b (pair_at queue p.parent).right p.symbol) where
+  module _ (fits : place ≤ length queue * symbols_of a b) (parent : p.parent < length queue) (left_is : p.left ≡ step_of a (pair_at queue p.parent).left p.symbol) (right_is : p.right ≡ step_of b (pair_at queue p.parent).right p.symbol) where
     linked_on : (i : ℕ) → 0 < i → i < length (queue ++ p ∷ []) → IsLinked a b (queue ++ p ∷ []) i
     linked_on i some lt = elim (before_or_last queue p i lt) [
       | inl below ↦
@@ -143,10 +137,9 @@ module _ (a b : Table) (queue : List Pair) (met : List ℕ) (place : ℕ) (e : E
           }
     ]
 
-    listed_on : (l r : ℕ) → l ≤ a.states → r ≤ b.states → has new (pair_number b l r) ≡ true → IsListed (queue ++ p ∷ []) l r
-    listed_on l r le_l le_r h = elim (cases_eq (pair_number b p.left p.right) (pair_number b l r)) [
-      | inl is ↦
-          let at = one_place (b.states + 1) p.left l p.right r (omega (arith, right_le)) (omega (arith, le_r)) is in
+    listed_on : (l r : ℕ) → has_at new l r ≡ true → IsListed (queue ++ p ∷ []) l r
+    listed_on l r h = elim (met_before met new p l r change h) [
+      | inl at ↦
           let same = pair_last queue p (length queue) refl in
           record {
             place = length queue;
@@ -154,8 +147,8 @@ module _ (a b : Table) (queue : List Pair) (met : List ℕ) (place : ℕ) (e : E
             left_is = rw same at.0;
             right_is = rw same at.1;
           }
-      | inr other ↦
-          let old = e.listed l r le_l le_r (had_before met new _ _ updates other h) in
+      | inr before ↦
+          let old = e.listed l r before in
           let inside = old.inside in
           let same = pair_before queue p old.place inside in
           record {
@@ -166,9 +159,9 @@ module _ (a b : Table) (queue : List Pair) (met : List ℕ) (place : ℕ) (e : E
           }
     ]
 
-    closed_on : (i symbol : ℕ) → i < length (queue ++ p ∷ []) → symbol < symbols_of a b → i * symbols_of a b + symbol < place → has new (pair_number b (step_of a (pair_at (queue ++ p ∷ []) i).left symbol) (step_of b (pair_at (queue ++ p ∷ []) i).right symbol)) ≡ true
+    closed_on : (i symbol : ℕ) → i < length (queue ++ p ∷ []) → symbol < symbols_of a b → i * symbols_of a b + symbol < place → has_at new (step_of a (pair_at (queue ++ p ∷ []) i).left symbol) (step_of b (pair_at (queue ++ p ∷ []) i).right symbol) ≡ true
     closed_on i symbol lt inside before = elim (before_or_last queue p i lt) [
-      | inl below ↦ rw (pair_before queue p i below) (still_has met new _ _ updates (e.closed i symbol below inside before))
+      | inl below ↦ rw (pair_before queue p i below) (still_met met new p _ _ change (e.closed i symbol below inside before))
       | inr last ↦
           let late : length queue * symbols_of a b + symbol < place = subst (λ n. n * symbols_of a b + symbol < place) last before in
           absurd (omega (arith, late, fits))
@@ -183,22 +176,14 @@ module _ (a b : Table) (queue : List Pair) (met : List ℕ) (place : ℕ) (e : E
           some = omega (arith, some, length_push queue p);
           left_first = rw same e.left_first;
           right_first = rw same e.right_first;
-          left_inside = λ i lt. elim (before_or_last queue p i lt) [
-            | inl below ↦ rw (pair_before queue p i below) (e.left_inside i below)
-            | inr last ↦ rw (pair_last queue p i last) left_le
-          ];
-          right_inside = λ i lt. elim (before_or_last queue p i lt) [
-            | inl below ↦ rw (pair_before queue p i below) (e.right_inside i below)
-            | inr last ↦ rw (pair_last queue p i last) right_le
-          ];
           linked = linked_on;
           listed = listed_on;
           closed = closed_on;
         }
 
     -- the pair, which is new or was met before
-    explores_with : (after : List Pair) → after ≡ cond (has met (pair_number b p.left p.right)) queue (queue ++ p ∷ []) → Explores a b after new place
-    explores_with after is = elim (has met (pair_number b p.left p.right)) as (λ w. has met (pair_number b p.left p.right) ≡ w → after ≡ cond w queue (queue ++ p ∷ []) → Explores a b after new place) [
+    explores_with : (after : List Pair) → after ≡ cond (has_at met p.left p.right) queue (queue ++ p ∷ []) → Explores a b after new place
+    explores_with after is = elim (has_at met p.left p.right) as (λ w. has_at met p.left p.right ≡ w → after ≡ cond w queue (queue ++ p ∷ []) → Explores a b after new place) [
       | true ↦ λ h same. rw same (explores_old h)
       | false ↦ λ h same. rw same explores_new
     ] refl is
@@ -216,13 +201,11 @@ same_pair queue after p true i is lt = ap (λ q. pair_at q i) is
 same_pair queue after p false i is lt = ap (λ q. pair_at q i) is ∙ pair_before queue p i lt
 
 -- one symbol more was followed
-one_symbol_on : (a b : Table) (queue : List Pair) (met : List ℕ) (at symbol : ℕ) → Explores a b queue met (at * symbols_of a b + symbol) → symbol < symbols_of a b → has met (pair_number b (step_of a (pair_at queue at).left symbol) (step_of b (pair_at queue at).right symbol)) ≡ true → Explores a b queue met (at * symbols_of a b + (symbol + 1))
+one_symbol_on : (a b : Table) (queue : List Pair) (met : Matrix) (at symbol : ℕ) → Explores a b queue met (at * symbols_of a b + symbol) → symbol < symbols_of a b → has_at met (step_of a (pair_at queue at).left symbol) (step_of b (pair_at queue at).right symbol) ≡ true → Explores a b queue met (at * symbols_of a b + (symbol + 1))
 one_symbol_on a b queue met at symbol e inside here = record {
   some = e.some;
   left_first = e.left_first;
   right_first = e.right_first;
-  left_inside = e.left_inside;
-  right_inside = e.right_inside;
   linked = e.linked;
   listed = e.listed;
   closed = λ i c lt in_c before. elim (cases_lt (i * symbols_of a b + c) (at * symbols_of a b + symbol)) [
@@ -235,15 +218,15 @@ one_symbol_on a b queue met at symbol e inside here = record {
 }
 
 -- the pair to which one symbol leads
-pub pair_on : (a b : Table) (queue : List Pair) (met : List ℕ) (at symbol : ℕ) (from : Pair) (left right : ℕ) (new : List ℕ) (after : List Pair) → Explores a b queue met (at * symbols_of a b + symbol) → symbol < symbols_of a b → at < length queue → pair_at queue at ≡ from → left ≡ step_of a from.left symbol → right ≡ step_of b from.right symbol → left ≤ a.states → right ≤ b.states → Updates met new (pair_number b left right) true → after ≡ cond (has met (pair_number b left right)) queue (queue ++ record { parent = at; symbol = symbol; left = left; right = right } ∷ []) → Explores a b after new (at * symbols_of a b + (symbol + 1))
-pair_on a b queue met at symbol from left right new after e inside lt from_is left_is right_is left_le right_le updates is =
+pub pair_on : (a b : Table) (queue : List Pair) (met : Matrix) (at symbol : ℕ) (from : Pair) (left right : ℕ) (new : Matrix) (after : List Pair) → Explores a b queue met (at * symbols_of a b + symbol) → symbol < symbols_of a b → at < length queue → pair_at queue at ≡ from → left ≡ step_of a from.left symbol → right ≡ step_of b from.right symbol → ChangesRow met new left (λ c. eqb right c || has_at met left c) → after ≡ cond (has_at met left right) queue (queue ++ record { parent = at; symbol = symbol; left = left; right = right } ∷ []) → Explores a b after new (at * symbols_of a b + (symbol + 1))
+pair_on a b queue met at symbol from left right new after e inside lt from_is left_is right_is change is =
     let p : Pair = record { parent = at; symbol = symbol; left = left; right = right } in
     let row : at * symbols_of a b + symbols_of a b ≤ length queue * symbols_of a b = row_fits at (symbols_of a b) (length queue) (symbols_of a b) lt (omega arith) in
     let left_on : left ≡ step_of a (pair_at queue at).left symbol = rw from_is left_is in
     let right_on : right ≡ step_of b (pair_at queue at).right symbol = rw from_is right_is in
-    let more : Explores a b after new (at * symbols_of a b + symbol) = explores_with a b queue met _ e new p updates (omega (arith, row, inside)) lt left_le right_le left_on right_on after is in
-    let same : pair_at after at ≡ pair_at queue at = same_pair queue after p (has met (pair_number b left right)) at is lt in
-    one_symbol_on a b after new at symbol more inside (rw (same, ← left_on, ← right_on) (now_has met new (pair_number b left right) updates))
+    let more : Explores a b after new (at * symbols_of a b + symbol) = explores_with a b queue met _ e new p change (omega (arith, row, inside)) lt left_on right_on after is in
+    let same : pair_at after at ≡ pair_at queue at = same_pair queue after p (has_at met left right) at is lt in
+    one_symbol_on a b after new at symbol more inside (rw (same, ← left_on, ← right_on) (now_met met new p change))
 
 -- ---- going back
 
@@ -256,7 +239,7 @@ walk_push : (t : Table) (state : ℕ) (word : List ℕ) (symbol : ℕ) → walk_
 walk_push t state [] symbol = refl
 walk_push t state (x ∷ xs) symbol = walk_push t (step_of t state x) xs symbol
 
-module _ (a b : Table) (queue : List Pair) (met : List ℕ) (place : ℕ) (e : Explores a b queue met place) where
+module _ (a b : Table) (queue : List Pair) (met : Matrix) (place : ℕ) (e : Explores a b queue met place) where
   -- the word of a pair reaches its states
   follows : (i : ℕ) (word : List ℕ) → i < length queue → Spells queue i word → (walk_from a 0 word ≡ (pair_at queue i).left) × (walk_from b 0 word ≡ (pair_at queue i).right)
   follows i word lt start = (sym e.left_first, sym e.right_first)
@@ -275,7 +258,7 @@ module _ (a b : Table) (queue : List Pair) (met : List ℕ) (place : ℕ) (e : E
       | inl inside ↦
           let fits : i * symbols_of a b + symbols_of a b ≤ length queue * symbols_of a b = row_fits i (symbols_of a b) (length queue) (symbols_of a b) lt (omega arith) in
           let is_met = e.closed i symbol lt inside (omega (arith, fits, inside, whole)) in
-          let next = e.listed _ _ (step_within a (pair_at queue i).left symbol table_a) (step_within b (pair_at queue i).right symbol table_b) is_met in
+          let next = e.listed _ _ is_met in
           ap (λ s. does_accept a (walk_from a s word)) (sym next.left_is) ∙ same_from word next.place next.inside ∙ ap (λ s. does_accept b (walk_from b s word)) next.right_is
       | inr past ↦
           let out_a = step_past a (pair_at queue i).left symbol (omega (arith, past)) in
@@ -307,7 +290,7 @@ pub agree_at : (a b : Table) (queue : List Pair) (i : ℕ) (p : Pair) (x y : Boo
 agree_at a b queue i p x y lt is x_is y_is same = rw (← read queue i p lt is) (sym x_is ∙ are_same x y same ∙ y_is)
 
 -- and where it found that one does
-pub differ_at : (a b : Table) (queue : List Pair) (met : List ℕ) (place : ℕ) → Explores a b queue met place → (i : ℕ) (p : Pair) (x y : Bool) (word : List ℕ) → i < length queue → p ≡ get_or queue i p → x ≡ does_accept a p.left → y ≡ does_accept b p.right → not (beq x y) ≡ true → Spells queue i word → IsTable a.states a.symbols a.next → IsTable b.states b.symbols b.next → IsAcceptedByOne a b word
+pub differ_at : (a b : Table) (queue : List Pair) (met : Matrix) (place : ℕ) → Explores a b queue met place → (i : ℕ) (p : Pair) (x y : Bool) (word : List ℕ) → i < length queue → p ≡ get_or queue i p → x ≡ does_accept a p.left → y ≡ does_accept b p.right → not (beq x y) ≡ true → Spells queue i word → IsTable a.states a.symbols a.next → IsTable b.states b.symbols b.next → IsAcceptedByOne a b word
 differ_at a b queue met place e i p x y word lt is x_is y_is differ spells table_a table_b =
     let ends = follows a b queue met place e i word lt spells in
     let pair_is = read queue i p lt is in
@@ -315,16 +298,11 @@ differ_at a b queue met place e i p x y word lt is x_is y_is differ spells table
     let in_b : y ≡ does_accept b (walk_from b 0 word) = rw (ends.1, ← pair_is) y_is in
     one_of (does_accept a (walk_from a 0 word)) (does_accept b (walk_from b 0 word)) (accepted a word table_a) (accepted b word table_b) (rw (← in_a, ← in_b) differ)
 
--- ---- places in the queue, and numbers of pairs
+-- ---- places in the queue
 
--- the number of a pair of states is below the number of all pairs
-pub number_inside : (a b : Table) (left right columns : ℕ) → left ≤ a.states → right ≤ b.states → columns ≡ b.states → left * (columns + 1) + right < pairs_of a b
-number_inside a b left right columns left_in right_in is =
-    rw is (let inside = mul-add-lt left (b.states + 1) right (a.states + 1) (omega (arith, left_in)) (omega (arith, right_in)) in omega (arith, inside))
-
-pub explored_none : (a b : Table) (queue : List Pair) (met : List ℕ) (n : ℕ) → Explores a b queue met 0 → Explores a b queue met (0 * n)
+pub explored_none : (a b : Table) (queue : List Pair) (met : Matrix) (n : ℕ) → Explores a b queue met 0 → Explores a b queue met (0 * n)
 explored_none a b queue met n h = let none : 0 ≡ 0 * n = omega arith in subst (λ place. Explores a b queue met place) none h
 
 -- where each symbol was followed from a pair, the search is at the next one
-pub explored_pair : (a b : Table) (queue : List Pair) (met : List ℕ) (at symbol n : ℕ) → symbol ≡ n → Explores a b queue met (at * n + symbol) → Explores a b queue met ((at + 1) * n)
+pub explored_pair : (a b : Table) (queue : List Pair) (met : Matrix) (at symbol n : ℕ) → symbol ≡ n → Explores a b queue met (at * n + symbol) → Explores a b queue met ((at + 1) * n)
 explored_pair a b queue met at symbol n is h = let next : at * n + symbol ≡ (at + 1) * n = omega (arith, is) in subst (λ place. Explores a b queue met place) next h

@@ -1,6 +1,6 @@
 -- A search through the pairs of states of two tables that one word reaches.
-use Rattle.std.specs.Prelude.{◌≡◌, ℕ, ◌+◌, ◌*◌, ◌<◌, ◌≤◌, ◌++◌, IsTrue, List, [], ◌∷◌, length, slice_index_or}
-use Rattle.bit_set.specs.Sets.{has}
+use Rattle.std.specs.Prelude.{◌≡◌, ℕ, ◌+◌, ◌*◌, ◌<◌, ◌++◌, IsTrue, List, [], ◌∷◌, length, slice_index_or}
+use Rattle.bit_matrix.specs.Matrices.{Matrix, has_at}
 use Rattle.automata.specs.declared.equivalence.Pair.{Pair}
 use Rattle.automata.specs.Pairs.{step_of, symbols_of}
 use Rattle.automata.specs.Tables.{Table}
@@ -13,13 +13,10 @@ first_pair = record { parent = 0; symbol = 0; left = 0; right = 0 }
 abbrev pub pair_at : List Pair → ℕ → Pair
 pair_at queue i = slice_index_or queue i first_pair
 
--- the number of a pair of states
-abbrev pub pair_number : Table → ℕ → ℕ → ℕ
-pair_number b left right = left * (b.states + 1) + right
-
--- how many pairs there are, each table with one state more
-abbrev pub pairs_of : Table → Table → ℕ
-pairs_of a b = (a.states + 1) * (b.states + 1)
+-- a row for each state of the one table and a column for each of the other, each table with one state more
+pub record HasPlaces (a b : Table) (met : Matrix) : Type 0 where
+  pub rows : length met.rows ≡ a.states + 1
+  pub columns : met.columns ≡ b.states + 1
 
 -- Going back from a pair to its parent, and on to the first, spells the word from its end.
 pub data Spells (queue : List Pair) : ℕ → List ℕ → Type 0 where
@@ -40,16 +37,13 @@ pub record IsLinked (a b : Table) (queue : List Pair) (i : ℕ) : Type 0 where
   pub left_is : (pair_at queue i).left ≡ step_of a (pair_at queue (pair_at queue i).parent).left (pair_at queue i).symbol
   pub right_is : (pair_at queue i).right ≡ step_of b (pair_at queue (pair_at queue i).parent).right (pair_at queue i).symbol
 
--- A queue of pairs, the numbers of those that it has, and where symbols lead from the pairs of the first of it: `place`
+-- A queue of pairs, a matrix of those that it has, and where symbols lead from the pairs of the first of it: `place`
 -- counts the symbols that were followed, pair by pair.
-pub record Explores (a b : Table) (queue : List Pair) (met : List ℕ) (place : ℕ) : Type 0 where
+pub record Explores (a b : Table) (queue : List Pair) (met : Matrix) (place : ℕ) : Type 0 where
   pub some : 0 < length queue
   pub left_first : (pair_at queue 0).left ≡ 0
   pub right_first : (pair_at queue 0).right ≡ 0
-  pub left_inside : (i : ℕ) → i < length queue → (pair_at queue i).left ≤ a.states
-  pub right_inside : (i : ℕ) → i < length queue → (pair_at queue i).right ≤ b.states
   pub linked : (i : ℕ) → 0 < i → i < length queue → IsLinked a b queue i
-  pub listed : (left right : ℕ) → left ≤ a.states → right ≤ b.states → IsTrue (has met (pair_number b left right))
-      → IsListed queue left right
+  pub listed : (left right : ℕ) → IsTrue (has_at met left right) → IsListed queue left right
   pub closed : (i symbol : ℕ) → i < length queue → symbol < symbols_of a b → i * symbols_of a b + symbol < place
-      → IsTrue (has met (pair_number b (step_of a (pair_at queue i).left symbol) (step_of b (pair_at queue i).right symbol)))
+      → IsTrue (has_at met (step_of a (pair_at queue i).left symbol) (step_of b (pair_at queue i).right symbol))

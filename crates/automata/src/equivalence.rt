@@ -1,13 +1,13 @@
 // Whether two deterministic automata accept the same words.
-ghost use Rattle.std.specs.Prelude.{◌≡◌, ◌+◌, ◌*◌, ◌<◌, ◌≤◌, ◌^◌, ◌++◌, ◌∷◌, [], ℕ, true, if◌then◌else◌, IfNone, IfOk, IfSome, OnOk, length};
-ghost use Rattle.bit_set.specs.Members.{HasNone, Updates};
-ghost use Rattle.bit_set.specs.Sets.{elements, has};
+ghost use Rattle.std.specs.Prelude.{◌≡◌, ◌+◌, ◌*◌, ◌<◌, ◌≤◌, ◌++◌, ◌∷◌, ◌||◌, ◌==◌, [], ℕ, false, if◌then◌else◌, IfNone, IfOk, IfSome, OnOk, length};
+ghost use Rattle.bit_matrix.specs.Matrices.{ChangesRow, has_at};
 ghost use Rattle.automata.specs.Pairs.{does_accept, step_of, symbols_of};
-ghost use Rattle.automata.specs.Searching.{Explores, Spells, pair_at, pairs_of};
+ghost use Rattle.automata.specs.Searching.{Explores, HasPlaces, Spells, pair_at};
 ghost use Rattle.automata.specs.Tables.{AcceptTheSame, IsAcceptedByOne};
 
 use crate::Dfa;
-use bit_set::{BitBlock, BitSet};
+use bit_matrix::{BitMatrix, MatrixError};
+use bit_set::BitBlock;
 use std::alloc::{AllocError, Global};
 
 // Two states that one word reaches, each in its automaton. The word is that of the pair at `parent` and then `symbol`;
@@ -23,8 +23,8 @@ pub(crate) struct Pair {
 /// Whether two automata accept the same words: `None` where they do, else a word that just one of them accepts. A word
 /// with a symbol that an automaton does not have is not accepted by it, so the two need not have the same symbols.
 /// Follows each symbol once from each pair of states that some word reaches, in the order of the words' lengths. Takes
-/// a bit for each pair of states, and four words for each pair that is reached. Fails only where memory runs out, which
-/// includes that there are more pairs than a `usize` counts.
+/// a bit for each pair of states, in a row of whole blocks for each state of the first, and four words for each pair that
+/// is reached. Fails only where memory runs out, which includes that these rows have more bits than a `usize` counts.
 pub fn equivalent<B: BitBlock>(
     alloc: Global,
     a: &Dfa<B>,
@@ -47,11 +47,16 @@ pub fn equivalent<B: BitBlock>(
     Ok(None)
 }
 
-// An empty set that has the capacity for each pair of states of two automata, each with one state more than these.
-fn no_pairs<B: BitBlock>(alloc: Global, left: usize, right: usize) -> Result<BitSet<B>, AllocError>
-    ensures none { IfOk result (λ met. HasNone (elements met.values)) }
-    ensures capacity { IfOk result (λ met. (left + 1) * (right + 1) ≤ met.capacity) }
-    ensures counted { OnOk result ((left + 1) * (right + 1) < 2 ^ 64) }
+// A matrix with nothing in it that has a row for each state of the one automaton and a column for each of the other,
+// where each has one state more than these.
+fn no_pairs<B: BitBlock>(
+    alloc: Global,
+    left: usize,
+    right: usize,
+) -> Result<BitMatrix<B>, AllocError>
+    ensures none { IfOk result (λ met. (l r : ℕ) → has_at met l r ≡ false) }
+    ensures rows { IfOk result (λ met. length met.rows ≡ left + 1) }
+    ensures columns { IfOk result (λ met. met.columns ≡ right + 1) }
 {
     let Some(rows) = left.checked_add(1) else {
         return Err(AllocError);
@@ -59,10 +64,11 @@ fn no_pairs<B: BitBlock>(alloc: Global, left: usize, right: usize) -> Result<Bit
     let Some(columns) = right.checked_add(1) else {
         return Err(AllocError);
     };
-    let Some(pairs) = rows.checked_mul(columns) else {
-        return Err(AllocError);
-    };
-    BitSet::with_capacity_general(alloc, pairs)
+    match BitMatrix::new_general(alloc, rows, columns) {
+        Ok(met) => Ok(met),
+        Err(MatrixError::Memory(fault)) => Err(fault),
+        Err(MatrixError::Length) => Err(AllocError),
+    }
 }
 
 // The pair of the two starts.
@@ -70,15 +76,15 @@ fn first_pairs<B: BitBlock>(
     alloc: Global,
     a: &Dfa<B>,
     b: &Dfa<B>,
-    met: &mut BitSet<B>,
+    met: &mut BitMatrix<B>,
 ) -> Result<Vec<Pair>, AllocError>
-    requires none { HasNone (elements met.old.values) }
-    requires capacity { pairs_of a.now b.now ≤ met.old.capacity }
-    ensures explores { IfOk result (λ queue. Explores a.now b.now queue.items (elements met.new.values) 0) }
-    ensures capacity { met.new.capacity ≡ met.old.capacity }
+    requires none { (l r : ℕ) → has_at met.old l r ≡ false }
+    requires places { HasPlaces a.now b.now met.old }
+    ensures explores { IfOk result (λ queue. Explores a.now b.now queue.items met.new 0) }
+    ensures places { HasPlaces a.now b.now met.new }
 {
     let mut queue = Vec::new(alloc);
-    met.insert(0).unwrap();
+    met.insert(0, 0);
     queue.push(Pair {
         parent: 0,
         symbol: 0,
@@ -94,18 +100,16 @@ fn add_successors<B: BitBlock>(
     b: &Dfa<B>,
     done: usize,
     queue: &mut Vec<Pair>,
-    met: &mut BitSet<B>,
+    met: &mut BitMatrix<B>,
 ) -> Result<(), AllocError>
-    requires explores { Explores a.now b.now queue.old.items (elements met.old.values) (done * symbols_of a.now b.now) }
+    requires explores { Explores a.now b.now queue.old.items met.old (done * symbols_of a.now b.now) }
     requires inside { done < length queue.old.items }
-    requires counted { pairs_of a.now b.now < 2 ^ 64 }
-    requires capacity { pairs_of a.now b.now ≤ met.old.capacity }
-    ensures explores { OnOk result (Explores a.now b.now queue.new.items (elements met.new.values)
-        ((done + 1) * symbols_of a.now b.now)) }
+    requires places { HasPlaces a.now b.now met.old }
+    ensures explores { OnOk result (Explores a.now b.now queue.new.items met.new ((done + 1) * symbols_of a.now b.now)) }
     ensures more { OnOk result (length queue.old.items ≤ length queue.new.items) }
     ensures same { OnOk result ((i : ℕ) → i < length queue.old.items
         → pair_at queue.new.items i ≡ pair_at queue.old.items i) }
-    ensures capacity { OnOk result (met.new.capacity ≡ met.old.capacity) }
+    ensures places { OnOk result (HasPlaces a.now b.now met.new) }
 {
     let from = queue[done];
     for symbol in 0..a.symbols().max(b.symbols()) {
@@ -115,7 +119,7 @@ fn add_successors<B: BitBlock>(
             left: a.step(from.left, symbol),
             right: b.step(from.right, symbol),
         };
-        add(pair, b.states() + 1, queue, met)?;
+        add(pair, queue, met)?;
     }
     Ok(())
 }
@@ -123,20 +127,16 @@ fn add_successors<B: BitBlock>(
 // The pair at the end of the queue, where it was not met before.
 fn add<B: BitBlock>(
     pair: Pair,
-    columns: usize,
     queue: &mut Vec<Pair>,
-    met: &mut BitSet<B>,
+    met: &mut BitMatrix<B>,
 ) -> Result<(), AllocError>
-    requires fits { pair.left * columns + pair.right < 2 ^ 64 }
-    requires inside { pair.left * columns + pair.right < met.old.capacity }
-    ensures met { OnOk result (Updates (elements met.old.values) (elements met.new.values)
-        (pair.left * columns + pair.right) true) }
-    ensures queue { OnOk result (queue.new.items ≡ (if has (elements met.old.values) (pair.left * columns + pair.right)
+    requires left { pair.left < length met.old.rows }
+    requires right { pair.right < met.old.columns }
+    ensures met { ChangesRow met.old met.new pair.left (λ r. pair.right == r || has_at met.old pair.left r) }
+    ensures queue { OnOk result (queue.new.items ≡ (if has_at met.old pair.left pair.right
         then queue.old.items else queue.old.items ++ pair ∷ [])) }
-    ensures capacity { met.new.capacity ≡ met.old.capacity }
 {
-    let is_new = met.insert(pair.left * columns + pair.right).unwrap();
-    if is_new {
+    if met.insert(pair.left, pair.right) {
         queue.push(pair)?;
     }
     Ok(())

@@ -1,7 +1,7 @@
 -- Closing a graph by one node after another.
 use Rattle.std.proofs.Common.{◌≡◌, ℕ, ◌+◌, ◌<◌, ◌≤◌, Bool, true, false, ◌||◌, eqb, max, ◌⊎◌, inl, inr, List, [], ◌∷◌, length, map, get_or, suc, All, refl, sym, ap, ◌∙◌, ◌↔◌, arith}
 use Rattle.std.proofs.lemmas.Bool.{true≢false, cases_eq, cases_lt, eq-eqb, or_cases, or_left, or_right}
-use Rattle.std.proofs.lemmas.List.{get_or_default, get_or_past}
+use Rattle.std.proofs.lemmas.List.{get_or_default, get_or_past, length-map}
 use Rattle.std.proofs.Math.ListN.{get_or-map}
 use Rattle.std.proofs.lemmas.List.Elements.{All-get_or, All-weaker}
 use Rattle.bit_set.specs.Bits.{Bits}
@@ -18,7 +18,7 @@ path_on rows u v w p (onward {v = x} q edge) = onward (path_on rows u v x p q) e
 pub lead_on : (rows : List (List ℕ)) (u v w : ℕ) → LeadsTo rows u v → LeadsTo rows v w → LeadsTo rows u w
 lead_on rows u v w (x, p, e) (y, q, f) = (y, path_on rows u v y (onward p e) q, f)
 
-edge_within : (rows : List (List ℕ)) (u v : ℕ) → Edge rows u v → u < length rows
+pub edge_within : (rows : List (List ℕ)) (u v : ℕ) → Edge rows u v → u < length rows
 edge_within rows u v edge =
     elim (cases_lt u (length rows)) [
       | inl lt ↦ lt
@@ -152,14 +152,9 @@ module _ (node : ℕ) (via : Bits) (rows new : List Bits) (is : via.values ≡ (
       only_one u v (inr same) h = inl (out_of_row rows u v (ap (λ (set : Bits). has (elements set.values) v) (sym same) ∙ h))
 
   pub adds_all : ((u : ℕ) → u < length rows → Joins node via (row rows u) (row new u)) → (u v : ℕ) → Edge (rows_of rows) u node → Edge (rows_of rows) node v → Edge (rows_of new) u v
-  adds_all each u v a b = out_of_row new u v ((each u (within u node a)).adds v (into_row rows u node a) (to_via v b))
-    where
-      within : (u v : ℕ) → Edge (rows_of rows) u v → u < length rows
-      within u v e =
-          elim (cases_lt u (length rows)) [
-            | inl lt ↦ lt
-            | inr past ↦ absurd (true≢false (sym (sym (ap (λ (set : Bits). has (elements set.values) v) (get_or_past rows u (record { values = []; capacity = 0 }) past)) ∙ into_row rows u v e)))
-          ]
+  adds_all each u v a b =
+      let inside = edge_within (rows_of rows) u node a in
+      out_of_row new u v ((each u (omega (arith, inside, length-map rows (λ (set : Bits). elements set.values)))).adds v (into_row rows u node a) (to_via v b))
 
 -- ---- one row
 

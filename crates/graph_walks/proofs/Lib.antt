@@ -2,3 +2,4 @@ pub mod WalkLemmas
 pub mod CloseLemmas
 pub mod PathLemmas
 pub mod MatrixLemmas
+pub mod DominatorLemmas

@@ -26,13 +26,13 @@ or_behind false false c h = refl
 has-push : (xs : List ℕ) (x v : ℕ) → has (xs ++ x ∷ []) v ≡ (has xs v || (eqb x v || false))
 has-push xs x v = list_any-append (λ m. eqb m v) xs (x ∷ [])
 
-kept_by_push : (xs : List ℕ) (x v : ℕ) → has xs v ≡ true → has (xs ++ x ∷ []) v ≡ true
+pub kept_by_push : (xs : List ℕ) (x v : ℕ) → has xs v ≡ true → has (xs ++ x ∷ []) v ≡ true
 kept_by_push xs x v h = has-push xs x v ∙ or_left (has xs v) _ h
 
-pushed : (xs : List ℕ) (x v : ℕ) → eqb x v ≡ true → has (xs ++ x ∷ []) v ≡ true
+pub pushed : (xs : List ℕ) (x v : ℕ) → eqb x v ≡ true → has (xs ++ x ∷ []) v ≡ true
 pushed xs x v h = has-push xs x v ∙ or_right (has xs v) _ (or_left (eqb x v) false h)
 
-of_push : (xs : List ℕ) (x v : ℕ) → has (xs ++ x ∷ []) v ≡ true → (has xs v ≡ true) ⊎ (eqb x v ≡ true)
+pub of_push : (xs : List ℕ) (x v : ℕ) → has (xs ++ x ∷ []) v ≡ true → (has xs v ≡ true) ⊎ (eqb x v ≡ true)
 of_push xs x v h =
     elim (or_cases (has xs v) _ (sym (has-push xs x v) ∙ h)) [
       | inl before ↦ inl before

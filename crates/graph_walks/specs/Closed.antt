@@ -1,12 +1,18 @@
 -- What becomes of a graph that is closed.
-use Rattle.std.specs.Prelude.{◌≡◌, ℕ, ◌≤◌, ◌↔◌, ◌⊎◌, max, IsTrue, List, [], length, slice_index_or}
+use Rattle.std.specs.Prelude.{◌≡◌, ℕ, ◌<◌, ◌≤◌, ◌↔◌, ◌⊎◌, max, IsTrue, List, [], length, slice_index_or}
 use Rattle.bit_set.specs.Bits.{Bits}
 use Rattle.bit_set.specs.Sets.{elements, has}
-use Rattle.graph_walks.specs.Paths.{Edge, LeadsTo}
+use Rattle.bit_matrix.specs.Matrices.{Matrix}
+use Rattle.graph_walks.specs.Paths.{Edge, LeadsTo, Path}
 
 -- The new graph has an edge wherever a path of at least one edge leads in the old one.
 abbrev pub IsClosureOf : List (List ℕ) → List (List ℕ) → Type 0
 IsClosureOf old new = (u v : ℕ) → Edge new u v ↔ LeadsTo old u v
+
+-- The new matrix has an edge wherever a path leads in the old one, also one of no edges, to a node that is a column.
+abbrev pub IsReflexiveClosureOf : Matrix → Matrix → Type 0
+IsReflexiveClosureOf old new = (u v : ℕ)
+    → Edge new.rows u v ↔ ((u < length old.rows) × (v < old.columns) × Path old.rows u v)
 
 -- an edge leads wherever two lead
 abbrev pub IsClosed : List (List ℕ) → Type 0

@@ -3,6 +3,7 @@ ghost use Rattle.std.specs.Prelude.{◌≡◌, ◌≤◌, ℕ, IfNone, IfSome, L
 ghost use Rattle.std.specs.Iterator.{IsFinite, YieldsFirst};
 ghost use Rattle.graph_walks.specs.Paths.{rows_of, successors};
 
+use bit_matrix::BitMatrix;
 use bit_set::{BitBlock, BitSet, Iter};
 use std::iter::Copied;
 use std::slice;
@@ -17,6 +18,10 @@ pub trait Graph: Copy {
 
     // What such a walk has not given yet.
     ghost left: { Self.Successors → List ℕ };
+
+    /// How many nodes there are that can have edges of their own: those below this number. Constant time.
+    fn nodes(self) -> usize
+        ensures { result ≡ length (rows self) };
 
     /// The nodes to which an edge leads from `node`, and `None` where the graph has no such node. Constant
     /// time.
@@ -41,6 +46,11 @@ impl<'a> Graph for &'a [Vec<usize>] {
     ghost left = { copied_rest };
 
     #[inline]
+    fn nodes(self) -> usize {
+        self.len()
+    }
+
+    #[inline]
     fn successors(self, node: usize) -> Option<Copied<slice::Iter<'a, usize>>> {
         match self.get(node) {
             Some(row) => Some(row.iter().copied()),
@@ -60,6 +70,11 @@ impl<'a, B: BitBlock> Graph for &'a [BitSet<B>] {
     ghost left = { λ walk. walk.left };
 
     #[inline]
+    fn nodes(self) -> usize {
+        self.len()
+    }
+
+    #[inline]
     fn successors(self, node: usize) -> Option<Iter<'a, B>> {
         match self.get(node) {
             Some(row) => Some(row.iter()),
@@ -68,4 +83,28 @@ impl<'a, B: BitBlock> Graph for &'a [BitSet<B>] {
     }
 
     ghost in_order = { λ s t item step. step.item };
+}
+
+/// A row of a matrix for each node: an edge leads to each column that is in it.
+impl<'a, B: BitBlock> Graph for &'a BitMatrix<B> {
+    type Successors = bit_matrix::Iter<'a, B>;
+
+    ghost rows = { λ graph. graph.now.rows };
+
+    ghost left = { λ walk. walk };
+
+    #[inline]
+    fn nodes(self) -> usize {
+        self.rows()
+    }
+
+    #[inline]
+    fn successors(self, node: usize) -> Option<bit_matrix::Iter<'a, B>> {
+        if node >= self.rows() {
+            return None;
+        }
+        Some(self.iter(node))
+    }
+
+    ghost in_order = { λ s t item step. step };
 }

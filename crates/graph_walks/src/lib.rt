@@ -1,7 +1,8 @@
-//! Walks over graphs, and the closure of a graph, by sets of nodes.
+//! Walks over graphs, the closure of a graph and its dominators, by sets of nodes.
 #![tactic(auto)]
 
 mod closure;
+mod dominance;
 mod graph;
 mod inclusion;
 pub mod laws;
@@ -9,9 +10,10 @@ mod matrix;
 mod walk;
 
 pub use closure::close;
+pub use dominance::dominators;
 pub use graph::Graph;
 pub use inclusion::reaches_all_of;
-pub use matrix::transitive_closure;
+pub use matrix::{reflexive_transitive_closure, transitive_closure};
 pub use walk::{
     Effort, reachable, reachable_counted, reachable_from_any, reachable_from_any_counted,
 };

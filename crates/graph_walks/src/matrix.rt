@@ -1,7 +1,7 @@
 // The transitive closure of a graph that is a matrix of bits.
-ghost use Rattle.std.specs.Prelude.{◌≡◌, ◌≢◌, ℕ, ◌<◌, ◌&&◌, ◌||◌, length};
-ghost use Rattle.bit_matrix.specs.Matrices.{has_at, row_of};
-ghost use Rattle.graph_walks.specs.Closed.{IsClosed, IsClosureOf};
+ghost use Rattle.std.specs.Prelude.{◌≡◌, ◌≢◌, ℕ, ◌<◌, ◌&&◌, ◌||◌, ◌==◌, length, nat_lt};
+ghost use Rattle.bit_matrix.specs.Matrices.{IsMatrix, has_at, row_of};
+ghost use Rattle.graph_walks.specs.Closed.{IsClosed, IsClosureOf, IsReflexiveClosureOf};
 
 use bit_matrix::{BitBlock, BitMatrix};
 
@@ -23,6 +23,40 @@ pub fn transitive_closure<B: BitBlock>(reaches: &mut BitMatrix<B>)
 {
     for node in 0..reaches.rows() {
         join_rows(reaches, node);
+    }
+}
+
+/// Makes row `u` the set of all nodes to which a path of any number of edges leads from `u`, so of `u` itself too:
+/// [`transitive_closure`], and then each node in its own row. A row has no node past the columns, and so not its own
+/// node where there are more rows than columns; a node past the last row has no row. Takes no memory.
+///
+/// ```
+/// reaches.insert(0, 1);
+/// reaches.insert(1, 2);
+/// reflexive_transitive_closure(&mut reaches);
+/// assert!(reaches.iter(0).eq([0, 1, 2]));
+/// assert!(reaches.iter(2).eq([2]));
+/// ```
+pub fn reflexive_transitive_closure<B: BitBlock>(reaches: &mut BitMatrix<B>)
+    ensures closure { IsReflexiveClosureOf reaches.old reaches.new }
+    ensures closed { IsClosed reaches.new.rows }
+    ensures rows { length reaches.new.rows ≡ length reaches.old.rows }
+    ensures columns { reaches.new.columns ≡ reaches.old.columns }
+{
+    transitive_closure(reaches);
+    put_each_in_its_row(reaches);
+}
+
+// Puts each row's own node into it, where that is a column.
+fn put_each_in_its_row<B: BitBlock>(matrix: &mut BitMatrix<B>)
+    ensures matrix { IsMatrix matrix.old }
+    ensures bits { (u v : ℕ) → has_at matrix.new u v ≡ (has_at matrix.old u v
+        || (u == v && (nat_lt u (length matrix.old.rows) && nat_lt u matrix.old.columns))) }
+    ensures rows { length matrix.new.rows ≡ length matrix.old.rows }
+    ensures columns { matrix.new.columns ≡ matrix.old.columns }
+{
+    for node in 0..matrix.rows().min(matrix.columns()) {
+        matrix.insert(node, node);
     }
 }
 

@@ -5,6 +5,9 @@ use graph_walks::{Graph, close, reachable, reachable_from_any, reaches_all_of};
 use std::alloc::Global;
 use std::process::Abort;
 
+mod dominators_tests;
+mod matrix_tests;
+
 // All numbers that a random graph of these tests can name are below this.
 const LIMIT: usize = 24;
 

@@ -1,9 +1,7 @@
-use Rattle.std.proofs.Common.{◌≡◌, ◌<◌, ◌∙◌, length, true, sym, arith, add-zero, refl}
-use Rattle.bit_set.specs.Members.{Updates}
-use Rattle.bit_set.specs.Sets.{elements}
+use Rattle.std.proofs.Common.{◌≡◌, ◌<◌, ◌∙◌, length, sym, arith, add-zero, refl}
 use Rattle.automata.specs.Pairs.{symbols_of}
-use Rattle.automata.specs.Searching.{pair_at, pair_number}
-use Rattle.automata.proofs.PairLemmas.{as_many, pair_on, read, same_pair, explored_pair, number_inside}
+use Rattle.automata.specs.Searching.{pair_at}
+use Rattle.automata.proofs.PairLemmas.{as_many, pair_on, read, same_pair, explored_pair}
 use Rattle.automata.proofs.equivalence.add_successors.Goals as goal
 
 pub loop-symbol-preserved : goal.loop-symbol-preserved
@@ -17,14 +15,15 @@ loop-symbol-preserved g c =
     let inside : c.loop-symbol.symbol < symbols_of a b = omega (arith, it.end) in
     let lt : at < length queue = omega (arith, c.requires.inside, it.more) in
     let from_is : pair_at queue at ≡ from = it.same at c.requires.inside ∙ sym (read c.args.queue.now.items at from c.requires.inside c.index-from.ensures) in
-    let updates : Updates (elements c.loop-symbol.met.values) (elements c.add.new.met.values) (pair_number b c.step.result c.step-in-loop-symbol.result) true = rw c.states.ensures.value at c.in_ok-add.ensures.met in
-    let after = rw c.states.ensures.value at c.in_ok-add.ensures.queue in
+    let change = c.add.ensures.met in
+    let after = c.in_ok-add.ensures.queue in
+    let places = it.places in
     record {
       end = it.end;
-      explores = pair_on a b queue _ at c.loop-symbol.symbol from c.step.result c.step-in-loop-symbol.result _ _ it.explores inside lt from_is c.step.ensures.value c.step-in-loop-symbol.ensures.value c.step.ensures.inside c.step-in-loop-symbol.ensures.inside updates after;
+      explores = pair_on a b queue _ at c.loop-symbol.symbol from c.step.result c.step-in-loop-symbol.result _ _ it.explores inside lt from_is c.step.ensures.value c.step-in-loop-symbol.ensures.value change after;
       more = let longer = as_many queue _ _ _ after in omega (arith, longer, it.more);
       same = λ i early. same_pair queue _ _ _ i after (omega (arith, early, it.more)) ∙ it.same i early;
-      capacity = c.in_ok-add.ensures.capacity ∙ it.capacity;
+      places = record { rows = change.rows ∙ places.rows; columns = change.columns ∙ places.columns };
     }
 
 pub loop-symbol-init : goal.loop-symbol-init
@@ -33,21 +32,14 @@ loop-symbol-init g c = record {
   explores = rw add-zero c.requires.explores;
   more = omega arith;
   same = λ i early. refl;
-  capacity = refl;
+  places = c.requires.places;
 }
 
-pub overflow_add-states : goal.overflow_add-states
-overflow_add-states g c = omega (arith, c.states.ensures.value, c.requires.counted)
+pub add-requires-clause-left : goal.add-requires-clause-left
+add-requires-clause-left g c = omega (arith, c.step.ensures.inside, c.loop-symbol.invariant.places.rows)
 
-pub add-requires-clause-fits : goal.add-requires-clause-fits
-add-requires-clause-fits g c =
-    let inside = number_inside c.args.a.now c.args.b.now c.step.result c.step-in-loop-symbol.result c.states.result c.step.ensures.inside c.step-in-loop-symbol.ensures.inside c.states.ensures.value in
-    omega (arith, inside, c.requires.counted)
-
-pub add-requires-clause-inside : goal.add-requires-clause-inside
-add-requires-clause-inside g c =
-    let inside = number_inside c.args.a.now c.args.b.now c.step.result c.step-in-loop-symbol.result c.states.result c.step.ensures.inside c.step-in-loop-symbol.ensures.inside c.states.ensures.value in
-    omega (arith, inside, c.requires.capacity, c.loop-symbol.invariant.capacity)
+pub add-requires-clause-right : goal.add-requires-clause-right
+add-requires-clause-right g c = omega (arith, c.step-in-loop-symbol.ensures.inside, c.loop-symbol.invariant.places.columns)
 
 pub returns-clause-explores : goal.returns-clause-explores
 returns-clause-explores g c =
@@ -60,5 +52,5 @@ returns-clause-more g c = c.loop-symbol.invariant.more
 pub returns-clause-same : goal.returns-clause-same
 returns-clause-same g c = c.loop-symbol.invariant.same
 
-pub returns-clause-capacity : goal.returns-clause-capacity
-returns-clause-capacity g c = c.loop-symbol.invariant.capacity
+pub returns-clause-places : goal.returns-clause-places
+returns-clause-places g c = c.loop-symbol.invariant.places

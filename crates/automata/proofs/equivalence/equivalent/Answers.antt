@@ -1,4 +1,4 @@
-use Rattle.std.proofs.Common.{◌≡◌, ◌*◌, ◌<◌, ap, below_more, length, arith}
+use Rattle.std.proofs.Common.{◌≡◌, ◌+◌, ◌*◌, ◌<◌, ◌∙◌, ap, below_more, length, arith}
 use Rattle.automata.specs.Pairs.{symbols_of}
 use Rattle.automata.specs.Searching.{Spells}
 use Rattle.automata.proofs.PairLemmas.{agree_at, all_the_same, differ_at, explored_none}
@@ -21,7 +21,7 @@ loop-done-preserved g c =
     let agree = agree_at c.args.a.now c.args.b.now old c.loop-done.done c.index-pair.result.now c.is_accepting.result c.is_accepting-in-loop-done.result lt c.index-pair.ensures c.is_accepting.ensures c.is_accepting-in-loop-done.ensures c.if-is_accepting.false in
     record {
       inside = omega (arith, after.more, lt);
-      capacity = omega (arith, after.capacity, it.capacity);
+      places = after.places;
       explores = after.explores;
       agree = below_more _ _ (λ i before. rw (after.same i (omega (arith, before, lt))) (it.agree i before)) (rw (after.same c.loop-done.done lt) agree);
     }
@@ -36,13 +36,16 @@ returns-clause-same g c =
 pub first_pairs-requires-clause-none : goal.first_pairs-requires-clause-none
 first_pairs-requires-clause-none g c = c.in_ok-met.ensures.none
 
-pub first_pairs-requires-clause-capacity : goal.first_pairs-requires-clause-capacity
-first_pairs-requires-clause-capacity g c = rw (← c.states.ensures.value, ← c.states-2.ensures.value) c.in_ok-met.ensures.capacity
+pub first_pairs-requires-clause-places : goal.first_pairs-requires-clause-places
+first_pairs-requires-clause-places g c = record {
+  rows = c.in_ok-met.ensures.rows ∙ ap (λ n. n + 1) c.states.ensures.value;
+  columns = c.in_ok-met.ensures.columns ∙ ap (λ n. n + 1) c.states-2.ensures.value;
+}
 
 pub loop-done-init : goal.loop-done-init
 loop-done-init g c = record {
   inside = omega arith;
-  capacity = rw (c.in_ok-queue.ensures.capacity, ← c.states.ensures.value, ← c.states-2.ensures.value) c.in_ok-met.ensures.capacity;
+  places = c.first_pairs.ensures.places;
   explores = explored_none c.args.a.now c.args.b.now c.in_ok-queue.queue.items _ _ c.in_ok-queue.ensures.explores;
   agree = λ i none. absurd (omega (arith, none));
 }
@@ -62,11 +65,8 @@ add_successors-requires-clause-explores g c = c.loop-done.invariant.explores
 pub add_successors-requires-clause-inside : goal.add_successors-requires-clause-inside
 add_successors-requires-clause-inside g c = omega (arith, c.loop-done-test.true, c.len.ensures)
 
-pub add_successors-requires-clause-counted : goal.add_successors-requires-clause-counted
-add_successors-requires-clause-counted g c = rw (← c.states.ensures.value, ← c.states-2.ensures.value) c.in_ok-met.ensures.counted
-
-pub add_successors-requires-clause-capacity : goal.add_successors-requires-clause-capacity
-add_successors-requires-clause-capacity g c = c.loop-done.invariant.capacity
+pub add_successors-requires-clause-places : goal.add_successors-requires-clause-places
+add_successors-requires-clause-places g c = c.loop-done.invariant.places
 
 pub overflow_add-done : goal.overflow_add-done
 overflow_add-done g c = omega (arith, c.loop-done-test.true, c.len.type_inv)

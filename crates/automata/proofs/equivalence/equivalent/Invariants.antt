@@ -1,14 +1,13 @@
 use Rattle.std.proofs.Common.{◌≡◌, ◌-◌, ◌*◌, ◌<◌, ◌≤◌, ◌^◌, ℕ, length}
-use Rattle.bit_set.specs.Sets.{elements}
 use Rattle.automata.specs.Pairs.{does_accept, symbols_of}
-use Rattle.automata.specs.Searching.{Explores, pair_at, pairs_of}
+use Rattle.automata.specs.Searching.{Explores, HasPlaces, pair_at}
 use Rattle.automata.proofs.equivalence.equivalent.Given as goal
 
 abbrev pub invariant-loop-done : goal.invariant-loop-done
 invariant-loop-done g l = record {
   inside : l.done ≤ length l.queue.items;
-  capacity : pairs_of l.a l.b ≤ l.met.capacity;
-  explores : Explores l.a l.b l.queue.items (elements l.met.values) (l.done * symbols_of l.a l.b);
+  places : HasPlaces l.a l.b l.met;
+  explores : Explores l.a l.b l.queue.items l.met (l.done * symbols_of l.a l.b);
   agree : (i : ℕ) → i < l.done → does_accept l.a (pair_at l.queue.items i).left ≡ does_accept l.b (pair_at l.queue.items i).right;
 }
 

@@ -1,0 +1,13 @@
+use Rattle.std.proofs.Common.{◌∙◌}
+use Rattle.graph_walks.proofs.MatrixLemmas.{own_bit}
+use Rattle.graph_walks.proofs.matrix.put_each_in_its_row.Goals as goal
+
+pub loop-node-preserved : goal.loop-node-preserved
+loop-node-preserved g c =
+    let before = c.loop-node.invariant in
+    let now = c.insert.ensures.members in
+    record {
+      bits = own_bit c.args.matrix.now c.loop-node.matrix c.insert.new.self c.loop-node.node before.bits now;
+      rows = now.rows ∙ before.rows;
+      columns = now.columns ∙ before.columns;
+    }
