@@ -214,15 +214,15 @@ fn unite_long_except<B: BitBlock>(
 }
 
 // The blocks of a long list from `start` on become their unions with the others, except for the ones of `except`. Those
-// before `start` stay.
+// before `start` stay. It takes vectors, so that a short list does not read where the summaries of the others lie.
 #[inline(never)]
 fn unite_long_from<B: BitBlock>(
     blocks: &mut [B],
     summary: &mut [B],
     others: &[B],
-    other_summary: &[B],
+    other_summary: &Vec<B>,
     except: &[B],
-    except_summary: &[B],
+    except_summary: &Vec<B>,
     start: usize,
     steps: &mut Steps,
 )
@@ -232,8 +232,8 @@ fn unite_long_from<B: BitBlock>(
     requires stay { Stay Merge.Union B.width B.number 0 start
         (except_at (map B.number others.now) (map B.number except.now)) blocks.old }
     requires summary { IsSummary B.width B.number B.is_block blocks.old summary.old }
-    requires other_summary { IsStoredSummary B.width B.number B.is_block others.now other_summary.now }
-    requires except_summary { IsStoredSummary B.width B.number B.is_block except.now except_summary.now }
+    requires other_summary { IsStoredSummary B.width B.number B.is_block others.now other_summary.now.items }
+    requires except_summary { IsStoredSummary B.width B.number B.is_block except.now except_summary.now.items }
     ensures has { HasMergedWith Merge.Union B.width B.number B.is_block 0 (length blocks.old)
         (except_at (map B.number others.now) (map B.number except.now)) blocks.old blocks.new }
     ensures summary { IsSummary B.width B.number B.is_block blocks.new summary.new }
@@ -249,9 +249,9 @@ fn unite_long_from<B: BitBlock>(
             blocks,
             summary,
             others,
-            other_summary,
+            other_summary.as_slice(),
             except,
-            except_summary,
+            except_summary.as_slice(),
             start,
             steps,
         );
@@ -289,9 +289,9 @@ fn unite_from<B: BitBlock>(
     blocks: &mut [B],
     summary: &mut [B],
     others: &[B],
-    other_summary: &[B],
+    other_summary: &Vec<B>,
     except: &[B],
-    except_summary: &[B],
+    except_summary: &Vec<B>,
     start: usize,
     steps: &mut Steps,
 )
@@ -301,8 +301,8 @@ fn unite_from<B: BitBlock>(
     requires stay { Stay Merge.Union B.width B.number 0 start
         (except_at (map B.number others.now) (map B.number except.now)) blocks.old }
     requires summary { IsStoredSummary B.width B.number B.is_block blocks.old summary.old }
-    requires other_summary { IsStoredSummary B.width B.number B.is_block others.now other_summary.now }
-    requires except_summary { IsStoredSummary B.width B.number B.is_block except.now except_summary.now }
+    requires other_summary { IsStoredSummary B.width B.number B.is_block others.now other_summary.now.items }
+    requires except_summary { IsStoredSummary B.width B.number B.is_block except.now except_summary.now.items }
     ensures has { HasMergedWith Merge.Union B.width B.number B.is_block 0 (length blocks.old)
         (except_at (map B.number others.now) (map B.number except.now)) blocks.old blocks.new }
     ensures summary { IsStoredSummary B.width B.number B.is_block blocks.new summary.new }
@@ -332,9 +332,9 @@ fn unite_found<B: BitBlock>(
     blocks: &mut [B],
     summary: &mut [B],
     others: &[B],
-    other_summary: &[B],
+    other_summary: &Vec<B>,
     except: &[B],
-    except_summary: &[B],
+    except_summary: &Vec<B>,
     found: Option<usize>,
     steps: &mut Steps,
 ) -> bool
@@ -348,8 +348,8 @@ fn unite_found<B: BitBlock>(
     requires none { IfNone found (Stay Merge.Union B.width B.number 0 (length blocks.old)
         (except_at (map B.number others.now) (map B.number except.now)) blocks.old) }
     requires summary { IsStoredSummary B.width B.number B.is_block blocks.old summary.old }
-    requires other_summary { IsStoredSummary B.width B.number B.is_block others.now other_summary.now }
-    requires except_summary { IsStoredSummary B.width B.number B.is_block except.now except_summary.now }
+    requires other_summary { IsStoredSummary B.width B.number B.is_block others.now other_summary.now.items }
+    requires except_summary { IsStoredSummary B.width B.number B.is_block except.now except_summary.now.items }
     ensures has { HasMergedWith Merge.Union B.width B.number B.is_block 0 (length blocks.old)
         (except_at (map B.number others.now) (map B.number except.now)) blocks.old blocks.new }
     ensures kept { (result ≡ false) ↔ AreKept (map B.number blocks.old) (map B.number blocks.new) }
@@ -385,17 +385,17 @@ fn unite_past_except<B: BitBlock>(
     blocks: &mut [B],
     summary: &mut [B],
     others: &[B],
-    other_summary: &[B],
+    other_summary: &Vec<B>,
     except: &[B],
-    except_summary: &[B],
+    except_summary: &Vec<B>,
     steps: &mut Steps,
 ) -> bool
     requires can { CanMerge B.is_block blocks.old others.now }
     requires except { All B.is_block except.now }
     requires shorter { length except.now < length others.now }
     requires summary { IsStoredSummary B.width B.number B.is_block blocks.old summary.old }
-    requires other_summary { IsStoredSummary B.width B.number B.is_block others.now other_summary.now }
-    requires except_summary { IsStoredSummary B.width B.number B.is_block except.now except_summary.now }
+    requires other_summary { IsStoredSummary B.width B.number B.is_block others.now other_summary.now.items }
+    requires except_summary { IsStoredSummary B.width B.number B.is_block except.now except_summary.now.items }
     ensures has { HasMergedWith Merge.Union B.width B.number B.is_block 0 (length blocks.old)
         (except_at (map B.number others.now) (map B.number except.now)) blocks.old blocks.new }
     ensures kept { (result ≡ false) ↔ AreKept (map B.number blocks.old) (map B.number blocks.new) }
@@ -422,16 +422,16 @@ pub(crate) fn unite_and_note<B: BitBlock>(
     blocks: &mut [B],
     summary: &mut [B],
     others: &[B],
-    other_summary: &[B],
+    other_summary: &Vec<B>,
     except: &[B],
-    except_summary: &[B],
+    except_summary: &Vec<B>,
     steps: &mut Steps,
 ) -> bool
     requires can { CanMerge B.is_block blocks.old others.now }
     requires except { All B.is_block except.now }
     requires summary { IsStoredSummary B.width B.number B.is_block blocks.old summary.old }
-    requires other_summary { IsStoredSummary B.width B.number B.is_block others.now other_summary.now }
-    requires except_summary { IsStoredSummary B.width B.number B.is_block except.now except_summary.now }
+    requires other_summary { IsStoredSummary B.width B.number B.is_block others.now other_summary.now.items }
+    requires except_summary { IsStoredSummary B.width B.number B.is_block except.now except_summary.now.items }
     ensures has { HasMergedWith Merge.Union B.width B.number B.is_block 0 (length blocks.old)
         (except_at (map B.number others.now) (map B.number except.now)) blocks.old blocks.new }
     ensures kept { (result ≡ false) ↔ AreKept (map B.number blocks.old) (map B.number blocks.new) }

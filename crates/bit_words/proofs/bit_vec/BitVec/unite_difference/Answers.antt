@@ -14,7 +14,7 @@ fewer g c =
 
 -- what the blocks became
 merged : (g : Over) (c : After-unite_and_note g) → HasMergedWith Union g.B.BitBlock.width g.B.BitBlock.number g.B.BitBlock.is_block 0 (length c.self.inside.blocks.items) (except_at (map g.B.BitBlock.number c.other.inside.blocks.items) (map g.B.BitBlock.number c.except.inside.blocks.items)) c.self.inside.blocks.items c.unite_and_note.new.blocks
-merged g c = rw (c.as_mut_slice.ensures.value, c.deref.ensures.value, c.deref-3.ensures.value) at c.unite_and_note.ensures.has
+merged g c = rw (c.as_mut_slice.ensures.value, c.deref.ensures.value, c.deref-2.ensures.value) at c.unite_and_note.ensures.has
 
 packed : (g : Over) (c : After-unite_and_note g) → IsPacked g.B.BitBlock.width g.B.BitBlock.number g.B.BitBlock.is_block c.unite_and_note.new.blocks c.self.inside.len
 packed g c =
@@ -30,16 +30,16 @@ unite_and_note-requires-clause-can g c =
     })
 
 pub unite_and_note-requires-clause-except : goal.unite_and_note-requires-clause-except
-unite_and_note-requires-clause-except g c = rw c.deref-3.ensures.value c.except.invariant.packed.each
+unite_and_note-requires-clause-except g c = rw c.deref-2.ensures.value c.except.invariant.packed.each
 
 pub unite_and_note-requires-clause-summary : goal.unite_and_note-requires-clause-summary
 unite_and_note-requires-clause-summary g c = rw (c.as_mut_slice.ensures.value, c.as_mut_slice-2.ensures.value) c.self.invariant.summary
 
 pub unite_and_note-requires-clause-other_summary : goal.unite_and_note-requires-clause-other_summary
-unite_and_note-requires-clause-other_summary g c = rw (c.deref.ensures.value, c.deref-2.ensures.value) c.other.invariant.summary
+unite_and_note-requires-clause-other_summary g c = rw c.deref.ensures.value c.other.invariant.summary
 
 pub unite_and_note-requires-clause-except_summary : goal.unite_and_note-requires-clause-except_summary
-unite_and_note-requires-clause-except_summary g c = rw (c.deref-3.ensures.value, c.deref-4.ensures.value) c.except.invariant.summary
+unite_and_note-requires-clause-except_summary g c = rw c.deref-2.ensures.value c.except.invariant.summary
 
 pub invariant_of-self : goal.invariant_of-self
 invariant_of-self g c =

@@ -35,4 +35,7 @@ returns-then-is_short-clause-steps g c =
     omega (arith, same)
 
 pub unite_long_except-requires-clause-other_summary : goal.unite_long_except-requires-clause-other_summary
-unite_long_except-requires-clause-other_summary g c = c.requires.other_summary.long (c.is_short.ensures.long c.if-is_short.false)
+unite_long_except-requires-clause-other_summary g c = rw c.as_slice.ensures.value (c.requires.other_summary.long (c.is_short.ensures.long c.if-is_short.false))
+
+pub unite_long_except-requires-clause-except_summary : goal.unite_long_except-requires-clause-except_summary
+unite_long_except-requires-clause-except_summary g c = rw c.as_slice-else-is_short.ensures.value c.requires.except_summary
