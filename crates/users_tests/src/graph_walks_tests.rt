@@ -1,7 +1,8 @@
-//! The walks and the closure beside a slow model that has no set and no stack, over graphs of lists and of sets.
+//! The walks and the closure beside a slow model that has no set and no stack, over graphs of lists, of sets and of bits.
 use crate::expect::{expect, expect_eq, expect_eq_at, expect_of, ok};
 use bit_set::{BitBlock, BitSet, SetError};
 use graph_walks::{Graph, close, reachable, reachable_from_any, reaches_all_of};
+use matrix_tests::matrix_of;
 use std::alloc::Global;
 use std::process::Abort;
 
@@ -170,8 +171,10 @@ fn check_closure<B: BitBlock>(
 
 fn check_graph<B: BitBlock>(rt: &impl Abort, alloc: Global, rows: &[Vec<usize>]) {
     let mut sets = sets_of::<B>(rt, alloc, rows);
+    let matrix = matrix_of::<B>(rt, alloc, LIMIT, rows);
     check_walks::<B, _>(rt, alloc, rows, rows);
     check_walks::<B, _>(rt, alloc, sets.as_slice(), rows);
+    check_walks::<B, _>(rt, alloc, &matrix, rows);
     check_any::<B>(rt, alloc, rows);
     check_closure(rt, alloc, rows, sets.as_mut_slice());
 }
