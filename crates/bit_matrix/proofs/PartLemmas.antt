@@ -1,9 +1,10 @@
 -- What merges of blocks do, block by block.
-use Rattle.std.proofs.Common.{◌≡◌, ◌≢◌, ℕ, ◌+◌, ◌-◌, ◌*◌, ◌<◌, ◌≤◌, ◌↔◌, ◌++◌, List, drop, length, get_or, map, set, take, refl, sym, ap, ap₂, ◌∙◌, arith, inl, inr}
-use Rattle.std.proofs.lemmas.{Bool.{cases_eq, cases_lt}, Nat.{row_fits}, List.{get_or-append-add, get_or-append_right, get_or-drop, get_or-set_other, get_or-set_same, get_or-take, get_or_append_left, get_or_past, length-map, map-append, take-map}}
-use Rattle.bit_blocks.specs.{BlockMerges.{IsMergedBetween}, Digits.is_one, Merges.merge_of_values, NotedMerges.AreKept, declared.block.merge.Merge.Merge}
+use Rattle.std.proofs.Common.{◌≡◌, ◌≢◌, ℕ, ◌+◌, ◌-◌, ◌*◌, ◌^◌, ◌<◌, ◌≤◌, ◌==◌, ◌↔◌, ◌++◌, Bool, true, false, not, List, All, drop, length, get_or, map, set, take, refl, sym, ap, ap₂, ◌∙◌, arith, inl, inr}
+use Rattle.std.proofs.lemmas.{Bool.{cases_eq, cases_lt, Decides.nat_tests}, Nat.{row_fits}, List.{get_or-append-add, get_or-append_right, get_or-drop, get_or-set_other, get_or-set_same, get_or-take, get_or_append_left, get_or_past, length-map, map-append, take-map}}
+use Rattle.bit_blocks.specs.{BlockMerges.{HasMerged, IsMergedBetween}, Digits.is_one, Merges.merge_of_values, NotedMerges.{AreKept, Stay, other_at}, declared.block.merge.Merge.Merge}
+use Rattle.bit_blocks.proofs.{NotedMergeLemmas.{stay_one, stay_so_far}, VectorLemmas.numbers_below}
 use Rattle.bit_matrix.specs.Merges.{AreApart, IsMergedPart}
-use Rattle.bit_matrix.proofs.RowLemmas.{map-slice}
+use Rattle.bit_matrix.proofs.RowLemmas.{map-slice, same_block}
 
 pub none_merged : (m : Merge) (w read write : ℕ) (ms os : List ℕ) → IsMergedPart m w read write 0 ms os ms
 none_merged m w read write ms os = record { digit = λ k j below. absurd (omega arith); others = λ q apart. refl }
@@ -59,6 +60,38 @@ pub after_other : (read write count : ℕ) → AreApart read write count → wri
 after_other read write count are less = elim are.apart [
   | inl same ↦ omega (arith, same, less)
   | inr rest ↦ elim rest [ inl low ↦ omega (arith, low, less) | inr high ↦ high ]
+]
+
+-- ---- whether blocks stay
+
+-- with one more of them, a, which is n where it is merged with b
+pub stays_more : {X : Type 0} (m : Merge) (w : ℕ) (f : X → ℕ) (start k a b n s t : ℕ) (xs os : List X) → start ≤ k → a ≡ get_or (map f xs) k 0 → b ≡ get_or (map f os) k 0 → a < 2 ^ w → n < 2 ^ w → ((j : ℕ) → j < w → is_one n j ≡ merge_of_values m (is_one a j) (is_one b j)) → ((s ≡ 0) ↔ Stay m w f start k (other_at (map f os)) xs) → ((t ≡ 0) ↔ ((s ≡ 0) × (a ≡ n)))
+    → (t ≡ 0) ↔ Stay m w f start (k + 1) (other_at (map f os)) xs
+stays_more m w f start k a b n s t xs os from read other small also digits before both =
+    let one = stay_one m w f k a b n xs read small also digits in
+    stay_so_far m w f start k s t (λ q j. is_one b j) (other_at (map f os)) xs from
+    (λ q j le below inside. let here : k ≡ q = omega (arith, le, below) in ap (λ n. is_one n j) other ∙ ap (λ i. is_one (get_or (map f os) i 0) j) here)
+    before
+    (λ none. ((both.0 none).0, one.0 (both.0 none).1), λ stays. both.1 (stays.0, one.1 stays.1))
+
+-- what a test of the mismatches for 0 says
+pub told_same : (result : Bool) (a z : ℕ) (stays : Type 0) → result ≡ (a == z) → z ≡ 0 → ((a ≡ 0) ↔ stays) → (result ≡ true) ↔ stays
+told_same result a z stays is none tells =
+    let there : result ≡ true → a ≡ 0 = λ yes. grind (arith, nat_tests) in
+    let back : a ≡ 0 → result ≡ true = λ zero. grind (arith, nat_tests) in
+    (λ yes. tells.0 (there yes), λ all. back (tells.1 all))
+
+pub of_not : {b : Bool} → not b ≡ false → b ≡ true
+of_not off = grind (arith, off)
+
+-- what stays digit by digit stays
+pub stay_kept : {X : Type 0} (m : Merge) (w : ℕ) (f : X → ℕ) (P : X → Type 0) (start end : ℕ) (xs os ys : List X) → ((x : X) → P x → f x < 2 ^ w) → All P xs → HasMerged m w f P start end xs os ys → Stay m w f start end (other_at (map f os)) xs → AreKept (map f xs) (map f ys)
+stay_kept m w f P start end xs os ys law each is stay k = elim (cases_lt k start) [
+  | inl early ↦ is.merged.before k early
+  | inr from ↦ elim (cases_lt k end) [
+    | inl below ↦ same_block w (get_or (map f ys) k 0) (get_or (map f xs) k 0) (numbers_below w f P ys law is.each k) (numbers_below w f P xs law each k) (λ j inside. is.merged.digit k j from below inside ∙ sym (stay.digit k j from below inside))
+    | inr past ↦ is.merged.after k past
+  ]
 ]
 
 -- ---- a part of the blocks that is merged on its own
