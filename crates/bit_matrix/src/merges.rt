@@ -29,18 +29,24 @@ fn stay<B: BitBlock, O: Operation>(blocks: &[B], others: &[B], start: usize, cou
     same(mismatch, B::zero())
 }
 
-// How many blocks are in the groups before the first of which one changes.
+// How many blocks are in the groups before the first of which one changes, or how many others there are where none does. What
+// is left is looked at in a group that begins within the one before it.
 #[inline(always)]
 fn before_change<B: BitBlock, O: Operation>(blocks: &[B], others: &[B]) -> usize
     requires can { CanMerge B.is_block blocks.now others.now }
+    requires long { 16 ≤ length others.now }
     ensures within { result ≤ length others.now }
     ensures stay { Stay O.merge B.width B.number 0 result (other_at (map B.number others.now)) blocks.now }
 {
-    let groups = others.len() / GROUP;
+    let end = others.len();
+    let groups = end / GROUP;
     for group in 0..groups {
         if !stay::<B, O>(blocks, others, group * GROUP, GROUP) {
             return group * GROUP;
         }
+    }
+    if end % GROUP == 0 || stay::<B, O>(blocks, others, end - GROUP, GROUP) {
+        return end;
     }
     groups * GROUP
 }
@@ -73,6 +79,9 @@ fn merge_blocks<B: BitBlock, O: Operation>(blocks: &mut [B], others: &[B]) -> bo
     ensures has { HasMerged O.merge B.width B.number B.is_block 0 (length others.now) blocks.old others.now blocks.new }
     ensures kept { (result ≡ false) ↔ AreKept (map B.number blocks.old) (map B.number blocks.new) }
 {
+    if others.len() < GROUP {
+        return merge_from::<B, O>(blocks, others, 0);
+    }
     let start = before_change::<B, O>(blocks, others);
     merge_from::<B, O>(blocks, others, start)
 }
@@ -140,15 +149,14 @@ pub(crate) fn merge_within<B: BitBlock, O: Operation>(
     ensures each { All B.is_block blocks.new }
     ensures len { length blocks.new ≡ length blocks.old }
 {
-    if read == write {
-        return merge_same::<B, O>(blocks, write, count);
-    }
     if read < write {
         let (front, back) = blocks.split_at_mut(write);
         let others = front.split_at(read).1.split_at(count).0;
         merge_others::<B, O>(back, others, 0)
-    } else {
+    } else if write < read {
         let (front, back) = blocks.split_at_mut(read);
         merge_others::<B, O>(front, back.split_at(count).0, write)
+    } else {
+        merge_same::<B, O>(blocks, write, count)
     }
 }

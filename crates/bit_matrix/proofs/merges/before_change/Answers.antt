@@ -1,5 +1,5 @@
 use Rattle.std.proofs.Common.{◌≡◌, ◌+◌, ◌*◌, arith}
-use Rattle.bit_blocks.proofs.NotedMergeLemmas.{stay_more, stay_none}
+use Rattle.bit_blocks.proofs.NotedMergeLemmas.{stay_more, stay_none, stay_part}
 use Rattle.bit_matrix.proofs.merges.before_change.Goals as goal
 
 pub loop-group-init : goal.loop-group-init
