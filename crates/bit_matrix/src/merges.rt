@@ -29,26 +29,21 @@ fn stay<B: BitBlock, O: Operation>(blocks: &[B], others: &[B], start: usize, cou
     same(mismatch, B::zero())
 }
 
-// How many blocks are in the groups before the first of which one changes, or how many others there are where none does. What
-// is left is looked at in a group that begins within the one before it.
+// How many blocks are in the groups before the first of which one changes. Those that are left over are in none.
 #[inline(always)]
 fn before_change<B: BitBlock, O: Operation>(blocks: &[B], others: &[B]) -> usize
     requires can { CanMerge B.is_block blocks.now others.now }
-    requires long { 16 ≤ length others.now }
     ensures within { result ≤ length others.now }
     ensures stay { Stay O.merge B.width B.number 0 result (other_at (map B.number others.now)) blocks.now }
 {
-    let end = others.len();
-    let groups = end / GROUP;
-    for group in 0..groups {
-        if !stay::<B, O>(blocks, others, group * GROUP, GROUP) {
-            return group * GROUP;
+    let mut start = 0;
+    while others.len() - start >= GROUP {
+        if !stay::<B, O>(blocks, others, start, GROUP) {
+            return start;
         }
+        start += GROUP;
     }
-    if end % GROUP == 0 || stay::<B, O>(blocks, others, end - GROUP, GROUP) {
-        return end;
-    }
-    groups * GROUP
+    start
 }
 
 // Each of the blocks from `start` on, as far as there are others, becomes its merge with the other of its index. Returns
@@ -79,9 +74,6 @@ fn merge_blocks<B: BitBlock, O: Operation>(blocks: &mut [B], others: &[B]) -> bo
     ensures has { HasMerged O.merge B.width B.number B.is_block 0 (length others.now) blocks.old others.now blocks.new }
     ensures kept { (result ≡ false) ↔ AreKept (map B.number blocks.old) (map B.number blocks.new) }
 {
-    if others.len() < GROUP {
-        return merge_from::<B, O>(blocks, others, 0);
-    }
     let start = before_change::<B, O>(blocks, others);
     merge_from::<B, O>(blocks, others, start)
 }
