@@ -1,6 +1,6 @@
 //! Counts the instructions of calls on a range of numbers of a long set, and prints a table; and of calls on a set of
 //! random numbers, each beside another way to the same result: the least element taken out until none is left, the walk
-//! from the back, and `nth`.
+//! from the back, the walk over a row of a matrix, and `nth`.
 use crate::callgrind;
 use crate::inputs::Random;
 use crate::peers::total;
@@ -18,6 +18,7 @@ unsafe extern "C" {
     fn bench_pop_first(members: *const usize, m: usize, turns: usize) -> usize;
     fn bench_walk_and_remove(members: *const usize, m: usize, turns: usize) -> usize;
     fn bench_walk_u64(members: *const usize, m: usize, turns: usize) -> usize;
+    fn bench_walk_row(members: *const usize, m: usize, turns: usize) -> usize;
     fn bench_walk_back(members: *const usize, m: usize, turns: usize) -> usize;
     fn bench_nth_of_middle(members: *const usize, m: usize, turns: usize) -> usize;
     fn bench_walk_to_middle(members: *const usize, m: usize, turns: usize) -> usize;
@@ -77,7 +78,7 @@ struct Pair {
     there: OnSet,
 }
 
-const PAIRS: [Pair; 3] = [
+const PAIRS: [Pair; 4] = [
     Pair {
         word: "pop",
         name: "`pop_first` till empty, beside a walk and a `remove` each",
@@ -92,6 +93,14 @@ const PAIRS: [Pair; 3] = [
         of_each: true,
         counts: &[("64k in 1M", 1 << 16), ("1M in 16M", 1 << 20)],
         here: bench_walk_back,
+        there: bench_walk_u64,
+    },
+    Pair {
+        word: "row",
+        name: "`iter` of a row of a matrix, beside that of a set, an item",
+        of_each: true,
+        counts: &[("64k in 1M", 1 << 16), ("1M in 16M", 1 << 20)],
+        here: bench_walk_row,
         there: bench_walk_u64,
     },
     Pair {

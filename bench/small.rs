@@ -35,6 +35,7 @@ unsafe extern "C" {
         n: usize,
         turns: usize,
     ) -> usize;
+    fn bench_small_union_rows(len: usize, a: Numbers, m: usize, b: Numbers, n: usize, turns: usize) -> usize;
     fn bench_small_union_with_difference(len: usize, a: Numbers, m: usize, b: Numbers, n: usize, turns: usize) -> usize;
     fn bench_small_difference_of_a_copy(len: usize, a: Numbers, m: usize, b: Numbers, n: usize, turns: usize) -> usize;
     fn bench_small_clone(len: usize, a: Numbers, m: usize, b: Numbers, n: usize, turns: usize) -> usize;
@@ -296,12 +297,13 @@ macro_rules! call {
 }
 
 #[rustfmt::skip]
-pub const CALLS: [Call; 24] = [
+pub const CALLS: [Call; 25] = [
     call!("`union_with`", bench_small_union_with, union_with),
     call!("`intersect_with`", bench_small_intersect_with, intersect_with),
     call!("`difference_with`", bench_small_difference_with, difference_with),
     call!("`symmetric_difference_with`", bench_small_symmetric_difference_with, symmetric_difference_with),
     call!("`union_changes`", bench_small_union_changes, union_changes),
+    call!("`union_rows` of a matrix, beside `union_with`", bench_small_union_rows, union_with),
     call!("`intersection_changes`", bench_small_intersection_changes, intersection_changes),
     call!("`difference_changes`", bench_small_difference_changes, difference_changes),
     call!("`symmetric_difference_changes`", bench_small_symmetric_difference_changes, symmetric_difference_changes),

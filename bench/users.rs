@@ -19,6 +19,8 @@ unsafe extern "C" {
     fn bench_reachable_u64(nodes: usize, each: usize, ends: *const usize, n: usize, turns: usize) -> usize;
     fn bench_close_u32(nodes: usize, each: usize, ends: *const usize, n: usize, turns: usize) -> usize;
     fn bench_close_u64(nodes: usize, each: usize, ends: *const usize, n: usize, turns: usize) -> usize;
+    fn bench_close_matrix_u32(nodes: usize, each: usize, ends: *const usize, n: usize, turns: usize) -> usize;
+    fn bench_close_matrix_u64(nodes: usize, each: usize, ends: *const usize, n: usize, turns: usize) -> usize;
 }
 
 /// Adds up the lowest free slots that are taken after each of some slots is given back.
@@ -102,16 +104,19 @@ fn close<S: Set>(each: usize, ends: &[usize], turns: usize) -> usize {
     })
 }
 
-fn close_row<B: BitBlock>(table: &mut Table, blocks: &str, here: OnGraph, nodes: usize) {
+fn close_row<B: BitBlock>(table: &mut Table, call: &str, blocks: &str, here: OnGraph, nodes: usize) {
     let each = 2;
     let ends = Density::of("", nodes, nodes * each).members;
-    let name = format!("`close`, {nodes} rows, {each} edges each, `{blocks}`");
+    let name = format!("{call}, {nodes} rows, {each} edges each, `{blocks}`");
     table.row(&name, Work { unit: "row", units: nodes, turns: 2, numbers: &[] }, &[
         &|_, turns| unsafe { here(nodes, each, ends.as_ptr(), ends.len(), turns) },
         &|_, turns| close::<BitSet<B>>(each, &ends, turns),
         &|_, turns| close::<FixedBitSet>(each, &ends, turns),
     ]);
 }
+
+/// Here a matrix is closed, and there rows of sets, as in the rows of `close`.
+const MATRIX: &str = "`transitive_closure` of a matrix";
 
 /// Prints the table. Whether the sides of each row gave the same results.
 pub fn race() -> bool {
@@ -125,8 +130,10 @@ pub fn race() -> bool {
         reachable_row::<u64>(&mut table, "u64", bench_reachable_u64, nodes);
     }
     for nodes in [500, 2_000] {
-        close_row::<u32>(&mut table, "u32", bench_close_u32, nodes);
-        close_row::<u64>(&mut table, "u64", bench_close_u64, nodes);
+        close_row::<u32>(&mut table, "`close`", "u32", bench_close_u32, nodes);
+        close_row::<u64>(&mut table, "`close`", "u64", bench_close_u64, nodes);
+        close_row::<u32>(&mut table, MATRIX, "u32", bench_close_matrix_u32, nodes);
+        close_row::<u64>(&mut table, MATRIX, "u64", bench_close_matrix_u64, nodes);
     }
     live_variables::rows(&mut table);
     automata::rows(&mut table);

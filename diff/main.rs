@@ -1,10 +1,12 @@
 //! Runs scripts of random calls on this library, on the Rust crates `bit-set` and `bit-vec`, and on a plain slow
-//! model, and compares what every call returns.
+//! model, and compares what every call returns. Scripts on matrices go by a model alone.
 mod bends;
 mod calls;
 mod compare;
 mod departures;
 mod draw;
+mod matrices;
+mod matrix_model;
 mod model;
 mod ours;
 mod peers;
@@ -137,9 +139,15 @@ fn run(calls: usize, seed: u64) -> ExitCode {
     let mut tally = Tally::new();
     let found = search(calls, seed, None, &mut tally);
     tally.print(start);
+    // A call on matrices is of few bits, and there are as many for three on sets.
+    let agree = matrices::run(calls / 3, seed);
     let Some(found) = found else {
-        println!("no difference");
-        return ExitCode::SUCCESS;
+        return if agree {
+            println!("no difference");
+            ExitCode::SUCCESS
+        } else {
+            ExitCode::FAILURE
+        };
     };
     let mut sides = Sides::new(found.blocks, None);
     let script = shrink::shortest(&mut sides, found.script);
@@ -162,7 +170,7 @@ fn show(sides: &mut Sides, script: &[Line]) {
     println!("# by the model, with the departures: {model:?}");
 }
 
-/// Runs a script of a file: a line `blocks TYPE` first, and then a call a line. A `#` begins a comment.
+/// Runs a script of a file: a line `blocks TYPE` or `matrices TYPE` first, and then a call a line. A `#` begins a comment.
 fn run_file(file: &str) -> ExitCode {
     let text = match std::fs::read_to_string(file) {
         Ok(text) => text,
@@ -172,7 +180,18 @@ fn run_file(file: &str) -> ExitCode {
         }
     };
     let mut lines = text.lines().filter(|line| !line.trim().is_empty() && !line.starts_with('#'));
-    let name = lines.next().and_then(|line| line.strip_prefix("blocks "));
+    let head = lines.next();
+    if let Some(name) = head.and_then(|line| line.strip_prefix("matrices ")) {
+        return match matrices::run_lines(name.trim(), lines) {
+            Some(true) => ExitCode::SUCCESS,
+            Some(false) => ExitCode::FAILURE,
+            None => {
+                eprintln!("diff: {file} is no script");
+                ExitCode::from(2)
+            }
+        };
+    }
+    let name = head.and_then(|line| line.strip_prefix("blocks "));
     let blocks = name.and_then(|name| BLOCKS.iter().find(|blocks| blocks.name == name.trim()));
     let script: Option<Vec<Line>> = lines.map(Line::parse).collect();
     let (Some(blocks), Some(script)) = (blocks, script) else {
@@ -202,5 +221,5 @@ fn self_test() -> ExitCode {
         script.iter().for_each(|line| println!("    {line}"));
     }
     println!("{seen} of {} seen", BENDS.len());
-    if seen == BENDS.len() { ExitCode::SUCCESS } else { ExitCode::FAILURE }
+    if matrices::self_test() && seen == BENDS.len() { ExitCode::SUCCESS } else { ExitCode::FAILURE }
 }

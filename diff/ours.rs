@@ -3,6 +3,7 @@ use crate::calls::Line;
 
 unsafe extern "C" {
     fn diff_run(bits: usize, script: *const usize, n: usize, places: *mut usize, m: usize) -> usize;
+    fn diff_run_matrices(bits: usize, script: *const usize, n: usize, places: *mut usize, m: usize) -> usize;
 }
 
 /// What the calls of a script return, and the blocks of all sets at the end; nothing where memory is refused. The bits
@@ -12,10 +13,21 @@ pub fn run(bits: usize, lines: &[Line], places: &mut Vec<usize>) -> bool {
     for line in lines {
         line.write_words(&mut script);
     }
+    run_words(diff_run, bits, &script, places)
+}
+
+/// The same of the words of a script on matrices.
+pub fn run_matrices(bits: usize, script: &[usize], places: &mut Vec<usize>) -> bool {
+    run_words(diff_run_matrices, bits, script, places)
+}
+
+type OnScript = unsafe extern "C" fn(bits: usize, *const usize, usize, places: *mut usize, usize) -> usize;
+
+fn run_words(call: OnScript, bits: usize, script: &[usize], places: &mut Vec<usize>) -> bool {
     loop {
         let room = places.len();
         let (script, n) = (script.as_ptr(), script.len());
-        let count = unsafe { diff_run(bits, script, n, places.as_mut_ptr(), room) };
+        let count = unsafe { call(bits, script, n, places.as_mut_ptr(), room) };
         if count == usize::MAX {
             return false;
         }

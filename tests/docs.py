@@ -202,7 +202,7 @@ def public_functions(root):
     exported = re.findall(r"^pub use (?:crate|bit_blocks)::([^;]*);", (root / "crates/bit_words/src/bit_vec.rt").read_text(), re.M)
     exported = set(re.findall(r"\w+", " ".join(exported)))
     names = set()
-    for crate in ("bit_blocks", "bit_words", "bit_set"):
+    for crate in ("bit_blocks", "bit_words", "bit_set", "bit_matrix"):
         for source in sorted((root / "crates" / crate / "src").rglob("*.rt")):
             kind = None
             for line in [] if "laws" in (source.stem, source.parent.name) else source.read_text(encoding="utf-8").splitlines():

@@ -4,7 +4,7 @@ use graph_walks::{close, reachable};
 use std::alloc::{AllocError, Global};
 
 // The end of an edge: each node has as many, and those of one node come after those of another.
-fn end_of(ends: &[usize], each: usize, node: usize, edge: usize) -> usize {
+pub(crate) fn end_of(ends: &[usize], each: usize, node: usize, edge: usize) -> usize {
     let place = node.wrapping_mul(each).wrapping_add(edge);
     ends.get(place).copied().unwrap_or(0)
 }

@@ -10,6 +10,7 @@ mod graphs;
 mod input_sets;
 mod inserting;
 mod live_variables;
+mod matrices;
 mod ranges;
 mod reading;
 mod slots;

@@ -1,8 +1,10 @@
 -- What merges of blocks do, block by block.
-use Rattle.std.proofs.Common.{◌≡◌, ℕ, ◌+◌, ◌*◌, ◌<◌, ◌↔◌, List, length, get_or, set, refl, sym, ap, ◌∙◌, arith, inl, inr}
-use Rattle.std.proofs.lemmas.{Bool.{cases_eq, cases_lt}, Nat.{row_fits}, List.{get_or-set_other, get_or-set_same}}
-use Rattle.bit_blocks.specs.{Digits.is_one, Merges.merge_of_values, declared.block.merge.Merge.Merge}
+use Rattle.std.proofs.Common.{◌≡◌, ◌≢◌, ℕ, ◌+◌, ◌-◌, ◌*◌, ◌^◌, ◌<◌, ◌≤◌, ◌==◌, ◌↔◌, ◌++◌, Bool, true, false, not, List, All, drop, length, get_or, map, set, take, refl, sym, ap, ap₂, ◌∙◌, arith, inl, inr}
+use Rattle.std.proofs.lemmas.{Bool.{cases_eq, cases_lt, Decides.nat_tests}, Nat.{row_fits}, List.{get_or-append-add, get_or-append_right, get_or-drop, get_or-set_other, get_or-set_same, get_or-take, get_or_append_left, get_or_past, length-map, map-append, take-map}}
+use Rattle.bit_blocks.specs.{BlockMerges.{HasMerged, IsMergedBetween}, Digits.is_one, Merges.merge_of_values, NotedMerges.{AreKept, Stay, other_at}, declared.block.merge.Merge.Merge}
+use Rattle.bit_blocks.proofs.{NotedMergeLemmas.{stay_one, stay_so_far}, VectorLemmas.numbers_below}
 use Rattle.bit_matrix.specs.Merges.{AreApart, IsMergedPart}
+use Rattle.bit_matrix.proofs.RowLemmas.{map-slice, same_block}
 
 pub none_merged : (m : Merge) (w read write : ℕ) (ms os : List ℕ) → IsMergedPart m w read write 0 ms os ms
 none_merged m w read write ms os = record { digit = λ k j below. absurd (omega arith); others = λ q apart. refl }
@@ -18,15 +20,9 @@ block_merged m w read write k x ms os ns rs within is before digits = record {
   others = λ q apart. ap (λ zs. get_or zs q 0) is ∙ get_or-set_other ns (write + k) q x 0 (apart k (omega arith)) ∙ before.others q (λ i below. apart i (omega arith));
 }
 
--- the block that is read, and the one that is written, are those of the beginning
+-- the block that is written is that of the beginning
 pub still_write : (m : Merge) (w read write k : ℕ) (ms os ns : List ℕ) → IsMergedPart m w read write k ms os ns → get_or ns (write + k) 0 ≡ get_or ms (write + k) 0
 still_write m w read write k ms os ns before = before.others (write + k) (λ i below e. omega (arith, e, below))
-
-pub still_read : (m : Merge) (w read write count k : ℕ) (ms os ns : List ℕ) → AreApart read write count → k < count → IsMergedPart m w read write k ms os ns → get_or ns (read + k) 0 ≡ get_or ms (read + k) 0
-still_read m w read write count k ms os ns are within before = before.others (read + k) (λ i below e. elim are.apart [
-  | inl same ↦ omega (arith, e, below, same)
-  | inr rest ↦ elim rest [ inl low ↦ omega (arith, e, below, low) | inr high ↦ omega (arith, e, below, high) ]
-])
 
 -- whether a block changed so far
 pub told_more : (write k x y : ℕ) (ms ns rs : List ℕ) (b c : ℕ) → write + k < length ns → rs ≡ set ns (write + k) x → get_or ns (write + k) 0 ≡ y → get_or ms (write + k) 0 ≡ y → ((b ≡ 0) ↔ ((q : ℕ) → q < k → get_or ns (write + q) 0 ≡ get_or ms (write + q) 0)) → ((c ≡ 0) ↔ ((b ≡ 0) × (y ≡ x)))
@@ -52,3 +48,140 @@ rows_apart r q stride = record {
     ]
   ];
 }
+
+-- which of two that are apart comes first
+pub before_other : (read write count : ℕ) → AreApart read write count → read < write → read + count ≤ write
+before_other read write count are less = elim are.apart [
+  | inl same ↦ omega (arith, same, less)
+  | inr rest ↦ elim rest [ inl low ↦ low | inr high ↦ omega (arith, high, less) ]
+]
+
+pub after_other : (read write count : ℕ) → AreApart read write count → write < read → write + count ≤ read
+after_other read write count are less = elim are.apart [
+  | inl same ↦ omega (arith, same, less)
+  | inr rest ↦ elim rest [ inl low ↦ omega (arith, low, less) | inr high ↦ high ]
+]
+
+-- ---- whether blocks stay
+
+-- with one more of them, a, which is n where it is merged with b
+pub stays_more : {X : Type 0} (m : Merge) (w : ℕ) (f : X → ℕ) (start k a b n s t : ℕ) (xs os : List X) → start ≤ k → a ≡ get_or (map f xs) k 0 → b ≡ get_or (map f os) k 0 → a < 2 ^ w → n < 2 ^ w → ((j : ℕ) → j < w → is_one n j ≡ merge_of_values m (is_one a j) (is_one b j)) → ((s ≡ 0) ↔ Stay m w f start k (other_at (map f os)) xs) → ((t ≡ 0) ↔ ((s ≡ 0) × (a ≡ n)))
+    → (t ≡ 0) ↔ Stay m w f start (k + 1) (other_at (map f os)) xs
+stays_more m w f start k a b n s t xs os from read other small also digits before both =
+    let one = stay_one m w f k a b n xs read small also digits in
+    stay_so_far m w f start k s t (λ q j. is_one b j) (other_at (map f os)) xs from
+    (λ q j le below inside. let here : k ≡ q = omega (arith, le, below) in ap (λ n. is_one n j) other ∙ ap (λ i. is_one (get_or (map f os) i 0) j) here)
+    before
+    (λ none. ((both.0 none).0, one.0 (both.0 none).1), λ stays. both.1 (stays.0, one.1 stays.1))
+
+-- what a test of the mismatches for 0 says
+pub told_same : (result : Bool) (a z : ℕ) (stays : Type 0) → result ≡ (a == z) → z ≡ 0 → ((a ≡ 0) ↔ stays) → (result ≡ true) ↔ stays
+told_same result a z stays is none tells =
+    let there : result ≡ true → a ≡ 0 = λ yes. grind (arith, nat_tests) in
+    let back : a ≡ 0 → result ≡ true = λ zero. grind (arith, nat_tests) in
+    (λ yes. tells.0 (there yes), λ all. back (tells.1 all))
+
+pub of_not : {b : Bool} → not b ≡ false → b ≡ true
+of_not off = grind (arith, off)
+
+-- what stays digit by digit stays
+pub stay_kept : {X : Type 0} (m : Merge) (w : ℕ) (f : X → ℕ) (P : X → Type 0) (start end : ℕ) (xs os ys : List X) → ((x : X) → P x → f x < 2 ^ w) → All P xs → HasMerged m w f P start end xs os ys → Stay m w f start end (other_at (map f os)) xs → AreKept (map f xs) (map f ys)
+stay_kept m w f P start end xs os ys law each is stay k = elim (cases_lt k start) [
+  | inl early ↦ is.merged.before k early
+  | inr from ↦ elim (cases_lt k end) [
+    | inl below ↦ same_block w (get_or (map f ys) k 0) (get_or (map f xs) k 0) (numbers_below w f P ys law is.each k) (numbers_below w f P xs law each k) (λ j inside. is.merged.digit k j from below inside ∙ sym (stay.digit k j from below inside))
+    | inr past ↦ is.merged.after k past
+  ]
+]
+
+-- ---- a part of the blocks that is merged on its own
+
+-- The blocks qs stand from `at` on in ns, where as many others, ps, stand in ms; what is beside them is the same.
+pub record IsPut (at : ℕ) (ps qs ms ns : List ℕ) : Type 0 where
+  pub was : (i : ℕ) → i < length ps → get_or ms (at + i) 0 ≡ get_or ps i 0
+  pub is : (i : ℕ) → i < length ps → get_or ns (at + i) 0 ≡ get_or qs i 0
+  pub others : (q : ℕ) → ((i : ℕ) → i < length ps → q ≢ at + i) → get_or ns q 0 ≡ get_or ms q 0
+
+is_put_here : (front ps qs back : List ℕ) → length qs ≡ length ps → IsPut (length front) ps qs (front ++ (ps ++ back)) (front ++ (qs ++ back))
+is_put_here front ps qs back long = record {
+  was = λ i below. get_or-append-add front (ps ++ back) i 0 ∙ get_or_append_left ps back 0 i below;
+  is = λ i below. get_or-append-add front (qs ++ back) i 0 ∙ get_or_append_left qs back 0 i (omega (arith, below, long));
+  others = λ q apart. elim (cases_lt q (length front)) [
+    | inl early ↦ get_or_append_left front (qs ++ back) 0 q early ∙ sym (get_or_append_left front (ps ++ back) 0 q early)
+    | inr late ↦
+        let i = q - length front in
+        let past : length ps ≤ i = elim (cases_lt i (length ps)) [ inl inside ↦ absurd (apart i inside (omega (arith, late))) | inr past ↦ past ] in
+        let after = λ (zs : List ℕ) (as_long : length zs ≡ length ps). let e : get_or (front ++ (zs ++ back)) q 0 ≡ get_or back (i - length ps) 0 = get_or-append_right front (zs ++ back) (length front) q 0 refl late ∙ get_or-append_right zs back (length ps) i 0 as_long past in e in
+        after qs long ∙ sym (after ps refl)
+  ];
+}
+
+-- the same of lists whose numbers these are
+pub is_put : {X : Type 0} (f : X → ℕ) (front xs ys back : List X) (at : ℕ) → length front ≡ at → length ys ≡ length xs → IsPut at (map f xs) (map f ys) (map f (front ++ (xs ++ back))) (map f (front ++ (ys ++ back)))
+is_put f front xs ys back at here long =
+    let parts = λ (zs : List _). map-append f front (zs ++ back) ∙ ap (λ ns. map f front ++ ns) (map-append f zs back) in
+    rw (parts xs) (rw (parts ys) (rw (sym here) (rw (sym (length-map front f)) (is_put_here (map f front) (map f xs) (map f ys) (map f back) (length-map ys f ∙ long ∙ sym (length-map xs f))))))
+
+module _ (m : Merge) (w : ℕ) where
+  pub whole_part : (n : ℕ) (ps os qs : List ℕ) → IsMergedBetween m w 0 n ps os qs → IsMergedPart m w 0 0 n ps os qs
+  whole_part n ps os qs merged = record {
+    digit = λ k j below inside. let e : 0 + k ≡ k = omega arith in rw e (merged.digit k j (omega arith) below inside);
+    others = λ q apart. merged.after q (elim (cases_lt q n) [ inl below ↦ absurd (apart q below (omega arith)) | inr past ↦ past ]);
+  }
+
+  -- what is merged in the part is merged in the whole, with the same others
+  pub part_merged : (at v write read count : ℕ) (ps os qs ms zs ns : List ℕ) → at + v ≡ write → IsPut at ps qs ms ns → IsMergedPart m w 0 v count ps os qs → v + count ≤ length ps → ((k : ℕ) → k < count → get_or os (0 + k) 0 ≡ get_or zs (read + k) 0) → IsMergedPart m w read write count ms zs ns
+  part_merged at v write read count ps os qs ms zs ns is put merged fits same = record {
+    digit = λ k j below inside.
+        let e : write + k ≡ at + (v + k) = omega (arith, is) in
+        rw e
+        (ap (λ n. is_one n j) (put.is (v + k) (omega (arith, below, fits)))
+        ∙ merged.digit k j below inside
+        ∙ ap₂ (λ a b. merge_of_values m (is_one a j) (is_one b j)) (sym (put.was (v + k) (omega (arith, below, fits)))) (same k below));
+    others = λ q apart. elim (cases_lt q at) [
+      | inl early ↦ put.others q (λ i inside e. omega (arith, e, early))
+      | inr late ↦
+          let i = q - at in
+          let here : q ≡ at + i = omega (arith, late) in
+          elim (cases_lt i (length ps)) [
+            | inl inside ↦ rw here (put.is i inside ∙ merged.others i (λ k below e. apart k below (omega (arith, here, e, is))) ∙ sym (put.was i inside))
+            | inr past ↦ put.others q (λ k inside e. omega (arith, e, here, past))
+          ]
+    ];
+  }
+
+-- the part stays just where it does in the whole
+pub part_stays : (at v write count : ℕ) (ps qs ms ns : List ℕ) (stays : Type 0) → at + v ≡ write → IsPut at ps qs ms ns → v + count ≤ length ps → (stays ↔ ((k : ℕ) → k < count → get_or qs (v + k) 0 ≡ get_or ps (v + k) 0)) → stays ↔ ((k : ℕ) → k < count → get_or ns (write + k) 0 ≡ get_or ms (write + k) 0)
+part_stays at v write count ps qs ms ns stays is put fits tells =
+    let e = λ (k : ℕ). let e : write + k ≡ at + (v + k) = omega (arith, is) in e in (
+      λ yes k below. rw (e k) (put.is (v + k) (omega (arith, below, fits)) ∙ tells.0 yes k below ∙ sym (put.was (v + k) (omega (arith, below, fits)))),
+      λ all. tells.1 (λ k below. sym (put.is (v + k) (omega (arith, below, fits))) ∙ (rw (e k) at (all k below)) ∙ put.was (v + k) (omega (arith, below, fits))),
+    )
+
+pub kept_part : (n : ℕ) (ps qs : List ℕ) (stays : Type 0) → length ps ≡ n → length qs ≡ n → (stays ↔ AreKept ps qs) → stays ↔ ((k : ℕ) → k < n → get_or qs (0 + k) 0 ≡ get_or ps (0 + k) 0)
+kept_part n ps qs stays long as_long tells = (
+  λ yes k below. tells.0 yes (0 + k),
+  λ all. tells.1 (λ k. elim (cases_lt k n) [
+    | inl below ↦ let e : 0 + k ≡ k = omega arith in rw e at (all k below)
+    | inr past ↦ get_or_past qs k 0 (omega (arith, past, as_long)) ∙ sym (get_or_past ps k 0 (omega (arith, past, long)))
+  ]),
+)
+
+-- a block of a slice of the front
+pub slice_block : {X : Type 0} (f : X → ℕ) (xs front back rest others : List X) (read count k : ℕ) → xs ≡ front ++ back → rest ≡ drop read front → others ≡ take count rest → read + count ≤ length front → k < count → get_or (map f others) (0 + k) 0 ≡ get_or (map f xs) (read + k) 0
+slice_block f xs front back rest others read count k whole from slice fits below =
+    let e : 0 + k ≡ k = omega arith in
+    rw (e, slice, from, map-slice f read count front, whole, map-append f front back)
+    (get_or-take count (drop read (map f front)) k 0 below
+    ∙ get_or-drop read (map f front) k 0
+    ∙ sym (get_or_append_left (map f front) (map f back) 0 (read + k) (omega (arith, length-map front f, below, fits))))
+
+-- a block of the back
+pub back_block : {X : Type 0} (f : X → ℕ) (xs front back others : List X) (read count k : ℕ) → xs ≡ front ++ back → length front ≡ read → others ≡ take count back → k < count → get_or (map f others) (0 + k) 0 ≡ get_or (map f xs) (read + k) 0
+back_block f xs front back others read count k whole long from below =
+    let e : 0 + k ≡ k = omega arith in
+    let here : read ≡ length (map f front) = sym long ∙ sym (length-map front f) in
+    rw (e, from, whole, map-append f front back, here)
+    (ap (λ zs. get_or zs k 0) (sym (take-map f count back))
+    ∙ get_or-take count (map f back) k 0 below
+    ∙ sym (get_or-append-add (map f front) (map f back) k 0))

@@ -136,8 +136,9 @@ fn set_of_a_byte(alloc: Global) -> Result<BitSet, SetError> {
     BitSet::from_bytes(alloc, &[0b0100_1010])
 }
 
-fn rows_of(rt: &impl Abort, alloc: Global, set: &BitSet) -> Result<(), MatrixError> {
-    let matrix = BitMatrix::from_row(alloc, set, 2)?;
+fn rows_of(rt: &impl Abort, alloc: Global, set: BitSet) -> Result<(), MatrixError> {
+    // The set is {1, 4, 6}.
+    let matrix = BitMatrix::from_row(alloc, &set, 2)?;
     expect(rt, matrix.iter(1).eq([1, 4, 6]));
     Ok(())
 }
@@ -146,5 +147,21 @@ fn rows_of(rt: &impl Abort, alloc: Global, set: &BitSet) -> Result<(), MatrixErr
 fn rows_of_one_set(rt: HostRuntime) {
     let alloc = rt.alloc();
     let set = ok(&rt, set_of_a_byte(alloc));
-    ok(&rt, rows_of(&rt, alloc, &set));
+    ok(&rt, rows_of(&rt, alloc, set));
+}
+
+fn with_a_set(rt: &impl Abort, alloc: Global, columns: BitSet) -> Result<(), MatrixError> {
+    let mut matrix = BitMatrix::new(alloc, 2, 40)?;
+    let mut set = columns;
+    set.truncate(matrix.columns());
+    expect(rt, matrix.union_row_with(&set, 1));
+    expect(rt, !matrix.union_row_with(&set, 1));
+    Ok(())
+}
+
+#[test]
+fn a_set_that_is_put_into_a_row(rt: HostRuntime) {
+    let alloc = rt.alloc();
+    let set = ok(&rt, set_of_a_byte(alloc));
+    ok(&rt, with_a_set(&rt, alloc, set));
 }

@@ -1,7 +1,6 @@
 // A hasher that says what it was fed.
 ghost use Rattle.std.specs.Prelude.{◌+◌, ◌*◌, ◌%◌, ◌^◌, fold};
 
-use bit_set::{BitBlock, BitSet};
 use std::hash::{Hash, Hasher};
 
 // How often it was fed, and a number that says the bytes that it was fed.
@@ -34,12 +33,12 @@ impl Hasher for Feed {
     }
 }
 
-// How often a set feeds a hasher, and what.
-pub(crate) fn feed_of<B: BitBlock>(set: &BitSet<B>) -> (u64, u64) {
+// How often a set or a matrix feeds a hasher, and what.
+pub(crate) fn feed_of<T: Hash>(value: &T) -> (u64, u64) {
     let mut feed = Feed {
         calls: 0,
         digest: 0,
     };
-    set.hash(&mut feed);
+    value.hash(&mut feed);
     (feed.calls, feed.finish())
 }

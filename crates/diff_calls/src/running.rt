@@ -7,6 +7,7 @@ use crate::changing::{change, combine, combine_and_tell, lessen, move_over, pop,
 use crate::lines::Line;
 use crate::looking::{ask_bits, count_bits, find_bit, look, tell_bits};
 use crate::making::{bytes_of, listed, made};
+use crate::matrices::run_matrices;
 use crate::reading::{ask, count, find, tell};
 use crate::walks::walk_over;
 use crate::widths::Width;
@@ -277,6 +278,28 @@ pub extern "C" fn diff_run(
         64 => run::<u64>(alloc, script, &mut answers),
         128 => run::<u128>(alloc, script, &mut answers),
         _ => run::<usize>(alloc, script, &mut answers),
+    }
+    if answers.is_refused() {
+        return usize::MAX;
+    }
+    copy_words(answers.words(), places);
+    answers.words().len()
+}
+
+/// The same of a script on matrices.
+#[unsafe(no_mangle)]
+pub extern "C" fn diff_run_matrices(
+    alloc: Global,
+    bits: usize,
+    script: &[usize],
+    places: &mut [usize],
+) -> usize {
+    let mut answers = Answers::new(alloc);
+    match bits {
+        8 => run_matrices::<u8>(alloc, script, &mut answers),
+        32 => run_matrices::<u32>(alloc, script, &mut answers),
+        64 => run_matrices::<u64>(alloc, script, &mut answers),
+        _ => run_matrices::<u128>(alloc, script, &mut answers),
     }
     if answers.is_refused() {
         return usize::MAX;

@@ -1,4 +1,4 @@
-//! Uses of `bit_set`, as a caller writes them.
+//! Uses of `bit_set`, and one of `bit_matrix`, as a caller writes them.
 #![tactic(auto)]
 
 ghost use Rattle.std.specs.Prelude.{◌≡◌, ℕ, ◌<◌, ◌≤◌, ◌%◌, ◌==◌, ◌&&◌, ◌||◌, ◌↔◌, ◌∷◌, if◌then◌else◌, not, nat_lt, false, All, IfNone, IfOk, IfSome, IsOk, OnOk, IsTrue, Some, length};
@@ -13,6 +13,7 @@ pub mod bits;
 pub mod chains;
 pub mod commands;
 pub mod loops;
+pub mod matrices;
 pub mod worklists;
 
 /// The even numbers below `n`.

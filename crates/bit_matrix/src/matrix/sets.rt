@@ -17,7 +17,7 @@ impl<B: BitBlock> BitMatrix<B> {
     /// twice. Fails as [`new`](BitMatrix::new) does.
     ///
     /// ```
-    /// let set = BitSet::from_bytes(alloc, &[0b0100_1010])?;
+    /// // The set is {1, 4, 6}.
     /// let matrix = BitMatrix::from_row(alloc, &set, 2)?;
     /// assert!(matrix.iter(1).eq([1, 4, 6]));
     /// ```

@@ -1,29 +1,33 @@
-use Rattle.std.proofs.{Common.{◌≡◌, ◌+◌, ◌<◌, get_or, length, map, sym, ap, ap₂, ◌∙◌, arith}, lemmas.List.{length-map}}
-use Rattle.bit_blocks.specs.{Digits.is_one, Merges.merge_of_values}
-use Rattle.bit_matrix.proofs.PartLemmas.{block_merged, still_write, told_more}
+use Rattle.std.proofs.{Common.{◌≡◌, ◌+◌, ◌++◌, length, map, refl, ap, ◌∙◌, arith, rules}, lemmas.List.{Elements.All-append, length-map}}
+use Rattle.bit_matrix.proofs.{PartLemmas.{IsPut, is_put, kept_part, part_merged, part_stays, whole_part}, merges.merge_others.Goals.{After-merge_blocks}}
 use Rattle.bit_matrix.proofs.merges.merge_others.Goals as goal
 
-pub loop-k-preserved : goal.loop-k-preserved
-loop-k-preserved g c =
-    let w = g.B.BitBlock.width in
-    let f = g.B.BitBlock.number in
-    let m = g.O.Operation.merge in
-    let k = c.loop-k.k in
-    let before = c.loop-k.invariant in
-    let ms = map f c.args.blocks.now in
-    let os = map f c.args.others.now in
-    let ns = map f c.loop-k.blocks in
-    let now = c.block_at-block.ensures.of_number in
-    let was = now ∙ still_write m w 0 c.args.write k ms os ns before.merged in
-    let other : f c.block_at.result ≡ get_or os (0 + k) 0 = c.block_at.ensures.of_number ∙ ap (λ n. get_or os n 0) (let e : k ≡ 0 + k = omega arith in e) in
-    let within : c.args.write + k < length ns = omega (arith, length-map c.loop-k.blocks f) in
-    record {
-      merged = block_merged m w 0 c.args.write k _ ms os ns _ within c.put_in.ensures.numbers before.merged (λ j inside. c.of_blocks-merged.ensures.digits j inside ∙ ap₂ (λ a b. merge_of_values m (is_one a j) (is_one b j)) was other);
-      none = told_more c.args.write k _ _ ms ns _ _ _ within c.put_in.ensures.numbers (sym now) (sym was) before.none c.or_mismatch-mismatch.ensures.none;
-      of_block = c.or_mismatch-mismatch.ensures.of_block;
-      each = c.put_in.ensures.each;
-      len = c.put_in.ensures.len ∙ before.len;
-    }
+-- the blocks that are merged stand between others
+put : (g : _) (c : After-merge_blocks g) → IsPut c.args.write (map g.B.BitBlock.number c.split_at_mut-part.result.0.now) (map g.B.BitBlock.number c.merge_blocks.new.blocks) (map g.B.BitBlock.number c.args.blocks.now) (map g.B.BitBlock.number (c.split_at_mut-back.result.0.now ++ (c.merge_blocks.new.blocks ++ c.split_at_mut-part.result.1.now)))
+put g c =
+    let whole = c.split_at_mut-back.ensures.value ∙ ap (λ ys. c.split_at_mut-back.result.0.now ++ ys) c.split_at_mut-part.ensures.value in
+    rw whole (is_put g.B.BitBlock.number c.split_at_mut-back.result.0.now c.split_at_mut-part.result.0.now c.merge_blocks.new.blocks c.split_at_mut-part.result.1.now c.args.write c.split_at_mut-back.ensures.front_len c.merge_blocks.ensures.has.len)
+
+long : (g : _) (c : After-merge_blocks g) → length (map g.B.BitBlock.number c.split_at_mut-part.result.0.now) ≡ length c.args.others.now
+long g c = length-map c.split_at_mut-part.result.0.now g.B.BitBlock.number ∙ c.split_at_mut-part.ensures.front_len
 
 pub returns-clause-merged : goal.returns-clause-merged
-returns-clause-merged g c = let end : c.loop-k.k ≡ length c.args.others.now = omega arith in rw end at c.loop-k.invariant.merged
+returns-clause-merged g c =
+    let at = (goal.at.returns-clause-merged g c).After-merge_blocks in
+    let m = g.O.Operation.merge in
+    let w = g.B.BitBlock.width in
+    let n = length c.args.others.now in
+    let part = whole_part m w n _ _ _ c.merge_blocks.ensures.has.merged in
+    part_merged m w c.args.write 0 c.args.write 0 n _ _ _ _ _ _ (omega arith) (put g at) part (omega (arith, long g at)) (λ k below. refl)
+
+pub returns-clause-unchanged : goal.returns-clause-unchanged
+returns-clause-unchanged g c =
+    let at = (goal.at.returns-clause-unchanged g c).After-merge_blocks in
+    let n = length c.args.others.now in
+    let as_long = length-map c.merge_blocks.new.blocks g.B.BitBlock.number ∙ c.merge_blocks.ensures.has.len ∙ c.split_at_mut-part.ensures.front_len in
+    part_stays c.args.write 0 c.args.write n _ _ _ _ _ (omega arith) (put g at) (omega (arith, long g at)) (kept_part n _ _ _ (long g at) as_long c.merge_blocks.ensures.kept)
+
+pub returns-clause-each : goal.returns-clause-each
+returns-clause-each g c =
+    let P = g.B.BitBlock.is_block in
+    All-append P _ _ (search rules) (All-append P _ _ c.merge_blocks.ensures.has.each (search rules))

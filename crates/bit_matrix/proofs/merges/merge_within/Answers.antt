@@ -1,29 +1,57 @@
-use Rattle.std.proofs.{Common.{◌≡◌, ◌+◌, ◌<◌, length, map, sym, ap₂, ◌∙◌, arith}, lemmas.List.{length-map}}
-use Rattle.bit_blocks.specs.{Digits.is_one, Merges.merge_of_values}
-use Rattle.bit_matrix.proofs.PartLemmas.{block_merged, still_read, still_write, told_more}
+use Rattle.std.proofs.{Common.{◌+◌, ◌≤◌, ◌++◌, [], length, map, refl, arith}, lemmas.List.{Elements.{All-append, All-drop, All-take}, append-nil, length-map}}
+use Rattle.bit_matrix.proofs.{PartLemmas.{IsPut, after_other, back_block, before_other, is_put, part_merged, part_stays, slice_block}, merges.merge_within.Goals.{After-merge_others, After-merge_others-then-write-read}}
 use Rattle.bit_matrix.proofs.merges.merge_within.Goals as goal
 
-pub loop-k-preserved : goal.loop-k-preserved
-loop-k-preserved g c =
-    let w = g.B.BitBlock.width in
-    let f = g.B.BitBlock.number in
-    let m = g.O.Operation.merge in
-    let k = c.loop-k.k in
-    let before = c.loop-k.invariant in
-    let ms = map f c.args.blocks.now in
-    let os = ms in
-    let ns = map f c.loop-k.blocks in
-    let now = c.block_at-block.ensures.of_number in
-    let was = now ∙ still_write m w c.args.read c.args.write k ms os ns before.merged in
-    let other = c.block_at.ensures.of_number ∙ still_read m w c.args.read c.args.write c.args.count k ms ms ns c.requires.apart (omega arith) before.merged in
-    let within : c.args.write + k < length ns = omega (arith, length-map c.loop-k.blocks f) in
-    record {
-      merged = block_merged m w c.args.read c.args.write k _ ms os ns _ within c.put_in.ensures.numbers before.merged (λ j inside. c.of_blocks-merged.ensures.digits j inside ∙ ap₂ (λ a b. merge_of_values m (is_one a j) (is_one b j)) was other);
-      none = told_more c.args.write k _ _ ms ns _ _ _ within c.put_in.ensures.numbers (sym now) (sym was) before.none c.or_mismatch-mismatch.ensures.none;
-      of_block = c.or_mismatch-mismatch.ensures.of_block;
-      each = c.put_in.ensures.each;
-      len = c.put_in.ensures.len ∙ before.len;
-    }
+-- what is behind the front changed
+behind : (g : _) (c : After-merge_others g) → IsPut c.args.write (map g.B.BitBlock.number c.split_at_mut-front.result.1.now) (map g.B.BitBlock.number c.merge_others.new.blocks) (map g.B.BitBlock.number c.args.blocks.now) (map g.B.BitBlock.number (c.split_at_mut-front.result.0.now ++ c.merge_others.new.blocks))
+behind g c =
+    rw c.split_at_mut-front.ensures.value
+    (rw (append-nil c.split_at_mut-front.result.1.now, append-nil c.merge_others.new.blocks) at
+    (is_put g.B.BitBlock.number c.split_at_mut-front.result.0.now c.split_at_mut-front.result.1.now c.merge_others.new.blocks [] c.args.write c.split_at_mut-front.ensures.front_len c.merge_others.ensures.len))
 
-pub returns-clause-merged : goal.returns-clause-merged
-returns-clause-merged g c = let end : c.loop-k.k ≡ c.args.count = omega arith in rw end at c.loop-k.invariant.merged
+-- the front changed
+before : (g : _) (c : After-merge_others-then-write-read g) → IsPut 0 (map g.B.BitBlock.number c.split_at_mut-front-then-write-read.result.0.now) (map g.B.BitBlock.number c.merge_others-then-write-read.new.blocks) (map g.B.BitBlock.number c.args.blocks.now) (map g.B.BitBlock.number (c.merge_others-then-write-read.new.blocks ++ c.split_at_mut-front-then-write-read.result.1.now))
+before g c =
+    rw c.split_at_mut-front-then-write-read.ensures.value
+    (is_put g.B.BitBlock.number [] c.split_at_mut-front-then-write-read.result.0.now c.merge_others-then-write-read.new.blocks c.split_at_mut-front-then-write-read.result.1.now 0 refl c.merge_others-then-write-read.ensures.len)
+
+pub returns-then-read-write-clause-merged : goal.returns-then-read-write-clause-merged
+returns-then-read-write-clause-merged g c =
+    let at = (goal.at.returns-then-read-write-clause-merged g c).After-merge_others in
+    let f = g.B.BitBlock.number in
+    let apart = before_other c.args.read c.args.write c.args.count c.requires.apart (omega arith) in
+    let fits : 0 + c.args.count ≤ length (map f c.split_at_mut-front.result.1.now) = omega (arith, length-map c.split_at_mut-front.result.1.now f, c.split_at_mut-front.ensures.back_len, c.requires.in_write) in
+    part_merged g.O.Operation.merge g.B.BitBlock.width c.args.write 0 c.args.write c.args.read c.args.count _ _ _ _ _ _ (omega arith) (behind g at) (rw c.split_at-then-read-write.ensures.front_len at c.merge_others.ensures.merged) fits
+    (λ k below. slice_block f _ _ _ _ _ c.args.read c.args.count k c.split_at_mut-front.ensures.value c.split_at.ensures.back c.split_at-then-read-write.ensures.front (omega (arith, apart, c.split_at_mut-front.ensures.front_len)) below)
+
+pub returns-then-read-write-clause-unchanged : goal.returns-then-read-write-clause-unchanged
+returns-then-read-write-clause-unchanged g c =
+    let at = (goal.at.returns-then-read-write-clause-unchanged g c).After-merge_others in
+    let f = g.B.BitBlock.number in
+    let fits : 0 + c.args.count ≤ length (map f c.split_at_mut-front.result.1.now) = omega (arith, length-map c.split_at_mut-front.result.1.now f, c.split_at_mut-front.ensures.back_len, c.requires.in_write) in
+    part_stays c.args.write 0 c.args.write c.args.count _ _ _ _ _ (omega arith) (behind g at) fits (rw c.split_at-then-read-write.ensures.front_len at c.merge_others.ensures.unchanged)
+
+pub returns-then-read-write-clause-each : goal.returns-then-read-write-clause-each
+returns-then-read-write-clause-each g c = All-append g.B.BitBlock.is_block _ _ (rw c.split_at_mut-front.ensures.front (All-take g.B.BitBlock.is_block c.args.write c.args.blocks.now c.requires.each)) c.merge_others.ensures.each
+
+pub returns-then-write-read-clause-merged : goal.returns-then-write-read-clause-merged
+returns-then-write-read-clause-merged g c =
+    let at = (goal.at.returns-then-write-read-clause-merged g c).After-merge_others-then-write-read in
+    let f = g.B.BitBlock.number in
+    let front = c.split_at_mut-front-then-write-read in
+    let apart = after_other c.args.read c.args.write c.args.count c.requires.apart (omega arith) in
+    let fits : c.args.write + c.args.count ≤ length (map f front.result.0.now) = omega (arith, length-map front.result.0.now f, front.ensures.front_len, apart) in
+    part_merged g.O.Operation.merge g.B.BitBlock.width 0 c.args.write c.args.write c.args.read c.args.count _ _ _ _ _ _ (omega arith) (before g at) (rw c.split_at-then-write-read.ensures.front_len at c.merge_others-then-write-read.ensures.merged) fits
+    (λ k below. back_block f _ _ _ _ c.args.read c.args.count k front.ensures.value front.ensures.front_len c.split_at-then-write-read.ensures.front below)
+
+pub returns-then-write-read-clause-unchanged : goal.returns-then-write-read-clause-unchanged
+returns-then-write-read-clause-unchanged g c =
+    let at = (goal.at.returns-then-write-read-clause-unchanged g c).After-merge_others-then-write-read in
+    let f = g.B.BitBlock.number in
+    let front = c.split_at_mut-front-then-write-read in
+    let apart = after_other c.args.read c.args.write c.args.count c.requires.apart (omega arith) in
+    let fits : c.args.write + c.args.count ≤ length (map f front.result.0.now) = omega (arith, length-map front.result.0.now f, front.ensures.front_len, apart) in
+    part_stays 0 c.args.write c.args.write c.args.count _ _ _ _ _ (omega arith) (before g at) fits (rw c.split_at-then-write-read.ensures.front_len at c.merge_others-then-write-read.ensures.unchanged)
+
+pub returns-then-write-read-clause-each : goal.returns-then-write-read-clause-each
+returns-then-write-read-clause-each g c = All-append g.B.BitBlock.is_block _ _ c.merge_others-then-write-read.ensures.each (rw c.split_at_mut-front-then-write-read.ensures.back (All-drop g.B.BitBlock.is_block c.args.read c.args.blocks.now c.requires.each))
