@@ -1,7 +1,10 @@
 //! The walks and the closure beside a slow model that has no set and no stack, over graphs of lists and of sets.
 use crate::expect::{expect, expect_eq, expect_eq_at, expect_of, ok};
+use bit_matrix::{BitMatrix, MatrixError};
 use bit_set::{BitBlock, BitSet, SetError};
-use graph_walks::{Graph, close, reachable, reachable_from_any, reaches_all_of};
+use graph_walks::{
+    Graph, close, reachable, reachable_from_any, reaches_all_of, transitive_closure,
+};
 use std::alloc::Global;
 use std::process::Abort;
 
@@ -301,4 +304,18 @@ fn nodes_of_a_small_closure(rt: HostRuntime) {
         let reaches = reaches_all_of(sets.as_slice(), *a, *b);
         expect_of(&rt, (*a, *b), reaches == *wanted);
     }
+}
+
+fn three_nodes(rt: &impl Abort, alloc: Global) -> Result<(), MatrixError> {
+    let mut reaches = BitMatrix::new(alloc, 3, 3)?;
+    reaches.insert(0, 1);
+    reaches.insert(1, 2);
+    transitive_closure(&mut reaches);
+    expect(rt, reaches.contains(0, 2));
+    Ok(())
+}
+
+#[test]
+fn the_closure_of_a_matrix(rt: HostRuntime) {
+    ok(&rt, three_nodes(&rt, rt.alloc()));
 }
