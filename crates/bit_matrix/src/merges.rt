@@ -29,21 +29,21 @@ fn stay<B: BitBlock, O: Operation>(blocks: &[B], others: &[B], start: usize, cou
     same(mismatch, B::zero())
 }
 
-// How many blocks are in the groups before the first of which one changes. Those that are left over are in none.
+// How many blocks are in the groups before the first of which one changes. Those that are left over are in none. The loop
+// counts groups, since one that counts blocks is no vector code.
 #[inline(always)]
 fn before_change<B: BitBlock, O: Operation>(blocks: &[B], others: &[B]) -> usize
     requires can { CanMerge B.is_block blocks.now others.now }
     ensures within { result ≤ length others.now }
     ensures stay { Stay O.merge B.width B.number 0 result (other_at (map B.number others.now)) blocks.now }
 {
-    let mut start = 0;
-    while others.len() - start >= GROUP {
-        if !stay::<B, O>(blocks, others, start, GROUP) {
-            return start;
+    let groups = others.len() / GROUP;
+    for group in 0..groups {
+        if !stay::<B, O>(blocks, others, group * GROUP, GROUP) {
+            return group * GROUP;
         }
-        start += GROUP;
     }
-    start
+    groups * GROUP
 }
 
 // Each of the blocks from `start` on, as far as there are others, becomes its merge with the other of its index. Returns

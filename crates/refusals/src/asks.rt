@@ -9,6 +9,8 @@ pub enum Ask {
     Grown(usize),
     /// So many lists, each exactly of this length.
     Lists(usize, usize),
+    /// So many rows in one list, each at whole blocks for so many bits.
+    Rows(usize, usize),
     /// For each block of a list of this length so many bytes, in one request.
     Entries(usize, usize),
     /// So many requests, of so many bytes together.
@@ -66,6 +68,13 @@ impl Ask {
             Ask::Exact(len) => bound_of_list(len, width, false),
             Ask::Grown(len) => bound_of_list(len, width, true),
             Ask::Lists(count, len) => bound_of_list(len, width, false).times(count),
+            Ask::Rows(rows, len) => Bound {
+                requests: 1,
+                bytes: len
+                    .div_ceil(width.max(1))
+                    .saturating_mul(width / 8)
+                    .saturating_mul(rows),
+            },
             Ask::Entries(len, bytes) => Bound {
                 requests: 1,
                 bytes: len.div_ceil(width.max(1)).saturating_mul(bytes),

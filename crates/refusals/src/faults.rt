@@ -1,5 +1,6 @@
 // Why a call failed, whichever library says so.
 use automata::DfaError;
+use bit_matrix::MatrixError;
 use bit_set::bit_vec::BitsError;
 use bit_set::{JsonError, SetError};
 use bit_set_run::LinesFault;
@@ -68,6 +69,15 @@ impl From<DfaError> for Fault {
         match fault {
             DfaError::Memory(_) => Fault::Memory,
             DfaError::TooMany => Fault::Other,
+        }
+    }
+}
+
+impl From<MatrixError> for Fault {
+    fn from(fault: MatrixError) -> Self {
+        match fault {
+            MatrixError::Memory(_) => Fault::Memory,
+            MatrixError::Length => Fault::Other,
         }
     }
 }

@@ -9,6 +9,7 @@ mod failing_writers;
 mod faults;
 mod flow_problems;
 mod json;
+mod matrices;
 mod new_values;
 mod noted;
 mod ranges;
@@ -47,6 +48,7 @@ fn over_sets<B: BitBlock>(sweep: &mut Sweep<'_>) {
 
 // The calls of the libraries that are over sets.
 fn over_users<B: BitBlock>(sweep: &mut Sweep<'_>) {
+    matrices::all::<B>(sweep);
     users::all::<B>(sweep);
     flow_problems::all::<B>(sweep);
     state_machines::all::<B>(sweep);

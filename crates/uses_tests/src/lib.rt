@@ -12,6 +12,8 @@ mod expect;
 #[cfg(test)]
 mod loops_tests;
 #[cfg(test)]
+mod matrices_tests;
+#[cfg(test)]
 mod set_tests;
 #[cfg(test)]
 mod sets;
