@@ -1,11 +1,11 @@
 //! The examples of the doc comments of the calls on lists of blocks, as they are there.
-use bit_words::bit_vec::Steps;
-use bit_words::bit_vec::operation::{Difference, Union};
 use bit_blocks::packed::{
     bit_index, block_at, block_count, block_index, copy_of, difference_is_zero, get_bit,
     intersection_is_zero, merge_span, ones_in_span, or_mismatch, push_copies, put_in, replace_bit,
     same, span_merges_to_false,
 };
+use bit_words::bit_vec::Steps;
+use bit_words::bit_vec::operation::{Difference, Union};
 use std::test::Fail;
 
 #[test]
