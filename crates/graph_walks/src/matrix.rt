@@ -7,9 +7,9 @@ use bit_matrix::{BitBlock, BitMatrix};
 use bit_set::laws::{members_of_sets, sets_ascend};
 
 /// Makes row `u` the set of all nodes to which a path of at least one edge leads from `u`, where row `u` has the nodes to
-/// which an edge leads: Warren's algorithm. It goes over the rows twice: each takes in the rows of the nodes in it that come
-/// before it, and then of those that come after it. So no row takes in another more than once, and there are at most as
-/// many unions of rows as the closure has edges. Takes no memory.
+/// which an edge leads: Warren's algorithm. It goes over the rows twice: each takes in the rows of the nodes in it that
+/// come before it, and then of those that come after it. So no row takes in another more than once, and there are at
+/// most as many unions of rows as the closure has edges. Takes no memory.
 ///
 /// ```
 /// reaches.insert(0, 1);
