@@ -1,5 +1,5 @@
 -- What becomes of a graph that is closed.
-use Rattle.std.specs.Prelude.{◌≡◌, ℕ, ◌<◌, ◌≤◌, ◌↔◌, ◌⊎◌, max, IsTrue, List, [], length, slice_index_or}
+use Rattle.std.specs.Prelude.{◌≡◌, ℕ, ◌<◌, ◌≤◌, ◌↔◌, ◌⊎◌, max, IsTrue, false, List, [], length, slice_index_or}
 use Rattle.bit_set.specs.Bits.{Bits}
 use Rattle.bit_set.specs.Sets.{elements, has}
 use Rattle.bit_matrix.specs.Matrices.{Matrix}
@@ -24,6 +24,15 @@ pub record IsOnTheWay (old new : List (List ℕ)) : Type 0 where
   pub kept : (u v : ℕ) → Edge old u v → Edge new u v
   pub within : (u v : ℕ) → Edge new u v → LeadsTo old u v
   pub same_paths : (u v : ℕ) → LeadsTo new u v ↔ LeadsTo old u v
+
+-- The set has each node to which an edge leads from u, or from one of its nodes below the bound.
+pub record Follows (graph : List (List ℕ)) (u bound : ℕ) (nodes : List ℕ) : Type 0 where
+  pub start : (v : ℕ) → Edge graph u v → IsTrue (has nodes v)
+  pub onward : (m v : ℕ) → m < bound → IsTrue (has nodes m) → Edge graph m v → IsTrue (has nodes v)
+
+-- none of the nodes from `from` on and below `to` is in the set
+abbrev pub HasNoneIn : List ℕ → ℕ → ℕ → Type 0
+HasNoneIn nodes from to = (m : ℕ) → from ≤ m → m < to → has nodes m ≡ false
 
 -- a row, and an empty set of no length past the last one
 abbrev pub row : List Bits → ℕ → Bits

@@ -1,23 +1,47 @@
 use Rattle.std.proofs.Common.{◌∙◌, refl, arith}
-use Rattle.graph_walks.proofs.{CloseLemmas.{closes_none, closes_on, is_closed, is_closure}, MatrixLemmas.{matrix_adds, matrix_passes}}
+use Rattle.graph_walks.proofs.FollowLemmas.{follows_again, follows_all_on, follows_before_on, follows_closed, follows_closure, follows_first}
 use Rattle.graph_walks.proofs.matrix.transitive_closure.Goals as goal
 
-pub loop-node-init : goal.loop-node-init
-loop-node-init g c = record { closes = closes_none c.args.reaches.now.rows; rows = refl; columns = refl }
+pub loop-row-init : goal.loop-row-init
+loop-row-init g c = record { follows = follows_first c.args.reaches.now; rows = refl; columns = refl }
 
-pub loop-node-preserved : goal.loop-node-preserved
-loop-node-preserved g c =
-    let before = c.loop-node.invariant in
-    let node = c.loop-node.node in
-    let bits = c.join_rows.ensures.bits in
+pub loop-row-preserved : goal.loop-row-preserved
+loop-row-preserved g c =
+    let before = c.loop-row.invariant in
+    let now = c.take_in.ensures in
     record {
-      closes = closes_on _ _ _ node before.closes (matrix_passes node c.loop-node.reaches c.join_rows.new.reaches bits) (matrix_adds node c.loop-node.reaches c.join_rows.new.reaches bits);
-      rows = c.join_rows.ensures.rows ∙ before.rows;
-      columns = c.join_rows.ensures.columns ∙ before.columns;
+      follows = follows_before_on c.args.reaches.now c.loop-row.reaches c.take_in.new.reaches c.loop-row.row now.others now.way now.follows before.follows;
+      rows = now.rows ∙ before.rows;
+      columns = now.columns ∙ before.columns;
+    }
+
+pub loop-row-2-init : goal.loop-row-2-init
+loop-row-2-init g c =
+    let before = c.loop-row.invariant in
+    let count = c.rows-rows.ensures.value in
+    record {
+      follows = follows_again c.args.reaches.now c.loop-row.reaches c.loop-row.row (omega (arith, count, c.loop-row.auto.row-end, c.loop-row-test.false)) before.follows;
+      rows = before.rows;
+      columns = before.columns;
+    }
+
+pub loop-row-2-preserved : goal.loop-row-2-preserved
+loop-row-2-preserved g c =
+    let before = c.loop-row-2.invariant in
+    let now = c.take_in-in-loop-row-2.ensures in
+    let count = c.rows-rows.ensures.value in
+    record {
+      follows = follows_all_on c.args.reaches.now c.loop-row-2.reaches c.take_in-in-loop-row-2.new.reaches c.loop-row-2.row now.others now.way (rw count at now.follows) (omega (arith, count, c.loop-row-2-test.true)) before.follows;
+      rows = now.rows ∙ before.rows;
+      columns = now.columns ∙ before.columns;
     }
 
 pub returns-clause-closure : goal.returns-clause-closure
-returns-clause-closure g c = is_closure _ _ c.loop-node.node (omega (arith, c.loop-node.invariant.rows)) c.loop-node.invariant.closes
+returns-clause-closure g c =
+    let count = c.rows-rows.ensures.value in
+    follows_closure c.args.reaches.now c.loop-row-2.reaches c.loop-row-2.row (omega (arith, count, c.loop-row-2.auto.row-end, c.loop-row-2-test.false)) c.loop-row-2.invariant.follows
 
 pub returns-clause-closed : goal.returns-clause-closed
-returns-clause-closed g c = is_closed c.args.reaches.now.rows _ c.loop-node.node (omega (arith, c.loop-node.invariant.rows)) c.loop-node.invariant.closes
+returns-clause-closed g c =
+    let count = c.rows-rows.ensures.value in
+    follows_closed c.args.reaches.now c.loop-row-2.reaches c.loop-row-2.row (omega (arith, count, c.loop-row-2.auto.row-end, c.loop-row-2-test.false)) c.loop-row-2.invariant.follows

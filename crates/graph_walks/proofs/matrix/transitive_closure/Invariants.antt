@@ -1,10 +1,17 @@
 use Rattle.std.proofs.Common.{◌≡◌, length}
-use Rattle.graph_walks.proofs.CloseLemmas.{Closes}
+use Rattle.graph_walks.proofs.FollowLemmas.{FollowsAll, FollowsBefore}
 use Rattle.graph_walks.proofs.matrix.transitive_closure.Given as goal
 
-abbrev pub invariant-loop-node : goal.invariant-loop-node
-invariant-loop-node g l = record {
-  closes : Closes l.fn.reaches.rows l.node l.reaches.rows;
+abbrev pub invariant-loop-row : goal.invariant-loop-row
+invariant-loop-row g l = record {
+  follows : FollowsBefore l.fn.reaches l.reaches l.row;
+  rows : length l.reaches.rows ≡ length l.fn.reaches.rows;
+  columns : l.reaches.columns ≡ l.fn.reaches.columns;
+}
+
+abbrev pub invariant-loop-row-2 : goal.invariant-loop-row-2
+invariant-loop-row-2 g l = record {
+  follows : FollowsAll l.fn.reaches l.reaches l.row;
   rows : length l.reaches.rows ≡ length l.fn.reaches.rows;
   columns : l.reaches.columns ≡ l.fn.reaches.columns;
 }
