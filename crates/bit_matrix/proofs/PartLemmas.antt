@@ -2,8 +2,8 @@
 use Rattle.std.proofs.Common.{◌≡◌, ◌≢◌, ℕ, ◌+◌, ◌-◌, ◌*◌, ◌^◌, ◌<◌, ◌≤◌, ◌==◌, ◌↔◌, ◌++◌, Bool, true, false, not, List, All, drop, length, get_or, map, set, take, refl, sym, ap, ap₂, ◌∙◌, arith, inl, inr}
 use Rattle.std.proofs.lemmas.{Bool.{cases_eq, cases_lt, Decides.nat_tests}, Nat.{row_fits}, List.{get_or-append-add, get_or-append_right, get_or-drop, get_or-set_other, get_or-set_same, get_or-take, get_or_append_left, get_or_past, length-map, map-append, take-map}}
 use Rattle.bit_blocks.specs.{BlockMerges.{HasMerged, IsMergedBetween}, Digits.is_one, Merges.merge_of_values, NotedMerges.{AreKept, Stay, other_at}, declared.block.merge.Merge.Merge}
-use Rattle.bit_blocks.proofs.{NotedMergeLemmas.{stay_one, stay_so_far}, VectorLemmas.numbers_below}
-use Rattle.bit_matrix.specs.Merges.{AreApart, IsMergedPart}
+use Rattle.bit_blocks.proofs.{MergeLemmas.{merged_more, merged_none}, NotedMergeLemmas.{stay_more, stay_none, stay_one, stay_part, stay_same}, VectorLemmas.numbers_below}
+use Rattle.bit_matrix.specs.Merges.{AreApart, IsMergedPart, IsNotedMerge}
 use Rattle.bit_matrix.proofs.RowLemmas.{map-slice, same_block}
 
 pub none_merged : (m : Merge) (w read write : ℕ) (ms os : List ℕ) → IsMergedPart m w read write 0 ms os ms
@@ -64,15 +64,54 @@ after_other read write count are less = elim are.apart [
 
 -- ---- whether blocks stay
 
--- with one more of them, a, which is n where it is merged with b
-pub stays_more : {X : Type 0} (m : Merge) (w : ℕ) (f : X → ℕ) (start k a b n s t : ℕ) (xs os : List X) → start ≤ k → a ≡ get_or (map f xs) k 0 → b ≡ get_or (map f os) k 0 → a < 2 ^ w → n < 2 ^ w → ((j : ℕ) → j < w → is_one n j ≡ merge_of_values m (is_one a j) (is_one b j)) → ((s ≡ 0) ↔ Stay m w f start k (other_at (map f os)) xs) → ((t ≡ 0) ↔ ((s ≡ 0) × (a ≡ n)))
-    → (t ≡ 0) ↔ Stay m w f start (k + 1) (other_at (map f os)) xs
-stays_more m w f start k a b n s t xs os from read other small also digits before both =
-    let one = stay_one m w f k a b n xs read small also digits in
-    stay_so_far m w f start k s t (λ q j. is_one b j) (other_at (map f os)) xs from
-    (λ q j le below inside. let here : k ≡ q = omega (arith, le, below) in ap (λ n. is_one n j) other ∙ ap (λ i. is_one (get_or (map f os) i 0) j) here)
-    before
-    (λ none. ((both.0 none).0, one.0 (both.0 none).1), λ stays. both.1 (stays.0, one.1 stays.1))
+module _ {X : Type 0} (m : Merge) (w : ℕ) (f : X → ℕ) (P : X → Type 0) where
+  pub noted_none : (start end : ℕ) (xs os : List X) (was : X) → All P xs → P was → end ≤ start → IsNotedMerge m w f P start end xs os xs was was
+  noted_none start end xs os was each is le = record {
+    has = merged_none m w f P start end xs os each le;
+    of_block = is;
+    none = (λ none. (none, stay_none m w f start end _ xs le), λ both. both.0);
+  }
+
+  -- a block, a, which is n where it is merged with b
+  pub noted_put : (k a b n : ℕ) (xs os ys : List X) (was now : X) → a ≡ get_or (map f xs) k 0 → b ≡ get_or (map f os) k 0 → a < 2 ^ w → n < 2 ^ w → ((j : ℕ) → j < w → is_one n j ≡ merge_of_values m (is_one a j) (is_one b j)) → HasMerged m w f P k (k + 1) xs os ys → P now → ((f now ≡ 0) ↔ ((f was ≡ 0) × (a ≡ n))) → IsNotedMerge m w f P k (k + 1) xs os ys was now
+  noted_put k a b n xs os ys was now read other small also digits has is both =
+      let same = λ (q j : ℕ) (le : k ≤ q) (below : q < k + 1) (inside : j < w). let here : k ≡ q = omega (arith, le, below) in let e : is_one b j ≡ other_at (map f os) q j = ap (λ n. is_one n j) other ∙ ap (λ i. is_one (get_or (map f os) i 0) j) here in e in
+      let one = stay_one m w f k a b n xs read small also digits in
+      record {
+        has = has;
+        of_block = is;
+        none = (
+          λ none. ((both.0 none).0, stay_same m w f k (k + 1) (λ q j. is_one b j) (other_at (map f os)) xs same (one.0 (both.0 none).1)),
+          λ stays. both.1 (stays.0, one.1 (stay_same m w f k (k + 1) (other_at (map f os)) (λ q j. is_one b j) xs (λ q j le below inside. sym (same q j le below inside)) stays.1)),
+        );
+      }
+
+  -- blocks that are not merged yet stay where they stayed before
+  stay_before : (b c : ℕ) (other : ℕ → ℕ → Bool) (xs ys : List X) → ((k : ℕ) → b ≤ k → get_or (map f ys) k 0 ≡ get_or (map f xs) k 0) → Stay m w f b c other ys → Stay m w f b c other xs
+  stay_before b c other xs ys after stays = record {
+    digit = λ k j from below inside. ap (λ n. is_one n j) (sym (after k from)) ∙ stays.digit k j from below inside ∙ ap (λ n. merge_of_values m (is_one n j) (other k j)) (after k from);
+  }
+
+  -- some more of them
+  pub noted_more : (a b c p q : ℕ) (xs os ys zs : List X) (was one now : X) → a ≤ b → b ≤ c → p ≡ b → q ≡ c → IsNotedMerge m w f P a b xs os ys was one → IsNotedMerge m w f P p q ys os zs one now → IsNotedMerge m w f P a c xs os zs was now
+  noted_more a b c p q xs os ys zs was one now le also from to first second =
+      let other = other_at (map f os) in
+      let next = rw (from, to) at second in
+      let after = first.has.merged.after in
+      record {
+        has = merged_more m w f P a b c b c xs os ys zs le also refl refl first.has next.has;
+        of_block = next.of_block;
+        none = (
+          λ none.
+              let both = next.none.0 none in
+              let before = first.none.0 both.0 in
+              (before.0, stay_more m w f a b c other xs before.1 (stay_before b c other xs ys after both.1)),
+          λ stays. next.none.1 (
+            first.none.1 (stays.0, stay_part m w f a a b c other xs (omega arith) also stays.1),
+            stay_before b c other ys xs (λ k late. sym (after k late)) (stay_part m w f a b c c other xs le (omega arith) stays.1),
+          ),
+        );
+      }
 
 -- what a test of the mismatches for 0 says
 pub told_same : (result : Bool) (a z : ℕ) (stays : Type 0) → result ≡ (a == z) → z ≡ 0 → ((a ≡ 0) ↔ stays) → (result ≡ true) ↔ stays

@@ -1,81 +1,80 @@
-// Merges of blocks with others of one list, or of another list, each by the digits of every block. Blocks are looked at up
-// to the first that change, and written from there on.
-ghost use Rattle.std.specs.Prelude.{◌≡◌, ℕ, ◌+◌, ◌<◌, ◌≤◌, ◌⊎◌, ◌↔◌, All, IsTrue, false, get_or, length, map};
-ghost use Rattle.bit_blocks.specs.{BlockMerges.{CanMerge, HasMerged}, NotedMerges.{AreKept, Stay, other_at}};
-ghost use Rattle.bit_matrix.specs.Merges.{IsMergedPart, AreApart};
+// Merges of blocks with others of one list, or of another list, each by the digits of every block. What changes is noted on
+// the way, in one block: the compiler takes the note out where nothing reads it.
+ghost use Rattle.std.specs.Prelude.{◌≡◌, ℕ, ◌+◌, ◌*◌, ◌<◌, ◌≤◌, ◌⊎◌, ◌↔◌, All, IsTrue, false, get_or, length, map};
+ghost use Rattle.bit_blocks.specs.{BlockMerges.{CanMerge, HasMerged}, NotedMerges.AreKept};
+ghost use Rattle.bit_matrix.specs.Merges.{IsMergedPart, IsNotedMerge, AreApart};
 
 use crate::BitBlock;
 use bit_blocks::packed::{block_at, or_mismatch, put_in, same};
 use bit_words::bit_vec::operation::Operation;
 
-// How many blocks are looked at at once. The compiler makes vector code of a loop over so many, and a row of fewer is merged
-// with no look at it.
+// How many blocks the groups have that most of a row is merged in.
 const GROUP: usize = 16;
 
-// Whether the `count` blocks from `start` on stay where they are merged with the others.
+// Each of the `count` blocks from `start` on becomes its merge with the other of its index. Returns a block that is 0 just
+// where `seen` is and none changed. The compiler makes vector code of it where it knows the count.
 #[inline(always)]
-fn stay<B: BitBlock, O: Operation>(blocks: &[B], others: &[B], start: usize, count: usize) -> bool
-    requires can { CanMerge B.is_block blocks.now others.now }
-    requires within { start + count ≤ length others.now }
-    ensures { IsTrue result
-        ↔ Stay O.merge B.width B.number start (start + count) (other_at (map B.number others.now)) blocks.now }
-{
-    let mut mismatch = B::zero();
-    for k in start..start + count {
-        let block = block_at(blocks, k);
-        let merged = O::of_blocks(block, block_at(others, k));
-        mismatch = or_mismatch(mismatch, block, merged);
-    }
-    same(mismatch, B::zero())
-}
-
-// How many blocks are in the groups before the first of which one changes. Those that are left over are in none. The loop
-// counts groups, since one that counts blocks is no vector code.
-#[inline(always)]
-fn before_change<B: BitBlock, O: Operation>(blocks: &[B], others: &[B]) -> usize
-    requires can { CanMerge B.is_block blocks.now others.now }
-    ensures within { result ≤ length others.now }
-    ensures stay { Stay O.merge B.width B.number 0 result (other_at (map B.number others.now)) blocks.now }
-{
-    let groups = others.len() / GROUP;
-    for group in 0..groups {
-        if !stay::<B, O>(blocks, others, group * GROUP, GROUP) {
-            return group * GROUP;
-        }
-    }
-    groups * GROUP
-}
-
-// Each of the blocks from `start` on, as far as there are others, becomes its merge with the other of its index. Returns
-// whether one changed.
-#[inline(always)]
-fn merge_from<B: BitBlock, O: Operation>(blocks: &mut [B], others: &[B], start: usize) -> bool
+fn merge_group<B: BitBlock, O: Operation>(
+    blocks: &mut [B],
+    others: &[B],
+    start: usize,
+    count: usize,
+    seen: B,
+) -> B
     requires can { CanMerge B.is_block blocks.old others.now }
-    requires from { start ≤ length others.now }
-    ensures has { HasMerged O.merge B.width B.number B.is_block start (length others.now) blocks.old others.now
-        blocks.new }
-    ensures kept { (result ≡ false) ↔ AreKept (map B.number blocks.old) (map B.number blocks.new) }
+    requires within { start + count ≤ length others.now }
+    requires seen { B.is_block seen }
+    ensures { IsNotedMerge O.merge B.width B.number B.is_block start (start + count) blocks.old others.now blocks.new seen
+        result }
 {
-    let mut mismatch = B::zero();
-    for k in start..others.len() {
+    let mut mismatch = seen;
+    for k in start..start + count {
         let block = block_at(blocks, k);
         let merged = O::of_blocks(block, block_at(others, k));
         mismatch = or_mismatch(mismatch, block, merged);
         put_in(blocks, k, merged);
     }
-    !same(mismatch, B::zero())
+    mismatch
 }
 
-// Each block, as far as there are others, becomes its merge with the other of its index. Returns whether one changed.
-// Groups that stay are not written: in a closure or an analysis most do, once it has gone on for a while.
+// The blocks of so many groups of `size` from `start` on become their merges. The result is that of `merge_group`.
+#[inline(always)]
+fn merge_groups<B: BitBlock, O: Operation>(
+    blocks: &mut [B],
+    others: &[B],
+    start: usize,
+    groups: usize,
+    size: usize,
+    seen: B,
+) -> B
+    requires can { CanMerge B.is_block blocks.old others.now }
+    requires within { start + groups * size ≤ length others.now }
+    requires seen { B.is_block seen }
+    ensures { IsNotedMerge O.merge B.width B.number B.is_block start (start + groups * size) blocks.old others.now
+        blocks.new seen result }
+{
+    let mut mismatch = seen;
+    for group in 0..groups {
+        mismatch = merge_group::<B, O>(blocks, others, start + group * size, size, mismatch);
+    }
+    mismatch
+}
+
+// Each block, as far as there are others, becomes its merge with the other of its index. Returns whether one changed. All
+// but three blocks at most are merged in groups of a constant size, so that no loop over single blocks is long.
 #[inline(always)]
 fn merge_blocks<B: BitBlock, O: Operation>(blocks: &mut [B], others: &[B]) -> bool
     requires can { CanMerge B.is_block blocks.old others.now }
     ensures has { HasMerged O.merge B.width B.number B.is_block 0 (length others.now) blocks.old others.now blocks.new }
     ensures kept { (result ≡ false) ↔ AreKept (map B.number blocks.old) (map B.number blocks.new) }
 {
-    let start = before_change::<B, O>(blocks, others);
-    merge_from::<B, O>(blocks, others, start)
+    let count = others.len();
+    let whole = count / GROUP;
+    let first = merge_groups::<B, O>(blocks, others, 0, whole, GROUP, B::zero());
+    let second = merge_groups::<B, O>(blocks, others, whole * GROUP, count % GROUP / 8, 8, first);
+    let third = merge_groups::<B, O>(blocks, others, count / 8 * 8, count % 8 / 4, 4, second);
+    let mismatch = merge_group::<B, O>(blocks, others, count / 4 * 4, count % 4, third);
+    !same(mismatch, B::zero())
 }
 
 // Each of the blocks from `write` on, as far as there are others, becomes its merge with the other. Returns whether one
