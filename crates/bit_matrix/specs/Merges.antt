@@ -14,6 +14,15 @@ pub record IsMergedPart (merge : Merge) (w read write count : ℕ) (ms os ns : L
 pub record AreApart (read write count : ℕ) : Type 0 where
   pub apart : (read ≡ write) ⊎ (read + count ≤ write ⊎ write + count ≤ read)
 
+-- Block k of xs is merged with that of os. A second block is 0 now just where it was, and block k stays.
+pub record IsNotedBlock {X : Type 0} (merge : Merge) (w : ℕ) (number : X → ℕ) (is_block : X → Type 0) (k : ℕ)
+    (xs os : List X) (merged was now : X) : Type 0 where
+  pub digit : (j : ℕ) → j < w → is_one (number merged) j
+      ≡ merge_of_values merge (is_one (get_or (map number xs) k 0) j) (is_one (get_or (map number os) k 0) j)
+  pub is_merged : is_block merged
+  pub of_block : is_block now
+  pub none : (number now ≡ 0) ↔ ((number was ≡ 0) × (get_or (map number xs) k 0 ≡ number merged))
+
 -- The blocks xs became ys: those from start to before end are what they merge to with os. A block is 0 now just where it
 -- was, and all of these stay.
 pub record IsNotedMerge {X : Type 0} (merge : Merge) (w : ℕ) (number : X → ℕ) (is_block : X → Type 0) (start end : ℕ)

@@ -2,19 +2,30 @@
 // the way, in one block: the compiler takes the note out where nothing reads it.
 ghost use Rattle.std.specs.Prelude.{◌≡◌, ℕ, ◌+◌, ◌*◌, ◌<◌, ◌≤◌, ◌⊎◌, ◌↔◌, All, IsTrue, false, get_or, length, map};
 ghost use Rattle.bit_blocks.specs.{BlockMerges.{CanMerge, HasMerged}, NotedMerges.AreKept};
-ghost use Rattle.bit_matrix.specs.Merges.{IsMergedPart, IsNotedMerge, AreApart};
+ghost use Rattle.bit_matrix.specs.Merges.{IsMergedPart, IsNotedBlock, IsNotedMerge, AreApart};
 
 use crate::BitBlock;
 use bit_blocks::packed::{block_at, or_mismatch, put_in, same};
 use bit_words::bit_vec::operation::Operation;
 
-// How many blocks the groups have that most of a row is merged in.
-const GROUP: usize = 16;
+// What block `k` becomes where it is merged with the other of its index, and a block that is 0 just where `seen` is and it
+// stays.
+#[inline(always)]
+fn merged_at<B: BitBlock, O: Operation>(blocks: &[B], others: &[B], k: usize, seen: B) -> (B, B)
+    requires can { CanMerge B.is_block blocks.now others.now }
+    requires within { k < length others.now }
+    requires seen { B.is_block seen }
+    ensures { IsNotedBlock O.merge B.width B.number B.is_block k blocks.now others.now result.0 seen result.1 }
+{
+    let block = block_at(blocks, k);
+    let merged = O::of_blocks(block, block_at(others, k));
+    (merged, or_mismatch(seen, block, merged))
+}
 
 // Each of the `count` blocks from `start` on becomes its merge with the other of its index. Returns a block that is 0 just
-// where `seen` is and none changed. The compiler makes vector code of it where it knows the count.
+// where `seen` is and none changed.
 #[inline(always)]
-fn merge_group<B: BitBlock, O: Operation>(
+fn merge_each<B: BitBlock, O: Operation>(
     blocks: &mut [B],
     others: &[B],
     start: usize,
@@ -28,40 +39,80 @@ fn merge_group<B: BitBlock, O: Operation>(
         result }
 {
     let mut mismatch = seen;
-    for k in start..start + count {
-        let block = block_at(blocks, k);
-        let merged = O::of_blocks(block, block_at(others, k));
-        mismatch = or_mismatch(mismatch, block, merged);
-        put_in(blocks, k, merged);
+    for k in 0..count {
+        let (merged, noted) = merged_at::<B, O>(blocks, others, start + k, mismatch);
+        mismatch = noted;
+        put_in(blocks, start + k, merged);
     }
     mismatch
 }
 
-// The blocks of so many groups of `size` from `start` on become their merges. The result is that of `merge_group`.
+// Does so with four blocks. All of them are read before one is written: so the compiler makes vector code of it, though it
+// does not know that the lists are apart.
+#[inline(always)]
+fn merge_four<B: BitBlock, O: Operation>(blocks: &mut [B], others: &[B], start: usize, seen: B) -> B
+    requires can { CanMerge B.is_block blocks.old others.now }
+    requires within { start + 4 ≤ length others.now }
+    requires seen { B.is_block seen }
+    ensures { IsNotedMerge O.merge B.width B.number B.is_block start (start + 4) blocks.old others.now blocks.new seen
+        result }
+{
+    let (first, one) = merged_at::<B, O>(blocks, others, start, seen);
+    let (second, two) = merged_at::<B, O>(blocks, others, start + 1, one);
+    let (third, three) = merged_at::<B, O>(blocks, others, start + 2, two);
+    let (fourth, four) = merged_at::<B, O>(blocks, others, start + 3, three);
+    put_in(blocks, start, first);
+    put_in(blocks, start + 1, second);
+    put_in(blocks, start + 2, third);
+    put_in(blocks, start + 3, fourth);
+    four
+}
+
+// Does so with so many fours.
+#[inline(always)]
+fn merge_fours<B: BitBlock, O: Operation>(
+    blocks: &mut [B],
+    others: &[B],
+    start: usize,
+    fours: usize,
+    seen: B,
+) -> B
+    requires can { CanMerge B.is_block blocks.old others.now }
+    requires within { start + fours * 4 ≤ length others.now }
+    requires seen { B.is_block seen }
+    ensures { IsNotedMerge O.merge B.width B.number B.is_block start (start + fours * 4) blocks.old others.now blocks.new
+        seen result }
+{
+    let mut mismatch = seen;
+    for four in 0..fours {
+        mismatch = merge_four::<B, O>(blocks, others, start + four * 4, mismatch);
+    }
+    mismatch
+}
+
+// Does so with so many groups of sixteen, from the first block on.
 #[inline(always)]
 fn merge_groups<B: BitBlock, O: Operation>(
     blocks: &mut [B],
     others: &[B],
-    start: usize,
     groups: usize,
-    size: usize,
     seen: B,
 ) -> B
     requires can { CanMerge B.is_block blocks.old others.now }
-    requires within { start + groups * size ≤ length others.now }
+    requires within { groups * 16 ≤ length others.now }
     requires seen { B.is_block seen }
-    ensures { IsNotedMerge O.merge B.width B.number B.is_block start (start + groups * size) blocks.old others.now
-        blocks.new seen result }
+    ensures { IsNotedMerge O.merge B.width B.number B.is_block 0 (groups * 16) blocks.old others.now blocks.new seen
+        result }
 {
     let mut mismatch = seen;
     for group in 0..groups {
-        mismatch = merge_group::<B, O>(blocks, others, start + group * size, size, mismatch);
+        mismatch = merge_fours::<B, O>(blocks, others, group * 16, 4, mismatch);
     }
     mismatch
 }
 
 // Each block, as far as there are others, becomes its merge with the other of its index. Returns whether one changed. All
-// but three blocks at most are merged in groups of a constant size, so that no loop over single blocks is long.
+// but three blocks at most are merged by four.
 #[inline(always)]
 fn merge_blocks<B: BitBlock, O: Operation>(blocks: &mut [B], others: &[B]) -> bool
     requires can { CanMerge B.is_block blocks.old others.now }
@@ -69,11 +120,9 @@ fn merge_blocks<B: BitBlock, O: Operation>(blocks: &mut [B], others: &[B]) -> bo
     ensures kept { (result ≡ false) ↔ AreKept (map B.number blocks.old) (map B.number blocks.new) }
 {
     let count = others.len();
-    let whole = count / GROUP;
-    let first = merge_groups::<B, O>(blocks, others, 0, whole, GROUP, B::zero());
-    let second = merge_groups::<B, O>(blocks, others, whole * GROUP, count % GROUP / 8, 8, first);
-    let third = merge_groups::<B, O>(blocks, others, count / 8 * 8, count % 8 / 4, 4, second);
-    let mismatch = merge_group::<B, O>(blocks, others, count / 4 * 4, count % 4, third);
+    let first = merge_groups::<B, O>(blocks, others, count / 16, B::zero());
+    let second = merge_fours::<B, O>(blocks, others, count / 16 * 16, count % 16 / 4, first);
+    let mismatch = merge_each::<B, O>(blocks, others, count / 4 * 4, count % 4, second);
     !same(mismatch, B::zero())
 }
 
