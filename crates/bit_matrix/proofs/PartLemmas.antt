@@ -2,8 +2,8 @@
 use Rattle.std.proofs.Common.{◌≡◌, ◌≢◌, ℕ, ◌+◌, ◌-◌, ◌*◌, ◌^◌, ◌<◌, ◌≤◌, ◌==◌, ◌↔◌, ◌++◌, Bool, true, false, not, List, All, drop, length, get_or, map, set, take, refl, sym, ap, ap₂, ◌∙◌, arith, inl, inr}
 use Rattle.std.proofs.lemmas.{Bool.{cases_eq, cases_lt, Decides.nat_tests}, Nat.{row_fits}, List.{get_or-append-add, get_or-append_right, get_or-drop, get_or-set_other, get_or-set_same, get_or-take, get_or_append_left, get_or_past, length-map, map-append, take-map}}
 use Rattle.bit_blocks.specs.{BlockMerges.{HasMerged, IsMergedBetween}, Digits.is_one, Merges.merge_of_values, NotedMerges.{AreKept, Stay, other_at}, declared.block.merge.Merge.Merge}
-use Rattle.bit_blocks.proofs.{NotedMergeLemmas.{stay_one, stay_so_far}, VectorLemmas.numbers_below}
-use Rattle.bit_matrix.specs.Merges.{AreApart, IsMergedPart}
+use Rattle.bit_blocks.proofs.{MergeLemmas.{merged_more, merged_none, merged_put}, NotedMergeLemmas.{stay_more, stay_none, stay_one, stay_part, stay_same}, VectorLemmas.numbers_below}
+use Rattle.bit_matrix.specs.Merges.{AreApart, IsMergedPart, IsNotedBlock, IsNotedMerge}
 use Rattle.bit_matrix.proofs.RowLemmas.{map-slice, same_block}
 
 pub none_merged : (m : Merge) (w read write : ℕ) (ms os : List ℕ) → IsMergedPart m w read write 0 ms os ms
@@ -64,15 +64,65 @@ after_other read write count are less = elim are.apart [
 
 -- ---- whether blocks stay
 
--- with one more of them, a, which is n where it is merged with b
-pub stays_more : {X : Type 0} (m : Merge) (w : ℕ) (f : X → ℕ) (start k a b n s t : ℕ) (xs os : List X) → start ≤ k → a ≡ get_or (map f xs) k 0 → b ≡ get_or (map f os) k 0 → a < 2 ^ w → n < 2 ^ w → ((j : ℕ) → j < w → is_one n j ≡ merge_of_values m (is_one a j) (is_one b j)) → ((s ≡ 0) ↔ Stay m w f start k (other_at (map f os)) xs) → ((t ≡ 0) ↔ ((s ≡ 0) × (a ≡ n)))
-    → (t ≡ 0) ↔ Stay m w f start (k + 1) (other_at (map f os)) xs
-stays_more m w f start k a b n s t xs os from read other small also digits before both =
-    let one = stay_one m w f k a b n xs read small also digits in
-    stay_so_far m w f start k s t (λ q j. is_one b j) (other_at (map f os)) xs from
-    (λ q j le below inside. let here : k ≡ q = omega (arith, le, below) in ap (λ n. is_one n j) other ∙ ap (λ i. is_one (get_or (map f os) i 0) j) here)
-    before
-    (λ none. ((both.0 none).0, one.0 (both.0 none).1), λ stays. both.1 (stays.0, one.1 stays.1))
+module _ {X : Type 0} (m : Merge) (w : ℕ) (f : X → ℕ) (P : X → Type 0) where
+  pub noted_none : (start end : ℕ) (xs os : List X) (was : X) → All P xs → P was → end ≤ start → IsNotedMerge m w f P start end xs os xs was was
+  noted_none start end xs os was each is le = record {
+    has = merged_none m w f P start end xs os each le;
+    of_block = is;
+    none = (λ none. (none, stay_none m w f start end _ xs le), λ both. both.0);
+  }
+
+  -- the block k, which was read in xs, is written in ys
+  pub noted_put : (k : ℕ) (xs os ys zs : List X) (merged was now : X) → ((x : X) → P x → f x < 2 ^ w) → All P ys → k < length ys → get_or (map f ys) k 0 ≡ get_or (map f xs) k 0 → IsNotedBlock m w f P k xs os merged was now → map f zs ≡ set (map f ys) k (f merged) → All P zs → length zs ≡ length ys → IsNotedMerge m w f P k (k + 1) ys os zs was now
+  noted_put k xs os ys zs merged was now law each within still noted written all len =
+      let a = get_or (map f ys) k 0 in
+      let b = get_or (map f os) k 0 in
+      let digits = λ (j : ℕ) (inside : j < w). let e : is_one (f merged) j ≡ merge_of_values m (is_one a j) (is_one b j) = noted.digit j inside ∙ ap (λ n. merge_of_values m (is_one n j) (is_one b j)) (sym still) in e in
+      let same = λ (q j : ℕ) (le : k ≤ q) (below : q < k + 1) (inside : j < w). let here : k ≡ q = omega (arith, le, below) in let e : is_one b j ≡ other_at (map f os) q j = ap (λ i. is_one (get_or (map f os) i 0) j) here in e in
+      let one = stay_one m w f k a b (f merged) ys refl (numbers_below w f P ys law each k) (law merged noted.is_merged) digits in
+      record {
+        has = merged_put m w f P k a b (f merged) ys os zs within written all len refl refl digits;
+        of_block = noted.of_block;
+        none = (
+          λ none. let both = noted.none.0 none in (both.0, stay_same m w f k (k + 1) (λ q j. is_one b j) (other_at (map f os)) ys same (one.0 (still ∙ both.1))),
+          λ stays. noted.none.1 (stays.0, sym still ∙ one.1 (stay_same m w f k (k + 1) (other_at (map f os)) (λ q j. is_one b j) ys (λ q j le below inside. sym (same q j le below inside)) stays.1)),
+        );
+      }
+
+  -- blocks that are not merged yet stay where they stayed before
+  stay_before : (b c : ℕ) (other : ℕ → ℕ → Bool) (xs ys : List X) → ((k : ℕ) → b ≤ k → get_or (map f ys) k 0 ≡ get_or (map f xs) k 0) → Stay m w f b c other ys → Stay m w f b c other xs
+  stay_before b c other xs ys after stays = record {
+    digit = λ k j from below inside. ap (λ n. is_one n j) (sym (after k from)) ∙ stays.digit k j from below inside ∙ ap (λ n. merge_of_values m (is_one n j) (other k j)) (after k from);
+  }
+
+  -- some more of them
+  pub noted_more : (a b c p q : ℕ) (xs os ys zs : List X) (was one now : X) → a ≤ b → b ≤ c → p ≡ b → q ≡ c → IsNotedMerge m w f P a b xs os ys was one → IsNotedMerge m w f P p q ys os zs one now → IsNotedMerge m w f P a c xs os zs was now
+  noted_more a b c p q xs os ys zs was one now le also from to first second =
+      let other = other_at (map f os) in
+      let next = rw (from, to) at second in
+      let after = first.has.merged.after in
+      record {
+        has = merged_more m w f P a b c b c xs os ys zs le also refl refl first.has next.has;
+        of_block = next.of_block;
+        none = (
+          λ none.
+              let both = next.none.0 none in
+              let before = first.none.0 both.0 in
+              (before.0, stay_more m w f a b c other xs before.1 (stay_before b c other xs ys after both.1)),
+          λ stays. next.none.1 (
+            first.none.1 (stays.0, stay_part m w f a a b c other xs (omega arith) also stays.1),
+            stay_before b c other ys xs (λ k late. sym (after k late)) (stay_part m w f a b c c other xs le (omega arith) stays.1),
+          ),
+        );
+      }
+
+  -- one more
+  pub noted_next : (start k p q : ℕ) (xs os ys zs : List X) (merged was one now : X) → ((x : X) → P x → f x < 2 ^ w) → length os ≤ length xs → k < length os → start ≤ k → p ≡ k → q ≡ k + 1 → IsNotedMerge m w f P start p xs os ys was one → IsNotedBlock m w f P k xs os merged one now → map f zs ≡ set (map f ys) k (f merged) → All P zs → length zs ≡ length ys → IsNotedMerge m w f P start q xs os zs was now
+  noted_next start k p q xs os ys zs merged was one now law fewer within from here next before noted written all len =
+      let grows : k ≤ k + 1 = omega arith in
+      let so_far = rw here at before in
+      let step = noted_put k xs os ys zs merged one now law so_far.has.each (omega (arith, so_far.has.len, fewer, within)) (so_far.has.merged.after k (omega arith)) noted written all len in
+      rw next (noted_more start k (k + 1) k (k + 1) xs os ys zs was one now from grows refl refl so_far step)
 
 -- what a test of the mismatches for 0 says
 pub told_same : (result : Bool) (a z : ℕ) (stays : Type 0) → result ≡ (a == z) → z ≡ 0 → ((a ≡ 0) ↔ stays) → (result ≡ true) ↔ stays

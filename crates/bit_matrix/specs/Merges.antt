@@ -1,6 +1,6 @@
 -- What blocks of a list become by a merge with others, digit by digit. No public clause cites this.
-use Rattle.std.specs.Prelude.{◌≡◌, ◌≢◌, ℕ, ◌+◌, ◌<◌, ◌≤◌, ◌⊎◌, List, get_or}
-use Rattle.bit_blocks.specs.{Digits.is_one, Merges.merge_of_values, declared.block.merge.Merge.Merge}
+use Rattle.std.specs.Prelude.{◌≡◌, ◌≢◌, ℕ, ◌+◌, ◌<◌, ◌≤◌, ◌⊎◌, ◌↔◌, List, get_or, map}
+use Rattle.bit_blocks.specs.{BlockMerges.HasMerged, Digits.is_one, Merges.merge_of_values, NotedMerges.{Stay, other_at}, declared.block.merge.Merge.Merge}
 
 -- So many blocks of ms from `write` on became in ns what they merge to with those of os from `read` on; the others are
 -- those of ms.
@@ -13,3 +13,21 @@ pub record IsMergedPart (merge : Merge) (w read write count : ℕ) (ms os ns : L
 -- So many blocks from one on, and as many from another on, are the same or have none in common.
 pub record AreApart (read write count : ℕ) : Type 0 where
   pub apart : (read ≡ write) ⊎ (read + count ≤ write ⊎ write + count ≤ read)
+
+-- Block k of xs is merged with that of os. A second block is 0 now just where it was, and block k stays.
+pub record IsNotedBlock {X : Type 0} (merge : Merge) (w : ℕ) (number : X → ℕ) (is_block : X → Type 0) (k : ℕ)
+    (xs os : List X) (merged was now : X) : Type 0 where
+  pub digit : (j : ℕ) → j < w → is_one (number merged) j
+      ≡ merge_of_values merge (is_one (get_or (map number xs) k 0) j) (is_one (get_or (map number os) k 0) j)
+  pub is_merged : is_block merged
+  pub of_block : is_block now
+  pub none : (number now ≡ 0) ↔ ((number was ≡ 0) × (get_or (map number xs) k 0 ≡ number merged))
+
+-- The blocks xs became ys: those from start to before end are what they merge to with os. A block is 0 now just where it
+-- was, and all of these stay.
+pub record IsNotedMerge {X : Type 0} (merge : Merge) (w : ℕ) (number : X → ℕ) (is_block : X → Type 0) (start end : ℕ)
+    (xs os ys : List X) (was now : X) : Type 0 where
+  pub has : HasMerged merge w number is_block start end xs os ys
+  pub of_block : is_block now
+  pub none : (number now ≡ 0)
+      ↔ ((number was ≡ 0) × Stay merge w number start end (other_at (map number os)) xs)

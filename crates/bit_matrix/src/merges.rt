@@ -1,81 +1,129 @@
-// Merges of blocks with others of one list, or of another list, each by the digits of every block. Blocks are looked at up
-// to the first that change, and written from there on.
-ghost use Rattle.std.specs.Prelude.{◌≡◌, ℕ, ◌+◌, ◌<◌, ◌≤◌, ◌⊎◌, ◌↔◌, All, IsTrue, false, get_or, length, map};
-ghost use Rattle.bit_blocks.specs.{BlockMerges.{CanMerge, HasMerged}, NotedMerges.{AreKept, Stay, other_at}};
-ghost use Rattle.bit_matrix.specs.Merges.{IsMergedPart, AreApart};
+// Merges of blocks with others of one list, or of another list, each by the digits of every block. What changes is noted on
+// the way, in one block: the compiler takes the note out where nothing reads it.
+ghost use Rattle.std.specs.Prelude.{◌≡◌, ℕ, ◌+◌, ◌*◌, ◌<◌, ◌≤◌, ◌⊎◌, ◌↔◌, All, IsTrue, false, get_or, length, map};
+ghost use Rattle.bit_blocks.specs.{BlockMerges.{CanMerge, HasMerged}, NotedMerges.AreKept};
+ghost use Rattle.bit_matrix.specs.Merges.{IsMergedPart, IsNotedBlock, IsNotedMerge, AreApart};
 
 use crate::BitBlock;
 use bit_blocks::packed::{block_at, or_mismatch, put_in, same};
 use bit_words::bit_vec::operation::Operation;
 
-// How many blocks are looked at at once. The compiler makes vector code of a loop over so many, and a row of fewer is merged
-// with no look at it.
-const GROUP: usize = 16;
-
-// Whether the `count` blocks from `start` on stay where they are merged with the others.
+// What block `k` becomes where it is merged with the other of its index, and a block that is 0 just where `seen` is and it
+// stays.
 #[inline(always)]
-fn stay<B: BitBlock, O: Operation>(blocks: &[B], others: &[B], start: usize, count: usize) -> bool
+fn merged_at<B: BitBlock, O: Operation>(blocks: &[B], others: &[B], k: usize, seen: B) -> (B, B)
     requires can { CanMerge B.is_block blocks.now others.now }
-    requires within { start + count ≤ length others.now }
-    ensures { IsTrue result
-        ↔ Stay O.merge B.width B.number start (start + count) (other_at (map B.number others.now)) blocks.now }
+    requires within { k < length others.now }
+    requires seen { B.is_block seen }
+    ensures { IsNotedBlock O.merge B.width B.number B.is_block k blocks.now others.now result.0 seen result.1 }
 {
-    let mut mismatch = B::zero();
-    for k in start..start + count {
-        let block = block_at(blocks, k);
-        let merged = O::of_blocks(block, block_at(others, k));
-        mismatch = or_mismatch(mismatch, block, merged);
-    }
-    same(mismatch, B::zero())
+    let block = block_at(blocks, k);
+    let merged = O::of_blocks(block, block_at(others, k));
+    (merged, or_mismatch(seen, block, merged))
 }
 
-// How many blocks are in the groups before the first of which one changes. Those that are left over are in none. The loop
-// counts groups, since one that counts blocks is no vector code.
+// Each of the `count` blocks from `start` on becomes its merge with the other of its index. Returns a block that is 0 just
+// where `seen` is and none changed.
 #[inline(always)]
-fn before_change<B: BitBlock, O: Operation>(blocks: &[B], others: &[B]) -> usize
-    requires can { CanMerge B.is_block blocks.now others.now }
-    ensures within { result ≤ length others.now }
-    ensures stay { Stay O.merge B.width B.number 0 result (other_at (map B.number others.now)) blocks.now }
-{
-    let groups = others.len() / GROUP;
-    for group in 0..groups {
-        if !stay::<B, O>(blocks, others, group * GROUP, GROUP) {
-            return group * GROUP;
-        }
-    }
-    groups * GROUP
-}
-
-// Each of the blocks from `start` on, as far as there are others, becomes its merge with the other of its index. Returns
-// whether one changed.
-#[inline(always)]
-fn merge_from<B: BitBlock, O: Operation>(blocks: &mut [B], others: &[B], start: usize) -> bool
+fn merge_each<B: BitBlock, O: Operation>(
+    blocks: &mut [B],
+    others: &[B],
+    start: usize,
+    count: usize,
+    seen: B,
+) -> B
     requires can { CanMerge B.is_block blocks.old others.now }
-    requires from { start ≤ length others.now }
-    ensures has { HasMerged O.merge B.width B.number B.is_block start (length others.now) blocks.old others.now
-        blocks.new }
-    ensures kept { (result ≡ false) ↔ AreKept (map B.number blocks.old) (map B.number blocks.new) }
+    requires within { start + count ≤ length others.now }
+    requires seen { B.is_block seen }
+    ensures { IsNotedMerge O.merge B.width B.number B.is_block start (start + count) blocks.old others.now blocks.new seen
+        result }
 {
-    let mut mismatch = B::zero();
-    for k in start..others.len() {
-        let block = block_at(blocks, k);
-        let merged = O::of_blocks(block, block_at(others, k));
-        mismatch = or_mismatch(mismatch, block, merged);
-        put_in(blocks, k, merged);
+    let mut mismatch = seen;
+    for k in 0..count {
+        let (merged, noted) = merged_at::<B, O>(blocks, others, start + k, mismatch);
+        mismatch = noted;
+        put_in(blocks, start + k, merged);
     }
-    !same(mismatch, B::zero())
+    mismatch
 }
 
-// Each block, as far as there are others, becomes its merge with the other of its index. Returns whether one changed.
-// Groups that stay are not written: in a closure or an analysis most do, once it has gone on for a while.
+// Does so with four blocks. All of them are read before one is written: so the compiler makes vector code of it, though it
+// does not know that the lists are apart.
+#[inline(always)]
+fn merge_four<B: BitBlock, O: Operation>(blocks: &mut [B], others: &[B], start: usize, seen: B) -> B
+    requires can { CanMerge B.is_block blocks.old others.now }
+    requires within { start + 4 ≤ length others.now }
+    requires seen { B.is_block seen }
+    ensures { IsNotedMerge O.merge B.width B.number B.is_block start (start + 4) blocks.old others.now blocks.new seen
+        result }
+{
+    let (first, one) = merged_at::<B, O>(blocks, others, start, seen);
+    let (second, two) = merged_at::<B, O>(blocks, others, start + 1, one);
+    let (third, three) = merged_at::<B, O>(blocks, others, start + 2, two);
+    let (fourth, four) = merged_at::<B, O>(blocks, others, start + 3, three);
+    put_in(blocks, start, first);
+    put_in(blocks, start + 1, second);
+    put_in(blocks, start + 2, third);
+    put_in(blocks, start + 3, fourth);
+    four
+}
+
+// Does so with so many fours.
+#[inline(always)]
+fn merge_fours<B: BitBlock, O: Operation>(
+    blocks: &mut [B],
+    others: &[B],
+    start: usize,
+    fours: usize,
+    seen: B,
+) -> B
+    requires can { CanMerge B.is_block blocks.old others.now }
+    requires within { start + fours * 4 ≤ length others.now }
+    requires seen { B.is_block seen }
+    ensures { IsNotedMerge O.merge B.width B.number B.is_block start (start + fours * 4) blocks.old others.now blocks.new
+        seen result }
+{
+    let mut mismatch = seen;
+    for four in 0..fours {
+        mismatch = merge_four::<B, O>(blocks, others, start + four * 4, mismatch);
+    }
+    mismatch
+}
+
+// Does so with so many groups of sixteen, from the first block on.
+#[inline(always)]
+fn merge_groups<B: BitBlock, O: Operation>(
+    blocks: &mut [B],
+    others: &[B],
+    groups: usize,
+    seen: B,
+) -> B
+    requires can { CanMerge B.is_block blocks.old others.now }
+    requires within { groups * 16 ≤ length others.now }
+    requires seen { B.is_block seen }
+    ensures { IsNotedMerge O.merge B.width B.number B.is_block 0 (groups * 16) blocks.old others.now blocks.new seen
+        result }
+{
+    let mut mismatch = seen;
+    for group in 0..groups {
+        mismatch = merge_fours::<B, O>(blocks, others, group * 16, 4, mismatch);
+    }
+    mismatch
+}
+
+// Each block, as far as there are others, becomes its merge with the other of its index. Returns whether one changed. All
+// but three blocks at most are merged by four.
 #[inline(always)]
 fn merge_blocks<B: BitBlock, O: Operation>(blocks: &mut [B], others: &[B]) -> bool
     requires can { CanMerge B.is_block blocks.old others.now }
     ensures has { HasMerged O.merge B.width B.number B.is_block 0 (length others.now) blocks.old others.now blocks.new }
     ensures kept { (result ≡ false) ↔ AreKept (map B.number blocks.old) (map B.number blocks.new) }
 {
-    let start = before_change::<B, O>(blocks, others);
-    merge_from::<B, O>(blocks, others, start)
+    let count = others.len();
+    let first = merge_groups::<B, O>(blocks, others, count / 16, B::zero());
+    let second = merge_fours::<B, O>(blocks, others, count / 16 * 16, count % 16 / 4, first);
+    let mismatch = merge_each::<B, O>(blocks, others, count / 4 * 4, count % 4, second);
+    !same(mismatch, B::zero())
 }
 
 // Each of the blocks from `write` on, as far as there are others, becomes its merge with the other. Returns whether one

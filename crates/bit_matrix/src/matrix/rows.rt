@@ -101,6 +101,7 @@ impl<B: BitBlock> BitMatrix<B> {
     /// assert!(reaches.union_rows(1, 0));
     /// assert!(!reaches.union_rows(1, 0));
     /// ```
+    #[inline]
     pub fn union_rows(&mut self, read: usize, write: usize) -> bool
         requires read { read < length self.old.rows }
         requires write { write < length self.old.rows }
@@ -114,6 +115,7 @@ impl<B: BitBlock> BitMatrix<B> {
 
     /// Keeps in the row `write` what is in the row `read` too, and returns whether something was not. One pass over the
     /// blocks of both.
+    #[inline]
     pub fn intersect_rows(&mut self, read: usize, write: usize) -> bool
         requires read { read < length self.old.rows }
         requires write { write < length self.old.rows }
@@ -128,6 +130,7 @@ impl<B: BitBlock> BitMatrix<B> {
 
     /// Takes out of the row `write` what is in the row `read`, and returns whether some of it was in. One pass over the
     /// blocks of both.
+    #[inline]
     pub fn difference_rows(&mut self, read: usize, write: usize) -> bool
         requires read { read < length self.old.rows }
         requires write { write < length self.old.rows }

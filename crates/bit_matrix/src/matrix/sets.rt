@@ -42,6 +42,7 @@ impl<B: BitBlock> BitMatrix<B> {
     /// assert!(matrix.union_row_with(&set, 1));
     /// assert!(!matrix.union_row_with(&set, 1));
     /// ```
+    #[inline]
     pub fn union_row_with(&mut self, set: &BitSet<B>, row: usize) -> bool
         requires row { row < length self.old.rows }
         requires columns { (n : ℕ) → IsTrue (has (elements set.now.values) n) → n < self.old.columns }
