@@ -137,17 +137,17 @@ impl<B: BitBlock> Trial<Call> for Machine<B> {
 }
 
 // Two automata, by the state in which the second accepts, and the word that is found. The memory that the call may ask
-// for is a bit for each of nine by nine pairs, four words for each pair that is met, and the word. Of equal automata
+// for is nine rows of nine bits, each at whole blocks, four words for each pair that is met, and the word. Of equal automata
 // eight pairs are met, in a list that doubles once, and else those of the words `1`, `10`, `11` and the empty one.
 const PAIRS: &[Row<(usize, &[usize])>] = &[
     Row {
         name: "equivalent",
-        asks: &[Ask::Exact(81), Ask::Other(2, (4 + 8) * 32)],
+        asks: &[Ask::Rows(9, 9), Ask::Other(2, (4 + 8) * 32)],
         call: (5000, &[]),
     },
     Row {
         name: "equivalent_differ",
-        asks: &[Ask::Exact(81), Ask::Other(1, 4 * 32), Ask::Other(1, 4 * 8)],
+        asks: &[Ask::Rows(9, 9), Ask::Other(1, 4 * 32), Ask::Other(1, 4 * 8)],
         call: (2, &[1, 0]),
     },
 ];
