@@ -1,6 +1,6 @@
 -- How many ones blocks have, by a summary of them.
 use Rattle.std.proofs.{Common.{◌≡◌, ℕ, zero, suc, ◌+◌, ◌*◌, ◌<◌, Bool, List, [], ◌∷◌, map, take, drop, get_or, get_or-take, get_or-drop, length, length-take, count_ones, refl, sym, ap, ◌∙◌, ⊎_elim, arith}, lemmas.Bool.cases_lt}
-use Rattle.std.{proofs.{lemmas.{Bool.Decides.nat_tests, List.{take-map, drop-map, get_or_past, length-map, Sums.{sum_by-append, sum_by-cons}}}, Math.Seq.take-add}, specs.List.{sum_by, count_by}}
+use Rattle.std.{proofs.{lemmas.{Bool.Decides.nat_tests, List.{take-map, drop-map, get_or_past, length-map, Sums.{sum_by-append, sum_by-cons, sum_by_more}}}, Math.Seq.take-add}, specs.List.{sum_by, count_by}}
 use Rattle.bit_blocks.{specs.{Storage.{value_at, ones_in, is_used}, Bits.blocks_of}, proofs.{LowestLemmas.ones_zero, OnesLemmas.blocks_ones, Masks.is_one-zero, StorageLemmas.value_at-index}}
 
 module _ {X : Type 0} (number : X → ℕ) where
@@ -44,6 +44,19 @@ module _ {X : Type 0} (number : X → ℕ) where
   ones_in-numbers [] = refl
   ones_in-numbers (x ∷ xs) =
       sum_by-cons (λ y. count_ones (number y)) x xs ∙ ap (λ n. count_ones (number x) + n) (ones_in-numbers xs) ∙ sym (sum_by-cons count_ones (number x) (map number xs))
+
+  -- those of some blocks and the next one
+  ones_in-next : (i : ℕ) (xs : List X) → i < length xs → ones_in number (take (i + 1) xs) ≡ ones_in number (take i xs) + count_ones (get_or (map number xs) i 0)
+  ones_in-next i xs within =
+      let part : (n : ℕ) → ones_in number (take n xs) ≡ sum_by count_ones (take n (map number xs)) = λ n. ones_in-numbers (take n xs) ∙ ap (sum_by count_ones) (sym (take-map number n xs)) in
+      part (i + 1) ∙ sum_by_more count_ones (map number xs) i 0 (omega (arith, length-map xs number, within)) ∙ ap (λ ones. ones + count_ones (get_or (map number xs) i 0)) (sym (part i))
+
+  -- and the next two
+  pub ones_in-pair : (i : ℕ) (xs : List X) → i + 1 < length xs
+      → ones_in number (take (i + 2) xs) ≡ ones_in number (take i xs) + count_ones (get_or (map number xs) i 0) + count_ones (get_or (map number xs) (i + 1) 0)
+  ones_in-pair i xs within =
+      let next : i + 2 ≡ i + 1 + 1 = omega arith in
+      omega (arith, ap (λ n. ones_in number (take n xs)) next, ones_in-next (i + 1) xs within, ones_in-next i xs (omega (arith, within)))
 
   -- in the blocks of a list, its true values
   pub ones_in-values : (w : ℕ) (xs : List X) (values : List Bool) → 0 < w → map number xs ≡ blocks_of w values → ones_in number xs ≡ count_by (λ value. value) values

@@ -1,5 +1,5 @@
 -- The ones of the blocks of a list are its true values.
-use Rattle.std.proofs.{Common.{◌≡◌, ℕ, zero, suc, ◌+◌, ◌*◌, ◌/◌, ◌%◌, ◌^◌, ◌<◌, Bool, cond, List, [], ◌∷◌, ◌++◌, map, length, take, drop, count_ones, refl, sym, ap, ◌∙◌, arith, take_all}, Math.Nat.pow-suc}
+use Rattle.std.proofs.{Common.{◌≡◌, ℕ, zero, suc, ◌+◌, ◌*◌, ◌/◌, ◌%◌, ◌^◌, ◌<◌, Bool, cond, List, [], ◌∷◌, ◌++◌, map, length, take, drop, count_ones, refl, sym, ap, ◌∙◌, arith, take_all}, Math.Nat.{pow-suc, mod-eq_of_lt}}
 use Rattle.std.{proofs.lemmas.{List.{take-append-drop, drop-take, take-take, Sums.{sum_by-append, sum_by-cons}, FromFn.sum_by-map-range_with_len_more}, Nat.{ones_cat, Bits.{bit_at_lowest, bit_at-suc}}}, specs.Int.bit_at}
 use Rattle.std.specs.List.{sum_by, count_by, range_with_len}
 use Rattle.bit_blocks.{specs.Bits.{digit_of, number_of, blocks_of, blocks_for}, proofs.{BitsLemmas.blocks_for-enough, LowestLemmas.{ones_zero, ones_one}}}
@@ -48,6 +48,12 @@ digits_of_half m a zero = refl
 digits_of_half m a (suc n) =
     let first = ap (bit_at m) (let e : a + 1 ≡ suc a = omega arith in e) ∙ bit_at-suc m a in
     omega (arith, first, sum_by-cons (bit_at m) (a + 1) (range_with_len (a + 1 + 1) n), digits_of_half m (a + 1) n, sum_by-cons (bit_at (m / 2)) a (range_with_len (a + 1) n))
+
+-- those of two numbers of w digits that stand in one, which is kept below m
+pub ones_joined : (w m a b : ℕ) → a < 2 ^ w → b * 2 ^ w < m → count_ones (a + b * 2 ^ w % m) ≡ count_ones a + count_ones b
+ones_joined w m a b low fits =
+    let joined : a + b * 2 ^ w % m ≡ b * 2 ^ w + a = omega (arith, mod-eq_of_lt fits) in
+    omega (arith, ap count_ones joined, ones_cat w b a low)
 
 -- a digit has itself many ones
 ones_of_digit : (d : ℕ) → d < 2 → count_ones d ≡ d

@@ -66,6 +66,22 @@ pub trait BitBlock: Copy
         requires { is_block self }
         ensures { result ≡ count_ones (number self) };
 
+    /// How many bits are 1 in the block and in the other, both together. A type of which two fit an integer counts them
+    /// at once.
+    ///
+    /// ```
+    /// assert_eq!(7u32.count_ones_with(8), 4);
+    /// ```
+    #[inline]
+    fn count_ones_with(self, other: Self) -> usize
+        requires of_block { is_block self }
+        requires of_other { is_block other }
+        requires fits { count_ones (number self) + count_ones (number other) < 2 ^ 64 }
+        ensures { result ≡ count_ones (number self) + count_ones (number other) }
+    {
+        self.count_ones() + other.count_ones()
+    }
+
     /// The block whose lowest eight bits are those of the byte.
     fn from_byte(byte: u8) -> Self
         ensures of_block { is_block result }

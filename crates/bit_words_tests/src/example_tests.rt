@@ -2,7 +2,7 @@
 use crate::expect::{expect, expect_eq, ok};
 use crate::lists::{list_of, put};
 use bit_words::bit_vec::{
-    BitVec, BitsError, Merge, Steps, clear_below, clear_from, first_mismatching_block,
+    BitBlock, BitVec, BitsError, Merge, Steps, clear_below, clear_from, first_mismatching_block,
     first_nonzero_block, lowest_mismatch, mismatch_between, same_blocks, take_highest_one,
     take_lowest_one, with_bit,
 };
@@ -22,6 +22,11 @@ fn the_highest_one_of_a_block(rt: HostRuntime) {
     let mut block = 0b0110u8;
     assert_eq!(rt; take_highest_one(&mut block), 2);
     assert_eq!(rt; block, 0b0010);
+}
+
+#[test]
+fn the_ones_of_two_blocks(rt: HostRuntime) {
+    assert_eq!(rt; 7u32.count_ones_with(8), 4);
 }
 
 #[test]

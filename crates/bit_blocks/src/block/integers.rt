@@ -30,6 +30,11 @@ impl BitBlock for u8 {
     }
 
     #[inline]
+    fn count_ones_with(self, other: u8) -> usize {
+        (self as u16 + ((other as u16) << u8::BITS)).count_ones() as usize
+    }
+
+    #[inline]
     fn from_byte(byte: u8) -> u8 {
         byte
     }
@@ -102,6 +107,11 @@ impl BitBlock for u16 {
     }
 
     #[inline]
+    fn count_ones_with(self, other: u16) -> usize {
+        (self as u32 + ((other as u32) << u16::BITS)).count_ones() as usize
+    }
+
+    #[inline]
     fn from_byte(byte: u8) -> u16 {
         byte as u16
     }
@@ -171,6 +181,11 @@ impl BitBlock for u32 {
     #[inline]
     fn count_ones(self) -> usize {
         u32::count_ones(self) as usize
+    }
+
+    #[inline]
+    fn count_ones_with(self, other: u32) -> usize {
+        (self as u64 + ((other as u64) << u32::BITS)).count_ones() as usize
     }
 
     #[inline]

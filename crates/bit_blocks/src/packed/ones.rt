@@ -3,6 +3,7 @@ ghost use Rattle.std.specs.Prelude.{◌≡◌, ◌+◌, ◌*◌, ◌^◌, ◌<�
 ghost use Rattle.bit_blocks.specs.Storage.{ones_in};
 
 use crate::block::BitBlock;
+use crate::packed::access::block_at;
 use crate::packed::groups::GROUP;
 
 /// Adds up the ones of each block, most of them a group at a time.
@@ -28,7 +29,7 @@ fn ones_of_groups<B: BitBlock>(blocks: &[B], groups: usize) -> usize
 {
     let mut ones = 0;
     for group in 0..groups {
-        ones = add_ones(ones, group_from(blocks, group * GROUP));
+        ones = add_pairs(ones, group_from(blocks, group * GROUP));
     }
     ones
 }
@@ -39,6 +40,22 @@ fn group_from<B: BitBlock>(blocks: &[B], start: usize) -> &[B]
     ensures { result.now ≡ take GROUP (drop start blocks.now) }
 {
     blocks.split_at(start).1.split_at(GROUP).0
+}
+
+// A number, and the ones of each block of a group, two at a time.
+#[inline]
+fn add_pairs<B: BitBlock>(before: usize, group: &[B]) -> usize
+    requires whole { length group.now ≡ GROUP }
+    requires each { All B.is_block group.now }
+    requires fits { before + ones_in B.number group.now < 2 ^ 64 }
+    ensures { result ≡ before + ones_in B.number group.now }
+{
+    let mut ones = before;
+    for pair in 0..GROUP / 2 {
+        let first = block_at(group, pair * 2);
+        ones += first.count_ones_with(block_at(group, pair * 2 + 1));
+    }
+    ones
 }
 
 // A number, and the ones of each block. The sum goes on from the number, so that it stays in one register.
