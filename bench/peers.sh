@@ -73,12 +73,44 @@ build_peers() {
     peer fixedbitset
 }
 
-# Proves the static library NAME, and builds the Rust program SOURCE over it and over the peers.
+# Whether the file is newer than each source in the folders.
+is_newer() {
+    local file="$1"
+    shift
+    [ -e "$file" ] && [ -z "$(find "$@" -name out -prune \
+        -o \( -name '*.rs' -o -name '*.rt' -o -name '*.antt' \) -newer "$file" -print -quit)" ]
+}
+
+# Makes the static library NAME, out/libNAME.a of its crate. To rt the crate is a library as any other, which the gate
+# proves in less time; so the compiler is called here, over the libraries below as rt proves them.
+build_static() {
+    local name="$1" kit library words
+    kit="$(dirname "$(rt doc | head -n 1)")"
+    words=(--crate-name "$name" --crate-type staticlib --jobs "$(nproc)" --links "$name=" -L "dependency=$kit/rlibs")
+    for library in std $(sed -n "s/^$name: //p" "$crates/../crates.txt"); do
+        if [ -d "$crates/$library" ]; then
+            (cd "$crates/$library" && quietly rt lib)
+            words+=(--extern "$library=$crates/$library/out/rlib/$library.rlib")
+        else
+            words+=(--extern "$library=$kit/rlibs/$library.rlib")
+        fi
+    done
+    for library in "$crates"/*/out/rlib; do
+        words+=(-L "dependency=$library")
+    done
+    words+=(--toolchain "$kit/toolchain" --antt-project "$kit/rattle/logic/antt-project.json")
+    words+=(--logic-built "$kit/logic_built" --backend llvm -o "out/lib$name.a")
+    mkdir -p "$crates/$name/out"
+    is_newer "$crates/$name/out/lib$name.a" "$crates" \
+        || (cd "$crates/$name" && quietly "$kit/bin/rattle" build "${words[@]}" src/lib.rt)
+}
+
+# Builds the Rust program SOURCE over the static library NAME and over the peers.
 #   build_program NAME SOURCE PROGRAM
 build_program() {
     local name="$1" memory
     say "proving and building this library, which takes some minutes the first time"
-    (cd "$crates/$name" && quietly rt check && quietly rt lib)
+    build_static "$name"
     memory="$(dirname "$(rt doc | head -n 1)")/c/liblibc_c.a"
     [ -f "$memory" ] || missing "$memory" "the toolchain's library of the calls that take memory"
     rust --edition 2024 "$2" -L "$folder" --extern "bit_set=$folder/libbit_set.rlib" \
