@@ -2,7 +2,7 @@ use Rattle.std.proofs.{Common.{◌≡◌, ℕ, ◌<◌, ◌≤◌, ◌∙◌, fa
 use Rattle.bit_blocks.{specs.Storage.value_at, proofs.{BitsLemmas.blocks_for-above, CompareLemmas.value_in_view, PackedLemmas.replaced_packed, SearchLemmas.{finds_from_same, value_fits}}}
 use Rattle.bit_words.specs.Summary.{short_count}
 use Rattle.bit_blocks.proofs.StorageLemmas.{values_of-set}
-use Rattle.bit_words.proofs.{StartLemmas.{false_before_chunk, false_before_written, first_chunk, no_chunk, true_within}, SummaryLemmas.{keeps_all, keeps_none}}
+use Rattle.bit_words.proofs.{SameCapacity.same_capacity, StartLemmas.{false_before_chunk, false_before_written, first_chunk, no_chunk, true_within}, SummaryLemmas.{keeps_all, keeps_none}}
 use Rattle.bit_words.proofs.bit_vec.BitVec.take_first_one.{Given.Over, Goals.{After-self, Else-is_short}}
 use Rattle.bit_words.proofs.bit_vec.BitVec.take_first_one.Goals as goal
 
@@ -14,6 +14,15 @@ pub returns-in_err-i-clause-first : goal.returns-in_err-i-clause-first
 returns-in_err-i-clause-first g c =
     let ms = map g.B.BitBlock.number c.self.inside.blocks.items in
     rw c.from_residual.ensures (finds_from_same (value_at g.B.BitBlock.width ms) (λ i. get_or c.args.self.now.values i false) 0 None (λ i. sym (value_in_view _ _ _ ms _ c.self.view_is c.self.invariant.packed.tail i)) (rw c.deref.ensures.value at c.in_err-i.ensures))
+
+pub returns-in_err-i-clause-values : goal.returns-in_err-i-clause-values
+returns-in_err-i-clause-values g c = rw c.from_residual.ensures refl
+
+pub returns-in_err-i-clause-capacity : goal.returns-in_err-i-clause-capacity
+returns-in_err-i-clause-capacity g c = refl
+
+pub replace_bit-was-requires-clause-each : goal.replace_bit-was-requires-clause-each
+replace_bit-was-requires-clause-each g c = c.self.invariant.packed.each
 
 pub replace_bit-was-requires-clause-in_bounds : goal.replace_bit-was-requires-clause-in_bounds
 replace_bit-was-requires-clause-in_bounds g c =
@@ -43,6 +52,9 @@ returns-then-is_short-clause-values g c =
     let value = c.replace_bit-was.ensures.value in
     values_of-set _ _ _ _ _ _ (true_within _ _ _ _ c.self.invariant.packed.tail found.passes) value.same value.others ∙ ap (λ v. set v.values c.in_ok-i.i false) c.self.view_is
 
+pub returns-then-is_short-clause-capacity : goal.returns-then-is_short-clause-capacity
+returns-then-is_short-clause-capacity g c = same_capacity _ _ _ _ _ _ c.replace_bit-was.ensures.in_place.capacity refl (ap (λ v. v.capacity) c.self.view_is)
+
 -- where each block of the summary from the start on is 0, no value is true
 none : (g : Over) (c : Else-is_short g) → ((q : ℕ) → c.self.inside.search_start ≤ q → get_or (map g.B.BitBlock.number c.self.inside.summary.items) q 0 ≡ 0) → (i : ℕ) → value_at g.B.BitBlock.width (map g.B.BitBlock.number c.self.inside.blocks.items) i ≡ false
 none g c zeros =
@@ -61,6 +73,12 @@ returns-in_default-clause-first g c = λ i _.
     let ms = map g.B.BitBlock.number c.self.inside.blocks.items in
     value_in_view _ _ _ ms _ c.self.view_is c.self.invariant.packed.tail i
     ∙ none g (goal.at.returns-in_default-clause-first g c).Else-is_short (rw c.deref-2.ensures.value at c.in_default.ensures) i
+
+pub returns-in_default-clause-values : goal.returns-in_default-clause-values
+returns-in_default-clause-values g c = ap (λ v. v.values) c.self.view_is
+
+pub returns-in_default-clause-capacity : goal.returns-in_default-clause-capacity
+returns-in_default-clause-capacity g c = ap (λ v. v.capacity) c.self.view_is
 
 pub take_first_of_chunk-requires : goal.take_first_of_chunk-requires
 take_first_of_chunk-requires g c =
@@ -97,3 +115,8 @@ pub returns-clause-values : goal.returns-clause-values
 returns-clause-values g c =
     let taken = c.take_first_of_chunk.ensures in
     values_of-set _ _ _ _ _ _ (true_within _ _ _ _ c.self.invariant.packed.tail taken.first.passes) taken.value.same taken.value.others ∙ ap (λ v. set v.values c.take_first_of_chunk.result false) c.self.view_is
+
+pub returns-clause-capacity : goal.returns-clause-capacity
+returns-clause-capacity g c =
+    let taken = c.take_first_of_chunk.ensures in
+    same_capacity _ _ _ _ _ _ taken.in_place.capacity taken.capacity (ap (λ v. v.capacity) c.self.view_is)

@@ -1,8 +1,28 @@
-use Rattle.std.proofs.{Common.{ℕ, ◌+◌, ◌*◌, ◌<◌, ◌==◌, false, not, map, length, sym, ap, ◌∙◌, arith}, lemmas.{Bool.true≢false, List.{get_or_past, length-map}}}
-use Rattle.bit_blocks.{specs.{Searches.IsFirstFrom, Storage.{WritesValue, is_used}}, proofs.{SearchLemmas.first_of_whole, UseLemmas.used_past}}
+use Rattle.std.proofs.{Common.{ℕ, ◌+◌, ◌*◌, ◌<◌, ◌≢◌, ◌==◌, false, List, get_or, not, map, length, sym, ap, ◌∙◌, arith}, lemmas.{Bool.true≢false, List.{get_or_past, length-map}}}
+use Rattle.bit_blocks.{specs.{Searches.IsFirstFrom, Storage.{WritesValue, is_used}}, proofs.{BitsLemmas.block_begins, SearchLemmas.first_of_whole, UseLemmas.used_past}}
 use Rattle.bit_words.proofs.{StartLemmas.{first_of_first, first_used, lowest_left}, SummaryLemmas.changed_summary}
 use Rattle.bit_words.proofs.summary.taking.take_first_of_chunk.{Given.Over, Goals.{After-take_lowest_one, After-put_block, then-is_nonzero, else-is_nonzero}}
 use Rattle.bit_words.proofs.summary.taking.take_first_of_chunk.Goals as goal
+
+-- a block that is not 0 is one of the list
+there : {X : Type 0} (f : X → ℕ) (xs : List X) (k : ℕ) → get_or (map f xs) k 0 ≢ 0 → k < length xs
+there f xs k used = grind (arith, used, get_or_past, length-map)
+
+pub block_at-used-requires-clause-in_bounds : goal.block_at-used-requires-clause-in_bounds
+block_at-used-requires-clause-in_bounds g c = rw c.deref.ensures.value (there _ _ _ c.requires.first.here)
+
+pub block_at-used-requires-clause-each : goal.block_at-used-requires-clause-each
+block_at-used-requires-clause-each g c = rw c.deref.ensures.value c.requires.summary.packed.each
+
+pub overflow_mul-k : goal.overflow_mul-k
+overflow_mul-k g c =
+    omega (arith, block_begins g.B.BitBlock.width _ c.args.chunk c.bits.result _ g.met.B.BitBlock.width_law.positive c.bits.ensures c.requires.summary.packed.count (there _ _ _ c.requires.first.here), c.requires.summary.packed.fits)
+
+pub take_lowest_one-requires-clause-of_block : goal.take_lowest_one-requires-clause-of_block
+take_lowest_one-requires-clause-of_block g c = c.block_at-used.ensures.of_block
+
+pub take_lowest_one-requires-clause-not_zero : goal.take_lowest_one-requires-clause-not_zero
+take_lowest_one-requires-clause-not_zero g c = rw (c.block_at-used.ensures.of_number, c.deref.ensures.value) (omega (arith, c.requires.first.here))
 
 -- the block that it is in is the first that is not 0
 block : (g : Over) (c : After-take_lowest_one g) → IsFirstFrom (is_used (map g.B.BitBlock.number c.args.blocks.now.items)) 0 (c.args.chunk * c.bits.result + c.take_lowest_one.result)
@@ -20,6 +40,15 @@ inside g c =
 pub take_first_of_block-i-requires-clause-in_bounds : goal.take_first_of_block-i-requires-clause-in_bounds
 take_first_of_block-i-requires-clause-in_bounds g c = let here = inside g (goal.at.take_first_of_block-i-requires-clause-in_bounds g c).After-take_lowest_one in omega (arith, here)
 
+pub overflow_add-k : goal.overflow_add-k
+overflow_add-k g c = omega (arith, inside g (goal.at.overflow_add-k g c).After-take_lowest_one, c.requires.summary.packed.fits)
+
+pub take_first_of_block-i-requires-clause-each : goal.take_first_of_block-i-requires-clause-each
+take_first_of_block-i-requires-clause-each g c = c.requires.each
+
+pub take_first_of_block-i-requires-clause-fits : goal.take_first_of_block-i-requires-clause-fits
+take_first_of_block-i-requires-clause-fits g c = c.requires.fits
+
 pub take_first_of_block-i-requires-clause-used : goal.take_first_of_block-i-requires-clause-used
 take_first_of_block-i-requires-clause-used g c = (block g (goal.at.take_first_of_block-i-requires-clause-used g c).After-take_lowest_one).passes
 
@@ -27,6 +56,28 @@ pub block_at-requires-clause-in_bounds : goal.block_at-requires-clause-in_bounds
 block_at-requires-clause-in_bounds g c =
     let here = inside g (goal.at.block_at-requires-clause-in_bounds g c).After-take_lowest_one in
     rw c.deref-2.ensures.value (omega (arith, here, c.take_first_of_block-i.ensures.in_place.len))
+
+pub block_at-requires-clause-each : goal.block_at-requires-clause-each
+block_at-requires-clause-each g c = rw c.deref-2.ensures.value c.take_first_of_block-i.ensures.in_place.each
+
+pub put_block-requires-clause-in_bounds : goal.put_block-requires-clause-in_bounds
+put_block-requires-clause-in_bounds g c = omega (arith, there g.B.BitBlock.number c.args.summary.now.items c.args.chunk c.requires.first.here, c.args.summary.now.ok.0)
+
+pub put_block-requires-clause-each : goal.put_block-requires-clause-each
+put_block-requires-clause-each g c = c.requires.summary.packed.each
+
+pub put_block-requires-clause-of_block : goal.put_block-requires-clause-of_block
+put_block-requires-clause-of_block g c =
+    elim c.if-is_nonzero.branch [ then-is_nonzero w ↦ rw w.left-is c.block_at-used.ensures.of_block | else-is_nonzero w ↦ rw w.left-is c.take_lowest_one.ensures.of_block ]
+
+pub returns-clause-value : goal.returns-clause-value
+returns-clause-value g c = c.take_first_of_block-i.ensures.value
+
+pub returns-clause-in_place : goal.returns-clause-in_place
+returns-clause-in_place g c = c.take_first_of_block-i.ensures.in_place
+
+pub returns-clause-capacity : goal.returns-clause-capacity
+returns-clause-capacity g c = c.put_block.ensures.in_place.capacity
 
 pub returns-clause-first : goal.returns-clause-first
 returns-clause-first g c =
