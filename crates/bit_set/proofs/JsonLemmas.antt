@@ -1,5 +1,5 @@
 -- Lemmas on the JSON form: the members of an object, the numbers of an array, and what a value spells.
-use Rattle.std.proofs.Common.{◌≡◌, ◌≢◌, ◌==◌, ◌↔◌, ℕ, ◌+◌, ◌-◌, ◌*◌, ◌/◌, ◌%◌, ◌^◌, ◌<◌, Bool, false, codes, is_some, List, [], ◌∷◌, length, map, get_or, All, Option, Some, None, IsTrue, option_map, option_and_then, refl, sym, ap, ◌∙◌, pow_pos, unwrap_or, ok_or, Err, arith}
+use Rattle.std.proofs.Common.{◌≡◌, ◌≢◌, ◌==◌, ◌↔◌, ℕ, ◌+◌, ◌-◌, ◌*◌, ◌/◌, ◌%◌, ◌^◌, ◌<◌, Bool, false, true, codes, is_some, List, [], ◌∷◌, length, map, get_or, All, Option, Some, None, IsTrue, option_map, option_and_then, refl, sym, ap, ◌∙◌, pow_pos, unwrap_or, ok_or, Err, arith}
 use Rattle.std.proofs.lemmas.{List.{length-map, get_or-map, ext_get_or, Elements.{All-nil, All-cons, All-head, All-tail, All-map, All-weaker, All-from_get_or}}, Bool.Decides.nat_tests, Nat.Bits.bit_at-zero}
 use Rattle.std.proofs.{lemmas.{Nat.Bits.same_from_bits_below, Option.same_Some}, Math.Nat.{div-add-mod', mod-lt}}
 use Rattle.serde_json.specs.{Data.{Data, array, member, no_members, number, object, unsigned}, Events.members_len, View.{view, items_of, items_view, members_view}, declared.value.Value.Value, Find.as_object}
@@ -88,6 +88,19 @@ zero_tail_by_shift w n r ms pos part count small shifted =
           let tail = zero_tail.tail (i + n % w) in
           grind (arith, bit_at-zero i)),
     )
+
+-- a last block that is full has no tail
+pub zero_tail_full : (w n : ℕ) (ms : List ℕ) → n % w ≡ 0 → length ms ≡ blocks_for w n → HasZeroTail w ms n
+zero_tail_full w n [] full count = record { tail = λ j _ _. bit_at-zero j }
+zero_tail_full w n (m ∷ ms) full count =
+    let split = div-add-mod' n w in
+    let at : length (m ∷ ms) - 1 + 1 ≡ n / w = omega (arith, count, full) in
+    let whole : (length (m ∷ ms) - 1 + 1) * w ≡ n / w * w = ap (λ q. q * w) at in
+    record { tail = λ j within past. absurd (omega (arith, split, whole, full, within, past)) }
+
+-- a test for zero, where just what is zero has the property
+pub tail_test : {A : Type 0} (t e : Bool) (r z : ℕ) → t ≡ e → (e ≡ true) ↔ (r ≡ z) → z ≡ 0 → (r ≡ 0) ↔ A → IsTrue t ↔ A
+tail_test t e r z is same zero tail = (λ yes. tail.0 (same.0 (sym is ∙ yes) ∙ zero), λ a. is ∙ same.1 (tail.1 a ∙ sym zero))
 
 -- ---- one value has one reading, and one fault at most
 

@@ -1,5 +1,5 @@
-use Rattle.std.proofs.{Common.{◌≢◌, ◌-◌, ◌%◌, ◌<◌, length, ap, sym, ◌∙◌, subst, arith}, Math.Nat.mod-lt, lemmas.List.Elements.All-get_or}
-use Rattle.bit_set.{specs.Entries.{numbers_of, IsEntry}, proofs.{JsonLemmas.{blocks_for_some, zero_tail_by_shift, counted, number_at}, json.checking.has_zero_tail.Goals.Else-used-eq0}}
+use Rattle.std.proofs.{Common.{◌≢◌, ◌-◌, ◌%◌, ◌<◌, length, refl, ap, sym, ◌∙◌, subst, arith}, Math.Nat.mod-lt, lemmas.List.Elements.All-get_or}
+use Rattle.bit_set.{specs.Entries.{numbers_of, IsEntry}, proofs.{JsonLemmas.{blocks_for_some, zero_tail_by_shift, zero_tail_full, tail_test, counted, number_at}, json.checking.has_zero_tail.Goals.Else-used-eq0}}
 use Rattle.bit_set.proofs.json.checking.has_zero_tail.Goals as goal
 
 -- the last block is not full
@@ -10,18 +10,23 @@ part g c e = c.if-used-eq0.false (ap (λ x. c.args.len % x) c.bits.ensures ∙ e
 some : (g : _) (c : Else-used-eq0 g) → length c.args.entries.now - 1 < length c.args.entries.now
 some g c = blocks_for_some g.B.BitBlock.width c.args.len (length c.args.entries.now) (part g c) c.requires.count
 
+pub returns-then-used-eq0 : goal.returns-then-used-eq0
+returns-then-used-eq0 g c =
+    let full = sym (ap (λ x. c.args.len % x) c.bits.ensures) ∙ c.if-used-eq0.true in
+    (λ _. zero_tail_full _ c.args.len (numbers_of c.args.entries.now) full (counted c.args.entries.now ∙ c.requires.count), λ _. refl)
+
+pub nonzero_rem-used : goal.nonzero_rem-used
+nonzero_rem-used g c = rw c.bits.ensures g.met.B.BitBlock.width_law.positive
+
 pub returns : goal.returns
 returns g c =
     let law = g.met.B.BitBlock in
     let vs = c.args.entries.now in
     let at = (goal.at.returns g c).Else-used-eq0 in
     let last = number_at vs (length vs - 1) _ _ (some g at) c.index-entries-entries.is c.block_of-last.ensures.of_number in
-    let shifted = rw (last, c.bits.ensures, ← counted vs) at c.shift_right.ensures.of_digits in
-    let zero_tail = zero_tail_by_shift _ c.args.len _ (numbers_of vs) law.width_law.positive (part g at) (counted vs ∙ c.requires.count) (law.number_law c.shift_right.result c.shift_right.ensures.of_block).0 shifted in
-    let same = law.eq_law c.shift_right.result c.zero.result c.shift_right.ensures.of_block c.zero.ensures.of_block in (
-      λ yes. zero_tail.0 (same.0 (sym c.eq.ensures ∙ yes) ∙ c.zero.ensures.of_number),
-      λ is. c.eq.ensures ∙ same.1 (zero_tail.1 is ∙ sym c.zero.ensures.of_number),
-    )
+    tail_test _ (g.B.PartialEq.eq c.shift_right.result c.zero.result) (g.B.BitBlock.number c.shift_right.result) (g.B.BitBlock.number c.zero.result) c.eq.ensures (law.eq_law c.shift_right.result c.zero.result c.shift_right.ensures.of_block c.zero.ensures.of_block) c.zero.ensures.of_number
+    (zero_tail_by_shift _ c.args.len _ (numbers_of vs) law.width_law.positive (part g at) (counted vs ∙ c.requires.count) (law.number_law c.shift_right.result c.shift_right.ensures.of_block).0
+    (rw (last, c.bits.ensures, ← counted vs) at c.shift_right.ensures.of_digits))
 
 pub bounds-entries-entries : goal.bounds-entries-entries
 bounds-entries-entries g c = some g (goal.at.bounds-entries-entries g c).Else-used-eq0

@@ -1,9 +1,14 @@
-use Rattle.std.proofs.{Common.{◌≤◌, length, refl, arith}, lemmas.Bool.Decides.nat_tests}
+use Rattle.std.proofs.{Common.{◌≡◌, ℕ, ◌<◌, ◌≤◌, ◌++◌, Bool, false, if◌then◌else◌, nat_lt, List, length, length-append, replicate, drop, refl, arith}, lemmas.{Bool.Decides.nat_tests, List.{length-drop, length-replicate}}}
 use Rattle.bit_set.{specs.Sets.elements, proofs.{MemberLemmas.{members_below, members_from}, SplitLemmas.{all_below, all_from, elements-tail, none_below, none_from}}}
 use Rattle.bit_set.proofs.set.BitSet.split_off.Goals.{After-new_general-then-at-len}
 use Rattle.bit_set.specs.Changes.{Changes}
 use Rattle.bit_set.proofs.set.BitSet.split_off.Goals as goal
 
+-- how long the part is
+part-length : (bs : List Bool) (n : ℕ) → n < length bs → length (replicate n false ++ drop n bs) ≡ (if nat_lt n (length bs) then length bs else 0)
+part-length bs n some = grind (arith, nat_tests, some, length-append (replicate n false) (drop n bs), length-replicate n false, length-drop n bs)
+
+-- the place is past the list
 past : (g : _) (c : After-new_general-then-at-len g) → length c.args.self.now.values ≤ c.args.at
 past g c = rw (← c.self.view_is) (omega arith)
 
@@ -81,3 +86,25 @@ returns-then-at-len-clause-exact g c _ inside = absurd (omega (arith, past g c, 
 
 pub returns-then-at-len-clause-nothing : goal.returns-then-at-len-clause-nothing
 returns-then-at-len-clause-nothing g c _ _ = c.new_general-then-at-len.ensures.capacity
+
+pub returns-clause-part_length : goal.returns-clause-part_length
+returns-clause-part_length g c =
+    rw (c.in_ok-bits.ensures.values, ← c.self.view_is) (part-length c.self.inside.bits.values c.args.at (omega (arith, c.len.ensures.value, c.if-at-len.false)))
+
+pub returns-clause-inside : goal.returns-clause-inside
+returns-clause-inside g c = tt
+
+pub returns-clause-err : goal.returns-clause-err
+returns-clause-err g c = tt
+
+pub returns-clause-whole : goal.returns-clause-whole
+returns-clause-whole g c = λ none. absurd (omega (arith, none, c.if-at-eq0.false))
+
+pub returns-clause-given : goal.returns-clause-given
+returns-clause-given g c = λ none. absurd (omega (arith, none, c.if-at-eq0.false))
+
+pub returns-clause-start : goal.returns-clause-start
+returns-clause-start g c = λ _. refl
+
+pub returns-clause-end : goal.returns-clause-end
+returns-clause-end g c = λ _. refl
