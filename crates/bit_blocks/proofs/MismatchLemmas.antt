@@ -1,5 +1,5 @@
 -- Where blocks differ, by their digits.
-use Rattle.std.proofs.{Common.{◌≡◌, ◌≢◌, ℕ, ◌+◌, ◌-◌, ◌^◌, ◌<◌, ◌≤◌, ◌↔◌, Bool, true, false, not, eqb, sym, ◌∙◌, arith}, lemmas.Nat.{Bits.{bit_at-lt, bit_at-zero, bit_at_above, same_from_bits_below}, pow_pos}}
+use Rattle.std.proofs.{Common.{◌≡◌, ◌≢◌, ℕ, ◌+◌, ◌-◌, ◌^◌, ◌<◌, ◌≤◌, ◌↔◌, Bool, true, false, not, eqb, refl, sym, ◌∙◌, arith}, lemmas.Nat.{Bits.{bit_at-lt, bit_at-zero, bit_at_above, same_from_bits_below}, pow_pos}}
 use Rattle.std.specs.{Bool.{OnTrue, OnFalse}, Int.bit_at}
 use borrow.Author.Tests.{eqb-true, eqb-false}
 use Rattle.bit_blocks.{specs.{Digits.{IsEither, IsDifferent, IsShiftedRight}, Lowest.IsLowest, Mismatches.IsLowestMismatch}, proofs.LowestLemmas.lowest_found}
@@ -55,3 +55,7 @@ on_none P a b c is zero tells same = tells.0 (eqb-true a b (sym is ∙ same) ∙
 
 pub on_some : (P : Type 0) (a b : ℕ) (c : Bool) → c ≡ eqb a b → b ≡ 0 → (a ≡ 0) ↔ P → c ≡ false → P → ⊥
 on_some P a b c is zero tells other holds = eqb-false a b (sym is ∙ other) (tells.1 holds ∙ sym zero)
+
+pub tells_none : (P : Type 0) (a b : ℕ) (c : Bool) → c ≡ eqb a b → b ≡ 0 → (a ≡ 0) ↔ P → P → c ≡ true
+tells_none P a b true is zero tells holds = refl
+tells_none P a b false is zero tells holds = absurd (on_some P a b false is zero tells refl holds)

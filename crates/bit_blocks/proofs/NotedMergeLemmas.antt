@@ -1,6 +1,7 @@
 -- What a merge that says whether a block changed does, some blocks at a time, which blocks stay, and what that says of the
 -- list.
-use Rattle.std.proofs.{Math.Bool.or-false, Common.{◌≡◌, ℕ, ◌+◌, ◌*◌, ◌/◌, ◌%◌, ◌^◌, ◌<◌, ◌≤◌, ◌↔◌, Bool, false, true, not, ◌==◌, ◌&&◌, ◌||◌, List, map, length, get_or, set, take, All, refl, sym, ap, ap₂, ◌∙◌, arith, ⊎_elim, mod-lt, length-take, get_or-take, get_or-set_same, get_or-set_other}, lemmas.{Bool.{cases_eq, cases_lt}, List.{get_or_past, length-map}, Nat.Bits.same_from_bits_below}}
+use Rattle.std.proofs.{Math.Bool.or-false, Common.{◌≡◌, ℕ, ◌+◌, ◌*◌, ◌/◌, ◌%◌, ◌^◌, ◌<◌, ◌≤◌, ◌↔◌, Bool, false, true, not, ◌==◌, ◌&&◌, ◌||◌, List, map, length, get_or, set, take, All, refl, sym, ap, ap₂, ◌∙◌, arith, ⊎_elim, mod-lt, length-take, get_or-take, get_or-set_same, get_or-set_other}, lemmas.{Bool.{cases_eq, cases_lt, false≢true}, List.{get_or_past, length-map}, Nat.Bits.same_from_bits_below}}
+use Rattle.std.specs.Prelude.{IfNone, IfSome, Option, None, Some, is_some}
 use Rattle.bit_blocks.specs.{declared.block.merge.Merge.{Merge, TheVariants.{Difference, Symmetric, Union}}, Merges.{merge_of_values, merge_of}, Digits.is_one, NotedMerges.{except_at, other_at, AreKept, HasMergedWith, Stay}, BlockMerges.HasMerged, Storage.{value_at, values_of, IsPacked, IsZeroFrom, is_used}}
 use Rattle.bit_blocks.proofs.{CompareLemmas.zero_from_digits, Masks.is_one-zero, MergeLemmas.{get_or-merged, length-merged, merge_of_values-none}, StorageLemmas.{get_or-values_of, get_or-values_of_zero_tail, same_digit, length-values_of, value_at-is, value_at-past, values_of-same}, UseLemmas.same_block, VectorLemmas.numbers_below}
 
@@ -15,6 +16,9 @@ pub except_none : (os es : List ℕ) (k j : ℕ) → length es ≤ k → is_one 
 except_none os es k j past = grind (arith, get_or_past es k 0 past, is_one-zero)
 
 -- past the end of the second
+pub other_past : (os : List ℕ) (k j : ℕ) → length os ≤ k → false ≡ other_at os k j
+other_past os k j past = grind (arith, get_or_past os k 0 past, is_one-zero)
+
 pub except_past : (os es : List ℕ) (k j : ℕ) → length os ≤ k → false ≡ except_at os es k j
 except_past os es k j past = grind (arith, get_or_past os k 0 past, is_one-zero)
 
@@ -217,6 +221,36 @@ module _ {X : Type 0} (m : Merge) (w : ℕ) (f : X → ℕ) (P : X → Type 0) w
     each = is.each;
     len = is.len;
   }
+
+-- past the end of the others a union changes no block
+pub stay_past_others : {X : Type 0} (w : ℕ) (f : X → ℕ) (a b c : ℕ) (os es : List ℕ) (xs : List X) → length os ≤ b → Stay Union w f a b (except_at os es) xs → Stay Union w f a c (except_at os es) xs
+stay_past_others w f a b c os es xs past is = record {
+  digit = λ k j from below index.
+      ⊎_elim
+      (λ early. is.digit k j from early index)
+      (λ late. sym (or-false (is_one (get_or (map f xs) k 0) j)) ∙ ap (λ b. is_one (get_or (map f xs) k 0) j || b) (except_past os es k j (omega arith)))
+      (cases_lt k b);
+}
+
+-- a clause about no change, of an answer that says where one begins
+pub none_where_some : (P : Type 0) (r : Option ℕ) → is_some r ≡ true → IfNone r P
+none_where_some P None some = absurd (false≢true some)
+none_where_some P (Some x) some = tt
+
+-- the same clause, of an answer that says that there is none
+pub where_none : (P : Type 0) (r : Option ℕ) → is_some r ≡ false → IfNone r P → P
+where_none P None none is = is
+where_none P (Some x) none is = absurd (false≢true (sym none))
+
+-- what follows from such a clause
+pub none_then : (P Q : Type 0) (r : Option ℕ) → IfNone r P → (P → Q) → IfNone r Q
+none_then P Q None is then = then is
+none_then P Q (Some x) is then = tt
+
+-- what follows from a clause that refutes something of an answer that says where a change begins
+pub some_not : (P Q : Type 0) (r : Option ℕ) → IfSome r (λ x. P → ⊥) → (Q → P) → IfSome r (λ x. Q → ⊥)
+some_not P Q None not then = tt
+some_not P Q (Some x) not then = λ is. not (then is)
 
 -- ---- lists
 
