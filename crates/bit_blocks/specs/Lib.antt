@@ -1,3 +1,4 @@
+pub mod Bounds
 pub mod Digits
 pub mod DigitLaws
 pub mod Bits

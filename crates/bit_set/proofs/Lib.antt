@@ -1,3 +1,4 @@
+mod Chains
 pub mod SetLemmas
 pub mod SetLaws
 pub mod AlgebraLemmas

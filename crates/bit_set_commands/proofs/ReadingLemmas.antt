@@ -28,7 +28,7 @@ use Rattle.bit_set_commands.specs.declared.reading.BadLine.TheVariants.{BadComma
 use Rattle.bit_set_commands.specs.Reading.{alone, command_of, fitting_number, followed, name_alone, name_of, number_alone, number_of, reading, rest_command, rest_of, within_range}
 use Rattle.bit_set_commands.specs.Spelling.{numbers_of}
 use Rattle.bit_set_commands.specs.Verbs.{name_command, number_command, pair_command, verb_of, walk_of}
-use Rattle.bit_words.specs.Bounds.{greatest}
+use Rattle.bit_blocks.specs.Bounds.{greatest}
 use Rattle.bit_set_commands.specs.Words.{words_of}
 use Rattle.bit_set_commands.proofs.CutLemmas.{parts_at-first, parts_at-one, parts_some}
 

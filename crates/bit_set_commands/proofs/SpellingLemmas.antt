@@ -25,7 +25,7 @@ use Rattle.bit_set_commands.specs.declared.verbs.SetWalk.{SetWalk}
 use Rattle.bit_set_commands.specs.declared.verbs.SetWalk.TheVariants.{One, Two}
 use Rattle.bit_set_commands.specs.Cuts.{Lacks}
 use Rattle.bit_set_commands.specs.Reading.{all_numbers, command_of, name_of, number_of, reading, rest_command, within_range}
-use Rattle.bit_words.specs.Bounds.{greatest}
+use Rattle.bit_blocks.specs.Bounds.{greatest}
 use Rattle.bit_set_commands.specs.Spelling.{figures, letter, line_of, numbers_of, CanBeHad}
 use Rattle.bit_set_commands.specs.Verbs.{name_command, number_command, pair_command, verb_of, walk_of}
 use Rattle.bit_set_commands.specs.Words.{words_of}

@@ -14,7 +14,7 @@ use Rattle.bit_set_commands.specs.declared.verbs.Verb.{Verb}
 use Rattle.bit_set_commands.specs.declared.verbs.Verb.TheVariants.{Name, NameAndNumber, TwoNames, Extend, SplitOff, Rest}
 use Rattle.bit_set_commands.specs.declared.verbs.SetWalk.{SetWalk}
 use Rattle.bit_set_commands.specs.declared.verbs.SetWalk.TheVariants.{One, Two}
-use Rattle.bit_words.specs.Bounds.{greatest}
+use Rattle.bit_blocks.specs.Bounds.{greatest}
 use Rattle.bit_set_commands.specs.Spelling.{numbers_of}
 use Rattle.bit_set_commands.specs.Verbs.{name_command, number_command, pair_command, verb_of, walk_of}
 use Rattle.bit_set_commands.specs.Words.{words_of}

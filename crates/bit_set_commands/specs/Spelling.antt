@@ -5,7 +5,7 @@ use Rattle.bit_set_commands.specs.declared.commands.Command.{Command}
 use Rattle.bit_set_commands.specs.declared.commands.Command.TheVariants.{Insert, Remove, Contains, Extend, Truncate, Empty, Reset, Reserve, ReserveExact, Shrink, Count, IsEmpty, Items, Copy, InPlace, Append, SplitOff, Walk, Subset, Superset, Disjoint, Equal, Compare, RestIter, RestWalk}
 use Rattle.bit_blocks.specs.declared.block.merge.Merge.{Merge}
 use Rattle.bit_blocks.specs.declared.block.merge.Merge.TheVariants.{Union, Intersection, Difference, Symmetric}
-use Rattle.bit_words.specs.Bounds.{greatest}
+use Rattle.bit_blocks.specs.Bounds.{greatest}
 
 -- what a command's line is made of: a word, or two for a rest, then the sets that it names, by their places, and
 -- its numbers

@@ -1,7 +1,7 @@
 // What a command is and what a reply is. How a line is read as a command is in `reading`, and how a reply is written
 // in `reply_texts`; what a command does to sets is not in this crate.
 use crate::{Numbers, SetName};
-use bit_words::bit_vec::Merge;
+use bit_blocks::block::merge::Merge;
 use std::cmp::Ordering;
 
 /// What `run` is asked to do.

@@ -6,7 +6,7 @@ ghost use Rattle.std.specs.Str.{bytes_eq};
 ghost use Rattle.bit_set_commands.specs.Verbs.{name_command, number_command, pair_command, verb_of, walk_of};
 
 use crate::{Command, SetName};
-use bit_words::bit_vec::Merge;
+use bit_blocks::block::merge::Merge;
 
 /// The first word of a command, by the shape of the words after it.
 #[derive(Clone, Copy)]

@@ -1,3 +1,4 @@
+mod Chains
 pub mod OutputLemmas
 pub mod PairLemmas
 pub mod RunLemmas

@@ -1,3 +1,4 @@
+mod Chains
 pub mod SourceLemmas
 pub mod SummarySpanLemmas
 pub mod RangeLemmas

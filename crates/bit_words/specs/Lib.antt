@@ -1,4 +1,4 @@
-pub mod Bounds
+pub use Rattle.bit_blocks.specs.Bounds
 pub mod Source
 pub mod Summary
 pub mod Pending
