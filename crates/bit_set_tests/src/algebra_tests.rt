@@ -1,14 +1,11 @@
 //! Two sets made one in place, and sets in one another: rows with their exact results, and each call once over
 //! three block types.
-ghost use Rattle.std.specs.Prelude.{◌≡◌, IfOk};
-ghost use Rattle.bit_set.specs.Sets.{elements};
 
 use crate::expect::{expect, expect_eq, ok};
 use crate::sets::{set_of, set_of_bytes};
 use crate::steps::{has_just, len_of};
 use bit_set::bit_vec::Merge;
-use bit_set::laws::collected_walks;
-use bit_set::{BitBlock, BitSet, SetError};
+use bit_set::{BitBlock, BitSet};
 use std::alloc::{AllocError, Global};
 use std::process::Abort;
 
@@ -194,28 +191,4 @@ fn sets_become_one_over_each_block(rt: HostRuntime) {
     become_one::<u32>(&rt, rt.alloc());
     become_one::<u64>(&rt, rt.alloc());
     become_one::<u128>(&rt, rt.alloc());
-}
-
-// What the walk over a union collects, and the set that becomes the union in place: they have the same
-// elements.
-fn collect_and_unite<B: BitBlock + 'static>(
-    alloc: Global,
-    set: &mut BitSet<B>,
-    other: &BitSet<B>,
-) -> Result<BitSet<B>, SetError>
-    ensures { IfOk result (λ collected. elements collected.values ≡ elements set.new.values) }
-{
-    collected_walks::<B>();
-    let collected = BitSet::from_iter(alloc, set.union(other))?;
-    set.union_with(other)?;
-    Ok(collected)
-}
-
-#[test]
-fn a_walk_collects_what_is_left_in_place(rt: HostRuntime) {
-    let mut set = set_of::<u32>(&rt, rt.alloc(), &[11, 1, 3]);
-    let other = set_of(&rt, rt.alloc(), &[2, 11]);
-    let collected = ok(&rt, collect_and_unite(rt.alloc(), &mut set, &other));
-    expect(&rt, has_just(&collected, &[1, 2, 3, 11]));
-    expect(&rt, has_just(&set, &[1, 2, 3, 11]));
 }

@@ -54,6 +54,20 @@ fn blocks_of_zeros_are_cut(rt: HostRuntime) {
     has_length_without::<u32>(&rt, rt.alloc(), (&[3, 98, 259], 259), 128);
 }
 
+const REMOVED: &[Step] = &[
+    Step::IsEmpty(false),
+    Step::Remove(400, true),
+    Step::IsEmpty(true),
+    Step::Elements(&[]),
+    Step::Shrink,
+    Step::Len(0),
+];
+
+#[test]
+fn a_removed_element_leaves_nothing(rt: HostRuntime) {
+    take_of::<u32>(&rt, rt.alloc(), &[400], REMOVED);
+}
+
 // {3} has so many elements once it is shrunk and filled.
 fn fills<B: BitBlock>(rt: &impl Abort, alloc: Global, count: usize) {
     let steps = [Step::Shrink, Step::Fill, Step::Count(count)];

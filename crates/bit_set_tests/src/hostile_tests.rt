@@ -1,12 +1,12 @@
-//! Sets of one element and other lengths, numbers at the end of their range, odd blocks and sets of millions of
-//! places: rows with their exact results.
+//! Sets of one element and other lengths, numbers at the end of their range, and odd blocks: rows with their exact
+//! results.
 use crate::algebra_tests::merge_in;
 use crate::expect::{expect, expect_eq, ok};
 use crate::order_tests::{are_equal, expect_shown};
-use crate::sets::{put, set_of, set_of_bytes, unite, with_capacity};
+use crate::sets::{put, set_of_bytes, with_capacity};
 use crate::steps::{Step, len_of, take, take_of};
 use bit_set::bit_vec::Merge;
-use bit_set::{BitBlock, BitSet, SetError};
+use bit_set::{BitSet, SetError};
 use block24::Block24;
 use std::alloc::{AllocError, Global};
 use std::process::Abort;
@@ -193,46 +193,4 @@ fn bytes_fill_odd_blocks(rt: HostRuntime) {
 fn odd_blocks_bound_a_walk(rt: HostRuntime) {
     let steps = [Step::Blocks(17), Step::Bound(408)];
     take_of::<Block24>(&rt, rt.alloc(), &[400], &steps);
-}
-
-// A set of 1,048,576 bytes.
-fn millions(rt: &impl Abort, alloc: Global, byte: u8) -> BitSet<u8> {
-    let bytes = ok(rt, vec![in alloc; byte; 1_048_576]);
-    set_of_bytes(rt, alloc, &bytes)
-}
-
-// How many elements a walk gives, and the last.
-fn last_of<B: BitBlock>(set: &BitSet<B>) -> (usize, Option<usize>) {
-    let (mut count, mut last) = (0usize, None);
-    for item in set {
-        count = count.wrapping_add(1);
-        last = Some(item);
-    }
-    (count, last)
-}
-
-fn last_of_union<B: BitBlock>(a: &BitSet<B>, b: &BitSet<B>) -> (usize, Option<usize>) {
-    let (mut count, mut last) = (0usize, None);
-    for item in a.union(b) {
-        count = count.wrapping_add(1);
-        last = Some(item);
-    }
-    (count, last)
-}
-
-// How many elements a set has once another is joined to it, and whether the other is within it.
-fn joined(rt: &impl Abort, set: &mut BitSet<u8>, other: &BitSet<u8>) -> (usize, bool) {
-    unite(rt, set, other);
-    (set.count(), other.is_subset(set))
-}
-
-// A body that goes over all blocks once for each item would not end in time.
-#[test]
-fn millions_of_places_are_passed_once(rt: HostRuntime) {
-    let mut a = millions(&rt, rt.alloc(), 0x80);
-    let b = millions(&rt, rt.alloc(), 0x01);
-    expect_eq(&rt, &last_of(&a), &(1048576, Some(8388600)));
-    expect_eq(&rt, &last_of_union(&a, &b), &(2097152, Some(8388607)));
-    expect(&rt, a.is_disjoint(&b));
-    expect_eq(&rt, &joined(&rt, &mut a, &b), &(2097152, true));
 }

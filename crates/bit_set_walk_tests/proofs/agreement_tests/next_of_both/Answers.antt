@@ -1,4 +1,4 @@
-use Rattle.bit_set_tests.proofs.agreement_tests.next_of_both.Goals as goal
+use Rattle.bit_set_walk_tests.proofs.agreement_tests.next_of_both.Goals as goal
 
 pub returns : goal.returns
 returns g c =

@@ -1,6 +1,6 @@
 use Rattle.std.proofs.Common.{◌≡◌, ◌≤◌, max, length, ap, ◌∙◌, arith}
 use Rattle.bit_blocks.specs.Bits.{blocks_for}
-use Rattle.bit_set_tests.proofs.walk_tests.two_sets.pulls_over_two_sets.Goals as goal
+use Rattle.bit_set_walk_tests.proofs.walk_tests.two_sets.pulls_over_two_sets.Goals as goal
 
 pub returns-clause-wide : goal.returns-clause-wide
 returns-clause-wide c = λ a b s t items first second left start run.

@@ -1,6 +1,6 @@
 use Rattle.std.proofs.Common.{sym, ◌∙◌}
 use Rattle.bit_blocks.specs.declared.block.merge.Merge.TheVariants.{Union}
-use Rattle.bit_set_tests.proofs.algebra_tests.collect_and_unite.Goals as goal
+use Rattle.bit_set_walk_tests.proofs.walk_tests.two_sets.collect_and_unite.Goals as goal
 
 pub returns : goal.returns
 returns g c =

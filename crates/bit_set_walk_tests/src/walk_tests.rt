@@ -6,7 +6,7 @@ ghost use Rattle.bit_set.specs.Walk.{Walk, IsAtStart};
 mod two_sets;
 
 use crate::expect::{expect, expect_eq, expect_eq_at, ok};
-use crate::sets::{put, set_of, set_of_bytes, with_capacity};
+use crate::sets::{set_of, set_of_bytes};
 use crate::walks::{hint_of, next_back_of, next_of};
 use bit_set::laws::whole_walks;
 use bit_set::{BitBlock, BitSet, Iter};
@@ -21,8 +21,8 @@ pub(crate) fn set_of_one<B: BitBlock>(
     len: usize,
     element: usize,
 ) -> BitSet<B> {
-    let mut set = with_capacity(rt, alloc, len);
-    put(rt, &mut set, element);
+    let mut set = ok(rt, BitSet::with_capacity_general(alloc, len));
+    ok(rt, set.insert(element));
     set
 }
 

@@ -1,8 +1,7 @@
 //! The walk that begins at a number: its rows, and from each number over four widths.
 
-use crate::expect::expect_eq_at;
+use crate::expect::{expect, expect_eq_at, ok};
 use crate::sets::set_of;
-use crate::steps::{Step, take};
 use crate::walk_tests::{passes, set_of_one};
 use crate::walks::next_of;
 use bit_set::{BitBlock, BitSet};
@@ -37,7 +36,7 @@ const FIRSTS: Firsts = &[
 #[test]
 fn the_first_item_is_the_least_from_there_on(rt: HostRuntime) {
     let mut set = set_of_one::<u32>(&rt, rt.alloc(), 500, 3);
-    take(&rt, &mut set, &[Step::Insert(400, true)]);
+    expect(&rt, ok(&rt, set.insert(400)));
     begins(&rt, &set, FIRSTS);
 }
 

@@ -1,6 +1,6 @@
 use Rattle.std.proofs.Common.{◌≡◌, max, length, ap, arith}
 use Rattle.bit_blocks.specs.Bits.{blocks_for}
-use Rattle.bit_set_tests.proofs.walk_tests.pulls_at_401_places.Goals as goal
+use Rattle.bit_set_walk_tests.proofs.walk_tests.pulls_at_401_places.Goals as goal
 
 pub returns : goal.returns
 returns c = λ values s t items long start run.

@@ -1,15 +1,15 @@
-//! The rows of the walks over two sets, and each kind at each of its points over three widths.
-ghost use Rattle.std.specs.Prelude.{◌≡◌, ℕ, ◌≤◌, Bool, None, List, length};
+//! The rows of the walks over two sets, what one collects, and each kind at each of its points over three widths.
+ghost use Rattle.std.specs.Prelude.{◌≡◌, ℕ, ◌≤◌, Bool, IfOk, None, List, length};
 ghost use Rattle.std.specs.Iterator.{YieldsThen};
 ghost use Rattle.bit_set.specs.Sets.{elements, union, difference};
 ghost use Rattle.bit_set.specs.Walk.{TwoSetWalk, StartsOverTwo};
 
-use crate::expect::{expect_eq, expect_eq_at};
+use crate::expect::{expect, expect_eq, expect_eq_at, ok};
 use crate::sets::{set_of, set_of_bytes};
 use bit_set::bit_vec::Merge;
 use bit_set::bit_vec::operation::Operation;
-use bit_set::laws::whole_walks_over_two_sets;
-use bit_set::{BitBlock, BitSet, Difference, Intersection, TwoSets, Union};
+use bit_set::laws::{collected_walks, whole_walks_over_two_sets};
+use bit_set::{BitBlock, BitSet, Difference, Intersection, SetError, TwoSets, Union};
 use block24::Block24;
 use std::alloc::Global;
 use std::process::Abort;
@@ -196,6 +196,30 @@ fn what_just_one_of_two_sets_has(rt: HostRuntime) {
         Merge::Symmetric,
         &[1, 5, 11, 14, 220],
     );
+}
+
+// What the walk over a union collects, and the set that becomes the union in place: they have the same
+// elements.
+fn collect_and_unite<B: BitBlock + 'static>(
+    alloc: Global,
+    set: &mut BitSet<B>,
+    other: &BitSet<B>,
+) -> Result<BitSet<B>, SetError>
+    ensures { IfOk result (λ collected. elements collected.values ≡ elements set.new.values) }
+{
+    collected_walks::<B>();
+    let collected = BitSet::from_iter(alloc, set.union(other))?;
+    set.union_with(other)?;
+    Ok(collected)
+}
+
+#[test]
+fn a_walk_collects_what_is_left_in_place(rt: HostRuntime) {
+    let mut set = set_of::<u32>(&rt, rt.alloc(), &[11, 1, 3]);
+    let other = set_of(&rt, rt.alloc(), &[2, 11]);
+    let collected = ok(&rt, collect_and_unite(rt.alloc(), &mut set, &other));
+    expect(&rt, collected.iter().eq([1, 2, 3, 11]));
+    expect(&rt, set.iter().eq([1, 2, 3, 11]));
 }
 
 // What is in either set, in both, in the first alone, and in just one.

@@ -7,7 +7,6 @@ ghost use Rattle.bit_set.specs.Walk.{Walk, IsAtStart};
 
 use crate::expect::{expect_eq, ok};
 use crate::sets::set_of;
-use crate::steps::{Step, take_of};
 use crate::walk_tests::{agrees_at_each_point, block_counts, bounds};
 use bit_set::laws::sparse_walks;
 use bit_set::{BitBlock, BitSet, Iter};
@@ -49,20 +48,6 @@ fn the_bound_falls_to_a_block_where_all_are_zero(rt: HostRuntime) {
     let wanted = [(0, Some(128)), (0, Some(32)), (0, Some(32))];
     expect_eq(&rt, &bounds(&empty), &wanted);
     expect_eq(&rt, &empty.iter().next(), &None);
-}
-
-const REMOVED: &[Step] = &[
-    Step::IsEmpty(false),
-    Step::Remove(400, true),
-    Step::IsEmpty(true),
-    Step::Elements(&[]),
-    Step::Shrink,
-    Step::Len(0),
-];
-
-#[test]
-fn a_removed_element_leaves_nothing(rt: HostRuntime) {
-    take_of::<u32>(&rt, rt.alloc(), &[400], REMOVED);
 }
 
 // Sets whose elements are in the reach of none, one, two and three blocks of a summary, which is so many places

@@ -1,0 +1,25 @@
+//! The tests of what `bit_set` walks over and searches, and the examples of its doc comments, by its public calls alone.
+#![tactic(auto)]
+
+#[cfg(test)]
+mod agreement_tests;
+#[cfg(test)]
+mod example_tests;
+#[cfg(test)]
+mod expect;
+#[cfg(test)]
+mod from_tests;
+#[cfg(test)]
+mod large_tests;
+#[cfg(test)]
+mod part_tests;
+#[cfg(test)]
+mod search_tests;
+#[cfg(test)]
+mod sets;
+#[cfg(test)]
+mod sparse_tests;
+#[cfg(test)]
+mod walk_tests;
+#[cfg(test)]
+mod walks;
