@@ -1,8 +1,10 @@
-//! The tests of the libraries that use sets, by their public calls alone.
+//! The tests of the libraries that use sets, and the examples of `bit_matrix`, by their public calls alone.
 #![tactic(auto)]
 
 #[cfg(test)]
 mod automata_tests;
+#[cfg(test)]
+mod bit_matrix_tests;
 #[cfg(test)]
 mod dataflow_tests;
 #[cfg(test)]

@@ -1,4 +1,4 @@
-//! The examples of the doc comments, as they are there but for `expect`, which costs less.
+//! The examples of the doc comments of `bit_matrix`, as they are there but for `expect`, which costs less.
 use crate::expect::{expect, expect_eq, ok};
 use bit_matrix::{BitMatrix, MatrixError};
 use bit_set::{BitSet, SetError};
