@@ -10,6 +10,7 @@ pub mod copies;
 pub mod except_merges;
 pub mod groups;
 pub mod inclusion;
+pub mod nonzero;
 pub mod ones;
 pub mod resizing;
 pub mod searching;

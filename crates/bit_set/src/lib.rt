@@ -17,4 +17,5 @@ pub use bit_words::bit_vec::BitBlock;
 pub use faults::SetError;
 pub use json::{JsonBlock, JsonError};
 pub use set::BitSet;
-pub use walk::{Difference, Intersection, Iter, Missing, SymmetricDifference, TwoSets, Union};
+pub use walk::missing::Missing;
+pub use walk::{Difference, Intersection, Iter, SymmetricDifference, TwoSets, Union};

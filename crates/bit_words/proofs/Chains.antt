@@ -6,4 +6,4 @@ use Rattle.bit_words.proofs.bit_vec.first_and_nonzero.FirstAndNonzeroIterator.ne
 use Rattle.bit_words.proofs.bit_vec.nonzero.Nonzero.count_ones.Met as counts
 use Rattle.bit_words.proofs.bit_vec.nonzero.Nonzero.cut_at.Met as cuts
 use Rattle.bit_words.proofs.bit_vec.nonzero.Nonzero.skip_blocks.Met as skips
-use Rattle.bit_words.proofs.bit_vec.nonzero.NonzeroDoubleEndedIterator.next_back.Met as ends
+use Rattle.bit_words.proofs.bit_vec.nonzero.back.NonzeroDoubleEndedIterator.next_back.Met as ends

@@ -1,7 +1,7 @@
 //! Bit vectors over blocks of any lawful type.
 ghost use Rattle.std.specs.{Prelude.{◌≡◌, ◌+◌, ◌-◌, ◌/◌, ◌↔◌, All, IsTrue, drop, false, length, map, min, slice_get}, List.count_by};
 ghost use Rattle.bit_blocks.specs.Bits.{blocks_for, blocks_of, IsCapacityOfBlocks, IsWithinCapacity};
-ghost use Rattle.bit_words.specs.Nonzero.{before_first, StartsPast};
+ghost use Rattle.bit_words.specs.Nonzero.{StartsPast};
 
 use crate::bit_vec::pending::Unstored;
 use crate::summary::queries::{are_zero_by_summary, ones_by_summary};
@@ -35,7 +35,7 @@ pub use bit_blocks::packed::comparing::{
     first_mismatching_block, lowest_mismatch, mismatch_between, same_blocks,
 };
 pub use bit_blocks::packed::groups::GROUP;
-pub use bit_blocks::packed::searching::{block_or_zero, first_nonzero_block, has_one_from};
+pub use bit_blocks::packed::nonzero::{block_or_zero, first_nonzero_block, has_one_from};
 pub use bit_blocks::steps::Steps;
 pub use blocks::Blocks;
 pub use constructors::BitsError;
@@ -149,24 +149,6 @@ impl<B: BitBlock> BitVec<B> {
         ensures fits { IsWithinCapacity self.now }
     {
         Blocks::over(self.storage())
-    }
-
-    /// A walk over the first block, zero or not, and then the blocks that are not zero, each with its index.
-    /// Constant time, and takes no memory.
-    ///
-    /// ```
-    /// // Of 100 values, over blocks of 32 bits, those at 70 and 71 are true.
-    /// assert!(bits.nonzero().eq([(0, 0), (2, 0b1100_0000)]));
-    /// assert!(bits.nonzero_past_first().eq([(2, 0b1100_0000)]));
-    /// ```
-    #[inline]
-    pub fn nonzero(&self) -> FirstAndNonzero<'_, B>
-        ensures blocks { map B.number result.blocks ≡ blocks_of B.width self.now.values }
-        ensures each { All B.is_block result.blocks }
-        ensures start { result ≡ before_first B.width B.number result }
-        ensures fits { IsWithinCapacity self.now }
-    {
-        FirstAndNonzero::before(self.nonzero_past_first())
     }
 
     /// What [`nonzero`](Self::nonzero) leaves after one pull: the blocks past the first that are not zero. Constant time,

@@ -7,7 +7,7 @@ use crate::block::lowest::take_lowest_one;
 use crate::block::operators::{block_or, block_xor, same};
 use crate::packed::access::block_at;
 use crate::packed::groups::{GROUP, LONG_GROUP};
-use crate::packed::searching::first_nonzero_block;
+use crate::packed::nonzero::first_nonzero_block;
 
 /// Whether the lists of blocks are the same, where a block past the end of a list counts as 0. Compares groups of
 /// at most 32 blocks, each by one test, and stops at the first group that differs.

@@ -1,58 +1,14 @@
 // What is looked for in a list of blocks, and in one of them.
-ghost use Rattle.std.specs.{Prelude.{◌≡◌, ℕ, ◌+◌, ◌*◌, ◌/◌, ◌^◌, ◌<◌, ◌≤◌, All, MatchOption, false, get_or, length, map, not, true}, Bool.{OnTrue, OnFalse}, Int.bit_at};
-ghost use Rattle.bit_blocks.specs.{Mismatches.IsFirstNonzeroBlock, Searches.{FindsBefore, FindsFrom, IsFirstFrom, IsLastBefore}, Storage.{value_at, IsPacked, is_used}};
+ghost use Rattle.std.specs.Prelude.{◌≡◌, ℕ, ◌+◌, ◌*◌, ◌/◌, ◌^◌, ◌<◌, ◌≤◌, All, MatchOption, false, length, map, not, true};
+ghost use Rattle.bit_blocks.specs.{Searches.{FindsBefore, FindsFrom, IsFirstFrom, IsLastBefore}, Storage.{value_at, IsPacked, is_used}};
 
 use crate::block::BitBlock;
 use crate::block::lowest::lowest_one;
 use crate::block::masks::{cut_below, cut_from};
-use crate::block::operators::{block_not, same, shift_right};
+use crate::block::operators::{block_not, same};
 use crate::packed::access::{bit_index, block_at, block_index};
+use crate::packed::nonzero::block_or_zero;
 use crate::packed::zeros::{used_blocks, zeros_before};
-
-/// The first index, from `from` on, of a block that is not 0, or `None`. Reads no block past it.
-///
-/// ```
-/// assert_eq!(first_nonzero_block(&[1u8, 0, 4], 1), Some(2));
-/// ```
-#[inline]
-pub fn first_nonzero_block<B: BitBlock>(blocks: &[B], from: usize) -> Option<usize>
-    requires { All B.is_block blocks.now }
-    ensures { MatchOption result
-        ((k : ℕ) → from ≤ k → get_or (map B.number blocks.now) k 0 ≡ 0)
-        (IsFirstNonzeroBlock (map B.number blocks.now) from) }
-{
-    for k in from..blocks.len() {
-        if !same(block_at(blocks, k), B::zero()) {
-            return Some(k);
-        }
-    }
-    None
-}
-
-/// The block with this index, or 0 past the end. Constant time.
-#[inline]
-pub fn block_or_zero<B: BitBlock>(blocks: &[B], k: usize) -> B
-    requires { All B.is_block blocks.now }
-    ensures of_block { B.is_block result }
-    ensures of_number { B.number result ≡ get_or (map B.number blocks.now) k 0 }
-{
-    if k < blocks.len() {
-        block_at(blocks, k)
-    } else {
-        B::zero()
-    }
-}
-
-/// Whether the block has a 1 at an index or above it. Constant time.
-#[inline]
-pub fn has_one_from<B: BitBlock>(block: B, index: usize) -> bool
-    requires of_block { B.is_block block }
-    requires within { index < B.width }
-    ensures some { OnTrue result ((j : ℕ) × (index ≤ j) × (j < B.width) × (bit_at (B.number block) j ≡ 1)) }
-    ensures none { OnFalse result ((j : ℕ) → index ≤ j → bit_at (B.number block) j ≡ 0) }
-{
-    !same(shift_right(block, index), B::zero())
-}
 
 /// The first block, from the one at `from` on, that is not 0. Looks at a group of them at once.
 #[inline]

@@ -1,12 +1,35 @@
-// The bytes of a set.
-ghost use Rattle.std.specs.Prelude.{◌≡◌, IfOk, IsOk, length};
-ghost use Rattle.bit_blocks.specs.Bits.{blocks_for, values_of_bytes};
-ghost use Rattle.bit_set.specs.Sets.{elements};
+// A set of bytes, and its bytes.
+ghost use Rattle.std.specs.{Prelude.{◌≡◌, ◌≢◌, ℕ, ◌+◌, ◌-◌, ◌*◌, ◌<◌, ◌↔◌, IfErr, IfOk, IsErrOf, IsOk, IsTrue, length, slice_index}, Int.bit_at};
+ghost use Rattle.bit_blocks.specs.Bits.{blocks_for, capacity_of, values_of_bytes};
+ghost use Rattle.bit_set.specs.Sets.{elements, has};
 
-use crate::{BitBlock, BitSet};
+use crate::bit_vec::BitVec;
+use crate::{BitBlock, BitSet, SetError};
 use std::alloc::{AllocError, Global};
 
 impl<B: BitBlock> BitSet<B> {
+    /// The set of the bits that are 1, those of each byte counted from the highest. One step a byte.
+    /// Fails at [`SetError::Length`] before it asks for memory, or where memory runs out.
+    ///
+    /// ```
+    /// let set = BitSet::from_bytes(alloc, &[0b0100_1010])?;
+    /// assert!(set.iter().eq([1, 4, 6]));
+    /// ```
+    pub fn from_bytes_general(alloc: Global, bytes: &[u8]) -> Result<Self, SetError>
+        ensures values { IfOk result (λ set. set.values ≡ values_of_bytes bytes.now) }
+        ensures elements { IfOk result (λ set. (q r : ℕ) → r < 8
+            → IsTrue (has (elements set.values) (8 * q + r)) ↔ (bit_at (slice_index bytes.now q) (7 - r) ≡ 1)) }
+        ensures length { IfOk result (λ set. length set.values ≡ 8 * length bytes.now) }
+        ensures capacity { IfOk result (λ set. set.capacity
+            ≡ capacity_of B.width (blocks_for B.width (8 * length bytes.now))) }
+        ensures too_long { IsErrOf result SetError.Length ↔ (usize.MAX < 8 * length bytes.now) }
+        ensures fits { IfErr result (λ fault. fault ≢ SetError.Element) }
+        ensures empty { length bytes.now ≡ 0 → IsOk result }
+    {
+        let bits = BitVec::from_bytes_general(alloc, bytes)?;
+        Ok(BitSet { bits })
+    }
+
     /// The set as bytes, a bit for each number below the length, the first at the highest bit; the bits of the last byte
     /// past the length are 0. [`BitSet::from_bytes`] of them gives the same elements. Reads each block once. Fails only
     /// where memory runs out, and never for a set of length 0.
@@ -22,5 +45,21 @@ impl<B: BitBlock> BitSet<B> {
         ensures empty { length self.now.values ≡ 0 → IsOk result }
     {
         self.bits.to_bytes(alloc)
+    }
+}
+
+impl BitSet<u32> {
+    /// [`BitSet::from_bytes_general`] over blocks of 32 bits.
+    pub fn from_bytes(alloc: Global, bytes: &[u8]) -> Result<Self, SetError>
+        ensures values { IfOk result (λ set. set.values ≡ values_of_bytes bytes.now) }
+        ensures elements { IfOk result (λ set. (q r : ℕ) → r < 8
+            → IsTrue (has (elements set.values) (8 * q + r)) ↔ (bit_at (slice_index bytes.now q) (7 - r) ≡ 1)) }
+        ensures length { IfOk result (λ set. length set.values ≡ 8 * length bytes.now) }
+        ensures capacity { IfOk result (λ set. set.capacity ≡ capacity_of 32 (blocks_for 32 (8 * length bytes.now))) }
+        ensures too_long { IsErrOf result SetError.Length ↔ (usize.MAX < 8 * length bytes.now) }
+        ensures fits { IfErr result (λ fault. fault ≢ SetError.Element) }
+        ensures empty { length bytes.now ≡ 0 → IsOk result }
+    {
+        BitSet::from_bytes_general(alloc, bytes)
     }
 }

@@ -1,9 +1,9 @@
 // Calls that make a set.
-ghost use Rattle.std.specs.{Prelude.{◌≡◌, ◌≢◌, ℕ, ◌+◌, ◌-◌, ◌*◌, ◌<◌, ◌≤◌, ◌↔◌, IfOk, IfErr, IsOk, IsErrOf, IsTrue, List, [], length, slice_index, Some}, Int.bit_at, Iterator.{Drains, IsFinite, YieldsThen}};
+ghost use Rattle.std.specs.{Prelude.{◌≡◌, ◌≢◌, ℕ, ◌≤◌, ◌↔◌, IfOk, IfErr, IsOk, List, [], length, Some}, Iterator.{Drains, IsFinite, YieldsThen}};
 ghost use Rattle.std.specs.Iterator.Runs.{WholeRun};
-ghost use Rattle.bit_blocks.specs.Bits.{blocks_for, capacity_of, values_of_bytes};
+ghost use Rattle.bit_blocks.specs.Bits.{blocks_for, capacity_of};
 ghost use Rattle.bit_words.specs.Bounds.{greatest};
-ghost use Rattle.bit_set.specs.{Sets.{bound_of, elements, has, put_all}, Members.{HasNone, HasTrueOf, IsSameSet}, Capacity.IsPastBlocks};
+ghost use Rattle.bit_set.specs.{Sets.{bound_of, elements, put_all}, Members.{HasNone, HasTrueOf, IsSameSet}, Capacity.IsPastBlocks};
 
 use crate::bit_vec::BitVec;
 use crate::{BitBlock, BitSet, SetError};
@@ -44,28 +44,6 @@ impl<B: BitBlock> BitSet<B> {
         ensures members { HasTrueOf (elements result.values) bit_vec.values }
     {
         BitSet { bits: bit_vec }
-    }
-
-    /// The set of the bits that are 1, those of each byte counted from the highest. One step a byte.
-    /// Fails at [`SetError::Length`] before it asks for memory, or where memory runs out.
-    ///
-    /// ```
-    /// let set = BitSet::from_bytes(alloc, &[0b0100_1010])?;
-    /// assert!(set.iter().eq([1, 4, 6]));
-    /// ```
-    pub fn from_bytes_general(alloc: Global, bytes: &[u8]) -> Result<Self, SetError>
-        ensures values { IfOk result (λ set. set.values ≡ values_of_bytes bytes.now) }
-        ensures elements { IfOk result (λ set. (q r : ℕ) → r < 8
-            → IsTrue (has (elements set.values) (8 * q + r)) ↔ (bit_at (slice_index bytes.now q) (7 - r) ≡ 1)) }
-        ensures length { IfOk result (λ set. length set.values ≡ 8 * length bytes.now) }
-        ensures capacity { IfOk result (λ set. set.capacity
-            ≡ capacity_of B.width (blocks_for B.width (8 * length bytes.now))) }
-        ensures too_long { IsErrOf result SetError.Length ↔ (usize.MAX < 8 * length bytes.now) }
-        ensures fits { IfErr result (λ fault. fault ≢ SetError.Element) }
-        ensures empty { length bytes.now ≡ 0 → IsOk result }
-    {
-        let bits = BitVec::from_bytes_general(alloc, bytes)?;
-        Ok(BitSet { bits })
     }
 
     /// The set of the items, as long as its greatest element asks; of no items its capacity is 0. The
@@ -139,19 +117,5 @@ impl BitSet<u32> {
         ensures members { HasTrueOf (elements result.values) bit_vec.values }
     {
         BitSet::from_bit_vec_general(bit_vec)
-    }
-
-    /// [`BitSet::from_bytes_general`] over blocks of 32 bits.
-    pub fn from_bytes(alloc: Global, bytes: &[u8]) -> Result<Self, SetError>
-        ensures values { IfOk result (λ set. set.values ≡ values_of_bytes bytes.now) }
-        ensures elements { IfOk result (λ set. (q r : ℕ) → r < 8
-            → IsTrue (has (elements set.values) (8 * q + r)) ↔ (bit_at (slice_index bytes.now q) (7 - r) ≡ 1)) }
-        ensures length { IfOk result (λ set. length set.values ≡ 8 * length bytes.now) }
-        ensures capacity { IfOk result (λ set. set.capacity ≡ capacity_of 32 (blocks_for 32 (8 * length bytes.now))) }
-        ensures too_long { IsErrOf result SetError.Length ↔ (usize.MAX < 8 * length bytes.now) }
-        ensures fits { IfErr result (λ fault. fault ≢ SetError.Element) }
-        ensures empty { length bytes.now ≡ 0 → IsOk result }
-    {
-        BitSet::from_bytes_general(alloc, bytes)
     }
 }

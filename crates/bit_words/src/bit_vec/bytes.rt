@@ -1,13 +1,56 @@
-// The bytes of a bit vector.
-ghost use Rattle.std.specs.Prelude.{◌≡◌, ◌-◌, ◌*◌, ◌++◌, IfOk, IsOk, false, length, replicate};
-ghost use Rattle.bit_blocks.specs.Bits.{blocks_for, values_of_bytes};
+// A bit vector of bytes, and its bytes.
+ghost use Rattle.std.specs.Prelude.{◌≡◌, ◌-◌, ◌*◌, ◌<◌, ◌↔◌, ◌++◌, IfOk, IsErrOf, IsOk, false, length, replicate};
+ghost use Rattle.bit_blocks.specs.Bits.{blocks_for, capacity_of, values_of_bytes};
 
-use crate::bit_vec::BitVec;
+use crate::bit_vec::{BitVec, BitsError};
+use crate::summary::summary_of;
 use bit_blocks::block::BitBlock;
-use bit_blocks::packed::bytes::bytes_of;
+use bit_blocks::packed::bytes::{blocks_of_bytes, bytes_of};
 use std::alloc::{AllocError, Global};
 
+impl BitVec<u32> {
+    /// The bits of each byte in turn, from the highest down, over blocks of 32 bits. One step a byte.
+    /// The capacity is that of its blocks.
+    ///
+    /// `Length` comes exactly where there are more values than `usize::MAX`, and before memory is asked
+    /// for; `Memory` only where that runs out, and never for no bytes.
+    pub fn from_bytes(alloc: Global, bytes: &[u8]) -> Result<Self, BitsError>
+        ensures values { IfOk result (λ vector. vector.values ≡ values_of_bytes bytes.now) }
+        ensures capacity { IfOk result (λ vector. vector.capacity
+            ≡ capacity_of 32 (blocks_for 32 (8 * length bytes.now))) }
+        ensures too_long { IsErrOf result BitsError.Length ↔ (usize.MAX < 8 * length bytes.now) }
+        ensures empty { length bytes.now ≡ 0 → IsOk result }
+    {
+        BitVec::from_bytes_general(alloc, bytes)
+    }
+}
+
 impl<B: BitBlock> BitVec<B> {
+    /// The bits of each byte in turn, from the highest down. One step a byte. The capacity is that of its
+    /// blocks.
+    ///
+    /// `Length` comes exactly where there are more values than `usize::MAX`, and before memory is asked
+    /// for; `Memory` only where that runs out, and never for no bytes.
+    pub fn from_bytes_general(alloc: Global, bytes: &[u8]) -> Result<Self, BitsError>
+        ensures values { IfOk result (λ vector. vector.values ≡ values_of_bytes bytes.now) }
+        ensures capacity { IfOk result
+            (λ vector. vector.capacity ≡ capacity_of B.width (blocks_for B.width (8 * length bytes.now))) }
+        ensures too_long { IsErrOf result BitsError.Length ↔ (usize.MAX < 8 * length bytes.now) }
+        ensures empty { length bytes.now ≡ 0 → IsOk result }
+    {
+        let Some(len) = bytes.len().checked_mul(8) else {
+            return Err(BitsError::Length);
+        };
+        let blocks = blocks_of_bytes(alloc, bytes)?;
+        let summary = summary_of(alloc, &blocks)?;
+        Ok(BitVec {
+            blocks,
+            summary,
+            search_start: 0,
+            len,
+        })
+    }
+
     /// The values as bytes, eight each, the first at the highest bit; the bits of the last byte past the list are 0. So
     /// `from_bytes` of them gives the list again, and false values up to a whole byte. Reads each block once. Fails only
     /// where memory runs out, and never for an empty list.

@@ -1,14 +1,13 @@
 // Calls that make a bit vector.
-ghost use Rattle.std.specs.Prelude.{◌≡◌, ◌*◌, ◌<◌, ◌≤◌, ◌↔◌, ◌++◌, [], alloc_error, drop, false, length, replicate, IfOk, IsErrOf, IsOk};
-ghost use Rattle.bit_blocks.specs.Bits.{blocks_for, capacity_of, values_of_bytes};
+ghost use Rattle.std.specs.Prelude.{◌≡◌, ◌<◌, ◌≤◌, ◌++◌, [], alloc_error, drop, false, length, replicate, IfOk, IsOk};
+ghost use Rattle.bit_blocks.specs.Bits.{blocks_for, capacity_of};
 ghost use Rattle.bit_words.specs.declared.bit_vec.constructors.BitsError.TheVariants.{Memory};
 
 use crate::bit_vec::BitVec;
 use crate::summary::copies::copy_summary_from;
-use crate::summary::{summary_of, uniform_summary};
+use crate::summary::uniform_summary;
 use bit_blocks::block::BitBlock;
 use bit_blocks::packed::access::block_index;
-use bit_blocks::packed::bytes::blocks_of_bytes;
 use bit_blocks::packed::copies::copy_of;
 use bit_blocks::packed::resizing::repeated_bit;
 use bit_blocks::packed::tail_copies::copy_bits_from;
@@ -62,21 +61,6 @@ impl BitVec<u32> {
     {
         BitVec::from_elem_general(alloc, n, bit)
     }
-
-    /// The bits of each byte in turn, from the highest down, over blocks of 32 bits. One step a byte.
-    /// The capacity is that of its blocks.
-    ///
-    /// `Length` comes exactly where there are more values than `usize::MAX`, and before memory is asked
-    /// for; `Memory` only where that runs out, and never for no bytes.
-    pub fn from_bytes(alloc: Global, bytes: &[u8]) -> Result<Self, BitsError>
-        ensures values { IfOk result (λ vector. vector.values ≡ values_of_bytes bytes.now) }
-        ensures capacity { IfOk result (λ vector. vector.capacity
-            ≡ capacity_of 32 (blocks_for 32 (8 * length bytes.now))) }
-        ensures too_long { IsErrOf result BitsError.Length ↔ (usize.MAX < 8 * length bytes.now) }
-        ensures empty { length bytes.now ≡ 0 → IsOk result }
-    {
-        BitVec::from_bytes_general(alloc, bytes)
-    }
 }
 
 impl<B: BitBlock> BitVec<B> {
@@ -108,31 +92,6 @@ impl<B: BitBlock> BitVec<B> {
             summary,
             search_start: 0,
             len: n,
-        })
-    }
-
-    /// The bits of each byte in turn, from the highest down. One step a byte. The capacity is that of its
-    /// blocks.
-    ///
-    /// `Length` comes exactly where there are more values than `usize::MAX`, and before memory is asked
-    /// for; `Memory` only where that runs out, and never for no bytes.
-    pub fn from_bytes_general(alloc: Global, bytes: &[u8]) -> Result<Self, BitsError>
-        ensures values { IfOk result (λ vector. vector.values ≡ values_of_bytes bytes.now) }
-        ensures capacity { IfOk result
-            (λ vector. vector.capacity ≡ capacity_of B.width (blocks_for B.width (8 * length bytes.now))) }
-        ensures too_long { IsErrOf result BitsError.Length ↔ (usize.MAX < 8 * length bytes.now) }
-        ensures empty { length bytes.now ≡ 0 → IsOk result }
-    {
-        let Some(len) = bytes.len().checked_mul(8) else {
-            return Err(BitsError::Length);
-        };
-        let blocks = blocks_of_bytes(alloc, bytes)?;
-        let summary = summary_of(alloc, &blocks)?;
-        Ok(BitVec {
-            blocks,
-            summary,
-            search_start: 0,
-            len,
         })
     }
 

@@ -1,8 +1,9 @@
 // The walk over the first block of a bit vector, and then those that are not 0.
-ghost use Rattle.std.specs.{Prelude.◌≡◌, Iterator.item_count};
+ghost use Rattle.std.specs.{Prelude.{◌≡◌, All, map}, Iterator.item_count};
+ghost use Rattle.bit_blocks.specs.Bits.{blocks_of, IsWithinCapacity};
 ghost use Rattle.bit_words.specs.Nonzero.{before_first, StartsPast};
 
-use crate::bit_vec::Nonzero;
+use crate::bit_vec::{BitVec, Nonzero};
 use bit_blocks::block::BitBlock;
 use std::marker::Model;
 
@@ -26,6 +27,26 @@ impl<'a, B: BitBlock> Model for FirstAndNonzero<'a, B> {
     ghost view = { λ it. if it.at_first then before_first B.width B.number it.past else it.past };
 
     ghost invariant = { λ it. it.at_first ≡ true → StartsPast B.width B.number 0 it.past };
+}
+
+impl<B: BitBlock> BitVec<B> {
+    /// A walk over the first block, zero or not, and then the blocks that are not zero, each with its index.
+    /// Constant time, and takes no memory.
+    ///
+    /// ```
+    /// // Of 100 values, over blocks of 32 bits, those at 70 and 71 are true.
+    /// assert!(bits.nonzero().eq([(0, 0), (2, 0b1100_0000)]));
+    /// assert!(bits.nonzero_past_first().eq([(2, 0b1100_0000)]));
+    /// ```
+    #[inline]
+    pub fn nonzero(&self) -> FirstAndNonzero<'_, B>
+        ensures blocks { map B.number result.blocks ≡ blocks_of B.width self.now.values }
+        ensures each { All B.is_block result.blocks }
+        ensures start { result ≡ before_first B.width B.number result }
+        ensures fits { IsWithinCapacity self.now }
+    {
+        FirstAndNonzero::before(self.nonzero_past_first())
+    }
 }
 
 impl<'a, B: BitBlock> FirstAndNonzero<'a, B> {

@@ -1,7 +1,7 @@
 // The walk over the blocks of a bit vector that are not 0, by its summary.
-ghost use Rattle.std.specs.{Prelude.{◌≡◌, ℕ, ◌+◌, ◌-◌, ◌*◌, ◌<◌, ◌≤◌, ◌^◌, ◌==◌, All, IfSome, None, not, Some, [], length, map, slice_get}, Iterator.item_count};
+ghost use Rattle.std.specs.{Prelude.{◌≡◌, ◌+◌, ◌-◌, ◌*◌, ◌<◌, ◌≤◌, ◌^◌, ◌==◌, All, IfSome, not, Some, [], length, map, slice_get}, Iterator.item_count};
 ghost use Rattle.bit_blocks.specs.Bits.{blocks_for, blocks_of, IsWithinCapacity};
-ghost use Rattle.bit_words.specs.Nonzero.{CutsAt, ones_left, PullsLast, PullsNonzero, Refills, SkipsBlocks, StartsPast, TakesFirst, TakesLast};
+ghost use Rattle.bit_words.specs.Nonzero.{ones_left, PullsNonzero, Refills, StartsPast, TakesFirst};
 
 use crate::bit_vec::BitVec;
 use crate::bit_vec::pending::{Pending, Unstored};
@@ -9,11 +9,12 @@ use crate::summary::is_nonzero;
 use crate::summary::queries::{first_blocks, ones_by_summary};
 use bit_blocks::block::BitBlock;
 use bit_blocks::block::lowest::take_lowest_one;
-use bit_blocks::block::masks::clear_from;
 use bit_blocks::packed::ones::ones_of;
-use bit_blocks::packed::searching::block_or_zero;
 use bit_blocks::steps::Steps;
 use std::marker::Model;
+
+mod back;
+mod skipping;
 
 /// A walk over the blocks of a bit vector that are not zero, past the one at which it was made, each with its index, in
 /// ascending order, from both ends. It finds them by the summary, and so passes over as many zero blocks at once as a block has bits.
@@ -131,71 +132,6 @@ impl<'a, B: BitBlock> Nonzero<'a, B> {
         false
     }
 
-    /// The same for the hand at the back: where `back` is zero, makes it the last block that is left, and where none is
-    /// left, takes over the block at the front.
-    #[inline(always)]
-    pub fn refill_back(
-        &mut self,
-        back: &mut B,
-        back_index: &mut usize,
-        block: &mut B,
-        index: usize,
-    ) -> bool
-        requires of_back { B.is_block back.old }
-        requires of_block { B.is_block block.old }
-        requires fits { (length self.old.blocks - 1) * B.width < 2 ^ 64 }
-        ensures of_back { B.is_block back.new }
-        ensures of_block { B.is_block block.new }
-        ensures found { result ≡ not (B.number back.new == 0) }
-        ensures refills { Refills TakesLast PullsLast B.width B.number
-            self.old (record { block = back.old; index = back_index.old }) (record { block = block.old; index = index })
-            result
-            self.new (record { block = back.new; index = back_index.new }) (record { block = block.new; index = index }) }
-    {
-        if is_nonzero(*back) {
-            return true;
-        }
-        if let Some((k, last)) = self.take_last() {
-            *back = last;
-            *back_index = k * B::bits();
-            return true;
-        }
-        if is_nonzero(*block) {
-            *back = *block;
-            *back_index = index;
-            *block = B::zero();
-            return true;
-        }
-        self.steps.tick();
-        false
-    }
-
-    /// Ends the walk in the block at `k`: leaves the blocks before it alone, and returns the lowest `count` bits of that
-    /// block where it was left, or else zeros. This is a pull where one of them is 1. Constant time.
-    ///
-    /// ```
-    /// // Of 100 values, over blocks of 32 bits, those at 70 and 71 are true.
-    /// let mut walk = bits.nonzero_past(0);
-    /// assert_eq!(walk.cut_at(2, 7), 0b0100_0000);
-    /// assert_eq!(walk.next(), None);
-    /// ```
-    #[inline]
-    pub fn cut_at(&mut self, k: usize, count: usize) -> B
-        ensures of_block { B.is_block result }
-        ensures cut { CutsAt B.width B.number k count self.old result self.new }
-    {
-        let whole = if self.pending.may_have(k) {
-            at(self.blocks, k)
-        } else {
-            B::zero()
-        };
-        let block = clear_from(whole, count);
-        let end = k.max(self.pending.index).min(self.pending.end);
-        self.pending.keep_before(end);
-        self.steps.tick_by(usize::from(is_nonzero(block)));
-        block
-    }
-
     // The next block, with its index, as a pull. Where there is none it counts no pull.
     #[inline(always)]
     fn take_first(&mut self) -> Option<(usize, B)>
@@ -204,23 +140,6 @@ impl<'a, B: BitBlock> Nonzero<'a, B> {
             × B.is_block entry.1 × (0 < B.number entry.1)) }
     {
         while let Some(k) = self.pending.next_block(self.blocks) {
-            let block = at(self.blocks, k);
-            if is_nonzero(block) {
-                self.steps.tick();
-                return Some((k, block));
-            }
-        }
-        None
-    }
-
-    // The last block, with its index, as a pull. Where there is none it counts no pull.
-    #[inline(always)]
-    fn take_last(&mut self) -> Option<(usize, B)>
-        ensures steps { TakesLast self.old result self.new }
-        ensures found { IfSome result (λ entry. (entry.0 < length self.old.blocks)
-            × B.is_block entry.1 × (0 < B.number entry.1)) }
-    {
-        while let Some(k) = self.pending.last_block(self.blocks) {
             let block = at(self.blocks, k);
             if is_nonzero(block) {
                 self.steps.tick();
@@ -243,53 +162,6 @@ impl<'a, B: BitBlock> Nonzero<'a, B> {
     {
         self.steps.tick();
         let _end = self.pending.summary.next();
-    }
-
-    /// Passes over blocks at the front, as many as it likes, whose ones are no more than `most`, and returns how many
-    /// ones they have. Each that is not zero is a pull. It goes on by as many blocks at once as a block has bits: where a
-    /// block of the summary that says of them is stored, and is next, and more than a sixteenth of them are not zero.
-    /// Reads each block that it passes once.
-    ///
-    /// ```
-    /// // Of 1000 values, all true, over blocks of 8 bits.
-    /// let mut walk = bits.nonzero_past(7);
-    /// assert_eq!(walk.skip_blocks(200), 192);
-    /// assert_eq!(walk.next(), Some((32, 0xff)));
-    /// ```
-    #[inline]
-    pub fn skip_blocks(&mut self, most: usize) -> usize
-        requires fits { ones_left B.number self.old.left < 2 ^ 64 }
-        ensures within { result ≤ most }
-        ensures skips { SkipsBlocks B.number self.old result self.new }
-    {
-        let mut ones = 0;
-        while let Some(more) = self.skip_chunk(most - ones) {
-            ones += more;
-        }
-        ones
-    }
-
-    // Passes over the next chunk, as many blocks as a block has bits, if its ones are no more than `most`: it returns
-    // how many they are. Where few of its blocks are not zero, to look at these takes less than to count all.
-    #[inline]
-    fn skip_chunk(&mut self, most: usize) -> Option<usize>
-        requires fits { ones_left B.number self.old.left < 2 ^ 64 }
-        ensures none { result ≡ None → self.new ≡ self.old }
-        ensures some { IfSome result (λ ones. (ones ≤ most) × SkipsBlocks B.number self.old ones self.new
-            × (self.new.summary_left < self.old.summary_left)) }
-    {
-        let used = self.pending.next_chunk()?.count_ones();
-        if used <= B::bits() / 16 {
-            return None;
-        }
-        let start = self.pending.index + B::bits();
-        let ones = ones_of(first_blocks(self.blocks.split_at(start).1).0);
-        if ones > most {
-            return None;
-        }
-        self.pending.pass_chunk();
-        self.steps.tick_by(used);
-        Some(ones)
     }
 
     /// How many ones the blocks that are left have. Adds up those of each, and passes over as many blocks
@@ -328,23 +200,6 @@ impl<'a, B: BitBlock> Iterator for Nonzero<'a, B> {
             self.count_end();
         }
         next
-    }
-}
-
-impl<'a, B: BitBlock> DoubleEndedIterator for Nonzero<'a, B> {
-    ghost use Rattle.bit_words.specs.Nonzero.{PullsLast};
-
-    ghost next_back_gives = { PullsLast };
-
-    /// The last block that is not zero, with its index. Both ends take of the same blocks. It passes over zero blocks as
-    /// [`next`](Iterator::next) does, and counts no pull of the summary.
-    #[inline]
-    fn next_back(&mut self) -> Option<(usize, B)> {
-        let last = self.take_last();
-        if last.is_none() {
-            self.steps.tick();
-        }
-        last
     }
 }
 

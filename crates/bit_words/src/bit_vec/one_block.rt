@@ -9,7 +9,7 @@ use bit_blocks::block::BitBlock;
 use bit_blocks::block::masks::cut_from;
 use bit_blocks::block::operators::{block_and, block_not};
 use bit_blocks::packed::access::{block_at, put_block};
-use bit_blocks::packed::searching::block_or_zero;
+use bit_blocks::packed::nonzero::block_or_zero;
 
 impl<B: BitBlock> BitVec<B> {
     /// Which values of block `k` are not true, as a block: a 1 at each index that has none and is below `end`. Past the

@@ -1,17 +1,18 @@
 // The blocks that a walk has still to look at, by the summary.
-ghost use Rattle.std.specs.Prelude.{◌≡◌, ℕ, ◌+◌, ◌-◌, ◌/◌, ◌<◌, ◌≤◌, ◌^◌, ◌&&◌, All, IfSome, IsTrue, drop, false, get_or, length, map, nat_lt, take};
+ghost use Rattle.std.specs.Prelude.{◌≡◌, ℕ, ◌+◌, ◌-◌, ◌/◌, ◌<◌, ◌≤◌, ◌^◌, All, drop, get_or, length, map, nat_lt};
 ghost use Rattle.bit_blocks.specs.{Bits.blocks_for, Digits.is_one};
-ghost use Rattle.bit_words.specs.{Pending.{CoversUsed, Finds, FindsLast, FindsLastPending, IsNextChunk, IsPending, IsStoredFrom, left_from, next_at}, Summary.IsStoredSummary};
+ghost use Rattle.bit_words.specs.{Pending.{CoversUsed, Finds, IsPending, IsStoredFrom, left_from, next_at}, Summary.IsStoredSummary};
 
 use crate::bit_vec::Blocks;
-use crate::summary::searching::last_used_from;
 use crate::summary::{is_nonzero, used_from};
 use bit_blocks::block::BitBlock;
 use bit_blocks::block::lowest::take_lowest_one;
 use bit_blocks::block::masks::{clear_below, clear_from};
-use bit_blocks::block::operators::{all_ones, has_one_at, ones_below};
-use bit_blocks::packed::access::{block_at, block_count};
-use bit_blocks::packed::searching::block_or_zero;
+use bit_blocks::block::operators::{all_ones, ones_below};
+use bit_blocks::packed::nonzero::block_or_zero;
+
+mod back;
+mod chunks;
 
 // What of a summary is left, and of its block in hand.
 #[derive(Drop)]
@@ -102,174 +103,6 @@ impl<'a, B: BitBlock> Pending<'a, B> {
             self.bits = pull_used(&mut self.summary, blocks, index, end, Unstored::Each);
         }
         Some(self.index + take_lowest_one(&mut self.bits))
-    }
-
-    // Which blocks of the next chunk are not zero, by the stored block of the summary: the chunk is those past what the
-    // block of the summary in hand is about, as many as a block has bits. `None` where that one is not used up yet,
-    // where none is stored and where the walk ends within the chunk.
-    #[inline]
-    pub(crate) fn next_chunk(&self) -> Option<B>
-        requires walk { self.now.index ≤ self.now.end }
-        requires of_block { B.is_block self.now.bits }
-        ensures { IfSome result (IsNextChunk B.width B.number
-            self.now.index self.now.end self.now.bits self.now.summary.left) }
-    {
-        if is_nonzero(self.bits) || (self.end - self.index) / B::bits() < 2 {
-            return None;
-        }
-        let used = *self.summary.as_slice().first()?;
-        Some(used)
-    }
-
-    // Passes over that chunk.
-    #[inline]
-    pub(crate) fn pass_chunk(&mut self)
-        requires fits { self.old.index + B.width < 2 ^ 64 }
-        ensures index { self.new.index ≡ self.old.index + B.width }
-        ensures end { self.new.end ≡ self.old.end }
-        ensures bits { self.new.bits ≡ self.old.bits }
-        ensures left { self.new.summary.left ≡ drop 1 self.old.summary.left }
-        ensures pulls { self.new.summary.pulls ≡ self.old.summary.pulls + 1 }
-    {
-        self.index += B::bits();
-        let _used = self.summary.next();
-    }
-
-    // Takes the highest bit that is pending, or that the summary has past these, and returns the index of the block that
-    // it is about: `end` is there then. Where there is none, nothing is left, so that a later call looks at no more. Most
-    // often it is the last block, past the block of the summary in hand: that takes no search.
-    #[inline(always)]
-    pub(crate) fn last_block(&mut self, blocks: &[B]) -> Option<usize>
-        requires walk { IsPending B.width B.number B.is_block
-            self.old.index self.old.end self.old.bits blocks.now self.old.summary.left }
-        ensures walk { IsPending B.width B.number B.is_block
-            self.new.index self.new.end self.new.bits blocks.now self.new.summary.left }
-        ensures found { FindsLast B.width B.number blocks.now
-            self.old.index (B.number self.old.bits) self.old.end result (B.number self.new.bits) self.new.end }
-        ensures index { self.new.index ≡ self.old.index }
-        ensures pulls { self.new.summary.pulls ≡ self.old.summary.pulls }
-    {
-        if self.has_last(blocks) {
-            self.drop_last();
-        } else {
-            self.search_last(blocks)?;
-        }
-        Some(self.end)
-    }
-
-    // Whether there are blocks past the block of the summary in hand, and the last of them is not zero.
-    #[inline(always)]
-    fn has_last(&self, blocks: &[B]) -> bool
-        requires { IsPending B.width B.number B.is_block
-            self.now.index self.now.end self.now.bits blocks.now self.now.summary.left }
-        ensures { IsTrue result → self.now.index + B.width < self.now.end }
-    {
-        self.end - self.index > B::bits() && is_nonzero(block_at(blocks, self.end - 1))
-    }
-
-    // Leaves what is about the blocks before the last one, where that is past the block of the summary in hand.
-    #[inline(always)]
-    fn drop_last(&mut self)
-        requires past { self.old.index + B.width < self.old.end }
-        requires few { length self.old.summary.left
-            ≤ blocks_for B.width (self.old.end - (self.old.index + B.width)) }
-        ensures stored { self.new.summary.left
-            ≡ take (blocks_for B.width (self.new.end - (self.old.index + B.width))) self.old.summary.left }
-        ensures end { self.new.end ≡ self.old.end - 1 }
-        ensures bits { self.new.bits ≡ self.old.bits }
-        ensures index { self.new.index ≡ self.old.index }
-        ensures pulls { self.new.summary.pulls ≡ self.old.summary.pulls }
-    {
-        self.end -= 1;
-        let count = self.end - self.index;
-        // It was the first of its chunk: what the summary has of that is about no block that is left.
-        if count % B::bits() == 0 {
-            self.summary.keep_first(count / B::bits() - 1);
-        }
-    }
-
-    // Takes that bit by a search, which looks at the block of the summary in hand too.
-    #[inline(always)]
-    fn search_last(&mut self, blocks: &[B]) -> Option<usize>
-        requires walk { IsPending B.width B.number B.is_block
-            self.old.index self.old.end self.old.bits blocks.now self.old.summary.left }
-        ensures walk { IsPending B.width B.number B.is_block
-            self.new.index self.new.end self.new.bits blocks.now self.new.summary.left }
-        ensures found { FindsLast B.width B.number blocks.now
-            self.old.index (B.number self.old.bits) self.old.end result (B.number self.new.bits) self.new.end }
-        ensures index { self.new.index ≡ self.old.index }
-        ensures pulls { self.new.summary.pulls ≡ self.old.summary.pulls }
-    {
-        let found = self.find_last(blocks);
-        self.keep_before(found.unwrap_or(self.index));
-        found
-    }
-
-    // Leaves what is about the blocks before the one at `end`.
-    #[inline(always)]
-    pub(crate) fn keep_before(&mut self, end: usize)
-        requires from { self.old.index ≤ end }
-        requires to { end ≤ self.old.end }
-        requires of_block { B.is_block self.old.bits }
-        ensures of_block { B.is_block self.new.bits }
-        ensures digits { (j : ℕ) → j < B.width → is_one (B.number self.new.bits) j
-            ≡ (nat_lt j (end - self.old.index) && is_one (B.number self.old.bits) j) }
-        ensures stored { self.new.summary.left
-            ≡ take (blocks_for B.width (end - (self.old.index + B.width))) self.old.summary.left }
-        ensures end { self.new.end ≡ end }
-        ensures index { self.new.index ≡ self.old.index }
-        ensures pulls { self.new.summary.pulls ≡ self.old.summary.pulls }
-    {
-        let past = (end - self.index).saturating_sub(B::bits());
-        self.bits = clear_from(self.bits, end - self.index);
-        self.summary.keep_first(block_count::<B>(past));
-        self.end = end;
-    }
-
-    // Whether the block at `k` is among those that are left, unless it is zero.
-    #[inline]
-    pub(crate) fn may_have(&self, k: usize) -> bool
-        requires { B.is_block self.now.bits }
-        ensures left { IsTrue result → (next_at B.width self.now.index (B.number self.now.bits) ≤ k) × (k < self.now.end) }
-        ensures out { result ≡ false → k < self.now.end → self.now.index ≤ k
-            → (k < self.now.index + B.width) × (is_one (B.number self.now.bits) (k - self.now.index) ≡ false) }
-    {
-        if k < self.index || k >= self.end {
-            return false;
-        }
-        let digit = k - self.index;
-        digit >= B::bits() || has_one_at(self.bits, digit)
-    }
-
-    // The last block that a bit is about: of those past the block of the summary in hand, or else of that one.
-    #[inline(always)]
-    fn find_last(&self, blocks: &[B]) -> Option<usize>
-        requires { IsPending B.width B.number B.is_block
-            self.now.index self.now.end self.now.bits blocks.now self.now.summary.left }
-        ensures { FindsLastPending B.number blocks.now
-            (next_at B.width self.now.index (B.number self.now.bits)) self.now.end result }
-    {
-        if let Some(k) = self.find_last_past_hand(blocks) {
-            return Some(k);
-        }
-        if !is_nonzero(self.bits) {
-            return None;
-        }
-        Some(self.index + self.bits.highest_one())
-    }
-
-    #[inline(always)]
-    fn find_last_past_hand(&self, blocks: &[B]) -> Option<usize>
-        requires { IsPending B.width B.number B.is_block
-            self.now.index self.now.end self.now.bits blocks.now self.now.summary.left }
-        ensures { FindsLastPending B.number blocks.now (self.now.index + B.width) self.now.end result }
-    {
-        if self.end - self.index <= B::bits() {
-            return None;
-        }
-        let start = self.index + B::bits();
-        let found = last_used_from(blocks, self.summary.as_slice(), start, self.end)?;
-        Some(start + found)
     }
 }
 

@@ -7,7 +7,8 @@ use crate::summary::is_short;
 use crate::summary::searching::{first_one_by_summary, last_one_by_summary};
 use crate::summary::taking::first_of_chunk;
 use bit_blocks::block::BitBlock;
-use bit_blocks::packed::searching::{first_nonzero_block, first_one, first_zero};
+use bit_blocks::packed::nonzero::first_nonzero_block;
+use bit_blocks::packed::searching::{first_one, first_zero};
 
 impl<B: BitBlock> BitVec<B> {
     /// The first index at which the list is true, or `None`. Of many blocks it reads the summary from where

@@ -7,7 +7,8 @@ use crate::summary::is_short;
 use crate::summary::taking::take_first_of_chunk;
 use bit_blocks::block::BitBlock;
 use bit_blocks::packed::access::replace_bit;
-use bit_blocks::packed::searching::{first_nonzero_block, first_one};
+use bit_blocks::packed::nonzero::first_nonzero_block;
+use bit_blocks::packed::searching::first_one;
 
 impl<B: BitBlock> BitVec<B> {
     /// Makes the first true value false, and returns its index; `None` where no value is true. Of many blocks it reads the

@@ -1,6 +1,6 @@
 use Rattle.std.proofs.Common.{ap, arith}
 use Rattle.bit_words.proofs.WalkLemmas.{pulled_last_none, pulled_last_some}
-use Rattle.bit_words.proofs.bit_vec.nonzero.NonzeroDoubleEndedIterator.next_back.Goals as goal
+use Rattle.bit_words.proofs.bit_vec.nonzero.back.NonzeroDoubleEndedIterator.next_back.Goals as goal
 
 pub invariant_of-self : goal.invariant_of-self
 invariant_of-self g c = c.self.invariant

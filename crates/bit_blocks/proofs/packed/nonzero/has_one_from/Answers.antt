@@ -1,6 +1,6 @@
 use Rattle.std.proofs.Common.{◌∙◌, sym}
 use Rattle.bit_blocks.proofs.MismatchLemmas.{some_moved, none_moved, on_mismatch, on_alike}
-use Rattle.bit_blocks.proofs.packed.searching.has_one_from.Goals as goal
+use Rattle.bit_blocks.proofs.packed.nonzero.has_one_from.Goals as goal
 
 pub returns : goal.returns
 returns g c =

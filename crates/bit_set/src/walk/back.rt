@@ -1,0 +1,47 @@
+// The walk over a set's elements, from the back.
+ghost use Rattle.std.specs.{Prelude.{◌≡◌, MatchOption, None}, List.last_or};
+ghost use Rattle.bit_set.specs.{Choices.{IsGreatest, IsLastOf}, Members.HasNone, Walk.AdvancesBack};
+
+use crate::BitBlock;
+use crate::bit_vec::take_highest_one;
+use crate::walk::Iter;
+
+impl<'a, B: BitBlock> Iter<'a, B> {
+    /// The greatest element that is left. It is one call of [`next_back`](DoubleEndedIterator::next_back).
+    #[inline]
+    pub fn last(mut self) -> Option<usize>
+        ensures value { result ≡ last_or None self.entry.left }
+        ensures last { IsLastOf self.entry.left result }
+        ensures members { MatchOption result (HasNone self.entry.left) (IsGreatest self.entry.left) }
+    {
+        self.next_back()
+    }
+
+    /// The greatest element that is left, as [`last`](Self::last).
+    #[inline]
+    pub fn max(self) -> Option<usize>
+        ensures last { IsLastOf self.entry.left result }
+        ensures members { MatchOption result (HasNone self.entry.left) (IsGreatest self.entry.left) }
+    {
+        self.last()
+    }
+}
+
+impl<'a, B: BitBlock> DoubleEndedIterator for Iter<'a, B> {
+    ghost next_back_gives = { AdvancesBack B.width };
+
+    /// The greatest element that is left, and from the end on `None` for good. Both ends take of the same elements. Goes
+    /// on to the last block that is not zero by the summary; constant time within a block
+    /// of the six types.
+    // Where it is a call, the walk goes through memory.
+    #[inline(always)]
+    fn next_back(&mut self) -> Option<usize> {
+        let index = self.index;
+        let (block, back, back_index) = (&mut self.block, &mut self.back, &mut self.back_index);
+        if !self.nonzero.refill_back(back, back_index, block, index) {
+            self.back_index = index;
+            return None;
+        }
+        Some(self.back_index + take_highest_one(&mut self.back))
+    }
+}

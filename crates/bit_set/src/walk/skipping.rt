@@ -1,0 +1,46 @@
+// The walk over a set's elements, past many of them at once.
+ghost use Rattle.std.specs.Prelude.{◌≤◌, length};
+ghost use Rattle.bit_set.specs.{Indexes.Passes, Walk.Skips};
+
+use crate::BitBlock;
+use crate::walk::Iter;
+
+impl<'a, B: BitBlock> Iter<'a, B> {
+    /// The element that `n` others of those left come before, which are passed; `None` where there are no more. Passes
+    /// over a block by the count of its ones; where a summary is stored, over as many blocks at once as a block has
+    /// bits, unless few of these are not zero.
+    ///
+    /// ```
+    /// let set = BitSet::from_bytes(alloc, &[0b0100_1010])?;
+    /// let mut walk = set.iter();
+    /// assert_eq!(walk.nth(1), Some(4));
+    /// assert_eq!(walk.next(), Some(6));
+    /// ```
+    pub fn nth(&mut self, n: usize) -> Option<usize>
+        ensures { Skips B.width n self.old result self.new }
+    {
+        let mut ahead = n;
+        while ahead > 0 {
+            self.next()?;
+            ahead -= 1;
+            ahead -= self.pass_blocks(ahead);
+        }
+        self.next()
+    }
+
+    // Passes what is left of the block in hand if that is no more than `most` elements, and then blocks past it, as
+    // many at once as a block has bits. Returns how many elements it passed.
+    #[inline]
+    fn pass_blocks(&mut self, most: usize) -> usize
+        ensures within { result ≤ most }
+        ensures there { result ≤ length self.old.left }
+        ensures walk { Passes B.width result self.old self.new }
+    {
+        let ones = self.block.count_ones();
+        if ones > most {
+            return 0;
+        }
+        self.block = B::zero();
+        ones + self.nonzero.skip_blocks(most - ones)
+    }
+}
