@@ -1,4 +1,5 @@
-//! The examples of the doc comments of `bit_matrix`, as they are there but for `expect`, which costs less.
+//! The examples of the doc comments of `bit_matrix`, as they are there but for `expect`, which costs less, and rows of many
+//! blocks.
 use crate::expect::{expect, expect_eq, ok};
 use bit_matrix::{BitMatrix, MatrixError};
 use bit_set::{BitSet, SetError};
@@ -164,4 +165,19 @@ fn a_set_that_is_put_into_a_row(rt: HostRuntime) {
     let alloc = rt.alloc();
     let set = ok(&rt, set_of_a_byte(alloc));
     ok(&rt, with_a_set(&rt, alloc, set));
+}
+
+// Of 25 blocks a union takes sixteen at once, then four twice, and then one.
+fn long_rows(rt: &impl Abort, alloc: Global) -> Result<(), MatrixError> {
+    let mut matrix = BitMatrix::<u8>::new_general(alloc, 2, 200)?;
+    matrix.insert_range(1, 100..200);
+    expect(rt, matrix.union_rows(1, 0));
+    expect_eq(rt, &matrix.count(0), &100);
+    expect(rt, matrix.transpose(alloc)?.contains(199, 1));
+    Ok(())
+}
+
+#[test]
+fn rows_of_many_blocks(rt: HostRuntime) {
+    ok(&rt, long_rows(&rt, rt.alloc()));
 }

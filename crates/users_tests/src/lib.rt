@@ -6,6 +6,8 @@ mod automata_tests;
 #[cfg(test)]
 mod bit_matrix_tests;
 #[cfg(test)]
+mod callers;
+#[cfg(test)]
 mod dataflow_tests;
 #[cfg(test)]
 mod expect;
