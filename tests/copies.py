@@ -12,13 +12,24 @@ from pathlib import Path
 PARTS = ("src", "specs", "proofs")
 
 
-def crates_of(root):
-    """The crates by name, lowest first, each with the crates of the repository that it names."""
+def lines_of(root):
+    """What the line of each crate in crates.txt names, by the names of the crates."""
     named = {}
     for line in (root / "crates.txt").read_text().splitlines():
         name, _, words = line.partition("#")[0].partition(":")
         if name.strip():
             named[name.split()[0]] = words.split()
+    return named
+
+
+def words_of(root, name):
+    """The crates and the libraries of the toolchain that a crate names."""
+    return lines_of(root)[name]
+
+
+def crates_of(root):
+    """The crates by name, lowest first, each with the crates of the repository that it names."""
+    named = lines_of(root)
     below, found = {name: [it for it in words if it in named] for name, words in named.items()}, {}
 
     def visit(name):
@@ -38,6 +49,13 @@ def all_below(crates, name):
     for it in crates[name]:
         found += [other for other in [*all_below(crates, it), it] if other not in found]
     return found
+
+
+def copy_parts(folder, copy):
+    """Copies the sources and proofs of a crate from its folder."""
+    for part in PARTS:
+        if (folder / part).is_dir():
+            shutil.copytree(folder / part, copy / part)
 
 
 def make_copy(root, crates, name, room, kept):
@@ -101,6 +119,12 @@ def texts_of(edit, folder):
                 raise ValueError(f"its old text is in {path} {before.count(old)} times")
             texts[path] = before.replace(old, text)
     return texts
+
+
+def write_edit(edit, folder):
+    """Changes the crate in this folder by the edit."""
+    for path, text in texts_of(edit, folder).items():
+        (folder / path).write_text(text)
 
 
 # What rattle says where a tactic came to the end of what it may take, and so says nothing of the statement.

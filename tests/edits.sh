@@ -1,0 +1,7 @@
+#!/usr/bin/env bash
+# Tries the edits of a crate that tests/gate_edits.txt names, over the libraries below it as `rt ci` has just proved them
+# here. The last line is 'N passed, M failed'.
+set -euo pipefail
+unset CDPATH
+here="$(dirname "$(readlink -f "${BASH_SOURCE[0]}")")"
+exec python3 -B "$here/edits.py" "$(dirname "$here")" "$@"
