@@ -1,6 +1,6 @@
 // Blocks that are not 0.
 ghost use Rattle.std.specs.{Prelude.{◌≡◌, ℕ, ◌<◌, ◌≤◌, All, MatchOption, get_or, map}, Bool.{OnTrue, OnFalse}, Int.bit_at};
-ghost use Rattle.bit_blocks.specs.Mismatches.IsFirstNonzeroBlock;
+ghost use Rattle.bit_blocks.specs.Mismatches.{IsFirstNonzeroBlock};
 
 use crate::block::BitBlock;
 use crate::block::operators::{same, shift_right};

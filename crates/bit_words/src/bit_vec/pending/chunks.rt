@@ -1,6 +1,6 @@
 // The blocks that a walk has still to look at, by chunks: as many blocks as a block has bits.
 ghost use Rattle.std.specs.Prelude.{◌≡◌, ◌+◌, ◌<◌, ◌≤◌, ◌^◌, IfSome, drop};
-ghost use Rattle.bit_words.specs.Pending.IsNextChunk;
+ghost use Rattle.bit_words.specs.Pending.{IsNextChunk};
 
 use crate::bit_vec::pending::Pending;
 use crate::summary::is_nonzero;
