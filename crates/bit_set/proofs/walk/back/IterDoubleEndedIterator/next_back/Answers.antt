@@ -1,5 +1,5 @@
 use Rattle.std.proofs.Common.{ℕ, ◌+◌, ◌<◌, ◌^◌, length, length-append, Some, ap, arith}
-use Rattle.bit_set.{specs.{Indexes.{seen_of, IsSparseWalk}, Walk.AdvancesBack}, proofs.{SparseLemmas.{refilled_back, refilled_back-end, given_last}, walk.IterDoubleEndedIterator.next_back.Goals.After-take_highest_one}}
+use Rattle.bit_set.{specs.{Indexes.{seen_of, IsSparseWalk}, Walk.AdvancesBack}, proofs.{SparseLemmas.{refilled_back, refilled_back-end, given_last}, walk.back.IterDoubleEndedIterator.next_back.Goals.After-take_highest_one}}
 use Rattle.bit_set.proofs.walk.back.IterDoubleEndedIterator.next_back.Goals as goal
 
 -- the last element, out of the block that has it
