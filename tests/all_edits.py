@@ -2,7 +2,7 @@
 
     all_edits.py ROOT [CRATE ..]
 
-The gate tries the edits in crates/CRATE/must-fail; tests/edits/CRATE has the others, which tests/edits.txt lists with the
+`rt ci` tries the edits in crates/CRATE/must-fail; tests/edits/CRATE has the others, which tests/edits.txt lists with the
 clause that each of them breaks. For each edit a line says whether the prover refuses it, the processor seconds that took,
 and the first error. A check that stopped at a limit of the prover refuses nothing. The last line is 'N passed, M failed'.
 """

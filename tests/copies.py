@@ -99,9 +99,16 @@ def run_rt(folder, *words, at_line=None):
 
 
 def edits_of(root, name):
-    """The edits of a crate: those that the gate tries, and those that it does not."""
+    """The edits of a crate: those that `rt ci` tries, and those that it does not."""
     folders = (root / "crates" / name / "must-fail", root / "tests" / "edits" / name)
     return [sorted(it.glob("*.edit")) for it in folders]
+
+
+def gate_edits_of(root, name):
+    """The functions that must have no proof under the edits of tests/edits that the gate tries, by the edits."""
+    lines = (root / "tests" / "gate_edits.txt").read_text().splitlines()
+    rows = (re.fullmatch(rf"{name}/(\w+): (\S+)", it) for it in lines)
+    return {root / "tests" / "edits" / name / f"{row[1]}.edit": row[2] for row in rows if row}
 
 
 def texts_of(edit, folder):

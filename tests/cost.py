@@ -12,7 +12,7 @@ import sys
 import tempfile
 from pathlib import Path
 
-from copies import crates_of, edits_of, make_copy, run_rt, try_edit
+from copies import crates_of, edits_of, gate_edits_of, make_copy, run_rt, try_edit
 
 
 def prove(folder, *words):
@@ -39,7 +39,7 @@ def cost_of(root, crates, name, with_edits):
         is_proved, proof, more = prove(folder)
         functions += [row for row in more if row[1] not in {it[1] for it in functions}]
         edits = []
-        for edit in edits_of(root, name)[0] if with_edits else []:
+        for edit in [*edits_of(root, name)[0], *gate_edits_of(root, name)] if with_edits else []:
             word, _, seconds = try_edit(edit, folder)
             edits.append((seconds, f"{name}/{edit.stem} ({word})"))
     said = "" if proved and is_proved else "  NOT PROVED"

@@ -13,14 +13,7 @@ import sys
 import tempfile
 from pathlib import Path
 
-from copies import LIMITS, all_below, copy_parts, crates_of, words_of, write_edit
-
-
-def functions_of(root, crate):
-    """The functions that must have no proof, by the names of the edits."""
-    lines = (root / "tests" / "gate_edits.txt").read_text().splitlines()
-    rows = (re.fullmatch(rf"{crate}/(\w+): (\S+)", it) for it in lines)
-    return {row[1]: row[2] for row in rows if row}
+from copies import LIMITS, all_below, copy_parts, crates_of, gate_edits_of, words_of, write_edit
 
 
 def check(root, crates, crate, folder, function):
@@ -58,10 +51,10 @@ def try_edit(root, crates, crate, edit, function):
 def main():
     root, crate = Path(sys.argv[1]), sys.argv[2]
     crates, passed, failed = crates_of(root), 0, 0
-    for name, function in functions_of(root, crate).items():
-        refused, said = try_edit(root, crates, crate, root / "tests" / "edits" / crate / f"{name}.edit", function)
+    for edit, function in gate_edits_of(root, crate).items():
+        refused, said = try_edit(root, crates, crate, edit, function)
         passed, failed = passed + refused, failed + (not refused)
-        print(f"{'refused' if refused else 'FAILED'}: {crate}/{name}: {said}", flush=True)
+        print(f"{'refused' if refused else 'FAILED'}: {crate}/{edit.stem}: {said}", flush=True)
     if not passed + failed:
         failed = 1
         print(f"FAILED: tests/gate_edits.txt names no edit of {crate}")
