@@ -41,7 +41,8 @@ def try_edit(root, crates, crate, edit, function):
         except (OSError, ValueError) as error:
             return False, str(error)
         status, said = check(root, crates, crate, folder, function)
-    refused = re.search(rf"^fn {crate}::{function}: not proved", said, re.M)
+    # Where it is not proved since another function is not, the line goes on in another way.
+    refused = re.search(rf"^fn {crate}::{function}: (not proved$|no proof: expected answers in )", said, re.M)
     limit = LIMITS.search(said)
     if status == 1 and refused and not limit:
         return True, function
