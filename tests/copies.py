@@ -52,8 +52,9 @@ def all_below(crates, name):
 
 
 def copy_parts(folder, copy):
-    """Copies the sources and proofs of a crate from its folder."""
+    """Copies the sources and proofs of a crate from its folder, over what is there."""
     for part in PARTS:
+        shutil.rmtree(copy / part, ignore_errors=True)
         if (folder / part).is_dir():
             shutil.copytree(folder / part, copy / part)
 

@@ -3,8 +3,8 @@
     edits.py ROOT CRATE
 
 tests/gate_edits.txt names each edit with that function. The prover is asked for the function and what it calls alone, over
-the libraries below the crate as `rt ci` has just proved them in the checkout. A check that stopped at a limit of the prover
-refuses nothing. The last line is 'N passed, M failed'.
+the libraries below the crate as `rt ci` has just proved them in the checkout; what one edit has it prove is kept for the
+next. A check that stopped at a limit of the prover refuses nothing. The last line is 'N passed, M failed'.
 """
 
 import re
@@ -26,21 +26,19 @@ def check(root, crates, crate, folder, function):
     for name in all_below(crates, crate):
         words += ["-L", f"dependency={root}/crates/{name}/out/rlib"]
     words += ["-L", f"dependency={kit}/rlibs", "--antt-project", f"{kit}/rattle/logic/antt-project.json"]
-    words += ["--logic-built", f"{kit}/logic_built", "src/lib.rt"]
+    words += ["--logic-built", f"{kit}/logic_built", "--incremental", "kept", "src/lib.rt"]
     ran = subprocess.run(words, cwd=folder, stdin=subprocess.DEVNULL, stdout=subprocess.PIPE, stderr=subprocess.STDOUT, text=True, errors="replace")
     return ran.returncode, ran.stdout
 
 
-def try_edit(root, crates, crate, edit, function):
-    """Whether the prover refuses the function under the edit, and what it says first."""
-    with tempfile.TemporaryDirectory(prefix="edits-") as room:
-        folder = Path(room)
-        copy_parts(root / "crates" / crate, folder)
-        try:
-            write_edit(edit, folder)
-        except (OSError, ValueError) as error:
-            return False, str(error)
-        status, said = check(root, crates, crate, folder, function)
+def try_edit(root, crates, crate, folder, edit, function):
+    """Whether the prover refuses the function under the edit in this copy of the crate, and what it says first."""
+    copy_parts(root / "crates" / crate, folder)
+    try:
+        write_edit(edit, folder)
+    except (OSError, ValueError) as error:
+        return False, str(error)
+    status, said = check(root, crates, crate, folder, function)
     # Where it is not proved since another function is not, the line goes on in another way.
     refused = re.search(rf"^fn {crate}::{function}: (not proved$|no proof: expected answers in )", said, re.M)
     limit = LIMITS.search(said)
@@ -52,10 +50,11 @@ def try_edit(root, crates, crate, edit, function):
 def main():
     root, crate = Path(sys.argv[1]), sys.argv[2]
     crates, passed, failed = crates_of(root), 0, 0
-    for edit, function in gate_edits_of(root, crate).items():
-        refused, said = try_edit(root, crates, crate, edit, function)
-        passed, failed = passed + refused, failed + (not refused)
-        print(f"{'refused' if refused else 'FAILED'}: {crate}/{edit.stem}: {said}", flush=True)
+    with tempfile.TemporaryDirectory(prefix="edits-") as room:
+        for edit, function in gate_edits_of(root, crate).items():
+            refused, said = try_edit(root, crates, crate, Path(room), edit, function)
+            passed, failed = passed + refused, failed + (not refused)
+            print(f"{'refused' if refused else 'FAILED'}: {crate}/{edit.stem}: {said}", flush=True)
     if not passed + failed:
         failed = 1
         print(f"FAILED: tests/gate_edits.txt names no edit of {crate}")

@@ -1,5 +1,6 @@
 //! Rows and runs with their exact bytes, and readers and writers that fail.
 
+mod callers;
 mod fakes;
 mod faults;
 mod tables;
