@@ -139,6 +139,12 @@ def write_edit(edit, folder):
 LIMITS = re.compile(r"(step|depth|time|memory|size) limit|ran out of|could not tell|no verdict|gave up")
 
 
+def only_limits(said):
+    """Whether the prover came to a limit at each goal that is open. A name that is gone is no goal."""
+    goals = [it for it in said if "it is not proved that" in it or re.match(r"\S+:\d+:\d+: error", it) and " has no " not in it]
+    return any(LIMITS.search(it) for it in said) and all(LIMITS.search(it) for it in goals)
+
+
 def try_edit(edit, folder):
     """Checks the crate in this folder under the edit. Returns a word, what the first error says, and the processor seconds."""
     before = {}
@@ -158,6 +164,6 @@ def try_edit(edit, folder):
         return "NOT REFUSED", "the crate is still proved", seconds
     if status != 1 or not any(it.startswith("logic=not-proved") for it in said):
         return "NO VERDICT", first, seconds
-    if any(LIMITS.search(it) for it in said):
+    if only_limits(said):
         return "LIMIT", next(it for it in said if LIMITS.search(it))[:200], seconds
     return "refused", first, seconds

@@ -13,7 +13,7 @@ import sys
 import tempfile
 from pathlib import Path
 
-from copies import LIMITS, all_below, copy_parts, crates_of, gate_edits_of, words_of, write_edit
+from copies import all_below, copy_parts, crates_of, gate_edits_of, only_limits, words_of, write_edit
 
 
 def check(root, crates, crate, folder, function):
@@ -41,10 +41,10 @@ def try_edit(root, crates, crate, folder, edit, function):
     status, said = check(root, crates, crate, folder, function)
     # Where it is not proved since another function is not, the line goes on in another way.
     refused = re.search(rf"^fn {crate}::{function}: (not proved$|no proof: expected answers in )", said, re.M)
-    limit = LIMITS.search(said)
-    if status == 1 and refused and not limit:
+    limited = only_limits(said.splitlines())
+    if status == 1 and refused and not limited:
         return True, function
-    return False, limit[0] if limit else f"status {status}: {said.strip()[-300:]}"
+    return False, "a limit of the prover" if limited else f"status {status}: {said.strip()[-300:]}"
 
 
 def main():
