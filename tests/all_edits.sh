@@ -1,5 +1,5 @@
 #!/usr/bin/env bash
-# Tries every must-fail edit of the crates that are named, or of all: those that the gate tries, and those of
+# Tries every must-fail edit of the crates that are named, or of all: those that `rt ci` tries, and those of
 # tests/edits. Over the kept work of a proved checkout an edit takes 10 to 60 seconds. The last line is
 # 'N passed, M failed'.
 set -euo pipefail
