@@ -105,17 +105,20 @@ build_static() {
         || (cd "$crates/$name" && quietly "$kit/bin/rattle" build "${words[@]}" src/lib.rt)
 }
 
-# Builds the Rust program SOURCE over the static library NAME and over the peers.
-#   build_program NAME SOURCE PROGRAM
+# Builds the Rust program SOURCE over the static libraries NAMES and over the peers.
+#   build_program NAMES SOURCE PROGRAM
 build_program() {
-    local name="$1" memory
+    local name libraries=() memory
     say "proving and building this library, which takes some minutes the first time"
-    build_static "$name"
+    for name in $1; do
+        build_static "$name"
+        libraries+=(-C "link-arg=$crates/$name/out/lib$name.a")
+    done
     memory="$(dirname "$(rt doc | head -n 1)")/c/liblibc_c.a"
     [ -f "$memory" ] || missing "$memory" "the toolchain's library of the calls that take memory"
     rust --edition 2024 "$2" -L "$folder" --extern "bit_set=$folder/libbit_set.rlib" \
         --extern "bit_vec=$folder/libbit_vec.rlib" --extern "fixedbitset=$folder/libfixedbitset.rlib" \
-        -C "link-arg=$crates/$name/out/lib$name.a" -C "link-arg=$memory" -o "$3"
+        "${libraries[@]}" -C "link-arg=$memory" -o "$3"
 }
 
 # Which toolchains and peers these are.

@@ -4,16 +4,11 @@
 #![tactic(auto)]
 
 mod capacity;
-mod determinizing;
 mod filling;
-mod graphs;
 mod input_sets;
 mod inserting;
-mod live_variables;
-mod matrices;
 mod ranges;
 mod reading;
-mod slots;
 mod small_changes;
 mod small_reads;
 mod splits;

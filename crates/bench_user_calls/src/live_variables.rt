@@ -1,8 +1,18 @@
 // Live variables, as the least solution of the blocks' equations.
-use crate::input_sets::set_of;
-use bit_set::{BitBlock, SetError};
+use bit_set::{BitBlock, BitSet, SetError};
 use dataflow::{FlowBlock, solve};
 use std::alloc::Global;
+
+// The set of the variables, with capacity for all that there are.
+fn set_of<B: BitBlock>(
+    alloc: Global,
+    variables: usize,
+    members: &[usize],
+) -> Result<BitSet<B>, SetError> {
+    let mut set = BitSet::with_capacity_general(alloc, variables)?;
+    set.extend(members.iter().copied())?;
+    Ok(set)
+}
 
 // A block for each 18 numbers: two successors, then the eight variables that the block generates, then the eight that
 // it kills.

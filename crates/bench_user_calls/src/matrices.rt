@@ -2,8 +2,8 @@
 ghost use Rattle.std.specs.Prelude.{◌≡◌, ◌<◌, length};
 
 use crate::graphs::end_of;
-use crate::input_sets::set_of;
 use bit_matrix::{BitBlock, BitMatrix, MatrixError};
+use bit_set::BitSet;
 use graph_walks::transitive_closure;
 use std::alloc::{AllocError, Global};
 
@@ -144,7 +144,7 @@ fn sum_of_row(matrix: &BitMatrix<u64>, row: usize) -> usize
 
 // Walks over a row of the members. One number leaves after each turn, so that no turn can be the result of another.
 fn walk_turns(alloc: Global, members: &[usize], turns: usize) -> Option<usize> {
-    let set = set_of::<u64>(alloc, 0, members).ok()?;
+    let set = BitSet::<u64>::from_iter(alloc, members.iter().copied()).ok()?;
     let mut matrix = BitMatrix::from_row(alloc, &set, 1).ok()?;
     let mut sum = 0usize;
     for turn in 0..turns {
