@@ -1,25 +1,17 @@
 #!/usr/bin/env bash
-# Proves the longest chain of crates that others wait for, by an `rt ci` of their own in a copy. `rt ci` gives a proof half
-# of the cores while no other can begin, and one core else; and it takes what another run has proved or is proving. So
-# these are proved on two cores each, and the gate's own run has the others for what needs less. Where rt can keep
-# nothing, nothing is proved here. It counts nothing, since the gate's own run says what is not proved. The last line is
-# 'N passed, M failed'.
+# Has `rt ci` prove the longest chain of crates ahead of the gate's own run. It gives a proof half of the cores while no
+# other can begin, and else one; and it takes what another run on the machine has proved, or is proving. So the chain up
+# to graph_walks is proved on two cores, and the gate's run has the others for what needs less; then refusals, which takes
+# longest, and for which the gate's run has no memory until late. Where rt can keep nothing, nothing is proved here.
+# It counts nothing: the gate's own run says what is not proved. The last line is 'N passed, M failed'.
 set -uo pipefail
 unset CDPATH
-top="$(dirname "$(dirname "$(readlink -f "${BASH_SOURCE[0]}")")")"
-crates=(bit_blocks bit_words bit_set bit_matrix graph_walks)
+cd "$(dirname "$(dirname "$(readlink -f "${BASH_SOURCE[0]}")")")" || exit 1
 kept="$(dirname "$(dirname "$(rt doc | head -n 1)")")/rattle-kept"
-room="$(mktemp -d)"
-trap 'rm -rf "$room"' EXIT
 if mkdir -p -m 700 "$kept" 2> /dev/null && [ -O "$kept" ]; then
-    mkdir "$room/crates"
-    for crate in "${crates[@]}"; do
-        mkdir "$room/crates/$crate"
-        cp -r "$top/crates/$crate"/{src,specs,proofs} "$room/crates/$crate"
-        grep "^$crate:" "$top/crates.txt" >> "$room/crates.txt"
+    for crate in graph_walks refusals; do
+        # Some crates are no gate, and where CI is set rt refuses to take them for one.
+        echo "ahead: $crate: $(env -u CI rt ci "$crate" < /dev/null 2>&1 | tail -n 1)"
     done
-    cp "$top/HANDLES" "$room"
-    (cd "$room" && rt ci < /dev/null) > "$room/said" 2>&1
-    echo "ahead: $(tail -n 1 "$room/said")"
 fi
 echo '0 passed, 0 failed'
