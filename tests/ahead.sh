@@ -2,16 +2,16 @@
 # Has `rt ci` prove the longest chain of crates ahead of the gate's own run. It gives a proof half of the cores while no
 # other can begin, and else one; and it takes what another run on the machine has proved, or is proving. So the chain up
 # to graph_walks is proved on two cores, and the gate's run has the others for what needs less; then refusals, which takes
-# longest, and for which the gate's run has no memory until late. Where rt can keep nothing, nothing is proved here.
-# It counts nothing: the gate's own run says what is not proved. The last line is 'N passed, M failed'.
+# longest, and for which the gate's run has no memory until late. Where rt can keep nothing, or takes no names of crates
+# since CI is set, nothing is proved here. It counts nothing: the gate's own run says what is not proved. The last line is
+# 'N passed, M failed'.
 set -uo pipefail
 unset CDPATH
 cd "$(dirname "$(dirname "$(readlink -f "${BASH_SOURCE[0]}")")")" || exit 1
 kept="$(dirname "$(dirname "$(rt doc | head -n 1)")")/rattle-kept"
-if mkdir -p -m 700 "$kept" 2> /dev/null && [ -O "$kept" ]; then
+if [ "${CI:-}" != true ] && mkdir -p -m 700 "$kept" 2> /dev/null && [ -O "$kept" ]; then
     for crate in graph_walks refusals; do
-        # Some crates are no gate, and where CI is set rt refuses to take them for one.
-        echo "ahead: $crate: $(env -u CI rt ci "$crate" < /dev/null 2>&1 | tail -n 1)"
+        echo "ahead: $crate: $(rt ci "$crate" < /dev/null 2>&1 | tail -n 1)"
     done
 fi
 echo '0 passed, 0 failed'
