@@ -1,18 +1,20 @@
-"""Tries every must-fail edit, also those that the gate does not, over the kept work of a proved checkout.
+"""Tries every must-fail edit, also those that the gate does not.
 
     all_edits.py ROOT [CRATE ..]
 
 `rt ci` tries the edits in crates/CRATE/must-fail; tests/edits/CRATE has the others, which tests/edits.txt lists with the
 clause that each of them breaks. For each edit a line says whether the prover refuses it, the processor seconds that took,
-and the first error. A check that stopped at a limit of the prover refuses nothing. The last line is 'N passed, M failed'.
+and the first error. A check that stopped at a limit of the prover refuses nothing. A crate is proved once more before its
+edits are tried, unless a check in its folder has kept that. The last line is 'N passed, M failed'.
 """
 
+import shutil
 import sys
 import tempfile
 from concurrent.futures import ThreadPoolExecutor
 from pathlib import Path
 
-from copies import crates_of, edits_of, make_copy, run_rt, try_edit
+from copies import check_words, copy_parts, crates_of, edits_of, run, try_edit
 
 
 def try_crate(root, crates, name):
@@ -21,11 +23,15 @@ def try_crate(root, crates, name):
     if not edits:
         return []
     with tempfile.TemporaryDirectory(prefix="all-edits-") as room:
-        folder = make_copy(root, crates, name, Path(room), kept=True)
-        status, said, seconds = run_rt(folder, "check", "--jobs", "1")
+        folder, kept = Path(room), root / "crates" / name / "out" / "incremental"
+        copy_parts(root / "crates" / name, folder)
+        if kept.is_dir():
+            shutil.copytree(kept, folder / "kept")
+        command = check_words(root, crates, name, "--incremental", "kept")
+        status, said, seconds = run(folder, *command)
         rows = [("proved" if status == 0 else "NOT PROVED", f"{name} as it is", said[-1][:120], seconds)]
         for edit in edits:
-            word, first, seconds = try_edit(edit, folder)
+            word, first, seconds = try_edit(edit, folder, *command)
             rows.append((word, f"{name}/{edit.stem}", first, seconds))
             print(f"{seconds:7.1f} s  {word:11}  {name}/{edit.stem}: {first}", flush=True)
     return rows

@@ -1,6 +1,6 @@
-"""Copies of crates in which something is tried, and what rt says there.
+"""Copies of crates in which something is tried, and what the prover says there.
 
-A copy has the files of the checkout as they are, of a crate and of those below it, with what rt keeps of them.
+A copy has the files of a crate as they are in the checkout. The libraries below it are those that the checkout has built.
 """
 
 import os
@@ -59,17 +59,21 @@ def copy_parts(folder, copy):
             shutil.copytree(folder / part, copy / part)
 
 
-def make_copy(root, crates, name, room, kept):
-    """Copies a crate and those below it to the room; of the crate itself what its checks kept too, where that is wanted."""
-    copied = [*all_below(crates, name), name]
-    lines = (root / "crates.txt").read_text().splitlines(keepends=True)
-    (room / "crates.txt").write_text("".join(it for it in lines if re.split("[ :]", it)[0] in copied))
-    for it in copied:
-        parts = [*PARTS, "out/rlib", *["out/incremental"] * (kept and it == name)]
-        for part in parts:
-            if (root / "crates" / it / part).is_dir():
-                shutil.copytree(root / "crates" / it / part, room / "crates" / it / part)
-    return room / "crates" / name
+def check_words(root, crates, name, *flags):
+    """The command that checks a crate, in a copy of its folder, over the libraries below it as the checkout has them built."""
+    said = subprocess.run(["rt", "doc"], check=True, capture_output=True, text=True).stdout
+    kit = Path(said.splitlines()[0]).parent
+    words = ["rattle", "check", "--crate-name", name, "--extern", f"std={kit}/rlibs/std.rlib"]
+    for it in words_of(root, name):
+        built = kit / "rlibs" if it not in crates else root / "crates" / it / "out" / "rlib"
+        words += ["--extern", f"{it}={built}/{it}.rlib"]
+    for it in all_below(crates, name):
+        words += ["-L", f"dependency={root}/crates/{it}/out/rlib"]
+    if re.search(rf"^{name} +staticlib\b", (root / "crates.txt").read_text(), re.M):
+        words += ["--crate-type", "staticlib", "--links", f"{name}="]
+    words += ["-L", f"dependency={kit}/rlibs", "--antt-project", f"{kit}/rattle/logic/antt-project.json"]
+    words += ["--logic-built", f"{kit}/logic_built", *flags]
+    return [*words, "src/main.rt" if (root / "crates" / name / "src" / "main.rt").exists() else "src/lib.rt"]
 
 
 def used_by(group):
@@ -85,10 +89,10 @@ def used_by(group):
     return ticks / os.sysconf("SC_CLK_TCK")
 
 
-def run_rt(folder, *words, at_line=None):
-    """Runs rt there, and returns its status, what it said and its processor seconds. Each line is handed on as it comes."""
+def run(folder, *words, at_line=None):
+    """Runs a command there, and returns its status, what it said and its processor seconds. Each line is handed on as it comes."""
     how = {"stdin": subprocess.DEVNULL, "stdout": subprocess.PIPE, "stderr": subprocess.STDOUT, "text": True, "errors": "replace"}
-    ran = subprocess.Popen(["rt", *words], cwd=folder, start_new_session=True, **how)
+    ran = subprocess.Popen(words, cwd=folder, start_new_session=True, **how)
     said = []
     for line in ran.stdout:
         said.append(line.rstrip("\n"))
@@ -145,14 +149,15 @@ def only_limits(said):
     return any(LIMITS.search(it) for it in said) and all(LIMITS.search(it) for it in goals)
 
 
-def try_edit(edit, folder):
-    """Checks the crate in this folder under the edit. Returns a word, what the first error says, and the processor seconds."""
+def try_edit(edit, folder, *command):
+    """Checks the crate in this folder by the command, under the edit. Returns a word, what the first error says, and the
+    processor seconds."""
     before = {}
     try:
         for path, text in texts_of(edit, folder).items():
             before[path] = (folder / path).read_text()
             (folder / path).write_text(text)
-        status, said, seconds = run_rt(folder, "check", "--jobs", "1")
+        status, said, seconds = run(folder, *command)
     except (OSError, ValueError) as error:
         return "BAD", str(error), 0.0
     finally:

@@ -2,22 +2,20 @@
 
     cost.py ROOT [--edits] [CRATE ..]
 
-Each crate, and its tests, is proved from nothing with one job, in a copy of the checkout; the libraries below it are those
-that the checkout has built. With --edits the edits that the gate tries are tried too. A row a crate, then the ten slowest
-functions and edits of all.
+Each crate, and its tests, is proved from nothing with one job, in a copy of its folder; the libraries below it are those
+that the checkout has built. With --edits the edits that the gate tries are tried too, over a proof of the crate that is
+kept. A row a crate, then the ten slowest functions and edits of all.
 """
 
-import shutil
 import sys
 import tempfile
 from pathlib import Path
 
-from copies import crates_of, edits_of, gate_edits_of, make_copy, run_rt, try_edit
+from copies import check_words, copy_parts, crates_of, edits_of, gate_edits_of, run, try_edit
 
 
-def prove(folder, *words):
+def prove(folder, command):
     """Proves the crate from nothing. Returns whether it is proved, the seconds, and those of each function."""
-    shutil.rmtree(folder / "out" / "incremental", ignore_errors=True)
     rows, last = [], 0.0
 
     def at_line(line, used):
@@ -26,25 +24,31 @@ def prove(folder, *words):
             rows.append((used - last, line[len("checked ") :].partition(",")[0]))
         last = max(last, used)
 
-    status, _, seconds = run_rt(folder, "check", "--jobs", "1", "--progress", *words, at_line=at_line)
+    status, _, seconds = run(folder, *command, at_line=at_line)
     return status == 0, seconds, rows
 
 
 def cost_of(root, crates, name, with_edits):
     """The seconds of a crate's proof, of that with its tests, and of its edits; and the rows of its functions and edits."""
     with tempfile.TemporaryDirectory(prefix="cost-") as room:
-        folder = make_copy(root, crates, name, Path(room), kept=False)
+        folder = Path(room)
+        copy_parts(root / "crates" / name, folder)
         has_tests = any("#[test]" in it.read_text() for it in folder.glob("src/**/*.rt"))
-        proved, tests, functions = prove(folder, "--test") if has_tests else (True, 0.0, [])
-        is_proved, proof, more = prove(folder)
-        functions += [row for row in more if row[1] not in {it[1] for it in functions}]
+        flags = ("--jobs", "1", "--progress")
+        tests = prove(folder, check_words(root, crates, name, *flags, "--test")) if has_tests else (True, 0.0, [])
+        proof = prove(folder, check_words(root, crates, name, *flags))
+        functions = tests[2] + [row for row in proof[2] if row[1] not in {it[1] for it in tests[2]}]
+        over = check_words(root, crates, name, "--incremental", "kept")
+        found = [*edits_of(root, name)[0], *gate_edits_of(root, name)] if with_edits else []
+        if found:
+            run(folder, *over)
         edits = []
-        for edit in [*edits_of(root, name)[0], *gate_edits_of(root, name)] if with_edits else []:
-            word, _, seconds = try_edit(edit, folder)
+        for edit in found:
+            word, _, seconds = try_edit(edit, folder, *over)
             edits.append((seconds, f"{name}/{edit.stem} ({word})"))
-    said = "" if proved and is_proved else "  NOT PROVED"
-    print(f"{name:26}{proof:9.0f}{tests:9.0f}{sum(it[0] for it in edits):9.0f}{len(edits):6}{said}", flush=True)
-    return proof, tests, functions, edits
+    said = "" if tests[0] and proof[0] else "  NOT PROVED"
+    print(f"{name:26}{proof[1]:9.0f}{tests[1]:9.0f}{sum(it[0] for it in edits):9.0f}{len(edits):6}{said}", flush=True)
+    return proof[1], tests[1], functions, edits
 
 
 def main():

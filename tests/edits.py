@@ -3,58 +3,90 @@
     edits.py ROOT CRATE
 
 tests/gate_edits.txt names each edit with that function. The prover is asked for the function and what it calls alone, over
-the libraries below the crate as `rt ci` has just proved them in the checkout; what one edit has it prove is kept for the
-next. A check that stopped at a limit of the prover refuses nothing. The last line is 'N passed, M failed'.
+the libraries below the crate as `rt ci` has just proved them in the checkout; what it proves once is kept. Edits of
+different functions are tried in one run of it: each changes a body alone, and the proof of a function rests on the contracts
+of others, not on their bodies. A function is refused where a goal of its own is open, and not for a limit of the prover
+alone. The last line is 'N passed, M failed'.
 """
 
 import re
-import subprocess
 import sys
 import tempfile
 from pathlib import Path
 
-from copies import all_below, copy_parts, crates_of, gate_edits_of, only_limits, words_of, write_edit
+from copies import LIMITS, check_words, copy_parts, crates_of, gate_edits_of, run, write_edit
 
 
-def check(root, crates, crate, folder, function):
-    """What rattle says of the function in this copy of the crate, and its status."""
-    kit = Path(subprocess.run(["rt", "doc"], check=True, capture_output=True, text=True).stdout.splitlines()[0]).parent
-    words = ["rattle", "check", "--crate-name", crate, "--only", function, "--extern", f"std={kit}/rlibs/std.rlib"]
-    for name in words_of(root, crate):
-        built = kit / "rlibs" if name not in crates else root / "crates" / name / "out" / "rlib"
-        words += ["--extern", f"{name}={built}/{name}.rlib"]
-    for name in all_below(crates, crate):
-        words += ["-L", f"dependency={root}/crates/{name}/out/rlib"]
-    words += ["-L", f"dependency={kit}/rlibs", "--antt-project", f"{kit}/rattle/logic/antt-project.json"]
-    words += ["--logic-built", f"{kit}/logic_built", "--incremental", "kept", "src/lib.rt"]
-    ran = subprocess.run(words, cwd=folder, stdin=subprocess.DEVNULL, stdout=subprocess.PIPE, stderr=subprocess.STDOUT, text=True, errors="replace")
-    return ran.returncode, ran.stdout
+def check(root, crates, crate, folder, functions):
+    """What rattle says of the functions in this copy of the crate, and its status."""
+    asked = [word for function in functions for word in ("--only", function)]
+    status, said, _ = run(folder, *check_words(root, crates, crate, *asked, "--incremental", "kept"))
+    return status, said
 
 
-def try_edit(root, crates, crate, folder, edit, function):
-    """Whether the prover refuses the function under the edit in this copy of the crate, and what it says first."""
+def rounds_of(edits):
+    """The edits with their functions in rounds, in none of which two have the same function."""
+    rounds = []
+    for edit, function in edits.items():
+        free = next((it for it in rounds if function not in it.values()), None)
+        if free is None:
+            free = {}
+            rounds.append(free)
+        free[edit] = function
+    return rounds
+
+
+def own_goals(said, crate, function):
+    """The goals of the function itself that are open: where its proof fails, and those that the notes above its line name.
+
+    A name that is gone is no goal, and one that waits for the proof of a callee is not named."""
+    folder, goals, above = f"./proofs/{function.replace('::', '/')}/", [], []
+    for line in said:
+        if line.startswith(folder) and ": error: " in line and " has no " not in line:
+            goals.append(line)
+        if line.startswith(f"fn {crate}::{function}: "):
+            goals += above
+        above = [] if line.startswith("fn ") else above + [line] * ("it is not proved that" in line)
+    return goals
+
+
+def refuses(said, crate, function):
+    """Whether the function has no proof, and one of its own goals is open for more than a limit of the prover."""
+    is_open = any(re.match(rf"fn {crate}::{function}: (not proved|no proof: expected answers in )", it) for it in said)
+    return is_open and any(not LIMITS.search(it) for it in own_goals(said, crate, function))
+
+
+def try_edits(root, crates, crate, folder, edits):
+    """For each edit, whether the prover refuses its function in a copy of the crate that has all of them, and what it says."""
     copy_parts(root / "crates" / crate, folder)
     try:
-        write_edit(edit, folder)
+        for edit in edits:
+            write_edit(edit, folder)
     except (OSError, ValueError) as error:
-        return False, str(error)
-    status, said = check(root, crates, crate, folder, function)
-    # Where it is not proved since another function is not, the line goes on in another way.
-    refused = re.search(rf"^fn {crate}::{function}: (not proved$|no proof: expected answers in )", said, re.M)
-    limited = only_limits(said.splitlines())
-    if status == 1 and refused and not limited:
-        return True, function
-    return False, "a limit of the prover" if limited else f"status {status}: {said.strip()[-300:]}"
+        return {edit: (False, str(error)) for edit in edits}
+    status, said = check(root, crates, crate, folder, edits.values())
+    end = f"status {status}: {' '.join(said)[-300:]}"
+    refused = {edit: status == 1 and refuses(said, crate, function) for edit, function in edits.items()}
+    return {edit: (refused[edit], function if refused[edit] else end) for edit, function in edits.items()}
+
+
+def try_round(root, crates, crate, folder, edits):
+    """As `try_edits`, and each edit that is not refused there by itself, since another may keep its goals from being tried."""
+    found = try_edits(root, crates, crate, folder, edits)
+    for edit, function in edits.items():
+        if not found[edit][0] and len(edits) > 1:
+            found.update(try_edits(root, crates, crate, folder, {edit: function}))
+    return found
 
 
 def main():
     root, crate = Path(sys.argv[1]), sys.argv[2]
     crates, passed, failed = crates_of(root), 0, 0
     with tempfile.TemporaryDirectory(prefix="edits-") as room:
-        for edit, function in gate_edits_of(root, crate).items():
-            refused, said = try_edit(root, crates, crate, Path(room), edit, function)
-            passed, failed = passed + refused, failed + (not refused)
-            print(f"{'refused' if refused else 'FAILED'}: {crate}/{edit.stem}: {said}", flush=True)
+        for edits in rounds_of(gate_edits_of(root, crate)):
+            for edit, (refused, said) in try_round(root, crates, crate, Path(room), edits).items():
+                passed, failed = passed + refused, failed + (not refused)
+                print(f"{'refused' if refused else 'FAILED'}: {crate}/{edit.stem}: {said}", flush=True)
     if not passed + failed:
         failed = 1
         print(f"FAILED: tests/gate_edits.txt names no edit of {crate}")
