@@ -3,6 +3,27 @@ use crate::input_sets::set_of;
 use bit_set::{BitBlock, BitSet, SetError};
 use std::alloc::Global;
 
+// Puts the numbers in, and says how many were not in yet.
+#[inline(always)]
+fn insert_all<B: BitBlock>(set: &mut BitSet<B>, numbers: &[usize]) -> Result<usize, SetError> {
+    let mut new = 0usize;
+    for number in numbers {
+        new = new.wrapping_add(usize::from(set.insert(*number)?));
+    }
+    Ok(new)
+}
+
+// The same with a new set.
+#[inline(always)]
+fn insert_into_new<B: BitBlock>(
+    alloc: Global,
+    len: usize,
+    numbers: &[usize],
+) -> Result<usize, SetError> {
+    let mut set = BitSet::<B>::with_capacity_general(alloc, len)?;
+    insert_all(&mut set, numbers)
+}
+
 fn insert_with_capacity<B: BitBlock>(
     alloc: Global,
     len: usize,
@@ -11,10 +32,7 @@ fn insert_with_capacity<B: BitBlock>(
 ) -> Result<usize, SetError> {
     let mut new = 0usize;
     for _ in 0..turns {
-        let mut set = BitSet::<B>::with_capacity_general(alloc, len)?;
-        for number in numbers {
-            new = new.wrapping_add(usize::from(set.insert(*number)?));
-        }
+        new = new.wrapping_add(insert_into_new::<B>(alloc, len, numbers)?);
     }
     Ok(new)
 }
@@ -49,9 +67,7 @@ pub(crate) fn insert_below<B: BitBlock>(
     let mut new = 0usize;
     for _ in 0..turns {
         set.make_empty();
-        for number in numbers {
-            new = new.wrapping_add(usize::from(set.insert(*number)?));
-        }
+        new = new.wrapping_add(insert_all(&mut set, numbers)?);
     }
     Ok(new)
 }

@@ -1,6 +1,6 @@
 // Sets that are read.
 use crate::input_sets::set_of;
-use bit_set::{BitBlock, SetError};
+use bit_set::{BitBlock, BitSet, SetError};
 use std::alloc::Global;
 
 pub(crate) fn contains<B: BitBlock>(
@@ -39,6 +39,15 @@ pub extern "C" fn bench_contains_u64(
     contains::<u64>(alloc, members, numbers, turns).unwrap_or(usize::MAX)
 }
 
+#[inline(always)]
+pub(crate) fn sum_of_set<B: BitBlock>(set: &BitSet<B>) -> usize {
+    let mut sum = 0usize;
+    for item in set {
+        sum = sum.wrapping_add(item);
+    }
+    sum
+}
+
 // One number leaves after each turn, so that no turn can be the result of another.
 pub(crate) fn walk<B: BitBlock>(
     alloc: Global,
@@ -48,9 +57,7 @@ pub(crate) fn walk<B: BitBlock>(
     let mut set = set_of::<B>(alloc, 0, members)?;
     let mut sum = 0usize;
     for turn in 0..turns {
-        for item in &set {
-            sum = sum.wrapping_add(item);
-        }
+        sum = sum.wrapping_add(sum_of_set(&set));
         let _was = set.remove(turn);
     }
     Ok(sum)

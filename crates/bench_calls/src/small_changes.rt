@@ -1,10 +1,11 @@
 // Calls that change or make sets of a few blocks. Turns take one of two sets in turn, so that no turn can be the result
-// of another.
+// of another. The turns of a call are a function that borrows its sets: where the sets are owned, each failure drops them
+// all, and the proof pays for each.
 use crate::input_sets::set_of;
 use crate::two_sets::{change_by, merge_into};
 use bit_set::bit_vec::Merge;
 use bit_set::{BitSet, SetError};
-use std::alloc::Global;
+use std::alloc::{AllocError, Global};
 
 // Two sets of the numbers, as long as `len` or longer.
 pub(crate) fn two_of(
@@ -17,6 +18,24 @@ pub(crate) fn two_of(
         sets.push(set_of(alloc, len, numbers)?)?;
     }
     Ok(sets)
+}
+
+// Two sets of some numbers, and one of others.
+#[derive(Drop)]
+struct SetsAndOther {
+    sets: Vec<BitSet<u32>>,
+    other: BitSet<u32>,
+}
+
+fn two_and_other(
+    alloc: Global,
+    len: usize,
+    first: &[usize],
+    second: &[usize],
+) -> Result<SetsAndOther, SetError> {
+    let sets = two_of(alloc, len, first)?;
+    let other = set_of(alloc, len, second)?;
+    Ok(SetsAndOther { sets, other })
 }
 
 // The set of the first numbers without the second.
@@ -47,6 +66,21 @@ fn count_all(sets: &[BitSet<u32>]) -> usize {
     sum
 }
 
+#[inline(always)]
+fn merge_each(
+    merge: Merge,
+    sets: &mut [BitSet<u32>],
+    other: &BitSet<u32>,
+    turns: usize,
+) -> Result<usize, SetError> {
+    for turn in 0..turns {
+        if let Some(set) = sets.get_mut(turn % 2) {
+            merge_into(merge, set, other)?;
+        }
+    }
+    Ok(count_all(sets))
+}
+
 // It goes into each of its callers, so that no turn picks the merge.
 #[inline(always)]
 fn merge_turns(
@@ -57,14 +91,24 @@ fn merge_turns(
     second: &[usize],
     turns: usize,
 ) -> Result<usize, SetError> {
-    let mut sets = two_of(alloc, len, first)?;
-    let other = set_of(alloc, len, second)?;
+    let mut made = two_and_other(alloc, len, first, second)?;
+    merge_each(merge, made.sets.as_mut_slice(), &made.other, turns)
+}
+
+#[inline(always)]
+fn change_each(
+    merge: Merge,
+    sets: &mut [BitSet<u32>],
+    other: &BitSet<u32>,
+    turns: usize,
+) -> Result<usize, SetError> {
+    let mut changes = 0usize;
     for turn in 0..turns {
         if let Some(set) = sets.get_mut(turn % 2) {
-            merge_into(merge, set, &other)?;
+            changes = changes.wrapping_add(usize::from(change_by(merge, set, other)?));
         }
     }
-    Ok(count_all(sets.as_slice()))
+    Ok(changes.wrapping_add(count_all(sets)))
 }
 
 // The same merges, by the calls that tell whether they changed the set. Adds up how often they did.
@@ -77,15 +121,24 @@ fn change_turns(
     second: &[usize],
     turns: usize,
 ) -> Result<usize, SetError> {
-    let mut sets = two_of(alloc, len, first)?;
-    let other = set_of(alloc, len, second)?;
+    let mut made = two_and_other(alloc, len, first, second)?;
+    change_each(merge, made.sets.as_mut_slice(), &made.other, turns)
+}
+
+#[inline(always)]
+fn fuse_each(
+    sets: &mut [BitSet<u32>],
+    other: &BitSet<u32>,
+    except: &BitSet<u32>,
+    turns: usize,
+) -> Result<usize, SetError> {
     let mut changes = 0usize;
     for turn in 0..turns {
         if let Some(set) = sets.get_mut(turn % 2) {
-            changes = changes.wrapping_add(usize::from(change_by(merge, set, &other)?));
+            changes = changes.wrapping_add(usize::from(set.union_with_difference(other, except)?));
         }
     }
-    Ok(changes.wrapping_add(count_all(sets.as_slice())))
+    Ok(changes.wrapping_add(count_all(sets)))
 }
 
 // Each turn puts in what the second numbers have and the first have not.
@@ -96,18 +149,38 @@ fn fused_turns(
     second: &[usize],
     turns: usize,
 ) -> Result<usize, SetError> {
-    let mut sets = two_of(alloc, len, first)?;
-    let other = set_of(alloc, len, second)?;
+    let mut made = two_and_other(alloc, len, first, second)?;
     let except = without(alloc, len, first, second)?;
-    let mut changes = 0usize;
+    fuse_each(made.sets.as_mut_slice(), &made.other, &except, turns)
+}
+
+#[inline(always)]
+fn unite_by_copy(
+    set: &mut BitSet<u32>,
+    copy: &mut BitSet<u32>,
+    other: &BitSet<u32>,
+    except: &BitSet<u32>,
+) -> Result<(), AllocError> {
+    copy.clone_from(other)?;
+    copy.difference_with(except)?;
+    set.union_with(copy)
+}
+
+#[inline(always)]
+fn unite_each_by_copy(
+    alloc: Global,
+    sets: &mut [BitSet<u32>],
+    other: &BitSet<u32>,
+    except: &BitSet<u32>,
+    turns: usize,
+) -> Result<usize, SetError> {
+    let mut copy = other.clone(alloc)?;
     for turn in 0..turns {
         if let Some(set) = sets.get_mut(turn % 2) {
-            changes = changes.wrapping_add(usize::from(set.union_with_difference(
-                &other, &except,
-            )?));
+            unite_by_copy(set, &mut copy, other, except)?;
         }
     }
-    Ok(changes.wrapping_add(count_all(sets.as_slice())))
+    Ok(count_all(sets))
 }
 
 // The same by two merges over a copy, which do not tell whether the set changed.
@@ -118,18 +191,9 @@ fn parted_turns(
     second: &[usize],
     turns: usize,
 ) -> Result<usize, SetError> {
-    let mut sets = two_of(alloc, len, first)?;
-    let other = set_of(alloc, len, second)?;
+    let mut made = two_and_other(alloc, len, first, second)?;
     let except = without(alloc, len, first, second)?;
-    let mut copy = other.clone(alloc)?;
-    for turn in 0..turns {
-        if let Some(set) = sets.get_mut(turn % 2) {
-            copy.clone_from(&other)?;
-            copy.difference_with(&except)?;
-            set.union_with(&copy)?;
-        }
-    }
-    Ok(count_all(sets.as_slice()))
+    unite_each_by_copy(alloc, made.sets.as_mut_slice(), &made.other, &except, turns)
 }
 
 fn clone_turns(
@@ -149,6 +213,20 @@ fn clone_turns(
     Ok(found)
 }
 
+#[inline(always)]
+fn clone_into_each(
+    sets: &mut [BitSet<u32>],
+    other: &BitSet<u32>,
+    turns: usize,
+) -> Result<usize, SetError> {
+    for turn in 0..turns {
+        if let Some(set) = sets.get_mut(turn % 2) {
+            set.clone_from(other)?;
+        }
+    }
+    Ok(count_all(sets))
+}
+
 fn clone_from_turns(
     alloc: Global,
     len: usize,
@@ -156,14 +234,8 @@ fn clone_from_turns(
     second: &[usize],
     turns: usize,
 ) -> Result<usize, SetError> {
-    let mut sets = two_of(alloc, len, first)?;
-    let other = set_of(alloc, len, second)?;
-    for turn in 0..turns {
-        if let Some(set) = sets.get_mut(turn % 2) {
-            set.clone_from(&other)?;
-        }
-    }
-    Ok(count_all(sets.as_slice()))
+    let mut made = two_and_other(alloc, len, first, second)?;
+    clone_into_each(made.sets.as_mut_slice(), &made.other, turns)
 }
 
 fn with_capacity_turns(

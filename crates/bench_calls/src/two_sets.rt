@@ -64,6 +64,24 @@ pub(crate) fn change_by<B: BitBlock>(
     }
 }
 
+// The sets that a call owns. Its turns are a function that borrows them: where they are owned, each failure drops them
+// all, and the proof pays for each.
+#[derive(Drop)]
+struct TwoSets<B: BitBlock> {
+    one: BitSet<B>,
+    other: BitSet<B>,
+}
+
+fn two_of<B: BitBlock>(
+    alloc: Global,
+    first: &[usize],
+    second: &[usize],
+) -> Result<TwoSets<B>, SetError> {
+    let one = set_of(alloc, 0, first)?;
+    let other = set_of(alloc, 0, second)?;
+    Ok(TwoSets { one, other })
+}
+
 // One number leaves after each turn, so that no turn can be the result of another.
 pub(crate) fn walk_merged<B: BitBlock>(
     alloc: Global,
@@ -99,6 +117,21 @@ pub(crate) fn count_merged<B: BitBlock>(
     Ok(sum)
 }
 
+#[inline(always)]
+fn merge_each_turn<B: BitBlock>(
+    merge: Merge,
+    one: &mut BitSet<B>,
+    other: &BitSet<B>,
+    turns: usize,
+) -> Result<usize, SetError> {
+    let mut were = 0usize;
+    for turn in 0..turns {
+        merge_into(merge, one, other)?;
+        were = were.wrapping_add(usize::from(one.remove(turn)));
+    }
+    Ok(were)
+}
+
 pub(crate) fn merge_in_place<B: BitBlock>(
     alloc: Global,
     merge: Merge,
@@ -106,12 +139,21 @@ pub(crate) fn merge_in_place<B: BitBlock>(
     second: &[usize],
     turns: usize,
 ) -> Result<usize, SetError> {
-    let mut one = set_of::<B>(alloc, 0, first)?;
-    let other = set_of::<B>(alloc, 0, second)?;
+    let mut sets = two_of::<B>(alloc, first, second)?;
+    merge_each_turn(merge, &mut sets.one, &sets.other, turns)
+}
+
+#[inline(always)]
+fn change_each_turn(
+    merge: Merge,
+    one: &mut BitSet<u32>,
+    other: &BitSet<u32>,
+    turns: usize,
+) -> Result<usize, SetError> {
     let mut were = 0usize;
     for turn in 0..turns {
-        merge_into(merge, &mut one, &other)?;
-        were = were.wrapping_add(usize::from(one.remove(turn)));
+        let changes = change_by(merge, one, other)?;
+        were = were.wrapping_add(usize::from(one.remove(turn)) + usize::from(changes));
     }
     Ok(were)
 }
@@ -124,14 +166,46 @@ fn change_in_place(
     second: &[usize],
     turns: usize,
 ) -> Result<usize, SetError> {
-    let mut one = set_of::<u32>(alloc, 0, first)?;
-    let other = set_of(alloc, 0, second)?;
+    let mut sets = two_of(alloc, first, second)?;
+    change_each_turn(merge, &mut sets.one, &sets.other, turns)
+}
+
+// The set of the first numbers without another.
+fn set_without(
+    alloc: Global,
+    numbers: &[usize],
+    other: &BitSet<u32>,
+) -> Result<BitSet<u32>, SetError> {
+    let mut set = set_of(alloc, 0, numbers)?;
+    set.difference_with(other)?;
+    Ok(set)
+}
+
+#[inline(always)]
+fn unite_each_turn(
+    one: &mut BitSet<u32>,
+    other: &BitSet<u32>,
+    except: &BitSet<u32>,
+    turns: usize,
+) -> Result<usize, SetError> {
     let mut were = 0usize;
     for turn in 0..turns {
-        let changes = change_by(merge, &mut one, &other)?;
+        let changes = one.union_with_difference(other, except)?;
         were = were.wrapping_add(usize::from(one.remove(turn)) + usize::from(changes));
     }
     Ok(were)
+}
+
+#[inline(always)]
+fn unite_with_rest(
+    alloc: Global,
+    first: &[usize],
+    one: &mut BitSet<u32>,
+    other: &BitSet<u32>,
+    turns: usize,
+) -> Result<usize, SetError> {
+    let except = set_without(alloc, first, other)?;
+    unite_each_turn(one, other, &except, turns)
 }
 
 // What the second numbers have and the first have not goes in.
@@ -141,16 +215,8 @@ fn unite_in_place(
     second: &[usize],
     turns: usize,
 ) -> Result<usize, SetError> {
-    let mut one = set_of::<u32>(alloc, 0, first)?;
-    let other = set_of(alloc, 0, second)?;
-    let mut except = set_of(alloc, 0, first)?;
-    except.difference_with(&other)?;
-    let mut were = 0usize;
-    for turn in 0..turns {
-        let changes = one.union_with_difference(&other, &except)?;
-        were = were.wrapping_add(usize::from(one.remove(turn)) + usize::from(changes));
-    }
-    Ok(were)
+    let mut sets = two_of(alloc, first, second)?;
+    unite_with_rest(alloc, first, &mut sets.one, &sets.other, turns)
 }
 
 // The first set without the second, which has nothing in common with it.
@@ -160,9 +226,8 @@ fn find_apart(
     second: &[usize],
     turns: usize,
 ) -> Result<usize, SetError> {
-    let mut one = set_of::<u32>(alloc, 0, first)?;
     let other = set_of(alloc, 0, second)?;
-    one.difference_with(&other)?;
+    let mut one = set_without(alloc, first, &other)?;
     let mut found = 0usize;
     for turn in 0..turns {
         found = found.wrapping_add(usize::from(one.is_disjoint(&other)));

@@ -1,7 +1,7 @@
 // The same work over blocks of 32, 64 and 128 bits: `bits` says which.
 use crate::input_sets::copies;
 use crate::inserting::{insert_below, insert_in_order, remove};
-use crate::reading::{contains, count, walk};
+use crate::reading::{contains, count, sum_of_set, walk};
 use crate::two_sets::{compare, count_merged, merge_in_place, walk_merged};
 use bit_set::bit_vec::Merge;
 use bit_set::{BitBlock, BitSet, SetError};
@@ -19,7 +19,14 @@ macro_rules! at_width {
     };
 }
 
-// A set of eight of the numbers after another, each made, walked over and dropped.
+// The sum of a set of the numbers, which is made, walked over and dropped.
+#[inline(always)]
+fn small_set<B: BitBlock>(alloc: Global, numbers: &[usize]) -> Result<usize, SetError> {
+    let set = BitSet::<B>::from_iter(alloc, numbers.iter().copied())?;
+    Ok(sum_of_set(&set))
+}
+
+// A set of eight of the numbers after another.
 fn small_sets<B: BitBlock>(
     alloc: Global,
     numbers: &[usize],
@@ -28,10 +35,7 @@ fn small_sets<B: BitBlock>(
     let mut sum = 0usize;
     for _ in 0..turns {
         for eight in numbers.chunks(8) {
-            let set = BitSet::<B>::from_iter(alloc, eight.iter().copied())?;
-            for item in &set {
-                sum = sum.wrapping_add(item);
-            }
+            sum = sum.wrapping_add(small_set::<B>(alloc, eight)?);
         }
     }
     Ok(sum)
