@@ -10,6 +10,7 @@ mod inserting;
 mod ranges;
 mod reading;
 mod small_changes;
+mod small_merges;
 mod small_reads;
 mod splits;
 mod two_sets;

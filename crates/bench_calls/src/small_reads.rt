@@ -1,6 +1,5 @@
 // Calls that read sets of a few blocks. Turns take one of two sets in turn, so that no turn can be the result of another.
-use crate::input_sets::set_of;
-use crate::small_changes::{number_at, two_of, without};
+use crate::input_sets::{number_at, set_of, two_of, without};
 use bit_set::SetError;
 use std::alloc::Global;
 use std::cmp::Ordering;
