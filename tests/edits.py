@@ -4,8 +4,8 @@
 
 tests/gate_edits.txt names each edit with that function. The prover is asked for the function and what it calls alone, over
 the libraries below the crate as `rt ci` has just proved them in the checkout; what it proves once is kept. Edits of
-different functions are tried in one run of it: each changes a body alone, and the proof of a function rests on the contracts
-of others, not on their bodies. A function is refused where a goal of its own is open, and not for a limit of the prover
+different files are tried in one run of it: each changes bodies alone, and the proof of a function rests on the contracts of
+others, not on their bodies. A function is refused where a goal of its own is open, and not for a limit of the prover
 alone. The last line is 'N passed, M failed'.
 """
 
@@ -24,11 +24,16 @@ def check(root, crates, crate, folder, functions):
     return status, said
 
 
+def files_of(edit):
+    """The files that an edit changes."""
+    return set(re.findall(r"^file: (\S+)", edit.read_text(), re.M))
+
+
 def rounds_of(edits):
-    """The edits with their functions in rounds, in none of which two have the same function."""
+    """The edits with their functions in rounds, in none of which two change the same file."""
     rounds = []
     for edit, function in edits.items():
-        free = next((it for it in rounds if function not in it.values()), None)
+        free = next((it for it in rounds if not any(files_of(edit) & files_of(other) for other in it)), None)
         if free is None:
             free = {}
             rounds.append(free)

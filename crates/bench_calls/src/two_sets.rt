@@ -72,7 +72,7 @@ struct TwoSets<B: BitBlock> {
     other: BitSet<B>,
 }
 
-fn two_of<B: BitBlock>(
+fn one_and_other<B: BitBlock>(
     alloc: Global,
     first: &[usize],
     second: &[usize],
@@ -139,7 +139,7 @@ pub(crate) fn merge_in_place<B: BitBlock>(
     second: &[usize],
     turns: usize,
 ) -> Result<usize, SetError> {
-    let mut sets = two_of::<B>(alloc, first, second)?;
+    let mut sets = one_and_other::<B>(alloc, first, second)?;
     merge_each_turn(merge, &mut sets.one, &sets.other, turns)
 }
 
@@ -166,7 +166,7 @@ fn change_in_place(
     second: &[usize],
     turns: usize,
 ) -> Result<usize, SetError> {
-    let mut sets = two_of(alloc, first, second)?;
+    let mut sets = one_and_other(alloc, first, second)?;
     change_each_turn(merge, &mut sets.one, &sets.other, turns)
 }
 
@@ -215,7 +215,7 @@ fn unite_in_place(
     second: &[usize],
     turns: usize,
 ) -> Result<usize, SetError> {
-    let mut sets = two_of(alloc, first, second)?;
+    let mut sets = one_and_other(alloc, first, second)?;
     unite_with_rest(alloc, first, &mut sets.one, &sets.other, turns)
 }
 
