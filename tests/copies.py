@@ -68,7 +68,10 @@ def check_words(root, crates, name, *flags):
         built = kit / "rlibs" if it not in crates else root / "crates" / it / "out" / "rlib"
         words += ["--extern", f"{it}={built}/{it}.rlib"]
     for it in all_below(crates, name):
-        words += ["-L", f"dependency={root}/crates/{it}/out/rlib"]
+        built = root / "crates" / it / "out" / "rlib"
+        if not (built / f"{it}.rlib").is_dir():
+            raise SystemExit(f"{it}, below {name}, is not built here: run `rt ci`, or `rt lib` in crates/{it}")
+        words += ["-L", f"dependency={built}"]
     if re.search(rf"^{name} +staticlib\b", (root / "crates.txt").read_text(), re.M):
         words += ["--crate-type", "staticlib", "--links", f"{name}="]
     words += ["-L", f"dependency={kit}/rlibs", "--antt-project", f"{kit}/rattle/logic/antt-project.json"]
