@@ -3,11 +3,12 @@
 ghost use Rattle.std.specs.Prelude.{◌≡◌, ◌≢◌, [], ◌∷◌, ◌++◌, IfOk, OnOk, OnErr};
 ghost use Rattle.bit_set_run.specs.Output.{line_text, output, sets_after};
 ghost use Rattle.bit_set_commands.specs.Reading.{reading};
+ghost use Rattle.bit_set_commands.specs.Texts.{text_of_bad};
 
 use crate::Table;
 use crate::stepping::step;
 use bit_set::BitBlock;
-use bit_set_commands::{append_reply, bad_text, next_line, read_line};
+use bit_set_commands::{BadLine, append_reply, bad_text, next_line, read_line};
 use std::alloc::{AllocError, Global};
 
 /// What the program writes for the input: for each of its lines a text and a newline. An empty input takes no memory.
@@ -37,12 +38,21 @@ fn reply_to_line<B: BitBlock>(
         ++ (line_text table.old (reading line.now) ++ 10 ∷ [])) }
 {
     match read_line(alloc, line)? {
-        Err(bad) => text.extend_from_slice(bad_text(bad))?,
+        Err(bad) => append_bad_line(text, bad),
         Ok(command) => {
             let reply = step(alloc, &mut table.sets, &command)?;
             append_reply(text, &reply)?;
+            text.push(b'\n')?;
+            Ok(())
         }
     }
+}
+
+// Appends the text of the reply to a line that is no command.
+fn append_bad_line(text: &mut Vec<u8>, bad: BadLine) -> Result<(), AllocError>
+    ensures { OnOk result (text.new.items ≡ text.old.items ++ (text_of_bad bad ++ 10 ∷ [])) }
+{
+    text.extend_from_slice(bad_text(bad))?;
     text.push(b'\n')?;
     Ok(())
 }
