@@ -10,6 +10,7 @@ pub mod MemberLemmas
 pub mod ValueLemmas
 pub mod EndLemmas
 pub mod RetainLemmas
+pub mod GapLemmas
 pub mod RangeQueryLemmas
 pub mod CapacityLemmas
 pub mod ItemLemmas

@@ -14,6 +14,7 @@ pub mod Order
 pub mod Mismatches
 pub mod Indexes
 pub mod Missing
+pub mod Gaps
 pub mod Retained
 pub mod Json
 pub mod Entries

@@ -14,6 +14,7 @@ mod bytes;
 mod capacity;
 mod changing;
 mod ends;
+mod gaps;
 mod in_place;
 mod new_sets;
 mod noted_changes;
