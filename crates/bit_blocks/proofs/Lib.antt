@@ -19,6 +19,7 @@ pub mod SpanCountLemmas
 pub mod CompareLemmas
 pub mod MismatchLemmas
 pub mod TailLemmas
+pub mod ShiftLemmas
 pub mod ZeroLemmas
 pub mod SearchLemmas
 pub mod CountLemmas

@@ -14,6 +14,7 @@ pub mod nonzero;
 pub mod ones;
 pub mod resizing;
 pub mod searching;
+pub mod shifting;
 pub mod span_queries;
 pub mod spans;
 pub mod tail_copies;
