@@ -2,6 +2,7 @@ mod Chains
 pub mod SourceLemmas
 pub mod SummarySpanLemmas
 pub mod RangeLemmas
+pub mod MovedLemmas
 pub mod RangeQueryLemmas
 pub mod KeepLemmas
 pub mod CapacityLemmas

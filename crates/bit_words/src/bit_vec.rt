@@ -24,6 +24,7 @@ mod one_block;
 mod pending;
 mod ranges;
 mod searching;
+mod shifting;
 mod taking;
 
 pub use bit_blocks::block::highest::take_highest_one;

@@ -20,6 +20,7 @@ pub(crate) mod copies;
 pub(crate) mod merges;
 pub(crate) mod noted_merges;
 pub(crate) mod queries;
+pub(crate) mod remaking;
 pub(crate) mod searching;
 pub(crate) mod shared_capacity;
 pub(crate) mod spans;
