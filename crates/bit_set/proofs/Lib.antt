@@ -11,6 +11,7 @@ pub mod ValueLemmas
 pub mod EndLemmas
 pub mod RetainLemmas
 pub mod GapLemmas
+pub mod MovedLemmas
 pub mod RangeQueryLemmas
 pub mod CapacityLemmas
 pub mod ItemLemmas

@@ -1,7 +1,7 @@
 -- What calls make of the elements of a set, and what they return. No block, length or capacity occurs in it.
 use Rattle.std.specs.List.{items_where_true}
-use Rattle.std.specs.Prelude.{◌≡◌, ℕ, ◌-◌, ◌==◌, max, not, if◌then◌else◌, Bool, List, [], ◌∷◌, ◌++◌, Option, Result, Ok, Err, drop, length, slice_get, take}
-use Rattle.bit_set.specs.{declared.faults.SetError.{SetError, TheVariants.{Element, Length, Memory}}, Sets.{difference, elements, has, intersection, put, put_all, symmetric_difference, those_below, those_from, union, without}, Ranges.span}
+use Rattle.std.specs.Prelude.{◌≡◌, ℕ, ◌-◌, ◌==◌, max, not, if◌then◌else◌, Bool, List, [], ◌∷◌, ◌++◌, Option, Result, Ok, Err, drop, length, nat_le, slice_get, take}
+use Rattle.bit_set.specs.{declared.faults.SetError.{SetError, TheVariants.{Element, Length, Memory}}, Moved.{lowered, raised}, Sets.{bound_of, difference, elements, has, intersection, put, put_all, symmetric_difference, those_below, those_from, union, without}, Ranges.span}
 use Rattle.bit_set.specs.{Order.same_sets, Sets.merge_of_sets}
 use Rattle.bit_blocks.specs.declared.block.merge.Merge.{Merge}
 use Rattle.bit_words.specs.Bounds.{greatest}
@@ -33,6 +33,8 @@ pub data Change : Type 0 where
   PopFirst : Change
   PopLast : Change
   Retain : (answers : List Bool) → Change
+  ShiftUp : (distance : ℕ) → Change
+  ShiftDown : (distance : ℕ) → Change
 
 -- How a call returned: it was done; the same, and it returned this, or gave this element; the number is `usize::MAX`; no
 -- memory was found.
@@ -71,6 +73,8 @@ elements_after ShrinkToFit s = s
 elements_after PopFirst s = drop 1 s
 elements_after PopLast s = take (length s - 1) s
 elements_after (Retain answers) s = items_where_true answers s
+elements_after (ShiftUp distance) s = if nat_le (bound_of (raised s distance)) greatest then raised s distance else s
+elements_after (ShiftDown distance) s = lowered s distance
 
 -- how it returns: `insert` whether the number is new, `remove` whether it was in, `toggle` whether it is in now, `set`
 -- and a merge that tells so whether the set changed, `pop_first` the first element and `pop_last` the last
@@ -83,6 +87,7 @@ outcome_of (Set value bit) s =
 outcome_of (MergeChanges merge other) s = Returned (not (same_sets s (merge_of_sets merge s other)))
 outcome_of PopFirst s = Gave (slice_get s 0)
 outcome_of PopLast s = Gave (slice_get s (length s - 1))
+outcome_of (ShiftUp distance) s = if nat_le (bound_of (raised s distance)) greatest then Done else NoElement
 outcome_of call s = Done
 
 -- The call found the list `old` and left `new`, and this is how it returned. It is not opened where a proof does not ask
@@ -98,6 +103,13 @@ outcome_of_insert (Ok new) = Returned new
 outcome_of_insert (Err Element) = NoElement
 outcome_of_insert (Err Length) = NoMemory
 outcome_of_insert (Err (Memory fault)) = NoMemory
+
+-- how `shift_up` returned
+abbrev pub outcome_of_shift : Result Unit SetError → Outcome
+outcome_of_shift (Ok tt) = Done
+outcome_of_shift (Err Element) = NoElement
+outcome_of_shift (Err Length) = NoMemory
+outcome_of_shift (Err (Memory fault)) = NoMemory
 
 -- how a call returned that fails for memory alone
 abbrev pub outcome_of_result : {T E : Type 0} → Result T E → Outcome

@@ -15,6 +15,7 @@ pub mod Mismatches
 pub mod Indexes
 pub mod Missing
 pub mod Gaps
+pub mod Moved
 pub mod Retained
 pub mod Json
 pub mod Entries

@@ -22,6 +22,7 @@ mod ranges;
 mod relations;
 mod retaining;
 mod searching;
+mod shifting;
 mod splitting;
 
 /// A set of whole numbers below `usize::MAX`, kept as a bit vector: a number is an element exactly

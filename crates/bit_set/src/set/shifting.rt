@@ -1,0 +1,103 @@
+// Calls that move each element by one distance, and the one that copies those of a range.
+ghost use Rattle.std.specs.Prelude.{◌≡◌, ◌<◌, ◌≤◌, ◌↔◌, max, min, IfErr, IfOk, IsErrOf, IsOk, OnOk, length};
+ghost use Rattle.bit_blocks.specs.Bits.{blocks_for, capacity_of, IsWithinCapacity};
+ghost use Rattle.bit_words.specs.Growth.{Grows};
+ghost use Rattle.bit_set.specs.{Changes.{Change, Changes, Outcome.Done, outcome_of_shift}, Moved.{IsLowered, IsRaised, KeepsRange, lowered, raised}, Ranges.{span_end, those_in_range}, Sets.{bound_of, elements}};
+
+use crate::{BitBlock, BitSet, SetError};
+use std::alloc::{AllocError, Global};
+use std::ops::Range;
+
+impl<B: BitBlock> BitSet<B> {
+    /// Moves each element up by `distance`: `n` becomes `n + distance`. The length becomes at least one more than the
+    /// greatest of them. One pass over the blocks, each of which is made of two, besides a growth. Fails where an element
+    /// would become `usize::MAX` or more, and where a growth past the capacity finds no memory; elements, length and
+    /// capacity then stay.
+    ///
+    /// ```
+    /// // The set is {1, 4}.
+    /// set.shift_up(30)?;
+    /// assert!(set.iter().eq([31, 34]));
+    /// ```
+    pub fn shift_up(&mut self, distance: usize) -> Result<(), SetError>
+        ensures elements { OnOk result (elements self.new.values ≡ raised (elements self.old.values) distance) }
+        ensures members { OnOk result (IsRaised (elements self.old.values) (elements self.new.values) distance) }
+        ensures length { OnOk result (length self.new.values
+            ≡ max (length self.old.values) (bound_of (raised (elements self.old.values) distance))) }
+        ensures unfit { IsErrOf result SetError.Element
+            ↔ (usize.MAX < bound_of (raised (elements self.old.values) distance)) }
+        ensures never_long { IsErrOf result SetError.Length → ⊥ }
+        ensures grows { Grows (bound_of (raised (elements self.old.values) distance)) result self.old self.new }
+        ensures changes { Changes (Change.ShiftUp distance) self.old.values (outcome_of_shift result) self.new.values }
+    {
+        let end = self.end_of_raised(distance)?;
+        self.lengthen(end)?;
+        self.bits.shift_up(distance);
+        Ok(())
+    }
+
+    // How long a list is that keeps the elements moved up by `distance`.
+    fn end_of_raised(&self, distance: usize) -> Result<usize, SetError>
+        ensures ok { IfOk result (λ end. (end ≡ bound_of (raised (elements self.now.values) distance))) }
+        ensures err { IfErr result (λ fault. (fault ≡ SetError.Element)
+            × (usize.MAX < bound_of (raised (elements self.now.values) distance))) }
+        ensures fits { IsWithinCapacity self.now }
+    {
+        // For the proof alone: the call of `capacity` brings in its clause that it holds the list.
+        prove!(self.bits.len() <= self.bits.capacity());
+        let Some(last) = self.last() else {
+            return Ok(0);
+        };
+        let top = last.saturating_add(distance);
+        if top == usize::MAX {
+            return Err(SetError::Element);
+        }
+        Ok(top + 1)
+    }
+
+    /// Moves each element down by `distance`: `n` becomes `n - distance`, and those below `distance` go. The length stays.
+    /// One pass over the blocks, each of which is made of two.
+    ///
+    /// ```
+    /// // The set is {1, 34}.
+    /// set.shift_down(30);
+    /// assert!(set.iter().eq([4]));
+    /// ```
+    pub fn shift_down(&mut self, distance: usize)
+        ensures elements { elements self.new.values ≡ lowered (elements self.old.values) distance }
+        ensures members { IsLowered (elements self.old.values) (elements self.new.values) distance }
+        ensures length { length self.new.values ≡ length self.old.values }
+        ensures capacity { self.new.capacity ≡ self.old.capacity }
+        ensures changes { Changes (Change.ShiftDown distance) self.old.values Done self.new.values }
+    {
+        self.bits.shift_down(distance);
+    }
+
+    /// A new set of the elements of the range. It is as long as the range reaches into the length, and empty of length 0
+    /// where it does not. Copies each block of the range once, and writes a zero for each before it; the capacity is that
+    /// of these blocks. Fails only where memory runs out, and never where the range is empty or past the length.
+    ///
+    /// ```
+    /// // The set is {1, 4, 34}.
+    /// let part = set.copy_range(alloc, 2..34)?;
+    /// assert!(part.iter().eq([4]));
+    /// ```
+    pub fn copy_range(&self, alloc: Global, range: Range<usize>) -> Result<Self, AllocError>
+        ensures elements { IfOk result (λ part. elements part.values
+            ≡ those_in_range (elements self.now.values) range.start range.end) }
+        ensures members { IfOk result (λ part. KeepsRange (elements self.now.values) (elements part.values)
+            range.start range.end) }
+        ensures length { IfOk result (λ part. length part.values
+            ≡ span_end range.start (min range.end (length self.now.values))) }
+        ensures capacity { IfOk result (λ part. part.capacity
+            ≡ capacity_of B.width (blocks_for B.width (length part.values))) }
+        ensures empty { min range.end (length self.now.values) ≤ range.start → IsOk result }
+    {
+        let end = range.end.min(self.bits.len());
+        if range.start >= end {
+            return Ok(Self::new_general(alloc));
+        }
+        let bits = self.bits.clone_range(alloc, range.start..end)?;
+        Ok(BitSet { bits })
+    }
+}
