@@ -1,8 +1,8 @@
 -- What blocks hold whose bits move up or down.
-use Rattle.std.proofs.Common.{⊎_elim, ◌≡◌, ◌≢◌, ℕ, ◌+◌, ◌-◌, ◌*◌, ◌/◌, ◌%◌, ◌^◌, ◌<◌, ◌≤◌, Bool, false, ◌==◌, ◌&&◌, ◌||◌, nat_le, nat_lt, List, map, length, get_or, set, All, sym, ap, ◌∙◌, subst, arith, inl, inr, div-add-mod', mod-lt, get_or-set_same, get_or-set_other}
+use Rattle.std.proofs.Common.{⊎_elim, ◌≡◌, ◌≢◌, ℕ, ◌+◌, ◌-◌, ◌*◌, ◌/◌, ◌%◌, ◌^◌, ◌<◌, ◌≤◌, Bool, false, ◌&&◌, nat_le, nat_lt, List, map, length, get_or, set, All, sym, ap, ◌∙◌, subst, arith, inl, inr, div-add-mod', mod-lt, get_or-set_same, get_or-set_other}
 use Rattle.std.proofs.lemmas.{Bool.{Decides.nat_tests, cases_eq, cases_lt}, Nat.{div-mul-add}}
-use Rattle.bit_blocks.specs.{Bits.blocks_for, Digits.{IsEither, IsShiftedLeft, IsShiftedRight, is_one}, Shifts.{IsMovedDown, IsMovedUp}, Storage.{value_at, IsPacked, IsZeroFrom}}
-use Rattle.bit_blocks.proofs.{BitsLemmas.{block_past, blocks_for-above, blocks_for-below}, ChangeLemmas.div_le, Masks.is_one-either, StorageLemmas.{value_at-index, value_at-is, value_at-past}}
+use Rattle.bit_blocks.specs.{Bits.blocks_for, Digits.{IsEither, IsShiftedLeft, IsShiftedRight, is_one}, Shifts.{IsMovedDown, IsMovedUp}, Storage.{value_at, IsPacked}}
+use Rattle.bit_blocks.proofs.{BitsLemmas.{block_past, blocks_for-above}, ChangeLemmas.div_le, Masks.is_one-either, StorageLemmas.{value_at-index, value_at-is, value_at-past}}
 
 -- ---- one block
 
@@ -108,9 +108,9 @@ value_up w ms ns us len d i pos moved cut =
 pub value_down : (w : ℕ) (ms ns : List ℕ) (count d i : ℕ) → 0 < w → length ms ≡ count → length ns ≡ count → ((k : ℕ) → k < count → IsMovedDown w ms d k (get_or ns k 0)) → value_at w ns i ≡ value_at w ms (i + d)
 value_down w ms ns count d i pos old new moved = ⊎_elim
     (λ (below : i / w < count).
-        value_at-is w ns i ∙ moved (i / w) below (i % w) (mod-lt i pos) ∙ ap (λ n. value_at w ms (n + d)) (div-add-mod' i w))
+    value_at-is w ns i ∙ moved (i / w) below (i % w) (mod-lt i pos) ∙ ap (λ n. value_at w ms (n + d)) (div-add-mod' i w))
     (λ (past : count ≤ i / w).
-        value_at-past w ns i (omega arith) ∙ sym (value_at-past w ms (i + d) (let more = div_le w i (i + d) pos (omega arith) in omega arith)))
+    value_at-past w ns i (omega arith) ∙ sym (value_at-past w ms (i + d) (let more = div_le w i (i + d) pos (omega arith) in omega arith)))
     (cases_lt (i / w) count)
 
 pub down_packed : {X : Type 0} (w len d : ℕ) (f : X → ℕ) (P : X → Type 0) (xs ys : List X) → IsPacked w f P xs len → All P ys → length ys ≡ length xs → ((i : ℕ) → value_at w (map f ys) i ≡ value_at w (map f xs) (i + d)) → IsPacked w f P ys len

@@ -9,9 +9,9 @@ gap_of s count g is =
     let members = is_disjoint-members (span g (g + count)) s in
     record {
       free = λ n from before.
-        let out = members.0 (grind (arith, nat_tests, is)) n in
-        let in_span = has-span g (g + count) n in
-        grind (arith, nat_tests);
+          let out = members.0 (grind (arith, nat_tests, is)) n in
+          let in_span = has-span g (g + count) n in
+          grind (arith, nat_tests);
       fits = grind (arith, nat_tests, is);
     }
 

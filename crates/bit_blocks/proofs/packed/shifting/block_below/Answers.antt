@@ -1,4 +1,4 @@
-use Rattle.std.proofs.Common.{◌≡◌, ◌*◌, ◌-◌, ◌<◌, map, ap, ◌∙◌, arith}
+use Rattle.std.proofs.Common.{◌*◌, ◌-◌, map, ap, arith}
 use Rattle.bit_blocks.proofs.ShiftLemmas.{moved_first}
 use Rattle.bit_blocks.proofs.packed.shifting.block_below.Goals as goal
 

@@ -1,4 +1,4 @@
-use Rattle.std.proofs.Common.{◌≡◌, ℕ, ◌+◌, ◌*◌, map, sym, ap, ◌∙◌, arith}
+use Rattle.std.proofs.Common.{◌≡◌, ◌+◌, ◌*◌, map, sym, ap, ◌∙◌, arith}
 use Rattle.bit_blocks.specs.{Digits.is_one, Storage.value_at}
 use Rattle.bit_blocks.proofs.{ShiftLemmas.joined, StorageLemmas.value_at-index}
 use Rattle.bit_blocks.proofs.packed.shifting.block_from.Goals as goal

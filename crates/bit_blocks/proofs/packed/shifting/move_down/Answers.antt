@@ -1,4 +1,4 @@
-use Rattle.std.proofs.{Common.{◌≡◌, ℕ, ◌-◌, ◌<◌, ◌≤◌, map, get_or, ◌∙◌, arith}, lemmas.List.length-map}
+use Rattle.std.proofs.{Common.{map, ◌∙◌, arith}, lemmas.List.length-map}
 use Rattle.bit_blocks.specs.Shifts.{IsMovedDown}
 use Rattle.bit_blocks.proofs.ShiftLemmas.{moved_from, put_holds, put_other, read_down}
 use Rattle.bit_blocks.proofs.packed.shifting.move_down.Goals as goal
@@ -15,9 +15,9 @@ loop-k-preserved g c =
     moved_from w mid k c.args.distance _ _ _ c.block_index-whole.ensures c.bit_index-low.ensures.value c.block_from-block.ensures.digits in
     record {
       moved = λ q below.
-        put_holds (IsMovedDown w old c.args.distance) mid new k _ q c.put_in.ensures.numbers (rw length-map (omega (arith, c.loop-k-test.true)))
-        (read_down w old mid c.args.distance k _ g.met.B.BitBlock.width_law.positive before.rest made)
-        (λ other. before.moved q (omega (arith, below, other)));
+          put_holds (IsMovedDown w old c.args.distance) mid new k _ q c.put_in.ensures.numbers (rw length-map (omega (arith, c.loop-k-test.true)))
+          (read_down w old mid c.args.distance k _ g.met.B.BitBlock.width_law.positive before.rest made)
+          (λ other. before.moved q (omega (arith, below, other)));
       rest = λ q past. put_other mid new k _ q c.put_in.ensures.numbers (λ same. omega (arith, same, past)) ∙ before.rest q (omega (arith, past));
       each = c.put_in.ensures.each;
       len = c.put_in.ensures.len ∙ before.len;

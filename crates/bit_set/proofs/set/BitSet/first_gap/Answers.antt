@@ -18,9 +18,9 @@ loop-element-init g c =
       missing = let is = first.passes in grind arith;
       reached = first.reached;
       none = λ h from before wide.
-        let out = wide.free h (omega arith) (omega (arith, c.if-count-eq0.false)) in
-        let past = first.between h from before in
-        grind arith;
+          let out = wide.free h (omega arith) (omega (arith, c.if-count-eq0.false)) in
+          let past = first.between h from before in
+          grind arith;
       within = c.next_missing-gap.ensures.within;
     }
 
@@ -34,10 +34,10 @@ loop-element-preserved g c =
       missing = let is = first.passes in grind arith;
       reached = omega (arith, before.reached, found.reached, first.reached);
       none = λ h from below wide.
-        let earlier = before.none h from in
-        let later = λ (past : c.loop-element.gap ≤ h).
-            none_across (elements c.args.self.now.values) c.args.count c.loop-element.gap c.in-Some.element c.next_missing-gap-in-Some.result h (omega (arith, c.if-count-eq0.false)) past below near found.passes first.between wide in
-        grind (arith, nat_tests);
+          let earlier = before.none h from in
+          let later = λ (past : c.loop-element.gap ≤ h).
+          none_across (elements c.args.self.now.values) c.args.count c.loop-element.gap c.in-Some.element c.next_missing-gap-in-Some.result h (omega (arith, c.if-count-eq0.false)) past below near found.passes first.between wide in
+          grind (arith, nat_tests);
       within = omega (arith, c.next_missing-gap-in-Some.ensures.within, c.in-Some.ensures.within);
     }
 
@@ -82,4 +82,3 @@ returns-clause-members g c =
 pub returns-clause-elements : goal.returns-clause-elements
 returns-clause-elements g c =
     finds_gap (elements c.args.self.now.values) c.args.from c.args.count (Some c.loop-element.gap) (returns-clause-members g c)
-
