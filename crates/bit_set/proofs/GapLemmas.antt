@@ -1,8 +1,8 @@
 -- Numbers in a row that a set has none of, and what a search for them passes over.
-use Rattle.std.proofs.{Common.{◌≡◌, ℕ, ◌+◌, ◌-◌, ◌<◌, ◌≤◌, ◌↔◌, ◌&&◌, true, false, not, nat_le, List, Option, Some, None, arith}, lemmas.Bool.Decides.nat_tests}
-use Rattle.bit_blocks.specs.Searches.{FindsFrom, IsFirstFrom}
+use Rattle.std.proofs.{Common.{◌≡◌, ℕ, ◌+◌, ◌<◌, ◌≤◌, true, false, not, List, Option, Some, None, arith}, lemmas.Bool.Decides.nat_tests}
+use Rattle.bit_blocks.specs.Searches.{FindsFrom}
 use Rattle.bit_words.specs.Bounds.{greatest}
-use Rattle.bit_set.{specs.{Gaps.{FindsGap, IsFirstGap, IsGap, is_gap}, Ranges.span, Sets.{has, is_disjoint}}, proofs.{RangeLemmas.has-span, SubsetLemmas.{is_disjoint-members, same_tests}}}
+use Rattle.bit_set.{specs.{Gaps.{FindsGap, IsFirstGap, IsGap, is_gap}, Ranges.span, Sets.{has, is_disjoint}}, proofs.{RangeLemmas.has-span, SubsetLemmas.{is_disjoint-members}}}
 
 gap_of : (s : List ℕ) (count g : ℕ) → is_gap s count g ≡ true → IsGap s count g
 gap_of s count g is =

@@ -1,5 +1,5 @@
 -- Lists whose values moved, and copies of a range, by index.
-use Rattle.std.proofs.Common.{◌≡◌, ℕ, ◌+◌, ◌-◌, ◌/◌, ◌^◌, ◌<◌, ◌≤◌, min, Bool, false, ◌&&◌, nat_le, nat_lt, List, ◌++◌, length, get_or, take, drop, replicate, map, All, sym, ap, ◌∙◌, arith, length-take, length-drop, length-append, get_or-take, get_or-drop}
+use Rattle.std.proofs.Common.{◌≡◌, ℕ, ◌+◌, ◌-◌, ◌^◌, ◌<◌, ◌≤◌, min, false, ◌&&◌, nat_le, nat_lt, List, ◌++◌, length, take, drop, replicate, map, All, ap, arith, length-take, length-drop, length-append, get_or-take, get_or-drop}
 use Rattle.std.proofs.lemmas.{Bool.Decides.nat_tests, List.{get_or-append_right, get_or-replicate, get_or_append_left, length-replicate, take-map}}
 use Rattle.bit_blocks.{specs.{Bits.blocks_for, Ranges.values_in_range, Storage.{value_at, values_of, IsPacked}}, proofs.{BitsLemmas.{blocks_for-above, blocks_for-le}, PackedLemmas.value_at-take, StorageLemmas.{get_or-values_of, length-values_of, values_of-same}}}
 

@@ -1,10 +1,11 @@
 -- What runs of calls on slots come to.
 use Rattle.std.proofs.Common.{◌≡◌, ℕ, ◌+◌, ◌<◌, ◌≤◌, ◌↔◌, Bool, true, false, not, ◌||◌, ◌&&◌, ◌==◌, ltb, if◌then◌else◌, List, [], ◌∷◌, ◌++◌, Some, None, refl, sym, ap, ◌∙◌, arith, inl, inr}
-use Rattle.std.proofs.lemmas.Bool.{cases_eq, cases_Bool, eq-eqb, ne_eqb, lt-ltb, and_from, and_parts, not-true, true≢false}
+use Rattle.std.proofs.lemmas.Bool.{Decides.nat_tests, cases_eq, cases_Bool, eq-eqb, ne_eqb, lt-ltb, and_from, and_parts, not-true, true≢false}
 use Rattle.bit_set.specs.Sets.{has, put, without}
-use Rattle.free_slots.specs.Slots.{SlotTable, IsLowestFree, all_free, is_taken}
-use Rattle.free_slots.specs.Runs.{Event, Happens, IsHeld, IsLowestUnheld, Run, times_given, times_taken}
-use Rattle.free_slots.specs.Runs.Event.{GiveBack, Take}
+use Rattle.bit_blocks.specs.Ranges.{in_range}
+use Rattle.free_slots.specs.Slots.{SlotTable, IsFreeRun, IsLowestFree, all_free, is_taken, without_run}
+use Rattle.free_slots.specs.Runs.{Event, Happens, IsHeld, IsLowestUnheld, IsUnheldRun, Run, times_given, times_taken}
+use Rattle.free_slots.specs.Runs.Event.{GiveBack, Take, TakeRun}
 use Rattle.free_slots.proofs.SlotLemmas.{none_taken}
 
 -- 1 where it is so
@@ -17,6 +18,8 @@ keeps_len s t (Take from (Some k) ∷ es) run = keeps_len run.0 t es run.2 ∙ a
 keeps_len s t (Take from None ∷ es) run = keeps_len run.0 t es run.2 ∙ ap (λ u. u.len) run.1.1
 keeps_len s t (GiveBack k true ∷ es) run = keeps_len run.0 t es run.2 ∙ ap (λ u. u.len) run.1.1
 keeps_len s t (GiveBack k false ∷ es) run = keeps_len run.0 t es run.2 ∙ ap (λ u. u.len) run.1.1
+keeps_len s t (TakeRun count (Some k) ∷ es) run = keeps_len run.0 t es run.2 ∙ ap (λ u. u.len) run.1.1
+keeps_len s t (TakeRun count None ∷ es) run = keeps_len run.0 t es run.2 ∙ ap (λ u. u.len) run.1.1
 
 pub parts : (s t : SlotTable) (before after : List Event) → Run s (before ++ after) t → (mid : SlotTable) × Run s before mid × Run mid after t
 parts s t [] after run = (s, refl, run)
@@ -29,7 +32,8 @@ answered : (s : SlotTable) (slot : ℕ) (result : Bool) (next : SlotTable) → H
 answered s slot true next is = is.0
 answered s slot false next is = is.0
 
-module _ (has_put : (s : List ℕ) (n m : ℕ) → has (put s n) m ≡ (n == m || has s m)) (has_without : (s : List ℕ) (n m : ℕ) → has (without s n) m ≡ (not (n == m) && has s m)) where
+module _ (has_put : (s : List ℕ) (n m : ℕ) → has (put s n) m ≡ (n == m || has s m)) (has_without : (s : List ℕ) (n m : ℕ) → has (without s n) m ≡ (not (n == m) && has s m))
+    (has_without_run : (s : List ℕ) (first count m : ℕ) → has (without_run s first count) m ≡ (has s m && not (in_range first (first + count) m))) where
   took : (s : SlotTable) (from k slot : ℕ) → IsLowestFree s from k → (if k == slot then 1 else 0) + ones (is_taken s slot) ≡ ones (is_taken (record { len = s.len; free = without s.free k }) slot)
   took s from k slot is =
       elim (cases_eq k slot) [
@@ -51,6 +55,13 @@ module _ (has_put : (s : List ℕ) (n m : ℕ) → has (put s n) m ≡ (n == m |
         | inr other ↦ rw (has_put s.free k slot, ne_eqb k slot other) (omega arith)
       ]
 
+  took_run : (s : SlotTable) (count first slot : ℕ) → IsFreeRun s count first → (if in_range first (first + count) slot then 1 else 0) + ones (is_taken s slot) ≡ ones (is_taken (record { len = s.len; free = without_run s.free first count }) slot)
+  took_run s count first slot is =
+      let members = has_without_run s.free first count slot in
+      let free = is.free slot in
+      let inside = is.inside in
+      grind (arith, nat_tests)
+
   -- a slot is taken once more than it is given back, just where it is taken at the end
   balance : (slot : ℕ) (s t : SlotTable) (es : List Event) → Run s es t → times_taken slot es + ones (is_taken s slot) ≡ times_given slot es + ones (is_taken t slot)
   balance slot s t [] run = let same = ap (λ u. ones (is_taken u slot)) run in omega (arith, same)
@@ -69,6 +80,16 @@ module _ (has_put : (s : List ℕ) (n m : ℕ) → has (put s n) m ≡ (n == m |
       let same = ap (λ u. ones (is_taken u slot)) run.1.1 in
       omega (arith, step, rest, same)
   balance slot s t (GiveBack k false ∷ es) run =
+      let rest = balance slot run.0 t es run.2 in
+      let same = ap (λ u. ones (is_taken u slot)) run.1.1 in
+      omega (arith, rest, same)
+
+  balance slot s t (TakeRun count (Some first) ∷ es) run =
+      let step = took_run s count first slot run.1.0.run in
+      let rest = balance slot run.0 t es run.2 in
+      let same = ap (λ u. ones (is_taken u slot)) run.1.1 in
+      omega (arith, step, rest, same)
+  balance slot s t (TakeRun count None ∷ es) run =
       let rest = balance slot run.0 t es run.2 in
       let same = ap (λ u. ones (is_taken u slot)) run.1.1 in
       omega (arith, rest, same)
@@ -127,3 +148,40 @@ module _ (has_put : (s : List ℕ) (n m : ℕ) → has (put s n) m ≡ (n == m |
       let same : is_taken mid slot ≡ result = answered mid slot result call.0 call.1 in
       let held = held_where_taken n slot mid es before in
       (λ is. held.1 (same ∙ is), λ is. sym same ∙ held.0 is)
+
+  -- ---- several slots in a row
+
+  unheld_from_free : (n count first : ℕ) (mid : SlotTable) (es : List Event) → Run (all_free n) es mid → IsFreeRun mid count first → IsUnheldRun n es count first
+  unheld_from_free n count first mid es before is =
+      let len = keeps_len (all_free n) mid es before in
+      record {
+        unheld = λ slot from below held.
+            let taken = and_parts (ltb slot mid.len) (not (has mid.free slot)) ((held_where_taken n slot mid es before).0 held) in
+            true≢false (sym (is.free slot from below) ∙ not-true (has mid.free slot) taken.1);
+        inside = omega (arith, is.inside, len);
+      }
+
+  free_from_unheld : (n count first : ℕ) (mid : SlotTable) (es : List Event) → Run (all_free n) es mid → IsUnheldRun n es count first → IsFreeRun mid count first
+  free_from_unheld n count first mid es before is =
+      let len = keeps_len (all_free n) mid es before in
+      record {
+        free = λ slot from below.
+            elim (cases_Bool (has mid.free slot)) [
+              | inl free ↦ free
+              | inr taken ↦
+                  absurd (is.unheld slot from below ((held_where_taken n slot mid es before).1 (and_from (ltb slot mid.len) (not (has mid.free slot)) (lt-ltb slot mid.len (omega (arith, is.inside, below, len))) (ap not taken))))
+            ];
+        inside = omega (arith, is.inside, len);
+      }
+
+  pub lowest_unheld_run : (n count first : ℕ) (t : SlotTable) (es later : List Event) → Run (all_free n) (es ++ TakeRun count (Some first) ∷ later) t → IsUnheldRun n es count first × ((other : ℕ) → other < first → IsUnheldRun n es count other → ⊥)
+  lowest_unheld_run n count first t es later run =
+      let (mid, before, call) = parts (all_free n) t es (TakeRun count (Some first) ∷ later) run in (
+        unheld_from_free n count first mid es before call.1.0.run,
+        λ other below unheld. call.1.0.lowest other below (free_from_unheld n count other mid es before unheld),
+      )
+
+  pub no_unheld_run : (n count first : ℕ) (t : SlotTable) (es later : List Event) → Run (all_free n) (es ++ TakeRun count None ∷ later) t → IsUnheldRun n es count first → ⊥
+  no_unheld_run n count first t es later run unheld =
+      let (mid, before, call) = parts (all_free n) t es (TakeRun count None ∷ later) run in
+      call.1.0 first (free_from_unheld n count first mid es before unheld)

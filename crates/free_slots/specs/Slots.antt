@@ -1,7 +1,7 @@
 -- Numbered slots, each of them free or taken.
-use Rattle.std.specs.Prelude.{◌≡◌, ◌≢◌, ℕ, ◌<◌, ◌≤◌, ◌&&◌, nat_lt, not, Bool, false, IsTrue, List}
+use Rattle.std.specs.Prelude.{◌≡◌, ◌≢◌, ℕ, ◌+◌, ◌<◌, ◌≤◌, ◌&&◌, nat_lt, not, Bool, false, IsTrue, List}
 use Rattle.std.specs.List.{range_with_len}
-use Rattle.bit_set.specs.Sets.{has}
+use Rattle.bit_set.specs.{Ranges.span, Sets.{difference, has}}
 
 -- What contracts see of slots: how many there are, and which of them are free, in ascending order.
 pub record SlotTable : Type 0 where
@@ -30,3 +30,17 @@ pub record IsLowestFree (s : SlotTable) (from slot : ℕ) : Type 0 where
   pub inside : slot < s.len
   pub above : from ≤ slot
   pub lowest : (other : ℕ) → from ≤ other → other < slot → has s.free other ≡ false
+
+-- so many slots in a row are free, from `first` on
+pub record IsFreeRun (s : SlotTable) (count first : ℕ) : Type 0 where
+  pub free : (slot : ℕ) → first ≤ slot → slot < first + count → IsTrue (has s.free slot)
+  pub inside : first + count ≤ s.len
+
+-- so many are, and no so many that begin below `first`
+pub record IsLowestRun (s : SlotTable) (count first : ℕ) : Type 0 where
+  pub run : IsFreeRun s count first
+  pub lowest : (other : ℕ) → other < first → IsFreeRun s count other → ⊥
+
+-- the free slots without those
+abbrev pub without_run : List ℕ → ℕ → ℕ → List ℕ
+without_run free count first = difference free (span first (first + count))

@@ -1,10 +1,10 @@
 //! What whole runs of calls on slots come to, as the contract of a function that does nothing.
 ghost use Rattle.std.specs.Prelude.{◌≡◌, ℕ, ◌+◌, ◌<◌, ◌≤◌, ◌↔◌, ◌++◌, ◌∷◌, Bool, IsTrue, List, None, Some};
-ghost use Rattle.free_slots.specs.Runs.{Event, IsHeld, IsLowestUnheld, Run, times_given, times_taken};
-ghost use Rattle.free_slots.specs.Runs.Event.{GiveBack, Take};
+ghost use Rattle.free_slots.specs.Runs.{Event, IsHeld, IsLowestUnheld, IsUnheldRun, Run, times_given, times_taken};
+ghost use Rattle.free_slots.specs.Runs.Event.{GiveBack, Take, TakeRun};
 ghost use Rattle.free_slots.specs.Slots.{SlotTable, all_free, is_taken};
 
-use bit_set::laws::members_of_sets;
+use bit_set::laws::{members_of_merged_sets, members_of_sets, numbers_of_ranges};
 
 /// What any calls on n slots, from the making on and one after another, return. `Happens` is a clause of
 /// each call that changes slots, so these are the runs of the calls themselves. A slot is held from where it
@@ -15,6 +15,8 @@ use bit_set::laws::members_of_sets;
 /// - `lowest`: what `take` and `take_at_or_above` return was not held, and each slot below it was, of those
 ///   from the number on that was asked for.
 /// - `full`: they return `None` only where each of these is held.
+/// - `run`: the slots that `take_run` returns were not held, and no so many in a row below them.
+/// - `no_run`: it returns `None` only where no so many in a row are not held.
 /// - `given`: `give_back` returns `true` for slots that are held, and for no others.
 pub fn whole_runs()
     ensures once { (n slot : ℕ) (events : List Event) (end : SlotTable) → Run (all_free n) events end
@@ -25,8 +27,15 @@ pub fn whole_runs()
         → Run (all_free n) (events ++ Take from (Some slot) ∷ later) end → IsLowestUnheld n events from slot }
     ensures full { (n from slot : ℕ) (events later : List Event) (end : SlotTable)
         → Run (all_free n) (events ++ Take from None ∷ later) end → from ≤ slot → slot < n → IsHeld events slot }
+    ensures run { (n count first : ℕ) (events later : List Event) (end : SlotTable)
+        → Run (all_free n) (events ++ TakeRun count (Some first) ∷ later) end → IsUnheldRun n events count first
+        × ((other : ℕ) → other < first → IsUnheldRun n events count other → ⊥) }
+    ensures no_run { (n count first : ℕ) (events later : List Event) (end : SlotTable)
+        → Run (all_free n) (events ++ TakeRun count None ∷ later) end → IsUnheldRun n events count first → ⊥ }
     ensures given { (n slot : ℕ) (result : Bool) (events later : List Event) (end : SlotTable)
         → Run (all_free n) (events ++ GiveBack slot result ∷ later) end → IsTrue result ↔ IsHeld events slot }
 {
     members_of_sets();
+    members_of_merged_sets();
+    numbers_of_ranges();
 }

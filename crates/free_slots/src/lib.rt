@@ -1,16 +1,18 @@
 //! Numbered slots, each of them free or taken: for schedulers, and for tables whose entries go by number.
 #![tactic(auto)]
 
-ghost use Rattle.std.specs.Prelude.{◌≡◌, ◌≢◌, ◌≤◌, ◌<◌, ◌↔◌, false, length, IfOk, IfSome, IsOk, IsTrue, MatchOption, None, [], ℕ};
+ghost use Rattle.std.specs.Prelude.{◌≡◌, ◌≢◌, ◌≤◌, ◌<◌, ◌↔◌, false, length, IfOk, IfSome, IsOk, IsTrue, MatchOption, None, [], ◌+◌, ℕ};
 ghost use Rattle.bit_set.specs.Sets.{IsAscending, has, put, those_from, without};
 ghost use Rattle.free_slots.specs.Runs.{Happens};
-ghost use Rattle.free_slots.specs.Runs.Event.{GiveBack, Take};
-ghost use Rattle.free_slots.specs.Slots.{IsLowestFree, all_free, is_taken};
+ghost use Rattle.free_slots.specs.Runs.Event.{GiveBack, Take, TakeRun};
+ghost use Rattle.free_slots.specs.Slots.{IsFreeRun, IsLowestFree, IsLowestRun, all_free, is_taken, without_run};
 
 pub mod laws;
 
 use bit_set::bit_vec::BitVec;
-use bit_set::laws::{members_of_sets, sets_are_their_members, sets_ascend};
+use bit_set::laws::{
+    members_of_sets, numbers_of_ranges, sets_are_their_members, sets_ascend,
+};
 use bit_set::{BitBlock, BitSet};
 use std::alloc::{AllocError, Global};
 use std::marker::Model;
@@ -123,6 +125,50 @@ impl<B: BitBlock> Slots<B> {
         self.free.remove(taken);
         self.searched = after_taking(self.searched, slot, taken);
         Some(taken)
+    }
+
+    /// Takes `count` free slots in a row, the lowest that there are, and returns the first of them; `None` where no so many
+    /// are free in a row, and then nothing changes. Where `count` is 0 it takes none, and returns 0. Searches in turn for the
+    /// next free slot and the next taken one, up to the end of those that it takes.
+    ///
+    /// ```
+    /// // Of five slots all but 1 are free.
+    /// assert_eq!(slots.take_run(2), Some(2));
+    /// assert_eq!(slots.take_run(2), None);
+    /// ```
+    pub fn take_run(&mut self, count: usize) -> Option<usize>
+        ensures full { result ≡ None → (first : ℕ) → IsFreeRun self.old count first → ⊥ }
+        ensures none { result ≡ None → self.new ≡ self.old }
+        ensures lowest { IfSome result (λ first. IsLowestRun self.old count first) }
+        ensures taken { IfSome result (λ first. self.new.free ≡ without_run self.old.free count first) }
+        ensures count { IfSome result (λ first. length self.new.free + count ≡ length self.old.free) }
+        ensures len { self.new.len ≡ self.old.len }
+        ensures happens { Happens self.old (TakeRun count result) self.new }
+    {
+        members_of_sets();
+        sets_ascend();
+        numbers_of_ranges();
+        let first = self.lowest_run(count)?;
+        self.free.remove_range(first..first + count);
+        Some(first)
+    }
+
+    // The first of so many free slots in a row, the lowest.
+    fn lowest_run(&self, count: usize) -> Option<usize>
+        ensures { MatchOption result ((first : ℕ) → IsFreeRun self.now count first → ⊥) (IsLowestRun self.now count) }
+    {
+        if count == 0 {
+            return Some(0);
+        }
+        let mut from = self.given.min(self.searched);
+        while let Some(first) = self.free.next(from) {
+            let end = self.free.next_missing(first);
+            if end - first >= count {
+                return Some(first);
+            }
+            from = end;
+        }
+        None
     }
 
     /// Gives a slot back that is taken, which is free then. Returns `false` where the slot is free or there is no

@@ -1,4 +1,4 @@
-use Rattle.std.proofs.Common.{◌≡◌, ◌<◌, ◌≤◌, min, length, sym, ap, ◌∙◌, arith}
+use Rattle.std.proofs.Common.{◌≡◌, length, sym, ap, ◌∙◌, arith}
 use Rattle.bit_blocks.specs.Bits.{blocks_for, capacity_of}
 use Rattle.bit_set.specs.Sets.{elements}
 use Rattle.bit_set.proofs.{MovedLemmas.{elements-part, length-part, members_part, none_in_part}}

@@ -1,4 +1,4 @@
-use Rattle.std.proofs.Common.{◌≡◌, ap, sym, refl, ◌∙◌, arith}
+use Rattle.std.proofs.Common.{ap, sym, refl, ◌∙◌, arith}
 use Rattle.bit_set.specs.Sets.{bound_of, elements}
 use Rattle.bit_set.proofs.{MemberLemmas.none_from_members, MovedLemmas.{bound-raised, none_raised}}
 use Rattle.bit_set.proofs.set.BitSet.end_of_raised.Goals as goal

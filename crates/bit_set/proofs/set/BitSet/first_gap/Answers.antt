@@ -1,6 +1,6 @@
-use Rattle.std.proofs.Common.{◌≡◌, ℕ, ◌+◌, ◌<◌, ◌≤◌, not, false, true, ltb, length, Some, None, arith}
+use Rattle.std.proofs.Common.{◌+◌, ◌<◌, ◌≤◌, Some, None, arith}
 use Rattle.std.proofs.lemmas.Bool.Decides.{nat_tests}
-use Rattle.bit_set.specs.Sets.{elements, has}
+use Rattle.bit_set.specs.Sets.{elements}
 use Rattle.bit_set.proofs.{GapLemmas.{finds_gap, first_gap, none_across, none_asked}}
 use Rattle.bit_set.proofs.set.BitSet.first_gap.Goals as goal
 

@@ -1,6 +1,4 @@
-use Rattle.std.proofs.Common.{◌≡◌, ◌-◌, ◌≤◌, ◌<◌, nat_le, true, length, sym, ap, arith}
-use Rattle.std.proofs.lemmas.Bool.Decides.{nat_tests}
-use Rattle.bit_set.specs.{Changes.Changes, Moved.raised, Sets.{bound_of, elements}}
+use Rattle.std.proofs.Common.{◌-◌, length, arith}
 use Rattle.bit_set.proofs.{MovedLemmas.{changes_raised, members_raised, raised_by_members}, SetLemmas.IsAscending-elements}
 use Rattle.bit_set.proofs.set.BitSet.shift_up.Goals as goal
 

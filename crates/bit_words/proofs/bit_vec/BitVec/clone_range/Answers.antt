@@ -1,5 +1,5 @@
-use Rattle.std.proofs.Common.{◌≡◌, ℕ, ◌<◌, ◌≤◌, ◌&&◌, ◌++◌, nat_le, false, length, map, take, replicate, sym, ap, ◌∙◌, arith}
-use Rattle.bit_blocks.specs.{Bits.{blocks_for, capacity_of}, Ranges.values_in_range, Storage.value_at}
+use Rattle.std.proofs.Common.{◌≡◌, ◌≤◌, ◌++◌, false, length, map, replicate, sym, ap, ◌∙◌, arith}
+use Rattle.bit_blocks.specs.{Bits.{blocks_for, capacity_of}, Ranges.values_in_range}
 use Rattle.bit_blocks.proofs.{BitsLemmas.blocks_for-le, VectorLemmas.length_from_view}
 use Rattle.bit_words.specs.Summary.{stored_for}
 use Rattle.bit_words.proofs.{CapacityLemmas.shared_whole, MovedLemmas.{blocks_taken, part_packed, value_copied, values_of-part}, StartLemmas.false_before_none}
