@@ -1,8 +1,7 @@
 -- What runs of calls on slots come to.
-use Rattle.std.proofs.Common.{◌≡◌, ℕ, ◌+◌, ◌<◌, ◌≤◌, ◌↔◌, Bool, true, false, not, ◌||◌, ◌&&◌, ◌==◌, ltb, if◌then◌else◌, List, [], ◌∷◌, ◌++◌, Some, None, refl, sym, ap, ◌∙◌, arith, inl, inr}
+use Rattle.std.proofs.Common.{◌≡◌, ℕ, ◌+◌, ◌<◌, ◌≤◌, ◌↔◌, Bool, true, false, not, ◌||◌, ◌&&◌, ◌==◌, ltb, nat_le, nat_lt, if◌then◌else◌, List, [], ◌∷◌, ◌++◌, Some, None, refl, sym, ap, ◌∙◌, arith, inl, inr}
 use Rattle.std.proofs.lemmas.Bool.{Decides.nat_tests, cases_eq, cases_Bool, eq-eqb, ne_eqb, lt-ltb, and_from, and_parts, not-true, true≢false}
 use Rattle.bit_set.specs.Sets.{has, put, without}
-use Rattle.bit_blocks.specs.Ranges.{in_range}
 use Rattle.free_slots.specs.Slots.{SlotTable, IsFreeRun, IsLowestFree, all_free, is_taken, without_run}
 use Rattle.free_slots.specs.Runs.{Event, Happens, IsHeld, IsLowestUnheld, IsUnheldRun, Run, times_given, times_taken}
 use Rattle.free_slots.specs.Runs.Event.{GiveBack, Take, TakeRun}
@@ -33,7 +32,7 @@ answered s slot true next is = is.0
 answered s slot false next is = is.0
 
 module _ (has_put : (s : List ℕ) (n m : ℕ) → has (put s n) m ≡ (n == m || has s m)) (has_without : (s : List ℕ) (n m : ℕ) → has (without s n) m ≡ (not (n == m) && has s m))
-    (has_without_run : (s : List ℕ) (first count m : ℕ) → has (without_run s first count) m ≡ (has s m && not (in_range first (first + count) m))) where
+    (has_without_run : (s : List ℕ) (first count m : ℕ) → has (without_run s count first) m ≡ (has s m && not (nat_le first m && nat_lt m (first + count)))) where
   took : (s : SlotTable) (from k slot : ℕ) → IsLowestFree s from k → (if k == slot then 1 else 0) + ones (is_taken s slot) ≡ ones (is_taken (record { len = s.len; free = without s.free k }) slot)
   took s from k slot is =
       elim (cases_eq k slot) [
@@ -55,9 +54,9 @@ module _ (has_put : (s : List ℕ) (n m : ℕ) → has (put s n) m ≡ (n == m |
         | inr other ↦ rw (has_put s.free k slot, ne_eqb k slot other) (omega arith)
       ]
 
-  took_run : (s : SlotTable) (count first slot : ℕ) → IsFreeRun s count first → (if in_range first (first + count) slot then 1 else 0) + ones (is_taken s slot) ≡ ones (is_taken (record { len = s.len; free = without_run s.free first count }) slot)
+  took_run : (s : SlotTable) (count first slot : ℕ) → IsFreeRun s count first → (if nat_le first slot && nat_lt slot (first + count) then 1 else 0) + ones (is_taken s slot) ≡ ones (is_taken (record { len = s.len; free = without_run s.free count first }) slot)
   took_run s count first slot is =
-      let members = has_without_run s.free first count slot in
+      let members = has_without_run s.free count first slot in
       let free = is.free slot in
       let inside = is.inside in
       grind (arith, nat_tests)
@@ -83,7 +82,6 @@ module _ (has_put : (s : List ℕ) (n m : ℕ) → has (put s n) m ≡ (n == m |
       let rest = balance slot run.0 t es run.2 in
       let same = ap (λ u. ones (is_taken u slot)) run.1.1 in
       omega (arith, rest, same)
-
   balance slot s t (TakeRun count (Some first) ∷ es) run =
       let step = took_run s count first slot run.1.0.run in
       let rest = balance slot run.0 t es run.2 in

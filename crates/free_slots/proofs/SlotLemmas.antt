@@ -1,15 +1,15 @@
 -- Which slots are free, as the set keeps them.
-use Rattle.std.proofs.Common.{◌≡◌, ◌≢◌, ℕ, zero, suc, ◌+◌, ◌<◌, ◌≤◌, ◌↔◌, ◌==◌, Bool, true, false, not, ◌||◌, ◌&&◌, if◌then◌else◌, leb, ltb, List, [], ◌∷◌, length, max, replicate, slice_get, Option, None, Some, MatchOption, refl, sym, ap, ◌∙◌, subst, arith, inl, inr, ⊎_elim, ◌⊎◌}
-use Rattle.std.proofs.lemmas.Bool.{and_parts, and_right, cases_eq, cases_lt, eq-eqb, le-leb, le-ltb, leb-true, lt-ltb, ne_eqb, not-false, true≢false}
+use Rattle.std.proofs.Common.{◌≡◌, ◌≢◌, ℕ, zero, suc, ◌+◌, ◌-◌, ◌<◌, ◌≤◌, ◌↔◌, ◌==◌, Bool, true, false, not, ◌||◌, ◌&&◌, if◌then◌else◌, leb, ltb, nat_le, nat_lt, List, [], ◌∷◌, length, max, replicate, slice_get, Option, None, Some, MatchOption, refl, sym, ap, ◌∙◌, subst, arith, inl, inr, ⊎_elim, ◌⊎◌}
+use Rattle.std.proofs.lemmas.Bool.{Decides.nat_tests, and_parts, and_right, cases_eq, cases_lt, eq-eqb, le-leb, le-ltb, leb-true, lt-ltb, ne_eqb, not-false, true≢false}
 use Rattle.std.proofs.Math.Bool.{and-false}
 use Rattle.std.proofs.lemmas.List.{length-replicate}
 use Rattle.std.proofs.lemmas.Option.{slice_get_within}
 use Rattle.std.specs.List.{range_with_len}
-use Rattle.bit_set.specs.Choices.{IsFirstOf}
-use Rattle.bit_set.specs.Sets.{AscendsFrom, IsAscending, elements, elements_from, has, put, those_from, without}
+use Rattle.bit_set.specs.{Searches.IsFirstFrom, Choices.IsFirstOf}
+use Rattle.bit_set.specs.{Ranges.{span, those_in_range}, Sets.{AscendsFrom, IsAscending, difference, elements, elements_from, has, is_subset, put, those_from, without}}
 use Rattle.free_slots.specs.Runs.{Happens}
 use Rattle.free_slots.specs.Runs.Event.{GiveBack}
-use Rattle.free_slots.specs.Slots.{HasNoneBelow, HasNoneBut, SlotTable, IsLowestFree, all_free, is_taken}
+use Rattle.free_slots.specs.Slots.{HasNoneBelow, HasNoneBut, SlotTable, IsFreeRun, IsLowestFree, IsLowestRun, all_free, is_taken}
 
 -- what contracts see of the set that keeps these values
 abbrev pub table_of : List Bool → SlotTable
@@ -169,3 +169,43 @@ none_but_given s given from slot given_then from_then is_free members none teste
     members n
     ∙ ap (λ b. b || has s n) (ne_eqb slot n (λ same. (apart n below other).1 (sym same)))
     ∙ none_but_less s given from slot given_then from_then is_free none tested apart n below other
+
+-- ---- several slots in a row
+
+-- a run that begins below what is free, or before a slot that is not, is none
+pub no_run_across : (s : SlotTable) (count from first end other : ℕ) → 0 < count → end < first + count → ((n : ℕ) → from ≤ n → n < first → has s.free n ≡ false) → has s.free end ≡ false → ((n : ℕ) → n < from → IsFreeRun s count n → ⊥) → other < end → IsFreeRun s count other → ⊥
+no_run_across s count from first end other some near between taken none below is =
+    let earlier = λ (before : other < from). none other before is in
+    let own = is.free other (omega arith) (omega (arith, some)) in
+    let gap = between other in
+    let over = is.free end (omega (arith, below)) in
+    grind (arith, nat_tests)
+
+-- where none is free there is none
+pub no_run_past : (s : SlotTable) (count from other : ℕ) → 0 < count → ((n : ℕ) → from ≤ n → has s.free n ≡ false) → ((n : ℕ) → n < from → IsFreeRun s count n → ⊥) → IsFreeRun s count other → ⊥
+no_run_past s count from other some past none is =
+    let earlier = λ (before : other < from). none other before is in
+    let own = is.free other (omega arith) (omega (arith, some)) in
+    let out = past other in
+    grind (arith, nat_tests)
+
+-- the first slots in a row that are enough
+pub lowest_run : (values : List Bool) (count from first end : ℕ) → 0 < count → IsFirstFrom (has (elements values)) from first → IsFirstFrom (λ m. not (has (elements values) m)) first end → end ≤ max first (length values) → first < length values → count ≤ end - first
+    → ((n : ℕ) → n < from → IsFreeRun (table_of values) count n → ⊥) → IsLowestRun (table_of values) count first
+lowest_run values count from first end some found past within inside enough none = record {
+  run = record { free = λ n from_on below. not-false (has (elements values) n) (past.between n from_on (omega (arith, below, enough, past.reached))); inside = omega (arith, within, inside, enough, past.reached) };
+  lowest = λ other below is.
+      let earlier = λ (before : other < from). none other before is in
+      let own = is.free other (omega arith) (omega (arith, some)) in
+      let gap = found.between other in
+      grind (arith, nat_tests);
+}
+
+-- so many are among the free ones
+pub run_counted : (s : SlotTable) (count first n : ℕ) → IsFreeRun s count first → ((k : ℕ) → has (span first (first + count)) k ≡ (nat_le first k && nat_lt k (first + count))) → length (span first (first + count)) ≡ first + count - first
+    → (is_subset (span first (first + count)) s.free ≡ true) ↔ ((k : ℕ) → has (span first (first + count)) k ≡ true → has s.free k ≡ true) → (is_subset (span first (first + count)) s.free ≡ true) ↔ (difference (span first (first + count)) s.free ≡ [])
+    → length (difference (span first (first + count)) s.free) + length (those_in_range s.free first (first + count)) ≡ length (span first (first + count)) → n + length (those_in_range s.free first (first + count)) ≡ length s.free → n + count ≡ length s.free
+run_counted s count first n is members long subset none parts left =
+    let within = subset.1 (λ k is_in. let member = members k in let free = is.free k in grind (arith, nat_tests)) in
+    let rest = ap length (none.0 within) in
+    omega (arith, rest, parts, left, long)

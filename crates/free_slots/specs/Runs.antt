@@ -1,7 +1,6 @@
 -- Calls on slots, one after another, and what a reader of their results alone can say of them.
-use Rattle.std.specs.Prelude.{◌≡◌, ℕ, ◌+◌, ◌<◌, ◌≤◌, ◌==◌, if◌then◌else◌, Bool, true, false, List, [], ◌∷◌, Option, Some, None}
+use Rattle.std.specs.Prelude.{◌≡◌, ℕ, ◌+◌, ◌<◌, ◌≤◌, ◌==◌, ◌&&◌, nat_le, nat_lt, if◌then◌else◌, Bool, true, false, List, [], ◌∷◌, Option, Some, None}
 use Rattle.bit_set.specs.Sets.{has, put, without}
-use Rattle.bit_blocks.specs.Ranges.{in_range}
 use Rattle.free_slots.specs.Slots.{SlotTable, IsFreeRun, IsLowestFree, IsLowestRun, is_taken, without_run}
 
 -- A call, with what it returned. `take` takes from 0 on.
@@ -34,7 +33,7 @@ times_taken slot (Take from (Some taken) ∷ es) = (if taken == slot then 1 else
 times_taken slot (Take from None ∷ es) = times_taken slot es
 times_taken slot (GiveBack given result ∷ es) = times_taken slot es
 times_taken slot (TakeRun count (Some first) ∷ es) =
-    (if in_range first (first + count) slot then 1 else 0) + times_taken slot es
+    (if nat_le first slot && nat_lt slot (first + count) then 1 else 0) + times_taken slot es
 times_taken slot (TakeRun count None ∷ es) = times_taken slot es
 
 -- how often it was given back

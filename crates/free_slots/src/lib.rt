@@ -11,7 +11,8 @@ pub mod laws;
 
 use bit_set::bit_vec::BitVec;
 use bit_set::laws::{
-    members_of_sets, numbers_of_ranges, sets_are_their_members, sets_ascend,
+    members_of_sets, numbers_of_ranges, parts_of_ranges, sets_are_their_members, sets_ascend,
+    sets_in_one_another,
 };
 use bit_set::{BitBlock, BitSet};
 use std::alloc::{AllocError, Global};
@@ -148,6 +149,8 @@ impl<B: BitBlock> Slots<B> {
         members_of_sets();
         sets_ascend();
         numbers_of_ranges();
+        parts_of_ranges();
+        sets_in_one_another();
         let first = self.lowest_run(count)?;
         self.free.remove_range(first..first + count);
         Some(first)
@@ -155,7 +158,9 @@ impl<B: BitBlock> Slots<B> {
 
     // The first of so many free slots in a row, the lowest.
     fn lowest_run(&self, count: usize) -> Option<usize>
-        ensures { MatchOption result ((first : ℕ) → IsFreeRun self.now count first → ⊥) (IsLowestRun self.now count) }
+        ensures lowest { MatchOption result
+            ((first : ℕ) → IsFreeRun self.now count first → ⊥) (IsLowestRun self.now count) }
+        ensures fits { IfSome result (λ first. first + count ≤ usize.MAX) }
     {
         if count == 0 {
             return Some(0);

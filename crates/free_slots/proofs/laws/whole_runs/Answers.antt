@@ -1,12 +1,11 @@
-use Rattle.std.proofs.Common.{◌≡◌, ℕ, ◌+◌, ◌&&◌, not, List, ap, ◌∙◌}
-use Rattle.bit_blocks.specs.Ranges.{in_range}
+use Rattle.std.proofs.Common.{◌≡◌, ℕ, ◌+◌, ◌&&◌, nat_le, nat_lt, not, List, ap, ◌∙◌}
 use Rattle.bit_set.specs.{Ranges.span, Sets.has}
 use Rattle.free_slots.specs.Slots.{without_run}
 use Rattle.free_slots.proofs.RunLemmas.{given_where_held, held_once, held_where_full, held_where_taken, lowest_unheld, lowest_unheld_run, no_unheld_run}
 use Rattle.free_slots.proofs.laws.whole_runs.Goals as goal
 
 -- the members that are left where slots in a row are taken
-without_run_members : (c : goal.After-numbers_of_ranges) (s : List ℕ) (first count m : ℕ) → has (without_run s first count) m ≡ (has s m && not (in_range first (first + count) m))
+without_run_members : (c : goal.After-numbers_of_ranges) (s : List ℕ) (first count m : ℕ) → has (without_run s count first) m ≡ (has s m && not (nat_le first m && nat_lt m (first + count)))
 without_run_members c s first count m =
     c.members_of_merged_sets.ensures.difference s (span first (first + count)) m
     ∙ ap (λ b. has s m && not b) (c.numbers_of_ranges.ensures.members first (first + count) m)
