@@ -79,6 +79,7 @@ pub record PullsAlong (w : ℕ) (s : Walk) (r : Option ℕ) (t : Walk) : Type 0 
   pub pulled : MatchOption r ((t.pulls ≡ s.pulls + s.nonzero_left + 1) × (t.nonzero_left ≡ 0))
       (λ _. t.pulls + t.nonzero_left ≡ s.pulls + s.nonzero_left)
   pub along : t.index + w * t.blocks ≡ s.index + w * s.blocks
+  pub at : MatchOption r (t.blocks ≡ 0) (λ x. (t.index ≤ x) × (x < t.index + w))
   pub summary : MatchOption r ((t.summary_pulls ≡ s.summary_pulls + s.summary_left + 1) × (t.summary_left ≡ 0))
       (λ _. t.summary_pulls + t.summary_left ≡ s.summary_pulls + s.summary_left)
 
