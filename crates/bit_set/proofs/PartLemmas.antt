@@ -265,6 +265,8 @@ pub record IsPart {X : Type 0} (w : ℕ) (number : X → ℕ) (is_block : X → 
   pub at_back : is_block new.block
   pub in_hand : is_block block
   pub digit : (j : ℕ) → j < w → is_one (number block) j ≡ (nat_lt j (end - front.index) && is_one (number front.block) j)
+  pub pulled : s.summary_pulls ≡ 1
+  pub few : t.summary_left ≤ blocks_for w (new.index / w) - 1 - front.index / w / w
 
 module _ {X : Type 0} (w : ℕ) (number : X → ℕ) (is_block : X → Type 0) (pos : 0 < w) (small : (x : X) → is_block x → number x < 2 ^ w) where
   is_cut_by : (values : List Bool) (from end : ℕ) (front back new : Hand X) (s t : Nonzeros X) (block : X) → IsPart w number is_block values from front back s end block t new → IsCutBy w number is_block front back s end block t new
@@ -316,7 +318,7 @@ module _ {X : Type 0} (w : ℕ) (number : X → ℕ) (is_block : X → Type 0) (
             at_most = omega (arith, is.cut.counted, start.at.pulls);
             index = start.at.index;
             blocks = omega (arith, part.at, part.last, at_first);
-            summary = omega (arith, is.cut.summary, is.cut.summary_left, start.at.summary);
+            summary = let last : first + (k - first) ≡ k = omega (arith, part.at, part.last, at_first) in rw last (omega (arith, is.cut.summary, part.pulled, part.few));
           };
         },
       )

@@ -79,6 +79,7 @@ pub record PullsAlong (w : ℕ) (s : Walk) (r : Option ℕ) (t : Walk) : Type 0 
   pub pulled : MatchOption r ((t.pulls ≡ s.pulls + s.nonzero_left + 1) × (t.nonzero_left ≡ 0))
       (λ _. t.pulls + t.nonzero_left ≡ s.pulls + s.nonzero_left)
   pub along : t.index + w * t.blocks ≡ s.index + w * s.blocks
+  pub at : MatchOption r (t.blocks ≡ 0) (λ x. (t.index ≤ x) × (x < t.index + w))
   pub summary : MatchOption r ((t.summary_pulls ≡ s.summary_pulls + s.summary_left + 1) × (t.summary_left ≡ 0))
       (λ _. t.summary_pulls + t.summary_left ≡ s.summary_pulls + s.summary_left)
 
@@ -188,13 +189,15 @@ pub record FirstPullFrom (w : ℕ) (values : List Bool) (from : ℕ) (s : Walk) 
 
 -- Where one is that begins at a and ends before b: the block of a is in hand, or the last one, and at the back the one in
 -- which the range ends, or the last one. That is a second pull where an element of the range is in it, past the first.
+-- Of the summary it pulls what says of the blocks from the one in hand up to the one at the back.
 pub record FirstPullsOfPart (w : ℕ) (values : List Bool) (a b : ℕ) (s : Walk) : Type 0 where
   pub pulls : s.pulls + s.nonzero_left
       ≡ 1 + length (blocks_past w (s.index / w) (those_in_range (elements values) a b))
   pub at_most : s.pulls ≤ 2
   pub index : s.index ≡ min (a / w) (blocks_for w (length values) - 1) * w
   pub blocks : s.blocks ≡ min ((b - 1) / w) (blocks_for w (length values) - 1) - a / w
-  pub summary : s.summary_pulls + s.summary_left ≤ max 1 (blocks_for w (blocks_for w (length values)))
+  pub summary : s.summary_pulls + s.summary_left
+      ≤ max 1 (blocks_for w (s.index / w + s.blocks) - s.index / w / w)
 
 -- Where a walk over what two lists become is at its making. It has pulled both once, and has as many blocks to go as the
 -- longer one.

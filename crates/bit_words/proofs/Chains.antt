@@ -4,6 +4,6 @@ use Rattle.bit_words.proofs.bit_vec.BitVec.unite_difference.Met as unites
 use Rattle.bit_words.proofs.bit_vec.debug.BitVecDebug.fmt.Met as shows
 use Rattle.bit_words.proofs.bit_vec.first_and_nonzero.FirstAndNonzeroIterator.next.Met as begins
 use Rattle.bit_words.proofs.bit_vec.nonzero.Nonzero.count_ones.Met as counts
-use Rattle.bit_words.proofs.bit_vec.nonzero.Nonzero.cut_at.Met as cuts
+use Rattle.bit_words.proofs.bit_vec.nonzero.Nonzero.between.Met as cuts
 use Rattle.bit_words.proofs.bit_vec.nonzero.Nonzero.skip_blocks.Met as skips
 use Rattle.bit_words.proofs.bit_vec.nonzero.back.NonzeroDoubleEndedIterator.next_back.Met as ends

@@ -1,10 +1,10 @@
 -- The walk over the blocks that are not 0, by the pending bits of a summary.
-use Rattle.std.proofs.Common.{◌≡◌, ◌≢◌, ℕ, zero, suc, ◌+◌, ◌-◌, ◌*◌, ◌/◌, ◌%◌, ◌^◌, ◌<◌, ◌≤◌, true, false, not, leb, nat_lt, ◌&&◌, if◌then◌else◌, ◌==◌, List, [], ◌∷◌, ◌++◌, map, drop, take, length, slice_get, Some, get_or, get_or-take, All, refl, sym, ap, subst, ◌∙◌, arith, min, mul-le-mul_right, div-mul-le_self, length-take}
-use Rattle.std.proofs.{lemmas.{Bool.{true≢false, cond_both, Decides.nat_tests}, List.{append-nil, drop_more, drop_all, drop-append-le, drop-map, get_or_past, length-drop, length-map, length-take-le, take_all, take-append-drop, take-map, take-take, Elements.{All-drop, All-take}}, Option.get_or_from_slice_get}, Math.{Nat.div-lt_iff_lt-mul, Seq.drop-drop}}
+use Rattle.std.proofs.Common.{◌≡◌, ◌≢◌, ℕ, zero, suc, ◌+◌, ◌-◌, ◌*◌, ◌/◌, ◌%◌, ◌^◌, ◌<◌, ◌≤◌, true, false, not, leb, nat_lt, ◌&&◌, if◌then◌else◌, ◌==◌, List, [], ◌∷◌, ◌++◌, map, drop, take, length, slice_get, Some, get_or, get_or-take, All, refl, sym, ap, subst, ◌∙◌, ⊎_elim, arith, max, min, mul-le-mul_right, div-mul-le_self, length-take}
+use Rattle.std.proofs.{lemmas.{Bool.{true≢false, cases_lt, cond_both, Decides.nat_tests}, List.{append-nil, drop_more, drop_all, drop-append-le, drop-map, get_or_past, length-drop, length-map, length-take-le, take_all, take-append-drop, take-map, take-take, Elements.{All-drop, All-take}}, Option.get_or_from_slice_get}, Math.{Nat.div-lt_iff_lt-mul, Seq.drop-drop}}
 use Rattle.std.proofs.lemmas.Grind.{div_ceil_times}
 use Rattle.bit_blocks.specs.{Bits.blocks_for, Digits.is_one, Lowest.{IsLowest, IsCleared}, Storage.{value_at, is_used}}
 use Rattle.bit_words.specs.{Nonzero.nonzero_from, Pending.{CoversUsed, IsInHand, IsLastPending, IsStoredFrom, left_from, next_at}}
-use Rattle.bit_blocks.proofs.{BitsLemmas.{blocks_for-least, blocks_for-past}, Masks.{is_one-bit, is_one-zero}}
+use Rattle.bit_blocks.proofs.{BitsLemmas.{blocks_for-le, blocks_for-least, blocks_for-past}, Masks.{is_one-bit, is_one-zero}}
 use Rattle.bit_words.{specs.Summary.{short_count, IsStoredSummary}, proofs.NextAtLemmas.{before_first, first_least, first_most}}
 use Rattle.bit_blocks.proofs.{StorageLemmas.{value_at-is, value_at-index}, ZeroLemmas.{dropped, value_at-drop}}
 use Rattle.bit_words.proofs.SummaryLemmas.{stored_each, stored_enough}
@@ -258,3 +258,14 @@ module _ {X : Type 0} (w : ℕ) (number : X → ℕ) (is_block : X → Type 0) w
 -- how many blocks of the summary are past the one for a block
 pub count_from : (w q start blocks : ℕ) → 0 < w → start ≡ q * w → start ≤ blocks - 1 → blocks_for w (blocks - (start + w)) ≡ blocks_for w blocks - 1 - q
 count_from w q start blocks pos at inside = grind (arith, blocks_for-past w (suc q) blocks pos, blocks_for-least w blocks 0 pos, blocks_for-least w (blocks - (start + w)) 0 pos)
+
+-- how many are left, where a walk past a block of chunk q ends before the block at k, or at once
+pub summary_left-cut : (w q k index end : ℕ) → 0 < w → index ≡ q * w → end ≤ max k index → blocks_for w (end - (index + w)) ≤ blocks_for w k - 1 - q
+summary_left-cut w q k index end pos at to =
+    ⊎_elim
+    (λ (short : k < index + w). let none = blocks_for-least w (end - (index + w)) 0 pos (omega (arith, short, to, pos)) in omega (arith, none))
+    (λ (long : index + w ≤ k).
+    let fewer = blocks_for-le w (end - (index + w)) (k - (index + w)) pos (omega (arith, to, long)) in
+    let left = count_from w q index k pos at (omega (arith, long, pos)) in
+    omega (arith, fewer, left))
+    (cases_lt k (index + w))

@@ -76,6 +76,16 @@ abbrev pub first_and_nonzero : {X : Type 0} → (X → ℕ) → List X → List 
 first_and_nonzero number [] = []
 first_and_nonzero number (x ∷ xs) = (0, x) ∷ nonzero_from number 1 xs
 
+-- a walk made past block k of xs, which is one pull
+abbrev pub walk_past : {X : Type 0} → ℕ → (X → ℕ) → ℕ → List X → Nonzeros X
+walk_past w number k xs = record {
+  blocks = xs;
+  left = nonzero_from number (k + 1) (drop (k + 1) xs);
+  pulls = 1;
+  summary_pulls = 1;
+  summary_left = blocks_for w (length xs) - 1 - k / w;
+}
+
 -- A walk made past block k, which is one pull. It pulled the block of the summary that says of block k.
 pub record StartsPast {X : Type 0} (w : ℕ) (number : X → ℕ) (k : ℕ) (it : Nonzeros X) : Type 0 where
   pub left : it.left ≡ nonzero_from number (k + 1) (drop (k + 1) it.blocks)

@@ -63,8 +63,8 @@ fn a_walk_that_ends_in_a_block(rt: HostRuntime) -> Result<(), Fail> {
     bits.set(70, true);
     bits.set(71, true);
     // Of 100 values, over blocks of 32 bits, those at 70 and 71 are true.
-    let mut walk = bits.nonzero_past(0);
-    assert_eq!(rt; walk.cut_at(2, 7), 0b0100_0000);
+    let (mut walk, block) = bits.nonzero_between(0, 2, 7);
+    assert_eq!(rt; block, 0b0100_0000);
     assert_eq!(rt; walk.next(), None);
     Ok(())
 }

@@ -1,12 +1,16 @@
 // The walk over the blocks that are not 0, from the back.
-ghost use Rattle.std.specs.Prelude.{◌≡◌, ◌-◌, ◌*◌, ◌<◌, ◌^◌, ◌==◌, IfSome, not, length};
-ghost use Rattle.bit_words.specs.Nonzero.{CutsAt, PullsLast, Refills, TakesLast};
+ghost use Rattle.std.specs.Prelude.{◌≡◌, ◌-◌, ◌*◌, ◌/◌, ◌<◌, ◌≤◌, ◌^◌, ◌==◌, All, IfSome, not, length, map};
+ghost use Rattle.bit_blocks.specs.Bits.{blocks_for, blocks_of, IsWithinCapacity};
+ghost use Rattle.bit_words.specs.Nonzero.{CutsAt, PullsLast, Refills, TakesLast, walk_past};
 
+use crate::bit_vec::BitVec;
 use crate::bit_vec::Nonzero;
 use crate::bit_vec::nonzero::at;
+use crate::bit_vec::pending::{Pending, Unstored};
 use crate::summary::is_nonzero;
 use bit_blocks::block::BitBlock;
 use bit_blocks::block::masks::clear_from;
+use bit_blocks::steps::Steps;
 
 impl<'a, B: BitBlock> Nonzero<'a, B> {
     /// The same for the hand at the back: where `back` is zero, makes it the last block that is left, and where none is
@@ -48,30 +52,38 @@ impl<'a, B: BitBlock> Nonzero<'a, B> {
         false
     }
 
-    /// Ends the walk in the block at `k`: leaves the blocks before it alone, and returns the lowest `count` bits of that
-    /// block where it was left, or else zeros. This is a pull where one of them is 1. Constant time.
-    ///
-    /// ```
-    /// // Of 100 values, over blocks of 32 bits, those at 70 and 71 are true.
-    /// let mut walk = bits.nonzero_past(0);
-    /// assert_eq!(walk.cut_at(2, 7), 0b0100_0000);
-    /// assert_eq!(walk.next(), None);
-    /// ```
+    // The walk past the block at `first` and before the one at `last`, and the lowest `count` bits of that block, or zeros
+    // where it is not past the first one.
     #[inline]
-    pub fn cut_at(&mut self, k: usize, count: usize) -> B
-        ensures of_block { B.is_block result }
-        ensures cut { CutsAt B.width B.number k count self.old result self.new }
+    pub(crate) fn between(bits: &'a BitVec<B>, first: usize, last: usize, count: usize) -> (Self, B)
+        requires inside { first ≤ blocks_for B.width (length bits.now.values) - 1 }
+        ensures blocks { map B.number result.0.blocks ≡ blocks_of B.width bits.now.values }
+        ensures each { All B.is_block result.0.blocks }
+        ensures of_block { B.is_block result.1 }
+        ensures cut { CutsAt B.width B.number last count
+            (walk_past B.width B.number first result.0.blocks) result.1 result.0 }
+        ensures summary { result.0.summary_left ≤ blocks_for B.width last - 1 - first / B.width }
+        ensures fits { IsWithinCapacity bits.now }
     {
-        let whole = if self.pending.may_have(k) {
-            at(self.blocks, k)
+        let blocks = bits.blocks.as_slice();
+        let mut pending = Pending::after(blocks, &bits.summary, first, Unstored::NonzeroPastZero);
+        let whole = if pending.may_have(last) {
+            at(blocks, last)
         } else {
             B::zero()
         };
         let block = clear_from(whole, count);
-        let end = k.max(self.pending.index).min(self.pending.end);
-        self.pending.keep_before(end);
-        self.steps.tick_by(usize::from(is_nonzero(block)));
-        block
+        let end = last.max(pending.index).min(pending.end);
+        pending.keep_before(end);
+        let mut steps = Steps::new();
+        steps.tick();
+        steps.tick_by(usize::from(is_nonzero(block)));
+        let walk = Nonzero {
+            blocks,
+            pending,
+            steps,
+        };
+        (walk, block)
     }
 
     // The last block, with its index, as a pull. Where there is none it counts no pull.

@@ -3,7 +3,7 @@ use Rattle.std.proofs.{Math.Nat.{div-add-mod'}, lemmas.Bool.Decides.nat_tests}
 use Rattle.bit_blocks.{proofs.BitsLemmas.{blocks_of-digit, read_back}, specs.{Bits.blocks_of, Digits.is_one}}
 use Rattle.bit_words.specs.Kept.{KeepsInBlock}
 use Rattle.bit_set.specs.{Changes.Changes, Retained.{HasTested, ones}, Sets.{elements}}
-use Rattle.bit_set.proofs.{MemberLemmas.none_from_members, RetainLemmas.{below_by_members, has-block, next_at_block, retained-block, tested-all, tested-none}, SetLemmas.has-filter, SplitLemmas.all_from, ValueLemmas.has-within, set.BitSet.retain.Given.Over, set.BitSet.retain.Goals.{After-block_or_zero-block}}
+use Rattle.bit_set.proofs.{MemberLemmas.none_from_members, RetainLemmas.{below_by_members, has-block, kept_members, next_at_block, retained-block, tested-all, tested-none}, SetLemmas.has-filter, SplitLemmas.all_from, ValueLemmas.has-within, set.BitSet.retain.Given.Over, set.BitSet.retain.Goals.{After-block_or_zero-block}}
 use Rattle.bit_set.proofs.set.BitSet.retain.Goals as goal
 
 -- the block of the next member
@@ -79,3 +79,8 @@ returns-clause-elements g c =
 pub returns-clause-changes : goal.returns-clause-changes
 unfolding Changes
 returns-clause-changes g c = let kept = returns-clause-elements g c in (kept.0, (kept.4, refl))
+
+pub returns-clause-members : goal.returns-clause-members
+returns-clause-members g c keeps says =
+    let kept = returns-clause-elements g c in
+    kept_members _ keeps c.args.keep (elements c.args.self.now.values) (elements c.loop-value.self.values) says (kept.0, kept.1, kept.2, kept.3, kept.4)

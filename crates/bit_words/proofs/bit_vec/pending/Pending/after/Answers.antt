@@ -54,6 +54,7 @@ returns g c =
       };
       end = refl;
       left = left-cut w number is_block start end (first % w) first used bits xs (mod-lt first pos) (omega (arith, whole)) cut;
+      index = refl;
       pulls = omega (arith, c.pull_used-used.ensures.pulls, c.over-rest.ensures.pulls);
       count = count_from w (first / w) start end pos (omega arith) (omega (arith, whole, c.requires.inside));
     })
