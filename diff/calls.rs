@@ -70,6 +70,8 @@ calls! {
         PopFirst "pop_first" "s"
         PopLast "pop_last" "s"
         Retain "retain" "sn"
+        ShiftUp "shift_up" "sn"
+        ShiftDown "shift_down" "sn"
     }
     Move {
         Clone "clone" "st"
@@ -77,6 +79,7 @@ calls! {
         SplitOff "split_off" "stn"
         BitsClone "bits.clone" "st"
         BitsCloneTail "bits.clone_tail" "stn"
+        CopyRange "copy_range" "stnm"
     }
     Read {
         Contains "contains" "sn"
@@ -102,6 +105,7 @@ calls! {
         Previous "previous" "sn"
         NextMissing "next_missing" "sn"
         ToBytes "to_bytes" "s"
+        FirstGap "first_gap" "snm"
     }
     Walk {
         Iter "iter" "snm"

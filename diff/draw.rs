@@ -78,6 +78,17 @@ impl Draw {
                 line.first = usize::MAX - self.random.below(2);
             }
             Call::InsertRange | Call::ToggleRange => self.range(line, set),
+            Call::ShiftUp if is_far => line.first = usize::MAX - self.random.below(300),
+            Call::ShiftUp | Call::ShiftDown => line.first = self.random.below(300),
+            Call::FirstGap if is_far => {
+                line.first = self.element(set);
+                line.second = usize::MAX - self.element(set);
+            }
+            Call::FirstGap => {
+                line.first = self.element(set);
+                line.second = self.random.below(40);
+            }
+            Call::CopyRange => self.range(line, &sets[line.other]),
             Call::RemoveRange
             | Call::ContainsAllInRange
             | Call::ContainsAnyInRange

@@ -74,6 +74,15 @@ impl Model {
         self.elements.range(from..to.max(from))
     }
 
+    /// Fails where an element would pass the greatest.
+    fn shift_up(&mut self, distance: usize) -> Result<(), Refused> {
+        let Some(last) = self.elements.last() else { return Ok(()) };
+        let top = last.checked_add(distance).filter(|top| *top < usize::MAX).ok_or(Refused)?;
+        self.len = self.len.max(top + 1);
+        self.elements = self.elements.iter().map(|element| element + distance).collect();
+        Ok(())
+    }
+
     fn truncate(&mut self, len: usize) {
         if len < self.len {
             self.elements.split_off(&len);
@@ -192,6 +201,10 @@ impl Set for Model {
             Call::Set if line.bit() => return self.insert(line.first),
             Call::Set => return Ok(self.elements.remove(&line.first)),
             Call::Retain => self.elements.retain(|element| element % 3 != line.first % 3),
+            Call::ShiftUp => self.shift_up(line.first)?,
+            Call::ShiftDown => {
+                self.elements = self.elements.iter().filter_map(|element| element.checked_sub(line.first)).collect();
+            }
             _ => {}
         }
         Ok(true)
@@ -213,6 +226,12 @@ impl Set for Model {
         let part = Model { elements: self.elements.split_off(&at), len: self.len };
         self.len = at;
         part
+    }
+
+    fn copy_range(&self, from: usize, to: usize) -> Model {
+        let end = to.min(self.len);
+        let len = if from < end { end } else { 0 };
+        Model { elements: self.within(from, to).copied().collect(), len }
     }
 
     fn bits_clone(&self) -> Model {
@@ -330,6 +349,17 @@ impl Set for Model {
             missing += 1;
         }
         missing
+    }
+
+    fn first_gap(&self, from: usize, count: usize) -> Option<usize> {
+        let mut gap = from;
+        for element in self.elements.range(from..) {
+            if element - gap >= count {
+                break;
+            }
+            gap = element + 1;
+        }
+        gap.checked_add(count).map(|_| gap)
     }
 
     fn to_bytes(&self) -> Vec<u8> {

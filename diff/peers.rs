@@ -148,6 +148,10 @@ impl<B: Block> Set for Peer<B> {
         unreachable!("by the model")
     }
 
+    fn copy_range(&self, _from: usize, _to: usize) -> Self {
+        unreachable!("by the model")
+    }
+
     fn bits_clone(&self) -> Self {
         Peer(B::joined(self.bits().clone()))
     }
@@ -232,6 +236,10 @@ impl<B: Block> Set for Peer<B> {
     }
 
     fn next_missing(&self, _number: usize) -> usize {
+        unreachable!("by the model")
+    }
+
+    fn first_gap(&self, _from: usize, _count: usize) -> Option<usize> {
         unreachable!("by the model")
     }
 

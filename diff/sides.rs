@@ -25,6 +25,7 @@ pub trait Set: Sized + Ord + Hash + Clone {
     fn merged(&mut self, call: Call, other: &Self);
     fn append(&mut self, other: &mut Self);
     fn split_off(&mut self, at: usize) -> Self;
+    fn copy_range(&self, from: usize, to: usize) -> Self;
     fn bits_clone(&self) -> Self;
     fn bits_clone_tail(&self, at: usize) -> Self;
     fn contains(&self, number: usize) -> bool;
@@ -46,6 +47,7 @@ pub trait Set: Sized + Ord + Hash + Clone {
     fn read_range(&self, call: Call, from: usize, to: usize) -> usize;
     fn found(&self, call: Call, number: usize) -> Option<usize>;
     fn next_missing(&self, number: usize) -> usize;
+    fn first_gap(&self, from: usize, count: usize) -> Option<usize>;
     fn to_bytes(&self) -> Vec<u8>;
     fn bits_written(&mut self, line: &Line, other: &Self) -> Option<bool>;
     fn bits_len(&self) -> usize;
@@ -205,6 +207,7 @@ fn move_over<S: Set>(set: &mut S, other: &mut S, line: &Line) {
         Call::Clone => *set = other.clone(),
         Call::Append => set.append(other),
         Call::SplitOff => *other = set.split_off(line.first),
+        Call::CopyRange => *set = other.copy_range(line.first, line.second),
         Call::BitsClone => *set = other.bits_clone(),
         _ if line.first < other.bits_len() => *set = other.bits_clone_tail(line.first),
         _ => {}
@@ -239,6 +242,7 @@ fn read<S: Set>(set: &S, other: &S, line: &Line, answers: &mut Answers) {
         }
         Call::First | Call::Last | Call::Next | Call::Previous => answers.item(set.found(line.call, line.first)),
         Call::NextMissing => answers.number(set.next_missing(line.first)),
+        Call::FirstGap => answers.item(set.first_gap(line.first, line.second)),
         Call::ToBytes => answers.bytes(&set.to_bytes()),
         _ => {
             if let Some(text) = set.json() {

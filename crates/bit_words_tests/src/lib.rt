@@ -18,6 +18,8 @@ mod merge_tests;
 #[cfg(test)]
 mod mismatch_tests;
 #[cfg(test)]
+mod moving_tests;
+#[cfg(test)]
 mod nonzero_tests;
 #[cfg(test)]
 mod packed_tests;

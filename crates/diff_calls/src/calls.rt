@@ -30,6 +30,7 @@ pub(crate) enum Changing {
     ToggleRange,
     Toggle,
     Set,
+    ShiftUp,
 }
 
 // What leaves less of a set, and returns nothing.
@@ -41,6 +42,7 @@ pub(crate) enum Lessening {
     Reset,
     RemoveRange,
     Retain,
+    ShiftDown,
 }
 
 // What takes an element out of a set.
@@ -59,6 +61,7 @@ pub(crate) enum Moving {
     SplitOff,
     BitsClone,
     BitsCloneTail,
+    CopyRange,
 }
 
 // What returns a number of a set.
@@ -91,6 +94,7 @@ pub(crate) enum Finding {
     Last,
     Next,
     Previous,
+    FirstGap,
 }
 
 // What says of a set more than that.
@@ -280,11 +284,14 @@ const CALLS: &[Call] = &[
     Call::Pop(Popping::First),
     Call::Pop(Popping::Last),
     Call::Lessen(Lessening::Retain),
+    Call::Change(Changing::ShiftUp),
+    Call::Lessen(Lessening::ShiftDown),
     Call::Move(Moving::Clone),
     Call::Move(Moving::Append),
     Call::Move(Moving::SplitOff),
     Call::Move(Moving::BitsClone),
     Call::Move(Moving::BitsCloneTail),
+    Call::Move(Moving::CopyRange),
     Call::Ask(Asking::Contains),
     Call::Count(Counting::Count),
     Call::Count(Counting::Len),
@@ -308,6 +315,7 @@ const CALLS: &[Call] = &[
     Call::Find(Finding::Previous),
     Call::Count(Counting::NextMissing),
     Call::Tell(Telling::ToBytes),
+    Call::Find(Finding::FirstGap),
     Call::Walk(Walking::Iter),
     Call::Walk(Walking::IntoIter),
     Call::Walk(Walking::IterFrom),

@@ -32,6 +32,7 @@ pub(crate) fn change<B: BitBlock>(
         Changing::ToggleRange => answers.outcome(set.toggle_range(number..end)),
         Changing::Toggle => answers.change(set.toggle(number)),
         Changing::Set => answers.change(set.set(number, end == 1)),
+        Changing::ShiftUp => answers.outcome(set.shift_up(number)),
     }
 }
 
@@ -48,6 +49,7 @@ pub(crate) fn lessen<B: BitBlock>(
         Lessening::Reset => set.reset(),
         Lessening::RemoveRange => set.remove_range(number..end),
         Lessening::Retain => set.retain(|element| element % 3 != number % 3),
+        Lessening::ShiftDown => set.shift_down(number),
     }
 }
 
@@ -125,7 +127,7 @@ pub(crate) fn move_over<B: BitBlock>(
     alloc: Global,
     moving: Moving,
     (set, other): (&mut BitSet<B>, &mut BitSet<B>),
-    at: usize,
+    (at, end): (usize, usize),
     answers: &mut Answers,
 ) {
     match moving {
@@ -135,5 +137,6 @@ pub(crate) fn move_over<B: BitBlock>(
         Moving::SplitOff => put(other, set.split_off(alloc, at), answers),
         Moving::BitsClone => put_bits(set, other.get_ref().clone(alloc), answers),
         Moving::BitsCloneTail => put_tail(alloc, set, other.get_ref(), at, answers),
+        Moving::CopyRange => put(set, other.copy_range(alloc, at..end), answers),
     }
 }

@@ -39,12 +39,18 @@ pub(crate) fn ask<B: BitBlock>(
     }
 }
 
-pub(crate) fn find<B: BitBlock>(finding: Finding, set: &BitSet<B>, number: usize) -> Option<usize> {
+pub(crate) fn find<B: BitBlock>(
+    finding: Finding,
+    set: &BitSet<B>,
+    number: usize,
+    count: usize,
+) -> Option<usize> {
     match finding {
         Finding::First => set.first(),
         Finding::Last => set.last(),
         Finding::Next => set.next(number),
         Finding::Previous => set.previous(number),
+        Finding::FirstGap => set.first_gap(number, count),
     }
 }
 

@@ -81,7 +81,7 @@ fn change_by<B: Width>(
         Call::IntoBitVec => answers.number(through_bit_vec(alloc, set)),
         Call::Combine(merge) => answers.ended(combine(merge, set, other)),
         Call::CombineAndTell(merge) => answers.told(combine_and_tell(merge, set, other)),
-        Call::Move(moving) => move_over(alloc, moving, (set, other), first, answers),
+        Call::Move(moving) => move_over(alloc, moving, (set, other), (first, second), answers),
         Call::CountBits(_)
         | Call::AskBits(_)
         | Call::FindBit(_)
@@ -160,7 +160,7 @@ impl<B: Width> Sets<B> {
         match line.call {
             Call::Count(counting) => answers.number(count(counting, set, first, second)),
             Call::Ask(asking) => answers.truth(ask(asking, set, other, (first, second))),
-            Call::Find(finding) => answers.item(find(finding, set, first)),
+            Call::Find(finding) => answers.item(find(finding, set, first, second)),
             Call::Tell(telling) => tell(alloc, telling, set, other, answers),
             Call::Walk(walking) => walk_over(walking, set, other, (first, second), answers),
             _ => {}

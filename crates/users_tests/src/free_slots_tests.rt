@@ -132,3 +132,25 @@ fn all_are_taken_over_each_width(rt: HostRuntime) {
     runs_out::<u64>(&rt, rt.alloc());
     runs_out::<u128>(&rt, rt.alloc());
 }
+
+// Runs of slots: the lowest that are wide enough, of those that were given back too.
+#[test]
+fn slots_in_a_row_are_taken(rt: HostRuntime) {
+    let mut slots = new::<u32>(&rt, rt.alloc(), 5);
+    expect_eq(&rt, &slots.take_at_or_above(1), &Some(1));
+    // Of five slots all but 1 are free.
+    expect_eq(&rt, &slots.take_run(2), &Some(2));
+    expect_eq(&rt, &slots.take_run(2), &None);
+}
+
+#[test]
+fn slots_given_back_are_taken_in_a_row(rt: HostRuntime) {
+    let mut slots = new::<Block24>(&rt, rt.alloc(), 30);
+    expect_eq(&rt, &slots.take_run(30), &Some(0));
+    expect(&rt, slots.give_back(24));
+    expect(&rt, slots.give_back(23));
+    expect_eq(&rt, &slots.take_run(3), &None);
+    expect_eq(&rt, &slots.take_run(2), &Some(23));
+    expect_eq(&rt, &slots.take_run(0), &Some(0));
+    expect_eq(&rt, &slots.free_count(), &0);
+}
