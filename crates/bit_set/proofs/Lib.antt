@@ -10,6 +10,8 @@ pub mod MemberLemmas
 pub mod ValueLemmas
 pub mod EndLemmas
 pub mod RetainLemmas
+pub mod RunLemmas
+pub mod ProperLemmas
 pub mod RangeQueryLemmas
 pub mod CapacityLemmas
 pub mod ItemLemmas

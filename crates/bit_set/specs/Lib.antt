@@ -15,6 +15,7 @@ pub mod Mismatches
 pub mod Indexes
 pub mod Missing
 pub mod Retained
+pub mod Runs
 pub mod Json
 pub mod Entries
 pub mod Lends

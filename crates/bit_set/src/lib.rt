@@ -18,4 +18,5 @@ pub use faults::SetError;
 pub use json::{JsonBlock, JsonError};
 pub use set::BitSet;
 pub use walk::missing::Missing;
+pub use walk::runs::Runs;
 pub use walk::{Difference, Intersection, Iter, SymmetricDifference, TwoSets, Union};

@@ -17,6 +17,7 @@ mod ends;
 mod in_place;
 mod new_sets;
 mod noted_changes;
+mod proper_subset;
 mod ranges;
 mod relations;
 mod retaining;
