@@ -1,9 +1,9 @@
 -- What the runs of a set are, and how one after another is found.
 use Rattle.std.proofs.Common.{◌≡◌, ℕ, zero, suc, ◌+◌, ◌-◌, ◌<◌, ◌≤◌, Bool, true, false, not, ◌&&◌, ◌||◌, eqb, nat_le, List, [], ◌∷◌, ◌++◌, Option, Some, None, MatchOption, refl, sym, ap, ◌∙◌, arith, ⊎_elim}
 use Rattle.std.proofs.lemmas.{Bool.{cases_eq, cases_lt, Decides.nat_tests}, List.Folds.list_any-append}
-use Rattle.std.specs.{Prelude.{⊤, IsTrue}, List.range_with_len, declared.ops.Range.Range}
+use Rattle.std.specs.{Prelude.{⊤, IsTrue}, Option.unwrap_or, List.range_with_len, declared.ops.Range.Range}
 use Rattle.bit_blocks.specs.Ranges.{in_range}
-use Rattle.bit_set.specs.{Members.{HasNone, KeepsFrom, TakesLeast}, Ranges.{span, those_in_range}, Runs.{AreApartFrom, AreRuns, IsFirstRun, PassesRun, RunsWalk, in_ranges, put_before, runs_of}, Sets.{AscendsFrom, IsAscending, difference, has, those_from}}
+use Rattle.bit_set.specs.{Members.{HasNone, KeepsFrom, TakesLeast}, Missing.{MissingWalk, PassesMembers}, Ranges.{span, those_in_range}, Runs.{AreApartFrom, AreRuns, IsFirstRun, PassesRun, RunsWalk, in_ranges, put_before, runs_of}, Sets.{AscendsFrom, IsAscending, difference, has, those_from}}
 use Rattle.bit_set.proofs.{MissingLemmas.has-missing, RangeLemmas.{AscendsFrom-joined, AscendsFrom-those_from, IsAscending-span, has-range_with_len, has-span}, SetLemmas.{AscendsFrom-filter, AscendsFrom-lower, has-filter, has-first, same_members}}
 
 -- ---- what they are
@@ -82,6 +82,13 @@ module _ (s : List ℕ) (start end : ℕ) (up : IsAscending s) where
       before = λ n below. grind (arith, nat_tests, least.least n, below);
       past = grind (arith, nat_tests, has-filter (in_range start end) s end);
     }
+
+    pub run_found : (w : ℕ) (a b : MissingWalk) (r : Option ℕ) (past : ℕ) → a.left ≡ missing → PassesMembers w a r b → past ≡ unwrap_or r end → IsFirstRun (those_in_range s start end) (record { start = first; end = past })
+    run_found w a b None past is step e = rw e (ends_with_range (sym is ∙ step.item.0))
+    run_found w a b (Some x) past is step e = rw e (ends_before x b.left (rw is at step.first))
+
+    pub starts_within : start ≤ first
+    starts_within = grind (arith, nat_tests, has-filter (in_range start end) s first, least.is_in)
 
   rest_of_part : (past n : ℕ) → start ≤ past → has (those_in_range s past end) n ≡ (nat_le past n && has (those_in_range s start end) n)
   rest_of_part past n on = grind (arith, nat_tests, has-filter (in_range past end) s n, has-filter (in_range start end) s n, on)
