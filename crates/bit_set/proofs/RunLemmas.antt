@@ -1,10 +1,11 @@
 -- What the runs of a set are, and how one after another is found.
-use Rattle.std.proofs.Common.{◌≡◌, ℕ, zero, suc, ◌+◌, ◌-◌, ◌<◌, ◌≤◌, Bool, true, false, not, ◌&&◌, ◌||◌, eqb, nat_le, List, [], ◌∷◌, ◌++◌, Option, Some, None, MatchOption, refl, sym, ap, ◌∙◌, arith, ⊎_elim}
+use Rattle.std.proofs.Common.{◌≡◌, ℕ, zero, suc, ◌+◌, ◌-◌, ◌<◌, ◌≤◌, Bool, true, false, not, ◌&&◌, ◌||◌, eqb, nat_le, List, [], ◌∷◌, ◌++◌, Option, Some, None, MatchOption, length, refl, sym, ap, ◌∙◌, arith, ⊎_elim}
+use Rattle.std.{proofs.iter.runs.Sources.{from_front, as_is}, specs.Iterator.Runs.YieldsInOrder}
 use Rattle.std.proofs.lemmas.{Bool.{cases_eq, cases_lt, Decides.nat_tests}, List.Folds.list_any-append}
 use Rattle.std.specs.{Prelude.{⊤, IsTrue}, Option.unwrap_or, List.range_with_len, declared.ops.Range.Range}
 use Rattle.bit_blocks.specs.Ranges.{in_range}
-use Rattle.bit_set.specs.{Members.{HasNone, KeepsFrom, TakesLeast}, Missing.{MissingWalk, PassesMembers}, Ranges.{span, those_in_range}, Runs.{AreApartFrom, AreRuns, IsFirstRun, PassesRun, RunsWalk, in_ranges, put_before, runs_of}, Sets.{AscendsFrom, IsAscending, difference, has, those_from}}
-use Rattle.bit_set.proofs.{MissingLemmas.has-missing, RangeLemmas.{AscendsFrom-joined, AscendsFrom-those_from, IsAscending-span, has-range_with_len, has-span}, SetLemmas.{AscendsFrom-filter, AscendsFrom-lower, has-filter, has-first, same_members}}
+use Rattle.bit_set.specs.{Members.{HasNone, KeepsFrom, TakesLeast}, Missing.{MissingWalk, PassesMembers}, Ranges.{span, those_in_range}, Runs.{AreApartFrom, AreRuns, IsFirstRun, PassesRun, RunsWalk, in_ranges, put_before, runs_of}, Sets.{AscendsFrom, IsAscending, difference, elements, has, those_from}}
+use Rattle.bit_set.proofs.{MissingLemmas.has-missing, RangeLemmas.{AscendsFrom-joined, AscendsFrom-those_from, IsAscending-span, has-range_with_len, has-span}, SetLemmas.{AscendsFrom-filter, AscendsFrom-lower, IsAscending-elements, has-filter, has-first, same_members}, ValueLemmas.has-past}
 
 -- ---- what they are
 
@@ -103,3 +104,13 @@ module _ (s : List ℕ) (start end : ℕ) (up : IsAscending s) where
   passes_no_run a t old new none =
       let ended : those_in_range s end end ≡ [] = same_members _ [] (AscendsFrom-filter 0 _ s up) tt (λ n. grind (arith, nat_tests, has-filter (in_range end end) s n)) in
       rw (← old, new) (record { item = (ap runs_of none, ap runs_of ended); first = λ n. ap (λ ms. has ms n) none; rest = λ n. ap (λ ms. has ms n) ended })
+
+-- each call gives the first of the runs that are left
+pub runs_in_order : YieldsInOrder PassesRun (λ walk. runs_of walk.members)
+runs_in_order p s = as_is p (runs_of p.from.members) (from_front PassesRun (λ x. x) (λ walk. runs_of walk.members) (λ s t h. ap length h.item.0) (λ s x t h. h.item) p s)
+
+-- the range up to the length has all members
+pub whole_range : (values : List Bool) → those_in_range (elements values) 0 (length values) ≡ elements values
+whole_range values =
+    same_members _ _ (AscendsFrom-filter 0 _ _ (IsAscending-elements values)) (IsAscending-elements values)
+    (λ n. has-filter (in_range 0 (length values)) (elements values) n ∙ grind (arith, nat_tests, has-past values n))

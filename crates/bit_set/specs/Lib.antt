@@ -16,6 +16,7 @@ pub mod Indexes
 pub mod Missing
 pub mod Retained
 pub mod Runs
+pub mod RangeTexts
 pub mod Json
 pub mod Entries
 pub mod Lends

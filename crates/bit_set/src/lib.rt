@@ -14,6 +14,7 @@ mod walk;
 pub use bit_words::bit_vec;
 /// What a type of blocks has to be.
 pub use bit_words::bit_vec::BitBlock;
+pub use display::ranges::Ranges;
 pub use faults::SetError;
 pub use json::{JsonBlock, JsonError};
 pub use set::BitSet;
