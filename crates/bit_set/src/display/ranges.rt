@@ -16,7 +16,7 @@ pub struct Ranges<'a, B: BitBlock> {
 
 impl<'a, B: BitBlock> Model for Ranges<'a, B> {
     ghost use Rattle.std.specs.Prelude.{ℕ, List};
-    ghost use Rattle.bit_set.specs.Sets.elements;
+    ghost use Rattle.bit_set.specs.Sets.{elements};
 
     ghost Value = { List ℕ };
 
