@@ -102,6 +102,8 @@ calls! {
         Previous "previous" "sn"
         NextMissing "next_missing" "sn"
         ToBytes "to_bytes" "s"
+        IsProperSubset "is_proper_subset" "st"
+        Ranges "ranges" "s"
     }
     Walk {
         Iter "iter" "snm"
@@ -111,6 +113,7 @@ calls! {
         Range "range" "snm"
         Nth "nth" "snm"
         Missing "missing" "snm"
+        Runs "runs" "snm"
         Union "union" "stnm"
         Intersection "intersection" "stnm"
         Difference "difference" "stnm"

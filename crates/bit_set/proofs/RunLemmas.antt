@@ -1,5 +1,5 @@
 -- What the runs of a set are, and how one after another is found.
-use Rattle.std.proofs.Common.{◌≡◌, ℕ, zero, suc, ◌+◌, ◌-◌, ◌<◌, ◌≤◌, Bool, true, false, not, ◌&&◌, ◌||◌, eqb, nat_le, List, [], ◌∷◌, ◌++◌, Option, Some, None, MatchOption, length, refl, sym, ap, ◌∙◌, arith, ⊎_elim}
+use Rattle.std.proofs.Common.{◌≡◌, ℕ, zero, suc, ◌+◌, ◌-◌, ◌<◌, ◌≤◌, Bool, true, false, not, ◌&&◌, ◌||◌, eqb, nat_le, List, [], ◌∷◌, ◌++◌, Option, Some, None, MatchOption, length, refl, sym, ap, ap₂, ◌∙◌, arith, ⊎_elim}
 use Rattle.std.{proofs.iter.runs.Sources.{from_front, as_is}, specs.Iterator.Runs.YieldsInOrder}
 use Rattle.std.proofs.lemmas.{Bool.{cases_eq, cases_lt, Decides.nat_tests}, List.Folds.list_any-append}
 use Rattle.std.specs.{Prelude.{⊤, IsTrue}, Option.unwrap_or, List.range_with_len, declared.ops.Range.Range}
@@ -56,8 +56,8 @@ runs_from_first s t a b up first rest =
     let from = AscendsFrom-those_from 0 b s up in
     let ascends : AscendsFrom (b + 1) other = AscendsFrom-past b other from (has-filter (λ x. nat_le b x) s b ∙ grind (arith, nat_tests, first.past)) in
     let parts : s ≡ span a b ++ other =
-        same_members s _ up (AscendsFrom-joined 0 b (span a b) other (omega arith) (IsAscending-span a b) (λ n is. grind (arith, nat_tests, has-span a b n, is)) from)
-        (λ n. grind (arith, nat_tests, list_any-append (λ m. eqb m n) (span a b) other, has-span a b n, has-filter (λ x. nat_le b x) s n, first.all n, first.before n)) in
+    same_members s _ up (AscendsFrom-joined 0 b (span a b) other (omega arith) (IsAscending-span a b) (λ n is. grind (arith, nat_tests, has-span a b n, is)) from)
+    (λ n. grind (arith, nat_tests, list_any-append (λ m. eqb m n) (span a b) other, has-span a b n, has-filter (λ x. nat_le b x) s n, first.all n, first.before n)) in
     ap runs_of parts
     ∙ ap (λ n. runs_of (range_with_len a n ++ other)) long
     ∙ runs-span k a b other (omega (arith, first.some)) ascends
@@ -114,3 +114,26 @@ pub whole_range : (values : List Bool) → those_in_range (elements values) 0 (l
 whole_range values =
     same_members _ _ (AscendsFrom-filter 0 _ _ (IsAscending-elements values)) (IsAscending-elements values)
     (λ n. has-filter (in_range 0 (length values)) (elements values) n ∙ grind (arith, nat_tests, has-past values n))
+
+-- ---- no others are the runs
+
+in_none_below : (low : ℕ) (rs : List (Range ℕ)) (n : ℕ) → AreApartFrom low rs → n < low → in_ranges rs n ≡ false
+in_none_below low [] n apart below = refl
+in_none_below low (r ∷ rs) n apart below = let rest = in_none_below (r.end + 1) rs n apart.2 in grind (arith, nat_tests)
+
+same_ranges : (low : ℕ) (rs qs : List (Range ℕ)) → AreApartFrom low rs → AreApartFrom low qs → ((n : ℕ) → in_ranges rs n ≡ in_ranges qs n) → rs ≡ qs
+same_ranges low [] [] left right same = refl
+same_ranges low [] (q ∷ qs) left right same = let here = same q.start in grind (arith, nat_tests)
+same_ranges low (r ∷ rs) [] left right same = let here = same r.start in grind (arith, nat_tests)
+same_ranges low (r ∷ rs) (q ∷ qs) left right same =
+    let past_r = λ (n : ℕ). in_none_below (r.end + 1) rs n left.2 in
+    let past_q = λ (n : ℕ). in_none_below (q.end + 1) qs n right.2 in
+    let starts : r.start ≡ q.start = grind (arith, nat_tests, same r.start, same q.start, past_r q.start, past_q r.start, left.1, right.1) in
+    let ends : r.end ≡ q.end = grind (arith, nat_tests, starts, same r.end, same q.end, past_r r.end, past_q q.end, past_r q.end, past_q r.end, left.1, right.1) in
+    let tails = same_ranges (r.end + 1) rs qs left.2 (rw ends right.2) (λ n. grind (arith, nat_tests, starts, ends, same n, past_r n, past_q n)) in
+    ap₂ (λ x xs. x ∷ xs) (ap₂ (λ a b. record { start = a; end = b }) starts ends) tails
+
+pub only_runs : (s : List ℕ) (rs : List (Range ℕ)) → IsAscending s → AreRuns s rs → rs ≡ runs_of s
+only_runs s rs up are = same_ranges 0 rs (runs_of s) are.apart (apart_from 0 s up) (λ n. are.members n ∙ sym (in_runs 0 s n up))
+
+pub ruleset runs_of_sets = (runs_are, only_runs)

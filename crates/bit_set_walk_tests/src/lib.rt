@@ -14,6 +14,8 @@ mod large_tests;
 #[cfg(test)]
 mod part_tests;
 #[cfg(test)]
+mod run_tests;
+#[cfg(test)]
 mod search_tests;
 #[cfg(test)]
 mod sets;

@@ -82,6 +82,7 @@ pub(crate) enum Asking {
     Eq,
     ContainsAllInRange,
     ContainsAnyInRange,
+    IsProperSubset,
 }
 
 // What returns an element of a set, where there is one.
@@ -102,6 +103,7 @@ pub(crate) enum Telling {
     Debug,
     Json,
     ToBytes,
+    Ranges,
 }
 
 // The walks over one set, and over two.
@@ -114,6 +116,7 @@ pub(crate) enum Walking {
     Range,
     Nth,
     Missing,
+    Runs,
     Union,
     Intersection,
     Difference,
@@ -308,6 +311,8 @@ const CALLS: &[Call] = &[
     Call::Find(Finding::Previous),
     Call::Count(Counting::NextMissing),
     Call::Tell(Telling::ToBytes),
+    Call::Ask(Asking::IsProperSubset),
+    Call::Tell(Telling::Ranges),
     Call::Walk(Walking::Iter),
     Call::Walk(Walking::IntoIter),
     Call::Walk(Walking::IterFrom),
@@ -315,6 +320,7 @@ const CALLS: &[Call] = &[
     Call::Walk(Walking::Range),
     Call::Walk(Walking::Nth),
     Call::Walk(Walking::Missing),
+    Call::Walk(Walking::Runs),
     Call::Walk(Walking::Union),
     Call::Walk(Walking::Intersection),
     Call::Walk(Walking::Difference),
