@@ -17,6 +17,7 @@ pub mod Missing
 pub mod Retained
 pub mod Runs
 pub mod RangeTexts
+pub mod RangeReading
 pub mod Json
 pub mod Entries
 pub mod Lends
