@@ -106,6 +106,8 @@ calls! {
         NextMissing "next_missing" "sn"
         ToBytes "to_bytes" "s"
         FirstGap "first_gap" "snm"
+        IsProperSubset "is_proper_subset" "st"
+        Ranges "ranges" "s"
     }
     Walk {
         Iter "iter" "snm"
@@ -115,6 +117,7 @@ calls! {
         Range "range" "snm"
         Nth "nth" "snm"
         Missing "missing" "snm"
+        Runs "runs" "snm"
         Union "union" "stnm"
         Intersection "intersection" "stnm"
         Difference "difference" "stnm"

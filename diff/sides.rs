@@ -244,6 +244,8 @@ fn read<S: Set>(set: &S, other: &S, line: &Line, answers: &mut Answers) {
         Call::NextMissing => answers.number(set.next_missing(line.first)),
         Call::FirstGap => answers.item(set.first_gap(line.first, line.second)),
         Call::ToBytes => answers.bytes(&set.to_bytes()),
+        Call::IsProperSubset => answers.truth(set.is_subset(other) && !set.is_superset(other)),
+        Call::Ranges => answers.text(&ranges_text(&runs(&set.elements(), 0, usize::MAX))),
         _ => {
             if let Some(text) = set.json() {
                 answers.text(&text);
@@ -252,6 +254,26 @@ fn read<S: Set>(set: &S, other: &S, line: &Line, answers: &mut Answers) {
             }
         }
     }
+}
+
+/// The runs of elements in a range, each with its start and its end.
+fn runs(elements: &[usize], from: usize, to: usize) -> Vec<(usize, usize)> {
+    let mut runs: Vec<(usize, usize)> = Vec::new();
+    for &element in elements.iter().filter(|element| (from..to).contains(element)) {
+        match runs.last_mut() {
+            Some(last) if last.1 == element => last.1 += 1,
+            _ => runs.push((element, element + 1)),
+        }
+    }
+    runs
+}
+
+fn ranges_text(runs: &[(usize, usize)]) -> String {
+    let text = |run: &(usize, usize)| match run.1 - run.0 {
+        1 => run.0.to_string(),
+        _ => format!("{}-{}", run.0, run.1 - 1),
+    };
+    runs.iter().map(text).collect::<Vec<_>>().join(", ")
 }
 
 fn step(walk: &mut dyn Walk, steps: usize, answers: &mut Answers) {
@@ -269,6 +291,10 @@ fn walk<S: Set>(set: &S, other: &S, line: &Line, answers: &mut Answers) {
         Call::IterEnds => return iter_ends(set, line, answers),
         Call::Range => return range(set, line, answers),
         Call::Nth => return nth(set, line, answers),
+        Call::Runs => {
+            let found = runs(&set.elements(), line.first, line.second);
+            return answers.0.extend(found.iter().flat_map(|run| [run.0, run.1]));
+        }
         _ => {}
     }
     let mut walk = set.walk(line, other);

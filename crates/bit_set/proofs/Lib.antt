@@ -12,6 +12,9 @@ pub mod EndLemmas
 pub mod RetainLemmas
 pub mod GapLemmas
 pub mod MovedLemmas
+pub mod RunLemmas
+pub mod ProperLemmas
+pub mod RangeTextLemmas
 pub mod RangeQueryLemmas
 pub mod CapacityLemmas
 pub mod ItemLemmas

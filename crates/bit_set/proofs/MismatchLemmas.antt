@@ -13,7 +13,7 @@ pub has-index : (w q j : ℕ) (values : List Bool) → j < w → has (elements v
 has-index w q j values within =
     has-elements values (q * w + j) ∙ sym (ap (λ d. eqb d 1) (blocks_of-digit w q j values within) ∙ read_back (get_or values (q * w + j) false))
 
-has-number : (w k : ℕ) (values : List Bool) → 0 < w → has (elements values) k ≡ eqb (bit_at (get_or (blocks_of w values) (k / w) 0) (k % w)) 1
+pub has-number : (w k : ℕ) (values : List Bool) → 0 < w → has (elements values) k ≡ eqb (bit_at (get_or (blocks_of w values) (k / w) 0) (k % w)) 1
 has-number w k values pos = ap (has (elements values)) (sym (div-add-mod' k w)) ∙ has-index w (k / w) (k % w) values (mod-lt k pos)
 
 -- blocks that agree hold the same set

@@ -17,6 +17,9 @@ pub mod Missing
 pub mod Gaps
 pub mod Moved
 pub mod Retained
+pub mod Runs
+pub mod RangeTexts
+pub mod RangeReading
 pub mod Json
 pub mod Entries
 pub mod Lends

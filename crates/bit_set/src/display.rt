@@ -5,6 +5,8 @@ ghost use Rattle.bit_set.specs.{Sets.elements, Texts.items_text};
 use crate::{BitBlock, BitSet, Iter};
 use std::fmt;
 
+pub(crate) mod ranges;
+
 /// The elements in decimal and ascending order, joined by a comma and a space, between braces. Takes
 /// no memory of its own, and fails only where the formatter fails.
 impl<B: BitBlock> fmt::Display for BitSet<B> {

@@ -17,10 +17,12 @@ use std::fmt::Display;
 use std::hash::Hash;
 
 mod ranges;
+mod runs;
 
 pub use ranges::{
     ends_of_searches, parts_of_ranges, ranks_of_members, walks_over_missing, walks_over_parts,
 };
+pub use runs::runs_of_sets;
 
 /// What each operation does to the members of a set.
 #[tactic(auto, using(crate::proofs::SetLaws::members_of_sets))]

@@ -7,6 +7,7 @@ mod hash;
 mod json;
 pub mod laws;
 mod order;
+mod range_texts;
 mod set;
 mod walk;
 
@@ -14,8 +15,11 @@ mod walk;
 pub use bit_words::bit_vec;
 /// What a type of blocks has to be.
 pub use bit_words::bit_vec::BitBlock;
+pub use display::ranges::Ranges;
 pub use faults::SetError;
 pub use json::{JsonBlock, JsonError};
+pub use range_texts::RangesError;
 pub use set::BitSet;
 pub use walk::missing::Missing;
+pub use walk::runs::Runs;
 pub use walk::{Difference, Intersection, Iter, SymmetricDifference, TwoSets, Union};

@@ -18,6 +18,7 @@ mod gaps;
 mod in_place;
 mod new_sets;
 mod noted_changes;
+mod proper_subset;
 mod ranges;
 mod relations;
 mod retaining;

@@ -11,6 +11,7 @@ mod intersection;
 mod merged_blocks;
 pub(crate) mod missing;
 mod parts;
+pub(crate) mod runs;
 mod skipping;
 mod two_sets;
 

@@ -16,6 +16,8 @@ mod moving_tests;
 #[cfg(test)]
 mod part_tests;
 #[cfg(test)]
+mod run_tests;
+#[cfg(test)]
 mod search_tests;
 #[cfg(test)]
 mod sets;

@@ -85,6 +85,7 @@ pub(crate) enum Asking {
     Eq,
     ContainsAllInRange,
     ContainsAnyInRange,
+    IsProperSubset,
 }
 
 // What returns an element of a set, where there is one.
@@ -106,6 +107,7 @@ pub(crate) enum Telling {
     Debug,
     Json,
     ToBytes,
+    Ranges,
 }
 
 // The walks over one set, and over two.
@@ -118,6 +120,7 @@ pub(crate) enum Walking {
     Range,
     Nth,
     Missing,
+    Runs,
     Union,
     Intersection,
     Difference,
@@ -316,6 +319,8 @@ const CALLS: &[Call] = &[
     Call::Count(Counting::NextMissing),
     Call::Tell(Telling::ToBytes),
     Call::Find(Finding::FirstGap),
+    Call::Ask(Asking::IsProperSubset),
+    Call::Tell(Telling::Ranges),
     Call::Walk(Walking::Iter),
     Call::Walk(Walking::IntoIter),
     Call::Walk(Walking::IterFrom),
@@ -323,6 +328,7 @@ const CALLS: &[Call] = &[
     Call::Walk(Walking::Range),
     Call::Walk(Walking::Nth),
     Call::Walk(Walking::Missing),
+    Call::Walk(Walking::Runs),
     Call::Walk(Walking::Union),
     Call::Walk(Walking::Intersection),
     Call::Walk(Walking::Difference),

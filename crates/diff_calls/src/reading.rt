@@ -36,6 +36,7 @@ pub(crate) fn ask<B: BitBlock>(
         Asking::Eq => *set == *other,
         Asking::ContainsAllInRange => set.contains_all_in_range(number..end),
         Asking::ContainsAnyInRange => set.contains_any_in_range(number..end),
+        Asking::IsProperSubset => set.is_proper_subset(other),
     }
 }
 
@@ -81,5 +82,6 @@ pub(crate) fn tell<B: Width>(
         Telling::Debug => answers.text(format!(in alloc; "{set:?}")),
         Telling::Json => B::through_json(alloc, set, answers),
         Telling::ToBytes => answers.made_bytes(set.to_bytes(alloc)),
+        Telling::Ranges => answers.text(format!(in alloc; "{}", set.ranges())),
     }
 }

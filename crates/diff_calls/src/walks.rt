@@ -130,6 +130,14 @@ fn pass_over<B: BitBlock>(
     answers.number(walk.count());
 }
 
+// The start and the end of each run.
+fn loop_over_runs<B: BitBlock>(set: &BitSet<B>, start: usize, end: usize, answers: &mut Answers) {
+    for run in set.runs(start..end) {
+        answers.number(run.start);
+        answers.number(run.end);
+    }
+}
+
 // All elements in a loop.
 fn loop_over<B: BitBlock>(set: &BitSet<B>, answers: &mut Answers) {
     for element in set {
@@ -152,6 +160,7 @@ pub(crate) fn walk_over<B: BitBlock>(
         Walking::Range => take_range(set, first, second, answers),
         Walking::Nth => pass_over(set.iter(), first, second, answers),
         Walking::Missing => take(set.missing(first..second), second % 64, first % 64, answers),
+        Walking::Runs => loop_over_runs(set, first, second, answers),
         Walking::Union => take(set.union(other), first, second, answers),
         Walking::Intersection => take(set.intersection(other), first, second, answers),
         Walking::Difference => take(set.difference(other), first, second, answers),

@@ -43,3 +43,19 @@ pub fn of_bits<B: BitBlock>(bits: &BitVec<B>) -> [usize; 6] {
         bits.first_zero_from(3),
     ]
 }
+
+/// The two runs of {3, 447}, whether there is a third, and whether the set is a proper subset of another one.
+pub fn of_runs<B: BitBlock>(set: &BitSet<B>, lent: &BitSet<B>) -> [usize; 6] {
+    let mut walk = set.runs(0..448);
+    let first = walk.next().unwrap_or(0..0);
+    let second = walk.clone().next().unwrap_or(0..0);
+    walk.next();
+    [
+        first.start,
+        first.end,
+        second.start,
+        second.end,
+        usize::from(walk.next().is_some()),
+        usize::from(set.is_proper_subset(lent)),
+    ]
+}

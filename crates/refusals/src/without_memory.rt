@@ -52,6 +52,7 @@ enum Kind {
     Ends,
     Ranges,
     BitEnds,
+    Runs,
 }
 
 // A group, its results, and what it leaves of the set.
@@ -142,6 +143,11 @@ const ROWS: &[Row<Group>] = &[
         name: "bit_ends",
         asks: &[],
         call: Group(Kind::BitEnds, [2, 0, 1, 447, 3, 4], LONG),
+    },
+    Row {
+        name: "runs",
+        asks: &[],
+        call: Group(Kind::Runs, [3, 4, 447, 448, 0, 0], LONG),
     },
 ];
 
@@ -388,6 +394,7 @@ fn read<B: BitBlock>(kind: Kind, set: &BitSet<B>, lent: &BitSet<B>) -> [usize; 6
         Kind::Bits => bits(set.get_ref(), lent.get_ref()),
         Kind::BitWalks => bit_walks(set.get_ref()),
         Kind::BitEnds => ends::of_bits(set.get_ref()),
+        Kind::Runs => ends::of_runs(set, lent),
         _ => nonzero_walks(set.get_ref()),
     }
 }

@@ -1,0 +1,10 @@
+use Rattle.std.{proofs.Common.{◌+◌, length}, specs.Option.option_map_or}
+use Rattle.bit_set.{specs.{RangeReading.items_left, Sets.elements}, proofs.RangeTextLemmas.Reads}
+use Rattle.bit_set.proofs.set.BitSet.from_ranges.Given as goal
+
+-- what was put in and what is left are the text
+abbrev pub invariant-items : goal.invariant-items
+invariant-items g l = Reads l.fn.text (items_left l.rest) (elements l.set.values)
+
+abbrev pub decreases-items : goal.decreases-items
+decreases-items g l = option_map_or (λ text. length text.now + 1) l.rest 0
