@@ -8,3 +8,6 @@ pub mod SpanLemmas
 pub mod SetLemmas
 pub mod CopyLemmas
 pub mod CompareLemmas
+pub mod SquareLemmas
+pub mod TransposeLemmas
+pub mod StripLemmas

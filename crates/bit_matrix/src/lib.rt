@@ -6,6 +6,7 @@ mod faults;
 mod hash;
 mod matrix;
 mod merges;
+mod squares;
 mod table;
 mod walk;
 

@@ -1,20 +1,19 @@
 -- What is missing at the end of each block, and the greatest solution by it.
-use Rattle.std.proofs.Common.{◌≡◌, ◌≢◌, ℕ, ◌<◌, ◌≤◌, ◌+◌, Bool, not, ◌&&◌, ◌==◌, cond, eqb, nat_le, suc, zero, List, [], ◌∷◌, length, map, get_or, inl, inr, ◌⊎◌, refl, sym, ap, ◌∙◌, ◌↔◌, true, false, arith}
-use Rattle.std.proofs.lemmas.Bool.{true≢false, cases_eq, cases_lt, eq-eqb, eqb-true, le-leb, leb-true, or_cases, or_left, or_right}
+use Rattle.std.proofs.Common.{◌≡◌, ◌≢◌, ℕ, ◌<◌, ◌≤◌, ◌+◌, Bool, not, ◌&&◌, ◌==◌, cond, eqb, nat_le, nat_lt, suc, zero, List, [], ◌∷◌, length, map, get_or, inl, inr, ◌⊎◌, refl, sym, ap, ◌∙◌, ◌↔◌, true, false, arith}
+use Rattle.std.proofs.lemmas.Bool.{true≢false, cases_eq, cases_lt, eq-eqb, eqb-true, le-leb, leb-true, lt-ltb, ltb-true, or_cases, or_left, or_right}
 use Rattle.std.proofs.lemmas.List.{get_or_past, length-map}
 use Rattle.std.specs.List.{list_any}
-use Rattle.bit_set.specs.Members.{IsDifference}
 use Rattle.bit_set.specs.Sets.{difference, elements, has}
-use Rattle.dataflow.specs.Availability.{AreAvailable, AreComplements, IsAvailableByPredecessors, IsMissing, after_kill, after_path, at_entry, computed_in, killed_in, missing_flow, predecessors_of, starts_with_none}
+use Rattle.dataflow.specs.Availability.{AreAvailable, AreComplements, IsComplement, IsAvailableByPredecessors, IsMissing, after_kill, after_path, at_entry, computed_in, killed_in, missing_flow, predecessors_of, starts_with_none}
 use Rattle.dataflow.specs.Flow.{AreReached, Flow, Reaches, block_at, made, onward, set_at}
 use Rattle.dataflow.specs.declared.expressions.ExpressionBlock.{ExpressionBlock}
 use Rattle.dataflow.proofs.AnalysisLemmas.{block_of}
 use Rattle.dataflow.proofs.TakeLemmas.{and_true, of_and}
 
 -- the sets below one are complements, and the others are as before
-pub record IsComplementedBelow (all : List ℕ) (i : ℕ) (old new : List (List ℕ)) : Type 0 where
+pub record IsComplementedBelow (count i : ℕ) (old new : List (List ℕ)) : Type 0 where
   pub long : length new ≡ length old
-  pub done : (b e : ℕ) → b < i → has (set_at new b) e ≡ (has all e && not (has (set_at old b) e))
+  pub done : (b : ℕ) → b < i → IsComplement count (set_at old b) (set_at new b)
   pub rest : (b : ℕ) → i ≤ b → set_at new b ≡ set_at old b
 
 -- ---- from what is missing to the greatest solution
@@ -177,33 +176,33 @@ module _ {B : Type 0} (blocks : List (ExpressionBlock B)) (all : List ℕ) (law 
   ]
 
   -- the complements of what is missing are what is found
-  pub are_found : (count : ℕ) (sets out : List (List ℕ)) → ((n : ℕ) → (has all n ≡ true) ↔ (n < count)) → length sets ≡ length blocks → AreReached flows sets → AreComplements all sets out → AreFound blocks count out
+  pub are_found : (count : ℕ) (sets out : List (List ℕ)) → ((n : ℕ) → (has all n ≡ true) ↔ (n < count)) → length sets ≡ length blocks → AreReached flows sets → AreComplements count sets out → AreFound blocks count out
   are_found count sets out below long reached complements = record {
-    below = λ b e h. (below e).0 (parts b e h).1;
+    below = λ b e h. (parts b e h).1;
     missing = λ b e low h. elim (cases_lt b (length blocks)) [
       | inl lt ↦ reach_missing e b ((reached b e).0 (elim (both (has (set_at sets b) e)) [
         | inl is ↦ is
-        | inr lacks ↦ absurd (clash (complements.each b e (omega (arith, lt, long)) ∙ and_true _ _ ((below e).1 low) lacks) h)
+        | inr lacks ↦ absurd (clash (complements.each b (omega (arith, lt, long)) e ∙ and_true _ _ (lt-ltb e count low) lacks) h)
       ]))
       | inr past ↦ past_end b e past
     ];
-    found = λ b e h lost. let p = parts b e h in clash ((reached b e).1 (missing_reach e b p.1 p.0 lost)) p.2;
+    found = λ b e h lost. let p = parts b e h in clash ((reached b e).1 (missing_reach e b ((below e).1 p.1) p.0 lost)) p.2;
   }
     where
-      parts : (b e : ℕ) → has (set_at out b) e ≡ true → (b < length blocks) × (has all e ≡ true) × (has (set_at sets b) e ≡ false)
+      parts : (b e : ℕ) → has (set_at out b) e ≡ true → (b < length blocks) × (e < count) × (has (set_at sets b) e ≡ false)
       parts b e h = elim (cases_lt b (length blocks)) [
-        | inl lt ↦ let p = of_and _ _ (sym (complements.each b e (omega (arith, lt, long))) ∙ h) in (lt, p.0, p.1)
+        | inl lt ↦ let p = of_and _ _ (sym (complements.each b (omega (arith, lt, long)) e) ∙ h) in (lt, ltb-true e count p.0, p.1)
         | inr past ↦ absurd (true≢false (sym h ∙ ap (λ s. has s e) (get_or_past out b [] (let same = complements.long in omega (arith, past, same, long)))))
       ]
 
 -- ---- one set after another
 
-pub complements_on : (all : List ℕ) (i : ℕ) (first old new : List (List ℕ)) → IsComplementedBelow all i first old → length new ≡ length old → ((c : ℕ) → c ≢ i → set_at new c ≡ set_at old c) → IsDifference all (set_at old i) (set_at new i) → IsComplementedBelow all (i + 1) first new
-complements_on all i first old new c long others here = record {
+pub complements_on : (count i : ℕ) (first old new : List (List ℕ)) → IsComplementedBelow count i first old → length new ≡ length old → ((c : ℕ) → c ≢ i → set_at new c ≡ set_at old c) → IsComplement count (set_at old i) (set_at new i) → IsComplementedBelow count (i + 1) first new
+complements_on count i first old new c long others here = record {
   long = long ∙ c.long;
-  done = λ b e lt. elim (cases_eq b i) [
-    | inl is ↦ rw is (here e ∙ ap (λ s. has all e && not (has s e)) (c.rest i (omega arith)))
-    | inr other ↦ ap (λ s. has s e) (others b other) ∙ c.done b e (omega (arith, lt, other))
+  done = λ b lt e. elim (cases_eq b i) [
+    | inl is ↦ rw is (here e ∙ ap (λ s. nat_lt e count && not (has s e)) (c.rest i (omega arith)))
+    | inr other ↦ ap (λ s. has s e) (others b other) ∙ c.done b (omega (arith, lt, other)) e
   ];
   rest = λ b from. others b (λ is. omega (arith, is, from)) ∙ c.rest b (omega (arith, from));
 }

@@ -1,6 +1,6 @@
 -- Visits of blocks that wait, one after another.
 use Rattle.std.proofs.Common.{◌≡◌, ◌≢◌, ℕ, ◌+◌, ◌-◌, ◌^◌, ◌<◌, Bool, true, false, cond, suc, zero, eqb, ◌⊎◌, inl, inr, List, [], ◌∷◌, ◌++◌, length, map, refl, sym, ap, ◌∙◌, ◌↔◌, arith}
-use Rattle.std.proofs.lemmas.Bool.{true≢false, cases_eq, cases_lt, eq-eqb, eqb-true, ne_eqb, or_cases, Decides.nat_tests}
+use Rattle.std.proofs.lemmas.Bool.{true≢false, cases_eq, cases_lt, eq-eqb, eqb-true, ne_eqb, or_cases, or_left, or_right, Decides.nat_tests}
 use Rattle.std.proofs.lemmas.List.{get_or_past, length-map}
 use Rattle.bit_set.specs.Members.{HasNone, Updates, UpdatesRange}
 use Rattle.bit_set.specs.Sets.{has}
@@ -43,7 +43,7 @@ module _ (old new : List ℕ) (p : ℕ) (updates : Updates old new p false) wher
 
 -- ---- blocks that wait again
 
-module _ (place : ℕ → ℕ) (count : ℕ) (dependents old mid new : List ℕ) (b : ℕ) (puts : PutsBack dependents place count old mid) (updates : Updates mid new (place b) true) where
+module _ (place : ℕ → ℕ) (dependents old mid new : List ℕ) (b : ℕ) (puts : PutsBack dependents place old mid) (updates : Updates mid new (place b) true) where
   waits_now : has new (place b) ≡ true
   waits_now = updates (place b) ∙ ap (λ it. cond it true (has mid (place b))) (eq-eqb (place b) (place b) refl)
 
@@ -53,16 +53,19 @@ module _ (place : ℕ → ℕ) (count : ℕ) (dependents old mid new : List ℕ)
     | inr other ↦ updates p ∙ ap (λ it. cond it true (has mid p)) (ne_eqb (place b) p other) ∙ h
   ]
 
-  pub puts_on : place b < count → PutsBack (dependents ++ b ∷ []) place count old new
-  puts_on low = record {
+  pub puts_on : PutsBack (dependents ++ b ∷ []) place old new
+  puts_on = record {
     kept = λ p h. waits_on p (puts.kept p h);
     adds = λ c h. elim (or_cases (has dependents c) (eqb b c) (sym (in_push dependents b c) ∙ h)) [
       | inl before ↦ waits_on (place c) (puts.adds c before)
       | inr is ↦ ap (λ n. has new (place n)) (sym (eqb-true b c is)) ∙ waits_now
     ];
-    below = λ each p h. elim (cases_eq (place b) p) [
-      | inl is ↦ omega (arith, low, is)
-      | inr other ↦ puts.below each p (sym (updates p ∙ ap (λ it. cond it true (has mid p)) (ne_eqb (place b) p other)) ∙ h)
+    only = λ p h. elim (cases_eq (place b) p) [
+      | inl is ↦ inr (b, in_push dependents b b ∙ or_right (has dependents b) (eqb b b) (eq-eqb b b refl), sym is)
+      | inr other ↦ elim (puts.only p (sym (updates p ∙ ap (λ it. cond it true (has mid p)) (ne_eqb (place b) p other)) ∙ h)) [
+        | inl was ↦ inl was
+        | inr (c, is_in, at) ↦ inr (c, in_push dependents b c ∙ or_left (has dependents c) (eqb b c) is_in, at)
+      ]
     ];
   }
 

@@ -1,5 +1,5 @@
 -- Available expressions: those that each path computed, and that are not killed since.
-use Rattle.std.specs.Prelude.{◌≡◌, ◌≢◌, ℕ, ◌<◌, ◌↔◌, ◌⊎◌, Bool, not, ◌&&◌, ◌||◌, ◌==◌, false, if◌then◌else◌, IsTrue, List, [], length, map, nat_le, slice_index_or}
+use Rattle.std.specs.Prelude.{◌≡◌, ◌≢◌, ℕ, ◌<◌, ◌↔◌, ◌⊎◌, Bool, not, ◌&&◌, ◌||◌, ◌==◌, false, if◌then◌else◌, IsTrue, List, [], length, map, nat_le, nat_lt, slice_index_or}
 use Rattle.std.specs.List.{list_any}
 use Rattle.bit_set.specs.Sets.{difference, elements, has}
 use Rattle.dataflow.specs.Flow.{AreWithin, Flow, set_at}
@@ -60,10 +60,14 @@ missing_flow blocks all block = record {
   killed = elements block.computed.values;
 }
 
--- each set became those of `all` that it had not
-pub record AreComplements (all : List ℕ) (old new : List (List ℕ)) : Type 0 where
+-- `new` has the numbers below `count` that `old` has not, and no others
+abbrev pub IsComplement : ℕ → List ℕ → List ℕ → Type 0
+IsComplement count old new = (e : ℕ) → has new e ≡ (nat_lt e count && not (has old e))
+
+-- each set became the numbers below `count` that it had not
+pub record AreComplements (count : ℕ) (old new : List (List ℕ)) : Type 0 where
   pub long : length new ≡ length old
-  pub each : (b e : ℕ) → b < length old → has (set_at new b) e ≡ (has all e && not (has (set_at old b) e))
+  pub each : (b : ℕ) → b < length old → IsComplement count (set_at old b) (set_at new b)
 
 -- what a block makes missing, in the problem of what is missing
 abbrev pub flow_of : {B : Type 0} → MissingBlock B → Flow

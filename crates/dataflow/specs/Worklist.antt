@@ -57,8 +57,8 @@ pub record AreOnTheWay (blocks : List Flow) (sets : List (List ℕ)) : Type 0 wh
   pub sound : (b v : ℕ) → IsTrue (has (set_at sets b) v) → Reaches blocks v b
   pub generated : (b v : ℕ) → IsTrue (has (block_at blocks b).generated v) → IsTrue (has (set_at sets b) v)
 
--- The dependents of a block wait again, beside those that did.
-pub record PutsBack (dependents : List ℕ) (place : ℕ → ℕ) (count : ℕ) (old new : List ℕ) : Type 0 where
+-- The dependents of a block wait again, beside those that did, and no others.
+pub record PutsBack (dependents : List ℕ) (place : ℕ → ℕ) (old new : List ℕ) : Type 0 where
   pub kept : (p : ℕ) → IsTrue (has old p) → IsTrue (has new p)
   pub adds : (b : ℕ) → IsTrue (has dependents b) → IsTrue (has new (place b))
-  pub below : ((p : ℕ) → IsTrue (has old p) → p < count) → (p : ℕ) → IsTrue (has new p) → p < count
+  pub only : (p : ℕ) → IsTrue (has new p) → IsTrue (has old p) ⊎ ((b : ℕ) × IsTrue (has dependents b) × (p ≡ place b))

@@ -1,14 +1,13 @@
 // Available expressions: those that are not missing, where what is missing flows from the entries and the kills.
 ghost use Rattle.std.specs.Prelude.{◌≡◌, ℕ, ◌<◌, ◌↔◌, IfOk, IsOk, IsTrue, OnOk, length, map};
-ghost use Rattle.bit_set.specs.Members.{IsDifference};
 ghost use Rattle.bit_set.specs.Sets.{elements, has};
-ghost use Rattle.dataflow.specs.Availability.{AreAvailable, AreComplements, IsMissing, flow_of, missing_flow, starts_with_none};
+ghost use Rattle.dataflow.specs.Availability.{AreAvailable, AreComplements, IsComplement, IsMissing, flow_of, missing_flow, starts_with_none};
 ghost use Rattle.dataflow.specs.Flow.{lists_of, set_at};
 
 use crate::waiting::all_below;
 use crate::{Block, solve};
 use bit_set::laws::members_of_merged_sets;
-use bit_set::{BitBlock, BitSet};
+use bit_set::{BitBlock, BitSet, SetError};
 use std::alloc::{AllocError, Global};
 
 /// A block of code, and the expressions that it computes and kills. Expressions are numbers.
@@ -74,7 +73,7 @@ pub fn available_expressions<B: BitBlock>(
     let all = all_below(alloc, count)?;
     let missing = missing_blocks(alloc, blocks, &all)?;
     let mut sets = solve(alloc, missing.as_slice())?;
-    complement_each(&all, sets.as_mut_slice())?;
+    complement_each(count, sets.as_mut_slice())?;
     Ok(sets)
 }
 
@@ -109,23 +108,25 @@ fn starts_empty(predecessors: &[usize], blocks: usize) -> bool
     predecessors.is_empty() || predecessors.iter().any(|p| *p >= blocks)
 }
 
-// Each set becomes those of all that it has not.
-fn complement_each<B: BitBlock>(all: &BitSet<B>, sets: &mut [BitSet<B>]) -> Result<(), AllocError>
-    ensures complements { OnOk result (AreComplements (elements all.now.values)
-        (lists_of sets.old) (lists_of sets.new)) }
+// Each set becomes the numbers below `count` that it has not.
+fn complement_each<B: BitBlock>(count: usize, sets: &mut [BitSet<B>]) -> Result<(), AllocError>
+    ensures complements { OnOk result (AreComplements count (lists_of sets.old) (lists_of sets.new)) }
     ensures none { length sets.old ≡ 0 → IsOk result }
 {
     for index in 0..sets.len() {
-        complement(all, &mut sets[index])?;
+        complement(count, &mut sets[index])?;
     }
     Ok(())
 }
 
-// The set becomes those of all that it has not, in place.
-fn complement<B: BitBlock>(all: &BitSet<B>, set: &mut BitSet<B>) -> Result<(), AllocError>
-    ensures { OnOk result (IsDifference (elements all.now.values)
-        (elements set.old.values) (elements set.new.values)) }
+// The set becomes the numbers below `count` that it has not, in place and in one pass.
+fn complement<B: BitBlock>(count: usize, set: &mut BitSet<B>) -> Result<(), AllocError>
+    ensures { OnOk result (IsComplement count (elements set.old.values) (elements set.new.values)) }
 {
-    set.symmetric_difference_with(all)?;
-    set.intersect_with(all)
+    set.truncate(count);
+    match set.toggle_range(0..count) {
+        Err(SetError::Memory(fault)) => Err(fault),
+        // No other error comes.
+        _ => Ok(()),
+    }
 }

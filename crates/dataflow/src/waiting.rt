@@ -1,8 +1,9 @@
 // The blocks that wait, by places: a set of them, and in which order they are visited.
-ghost use Rattle.std.specs.Prelude.{◌≡◌, ◌<◌, ◌≤◌, ◌↔◌, ℕ, ◌*◌, IfNone, IfOk, IfSome, IsOk, IsTrue, length, map, nat_lt};
+ghost use Rattle.std.specs.Prelude.{◌≡◌, ◌<◌, ◌≤◌, ◌↔◌, ℕ, ◌*◌, ◌++◌, IfNone, IfOk, IfSome, IsOk, IsTrue, length, map, nat_lt};
 ghost use Rattle.std.specs.List.{list_any};
 ghost use Rattle.bit_set.specs.Members.{HasNone};
-ghost use Rattle.bit_set.specs.Sets.{elements, has};
+ghost use Rattle.bit_set.specs.Choices.{IsFirstOf};
+ghost use Rattle.bit_set.specs.Sets.{elements, has, those_from};
 ghost use Rattle.dataflow.specs.Worklist.{PutsBack, flowing_back, place_of};
 
 use crate::Block;
@@ -53,6 +54,7 @@ pub(crate) fn all_below<B: BitBlock>(alloc: Global, count: usize) -> Result<BitS
 // The first place from `from` on that waits, or else the first of all.
 #[inline]
 pub(crate) fn next_waiting(waiting: &BitSet<usize>, from: usize) -> Option<usize>
+    ensures next { IsFirstOf (those_from (elements waiting.now.values) from ++ elements waiting.now.values) result }
     ensures some { IfSome result (λ p. IsTrue (has (elements waiting.now.values) p)) }
     ensures none { IfNone result (HasNone (elements waiting.now.values)) }
 {
@@ -71,7 +73,7 @@ pub(crate) fn put_back(
 )
     requires inside { (b : ℕ) → IsTrue (has dependents.now b) → b < count }
     requires capacity { count ≤ waiting.old.capacity }
-    ensures back { PutsBack dependents.now (place_of count from_last) count (elements waiting.old.values)
+    ensures back { PutsBack dependents.now (place_of count from_last) (elements waiting.old.values)
         (elements waiting.new.values) }
     ensures capacity { waiting.new.capacity ≡ waiting.old.capacity }
 {

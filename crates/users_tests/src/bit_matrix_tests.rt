@@ -1,9 +1,11 @@
 //! The examples of the doc comments of `bit_matrix`, as they are there but for `expect`, which costs less, and rows of many
 //! blocks.
 use crate::expect::{expect, expect_eq, ok};
-use bit_matrix::{BitMatrix, MatrixError};
+use bit_matrix::{BitBlock, BitMatrix, MatrixError};
 use bit_set::{BitSet, SetError};
-use std::alloc::Global;
+use block24::Block24;
+use std::alloc::{AllocError, Global};
+use std::fmt;
 use std::process::Abort;
 
 fn three_nodes(rt: &impl Abort, alloc: Global) -> Result<(), MatrixError> {
@@ -180,4 +182,133 @@ fn long_rows(rt: &impl Abort, alloc: Global) -> Result<(), MatrixError> {
 #[test]
 fn rows_of_many_blocks(rt: HostRuntime) {
     ok(&rt, long_rows(&rt, rt.alloc()));
+}
+
+// Puts the columns of a pattern into each row, which are two of five.
+fn patterned<B: BitBlock>(alloc: Global, rows: usize, columns: usize) -> Result<BitMatrix<B>, MatrixError> {
+    let mut matrix = BitMatrix::new_general(alloc, rows, columns)?;
+    for row in 0..matrix.rows() {
+        for column in 0..matrix.columns() {
+            if row.wrapping_mul(7).wrapping_add(column) % 5 < 2 {
+                matrix.insert(row, column);
+            }
+        }
+    }
+    Ok(matrix)
+}
+
+// By squares, of which some are cut by the last row, and column by column past the last whole block.
+fn turned_by_squares<B: BitBlock>(rt: &impl Abort, alloc: Global) -> Result<(), MatrixError> {
+    let matrix = patterned::<B>(alloc, 150, 171)?;
+    let transposed = matrix.transpose(alloc)?;
+    for row in 0..171 {
+        for column in 0..150 {
+            expect_eq(rt, &transposed.get(row, column), &matrix.get(column, row));
+        }
+    }
+    expect(rt, transposed.transpose(alloc)? == matrix);
+    Ok(())
+}
+
+#[test]
+fn a_matrix_that_is_turned_by_squares(rt: HostRuntime) {
+    let alloc = rt.alloc();
+    ok(&rt, turned_by_squares::<u8>(&rt, alloc));
+    ok(&rt, turned_by_squares::<u32>(&rt, alloc));
+    ok(&rt, turned_by_squares::<u64>(&rt, alloc));
+    ok(&rt, turned_by_squares::<Block24>(&rt, alloc));
+}
+
+const TEXTS: &[(MatrixError, &str)] = &[
+    (MatrixError::Length, "too many bits"),
+    (MatrixError::Memory(AllocError), "memory refused"),
+];
+
+#[test]
+fn faults_have_texts(rt: HostRuntime) {
+    for (fault, text) in TEXTS {
+        let said = ok(&rt, format!(in rt.alloc(); "{fault}"));
+        expect_eq(&rt, &said.as_str(), text);
+    }
+}
+
+// Of three columns, with 0 and 2 in the first row and none in the other.
+fn two_rows(alloc: Global) -> Result<BitMatrix, MatrixError> {
+    let mut matrix = BitMatrix::new(alloc, 2, 3)?;
+    matrix.insert(0, 0);
+    matrix.insert(0, 2);
+    Ok(matrix)
+}
+
+#[test]
+fn a_matrix_has_texts(rt: HostRuntime) {
+    let alloc = rt.alloc();
+    let matrix = ok(&rt, two_rows(alloc));
+    let debug = ok(&rt, format!(in alloc; "{matrix:?}"));
+    expect_eq(&rt, &debug.as_str(), &"BitMatrix { columns: 3, rows: [{0, 2}, {}] }");
+    let shown = ok(&rt, format!(in alloc; "{matrix}"));
+    expect_eq(&rt, &shown.as_str(), &"{0, 2}\n{}\n");
+    let none = ok(&rt, BitMatrix::new(alloc, 0, 4));
+    let debug = ok(&rt, format!(in alloc; "{none:?}"));
+    expect_eq(&rt, &debug.as_str(), &"BitMatrix { columns: 4, rows: [] }");
+}
+
+// Takes so many pieces of a text, and fails from then on.
+#[derive(Drop)]
+struct Sink {
+    most: usize,
+    offered: usize,
+}
+
+impl fmt::Write for Sink {
+    fn write_str(&mut self, _text: &str) -> fmt::Result {
+        self.offered = self.offered.saturating_add(1);
+        if self.offered > self.most {
+            return Err(fmt::Error);
+        }
+        Ok(())
+    }
+}
+
+// How many pieces are offered to what takes so many of them, and whether the writing failed.
+fn offered(matrix: &BitMatrix, is_debug: bool, most: usize) -> (usize, bool) {
+    let mut sink = Sink { most, offered: 0 };
+    let ended = if is_debug {
+        fmt::Write::write_fmt(&mut sink, format_args!("{matrix:?}"))
+    } else {
+        fmt::Write::write_fmt(&mut sink, format_args!("{matrix}"))
+    };
+    (sink.offered, ended.is_err())
+}
+
+// Each piece that is not taken is the last that is offered, and the writing fails.
+fn fails_with_its_writer(rt: &impl Abort, matrix: &BitMatrix, is_debug: bool) {
+    let (count, failed) = offered(matrix, is_debug, usize::MAX);
+    expect(rt, !failed && count > 4);
+    for most in 0..count {
+        expect_eq(rt, &offered(matrix, is_debug, most), &(most.saturating_add(1), true));
+    }
+}
+
+#[test]
+fn texts_fail_with_their_writer(rt: HostRuntime) {
+    let matrix = ok(&rt, two_rows(rt.alloc()));
+    fails_with_its_writer(&rt, &matrix, true);
+    fails_with_its_writer(&rt, &matrix, false);
+}
+
+// As many rows as there can be, with no columns.
+fn rows_of_nothing(rt: &impl Abort, alloc: Global) -> Result<(), MatrixError> {
+    let matrix = BitMatrix::new(alloc, usize::MAX, 0)?;
+    let transposed = matrix.transpose(alloc)?;
+    expect_eq(rt, &(transposed.rows(), transposed.columns()), &(0, usize::MAX));
+    let same = BitMatrix::from_row(alloc, &BitSet::new(alloc), usize::MAX)?;
+    expect(rt, same == matrix);
+    expect(rt, transposed.transpose(alloc)? == matrix);
+    Ok(())
+}
+
+#[test]
+fn a_matrix_of_no_columns_takes_no_time(rt: HostRuntime) {
+    ok(&rt, rows_of_nothing(&rt, rt.alloc()));
 }

@@ -1,10 +1,11 @@
 // A matrix made of another.
-ghost use Rattle.std.specs.Prelude.{◌≡◌, ℕ, ◌*◌, ◌<◌, ◌↔◌, ◌&&◌, ◌||◌, ◌==◌, IfOk, IsErrOf, IsOk, length};
+ghost use Rattle.std.specs.Prelude.{◌≡◌, ℕ, ◌+◌, ◌*◌, ◌<◌, ◌≤◌, ◌↔◌, ◌⊎◌, ◌&&◌, ◌||◌, ◌==◌, IfOk, IsErrOf, IsOk, length, nat_le};
 ghost use Rattle.bit_blocks.specs.Bits.{blocks_for};
 ghost use Rattle.bit_matrix.specs.Matrices.{IsTransposed, has_at};
 
+use crate::squares::transpose_into;
 use crate::{BitBlock, BitMatrix, MatrixError};
-use bit_blocks::packed::copy_of;
+use bit_blocks::packed::{copy_of, ones_in_span};
 use std::alloc::{AllocError, Global};
 
 impl<B: BitBlock> BitMatrix<B> {
@@ -23,8 +24,11 @@ impl<B: BitBlock> BitMatrix<B> {
         })
     }
 
-    /// The matrix that has a row for each column, and in it the rows that have that column. Reads each block once, and
-    /// writes once for each column of each row. Fails as [`new`](BitMatrix::new) does.
+    /// The matrix that has a row for each column, and in it the rows that have that column. Where few columns are in the
+    /// rows, fewer than one for two blocks, reads each block and writes once for each. Else goes by squares of as many rows
+    /// and columns as a block has bits, each in a number of steps on whole blocks that grows with that of its bits; only the
+    /// columns past the last whole block go one by one. Where there are no blocks it takes constant time. Fails as
+    /// [`new`](BitMatrix::new) does.
     ///
     /// ```
     /// matrix.insert(0, 2);
@@ -37,24 +41,86 @@ impl<B: BitBlock> BitMatrix<B> {
         ensures empty { self.now.columns * (blocks_for B.width (length self.now.rows) * B.width) ≡ 0 → IsOk result }
     {
         let mut transposed = BitMatrix::new_general(alloc, self.columns(), self.rows())?;
-        for row in 0..self.rows() {
-            insert_in_each(&mut transposed, self, row);
+        let strips = self.strips();
+        for k in 0..strips {
+            transposed.transpose_columns(self, k);
+        }
+        let from = strips * B::bits();
+        if from < self.columns() {
+            insert_columns(&mut transposed, self, from);
         }
         Ok(transposed)
     }
+
+    // How many whole blocks of each row are transposed by squares: all of them where there is a column in the rows for two
+    // blocks, and else none.
+    fn strips(&self) -> usize
+        ensures { result * B.width ≤ self.now.columns }
+    {
+        let blocks = self.blocks.len();
+        if blocks == 0 {
+            return 0;
+        }
+        if ones_in_span(&self.blocks, 0, blocks * B::bits()) < blocks / 2 {
+            return 0;
+        }
+        self.columns / B::bits()
+    }
+
+    // The rows of as many columns as a block has bits, from the first column of block `k` on, become what is in these columns.
+    fn transpose_columns(&mut self, matrix: &BitMatrix<B>, k: usize)
+        requires whole { (k + 1) * B.width ≤ matrix.now.columns }
+        requires rows { length self.old.rows ≡ matrix.now.columns }
+        requires columns { self.old.columns ≡ length matrix.now.rows }
+        ensures inside { (r c : ℕ) → k * B.width ≤ c → c < (k + 1) * B.width
+            → has_at self.new c r ≡ has_at matrix.now r c }
+        ensures others { (r c : ℕ) → (c < k * B.width) ⊎ ((k + 1) * B.width ≤ c)
+            → has_at self.new c r ≡ has_at self.old c r }
+        ensures rows { length self.new.rows ≡ length self.old.rows }
+        ensures columns { self.new.columns ≡ self.old.columns }
+    {
+        let stride = self.stride;
+        transpose_into(
+            self.blocks.as_mut_slice(),
+            stride,
+            &matrix.blocks,
+            matrix.stride,
+            matrix.rows,
+            k,
+        );
+    }
 }
 
-// Puts `row` into each row whose index is a column in the row `row` of the other matrix.
-fn insert_in_each<B: BitBlock>(transposed: &mut BitMatrix<B>, matrix: &BitMatrix<B>, row: usize)
+// Puts each row into those whose index is a column from `from` on that is in it.
+fn insert_columns<B: BitBlock>(transposed: &mut BitMatrix<B>, matrix: &BitMatrix<B>, from: usize)
+    requires rows { length transposed.old.rows ≡ matrix.now.columns }
+    requires columns { transposed.old.columns ≡ length matrix.now.rows }
+    ensures bits { (r c : ℕ) → has_at transposed.new c r
+        ≡ (has_at transposed.old c r || (nat_le from c && has_at matrix.now r c)) }
+    ensures rows { length transposed.new.rows ≡ length transposed.old.rows }
+    ensures columns { transposed.new.columns ≡ transposed.old.columns }
+{
+    for row in 0..matrix.rows() {
+        insert_in_each(transposed, matrix, row, from);
+    }
+}
+
+// Puts `row` into each row whose index is a column from `from` on in the row `row` of the other matrix.
+fn insert_in_each<B: BitBlock>(
+    transposed: &mut BitMatrix<B>,
+    matrix: &BitMatrix<B>,
+    row: usize,
+    from: usize,
+)
     requires row { row < length matrix.now.rows }
     requires rows { length transposed.old.rows ≡ matrix.now.columns }
     requires columns { transposed.old.columns ≡ length matrix.now.rows }
     ensures bits { (r c : ℕ) → has_at transposed.new c r
-        ≡ (has_at transposed.old c r || (r == row && has_at matrix.now row c)) }
+        ≡ (has_at transposed.old c r || (r == row && (nat_le from c && has_at matrix.now row c))) }
     ensures rows { length transposed.new.rows ≡ length transposed.old.rows }
     ensures columns { transposed.new.columns ≡ transposed.old.columns }
 {
-    for column in matrix.iter(row) {
+    for column in matrix.iter_from(row, from) {
         transposed.insert(column, row);
     }
 }

@@ -1,6 +1,6 @@
 // Calls on a row and a set: a set is put into a row, or made of one.
 ghost use Rattle.std.specs.Prelude.{◌≡◌, ℕ, ◌*◌, ◌<◌, ◌≤◌, ◌↔◌, ◌||◌, All, IfOk, IsErrOf, IsOk, IsTrue, false, get_or, length, map, not, replicate, true};
-ghost use Rattle.bit_blocks.specs.{Bits.blocks_for, Storage.value_at};
+ghost use Rattle.bit_blocks.specs.{Bits.{blocks_for, capacity_of}, Storage.value_at};
 ghost use Rattle.bit_set.specs.{Order.same_sets, Sets.{elements, has, union}};
 ghost use Rattle.bit_matrix.specs.Matrices.{ChangesRow, has_at, matrix_of, row_of, with_row};
 
@@ -58,8 +58,8 @@ impl<B: BitBlock> BitMatrix<B> {
         merge_others::<B, Union>(self.blocks.as_mut_slice(), others, row * stride)
     }
 
-    /// The set of the columns that are in the row, of length [`columns`](Self::columns). Writes each block twice. Fails
-    /// only where memory runs out.
+    /// The set of the columns that are in the row, of length [`columns`](Self::columns). Writes each block twice. The
+    /// capacity is that of its blocks. Fails only where memory runs out, and never of no columns.
     ///
     /// ```
     /// matrix.insert_range(1, 2..5);
@@ -69,6 +69,9 @@ impl<B: BitBlock> BitMatrix<B> {
         requires { row < length self.now.rows }
         ensures elements { IfOk result (λ set. elements set.values ≡ row_of self.now row) }
         ensures length { IfOk result (λ set. length set.values ≡ self.now.columns) }
+        ensures capacity { IfOk result
+            (λ set. set.capacity ≡ capacity_of B.width (blocks_for B.width self.now.columns)) }
+        ensures empty { self.now.columns ≡ 0 → IsOk result }
     {
         let mut bits = BitVec::from_elem_general(alloc, self.columns, true)?;
         keep_blocks(&mut bits, self.row_blocks(row));
@@ -85,6 +88,7 @@ fn keep_blocks<B: BitBlock>(bits: &mut BitVec<B>, blocks: &[B])
     ensures values { (i : ℕ) → i < length bits.old.values
         → get_or bits.new.values i false ≡ value_at B.width (map B.number blocks.now) i }
     ensures len { length bits.new.values ≡ length bits.old.values }
+    ensures capacity { bits.new.capacity ≡ bits.old.capacity }
 {
     for k in 0..blocks.len() {
         bits.keep_in_block(k, block_at(blocks, k));

@@ -1,4 +1,4 @@
-use Rattle.std.proofs.Common.{◌≡◌, ◌+◌, ◌^◌, ◌<◌, ◌≤◌, length, refl, arith}
+use Rattle.std.proofs.Common.{◌+◌, ◌^◌, ◌<◌, ◌≤◌, length, refl, arith}
 use Rattle.bit_matrix.proofs.PartLemmas.{noted_next, noted_none}
 use Rattle.bit_matrix.proofs.merges.merge_four.Goals as goal
 

@@ -1,4 +1,4 @@
-use Rattle.std.proofs.{Common.{◌≡◌, ◌+◌, ◌++◌, length, map, refl, ap, ◌∙◌, arith, rules}, lemmas.List.{Elements.All-append, length-map}}
+use Rattle.std.proofs.{Common.{◌≡◌, ◌++◌, length, map, refl, ap, ◌∙◌, arith, rules}, lemmas.List.{Elements.All-append, length-map}}
 use Rattle.bit_matrix.proofs.{PartLemmas.{IsPut, is_put, kept_part, part_merged, part_stays, whole_part}, merges.merge_others.Goals.{After-merge_blocks}}
 use Rattle.bit_matrix.proofs.merges.merge_others.Goals as goal
 

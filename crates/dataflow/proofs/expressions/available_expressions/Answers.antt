@@ -23,7 +23,7 @@ returns-clause-solution g c =
     let solved : length sets.items ≡ length missing = rw c.as_slice.ensures.value at c.in_ok-sets.ensures.long in
     let long : length (lists_of sets.items) ≡ length blocks = omega (arith, solved, same, length-map missing flow_of, length-map blocks (missing_flow (length blocks) all), length-map sets.items (λ (s : Bits). elements s.values)) in
     let reached : AreReached (map (missing_flow (length blocks) all) blocks) (lists_of sets.items) = rw (c.as_slice.ensures.value, c.in_ok-missing.ensures.missing) at c.in_ok-sets.ensures.reached in
-    let complements : AreComplements all (lists_of sets.items) (lists_of new) = rw c.as_mut_slice.ensures.value at c.in_ok-complement_each.ensures.complements in
+    let complements : AreComplements c.args.count (lists_of sets.items) (lists_of new) = rw c.as_mut_slice.ensures.value at c.in_ok-complement_each.ensures.complements in
     let found : AreFound blocks c.args.count (lists_of new) = are_found blocks all c.members_of_merged_sets.ensures.difference c.args.count (lists_of sets.items) (lists_of new) c.in_ok-all.ensures.all long reached complements in
     rw whole (are_available blocks c.args.count (lists_of new) found)
 
@@ -42,7 +42,7 @@ returns-clause-available g c =
     let solved : length sets.items ≡ length missing = rw c.as_slice.ensures.value at c.in_ok-sets.ensures.long in
     let long : length (lists_of sets.items) ≡ length blocks = omega (arith, solved, same, length-map missing flow_of, length-map blocks (missing_flow (length blocks) all), length-map sets.items (λ (s : Bits). elements s.values)) in
     let reached : AreReached (map (missing_flow (length blocks) all) blocks) (lists_of sets.items) = rw (c.as_slice.ensures.value, c.in_ok-missing.ensures.missing) at c.in_ok-sets.ensures.reached in
-    let complements : AreComplements all (lists_of sets.items) (lists_of new) = rw c.as_mut_slice.ensures.value at c.in_ok-complement_each.ensures.complements in
+    let complements : AreComplements c.args.count (lists_of sets.items) (lists_of new) = rw c.as_mut_slice.ensures.value at c.in_ok-complement_each.ensures.complements in
     let found : AreFound blocks c.args.count (lists_of new) = are_found blocks all c.members_of_merged_sets.ensures.difference c.args.count (lists_of sets.items) (lists_of new) c.in_ok-all.ensures.all long reached complements in
     rw whole (each_available blocks c.args.count (lists_of new) found)
 

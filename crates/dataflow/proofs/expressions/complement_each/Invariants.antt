@@ -1,7 +1,6 @@
-use Rattle.bit_set.specs.Sets.{elements}
 use Rattle.dataflow.specs.Flow.{lists_of}
 use Rattle.dataflow.proofs.AvailabilityLemmas.{IsComplementedBelow}
 use Rattle.dataflow.proofs.expressions.complement_each.Given as goal
 
 abbrev pub invariant-loop-index : goal.invariant-loop-index
-invariant-loop-index g l = IsComplementedBelow (elements l.all.values) l.index (lists_of l.fn.sets) (lists_of l.sets)
+invariant-loop-index g l = IsComplementedBelow l.count l.index (lists_of l.fn.sets) (lists_of l.sets)

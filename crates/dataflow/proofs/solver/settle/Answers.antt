@@ -1,4 +1,4 @@
-use Rattle.std.proofs.Common.{◌≡◌, ℕ, Bool, true, false, ◌+◌, ◌*◌, ◌^◌, ◌<◌, [], map, length, refl, sym, ap, ◌∙◌, arith, true≢false}
+use Rattle.std.proofs.Common.{◌≡◌, inl, inr, ℕ, Bool, true, false, ◌+◌, ◌*◌, ◌^◌, ◌<◌, [], map, length, refl, sym, ap, ◌∙◌, arith, true≢false}
 use Rattle.std.proofs.lemmas.List.{length-map}
 use Rattle.bit_set.specs.Bits.{Bits}
 use Rattle.bit_set.specs.Sets.{elements, has}
@@ -100,7 +100,10 @@ loop-next-preserved g c =
           rw w.waiting-is (record {
             way = on_the_way flows (place_of count from_last) number p old new takes it.way (few_after old new number (2 ^ 64) takes.others it.way.few (c.in_ok-take_in.ensures.few w.if-branch.true));
             settled = visited_grown flows count from_last number p old new was rest long low c.place-number.ensures.value takes c.remove.ensures.members it.settled (elements w.put_back.new.waiting.values) back.kept (λ b source. back.adds b (ap (λ s. has s b) (sym read) ∙ dependents.all b number (omega (arith, inside, long)) source));
-            below = back.below (λ q h. it.below q (waited was rest p c.remove.ensures.members q h));
+            below = λ q h. elim (back.only q h) [
+              | inl before ↦ it.below q (waited was rest p c.remove.ensures.members q before)
+              | inr (b, is_in, is) ↦ rw is (place_inside count from_last b (let in_row = dependents.inside b number (ap (λ s. has s b) read ∙ is_in) in omega (arith, in_row, long)))
+            ];
             capacity = omega (arith, capacity, enough, kept_capacity);
           })
       | else-branch w ↦

@@ -19,11 +19,10 @@ loop-dependent-preserved c =
     let inside : i < length dependents = omega arith in
     let longer : take (i + 1) dependents ≡ take i dependents ++ x ∷ [] = take_more dependents i 0 inside in
     let updates : Updates (elements c.loop-dependent.waiting.values) (elements c.insert.new.self.values) (place_of count c.args.from_last x) true = rw (c.unwrap.ensures, c.place.ensures.value) at c.insert.ensures.members in
-    let low : place_of count c.args.from_last x < count = rw c.place.ensures.value at c.place.ensures.inside in
     let below = c.place.ensures.inside in
     let same = c.loop-dependent.invariant.capacity in
     let enough = c.requires.capacity in
     record {
-      back = rw longer (puts_on (place_of count c.args.from_last) count (take i dependents) _ _ _ x c.loop-dependent.invariant.back updates low);
+      back = rw longer (puts_on (place_of count c.args.from_last) (take i dependents) _ _ _ x c.loop-dependent.invariant.back updates);
       capacity = c.insert.ensures.grows.within (omega (arith, below, same, enough)) ∙ same;
     }

@@ -12,4 +12,5 @@ loop-k-preserved g c =
       kept = kept_more w c.loop-k.k _ _ _ _ _ pos keeps c.block_at.ensures.of_number before.kept before.ones;
       ones = ones_left w c.loop-k.k _ _ _ _ pos keeps before.ones;
       len = keeps.len ∙ before.len;
+      capacity = c.keep_in_block.ensures.capacity ∙ before.capacity;
     }

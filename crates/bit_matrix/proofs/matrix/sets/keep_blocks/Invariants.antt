@@ -8,4 +8,5 @@ invariant-loop-k g l = record {
   kept : (i : ℕ) → i < length l.fn.bits.values → i < l.k * g.B.BitBlock.width → get_or l.bits.values i false ≡ value_at g.B.BitBlock.width (map g.B.BitBlock.number l.blocks) i;
   ones : (i : ℕ) → i < length l.fn.bits.values → l.k * g.B.BitBlock.width ≤ i → get_or l.bits.values i false ≡ true;
   len : length l.bits.values ≡ length l.fn.bits.values;
+  capacity : l.bits.capacity ≡ l.fn.bits.capacity;
 }
