@@ -55,7 +55,8 @@ bool bit_set_clone(bit_set **out, const bit_set *set);
  * also where that is above SIZE_MAX. */
 bool bit_set_from_bytes(bit_set **out, const uint8_t *bytes, size_t count);
 
-/* The set of these numbers, in any order. False also where one of them is SIZE_MAX. */
+/* The set of these numbers, in any order. It asks for memory once, for what the greatest of them takes. False also where
+ * one of them is SIZE_MAX. */
 bool bit_set_from_members(bit_set **out, const size_t *members, size_t count);
 
 /* Parts a set: the members below `at` stay, and the others go into a set of their own. */
