@@ -134,9 +134,18 @@ else
     fail 'cc makes no library of tests/shim.c'
 fi
 
-# The memory that each call that makes a set asks for, and what it leaves where it finds none.
+# The memory that each call that makes a set asks for, and what it leaves where it finds none; and random calls beside a
+# table.
 wrapped='-Wl,--wrap=malloc,--wrap=realloc,--wrap=free'
 for by in bit_set bit_set32; do
+    sed "s/bit_set/$by/g; s/BIT_SET/${by^^}/g" "$here/c_calls.c" > calls.c
+    if cc -std=c99 "${warnings[@]}" -O2 -I"$library" calls.c "$library/libbit_set.a" -o calls 2> said; then
+        run ./calls
+        judge "random calls of $by" 0 nothing nothing
+    else
+        cat said
+        fail 'cc does not build tests/c_calls.c'
+    fi
     sed "s/bit_set/$by/g" "$here/c_requests.c" > requests.c
     if cc -std=c99 "${warnings[@]}" -O2 -I"$library" requests.c "$library/libbit_set.a" "$wrapped" -o requests 2> said; then
         run ./requests
