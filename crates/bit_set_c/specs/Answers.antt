@@ -24,6 +24,12 @@ changed (pos zero) = Ok false
 changed (pos (suc n)) = Ok true
 changed (negsuc n) = Err alloc_error
 
+-- the one number that stands for such an outcome
+abbrev pub spelled : Result Bool AllocError → ℤ
+spelled (Ok false) = pos 0
+spelled (Ok true) = pos 1
+spelled (Err fault) = negsuc 0
+
 -- of a call that looks for a member: the greatest number stands for none
 abbrev pub found : ℕ → Option ℕ
 found n = if n == greatest then None else Some n

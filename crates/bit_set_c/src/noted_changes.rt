@@ -4,14 +4,15 @@ ghost use Rattle.std.specs.Prelude.{◌≡◌, ◌+◌, ◌≤◌, ◌↔◌, ma
 ghost use Rattle.bit_words.specs.Growth.{Grows};
 ghost use Rattle.bit_set.specs.Members.{IsDifference, IsIntersection, IsSymmetricDifference, IsUnion, IsUnionWithDifference};
 ghost use Rattle.bit_set.specs.{Order.same_sets, Sets.{elements, union, intersection, difference, symmetric_difference, is_subset, is_disjoint}};
-ghost use Rattle.bit_set_c.specs.{Answers.changed, Handed.IsAt};
+ghost use Rattle.bit_set_c.specs.{Answers.{changed, spelled}, Handed.IsAt};
 
 use crate::handed::{Exclusive, Shared};
 use std::alloc::AllocError;
 
 // What C gets of a merge that may find no memory.
 fn answer_of(outcome: Result<bool, AllocError>) -> i32
-    ensures { changed result ≡ outcome }
+    ensures outcome { changed result ≡ outcome }
+    ensures exact { result ≡ spelled (changed result) }
 {
     match outcome {
         Ok(true) => 1,
@@ -40,6 +41,7 @@ pub extern "C" fn bit_set_union_changes(set: &mut Exclusive, other: &mut Shared)
     ensures length { OnOk (changed result) (length set.new.bits.values
         ≡ max (length set.old.bits.values) (length other.old.bits.values)) }
     ensures grows { Grows (length other.old.bits.values) (changed result) set.old.bits set.new.bits }
+    ensures exact { result ≡ spelled (changed result) }
     ensures place { set.new.at ≡ set.old.at }
     ensures other_kept { other.new ≡ other.old }
 {
@@ -66,6 +68,7 @@ pub extern "C" fn bit_set_intersection_changes(set: &mut Exclusive, other: &mut 
     ensures length { OnOk (changed result) (length set.new.bits.values
         ≡ max (length set.old.bits.values) (length other.old.bits.values)) }
     ensures grows { Grows (length other.old.bits.values) (changed result) set.old.bits set.new.bits }
+    ensures exact { result ≡ spelled (changed result) }
     ensures place { set.new.at ≡ set.old.at }
     ensures other_kept { other.new ≡ other.old }
 {
@@ -92,6 +95,7 @@ pub extern "C" fn bit_set_difference_changes(set: &mut Exclusive, other: &mut Sh
     ensures length { OnOk (changed result) (length set.new.bits.values
         ≡ max (length set.old.bits.values) (length other.old.bits.values)) }
     ensures grows { Grows (length other.old.bits.values) (changed result) set.old.bits set.new.bits }
+    ensures exact { result ≡ spelled (changed result) }
     ensures place { set.new.at ≡ set.old.at }
     ensures other_kept { other.new ≡ other.old }
 {
@@ -118,6 +122,7 @@ pub extern "C" fn bit_set_symmetric_difference_changes(
     ensures length { OnOk (changed result) (length set.new.bits.values
         ≡ max (length set.old.bits.values) (length other.old.bits.values)) }
     ensures grows { Grows (length other.old.bits.values) (changed result) set.old.bits set.new.bits }
+    ensures exact { result ≡ spelled (changed result) }
     ensures place { set.new.at ≡ set.old.at }
     ensures other_kept { other.new ≡ other.old }
 {
@@ -150,6 +155,7 @@ pub extern "C" fn bit_set_union_with_difference(
     ensures length { OnOk (changed result) (length set.new.bits.values
         ≡ max (length set.old.bits.values) (length other.old.bits.values)) }
     ensures grows { Grows (length other.old.bits.values) (changed result) set.old.bits set.new.bits }
+    ensures exact { result ≡ spelled (changed result) }
     ensures place { set.new.at ≡ set.old.at }
     ensures other_kept { other.new ≡ other.old }
     ensures except_kept { except.new ≡ except.old }
