@@ -55,7 +55,8 @@ bool bit_set_clone(bit_set **out, const bit_set *set);
  * also where that is above SIZE_MAX. */
 bool bit_set_from_bytes(bit_set **out, const uint8_t *bytes, size_t count);
 
-/* The set of these numbers, in any order. False also where one of them is SIZE_MAX. */
+/* The set of these numbers, in any order. It asks for memory once, for what the greatest of them takes. False also where
+ * one of them is SIZE_MAX. */
 bool bit_set_from_members(bit_set **out, const size_t *members, size_t count);
 
 /* Parts a set: the members below `at` stay, and the others go into a set of their own. */
@@ -80,12 +81,16 @@ size_t bit_set_insert_members(bit_set *set, const size_t *members, size_t count)
 /* Takes a number out. Returns whether it was in. */
 bool bit_set_remove(bit_set *set, size_t value);
 
+/* Takes a number out where it is in, and puts it in where not. Returns 1 where it is in now, 0 where not, or a number
+ * below 0 as `bit_set_insert` does; then nothing changed. */
+int32_t bit_set_toggle(bit_set *set, size_t value);
+
+/* Puts a number in where `bit` is true, and takes it out where not. Returns 1 where that changed the set, 0 where not, or
+ * a number below 0 as `bit_set_insert` does, which it can only where `bit` is true; then nothing changed. */
+int32_t bit_set_set(bit_set *set, size_t value, bool bit);
+
 /* Whether the number is a member. Any number may be asked for. */
 bool bit_set_contains(const bit_set *set, size_t value);
-
-/* The least member that is `from` or above, or SIZE_MAX where there is none. A walk over many members is faster by
- * `bit_set_copy_members`. */
-size_t bit_set_next(const bit_set *set, size_t from);
 
 /* Copies the members that are `from` or above, in ascending order, as many as there is room for. Returns how many; the
  * values past these stay. To walk on, ask for those from the last one plus 1. */
@@ -99,6 +104,49 @@ size_t bit_set_copy_blocks(const bit_set *set, size_t from, bit_set_block *block
  * and other numbers stay as they were. The length becomes at least that of `from + count` blocks, unless `count` is 0.
  * False also where that is above SIZE_MAX. */
 bool bit_set_put_blocks(bit_set *set, size_t from, const bit_set_block *blocks, size_t count);
+
+/* ---- Ends and searches. SIZE_MAX stands for no member. None of these takes memory. */
+
+/* The least and the greatest member, or SIZE_MAX of the empty set. */
+size_t bit_set_first(const bit_set *set);
+size_t bit_set_last(const bit_set *set);
+
+/* Take the least or the greatest member out, and return it, or SIZE_MAX of the empty set. The length stays. Calls of
+ * `bit_set_pop_first` that take out all members pass over the set once. */
+size_t bit_set_pop_first(bit_set *set);
+size_t bit_set_pop_last(bit_set *set);
+
+/* The least member that is `from` or above, or SIZE_MAX where there is none. A walk over many members is faster by
+ * `bit_set_copy_members`. */
+size_t bit_set_next(const bit_set *set, size_t from);
+
+/* The greatest member below `end`, or SIZE_MAX where there is none. */
+size_t bit_set_previous(const bit_set *set, size_t end);
+
+/* The least number that is `from` or above and no member. There is one, since SIZE_MAX is no member. */
+size_t bit_set_next_missing(const bit_set *set, size_t from);
+
+/* The member that is `from` or above and that `n` others come before, or SIZE_MAX where there is none. It passes over
+ * blocks by their counts. */
+size_t bit_set_nth(const bit_set *set, size_t from, size_t n);
+
+/* ---- Ranges: the numbers that are `start` or above and below `end`, and none where `end` is `start` or below. Whole
+ * blocks are written and read at once. */
+
+/* Put each number of the range in, or take it out where it is in and put it in where not. The length becomes at least
+ * `end`, unless the range is empty. Neither fails where `end` is at most the capacity. */
+bool bit_set_insert_range(bit_set *set, size_t start, size_t end);
+bool bit_set_toggle_range(bit_set *set, size_t start, size_t end);
+
+/* Takes each number of the range out. The length stays. */
+void bit_set_remove_range(bit_set *set, size_t start, size_t end);
+
+/* Whether every number of the range is a member, and so whether the range is empty; and whether some number of it is. */
+bool bit_set_contains_all_in_range(const bit_set *set, size_t start, size_t end);
+bool bit_set_contains_any_in_range(const bit_set *set, size_t start, size_t end);
+
+/* How many numbers of the range are members. */
+size_t bit_set_count_in_range(const bit_set *set, size_t start, size_t end);
 
 /* ---- What a set says of itself. */
 
@@ -138,6 +186,17 @@ bool bit_set_union_with(bit_set *set, const bit_set *other);
 bool bit_set_intersect_with(bit_set *set, const bit_set *other);
 bool bit_set_difference_with(bit_set *set, const bit_set *other);
 bool bit_set_symmetric_difference_with(bit_set *set, const bit_set *other);
+
+/* The same four, which return 1 where the members of `set` changed, 0 where not, or BIT_SET_NO_MEMORY. They write no block
+ * before the first that changes. */
+int32_t bit_set_union_changes(bit_set *set, const bit_set *other);
+int32_t bit_set_intersection_changes(bit_set *set, const bit_set *other);
+int32_t bit_set_difference_changes(bit_set *set, const bit_set *other);
+int32_t bit_set_symmetric_difference_changes(bit_set *set, const bit_set *other);
+
+/* Puts in what is in `other` and not in `except`, in one pass, and returns what these four do. `other` and `except` may
+ * be one set. */
+int32_t bit_set_union_with_difference(bit_set *set, const bit_set *other, const bit_set *except);
 
 /* Moves the members of `other` into `set`; `other` is empty then, and keeps its length. */
 bool bit_set_append(bit_set *set, bit_set *other);

@@ -22,8 +22,12 @@ static uint64_t reads(const bit_set *set, const bit_set *other) {
     sum += bit_set_copy_intersection(set, other, 1, blocks, ROOM) + blocks[ROOM - 1];
     sum += bit_set_copy_difference(set, other, 1, blocks, ROOM) + blocks[ROOM - 1];
     sum += bit_set_copy_symmetric_difference(set, other, 1, blocks, ROOM) + blocks[ROOM - 1];
+    sum += bit_set_first(set) + bit_set_last(set) + bit_set_nth(set, LIMIT / 3, ROOM);
+    sum += bit_set_count_in_range(set, 1, LIMIT - 1) + bit_set_contains_all_in_range(set, 2, 4);
+    sum += bit_set_contains_any_in_range(set, 1, 3);
     for (size_t number = 0; number < LIMIT; number += 7)
-        sum += bit_set_contains(set, number) + bit_set_next(set, number);
+        sum += bit_set_contains(set, number) + bit_set_next(set, number) + bit_set_previous(set, number)
+               + bit_set_next_missing(set, number);
     return sum;
 }
 

@@ -17,7 +17,9 @@ _Group = ctypes.c_size_t * _GROUP
 def _load():
     beside = os.path.join(os.path.dirname(os.path.abspath(__file__)), "libbit_set.so")
     path = os.environ.get("BIT_SET_LIBRARY") or (beside if os.path.exists(beside) else "libbit_set.so")
-    library = ctypes.CDLL(path)
+    # A PyDLL keeps the interpreter's lock during a call. Threads that change one set then take turns, as a call must have
+    # the set that it changes to itself.
+    library = ctypes.PyDLL(path)
     number, whole, truth, place = ctypes.c_size_t, ctypes.c_int32, ctypes.c_bool, ctypes.c_void_p
     out, numbers = ctypes.POINTER(place), ctypes.POINTER(number)
     for name, result, *given in (
@@ -61,13 +63,22 @@ def _set_of(members):
 
 
 class BitSet(MutableSet):
-    """A set of numbers from 0 to MAX_ELEMENT, as a MutableSet of collections.abc."""
+    """A set of numbers from 0 to MAX_ELEMENT, as a MutableSet of collections.abc.
+
+    Threads may share one: each call of the library that changes it is done before the next one begins.
+    """
 
     __slots__ = ("_set", "__weakref__")
 
+    def __new__(cls, *_, **__):
+        new = super().__new__(cls)
+        new._set = ctypes.c_void_p()
+        _require(_library.bit_set_new(ctypes.byref(new._set)))
+        return new
+
     def __init__(self, members=()):
-        self._set = ctypes.c_void_p()
-        _require(_library.bit_set_new(ctypes.byref(self._set)))
+        """Makes the members these; as with `set`, a second call takes those of the first out."""
+        self.clear()
         self.update(members)
 
     def __del__(self):

@@ -1,7 +1,8 @@
 #!/usr/bin/env bash
 # Builds c/example.c over the library for C by the system's compilers, runs it, and runs it again with one request for
-# memory after another failing; the first over blocks of 32 bits too. Compares the prototypes of both headers with what
-# the library exports, and runs the Python module where there is a python3.
+# memory after another failing; the first over blocks of 32 bits too. Holds the calls that make a set to the memory that
+# they may ask for. Compares the prototypes of both headers with what the library exports, and runs the Python module
+# where there is a python3.
 #   tests/c.sh [FOLDER]      over the library that c/build wrote into the folder; where none is given it is built, over
 #                            the libraries as `rt ci` has just proved them here
 # The last line is 'N passed, M failed'.
@@ -132,6 +133,28 @@ if cc -O1 -shared -fPIC -o shim.so "$here/shim.c"; then
 else
     fail 'cc makes no library of tests/shim.c'
 fi
+
+# The memory that each call that makes a set asks for, and what it leaves where it finds none; and random calls beside a
+# table.
+wrapped='-Wl,--wrap=malloc,--wrap=realloc,--wrap=free'
+for by in bit_set bit_set32; do
+    sed "s/bit_set/$by/g; s/BIT_SET/${by^^}/g" "$here/c_calls.c" > calls.c
+    if cc -std=c99 "${warnings[@]}" -O2 -I"$library" calls.c "$library/libbit_set.a" -o calls 2> said; then
+        run ./calls
+        judge "random calls of $by" 0 nothing nothing
+    else
+        cat said
+        fail 'cc does not build tests/c_calls.c'
+    fi
+    sed "s/bit_set/$by/g" "$here/c_requests.c" > requests.c
+    if cc -std=c99 "${warnings[@]}" -O2 -I"$library" requests.c "$library/libbit_set.a" "$wrapped" -o requests 2> said; then
+        run ./requests
+        judge "the memory of calls that make a $by" 0 nothing nothing
+    else
+        cat said
+        fail 'cc does not build tests/c_requests.c'
+    fi
+done
 
 # The names that are declared are those that are exported.
 sed -n 's/^[a-z].*\(bit_set\(32\)\?_[a-z_]*\)(.*/\1/p' "$library/bit_set.h" "$library/bit_set32.h" | sort > declared

@@ -1,0 +1,47 @@
+// Calls that take the least or the greatest member out.
+ghost use Rattle.std.specs.{Prelude.{◌≡◌, ◌+◌, MatchOption, None, if◌then◌else◌, is_some, length}, Iterator.{YieldsFirst, YieldsLast}};
+ghost use Rattle.bit_set.specs.{Members.{HasNone, TakesGreatest, TakesLeast}, Sets.elements};
+ghost use Rattle.bit_set_c.specs.{Answers.found, Handed.IsAt};
+
+use crate::handed::Exclusive;
+use crate::searching::or_max;
+
+/// Takes the least member out, and returns it, or `usize::MAX` where there is none.
+#[tactic(auto, using(bit_set::proofs::ValueLemmas::members_are_below_lengths))]
+#[unsafe(no_mangle)]
+pub extern "C" fn bit_set_pop_first(set: &mut Exclusive) -> usize
+    requires here { IsAt set.ref_ptr set.old.at }
+    ensures elements { YieldsFirst elements set.old.bits.values (found result) set.new.bits.values }
+    ensures members { MatchOption (found result) (HasNone (elements set.old.bits.values))
+        (λ m. TakesLeast (elements set.old.bits.values) m (elements set.new.bits.values)) }
+    ensures count { length (elements set.new.bits.values) + (if is_some (found result) then 1 else 0)
+        ≡ length (elements set.old.bits.values) }
+    ensures length { length set.new.bits.values ≡ length set.old.bits.values }
+    ensures unchanged { found result ≡ None → set.new.bits ≡ set.old.bits }
+    ensures capacity { set.new.bits.capacity ≡ set.old.bits.capacity }
+    ensures place { set.new.at ≡ set.old.at }
+{
+    let set = set.get();
+    prove!(set.get_ref().len() <= usize::MAX);
+    or_max(set.pop_first())
+}
+
+/// Takes the greatest member out, and returns it, or `usize::MAX` where there is none.
+#[tactic(auto, using(bit_set::proofs::ValueLemmas::members_are_below_lengths))]
+#[unsafe(no_mangle)]
+pub extern "C" fn bit_set_pop_last(set: &mut Exclusive) -> usize
+    requires here { IsAt set.ref_ptr set.old.at }
+    ensures elements { YieldsLast elements set.old.bits.values (found result) set.new.bits.values }
+    ensures members { MatchOption (found result) (HasNone (elements set.old.bits.values))
+        (λ m. TakesGreatest (elements set.old.bits.values) m (elements set.new.bits.values)) }
+    ensures count { length (elements set.new.bits.values) + (if is_some (found result) then 1 else 0)
+        ≡ length (elements set.old.bits.values) }
+    ensures length { length set.new.bits.values ≡ length set.old.bits.values }
+    ensures unchanged { found result ≡ None → set.new.bits ≡ set.old.bits }
+    ensures capacity { set.new.bits.capacity ≡ set.old.bits.capacity }
+    ensures place { set.new.at ≡ set.old.at }
+{
+    let set = set.get();
+    prove!(set.get_ref().len() <= usize::MAX);
+    or_max(set.pop_last())
+}
