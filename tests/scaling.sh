@@ -35,7 +35,7 @@ trap 'rm -rf "$room"' EXIT
 # - `many` is one in 16 numbers, scattered, and `full` is all below n. What takes constant time for each number or block
 #   takes 16 times as many.
 # - A call on a range takes 1,000 numbers in the middle, the same at each n; one named `_of_all` takes all from 2 to n.
-# - The closure of a chain of n nodes merges about n² / 2 rows.
+# - A graph is a chain of n nodes, whose closure merges about n² / 2 rows; of `solve` each of n blocks is visited twice.
 rows="$(
     cat << 'END'
 first                         two    65536  1.2       100
@@ -87,6 +87,8 @@ reflexive_transitive_closure  two       32  330  12000000
 dominators                    two       32   25    510000
 transpose                     many      32  140    480000
 transpose                     full      32  260   4600000
+solve                         two       64   18   3300000
+solve_back                    two       64   18   3300000
 END
 )"
 

@@ -4,6 +4,7 @@
 
 mod changes;
 mod faults;
+mod flow;
 mod graphs;
 mod ranges;
 mod searches;
@@ -13,6 +14,7 @@ mod work;
 
 use changes::Change;
 use faults::Fault;
+use flow::Flow;
 use graphs::Table;
 use ranges::RangeCall;
 use searches::Search;
@@ -65,7 +67,10 @@ fn done(alloc: Global, request: Request<'_>) -> Option<Result<usize, Fault>> {
     if let Some(sum) = as_one_of::<Change>(alloc, request) {
         return Some(sum);
     }
-    as_one_of::<Table>(alloc, request)
+    if let Some(sum) = as_one_of::<Table>(alloc, request) {
+        return Some(sum);
+    }
+    as_one_of::<Flow>(alloc, request)
 }
 
 // The status after the words: 2 where they name no work.
