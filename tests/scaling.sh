@@ -87,8 +87,8 @@ reflexive_transitive_closure  two       32  330  12000000
 dominators                    two       32   25    510000
 transpose                     many      32  140    480000
 transpose                     full      32  260   4600000
-solve                         two       64   18   3300000
-solve_back                    two       64   18   3300000
+solve                         two       64   18   3000000
+solve_back                    two       64   18   3000000
 END
 )"
 
