@@ -7,7 +7,8 @@
 - A ```antt block begins with the name of a file, and the rest of it is in a file of that name. README's crate `mine` is
   `uses` here.
 - Each clause that a CALLING.md quotes below a line 'fn ..' is a clause of that function.
-- Each example of a doc comment is in a test, with a macro or with `expect` and `expect_eq`.
+- Each example of a doc comment is in a test, with a macro or with `expect` and `expect_eq`. Each public function of the
+  crates in `WITH_EXAMPLES`, but the laws, has one.
 - docs/SPEED.md has the tables that bench/tables makes of the figures in docs/speed.
 - Each public function of `bit_words` and `bit_set` but the laws is called by `diff_calls`, or diff/README.md names it.
 - Each link of a document leads to a file, and to a heading where it names one.
@@ -19,6 +20,9 @@ import re
 import subprocess
 import sys
 from pathlib import Path
+
+# The crates of which each public function has an example.
+WITH_EXAMPLES = ["bit_set_run"]
 
 CLAUSE = re.compile(r"^\s+(requires|ensures)\b\s*([\w ]*?)\s*[:{]")
 
@@ -172,6 +176,15 @@ def check_comments(check, root, source, tests):
         check.expect(agrees, f"{source.relative_to(root)}:{start}", "no test has this example")
 
 
+def check_each_has_example(check, root, source):
+    """The public functions of a source: whether the doc comment of each has an example."""
+    comment = []
+    for number, line in enumerate(lines_of(source.read_text(encoding="utf-8")), 1):
+        if function := re.match(r"pub fn (\w+)", line):
+            check.expect("/// ```" in comment, f"{source.relative_to(root)}:{number}", f"{function[1]} has no example")
+        comment = [*comment, line] if line.startswith(("///", "#[")) else []
+
+
 def anchors(document):
     """What links to the headings of a document are spelled like."""
     heads = re.findall(r"^#+ (.*)$", document.read_text(encoding="utf-8"), re.M)
@@ -242,10 +255,12 @@ def main():
             for name, found in clauses_of(source).items():
                 clauses.setdefault(name, set()).update(found)
         check_clauses(check, root, document, clauses)
-    for document in [root / "README.md", *sorted(root.glob("*/*.md")), *sorted(root.glob("crates/*/*.md"))]:
+    for document in [*sorted(root.glob("*.md")), *sorted(root.glob("*/*.md")), *sorted(root.glob("crates/*/*.md"))]:
         check_links(check, root, document)
     for source in sources:
         check_comments(check, root, source, tests)
+        if source.relative_to(root).parts[1] in WITH_EXAMPLES and source.stem != "laws":
+            check_each_has_example(check, root, source)
     check_tables(check, root)
     check_calls(check, root)
     print(f"{check.passed} passed, {check.failed} failed")

@@ -15,7 +15,12 @@ use std::io::{Read, Write};
 /// are made. At [`LinesFault::Read`], [`LinesFault::TooLarge`] and [`LinesFault::Memory`] nothing was written; at
 /// [`LinesFault::Write`] a beginning of the output may have been. No failed read or write is tried again.
 ///
-/// The output of the lines `insert a 3` and `items a` is `true` and `{3}`.
+/// ```
+/// let mut lines = b"insert a 3\nitems a\n".as_slice();
+/// let mut output = Vec::new(alloc);
+/// run_lines::<u32, _, _>(alloc, &mut lines, &mut output)?;
+/// assert_eq!(output.as_slice(), b"true\n{3}\n".as_slice());
+/// ```
 pub fn run_lines<B: BitBlock, R: Read, W: Write>(
     alloc: Global,
     reader: &mut R,

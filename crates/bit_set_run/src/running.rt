@@ -45,6 +45,16 @@ impl<T: Drop> From<AllocFailed<T>> for RunFault {
 /// replies, only an insert, an extend, a copy, an operation in place, an append, a split off at a number above 0,
 /// capacity past all numbers of a set, and `Items`, a walk, a rest and a shrink that have a number to show or to
 /// keep can find no memory.
+///
+/// ```
+/// // `a` is the name of the first set.
+/// let mut table = Table::<u32>::new(alloc);
+/// let mut replies = Vec::new(alloc);
+/// let commands = [Command::Insert(a, 3), Command::Count(a)];
+/// run(alloc, &mut table, &commands, &mut replies)?;
+/// let expected = [Reply::Truth(true), Reply::Number(1)];
+/// assert_eq!(replies.as_slice(), expected.as_slice());
+/// ```
 pub fn run<B: BitBlock>(
     alloc: Global,
     table: &mut Table<B>,

@@ -27,6 +27,14 @@ pub struct Exit {
 /// | 3 | memory ran out; nothing was written |
 /// | 4 | a read failed, and nothing was written; or a write failed, and a beginning may have been |
 /// | 5 | the input has more than 1,048,576 bytes; nothing was written |
+///
+/// ```
+/// let mut lines = b"count a\n".as_slice();
+/// let mut output = Vec::new(alloc);
+/// let exit = start(alloc, &[], &mut lines, &mut output);
+/// assert_eq!(exit.status, 0);
+/// assert_eq!(output.as_slice(), b"0\n".as_slice());
+/// ```
 pub fn start<R: Read, W: Write>(
     alloc: Global,
     words: &[String],
@@ -62,7 +70,12 @@ pub fn start<R: Read, W: Write>(
 }
 
 impl Exit {
-    /// The exit at which the program ends where the lines ended so. Constant time.
+    /// How the program ends after [`run_lines`] returned this. Constant time.
+    ///
+    /// ```
+    /// assert_eq!(Exit::of(Ok(())).status, 0);
+    /// assert_eq!(Exit::of(Err(LinesFault::TooLarge)).status, 5);
+    /// ```
     pub fn of(ended: Result<(), LinesFault>) -> Self
         ensures status { result.status ≡ status_at ended }
         ensures text { result.text.now ≡ text_at ended }

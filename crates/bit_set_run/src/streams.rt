@@ -25,6 +25,10 @@ pub enum LinesFault {
 
 impl LinesFault {
     /// What the program says of it on standard error. Constant time.
+    ///
+    /// ```
+    /// assert_eq!(LinesFault::TooLarge.text(), "input too large");
+    /// ```
     pub fn text(self) -> &'static str
         ensures { result.now ≡ text_at {X = Unit} (Err self) }
     {

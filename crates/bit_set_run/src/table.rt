@@ -25,7 +25,12 @@ impl<B: BitBlock> Model for Table<B> {
 }
 
 impl<B: BitBlock> Table<B> {
-    /// Sixteen empty sets. It takes no memory.
+    /// Sixteen empty sets. It takes no memory, and constant time.
+    ///
+    /// ```
+    /// // `a` is the name of the first set.
+    /// let mut table = Table::<u32>::new(alloc);
+    /// ```
     pub fn new(alloc: Global) -> Self
         ensures { result ≡ no_sets }
     {
@@ -52,7 +57,12 @@ impl<B: BitBlock> Table<B> {
         }
     }
 
-    /// The set of this name.
+    /// The set of this name, in constant time.
+    ///
+    /// ```
+    /// // After the command `insert a 3`.
+    /// assert_eq!(table.get(a).first(), Some(3));
+    /// ```
     #[inline]
     pub fn get(&self, name: SetName) -> &BitSet<B>
         ensures { elements_of result.now ≡ set_of self.now name }

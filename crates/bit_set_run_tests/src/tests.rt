@@ -1,6 +1,7 @@
 //! Rows and runs with their exact bytes, and readers and writers that fail.
 
 mod callers;
+mod examples;
 mod fakes;
 mod faults;
 mod tables;
