@@ -2,6 +2,7 @@
 # this library for Rust. To be sourced, with the name of the script in `script`, and in `folder` where the crates are
 # kept, outside the repository. It ends the script with status 1 where something fails, and with 2 where something is
 # missing.
+. "$(dirname "${BASH_SOURCE[0]}")/../tools/ending.sh"
 cpu=x86-64-v2
 crates="$(cd "$(dirname "${BASH_SOURCE[0]}")/../crates" && pwd -P)"
 
@@ -15,9 +16,11 @@ missing() {
 }
 
 # Runs a command, and shows what it says only where it fails.
+log="$(mktemp)"
+passing+=("$log")
 quietly() {
-    "$@" > "$folder/log" 2>&1 || {
-        tail -n 40 "$folder/log" >&2
+    run_group "$@" < /dev/null > "$log" 2>&1 || {
+        tail -n 40 "$log" >&2
         say "this failed: $*"
         exit 1
     }
@@ -27,6 +30,13 @@ command -v rt > /dev/null || missing rt "the Rattle toolchain's command, on the 
 command -v rustc > /dev/null || missing rustc "the Rust compiler, of edition 2024 (1.85 or later), on the PATH"
 mkdir -p "$folder"
 folder="$(cd "$folder" && pwd -P)"
+# One run at a time gets and builds there, until `unlock`. What it starts has this lock too.
+exec {locked}< "$folder"
+if ! flock -n "$locked"; then
+    say "another run builds in $folder: waiting for its end"
+    run_group flock "$locked"
+fi
+unlock() { exec {locked}<&-; }
 sources="$folder/root/usr/share/cargo/registry"
 
 # The peers' sources are Debian's packages of the crates, which hold them as published.
@@ -38,10 +48,10 @@ get_peers() {
     command -v apt-get > /dev/null || missing apt-get "the peers are Debian's packages librust-bit-set-dev, librust-bit-vec-dev and librust-fixedbitset-dev"
     command -v dpkg-deb > /dev/null || missing dpkg-deb "it unpacks Debian's packages"
     say "getting the peers"
-    if ! get_packages > "$folder/log" 2>&1; then
-        apt-get update >> "$folder/log" 2>&1 || true
-        get_packages >> "$folder/log" 2>&1 || {
-            tail -n 10 "$folder/log" >&2
+    if ! get_packages > "$log" 2>&1; then
+        apt-get update >> "$log" 2>&1 || true
+        get_packages >> "$log" 2>&1 || {
+            tail -n 10 "$log" >&2
             missing "a package of the peers" "apt-get could not get librust-bit-set-dev, librust-bit-vec-dev and librust-fixedbitset-dev (a list of packages that is out of date needs 'apt-get update', as root)"
         }
     fi

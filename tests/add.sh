@@ -32,7 +32,7 @@ start() {
 # The repository that is copied from, with a file in the place of what is proved: that is a gigabyte.
 from="$room/from"
 mkdir "$from"
-(cd "$top" && tar cf - --exclude=out add crates.txt LICENSE-* crates/bit_blocks crates/bit_words crates/bit_set crates/bit_matrix) | tar xf - -C "$from"
+(cd "$top" && tar cf - --exclude=out add tools crates.txt LICENSE-* crates/bit_blocks crates/bit_words crates/bit_set crates/bit_matrix) | tar xf - -C "$from"
 for library in bit_blocks bit_words bit_set bit_matrix; do
     mkdir -p "$from/crates/$library/out/rlib"
     echo "$library" > "$from/crates/$library/out/rlib/proved"

@@ -8,10 +8,16 @@
 set -uo pipefail
 unset CDPATH
 cd "$(dirname "$(dirname "$(readlink -f "${BASH_SOURCE[0]}")")")" || exit 1
+. tools/ending.sh
+# rt keeps the copy there that it proves, and leaves it where it is ended.
+room="$(mktemp -d)" || exit 1
+passing+=("$room")
+export TMPDIR="$room"
 kept="$(dirname "$(dirname "$(rt doc | head -n 1)")")/rattle-kept"
 if [ "${CI:-}" != true ] && mkdir -p -m 700 "$kept" 2> /dev/null && [ -O "$kept" ]; then
     for crate in graph_walks refusals; do
-        echo "ahead: $crate: $(rt ci "$crate" < /dev/null 2>&1 | tail -n 1)"
+        run_group rt ci "$crate" < /dev/null > "$room/said" 2>&1
+        echo "ahead: $crate: $(tail -n 1 "$room/said")"
     done
 fi
 echo '0 passed, 0 failed'

@@ -1,0 +1,116 @@
+#!/usr/bin/env bash
+# Tries the scripts `bitset`, `look`, `add`, `gate` and `c/build` in small repositories, with stand-ins for the toolchain's
+# commands that prove nothing: what is built when, what stays of runs that are ended, and what is said.
+#   tests/scripts.sh           all of that
+#   tests/scripts.sh --real    instead `./bitset` with the real toolchain and a comment that changes, over the libraries
+#                              as `rt ci` has just proved them here
+# The last line is 'N passed, M failed'.
+set -uo pipefail
+unset CDPATH
+here="$(dirname "$(readlink -f "${BASH_SOURCE[0]}")")"
+top="$(dirname "$here")"
+. "$top/tools/ending.sh"
+passed=0
+failed=0
+room="$(mktemp -d)" || exit 1
+passing+=("$room")
+
+# Counts whether a command succeeds.
+expect() {
+    local what="$1"
+    shift
+    if "$@" > "$room/expected" 2>&1; then
+        passed=$((passed + 1))
+    else
+        echo "FAILED: $what"
+        failed=$((failed + 1))
+    fi
+}
+
+not() { ! "$@"; }
+
+# Waits until a command succeeds, for ten seconds at most.
+wait_until() {
+    local turns
+    for ((turns = 0; turns < 100; turns++)); do
+        ! "$@" 2> /dev/null || return 0
+        sleep 0.1
+    done
+    return 1
+}
+
+is_gone() { ! kill -0 "$1"; }
+
+# Waits for what start_group started, and has its status in `ended`: none where it had to be killed.
+finish() {
+    ended=0
+    wait_until is_gone "$1" || kill -KILL -- "-$1"
+    wait_group "$1" 2> /dev/null || ended=$?
+}
+
+# Whether no process that a stand-in was still runs.
+all_are_gone() {
+    local process
+    while read -r _ process _; do
+        is_gone "$process" || return 1
+    done < "$STAND_INS/calls"
+}
+
+ends_with() { [ "$ended" -eq "$1" ]; }
+says() { grep -qF -e "$1" "$room/said"; }
+wrote() { [ "$(cat "$room/wrote")" = "$1" ]; }
+is_empty() { [ -z "$(ls -A "$1")" ]; }
+
+# How often a stand-in was called with what begins so.
+calls() { grep -c "^[a-z]* [0-9]* $1" "$STAND_INS/calls"; }
+is_called() { [ "$(calls "$1")" -ge 1 ]; }
+
+forget_calls() { : > "$STAND_INS/calls"; }
+take_seconds() { echo "$1" > "$STAND_INS/seconds"; }
+
+# The stand-ins as a toolchain, whose commands are on the PATH.
+set_up_toolchain() {
+    export STAND_INS="$room/toolchain" TMPDIR="$room/temporary"
+    mkdir -p "$STAND_INS/kit"/{bin,c,rlibs,toolchain} "$TMPDIR"
+    cp "$here/stand_ins"/* "$STAND_INS/kit/bin"
+    echo 'kit of stand-ins' > "$STAND_INS/kit/KIT-ID"
+    echo 'int bit_set_memory;' > "$room/memory.c"
+    cc -c "$room/memory.c" -o "$room/memory.o" && ar rcs "$STAND_INS/kit/c/liblibc_c.a" "$room/memory.o"
+    PATH="$STAND_INS/kit/bin:$PATH"
+    take_seconds 0.1
+    forget_calls
+}
+
+# Ends a script that works by a signal, and looks whether all that it started ends and its temporary files go.
+#   ended_by_signal WHAT SIGNAL CALL COMMAND..    once a stand-in was called so
+ended_by_signal() {
+    local what="$1 by SIG$2" signal="$2" call="$3"
+    shift 3
+    forget_calls
+    take_seconds 30
+    start_group "$@" < /dev/null > "$room/wrote" 2> "$room/said"
+    local run=$!
+    expect "$what: it does not begin" wait_until is_called "$call"
+    kill -s "$signal" "$run"
+    finish "$run"
+    expect "$what: it ends with $ended" ends_with $((128 + $(kill -l "$signal")))
+    expect "$what: what it started is not ended" wait_until all_are_gone
+    expect "$what: it leaves temporary files" is_empty "$TMPDIR"
+    # What was not ended is not to be in the way of what is tried next.
+    sed 's/^[a-z]* \([0-9]*\).*/\1/' "$STAND_INS/calls" | xargs -r kill -KILL 2> /dev/null
+    rm -rf "${TMPDIR:?}"/*
+    take_seconds 0.1
+}
+
+if [ "${1:-}" = --real ]; then
+    # shellcheck source=/dev/null
+    . "$here/scripts/real.sh"
+else
+    set_up_toolchain
+    for part in bitset waiting signals usage; do
+        # shellcheck source=/dev/null
+        . "$here/scripts/$part.sh"
+    done
+fi
+echo "$passed passed, $failed failed"
+[ "$failed" -eq 0 ]

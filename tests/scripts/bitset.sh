@@ -1,0 +1,166 @@
+# What `./bitset` builds, and when: in a repository of three crates, each of which has a mark that the program then writes.
+# To be sourced by tests/scripts.sh.
+# shellcheck shell=bash disable=SC2154
+repository="$room/repository"
+
+# Writes the mark of a crate.
+mark() { echo "// mark: $2" > "$repository/crates/$1/src/marks.rt"; }
+
+set_up_repository() {
+    local crate
+    mkdir -p "$repository/tools" "$repository/crates"/{low,mid,bitset}/{src,specs,proofs}
+    cp "$top"/{bitset,look,needed} "$repository"
+    cp "$top"/tools/* "$repository/tools"
+    printf '%s\n' 'low:' 'mid: low' 'bitset: mid' > "$repository/crates.txt"
+    echo '# none' > "$repository/left_out.txt"
+    for crate in low mid bitset; do
+        mark "$crate" 1
+        echo '// a source' | tee "$repository/crates/$crate/src/lib.rt" > "$repository/crates/$crate/src/main.rt"
+    done
+}
+
+# What the program writes that has these marks, of the lowest crate first.
+marks() { printf '%s\n' 'words: u8' "low: $1" "mid: $2" "bitset: $3"; }
+
+run() {
+    ended=0
+    "$repository/bitset" u8 < /dev/null > "$room/wrote" 2> "$room/said" || ended=$?
+}
+
+# Runs it, and looks at how it ended and which marks it wrote.
+expect_marks() {
+    local what="$1"
+    run
+    expect "$what: it ended with $ended: $(tail -n 1 "$room/said")" ends_with 0
+    expect "$what: another program was run" wrote "$(marks "${@:2}")"
+}
+
+# Starts it beside, until it proves a crate.
+begin_until() {
+    forget_calls
+    start_group "$repository/bitset" u8 < /dev/null > "$room/wrote" 2> "$room/said"
+    begun=$!
+    expect "it does not begin with $1" wait_until is_called "$1\$"
+}
+
+expect_begun() {
+    local what="$1"
+    finish "$begun"
+    expect "$what: it ended with $ended" ends_with 0
+    expect "$what: another program was run" wrote "$(marks "${@:2}")"
+}
+
+set_up_repository
+expect_marks 'from nothing' 1 1 1
+expect 'it does not say what it proves' says 'bitset: proving and building mid'
+forget_calls
+expect_marks 'with nothing changed' 1 1 1
+expect 'it proves what has not changed' not is_called '\(low\|mid\|bitset\)$'
+mark mid 2
+forget_calls
+expect_marks 'with a change' 1 2 1
+expect 'it does not prove what has changed' is_called 'mid$'
+expect 'it proves what is below a change' not is_called 'low$'
+
+# An edit that keeps the size and the time of the text.
+touch -r "$repository/crates/low/src/marks.rt" "$room/time"
+mark low 3
+touch -r "$room/time" "$repository/crates/low/src/marks.rt"
+expect_marks 'with a change that keeps size and time' 3 2 1
+
+# Edits while it proves: this run has the texts that it began with, and the next one the new.
+take_seconds 1
+mark low 4
+begin_until low
+mark mid 4
+expect_begun 'with an edit of a crate that is not begun' 4 2 1
+expect_marks 'after an edit of a crate that was not begun' 4 4 1
+mark mid 5
+begin_until mid
+mark mid 6
+mark low 6
+expect_begun 'with an edit of a crate that is begun, and of one below' 4 5 1
+expect_marks 'after an edit of a crate that was begun, and of one below' 6 6 1
+mkdir -p "$repository/crates/extra/src"
+echo '// mark: new' > "$repository/crates/extra/src/lib.rt"
+mark mid 7
+begin_until mid
+printf '%s\r\n' 'extra:' 'low: extra # lowest' 'mid: low' 'bitset: mid' > "$repository/crates.txt"
+expect_begun 'with an edit of crates.txt' 6 7 1
+take_seconds 0.1
+run
+expect 'an edit of crates.txt, which has CRLF now, is not heeded' grep -qx 'extra: new' "$room/wrote"
+printf '%s\n' 'low:' 'mid: low' 'bitset: mid' > "$repository/crates.txt"
+expect_marks 'with crates.txt as it was' 6 7 1
+
+# With sources that are older than the run nothing but their times is looked at.
+sleep 2.1
+expect_marks 'with older sources' 6 7 1
+forget_calls
+expect_marks 'with older sources, once more' 6 7 1
+expect 'it asks rt where nothing has changed' not is_called version
+mark low 7
+expect_marks 'with a change of an older source' 7 7 1
+mkdir -p "$repository/crates/mid/src/out"
+echo '// mark: inside' > "$repository/crates/mid/src/out/inside.rt"
+run
+expect 'a module folder called out is not built' grep -qx 'mid: inside' "$room/wrote"
+echo '// mark: more' > "$repository/crates/mid/src/out/inside.rt"
+run
+expect 'a change in a module folder called out is not built' grep -qx 'mid: more' "$room/wrote"
+rm -r "$repository/crates/mid/src/out"
+
+# States that another run may have left.
+program="$(find "$repository" -name bitset -type f -path '*/out/*')"
+expect_marks 'without that module' 7 7 1
+chmod -x "$program"
+expect_marks 'without the run bit of the program' 7 7 1
+: > "$program"
+expect_marks 'with an empty program' 7 7 1
+for file in "$repository"/out/low.rlib/*; do
+    : > "$file"
+done
+mark mid 8
+expect_marks 'with an empty library' 7 8 1
+rm -r "$repository/out/low.rlib"
+mark mid 9
+expect_marks 'with no library' 7 9 1
+echo 'kit of later stand-ins' > "$STAND_INS/kit/KIT-ID"
+touch "$STAND_INS/kit/bin/rt"
+forget_calls
+expect_marks 'with another toolchain' 7 9 1
+expect 'it proves nothing with another toolchain' is_called 'low$'
+
+# What fails, and why.
+echo '// wrong' > "$repository/crates/mid/src/lib.rt"
+run
+expect "with a wrong text it ends with $ended" ends_with 1
+expect 'it does not say what is wrong' says 'this is not proved, says the stand-in'
+echo '// a source' > "$repository/crates/mid/src/lib.rt"
+expect_marks 'with the right text' 7 9 1
+mark mid 10
+(ulimit -f 16 && run && exit "$ended")
+ended=$?
+expect 'with a limit of the size of a file it succeeds' not ends_with 0
+expect 'it does not say that a file is too large' says 'File size limit exceeded'
+expect_marks 'without that limit' 7 10 1
+if [ "$(id -u)" -eq 0 ] && mkdir "$room/small" && mount -t tmpfs -o size=256k none "$room/small" 2> /dev/null; then
+    mv "$repository/out" "$room/out"
+    ln -s "$room/small" "$repository/out"
+    run
+    expect 'with a full disk it succeeds' not ends_with 0
+    expect 'it does not say that the disk is full' says 'No space left on device'
+    rm "$repository/out"
+    umount "$room/small"
+    mv "$room/out" "$repository/out"
+fi
+path="$PATH"
+PATH="${PATH#*:}"
+if ! command -v rt > /dev/null || { PATH=/usr/bin:/bin && ! command -v rt > /dev/null; }; then
+    expect_marks 'without a toolchain' 7 10 1
+    mark mid 11
+    run
+    expect "without a toolchain, with a change, it ends with $ended" ends_with 127
+fi
+PATH="$path"
+expect_marks 'with the toolchain again' 7 11 1

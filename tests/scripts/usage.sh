@@ -1,0 +1,34 @@
+# What scripts say of how they are called, and what `add` does with what is in its way. To be sourced by tests/scripts.sh.
+# shellcheck shell=bash disable=SC2154
+
+for script in add gate look c/build diff/run bench/run; do
+    ended=0
+    env -u HOME PATH=/usr/bin:/bin "$top/$script" --help > "$room/wrote" 2> "$room/said" < /dev/null || ended=$?
+    expect "$script --help ends with $ended" ends_with 0
+    expect "$script --help writes no usage" grep -q '^usage: ' "$room/wrote"
+    expect "$script --help writes to standard error" [ ! -s "$room/said" ]
+    [ "$script" != look ] || continue
+    ended=0
+    (cd "$room" && "$top/$script" --wrong --words) > "$room/wrote" 2> "$room/said" < /dev/null || ended=$?
+    expect "$script with wrong words ends with $ended" ends_with 2
+    expect "$script with wrong words says no usage" says 'usage: '
+done
+
+# An empty repository beside that from which libraries are copied.
+from="$room/from"
+mkdir -p "$from" "$room/theirs/crates"
+(cd "$top" && tar cf - --exclude=out add crates.txt tools LICENSE-* crates/bit_{blocks,words,set,matrix}) | tar xf - -C "$from"
+cd "$room/theirs" || exit 1
+git init -q .
+mkdir -p crates/.add.Ab12Cd/src crates/.add.mine
+printf '%s\r\n' '# theirs' 'bit_set: bit_words bit_blocks serde_json thiserror' > crates.txt
+ended=0
+"$from/add" > "$room/wrote" 2> "$room/said" || ended=$?
+expect "add beside a crates.txt with CRLF ends with $ended: $(cat "$room/said")" ends_with 0
+expect 'add leaves what an earlier run left' [ ! -e crates/.add.Ab12Cd ]
+expect 'add takes away a folder that is not its own' [ -d crates/.add.mine ]
+expect 'add changes how lines of crates.txt end' [ "$(grep -c $'\r$' crates.txt)" -eq "$(wc -l < crates.txt)" ]
+expect 'add writes a line of crates.txt twice' [ "$(grep -c '^bit_set:' crates.txt)" -eq 1 ]
+expect 'add does not say how a library is proved' grep -qF "(cd \"$from/crates/bit_set\" && rt lib)" "$room/wrote"
+expect 'add fails a second time' "$from/add"
+cd "$top" || exit 1

@@ -1,0 +1,81 @@
+# Two runs of `./bitset` in one repository, and its input and output. To be sourced by tests/scripts.sh, after bitset.sh.
+# shellcheck shell=bash disable=SC2154
+
+# Starts a second run beside the one that begin_until began, and has what it writes and says in `second` and `waits`.
+begin_second() {
+    start_group "$repository/bitset" u8 < /dev/null > "$room/second" 2> "$room/waits"
+    second=$!
+    sleep 0.3
+}
+
+expect_second() {
+    local what="$1"
+    finish "$second"
+    expect "$what: the second run ended with $ended" ends_with 0
+    expect "$what: the second run ran another program" [ "$(cat "$room/second")" = "$(marks "${@:2}")" ]
+    expect "$what: the second run does not say that it waits" grep -q 'another run' "$room/waits"
+}
+
+take_seconds 1
+mark low 20
+begin_until low
+begin_second
+expect_begun 'beside another' 20 11 1
+expect_second 'beside another' 20 11 1
+expect 'two runs prove one crate twice' [ "$(calls 'low$')" -eq 1 ]
+
+mark low 21
+begin_until low
+begin_second
+mark low 22
+expect_begun 'beside another, with an edit' 21 11 1
+expect_second 'beside another, with an edit' 22 11 1
+
+mark low 23
+begin_until low
+kill -KILL "$begun"
+finish "$begun"
+take_seconds 0.1
+begin_second
+expect_second 'after a run that was killed' 23 11 1
+expect 'a prover outlives the runs' all_are_gone
+
+# Input and output that cannot be read and written.
+"$repository/bitset" <&- > "$room/wrote" 2> "$room/said"
+ended=$?
+expect "with a closed input it ends with $ended" ends_with 4
+mark low 24
+"$repository/bitset" <&- > "$room/wrote" 2> "$room/said"
+ended=$?
+expect "with a closed input and a change it ends with $ended" ends_with 4
+mark low 25
+"$repository/bitset" < /dev/null >&- 2> "$room/said"
+ended=$?
+expect "with a closed output and a change it ends with $ended" ends_with 4
+expect 'what is built with a closed output is another program' [ "$("$repository/bitset" u8 < /dev/null)" = "$(marks 25 11 1)" ]
+
+look() {
+    ended=0
+    "$repository/look" "$@" 2> "$room/said" || ended=$?
+}
+
+look u8 <<< 'count a' > "$room/wrote"
+expect "look ends with $ended" ends_with 0
+expect 'look gives the program other words or another input' wrote $'tried: try -- u8\ncount a'
+expect 'look shows what rt says of a program that ended' not says 'run=ended'
+expect 'look does not show what the program says' says 'program: said'
+STAND_IN_STATUS=3 look < /dev/null > "$room/wrote"
+expect "look of a program that ends with 3 ends with $ended" ends_with 3
+for input in "$room" '&-'; do
+    if [ "$input" = '&-' ]; then
+        look <&- > "$room/wrote"
+    else
+        look < "$input" > "$room/wrote"
+    fi
+    expect "look lets the program read from $input" wrote 'tried: try --fail-io 1 --'
+done
+look < /dev/null > /dev/full
+expect "look with a full output ends with $ended" ends_with 4
+expect 'look does not say that it cannot write' says 'write failed'
+look < /dev/null >&-
+expect "look with a closed output ends with $ended" ends_with 4
