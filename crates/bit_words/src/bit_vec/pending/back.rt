@@ -1,6 +1,6 @@
 // The blocks that a walk has still to look at, from the back.
-ghost use Rattle.std.specs.Prelude.{◌≡◌, ℕ, ◌+◌, ◌-◌, ◌<◌, ◌≤◌, ◌&&◌, IsTrue, false, length, nat_lt, take};
-ghost use Rattle.bit_blocks.specs.{Bits.blocks_for, Digits.is_one};
+ghost use Rattle.std.specs.Prelude.{◌≡◌, ℕ, ◌+◌, ◌-◌, ◌<◌, ◌≤◌, ◌&&◌, IsTrue, false, length, map, nat_lt, take, true};
+ghost use Rattle.bit_blocks.specs.{Bits.blocks_for, Digits.is_one, Storage.is_used};
 ghost use Rattle.bit_words.specs.Pending.{FindsLast, FindsLastPending, IsPending, next_at};
 
 use crate::bit_vec::pending::Pending;
@@ -39,7 +39,8 @@ impl<'a, B: BitBlock> Pending<'a, B> {
     fn has_last(&self, blocks: &[B]) -> bool
         requires { IsPending B.width B.number B.is_block
             self.now.index self.now.end self.now.bits blocks.now self.now.summary.left }
-        ensures { IsTrue result → self.now.index + B.width < self.now.end }
+        ensures past { IsTrue result → self.now.index + B.width < self.now.end }
+        ensures used { IsTrue result → is_used (map B.number blocks.now) (self.now.end - 1) ≡ true }
     {
         self.end - self.index > B::bits() && is_nonzero(block_at(blocks, self.end - 1))
     }
