@@ -1,5 +1,5 @@
 // The walk over all blocks of a bit vector.
-ghost use Rattle.std.specs.{Prelude.{◌≡◌, ℕ, ◌+◌, ◌<◌, ◌≤◌, All, IfSome, Some, drop, get_or, length, map, take}, Iterator.{UpTo, item_count, SizeHint.IsWithinCount}};
+ghost use Rattle.std.specs.{Prelude.{◌≡◌, ◌≢◌, ℕ, ◌+◌, ◌<◌, ◌≤◌, All, IfSome, Some, drop, get_or, length, map, take}, Iterator.{UpTo, item_count, SizeHint.IsWithinCount}};
 ghost use Rattle.bit_words.specs.Source.{PullsIf};
 
 use bit_blocks::block::BitBlock;
@@ -77,6 +77,7 @@ impl<'a, B: BitBlock> Blocks<'a, B> {
         requires each { All B.is_block self.old.left }
         ensures there { result ≤ length self.old.left }
         ensures zeros { (k : ℕ) → k < result → get_or (map B.number self.old.left) k 0 ≡ 0 }
+        ensures end { result < length self.old.left → get_or (map B.number self.old.left) result 0 ≢ 0 }
         ensures left { self.new.left ≡ drop result self.old.left }
         ensures fewer { length self.new.left + result ≡ length self.old.left }
         ensures pulls { self.new.pulls ≡ self.old.pulls + result }

@@ -1,5 +1,5 @@
 // The blocks that a walk has still to look at, by the summary.
-ghost use Rattle.std.specs.Prelude.{◌≡◌, ℕ, ◌+◌, ◌-◌, ◌/◌, ◌<◌, ◌≤◌, ◌^◌, All, drop, get_or, length, map, nat_lt};
+ghost use Rattle.std.specs.Prelude.{◌≡◌, ◌≢◌, ℕ, ◌+◌, ◌-◌, ◌/◌, ◌<◌, ◌≤◌, ◌^◌, All, drop, get_or, length, map, nat_lt};
 ghost use Rattle.bit_blocks.specs.{Bits.blocks_for, Digits.is_one};
 ghost use Rattle.bit_words.specs.{Pending.{CoversUsed, Finds, IsPending, IsStoredFrom, left_from, next_at}, Summary.IsStoredSummary};
 
@@ -113,6 +113,8 @@ fn pass_zero_chunks<B: BitBlock>(summary: &mut Blocks<'_, B>, count: usize) -> u
     requires each { All B.is_block summary.old.left }
     ensures there { result ≤ length summary.old.left }
     ensures zeros { (k : ℕ) → k < result → get_or (map B.number summary.old.left) k 0 ≡ 0 }
+    ensures end { B.width < count → result < length summary.old.left
+        → get_or (map B.number summary.old.left) result 0 ≢ 0 }
     ensures left { summary.new.left ≡ drop result summary.old.left }
     ensures pulls { summary.new.pulls ≡ summary.old.pulls + result }
 {

@@ -26,6 +26,7 @@ returns g c =
     record {
       there = omega (arith, c.zeros_before-zeros.ensures.within, ap length c.as_slice.ensures);
       zeros = rw c.as_slice.ensures at c.zeros_before-zeros.ensures.zeros;
+      end = rw c.as_slice.ensures at c.zeros_before-zeros.ensures.end;
       left = sym (drop-drop zeros at xs) ∙ ap (λ s. drop zeros s.left) c.self.view_is;
       fewer = omega (arith, all, length-drop at xs, length-drop (at + zeros) xs, within g (goal.at.returns g c).After-zeros_before-zeros);
       pulls = omega (arith, c.tick_by.ensures, ap (λ s. s.pulls) c.self.view_is);
