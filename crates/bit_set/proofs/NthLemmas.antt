@@ -164,6 +164,7 @@ module _ (w : ℕ) where
           goes_on = omega (arith, so.goes_on, step.pulls.goes_on);
           pulled = (omega (arith, step.pulls.sparse, step.pulls.nonzero, so.pulled), step.pulls.nonzero.1);
           along = step.pulls.along ∙ so.along;
+          at = step.pulls.at;
           summary = (omega (arith, step.pulls.summary, so.summary), step.pulls.summary.1);
         };
       }
@@ -180,6 +181,7 @@ module _ (w : ℕ) where
           goes_on = omega (arith, so.goes_on, step.pulls.goes_on);
           pulled = step.pulls.nonzero ∙ so.pulled;
           along = step.pulls.along ∙ so.along;
+          at = step.pulls.at;
           summary = step.pulls.summary ∙ so.summary;
         };
       }

@@ -1,6 +1,6 @@
 // The call that keeps the elements that pass a test.
-ghost use Rattle.std.specs.{Prelude.{◌≡◌, ℕ, ◌^◌, ◌<◌, All, Bool, List, [], length}, List.Retain.IsFiltered};
-ghost use Rattle.bit_set.specs.{Changes.{Change, Changes, Outcome.Done}, Retained.{HasTested, ones}, Sets.elements};
+ghost use Rattle.std.specs.{Prelude.{◌≡◌, ℕ, ◌^◌, ◌<◌, ◌&&◌, All, Bool, List, [], length}, List.Retain.IsFiltered};
+ghost use Rattle.bit_set.specs.{Changes.{Change, Changes, Outcome.Done}, Retained.{HasTested, ones}, Sets.{elements, has}};
 
 use crate::bit_vec::{block_or_zero, take_lowest_one, with_bit};
 use crate::{BitBlock, BitSet};
@@ -41,6 +41,9 @@ impl<B: BitBlock> BitSet<B> {
         requires { F.IsAlwaysCallable keep }
         ensures elements { IsFiltered (λ state value passed next. F.step state value passed next) keep
             (elements self.old.values) (elements self.new.values) }
+        ensures members { (test : ℕ → Bool)
+            → ((value : ℕ) (passed : Bool) (next : F) → F.step keep value passed next → (passed ≡ test value) × (next ≡ keep))
+            → (n : ℕ) → has (elements self.new.values) n ≡ (test n && has (elements self.old.values) n) }
         ensures length { length self.new.values ≡ length self.old.values }
         ensures capacity { self.new.capacity ≡ self.old.capacity }
         ensures changes { (answers : List Bool)
