@@ -1,6 +1,6 @@
 -- What a test that is asked of one member after another leaves of a set.
 use Rattle.std.proofs.Common.{◌≡◌, ◌≢◌, ℕ, ◌+◌, ◌-◌, ◌*◌, ◌/◌, ◌^◌, ◌<◌, ◌≤◌, min, Bool, true, false, not, ◌&&◌, ◌||◌, cond, eqb, ltb, nat_le, List, [], ◌∷◌, ◌++◌, get_or, length, refl, sym, ap, ap₂, ◌∙◌, arith, subst, append_assoc, filter, All, ⊎_elim, div-add-mod', mod-lt, mul-le-mul_right, zero, suc}
-use Rattle.std.{proofs.lemmas.{Fn.filter_same, Bool.{cases_lt, false≢true, Decides.nat_tests}, List.{append-nil, get_or_past, length-append, Elements.{All-cons, All-nil, filter-append}, Folds.list_any-append, FromFn.{get_or-map-range_with_len, length-map-range_with_len}}}, specs.List.{items_where_true, Retain.{IsFiltered, ReturnsInTurn}}}
+use Rattle.std.{proofs.lemmas.{Bool.{cases_lt, false≢true, Decides.nat_tests}, List.{append-nil, get_or_past, length-append, Elements.{All-cons, All-nil, filter-append}, Folds.list_any-append, FromFn.{get_or-map-range_with_len, length-map-range_with_len}}}, specs.List.{items_where_true, Retain.{IsFiltered, ReturnsInTurn}}}
 use Rattle.bit_blocks.{proofs.BitsLemmas.block_past, specs.Digits.is_one}
 use Rattle.bit_words.specs.Kept.{KeepsInBlock}
 use Rattle.bit_set.specs.{Indexes.{digits_from, indexes}, Retained.{HasTested, ones}, Sets.{AscendsFrom, IsAscending, elements, has, those_from, without}}
@@ -301,11 +301,3 @@ next_at_block w k next pos to below i past =
 pub positive : (n : ℕ) → (n ≡ 0 → false ≡ true) → 0 < n
 positive zero none = absurd (false≢true (none refl))
 positive (suc n) none = omega arith
-
--- ---- in members
-
--- a test that stays the same keeps those at which it returns true
-pub kept_members : {P : Type 0} (R : P → ℕ → Bool → P → Type 0) (keeps : ℕ → Bool) (p : P) (xs ys : List ℕ) → ((n : ℕ) (kept : Bool) (q : P) → R p n kept q → (kept ≡ keeps n) × (q ≡ p)) → IsFiltered R p xs ys → (n : ℕ) → has ys n ≡ (has xs n && keeps n)
-kept_members R keeps p xs ys says filtered n =
-    let kept = has-filter keeps xs n in
-    ap (λ s. has s n) (filter_same R keeps p says xs ys filtered) ∙ grind (arith, kept)

@@ -73,7 +73,8 @@ pub record AdvancesBack (w : ℕ) (s : Walk) (r : Option ℕ) (t : Walk) : Type 
   pub pulls : PullsBlocksBack w s r t
 
 -- How calls of `next`, the last of which gave r, went from s to t along blocks of w: as one call of it where nothing was left,
--- and else with no more pulls than there are blocks that are not 0.
+-- and else with no more pulls than there are blocks that are not 0. The block in hand is then the one that has the item, or
+-- the last.
 pub record PullsAlong (w : ℕ) (s : Walk) (r : Option ℕ) (t : Walk) : Type 0 where
   pub goes_on : s.pulls ≤ t.pulls
   pub pulled : MatchOption r ((t.pulls ≡ s.pulls + s.nonzero_left + 1) × (t.nonzero_left ≡ 0))

@@ -1,7 +1,7 @@
 // The summary of a vector of blocks: a list of bits, one for each block, which says which of them are not 0. It is kept
 // in blocks as well, and so changed by `packed`. This folder keeps the two in step, but where all bits become one value
 // or none is left: `fill` and `remove_all` of a bit vector do the same to both.
-ghost use Rattle.std.specs.Prelude.{◌≡◌, ◌≢◌, ℕ, ◌+◌, ◌-◌, ◌*◌, ◌/◌, ◌^◌, ◌<◌, ◌≤◌, ◌==◌, ◌&&◌, ◌||◌, All, IfOk, IsOk, get_or, not, nat_le, nat_lt, [], length, map, min, false, true, vec_len, vec_capacity};
+ghost use Rattle.std.specs.Prelude.{◌≡◌, ◌≢◌, ℕ, ◌+◌, ◌-◌, ◌*◌, ◌/◌, ◌^◌, ◌<◌, ◌≤◌, ◌==◌, ◌&&◌, ◌||◌, All, IfOk, IsOk, get_or, if◌then◌else◌, not, nat_le, nat_lt, [], length, map, min, false, true, vec_len, vec_capacity};
 ghost use Rattle.bit_blocks.specs.{Bits.blocks_for, Digits.is_one, Storage.{value_at, IsPacked, WritesInPlace, WritesValue, is_used}};
 ghost use Rattle.bit_words.specs.Summary.{short_count, stored_for, IsSummary, IsStoredSummary, SaysUsed};
 
@@ -77,6 +77,7 @@ pub(crate) fn update_summary_bit<B: BitBlock>(
 pub(crate) fn follow_one(start: &mut usize, chunk: usize, bit: bool)
     ensures reached { bit ≡ true → start.new ≤ chunk }
     ensures back { start.new ≤ start.old }
+    ensures value { start.new ≡ (if bit then min start.old chunk else start.old) }
 {
     if bit && chunk < *start {
         *start = chunk;
@@ -87,7 +88,8 @@ pub(crate) fn follow_one(start: &mut usize, chunk: usize, bit: bool)
 // a summary was stored and these are false.
 #[inline]
 pub(crate) fn start_after_growth<B: BitBlock>(start: usize, old: usize, bit: bool) -> usize
-    ensures { 0 < result → (result ≡ start) × (bit ≡ false) × (short_count B.width < old) }
+    ensures stays { 0 < result → (result ≡ start) × (bit ≡ false) × (short_count B.width < old) }
+    ensures value { result ≡ (if bit || nat_le old (short_count B.width) then 0 else start) }
 {
     if bit || is_short::<B>(old) { 0 } else { start }
 }

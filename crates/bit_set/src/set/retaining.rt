@@ -41,10 +41,9 @@ impl<B: BitBlock> BitSet<B> {
         requires { F.IsAlwaysCallable keep }
         ensures elements { IsFiltered (λ state value passed next. F.step state value passed next) keep
             (elements self.old.values) (elements self.new.values) }
-        // Of a test that stays the same, whatever it captured: those at which it returns true stay.
-        ensures members { (keeps : ℕ → Bool)
-            → ((n : ℕ) (kept : Bool) (next : F) → F.step keep n kept next → (kept ≡ keeps n) × (next ≡ keep))
-            → (n : ℕ) → has (elements self.new.values) n ≡ (has (elements self.old.values) n && keeps n) }
+        ensures members { (test : ℕ → Bool)
+            → ((value : ℕ) (passed : Bool) (next : F) → F.step keep value passed next → (passed ≡ test value) × (next ≡ keep))
+            → (n : ℕ) → has (elements self.new.values) n ≡ (test n && has (elements self.old.values) n) }
         ensures length { length self.new.values ≡ length self.old.values }
         ensures capacity { self.new.capacity ≡ self.old.capacity }
         ensures changes { (answers : List Bool)

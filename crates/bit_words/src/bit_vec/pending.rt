@@ -114,7 +114,8 @@ fn pass_zero_chunks<B: BitBlock>(summary: &mut Blocks<'_, B>, count: usize) -> u
     requires each { All B.is_block summary.old.left }
     ensures there { result ≤ length summary.old.left }
     ensures zeros { (k : ℕ) → k < result → get_or (map B.number summary.old.left) k 0 ≡ 0 }
-    ensures end { B.width < count → result < length summary.old.left → get_or (map B.number summary.old.left) result 0 ≢ 0 }
+    ensures end { B.width < count → result < length summary.old.left
+        → get_or (map B.number summary.old.left) result 0 ≢ 0 }
     ensures left { summary.new.left ≡ drop result summary.old.left }
     ensures pulls { summary.new.pulls ≡ summary.old.pulls + result }
 {

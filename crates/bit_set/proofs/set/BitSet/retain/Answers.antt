@@ -1,9 +1,9 @@
 use Rattle.std.proofs.Common.{◌≡◌, ℕ, ◌+◌, ◌-◌, ◌*◌, ◌/◌, ◌^◌, ◌<◌, ◌≤◌, ◌==◌, min, false, nat_le, get_or, length, refl, ap, ap₂, ◌∙◌, arith, subst}
-use Rattle.std.proofs.{Math.Nat.{div-add-mod'}, lemmas.Bool.Decides.nat_tests}
+use Rattle.std.proofs.{Math.Nat.{div-add-mod'}, lemmas.{Bool.Decides.nat_tests, Fn.filter_same}}
 use Rattle.bit_blocks.{proofs.BitsLemmas.{blocks_of-digit, read_back}, specs.{Bits.blocks_of, Digits.is_one}}
 use Rattle.bit_words.specs.Kept.{KeepsInBlock}
-use Rattle.bit_set.specs.{Changes.Changes, Retained.{HasTested, ones}, Sets.{elements}}
-use Rattle.bit_set.proofs.{MemberLemmas.none_from_members, RetainLemmas.{below_by_members, has-block, kept_members, next_at_block, retained-block, tested-all, tested-none}, SetLemmas.has-filter, SplitLemmas.all_from, ValueLemmas.has-within, set.BitSet.retain.Given.Over, set.BitSet.retain.Goals.{After-block_or_zero-block}}
+use Rattle.bit_set.specs.{Changes.Changes, Retained.{HasTested, ones}, Sets.{elements, has}}
+use Rattle.bit_set.proofs.{MemberLemmas.none_from_members, RetainLemmas.{below_by_members, has-block, next_at_block, retained-block, tested-all, tested-none}, SetLemmas.has-filter, SplitLemmas.all_from, ValueLemmas.has-within, set.BitSet.retain.Given.Over, set.BitSet.retain.Goals.{After-block_or_zero-block}}
 use Rattle.bit_set.proofs.set.BitSet.retain.Goals as goal
 
 -- the block of the next member
@@ -76,11 +76,12 @@ returns-clause-elements g c =
     tested-all _ c.args.keep (elements c.args.self.now.values) c.loop-value.keep (elements c.loop-value.self.values) _ c.loop-value.invariant.tested
     (none_from_members _ (λ n. let member = has-filter (λ y. nat_le c.loop-value.from y) (elements c.loop-value.self.values) n in let none = c.in_default.ensures.members n in grind (arith, nat_tests, member, none)))
 
+pub returns-clause-members : goal.returns-clause-members
+returns-clause-members g c test each n =
+    let old = elements c.args.self.now.values in
+    let kept = filter_same _ test c.args.keep (λ x b next. each x b next) old _ (returns-clause-elements g c) in
+    ap (λ s. has s n) kept ∙ has-filter test old n
+
 pub returns-clause-changes : goal.returns-clause-changes
 unfolding Changes
 returns-clause-changes g c = let kept = returns-clause-elements g c in (kept.0, (kept.4, refl))
-
-pub returns-clause-members : goal.returns-clause-members
-returns-clause-members g c keeps says =
-    let kept = returns-clause-elements g c in
-    kept_members _ keeps c.args.keep (elements c.args.self.now.values) (elements c.loop-value.self.values) says (kept.0, kept.1, kept.2, kept.3, kept.4)

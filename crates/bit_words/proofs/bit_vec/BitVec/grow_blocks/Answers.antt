@@ -87,5 +87,5 @@ invariant_of-self-2 g c =
       packed = c.append_bits.ensures.packed;
       summary = rw c.deref-2.ensures.value at c.append_to_summary.ensures.summary;
       start = λ _.
-          grown_start _ _ _ _ _ _ _ c.start_after_growth-self-inside.ensures (rw c.reserve_shared.ensures.items at c.append_bits.ensures.kept) c.append_bits.ensures.added c.append_bits.ensures.packed.tail (λ many. c.self.invariant.start (omega (arith, many, c.deref.ensures.len, items)));
+          grown_start _ _ _ _ _ _ _ c.start_after_growth-self-inside.ensures.stays (rw c.reserve_shared.ensures.items at c.append_bits.ensures.kept) c.append_bits.ensures.added c.append_bits.ensures.packed.tail (λ many. c.self.invariant.start (omega (arith, many, c.deref.ensures.len, items)));
     }
