@@ -32,6 +32,23 @@ pub fn of_ranges<B: BitBlock>(set: &mut BitSet<B>) -> [usize; 6] {
     ]
 }
 
+/// Where numbers in a row are missing in {3, 447}, and what is left of it once it is moved within its capacity.
+pub fn of_shifts<B: BitBlock>(set: &mut BitSet<B>) -> [usize; 6] {
+    let gap = set.first_gap(4, 443).unwrap_or(0);
+    let wider = set.first_gap(4, 444).unwrap_or(0);
+    let moved = set.shift_up(4000).is_ok();
+    let first = set.first().unwrap_or(0);
+    set.shift_down(4004);
+    [
+        gap,
+        wider,
+        usize::from(moved),
+        first,
+        set.first().unwrap_or(0),
+        set.count(),
+    ]
+}
+
 /// What is found in the list of that set.
 pub fn of_bits<B: BitBlock>(bits: &BitVec<B>) -> [usize; 6] {
     [

@@ -1,4 +1,4 @@
-// Calls that put in the numbers of a range, or one number or its opposite.
+// Calls that put in the numbers of a range, or one number or its opposite, and the one that moves each element up.
 use crate::asks::Ask;
 use crate::faults::Fault;
 use crate::rows::{Call, OnSets};
@@ -13,6 +13,7 @@ enum Ranged {
     ToggleRange,
     Toggle,
     Set,
+    ShiftUp,
 }
 
 const ROWS: &[Row<OnSets<Ranged>>] = &[
@@ -82,11 +83,34 @@ const ROWS: &[Row<OnSets<Ranged>>] = &[
             failed: FIRST,
         },
     },
+    Row {
+        name: "shift_up",
+        asks: &[Ask::Grown(5001)],
+        call: OnSets {
+            call: Ranged::ShiftUp,
+            capacity: Capacity::Short,
+            returned: State::Of(&[4556, 5000], 5001),
+            lent: LENT,
+            failed: FIRST,
+        },
+    },
+    Row {
+        name: "shift_up_within",
+        asks: &[],
+        call: OnSets {
+            call: Ranged::ShiftUp,
+            capacity: Capacity::Ample,
+            returned: State::Of(&[4556, 5000], 5001),
+            lent: LENT,
+            failed: FIRST,
+        },
+    },
 ];
 
 fn put_range<B: BitBlock>(call: Ranged, set: &mut BitSet<B>) -> Result<(), SetError> {
     match call {
         Ranged::InsertRange => set.insert_range(500..5001),
+        Ranged::ShiftUp => set.shift_up(4553),
         _ => set.toggle_range(447..5001),
     }
 }

@@ -51,6 +51,7 @@ enum Kind {
     BitChanges,
     Ends,
     Ranges,
+    Shifts,
     BitEnds,
     Runs,
 }
@@ -138,6 +139,15 @@ const ROWS: &[Row<Group>] = &[
         name: "ranges",
         asks: &[],
         call: Group(Kind::Ranges, [2, 0, 1, 1, 3, 2], State::Of(&[1, 446], 5001)),
+    },
+    Row {
+        name: "shifts",
+        asks: &[],
+        call: Group(
+            Kind::Shifts,
+            [4, 448, 1, 4003, 443, 1],
+            State::Of(&[443], 5001),
+        ),
     },
     Row {
         name: "bit_ends",
@@ -407,6 +417,7 @@ fn results<B: BitBlock>(alloc: Global, kind: Kind, sets: &mut Sets<B>) -> [usize
         Kind::Changes => changes(&mut sets.set),
         Kind::Ends => ends::of_set(&mut sets.set),
         Kind::Ranges => ends::of_ranges(&mut sets.set),
+        Kind::Shifts => ends::of_shifts(&mut sets.set),
         Kind::BitChanges => bit_changes(sets.set.get_mut(), sets.lent.get_ref()),
         _ => read(kind, &sets.set, &sets.lent),
     }
