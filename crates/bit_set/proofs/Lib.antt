@@ -13,6 +13,7 @@ pub mod RetainLemmas
 pub mod RunLemmas
 pub mod ProperLemmas
 pub mod RangeTextLemmas
+pub mod RangeTextLaws
 pub mod RangeQueryLemmas
 pub mod CapacityLemmas
 pub mod ItemLemmas
