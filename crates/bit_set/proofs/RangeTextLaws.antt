@@ -1,10 +1,10 @@
 -- The text that is written of the runs of a set reads as just these runs.
-use Rattle.std.proofs.{Common.{◌≡◌, ◌≢◌, ℕ, ◌+◌, ◌-◌, ◌^◌, ◌<◌, ◌≤◌, Bool, true, false, ◌&&◌, ◌||◌, cond, eqb, leb, List, [], ◌∷◌, ◌++◌, length, Result, Ok, Err, refl, sym, ap, ap₂, ◌∙◌, arith, append-nil, length-append, eq-eqb, ne_eqb, subst, ⊎_elim}, lemmas.{Bool.{and_parts, cases_eq, or_right, Decides.nat_tests}, Fmt.{decimal_nonempty, digits_decimal, digits_value-decimal}, List.Elements.{All-append, All-cons, All-nil}, Str.Parse.{IsNumeralModel, numerals_by_value, tells_all_ascii_digits}}}
-use Rattle.std.specs.{Prelude.{nat_le, nat_lt, codes, decimal}, Char.is_ascii_digit, List.{All, flat_map, join_by}, Str.all_ascii_digits, Str.Parse.digits_value}
+use Rattle.std.proofs.{Common.{◌≡◌, ◌≢◌, ℕ, ◌+◌, ◌-◌, ◌<◌, ◌≤◌, true, cond, eqb, List, [], ◌∷◌, ◌++◌, length, Ok, refl, sym, ap, ap₂, ◌∙◌, arith, append-nil, length-append, eq-eqb, ne_eqb, subst, ⊎_elim}, lemmas.{Bool.{and_parts, cases_eq, or_right, Decides.nat_tests}, Fmt.{decimal_nonempty, digits_decimal, digits_value-decimal}, List.Elements.{All-append, All-cons, All-nil}, Str.Parse.{IsNumeralModel, numerals_by_value, tells_all_ascii_digits}}}
+use Rattle.std.specs.{Prelude.{codes, decimal}, Char.is_ascii_digit, List.{All, flat_map}, Str.all_ascii_digits, Str.Parse.digits_value}
 use Rattle.std.specs.declared.ops.Range.{Range}
 use Rattle.bit_words.specs.Bounds.{greatest}
 use Rattle.bit_blocks.specs.Ranges.{in_range}
-use Rattle.bit_set.specs.{RangeReading.{before_ranges, items_of, number_of, range_between, range_of, ranges_in, ranges_of}, RangeTexts.{ranges_text, run_text}, Runs.{AreApartFrom, in_ranges, runs_of}, Sets.{IsAscending, has}, declared.range_texts.RangesError.RangesError}
+use Rattle.bit_set.specs.{RangeReading.{before_ranges, items_of, number_of, range_between, range_of, ranges_in, ranges_of}, RangeTexts.{ranges_text, run_text}, Runs.{AreApartFrom, in_ranges, runs_of}, Sets.{IsAscending, has}}
 use Rattle.bit_set.proofs.{RangeTextLemmas.{ends_alone, ends_apart, more_items, one_item}, RunLemmas.runs_are}
 
 own : IsNumeralModel (λ ds. all_ascii_digits ds ≡ true) (digits_value 10)
