@@ -245,7 +245,10 @@ fn read<S: Set>(set: &S, other: &S, line: &Line, answers: &mut Answers) {
         Call::FirstGap => answers.item(set.first_gap(line.first, line.second)),
         Call::ToBytes => answers.bytes(&set.to_bytes()),
         Call::IsProperSubset => answers.truth(set.is_subset(other) && !set.is_superset(other)),
-        Call::Ranges => answers.text(&ranges_text(&runs(&set.elements(), 0, usize::MAX))),
+        Call::Ranges => {
+            answers.text(&ranges_text(&runs(&set.elements(), 0, usize::MAX)));
+            answers.truth(true);
+        }
         _ => {
             if let Some(text) = set.json() {
                 answers.text(&text);

@@ -15,6 +15,7 @@ pub mod MovedLemmas
 pub mod RunLemmas
 pub mod ProperLemmas
 pub mod RangeTextLemmas
+pub mod RangeTextLaws
 pub mod RangeQueryLemmas
 pub mod CapacityLemmas
 pub mod ItemLemmas

@@ -1,7 +1,7 @@
 -- Which sets are proper subsets of which, by the blocks that hold them.
-use Rattle.std.proofs.{Common.{◌≡◌, ℕ, ◌+◌, ◌-◌, ◌*◌, ◌/◌, ◌%◌, ◌<◌, ◌≤◌, min, Bool, true, false, not, ◌&&◌, List, [], ◌∷◌, eqb, refl, drop, get_or, length, get_or-drop, sym, ap, ◌∙◌, ◌↔◌, arith, ⊎_elim}, lemmas.{Bool.{cases_lt, cases_Bool, false≢true, or_right, Decides.nat_tests}, List.get_or_past}}
+use Rattle.std.proofs.{Common.{◌≡◌, ℕ, ◌+◌, ◌-◌, ◌*◌, ◌/◌, ◌%◌, ◌<◌, ◌≤◌, min, Bool, true, false, not, ◌&&◌, List, [], ◌∷◌, eqb, refl, drop, get_or, length, get_or-drop, sym, ◌∙◌, ◌↔◌, arith, ⊎_elim}, lemmas.{Bool.{cases_lt, cases_Bool, false≢true, or_right}, List.get_or_past}}
 use Rattle.std.{proofs.Math.Nat.{div-add-mod', mod-lt}, specs.{Prelude.IsTrue, Cmp.Lexicographic.bytes_decides, List.list_all}}
-use Rattle.bit_blocks.{specs.{BlockMerges.MergesToFalse, Bits.blocks_of, Digits.is_one, Mismatches.IsFirstBlockMismatch, Storage.value_at, declared.block.merge.Merge.TheVariants.Difference}, proofs.StorageLemmas.{value_at-is, value_at-index}}
+use Rattle.bit_blocks.{specs.{BlockMerges.MergesToFalse, Bits.blocks_of, Mismatches.IsFirstBlockMismatch, Storage.value_at, declared.block.merge.Merge.TheVariants.Difference}, proofs.StorageLemmas.{value_at-is, value_at-index}}
 use Rattle.bit_set.{specs.{Runs.IsProperSubset, Sets.{elements, has, is_subset}}, proofs.{MismatchLemmas.{has-number, same_by_blocks}, SetLemmas.{IsAscending-elements, has-first}, SubsetLemmas.{is_subset-both_ways, is_subset-members, same_tests}}}
 
 -- the blocks from one on have the values from its first on

@@ -1,9 +1,8 @@
 -- How the text of ranges is read: its digits, its items, and what each adds to a set.
-use Rattle.std.proofs.{Math.Bool.or-false, Common.{◌≡◌, ◌≢◌, ℕ, zero, suc, ◌+◌, ◌-◌, ◌*◌, ◌^◌, ◌<◌, ◌≤◌, min, Bool, true, false, ◌&&◌, ◌||◌, cond, eqb, List, [], ◌∷◌, ◌++◌, length, map, take, get_or, Option, Some, None, Result, Ok, Err, refl, sym, ap, ◌∙◌, arith, ne_eqb, eq-eqb, ⊎_elim}, lemmas.{Bool.{and_parts, cases_eq, false≢true, Decides.nat_tests}, Int.Digits.digits_value_more, Str.digit_value_digit, List.{Elements.{All-head, All-tail, All-weaker}, Splits.{length-slice_split, slice_split_at, slice_split_none}}}}
-use Rattle.std.specs.{Borrow.Bor, Prelude.{nat_lt, MatchOption, OnOk}, Result.is_err, Char.{IsAsciiDigit, digit_value, is_ascii_digit}, List.{All, slice_split}, Str.all_ascii_digits, Str.Parse.digits_value}
+use Rattle.std.proofs.{Math.Bool.or-false, Common.{◌≡◌, ◌≢◌, ℕ, zero, suc, ◌+◌, ◌-◌, ◌*◌, ◌^◌, ◌<◌, min, true, false, ◌||◌, cond, eqb, List, [], ◌∷◌, ◌++◌, length, map, take, get_or, Option, Some, None, Result, Ok, Err, refl, sym, ap, ◌∙◌, arith, ne_eqb, eq-eqb, ⊎_elim}, lemmas.{Bool.{and_parts, cases_eq, false≢true, Decides.nat_tests}, Int.Digits.digits_value_more, Str.digit_value_digit, List.{Elements.{All-head, All-tail, All-weaker}, Splits.{length-slice_split, slice_split_at, slice_split_none}}}}
+use Rattle.std.specs.{Borrow.Bor, Prelude.{MatchOption, OnOk}, Result.is_err, Char.{IsAsciiDigit, is_ascii_digit}, List.{All, slice_split}, Str.all_ascii_digits, Str.Parse.digits_value}
 use Rattle.std.specs.declared.ops.Range.{Range}
-use Rattle.bit_words.specs.Bounds.{greatest}
-use Rattle.bit_set.specs.{RangeReading.{IsRangesFault, before_ranges, cut_at, items_left, items_of, number_of, range_between, range_of, ranges_in, ranges_of, without_space, without_spaces}, Members.{HasNone, UpdatesRange}, Runs.in_ranges, Sets.has, declared.range_texts.RangesError.{RangesError, TheVariants.{Memory, Number, Text}}}
+use Rattle.bit_set.specs.{RangeReading.{IsRangesFault, cut_at, items_left, items_of, number_of, range_between, range_of, ranges_in, ranges_of, without_space, without_spaces}, Members.{HasNone, UpdatesRange}, Runs.in_ranges, Sets.has, declared.range_texts.RangesError.{RangesError, TheVariants.{Memory, Number, Text}}}
 
 -- ---- numbers
 

@@ -1,11 +1,11 @@
 -- What the runs of a set are, and how one after another is found.
-use Rattle.std.proofs.Common.{◌≡◌, ℕ, zero, suc, ◌+◌, ◌-◌, ◌<◌, ◌≤◌, Bool, true, false, not, ◌&&◌, ◌||◌, eqb, nat_le, List, [], ◌∷◌, ◌++◌, Option, Some, None, MatchOption, length, refl, sym, ap, ap₂, ◌∙◌, arith, ⊎_elim}
+use Rattle.std.proofs.Common.{◌≡◌, ℕ, zero, suc, ◌+◌, ◌-◌, ◌<◌, ◌≤◌, Bool, false, not, ◌&&◌, ◌||◌, eqb, nat_le, List, [], ◌∷◌, ◌++◌, Option, Some, None, length, refl, sym, ap, ap₂, ◌∙◌, arith}
 use Rattle.std.{proofs.iter.runs.Sources.{from_front, as_is}, specs.Iterator.Runs.YieldsInOrder}
-use Rattle.std.proofs.lemmas.{Bool.{cases_eq, cases_lt, Decides.nat_tests}, List.Folds.list_any-append}
-use Rattle.std.specs.{Prelude.{⊤, IsTrue}, Option.unwrap_or, List.range_with_len, declared.ops.Range.Range}
+use Rattle.std.proofs.lemmas.{Bool.{Decides.nat_tests}, List.Folds.list_any-append}
+use Rattle.std.specs.{Option.unwrap_or, List.range_with_len, declared.ops.Range.Range}
 use Rattle.bit_blocks.specs.Ranges.{in_range}
-use Rattle.bit_set.specs.{Members.{HasNone, KeepsFrom, TakesLeast}, Missing.{MissingWalk, PassesMembers}, Ranges.{span, those_in_range}, Runs.{AreApartFrom, AreRuns, IsFirstRun, PassesRun, RunsWalk, in_ranges, put_before, runs_of}, Sets.{AscendsFrom, IsAscending, difference, elements, has, those_from}}
-use Rattle.bit_set.proofs.{MissingLemmas.has-missing, RangeLemmas.{AscendsFrom-joined, AscendsFrom-those_from, IsAscending-span, has-range_with_len, has-span}, SetLemmas.{AscendsFrom-filter, AscendsFrom-lower, IsAscending-elements, has-filter, has-first, same_members}, ValueLemmas.has-past}
+use Rattle.bit_set.specs.{Members.{TakesLeast}, Missing.{MissingWalk, PassesMembers}, Ranges.{span, those_in_range}, Runs.{AreApartFrom, AreRuns, IsFirstRun, PassesRun, RunsWalk, in_ranges, put_before, runs_of}, Sets.{AscendsFrom, IsAscending, elements, has, those_from}}
+use Rattle.bit_set.proofs.{RangeLemmas.{AscendsFrom-joined, AscendsFrom-those_from, IsAscending-span, has-span}, SetLemmas.{AscendsFrom-filter, AscendsFrom-lower, IsAscending-elements, has-filter, same_members}, ValueLemmas.has-past}
 
 -- ---- what they are
 

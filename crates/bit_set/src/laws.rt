@@ -16,9 +16,11 @@ use std::cmp::Ordering;
 use std::fmt::Display;
 use std::hash::Hash;
 
+mod range_texts;
 mod ranges;
 mod runs;
 
+pub use range_texts::texts_of_ranges;
 pub use ranges::{
     ends_of_searches, parts_of_ranges, ranks_of_members, walks_over_missing, walks_over_parts,
 };

@@ -68,6 +68,21 @@ fn feed<B: BitBlock>(set: &BitSet<B>, answers: &mut Answers) {
     answers.number(digest as usize);
 }
 
+// The text of the runs, and whether the set that it lists is the same.
+fn tell_ranges<B: BitBlock>(alloc: Global, set: &BitSet<B>, answers: &mut Answers) {
+    let Ok(text) = format!(in alloc; "{}", set.ranges()) else {
+        answers.refuse();
+        return;
+    };
+    match BitSet::from_ranges(alloc, &text) {
+        Ok(back) => {
+            answers.text(Ok(text));
+            answers.truth(back == *set);
+        }
+        Err(_) => answers.refuse(),
+    }
+}
+
 pub(crate) fn tell<B: Width>(
     alloc: Global,
     telling: Telling,
@@ -82,6 +97,6 @@ pub(crate) fn tell<B: Width>(
         Telling::Debug => answers.text(format!(in alloc; "{set:?}")),
         Telling::Json => B::through_json(alloc, set, answers),
         Telling::ToBytes => answers.made_bytes(set.to_bytes(alloc)),
-        Telling::Ranges => answers.text(format!(in alloc; "{}", set.ranges())),
+        Telling::Ranges => tell_ranges(alloc, set, answers),
     }
 }

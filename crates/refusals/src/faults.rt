@@ -2,7 +2,7 @@
 use automata::DfaError;
 use bit_matrix::MatrixError;
 use bit_set::bit_vec::BitsError;
-use bit_set::{JsonError, SetError};
+use bit_set::{JsonError, RangesError, SetError};
 use bit_set_run::LinesFault;
 use std::alloc::AllocError;
 use std::io;
@@ -50,6 +50,15 @@ impl From<JsonError> for Fault {
     fn from(fault: JsonError) -> Self {
         match fault {
             JsonError::Memory(_) => Fault::Memory,
+            _ => Fault::Other,
+        }
+    }
+}
+
+impl From<RangesError> for Fault {
+    fn from(fault: RangesError) -> Self {
+        match fault {
+            RangesError::Memory(_) => Fault::Memory,
             _ => Fault::Other,
         }
     }

@@ -13,6 +13,7 @@ enum Making {
     WithCapacity,
     FromBytes,
     FromIter,
+    FromRanges,
     Clone,
     BitsFromElem,
     BitsFromBytes,
@@ -57,6 +58,17 @@ const ROWS: &[Row<OnSets<Making>>] = &[
         asks: &[Ask::Grown(10), Ask::Grown(451), Ask::Grown(5001)],
         call: OnSets {
             call: Making::FromIter,
+            capacity: Capacity::Exact,
+            returned: State::Of(&[9, 450, 5000], 5001),
+            lent: LENT,
+            failed: FIRST,
+        },
+    },
+    Row {
+        name: "from_ranges",
+        asks: &[Ask::Grown(10), Ask::Grown(451), Ask::Grown(5001)],
+        call: OnSets {
+            call: Making::FromRanges,
             capacity: Capacity::Exact,
             returned: State::Of(&[9, 450, 5000], 5001),
             lent: LENT,
@@ -235,6 +247,7 @@ fn new_set<B: BitBlock>(alloc: Global, call: Making, lent: &BitSet<B>) -> Result
         Making::WithCapacity | Making::Clone => Ok(copied_set(alloc, call, lent)?),
         Making::FromBytes => Ok(BitSet::from_bytes_general(alloc, &BYTES)?),
         Making::FromIter => Ok(set_of(alloc, &[9, 450, 5000])?),
+        Making::FromRanges => Ok(BitSet::from_ranges(alloc, "9, 450,5000")?),
         Making::ToBytes => there_and_back(alloc, lent),
         _ => Ok(BitSet::from_bit_vec_general(new_bits(alloc, call, lent.get_ref())?)),
     }

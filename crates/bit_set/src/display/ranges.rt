@@ -29,7 +29,7 @@ impl<B: BitBlock> BitSet<B> {
     /// ```
     /// // The set is {0, 1, 2, 3, 5, 9, 10}.
     /// let text = format!(in alloc; "{}", set.ranges())?;
-    /// assert_eq!(&*text, "0-3, 5, 9-10");
+    /// assert!(&*text == "0-3, 5, 9-10");
     /// ```
     #[inline]
     pub fn ranges(&self) -> Ranges<'_, B>

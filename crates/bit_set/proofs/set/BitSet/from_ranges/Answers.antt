@@ -1,4 +1,4 @@
-use Rattle.std.proofs.Common.{List, [], ℕ, subst, sym, ap, ◌∙◌, refl, eqb, length}
+use Rattle.std.proofs.Common.{[], subst, sym, ap, ◌∙◌, eqb, length}
 use Rattle.std.proofs.lemmas.Result.{err_from_is_err_and}
 use Rattle.bit_set.{specs.{RangeReading.items_of, Sets.elements}, proofs.{RangeTextLemmas.{Reads, empty_text, fault_is, next_items, on_ok, reads_all, reads_fault, reads_more, reads_none, reads_text, some_text}, set.BitSet.from_ranges.Goals.{then-is_empty, else-is_empty}}}
 use Rattle.bit_set.proofs.set.BitSet.from_ranges.Goals as goal

@@ -1,4 +1,4 @@
-use Rattle.std.proofs.{Common.{◌≡◌, map, min, drop, length, sym, ap, ◌∙◌}, lemmas.List.length-map}
+use Rattle.std.proofs.{Common.{map, min, drop, sym, ap, ◌∙◌}, lemmas.List.length-map}
 use Rattle.std.specs.{List.drop-map, Prelude.{◌↔◌, IsTrue}}
 use Rattle.bit_blocks.specs.{BlockMerges.MergesToFalse, declared.block.merge.Merge.TheVariants.Difference}
 use Rattle.bit_set.proofs.ProperLemmas.{rest_decides}
