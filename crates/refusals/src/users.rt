@@ -3,9 +3,9 @@ use crate::asks::Ask;
 use crate::faults::Fault;
 use crate::states::{State, has_just, is_state, set_of, sets_of, works};
 use crate::sweep::{Row, Sweep, Trial};
+use bit_matrix::BitMatrix;
 use bit_set::{BitBlock, BitSet, SetError};
 use free_slots::Slots;
-use bit_matrix::BitMatrix;
 use graph_walks::{close, dominators, reachable, reachable_from_any, reaches_all_of};
 use std::alloc::{AllocError, Global};
 
