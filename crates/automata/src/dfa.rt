@@ -34,6 +34,11 @@ impl<B: BitBlock> Model for Dfa<B> {
 
 impl<B: BitBlock> Dfa<B> {
     /// How many states there are: those below this number. Constant time.
+    ///
+    /// ```
+    /// // Words lead to {0}, {1} and {}.
+    /// assert_eq!(dfa.states(), 3);
+    /// ```
     pub fn states(&self) -> usize
         ensures value { result ≡ self.now.states }
         ensures table { IsTable self.now.states self.now.symbols self.now.next }
@@ -42,6 +47,10 @@ impl<B: BitBlock> Dfa<B> {
     }
 
     /// How many symbols there are: those below this number. Constant time.
+    ///
+    /// ```
+    /// assert_eq!(dfa.symbols(), 1);
+    /// ```
     pub fn symbols(&self) -> usize
         ensures { result ≡ self.now.symbols }
     {
@@ -50,6 +59,11 @@ impl<B: BitBlock> Dfa<B> {
 
     /// Whether the word leads to an accepting state. A word with a symbol that the automaton does not have is not
     /// accepted. One look-up for each symbol.
+    ///
+    /// ```
+    /// assert!(dfa.accepts(&[0]));
+    /// assert!(!dfa.accepts(&[0, 0]));
+    /// ```
     pub fn accepts(&self, word: &[usize]) -> bool
         ensures { IsTrue result ↔ IsAcceptedBy self.now word.now }
     {

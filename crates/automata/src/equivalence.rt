@@ -26,6 +26,10 @@ pub(crate) struct Pair {
 /// a bit for each pair of states, in a row of whole blocks for each state of the first, writes all of them first, and
 /// takes four words for each pair that is reached. Fails only where memory runs out, which includes that these rows have
 /// more bits than a `usize` counts.
+///
+/// ```
+/// assert!(equivalent(alloc, &dfa, &dfa)?.is_none());
+/// ```
 pub fn equivalent<B: BitBlock>(
     alloc: Global,
     a: &Dfa<B>,

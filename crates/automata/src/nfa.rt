@@ -41,6 +41,12 @@ impl<B: BitBlock> Model for Nfa<B> {
 impl<B: BitBlock> Nfa<B> {
     /// The automaton of these sets: `moves[symbol][state]` has the states to which the symbol leads from the state.
     /// Looks at each set once.
+    ///
+    /// ```
+    /// // Symbol 0 leads from state 0, the start, to state 1, which accepts.
+    /// let nfa = Nfa::new(moves, starts, accepting);
+    /// assert_eq!(nfa.symbols(), 1);
+    /// ```
     pub fn new(moves: Vec<Vec<BitSet<B>>>, starts: BitSet<B>, accepting: BitSet<B>) -> Self
         ensures moves { result.moves ≡ rows_of_sets moves.items }
         ensures starts { result.starts ≡ elements starts.values }
@@ -57,6 +63,10 @@ impl<B: BitBlock> Nfa<B> {
     }
 
     /// How many symbols have sets of their own: those below this number. Constant time.
+    ///
+    /// ```
+    /// assert_eq!(nfa.symbols(), 1);
+    /// ```
     pub fn symbols(&self) -> usize
         ensures { result ≡ length self.now.moves }
     {
@@ -101,6 +111,12 @@ impl<B: BitBlock> Nfa<B> {
 /// Whether some run from a start to an accepting state spells the word. Makes two sets of states, as long as the longest
 /// of the automaton's, and takes no more memory: it fails only where memory for these runs out, and never for the empty
 /// word, which it answers without them. For each symbol of the word it makes at most one union for each state.
+///
+/// ```
+/// // The one word is of one symbol.
+/// assert!(accepts(alloc, &nfa, &[0])?);
+/// assert!(!accepts(alloc, &nfa, &[0, 0])?);
+/// ```
 pub fn accepts<B: BitBlock>(alloc: Global, nfa: &Nfa<B>, word: &[usize]) -> Result<bool, AllocError>
     ensures accepted { IfOk result (λ is. IsTrue is ↔ Accepts nfa.now word.now) }
     ensures empty { length word.now ≡ 0 → IsOk result }

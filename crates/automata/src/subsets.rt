@@ -16,6 +16,12 @@ use std::alloc::{AllocError, Global};
 /// are the sets of states that words reach, each once. Fails with [`DfaError::TooMany`] only where there are more of
 /// these sets than `most_states`, at once where that is 0, else only where memory runs out; and succeeds only where
 /// there are not more. For each state and symbol it takes the successors of one set, and looks for that set in a map.
+///
+/// ```
+/// let dfa = determinize(alloc, &nfa, 10)?;
+/// // Words lead to {0}, {1} and {}.
+/// assert_eq!(dfa.states(), 3);
+/// ```
 pub fn determinize<B: BitBlock>(
     alloc: Global,
     nfa: &Nfa<B>,

@@ -7,7 +7,7 @@ use crate::{BitBlock, BitMatrix, Iter};
 use std::fmt;
 
 /// A line for each row: its columns in decimal and ascending order, joined by a comma and a space, between braces. Takes
-/// no memory of its own, and fails only where the formatter fails.
+/// no memory of its own, and fails only where the formatter fails. Goes over each row, though there are no columns.
 impl<B: BitBlock> fmt::Display for BitMatrix<B> {
     ghost output = { λ m. Some (rows_text m.rows) };
 
@@ -21,7 +21,7 @@ impl<B: BitBlock> fmt::Display for BitMatrix<B> {
 }
 
 /// `BitMatrix { columns: 3, rows: [{0, 2}, {}] }`: the number of columns, and the text of each row. Takes no memory of its
-/// own, and fails only where the formatter fails.
+/// own, and fails only where the formatter fails. Goes over each row, though there are no columns.
 impl<B: BitBlock> fmt::Debug for BitMatrix<B> {
     fn fmt<W: fmt::Write>(&self, f: &mut fmt::Formatter<W>) -> fmt::Result {
         f.write_str("BitMatrix { columns: ")?;

@@ -5,7 +5,8 @@ ghost use Rattle.bit_matrix.specs.{Compared.{fed_of_key, fed_of_row, key_of}, Ma
 use crate::{BitBlock, BitMatrix};
 use std::hash::{Hash, Hasher};
 
-/// Feeds the number of columns, and of each row how many columns are in it, and then these in ascending order.
+/// Feeds the number of columns, and of each row how many columns are in it, and then these in ascending order. Goes over
+/// each row, though there are no columns.
 impl<B: BitBlock> Hash for BitMatrix<B> {
     ghost hash_input = { λ m. fed_of_key (key_of m) };
 

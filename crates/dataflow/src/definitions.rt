@@ -52,6 +52,14 @@ impl<B: BitBlock> Block<B> for DefinitionBlock<B> {
 /// block on the way that overwrites it. They are the least sets with
 /// `out[b] = defined[b] ∪ (⋃ out[p] over the predecessors p of b − overwritten[b])`.
 /// Fails only where memory runs out, and never of no blocks.
+///
+/// ```
+/// // Block 0, which comes before block 1, makes 3.
+/// let out = reaching_definitions(alloc, blocks)?;
+/// for set in &out {
+///     assert!(set.contains(3));
+/// }
+/// ```
 pub fn reaching_definitions<B: BitBlock>(
     alloc: Global,
     blocks: &[DefinitionBlock<B>],

@@ -58,6 +58,14 @@ impl<'a, B: BitBlock> Block<B> for MissingBlock<'a, B> {
 /// `out[b] = computed[b] ∪ (⋂ out[p] over the predecessors p of b − killed[b])`. An entry is a block with no
 /// predecessor, or a number that is no block. Where no path leads from an entry, all that is not killed is available.
 /// Fails only where memory runs out, and never of no blocks and no expressions.
+///
+/// ```
+/// // Block 0, which comes before block 1, computes 3.
+/// let out = available_expressions(alloc, blocks, 10)?;
+/// for set in &out {
+///     assert!(set.contains(3));
+/// }
+/// ```
 pub fn available_expressions<B: BitBlock>(
     alloc: Global,
     blocks: &[ExpressionBlock<B>],

@@ -20,6 +20,14 @@ use std::mem;
 /// A block is visited again only after a set that flows into it grew. A visit is one pass over the set of each source,
 /// which puts in what the block does not kill and tells whether that is new. Sets get the capacity for the longest before
 /// the first visit, so a visit takes no memory.
+///
+/// ```
+/// // The values of block 1 come from block 0, which generates 3.
+/// let sets = solve(alloc, blocks)?;
+/// for set in &sets {
+///     assert!(set.contains(3));
+/// }
+/// ```
 pub fn solve<B: BitBlock, N: Block<B>>(
     alloc: Global,
     blocks: &[N],

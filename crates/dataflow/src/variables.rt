@@ -51,6 +51,14 @@ impl<B: BitBlock> Block<B> for VariableBlock<B> {
 /// variable, with no assignment of it on the way. They are the least sets with
 /// `live_in[b] = used[b] ∪ (⋃ live_in[s] over the successors s of b − assigned[b])`.
 /// Fails only where memory runs out, and never of no blocks.
+///
+/// ```
+/// // Block 1, which comes after block 0, uses 3.
+/// let live_in = live_variables(alloc, blocks)?;
+/// for set in &live_in {
+///     assert!(set.contains(3));
+/// }
+/// ```
 pub fn live_variables<B: BitBlock>(
     alloc: Global,
     blocks: &[VariableBlock<B>],

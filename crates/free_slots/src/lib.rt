@@ -45,6 +45,11 @@ impl<B: BitBlock> Model for Slots<B> {
 impl<B: BitBlock> Slots<B> {
     /// That many slots, all of them free. Fails where memory runs out; none is asked for where there are
     /// no slots. A pass over the blocks of the set.
+    ///
+    /// ```
+    /// let mut slots = Slots::<u32>::with_slots(alloc, 3)?;
+    /// assert_eq!(slots.take(), Some(0));
+    /// ```
     pub fn with_slots(alloc: Global, n: usize) -> Result<Self, AllocError>
         ensures free { IfOk result (λ slots. slots ≡ all_free n) }
         ensures none { n ≡ 0 → IsOk result }
@@ -58,6 +63,11 @@ impl<B: BitBlock> Slots<B> {
     }
 
     /// How many slots there are, free and taken. Constant time.
+    ///
+    /// ```
+    /// // Of three slots one is taken.
+    /// assert_eq!(slots.len(), 3);
+    /// ```
     pub fn len(&self) -> usize
         ensures value { result ≡ self.now.len }
         ensures ascending { IsAscending self.now.free }
@@ -69,6 +79,11 @@ impl<B: BitBlock> Slots<B> {
     }
 
     /// Whether the slot is free. It is not where there is no such slot. Constant time.
+    ///
+    /// ```
+    /// // Slot 0 is taken.
+    /// assert!(!slots.is_free(0));
+    /// ```
     pub fn is_free(&self, slot: usize) -> bool
         ensures { result ≡ has self.now.free slot }
     {
@@ -76,6 +91,11 @@ impl<B: BitBlock> Slots<B> {
     }
 
     /// How many slots are free. A pass over the blocks of the set.
+    ///
+    /// ```
+    /// // Of three slots one is taken.
+    /// assert_eq!(slots.free_count(), 2);
+    /// ```
     pub fn free_count(&self) -> usize
         ensures { result ≡ length self.now.free }
     {
@@ -85,6 +105,11 @@ impl<B: BitBlock> Slots<B> {
     /// Takes the lowest free slot, and returns it; `None` where all are taken. It keeps a number below which all slots
     /// are taken, but perhaps one that was given back. That one takes constant time, and any other a search of the
     /// set's summary from the number on, which then goes past it.
+    ///
+    /// ```
+    /// let mut slots = Slots::<u32>::with_slots(alloc, 3)?;
+    /// assert_eq!(slots.take(), Some(0));
+    /// ```
     pub fn take(&mut self) -> Option<usize>
         ensures full { (result ≡ None) ↔ (self.old.free ≡ []) }
         ensures lowest { IfSome result (λ slot. IsLowestFree self.old 0 slot) }
@@ -113,6 +138,11 @@ impl<B: BitBlock> Slots<B> {
 
     /// Takes the lowest free slot that is at or above `slot`, and returns it; `None` where each of these is taken.
     /// Searches the set's summary from `slot` on.
+    ///
+    /// ```
+    /// assert_eq!(slots.take_at_or_above(2), Some(2));
+    /// assert_eq!(slots.take_at_or_above(2), None);
+    /// ```
     pub fn take_at_or_above(&mut self, slot: usize) -> Option<usize>
         ensures full { (result ≡ None) ↔ (those_from self.old.free slot ≡ []) }
         ensures lowest { IfSome result (λ taken. IsLowestFree self.old slot taken) }
@@ -178,6 +208,11 @@ impl<B: BitBlock> Slots<B> {
 
     /// Gives a slot back that is taken, which is free then. Returns `false` where the slot is free or there is no
     /// such slot, and changes nothing then. Constant time.
+    ///
+    /// ```
+    /// assert!(slots.give_back(2));
+    /// assert!(!slots.give_back(2));
+    /// ```
     pub fn give_back(&mut self, slot: usize) -> bool
         ensures taken { result ≡ is_taken self.old slot }
         ensures free { IsTrue result → self.new.free ≡ put self.old.free slot }

@@ -14,6 +14,12 @@ use std::alloc::{AllocError, Global};
 /// is less than that. Fails only where it finds no memory, and never where all rows have length 0. Each row
 /// then still has all that it had, and nothing that the closure does not have, so that the call may be
 /// repeated.
+///
+/// ```
+/// // The edges lead from 0 to 1 and from 1 to 2.
+/// close(alloc, rows)?;
+/// assert!(reaches_all_of(rows, 0, 1));
+/// ```
 pub fn close<B: BitBlock>(alloc: Global, rows: &mut [BitSet<B>]) -> Result<(), AllocError>
     ensures closure { OnOk result (IsClosureOf (rows_of rows.old) (rows_of rows.new)) }
     ensures closed { OnOk result (IsClosed (rows_of rows.new)) }

@@ -24,6 +24,11 @@ pub struct Effort {
 
 impl Effort {
     /// Nothing done.
+    ///
+    /// ```
+    /// let mut effort = Effort::new();
+    /// let counted: BitSet = reachable_counted(alloc, edges, 0, &mut effort)?;
+    /// ```
     #[inline]
     pub fn new() -> Self
         ensures nodes { result.nodes ≡ 0 }
@@ -39,6 +44,12 @@ impl Effort {
 /// The nodes to which a path leads from `start`, itself among them. Each is expanded once, and each edge
 /// from one of them is looked at once. Fails with [`SetError::Element`] only where a path leads to
 /// `usize::MAX`, at once where that is `start`, and else only where it finds no memory.
+///
+/// ```
+/// // The edges lead from 0 to 1 and from 1 to 2.
+/// let reached: BitSet = reachable(alloc, edges, 0)?;
+/// assert!(reached.iter().eq([0, 1, 2]));
+/// ```
 pub fn reachable<B: BitBlock, G: Graph>(
     alloc: Global,
     graph: G,
@@ -54,6 +65,12 @@ pub fn reachable<B: BitBlock, G: Graph>(
 }
 
 /// [`reachable`], which adds to `effort` what it did.
+///
+/// ```
+/// let mut effort = Effort::new();
+/// let counted: BitSet = reachable_counted(alloc, edges, 0, &mut effort)?;
+/// assert!(counted == reached);
+/// ```
 pub fn reachable_counted<B: BitBlock, G: Graph>(
     alloc: Global,
     graph: G,
@@ -80,6 +97,12 @@ pub fn reachable_counted<B: BitBlock, G: Graph>(
 
 /// The nodes to which a path leads from any of `starts`, these among them. As [`reachable`]: of each node
 /// the edges are looked at once, from however many starts it is reached. Of no starts it takes no memory, and succeeds.
+///
+/// ```
+/// // The starts are {1, 2}.
+/// let others: BitSet = reachable_from_any(alloc, edges, &starts)?;
+/// assert!(others.iter().eq([1, 2]));
+/// ```
 pub fn reachable_from_any<B: BitBlock, G: Graph>(
     alloc: Global,
     graph: G,
@@ -98,6 +121,11 @@ pub fn reachable_from_any<B: BitBlock, G: Graph>(
 }
 
 /// [`reachable_from_any`], which adds to `effort` what it did.
+///
+/// ```
+/// let more: BitSet = reachable_from_any_counted(alloc, edges, &starts, &mut effort)?;
+/// assert!(more == others);
+/// ```
 pub fn reachable_from_any_counted<B: BitBlock, G: Graph>(
     alloc: Global,
     graph: G,

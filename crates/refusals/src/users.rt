@@ -3,9 +3,10 @@ use crate::asks::Ask;
 use crate::faults::Fault;
 use crate::states::{State, has_just, is_state, set_of, sets_of, works};
 use crate::sweep::{Row, Sweep, Trial};
+use bit_matrix::BitMatrix;
 use bit_set::{BitBlock, BitSet, SetError};
 use free_slots::Slots;
-use graph_walks::{close, reachable, reachable_from_any, reaches_all_of};
+use graph_walks::{close, dominators, reachable, reachable_from_any, reaches_all_of};
 use std::alloc::{AllocError, Global};
 
 // The ends of the edges of four nodes, and where paths of at least one edge lead. Two ends are past the last node.
@@ -60,6 +61,8 @@ enum RowsCall {
     Compare,
     // What is reached from node 0.
     Reach,
+    // The dominators, where this is the entry.
+    Dominate(usize),
 }
 
 const ROWS_CALLS: &[Row<RowsCall>] = &[
@@ -82,6 +85,16 @@ const ROWS_CALLS: &[Row<RowsCall>] = &[
         name: "reachable_over_sets",
         asks: REACHABLE,
         call: RowsCall::Reach,
+    },
+    Row {
+        name: "dominators",
+        asks: &[Ask::Rows(4, 4)],
+        call: RowsCall::Dominate(0),
+    },
+    Row {
+        name: "dominators_of_no_node",
+        asks: &[Ask::Rows(4, 4)],
+        call: RowsCall::Dominate(4),
     },
 ];
 
@@ -230,11 +243,28 @@ fn closes<B: BitBlock>(alloc: Global, rows: &mut [BitSet<B>]) -> Result<bool, Fa
     Ok(are_closed(rows))
 }
 
+// Whether these are the dominators of the four nodes, where each path begins at this one. From node 0 there is one path to
+// 1 and 2 and none to 3; and past the last node none begins.
+fn are_dominators<B: BitBlock>(found: &BitMatrix<B>, entry: usize) -> bool {
+    let all: &[usize] = &[0, 1, 2, 3];
+    let mut is_right = found.rows() == 4 && found.columns() == 4;
+    for node in 0..found.rows() {
+        let dominators: &[usize] = match node {
+            0 if entry == 0 => &[0],
+            1 if entry == 0 => &[0, 1],
+            2 if entry == 0 => &[0, 1, 2],
+            _ => all,
+        };
+        is_right &= found.iter(node).eq(dominators.iter().copied());
+    }
+    is_right
+}
+
 impl<B: BitBlock> Trial<RowsCall> for Vec<BitSet<B>> {
     fn prepare(alloc: Global, call: &RowsCall) -> Result<Self, Fault> {
         match call {
             RowsCall::Close(has_capacity) => sets(alloc, *has_capacity),
-            RowsCall::Compare | RowsCall::Reach => sets(alloc, false),
+            _ => sets(alloc, false),
         }
     }
 
@@ -252,6 +282,10 @@ impl<B: BitBlock> Trial<RowsCall> for Vec<BitSet<B>> {
                 let reached = reachable::<B, _>(alloc, self.as_slice(), 0)?;
                 Ok(is_state(&reached, State::Of(&[0, 1, 2, 40, 5000], 5001)))
             }
+            RowsCall::Dominate(entry) => {
+                let found: BitMatrix<B> = dominators(alloc, self.as_slice(), *entry)?;
+                Ok(are_dominators(&found, *entry))
+            }
         }
     }
 
@@ -266,7 +300,7 @@ impl<B: BitBlock> Trial<RowsCall> for Vec<BitSet<B>> {
                 let was_right = were_closed(alloc, self, *has_capacity, has_returned)?;
                 Ok(closes(alloc, self)? && was_right)
             }
-            RowsCall::Compare | RowsCall::Reach => Ok(true),
+            _ => Ok(true),
         }
     }
 }

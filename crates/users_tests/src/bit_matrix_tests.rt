@@ -185,7 +185,11 @@ fn rows_of_many_blocks(rt: HostRuntime) {
 }
 
 // Puts the columns of a pattern into each row, which are two of five.
-fn patterned<B: BitBlock>(alloc: Global, rows: usize, columns: usize) -> Result<BitMatrix<B>, MatrixError> {
+fn patterned<B: BitBlock>(
+    alloc: Global,
+    rows: usize,
+    columns: usize,
+) -> Result<BitMatrix<B>, MatrixError> {
     let mut matrix = BitMatrix::new_general(alloc, rows, columns)?;
     for row in 0..matrix.rows() {
         for column in 0..matrix.columns() {
@@ -245,7 +249,11 @@ fn a_matrix_has_texts(rt: HostRuntime) {
     let alloc = rt.alloc();
     let matrix = ok(&rt, two_rows(alloc));
     let debug = ok(&rt, format!(in alloc; "{matrix:?}"));
-    expect_eq(&rt, &debug.as_str(), &"BitMatrix { columns: 3, rows: [{0, 2}, {}] }");
+    expect_eq(
+        &rt,
+        &debug.as_str(),
+        &"BitMatrix { columns: 3, rows: [{0, 2}, {}] }",
+    );
     let shown = ok(&rt, format!(in alloc; "{matrix}"));
     expect_eq(&rt, &shown.as_str(), &"{0, 2}\n{}\n");
     let none = ok(&rt, BitMatrix::new(alloc, 0, 4));
@@ -286,7 +294,11 @@ fn fails_with_its_writer(rt: &impl Abort, matrix: &BitMatrix, is_debug: bool) {
     let (count, failed) = offered(matrix, is_debug, usize::MAX);
     expect(rt, !failed && count > 4);
     for most in 0..count {
-        expect_eq(rt, &offered(matrix, is_debug, most), &(most.saturating_add(1), true));
+        expect_eq(
+            rt,
+            &offered(matrix, is_debug, most),
+            &(most.saturating_add(1), true),
+        );
     }
 }
 
@@ -301,7 +313,11 @@ fn texts_fail_with_their_writer(rt: HostRuntime) {
 fn rows_of_nothing(rt: &impl Abort, alloc: Global) -> Result<(), MatrixError> {
     let matrix = BitMatrix::new(alloc, usize::MAX, 0)?;
     let transposed = matrix.transpose(alloc)?;
-    expect_eq(rt, &(transposed.rows(), transposed.columns()), &(0, usize::MAX));
+    expect_eq(
+        rt,
+        &(transposed.rows(), transposed.columns()),
+        &(0, usize::MAX),
+    );
     let same = BitMatrix::from_row(alloc, &BitSet::new(alloc), usize::MAX)?;
     expect(rt, same == matrix);
     expect(rt, transposed.transpose(alloc)? == matrix);

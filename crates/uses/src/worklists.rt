@@ -81,7 +81,8 @@ fn take_all<B: BitBlock>(
 }
 
 /// Puts in all to which the members lead, by a set of those whose rows are still to come: the least set that has what was
-/// in, and with each member what is in its row. Where memory runs out, part of that is in.
+/// in, and with each member what is in its row. Fails only where memory runs out, for the copy of the set or at a row that
+/// is longer than the capacity of the set or of the copy; the set then has what it had and part of what it was to have.
 pub fn reach_by_rows<B: BitBlock>(
     alloc: Global,
     set: &mut BitSet<B>,
@@ -135,7 +136,9 @@ fn take_in_rows<B: BitBlock>(set: &mut BitSet<B>, rows: &[BitSet<B>]) -> Result<
     Ok(grew)
 }
 
-/// The same, by rounds over all rows until one changes nothing. It takes no memory but for the set itself.
+/// The same, by rounds over all rows until one changes nothing. It takes no memory but for the set itself, and fails only
+/// where that runs out, at a row that is longer than the capacity of the set; the set then has what it had and part of what
+/// it was to have.
 pub fn close_by_rows<B: BitBlock>(set: &mut BitSet<B>, rows: &[BitSet<B>]) -> Result<(), AllocError>
     ensures more { IsSubset (elements set.old.values) (elements set.new.values) }
     ensures closed { OnOk result (IsClosed rows.now (elements set.new.values)) }

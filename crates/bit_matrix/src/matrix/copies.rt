@@ -25,10 +25,10 @@ impl<B: BitBlock> BitMatrix<B> {
     }
 
     /// The matrix that has a row for each column, and in it the rows that have that column. Where few columns are in the
-    /// rows, fewer than one for two blocks, reads each block and writes once for each. Else goes by squares of as many rows
-    /// and columns as a block has bits, each in a number of steps on whole blocks that grows with that of its bits; only the
-    /// columns past the last whole block go one by one. Where there are no blocks it takes constant time. Fails as
-    /// [`new`](BitMatrix::new) does.
+    /// rows, fewer than one for two blocks, reads each block and writes once for each column. Else goes by squares of as
+    /// many rows and columns as a block has bits, with operations on whole blocks: some 12 for each block, and 4 for each of
+    /// its bytes but one. Only the columns past the last whole block go one by one. Where there are no blocks it takes
+    /// constant time. Fails as [`new`](BitMatrix::new) does.
     ///
     /// ```
     /// matrix.insert(0, 2);

@@ -14,7 +14,7 @@ use std::alloc::{AllocError, Global};
 
 impl<B: BitBlock> BitMatrix<B> {
     /// So many rows that each have the elements of the set, and as many columns as the set's length. Writes each block
-    /// twice. Fails as [`new`](BitMatrix::new) does.
+    /// twice, and takes constant time where the length is 0. Fails as [`new`](BitMatrix::new) does.
     ///
     /// ```
     /// // The set is {1, 4, 6}.
@@ -29,6 +29,9 @@ impl<B: BitBlock> BitMatrix<B> {
         ensures empty { rows * (blocks_for B.width (length set.now.values) * B.width) ≡ 0 → IsOk result }
     {
         let mut matrix = BitMatrix::new_general(alloc, rows, set.get_ref().len())?;
+        if set.get_ref().len() == 0 {
+            return Ok(matrix);
+        }
         for row in 0..rows {
             matrix.union_row_with(set, row);
         }
