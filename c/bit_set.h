@@ -96,6 +96,15 @@ bool bit_set_contains(const bit_set *set, size_t value);
  * values past these stay. To walk on, ask for those from the last one plus 1. */
 size_t bit_set_copy_members(const bit_set *set, size_t from, size_t *members, size_t room);
 
+/* Copies the members below `end`, in descending order, as many as there is room for. Returns how many; the values past
+ * these stay. To walk on, ask for those below the last one. */
+size_t bit_set_copy_members_back(const bit_set *set, size_t end, size_t *members, size_t room);
+
+/* Copies the bytes from byte `from` on, as many as there is room for. Returns how many; the values past these stay. There
+ * is a bit for each number below the length, and zeros up to the end of the last byte: number n is a member where bit
+ * n % 8 of byte n / 8, counted from the highest, is 1. `bit_set_from_bytes` of all bytes makes the same members. */
+size_t bit_set_copy_bytes(const bit_set *set, size_t from, uint8_t *bytes, size_t room);
+
 /* Copies the blocks from block `from` on, as many as there is room for. Returns how many; the values past these stay.
  * Number n is a member where bit n % 64, counted from the lowest, of block n / 64 is 1; past the last block is none. */
 size_t bit_set_copy_blocks(const bit_set *set, size_t from, bit_set_block *blocks, size_t room);
