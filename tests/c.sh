@@ -1,8 +1,8 @@
 #!/usr/bin/env bash
 # Builds c/example.c over the library for C by the system's compilers, runs it, and runs it again with one request for
 # memory after another failing; the first over blocks of 32 bits too, and c/example.cc in C++. Holds the calls that make a
-# set to the memory that they may ask for, and makes random calls beside a table. Compares the prototypes of both headers with what the library exports, and runs the Python module
-# where there is a python3.
+# set to the memory that they may ask for, and makes random calls beside a table. Compares the prototypes of both headers
+# with what the library exports, and the calls of BitSet with these; and runs the Python module where there is a python3.
 #   tests/c.sh [FOLDER]      over the library that c/build wrote into the folder; where none is given it is built, over
 #                            the libraries as `rt ci` has just proved them here
 # The last line is 'N passed, M failed'.
@@ -201,6 +201,13 @@ else
 fi
 
 if command -v python3 > /dev/null; then
+    # Each public call of BitSet has one for C, or a reason why it has none.
+    if python3 -B "$here/c_surface.py" "$top" > said 2>&1; then
+        pass
+    else
+        cat said
+        fail 'the header lacks a call of BitSet'
+    fi
     if BIT_SET_LIBRARY="$library/libbit_set.so" python3 -B "$top/python/tests.py" > said 2>&1; then
         pass
     else
