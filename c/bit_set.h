@@ -2,6 +2,21 @@
  * by what it is linked. Here blocks have 64 bits. The calls are there over blocks of 32 bits and of 64, each in a header
  * of its own, and a program may use both; capacities come in whole blocks.
  *
+ *   Making and freeing      new, with_capacity, clone, from_bytes, from_members, split_off, free
+ *   Single numbers          insert, insert_members, remove, toggle, set, contains
+ *   Ends and searches       first, last, pop_first, pop_last, next, previous, next_missing, nth; BIT_SET_FOR_EACH
+ *   Ranges                  insert_range, toggle_range, remove_range, contains_all_in_range, contains_any_in_range,
+ *                           count_in_range
+ *   Copies                  copy_members, copy_members_back, copy_bytes, copy_blocks, put_blocks
+ *   What a set says         count, is_empty, length, capacity, hash
+ *   Two sets, read          is_subset, is_superset, is_disjoint, equals, compare, copy_union, copy_intersection,
+ *                           copy_difference, copy_symmetric_difference
+ *   Two sets, in place      union_with, intersect_with, difference_with, symmetric_difference_with, union_changes,
+ *                           intersection_changes, difference_changes, symmetric_difference_changes,
+ *                           union_with_difference, append, copy
+ *   A whole set             truncate, make_empty, reset
+ *   Capacity                reserve, reserve_exact, shrink_to_fit
+ *
  * What C owes, in Rust's words:
  *
  *   bit_set *          a Box, where it is given to `bit_set_free`, or else a &mut: it comes from a call that made it, is
@@ -14,14 +29,18 @@
  *                      with `const` no call. The pointer is never NULL, even to none.
  *
  * So the sets of a call must be two where one of them is no `const`; where both are `const`, they may be one set. Each
- * group of calls below says which it is. A NULL for a set, or for a place where one is put, is the caller's fault in
- * every call but `bit_set_free`, which does nothing then. Numbers may be any: what a call does with one that fits no set
- * is said at the call.
+ * group of calls below says which it is. Where BIT_SET_CHECKED is defined before this header, a call that is given one
+ * set where two are owed ends the process with a message. A NULL for a set, or for a place where one is put, is the
+ * caller's fault in every call but `bit_set_free`, which does nothing then. Numbers may be any: what a call does with one
+ * that fits no set is said at the call.
  *
  * A call may take memory by malloc and realloc, which with free are of one allocator; no call is made from a signal
  * handler, or in a forked child of a process with threads.
  *
  * No call ends the process. `false` says that a call found no memory, and nothing changed then unless it is said below.
+ *
+ * What a call costs is said in blocks. Of many blocks a set keeps a summary, a bit for each block that says whether it is
+ * zero: what then goes by the summary reads one bit for a block that is zero.
  */
 #ifndef BIT_SET_H
 #define BIT_SET_H
@@ -34,198 +53,291 @@
 extern "C" {
 #endif
 
+#define BIT_SET_VERSION "0.11.1"
+
+/* A call that takes pointers, none of which may be NULL; and one that may fail too, so that its answer is to be read. */
+#if defined(__GNUC__) || defined(__clang__)
+#define BIT_SET_CALL __attribute__((nonnull))
+#define BIT_SET_MAY_FAIL __attribute__((nonnull, warn_unused_result))
+#else
+#define BIT_SET_CALL
+#define BIT_SET_MAY_FAIL
+#endif
+
 /* A set of numbers below SIZE_MAX. It has a length, which is above each member, and a capacity, which is at least the
  * length: a number below the capacity goes in without memory. */
 typedef struct bit_set bit_set;
 
 typedef uint64_t bit_set_block;
 
-/* ---- Making and freeing. */
+/* What the calls return that return an `int32_t`: a number below 0 where they could not do what was asked, and then nothing
+ * changed. */
+enum bit_set_answer {
+    BIT_SET_NO_ELEMENT = -2, /* SIZE_MAX is in no set */
+    BIT_SET_NO_MEMORY = -1,
+    BIT_SET_NO = 0,
+    BIT_SET_YES = 1
+};
+
+/* What the calls return that look for a member, where there is none: no set has this number. */
+#define BIT_SET_NONE SIZE_MAX
+
+/* ---- Making and freeing. Each writes the blocks of the set that it makes once. */
 
 /* An empty set. Its length and its capacity are 0. */
-bool bit_set_new(bit_set **out);
+bool bit_set_new(bit_set **out) BIT_SET_MAY_FAIL;
 
 /* An empty set of this length. */
-bool bit_set_with_capacity(bit_set **out, size_t length);
+bool bit_set_with_capacity(bit_set **out, size_t length) BIT_SET_MAY_FAIL;
 
 /* A set with the same members, of the same length. */
-bool bit_set_clone(bit_set **out, const bit_set *set);
+bool bit_set_clone(bit_set **out, const bit_set *set) BIT_SET_MAY_FAIL;
 
 /* The set of the bits that are 1, those of each byte counted from the highest. Its length is 8 times the count. False
  * also where that is above SIZE_MAX. */
-bool bit_set_from_bytes(bit_set **out, const uint8_t *bytes, size_t count);
+bool bit_set_from_bytes(bit_set **out, const uint8_t *bytes, size_t count) BIT_SET_MAY_FAIL;
 
 /* The set of these numbers, in any order. It asks for memory once, for what the greatest of them takes. False also where
  * one of them is SIZE_MAX. */
-bool bit_set_from_members(bit_set **out, const size_t *members, size_t count);
+bool bit_set_from_members(bit_set **out, const size_t *members, size_t count) BIT_SET_MAY_FAIL;
 
 /* Parts a set: the members below `at` stay, and the others go into a set of their own. */
-bool bit_set_split_off(bit_set **out, bit_set *set, size_t at);
+bool bit_set_split_off(bit_set **out, bit_set *set, size_t at) BIT_SET_MAY_FAIL;
 
 /* Gives the memory back. Of NULL it does nothing. */
 void bit_set_free(bit_set *set);
 
-/* ---- Members. */
+/* ---- Single numbers. Constant time for each, but where the set grows. */
 
-#define BIT_SET_NO_MEMORY (-1)
-#define BIT_SET_NO_ELEMENT (-2)
-
-/* Puts a number in. Returns 1 where it is new, 0 where it was in, BIT_SET_NO_MEMORY, or BIT_SET_NO_ELEMENT where it is
- * SIZE_MAX; below 0 nothing changed. */
-int32_t bit_set_insert(bit_set *set, size_t value);
+/* Puts a number in. BIT_SET_YES where it is new, BIT_SET_NO where it was in, BIT_SET_NO_MEMORY, or BIT_SET_NO_ELEMENT
+ * where it is SIZE_MAX. */
+int32_t bit_set_insert(bit_set *set, size_t value) BIT_SET_MAY_FAIL;
 
 /* Puts numbers in, one by one, up to the first that cannot go in, for memory or since it is SIZE_MAX. Returns how many
  * went in: `count` where all did. */
-size_t bit_set_insert_members(bit_set *set, const size_t *members, size_t count);
+size_t bit_set_insert_members(bit_set *set, const size_t *members, size_t count) BIT_SET_MAY_FAIL;
 
 /* Takes a number out. Returns whether it was in. */
-bool bit_set_remove(bit_set *set, size_t value);
+bool bit_set_remove(bit_set *set, size_t value) BIT_SET_CALL;
 
-/* Takes a number out where it is in, and puts it in where not. Returns 1 where it is in now, 0 where not, or a number
- * below 0 as `bit_set_insert` does; then nothing changed. */
-int32_t bit_set_toggle(bit_set *set, size_t value);
+/* Takes a number out where it is in, and puts it in where not. BIT_SET_YES where it is in now, BIT_SET_NO where not, or a
+ * number below 0 as `bit_set_insert` returns it. */
+int32_t bit_set_toggle(bit_set *set, size_t value) BIT_SET_MAY_FAIL;
 
-/* Puts a number in where `bit` is true, and takes it out where not. Returns 1 where that changed the set, 0 where not, or
- * a number below 0 as `bit_set_insert` does, which it can only where `bit` is true; then nothing changed. */
-int32_t bit_set_set(bit_set *set, size_t value, bool bit);
+/* Puts a number in where `bit` is true, and takes it out where not. BIT_SET_YES where that changed the set, BIT_SET_NO
+ * where not, or, where `bit` is true, a number below 0 as `bit_set_insert` returns it. */
+int32_t bit_set_set(bit_set *set, size_t value, bool bit) BIT_SET_MAY_FAIL;
 
 /* Whether the number is a member. Any number may be asked for. */
-bool bit_set_contains(const bit_set *set, size_t value);
+bool bit_set_contains(const bit_set *set, size_t value) BIT_SET_CALL;
+
+/* ---- Ends and searches. BIT_SET_NONE stands for no member. None of these takes memory. They go by the summary, but for
+ * `bit_set_next_missing`. */
+
+/* The least and the greatest member, or BIT_SET_NONE of the empty set. */
+size_t bit_set_first(const bit_set *set) BIT_SET_CALL;
+size_t bit_set_last(const bit_set *set) BIT_SET_CALL;
+
+/* Take the least or the greatest member out, and return it, or BIT_SET_NONE of the empty set. The length stays. Calls of
+ * `bit_set_pop_first` that take out all members pass over the summary once. */
+size_t bit_set_pop_first(bit_set *set) BIT_SET_CALL;
+size_t bit_set_pop_last(bit_set *set) BIT_SET_CALL;
+
+/* The least member that is `from` or above, or BIT_SET_NONE where there is none. A walk over many members is faster by
+ * `bit_set_copy_members`. */
+size_t bit_set_next(const bit_set *set, size_t from) BIT_SET_CALL;
+
+/* The greatest member below `end`, or BIT_SET_NONE where there is none. */
+size_t bit_set_previous(const bit_set *set, size_t end) BIT_SET_CALL;
+
+/* The least number that is `from` or above and no member. There is one, since SIZE_MAX is no member. Reads each block from
+ * that of `from` to that of the number. */
+size_t bit_set_next_missing(const bit_set *set, size_t from) BIT_SET_CALL;
+
+/* The member that is `from` or above and that `n` others come before, or BIT_SET_NONE where there is none. Passes over
+ * blocks by their counts. */
+size_t bit_set_nth(const bit_set *set, size_t from, size_t n) BIT_SET_CALL;
+
+/* A loop over the members in ascending order. `member` is a name of the loop's own. In it the set may be changed: the walk
+ * goes on at the next member as the set is then. */
+#define BIT_SET_FOR_EACH(member, set)                                                                                  \
+    for (size_t member = bit_set_first(set); member != BIT_SET_NONE; member = bit_set_next(set, member + 1))
+
+/* ---- Ranges: the numbers that are `start` or above and below `end`, and none where `end` is `start` or below. Each block
+ * of the range is read or written once, and no other. */
+
+/* Put each number of the range in, or take it out where it is in and put it in where not. The length becomes at least
+ * `end`, unless the range is empty. Neither fails where `end` is at most the capacity. */
+bool bit_set_insert_range(bit_set *set, size_t start, size_t end) BIT_SET_MAY_FAIL;
+bool bit_set_toggle_range(bit_set *set, size_t start, size_t end) BIT_SET_MAY_FAIL;
+
+/* Takes each number of the range out. The length stays. */
+void bit_set_remove_range(bit_set *set, size_t start, size_t end) BIT_SET_CALL;
+
+/* Whether every number of the range is a member, and so whether the range is empty; and whether some number of it is. */
+bool bit_set_contains_all_in_range(const bit_set *set, size_t start, size_t end) BIT_SET_CALL;
+bool bit_set_contains_any_in_range(const bit_set *set, size_t start, size_t end) BIT_SET_CALL;
+
+/* How many numbers of the range are members. */
+size_t bit_set_count_in_range(const bit_set *set, size_t start, size_t end) BIT_SET_CALL;
+
+/* ---- Copies. One step for each value that is copied; a search for members goes by the summary. */
 
 /* Copies the members that are `from` or above, in ascending order, as many as there is room for. Returns how many; the
  * values past these stay. To walk on, ask for those from the last one plus 1. */
-size_t bit_set_copy_members(const bit_set *set, size_t from, size_t *members, size_t room);
+size_t bit_set_copy_members(const bit_set *set, size_t from, size_t *members, size_t room) BIT_SET_CALL;
+
+/* Copies the members below `end`, in descending order, as many as there is room for. Returns how many; the values past
+ * these stay. To walk on, ask for those below the last one. */
+size_t bit_set_copy_members_back(const bit_set *set, size_t end, size_t *members, size_t room) BIT_SET_CALL;
+
+/* Copies the bytes from byte `from` on, as many as there is room for. Returns how many; the values past these stay. There
+ * is a bit for each number below the length, and zeros up to the end of the last byte: number n is a member where bit
+ * n % 8 of byte n / 8, counted from the highest, is 1. `bit_set_from_bytes` of all bytes makes the same members. */
+size_t bit_set_copy_bytes(const bit_set *set, size_t from, uint8_t *bytes, size_t room) BIT_SET_CALL;
 
 /* Copies the blocks from block `from` on, as many as there is room for. Returns how many; the values past these stay.
  * Number n is a member where bit n % 64, counted from the lowest, of block n / 64 is 1; past the last block is none. */
-size_t bit_set_copy_blocks(const bit_set *set, size_t from, bit_set_block *blocks, size_t room);
+size_t bit_set_copy_blocks(const bit_set *set, size_t from, bit_set_block *blocks, size_t room) BIT_SET_CALL;
 
 /* Makes the blocks from block `from` on these: the bits of the blocks, as above, say which numbers of theirs are members,
  * and other numbers stay as they were. The length becomes at least that of `from + count` blocks, unless `count` is 0.
  * False also where that is above SIZE_MAX. */
-bool bit_set_put_blocks(bit_set *set, size_t from, const bit_set_block *blocks, size_t count);
+bool bit_set_put_blocks(bit_set *set, size_t from, const bit_set_block *blocks, size_t count) BIT_SET_MAY_FAIL;
 
-/* ---- Ends and searches. SIZE_MAX stands for no member. None of these takes memory. */
+/* ---- What a set says of itself. Constant time, but for the count and the hash, which read the blocks that are not zero,
+ * and whether it is empty, which goes by the summary. */
 
-/* The least and the greatest member, or SIZE_MAX of the empty set. */
-size_t bit_set_first(const bit_set *set);
-size_t bit_set_last(const bit_set *set);
-
-/* Take the least or the greatest member out, and return it, or SIZE_MAX of the empty set. The length stays. Calls of
- * `bit_set_pop_first` that take out all members pass over the set once. */
-size_t bit_set_pop_first(bit_set *set);
-size_t bit_set_pop_last(bit_set *set);
-
-/* The least member that is `from` or above, or SIZE_MAX where there is none. A walk over many members is faster by
- * `bit_set_copy_members`. */
-size_t bit_set_next(const bit_set *set, size_t from);
-
-/* The greatest member below `end`, or SIZE_MAX where there is none. */
-size_t bit_set_previous(const bit_set *set, size_t end);
-
-/* The least number that is `from` or above and no member. There is one, since SIZE_MAX is no member. */
-size_t bit_set_next_missing(const bit_set *set, size_t from);
-
-/* The member that is `from` or above and that `n` others come before, or SIZE_MAX where there is none. It passes over
- * blocks by their counts. */
-size_t bit_set_nth(const bit_set *set, size_t from, size_t n);
-
-/* ---- Ranges: the numbers that are `start` or above and below `end`, and none where `end` is `start` or below. Whole
- * blocks are written and read at once. */
-
-/* Put each number of the range in, or take it out where it is in and put it in where not. The length becomes at least
- * `end`, unless the range is empty. Neither fails where `end` is at most the capacity. */
-bool bit_set_insert_range(bit_set *set, size_t start, size_t end);
-bool bit_set_toggle_range(bit_set *set, size_t start, size_t end);
-
-/* Takes each number of the range out. The length stays. */
-void bit_set_remove_range(bit_set *set, size_t start, size_t end);
-
-/* Whether every number of the range is a member, and so whether the range is empty; and whether some number of it is. */
-bool bit_set_contains_all_in_range(const bit_set *set, size_t start, size_t end);
-bool bit_set_contains_any_in_range(const bit_set *set, size_t start, size_t end);
-
-/* How many numbers of the range are members. */
-size_t bit_set_count_in_range(const bit_set *set, size_t start, size_t end);
-
-/* ---- What a set says of itself. */
-
-size_t bit_set_count(const bit_set *set);
-bool bit_set_is_empty(const bit_set *set);
-size_t bit_set_length(const bit_set *set);
-size_t bit_set_capacity(const bit_set *set);
+size_t bit_set_count(const bit_set *set) BIT_SET_CALL;
+bool bit_set_is_empty(const bit_set *set) BIT_SET_CALL;
+size_t bit_set_length(const bit_set *set) BIT_SET_CALL;
+size_t bit_set_capacity(const bit_set *set) BIT_SET_CALL;
 
 /* A hash of the members alone: sets that are equal have the same. It is no secret: who chooses the members can make them
  * collide. */
-uint64_t bit_set_hash(const bit_set *set);
+uint64_t bit_set_hash(const bit_set *set) BIT_SET_CALL;
 
-/* ---- Two sets, which are read. In each of these both may be one set. */
+/* ---- Two sets, which are read. In each of these both may be one set. One pass over both at most. */
 
-bool bit_set_is_subset(const bit_set *set, const bit_set *other);
-bool bit_set_is_superset(const bit_set *set, const bit_set *other);
-bool bit_set_is_disjoint(const bit_set *set, const bit_set *other);
+bool bit_set_is_subset(const bit_set *set, const bit_set *other) BIT_SET_CALL;
+bool bit_set_is_superset(const bit_set *set, const bit_set *other) BIT_SET_CALL;
+bool bit_set_is_disjoint(const bit_set *set, const bit_set *other) BIT_SET_CALL;
 
 /* Whether the members are the same. Lengths and capacities do not matter. */
-bool bit_set_equals(const bit_set *set, const bit_set *other);
+bool bit_set_equals(const bit_set *set, const bit_set *other) BIT_SET_CALL;
 
 /* -1, 0 or 1, as the ascending lists of members compare, from their first difference on. */
-int32_t bit_set_compare(const bit_set *set, const bit_set *other);
+int32_t bit_set_compare(const bit_set *set, const bit_set *other) BIT_SET_CALL;
 
 /* Copy the blocks of what two sets make, as `bit_set_copy_blocks` does those of one set, from block `from` on: of what is
  * in either, in both, in the first alone, or in just one of both. There are as many blocks as the longer set has. */
-size_t bit_set_copy_union(const bit_set *set, const bit_set *other, size_t from, bit_set_block *blocks, size_t room);
-size_t bit_set_copy_intersection(const bit_set *set, const bit_set *other, size_t from, bit_set_block *blocks, size_t room);
-size_t bit_set_copy_difference(const bit_set *set, const bit_set *other, size_t from, bit_set_block *blocks, size_t room);
+size_t bit_set_copy_union(const bit_set *set, const bit_set *other, size_t from, bit_set_block *blocks, size_t room)
+    BIT_SET_CALL;
+size_t bit_set_copy_intersection(const bit_set *set, const bit_set *other, size_t from, bit_set_block *blocks, size_t room)
+    BIT_SET_CALL;
+size_t bit_set_copy_difference(const bit_set *set, const bit_set *other, size_t from, bit_set_block *blocks, size_t room)
+    BIT_SET_CALL;
 size_t bit_set_copy_symmetric_difference(const bit_set *set, const bit_set *other, size_t from, bit_set_block *blocks,
-                                         size_t room);
+                                         size_t room) BIT_SET_CALL;
 
-/* ---- In place. In none of these may both be one set. The length becomes the greater of both. None of these fails where
- * the length of `other` is at most the capacity of `set`. */
+/* ---- In place. In none of these may `set` be another set of the call. The length becomes the greater of `set` and
+ * `other`. None of these fails where the length of `other` is at most the capacity of `set`. One pass over both. */
 
-bool bit_set_union_with(bit_set *set, const bit_set *other);
-bool bit_set_intersect_with(bit_set *set, const bit_set *other);
-bool bit_set_difference_with(bit_set *set, const bit_set *other);
-bool bit_set_symmetric_difference_with(bit_set *set, const bit_set *other);
+bool bit_set_union_with(bit_set *set, const bit_set *other) BIT_SET_MAY_FAIL;
+bool bit_set_intersect_with(bit_set *set, const bit_set *other) BIT_SET_MAY_FAIL;
+bool bit_set_difference_with(bit_set *set, const bit_set *other) BIT_SET_MAY_FAIL;
+bool bit_set_symmetric_difference_with(bit_set *set, const bit_set *other) BIT_SET_MAY_FAIL;
 
-/* The same four, which return 1 where the members of `set` changed, 0 where not, or BIT_SET_NO_MEMORY. They write no block
- * before the first that changes. */
-int32_t bit_set_union_changes(bit_set *set, const bit_set *other);
-int32_t bit_set_intersection_changes(bit_set *set, const bit_set *other);
-int32_t bit_set_difference_changes(bit_set *set, const bit_set *other);
-int32_t bit_set_symmetric_difference_changes(bit_set *set, const bit_set *other);
+/* The same four, which return BIT_SET_YES where the members of `set` changed, BIT_SET_NO where not, or BIT_SET_NO_MEMORY.
+ * They write no block before the first that changes. */
+int32_t bit_set_union_changes(bit_set *set, const bit_set *other) BIT_SET_MAY_FAIL;
+int32_t bit_set_intersection_changes(bit_set *set, const bit_set *other) BIT_SET_MAY_FAIL;
+int32_t bit_set_difference_changes(bit_set *set, const bit_set *other) BIT_SET_MAY_FAIL;
+int32_t bit_set_symmetric_difference_changes(bit_set *set, const bit_set *other) BIT_SET_MAY_FAIL;
 
-/* Puts in what is in `other` and not in `except`, in one pass, and returns what these four do. `other` and `except` may
- * be one set. */
-int32_t bit_set_union_with_difference(bit_set *set, const bit_set *other, const bit_set *except);
+/* Puts in what is in `other` and not in `except`, and returns what these four do. `other` and `except` may be one set. */
+int32_t bit_set_union_with_difference(bit_set *set, const bit_set *other, const bit_set *except) BIT_SET_MAY_FAIL;
 
 /* Moves the members of `other` into `set`; `other` is empty then, and keeps its length. */
-bool bit_set_append(bit_set *set, bit_set *other);
+bool bit_set_append(bit_set *set, bit_set *other) BIT_SET_MAY_FAIL;
 
 /* `set` becomes equal to `other`, with its length. */
-bool bit_set_copy(bit_set *set, const bit_set *other);
+bool bit_set_copy(bit_set *set, const bit_set *other) BIT_SET_MAY_FAIL;
 
-/* ---- A whole set. None of these three takes memory. */
+/* ---- A whole set. None of these three takes memory. The second writes each block, and the other two one at most. */
 
 /* Keeps the members below `length`, and shortens the length to it. */
-void bit_set_truncate(bit_set *set, size_t length);
+void bit_set_truncate(bit_set *set, size_t length) BIT_SET_CALL;
 
 /* Takes every member out; the length stays. */
-void bit_set_make_empty(bit_set *set);
+void bit_set_make_empty(bit_set *set) BIT_SET_CALL;
 
 /* Takes every member out and makes the length 0; the capacity stays. */
-void bit_set_reset(bit_set *set);
+void bit_set_reset(bit_set *set) BIT_SET_CALL;
 
-/* ---- Capacity. Members and length stay, but for `bit_set_shrink_to_fit`. */
+/* ---- Capacity. Members and length stay, but for `bit_set_shrink_to_fit`. The blocks may move. */
 
 /* Makes the capacity at least `length`. */
-bool bit_set_reserve(bit_set *set, size_t length);
+bool bit_set_reserve(bit_set *set, size_t length) BIT_SET_MAY_FAIL;
 
 /* The same, with no more than that takes in whole blocks. */
-bool bit_set_reserve_exact(bit_set *set, size_t length);
+bool bit_set_reserve_exact(bit_set *set, size_t length) BIT_SET_MAY_FAIL;
 
 /* Makes the length that of the blocks up to the greatest member, and gives the capacity past these back. False where
  * some of it stayed for want of memory; the length is the new one then too. */
-bool bit_set_shrink_to_fit(bit_set *set);
+bool bit_set_shrink_to_fit(bit_set *set) BIT_SET_CALL;
+
+/* ---- The calls that owe two sets, where BIT_SET_CHECKED is defined: each compares its sets first. */
+
+#ifdef BIT_SET_CHECKED
+
+#include <stdio.h>
+#include <stdlib.h>
+
+static inline void bit_set_stop_at_one(const bit_set *set, const bit_set *other, const char *call) {
+    if (set == other) {
+        fprintf(stderr, "bit_set_%s: the call was given one set where it owes two\n", call);
+        abort();
+    }
+}
+
+#define BIT_SET_CHECK(result, call, second)                                                                            \
+    static inline result bit_set_checked_##call(bit_set *set, second *other) {                                         \
+        bit_set_stop_at_one(set, other, #call);                                                                        \
+        return bit_set_##call(set, other);                                                                             \
+    }
+
+BIT_SET_CHECK(bool, union_with, const bit_set)
+BIT_SET_CHECK(bool, intersect_with, const bit_set)
+BIT_SET_CHECK(bool, difference_with, const bit_set)
+BIT_SET_CHECK(bool, symmetric_difference_with, const bit_set)
+BIT_SET_CHECK(int32_t, union_changes, const bit_set)
+BIT_SET_CHECK(int32_t, intersection_changes, const bit_set)
+BIT_SET_CHECK(int32_t, difference_changes, const bit_set)
+BIT_SET_CHECK(int32_t, symmetric_difference_changes, const bit_set)
+BIT_SET_CHECK(bool, append, bit_set)
+BIT_SET_CHECK(bool, copy, const bit_set)
+
+static inline int32_t bit_set_checked_union_with_difference(bit_set *set, const bit_set *other, const bit_set *except) {
+    bit_set_stop_at_one(set, other, "union_with_difference");
+    bit_set_stop_at_one(set, except, "union_with_difference");
+    return bit_set_union_with_difference(set, other, except);
+}
+
+#undef BIT_SET_CHECK
+#define bit_set_union_with bit_set_checked_union_with
+#define bit_set_intersect_with bit_set_checked_intersect_with
+#define bit_set_difference_with bit_set_checked_difference_with
+#define bit_set_symmetric_difference_with bit_set_checked_symmetric_difference_with
+#define bit_set_union_changes bit_set_checked_union_changes
+#define bit_set_intersection_changes bit_set_checked_intersection_changes
+#define bit_set_difference_changes bit_set_checked_difference_changes
+#define bit_set_symmetric_difference_changes bit_set_checked_symmetric_difference_changes
+#define bit_set_union_with_difference bit_set_checked_union_with_difference
+#define bit_set_append bit_set_checked_append
+#define bit_set_copy bit_set_checked_copy
+
+#endif
 
 #ifdef __cplusplus
 }

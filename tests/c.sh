@@ -1,8 +1,8 @@
 #!/usr/bin/env bash
 # Builds c/example.c over the library for C by the system's compilers, runs it, and runs it again with one request for
-# memory after another failing; the first over blocks of 32 bits too. Holds the calls that make a set to the memory that
-# they may ask for. Compares the prototypes of both headers with what the library exports, and runs the Python module
-# where there is a python3.
+# memory after another failing; the first over blocks of 32 bits too, and c/example.cc in C++. Holds the calls that make a
+# set to the memory that they may ask for, and makes random calls beside a table. Compares the prototypes of both headers
+# with what the library exports, and the calls of BitSet with these; and runs the Python module where there is a python3.
 #   tests/c.sh [FOLDER]      over the library that c/build wrote into the folder; where none is given it is built, over
 #                            the libraries as `rt ci` has just proved them here
 # The last line is 'N passed, M failed'.
@@ -104,14 +104,48 @@ if cc -fsanitize=address empty.c -o empty 2> said && ./empty; then
         fail 'cc does not build the example with the address sanitizer'
     fi
 fi
-if command -v c++ > /dev/null; then
-    printf '#include "bit_set.h"\n#include "bit_set32.h"\n' > both.cc
-    if c++ -fsyntax-only "${warnings[@]}" -I"$library" both.cc 2> said; then
+printf '#define BIT_SET_CHECKED\n#define BIT_SET32_CHECKED\n#include "bit_set.h"\n#include "bit_set32.h"\n' > both.cc
+for compiler in c++ clang++; do
+    command -v "$compiler" > /dev/null || continue
+    if "$compiler" -std=c++17 -fsyntax-only "${warnings[@]}" -I"$library" both.cc 2> said; then
         pass
     else
         cat said
-        fail 'the headers are none of C++'
+        fail "the headers are none of C++ to $compiler"
     fi
+done
+if command -v c++ > /dev/null; then
+    if c++ -std=c++17 "${warnings[@]}" -O2 -I"$library" "$top/c/example.cc" "$library/libbit_set.a" -o example_cc 2> said; then
+        run ./example_cc
+        judge 'the example in C++' 0 written nothing
+    else
+        cat said
+        fail 'c++ does not build the example in C++'
+    fi
+fi
+# A call that is given one set where it owes two stops where it is asked to.
+cat > twice.c << 'END'
+#define BIT_SET_CHECKED
+#include "bit_set.h"
+int main(void) {
+    bit_set *set = NULL;
+    if (!bit_set_new(&set) || bit_set_insert(set, 5) != BIT_SET_YES)
+        return 3;
+    BIT_SET_FOR_EACH(member, set)
+        if (member != 5)
+            return 4;
+    return bit_set_append(set, set);
+}
+END
+echo 'bit_set_append: the call was given one set where it owes two' > stopped
+if cc -std=c99 "${warnings[@]}" -I"$library" twice.c "$library/libbit_set.a" -o twice 2> said; then
+    # The shell that sees the signal says so on a stream of its own.
+    (ulimit -c 0 && ./twice 2> said) > wrote 2> ended_by
+    ended=$?
+    judge 'one set twice' 134 nothing stopped
+else
+    cat said
+    fail 'cc does not build a program over the header with its checks'
 fi
 
 # Each request for memory failing in turn: nothing is written, and the status says so; past the last all is well.
@@ -157,7 +191,7 @@ for by in bit_set bit_set32; do
 done
 
 # The names that are declared are those that are exported.
-sed -n 's/^[a-z].*\(bit_set\(32\)\?_[a-z_]*\)(.*/\1/p' "$library/bit_set.h" "$library/bit_set32.h" | sort > declared
+sed -n '/^static/d; s/^[a-z].*\(bit_set\(32\)\?_[a-z_]*\)(.*/\1/p' "$library/bit_set.h" "$library/bit_set32.h" | sort > declared
 nm -g --defined-only "$library/libbit_set.a" | sed -n 's/.* T //p' | sort > exported
 if [ -s declared ] && cmp declared exported; then
     pass
@@ -167,6 +201,13 @@ else
 fi
 
 if command -v python3 > /dev/null; then
+    # Each public call of BitSet has one for C, or a reason why it has none.
+    if python3 -B "$here/c_surface.py" "$top" > said 2>&1; then
+        pass
+    else
+        cat said
+        fail 'the header lacks a call of BitSet'
+    fi
     if BIT_SET_LIBRARY="$library/libbit_set.so" python3 -B "$top/python/tests.py" > said 2>&1; then
         pass
     else

@@ -1,5 +1,5 @@
-/* Random calls for C on ranges, ends and single numbers, and merges that say whether they changed anything, each compared
- * with a plain table of which numbers are in. It ends with status 1 at the first difference, and writes where that is. */
+/* Random calls for C on ranges, ends, single numbers and copies, and merges that say whether they changed anything, each
+ * compared with a plain table of which numbers are in. It ends with status 1 at the first difference, and writes where that is. */
 #include "bit_set.h"
 
 #include <stdio.h>
@@ -101,6 +101,33 @@ static void searches(const bit_set *set, const bool *table) {
     CHECK(bit_set_nth(set, n, skipped) == member);
 }
 
+/* Copies from a number on, or from one down, and into blocks. Past what is copied nothing is written. */
+static void copies(bit_set *set, bool *table) {
+    size_t members[9], n = draw(LIMIT), end = n;
+    members[8] = 7;
+    size_t count = bit_set_copy_members_back(set, n, members, draw(9));
+    for (size_t k = 0; k < count; k++) {
+        end = previous_in(table, end);
+        CHECK(members[k] == end);
+    }
+    CHECK(count <= 8 && members[8] == 7);
+    uint8_t bytes[9] = {0}, last = bytes[8] = 7;
+    size_t from = draw(LIMIT / 8), room = draw(9);
+    count = bit_set_copy_bytes(set, from, bytes, room);
+    for (size_t k = 0; k < 8 * count; k++)
+        CHECK((bytes[k / 8] >> (7 - k % 8) & 1) == table[8 * from + k]);
+    CHECK(count <= room && (8 * (from + count) >= bit_set_length(set) || count == room) && bytes[8] == last);
+    size_t width = 8 * sizeof(bit_set_block);
+    bit_set_block blocks[4] = {0};
+    for (size_t k = 0; k < 4 * width; k++)
+        blocks[k / width] |= (bit_set_block)(draw(3) == 0) << k % width;
+    from = draw(LIMIT / width - 4);
+    room = draw(5);
+    CHECK(bit_set_put_blocks(set, from, blocks, room));
+    for (size_t k = 0; k < room * width; k++)
+        table[from * width + k] = blocks[k / width] >> k % width & 1;
+}
+
 /* The call of this number on the first set, the second and the third. */
 static int32_t merge(size_t call) {
     return call == 0   ? bit_set_union_changes(sets[0], sets[1])
@@ -132,6 +159,8 @@ int main(void) {
         searches(sets[k], tables[k]);
         if (draw(8) == 0)
             ranges(sets[k], tables[k]);
+        if (draw(8) == 0)
+            copies(sets[k], tables[k]);
         if (draw(8) == 0)
             merges();
         if (draw(100) == 0) {

@@ -8,7 +8,7 @@ ghost use Rattle.bit_set_c.specs.{Answers.done, Block.width, Handed.IsAt};
 use crate::block::{Block, WIDTH};
 use crate::handed::{Exclusive, Shared};
 use bit_set::BitSet;
-use bit_words::bit_vec::{BitVec, take_lowest_one};
+use bit_words::bit_vec::BitVec;
 
 // The blocks from one on.
 #[tactic(auto, using(crate::proofs::BlockNumbers::numbers_are_blocks, std::proofs::lemmas::List::drop_all))]
@@ -42,23 +42,6 @@ pub extern "C" fn bit_set_copy_blocks(set: &mut Shared, from: usize, blocks: &mu
     ensures kept { set.new ≡ set.old }
 {
     copy_front(blocks_from(set.get(), from), blocks)
-}
-
-// Makes the values from `index` on, which are false, those of the block's bits, one step for each 1.
-fn put_ones(bits: &mut BitVec<Block>, index: usize, mut block: Block)
-    requires within { index + width ≤ length bits.old.values }
-    requires counted { length bits.old.values < 2 ^ 64 }
-    requires falses { (j : ℕ) → j < width → get_or bits.old.values (index + j) false ≡ false }
-    ensures values { (j : ℕ) → j < width → get_or bits.new.values (index + j) false ≡ is_one block j }
-    ensures others { (i : ℕ) → ((j : ℕ) → j < width → i ≢ index + j)
-        → get_or bits.new.values i false ≡ get_or bits.old.values i false }
-    ensures length { length bits.new.values ≡ length bits.old.values }
-    ensures capacity { bits.new.capacity ≡ bits.old.capacity }
-{
-    while block != 0 {
-        let lowest = take_lowest_one(&mut block);
-        bits.set(index + lowest, true);
-    }
 }
 
 // Makes the list at least `len` long, and returns whether there was memory for it.
@@ -100,15 +83,15 @@ fn put_blocks(bits: &mut BitVec<Block>, from: usize, blocks: &[Block]) -> bool
     if !lengthen(bits, end) {
         return false;
     }
-    bits.fill_range(from * WIDTH..end, false);
+    bits.fill_range(from * WIDTH..end, true);
     for (k, &block) in blocks.iter().enumerate() {
-        put_ones(bits, (from + k) * WIDTH, block);
+        bits.keep_in_block(from + k, block);
     }
     true
 }
 
 /// Makes the blocks from one on those, as far as they go, and returns whether it could: nothing changed where there is
-/// no memory, or the length would be above `usize::MAX`. One step for each block and for each 1 in it.
+/// no memory, or the length would be above `usize::MAX`. One step for each block.
 #[tactic(auto, using(bit_set::proofs::MemberLemmas::reads))]
 #[unsafe(no_mangle)]
 pub extern "C" fn bit_set_put_blocks(set: &mut Exclusive, from: usize, blocks: &[Block]) -> bool

@@ -3,6 +3,7 @@
 
 mod block;
 mod blocks;
+mod bytes;
 mod capacity;
 mod changing;
 mod ends;

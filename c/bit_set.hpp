@@ -1,0 +1,135 @@
+// Sets of whole numbers for C++17, over bit_set.h: a class that owns its set and gives it back. A call that finds no memory
+// throws std::bad_alloc, and one that would put SIZE_MAX in throws std::out_of_range; nothing changed then. What has no
+// method here is called as in C, over `get()`.
+#ifndef BIT_SET_HPP
+#define BIT_SET_HPP
+
+#include "bit_set.h"
+
+#include <cstddef>
+#include <initializer_list>
+#include <iterator>
+#include <new>
+#include <stdexcept>
+#include <utility>
+
+class BitSet {
+    bit_set *set_ = nullptr;
+
+    static void require(bool done) {
+        if (!done)
+            throw std::bad_alloc();
+    }
+
+    // Whether the answer of a call that may put a number in is yes.
+    static bool answer(std::int32_t answer) {
+        if (answer == BIT_SET_NO_ELEMENT)
+            throw std::out_of_range("SIZE_MAX is in no set");
+        require(answer >= 0);
+        return answer == BIT_SET_YES;
+    }
+
+public:
+    // A walk over the members in ascending order. It reads the set at each step, which may be changed meanwhile.
+    class const_iterator {
+        const bit_set *set_ = nullptr;
+        std::size_t member_ = BIT_SET_NONE;
+
+    public:
+        using iterator_category = std::input_iterator_tag;
+        using value_type = std::size_t;
+        using difference_type = std::ptrdiff_t;
+        using pointer = const std::size_t *;
+        using reference = std::size_t;
+
+        const_iterator() = default;
+        const_iterator(const bit_set *set, std::size_t member) : set_(set), member_(member) {}
+        std::size_t operator*() const { return member_; }
+        const_iterator &operator++() {
+            member_ = bit_set_next(set_, member_ + 1);
+            return *this;
+        }
+        const_iterator operator++(int) {
+            const_iterator before = *this;
+            ++*this;
+            return before;
+        }
+        bool operator==(const const_iterator &other) const { return member_ == other.member_; }
+        bool operator!=(const const_iterator &other) const { return member_ != other.member_; }
+    };
+
+    using iterator = const_iterator;
+    using value_type = std::size_t;
+
+    BitSet() { require(bit_set_new(&set_)); }
+    BitSet(std::initializer_list<std::size_t> members) : BitSet(members.begin(), members.end()) {}
+    template <typename Iterator> BitSet(Iterator first, Iterator last) : BitSet() {
+        for (; first != last; ++first)
+            insert(*first);
+    }
+    BitSet(const BitSet &other) { require(bit_set_clone(&set_, other.set_)); }
+    // What was moved from is only to be assigned to or let go.
+    BitSet(BitSet &&other) noexcept : set_(std::exchange(other.set_, nullptr)) {}
+    BitSet &operator=(BitSet other) noexcept {
+        std::swap(set_, other.set_);
+        return *this;
+    }
+    ~BitSet() { bit_set_free(set_); }
+
+    bit_set *get() { return set_; }
+    const bit_set *get() const { return set_; }
+
+    const_iterator begin() const { return {set_, bit_set_first(set_)}; }
+    const_iterator end() const { return {set_, BIT_SET_NONE}; }
+
+    // Each returns whether that changed the set.
+    bool insert(std::size_t value) { return answer(bit_set_insert(set_, value)); }
+    bool erase(std::size_t value) { return bit_set_remove(set_, value); }
+
+    void insert_range(std::size_t start, std::size_t end) { require(bit_set_insert_range(set_, start, end)); }
+    void erase_range(std::size_t start, std::size_t end) { bit_set_remove_range(set_, start, end); }
+    void toggle_range(std::size_t start, std::size_t end) { require(bit_set_toggle_range(set_, start, end)); }
+    void reserve(std::size_t length) { require(bit_set_reserve(set_, length)); }
+    void clear() { bit_set_make_empty(set_); }
+
+    bool contains(std::size_t value) const { return bit_set_contains(set_, value); }
+    std::size_t size() const { return bit_set_count(set_); }
+    bool empty() const { return bit_set_is_empty(set_); }
+    bool is_subset(const BitSet &other) const { return bit_set_is_subset(set_, other.set_); }
+    bool is_disjoint(const BitSet &other) const { return bit_set_is_disjoint(set_, other.set_); }
+
+    // A call of two sets must have two: of a set and itself the result is that set, or none.
+    BitSet &operator|=(const BitSet &other) {
+        require(set_ == other.set_ || bit_set_union_with(set_, other.set_));
+        return *this;
+    }
+    BitSet &operator&=(const BitSet &other) {
+        require(set_ == other.set_ || bit_set_intersect_with(set_, other.set_));
+        return *this;
+    }
+    BitSet &operator-=(const BitSet &other) {
+        if (set_ == other.set_)
+            clear();
+        else
+            require(bit_set_difference_with(set_, other.set_));
+        return *this;
+    }
+    BitSet &operator^=(const BitSet &other) {
+        if (set_ == other.set_)
+            clear();
+        else
+            require(bit_set_symmetric_difference_with(set_, other.set_));
+        return *this;
+    }
+    friend BitSet operator|(BitSet a, const BitSet &b) { return std::move(a |= b); }
+    friend BitSet operator&(BitSet a, const BitSet &b) { return std::move(a &= b); }
+    friend BitSet operator-(BitSet a, const BitSet &b) { return std::move(a -= b); }
+    friend BitSet operator^(BitSet a, const BitSet &b) { return std::move(a ^= b); }
+
+    friend bool operator==(const BitSet &a, const BitSet &b) { return bit_set_equals(a.set_, b.set_); }
+    friend bool operator!=(const BitSet &a, const BitSet &b) { return !(a == b); }
+    // The order of the ascending lists of members.
+    friend bool operator<(const BitSet &a, const BitSet &b) { return bit_set_compare(a.set_, b.set_) < 0; }
+};
+
+#endif

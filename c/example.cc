@@ -1,0 +1,31 @@
+// The primes below 100 by the sieve of Eratosthenes, and how many are not of the form 4n + 1: c/example.c in C++.
+#include "bit_set.hpp"
+#include <cstdio>
+
+constexpr std::size_t LIMIT = 100;
+
+static BitSet sieve() {
+    BitSet primes;
+    primes.insert_range(2, LIMIT);
+    for (std::size_t prime : primes)
+        for (std::size_t number = prime * prime; number < LIMIT; number += prime)
+            primes.erase(number);
+    return primes;
+}
+
+int main() {
+    try {
+        BitSet primes = sieve(), ones;
+        for (std::size_t number = 1; number < LIMIT; number += 4)
+            ones.insert(number);
+        BitSet others = primes - ones;
+        std::printf("%zu:", primes.size());
+        for (std::size_t prime : primes)
+            std::printf(" %zu", prime);
+        std::printf("\n%zu of them are not 4n + 1: subset %d, disjoint %d, compare %d\n", others.size(),
+                    others.is_subset(primes), others.is_disjoint(primes), bit_set_compare(others.get(), primes.get()));
+    } catch (const std::bad_alloc &) {
+        std::fprintf(stderr, "no memory\n");
+        return 3;
+    }
+}

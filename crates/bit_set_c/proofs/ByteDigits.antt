@@ -1,0 +1,18 @@
+-- A byte of a block: eight digits from one on, turned round.
+use Rattle.std.proofs.Common.{◌≡◌, ℕ, ◌+◌, ◌-◌, ◌*◌, ◌/◌, ◌%◌, ◌^◌, ◌<◌, ◌≤◌, ◌==◌, ◌∙◌, ap, arith, sym, w8}
+use Rattle.std.proofs.lemmas.Nat.Bits.{bit_at_cat_low}
+use Rattle.std.specs.Int.{bit_at, reverse_bits}
+use Rattle.bit_blocks.proofs.ByteLemmas.{is_one-turned}
+use Rattle.bit_blocks.specs.Digits.{IsShiftedRight, is_one}
+
+low_digit : (r j : ℕ) → j < 8 → bit_at (r % 256) j ≡ bit_at r j
+low_digit r j within =
+    let parts : r / 256 * 2 ^ 8 + r % 256 ≡ r = omega arith in
+    sym (bit_at_cat_low (r / 256) 8 (r % 256) j within) ∙ ap (λ n. bit_at n j) parts
+
+pub digit_of_byte : (w m d r j : ℕ) → IsShiftedRight w m d r → j < 8 → d + 8 ≤ w → is_one (reverse_bits w8 (r % 256)) (7 - j) ≡ is_one m (d + j)
+digit_of_byte w m d r j shifted within fits =
+    let back : 7 - (7 - j) ≡ j = omega (arith, within) in
+    let at : j + d ≡ d + j = omega arith in
+    is_one-turned (r % 256) (7 - j) (omega arith) ∙ ap (is_one (r % 256)) back
+    ∙ ap (λ digit. digit == 1) (low_digit r j within ∙ shifted.moved j (omega (arith, within, fits)) ∙ ap (bit_at m) at)
