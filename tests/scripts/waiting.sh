@@ -5,7 +5,7 @@
 begin_second() {
     start_group "$repository/bitset" u8 < /dev/null > "$room/second" 2> "$room/waits"
     second=$!
-    sleep 0.3
+    wait_until grep -q 'another run' "$room/waits"
 }
 
 expect_second() {
