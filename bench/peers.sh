@@ -2,6 +2,8 @@
 # this library for Rust. To be sourced, with the name of the script in `script`, and in `folder` where the crates are
 # kept, outside the repository. It ends the script with status 1 where something fails, and with 2 where something is
 # missing.
+# shellcheck shell=bash disable=SC2154
+# shellcheck source=../tools/ending.sh
 . "$(dirname "${BASH_SOURCE[0]}")/../tools/ending.sh"
 cpu=x86-64-v2
 crates="$(cd "$(dirname "${BASH_SOURCE[0]}")/../crates" && pwd -P)"
@@ -25,6 +27,8 @@ quietly() {
         exit 1
     }
 }
+
+in_folder() { cd "$1" && "${@:2}"; }
 
 command -v rt > /dev/null || missing rt "the Rattle toolchain's command, on the PATH"
 command -v rustc > /dev/null || missing rustc "the Rust compiler, of edition 2024 (1.85 or later), on the PATH"
@@ -99,7 +103,7 @@ build_static() {
     words=(--crate-name "$name" --crate-type staticlib --jobs "$(nproc)" --links "$name=" -L "dependency=$kit/rlibs")
     for library in std $(sed -n "s/^$name: //p" "$crates/../crates.txt"); do
         if [ -d "$crates/$library" ]; then
-            (cd "$crates/$library" && quietly rt lib)
+            quietly in_folder "$crates/$library" rt lib
             words+=(--extern "$library=$crates/$library/out/rlib/$library.rlib")
         else
             words+=(--extern "$library=$kit/rlibs/$library.rlib")
@@ -112,7 +116,7 @@ build_static() {
     words+=(--logic-built "$kit/logic_built" --backend llvm -o "out/lib$name.a")
     mkdir -p "$crates/$name/out"
     is_newer "$crates/$name/out/lib$name.a" "$crates" \
-        || (cd "$crates/$name" && quietly "$kit/bin/rattle" build "${words[@]}" src/lib.rt)
+        || quietly in_folder "$crates/$name" "$kit/bin/rattle" build "${words[@]}" src/lib.rt
 }
 
 # Builds the Rust program SOURCE over the static libraries NAMES and over the peers.

@@ -44,8 +44,10 @@ is_gone() { ! kill -0 "$1"; }
 # Waits for what start_group started, and has its status in `ended`: none where it had to be killed.
 finish() {
     ended=0
-    wait_until is_gone "$1" || kill -KILL -- "-$1"
-    wait_group "$1" 2> /dev/null || ended=$?
+    {
+        wait_until is_gone "$1" || kill -KILL -- "-$1"
+        wait_group "$1" || ended=$?
+    } 2> /dev/null
 }
 
 # Whether no process that a stand-in was still runs.

@@ -5,7 +5,7 @@
 begin_second() {
     start_group "$repository/bitset" u8 < /dev/null > "$room/second" 2> "$room/waits"
     second=$!
-    sleep 0.3
+    wait_until grep -q 'another run' "$room/waits"
 }
 
 expect_second() {
@@ -72,8 +72,11 @@ for input in "$room" '&-'; do
     else
         look < "$input" > "$room/wrote"
     fi
-    expect "look lets the program read from $input" wrote 'tried: try --fail-io 1 --'
+    expect "look that cannot read from $input ends with $ended" ends_with 4
+    expect "look does not say that it cannot read from $input" says 'read failed'
 done
+STAND_IN_STATUS=2 look u9 <&- > "$room/wrote"
+expect "look of a program that ends with 2 before it reads ends with $ended" ends_with 2
 look < /dev/null > /dev/full
 expect "look with a full output ends with $ended" ends_with 4
 expect 'look does not say that it cannot write' says 'write failed'
