@@ -71,8 +71,7 @@ impl<'a, B: BitBlock> Iter<'a, B> {
         let index = first * B::bits();
         let last = last_of_part::<B>(blocks, first, end);
         let back_index = last * B::bits();
-        let (nonzero, back) =
-            bits.nonzero_between(first, last, end.saturating_sub(back_index));
+        let (nonzero, back) = bits.nonzero_between(first, last, end.saturating_sub(back_index));
         Iter {
             nonzero,
             block: clear_from(block, end.saturating_sub(index)),

@@ -3,10 +3,9 @@ ghost use Rattle.std.specs.Prelude.{◌≡◌, ◌-◌, ◌*◌, ◌/◌, ◌<�
 ghost use Rattle.bit_blocks.specs.Bits.{blocks_for, blocks_of, IsWithinCapacity};
 ghost use Rattle.bit_words.specs.Nonzero.{CutsAt, PullsLast, Refills, TakesLast, walk_past};
 
-use crate::bit_vec::BitVec;
-use crate::bit_vec::Nonzero;
 use crate::bit_vec::nonzero::at;
 use crate::bit_vec::pending::{Pending, Unstored};
+use crate::bit_vec::{BitVec, Nonzero};
 use crate::summary::is_nonzero;
 use bit_blocks::block::BitBlock;
 use bit_blocks::block::masks::clear_from;
