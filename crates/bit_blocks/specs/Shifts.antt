@@ -1,4 +1,4 @@
--- What a block becomes where the bits of a list move. Of the public clauses only those of `packed` cite this.
+-- What a block becomes where the bits of a list move. No public clause cites this.
 use Rattle.std.specs.Prelude.{◌≡◌, ℕ, ◌+◌, ◌-◌, ◌*◌, ◌<◌, ◌&&◌, nat_le, List}
 use Rattle.bit_blocks.specs.{Digits.is_one, Storage.value_at}
 
