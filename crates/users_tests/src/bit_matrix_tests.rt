@@ -193,7 +193,8 @@ fn patterned<B: BitBlock>(
     let mut matrix = BitMatrix::new_general(alloc, rows, columns)?;
     for row in 0..matrix.rows() {
         for column in 0..matrix.columns() {
-            if row.wrapping_mul(7).wrapping_add(column) % 5 < 2 {
+            let is_in = row.wrapping_mul(7).wrapping_add(column) % 5 < 2;
+            if is_in && row < matrix.rows() && column < matrix.columns() {
                 matrix.insert(row, column);
             }
         }

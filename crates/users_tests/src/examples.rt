@@ -184,68 +184,83 @@ fn parts_of(rt: &impl Abort, alloc: Global, block: (&[usize], &[usize])) -> (Vec
     )
 }
 
-// Two blocks, of which the other takes from the first; counted from the last where that is `true`.
-fn two_parts(from_last: bool) -> [(&'static [usize], &'static [usize]); 2] {
-    if from_last {
-        [(&[1], &[]), (&[], &[3])]
-    } else {
-        [(&[], &[3]), (&[0], &[])]
-    }
-}
+// Two blocks, of which the other has its values from the first: that one comes after it.
+const BEFORE: [(&[usize], &[usize]); 2] = [(&[], &[3]), (&[0], &[])];
+
+const AFTER: [(&[usize], &[usize]); 2] = [(&[1], &[]), (&[], &[3])];
 
 #[test]
-fn examples_of_dataflow(rt: HostRuntime) {
+fn examples_of_a_solution(rt: HostRuntime) {
     let alloc = rt.alloc();
-    let mut flow_blocks = Vec::new(alloc);
-    let mut variable_blocks = Vec::new(alloc);
-    let mut definition_blocks = Vec::new(alloc);
-    let mut expression_blocks = Vec::new(alloc);
-    for block in two_parts(false) {
+    let mut blocks = Vec::new(alloc);
+    for block in BEFORE {
         let (sources, generated) = parts_of(&rt, alloc, block);
         let killed = BitSet::new(alloc);
         ok(
             &rt,
-            flow_blocks.push(FlowBlock {
+            blocks.push(FlowBlock {
                 sources,
                 generated,
                 killed,
             }),
         );
-        let (predecessors, defined) = parts_of(&rt, alloc, block);
-        let overwritten = BitSet::new(alloc);
-        ok(
-            &rt,
-            definition_blocks.push(DefinitionBlock {
-                predecessors,
-                defined,
-                overwritten,
-            }),
-        );
-        let (predecessors, computed) = parts_of(&rt, alloc, block);
-        let killed = BitSet::new(alloc);
-        ok(
-            &rt,
-            expression_blocks.push(ExpressionBlock {
-                predecessors,
-                computed,
-                killed,
-            }),
-        );
     }
-    for block in two_parts(true) {
+    ok(&rt, flows(&rt, alloc, blocks.as_slice()));
+}
+
+#[test]
+fn examples_of_live_variables(rt: HostRuntime) {
+    let alloc = rt.alloc();
+    let mut blocks = Vec::new(alloc);
+    for block in AFTER {
         let (successors, used) = parts_of(&rt, alloc, block);
         let assigned = BitSet::new(alloc);
         ok(
             &rt,
-            variable_blocks.push(VariableBlock {
+            blocks.push(VariableBlock {
                 successors,
                 used,
                 assigned,
             }),
         );
     }
-    ok(&rt, flows(&rt, alloc, flow_blocks.as_slice()));
-    ok(&rt, lives(&rt, alloc, variable_blocks.as_slice()));
-    ok(&rt, reaches(&rt, alloc, definition_blocks.as_slice()));
-    ok(&rt, are_there(&rt, alloc, expression_blocks.as_slice()));
+    ok(&rt, lives(&rt, alloc, blocks.as_slice()));
+}
+
+#[test]
+fn examples_of_reaching_definitions(rt: HostRuntime) {
+    let alloc = rt.alloc();
+    let mut blocks = Vec::new(alloc);
+    for block in BEFORE {
+        let (predecessors, defined) = parts_of(&rt, alloc, block);
+        let overwritten = BitSet::new(alloc);
+        ok(
+            &rt,
+            blocks.push(DefinitionBlock {
+                predecessors,
+                defined,
+                overwritten,
+            }),
+        );
+    }
+    ok(&rt, reaches(&rt, alloc, blocks.as_slice()));
+}
+
+#[test]
+fn examples_of_available_expressions(rt: HostRuntime) {
+    let alloc = rt.alloc();
+    let mut blocks = Vec::new(alloc);
+    for block in BEFORE {
+        let (predecessors, computed) = parts_of(&rt, alloc, block);
+        let killed = BitSet::new(alloc);
+        ok(
+            &rt,
+            blocks.push(ExpressionBlock {
+                predecessors,
+                computed,
+                killed,
+            }),
+        );
+    }
+    ok(&rt, are_there(&rt, alloc, blocks.as_slice()));
 }
