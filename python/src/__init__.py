@@ -1,0 +1,13 @@
+"""Sets of whole numbers as bits, over a library of which every call is proved.
+
+A BitSet is a MutableSet of numbers from 0 to MAX_ELEMENT. It takes an eighth of a byte for each number up to its greatest
+member. Its methods are those of set, with ranges, ends and searches beside them.
+"""
+
+from collections.abc import MutableSet
+
+from ._bit_set import MAX_ELEMENT, BitSet
+
+__all__ = ["MAX_ELEMENT", "BitSet"]
+
+MutableSet.register(BitSet)

@@ -1,0 +1,114 @@
+/* Which of two sets has the other. */
+#include "set.h"
+
+/* Whether each item of an iterable is a member: 1, 0, or -1 with an exception. */
+static int has_each(PyObject *self, PyObject *iterable)
+{
+    int has = 1;
+    PyObject *items = PyObject_GetIter(iterable), *item;
+    if (!items)
+        return -1;
+    while (has == 1 && (item = PyIter_Next(items))) {
+        has = set_contains(self, item);
+        Py_DECREF(item);
+    }
+    Py_DECREF(items);
+    return PyErr_Occurred() ? -1 : has;
+}
+
+/* Whether each member is in a container: 1, 0, or -1 with an exception. */
+static int is_within(PyObject *self, PyObject *container)
+{
+    int has = 1;
+    PyObject *walk = PyObject_GetIter(self), *member;
+    if (!walk)
+        return -1;
+    while (has == 1 && (member = PyIter_Next(walk))) {
+        has = PySequence_Contains(container, member);
+        Py_DECREF(member);
+    }
+    Py_DECREF(walk);
+    return PyErr_Occurred() ? -1 : has;
+}
+
+static int compare_with_bit_set(PyObject *self, PyObject *other, int operation)
+{
+    const bit_set *set = set_of(self), *with = set_of(other);
+    switch (operation) {
+    case Py_EQ: return bit_set_equals(set, with);
+    case Py_NE: return !bit_set_equals(set, with);
+    case Py_LE: return bit_set_is_subset(set, with);
+    case Py_GE: return bit_set_is_subset(with, set);
+    case Py_LT: return bit_set_is_subset(set, with) && !bit_set_equals(set, with);
+    default: return bit_set_is_subset(with, set) && !bit_set_equals(set, with);
+    }
+}
+
+/* With a set of another kind, by its count first. */
+static int compare_with_set(PyObject *self, PyObject *other, int operation)
+{
+    Py_ssize_t count = set_length(self), others = PyObject_Size(other);
+    if (others < 0)
+        return -1;
+    switch (operation) {
+    case Py_EQ: return count == others ? has_each(self, other) : 0;
+    case Py_LE: return count <= others ? is_within(self, other) : 0;
+    case Py_LT: return count < others ? is_within(self, other) : 0;
+    case Py_GE: return count >= others ? has_each(self, other) : 0;
+    case Py_GT: return count > others ? has_each(self, other) : 0;
+    default: {
+        int is_equal = compare_with_set(self, other, Py_EQ);
+        return is_equal < 0 ? is_equal : !is_equal;
+    }
+    }
+}
+
+static PyObject *truth_if(int truth)
+{
+    return truth < 0 ? NULL : PyBool_FromLong(truth);
+}
+
+PyObject *set_compare(PyObject *self, PyObject *other, int operation)
+{
+    if (is_bit_set(other))
+        return truth_if(compare_with_bit_set(self, other, operation));
+    int takes = is_set(other);
+    if (takes < 0)
+        return NULL;
+    if (!takes)
+        Py_RETURN_NOTIMPLEMENTED;
+    return truth_if(compare_with_set(self, other, operation));
+}
+
+PyObject *set_issuperset(PyObject *self, PyObject *items)
+{
+    if (is_bit_set(items))
+        return truth_if(bit_set_is_subset(set_of(items), set_of(self)));
+    return truth_if(has_each(self, items));
+}
+
+PyObject *set_issubset(PyObject *self, PyObject *items)
+{
+    if (is_bit_set(items))
+        return truth_if(bit_set_is_subset(set_of(self), set_of(items)));
+    PyObject *set = PyFrozenSet_New(items);
+    int truth = set ? is_within(self, set) : -1;
+    Py_XDECREF(set);
+    return truth_if(truth);
+}
+
+PyObject *set_isdisjoint(PyObject *self, PyObject *iterable)
+{
+    if (is_bit_set(iterable))
+        return truth_if(bit_set_is_disjoint(set_of(self), set_of(iterable)));
+    int has = 0;
+    PyObject *items = PyObject_GetIter(iterable), *item;
+    if (!items)
+        return NULL;
+    while (!has && (item = PyIter_Next(items))) {
+        has = set_contains(self, item);
+        Py_DECREF(item);
+    }
+    Py_DECREF(items);
+    return PyErr_Occurred() ? NULL : truth_if(!has);
+}

@@ -1,0 +1,261 @@
+/* Sets as they are made, and what goes into them and out again. */
+#include "set.h"
+
+static PyObject *blank(PyTypeObject *type)
+{
+    return ((allocfunc)PyType_GetSlot(type, Py_tp_alloc))(type, 0);
+}
+
+/* What was made, or NULL with a MemoryError where the library found none for its set. */
+static PyObject *made_if(bool found_memory, PyObject *made)
+{
+    if (found_memory)
+        return made;
+    Py_DECREF(made);
+    return PyErr_NoMemory();
+}
+
+PyObject *set_new(PyTypeObject *type, PyObject *Py_UNUSED(positional), PyObject *Py_UNUSED(named))
+{
+    PyObject *made = blank(type);
+    return made ? made_if(bit_set_new(&((BitSet *)made)->set), made) : NULL;
+}
+
+PyObject *set_copy(PyObject *self, PyObject *Py_UNUSED(none))
+{
+    PyObject *made = blank(Py_TYPE(self));
+    return made ? made_if(bit_set_clone(&((BitSet *)made)->set, set_of(self)), made) : NULL;
+}
+
+void set_dealloc(PyObject *self)
+{
+    PyTypeObject *type = Py_TYPE(self);
+    if (((BitSet *)self)->weak_references)
+        PyObject_ClearWeakRefs(self);
+    bit_set_free(set_of(self));
+    ((freefunc)PyType_GetSlot(type, Py_tp_free))(self);
+    Py_DECREF(type);
+}
+
+bool put(PyObject *self, PyObject *member)
+{
+    size_t number;
+    if (!read_member(member, &number))
+        return false;
+    if (bit_set_insert(set_of(self), number) >= 0)
+        return true;
+    PyErr_NoMemory();
+    return false;
+}
+
+static bool put_group(PyObject *self, const size_t *group, size_t count)
+{
+    if (bit_set_insert_members(set_of(self), group, count) == count)
+        return true;
+    PyErr_NoMemory();
+    return false;
+}
+
+/* The items of a list or a tuple. Those before one that cannot go in are in too. */
+static bool put_items(PyObject *self, PyObject *items)
+{
+    bool is_list = PyList_Check(items), is_good = true;
+    size_t group[GROUP], count = 0;
+    Py_ssize_t size = PySequence_Size(items);
+    for (Py_ssize_t at = 0; at < size; at++) {
+        PyObject *item = is_list ? PyList_GetItem(items, at) : PyTuple_GetItem(items, at);
+        /* A list may become shorter meanwhile, by the `__index__` of an item. */
+        is_good = item && read_member(item, &group[count]);
+        if (!is_good)
+            break;
+        if (++count == GROUP) {
+            if (!put_group(self, group, count))
+                return false;
+            count = 0;
+        }
+    }
+    if (is_good)
+        return put_group(self, group, count);
+    PyObject *type, *value, *trace;
+    PyErr_Fetch(&type, &value, &trace);
+    if (put_group(self, group, count)) {
+        PyErr_Restore(type, value, trace);
+    } else {
+        Py_XDECREF(type);
+        Py_XDECREF(value);
+        Py_XDECREF(trace);
+    }
+    return false;
+}
+
+static bool put_iterable(PyObject *self, PyObject *iterable)
+{
+    PyObject *items = PyObject_GetIter(iterable), *item;
+    if (!items)
+        return false;
+    while ((item = PyIter_Next(items))) {
+        bool is_in = put(self, item);
+        Py_DECREF(item);
+        if (!is_in)
+            break;
+    }
+    Py_DECREF(items);
+    return !PyErr_Occurred();
+}
+
+/* Which numbers a buffer of this format has, where it is one of whole numbers of this machine. */
+static bool read_format(PyObject *view, bool *is_signed)
+{
+    PyObject *format = PyObject_GetAttrString(view, "format");
+    PyObject *bytes = format ? PyUnicode_AsASCIIString(format) : NULL;
+    const char *text = bytes ? PyBytes_AsString(bytes) : "";
+    if (*text == '@' || *text == '=' || *text == (PY_LITTLE_ENDIAN ? '<' : '>'))
+        text++;
+    bool is_known = *text && !text[1] && strchr("bBhHiIlLqQnN", *text);
+    *is_signed = is_known && *text >= 'a';
+    Py_XDECREF(bytes);
+    Py_XDECREF(format);
+    PyErr_Clear();
+    return is_known;
+}
+
+static Py_ssize_t size_attribute(PyObject *object, const char *name)
+{
+    PyObject *value = PyObject_GetAttrString(object, name);
+    Py_ssize_t size = value ? PyLong_AsSsize_t(value) : 0;
+    Py_XDECREF(value);
+    PyErr_Clear();
+    return size;
+}
+
+/* Number `at` of those in a buffer, where one below 0 is SIZE_MAX, so that it is no member. */
+static size_t number_at(const char *bytes, size_t width, bool is_signed, size_t at)
+{
+    uint64_t number = 0;
+    const char *from = bytes + at * width;
+    switch (width) {
+    case 1: number = *(const uint8_t *)from; break;
+    case 2: { uint16_t part; memcpy(&part, from, 2); number = part; break; }
+    case 4: { uint32_t part; memcpy(&part, from, 4); number = part; break; }
+    default: memcpy(&number, from, 8);
+    }
+    bool is_below_zero = is_signed && number >> (8 * width - 1);
+    return is_below_zero || number > SIZE_MAX ? NO_MEMBER : (size_t)number;
+}
+
+/* The numbers of a buffer, in groups. Those before one that cannot go in are in too. */
+static bool put_numbers(PyObject *self, const char *bytes, size_t size, size_t width, bool is_signed)
+{
+    size_t group[GROUP];
+    for (size_t start = 0; start < size; start += GROUP) {
+        size_t count = size - start < GROUP ? size - start : GROUP;
+        for (size_t at = 0; at < count; at++)
+            group[at] = number_at(bytes, width, is_signed, start + at);
+        size_t done = bit_set_insert_members(set_of(self), group, count);
+        if (done == count)
+            continue;
+        if (group[done] != NO_MEMBER)
+            PyErr_NoMemory();
+        else
+            PyErr_SetString(PyExc_ValueError, "a number of the buffer is no member of a bit set");
+        return false;
+    }
+    return true;
+}
+
+/* The numbers of a buffer in a row, as of an array or of NumPy. NO_NUMBER where it is none. */
+static enum reading put_buffer(PyObject *self, PyObject *object)
+{
+    bool is_signed;
+    const void *bytes;
+    Py_ssize_t length;
+    PyObject *view = PyMemoryView_FromObject(object);
+    if (!view) {
+        PyErr_Clear();
+        return NO_NUMBER;
+    }
+    enum reading done = NO_NUMBER;
+    size_t width = (size_t)size_attribute(view, "itemsize");
+    if (read_format(view, &is_signed) && size_attribute(view, "ndim") == 1 && size_attribute(view, "c_contiguous")) {
+        done = FAILED;
+        if (!PyObject_AsReadBuffer(view, &bytes, &length)
+            && put_numbers(self, bytes, (size_t)length / width, width, is_signed))
+            done = NUMBER;
+    }
+    Py_DECREF(view);
+    return done;
+}
+
+/* The members of an iterable. Those before one that cannot go in are in too. */
+bool put_all(PyObject *self, PyObject *members)
+{
+    if (is_bit_set(members)) {
+        bool found = members == self || bit_set_union_with(set_of(self), set_of(members));
+        if (!found)
+            PyErr_NoMemory();
+        return found;
+    }
+    if (PyList_CheckExact(members) || PyTuple_CheckExact(members))
+        return put_items(self, members);
+    enum reading done = put_buffer(self, members);
+    return done == NO_NUMBER ? put_iterable(self, members) : done == NUMBER;
+}
+
+int set_init(PyObject *self, PyObject *arguments, PyObject *named)
+{
+    PyObject *members = NULL;
+    static char *names[] = {"members", NULL};
+    if (!PyArg_ParseTupleAndKeywords(arguments, named, "|O:BitSet", names, &members))
+        return -1;
+    bit_set_reset(set_of(self));
+    return members && !put_all(self, members) ? -1 : 0;
+}
+
+/* A bit set of the members of an iterable: itself where it is one. A new reference. */
+PyObject *as_bit_set(PyObject *members)
+{
+    if (is_bit_set(members)) {
+        Py_INCREF(members);
+        return members;
+    }
+    return PyObject_CallFunctionObjArgs((PyObject *)bit_set_type, members, NULL);
+}
+
+PyObject *set_add(PyObject *self, PyObject *member)
+{
+    if (!put(self, member))
+        return NULL;
+    Py_RETURN_NONE;
+}
+
+int set_contains(PyObject *self, PyObject *member)
+{
+    size_t number;
+    enum reading reading = read_number(member, &number);
+    return reading == NUMBER ? bit_set_contains(set_of(self), number) : (int)reading;
+}
+
+/* Takes a member out: NUMBER where it was in. */
+enum reading take_out(PyObject *self, PyObject *member)
+{
+    size_t number;
+    enum reading reading = read_number(member, &number);
+    if (reading == NUMBER && !bit_set_remove(set_of(self), number))
+        return NO_NUMBER;
+    return reading;
+}
+
+PyObject *set_discard(PyObject *self, PyObject *member)
+{
+    if (take_out(self, member) == FAILED)
+        return NULL;
+    Py_RETURN_NONE;
+}
+
+PyObject *set_remove(PyObject *self, PyObject *member)
+{
+    enum reading done = take_out(self, member);
+    if (done == NO_NUMBER)
+        PyErr_SetObject(PyExc_KeyError, member);
+    return done == NUMBER ? none_if(true) : NULL;
+}

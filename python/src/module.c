@@ -1,0 +1,137 @@
+/* The types and the module. */
+#include "set.h"
+#include <structmember.h>
+
+PyTypeObject *bit_set_type, *walk_type;
+PyObject *abstract_set, *array_type;
+
+#define METHOD(name, how, text) {#name, (PyCFunction)set_##name, how, text}
+
+static PyMethodDef methods[] = {
+    METHOD(add, METH_O, "add($self, number, /)\n--\n\nPut a number in."),
+    METHOD(discard, METH_O, "discard($self, number, /)\n--\n\nTake a number out, if it is in."),
+    METHOD(remove, METH_O, "remove($self, number, /)\n--\n\nTake a member out. KeyError if the number is not in."),
+    METHOD(toggle, METH_O, "toggle($self, number, /)\n--\n\nTake a number out if it is in, else put it in. Return whether it is in now."),
+    METHOD(clear, METH_NOARGS, "clear($self, /)\n--\n\nTake every member out."),
+    METHOD(first, METH_NOARGS, "first($self, /)\n--\n\nReturn the least member, or None."),
+    METHOD(last, METH_NOARGS, "last($self, /)\n--\n\nReturn the greatest member, or None."),
+    METHOD(pop, METH_NOARGS, "pop($self, /)\n--\n\nTake the least member out and return it. KeyError if there is none."),
+    METHOD(pop_last, METH_NOARGS, "pop_last($self, /)\n--\n\nTake the greatest member out and return it. KeyError if there is none."),
+    METHOD(next, METH_O, "next($self, start, /)\n--\n\nReturn the least member that is start or above, or None."),
+    METHOD(previous, METH_O, "previous($self, stop, /)\n--\n\nReturn the greatest member below stop, or None."),
+    METHOD(next_missing, METH_O, "next_missing($self, start, /)\n--\n\nReturn the least number that is start or above and not in."),
+    METHOD(nth, METH_O, "nth($self, index, /)\n--\n\nReturn the member that so many others come before, or None."),
+    METHOD(add_range, METH_VARARGS, "add_range($self, start, stop, /)\n--\n\nPut each number of range(start, stop) in."),
+    METHOD(discard_range, METH_VARARGS, "discard_range($self, start, stop, /)\n--\n\nTake each number of range(start, stop) out."),
+    METHOD(toggle_range, METH_VARARGS, "toggle_range($self, start, stop, /)\n--\n\nToggle each number of range(start, stop)."),
+    METHOD(count_in_range, METH_VARARGS, "count_in_range($self, start, stop, /)\n--\n\nReturn how many members are in range(start, stop)."),
+    METHOD(any_in_range, METH_VARARGS, "any_in_range($self, start, stop, /)\n--\n\nReturn whether some number of range(start, stop) is in."),
+    METHOD(all_in_range, METH_VARARGS, "all_in_range($self, start, stop, /)\n--\n\nReturn whether every number of range(start, stop) is in."),
+    METHOD(from_range, METH_VARARGS | METH_CLASS, "from_range($type, start, stop, /)\n--\n\nMake the set of range(start, stop)."),
+    METHOD(from_bytes, METH_O | METH_CLASS, "from_bytes($type, bytes, /)\n--\n\nMake the set of the bits that are 1, those of each byte counted from the highest."),
+    METHOD(to_bytes, METH_NOARGS, "to_bytes($self, /)\n--\n\nReturn a bit for each number up to the greatest member, those of each byte from the highest."),
+    METHOD(to_array, METH_NOARGS, "to_array($self, /)\n--\n\nReturn the members in ascending order as an array.array, which NumPy reads with no copy."),
+    METHOD(copy, METH_NOARGS, "copy($self, /)\n--\n\nReturn a set of the same members."),
+    METHOD(update, METH_VARARGS, "update($self, *others)\n--\n\nPut the items of iterables in."),
+    METHOD(union, METH_VARARGS, "union($self, *others)\n--\n\nReturn the set of what is in this set or in one of the others."),
+    METHOD(intersection_update, METH_VARARGS, "intersection_update($self, *others)\n--\n\nKeep what is in each of the others."),
+    METHOD(intersection, METH_VARARGS, "intersection($self, *others)\n--\n\nReturn the set of what is in this set and in each of the others."),
+    METHOD(difference_update, METH_VARARGS, "difference_update($self, *others)\n--\n\nTake out what is in one of the others."),
+    METHOD(difference, METH_VARARGS, "difference($self, *others)\n--\n\nReturn the set of what is in this set and in none of the others."),
+    METHOD(symmetric_difference_update, METH_O, "symmetric_difference_update($self, other, /)\n--\n\nKeep what is in just one of this set and the other."),
+    METHOD(symmetric_difference, METH_O, "symmetric_difference($self, other, /)\n--\n\nReturn the set of what is in just one of this set and the other."),
+    METHOD(issubset, METH_O, "issubset($self, other, /)\n--\n\nReturn whether each member is in the other."),
+    METHOD(issuperset, METH_O, "issuperset($self, other, /)\n--\n\nReturn whether each item of the other is in."),
+    METHOD(isdisjoint, METH_O, "isdisjoint($self, other, /)\n--\n\nReturn whether no item of the other is in."),
+    {"__copy__", set_copy, METH_NOARGS, NULL},
+    {"__deepcopy__", set_copy, METH_O, NULL},
+    {"__reversed__", set_reversed, METH_NOARGS, "Walk over the members in descending order."},
+    {"__reduce__", set_reduce, METH_NOARGS, NULL},
+    {"__sizeof__", set_sizeof, METH_NOARGS, NULL},
+    {NULL, NULL, 0, NULL},
+};
+
+/* Weak references are there from Python 3.9 on, which reads this. */
+static PyMemberDef members[] = {
+    {"__weaklistoffset__", T_PYSSIZET, offsetof(BitSet, weak_references), READONLY, NULL},
+    {NULL, 0, 0, 0, NULL},
+};
+
+static PyType_Slot set_slots[] = {
+    {Py_tp_doc, "BitSet(members=())\n--\n\nA set of numbers from 0 to MAX_ELEMENT, as a MutableSet."},
+    {Py_tp_new, set_new},
+    {Py_tp_init, set_init},
+    {Py_tp_dealloc, set_dealloc},
+    {Py_tp_repr, set_repr},
+    {Py_tp_hash, PyObject_HashNotImplemented},
+    {Py_tp_richcompare, set_compare},
+    {Py_tp_iter, set_iter},
+    {Py_tp_methods, methods},
+    {Py_tp_members, members},
+    {Py_sq_contains, set_contains},
+    {Py_sq_length, set_length},
+    {Py_nb_bool, set_bool},
+    {Py_nb_or, set_or},
+    {Py_nb_and, set_and},
+    {Py_nb_subtract, set_subtract},
+    {Py_nb_xor, set_xor},
+    {Py_nb_inplace_or, set_in_place_or},
+    {Py_nb_inplace_and, set_in_place_and},
+    {Py_nb_inplace_subtract, set_in_place_subtract},
+    {Py_nb_inplace_xor, set_in_place_xor},
+    {0, NULL},
+};
+
+static PyType_Spec set_spec = {
+    "bit_set.BitSet", sizeof(BitSet), 0, Py_TPFLAGS_DEFAULT | Py_TPFLAGS_BASETYPE, set_slots,
+};
+
+static PyType_Slot walk_slots[] = {
+    {Py_tp_dealloc, walk_dealloc},
+    {Py_tp_traverse, walk_traverse},
+    {Py_tp_iter, PyObject_SelfIter},
+    {Py_tp_iternext, walk_next},
+    {0, NULL},
+};
+
+static PyType_Spec walk_spec = {
+    "bit_set.Walk", sizeof(Walk), 0, Py_TPFLAGS_DEFAULT | Py_TPFLAGS_HAVE_GC, walk_slots,
+};
+
+static struct PyModuleDef module_definition = {
+    PyModuleDef_HEAD_INIT, "bit_set._bit_set", "Sets of whole numbers as bits, over the proved library for C.", -1,
+    NULL, NULL, NULL, NULL, NULL,
+};
+
+static PyObject *attribute_of(const char *module, const char *name)
+{
+    PyObject *imported = PyImport_ImportModule(module);
+    PyObject *attribute = imported ? PyObject_GetAttrString(imported, name) : NULL;
+    Py_XDECREF(imported);
+    return attribute;
+}
+
+static bool add_object(PyObject *module, const char *name, PyObject *object)
+{
+    Py_XINCREF(object);
+    if (object && !PyModule_AddObject(module, name, object))
+        return true;
+    Py_XDECREF(object);
+    return false;
+}
+
+PyMODINIT_FUNC PyInit__bit_set(void)
+{
+    PyObject *module = PyModule_Create(&module_definition);
+    PyObject *greatest = PyLong_FromSize_t(NO_MEMBER - 1);
+    bit_set_type = (PyTypeObject *)PyType_FromSpec(&set_spec);
+    walk_type = (PyTypeObject *)PyType_FromSpec(&walk_spec);
+    abstract_set = attribute_of("collections.abc", "Set");
+    array_type = attribute_of("array", "array");
+    bool is_made = module && walk_type && abstract_set && array_type
+        && add_object(module, "BitSet", (PyObject *)bit_set_type) && add_object(module, "MAX_ELEMENT", greatest);
+    Py_XDECREF(greatest);
+    if (!is_made)
+        Py_CLEAR(module);
+    return module;
+}

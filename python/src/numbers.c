@@ -1,0 +1,61 @@
+/* Numbers, as they come from Python. */
+#include "set.h"
+
+/* Reads a number below SIZE_MAX from an int or another index. FAILED alone leaves an exception. */
+enum reading read_number(PyObject *object, size_t *number)
+{
+    if (PyLong_Check(object)) {
+        *number = PyLong_AsSize_t(object);
+    } else {
+        if (!PyIndex_Check(object))
+            return NO_NUMBER;
+        PyObject *index = PyNumber_Index(object);
+        if (!index)
+            return FAILED;
+        *number = PyLong_AsSize_t(index);
+        Py_DECREF(index);
+    }
+    if (*number != SIZE_MAX)
+        return NUMBER;
+    PyErr_Clear();
+    return NO_NUMBER;
+}
+
+/* The same, with an exception where there is no such number. The object may be borrowed from a list. */
+bool read_member(PyObject *object, size_t *number)
+{
+    Py_INCREF(object);
+    enum reading reading = read_number(object, number);
+    if (reading == NO_NUMBER && PyIndex_Check(object))
+        PyErr_Format(PyExc_ValueError, "%R is no member of a bit set", object);
+    else if (reading == NO_NUMBER)
+        PyErr_SetString(PyExc_TypeError, "a member of a bit set is an int");
+    Py_DECREF(object);
+    return reading == NUMBER;
+}
+
+/* Reads a bound of a range. One below 0 counts as 0, and `*outside` is -1 then; one above SIZE_MAX as that, and it is 1. */
+bool read_bound(PyObject *object, size_t *bound, int *outside)
+{
+    int overflow;
+    PyObject *index = PyNumber_Index(object);
+    if (!index)
+        return false;
+    long long small = PyLong_AsLongLongAndOverflow(index, &overflow);
+    *outside = overflow < 0 || (!overflow && small < 0) ? -1 : 0;
+    *bound = *outside ? 0 : (size_t)small;
+    if (overflow > 0) {
+        *bound = PyLong_AsSize_t(index);
+        *outside = PyErr_Occurred() ? 1 : 0;
+        PyErr_Clear();
+    }
+    Py_DECREF(index);
+    return true;
+}
+
+PyObject *member_or_none(size_t member)
+{
+    if (member == NO_MEMBER)
+        Py_RETURN_NONE;
+    return PyLong_FromSize_t(member);
+}

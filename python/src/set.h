@@ -1,0 +1,146 @@
+/* Sets of whole numbers as bits, over the proved library for C. This is built for the stable ABI of Python 3.8, so one build
+ * serves each later version. Each call holds the interpreter's lock, so threads may share a set. */
+#ifndef BIT_SET_MODULE_H
+#define BIT_SET_MODULE_H
+
+#define PY_SSIZE_T_CLEAN
+#include <Python.h>
+
+#include "bit_set.h"
+
+/* How many numbers go between Python and the library at a time, and how many a walk asks for. */
+enum { GROUP = 512, WALK_GROUP = 44 };
+
+#define NO_MEMBER SIZE_MAX
+
+typedef struct {
+    PyObject_HEAD
+    bit_set *set;
+    PyObject *weak_references;
+} BitSet;
+
+/* A walk over the members in groups. The set may be changed meanwhile. */
+typedef struct {
+    PyObject_HEAD
+    PyObject *of;
+    bool is_backward;
+    bool has_ended;
+    /* Where the next group begins, or ends where it is walked from the back. */
+    size_t bound;
+    size_t place;
+    size_t count;
+    size_t group[WALK_GROUP];
+} Walk;
+
+/* What reading a number came to. FAILED alone leaves an exception. */
+enum reading { FAILED = -1, NO_NUMBER = 0, NUMBER = 1 };
+
+typedef bool merge(bit_set *, const bit_set *);
+
+/* The two types, `Set` of collections.abc, and the type of arrays. */
+extern PyTypeObject *bit_set_type, *walk_type;
+extern PyObject *abstract_set, *array_type;
+
+/* What a later Python's headers of the stable ABI no longer name, though each has it. */
+extern int PyObject_AsReadBuffer(PyObject *, const void **, Py_ssize_t *);
+extern int PyObject_AsWriteBuffer(PyObject *, void **, Py_ssize_t *);
+
+static inline bool is_bit_set(PyObject *object)
+{
+    return PyObject_TypeCheck(object, bit_set_type);
+}
+
+static inline bit_set *set_of(PyObject *object)
+{
+    return ((BitSet *)object)->set;
+}
+
+/* None, or NULL with a MemoryError. */
+static inline PyObject *none_if(bool found_memory)
+{
+    if (!found_memory)
+        return PyErr_NoMemory();
+    Py_RETURN_NONE;
+}
+
+/* numbers.c */
+PyObject *member_or_none(size_t member);
+bool read_bound(PyObject *object, size_t *bound, int *outside);
+bool read_member(PyObject *object, size_t *number);
+enum reading read_number(PyObject *object, size_t *number);
+
+/* making.c */
+PyObject *as_bit_set(PyObject *members);
+PyObject *set_add(PyObject *self, PyObject *member);
+PyObject *set_copy(PyObject *self, PyObject *Py_UNUSED(none));
+PyObject *set_discard(PyObject *self, PyObject *member);
+PyObject *set_new(PyTypeObject *type, PyObject *Py_UNUSED(positional), PyObject *Py_UNUSED(named));
+PyObject *set_remove(PyObject *self, PyObject *member);
+bool put(PyObject *self, PyObject *member);
+bool put_all(PyObject *self, PyObject *members);
+enum reading take_out(PyObject *self, PyObject *member);
+int set_contains(PyObject *self, PyObject *member);
+int set_init(PyObject *self, PyObject *arguments, PyObject *named);
+void set_dealloc(PyObject *self);
+
+/* merging.c */
+PyObject *set_and(PyObject *left, PyObject *right);
+PyObject *set_difference(PyObject *self, PyObject *others);
+PyObject *set_difference_update(PyObject *self, PyObject *others);
+PyObject *set_in_place_and(PyObject *self, PyObject *other);
+PyObject *set_in_place_or(PyObject *self, PyObject *other);
+PyObject *set_in_place_subtract(PyObject *self, PyObject *other);
+PyObject *set_in_place_xor(PyObject *self, PyObject *other);
+PyObject *set_intersection(PyObject *self, PyObject *others);
+PyObject *set_intersection_update(PyObject *self, PyObject *others);
+PyObject *set_or(PyObject *left, PyObject *right);
+PyObject *set_subtract(PyObject *left, PyObject *right);
+PyObject *set_symmetric_difference(PyObject *self, PyObject *members);
+PyObject *set_symmetric_difference_update(PyObject *self, PyObject *members);
+PyObject *set_union(PyObject *self, PyObject *others);
+PyObject *set_update(PyObject *self, PyObject *others);
+PyObject *set_xor(PyObject *left, PyObject *right);
+int is_set(PyObject *object);
+
+/* comparing.c */
+PyObject *set_compare(PyObject *self, PyObject *other, int operation);
+PyObject *set_isdisjoint(PyObject *self, PyObject *iterable);
+PyObject *set_issubset(PyObject *self, PyObject *items);
+PyObject *set_issuperset(PyObject *self, PyObject *items);
+
+/* walking.c */
+PyObject *set_from_bytes(PyObject *type, PyObject *bytes);
+PyObject *set_iter(PyObject *self);
+PyObject *set_reduce(PyObject *self, PyObject *Py_UNUSED(none));
+PyObject *set_repr(PyObject *self);
+PyObject *set_reversed(PyObject *self, PyObject *Py_UNUSED(none));
+PyObject *set_sizeof(PyObject *self, PyObject *Py_UNUSED(none));
+PyObject *set_to_array(PyObject *self, PyObject *Py_UNUSED(none));
+PyObject *set_to_bytes(PyObject *self, PyObject *Py_UNUSED(none));
+PyObject *walk_next(PyObject *object);
+Py_ssize_t set_length(PyObject *self);
+int set_bool(PyObject *self);
+int walk_traverse(PyObject *object, visitproc visit, void *arg);
+void walk_dealloc(PyObject *object);
+
+/* ranges.c */
+PyObject *made_by(PyObject *type, PyObject *argument, PyObject *(*fill)(PyObject *, PyObject *));
+PyObject *set_add_range(PyObject *self, PyObject *arguments);
+PyObject *set_all_in_range(PyObject *self, PyObject *arguments);
+PyObject *set_any_in_range(PyObject *self, PyObject *arguments);
+PyObject *set_clear(PyObject *self, PyObject *Py_UNUSED(none));
+PyObject *set_count_in_range(PyObject *self, PyObject *arguments);
+PyObject *set_discard_range(PyObject *self, PyObject *arguments);
+PyObject *set_first(PyObject *self, PyObject *Py_UNUSED(none));
+PyObject *set_from_range(PyObject *type, PyObject *arguments);
+PyObject *set_last(PyObject *self, PyObject *Py_UNUSED(none));
+PyObject *set_next(PyObject *self, PyObject *from);
+PyObject *set_next_missing(PyObject *self, PyObject *from);
+PyObject *set_nth(PyObject *self, PyObject *index);
+PyObject *set_pop(PyObject *self, PyObject *Py_UNUSED(none));
+PyObject *set_pop_last(PyObject *self, PyObject *Py_UNUSED(none));
+PyObject *set_previous(PyObject *self, PyObject *end);
+PyObject *set_toggle(PyObject *self, PyObject *member);
+PyObject *set_toggle_range(PyObject *self, PyObject *arguments);
+
+#endif

@@ -1,0 +1,182 @@
+/* Walks over the members, and all of them at once. */
+#include "set.h"
+
+Py_ssize_t set_length(PyObject *self)
+{
+    return (Py_ssize_t)bit_set_count(set_of(self));
+}
+
+int set_bool(PyObject *self)
+{
+    return !bit_set_is_empty(set_of(self));
+}
+
+static PyObject *list_of(PyObject *self)
+{
+    Py_ssize_t size = set_length(self);
+    size_t group[GROUP], from = 0;
+    PyObject *list = PyList_New(size);
+    for (Py_ssize_t done = 0; list && done < size;) {
+        size_t count = bit_set_copy_members(set_of(self), from, group, GROUP);
+        for (size_t at = 0; at < count; at++) {
+            PyObject *member = PyLong_FromSize_t(group[at]);
+            if (!member) {
+                Py_DECREF(list);
+                return NULL;
+            }
+            PyList_SetItem(list, done++, member);
+        }
+        from = group[count - 1] + 1;
+    }
+    return list;
+}
+
+static PyObject *type_name(PyObject *self)
+{
+    return PyObject_GetAttrString((PyObject *)Py_TYPE(self), "__name__");
+}
+
+PyObject *set_repr(PyObject *self)
+{
+    PyObject *text = NULL, *name = type_name(self), *list = list_of(self);
+    if (name && list)
+        text = PyUnicode_FromFormat("%U(%R)", name, list);
+    Py_XDECREF(name);
+    Py_XDECREF(list);
+    return text;
+}
+
+/* The members as an array of the machine's words, which NumPy reads with no copy. */
+PyObject *set_to_array(PyObject *self, PyObject *Py_UNUSED(none))
+{
+    void *place;
+    Py_ssize_t length;
+    PyObject *array = NULL, *zero = PyObject_CallFunction(array_type, "s(i)", sizeof(size_t) == 8 ? "Q" : "I", 0);
+    if (zero)
+        array = PySequence_Repeat(zero, set_length(self));
+    Py_XDECREF(zero);
+    if (!array)
+        return NULL;
+    if (PyObject_AsWriteBuffer(array, &place, &length)) {
+        Py_DECREF(array);
+        return NULL;
+    }
+    bit_set_copy_members(set_of(self), 0, place, (size_t)length / sizeof(size_t));
+    return array;
+}
+
+PyObject *set_reduce(PyObject *self, PyObject *Py_UNUSED(none))
+{
+    PyObject *array = set_to_array(self, NULL);
+    PyObject *state = PyObject_GetAttrString(self, "__dict__");
+    if (!state) {
+        PyErr_Clear();
+        state = Py_None;
+        Py_INCREF(state);
+    }
+    return array ? Py_BuildValue("O(N)N", (PyObject *)Py_TYPE(self), array, state) : NULL;
+}
+
+PyObject *set_sizeof(PyObject *self, PyObject *Py_UNUSED(none))
+{
+    return PyLong_FromSize_t(sizeof(BitSet) + bit_set_capacity(set_of(self)) / 8);
+}
+
+static PyObject *walk_over(PyObject *self, bool is_backward)
+{
+    Walk *walk = PyObject_GC_New(Walk, walk_type);
+    if (!walk)
+        return NULL;
+    Py_INCREF(self);
+    walk->of = self;
+    walk->is_backward = is_backward;
+    walk->has_ended = false;
+    walk->bound = is_backward ? SIZE_MAX : 0;
+    walk->place = walk->count = 0;
+    PyObject_GC_Track(walk);
+    return (PyObject *)walk;
+}
+
+PyObject *set_iter(PyObject *self)
+{
+    return walk_over(self, false);
+}
+
+PyObject *set_reversed(PyObject *self, PyObject *Py_UNUSED(none))
+{
+    return walk_over(self, true);
+}
+
+/* Asks for the next group. */
+static void fill(Walk *walk)
+{
+    bit_set *set = set_of(walk->of);
+    walk->place = 0;
+    if (walk->is_backward)
+        walk->count = bit_set_copy_members_back(set, walk->bound, walk->group, WALK_GROUP);
+    else
+        walk->count = bit_set_copy_members(set, walk->bound, walk->group, WALK_GROUP);
+    walk->has_ended = walk->count < WALK_GROUP;
+    if (!walk->has_ended)
+        walk->bound = walk->group[WALK_GROUP - 1] + !walk->is_backward;
+}
+
+PyObject *walk_next(PyObject *object)
+{
+    Walk *walk = (Walk *)object;
+    if (walk->place == walk->count && !walk->has_ended)
+        fill(walk);
+    return walk->place < walk->count ? PyLong_FromSize_t(walk->group[walk->place++]) : NULL;
+}
+
+int walk_traverse(PyObject *object, visitproc visit, void *arg)
+{
+#if PY_VERSION_HEX >= 0x03090000
+    Py_VISIT(Py_TYPE(object));
+#endif
+    Py_VISIT(((Walk *)object)->of);
+    return 0;
+}
+
+void walk_dealloc(PyObject *object)
+{
+    PyTypeObject *type = Py_TYPE(object);
+    PyObject_GC_UnTrack(object);
+    Py_XDECREF(((Walk *)object)->of);
+    PyObject_GC_Del(object);
+    Py_DECREF(type);
+}
+
+PyObject *set_to_bytes(PyObject *self, PyObject *Py_UNUSED(none))
+{
+    size_t last = bit_set_last(set_of(self));
+    size_t count = last == NO_MEMBER ? 0 : last / 8 + 1;
+    PyObject *bytes = PyBytes_FromStringAndSize(NULL, (Py_ssize_t)count);
+    if (bytes)
+        bit_set_copy_bytes(set_of(self), 0, (uint8_t *)PyBytes_AsString(bytes), count);
+    return bytes;
+}
+
+static PyObject *put_bytes(PyObject *self, PyObject *bytes)
+{
+    const void *start;
+    Py_ssize_t length;
+    bit_set *made = NULL;
+    PyObject *view = PyMemoryView_FromObject(bytes);
+    if (!view || PyObject_AsReadBuffer(view, &start, &length)) {
+        Py_XDECREF(view);
+        return NULL;
+    }
+    bool found = bit_set_from_bytes(&made, start, (size_t)length);
+    Py_DECREF(view);
+    if (!found)
+        return PyErr_NoMemory();
+    bit_set_free(set_of(self));
+    ((BitSet *)self)->set = made;
+    return none_if(true);
+}
+
+PyObject *set_from_bytes(PyObject *type, PyObject *bytes)
+{
+    return made_by(type, bytes, put_bytes);
+}
