@@ -1,0 +1,526 @@
+//! Sets of whole numbers as bits: the API of the crate `bit-set`, over a library for C whose every call is proved.
+//!
+//! What has a bit vector in its type (`from_bit_vec`, `into_bit_vec`, `get_ref`, `get_mut`) is left out, since the library
+//! shows none, and so are the features `serde`, `miniserde`, `nanoserde` and `borsh` of 0.8, whose form is a bit vector's.
+//! Blocks have 32 bits, or 64. A call that finds no memory ends the process, as those of `Vec` do.
+//!
+//! ```
+//! let mut set = bit_set::BitSet::new();
+//! assert!(set.insert(3));
+//! set.extend([1, 4, 1]);
+//! assert!(set.remove(4));
+//! assert!(set.iter().eq([1, 3]));
+//! ```
+#![deny(unsafe_op_in_unsafe_fn)]
+
+use std::cmp::Ordering;
+use std::fmt;
+use std::hash::{Hash, Hasher};
+use std::marker::PhantomData;
+use std::mem::{size_of, MaybeUninit};
+use std::ops::Range;
+use std::ptr::null_mut;
+use std::sync::OnceLock;
+
+use bit_set_sys as raw;
+
+mod walks;
+
+pub use walks::{Difference, Intersection, Iter, SymmetricDifference, Union};
+
+/// A type of blocks that the library has.
+pub trait BitBlock: raw::Calls + 'static {
+    /// An empty set, which the calls that read are given for one that has none of its own.
+    #[doc(hidden)]
+    fn empty() -> &'static BitSet<Self>;
+}
+
+macro_rules! blocks {
+    ($($block:ident),*) => {
+        $(
+            impl BitBlock for $block {
+                fn empty() -> &'static BitSet<Self> {
+                    static EMPTY: OnceLock<BitSet<$block>> = OnceLock::new();
+                    EMPTY.get_or_init(BitSet::allocated)
+                }
+            }
+        )*
+    };
+}
+
+blocks! { u32, u64 }
+
+/// A set of `usize` below `usize::MAX`.
+pub struct BitSet<B: BitBlock = u32> {
+    // Null stands for an empty set of length and capacity 0: it takes no memory.
+    set: *mut raw::Set,
+    blocks: PhantomData<B>,
+}
+
+// SAFETY: a set is a block of malloc's and what that points to, and is of no thread.
+unsafe impl<B: BitBlock> Send for BitSet<B> {}
+
+// SAFETY: a call that takes a `*const` writes nothing: it is proved of a loan that is shared.
+unsafe impl<B: BitBlock> Sync for BitSet<B> {}
+
+// Ends the process where a call found no memory. No call says how much it asked for.
+#[track_caller]
+fn require(done: bool) {
+    if !done {
+        std::alloc::handle_alloc_error(std::alloc::Layout::new::<u64>());
+    }
+}
+
+impl<B: BitBlock> Drop for BitSet<B> {
+    fn drop(&mut self) {
+        if !self.set.is_null() {
+            // SAFETY: the set is this one's own, and is used no more.
+            unsafe { B::free(self.set) }
+        }
+    }
+}
+
+impl BitSet<u32> {
+    /// An empty set. It takes no memory before the first element.
+    pub const fn new() -> Self {
+        Self::NEW
+    }
+
+    /// An empty set, into which numbers below `nbits` go without memory.
+    pub fn with_capacity(nbits: usize) -> Self {
+        Self::with_capacity_general(nbits)
+    }
+
+    /// The set of the bits that are 1, those of each byte counted from the highest.
+    pub fn from_bytes(bytes: &[u8]) -> Self {
+        Self::from_bytes_general(bytes)
+    }
+}
+
+impl<B: BitBlock> BitSet<B> {
+    const NEW: Self = BitSet { set: null_mut(), blocks: PhantomData };
+
+    /// An empty set, over any type of blocks.
+    pub const fn new_general() -> Self {
+        Self::NEW
+    }
+
+    /// An empty set over any type of blocks, into which numbers below `nbits` go without memory.
+    pub fn with_capacity_general(nbits: usize) -> Self {
+        // SAFETY: `out` is null.
+        Self::made(|out| unsafe { B::with_capacity(out, nbits) })
+    }
+
+    /// The set of the bits that are 1, those of each byte counted from the highest, over any type of blocks.
+    pub fn from_bytes_general(bytes: &[u8]) -> Self {
+        // SAFETY: `out` is null, and the bytes are lent for the call.
+        Self::made(|out| unsafe { B::from_bytes(out, bytes.as_ptr(), bytes.len()) })
+    }
+
+    // An empty set of the library's.
+    #[cold]
+    fn allocated() -> Self {
+        // SAFETY: `out` is null.
+        Self::made(|out| unsafe { B::new(out) })
+    }
+
+    // The set that a call puts out.
+    fn made(call: impl FnOnce(*mut *mut raw::Set) -> bool) -> Self {
+        let mut set = null_mut();
+        require(call(&mut set));
+        BitSet { set, blocks: PhantomData }
+    }
+
+    // A set of the library's to read.
+    #[inline]
+    fn read(&self) -> *const raw::Set {
+        if self.set.is_null() {
+            return B::empty().set;
+        }
+        self.set
+    }
+
+    // A set of the library's to change, which is made here where there is none yet.
+    #[inline]
+    fn write(&mut self) -> *mut raw::Set {
+        if self.set.is_null() {
+            *self = Self::allocated();
+        }
+        self.set
+    }
+
+    // What a call returns that tells whether it changed anything.
+    #[track_caller]
+    fn changed(answer: i32) -> bool {
+        assert_ne!(answer, -2, "usize::MAX is no element");
+        require(answer >= 0);
+        answer == 1
+    }
+
+    /// Below which number an element goes in without memory.
+    pub fn capacity(&self) -> usize {
+        // SAFETY: the set is lent for the call, as in each of the calls below.
+        unsafe { B::capacity(self.read()) }
+    }
+
+    /// Reserves capacity for elements below `len`.
+    pub fn reserve_len(&mut self, len: usize) {
+        require(unsafe { B::reserve(self.write(), len) });
+    }
+
+    /// Reserves capacity for elements below `len`, and for no more.
+    pub fn reserve_len_exact(&mut self, len: usize) {
+        require(unsafe { B::reserve_exact(self.write(), len) });
+    }
+
+    /// Gives back the capacity that the elements do not need, as far as there is memory to move to.
+    pub fn shrink_to_fit(&mut self) {
+        if !self.set.is_null() {
+            unsafe { B::shrink_to_fit(self.set) };
+        }
+    }
+
+    /// How many elements there are.
+    pub fn len(&self) -> usize {
+        unsafe { B::count(self.read()) }
+    }
+
+    /// The newer name of `len`.
+    pub fn count(&self) -> usize {
+        self.len()
+    }
+
+    /// Whether there is no element.
+    pub fn is_empty(&self) -> bool {
+        unsafe { B::is_empty(self.read()) }
+    }
+
+    /// The length of the bit vector: each element is below it.
+    pub fn bit_length(&self) -> usize {
+        unsafe { B::length(self.read()) }
+    }
+
+    /// Whether `value` is an element.
+    #[inline]
+    pub fn contains(&self, value: usize) -> bool {
+        !self.set.is_null() && unsafe { B::contains(self.set, value) }
+    }
+
+    /// Puts `value` in, and returns whether it is new.
+    ///
+    /// # Panics
+    ///
+    /// At `usize::MAX`, which is no element.
+    #[inline]
+    pub fn insert(&mut self, value: usize) -> bool {
+        Self::changed(unsafe { B::insert(self.write(), value) })
+    }
+
+    /// Takes `value` out, and returns whether it was in.
+    #[inline]
+    pub fn remove(&mut self, value: usize) -> bool {
+        !self.set.is_null() && unsafe { B::remove(self.set, value) }
+    }
+
+    /// Takes every element out.
+    pub fn clear(&mut self) {
+        self.make_empty();
+    }
+
+    /// The newer name of `clear`.
+    pub fn make_empty(&mut self) {
+        if !self.set.is_null() {
+            unsafe { B::make_empty(self.set) }
+        }
+    }
+
+    /// Takes every element out, and makes the length 0.
+    pub fn reset(&mut self) {
+        if !self.set.is_null() {
+            unsafe { B::reset(self.set) }
+        }
+    }
+
+    /// Keeps the elements below `len`.
+    pub fn truncate(&mut self, len: usize) {
+        if !self.set.is_null() {
+            unsafe { B::truncate(self.set, len) }
+        }
+    }
+
+    /// Moves what is in `other` into the set.
+    pub fn append(&mut self, other: &mut Self) {
+        require(unsafe { B::append(self.write(), other.write()) });
+    }
+
+    /// Parts the set: the elements below `at` stay, and the others are returned.
+    pub fn split_off(&mut self, at: usize) -> Self {
+        let set = self.write();
+        Self::made(|out| unsafe { B::split_off(out, set, at) })
+    }
+
+    /// Puts in what is in `other`.
+    pub fn union_with(&mut self, other: &Self) {
+        require(unsafe { B::union_with(self.write(), other.read()) });
+    }
+
+    /// Keeps what is in `other` too.
+    pub fn intersect_with(&mut self, other: &Self) {
+        require(unsafe { B::intersect_with(self.write(), other.read()) });
+    }
+
+    /// Takes out what is in `other`.
+    pub fn difference_with(&mut self, other: &Self) {
+        require(unsafe { B::difference_with(self.write(), other.read()) });
+    }
+
+    /// Keeps what is in just one of both.
+    pub fn symmetric_difference_with(&mut self, other: &Self) {
+        require(unsafe { B::symmetric_difference_with(self.write(), other.read()) });
+    }
+
+    /// Whether every element is one of `other`.
+    pub fn is_subset(&self, other: &Self) -> bool {
+        unsafe { B::is_subset(self.read(), other.read()) }
+    }
+
+    /// Whether every element of `other` is one of this set.
+    pub fn is_superset(&self, other: &Self) -> bool {
+        other.is_subset(self)
+    }
+
+    /// Whether no element is one of `other`.
+    pub fn is_disjoint(&self, other: &Self) -> bool {
+        unsafe { B::is_disjoint(self.read(), other.read()) }
+    }
+}
+
+// The calls that the crate `bit-set` has not.
+impl<B: BitBlock> BitSet<B> {
+    /// Takes `value` out where it is in, and puts it in where not. Returns whether it is in now.
+    ///
+    /// # Panics
+    ///
+    /// At `usize::MAX`, which is no element.
+    pub fn toggle(&mut self, value: usize) -> bool {
+        Self::changed(unsafe { B::toggle(self.write(), value) })
+    }
+
+    /// Puts `value` in where `bit` is true, and takes it out where not. Returns whether that changed the set.
+    ///
+    /// # Panics
+    ///
+    /// Where `usize::MAX`, which is no element, is to be put in.
+    pub fn set(&mut self, value: usize, bit: bool) -> bool {
+        if bit {
+            return self.insert(value);
+        }
+        self.remove(value)
+    }
+
+    /// The least element.
+    pub fn first(&self) -> Option<usize> {
+        Self::found(unsafe { B::first(self.read()) })
+    }
+
+    /// The greatest element.
+    pub fn last(&self) -> Option<usize> {
+        Self::found(unsafe { B::last(self.read()) })
+    }
+
+    /// Takes the least element out, and returns it.
+    pub fn pop_first(&mut self) -> Option<usize> {
+        if self.set.is_null() {
+            return None;
+        }
+        Self::found(unsafe { B::pop_first(self.set) })
+    }
+
+    /// Takes the greatest element out, and returns it.
+    pub fn pop_last(&mut self) -> Option<usize> {
+        if self.set.is_null() {
+            return None;
+        }
+        Self::found(unsafe { B::pop_last(self.set) })
+    }
+
+    /// The least element that is `from` or above.
+    pub fn next(&self, from: usize) -> Option<usize> {
+        Self::found(unsafe { B::next(self.read(), from) })
+    }
+
+    /// The greatest element below `end`.
+    pub fn previous(&self, end: usize) -> Option<usize> {
+        Self::found(unsafe { B::previous(self.read(), end) })
+    }
+
+    /// The least number that is `from` or above and no element.
+    pub fn next_missing(&self, from: usize) -> usize {
+        unsafe { B::next_missing(self.read(), from) }
+    }
+
+    /// The element that `n` others come before, found by the counts of blocks.
+    pub fn nth(&self, n: usize) -> Option<usize> {
+        Self::found(unsafe { B::nth(self.read(), 0, n) })
+    }
+
+    /// Puts each number of the range in. A range that ends at its start or below has none.
+    pub fn insert_range(&mut self, range: Range<usize>) {
+        require(unsafe { B::insert_range(self.write(), range.start, range.end) });
+    }
+
+    /// Takes each number of the range out where it is in, and puts it in where not.
+    pub fn toggle_range(&mut self, range: Range<usize>) {
+        require(unsafe { B::toggle_range(self.write(), range.start, range.end) });
+    }
+
+    /// Takes each number of the range out.
+    pub fn remove_range(&mut self, range: Range<usize>) {
+        if !self.set.is_null() {
+            unsafe { B::remove_range(self.set, range.start, range.end) }
+        }
+    }
+
+    /// Whether every number of the range is an element, and so whether the range is empty.
+    pub fn contains_all_in_range(&self, range: Range<usize>) -> bool {
+        unsafe { B::contains_all_in_range(self.read(), range.start, range.end) }
+    }
+
+    /// Whether some number of the range is an element.
+    pub fn contains_any_in_range(&self, range: Range<usize>) -> bool {
+        unsafe { B::contains_any_in_range(self.read(), range.start, range.end) }
+    }
+
+    /// How many numbers of the range are elements.
+    pub fn count_in_range(&self, range: Range<usize>) -> usize {
+        unsafe { B::count_in_range(self.read(), range.start, range.end) }
+    }
+
+    /// Puts in what is in `other`, and returns whether that changed the set.
+    pub fn union_changes(&mut self, other: &Self) -> bool {
+        Self::changed(unsafe { B::union_changes(self.write(), other.read()) })
+    }
+
+    /// Keeps what is in `other` too, and returns whether that changed the set.
+    pub fn intersection_changes(&mut self, other: &Self) -> bool {
+        Self::changed(unsafe { B::intersection_changes(self.write(), other.read()) })
+    }
+
+    /// Takes out what is in `other`, and returns whether that changed the set.
+    pub fn difference_changes(&mut self, other: &Self) -> bool {
+        Self::changed(unsafe { B::difference_changes(self.write(), other.read()) })
+    }
+
+    /// Keeps what is in just one of both, and returns whether that changed the set.
+    pub fn symmetric_difference_changes(&mut self, other: &Self) -> bool {
+        Self::changed(unsafe { B::symmetric_difference_changes(self.write(), other.read()) })
+    }
+
+    /// Puts in what is in `other` and not in `except`, and returns whether that changed the set.
+    pub fn union_with_difference(&mut self, other: &Self, except: &Self) -> bool {
+        Self::changed(unsafe { B::union_with_difference(self.write(), other.read(), except.read()) })
+    }
+
+    /// The bits up to the length as bytes, those of each byte from the highest: what `from_bytes` reads.
+    pub fn to_bytes(&self) -> Vec<u8> {
+        let count = self.bit_length() / 8 + usize::from(self.bit_length() % 8 != 0);
+        let mut bytes = vec![0; count];
+        unsafe { B::copy_bytes(self.read(), 0, bytes.as_mut_ptr(), count) };
+        bytes
+    }
+
+    // What a search returns.
+    fn found(element: usize) -> Option<usize> {
+        (element != usize::MAX).then_some(element)
+    }
+}
+
+// Writes words of 64 bits from one on, by a call that copies blocks, and returns how many it wrote.
+fn copy_words<B: BitBlock>(
+    from: usize,
+    words: &mut [MaybeUninit<u64>],
+    call: impl FnOnce(usize, *mut B, usize) -> usize,
+) -> usize {
+    let parts = size_of::<u64>() / size_of::<B>();
+    let blocks = words.as_mut_ptr().cast::<B>();
+    let count = call(from * parts, blocks, words.len() * parts);
+    let end = (count + parts - 1) / parts;
+    // SAFETY: a word is as many blocks as there are parts, and the call wrote no more of them than there is room for.
+    unsafe { blocks.add(count).write_bytes(0, end * parts - count) };
+    if cfg!(target_endian = "big") && parts == 2 {
+        for word in &mut words[..end] {
+            // SAFETY: the words below `end` are written.
+            word.write(unsafe { word.assume_init() }.rotate_left(32));
+        }
+    }
+    end
+}
+
+impl<B: BitBlock> Default for BitSet<B> {
+    fn default() -> Self {
+        Self::NEW
+    }
+}
+
+impl<B: BitBlock> Clone for BitSet<B> {
+    fn clone(&self) -> Self {
+        if self.set.is_null() {
+            return Self::NEW;
+        }
+        Self::made(|out| unsafe { B::clone(out, self.read()) })
+    }
+
+    fn clone_from(&mut self, other: &Self) {
+        require(unsafe { B::copy(self.write(), other.read()) });
+    }
+}
+
+impl<B: BitBlock> Extend<usize> for BitSet<B> {
+    fn extend<I: IntoIterator<Item = usize>>(&mut self, iter: I) {
+        for value in iter {
+            self.insert(value);
+        }
+    }
+}
+
+impl<B: BitBlock> FromIterator<usize> for BitSet<B> {
+    fn from_iter<I: IntoIterator<Item = usize>>(iter: I) -> Self {
+        let mut set = Self::default();
+        set.extend(iter);
+        set
+    }
+}
+
+impl<B: BitBlock> PartialEq for BitSet<B> {
+    fn eq(&self, other: &Self) -> bool {
+        unsafe { B::equals(self.read(), other.read()) }
+    }
+}
+
+impl<B: BitBlock> Eq for BitSet<B> {}
+
+impl<B: BitBlock> PartialOrd for BitSet<B> {
+    fn partial_cmp(&self, other: &Self) -> Option<Ordering> {
+        Some(self.cmp(other))
+    }
+}
+
+impl<B: BitBlock> Ord for BitSet<B> {
+    fn cmp(&self, other: &Self) -> Ordering {
+        unsafe { B::compare(self.read(), other.read()) }.cmp(&0)
+    }
+}
+
+impl<B: BitBlock> Hash for BitSet<B> {
+    fn hash<H: Hasher>(&self, state: &mut H) {
+        for value in self {
+            value.hash(state);
+        }
+    }
+}
+
+impl<B: BitBlock> fmt::Debug for BitSet<B> {
+    fn fmt(&self, fmt: &mut fmt::Formatter<'_>) -> fmt::Result {
+        fmt.debug_set().entries(self).finish()
+    }
+}
