@@ -445,8 +445,10 @@ fn copy_words<B: BitBlock>(
     let blocks = words.as_mut_ptr().cast::<B>();
     let count = call(from * parts, blocks, words.len() * parts);
     let end = (count + parts - 1) / parts;
-    // SAFETY: a word is as many blocks as there are parts, and the call wrote no more of them than there is room for.
-    unsafe { blocks.add(count).write_bytes(0, end * parts - count) };
+    if count % parts != 0 {
+        // SAFETY: the call wrote no more blocks than there is room for, so that this one is the other half of a word.
+        unsafe { blocks.add(count).write_bytes(0, 1) };
+    }
     if cfg!(target_endian = "big") && parts == 2 {
         for word in &mut words[..end] {
             // SAFETY: the words below `end` are written.

@@ -19,8 +19,9 @@ trait Source<B: BitBlock> {
 #[derive(Clone)]
 struct Walk<S> {
     source: S,
-    // Those below `end` are written.
-    group: [MaybeUninit<u64>; GROUP],
+    // The group, of which what is below `end` is written: a small one, or where there are more a large one.
+    few: [MaybeUninit<u64>; FEW],
+    many: Vec<MaybeUninit<u64>>,
     // Which block the group begins with, the one of the group that is next, and where the group ends.
     first: usize,
     at: usize,
@@ -35,8 +36,8 @@ struct Walk<S> {
 impl<S> Walk<S> {
     #[inline]
     fn over(source: S) -> Self {
-        let group = [MaybeUninit::uninit(); GROUP];
-        Walk { source, group, first: 0, at: 0, end: 0, size: FEW, block: 0, base: 0 }
+        let few = [MaybeUninit::uninit(); FEW];
+        Walk { source, few, many: Vec::new(), first: 0, at: 0, end: 0, size: FEW, block: 0, base: 0 }
     }
 
     // Below this number every element was returned.
@@ -55,11 +56,12 @@ impl<S> Walk<S> {
         S: Source<B>,
     {
         loop {
+            let group = if self.many.is_empty() { &self.few[..] } else { &self.many };
             while self.at < self.end {
                 let at = self.at;
                 self.at += 1;
                 // SAFETY: the blocks below `end` are written.
-                self.block = unsafe { self.group[at % GROUP].assume_init() };
+                self.block = unsafe { group[at].assume_init() };
                 if self.block != 0 {
                     self.base = (self.first + at) * WIDTH;
                     return true;
@@ -85,7 +87,11 @@ impl<S> Walk<S> {
                 None => return false,
             },
         };
-        let count = self.source.copy(first, &mut self.group[..self.size]);
+        if self.size > FEW && self.many.is_empty() {
+            self.many = vec![MaybeUninit::uninit(); GROUP];
+        }
+        let group = if self.many.is_empty() { &mut self.few[..] } else { &mut self.many[..self.size] };
+        let count = self.source.copy(first, group);
         (self.first, self.at, self.end) = (first, 0, count);
         self.size = match count == self.size {
             false => 0,
