@@ -185,7 +185,10 @@ fn new_sets() {
     let other: BitSet = [3, 5].into_iter().collect();
     assert!(set.is_empty() && set == BitSet::with_capacity(100) && set < other && set.is_subset(&other));
     assert_eq!((set.capacity(), set.bit_length(), set.to_bytes()), (0, 0, vec![]));
-    assert_eq!((set.pop_first(), set.pop_last(), set.first(), set.iter().next(), set.iter().next_back()), (None, None, None, None, None));
+    assert_eq!(
+        (set.pop_first(), set.pop_last(), set.first(), set.iter().next(), set.iter().next_back()),
+        (None, None, None, None, None)
+    );
     set.shrink_to_fit();
     set.truncate(3);
     set.reset();

@@ -1,6 +1,7 @@
 //! Bits up to a length: the API of the crate `fixedbitset` 0.4, over a library for C whose every call is proved.
 //!
 //! `as_slice` and `as_mut_slice` are left out, since the library lends no blocks, and so is the feature `serde`.
+//! `union` and `symmetric_difference` ascend, where those of the crate go through one set and then through the other.
 //!
 //! ```
 //! let mut bits = fixedbitset::FixedBitSet::with_capacity(10);
@@ -47,7 +48,8 @@ impl FixedBitSet {
     pub fn with_capacity_and_blocks<I: IntoIterator<Item = u32>>(bits: usize, blocks: I) -> Self {
         let count = bits / BITS + usize::from(bits % BITS != 0);
         // `from_bytes` counts the bits of a byte from the highest.
-        let bytes: Vec<u8> = blocks.into_iter().take(count).flat_map(|block| block.to_le_bytes().map(u8::reverse_bits)).collect();
+        let bytes: Vec<u8> =
+            blocks.into_iter().take(count).flat_map(|block| block.to_le_bytes().map(u8::reverse_bits)).collect();
         let mut set = BitSet::from_bytes(&bytes);
         set.truncate(bits);
         FixedBitSet { set, length: bits }
