@@ -17,26 +17,43 @@ use std::cmp::Ordering;
 use std::fmt;
 use std::hash::{Hash, Hasher};
 use std::marker::PhantomData;
-use std::mem::size_of;
-use std::ptr::{null_mut, NonNull};
+use std::mem::{size_of, MaybeUninit};
+use std::ptr::null_mut;
+use std::sync::OnceLock;
 
-mod raw;
+use bit_set_sys as raw;
+
+mod further;
 mod walks;
-
-use raw::Calls;
 
 pub use walks::{Difference, Intersection, Iter, SymmetricDifference, Union};
 
 /// A type of blocks that the library has.
-pub trait BitBlock: raw::Calls {}
+pub trait BitBlock: raw::Calls + 'static {
+    /// An empty set, which the calls that read are given for one that has none of its own.
+    #[doc(hidden)]
+    fn empty() -> &'static BitSet<Self>;
+}
 
-impl BitBlock for u32 {}
+macro_rules! blocks {
+    ($($block:ident),*) => {
+        $(
+            impl BitBlock for $block {
+                fn empty() -> &'static BitSet<Self> {
+                    static EMPTY: OnceLock<BitSet<$block>> = OnceLock::new();
+                    EMPTY.get_or_init(BitSet::allocated)
+                }
+            }
+        )*
+    };
+}
 
-impl BitBlock for u64 {}
+blocks! { u32, u64 }
 
 /// A set of `usize` below `usize::MAX`.
 pub struct BitSet<B: BitBlock = u32> {
-    set: NonNull<raw::Set>,
+    // Null stands for an empty set of length and capacity 0: it takes no memory.
+    set: *mut raw::Set,
     blocks: PhantomData<B>,
 }
 
@@ -56,45 +73,88 @@ fn require(done: bool) {
 
 impl<B: BitBlock> Drop for BitSet<B> {
     fn drop(&mut self) {
-        // SAFETY: the set is this one's own, and is used no more.
-        unsafe { B::free(self.set.as_ptr()) }
+        if !self.set.is_null() {
+            // SAFETY: the set is this one's own, and is used no more.
+            unsafe { B::free(self.set) }
+        }
     }
 }
 
 impl BitSet<u32> {
-    /// An empty set.
-    pub fn new() -> Self {
-        Self::default()
+    /// An empty set. It takes no memory before the first element.
+    pub const fn new() -> Self {
+        Self::NEW
     }
 
     /// An empty set, into which numbers below `nbits` go without memory.
     pub fn with_capacity(nbits: usize) -> Self {
-        // SAFETY: `out` is null.
-        Self::made(|out| unsafe { u32::with_capacity(out, nbits) })
+        Self::with_capacity_general(nbits)
     }
 
     /// The set of the bits that are 1, those of each byte counted from the highest.
     pub fn from_bytes(bytes: &[u8]) -> Self {
-        // SAFETY: `out` is null, and the bytes are lent for the call.
-        Self::made(|out| unsafe { u32::from_bytes(out, bytes.as_ptr(), bytes.len()) })
+        Self::from_bytes_general(bytes)
     }
 }
 
 impl<B: BitBlock> BitSet<B> {
+    const NEW: Self = BitSet { set: null_mut(), blocks: PhantomData };
+
+    /// An empty set, over any type of blocks.
+    pub const fn new_general() -> Self {
+        Self::NEW
+    }
+
+    /// An empty set over any type of blocks, into which numbers below `nbits` go without memory.
+    pub fn with_capacity_general(nbits: usize) -> Self {
+        // SAFETY: `out` is null.
+        Self::made(|out| unsafe { B::with_capacity(out, nbits) })
+    }
+
+    /// The set of the bits that are 1, those of each byte counted from the highest, over any type of blocks.
+    pub fn from_bytes_general(bytes: &[u8]) -> Self {
+        // SAFETY: `out` is null, and the bytes are lent for the call.
+        Self::made(|out| unsafe { B::from_bytes(out, bytes.as_ptr(), bytes.len()) })
+    }
+
+    // An empty set of the library's.
+    #[cold]
+    fn allocated() -> Self {
+        // SAFETY: `out` is null.
+        Self::made(|out| unsafe { B::new(out) })
+    }
+
     // The set that a call puts out.
     fn made(call: impl FnOnce(*mut *mut raw::Set) -> bool) -> Self {
-        let mut out = null_mut();
-        require(call(&mut out));
-        let set = NonNull::new(out).expect("a call that was done puts a set out");
+        let mut set = null_mut();
+        require(call(&mut set));
         BitSet { set, blocks: PhantomData }
     }
 
+    // A set of the library's to read.
+    #[inline]
     fn read(&self) -> *const raw::Set {
-        self.set.as_ptr()
+        if self.set.is_null() {
+            return B::empty().set;
+        }
+        self.set
     }
 
+    // A set of the library's to change, which is made here where there is none yet.
+    #[inline]
     fn write(&mut self) -> *mut raw::Set {
-        self.set.as_ptr()
+        if self.set.is_null() {
+            *self = Self::allocated();
+        }
+        self.set
+    }
+
+    // What a call returns that tells whether it changed anything.
+    #[track_caller]
+    fn changed(answer: i32) -> bool {
+        assert_ne!(answer, -2, "usize::MAX is no element");
+        require(answer >= 0);
+        answer == 1
     }
 
     /// Below which number an element goes in without memory.
@@ -115,7 +175,9 @@ impl<B: BitBlock> BitSet<B> {
 
     /// Gives back the capacity that the elements do not need, as far as there is memory to move to.
     pub fn shrink_to_fit(&mut self) {
-        unsafe { B::shrink_to_fit(self.write()) };
+        if !self.set.is_null() {
+            unsafe { B::shrink_to_fit(self.set) };
+        }
     }
 
     /// How many elements there are.
@@ -141,7 +203,7 @@ impl<B: BitBlock> BitSet<B> {
     /// Whether `value` is an element.
     #[inline]
     pub fn contains(&self, value: usize) -> bool {
-        unsafe { B::contains(self.read(), value) }
+        !self.set.is_null() && unsafe { B::contains(self.set, value) }
     }
 
     /// Puts `value` in, and returns whether it is new.
@@ -151,21 +213,13 @@ impl<B: BitBlock> BitSet<B> {
     /// At `usize::MAX`, which is no element.
     #[inline]
     pub fn insert(&mut self, value: usize) -> bool {
-        match unsafe { B::insert(self.write(), value) } {
-            1 => true,
-            0 => false,
-            answer => {
-                assert_ne!(answer, -2, "usize::MAX is no element");
-                require(false);
-                false
-            }
-        }
+        Self::changed(unsafe { B::insert(self.write(), value) })
     }
 
     /// Takes `value` out, and returns whether it was in.
     #[inline]
     pub fn remove(&mut self, value: usize) -> bool {
-        unsafe { B::remove(self.write(), value) }
+        !self.set.is_null() && unsafe { B::remove(self.set, value) }
     }
 
     /// Takes every element out.
@@ -175,17 +229,23 @@ impl<B: BitBlock> BitSet<B> {
 
     /// The newer name of `clear`.
     pub fn make_empty(&mut self) {
-        unsafe { B::make_empty(self.write()) }
+        if !self.set.is_null() {
+            unsafe { B::make_empty(self.set) }
+        }
     }
 
     /// Takes every element out, and makes the length 0.
     pub fn reset(&mut self) {
-        unsafe { B::reset(self.write()) }
+        if !self.set.is_null() {
+            unsafe { B::reset(self.set) }
+        }
     }
 
     /// Keeps the elements below `len`.
     pub fn truncate(&mut self, len: usize) {
-        unsafe { B::truncate(self.write(), len) }
+        if !self.set.is_null() {
+            unsafe { B::truncate(self.set, len) }
+        }
     }
 
     /// Moves what is in `other` into the set.
@@ -233,35 +293,42 @@ impl<B: BitBlock> BitSet<B> {
     pub fn is_disjoint(&self, other: &Self) -> bool {
         unsafe { B::is_disjoint(self.read(), other.read()) }
     }
-
-    // The least element that is `from` or above.
-    fn next_from(&self, from: usize) -> Option<usize> {
-        let element = unsafe { B::next(self.read(), from) };
-        (element != usize::MAX).then_some(element)
-    }
 }
 
-// Fills the words of 64 bits from one on with blocks, by a call that copies these, and with zeros past the last.
-fn copy_words<B: BitBlock>(from: usize, words: &mut [u64], call: impl FnOnce(usize, *mut B, usize) -> usize) {
+// Writes words of 64 bits from one on, by a call that copies blocks, and returns how many it wrote.
+fn copy_words<B: BitBlock>(
+    from: usize,
+    words: &mut [MaybeUninit<u64>],
+    call: impl FnOnce(usize, *mut B, usize) -> usize,
+) -> usize {
     let parts = size_of::<u64>() / size_of::<B>();
-    let (blocks, room) = (words.as_mut_ptr().cast::<B>(), words.len() * parts);
-    let count = call(from * parts, blocks, room);
-    // SAFETY: a word is as many blocks as there are parts, and the call wrote no more of them than there is room for.
-    unsafe { blocks.add(count).write_bytes(0, room - count) };
-    if cfg!(target_endian = "big") && parts == 2 {
-        words.iter_mut().for_each(|word| *word = word.rotate_left(32));
+    let blocks = words.as_mut_ptr().cast::<B>();
+    let count = call(from * parts, blocks, words.len() * parts);
+    let end = (count + parts - 1) / parts;
+    if count % parts != 0 {
+        // SAFETY: the call wrote no more blocks than there is room for, so that this one is the other half of a word.
+        unsafe { blocks.add(count).write_bytes(0, 1) };
     }
+    if cfg!(target_endian = "big") && parts == 2 {
+        for word in &mut words[..end] {
+            // SAFETY: the words below `end` are written.
+            word.write(unsafe { word.assume_init() }.rotate_left(32));
+        }
+    }
+    end
 }
 
 impl<B: BitBlock> Default for BitSet<B> {
     fn default() -> Self {
-        // SAFETY: `out` is null.
-        Self::made(|out| unsafe { B::new(out) })
+        Self::NEW
     }
 }
 
 impl<B: BitBlock> Clone for BitSet<B> {
     fn clone(&self) -> Self {
+        if self.set.is_null() {
+            return Self::NEW;
+        }
         Self::made(|out| unsafe { B::clone(out, self.read()) })
     }
 

@@ -1,0 +1,218 @@
+//! Random calls, from a fixed seed, beside the sets of Rust.
+use bit_set::{BitBlock, BitSet};
+use std::collections::BTreeSet;
+
+struct Draws(u64);
+
+impl Draws {
+    fn below(&mut self, n: u64) -> usize {
+        self.0 ^= self.0 << 13;
+        self.0 ^= self.0 >> 7;
+        self.0 ^= self.0 << 17;
+        (self.0 % n) as usize
+    }
+}
+
+fn same(set: &BitSet, model: &BTreeSet<usize>) {
+    assert!(set.iter().eq(model.iter().copied()));
+    assert_eq!(set.len(), model.len());
+    assert_eq!(set.is_empty(), model.is_empty());
+}
+
+#[test]
+fn calls_on_one_set() {
+    let (mut draws, mut set, mut model) = (Draws(1), BitSet::new(), BTreeSet::new());
+    for _ in 0..100_000 {
+        let bound = [70, 5000][draws.below(2)];
+        let value = draws.below(bound);
+        match draws.below(4) {
+            0 | 1 => assert_eq!(set.insert(value), model.insert(value)),
+            2 => assert_eq!(set.remove(value), model.remove(&value)),
+            _ => assert_eq!(set.contains(value), model.contains(&value)),
+        }
+    }
+    same(&set, &model);
+    assert_eq!(format!("{set:?}"), format!("{model:?}"));
+    set.shrink_to_fit();
+    same(&set, &model);
+    let high = set.split_off(2500);
+    same(&high, &model.split_off(&2500));
+    same(&set, &model);
+}
+
+#[test]
+fn calls_on_two_sets() {
+    let mut draws = Draws(2);
+    for _ in 0..2000 {
+        let mut draw = || -> BTreeSet<usize> {
+            let bound = [8, 300][draws.below(2)];
+            (0..draws.below(40)).map(|_| draws.below(bound)).collect()
+        };
+        let (a, b) = (draw(), draw());
+        let (x, y): (BitSet, BitSet) = (a.iter().copied().collect(), b.iter().copied().collect());
+        assert!(x.union(&y).eq(a.union(&b).copied()));
+        assert!(x.intersection(&y).eq(a.intersection(&b).copied()));
+        assert!(x.difference(&y).eq(a.difference(&b).copied()));
+        assert!(x.symmetric_difference(&y).eq(a.symmetric_difference(&b).copied()));
+        assert_eq!(x.is_subset(&y), a.is_subset(&b));
+        assert_eq!(x.is_superset(&y), a.is_superset(&b));
+        assert_eq!(x.is_disjoint(&y), a.is_disjoint(&b));
+        assert_eq!((x == y, x.cmp(&y)), (a == b, a.cmp(&b)));
+        let mut z = x.clone();
+        z.union_with(&y);
+        same(&z, &a.union(&b).copied().collect());
+        z.clone_from(&x);
+        z.intersect_with(&y);
+        same(&z, &a.intersection(&b).copied().collect());
+        z.clone_from(&x);
+        z.difference_with(&y);
+        same(&z, &a.difference(&b).copied().collect());
+        z.clone_from(&x);
+        z.symmetric_difference_with(&y);
+        same(&z, &a.symmetric_difference(&b).copied().collect());
+        let mut w = y.clone();
+        z.clone_from(&x);
+        z.append(&mut w);
+        same(&z, &a.union(&b).copied().collect());
+        assert!(w.is_empty());
+    }
+}
+
+// A range whose end may be below its start, and then it has no number.
+fn range(draws: &mut Draws) -> std::ops::Range<usize> {
+    let bound = [70, 700][draws.below(2)];
+    draws.below(bound)..draws.below(bound)
+}
+
+fn calls_on_ranges<B: BitBlock>() {
+    let (mut draws, mut set, mut model) = (Draws(3), BitSet::<B>::new_general(), BTreeSet::new());
+    for _ in 0..3000 {
+        let range = range(&mut draws);
+        let inside: Vec<usize> = range.clone().filter(|n| model.contains(n)).collect();
+        assert_eq!(set.count_in_range(range.clone()), inside.len());
+        assert_eq!(set.contains_all_in_range(range.clone()), inside.len() == range.len());
+        assert_eq!(set.contains_any_in_range(range.clone()), !inside.is_empty());
+        match draws.below(4) {
+            0 => {
+                set.insert_range(range.clone());
+                model.extend(range);
+            }
+            1 => {
+                set.toggle_range(range.clone());
+                range.for_each(|n| assert!(model.remove(&n) || model.insert(n)));
+            }
+            _ => {
+                set.remove_range(range.clone());
+                model.retain(|n| !range.contains(n));
+            }
+        }
+        assert!(set.iter().eq(model.iter().copied()));
+    }
+}
+
+#[test]
+fn calls_on_ranges_over_both_widths() {
+    calls_on_ranges::<u32>();
+    calls_on_ranges::<u64>();
+}
+
+#[test]
+fn calls_on_ends_and_searches() {
+    let (mut draws, mut set, mut model) = (Draws(4), BitSet::new(), BTreeSet::new());
+    for _ in 0..30_000 {
+        let n = draws.below(900);
+        match draws.below(6) {
+            0 | 1 => assert_eq!(set.toggle(n), !model.remove(&n) && model.insert(n)),
+            2 => assert_eq!(set.set(n, true), model.insert(n)),
+            3 => assert_eq!(set.set(n, false), model.remove(&n)),
+            4 => assert_eq!(set.pop_first(), model.pop_first()),
+            _ => assert_eq!(set.pop_last(), model.pop_last()),
+        }
+        assert_eq!((set.first(), set.last()), (model.first().copied(), model.last().copied()));
+        assert_eq!(set.next(n), model.range(n..).next().copied());
+        assert_eq!(set.previous(n), model.range(..n).next_back().copied());
+        assert_eq!(set.next_missing(n), (n..).find(|m| !model.contains(m)).unwrap());
+        let rank = draws.below(40);
+        assert_eq!(set.nth(rank), model.iter().nth(rank).copied());
+    }
+    let copy = BitSet::<u64>::from_bytes_general(&set.to_bytes());
+    assert!(copy.iter().eq(model.iter().copied()));
+}
+
+#[test]
+fn walks_from_both_ends() {
+    let mut draws = Draws(5);
+    for _ in 0..300 {
+        let bound = [70, 5000, 100_000][draws.below(3)];
+        let model: BTreeSet<usize> = (0..draws.below(90)).map(|_| draws.below(bound)).collect();
+        let set: BitSet = model.iter().copied().collect();
+        assert!(set.iter().rev().eq(model.iter().rev().copied()));
+        let (mut walk, mut other) = (set.iter(), model.iter().copied());
+        for _ in 0..model.len() + 3 {
+            match draws.below(2) {
+                0 => assert_eq!(walk.next(), other.next()),
+                _ => assert_eq!(walk.next_back(), other.next_back()),
+            }
+        }
+    }
+}
+
+#[test]
+fn calls_that_tell_of_changes() {
+    let mut draws = Draws(6);
+    for _ in 0..2000 {
+        let mut draw = || -> BTreeSet<usize> { (0..draws.below(12)).map(|_| draws.below(90)).collect() };
+        let (a, b, c) = (draw(), draw(), draw());
+        let made = |set: &BTreeSet<usize>| set.iter().copied().collect::<BitSet>();
+        let check = |merge: &dyn Fn(&mut BitSet) -> bool, result: BTreeSet<usize>| {
+            let mut set = made(&a);
+            assert_eq!(merge(&mut set), a != result);
+            same(&set, &result);
+        };
+        let (y, z) = (made(&b), made(&c));
+        check(&|set| set.union_changes(&y), &a | &b);
+        check(&|set| set.intersection_changes(&y), &a & &b);
+        check(&|set| set.difference_changes(&y), &a - &b);
+        check(&|set| set.symmetric_difference_changes(&y), &a ^ &b);
+        check(&|set| set.union_with_difference(&y, &z), &a | &(&b - &c));
+    }
+}
+
+// A set that has no memory yet is as any other empty one.
+#[test]
+fn new_sets() {
+    let mut set = BitSet::new();
+    let other: BitSet = [3, 5].into_iter().collect();
+    assert!(set.is_empty() && set == BitSet::with_capacity(100) && set < other && set.is_subset(&other));
+    assert_eq!((set.capacity(), set.bit_length(), set.to_bytes()), (0, 0, vec![]));
+    assert_eq!(
+        (set.pop_first(), set.pop_last(), set.first(), set.iter().next(), set.iter().next_back()),
+        (None, None, None, None, None)
+    );
+    set.shrink_to_fit();
+    set.truncate(3);
+    set.reset();
+    set.remove_range(0..9);
+    assert!(!set.remove(3) && set.clone().is_empty() && set.split_off(2).is_empty());
+    assert!(set.union(&other).eq([3, 5]) && other.difference(&set).eq([3, 5]) && other.intersection(&set).eq([]));
+    set.append(&mut other.clone());
+    assert_eq!(set, other);
+    set.clone_from(&BitSet::new());
+    assert!(set.is_empty());
+}
+
+#[test]
+fn threads_read_one_set() {
+    let set: BitSet = (0..100_000).step_by(7).collect();
+    std::thread::scope(|scope| {
+        for _ in 0..4 {
+            scope.spawn(|| assert_eq!(set.iter().filter(|&n| set.contains(n)).count(), set.len()));
+        }
+    });
+}
+
+#[test]
+#[should_panic(expected = "usize::MAX is no element")]
+fn the_greatest_number_is_no_element() {
+    BitSet::new().insert(usize::MAX);
+}

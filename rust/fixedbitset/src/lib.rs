@@ -1,0 +1,353 @@
+//! Bits up to a length: the API of the crate `fixedbitset` 0.4, over a library for C whose every call is proved.
+//!
+//! `as_slice` and `as_mut_slice` are left out, since the library lends no blocks, and so is the feature `serde`.
+//! `union` and `symmetric_difference` ascend, where those of the crate go through one set and then through the other.
+//!
+//! ```
+//! let mut bits = fixedbitset::FixedBitSet::with_capacity(10);
+//! bits.insert(3);
+//! assert_eq!((bits.len(), bits.count_ones(..)), (10, 1));
+//! ```
+#![forbid(unsafe_code)]
+
+use bit_set::BitSet;
+use std::cmp::Ordering;
+use std::fmt;
+use std::hash::{Hash, Hasher};
+use std::ops::{BitAnd, BitAndAssign, BitOr, BitOrAssign, BitXor, BitXorAssign, Index, Range};
+
+mod range;
+mod walks;
+
+pub use range::IndexRange;
+pub use walks::{Difference, Intersection, Ones, SymmetricDifference, Union};
+
+const BITS: usize = u32::BITS as usize;
+
+/// Bits up to a length, each of which is set or clear.
+#[derive(Default)]
+pub struct FixedBitSet {
+    // Those that are set, each below the length.
+    set: BitSet,
+    length: usize,
+}
+
+impl FixedBitSet {
+    /// No bits.
+    pub const fn new() -> Self {
+        FixedBitSet { set: BitSet::new(), length: 0 }
+    }
+
+    /// So many bits, all of them clear.
+    pub fn with_capacity(bits: usize) -> Self {
+        let set = if bits == 0 { BitSet::new() } else { BitSet::with_capacity(bits) };
+        FixedBitSet { set, length: bits }
+    }
+
+    /// So many bits, those of the blocks from the lowest, and clear past these.
+    pub fn with_capacity_and_blocks<I: IntoIterator<Item = u32>>(bits: usize, blocks: I) -> Self {
+        let count = bits / BITS + usize::from(bits % BITS != 0);
+        // `from_bytes` counts the bits of a byte from the highest.
+        let bytes: Vec<u8> =
+            blocks.into_iter().take(count).flat_map(|block| block.to_le_bytes().map(u8::reverse_bits)).collect();
+        let mut set = BitSet::from_bytes(&bytes);
+        set.truncate(bits);
+        FixedBitSet { set, length: bits }
+    }
+
+    /// Makes the length at least `bits`. The new bits are clear.
+    pub fn grow(&mut self, bits: usize) {
+        if bits > self.length {
+            self.set.reserve_len(bits);
+            self.length = bits;
+        }
+    }
+
+    /// How many bits there are.
+    #[inline]
+    pub fn len(&self) -> usize {
+        self.length
+    }
+
+    /// Whether there are no bits.
+    #[inline]
+    pub fn is_empty(&self) -> bool {
+        self.length == 0
+    }
+
+    /// Whether no bit is set.
+    pub fn is_clear(&self) -> bool {
+        self.set.is_empty()
+    }
+
+    /// Whether the bit is set: past the length it is not.
+    #[inline]
+    pub fn contains(&self, bit: usize) -> bool {
+        self.set.contains(bit)
+    }
+
+    /// Clears every bit.
+    pub fn clear(&mut self) {
+        self.set.make_empty();
+    }
+
+    // Panics where the bit is not below the length.
+    #[track_caller]
+    #[inline]
+    fn check(&self, call: &str, bit: usize) {
+        assert!(bit < self.length, "{call} at index {bit} exceeds fixbitset size {}", self.length);
+    }
+
+    /// Sets a bit.
+    ///
+    /// # Panics
+    ///
+    /// Where the bit is not below the length, as in the four below.
+    #[inline]
+    pub fn insert(&mut self, bit: usize) {
+        self.check("insert", bit);
+        self.set.insert(bit);
+    }
+
+    /// Sets a bit, and returns whether it was set.
+    #[inline]
+    pub fn put(&mut self, bit: usize) -> bool {
+        self.check("put", bit);
+        !self.set.insert(bit)
+    }
+
+    /// Sets a bit that is clear, and clears one that is set.
+    #[inline]
+    pub fn toggle(&mut self, bit: usize) {
+        self.check("toggle", bit);
+        self.set.toggle(bit);
+    }
+
+    /// Sets a bit where `enabled` is true, and clears it where not.
+    #[inline]
+    pub fn set(&mut self, bit: usize, enabled: bool) {
+        self.check("set", bit);
+        self.set.set(bit, enabled);
+    }
+
+    /// Makes the bit `to` what the bit `from` is.
+    #[inline]
+    pub fn copy_bit(&mut self, from: usize, to: usize) {
+        self.check("copy", to);
+        self.set.set(to, self.set.contains(from));
+    }
+
+    // The range that is meant. Panics where it ends past the length, or before it begins.
+    #[track_caller]
+    fn within<T: IndexRange>(&self, range: T) -> Range<usize> {
+        let (start, end) = (range.start().unwrap_or(0), range.end().unwrap_or(self.length));
+        assert!(
+            start <= end && end <= self.length,
+            "invalid range {start}..{end} for a fixedbitset of size {}",
+            self.length
+        );
+        start..end
+    }
+
+    /// How many bits of the range are set.
+    ///
+    /// # Panics
+    ///
+    /// Where the range ends past the length, as in the three below.
+    pub fn count_ones<T: IndexRange>(&self, range: T) -> usize {
+        self.set.count_in_range(self.within(range))
+    }
+
+    /// Sets the bits of the range where `enabled` is true, and clears them where not.
+    pub fn set_range<T: IndexRange>(&mut self, range: T, enabled: bool) {
+        let range = self.within(range);
+        match enabled {
+            true => self.set.insert_range(range),
+            false => self.set.remove_range(range),
+        }
+    }
+
+    /// Sets the bits of the range.
+    pub fn insert_range<T: IndexRange>(&mut self, range: T) {
+        self.set_range(range, true);
+    }
+
+    /// Sets those bits of the range that are clear, and clears the others.
+    pub fn toggle_range<T: IndexRange>(&mut self, range: T) {
+        self.set.toggle_range(self.within(range));
+    }
+
+    /// Sets what is set in `other`. The length becomes the greater one.
+    pub fn union_with(&mut self, other: &FixedBitSet) {
+        self.grow(other.length);
+        self.set.union_with(&other.set);
+    }
+
+    /// Clears what is clear in `other`, or past its length.
+    pub fn intersect_with(&mut self, other: &FixedBitSet) {
+        self.set.intersect_with(&other.set);
+    }
+
+    /// Clears what is set in `other`.
+    pub fn difference_with(&mut self, other: &FixedBitSet) {
+        self.set.difference_with(&other.set);
+    }
+
+    /// Toggles what is set in `other`. The length becomes the greater one.
+    pub fn symmetric_difference_with(&mut self, other: &FixedBitSet) {
+        self.grow(other.length);
+        self.set.symmetric_difference_with(&other.set);
+    }
+
+    /// Whether no bit is set in both.
+    pub fn is_disjoint(&self, other: &FixedBitSet) -> bool {
+        self.set.is_disjoint(&other.set)
+    }
+
+    /// Whether every bit that is set is set in `other`.
+    pub fn is_subset(&self, other: &FixedBitSet) -> bool {
+        self.set.is_subset(&other.set)
+    }
+
+    /// Whether every bit that is set in `other` is set here.
+    pub fn is_superset(&self, other: &FixedBitSet) -> bool {
+        other.is_subset(self)
+    }
+
+    // The bits of a block, the first of them lowest.
+    fn block(&self, block: usize) -> u32 {
+        (0..BITS).fold(0, |value, bit| value | u32::from(self.contains(block * BITS + bit)) << bit)
+    }
+}
+
+impl Clone for FixedBitSet {
+    fn clone(&self) -> Self {
+        FixedBitSet { set: self.set.clone(), length: self.length }
+    }
+
+    fn clone_from(&mut self, other: &Self) {
+        self.set.clone_from(&other.set);
+        self.length = other.length;
+    }
+}
+
+impl PartialEq for FixedBitSet {
+    fn eq(&self, other: &Self) -> bool {
+        self.length == other.length && self.set == other.set
+    }
+}
+
+impl Eq for FixedBitSet {}
+
+impl PartialOrd for FixedBitSet {
+    fn partial_cmp(&self, other: &Self) -> Option<Ordering> {
+        Some(self.cmp(other))
+    }
+}
+
+impl Ord for FixedBitSet {
+    // As the lists of blocks compare, and then the lengths.
+    fn cmp(&self, other: &Self) -> Ordering {
+        match self.set.symmetric_difference(&other.set).next() {
+            Some(bit) => self.block(bit / BITS).cmp(&other.block(bit / BITS)),
+            None => self.length.cmp(&other.length),
+        }
+    }
+}
+
+impl Hash for FixedBitSet {
+    fn hash<H: Hasher>(&self, state: &mut H) {
+        self.set.hash(state);
+        self.length.hash(state);
+    }
+}
+
+impl fmt::Debug for FixedBitSet {
+    fn fmt(&self, fmt: &mut fmt::Formatter<'_>) -> fmt::Result {
+        let count = self.length / BITS + usize::from(self.length % BITS != 0);
+        let data: Vec<u32> = (0..count).map(|block| self.block(block)).collect();
+        fmt.debug_struct("FixedBitSet").field("data", &data).field("length", &self.length).finish()
+    }
+}
+
+impl fmt::Binary for FixedBitSet {
+    fn fmt(&self, fmt: &mut fmt::Formatter<'_>) -> fmt::Result {
+        if fmt.alternate() {
+            fmt.write_str("0b")?;
+        }
+        (0..self.length).try_for_each(|bit| fmt.write_str(if self.contains(bit) { "1" } else { "0" }))
+    }
+}
+
+impl fmt::Display for FixedBitSet {
+    fn fmt(&self, fmt: &mut fmt::Formatter<'_>) -> fmt::Result {
+        fmt::Binary::fmt(self, fmt)
+    }
+}
+
+impl Index<usize> for FixedBitSet {
+    type Output = bool;
+
+    #[inline]
+    fn index(&self, bit: usize) -> &bool {
+        match self.contains(bit) {
+            true => &true,
+            false => &false,
+        }
+    }
+}
+
+/// Sets the bits, and makes the length greater where one needs it.
+impl Extend<usize> for FixedBitSet {
+    fn extend<I: IntoIterator<Item = usize>>(&mut self, bits: I) {
+        for bit in bits {
+            self.set.insert(bit);
+            self.length = self.length.max(bit + 1);
+        }
+    }
+}
+
+/// The bits are set, and the length is that of the greatest.
+impl FromIterator<usize> for FixedBitSet {
+    fn from_iter<I: IntoIterator<Item = usize>>(bits: I) -> Self {
+        let mut set = FixedBitSet::new();
+        set.extend(bits);
+        set
+    }
+}
+
+// The operator makes the length the lesser or the greater one of both, and the one that assigns does what the call does.
+macro_rules! operators {
+    ($($Operator:ident $operator:ident, $Assign:ident $assign:ident: $call:ident, $length:ident;)*) => {
+        $(
+            impl $Operator for &FixedBitSet {
+                type Output = FixedBitSet;
+
+                fn $operator(self, other: &FixedBitSet) -> FixedBitSet {
+                    let mut result = self.clone();
+                    result.$call(other);
+                    result.length = self.length.$length(other.length);
+                    result
+                }
+            }
+
+            impl $Assign for FixedBitSet {
+                fn $assign(&mut self, other: Self) {
+                    self.$call(&other);
+                }
+            }
+
+            impl $Assign<&Self> for FixedBitSet {
+                fn $assign(&mut self, other: &Self) {
+                    self.$call(other);
+                }
+            }
+        )*
+    };
+}
+
+operators! {
+    BitAnd bitand, BitAndAssign bitand_assign: intersect_with, min;
+    BitOr bitor, BitOrAssign bitor_assign: union_with, max;
+    BitXor bitxor, BitXorAssign bitxor_assign: symmetric_difference_with, max;
+}
