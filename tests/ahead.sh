@@ -13,6 +13,7 @@ cd "$(dirname "$(dirname "$(readlink -f "${BASH_SOURCE[0]}")")")" || exit 1
 room="$(mktemp -d)" || exit 1
 passing+=("$room")
 export TMPDIR="$room"
+chmod 711 "$room"
 kept="$(dirname "$(dirname "$(rt doc | head -n 1)")")/rattle-kept"
 if [ "${CI:-}" != true ] && mkdir -p -m 700 "$kept" 2> /dev/null && [ -O "$kept" ]; then
     for crate in graph_walks refusals; do
