@@ -1,4 +1,3 @@
-mod Chains
 pub mod SetLemmas
 pub mod SetLaws
 pub mod AlgebraLemmas

@@ -1,4 +1,3 @@
-mod Chains
 pub mod OutputLemmas
 pub mod PairLemmas
 pub mod RunLemmas

@@ -1,12 +1,12 @@
 -- A set of the array is changed by another, which is taken out meanwhile.
-use Rattle.std.proofs.Common.{◌≡◌, ℕ, ◌<◌, List, [], length, get_or, map, set, IfSome, Some, refl, sym, subst, ap, ◌∙◌, ne_eqb}
+use Rattle.std.proofs.Common.{◌≡◌, ℕ, ◌<◌, List, [], length, get_or, map, set, refl, sym, subst, ap, ◌∙◌, ne_eqb}
 use Rattle.std.proofs.lemmas.List.{set-set, set-get_or, map-set, get_or-map, get_or-set_other, get_or_default, set_comm}
 use Rattle.bit_set.specs.Bits.{Bits}
 use Rattle.bit_set_commands.specs.declared.commands.Command.{Command}
-use Rattle.bit_set_commands.specs.declared.commands.Command.TheVariants.{Copy, InPlace, Append, SplitOff}
 use Rattle.bit_set_run.specs.Capacities.{bits_at, ChangesCapacities, KeepsCapacities, PairCapacities}
 use Rattle.bit_set_run.specs.Elements.{elements_of}
-use Rattle.bit_set_run.specs.Questions.{pair_after, two_of, MayAsk}
+use Rattle.bit_set_run.specs.Pairs.{command_of, pair_after, MayAsk}
+use Rattle.bit_set_run.specs.declared.pairs.PairChange.{PairChange}
 use Rattle.bit_set_run.specs.Run.{step, FailsAt}
 
 -- what was read at a place is the set there
@@ -61,59 +61,62 @@ pub record HasDone (w : ℕ) (old : List Bits) (command : Command) (new : List B
 
 -- a set was changed by another
 done_with_elements :
-    (w : ℕ) (sets : List Bits) (command : Command) (first second : Bits)
-    → IfSome (two_of command) (λ places. (places.0 ≡ places.1 → ⊥) → places.1 < length sets
-    → elements_of first ≡ (pair_after command (get_or (map elements_of sets) places.0 []) (get_or (map elements_of sets) places.1 [])).0
-    → elements_of second ≡ (pair_after command (get_or (map elements_of sets) places.0 []) (get_or (map elements_of sets) places.1 [])).1
-    → PairCapacities w command (bits_at sets places.0) (bits_at sets places.1) first second
-    → HasDone w sets command (set (set sets places.0 first) places.1 second))
-done_with_elements w sets (Copy from to) first second = λ apart within one two pair.
+    (w : ℕ) (sets : List Bits) (change : PairChange) (to from : ℕ) (first second : Bits)
+    → (to ≡ from → ⊥) → from < length sets
+    → elements_of first ≡ (pair_after change (get_or (map elements_of sets) to []) (get_or (map elements_of sets) from [])).0
+    → elements_of second ≡ (pair_after change (get_or (map elements_of sets) to []) (get_or (map elements_of sets) from [])).1
+    → PairCapacities w change (bits_at sets to) (bits_at sets from) first second
+    → HasDone w sets (command_of change to from) (set (set sets to first) from second)
+done_with_elements w sets PairChange.Copy to from first second apart within one two pair =
     let other = ne_eqb from to (λ e. apart (sym e)) in
     record {
       sets = rw other (first_is sets to from first second _ apart within pair.1 one);
       capacities = rw other (first, second_stays sets to from first second apart within pair.1, pair.0);
     }
-done_with_elements w sets (InPlace merge s t) first second = λ apart within one two pair.
-    let other = ne_eqb s t apart in
+done_with_elements w sets (PairChange.Merge merge) to from first second apart within one two pair =
+    let other = ne_eqb to from apart in
     record {
-      sets = rw other (first_is sets s t first second _ apart within pair.1 one);
-      capacities = rw other (first, second_stays sets s t first second apart within pair.1, pair.0);
+      sets = rw other (first_is sets to from first second _ apart within pair.1 one);
+      capacities = rw other (first, second_stays sets to from first second apart within pair.1, pair.0);
     }
-done_with_elements w sets (Append s t) first second = λ apart within one two pair.
-    let other = ne_eqb s t apart in
+done_with_elements w sets PairChange.Append to from first second apart within one two pair =
+    let other = ne_eqb to from apart in
     record {
-      sets = rw other (both_are sets s t first second _ _ one two);
+      sets = rw other (both_are sets to from first second _ _ one two);
       capacities = rw other (first, second, refl, pair.0, pair.1);
     }
-done_with_elements w sets (SplitOff s n t) first second = λ apart within one two pair.
-    let other = ne_eqb s t apart in
+done_with_elements w sets (PairChange.SplitOff n) to from first second apart within one two pair =
+    let other = ne_eqb to from apart in
     record {
-      sets = rw other (both_are sets s t first second _ _ one two);
+      sets = rw other (both_are sets to from first second _ _ one two);
       capacities = rw other (first, second, refl, pair.0, pair.1);
     }
-done_with_elements w sets command first second = tt
 
 -- the same, both as they were read
 pub done_with :
-    (w : ℕ) (sets : List Bits) (command : Command) (to from : ℕ) (set_read other_read first second : Bits)
-    → two_of command ≡ Some (to, from) → (to ≡ from → ⊥) → to < length sets → from < length sets
+    (w : ℕ) (sets : List Bits) (change : PairChange) (to from : ℕ) (set_read other_read first second : Bits)
+    → (to ≡ from → ⊥) → to < length sets → from < length sets
     → set_read ≡ bits_at sets to → other_read ≡ bits_at sets from
-    → elements_of first ≡ (pair_after command (elements_of set_read) (elements_of other_read)).0
-    → elements_of second ≡ (pair_after command (elements_of set_read) (elements_of other_read)).1
-    → PairCapacities w command set_read other_read first second
-    → HasDone w sets command (set (set sets to first) from second)
-done_with w sets command to from set_read other_read first second are apart there within set_is other_is one two pair =
-    let become : pair_after command (elements_of set_read) (elements_of other_read) ≡ pair_after command (get_or (map elements_of sets) to []) (get_or (map elements_of sets) from []) =
-    ap (λ s. pair_after command s (elements_of other_read)) (ap elements_of set_is ∙ elements_at sets to there)
-    ∙ ap (pair_after command (get_or (map elements_of sets) to [])) (ap elements_of other_is ∙ elements_at sets from within) in
-    (rw are at (done_with_elements w sets command first second))
+    → elements_of first ≡ (pair_after change (elements_of set_read) (elements_of other_read)).0
+    → elements_of second ≡ (pair_after change (elements_of set_read) (elements_of other_read)).1
+    → PairCapacities w change set_read other_read first second
+    → HasDone w sets (command_of change to from) (set (set sets to first) from second)
+done_with w sets change to from set_read other_read first second apart there within set_is other_is one two pair =
+    let become : pair_after change (elements_of set_read) (elements_of other_read)
+    ≡ pair_after change (get_or (map elements_of sets) to []) (get_or (map elements_of sets) from []) =
+    ap (λ s. pair_after change s (elements_of other_read)) (ap elements_of set_is ∙ elements_at sets to there)
+    ∙ ap (pair_after change (get_or (map elements_of sets) to [])) (ap elements_of other_is ∙ elements_at sets from within) in
+    done_with_elements w sets change to from first second
     apart within (one ∙ ap (λ p. p.0) become) (two ∙ ap (λ p. p.1) become)
-    (subst (λ t. PairCapacities w command (bits_at sets to) t first second) other_is (subst (λ s. PairCapacities w command s other_read first second) set_is pair))
+    (subst (λ t. PairCapacities w change (bits_at sets to) t first second) other_is
+    (subst (λ s. PairCapacities w change s other_read first second) set_is pair))
 
 -- without memory it changes nothing
-pub refused_with : (sets : List Bits) (command : Command) → IfSome (two_of command) (λ places. (places.0 ≡ places.1 → ⊥) → MayAsk command → FailsAt (map elements_of sets) command (map elements_of sets) × KeepsCapacities sets command sets)
-refused_with sets (Copy from to) = λ apart may. (((λ e. apart (sym e)), refl), refl)
-refused_with sets (InPlace merge s t) = λ apart may. ((apart, refl), refl)
-refused_with sets (Append s t) = λ apart may. ((apart, refl), refl)
-refused_with sets (SplitOff s n t) = λ apart may. ((apart, may, refl), refl)
-refused_with sets command = tt
+pub refused_with :
+    (sets : List Bits) (change : PairChange) (to from : ℕ) → (to ≡ from → ⊥) → MayAsk change
+    → FailsAt (map elements_of sets) (command_of change to from) (map elements_of sets)
+    × KeepsCapacities sets (command_of change to from) sets
+refused_with sets PairChange.Copy to from apart may = (((λ e. apart (sym e)), refl), refl)
+refused_with sets (PairChange.Merge merge) to from apart may = ((apart, refl), refl)
+refused_with sets PairChange.Append to from apart may = ((apart, refl), refl)
+refused_with sets (PairChange.SplitOff n) to from apart may = ((apart, may, refl), refl)

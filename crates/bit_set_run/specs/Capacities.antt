@@ -5,6 +5,7 @@ use Rattle.bit_set.specs.Bits.{Bits, blocks_for, capacity_of, whole_blocks}
 use Rattle.bit_set.specs.Bounds.{greatest}
 use Rattle.bit_set_commands.specs.declared.commands.Command.{Command}
 use Rattle.bit_set_commands.specs.declared.commands.Command.TheVariants.{Insert, Remove, Extend, Truncate, Empty, Reset, Reserve, ReserveExact, Shrink, Copy, InPlace, Append, SplitOff}
+use Rattle.bit_set_run.specs.declared.pairs.PairChange.{PairChange}
 
 -- the set at a place
 abbrev pub bits_at : List Bits → ℕ → Bits
@@ -55,15 +56,15 @@ IsPart w n set part =
     × (0 < n → length set.values ≤ n → part.capacity ≡ 0)
 
 -- a command that changed a set by another: what became of the capacities of both, and that one that is only read stays
-abbrev pub PairCapacities : ℕ → Command → (set other set_after other_after : Bits) → Type 0
-PairCapacities w (Copy from to) set other set_after other_after =
+abbrev pub PairCapacities : ℕ → PairChange → (set other set_after other_after : Bits) → Type 0
+PairCapacities w PairChange.Copy set other set_after other_after =
     GrowsExactlyTo w (length other.values) set set_after × (other_after ≡ other)
-PairCapacities w (InPlace merge s t) set other set_after other_after =
+PairCapacities w (PairChange.Merge merge) set other set_after other_after =
     GrowsTo (length other.values) set set_after × (other_after ≡ other)
-PairCapacities w (Append s t) set other set_after other_after =
+PairCapacities w PairChange.Append set other set_after other_after =
     GrowsTo (length other.values) set set_after × SameCapacity other other_after
-PairCapacities w (SplitOff s n t) set other set_after other_after = IsFront n set set_after × IsPart w n set other_after
-PairCapacities w command set other set_after other_after = ⊥
+PairCapacities w (PairChange.SplitOff n) set other set_after other_after =
+    IsFront n set set_after × IsPart w n set other_after
 
 -- the first where the test is true, and else the second
 abbrev pub Choice : Bool → Type 0 → Type 0 → Type 0

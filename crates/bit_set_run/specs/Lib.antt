@@ -3,7 +3,7 @@ pub mod Ended
 pub mod Exits
 pub mod Elements
 pub mod Output
-pub mod Questions
+pub mod Pairs
 pub mod Run
 pub mod Streams
 pub use Rattle.bit_set.specs.Sets

@@ -4,7 +4,7 @@
 pub mod laws;
 mod lines;
 mod output;
-mod questions;
+mod pairs;
 mod running;
 mod starting;
 mod stepping;

@@ -1,21 +1,20 @@
 //! One command over sixteen sets.
 
-ghost use Rattle.std.specs.Prelude.{◌≡◌, ◌≢◌, ℕ, ◌+◌, ◌<◌, ◌≤◌, ◌==◌, ◌∷◌, false, not, map, List, length, drop, [], ◌++◌, IfOk, IfSome, IsSome, OnOk, OnErr, if◌then◌else◌};
+ghost use Rattle.std.specs.Prelude.{◌≡◌, ◌≢◌, ℕ, ◌+◌, ◌<◌, ◌≤◌, ◌==◌, ◌∷◌, false, not, map, List, length, drop, [], ◌++◌, IfOk, OnOk, OnErr, if◌then◌else◌};
 ghost use Rattle.std.specs.List.{list_any};
 ghost use Rattle.bit_set.specs.Sets.{bound_of, has, put, put_all};
-ghost use Rattle.bit_set_run.specs.Capacities.{ChangesCapacities, GrowsExactlyTo, GrowsPast, GrowsTo, KeepsCapacities, PairCapacities, Shrinks};
+ghost use Rattle.bit_set_run.specs.Capacities.{ChangesCapacities, GrowsExactlyTo, GrowsPast, GrowsTo, KeepsCapacities, Shrinks};
 ghost use Rattle.bit_set_run.specs.Elements.{elements_of};
 ghost use Rattle.bit_set.specs.Bounds.{greatest};
-ghost use Rattle.bit_set_run.specs.Questions.{pair_after, two_of, MayAsk};
 ghost use Rattle.bit_set_run.specs.Run.{step, elements_before_greatest, FailsAt};
 ghost use Rattle.bit_set_commands.specs.declared.commands.Reply.TheVariants.{Truth, Done, Rest, Element};
 
-use crate::questions::reply_to;
+use crate::pairs::{PairChange, change_by_another};
+use crate::two_sets::{rest_of_walk, set_of, walk};
+use crate::walking::{items, rest};
 use crate::{Command, Numbers, Reply};
-use bit_set::bit_vec::Merge;
 use bit_set::{BitBlock, BitSet, SetError};
 use std::alloc::{AllocError, Global};
-use std::mem;
 
 // One command, over the sets themselves.
 pub(crate) fn step<B: BitBlock>(
@@ -32,6 +31,7 @@ pub(crate) fn step<B: BitBlock>(
     ensures capacities_left { OnErr result (KeepsCapacities sets.old command.now sets.new) }
 {
     match command {
+        // On one set.
         Command::Insert(name, n) => insert(&mut sets[name.place()], *n),
         Command::Remove(name, n) => Ok(Reply::Truth(sets[name.place()].remove(*n))),
         Command::Extend(name, items) => extend(&mut sets[name.place()], items),
@@ -50,82 +50,36 @@ pub(crate) fn step<B: BitBlock>(
         Command::Reserve(name, n) => reserve(&mut sets[name.place()], *n),
         Command::ReserveExact(name, n) => reserve_exact(&mut sets[name.place()], *n),
         Command::Shrink(name) => shrink(&mut sets[name.place()]),
-        Command::Copy(..) | Command::InPlace(..) | Command::Append(..) | Command::SplitOff(..) =>
-            change_by_another(alloc, sets, command),
-        _ => reply_to(alloc, sets, command),
-    }
-}
-
-// One command that changes a set by another, over the sets themselves.
-fn change_by_another<B: BitBlock>(
-    alloc: Global,
-    sets: &mut [BitSet<B>; 16],
-    command: &Command,
-) -> Result<Reply, AllocError>
-    requires { IsSome (two_of command.now) }
-    ensures reply { IfOk result (λ reply. reply ≡ (step (map elements_of sets.old) command.now).reply) }
-    ensures sets { OnOk result (map elements_of sets.new ≡ (step (map elements_of sets.old) command.now).sets) }
-    ensures fails { OnErr result (FailsAt (map elements_of sets.old) command.now (map elements_of sets.new)) }
-    ensures capacities { OnOk result (ChangesCapacities B.width sets.old command.now sets.new) }
-    ensures capacities_left { OnErr result (KeepsCapacities sets.old command.now sets.new) }
-{
-    let Some((to, from)) = two_of(command) else {
-        unreachable!();
-    };
-    if to == from {
-        return Ok(Reply::Same);
-    }
-    // The other set is taken out of its place, so that both can be lent at once. It takes no memory.
-    let mut other = mem::replace(&mut sets[from], BitSet::new_general(alloc));
-    let changed = change_pair(alloc, &mut sets[to], &mut other, command);
-    sets[from] = other;
-    changed?;
-    Ok(Reply::Done)
-}
-
-// The place of the set that a command changes by another, and that of the other.
-fn two_of(command: &Command) -> Option<(usize, usize)>
-    ensures places { result ≡ two_of command.now }
-    ensures within { IfSome result (λ places. (places.0 < 16) × (places.1 < 16)) }
-{
-    match command {
-        Command::Copy(from, to) => Some((to.place(), from.place())),
-        Command::InPlace(_, s, t) | Command::Append(s, t) | Command::SplitOff(s, _, t) => {
-            Some((s.place(), t.place()))
-        }
-        _ => None,
-    }
-}
-
-// Makes of the two sets what the command does.
-fn change_pair<B: BitBlock>(
-    alloc: Global,
-    set: &mut BitSet<B>,
-    other: &mut BitSet<B>,
-    command: &Command,
-) -> Result<(), AllocError>
-    requires { IsSome (two_of command.now) }
-    ensures set { OnOk result (elements_of set.new
-        ≡ (pair_after command.now (elements_of set.old) (elements_of other.old)).0) }
-    ensures other { OnOk result (elements_of other.new
-        ≡ (pair_after command.now (elements_of set.old) (elements_of other.old)).1) }
-    ensures capacities { OnOk result (PairCapacities B.width command.now set.old other.old set.new other.new) }
-    ensures fails { OnErr result (MayAsk command.now) }
-    ensures set_left { OnErr result (set.new ≡ set.old) }
-    ensures other_left { OnErr result (other.new ≡ other.old) }
-{
-    match command {
-        Command::Copy(..) => set.clone_from(other),
-        Command::InPlace(Merge::Union, ..) => set.union_with(other),
-        Command::InPlace(Merge::Intersection, ..) => set.intersect_with(other),
-        Command::InPlace(Merge::Difference, ..) => set.difference_with(other),
-        Command::InPlace(Merge::Symmetric, ..) => set.symmetric_difference_with(other),
-        Command::Append(..) => set.append(other),
-        Command::SplitOff(_, n, _) => {
-            *other = set.split_off(alloc, *n)?;
-            Ok(())
-        }
-        _ => unreachable!(),
+        // On a pair.
+        Command::Copy(from, to) => change_by_another(alloc, sets, *to, *from, PairChange::Copy),
+        Command::InPlace(merge, s, t) => change_by_another(
+            alloc,
+            sets,
+            *s,
+            *t,
+            PairChange::Merge(*merge),
+        ),
+        Command::Append(s, t) => change_by_another(alloc, sets, *s, *t, PairChange::Append),
+        Command::SplitOff(s, n, t) => change_by_another(
+            alloc,
+            sets,
+            *s,
+            *t,
+            PairChange::SplitOff(*n),
+        ),
+        // Questions.
+        Command::Contains(name, n) => Ok(Reply::Truth(set_of(sets, *name).contains(*n))),
+        Command::Count(name) => Ok(Reply::Number(set_of(sets, *name).count())),
+        Command::IsEmpty(name) => Ok(Reply::Truth(set_of(sets, *name).is_empty())),
+        Command::Items(name) => items(alloc, set_of(sets, *name).iter()),
+        Command::Walk(merge, s, t) => walk(alloc, sets, *merge, *s, *t),
+        Command::Subset(s, t) => Ok(Reply::Truth(set_of(sets, *s).is_subset(set_of(sets, *t)))),
+        Command::Superset(s, t) => Ok(Reply::Truth(set_of(sets, *s).is_superset(set_of(sets, *t)))),
+        Command::Disjoint(s, t) => Ok(Reply::Truth(set_of(sets, *s).is_disjoint(set_of(sets, *t)))),
+        Command::Equal(s, t) => Ok(Reply::Truth(*set_of(sets, *s) == *set_of(sets, *t))),
+        Command::Compare(s, t) => Ok(Reply::Order(set_of(sets, *s).cmp(set_of(sets, *t)))),
+        Command::RestIter(name, n) => rest(alloc, set_of(sets, *name).iter(), *n),
+        Command::RestWalk(merge, s, t, n) => rest_of_walk(alloc, sets, *merge, *s, *t, *n),
     }
 }
 
