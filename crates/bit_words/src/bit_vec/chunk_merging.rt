@@ -26,9 +26,9 @@ impl<B: BitBlock> BitVec<B> {
     }
 
     /// Each value of a chunk becomes its merge with that of `other`, which is false past its end. The others stay. The
-    /// chunk has a value, and `other` is not longer where the merge makes a false value true. Reads and writes each block
-    /// of the chunk once, and takes no memory: so that many lists are merged into one while its blocks are at hand, each
-    /// chunk with all of them before the next.
+    /// chunk must have a value, and `other` must not be longer where the merge makes a false value true. Reads and
+    /// writes each block of the chunk once, and takes no memory. Many lists are merged into one by it while the blocks
+    /// of a chunk are at hand: with all of them before the next chunk.
     ///
     /// ```
     /// // Of 100 values, over blocks of 8 bits, those at 5 and 70 are true, in `other` those at 6 and 71.
