@@ -13,7 +13,7 @@ impl<B: BitBlock> BitVec<B> {
     /// How many chunks the list has: as many blocks each as a block has bits, and the last what is left. Constant time.
     ///
     /// ```
-    /// // Of 100 values, over blocks of 8 bits.
+    /// // Of 72 values, over blocks of 8 bits.
     /// assert_eq!(bits.chunk_count(), 2);
     /// ```
     #[inline]
@@ -31,10 +31,9 @@ impl<B: BitBlock> BitVec<B> {
     /// of a chunk are at hand: with all of them before the next chunk.
     ///
     /// ```
-    /// // Of 100 values, over blocks of 8 bits, those at 5 and 70 are true, in `other` those at 6 and 71.
+    /// // Of 72 values, over blocks of 8 bits, those at 5 and 70 are true, and in `other` those at 6 and 71.
     /// bits.merge_chunk_with(&other, Merge::Union, 1);
-    /// assert_eq!(bits.storage()[0], 0b0010_0000);
-    /// assert_eq!(bits.storage()[8], 0b1100_0000);
+    /// assert_eq!(bits.storage(), [0b0010_0000, 0, 0, 0, 0, 0, 0, 0, 0b1100_0000].as_slice());
     /// ```
     #[inline(always)]
     pub fn merge_chunk_with(&mut self, other: &Self, merge: Merge, chunk: usize)
