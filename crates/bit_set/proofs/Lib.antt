@@ -11,6 +11,7 @@ pub mod EndLemmas
 pub mod RetainLemmas
 pub mod GapLemmas
 pub mod MovedLemmas
+pub mod ManyLemmas
 pub mod RunLemmas
 pub mod ProperLemmas
 pub mod RangeTextLemmas

@@ -1,8 +1,9 @@
 -- How the text of ranges is read: its digits, its items, and what each adds to a set.
-use Rattle.std.proofs.{Math.Bool.or-false, Common.{◌≡◌, ◌≢◌, ℕ, zero, suc, ◌+◌, ◌-◌, ◌*◌, ◌^◌, ◌<◌, min, true, false, ◌||◌, cond, eqb, List, [], ◌∷◌, ◌++◌, length, map, take, get_or, Option, Some, None, Result, Ok, Err, refl, sym, ap, ◌∙◌, arith, ne_eqb, eq-eqb, ⊎_elim}, lemmas.{Bool.{and_parts, cases_eq, false≢true, Decides.nat_tests}, Int.Digits.digits_value_more, Str.digit_value_digit, List.{Elements.{All-head, All-tail, All-weaker}, Splits.{length-slice_split, slice_split_at, slice_split_none}}}}
-use Rattle.std.specs.{Borrow.Bor, Prelude.{MatchOption, OnOk}, Result.is_err, Char.{IsAsciiDigit, is_ascii_digit}, List.{All, slice_split}, Str.all_ascii_digits, Str.Parse.digits_value}
+use Rattle.std.proofs.{Math.Bool.or-false, Common.{◌≡◌, ◌≢◌, ℕ, zero, suc, ◌+◌, ◌-◌, ◌*◌, ◌^◌, ◌<◌, ◌≤◌, max, min, nat_le, nat_lt, Bool, true, false, ◌&&◌, ◌||◌, cond, eqb, List, [], ◌∷◌, ◌++◌, length, map, take, get_or, Option, Some, None, Result, Ok, Err, refl, sym, ap, subst, ◌∙◌, arith, ne_eqb, eq-eqb, ⊎_elim}, lemmas.{Bool.{and_parts, cases_eq, false≢true, Decides.nat_tests}, Int.Digits.digits_value_more, Str.digit_value_digit, List.{Elements.{All-head, All-tail, All-weaker}, Splits.{length-slice_split, slice_split_at, slice_split_none}}}}
+use Rattle.std.specs.{Borrow.Bor, Prelude.{IfNone, IfSome, MatchOption, ⊤}, Option.option_map_or, Result.{is_ok, result_unwrap_or}, Char.{IsAsciiDigit, is_ascii_digit}, List.{All, slice_split}, Str.all_ascii_digits, Str.Parse.digits_value}
 use Rattle.std.specs.declared.ops.Range.{Range}
-use Rattle.bit_set.specs.{RangeReading.{IsRangesFault, cut_at, items_left, items_of, number_of, range_between, range_of, ranges_in, ranges_of, without_space, without_spaces}, Members.{HasNone, UpdatesRange}, Runs.in_ranges, Sets.has, declared.range_texts.RangesError.{RangesError, TheVariants.{Memory, Number, Text}}}
+use Rattle.bit_words.specs.Bounds.{greatest}
+use Rattle.bit_set.specs.{RangeReading.{IsRangesFault, before_ranges, cut_at, end_of, items_left, items_of, number_of, range_between, range_of, ranges_in, ranges_of, without_space, without_spaces}, Members.{HasNone, UpdatesRange}, Ranges.span_end, Runs.in_ranges, Sets.has, declared.range_texts.RangesError.{RangesError, TheVariants.{Memory, Number, Text}}}
 
 -- ---- numbers
 
@@ -73,57 +74,178 @@ ends_alone item lacks = rw (cut_at-none 45 item lacks) refl
 pub ends_apart : (first last : List ℕ) → All (λ b. b ≢ 45) first → range_of (first ++ 45 ∷ last) ≡ range_between (number_of first) (number_of last)
 ends_apart first last lacks = rw (cut_at-first 45 first last lacks) refl
 
+-- ---- the ranges, one after another
+
+same_ok : {T : Type 0} (r : Result T RangesError) (x y : T) → r ≡ Ok x → r ≡ Ok y → x ≡ y
+same_ok r x y one two = ap (λ s. result_unwrap_or s x) (sym one ∙ two)
+
+not_ok : {T : Type 0} (r : Result T RangesError) (e : RangesError) (x : T) → r ≡ Err e → r ≡ Ok x → ⊥
+not_ok r e x one two = false≢true (ap is_ok (sym one ∙ two))
+
+-- where all items are read, the first is, and the others are
+first_read : (a : Result (Range ℕ) RangesError) (b : Result (List (Range ℕ)) RangesError) (rs : List (Range ℕ)) → before_ranges a b ≡ Ok rs
+    → (r : Range ℕ) × (others : List (Range ℕ)) × (a ≡ Ok r) × (b ≡ Ok others) × (rs ≡ r ∷ others)
+first_read (Err e) b rs is = absurd (not_ok (Err e) e rs refl is)
+first_read (Ok r) (Err e) rs is = absurd (not_ok (Err e) e rs refl is)
+first_read (Ok r) (Ok others) rs is = (r, others, refl, refl, same_ok (Ok (r ∷ others)) rs (r ∷ others) is refl)
+
+-- `end` is that of the ranges before these items of the text
+pub EndsAt : List ℕ → List (List ℕ) → ℕ → Type 0
+EndsAt text items end = record {
+  fault : (e : RangesError) → ranges_of items ≡ Err e → ranges_in text ≡ Err e;
+  ranges : (rs : List (Range ℕ)) → ranges_of items ≡ Ok rs → (all : List (Range ℕ)) × (ranges_in text ≡ Ok all) × (end_of all ≡ max end (end_of rs));
+}
+
+pub ends_none : EndsAt [] [] 0
+unfolding EndsAt
+ends_none = record { fault = λ e is. is; ranges = λ rs is. (rs, is, omega arith) }
+
+pub ends_text : (text : List ℕ) → text ≢ [] → EndsAt text (items_of text) 0
+unfolding EndsAt
+ends_text [] some = absurd (some refl)
+ends_text (b ∷ bs) some = record { fault = λ e is. is; ranges = λ rs is. (rs, is, omega arith) }
+
+pub ends_fault : (text item : List ℕ) (items : List (List ℕ)) (end : ℕ) (e : RangesError) → EndsAt text (item ∷ items) end → range_of item ≡ Err e → ranges_in text ≡ Err e
+unfolding EndsAt
+ends_fault text item items end e ends is = ends.fault e (rw is refl)
+
+pub ends_more : (text item : List ℕ) (items : List (List ℕ)) (end : ℕ) (r : Range ℕ) → EndsAt text (item ∷ items) end → range_of item ≡ Ok r → EndsAt text items (max end r.end)
+unfolding EndsAt
+ends_more text item items end r ends is = record {
+  fault = λ e others. ends.fault e (rw (is, others) refl);
+  ranges = λ rs others. let all = ends.ranges (r ∷ rs) (rw (is, others) refl) in (all.0, all.1, omega (arith, all.2));
+}
+
+pub ends_all : (text : List ℕ) (end : ℕ) → EndsAt text [] end → (rs : List (Range ℕ)) × (ranges_in text ≡ Ok rs) × (end ≡ end_of rs)
+unfolding EndsAt
+ends_all text end ends = let all = ends.ranges [] refl in (all.0, all.1, omega (arith, all.2))
+
+-- where the items begin
+pub ends_first : (text : List ℕ) (rest : Option (Bor (List ℕ))) → IfSome rest (λ items. (items.now ≡ text) × (text ≢ [])) → IfNone rest (text ≡ []) → EndsAt text (items_left rest) 0
+ends_first text None some none = subst (λ t. EndsAt t [] 0) (sym none) ends_none
+ends_first text (Some items) some none = subst (λ t. EndsAt text (items_of t) 0) (sym some.0) (ends_text text some.1)
+
 -- ---- the ranges that are put in, one after another
 
-pub Reads : List ℕ → List (List ℕ) → List ℕ → Type 0
-Reads text items s = record {
-  fault : (e : RangesError) → ranges_of items ≡ Err e → ranges_in text ≡ Err e;
-  ranges : (rs : List (Range ℕ)) → ranges_of items ≡ Ok rs → (all : List (Range ℕ)) × (ranges_in text ≡ Ok all) × ((n : ℕ) → in_ranges all n ≡ (has s n || in_ranges rs n));
+-- these items of the text are left to be put into the set s, whose list has length len
+pub Fills : List ℕ → List (List ℕ) → ℕ → List ℕ → Type 0
+Fills text items len s = record {
+  left : List (Range ℕ);
+  reads : ranges_of items ≡ Ok left;
+  within : end_of left ≤ len;
+  members : (all : List (Range ℕ)) → ranges_in text ≡ Ok all → (n : ℕ) → in_ranges all n ≡ (has s n || in_ranges left n);
 }
 
-pub reads_none : (s : List ℕ) → HasNone s → Reads [] [] s
-unfolding Reads
-reads_none s none = record { fault = λ e is. is; ranges = λ rs is. (rs, is, λ n. rw (none n) refl) }
-
-pub reads_text : (text s : List ℕ) → HasNone s → text ≢ [] → Reads text (items_of text) s
-unfolding Reads
-reads_text [] s none some = absurd (some refl)
-reads_text (b ∷ bs) s none some = record { fault = λ e is. is; ranges = λ rs is. (rs, is, λ n. rw (none n) refl) }
-
-pub reads_fault : (text item : List ℕ) (items : List (List ℕ)) (s : List ℕ) (e : RangesError) → Reads text (item ∷ items) s → range_of item ≡ Err e → ranges_in text ≡ Err e
-unfolding Reads
-reads_fault text item items s e reads is = reads.fault e (rw is refl)
-
-pub reads_more : (text item : List ℕ) (items : List (List ℕ)) (s t : List ℕ) (r : Range ℕ) → Reads text (item ∷ items) s → range_of item ≡ Ok r → UpdatesRange (λ _. true) s t r.start r.end → Reads text items t
-unfolding Reads
-reads_more text item items s t r reads is put = record {
-  fault = λ e others. reads.fault e (rw (is, others) refl);
-  ranges = λ rs others.
-      let all = reads.ranges (r ∷ rs) (rw (is, others) refl) in
-      (all.0, all.1, λ n. all.2 n ∙ grind (arith, put n));
+pub fills_none : (len : ℕ) (s : List ℕ) → HasNone s → Fills [] [] len s
+unfolding Fills
+fills_none len s none = record {
+  left = [];
+  reads = refl;
+  within = omega arith;
+  members = λ all is n. rw (none n) (ap (λ rs. in_ranges rs n) (same_ok (Ok []) all [] is refl));
 }
 
-pub reads_all : (text s : List ℕ) → Reads text [] s → (rs : List (Range ℕ)) × (ranges_in text ≡ Ok rs) × ((n : ℕ) → has s n ≡ in_ranges rs n)
-unfolding Reads
-reads_all text s reads = let all = reads.ranges [] refl in (all.0, all.1, λ n. sym (all.2 n ∙ or-false (has s n)))
+pub fills_text : (text : List ℕ) (len : ℕ) (s : List ℕ) → HasNone s → text ≢ [] → (rs : List (Range ℕ)) → ranges_in text ≡ Ok rs → end_of rs ≤ len → Fills text (items_of text) len s
+unfolding Fills
+fills_text [] len s none some rs is within = absurd (some refl)
+fills_text (b ∷ bs) len s none some rs is within = record {
+  left = rs;
+  reads = is;
+  within = within;
+  members = λ all also n. rw (none n) (ap (λ xs. in_ranges xs n) (same_ok (ranges_in (b ∷ bs)) all rs also is));
+}
 
-pub empty_text : (text : List ℕ) → eqb (length text) 0 ≡ true → text ≡ []
-empty_text [] is = refl
-empty_text (b ∷ bs) is = grind (arith, nat_tests)
+-- the range of the first item, which fits
+pub fills_first : (text item : List ℕ) (items : List (List ℕ)) (len : ℕ) (s : List ℕ) → Fills text (item ∷ items) len s → (r : Range ℕ) × (range_of item ≡ Ok r) × (r.end ≤ len)
+unfolding Fills
+fills_first text item items len s fills =
+    let parts = first_read (range_of item) (ranges_of items) fills.left fills.reads in
+    (parts.0, parts.2, omega (arith, ap end_of parts.4, fills.within))
 
-pub some_text : (text : List ℕ) → eqb (length text) 0 ≡ false → text ≢ []
-some_text [] is e = grind (arith, nat_tests)
-some_text (b ∷ bs) is e = cc
+-- so it needs no growth
+pub fills_end : (text item : List ℕ) (items : List (List ℕ)) (len : ℕ) (s : List ℕ) (r : Range ℕ) → Fills text (item ∷ items) len s → range_of item ≡ Ok r → span_end r.start r.end ≤ len
+fills_end text item items len s r fills is =
+    let first = fills_first text item items len s fills in
+    let same : first.0 ≡ r = same_ok (range_of item) first.0 r first.1 is in
+    let end : r.end ≤ len = omega (arith, ap (λ x. x.end) same, first.2) in
+    grind (arith, nat_tests)
+
+pub fills_more : (text item : List ℕ) (items : List (List ℕ)) (len : ℕ) (s t : List ℕ) (r : Range ℕ) → Fills text (item ∷ items) len s → range_of item ≡ Ok r → UpdatesRange (λ _. true) s t r.start r.end → Fills text items len t
+unfolding Fills
+fills_more text item items len s t r fills is put =
+    let parts = first_read (range_of item) (ranges_of items) fills.left fills.reads in
+    let same : parts.0 ≡ r = same_ok (range_of item) parts.0 r parts.2 is in
+    record {
+      left = parts.1;
+      reads = parts.3;
+      within = omega (arith, ap end_of parts.4, fills.within);
+      members = λ all also n.
+          fills.members all also n ∙ ap (λ rs. has s n || in_ranges rs n) (parts.4 ∙ ap (λ x. x ∷ parts.1) same) ∙ grind (arith, put n);
+    }
+
+pub fills_all : (text : List ℕ) (len : ℕ) (s : List ℕ) → Fills text [] len s → (rs : List (Range ℕ)) → ranges_in text ≡ Ok rs → (n : ℕ) → has s n ≡ in_ranges rs n
+unfolding Fills
+fills_all text len s fills rs is n =
+    let none : fills.left ≡ [] = same_ok (Ok []) fills.left [] fills.reads refl in
+    sym (fills.members rs is n ∙ ap (λ xs. has s n || in_ranges xs n) none ∙ or-false (has s n))
+
+pub fills_first_items : (text : List ℕ) (rest : Option (Bor (List ℕ))) (len : ℕ) (s : List ℕ) → HasNone s → (rs : List (Range ℕ)) × (ranges_in text ≡ Ok rs) × (end_of rs ≤ len) → IfSome rest (λ items. (items.now ≡ text) × (text ≢ [])) → IfNone rest (text ≡ []) → Fills text (items_left rest) len s
+fills_first_items text None len s empty reads some none = subst (λ t. Fills t [] len s) (sym none) (fills_none len s empty)
+fills_first_items text (Some items) len s empty reads some none = subst (λ t. Fills text (items_of t) len s) (sym some.0) (fills_text text len s empty some.1 reads.0 reads.1 reads.2)
 
 pub next_items : (t item : List ℕ) (rest : Option (Bor (List ℕ))) → MatchOption rest (items_of t ≡ item ∷ []) (λ r. items_of t ≡ item ∷ items_of r.now) → items_of t ≡ item ∷ items_left rest
 next_items t item None is = is
 next_items t item (Some r) is = is
 
-pub on_ok : {T E P : Type 0} (r : Result T E) → is_err r ≡ false → OnOk r P → P
-on_ok (Ok x) none p = p
-on_ok (Err e) none p = absurd (false≢true (sym none))
+-- ---- faults
+
+-- the fault is one of the text
+abbrev IsOfText : {T : Type 0} → Result T RangesError → Type 0
+IsOfText (Ok x) = ⊤
+IsOfText (Err Text) = ⊤
+IsOfText (Err Number) = ⊤
+IsOfText (Err (Memory fault)) = ⊥
+
+of_either : {T : Type 0} (test : Bool) (r s : Result T RangesError) → IsOfText r → IsOfText s → IsOfText (cond test r s)
+of_either true r s one other = one
+of_either false r s one other = other
+
+of_number : (digits : List ℕ) → IsOfText (number_of digits)
+of_number digits =
+    let value = digits_value 10 digits in
+    of_either (nat_lt 0 (length digits) && all_ascii_digits digits) (cond (nat_lt value greatest) (Ok value) (Err Number)) (Err Text) (of_either (nat_lt value greatest) (Ok value) (Err Number) tt tt) tt
+
+of_between : (a b : Result ℕ RangesError) → IsOfText a → IsOfText b → IsOfText (range_between a b)
+of_between (Err Text) b first last = tt
+of_between (Err Number) b first last = tt
+of_between (Err (Memory fault)) b first last = absurd first
+of_between (Ok m) (Err Text) first last = tt
+of_between (Ok m) (Err Number) first last = tt
+of_between (Ok m) (Err (Memory fault)) first last = absurd last
+of_between (Ok m) (Ok n) first last = of_either (nat_le m n) (Ok (record { start = m; end = n + 1 })) (Err Text) tt tt
+
+of_parts : (item : List ℕ) (parts : Option (List ℕ × List ℕ)) → IsOfText (option_map_or (λ p. range_between (number_of p.0) (number_of p.1)) parts (range_between (number_of item) (number_of item)))
+of_parts item None = of_between _ _ (of_number item) (of_number item)
+of_parts item (Some parts) = of_between _ _ (of_number parts.0) (of_number parts.1)
+
+of_before : (a : Result (Range ℕ) RangesError) (b : Result (List (Range ℕ)) RangesError) → IsOfText a → IsOfText b → IsOfText (before_ranges a b)
+of_before (Err Text) b first rest = tt
+of_before (Err Number) b first rest = tt
+of_before (Err (Memory fault)) b first rest = absurd first
+of_before (Ok r) (Err Text) first rest = tt
+of_before (Ok r) (Err Number) first rest = tt
+of_before (Ok r) (Err (Memory fault)) first rest = absurd rest
+of_before (Ok r) (Ok rs) first rest = tt
+
+of_items : (items : List (List ℕ)) → IsOfText (ranges_of items)
+of_items [] = tt
+of_items (item ∷ items) = of_before (range_of item) (ranges_of items) (of_parts item (cut_at 45 item)) (of_items items)
+
+of_text : (text : List ℕ) → IsOfText (ranges_in text)
+of_text [] = tt
+of_text (b ∷ bs) = of_items (items_of (b ∷ bs))
 
 pub fault_is : (text : List ℕ) (e : RangesError) → ranges_in text ≡ Err e → IsRangesFault text e
 fault_is text Text is = is
 fault_is text Number is = is
-fault_is text (Memory fault) is = tt
+fault_is text (Memory fault) is = absurd (subst IsOfText is (of_text text))

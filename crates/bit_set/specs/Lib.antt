@@ -16,6 +16,7 @@ pub mod Indexes
 pub mod Missing
 pub mod Gaps
 pub mod Moved
+pub mod Many
 pub mod Retained
 pub mod Runs
 pub mod RangeTexts

@@ -1,5 +1,5 @@
 -- How a text is read as ranges, as Linux reads lists of processors.
-use Rattle.std.specs.{Prelude.{◌≡◌, ℕ, ◌+◌, ◌==◌, ◌&&◌, nat_le, nat_lt, if◌then◌else◌, List, [], ◌∷◌, map, length, Option, Some, None, Result, Ok, Err, ⊤}, List.slice_split, Borrow.Bor, Option.{option_map, option_map_or}, Str.all_ascii_digits, Str.Parse.digits_value}
+use Rattle.std.specs.{Prelude.{◌≡◌, ℕ, ◌+◌, ◌<◌, max, ◌==◌, ◌&&◌, nat_le, nat_lt, if◌then◌else◌, List, [], ◌∷◌, map, length, Option, Some, None, Result, Ok, Err}, List.slice_split, Borrow.Bor, Option.{option_map, option_map_or}, Str.all_ascii_digits, Str.Parse.digits_value}
 use Rattle.std.specs.declared.ops.Range.{Range}
 use Rattle.bit_words.specs.Bounds.{greatest}
 use Rattle.bit_set.specs.declared.range_texts.RangesError.{RangesError, TheVariants.{Memory, Number, Text}}
@@ -53,11 +53,16 @@ abbrev pub ranges_in : List ℕ → Result (List (Range ℕ)) RangesError
 ranges_in [] = Ok []
 ranges_in (b ∷ bs) = ranges_of (items_of (b ∷ bs))
 
--- why a text was not read: its first fault, or memory
+-- one more than the greatest number of ranges, and 0 where there is none
+abbrev pub end_of : List (Range ℕ) → ℕ
+end_of [] = 0
+end_of (r ∷ rs) = max r.end (end_of rs)
+
+-- why a text was not read: its first fault, or memory, where it has none and writes a number
 abbrev pub IsRangesFault : List ℕ → RangesError → Type 0
 IsRangesFault text Text = ranges_in text ≡ Err Text
 IsRangesFault text Number = ranges_in text ≡ Err Number
-IsRangesFault text (Memory fault) = ⊤
+IsRangesFault text (Memory fault) = (rs : List (Range ℕ)) × (ranges_in text ≡ Ok rs) × (0 < end_of rs)
 
 -- The items of what is left of a text. No public clause cites this.
 abbrev pub items_left : Option (Bor (List ℕ)) → List (List ℕ)

@@ -1,7 +1,8 @@
 //! A set read from the text of its runs.
-ghost use Rattle.std.specs.{Prelude.{◌≡◌, ◌≢◌, ◌<◌, ◌∷◌, ◌++◌, ℕ, List, [], Ok, IfErr, IfNone, IfOk, IfSome, MatchOption, Option, length}, List.All};
+ghost use Rattle.std.specs.{Prelude.{◌≡◌, ◌≢◌, ◌<◌, ◌≤◌, ◌∷◌, ◌++◌, ℕ, List, [], Err, Ok, IfErr, IfNone, IfOk, IfSome, MatchOption, Option, length}, List.All};
 ghost use Rattle.std.specs.declared.ops.Range.{Range};
-ghost use Rattle.bit_set.specs.{RangeReading.{IsRangesFault, items_of, number_of, range_between, range_of, ranges_in, without_space}, Runs.in_ranges, Sets.{elements, has}};
+ghost use Rattle.bit_blocks.specs.Bits.{blocks_for, capacity_of};
+ghost use Rattle.bit_set.specs.{Members.HasNone, RangeReading.{IsRangesFault, end_of, items_of, number_of, range_between, range_of, ranges_in, without_space}, Runs.in_ranges, Sets.{elements, has}};
 
 use crate::{BitBlock, BitSet};
 use std::alloc::{AllocError, Global};
@@ -24,9 +25,11 @@ pub enum RangesError {
 
 impl<B: BitBlock> BitSet<B> {
     /// The set that a text lists as Linux lists processors, `0-3, 5, 9-12`: numbers, and ranges from a first to a last
-    /// number, with a comma between them and one space behind it or none. They may be in any order and overlap; numbers may
-    /// have leading zeros. The empty text is the empty set. One pass over the text, and one write of each block of a range.
-    /// Fails at the first item that is not so, and where a set of the numbers up to there finds no memory.
+    /// number, with a comma between them and one space behind it or none. They may be in any order and overlap; numbers
+    /// may have leading zeros. The empty text is the empty set. The length is one more than the greatest number, and the
+    /// capacity that of its blocks. Two passes over the text, and one write of each block of a range. Fails at the first
+    /// item that is not so, whatever memory there is. A text without such an item fails only where memory for the blocks
+    /// runs out, and never the empty one.
     ///
     /// ```
     /// let set: BitSet = BitSet::from_ranges(alloc, "0-3, 5,9-10")?;
@@ -34,22 +37,61 @@ impl<B: BitBlock> BitSet<B> {
     /// ```
     pub fn from_ranges(alloc: Global, text: &str) -> Result<Self, RangesError>
         ensures read { IfOk result (λ set. (rs : List (Range ℕ)) × (ranges_in text.now ≡ Ok rs)
-            × ((n : ℕ) → has (elements set.values) n ≡ in_ranges rs n)) }
+            × ((n : ℕ) → has (elements set.values) n ≡ in_ranges rs n) × (length set.values ≡ end_of rs)) }
+        ensures capacity { IfOk result (λ set. set.capacity
+            ≡ capacity_of B.width (blocks_for B.width (length set.values))) }
         ensures fault { IfErr result (IsRangesFault text.now) }
     {
-        let mut set = BitSet::new_general(alloc);
         let bytes = text.as_bytes();
-        let mut rest = if bytes.is_empty() { None } else { Some(bytes) };
-        'items: while let Some(items) = rest {
-            let (item, after) = first_item(items);
-            let range = read_range(item)?;
-            if set.insert_range(range).is_err() {
-                return Err(RangesError::Memory(AllocError));
-            }
-            rest = after;
-        }
+        let end = end_of_ranges(bytes)?;
+        let Ok(mut set) = BitSet::with_capacity_general(alloc, end) else {
+            return Err(RangesError::Memory(AllocError));
+        };
+        set.insert_ranges(bytes);
         Ok(set)
     }
+
+    // Puts in the numbers that a text lists. The set has none and is long enough for them.
+    fn insert_ranges(&mut self, text: &[u8])
+        requires reads { (rs : List (Range ℕ)) × (ranges_in text.now ≡ Ok rs) × (end_of rs ≤ length self.old.values) }
+        requires none { HasNone (elements self.old.values) }
+        ensures members { (rs : List (Range ℕ)) → ranges_in text.now ≡ Ok rs
+            → (n : ℕ) → has (elements self.new.values) n ≡ in_ranges rs n }
+        ensures length { length self.new.values ≡ length self.old.values }
+        ensures capacity { self.new.capacity ≡ self.old.capacity }
+    {
+        let mut rest = all_items(text);
+        'items: while let Some(items) = rest {
+            let (item, after) = first_item(items);
+            // The text was read before, and so there is capacity too.
+            let range = read_range(item).unwrap();
+            self.insert_range(range).unwrap();
+            rest = after;
+        }
+    }
+}
+
+// One more than the greatest number that a text lists, and 0 where there is none.
+fn end_of_ranges(text: &[u8]) -> Result<usize, RangesError>
+    ensures read { IfOk result (λ end. (rs : List (Range ℕ)) × (ranges_in text.now ≡ Ok rs) × (end ≡ end_of rs)) }
+    ensures fault { IfErr result (λ fault. ranges_in text.now ≡ Err fault) }
+{
+    let mut end: usize = 0;
+    let mut rest = all_items(text);
+    'items: while let Some(items) = rest {
+        let (item, after) = first_item(items);
+        end = end.max(read_range(item)?.end);
+        rest = after;
+    }
+    Ok(end)
+}
+
+// The text where it has an item.
+fn all_items(text: &[u8]) -> Option<&[u8]>
+    ensures some { IfSome result (λ items. (items.now ≡ text.now) × (text.now ≢ [])) }
+    ensures none { IfNone result (text.now ≡ []) }
+{
+    (!text.is_empty()).then_some(text)
 }
 
 // The first item, and the text of the others; `None` where there are none.

@@ -18,6 +18,7 @@ mod gaps;
 mod in_place;
 mod new_sets;
 mod noted_changes;
+mod of_many;
 mod proper_subset;
 mod ranges;
 mod relations;

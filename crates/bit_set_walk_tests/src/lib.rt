@@ -12,6 +12,8 @@ mod from_tests;
 #[cfg(test)]
 mod large_tests;
 #[cfg(test)]
+mod many_tests;
+#[cfg(test)]
 mod moving_tests;
 #[cfg(test)]
 mod part_tests;

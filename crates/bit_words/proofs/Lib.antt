@@ -5,6 +5,7 @@ pub mod RangeLemmas
 pub mod MovedLemmas
 pub mod RangeQueryLemmas
 pub mod KeepLemmas
+pub mod ChunkLemmas
 pub mod CapacityLemmas
 pub mod SameCapacity
 pub mod SummaryLemmas

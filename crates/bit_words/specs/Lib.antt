@@ -4,4 +4,5 @@ pub mod Summary
 pub mod Pending
 pub mod Nonzero
 pub mod Kept
+pub mod Chunks
 pub mod Growth

@@ -12,6 +12,7 @@ use std::marker::Model;
 mod blocks;
 mod bytes;
 mod capacity;
+mod chunk_merging;
 mod comparing;
 mod constructors;
 mod debug;

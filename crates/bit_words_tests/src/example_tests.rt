@@ -48,6 +48,22 @@ fn blocks_that_are_not_zero(rt: HostRuntime) -> Result<(), Fail> {
 }
 
 #[test]
+fn a_chunk_that_is_merged(rt: HostRuntime) -> Result<(), Fail> {
+    let mut bits = BitVec::<u8>::from_elem_general(rt.alloc(), 72, false)?;
+    let mut other = BitVec::<u8>::from_elem_general(rt.alloc(), 72, false)?;
+    // Of 72 values, over blocks of 8 bits.
+    assert_eq!(rt; bits.chunk_count(), 2);
+    bits.set(5, true);
+    bits.set(70, true);
+    other.set(6, true);
+    other.set(71, true);
+    // Of 72 values, over blocks of 8 bits, those at 5 and 70 are true, and in `other` those at 6 and 71.
+    bits.merge_chunk_with(&other, Merge::Union, 1);
+    assert_eq!(rt; bits.storage(), [0b0010_0000, 0, 0, 0, 0, 0, 0, 0, 0b1100_0000].as_slice());
+    Ok(())
+}
+
+#[test]
 fn a_walk_that_skips_blocks(rt: HostRuntime) -> Result<(), Fail> {
     let bits = BitVec::<u8>::from_elem_general(rt.alloc(), 1000, true)?;
     // Of 1000 values, all true, over blocks of 8 bits.

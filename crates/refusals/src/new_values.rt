@@ -66,7 +66,7 @@ const ROWS: &[Row<OnSets<Making>>] = &[
     },
     Row {
         name: "from_ranges",
-        asks: &[Ask::Grown(10), Ask::Grown(451), Ask::Grown(5001)],
+        asks: &[Ask::Exact(5001)],
         call: OnSets {
             call: Making::FromRanges,
             capacity: Capacity::Exact,

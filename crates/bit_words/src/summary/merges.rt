@@ -15,6 +15,8 @@ use bit_blocks::packed::block_merges::{merge_block, merge_each, merge_rest};
 use bit_blocks::packed::groups::LONG_GROUP;
 use bit_blocks::steps::Steps;
 
+pub(crate) mod in_chunk;
+
 // The `count` blocks from `start` on become their merges with the others of their indexes. Returns which of them
 // are not 0 then, the first of them at the lowest bit. The compiler makes vector code of this where it knows the
 // count.

@@ -1,0 +1,134 @@
+// Calls that make a set of many.
+ghost use Rattle.std.specs.Prelude.{◌≡◌, ◌≢◌, ℕ, ◌+◌, ◌*◌, ◌<◌, ◌≤◌, ◌↔◌, All, Any, Bool, IfOk, IsOk, IsTrue, [], false, get_or, length, map, true};
+ghost use Rattle.bit_blocks.specs.{Bits.{blocks_for, capacity_of}, Merges.merge_of_values};
+ghost use Rattle.bit_set.specs.{Many.{HasEach, HasSome, intersection_all, longest, merged_at, shortest, union_all}, Sets.{elements, has}};
+
+use crate::bit_vec::{BitVec, Merge};
+use crate::{BitBlock, BitSet};
+use std::alloc::{AllocError, Global};
+
+impl<B: BitBlock> BitSet<B> {
+    /// The set of what is in some of the sets. It is as long as the longest of them, and of no sets the empty set of
+    /// length 0. One pass: as many blocks as a block has bits are merged with those of each set before the next ones.
+    /// So each block of the sets is read once, and those of the new set are at hand while they are written. The
+    /// capacity is that of the blocks. Fails only where memory runs out, and never for the length 0.
+    ///
+    /// ```
+    /// // The sets are {1, 4}, {4, 70} and {}.
+    /// let all = BitSet::union_of(alloc, &sets)?;
+    /// assert!(all.iter().eq([1, 4, 70]));
+    /// ```
+    pub fn union_of(alloc: Global, sets: &[BitSet<B>]) -> Result<Self, AllocError>
+        ensures elements { IfOk result (λ set. elements set.values
+            ≡ union_all (map (λ s. elements s.values) sets.now)) }
+        ensures members { IfOk result (λ set. HasSome sets.now (elements set.values)) }
+        ensures some { IfOk result (λ set. (n : ℕ) → IsTrue (has (elements set.values) n)
+            ↔ Any (λ s. IsTrue (has (elements s.values) n)) sets.now) }
+        ensures length { IfOk result (λ set. length set.values ≡ longest sets.now) }
+        ensures capacity { IfOk result (λ set. set.capacity
+            ≡ capacity_of B.width (blocks_for B.width (longest sets.now))) }
+        ensures empty { longest sets.now ≡ 0 → IsOk result }
+    {
+        let bits = merged(alloc, sets, Merge::Union, longest(sets), false)?;
+        Ok(BitSet { bits })
+    }
+
+    /// The set of what is in each of the sets. It is as long as the shortest of them. Of no sets it is the empty set of
+    /// length 0, since a set of all numbers would have no end. One pass, as [`BitSet::union_of`] makes it, which reads
+    /// no block past the shortest set. The capacity is that of the blocks. Fails only where memory runs out, and never
+    /// for the length 0.
+    ///
+    /// ```
+    /// // The sets are {1, 4, 70} and {4, 70, 200}.
+    /// let common = BitSet::intersection_of(alloc, &sets)?;
+    /// assert!(common.iter().eq([4, 70]));
+    /// ```
+    pub fn intersection_of(alloc: Global, sets: &[BitSet<B>]) -> Result<Self, AllocError>
+        ensures elements { IfOk result (λ set. elements set.values
+            ≡ intersection_all (map (λ s. elements s.values) sets.now)) }
+        ensures members { IfOk result (λ set. HasEach sets.now (elements set.values)) }
+        ensures each { IfOk result (λ set. sets.now ≢ [] → (n : ℕ) → IsTrue (has (elements set.values) n)
+            ↔ All (λ s. IsTrue (has (elements s.values) n)) sets.now) }
+        ensures length { IfOk result (λ set. length set.values ≡ shortest sets.now) }
+        ensures capacity { IfOk result (λ set. set.capacity
+            ≡ capacity_of B.width (blocks_for B.width (shortest sets.now))) }
+        ensures empty { shortest sets.now ≡ 0 → IsOk result }
+    {
+        let bits = merged(alloc, sets, Merge::Intersection, shortest(sets), true)?;
+        Ok(BitSet { bits })
+    }
+}
+
+// The greatest length of the sets, and 0 of none.
+fn longest<B: BitBlock>(sets: &[BitSet<B>]) -> usize
+    ensures { result ≡ longest sets.now }
+{
+    let mut most: usize = 0;
+    for set in sets {
+        most = most.max(set.get_ref().len());
+    }
+    most
+}
+
+// The least length of the sets, and 0 of none.
+fn shortest<B: BitBlock>(sets: &[BitSet<B>]) -> usize
+    ensures { result ≡ shortest sets.now }
+{
+    let Some((first, rest)) = sets.split_first() else {
+        return 0;
+    };
+    let mut least = first.get_ref().len();
+    for set in rest {
+        least = least.min(set.get_ref().len());
+    }
+    least
+}
+
+// A list of length `len` of what `value` becomes at each index by merges with the values of the sets. It goes into its
+// caller, which knows the merge.
+#[inline(always)]
+fn merged<B: BitBlock>(
+    alloc: Global,
+    sets: &[BitSet<B>],
+    merge: Merge,
+    len: usize,
+    value: bool,
+) -> Result<BitVec<B>, AllocError>
+    requires fits { All (λ s. len < length s.values → merge_of_values merge false true ≡ false) sets.now }
+    ensures len { IfOk result (λ bits. length bits.values ≡ len) }
+    ensures values { IfOk result (λ bits. (i : ℕ) → i < len
+        → get_or bits.values i false ≡ merged_at merge sets.now i value) }
+    ensures capacity { IfOk result (λ bits. bits.capacity ≡ capacity_of B.width (blocks_for B.width len)) }
+    ensures empty { len ≡ 0 → IsOk result }
+{
+    let mut bits = BitVec::from_elem_general(alloc, len, value)?;
+    for chunk in 0..bits.chunk_count() {
+        merge_chunk(&mut bits, sets, merge, chunk);
+    }
+    Ok(bits)
+}
+
+// The values of a chunk of the list become what they do by merges with those of the sets; the others stay.
+#[inline(always)]
+fn merge_chunk<B: BitBlock>(
+    bits: &mut BitVec<B>,
+    sets: &[BitSet<B>],
+    merge: Merge,
+    chunk: usize,
+)
+    requires some { chunk * B.width * B.width < length bits.old.values }
+    requires fits { All (λ s. length bits.old.values < length s.values
+        → merge_of_values merge false true ≡ false) sets.now }
+    ensures len { length bits.new.values ≡ length bits.old.values }
+    ensures inside { (i : ℕ) → chunk * B.width * B.width ≤ i → i < (chunk + 1) * B.width * B.width
+        → get_or bits.new.values i false ≡ merged_at merge sets.now i (get_or bits.old.values i false) }
+    ensures before { (i : ℕ) → i < chunk * B.width * B.width
+        → get_or bits.new.values i false ≡ get_or bits.old.values i false }
+    ensures after { (i : ℕ) → (chunk + 1) * B.width * B.width ≤ i
+        → get_or bits.new.values i false ≡ get_or bits.old.values i false }
+    ensures capacity { bits.new.capacity ≡ bits.old.capacity }
+{
+    for set in sets {
+        bits.merge_chunk_with(set.get_ref(), merge, chunk);
+    }
+}

@@ -1,0 +1,13 @@
+use Rattle.bit_words.proofs.summary.merges.in_chunk.merge_chosen_in_chunk.Goals as goal
+
+pub returns-in-Union : goal.returns-in-Union
+returns-in-Union g c = rw c.in-Union.is c.merge_in_chunk.ensures
+
+pub returns-in-Intersection : goal.returns-in-Intersection
+returns-in-Intersection g c = rw c.in-Intersection.is c.merge_in_chunk-in-Intersection.ensures
+
+pub returns-in-Difference : goal.returns-in-Difference
+returns-in-Difference g c = rw c.in-Difference.is c.merge_in_chunk-in-Difference.ensures
+
+pub returns-in-Symmetric : goal.returns-in-Symmetric
+returns-in-Symmetric g c = rw c.in-Symmetric.is c.merge_in_chunk-in-Symmetric.ensures

@@ -1,0 +1,101 @@
+// Merges of the blocks that one block of the summary is about: a chunk.
+ghost use Rattle.std.specs.Prelude.{◌≡◌, ℕ, ◌+◌, ◌*◌, ◌<◌, ◌≤◌, length, map};
+ghost use Rattle.bit_blocks.specs.{BlockMerges.{CanMerge, HasMerged}, Digits.is_one, Storage.is_used};
+ghost use Rattle.bit_words.specs.Summary.{IsStoredSummary};
+
+use crate::summary::merges::merge_chunk;
+use crate::summary::{is_short, used_from};
+use bit_blocks::block::BitBlock;
+use bit_blocks::block::merge::Merge;
+use bit_blocks::block::operation::{Difference, Intersection, Operation, Symmetric, Union};
+use bit_blocks::packed::access::{block_at, put_in};
+use bit_blocks::packed::nonzero::block_or_zero;
+use bit_blocks::steps::Steps;
+
+// The blocks from `start` on and before `end` become their merges with the others of their indexes, or with zeros where
+// there are none.
+fn merge_between<B: BitBlock, O: Operation>(
+    blocks: &mut [B],
+    others: &[B],
+    start: usize,
+    end: usize,
+)
+    requires can { CanMerge B.is_block blocks.old others.now }
+    requires forward { start ≤ end }
+    requires within { end ≤ length blocks.old }
+    ensures has { HasMerged O.merge B.width B.number B.is_block start end blocks.old others.now blocks.new }
+{
+    for k in start..end {
+        let merged = O::of_blocks(block_at(blocks, k), block_or_zero(others, k));
+        put_in(blocks, k, merged);
+    }
+}
+
+// The blocks that block `q` of the summary is about become their merges with the others of their indexes, or with zeros
+// where there are none. Returns what that block is then.
+#[inline]
+fn merge_full_or_part<B: BitBlock, O: Operation>(blocks: &mut [B], others: &[B], q: usize) -> B
+    requires can { CanMerge B.is_block blocks.old others.now }
+    requires some { q * B.width < length blocks.old }
+    ensures has { HasMerged O.merge B.width B.number B.is_block (q * B.width) ((q + 1) * B.width) blocks.old
+        others.now blocks.new }
+    ensures of_block { B.is_block result }
+    ensures digits { (j : ℕ) → j < B.width
+        → is_one (B.number result) j ≡ is_used (map B.number blocks.new) (q * B.width + j) }
+{
+    let width = B::bits();
+    let start = q * width;
+    if others.len().saturating_sub(start) >= width {
+        return merge_chunk::<B, O>(blocks, others, q, &mut Steps::new());
+    }
+    let count = (blocks.len() - start).min(width);
+    merge_between::<B, O>(blocks, others, start, start + count);
+    used_from(blocks, start)
+}
+
+// The same, and block `q` of the summary becomes that block where one is stored.
+#[inline]
+fn merge_in_chunk<B: BitBlock, O: Operation>(
+    blocks: &mut [B],
+    summary: &mut [B],
+    others: &[B],
+    q: usize,
+)
+    requires can { CanMerge B.is_block blocks.old others.now }
+    requires some { q * B.width < length blocks.old }
+    requires summary { IsStoredSummary B.width B.number B.is_block blocks.old summary.old }
+    ensures has { HasMerged O.merge B.width B.number B.is_block (q * B.width) ((q + 1) * B.width) blocks.old
+        others.now blocks.new }
+    ensures summary { IsStoredSummary B.width B.number B.is_block blocks.new summary.new }
+    ensures summary_len { length summary.new ≡ length summary.old }
+{
+    let digits = merge_full_or_part::<B, O>(blocks, others, q);
+    if !is_short::<B>(blocks.len()) {
+        put_in(summary, q, digits);
+    }
+}
+
+// The merge that is named, of the blocks that block `q` of the summary is about.
+#[inline(always)]
+pub(crate) fn merge_chosen_in_chunk<B: BitBlock>(
+    blocks: &mut [B],
+    summary: &mut [B],
+    others: &[B],
+    merge: Merge,
+    q: usize,
+)
+    requires can { CanMerge B.is_block blocks.old others.now }
+    requires some { q * B.width < length blocks.old }
+    requires summary { IsStoredSummary B.width B.number B.is_block blocks.old summary.old }
+    ensures has { HasMerged merge B.width B.number B.is_block (q * B.width) ((q + 1) * B.width) blocks.old
+        others.now blocks.new }
+    ensures summary { IsStoredSummary B.width B.number B.is_block blocks.new summary.new }
+    ensures summary_len { length summary.new ≡ length summary.old }
+{
+    match merge {
+        Merge::Union => merge_in_chunk::<B, Union>(blocks, summary, others, q),
+        Merge::Intersection => merge_in_chunk::<B, Intersection>(blocks, summary, others, q),
+        Merge::Difference => merge_in_chunk::<B, Difference>(blocks, summary, others, q),
+        Merge::Symmetric => merge_in_chunk::<B, Symmetric>(blocks, summary, others, q),
+    }
+}
