@@ -32,8 +32,9 @@ start() {
 # The repository that is copied from, with a file in the place of what is proved: that is a gigabyte.
 from="$room/from"
 mkdir "$from"
-(cd "$top" && tar cf - --exclude=out add tools crates.txt LICENSE-* crates/bit_blocks crates/bit_words crates/bit_set crates/bit_matrix) | tar xf - -C "$from"
-for library in bit_blocks bit_words bit_set bit_matrix; do
+libraries=(bit_blocks bit_words bit_set bit_matrix graph_walks dataflow automata free_slots roaring)
+(cd "$top" && tar cf - --exclude=out add tools crates.txt LICENSE-* "${libraries[@]/#/crates/}") | tar xf - -C "$from"
+for library in "${libraries[@]}"; do
     mkdir -p "$from/crates/$library/out/rlib"
     echo "$library" > "$from/crates/$library/out/rlib/proved"
 done
@@ -70,6 +71,9 @@ is_copy() {
     [ ! -e "crates/$1/must-fail" ] && [ -f "crates/$1/LICENSE-MIT" ] && [ -f "crates/$1/LICENSE-APACHE" ]
 }
 
+# Whether just these libraries were copied.
+copied() { [ "$(ls crates)" = "$(printf '%s\n' "$@" | sort)" ]; }
+
 same_lines() { [ "$(sort "$1")" = "$(sort "$2")" ]; }
 
 start first
@@ -98,6 +102,23 @@ echo older > crates/bit_matrix/README.md
 expect 'add fails beside a matrix that it copied' add
 expect 'add leaves an older copy of the matrix' not grep -qx older crates/bit_matrix/README.md
 expect 'add takes an argument that is no library' not add bit_graph
+
+start walks
+expect 'add fails with a library above the matrix' add graph_walks
+expect 'add does not copy what a library stands on' copied bit_blocks bit_words bit_set bit_matrix graph_walks
+expect 'the copy of graph_walks is not the library' is_copy graph_walks
+expect 'a link of the documents copied with graph_walks leads nowhere' links_lead_on
+expect 'add fails with two more libraries' add free_slots roaring
+expect 'add does not copy two more' copied bit_blocks bit_words bit_set bit_matrix graph_walks free_slots roaring
+
+start all
+expect 'add fails with all libraries' add dataflow automata free_slots graph_walks roaring
+expect 'add does not copy all' copied "${libraries[@]}"
+for library in "${libraries[@]}"; do
+    expect "the copy of $library beside all is not the library" is_copy "$library"
+    expect "crates.txt has not one line of $library" [ "$(grep -c "^$library:" crates.txt)" -eq 1 ]
+done
+expect 'a link of all copied documents leads nowhere' links_lead_on
 
 start older
 expect 'add fails' add

@@ -1,5 +1,5 @@
 // A matrix, and the calls that read it. Those that make or change one are in the folder.
-ghost use Rattle.std.specs.Prelude.{◌≡◌, ◌<◌, Some, None, if◌then◌else◌, nat_lt, ◌&&◌, length};
+ghost use Rattle.std.specs.Prelude.{◌≡◌, ◌<◌, Some, None, if◌then◌else◌, nat_lt, ◌&&◌, false, IfNone, length};
 ghost use Rattle.bit_matrix.specs.Matrices.{has_at, IsMatrix};
 
 use crate::BitBlock;
@@ -85,8 +85,10 @@ impl<B: BitBlock> BitMatrix<B> {
     /// ```
     #[inline]
     pub fn get(&self, row: usize, column: usize) -> Option<bool>
-        ensures { result ≡ (if nat_lt row (length self.now.rows) && nat_lt column self.now.columns
+        ensures value { result ≡ (if nat_lt row (length self.now.rows) && nat_lt column self.now.columns
             then Some (has_at self.now row column) else None) }
+        ensures outside { IfNone result (has_at self.now row column ≡ false) }
+        ensures matrix { IsMatrix self.now }
     {
         if row >= self.rows || column >= self.columns {
             return None;

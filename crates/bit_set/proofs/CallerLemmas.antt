@@ -4,7 +4,7 @@ use Rattle.std.proofs.lemmas.{List.append-nil, List.Sums.{length-filter, count_b
 use Rattle.std.{proofs.lemmas.{Iterator.{YieldsList, YieldsList-from_range, Adapters.fact_from_collect, Consumers.{YieldsList-at, YieldsList-from_filter, YieldsList-from_shown}}, Result.IfOk-weaker}, specs.Prelude.IfOk}
 use Rattle.std.specs.{BTreeMap.{BTreeMap, get_by}, Fn.{Mut, CalledAt}, Iterator.{Drains, Adapters.{filter_source, filter_callee, filter_steps}}, List.range_with_len}
 use Rattle.bit_blocks.specs.Bits.{Bits}
-use Rattle.bit_set.{specs.{Members.IsSameSet, Order.order_of_sets, Sets.{bound_of, elements, has, put_all}, Walk.{Walk, Advances}}, proofs.{RangeLemmas.has-range_with_len, SetLemmas.{IsAscending-elements, has-filter, same_members}, TestLemmas.{filter_all, filter_none}}}
+use Rattle.bit_set.{specs.{Members.IsSameSet, Order.order_of_sets, Sets.{bound_of, elements, has, put_all}, Walk.{Walk, Advances}}, proofs.{PlaceLemmas.{all_by_places, any_by_places, at_place, has_place, in_order}, RangeLemmas.has-range_with_len, SetLemmas.{IsAscending-elements, has-filter, same_members}, TestLemmas.{filter_all, filter_none}}}
 
 module _ {S V E : Type 0} {steps : S → Option ℕ → S → Type 0} {s : S} {all : List ℕ} where
   -- what is made of a chain by `from_iter` is made of all that the chain gives
@@ -60,5 +60,8 @@ pub take-first : (n x : ℕ) (xs : List ℕ) → 0 < n → take n (x ∷ xs) ≡
 take-first zero x xs pos = absurd (omega arith)
 take-first (suc n) x xs pos = let less : n ≡ suc n - 1 = omega arith in ap (λ k. x ∷ take k xs) less
 
--- what loops over a set use, for `grind`: a crate names it once, at its root
+-- what loops over a set use, for `grind`
 pub ruleset set_steps = (nat_tests, has-filter, filter_none, filter_all, length-filter-le, take-first, append_assoc, append-nil)
+
+-- all that callers use, for `grind`: a crate names it once, at its root
+pub ruleset calls = (set_steps, at_place, has_place, in_order, IsAscending-elements, all_by_places, any_by_places)

@@ -31,6 +31,7 @@ pub mod ChainLemmas
 pub mod EntryLemmas
 pub mod FromLemmas
 pub mod PartLemmas
+pub mod PlaceLemmas
 pub mod WalkLaws
 pub mod MissingLaws
 pub mod PartLaws

@@ -3,7 +3,7 @@ use Rattle.std.proofs.Common.{◌≡◌, ℕ, zero, suc, ◌+◌, ◌-◌, ◌*�
 use Rattle.std.proofs.{lemmas.List.{append_assoc, drop_all, drop-append-le, drop-map, length-append, length-drop, length-map, take-append-drop, Elements.{All-drop, All-take}}, Math.Seq.{drop-append_seam, drop-drop}}
 use Rattle.std.specs.{Iterator.YieldsLast, List.last_or}
 use Rattle.bit_words.specs.Nonzero.{Hand, Nonzeros, SkipsBlocks}
-use Rattle.bit_set.{specs.{Sets.{AscendsFrom, IsAscending}, Indexes.{indexes, indexes_of, left_between, seen_of, IsSparseWalk, Passes}, Walk.{Walk, Advances, PullsBlocks, PullsBlocksAlong, Skips}}, proofs.{IndexLemmas.{indexes-none, length-indexes}, PartLemmas.indexes_of-append, SetLemmas.AscendsFrom-lower, SparseLemmas.ones_of_entries}}
+use Rattle.bit_set.{specs.{Sets.{AscendsFrom, IsAscending}, Indexes.{indexes, indexes_of, left_between, seen_of, IsSparseWalk, Passes}, Walk.{Walk, Advances, PullsBlocks, PullsBlocksAlong, Skips}}, proofs.{IndexLemmas.{indexes-none, length-indexes}, PartLaws.rank_of, PartLemmas.indexes_of-append, SetLemmas.AscendsFrom-lower, SparseLemmas.ones_of_entries}}
 
 -- ---- lists
 
@@ -18,12 +18,14 @@ next_of_drop zero (y ∷ ys) rest x is = (let e = is in cc, let e = is in cc)
 next_of_drop (suc n) [] rest x is = absurd (let e = is in cc)
 next_of_drop (suc n) (y ∷ ys) rest x is = next_of_drop n ys rest x is
 
-none_of_drop : (d n : ℕ) (xs : List ℕ) → d ≤ n → drop d xs ≡ [] → (slice_get xs n ≡ None) × (drop (suc n) xs ≡ [])
+none_of_drop : (d n : ℕ) (xs : List ℕ) → d ≤ n → drop d xs ≡ [] → (slice_get xs n ≡ None) × (drop (suc n) xs ≡ []) × (length xs ≤ n)
 none_of_drop zero n [] to none = grind arith
 none_of_drop zero n (y ∷ ys) to none = absurd (let e = none in cc)
 none_of_drop (suc d) zero xs to none = absurd (omega (arith, to))
 none_of_drop (suc d) (suc n) [] to none = grind arith
-none_of_drop (suc d) (suc n) (y ∷ ys) to none = none_of_drop d n ys (omega (arith, to)) none
+none_of_drop (suc d) (suc n) (y ∷ ys) to none =
+    let rest = none_of_drop d n ys (omega (arith, to)) none in
+    (rest.0, rest.1, omega (arith, rest.2))
 
 plus_one : (n : ℕ) (xs : List ℕ) → drop (n + 1) xs ≡ drop (suc n) xs
 plus_one n xs = ap (λ k. drop k xs) (let e : n + 1 ≡ suc n = omega arith in e)
@@ -159,6 +161,7 @@ module _ (w : ℕ) where
       let none = none_of_drop calls n s.left to (sym so.left ∙ step.item.0) in
       record {
         item = sym none.0;
+        member = none.2;
         left = step.item.1 ∙ sym (plus_one n s.left ∙ none.1);
         pulls = record {
           goes_on = omega (arith, so.goes_on, step.pulls.goes_on);
@@ -169,13 +172,15 @@ module _ (w : ℕ) where
         };
       }
 
-  pub skips : (s u t : Walk) (n : ℕ) (r : Option ℕ) → Passes w n s u → Advances w u r t → Skips w n s r t
+  pub skips : (s u t : Walk) (n : ℕ) (r : Option ℕ) → IsAscending s.left → Passes w n s u → Advances w u r t → Skips w n s r t
   unfolding PullsBlocks PullsBlocksAlong
-  skips s u t n None so step = skips_to_end s u t n n so (omega arith) step
-  skips s u t n (Some x) so step =
+  skips s u t n None up so step = skips_to_end s u t n n so (omega arith) step
+  skips s u t n (Some x) up so step =
       let next = next_of_drop n s.left t.left x (sym so.left ∙ step.item) in
+      let rank = rank_of 0 s.left n x up next.0 in
       record {
         item = sym next.0;
+        member = (rank.1, rank.2);
         left = sym (plus_one n s.left ∙ next.1);
         pulls = record {
           goes_on = omega (arith, so.goes_on, step.pulls.goes_on);

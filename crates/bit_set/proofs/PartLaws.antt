@@ -28,7 +28,7 @@ none_less low x (y ∷ s) past up =
     rw test (none_less (y + 1) x s (omega (arith, from, past)) up.1)
 
 -- the member at k has k members below it
-rank_of : (low : ℕ) (s : List ℕ) (k x : ℕ) → AscendsFrom low s → slice_get s k ≡ Some x → (low ≤ x) × IsTrue (has s x) × (length (those_below s x) ≡ k)
+pub rank_of : (low : ℕ) (s : List ℕ) (k x : ℕ) → AscendsFrom low s → slice_get s k ≡ Some x → (low ≤ x) × IsTrue (has s x) × (length (those_below s x) ≡ k)
 rank_of low [] k x up at = absurd (let e = at in cc)
 rank_of low (y ∷ s) zero x up at =
     let same : y ≡ x = (let e = at in cc) in

@@ -1,8 +1,8 @@
 -- What walks over two sets give, and what `eq`, `max`, `min` and `find` of a walk return.
-use Rattle.std.proofs.{Common.{◌≡◌, ℕ, List, [], ◌∷◌, Bool, true, false, ◌&&◌, Option, nat_eq, sym, ap, ap₂, ◌∙◌, subst, length, Bor, IsTrue, MatchOption, arith}, lemmas.Iterator.{YieldsList, Adapters.option_map_id}}
+use Rattle.std.proofs.{Common.{◌≡◌, ℕ, List, [], ◌∷◌, Bool, true, false, ◌&&◌, Option, nat_eq, sym, ap, ap₂, ◌∙◌, subst, length, Bor, IsTrue, MatchOption, reverse, arith}, lemmas.{Iterator.{YieldsList, Adapters.option_map_id}, List.reverse-append}}
 use Rattle.std.{proofs.lemmas.Iterator.{Consumers.{YieldsList-from_shown, max_from_yields_List, min_from_yields_List}, Search.find_from_yields_List}, specs.{Fn.{Mut, CalledAt}, Option.IfSome, List.AllZip}}
-use Rattle.std.specs.{Ordering.{max_by_ordering, min_by_ordering, nat_cmp}, Cmp.Lexicographic.pointwise, Iterator.{AlwaysYields, YieldsThen, ComparesItemsByEq, FindsItem, PicksByCmp}}
-use Rattle.bit_set.specs.{Choices.{IsGreatest, IsLeast, IsLeastPassing}, Members.HasNone, Order.same_sets, Sets.{IsAscending, has}, Walk.{TwoSetWalk, BoundedWalk, AdvancesByEach, AdvancesWithBound}}
+use Rattle.std.specs.{Ordering.{max_by_ordering, min_by_ordering, nat_cmp}, Cmp.Lexicographic.pointwise, Iterator.{Adapters.{rev_source, rev_steps}, AlwaysYields, YieldsThen, ComparesItemsByEq, FindsItem, PicksByCmp}}
+use Rattle.bit_set.specs.{Choices.{IsGreatest, IsLeast, IsLeastPassing}, Members.HasNone, Order.same_sets, Sets.{IsAscending, has}, Walk.{TwoSetWalk, BoundedWalk, Walk, AdvancesBack, AdvancesByEach, AdvancesWithBound}}
 use Rattle.bit_set.proofs.TestLemmas.{finds, greatest_of, least_of}
 
 -- ---- what a walk gives
@@ -14,6 +14,15 @@ gives_left_of_two w s same = subst (YieldsList (AdvancesByEach w) (λ x. x) s) s
 -- what the walk over an intersection gives
 pub gives_left_of_both : (w : ℕ) (s : BoundedWalk) {xs : List ℕ} → s.walk.left ≡ xs → YieldsList (AdvancesWithBound w) (λ x. x) s xs
 gives_left_of_both w s same = subst (YieldsList (AdvancesWithBound w) (λ x. x) s) same (YieldsList-from_shown (AdvancesWithBound w) (λ x. x) (λ it. it.walk.left) (λ a b h. ap length h.walk.item.0) (λ a x b h. h.walk.item) s)
+
+-- what `rev` of a walk over one set gives
+abbrev left_of : Walk → List ℕ
+left_of walk = walk.left
+
+pub gives_from_back : (w : ℕ) (s : _) {xs : List ℕ} → left_of (rev_source s) ≡ xs → YieldsList (rev_steps (AdvancesBack w)) (λ x. x) s (reverse xs)
+gives_from_back w s same =
+    subst (λ left. YieldsList (rev_steps (AdvancesBack w)) (λ x. x) s (reverse left)) same
+    (YieldsList-from_shown (rev_steps (AdvancesBack w)) (λ x. x) (λ it. reverse (left_of (rev_source it))) (λ a b h. ap (λ left. length (reverse left)) h.item.0) (λ a x b h. ap reverse h.item ∙ reverse-append (left_of (rev_source b)) (x ∷ [])) s)
 
 -- ---- `eq` compares lists
 

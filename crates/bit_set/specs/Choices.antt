@@ -1,6 +1,6 @@
 -- Which member a search or a choice among the members gives.
-use Rattle.std.specs.Prelude.{◌≡◌, ℕ, ◌≤◌, Bool, IsTrue, List, [], ◌∷◌, ◌++◌, Option, MatchOption}
-use Rattle.bit_set.specs.Sets.{has}
+use Rattle.std.specs.Prelude.{◌≡◌, ℕ, ◌≤◌, Bool, IsTrue, List, [], ◌∷◌, ◌++◌, Option, MatchOption, length}
+use Rattle.bit_set.specs.Sets.{has, those_below}
 
 -- m is in the set, and no member is greater
 abbrev pub IsGreatest : List ℕ → ℕ → Type 0
@@ -13,6 +13,10 @@ IsLeast s m = IsTrue (has s m) × ((x : ℕ) → IsTrue (has s x) → m ≤ x)
 -- m is in the set and passes the test, and no member that is less does
 abbrev pub IsLeastPassing : (ℕ → Bool) → List ℕ → ℕ → Type 0
 IsLeastPassing p s m = IsTrue (has s m) × IsTrue (p m) × ((x : ℕ) → IsTrue (has s x) → IsTrue (p x) → m ≤ x)
+
+-- m is in the set, and k members are below it
+abbrev pub IsSelected : List ℕ → ℕ → ℕ → Type 0
+IsSelected s k m = IsTrue (has s m) × (length (those_below s m) ≡ k)
 
 -- r is the first of a list, or None where it is empty
 abbrev pub IsFirstOf : List ℕ → Option ℕ → Type 0

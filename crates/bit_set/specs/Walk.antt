@@ -2,7 +2,7 @@
 use Rattle.std.specs.{Prelude.{◌≡◌, ℕ, ◌+◌, ◌-◌, ◌*◌, ◌/◌, ◌^◌, ◌<◌, ◌≤◌, ◌==◌, max, min, Bool, true, false, nat_lt, if◌then◌else◌, List, [], ◌∷◌, ◌++◌, drop, length, slice_get, ⊤, Option, Some, None, MatchOption}, Iterator.{YieldsFirst, YieldsLast, YieldsThen}}
 use Rattle.std.specs.Iterator.{Drains}
 use Rattle.bit_blocks.specs.{Bits.blocks_for, declared.block.merge.Merge.Merge}
-use Rattle.bit_set.specs.{Members.{TakesGreatest, TakesLeast}, Ranges.those_in_range, Sets.{elements, merge_of_sets, those_from}}
+use Rattle.bit_set.specs.{Choices.IsSelected, Members.{TakesGreatest, TakesLeast}, Ranges.those_in_range, Sets.{elements, merge_of_sets, those_from}}
 
 -- What contracts see of a walk over a set: the elements that are left, how often its block source gave it a block, or
 -- the end, the first number of the block in hand, and how many blocks are past that block, up to the one in hand at
@@ -89,9 +89,10 @@ unfoldable pub PullsBlocksAlong : ℕ → Walk → Option ℕ → Walk → Type 
 PullsBlocksAlong w s r t = PullsAlong w s r t
 
 -- A call of `nth` on s gave r and left t, over blocks of w: the first n of what was left were passed, and r is the one
--- after them, or None where there is none.
+-- after them, which has just these below it, or None where there is none.
 pub record Skips (w n : ℕ) (s : Walk) (r : Option ℕ) (t : Walk) : Type 0 where
   pub item : r ≡ slice_get s.left n
+  pub member : MatchOption r (length s.left ≤ n) (IsSelected s.left n)
   pub left : t.left ≡ drop (n + 1) s.left
   pub pulls : PullsBlocksAlong w s r t
 
@@ -135,9 +136,10 @@ pub record PullsEach (w : ℕ) (s : TwoSetWalk) (r : Option ℕ) (t : TwoSetWalk
 unfoldable pub PullsEachBlock : ℕ → TwoSetWalk → Option ℕ → TwoSetWalk → Type 0
 PullsEachBlock w s r t = PullsEach w s r t
 
--- A call of `next` on such a walk.
+-- A call of `next` on such a walk: the first of what was left, which is the least, or None at the end, which stays.
 pub record AdvancesByEach (w : ℕ) (s : TwoSetWalk) (r : Option ℕ) (t : TwoSetWalk) : Type 0 where
   pub item : YieldsFirst (λ walk. walk.left) s r t
+  pub first : MatchOption r ⊤ (λ x. TakesLeast s.left x t.left)
   pub pulls : PullsEachBlock w s r t
 
 -- A walk went on to the next block or stayed, and what is left stayed.

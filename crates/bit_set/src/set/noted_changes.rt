@@ -2,7 +2,7 @@
 // the first that change.
 ghost use Rattle.std.specs.Prelude.{◌≡◌, ◌+◌, ◌≤◌, ◌↔◌, max, not, if◌then◌else◌, IfOk, OnOk, [], length, false};
 ghost use Rattle.bit_words.specs.Growth.{Grows};
-ghost use Rattle.bit_set.specs.Members.{IsDifference, IsIntersection, IsMerged, IsSymmetricDifference, IsUnion, IsUnionWithDifference};
+ghost use Rattle.bit_set.specs.Members.{IsCounted, IsDifference, IsIntersection, IsMerged, IsSymmetricDifference, IsUnion, IsUnionWithDifference};
 ghost use Rattle.bit_set.specs.Sets.{elements, union, intersection, difference, symmetric_difference, merge_of_sets, is_subset, is_disjoint};
 ghost use Rattle.bit_set.specs.{Changes.{Change, Changes, outcome_of_flag}, Order.same_sets};
 
@@ -23,16 +23,18 @@ impl<B: BitBlock> BitSet<B> {
             ≡ not (same_sets (elements self.old.values) (elements self.new.values))) }
         ensures unchanged { IfOk result (λ changed. changed ≡ false
             → elements self.new.values ≡ elements self.old.values) }
+        ensures counted { OnOk result (IsCounted self.new.values) }
         ensures length { OnOk result (length self.new.values ≡ max (length self.old.values) (length other.now.values)) }
         ensures grows { Grows (length other.now.values) result self.old self.new }
         ensures changes { Changes (Change.MergeChanges merge (elements other.now.values))
             self.old.values (outcome_of_flag result) self.new.values }
     {
         self.lengthen(other.bits.len())?;
-        Ok(
-            self.bits
-                .merge_changes(&other.bits, merge, &mut Steps::new()),
-        )
+        let changed = self
+            .bits
+            .merge_changes(&other.bits, merge, &mut Steps::new());
+        prove!(self.bits.len() <= usize::MAX);
+        Ok(changed)
     }
 
     /// Puts in what is in `other`, as [`BitSet::union_with`] does, and returns whether some of it was not in. The length
@@ -56,6 +58,7 @@ impl<B: BitBlock> BitSet<B> {
             ≡ not (is_subset (elements other.now.values) (elements self.old.values))) }
         ensures count { IfOk result (λ changed. length (elements self.old.values) + (if changed then 1 else 0)
             ≤ length (elements self.new.values)) }
+        ensures counted { OnOk result (IsCounted self.new.values) }
         ensures length { OnOk result (length self.new.values ≡ max (length self.old.values) (length other.now.values)) }
         ensures grows { Grows (length other.now.values) result self.old self.new }
         ensures changes { Changes (Change.MergeChanges Merge.Union (elements other.now.values))
@@ -157,6 +160,7 @@ impl<B: BitBlock> BitSet<B> {
             (elements self.old.values))) }
         ensures count { IfOk result (λ changed. length (elements self.old.values) + (if changed then 1 else 0)
             ≤ length (elements self.new.values)) }
+        ensures counted { OnOk result (IsCounted self.new.values) }
         ensures length { OnOk result (length self.new.values ≡ max (length self.old.values) (length other.now.values)) }
         ensures grows { Grows (length other.now.values) result self.old self.new }
         ensures changes { Changes (Change.MergeChanges Merge.Union
@@ -164,9 +168,10 @@ impl<B: BitBlock> BitSet<B> {
             self.old.values (outcome_of_flag result) self.new.values }
     {
         self.lengthen(other.bits.len())?;
-        Ok(
-            self.bits
-                .unite_difference(&other.bits, &except.bits, &mut Steps::new()),
-        )
+        let changed = self
+            .bits
+            .unite_difference(&other.bits, &except.bits, &mut Steps::new());
+        prove!(self.bits.len() <= usize::MAX);
+        Ok(changed)
     }
 }

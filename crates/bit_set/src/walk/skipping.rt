@@ -1,6 +1,6 @@
 // The walk over a set's elements, past many of them at once.
 ghost use Rattle.std.specs.Prelude.{◌≤◌, length};
-ghost use Rattle.bit_set.specs.{Indexes.Passes, Walk.Skips};
+ghost use Rattle.bit_set.specs.{Indexes.Passes, Sets.IsAscending, Walk.Skips};
 
 use crate::BitBlock;
 use crate::walk::Iter;
@@ -19,6 +19,7 @@ impl<'a, B: BitBlock> Iter<'a, B> {
     pub fn nth(&mut self, n: usize) -> Option<usize>
         ensures { Skips B.width n self.old result self.new }
     {
+        self.ascends();
         let mut ahead = n;
         while ahead > 0 {
             self.next()?;
@@ -26,6 +27,15 @@ impl<'a, B: BitBlock> Iter<'a, B> {
             ahead -= self.pass_blocks(ahead);
         }
         self.next()
+    }
+
+    // What is left ascends, by which `n` members are below the one that `nth` gives. It does nothing: what is read brings
+    // in what holds of the walk.
+    #[inline(always)]
+    fn ascends(&self)
+        ensures { IsAscending self.now.left }
+    {
+        let _index = self.index;
     }
 
     // Passes what is left of the block in hand if that is no more than `most` elements, and then blocks past it, as

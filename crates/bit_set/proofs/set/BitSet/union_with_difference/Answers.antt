@@ -1,6 +1,6 @@
 use Rattle.std.proofs.{Common.{◌∙◌, ◌-◌, ap, length, not, take}}
 use Rattle.bit_blocks.specs.{declared.block.merge.Merge.TheVariants.{Difference, Union}, Merges.merge_of}
-use Rattle.bit_set.{proofs.{AlgebraLemmas.elements-lengthened, NotedLemmas.{elements-except, length-lengthened-except, members-except, told_of_lengthened, told_unchanged, union_count, union_kept}, SetLemmas.IsAscending-elements}, specs.{Changes.{Changes, Outcome.Returned}, Order.same_sets, Sets.{difference, elements, union}}}
+use Rattle.bit_set.{proofs.{AlgebraLemmas.elements-lengthened, MemberLemmas.counted_within, NotedLemmas.{elements-except, length-lengthened-except, members-except, told_of_lengthened, told_unchanged, union_count, union_kept}, SetLemmas.IsAscending-elements}, specs.{Changes.{Changes, Outcome.Returned}, Order.same_sets, Sets.{difference, elements, union}}}
 use Rattle.bit_set.proofs.set.BitSet.union_with_difference.Goals as goal
 
 pub returns-clause-elements : goal.returns-clause-elements
@@ -8,7 +8,7 @@ returns-clause-elements g c =
     let values = c.args.self.now.values in
     let others = c.args.other.now.values in
     let except = c.args.except.now.values in
-    rw (c.unite_difference.ensures.values, c.self.view_is, c.in_ok-lengthen.ensures.ok, c.other.view_is, c.except.view_is)
+    rw (c.unite_difference-changed.ensures.values, c.self.view_is, c.in_ok-lengthen.ensures.ok, c.other.view_is, c.except.view_is)
     (elements-lengthened Union values (merge_of Difference others (take (length others) except)) (c.len.result - length values) ∙ ap (union (elements values)) (elements-except others except))
 
 pub returns-clause-members : goal.returns-clause-members
@@ -19,14 +19,14 @@ returns-clause-length g c =
     let values = c.args.self.now.values in
     let others = c.args.other.now.values in
     let except = c.args.except.now.values in
-    rw (c.unite_difference.ensures.values, c.self.view_is, c.in_ok-lengthen.ensures.ok, c.len.ensures.value, c.other.view_is, c.except.view_is)
+    rw (c.unite_difference-changed.ensures.values, c.self.view_is, c.in_ok-lengthen.ensures.ok, c.len.ensures.value, c.other.view_is, c.except.view_is)
     (length-lengthened-except values others except)
 
 pub returns-clause-changed : goal.returns-clause-changed
 returns-clause-changed g c =
     let long = returns-clause-length g c in
     let len = c.len.ensures.value ∙ ap (λ bits. length bits.values) c.other.view_is in
-    told_of_lengthened c.args.self.now.values c.self.inside.bits.values c.unite_difference.new.self.values c.len.result c.unite_difference.result (ap (λ bits. bits.values) c.self.view_is ∙ c.in_ok-lengthen.ensures.ok) (rw len long) c.unite_difference.ensures.kept
+    told_of_lengthened c.args.self.now.values c.self.inside.bits.values c.unite_difference-changed.new.self.values c.len.result c.unite_difference-changed.result (ap (λ bits. bits.values) c.self.view_is ∙ c.in_ok-lengthen.ensures.ok) (rw len long) c.unite_difference-changed.ensures.kept
 
 pub returns-clause-were_in : goal.returns-clause-were_in
 returns-clause-were_in g c =
@@ -41,7 +41,10 @@ returns-clause-count g c =
     rw (returns-clause-were_in g c, returns-clause-elements g c) (union_count s t (IsAscending-elements c.args.self.now.values))
 
 pub returns-clause-unchanged : goal.returns-clause-unchanged
-returns-clause-unchanged g c = told_unchanged (elements c.args.self.now.values) (elements c.unite_difference.new.self.values) c.unite_difference.result (returns-clause-changed g c)
+returns-clause-unchanged g c = told_unchanged (elements c.args.self.now.values) (elements c.unite_difference-changed.new.self.values) c.unite_difference-changed.result (returns-clause-changed g c)
+
+pub returns-clause-counted : goal.returns-clause-counted
+returns-clause-counted g c = counted_within c.unite_difference-changed.new.self c.len-2.ensures.fits
 
 pub returns-clause-changes : goal.returns-clause-changes
 unfolding Changes

@@ -24,4 +24,4 @@ pub returns : goal.returns
 returns g c =
     let w = g.B.BitBlock.width in
     let calls : c.args.n - c.loop-ahead.ahead ≡ c.args.n = omega (arith, c.loop-ahead-test.false) in
-    skips w c.args.self.now c.loop-ahead.self c.next-2.new.self c.args.n c.next-2.result (subst (λ n. Passes w n c.args.self.now c.loop-ahead.self) calls c.loop-ahead.invariant.so) c.next-2.ensures.steps
+    skips w c.args.self.now c.loop-ahead.self c.next-2.new.self c.args.n c.next-2.result c.ascends.ensures (subst (λ n. Passes w n c.args.self.now c.loop-ahead.self) calls c.loop-ahead.invariant.so) c.next-2.ensures.steps
