@@ -300,6 +300,27 @@ module _ (w stride s n : ℕ) (ms ns os : List ℕ) (some : 0 < s) (many : 0 < n
         ∙ ap₂ (λ i j. digit_in stride ms i q j) (by_parts h b) (by_parts k a);
   }
 
+-- ---- how many squares there are
+
+-- as many as it takes
+pub whole_squares : (w s : ℕ) → w % s ≡ 0 → w / s * s ≡ w
+whole_squares w s whole = omega (arith, div-add-mod' w s, whole)
+
+-- where they are even, those of twice the size are whole too
+pub whole_twice : (w s : ℕ) → 0 < s → w % s ≡ 0 → w / s % 2 ≡ 0 → w % (2 * s) ≡ 0
+whole_twice w s some whole even =
+    let half = w / s / 2 in
+    let pairs : w / s ≡ half * 2 = omega (arith, div-add-mod' (w / s) 2, even) in
+    let e : w ≡ half * (2 * s) + 0 = omega (arith, whole_squares w s whole, ap (λ n. n * s) pairs, mul_assoc half 2 s) in
+    ap (λ n. n % (2 * s)) e ∙ mod-mul-add half (2 * s) 0 (omega (arith, some))
+
+-- and there is one
+pub some_squares : (w s : ℕ) → 0 < w → w % s ≡ 0 → 0 < w / s
+some_squares w s pos whole = elim (cases_eq (w / s) 0) [
+  | inl none ↦ absurd (omega (arith, pos, whole_squares w s whole, ap (λ n. n * s) none))
+  | inr some ↦ omega (arith, some)
+]
+
 -- one square is all rows
 pub whole_strip : (w width stride k s : ℕ) (ms ns os : List ℕ) → 0 < w → s ≡ w → AreSquaresTransposed w width s ns os → ((i g : ℕ) → i < w → g < width → get_or ns (i * width + g) 0 ≡ get_or ms ((g * w + i) * stride + k) 0) → IsTransposedStrip w width stride k ms os
 whole_strip w width stride k s ms ns os pos is squares loaded = record {

@@ -1,10 +1,10 @@
 // Squares of bits, as many rows as a block has bits, transposed in place. What is next to each other in a row is done
 // together, as one operation on whole blocks; so the compiler makes vector code of it. The width of a block is a multiple
-// of 8, and no power of two in general: squares of 2, of 4 and of 8 rows are made of four smaller ones, and those of all
-// rows of as many as it takes.
-ghost use Rattle.std.specs.Prelude.{◌≡◌, ℕ, ◌+◌, ◌*◌, ◌/◌, ◌%◌, ◌^◌, ◌<◌, ◌≤◌, ◌==◌, All, get_or, length, map};
+// of 8, and no power of two in general: squares are made of four smaller ones as long as these go into all rows, and in the
+// end that of all rows of as many as are left.
+ghost use Rattle.std.specs.Prelude.{◌≡◌, ℕ, ◌+◌, ◌*◌, ◌/◌, ◌%◌, ◌<◌, ◌≤◌, ◌==◌, All, get_or, length, map};
 ghost use Rattle.bit_blocks.specs.Digits.{is_one};
-ghost use Rattle.bit_matrix.specs.Squares.{AreExchanged, AreSquaresExchanged, ArePairsExchanged, AreRowsTransposed, IsExchanged, IsTransposedStrip, digit_in};
+ghost use Rattle.bit_matrix.specs.Squares.{AreExchanged, AreSquaresExchanged, ArePairsExchanged, AreRowsTransposed, IsExchanged, IsTransposedStrip};
 
 use crate::BitBlock;
 use bit_blocks::block::masks::with_one_if;
@@ -195,10 +195,13 @@ fn transpose_strip<B: BitBlock>(
     ensures len { length strip.new ≡ length strip.old }
 {
     load_strip(strip, width, blocks, stride, rows, k);
-    transpose_groups(strip, width, 1, 2);
-    transpose_groups(strip, width, 2, 2);
-    transpose_groups(strip, width, 4, 2);
-    transpose_groups(strip, width, 8, B::bits() / 8);
+    // A square of one bit is transposed as it is.
+    let mut size: usize = 1;
+    while B::bits() / size % 2 == 0 {
+        transpose_groups(strip, width, size, 2);
+        size *= 2;
+    }
+    transpose_groups(strip, width, size, B::bits() / size);
 }
 
 // The rows from that of the first bit of block `k` on, as many as a block has bits, become block `k` of each row of the other

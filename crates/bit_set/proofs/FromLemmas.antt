@@ -101,7 +101,8 @@ begins_from {X = X} w number is_block values from k block naught it pos small is
     let all = elements-values_of_blocks w number it.blocks values pos is.numbers in
     let each = All-drop is_block (k + 1) it.blocks is.each in
     let next : k * w + w ≡ (k + 1) * w = omega arith in
-    let inner : indexes_of w number it.left ≡ elements_from (k * w + w) bs = ap (indexes_of w number) is.start.left ∙ indexes_of-nonzero w number (k + 1) rest ∙ ap (λ p. elements_from p bs) (sym next) in
+    let left_is = ap (λ walk. walk.left) is.start in
+    let inner : indexes_of w number it.left ≡ elements_from (k * w + w) bs = ap (indexes_of w number) left_is ∙ indexes_of-nonzero w number (k + 1) rest ∙ ap (λ p. elements_from p bs) (sym next) in
     let at_back : indexes w ((n - 1) * w) (number naught) [] ≡ [] = ap (λ m. indexes w ((n - 1) * w) m []) none ∙ indexes-zero w ((n - 1) * w) [] in
     let left : left_between w number front it.left back ≡ those_from (elements values) from =
     ap₂ (λ xs ys. ones ++ (xs ++ ys)) inner at_back
@@ -113,18 +114,18 @@ begins_from {X = X} w number is_block values from k block naught it pos small is
     let below : All (λ i. i < 2 ^ 64) (those_from (elements values) from) = All-filter (λ i. leb from i) (λ i. i < 2 ^ 64) (elements values) (rw all at can.below) in
     let first : k ≡ min (from / w) (blocks_for w (length values) - 1) = cut.at ∙ ap (λ i. min (from / w) (i - 1)) many in
     let past : AscendsFrom (k + 1) (map (λ (entry : ℕ × X). entry.0) it.left ++ (n - 1 + 1) ∷ []) =
-    subst (λ entries. AscendsFrom (k + 1) (map (λ (entry : ℕ × X). entry.0) entries ++ (n - 1 + 1) ∷ [])) (sym is.start.left) (ascends_entries w number (k + 1) (n - 1 + 1) rest (let count = length-drop (k + 1) it.blocks in omega (arith, count, cut.at))) in
+    subst (λ entries. AscendsFrom (k + 1) (map (λ (entry : ℕ × X). entry.0) entries ++ (n - 1 + 1) ∷ [])) (sym left_is) (ascends_entries w number (k + 1) (n - 1 + 1) rest (let count = length-drop (k + 1) it.blocks in omega (arith, count, cut.at))) in
     let in_blocks : length (blocks_past w k (left_between w number front it.left back)) ≡ length it.left =
     ap length (passed_in_block w k ones (indexes_of w number it.left ++ indexes w ((n - 1) * w) (number naught) []) pos (rw next at (indexes-below w (k * w) (number block))))
     ∙ ap (λ xs. length (blocks_past w k xs)) (ap (λ ys. indexes_of w number it.left ++ ys) at_back ∙ append-nil (indexes_of w number it.left))
-    ∙ ap (λ entries. length (blocks_past w k (indexes_of w number entries))) is.start.left
+    ∙ ap (λ entries. length (blocks_past w k (indexes_of w number entries))) left_is
     ∙ blocks_of_entries w number is_block small k (k + 1) rest pos (omega arith) each
-    ∙ ap length (sym is.start.left) in
+    ∙ ap length (sym left_is) in
     record {
       walk = record {
         in_hand = lawful;
         at_back = lawful_naught;
-        each = subst (All (λ (entry : ℕ × X). is_block entry.1)) (sym is.start.left) (each_entry w number is_block (k + 1) rest each);
+        each = subst (All (λ (entry : ℕ × X). is_block entry.1)) (sym left_is) (each_entry w number is_block (k + 1) rest each);
         whole = ap (λ j. j * w) (sym index_is);
         whole_back = ap (λ j. j * w) (sym last_is);
         past = rw (index_is, last_is) past;
@@ -138,11 +139,11 @@ begins_from {X = X} w number is_block values from k block naught it pos small is
         left = left;
         count_fits = omega (arith, ap length left, few);
         at = record {
-          pulls = is.start.pulls;
+          pulls = ap (λ walk. walk.pulls) is.start;
           index = ap (λ i. i * w) first;
           blocks = omega (arith, index_is, last_is, many, cut.at);
           nonzero = sym in_blocks ∙ ap₂ (λ j xs. length (blocks_past w j xs)) (sym index_is) left;
-          summary = let at = ap (λ i. i / w) first in let chunks = ap (blocks_for w) many in omega (arith, is.start.summary_pulls, is.start.summary_left, at, chunks);
+          summary = let at = ap (λ i. i / w) first in let chunks = ap (blocks_for w) many in omega (arith, ap (λ walk. walk.summary_pulls) is.start, ap (λ walk. walk.summary_left) is.start, at, chunks);
         };
       };
     }

@@ -76,7 +76,7 @@ abbrev pub first_and_nonzero : {X : Type 0} → (X → ℕ) → List X → List 
 first_and_nonzero number [] = []
 first_and_nonzero number (x ∷ xs) = (0, x) ∷ nonzero_from number 1 xs
 
--- a walk made past block k of xs, which is one pull
+-- A walk made past block k of xs, which is one pull. It pulled the block of the summary that says of block k.
 abbrev pub walk_past : {X : Type 0} → ℕ → (X → ℕ) → ℕ → List X → Nonzeros X
 walk_past w number k xs = record {
   blocks = xs;
@@ -86,12 +86,9 @@ walk_past w number k xs = record {
   summary_left = blocks_for w (length xs) - 1 - k / w;
 }
 
--- A walk made past block k, which is one pull. It pulled the block of the summary that says of block k.
-pub record StartsPast {X : Type 0} (w : ℕ) (number : X → ℕ) (k : ℕ) (it : Nonzeros X) : Type 0 where
-  pub left : it.left ≡ nonzero_from number (k + 1) (drop (k + 1) it.blocks)
-  pub pulls : it.pulls ≡ 1
-  pub summary_pulls : it.summary_pulls ≡ 1
-  pub summary_left : it.summary_left ≡ blocks_for w (length it.blocks) - 1 - k / w
+-- a walk that is made so
+abbrev pub StartsPast : {X : Type 0} → ℕ → (X → ℕ) → ℕ → Nonzeros X → Type 0
+StartsPast w number k it = it ≡ walk_past w number k it.blocks
 
 -- the walk past the first block as it was before that was pulled
 abbrev pub before_first : {X : Type 0} → ℕ → (X → ℕ) → Nonzeros X → Nonzeros X

@@ -1,7 +1,7 @@
 //! Bit vectors over blocks of any lawful type.
-ghost use Rattle.std.specs.{Prelude.{◌≡◌, ◌≤◌, ◌+◌, ◌-◌, ◌/◌, ◌↔◌, All, IsTrue, drop, false, length, map, min, slice_get}, List.count_by};
-ghost use Rattle.bit_blocks.specs.Bits.{blocks_for, blocks_of, IsCapacityOfBlocks, IsWithinCapacity};
-ghost use Rattle.bit_words.specs.Nonzero.{CutsAt, StartsPast, walk_past};
+ghost use Rattle.std.specs.{Prelude.{◌≡◌, ◌-◌, ◌↔◌, All, IsTrue, false, length, map, min, slice_get}, List.count_by};
+ghost use Rattle.bit_blocks.specs.Bits.{blocks_of, IsCapacityOfBlocks, IsWithinCapacity};
+ghost use Rattle.bit_words.specs.Nonzero.{StartsPast};
 
 use crate::bit_vec::pending::Unstored;
 use crate::summary::queries::{are_zero_by_summary, ones_by_summary};
@@ -182,30 +182,5 @@ impl<B: BitBlock> BitVec<B> {
     {
         let last = self.storage().len().saturating_sub(1);
         Nonzero::after(self, index.min(last), Unstored::NonzeroPastZero)
-    }
-
-    /// The same walk, which ends before the block at `last`, and the lowest `count` bits of that block, or zeros where it
-    /// is not past the first one. These bits are a second pull where one of them is 1. Of the summary it pulls what
-    /// says of the blocks between alone.
-    ///
-    /// ```
-    /// // Of 100 values, over blocks of 32 bits, those at 70 and 71 are true.
-    /// let (mut walk, block) = bits.nonzero_between(0, 2, 7);
-    /// assert_eq!(block, 0b0100_0000);
-    /// assert_eq!(walk.next(), None);
-    /// ```
-    #[inline]
-    pub fn nonzero_between(&self, first: usize, last: usize, count: usize) -> (Nonzero<'_, B>, B)
-        ensures blocks { map B.number result.0.blocks ≡ blocks_of B.width self.now.values }
-        ensures each { All B.is_block result.0.blocks }
-        ensures of_block { B.is_block result.1 }
-        ensures cut { CutsAt B.width B.number last count
-            (walk_past B.width B.number (min first (length result.0.blocks - 1)) result.0.blocks) result.1 result.0 }
-        ensures summary { result.0.summary_left
-            ≤ blocks_for B.width last - 1 - min first (length result.0.blocks - 1) / B.width }
-        ensures fits { IsWithinCapacity self.now }
-    {
-        let end = self.storage().len().saturating_sub(1);
-        Nonzero::between(self, first.min(end), last, count)
     }
 }

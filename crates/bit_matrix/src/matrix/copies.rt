@@ -25,10 +25,10 @@ impl<B: BitBlock> BitMatrix<B> {
     }
 
     /// The matrix that has a row for each column, and in it the rows that have that column. Where few columns are in the
-    /// rows, fewer than one for two blocks, reads each block and writes once for each column. Else goes by squares of as
-    /// many rows and columns as a block has bits, with operations on whole blocks: some 12 for each block, and 4 for each of
-    /// its bytes but one. Only the columns past the last whole block go one by one. Where there are no blocks it takes
-    /// constant time. Fails as [`new`](BitMatrix::new) does.
+    /// rows, fewer than one in 64, reads each block and writes once for each column. Else goes by squares of as many rows
+    /// and columns as a block has bits, with operations on whole blocks: some four for each block and each time that its
+    /// bits can be halved, so 24 over 64 bits. Only the columns past the last whole block go one by one. Where there are no
+    /// blocks it takes constant time. Fails as [`new`](BitMatrix::new) does.
     ///
     /// ```
     /// matrix.insert(0, 2);
@@ -52,16 +52,13 @@ impl<B: BitBlock> BitMatrix<B> {
         Ok(transposed)
     }
 
-    // How many whole blocks of each row are transposed by squares: all of them where there is a column in the rows for two
-    // blocks, and else none.
+    // How many whole blocks of each row are transposed by squares: all of them where at least one bit in 64 is 1, and else
+    // none.
     fn strips(&self) -> usize
         ensures { result * B.width ≤ self.now.columns }
     {
-        let blocks = self.blocks.len();
-        if blocks == 0 {
-            return 0;
-        }
-        if ones_in_span(&self.blocks, 0, blocks * B::bits()) < blocks / 2 {
+        let bits = self.blocks.len() * B::bits();
+        if bits == 0 || ones_in_span(&self.blocks, 0, bits) < bits / 64 {
             return 0;
         }
         self.columns / B::bits()

@@ -1,5 +1,5 @@
-// The walk over the blocks that are not 0, from the back.
-ghost use Rattle.std.specs.Prelude.{◌≡◌, ◌-◌, ◌*◌, ◌/◌, ◌<◌, ◌≤◌, ◌^◌, ◌==◌, All, IfSome, not, length, map};
+// The walk over the blocks that are not 0, from the back, and up to a block.
+ghost use Rattle.std.specs.Prelude.{◌≡◌, ◌-◌, ◌*◌, ◌/◌, ◌<◌, ◌≤◌, ◌^◌, ◌==◌, All, IfSome, not, length, map, min};
 ghost use Rattle.bit_blocks.specs.Bits.{blocks_for, blocks_of, IsWithinCapacity};
 ghost use Rattle.bit_words.specs.Nonzero.{CutsAt, PullsLast, Refills, TakesLast, walk_past};
 
@@ -10,6 +10,33 @@ use crate::summary::is_nonzero;
 use bit_blocks::block::BitBlock;
 use bit_blocks::block::masks::clear_from;
 use bit_blocks::steps::Steps;
+
+impl<B: BitBlock> BitVec<B> {
+    /// The walk of [`nonzero_past`](Self::nonzero_past), which ends before the block at `last`, and the lowest `count` bits
+    /// of that block, or zeros where it is not past the first one. These bits are a second pull where one of them is 1.
+    /// Of the summary it pulls what says of the blocks between alone.
+    ///
+    /// ```
+    /// // Of 100 values, over blocks of 32 bits, those at 70 and 71 are true.
+    /// let (mut walk, block) = bits.nonzero_between(0, 2, 7);
+    /// assert_eq!(block, 0b0100_0000);
+    /// assert_eq!(walk.next(), None);
+    /// ```
+    #[inline]
+    pub fn nonzero_between(&self, first: usize, last: usize, count: usize) -> (Nonzero<'_, B>, B)
+        ensures blocks { map B.number result.0.blocks ≡ blocks_of B.width self.now.values }
+        ensures each { All B.is_block result.0.blocks }
+        ensures of_block { B.is_block result.1 }
+        ensures cut { CutsAt B.width B.number last count
+            (walk_past B.width B.number (min first (length result.0.blocks - 1)) result.0.blocks) result.1 result.0 }
+        ensures summary { result.0.summary_left
+            ≤ blocks_for B.width last - 1 - min first (length result.0.blocks - 1) / B.width }
+        ensures fits { IsWithinCapacity self.now }
+    {
+        let end = self.storage().len().saturating_sub(1);
+        Nonzero::between(self, first.min(end), last, count)
+    }
+}
 
 impl<'a, B: BitBlock> Nonzero<'a, B> {
     /// The same for the hand at the back: where `back` is zero, makes it the last block that is left, and where none is

@@ -1,6 +1,6 @@
 use Rattle.std.proofs.{Common.{◌≡◌, ℕ, ◌+◌, ◌-◌, ◌*◌, ◌/◌, ◌^◌, ◌<◌, ◌≤◌, ◌&&◌, pow_pos, leb, max, min, length, get_or, ap, refl, sym, subst, ◌∙◌, arith}, lemmas.List.length-map}
 use Rattle.bit_blocks.specs.{Bits.blocks_for, Digits.is_one}
-use Rattle.bit_words.specs.Nonzero.{CutsAt, Hand, StartsPast, walk_past}
+use Rattle.bit_words.specs.Nonzero.{CutsAt, Hand, walk_past}
 use Rattle.bit_set.{specs.{Indexes.{seen_of, IsSparseWalk}, Walk.IsAtStartOfPart}, proofs.{FromLemmas.{BeginsFrom, begins_from}, PartLemmas.begins_part, SparseLemmas.whole_index, WalkLemmas.length-blocks, walk.Iter.over_part.Goals.After-clear_from}}
 use Rattle.bit_set.proofs.walk.Iter.over_part.Goals as goal
 
@@ -27,9 +27,8 @@ begun g c =
     let count = sym (length-map xs number) ∙ ap length same ∙ length-map c.storage-blocks.result.now number in
     let at : k ≡ min (c.args.start / w) (length xs - 1) = c.block_from-first.ensures.at ∙ ap (λ n. min (c.args.start / w) (n - 1)) (sym count) in
     let first : min k (length xs - 1) ≡ k = omega (arith, at) in
-    let start : StartsPast w number k s = record { left = refl; pulls = refl; summary_pulls = refl; summary_left = refl } in
     let begins = begins_from w number is_block values c.args.start k block naught s pos (λ x is. (g.met.B.BitBlock.number_law x is).0)
-    (record { numbers = made.blocks; each = made.each; start = start; fits = omega (arith, made.fits.holds_values, made.fits.fits) })
+    (record { numbers = made.blocks; each = made.each; start = refl; fits = omega (arith, made.fits.holds_values, made.fits.fits) })
     c.block_from-first.ensures.of_block zero.0 zero.1
     (record { at = at; digit = λ j to. c.block_from-first.ensures.digits j to ∙ ap (λ m. leb (c.args.start - k * w) j && is_one m j) (ap (λ ms. get_or ms k 0) (sym same)) }) in
     let k_is = whole_index w k pos in
@@ -40,7 +39,7 @@ begun g c =
     (record {
       begins = begins;
       used_up = zero.1;
-      start = rw k_is start.left;
+      start = rw k_is refl;
       last = top_is ∙ ap (λ n. n - 1) top;
       at = last_is ∙ c.last_of_part-last.ensures ∙ omega (arith, k_is, top_is, count);
       whole = ap (λ n. n * w) (sym last_is);

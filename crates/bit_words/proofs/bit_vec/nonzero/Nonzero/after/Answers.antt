@@ -1,6 +1,6 @@
-use Rattle.std.proofs.Common.{◌+◌, ◌-◌, drop, length, take_all, sym, ap, ◌∙◌, arith}
+use Rattle.std.proofs.Common.{◌≡◌, ℕ, ◌+◌, ◌-◌, List, drop, length, take_all, refl, sym, ap, ◌∙◌, arith}
 use Rattle.bit_blocks.{specs.Bits.blocks_for, proofs.{UseLemmas.packed_blocks, VectorLemmas.length_from_view}}
-use Rattle.bit_words.{specs.{Nonzero.nonzero_from, Pending.left_from}, proofs.GrowthLemmas.stored_within_capacity}
+use Rattle.bit_words.{specs.{Nonzero.{Nonzeros, nonzero_from}, Pending.left_from}, proofs.GrowthLemmas.stored_within_capacity}
 use Rattle.bit_words.proofs.bit_vec.nonzero.Nonzero.after.Goals as goal
 
 pub returns-clause-blocks : goal.returns-clause-blocks
@@ -18,6 +18,13 @@ after-pending-requires-clause-inside g c =
 pub returns-clause-each : goal.returns-clause-each
 returns-clause-each g c = rw c.as_slice-blocks.ensures.value c.bits.invariant.packed.each
 
+-- the walk over these blocks that has these parts
+abbrev walk_of : {X : Type 0} → List X → List (ℕ × X) → ℕ → ℕ → ℕ → Nonzeros X
+walk_of xs left pulls summary_pulls summary_left = record { blocks = xs; left = left; pulls = pulls; summary_pulls = summary_pulls; summary_left = summary_left }
+
+same_walks : {X : Type 0} (xs : List X) {l m : List (ℕ × X)} {a b c d e f : ℕ} → l ≡ m → a ≡ b → c ≡ d → e ≡ f → walk_of xs l a c e ≡ walk_of xs m b d f
+same_walks xs p q r s = rw (p, q, r, s) refl
+
 pub returns-clause-start : goal.returns-clause-start
 returns-clause-start g c =
     let w = g.B.BitBlock.width in
@@ -25,12 +32,10 @@ returns-clause-start g c =
     let next = c.args.first + 1 in
     let xs = c.as_slice-blocks.result.now in
     let made = c.after-pending.ensures in
-    record {
-      left = made.left ∙ ap (λ n. left_from number next n xs) made.end ∙ ap (λ ys. nonzero_from number next (drop next ys)) (take_all (length xs) xs (omega arith));
-      pulls = omega (arith, c.tick.ensures, c.new-steps.ensures);
-      summary_pulls = made.pulls;
-      summary_left = ap (λ n. blocks_for w (n - (c.after-pending.result.index + w))) made.end ∙ made.count;
-    }
+    same_walks xs
+        (made.left ∙ ap (λ n. left_from number next n xs) made.end ∙ ap (λ ys. nonzero_from number next (drop next ys)) (take_all (length xs) xs (omega arith)))
+        (omega (arith, c.tick.ensures, c.new-steps.ensures)) made.pulls
+        (ap (λ n. blocks_for w (n - (c.after-pending.result.index + w))) made.end ∙ made.count)
 
 pub after-pending-requires-clause-each : goal.after-pending-requires-clause-each
 after-pending-requires-clause-each g c = rw c.as_slice-blocks.ensures.value c.bits.invariant.packed.each
