@@ -6,7 +6,7 @@ ghost use Rattle.bit_set.specs.Members.{IsDifference, IsIntersection, IsMerged, 
 ghost use Rattle.bit_set.specs.Sets.{elements, union, intersection, difference, symmetric_difference, merge_of_sets, is_subset, is_disjoint};
 ghost use Rattle.bit_set.specs.{Changes.{Change, Changes, outcome_of_flag}, Order.same_sets};
 
-use crate::bit_vec::{Merge, Steps};
+use crate::bit_vec::Merge;
 use crate::{BitBlock, BitSet};
 use std::alloc::AllocError;
 
@@ -29,10 +29,7 @@ impl<B: BitBlock> BitSet<B> {
             self.old.values (outcome_of_flag result) self.new.values }
     {
         self.lengthen(other.bits.len())?;
-        Ok(
-            self.bits
-                .merge_changes(&other.bits, merge, &mut Steps::new()),
-        )
+        Ok(self.bits.merge_changes(&other.bits, merge))
     }
 
     /// Puts in what is in `other`, as [`BitSet::union_with`] does, and returns whether some of it was not in. The length
@@ -164,9 +161,6 @@ impl<B: BitBlock> BitSet<B> {
             self.old.values (outcome_of_flag result) self.new.values }
     {
         self.lengthen(other.bits.len())?;
-        Ok(
-            self.bits
-                .unite_difference(&other.bits, &except.bits, &mut Steps::new()),
-        )
+        Ok(self.bits.unite_difference(&other.bits, &except.bits))
     }
 }
