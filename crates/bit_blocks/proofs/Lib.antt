@@ -13,7 +13,7 @@ pub mod VectorLemmas
 pub mod PackedLemmas
 pub mod ByteLemmas
 pub mod MergeLemmas
-pub mod NotedMergeLemmas
+pub mod BlockMergeLemmas
 pub mod SpanLemmas
 pub mod SpanCountLemmas
 pub mod CompareLemmas

@@ -11,7 +11,6 @@ pub mod Lowest
 pub mod Highest
 pub mod Merges
 pub mod BlockMerges
-pub mod NotedMerges
 pub mod Comparisons
 pub mod Mismatches
 pub mod Ranges

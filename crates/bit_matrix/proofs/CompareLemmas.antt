@@ -5,7 +5,7 @@ use Rattle.std.specs.Cmp.Lexicographic.{bytes_decides, pointwise, pointwise_deci
 use Rattle.bit_blocks.specs.Bits.{blocks_for}
 use Rattle.bit_blocks.proofs.VectorLemmas.{numbers_below}
 use Rattle.bit_matrix.specs.{Compared.{key_of, same_matrices}, Matrices.{Matrix, row_of}, Tables.{IsCleanPast, IsTable, matrix_in, row_in}}
-use Rattle.bit_matrix.proofs.{MergeLemmas.{blocks_stay}, SeenLemmas.{enough}, TableLemmas.{get_or-rows_in}}
+use Rattle.bit_matrix.proofs.{MergeLemmas.blocks_stay, SeenLemmas.{enough}, TableLemmas.{get_or-rows_in}}
 
 key_fixes : (a b : Matrix) → key_of a ≡ key_of b → a ≡ b
 key_fixes a b same =

@@ -1,8 +1,8 @@
 -- What merges of blocks do, block by block.
 use Rattle.std.proofs.Common.{◌≡◌, ◌≢◌, ℕ, ◌+◌, ◌-◌, ◌*◌, ◌^◌, ◌<◌, ◌≤◌, ◌==◌, ◌↔◌, ◌++◌, Bool, true, false, not, List, All, drop, length, get_or, map, set, take, refl, sym, ap, ap₂, ◌∙◌, arith, inl, inr}
 use Rattle.std.proofs.lemmas.{Bool.{cases_eq, cases_lt, Decides.nat_tests}, Nat.{row_fits}, List.{get_or-append-add, get_or-append_right, get_or-drop, get_or-set_other, get_or-set_same, get_or-take, get_or_append_left, get_or_past, length-map, map-append, take-map}}
-use Rattle.bit_blocks.specs.{BlockMerges.{HasMerged, IsMergedBetween}, Digits.is_one, Merges.merge_of_values, NotedMerges.{AreKept, Stay, other_at}, declared.block.merge.Merge.Merge}
-use Rattle.bit_blocks.proofs.{MergeLemmas.{merged_more, merged_none, merged_put}, NotedMergeLemmas.{stay_more, stay_none, stay_one, stay_part, stay_same}, VectorLemmas.numbers_below}
+use Rattle.bit_blocks.specs.{BlockMerges.{other_at, AreKept, HasMerged, Stay}, Digits.is_one, Merges.merge_of_values, declared.block.merge.Merge.Merge}
+use Rattle.bit_blocks.proofs.{BlockMergeLemmas.{merged_more, merged_none, merged_put, merged_same, stay_more, stay_none, stay_one, stay_part, stay_same}, VectorLemmas.numbers_below}
 use Rattle.bit_matrix.specs.Merges.{AreApart, IsMergedPart, IsNotedBlock, IsNotedMerge}
 use Rattle.bit_matrix.proofs.RowLemmas.{map-slice, same_block}
 
@@ -67,7 +67,7 @@ after_other read write count are less = elim are.apart [
 module _ {X : Type 0} (m : Merge) (w : ℕ) (f : X → ℕ) (P : X → Type 0) where
   pub noted_none : (start end : ℕ) (xs os : List X) (was : X) → All P xs → P was → end ≤ start → IsNotedMerge m w f P start end xs os xs was was
   noted_none start end xs os was each is le = record {
-    has = merged_none m w f P start end xs os each le;
+    has = merged_none m w f P start end _ xs each le;
     of_block = is;
     none = (λ none. (none, stay_none m w f start end _ xs le), λ both. both.0);
   }
@@ -81,7 +81,7 @@ module _ {X : Type 0} (m : Merge) (w : ℕ) (f : X → ℕ) (P : X → Type 0) w
       let same = λ (q j : ℕ) (le : k ≤ q) (below : q < k + 1) (inside : j < w). let here : k ≡ q = omega (arith, le, below) in let e : is_one b j ≡ other_at (map f os) q j = ap (λ i. is_one (get_or (map f os) i 0) j) here in e in
       let one = stay_one m w f k a b (f merged) ys refl (numbers_below w f P ys law each k) (law merged noted.is_merged) digits in
       record {
-        has = merged_put m w f P k a b (f merged) ys os zs within written all len refl refl digits;
+        has = merged_same m w f P k (k + 1) (λ q j. is_one b j) (other_at (map f os)) ys zs same (merged_put m w f P k a b (f merged) ys zs within written all len refl digits);
         of_block = noted.of_block;
         none = (
           λ none. let both = noted.none.0 none in (both.0, stay_same m w f k (k + 1) (λ q j. is_one b j) (other_at (map f os)) ys same (one.0 (still ∙ both.1))),
@@ -100,9 +100,9 @@ module _ {X : Type 0} (m : Merge) (w : ℕ) (f : X → ℕ) (P : X → Type 0) w
   noted_more a b c p q xs os ys zs was one now le also from to first second =
       let other = other_at (map f os) in
       let next = rw (from, to) at second in
-      let after = first.has.merged.after in
+      let after = first.has.after in
       record {
-        has = merged_more m w f P a b c b c xs os ys zs le also refl refl first.has next.has;
+        has = merged_more m w f P a b c b c other xs ys zs le also refl refl first.has next.has;
         of_block = next.of_block;
         none = (
           λ none.
@@ -121,7 +121,7 @@ module _ {X : Type 0} (m : Merge) (w : ℕ) (f : X → ℕ) (P : X → Type 0) w
   noted_next start k p q xs os ys zs merged was one now law fewer within from here next before noted written all len =
       let grows : k ≤ k + 1 = omega arith in
       let so_far = rw here at before in
-      let step = noted_put k xs os ys zs merged one now law so_far.has.each (omega (arith, so_far.has.len, fewer, within)) (so_far.has.merged.after k (omega arith)) noted written all len in
+      let step = noted_put k xs os ys zs merged one now law so_far.has.each (omega (arith, so_far.has.len, fewer, within)) (so_far.has.after k (omega arith)) noted written all len in
       rw next (noted_more start k (k + 1) k (k + 1) xs os ys zs was one now from grows refl refl so_far step)
 
 -- what a test of the mismatches for 0 says
@@ -135,12 +135,12 @@ pub of_not : {b : Bool} → not b ≡ false → b ≡ true
 of_not off = grind (arith, off)
 
 -- what stays digit by digit stays
-pub stay_kept : {X : Type 0} (m : Merge) (w : ℕ) (f : X → ℕ) (P : X → Type 0) (start end : ℕ) (xs os ys : List X) → ((x : X) → P x → f x < 2 ^ w) → All P xs → HasMerged m w f P start end xs os ys → Stay m w f start end (other_at (map f os)) xs → AreKept (map f xs) (map f ys)
+pub stay_kept : {X : Type 0} (m : Merge) (w : ℕ) (f : X → ℕ) (P : X → Type 0) (start end : ℕ) (xs os ys : List X) → ((x : X) → P x → f x < 2 ^ w) → All P xs → HasMerged m w f P start end (other_at (map f os)) xs ys → Stay m w f start end (other_at (map f os)) xs → AreKept (map f xs) (map f ys)
 stay_kept m w f P start end xs os ys law each is stay k = elim (cases_lt k start) [
-  | inl early ↦ is.merged.before k early
+  | inl early ↦ is.before k early
   | inr from ↦ elim (cases_lt k end) [
-    | inl below ↦ same_block w (get_or (map f ys) k 0) (get_or (map f xs) k 0) (numbers_below w f P ys law is.each k) (numbers_below w f P xs law each k) (λ j inside. is.merged.digit k j from below inside ∙ sym (stay.digit k j from below inside))
-    | inr past ↦ is.merged.after k past
+    | inl below ↦ same_block w (get_or (map f ys) k 0) (get_or (map f xs) k 0) (numbers_below w f P ys law is.each k) (numbers_below w f P xs law each k) (λ j inside. is.digit k j from below inside ∙ sym (stay.digit k j from below inside))
+    | inr past ↦ is.after k past
   ]
 ]
 
@@ -172,13 +172,13 @@ is_put f front xs ys back at here long =
     let parts = λ (zs : List _). map-append f front (zs ++ back) ∙ ap (λ ns. map f front ++ ns) (map-append f zs back) in
     rw (parts xs) (rw (parts ys) (rw (sym here) (rw (sym (length-map front f)) (is_put_here (map f front) (map f xs) (map f ys) (map f back) (length-map ys f ∙ long ∙ sym (length-map xs f))))))
 
-module _ (m : Merge) (w : ℕ) where
-  pub whole_part : (n : ℕ) (ps os qs : List ℕ) → IsMergedBetween m w 0 n ps os qs → IsMergedPart m w 0 0 n ps os qs
-  whole_part n ps os qs merged = record {
-    digit = λ k j below inside. let e : 0 + k ≡ k = omega arith in rw e (merged.digit k j (omega arith) below inside);
-    others = λ q apart. merged.after q (elim (cases_lt q n) [ inl below ↦ absurd (apart q below (omega arith)) | inr past ↦ past ]);
-  }
+pub whole_part : {X : Type 0} (m : Merge) (w : ℕ) (f : X → ℕ) (P : X → Type 0) (n : ℕ) (xs os ys : List X) → HasMerged m w f P 0 n (other_at (map f os)) xs ys → IsMergedPart m w 0 0 n (map f xs) (map f os) (map f ys)
+whole_part m w f P n xs os ys merged = record {
+  digit = λ k j below inside. let e : 0 + k ≡ k = omega arith in rw e (merged.digit k j (omega arith) below inside);
+  others = λ q apart. merged.after q (elim (cases_lt q n) [ inl below ↦ absurd (apart q below (omega arith)) | inr past ↦ past ]);
+}
 
+module _ (m : Merge) (w : ℕ) where
   -- what is merged in the part is merged in the whole, with the same others
   pub part_merged : (at v write read count : ℕ) (ps os qs ms zs ns : List ℕ) → at + v ≡ write → IsPut at ps qs ms ns → IsMergedPart m w 0 v count ps os qs → v + count ≤ length ps → ((k : ℕ) → k < count → get_or os (0 + k) 0 ≡ get_or zs (read + k) 0) → IsMergedPart m w read write count ms zs ns
   part_merged at v write read count ps os qs ms zs ns is put merged fits same = record {

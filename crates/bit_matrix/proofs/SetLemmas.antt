@@ -7,7 +7,7 @@ use Rattle.bit_blocks.proofs.{BitsLemmas.{block_past, blocks_for-below, blocks_o
 use Rattle.bit_set.specs.{Sets.{elements, has, union}}
 use Rattle.bit_set.proofs.{AlgebraLemmas.{has-union}, SetLaws.{IsAscending-put_all}, SetLemmas.{IsAscending-elements, has-elements, same_members}}
 use Rattle.bit_matrix.specs.{Matrices.{Matrix, has_at, matrix_of, row_of, with_row}, Merges.{IsMergedPart}, Tables.{IsCleanPast, IsTable, bit_of, matrix_in}}
-use Rattle.bit_matrix.proofs.{MergeLemmas.{other_row}, RowLemmas.{bit_of-digit, map-slice}, SeenLemmas.{enough, none_past, seen_columns, seen_matrix, seen_rows}, TableLemmas.{becomes, has_at-below}}
+use Rattle.bit_matrix.proofs.{MergeLemmas.other_row, RowLemmas.{bit_of-digit, map-slice}, SeenLemmas.{enough, none_past, seen_columns, seen_matrix, seen_rows}, TableLemmas.{becomes, has_at-below}}
 
 -- the values of a list's block
 block_value : (w : ℕ) (values : List Bool) (c : ℕ) → 0 < w → is_one (get_or (blocks_of w values) (c / w) 0) (c % w) ≡ get_or values c false

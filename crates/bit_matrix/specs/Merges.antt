@@ -1,6 +1,6 @@
 -- What blocks of a list become by a merge with others, digit by digit. No public clause cites this.
 use Rattle.std.specs.Prelude.{◌≡◌, ◌≢◌, ℕ, ◌+◌, ◌<◌, ◌≤◌, ◌⊎◌, ◌↔◌, List, get_or, map}
-use Rattle.bit_blocks.specs.{BlockMerges.HasMerged, Digits.is_one, Merges.merge_of_values, NotedMerges.{Stay, other_at}, declared.block.merge.Merge.Merge}
+use Rattle.bit_blocks.specs.{BlockMerges.{other_at, HasMerged, Stay}, Digits.is_one, Merges.merge_of_values, declared.block.merge.Merge.Merge}
 
 -- So many blocks of ms from `write` on became in ns what they merge to with those of os from `read` on; the others are
 -- those of ms.
@@ -27,7 +27,7 @@ pub record IsNotedBlock {X : Type 0} (merge : Merge) (w : ℕ) (number : X → �
 -- was, and all of these stay.
 pub record IsNotedMerge {X : Type 0} (merge : Merge) (w : ℕ) (number : X → ℕ) (is_block : X → Type 0) (start end : ℕ)
     (xs os ys : List X) (was now : X) : Type 0 where
-  pub has : HasMerged merge w number is_block start end xs os ys
+  pub has : HasMerged merge w number is_block start end (other_at (map number os)) xs ys
   pub of_block : is_block now
   pub none : (number now ≡ 0)
       ↔ ((number was ≡ 0) × Stay merge w number start end (other_at (map number os)) xs)

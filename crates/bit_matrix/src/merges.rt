@@ -1,7 +1,7 @@
 // Merges of blocks with others of one list, or of another list, each by the digits of every block. What changes is noted on
 // the way, in one block: the compiler takes the note out where nothing reads it.
 ghost use Rattle.std.specs.Prelude.{◌≡◌, ℕ, ◌+◌, ◌*◌, ◌<◌, ◌≤◌, ◌⊎◌, ◌↔◌, All, IsTrue, false, get_or, length, map};
-ghost use Rattle.bit_blocks.specs.{BlockMerges.{CanMerge, HasMerged}, NotedMerges.AreKept};
+ghost use Rattle.bit_blocks.specs.BlockMerges.{other_at, AreKept, CanMerge, HasMerged};
 ghost use Rattle.bit_matrix.specs.Merges.{IsMergedPart, IsNotedBlock, IsNotedMerge, AreApart};
 
 use crate::BitBlock;
@@ -12,7 +12,7 @@ use bit_words::bit_vec::operation::Operation;
 // stays.
 #[inline(always)]
 fn merged_at<B: BitBlock, O: Operation>(blocks: &[B], others: &[B], k: usize, seen: B) -> (B, B)
-    requires can { CanMerge B.is_block blocks.now others.now }
+    requires can { CanMerge B.is_block blocks.now (length others.now) (All B.is_block others.now) }
     requires within { k < length others.now }
     requires seen { B.is_block seen }
     ensures { IsNotedBlock O.merge B.width B.number B.is_block k blocks.now others.now result.0 seen result.1 }
@@ -32,7 +32,7 @@ fn merge_each<B: BitBlock, O: Operation>(
     count: usize,
     seen: B,
 ) -> B
-    requires can { CanMerge B.is_block blocks.old others.now }
+    requires can { CanMerge B.is_block blocks.old (length others.now) (All B.is_block others.now) }
     requires within { start + count ≤ length others.now }
     requires seen { B.is_block seen }
     ensures { IsNotedMerge O.merge B.width B.number B.is_block start (start + count) blocks.old others.now blocks.new seen
@@ -51,7 +51,7 @@ fn merge_each<B: BitBlock, O: Operation>(
 // does not know that the lists are apart.
 #[inline(always)]
 fn merge_four<B: BitBlock, O: Operation>(blocks: &mut [B], others: &[B], start: usize, seen: B) -> B
-    requires can { CanMerge B.is_block blocks.old others.now }
+    requires can { CanMerge B.is_block blocks.old (length others.now) (All B.is_block others.now) }
     requires within { start + 4 ≤ length others.now }
     requires seen { B.is_block seen }
     ensures { IsNotedMerge O.merge B.width B.number B.is_block start (start + 4) blocks.old others.now blocks.new seen
@@ -77,7 +77,7 @@ fn merge_fours<B: BitBlock, O: Operation>(
     fours: usize,
     seen: B,
 ) -> B
-    requires can { CanMerge B.is_block blocks.old others.now }
+    requires can { CanMerge B.is_block blocks.old (length others.now) (All B.is_block others.now) }
     requires within { start + fours * 4 ≤ length others.now }
     requires seen { B.is_block seen }
     ensures { IsNotedMerge O.merge B.width B.number B.is_block start (start + fours * 4) blocks.old others.now blocks.new
@@ -98,7 +98,7 @@ fn merge_groups<B: BitBlock, O: Operation>(
     groups: usize,
     seen: B,
 ) -> B
-    requires can { CanMerge B.is_block blocks.old others.now }
+    requires can { CanMerge B.is_block blocks.old (length others.now) (All B.is_block others.now) }
     requires within { groups * 16 ≤ length others.now }
     requires seen { B.is_block seen }
     ensures { IsNotedMerge O.merge B.width B.number B.is_block 0 (groups * 16) blocks.old others.now blocks.new seen
@@ -115,8 +115,9 @@ fn merge_groups<B: BitBlock, O: Operation>(
 // but three blocks at most are merged by four.
 #[inline(always)]
 fn merge_blocks<B: BitBlock, O: Operation>(blocks: &mut [B], others: &[B]) -> bool
-    requires can { CanMerge B.is_block blocks.old others.now }
-    ensures has { HasMerged O.merge B.width B.number B.is_block 0 (length others.now) blocks.old others.now blocks.new }
+    requires can { CanMerge B.is_block blocks.old (length others.now) (All B.is_block others.now) }
+    ensures has { HasMerged O.merge B.width B.number B.is_block 0 (length others.now)
+        (other_at (map B.number others.now)) blocks.old blocks.new }
     ensures kept { (result ≡ false) ↔ AreKept (map B.number blocks.old) (map B.number blocks.new) }
 {
     let count = others.len();

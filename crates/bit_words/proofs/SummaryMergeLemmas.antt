@@ -1,7 +1,7 @@
 -- The summary of what the blocks of two lists merge to.
 use Rattle.std.proofs.Common.{◌≡◌, ℕ, ◌+◌, ◌*◌, ◌^◌, ◌<◌, ◌≤◌, Bool, false, not, ◌&&◌, ◌||◌, ◌==◌, nat_le, List, [], map, length, get_or, set, All, sym, ap, ap₂, ◌∙◌, arith, ⊎_elim, get_or-set_same, get_or-set_other, mul-le-mul_right}
 use Rattle.std.proofs.{Math.Bool.{and-false, and-true, or-false}, lemmas.{Bool.{cases_lt, cases_eq, Decides.nat_tests}, List.{get_or_past, length-map}, Nat.Bits.same_from_bits_below}}
-use Rattle.bit_blocks.specs.{Digits.{IsEither, is_one}, declared.block.merge.Merge.{Merge, TheVariants.{Union, Intersection, Difference, Symmetric}}, Merges.merge_of_values, BlockMerges.HasMerged, NotedMerges.{except_at, HasMergedWith}, Storage.value_at}
+use Rattle.bit_blocks.specs.{Digits.{IsEither, is_one}, declared.block.merge.Merge.{Merge, TheVariants.{Union, Intersection, Difference, Symmetric}}, Merges.merge_of_values, BlockMerges.{except_at, other_at, HasMerged}, Storage.value_at}
 use Rattle.bit_blocks.{specs.Storage.is_used, proofs.{CompareLemmas.zero_from_digits, Masks.{is_one-either, is_one-zero}, MergeLemmas.merge_of_values-none, StorageLemmas.same_digit}}
 use Rattle.bit_words.specs.Summary.{IsSummary, SaysUsed}
 use Rattle.bit_blocks.proofs.{StorageLemmas.value_at-index, UseLemmas.{false_from_unused, unused_from_false, used_from_zero, used_past, zero_from_unused}, VectorLemmas.numbers_below}
@@ -27,7 +27,7 @@ used_with w m o e n small also third digits none =
     let other : n ≡ 0 → o ≡ 0 = λ zero. zero_from_digits w o also (λ j index. grind (arith, digits j index, lacks j, is_one-zero)) in
     grind (arith, nat_tests, all, own, other)
 
-pub used_with_others : {X : Type 0} (w : ℕ) (f : X → ℕ) (P : X → Type 0) (es : List ℕ) (xs os ys : List X) → ((x : X) → P x → f x < 2 ^ w) → All P xs → All P os → length os ≤ length xs → HasMergedWith Union w f P 0 (length xs) (except_at (map f os) es) xs ys → (k : ℕ) → is_used es k ≡ false → is_used (map f ys) k ≡ (is_used (map f xs) k || is_used (map f os) k)
+pub used_with_others : {X : Type 0} (w : ℕ) (f : X → ℕ) (P : X → Type 0) (es : List ℕ) (xs os ys : List X) → ((x : X) → P x → f x < 2 ^ w) → All P xs → All P os → length os ≤ length xs → HasMerged Union w f P 0 (length xs) (except_at (map f os) es) xs ys → (k : ℕ) → is_used es k ≡ false → is_used (map f ys) k ≡ (is_used (map f xs) k || is_used (map f os) k)
 used_with_others w f P es xs os ys below each others fewer is k none =
     ⊎_elim
     (λ inside. used_with w (get_or (map f xs) k 0) (get_or (map f os) k 0) (get_or es k 0) (get_or (map f ys) k 0) (numbers_below w f P xs below each k) (numbers_below w f P os below others k) (numbers_below w f P ys below is.each k) (λ j index. is.digit k j (omega arith) inside index) none)
@@ -55,12 +55,12 @@ used_isolated Symmetric w a b small also digits = stays Symmetric w a b kept_by_
 
 module _ {X : Type 0} (m : Merge) (w : ℕ) (f : X → ℕ) (P : X → Type 0) where
   -- past the others, whether a block is not 0 is merged with none
-  pub use_past_others : (start k : ℕ) (xs os ys : List X) → ((x : X) → P x → f x < 2 ^ w) → All P xs → length os ≤ k → start ≤ k → HasMerged m w f P start (length xs) xs os ys → is_used (map f ys) k ≡ merge_of_values m (is_used (map f xs) k) false
+  pub use_past_others : (start k : ℕ) (xs os ys : List X) → ((x : X) → P x → f x < 2 ^ w) → All P xs → length os ≤ k → start ≤ k → HasMerged m w f P start (length xs) (other_at (map f os)) xs ys → is_used (map f ys) k ≡ merge_of_values m (is_used (map f xs) k) false
   use_past_others start k xs os ys below each past from is =
       let ms = map f xs in
       ⊎_elim
       (λ within. used_isolated m w _ _ (numbers_below w f P xs below each k) (numbers_below w f P ys below is.each k) (λ j index.
-      is.merged.digit k j from within index
+      is.digit k j from within index
       ∙ ap (merge_of_values m (is_one (get_or ms k 0) j)) (ap (λ n. is_one n j) (get_or_past (map f os) k 0 (rw length-map past)) ∙ is_one-zero j)))
       (λ outside. let len = is.len in grind (arith, used_past (map f ys) k, used_past (map f xs) k, length-map, merge_of_values-none m))
       (cases_lt k (length xs))
@@ -73,10 +73,10 @@ module _ {X : Type 0} (m : Merge) (w : ℕ) (f : X → ℕ) (P : X → Type 0) w
       is_one-either w (f made) cut (f whole) j either index ∙ grind (arith, nat_tests, says.digit j index, kept j index, late)
 
   -- such a block is written, and those past it are merged with none
-  pub tail_digits : (start count alone cut : ℕ) (ss ts us ys : List X) (made whole : X) → start < length ss → SaysUsed w f P ys (start * w) count made → ((j : ℕ) → j < w → is_one alone j ≡ merge_of_values m (is_one (get_or (map f ss) start 0) j) false) → ((j : ℕ) → j < w → is_one cut j ≡ (nat_le count j && is_one alone j)) → IsEither w (f made) cut (f whole) → map f ts ≡ set (map f ss) start (f whole) → length ts ≡ length ss → HasMerged m w f P (start + 1) (length ts) ts [] us → count ≤ w → ((k : ℕ) → start * w + count ≤ k → is_used (map f ys) k ≡ merge_of_values m (value_at w (map f ss) k) false) → (q j : ℕ) → start ≤ q → q < length ss → j < w → is_one (get_or (map f us) q 0) j ≡ is_used (map f ys) (q * w + j)
+  pub tail_digits : (start count alone cut : ℕ) (ss ts us ys : List X) (made whole : X) → start < length ss → SaysUsed w f P ys (start * w) count made → ((j : ℕ) → j < w → is_one alone j ≡ merge_of_values m (is_one (get_or (map f ss) start 0) j) false) → ((j : ℕ) → j < w → is_one cut j ≡ (nat_le count j && is_one alone j)) → IsEither w (f made) cut (f whole) → map f ts ≡ set (map f ss) start (f whole) → length ts ≡ length ss → HasMerged m w f P (start + 1) (length ts) (λ k j. false) ts us → count ≤ w → ((k : ℕ) → start * w + count ≤ k → is_used (map f ys) k ≡ merge_of_values m (value_at w (map f ss) k) false) → (q j : ℕ) → start ≤ q → q < length ss → j < w → is_one (get_or (map f us) q 0) j ≡ is_used (map f ys) (q * w + j)
   tail_digits start count alone cut ss ts us ys made whole within says past kept either e len rest_merged few rest q j from below index =
       let olds = map f ss in
-      let merged = rest_merged.merged in
+      let merged = rest_merged in
       ⊎_elim
       (λ here.
       ap (λ x. is_one x j) (merged.before q (omega arith) ∙ ap (λ ns. get_or ns q 0) e ∙ ap (λ x. get_or (set olds start (f whole)) x 0) here ∙ get_or-set_same olds start (f whole) 0 (rw length-map within))
@@ -86,6 +86,6 @@ module _ {X : Type 0} (m : Merge) (w : ℕ) (f : X → ℕ) (P : X → Type 0) w
       let later = mul-le-mul_right w (let l : start + 1 ≤ q = omega arith in l) in
       let old : get_or (map f ts) q 0 ≡ get_or olds q 0 = ap (λ ns. get_or ns q 0) e ∙ get_or-set_other olds start q (f whole) 0 there in
       merged.digit q j (omega arith) (omega arith) index
-      ∙ ap₂ (merge_of_values m) (ap (λ x. is_one x j) old ∙ sym (value_at-index w olds q j index)) (ap (λ x. is_one x j) (get_or_past [] q 0 (omega arith)) ∙ is_one-zero j)
+      ∙ ap (λ b. merge_of_values m b false) (ap (λ x. is_one x j) old ∙ sym (value_at-index w olds q j index))
       ∙ sym (rest (q * w + j) (omega (arith, later))))
       (cases_eq q start)

@@ -2,7 +2,7 @@
 use crate::expect::{expect, expect_eq, ok};
 use crate::lists::{list_of, put};
 use bit_words::bit_vec::{
-    BitVec, BitsError, Merge, Steps, clear_below, clear_from, first_mismatching_block,
+    BitVec, BitsError, Merge, clear_below, clear_from, first_mismatching_block,
     first_nonzero_block, lowest_mismatch, mismatch_between, same_blocks, take_highest_one,
     take_lowest_one, with_bit,
 };
@@ -208,13 +208,12 @@ fn a_list_is_written_as_bytes(rt: HostRuntime) {
 }
 
 fn a_merge_twice(rt: &impl Abort, bits: &mut BitVec, other: BitVec) {
-    let mut steps = Steps::new();
     if other.len() <= bits.len() {
         // Some value of `other` is true that is not in `bits`.
-        expect(rt, bits.merge_changes(&other, Merge::Union, &mut steps));
+        expect(rt, bits.merge_changes(&other, Merge::Union));
     }
     if other.len() <= bits.len() {
-        expect(rt, !bits.merge_changes(&other, Merge::Union, &mut steps));
+        expect(rt, !bits.merge_changes(&other, Merge::Union));
     }
 }
 
@@ -226,10 +225,9 @@ fn a_merge_changes_a_list_once(rt: HostRuntime) {
 }
 
 fn a_transfer(rt: &impl Abort, live: &mut BitVec, live_after: BitVec, assigned: BitVec) {
-    let mut steps = Steps::new();
     if live_after.len() <= live.len() {
         // live |= live_after & !assigned
-        let grew = live.unite_difference(&live_after, &assigned, &mut steps);
+        let grew = live.unite_difference(&live_after, &assigned);
         expect(rt, grew && live.first_one_from(3) == Some(5));
     }
 }

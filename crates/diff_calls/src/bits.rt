@@ -20,7 +20,7 @@ pub(crate) fn merge_and_tell<B: BitBlock>(
     answers: &mut Answers,
 ) {
     if other.len() <= bits.len() {
-        answers.truth(bits.merge_changes(other, merge, &mut Steps::new()));
+        answers.truth(bits.merge_changes(other, merge));
     }
 }
 
@@ -32,7 +32,7 @@ pub(crate) fn unite_difference<B: BitBlock>(
     answers: &mut Answers,
 ) {
     if other.len() <= bits.len() {
-        answers.truth(bits.unite_difference(other, except, &mut Steps::new()));
+        answers.truth(bits.unite_difference(other, except));
     }
 }
 

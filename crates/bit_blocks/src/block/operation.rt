@@ -1,5 +1,5 @@
 //! The four merges, each by a type.
-ghost use Rattle.std.specs.{Prelude.{◌≡◌, ℕ, ◌<◌, ◌==◌}, Int.bit_at};
+ghost use Rattle.std.specs.{Prelude.{◌≡◌, ℕ, ◌<◌, ◌==◌, ◌↔◌, true}, Int.bit_at};
 ghost use Rattle.bit_blocks.specs.{Merges.merge_of_values, declared.block.merge.Merge.Merge};
 
 use crate::block::BitBlock;
@@ -17,6 +17,10 @@ pub trait Operation {
         ensures digits { (i : ℕ) → i < B.width
             → (bit_at (B.number result) i == 1)
             ≡ merge_of_values merge (bit_at (B.number a) i == 1) (bit_at (B.number b) i == 1) };
+
+    /// Whether it is the union. Constant time.
+    fn is_union() -> bool
+        ensures { (result ≡ true) ↔ (merge ≡ Merge.Union) };
 }
 
 /// `Merge::Union`.
@@ -38,6 +42,11 @@ impl Operation for Union {
     fn of_blocks<B: BitBlock>(a: B, b: B) -> B {
         block_or(a, b)
     }
+
+    #[inline(always)]
+    fn is_union() -> bool {
+        true
+    }
 }
 
 impl Operation for Intersection {
@@ -46,6 +55,11 @@ impl Operation for Intersection {
     #[inline]
     fn of_blocks<B: BitBlock>(a: B, b: B) -> B {
         block_and(a, b)
+    }
+
+    #[inline(always)]
+    fn is_union() -> bool {
+        false
     }
 }
 
@@ -56,6 +70,11 @@ impl Operation for Difference {
     fn of_blocks<B: BitBlock>(a: B, b: B) -> B {
         block_and(a, block_not(b))
     }
+
+    #[inline(always)]
+    fn is_union() -> bool {
+        false
+    }
 }
 
 impl Operation for Symmetric {
@@ -64,5 +83,10 @@ impl Operation for Symmetric {
     #[inline]
     fn of_blocks<B: BitBlock>(a: B, b: B) -> B {
         block_xor(a, b)
+    }
+
+    #[inline(always)]
+    fn is_union() -> bool {
+        false
     }
 }

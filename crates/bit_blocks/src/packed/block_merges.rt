@@ -1,48 +1,51 @@
-// Merges of the blocks of two lists, each by the digits of every block. Summaries are merged in `summary`.
-ghost use Rattle.std.specs.Prelude.{◌≡◌, ◌+◌, ◌<◌, ◌≤◌, [], All, get_or, length, map};
-ghost use Rattle.bit_blocks.specs.BlockMerges.{CanMerge, HasMerged};
+// Merges of the blocks of a list with others, each by the digits of every block. Summaries are merged in `summary`.
+ghost use Rattle.std.specs.Prelude.{◌≡◌, ◌+◌, ◌<◌, ◌≤◌, All, false, get_or, length, map};
+ghost use Rattle.bit_blocks.specs.{BlockMerges.{except_at, CanMerge, HasMerged}, declared.block.merge.Merge.Merge};
 
 use crate::block::BitBlock;
-use crate::block::operation::Operation;
+use crate::block::operation::{Operation, Union};
 use crate::packed::access::{block_at, put_in};
+use crate::packed::others::{Except, Others};
 use crate::steps::Steps;
 
 /// Block `k` becomes its merge with the other of its index, and is returned.
 #[inline]
-pub fn merge_block<B: BitBlock, O: Operation>(
+pub fn merge_block<B: BitBlock, O: Operation, S: Others<B>>(
     blocks: &mut [B],
-    others: &[B],
+    others: S,
     k: usize,
     steps: &mut Steps,
 ) -> B
-    requires can { CanMerge B.is_block blocks.old others.now }
-    requires in_others { k < length others.now }
-    ensures has { HasMerged O.merge B.width B.number B.is_block k (k + 1) blocks.old others.now blocks.new }
+    requires can { CanMerge B.is_block blocks.old (S.count others) (S.are_blocks others) }
+    requires in_others { k < S.count others }
+    ensures has { HasMerged O.merge B.width B.number B.is_block k (k + 1) (S.digit others) blocks.old blocks.new }
     ensures of_block { B.is_block result }
     ensures of_number { B.number result ≡ get_or (map B.number blocks.new) k 0 }
     ensures steps { steps.new ≡ steps.old + 1 }
 {
     steps.tick();
-    let merged = O::of_blocks(block_at(blocks, k), block_at(others, k));
+    let merged = O::of_blocks(block_at(blocks, k), others.block(k));
     put_in(blocks, k, merged);
     merged
 }
 
-// Each of the blocks from `start` on, as far as there are others, becomes its merge with the other of its index.
-fn merge_first<B: BitBlock, O: Operation>(
+// The blocks from `start` to before `end` become their merges with the others of their indexes.
+#[inline]
+fn merge_between<B: BitBlock, O: Operation, S: Others<B>>(
     blocks: &mut [B],
-    others: &[B],
+    others: S,
     start: usize,
+    end: usize,
     steps: &mut Steps,
 )
-    requires can { CanMerge B.is_block blocks.old others.now }
-    requires from { start ≤ length others.now }
-    ensures has { HasMerged O.merge B.width B.number B.is_block start (length others.now) blocks.old others.now
-        blocks.new }
-    ensures steps { steps.new + start ≡ steps.old + length others.now }
+    requires can { CanMerge B.is_block blocks.old (S.count others) (S.are_blocks others) }
+    requires forward { start ≤ end }
+    requires in_others { start < end → end ≤ S.count others }
+    ensures has { HasMerged O.merge B.width B.number B.is_block start end (S.digit others) blocks.old blocks.new }
+    ensures steps { steps.new + start ≡ steps.old + end }
 {
-    for k in start..others.len() {
-        let _merged = merge_block::<B, O>(blocks, others, k, steps);
+    for k in start..end {
+        let _merged = merge_block::<B, O, S>(blocks, others, k, steps);
     }
 }
 
@@ -51,7 +54,8 @@ fn merge_first<B: BitBlock, O: Operation>(
 pub fn merge_rest<B: BitBlock, O: Operation>(blocks: &mut [B], start: usize, steps: &mut Steps)
     requires within { start ≤ length blocks.old }
     requires each { All B.is_block blocks.old }
-    ensures has { HasMerged O.merge B.width B.number B.is_block start (length blocks.old) blocks.old [] blocks.new }
+    ensures has { HasMerged O.merge B.width B.number B.is_block start (length blocks.old) (λ k j. false) blocks.old
+        blocks.new }
     ensures steps { steps.new + start ≡ steps.old + length blocks.old }
 {
     let zero = B::zero();
@@ -64,18 +68,35 @@ pub fn merge_rest<B: BitBlock, O: Operation>(blocks: &mut [B], start: usize, ste
 
 /// Each of the blocks from `start` on becomes its merge with the other of its index, or with zeros where there is
 /// none.
-pub fn merge_each<B: BitBlock, O: Operation>(
+pub fn merge_each<B: BitBlock, O: Operation, S: Others<B>>(
     blocks: &mut [B],
-    others: &[B],
+    others: S,
     start: usize,
     steps: &mut Steps,
 )
-    requires can { CanMerge B.is_block blocks.old others.now }
-    requires from { start ≤ length others.now }
-    ensures has { HasMerged O.merge B.width B.number B.is_block start (length blocks.old) blocks.old others.now
+    requires can { CanMerge B.is_block blocks.old (S.count others) (S.are_blocks others) }
+    requires from { start ≤ S.count others }
+    ensures has { HasMerged O.merge B.width B.number B.is_block start (length blocks.old) (S.digit others) blocks.old
         blocks.new }
     ensures steps { steps.new + start ≡ steps.old + length blocks.old }
 {
-    merge_first::<B, O>(blocks, others, start, steps);
-    merge_rest::<B, O>(blocks, others.len(), steps);
+    let count = others.len();
+    merge_between::<B, O, S>(blocks, others, start, count, steps);
+    merge_rest::<B, O>(blocks, count, steps);
+}
+
+/// The blocks from `start` on become their unions with the others, except for the ones of `except`. Where `except` is the
+/// shorter one, the others are merged alone past its end.
+#[inline]
+pub fn unite_except<B: BitBlock>(blocks: &mut [B], others: &[B], except: &[B], start: usize)
+    requires can { CanMerge B.is_block blocks.old (length others.now) (All B.is_block others.now) }
+    requires except { All B.is_block except.now }
+    requires from { start ≤ length others.now }
+    ensures { HasMerged Merge.Union B.width B.number B.is_block start (length blocks.old)
+        (except_at (map B.number others.now) (map B.number except.now)) blocks.old blocks.new }
+{
+    let apart = Except { others, except };
+    let both = apart.len().max(start);
+    merge_between::<B, Union, Except<B>>(blocks, apart, start, both, &mut Steps::new());
+    merge_between::<B, Union, &[B]>(blocks, others, both, others.len(), &mut Steps::new());
 }

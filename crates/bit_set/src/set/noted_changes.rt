@@ -6,7 +6,7 @@ ghost use Rattle.bit_set.specs.Members.{IsCounted, IsDifference, IsIntersection,
 ghost use Rattle.bit_set.specs.Sets.{elements, union, intersection, difference, symmetric_difference, merge_of_sets, is_subset, is_disjoint};
 ghost use Rattle.bit_set.specs.{Changes.{Change, Changes, outcome_of_flag}, Order.same_sets};
 
-use crate::bit_vec::{Merge, Steps};
+use crate::bit_vec::Merge;
 use crate::{BitBlock, BitSet};
 use std::alloc::AllocError;
 
@@ -30,9 +30,7 @@ impl<B: BitBlock> BitSet<B> {
             self.old.values (outcome_of_flag result) self.new.values }
     {
         self.lengthen(other.bits.len())?;
-        let changed = self
-            .bits
-            .merge_changes(&other.bits, merge, &mut Steps::new());
+        let changed = self.bits.merge_changes(&other.bits, merge);
         prove!(self.bits.len() <= usize::MAX);
         Ok(changed)
     }
@@ -168,9 +166,7 @@ impl<B: BitBlock> BitSet<B> {
             self.old.values (outcome_of_flag result) self.new.values }
     {
         self.lengthen(other.bits.len())?;
-        let changed = self
-            .bits
-            .unite_difference(&other.bits, &except.bits, &mut Steps::new());
+        let changed = self.bits.unite_difference(&other.bits, &except.bits);
         prove!(self.bits.len() <= usize::MAX);
         Ok(changed)
     }

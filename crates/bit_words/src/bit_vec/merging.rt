@@ -3,7 +3,7 @@ ghost use Rattle.std.specs.Prelude.{◌≡◌, ◌+◌, ◌≤◌, length};
 ghost use Rattle.bit_blocks.specs.{Bits.blocks_for, Merges.merge_of};
 
 use crate::bit_vec::BitVec;
-use crate::summary::merges::merge_chosen;
+use crate::summary::merges::merge_named;
 use bit_blocks::block::BitBlock;
 use bit_blocks::block::merge::Merge;
 use bit_blocks::steps::Steps;
@@ -19,13 +19,12 @@ impl<B: BitBlock> BitVec<B> {
         ensures steps { steps.new ≡ steps.old + blocks_for B.width (length self.old.values) }
     {
         self.search_start = 0;
-        merge_chosen(
+        merge_named(
             self.blocks.as_mut_slice(),
             self.summary.as_mut_slice(),
             &other.blocks,
             &other.summary,
             merge,
-            0,
             steps,
         );
     }

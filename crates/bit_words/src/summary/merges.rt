@@ -1,7 +1,7 @@
 // Merges of the blocks of two lists that have summaries: of a union it is the union of the summaries, and of the
 // others each block of it is made while the blocks that it is about are merged.
 ghost use Rattle.std.specs.Prelude.{◌≡◌, ℕ, ◌+◌, ◌*◌, ◌/◌, ◌<◌, ◌≤◌, All, get_or, length, map};
-ghost use Rattle.bit_blocks.specs.{BlockMerges.{CanMerge, HasMerged}, Digits.is_one, NotedMerges.{other_at, Stay}, Storage.{value_at, is_used}, declared.block.merge.Merge.Merge};
+ghost use Rattle.bit_blocks.specs.{BlockMerges.{other_at, CanMerge, HasMerged, Stay}, Digits.is_one, Storage.{value_at, is_used}, declared.block.merge.Merge.Merge};
 ghost use Rattle.bit_words.specs.Summary.{IsSummary, IsStoredSummary, SaysUsed};
 
 use crate::summary::{is_nonzero, is_short};
@@ -28,17 +28,17 @@ fn merge_group<B: BitBlock, O: Operation>(
     count: usize,
     steps: &mut Steps,
 ) -> B
-    requires can { CanMerge B.is_block blocks.old others.now }
+    requires can { CanMerge B.is_block blocks.old (length others.now) (All B.is_block others.now) }
     requires in_others { start + count ≤ length others.now }
     requires within { count ≤ B.width }
-    ensures has { HasMerged O.merge B.width B.number B.is_block start (start + count) blocks.old
-        others.now blocks.new }
+    ensures has { HasMerged O.merge B.width B.number B.is_block start (start + count)
+        (other_at (map B.number others.now)) blocks.old blocks.new }
     ensures says { SaysUsed B.width B.number B.is_block blocks.new start count result }
     ensures steps { steps.new ≡ steps.old + count }
 {
     let mut digits = B::zero();
     for j in 0..count {
-        let merged = merge_block::<B, O>(blocks, others, start + j, steps);
+        let merged = merge_block::<B, O, &[B]>(blocks, others, start + j, steps);
         digits = with_one_if(digits, j, is_nonzero(merged));
     }
     digits
@@ -53,11 +53,11 @@ fn merge_groups<B: BitBlock, O: Operation>(
     groups: usize,
     steps: &mut Steps,
 ) -> B
-    requires can { CanMerge B.is_block blocks.old others.now }
+    requires can { CanMerge B.is_block blocks.old (length others.now) (All B.is_block others.now) }
     requires in_others { start + groups * LONG_GROUP ≤ length others.now }
     requires within { groups * LONG_GROUP ≤ B.width }
-    ensures has { HasMerged O.merge B.width B.number B.is_block start (start + groups * LONG_GROUP) blocks.old
-        others.now blocks.new }
+    ensures has { HasMerged O.merge B.width B.number B.is_block start (start + groups * LONG_GROUP)
+        (other_at (map B.number others.now)) blocks.old blocks.new }
     ensures says { SaysUsed B.width B.number B.is_block blocks.new start (groups * LONG_GROUP) result }
     ensures steps { steps.new ≡ steps.old + groups * LONG_GROUP }
 {
@@ -79,10 +79,10 @@ fn merge_chunk<B: BitBlock, O: Operation>(
     q: usize,
     steps: &mut Steps,
 ) -> B
-    requires can { CanMerge B.is_block blocks.old others.now }
+    requires can { CanMerge B.is_block blocks.old (length others.now) (All B.is_block others.now) }
     requires in_others { (q + 1) * B.width ≤ length others.now }
-    ensures has { HasMerged O.merge B.width B.number B.is_block (q * B.width) ((q + 1) * B.width) blocks.old
-        others.now blocks.new }
+    ensures has { HasMerged O.merge B.width B.number B.is_block (q * B.width) ((q + 1) * B.width)
+        (other_at (map B.number others.now)) blocks.old blocks.new }
     ensures of_block { B.is_block result }
     ensures digits { (j : ℕ) → j < B.width
         → is_one (B.number result) j ≡ is_used (map B.number blocks.new) (q * B.width + j) }
@@ -107,13 +107,13 @@ fn merge_chunks<B: BitBlock, O: Operation>(
     chunks: usize,
     steps: &mut Steps,
 )
-    requires can { CanMerge B.is_block blocks.old others.now }
+    requires can { CanMerge B.is_block blocks.old (length others.now) (All B.is_block others.now) }
     requires forward { from ≤ chunks }
     requires in_others { chunks * B.width ≤ length others.now }
     requires in_summary { chunks ≤ length summary.old }
     requires each_sum { All B.is_block summary.old }
-    ensures has { HasMerged O.merge B.width B.number B.is_block (from * B.width) (chunks * B.width) blocks.old
-        others.now blocks.new }
+    ensures has { HasMerged O.merge B.width B.number B.is_block (from * B.width) (chunks * B.width)
+        (other_at (map B.number others.now)) blocks.old blocks.new }
     ensures digits { (q j : ℕ) → from ≤ q → q < chunks → j < B.width
         → is_one (get_or (map B.number summary.new) q 0) j
         ≡ is_used (map B.number blocks.new) (q * B.width + j) }
@@ -140,14 +140,14 @@ fn merge_tail<B: BitBlock, O: Operation>(
     chunks: usize,
     steps: &mut Steps,
 )
-    requires can { CanMerge B.is_block blocks.old others.now }
+    requires can { CanMerge B.is_block blocks.old (length others.now) (All B.is_block others.now) }
     requires in_others { chunks * B.width ≤ length others.now }
     requires last { length others.now < (chunks + 1) * B.width }
     requires each_sum { All B.is_block summary.old }
     requires rest { (k : ℕ) → chunks * B.width ≤ k
         → value_at B.width (map B.number summary.old) k ≡ is_used (map B.number blocks.old) k }
-    ensures has { HasMerged O.merge B.width B.number B.is_block (chunks * B.width) (length blocks.old) blocks.old
-        others.now blocks.new }
+    ensures has { HasMerged O.merge B.width B.number B.is_block (chunks * B.width) (length blocks.old)
+        (other_at (map B.number others.now)) blocks.old blocks.new }
     ensures before { (q : ℕ) → q < chunks
         → get_or (map B.number summary.new) q 0 ≡ get_or (map B.number summary.old) q 0 }
     ensures digits { (q j : ℕ) → chunks ≤ q → q < length summary.old → j < B.width
@@ -178,12 +178,12 @@ fn merge_long<B: BitBlock, O: Operation>(
     start: usize,
     steps: &mut Steps,
 )
-    requires can { CanMerge B.is_block blocks.old others.now }
+    requires can { CanMerge B.is_block blocks.old (length others.now) (All B.is_block others.now) }
     requires from { start ≤ length others.now }
     requires stay { Stay O.merge B.width B.number 0 start (other_at (map B.number others.now)) blocks.old }
     requires summary { IsSummary B.width B.number B.is_block blocks.old summary.old }
-    ensures has { HasMerged O.merge B.width B.number B.is_block 0 (length blocks.old) blocks.old others.now
-        blocks.new }
+    ensures has { HasMerged O.merge B.width B.number B.is_block 0 (length blocks.old)
+        (other_at (map B.number others.now)) blocks.old blocks.new }
     ensures summary { IsSummary B.width B.number B.is_block blocks.new summary.new }
     ensures steps { steps.new ≡ steps.old + length blocks.old }
 {
@@ -194,94 +194,92 @@ fn merge_long<B: BitBlock, O: Operation>(
     merge_tail::<B, O>(blocks, summary, others, chunks, steps);
 }
 
-// Each block becomes its merge, of a list of any length: of a short one no summary is stored. Those before `start` stay.
-#[inline]
-fn merge_any_length<B: BitBlock, O: Operation>(
+// A union of two long lists: its summary is the union of theirs. The blocks before `start` stay.
+fn unite_long<B: BitBlock, O: Operation>(
     blocks: &mut [B],
     summary: &mut [B],
     others: &[B],
+    other_summary: &[B],
     start: usize,
     steps: &mut Steps,
 )
-    requires can { CanMerge B.is_block blocks.old others.now }
+    requires union { O.merge ≡ Merge.Union }
+    requires can { CanMerge B.is_block blocks.old (length others.now) (All B.is_block others.now) }
+    requires from { start ≤ length others.now }
+    requires stay { Stay O.merge B.width B.number 0 start (other_at (map B.number others.now)) blocks.old }
+    requires summary { IsSummary B.width B.number B.is_block blocks.old summary.old }
+    requires other_summary { IsSummary B.width B.number B.is_block others.now other_summary.now }
+    ensures has { HasMerged O.merge B.width B.number B.is_block 0 (length blocks.old)
+        (other_at (map B.number others.now)) blocks.old blocks.new }
+    ensures summary { IsSummary B.width B.number B.is_block blocks.new summary.new }
+    ensures steps { steps.new ≡ steps.old + length blocks.old }
+{
+    steps.tick_by(start);
+    merge_each::<B, O, &[B]>(blocks, others, start, steps);
+    merge_each::<B, O, &[B]>(summary, other_summary, 0, &mut Steps::new());
+}
+
+// The merge of lists of any length, whose blocks before `start` stay: of a short one no summary is stored. Only a union needs
+// the others' summary; where only the others are short, it is made as for the other merges.
+#[inline(always)]
+pub(crate) fn merge_by<B: BitBlock, O: Operation>(
+    blocks: &mut [B],
+    summary: &mut [B],
+    others: &[B],
+    other_summary: &[B],
+    start: usize,
+    steps: &mut Steps,
+)
+    requires can { CanMerge B.is_block blocks.old (length others.now) (All B.is_block others.now) }
     requires from { start ≤ length others.now }
     requires stay { Stay O.merge B.width B.number 0 start (other_at (map B.number others.now)) blocks.old }
     requires summary { IsStoredSummary B.width B.number B.is_block blocks.old summary.old }
-    ensures has { HasMerged O.merge B.width B.number B.is_block 0 (length blocks.old) blocks.old others.now
-        blocks.new }
+    requires other_summary { IsStoredSummary B.width B.number B.is_block others.now other_summary.now }
+    ensures has { HasMerged O.merge B.width B.number B.is_block 0 (length blocks.old)
+        (other_at (map B.number others.now)) blocks.old blocks.new }
     ensures summary { IsStoredSummary B.width B.number B.is_block blocks.new summary.new }
     ensures summary_len { length summary.new ≡ length summary.old }
     ensures steps { steps.new ≡ steps.old + length blocks.old }
 {
     if is_short::<B>(blocks.len()) {
         steps.tick_by(start);
-        merge_each::<B, O>(blocks, others, start, steps);
+        merge_each::<B, O, &[B]>(blocks, others, start, steps);
+    } else if O::is_union() && !is_short::<B>(others.len()) {
+        unite_long::<B, O>(blocks, summary, others, other_summary, start, steps);
     } else {
         merge_long::<B, O>(blocks, summary, others, start, steps);
     }
 }
 
-// A union of two long lists: its summary is the union of theirs. The blocks before `start` stay.
-fn unite_long<B: BitBlock>(
-    blocks: &mut [B],
-    summary: &mut [B],
-    others: &[B],
-    other_summary: &[B],
-    start: usize,
-    steps: &mut Steps,
-)
-    requires can { CanMerge B.is_block blocks.old others.now }
-    requires from { start ≤ length others.now }
-    requires stay { Stay Merge.Union B.width B.number 0 start (other_at (map B.number others.now)) blocks.old }
-    requires summary { IsSummary B.width B.number B.is_block blocks.old summary.old }
-    requires other_summary { IsSummary B.width B.number B.is_block others.now other_summary.now }
-    ensures has { HasMerged Merge.Union B.width B.number B.is_block 0 (length blocks.old) blocks.old others.now
-        blocks.new }
-    ensures summary { IsSummary B.width B.number B.is_block blocks.new summary.new }
-    ensures steps { steps.new ≡ steps.old + length blocks.old }
-{
-    steps.tick_by(start);
-    merge_each::<B, Union>(blocks, others, start, steps);
-    merge_each::<B, Union>(summary, other_summary, 0, &mut Steps::new());
-}
-
-// The merge that is named, of lists of any length, whose blocks before `start` stay. Only a union needs the others' summary.
+// The merge that is named. Here it becomes a type.
 #[inline(always)]
-pub(crate) fn merge_chosen<B: BitBlock>(
+pub(crate) fn merge_named<B: BitBlock>(
     blocks: &mut [B],
     summary: &mut [B],
     others: &[B],
     other_summary: &[B],
     merge: Merge,
-    start: usize,
     steps: &mut Steps,
 )
-    requires can { CanMerge B.is_block blocks.old others.now }
-    requires from { start ≤ length others.now }
-    requires stay { Stay merge B.width B.number 0 start (other_at (map B.number others.now)) blocks.old }
+    requires can { CanMerge B.is_block blocks.old (length others.now) (All B.is_block others.now) }
     requires summary { IsStoredSummary B.width B.number B.is_block blocks.old summary.old }
     requires other_summary { IsStoredSummary B.width B.number B.is_block others.now other_summary.now }
-    ensures has { HasMerged merge B.width B.number B.is_block 0 (length blocks.old) blocks.old others.now
-        blocks.new }
+    ensures has { HasMerged merge B.width B.number B.is_block 0 (length blocks.old)
+        (other_at (map B.number others.now)) blocks.old blocks.new }
     ensures summary { IsStoredSummary B.width B.number B.is_block blocks.new summary.new }
     ensures summary_len { length summary.new ≡ length summary.old }
     ensures steps { steps.new ≡ steps.old + length blocks.old }
 {
     match merge {
-        // Where only the others are short, the summary is made as for the other merges.
-        Merge::Union => {
-            if is_short::<B>(others.len()) {
-                merge_any_length::<B, Union>(blocks, summary, others, start, steps);
-            } else {
-                unite_long(blocks, summary, others, other_summary, start, steps);
-            }
+        Merge::Union => merge_by::<B, Union>(blocks, summary, others, other_summary, 0, steps),
+        Merge::Intersection => {
+            merge_by::<B, Intersection>(blocks, summary, others, other_summary, 0, steps)
         }
-        Merge::Intersection => merge_any_length::<B, Intersection>(
-            blocks, summary, others, start, steps,
-        ),
-        Merge::Difference => merge_any_length::<B, Difference>(
-            blocks, summary, others, start, steps,
-        ),
-        Merge::Symmetric => merge_any_length::<B, Symmetric>(blocks, summary, others, start, steps),
+        Merge::Difference => {
+            merge_by::<B, Difference>(blocks, summary, others, other_summary, 0, steps)
+        }
+        Merge::Symmetric => {
+            merge_by::<B, Symmetric>(blocks, summary, others, other_summary, 0, steps)
+        }
     }
 }

@@ -1,5 +1,5 @@
 use Rattle.std.proofs.Common.{◌≡◌, ◌+◌, ◌*◌, ◌/◌, ◌%◌, ◌^◌, ◌<◌, length, refl, arith}
-use Rattle.bit_blocks.proofs.NotedMergeLemmas.{merged_kept_stay}
+use Rattle.bit_blocks.proofs.BlockMergeLemmas.{kept_stay}
 use Rattle.bit_matrix.specs.Merges.{IsNotedMerge}
 use Rattle.bit_matrix.proofs.{PartLemmas.{noted_more, of_not, stay_kept, told_same}, merges.merge_blocks.Goals.{After-merge_each-mismatch}}
 use Rattle.bit_matrix.proofs.merges.merge_blocks.Goals as goal
@@ -25,5 +25,5 @@ returns-clause-kept g c =
     let law : (x : g.row.B.Denot) → g.B.BitBlock.is_block x → g.B.BitBlock.number x < 2 ^ g.B.BitBlock.width = λ x is. (g.met.B.BitBlock.number_law x is).0 in
     let tells = told_same c.same.result _ _ _ c.same.ensures c.zero-2.ensures.of_number is.none in (
       λ no. stay_kept _ _ _ _ 0 _ _ _ _ law c.requires.can.each is.has (tells.0 (of_not no)).1,
-      λ kept. let yes = tells.1 (c.zero.ensures.of_number, merged_kept_stay _ _ _ _ _ _ _ _ _ is.has kept) in rw yes refl,
+      λ kept. let yes = tells.1 (c.zero.ensures.of_number, kept_stay _ _ _ _ _ _ _ _ _ is.has kept) in rw yes refl,
     )

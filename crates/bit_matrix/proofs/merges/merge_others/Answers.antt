@@ -17,7 +17,7 @@ returns-clause-merged g c =
     let m = g.O.Operation.merge in
     let w = g.B.BitBlock.width in
     let n = length c.args.others.now in
-    let part = whole_part m w n _ _ _ c.merge_blocks.ensures.has.merged in
+    let part = whole_part m w _ _ n _ c.args.others.now _ c.merge_blocks.ensures.has in
     part_merged m w c.args.write 0 c.args.write 0 n _ _ _ _ _ _ (omega arith) (put g at) part (omega (arith, long g at)) (λ k below. refl)
 
 pub returns-clause-unchanged : goal.returns-clause-unchanged

@@ -1,8 +1,10 @@
 use Rattle.std.proofs.Common.{length, refl, arith}
-use Rattle.bit_blocks.proofs.MergeLemmas.{merged_more, merged_with_none}
+use Rattle.bit_blocks.proofs.BlockMergeLemmas.{merged_more, merged_past_others}
 use Rattle.bit_blocks.proofs.packed.block_merges.merge_each.Goals as goal
 
 pub returns-clause-has : goal.returns-clause-has
 returns-clause-has g c =
-    let rest = merged_with_none _ _ _ _ (length c.args.others.now) _ _ c.args.others.now _ (omega arith) c.merge_rest.ensures.has in
-    merged_more _ _ _ _ c.args.start (length c.args.others.now) (length c.args.blocks.now) _ _ _ _ _ _ c.requires.from c.requires.can.fewer refl c.merge_first.ensures.has.len c.merge_first.ensures.has rest
+    let count = c.len-count.result in
+    let long = length c.args.blocks.now in
+    let rest = merged_past_others _ _ _ _ count _ (g.S.Others.digit c.args.others) _ _ (λ k j from. c.len-count.ensures.past k j from) c.merge_rest.ensures.has in
+    merged_more _ _ _ _ c.args.start count long _ _ _ _ _ _ (omega arith) (omega arith) refl (omega arith) c.merge_between.ensures.has rest

@@ -1,5 +1,5 @@
 use Rattle.std.proofs.Common.{◌≡◌, ◌+◌, ◌*◌, ◌≤◌, mul-le-mul_right, arith}
-use Rattle.bit_blocks.proofs.{MismatchLemmas.{on_none, on_some}, NotedMergeLemmas.{stay_more, stay_none, stay_part}}
+use Rattle.bit_blocks.proofs.{MismatchLemmas.{on_none, on_some}, BlockMergeLemmas.{stay_more, stay_none, stay_part}}
 use Rattle.bit_blocks.proofs.packed.changes.changed_group.Goals as goal
 
 pub loop-group-init : goal.loop-group-init

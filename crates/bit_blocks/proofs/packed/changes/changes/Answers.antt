@@ -1,5 +1,5 @@
-use Rattle.std.proofs.Common.{◌≡◌, ◌+◌, map, arith}
-use Rattle.bit_blocks.{specs.NotedMerges.other_at, proofs.NotedMergeLemmas.{stay_none, stay_so_far}}
+use Rattle.std.proofs.Common.{◌≡◌, ◌+◌, ◌∙◌, ap, arith}
+use Rattle.bit_blocks.proofs.BlockMergeLemmas.{stay_none, stay_so_far}
 use Rattle.bit_blocks.proofs.packed.changes.changes.Goals as goal
 
 pub loop-k-init : goal.loop-k-init
@@ -11,12 +11,11 @@ loop-k-init g c = record {
 pub loop-k-preserved : goal.loop-k-preserved
 loop-k-preserved g c =
     let k = c.loop-k.k in
-    let os = map g.B.BitBlock.number c.args.others.now in
     record {
       of_block = c.or_change-change.ensures.of_block;
-      stay = stay_so_far _ _ _ c.args.start k _ _ _ (other_at os) _ c.loop-k.auto.k (λ q j from below index.
+      stay = stay_so_far _ _ _ c.args.start k _ _ _ (g.S.Others.digit c.args.others) _ c.loop-k.auto.k (λ q j from below index.
           let here : k ≡ q = omega arith in
-          (let other = c.block_at.ensures.of_number in cc)) c.loop-k.invariant.stay c.or_change-change.ensures.none;
+          c.block.ensures.digits j index ∙ ap (λ p. g.S.Others.digit c.args.others p j) here) c.loop-k.invariant.stay c.or_change-change.ensures.none;
     }
 
 pub returns-clause-none : goal.returns-clause-none

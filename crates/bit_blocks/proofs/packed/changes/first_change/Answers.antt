@@ -1,15 +1,15 @@
-use Rattle.std.proofs.{Common.{false, map, length, sym, ◌∙◌, arith}, lemmas.{Bool.false≢true, List.length-map}}
-use Rattle.bit_blocks.{specs.NotedMerges.other_at, proofs.NotedMergeLemmas.{none_then, none_where_some, other_past, some_not, stay_more, stay_part, stay_same, where_none}}
+use Rattle.std.proofs.{Common.{false, length, sym, ◌∙◌, arith}, lemmas.Bool.false≢true}
+use Rattle.bit_blocks.proofs.BlockMergeLemmas.{none_then, none_where_some, some_not, stay_more, stay_part, stay_same, where_none}
 use Rattle.bit_blocks.proofs.packed.changes.first_change.Goals as goal
 use Rattle.bit_blocks.proofs.packed.changes.first_change.Goals.{then-is_some-via-then-is_some, then-is_some-via-else-is_some+then-stay_past}
 
 pub returns-then-is_some : goal.returns-then-is_some
 returns-then-is_some g c =
     let found = c.first_changed-found in
-    let end = length c.args.others.now in
-    let others = other_at (map g.B.BitBlock.number c.args.others.now) in
+    let end = c.len-count.result in
+    let others = g.S.Others.digit c.args.others in
     record {
-      within = found.ensures.within;
+      within = rw c.len-count.ensures.value at found.ensures.within;
       stay = found.ensures.stay;
       changes = some_not _ _ _ found.ensures.changes (λ all. stay_part _ _ _ 0 0 end (length c.args.blocks.now) _ _ (omega arith) (omega (arith, c.requires.can.fewer)) all);
       none = elim c.then-is_some.branch [
@@ -17,20 +17,20 @@ returns-then-is_some g c =
         | then-is_some-via-else-is_some+then-stay_past w ↦
             none_then _ _ _ found.ensures.none (λ stay.
             stay_more _ _ _ 0 end _ _ _ stay
-            (stay_same _ _ _ end _ (λ k j. false) others _ (λ k j from _ _. other_past _ k j (omega (arith, length-map c.args.others.now g.B.BitBlock.number))) (w.stay_past.ensures.0 w.if-stay_past.true)))
+            (stay_same _ _ _ end _ (λ k j. false) others _ (λ k j from _ _. sym (c.len-count.ensures.past k j from)) (w.stay_past.ensures.0 w.if-stay_past.true)))
       ];
     }
 
 pub returns : goal.returns
 returns g c =
-    let end = length c.args.others.now in
-    let others = other_at (map g.B.BitBlock.number c.args.others.now) in
+    let end = c.len-count.result in
+    let others = g.S.Others.digit c.args.others in
     record {
       within = omega arith;
       stay = where_none _ _ (sym c.is_some.ensures ∙ c.if-is_some.false) c.first_changed-found.ensures.none;
       changes = λ all.
           absurd (false≢true (sym c.if-stay_past.false ∙ c.stay_past.ensures.1
-          (stay_same _ _ _ end _ others (λ k j. false) _ (λ k j from _ _. sym (other_past _ k j (omega (arith, length-map c.args.others.now g.B.BitBlock.number))))
+          (stay_same _ _ _ end _ others (λ k j. false) _ (λ k j from _ _. c.len-count.ensures.past k j from)
           (stay_part _ _ _ 0 end (length c.args.blocks.now) (length c.args.blocks.now) _ _ (omega arith) (omega arith) all))));
       none = tt;
     }

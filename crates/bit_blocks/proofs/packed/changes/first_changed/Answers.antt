@@ -1,5 +1,5 @@
 use Rattle.std.proofs.Common.{◌≡◌, ◌-◌, arith}
-use Rattle.bit_blocks.proofs.NotedMergeLemmas.{stay_more, stay_none, stay_part}
+use Rattle.bit_blocks.proofs.BlockMergeLemmas.{stay_more, stay_none, stay_part}
 use Rattle.bit_blocks.proofs.packed.changes.first_changed.Goals as goal
 use Rattle.bit_blocks.proofs.packed.changes.first_changed.Goals.{else-begin-end-via-then-begin-end+else-changed_group-eq0-3, else-begin-end-via-else-begin-end}
 

@@ -1,4 +1,4 @@
-use Rattle.bit_blocks.proofs.NotedMergeLemmas.{stay_one}
+use Rattle.bit_blocks.proofs.BlockMergeLemmas.{stay_one}
 use Rattle.bit_blocks.proofs.packed.changes.or_change.Goals as goal
 
 pub returns-clause-none : goal.returns-clause-none

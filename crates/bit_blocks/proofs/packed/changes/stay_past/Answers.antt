@@ -1,5 +1,5 @@
 use Rattle.std.proofs.Common.{◌∙◌, ap, false, arith}
-use Rattle.bit_blocks.{specs.Digits.is_one, proofs.{Masks.is_one-zero, NotedMergeLemmas.{stay_none, stay_so_far}}}
+use Rattle.bit_blocks.{specs.Digits.is_one, proofs.{Masks.is_one-zero, BlockMergeLemmas.{stay_none, stay_so_far}}}
 use Rattle.bit_blocks.proofs.packed.changes.stay_past.Goals as goal
 
 pub loop-k-init : goal.loop-k-init

@@ -1,5 +1,5 @@
 use Rattle.std.proofs.Common.{◌≡◌, ◌↔◌, false}
-use Rattle.bit_blocks.specs.NotedMerges.{Stay}
+use Rattle.bit_blocks.specs.BlockMerges.{Stay}
 use Rattle.bit_blocks.proofs.packed.changes.stay_past.Given as goal
 
 abbrev pub invariant-loop-k : goal.invariant-loop-k

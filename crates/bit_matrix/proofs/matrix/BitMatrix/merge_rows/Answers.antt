@@ -1,6 +1,6 @@
 use Rattle.std.proofs.{Common.{◌≡◌, ◌*◌, ◌↔◌, false, drop, length, map, arith}, lemmas.{List.{take_at}}}
 use Rattle.bit_matrix.specs.{Matrices.{row_of}, Merges.{IsMergedPart}, Tables.{matrix_in}}
-use Rattle.bit_matrix.proofs.{MergeLemmas.{tells_change}, PartLemmas.{rows_apart}, SeenLemmas.{merged_table, row_within, seen_merged, told_by_blocks, with_same_row}, matrix.BitMatrix.merge_rows.Goals.{After-merge_within}}
+use Rattle.bit_matrix.proofs.{MergeLemmas.tells_change, PartLemmas.{rows_apart}, SeenLemmas.{merged_table, row_within, seen_merged, told_by_blocks, with_same_row}, matrix.BitMatrix.merge_rows.Goals.{After-merge_within}}
 use Rattle.bit_matrix.proofs.matrix.BitMatrix.merge_rows.Goals as goal
 
 pub overflow_mul-read : goal.overflow_mul-read

@@ -3,7 +3,7 @@ use Rattle.bit_blocks.specs.declared.block.merge.Merge.TheVariants.{Union}
 use Rattle.bit_set.specs.Sets.{elements}
 use Rattle.bit_set.proofs.AlgebraLemmas.{has-union}
 use Rattle.bit_matrix.specs.{Matrices.{row_of}, Merges.{IsMergedPart}, Tables.{matrix_in}}
-use Rattle.bit_matrix.proofs.{MergeLemmas.{tells_change}, SeenLemmas.{row_within, told_by_blocks, with_same_row}, SetLemmas.{becomes_united, set_table, stays_at_all}, TableLemmas.{changes_row}, matrix.BitMatrix.union_row_with.Goals.{After-merge_others}}
+use Rattle.bit_matrix.proofs.{MergeLemmas.tells_change, SeenLemmas.{row_within, told_by_blocks, with_same_row}, SetLemmas.{becomes_united, set_table, stays_at_all}, TableLemmas.{changes_row}, matrix.BitMatrix.union_row_with.Goals.{After-merge_others}}
 use Rattle.bit_matrix.proofs.matrix.BitMatrix.union_row_with.Goals as goal
 
 pub overflow_mul-row : goal.overflow_mul-row

@@ -1,5 +1,5 @@
 use Rattle.std.proofs.{Common.{◌≡◌, ◌≤◌, ◌∙◌, sym, ap, ap₂, ◌++◌, map, drop, length, take, arith}, lemmas.List.take_at}
-use Rattle.bit_blocks.{specs.{declared.block.merge.Merge.TheVariants.{Difference, Union}, Merges.merge_of, NotedMerges.{except_at, HasMergedWith}, Storage.IsPacked}, proofs.{BitsLemmas.blocks_for-le, NotedMergeLemmas.{kept_lists, lists_merged_except, packed_merged, values_merged_except}, VectorLemmas.length_from_view}}
+use Rattle.bit_blocks.{specs.{declared.block.merge.Merge.TheVariants.{Difference, Union}, Merges.merge_of, BlockMerges.{except_at, HasMerged}, Storage.IsPacked}, proofs.{BitsLemmas.blocks_for-le, BlockMergeLemmas.{kept_lists, lists_merged_except, packed_merged, values_merged_except}, VectorLemmas.length_from_view}}
 use Rattle.bit_blocks.proofs.VectorLemmas.{no_longer_from_views, numbers_below}
 use Rattle.bit_words.proofs.bit_vec.BitVec.unite_difference.{Given.Over, Goals.After-unite_and_note}
 use Rattle.bit_words.proofs.StartLemmas.{false_before_none}
@@ -13,7 +13,7 @@ fewer g c =
     omega (arith, le, c.self.invariant.packed.count, c.other.invariant.packed.count)
 
 -- what the blocks became
-merged : (g : Over) (c : After-unite_and_note g) → HasMergedWith Union g.B.BitBlock.width g.B.BitBlock.number g.B.BitBlock.is_block 0 (length c.self.inside.blocks.items) (except_at (map g.B.BitBlock.number c.other.inside.blocks.items) (map g.B.BitBlock.number c.except.inside.blocks.items)) c.self.inside.blocks.items c.unite_and_note.new.blocks
+merged : (g : Over) (c : After-unite_and_note g) → HasMerged Union g.B.BitBlock.width g.B.BitBlock.number g.B.BitBlock.is_block 0 (length c.self.inside.blocks.items) (except_at (map g.B.BitBlock.number c.other.inside.blocks.items) (map g.B.BitBlock.number c.except.inside.blocks.items)) c.self.inside.blocks.items c.unite_and_note.new.blocks
 merged g c = rw (c.as_mut_slice.ensures.value, c.deref.ensures.value, c.deref-2.ensures.value) at c.unite_and_note.ensures.has
 
 packed : (g : Over) (c : After-unite_and_note g) → IsPacked g.B.BitBlock.width g.B.BitBlock.number g.B.BitBlock.is_block c.unite_and_note.new.blocks c.self.inside.len
@@ -77,9 +77,6 @@ returns-clause-kept g c =
     let lists = kept_lists w (map f old.items) (map f ys) c.self.inside.len (numbers_below w f _ old.items (λ x is. (g.met.B.BitBlock.number_law x is).0) c.self.invariant.packed.each) (numbers_below w f _ ys (λ x is. (g.met.B.BitBlock.number_law x is).0) new.each) c.self.invariant.packed.tail new.tail in
     let view = ap (λ v. v.values) c.self.view_is in
     rw back (λ no. lists.0 (kept.0 no) ∙ view, λ same. kept.1 (lists.1 (same ∙ sym view)))
-
-pub returns-clause-steps : goal.returns-clause-steps
-returns-clause-steps g c = rw (length_from_view _ _ _ _ _ c.self.view_is) (omega (arith, c.self.invariant.packed.count))
 
 pub returns-clause-capacity : goal.returns-clause-capacity
 returns-clause-capacity g c = ap (λ v. v.capacity) c.self.view_is

@@ -1,5 +1,5 @@
 use Rattle.std.proofs.{Common.{◌≡◌, ◌≢◌, ℕ, ◌+◌, ◌*◌, ◌<◌, ◌≤◌, ◌∙◌, ◌==◌, not, refl, sym, ap, get_or, map, length, arith, get_or-set_other, mul-le-mul_right}, lemmas.List.length-map}
-use Rattle.bit_blocks.{specs.{Digits.is_one, Storage.is_used}, proofs.MergeLemmas.{merged_none, merged_more}}
+use Rattle.bit_blocks.{specs.{Digits.is_one, Storage.is_used}, proofs.BlockMergeLemmas.{merged_more, merged_none}}
 use Rattle.bit_words.proofs.SummaryLemmas.{summary_put}
 use Rattle.bit_words.proofs.summary.merges.merge_chunks.Goals as goal
 
@@ -13,7 +13,7 @@ loop-q-preserved g c =
     let done : (p j : ℕ) → c.args.from ≤ p → p < q → j < w → is_one (get_or ss p 0) j ≡ is_used ns (p * w + j) = λ p j from below index.
     let first : p + 1 ≤ q = omega arith in
     let le = mul-le-mul_right w first in
-    c.loop-q.invariant.done p j from below index ∙ ap (λ m. not (m == 0)) (sym (c.merge_chunk-digits.ensures.has.merged.before (p * w + j) (omega (arith, le)))) in
+    c.loop-q.invariant.done p j from below index ∙ ap (λ m. not (m == 0)) (sym (c.merge_chunk-digits.ensures.has.before (p * w + j) (omega (arith, le)))) in
     record {
       has = merged_more _ _ _ _ (c.args.from * w) (q * w) ((q + 1) * w) _ _ _ _ _ _ (mul-le-mul_right w c.loop-q.auto.q) (omega arith) refl refl c.loop-q.invariant.has c.merge_chunk-digits.ensures.has;
       done = λ p j from below index. summary_put w ns ss _ c.args.from q _ within c.put_in.ensures.numbers c.merge_chunk-digits.ensures.digits (λ r i late early inside. done r i late early inside) p j from below index;

@@ -1,5 +1,5 @@
 use Rattle.std.proofs.Common.{◌≡◌, ◌+◌, ◌*◌, refl, arith}
-use Rattle.bit_blocks.proofs.MergeLemmas.{merged_more}
+use Rattle.bit_blocks.proofs.BlockMergeLemmas.{merged_more}
 use Rattle.bit_words.proofs.UsedLemmas.{says_group, says_kept}
 use Rattle.bit_words.proofs.summary.merges.merge_groups.Goals as goal
 
@@ -10,7 +10,7 @@ loop-group-preserved g c =
     let some = c.merge_group-more.ensures.has in
     record {
       has = merged_more _ _ _ _ start (start + index) (start + (c.loop-group.group + 1) * 32) (start + index) (start + index + 32) _ _ _ _ (omega arith) (omega arith) refl (omega arith) c.loop-group.invariant.has some;
-      says = says_group _ _ _ start (start + index) index 32 _ _ _ _ _ _ refl (omega arith) (says_kept _ _ _ start index _ _ _ some.merged.before c.loop-group.invariant.says) c.merge_group-more.ensures.says c.shift_left.ensures.of_digits c.block_or-digits.ensures.of_digits c.block_or-digits.ensures.of_block;
+      says = says_group _ _ _ start (start + index) index 32 _ _ _ _ _ _ refl (omega arith) (says_kept _ _ _ start index _ _ _ some.before c.loop-group.invariant.says) c.merge_group-more.ensures.says c.shift_left.ensures.of_digits c.block_or-digits.ensures.of_digits c.block_or-digits.ensures.of_block;
       steps = omega arith;
     }
 

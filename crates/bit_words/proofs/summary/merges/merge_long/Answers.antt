@@ -1,5 +1,5 @@
 use Rattle.std.proofs.{Common.{◌≡◌, ℕ, ◌+◌, ◌*◌, ◌/◌, ◌%◌, ◌<◌, ◌≤◌, ◌∙◌, ◌==◌, not, refl, sym, ap, map, length, arith, ⊎_elim, mod-lt, div-add-mod', div-mul-le_self, mul-le-mul_right}, lemmas.Bool.cases_lt}
-use Rattle.bit_blocks.{specs.Digits.is_one, proofs.{BitsLemmas.block_past, ChangeLemmas.div_le, MergeLemmas.merged_more, NotedMergeLemmas.{merged_past_stay, stay_part}, StorageLemmas.{value_at-index, value_at-is}}}
+use Rattle.bit_blocks.{specs.Digits.is_one, proofs.{BitsLemmas.block_past, ChangeLemmas.div_le, BlockMergeLemmas.{merged_more, merged_past_stay, stay_part}, StorageLemmas.{value_at-index, value_at-is}}}
 use Rattle.bit_words.proofs.SummaryLemmas.{summary_of_blocks}
 use Rattle.bit_words.proofs.summary.merges.merge_long.Goals as goal
 
@@ -17,7 +17,7 @@ merge_tail-requires-clause-rest g c = λ k from.
     ∙ ap (λ n. is_one n (k % w)) (c.merge_chunks.ensures.past (k / w) (block_past w c.block_index-chunks.result k g.met.B.BitBlock.width_law.positive from))
     ∙ sym (value_at-is w (map g.B.BitBlock.number c.args.summary.now) k)
     ∙ c.requires.summary.digit k
-    ∙ ap (λ m. not (m == 0)) (sym (c.merge_chunks.ensures.has.merged.after k from))
+    ∙ ap (λ m. not (m == 0)) (sym (c.merge_chunks.ensures.has.after k from))
 
 pub merge_chunks-requires-clause-forward : goal.merge_chunks-requires-clause-forward
 merge_chunks-requires-clause-forward g c =
@@ -60,10 +60,10 @@ returns-clause-summary g c =
     ap (λ n. is_one n j) (c.merge_chunks.ensures.before q first)
     ∙ sym (value_at-index w (map g.B.BitBlock.number c.args.summary.now) q j index)
     ∙ c.requires.summary.digit (q * w + j)
-    ∙ ap (λ m. not (m == 0)) (sym (c.merge_chunks.ensures.has.merged.before (q * w + j) inside)))
+    ∙ ap (λ m. not (m == 0)) (sym (c.merge_chunks.ensures.has.before (q * w + j) inside)))
     (λ later. c.merge_chunks.ensures.digits q j later early index)
     (cases_lt q c.block_index-from.result)
-    ∙ ap (λ m. not (m == 0)) (sym (c.merge_tail.ensures.has.merged.before (q * w + j) tail)))
+    ∙ ap (λ m. not (m == 0)) (sym (c.merge_tail.ensures.has.before (q * w + j) tail)))
     (λ late. c.merge_tail.ensures.digits q j late (omega (arith, below)) index)
     (cases_lt q c.block_index-chunks.result))
 

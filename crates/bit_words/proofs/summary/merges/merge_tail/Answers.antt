@@ -1,6 +1,6 @@
 use Rattle.std.proofs.Common.{◌≡◌, ℕ, ◌+◌, ◌-◌, ◌*◌, ◌<◌, ◌≤◌, ◌≢◌, ◌∙◌, false, List, [], refl, sym, ap, ap₂, map, get_or, get_or-set_other, length, arith}
-use Rattle.bit_blocks.{specs.{BlockMerges.HasMerged, Digits.is_one, Merges.merge_of_values, Storage.{is_used, value_at}, declared.block.merge.Merge.Merge}, proofs.{Masks.is_one-zero, MergeLemmas.merged_more}}
-use Rattle.bit_blocks.proofs.MergeLemmas.{merged_with_none}
+use Rattle.bit_blocks.{specs.{BlockMerges.{other_at, HasMerged}, Digits.is_one, Merges.merge_of_values, Storage.{is_used, value_at}, declared.block.merge.Merge.Merge}, proofs.{Masks.is_one-zero, BlockMergeLemmas.{merged_more}}}
+use Rattle.bit_blocks.proofs.BlockMergeLemmas.{merged_with_none}
 use Rattle.bit_words.proofs.{SummaryMergeLemmas.{tail_digits, use_past_others}, UsedLemmas.says_kept}
 use Rattle.bit_words.proofs.summary.merges.merge_tail.Goals as goal
 
@@ -9,11 +9,11 @@ begin : (w chunks bits : ℕ) → bits ≡ w → chunks * bits ≡ chunks * w
 begin w chunks bits e = ap (λ x. chunks * x) e
 
 -- the part that the others reach, and the rest
-tail_merged : {X : Type 0} (m : Merge) (w : ℕ) (f : X → ℕ) (P : X → Type 0) (chunks bits short long : ℕ) (xs os ys zs : List X) → bits ≡ w → length os ≡ short → chunks * w ≤ short → length os ≤ length xs → long ≡ length xs → HasMerged m w f P (chunks * bits) (chunks * bits + (short - chunks * bits)) xs os ys → HasMerged m w f P short (length ys) ys [] zs → HasMerged m w f P (chunks * w) long xs os zs
+tail_merged : {X : Type 0} (m : Merge) (w : ℕ) (f : X → ℕ) (P : X → Type 0) (chunks bits short long : ℕ) (xs os ys zs : List X) → bits ≡ w → length os ≡ short → chunks * w ≤ short → length os ≤ length xs → long ≡ length xs → HasMerged m w f P (chunks * bits) (chunks * bits + (short - chunks * bits)) (other_at (map f os)) xs ys → HasMerged m w f P short (length ys) (λ k j. false) ys zs → HasMerged m w f P (chunks * w) long (other_at (map f os)) xs zs
 tail_merged m w f P chunks bits short long xs os ys zs e len from fewer all part rest =
     let from_there = begin w chunks bits e in
     let reach : chunks * bits + (short - chunks * bits) ≡ short = omega (arith, from_there, from) in
-    merged_more m w f P (chunks * w) short long short (length ys) xs os ys zs from (omega arith) refl (omega (arith, part.len)) (rw (sym from_there, sym reach) part) (merged_with_none m w f P short (length ys) ys os zs (omega (arith, len)) rest)
+    merged_more m w f P (chunks * w) short long short (length ys) (other_at (map f os)) xs ys zs from (omega arith) refl (omega (arith, part.len)) (rw (sym from_there, sym reach) part) (merged_with_none m w f P short (length ys) ys os zs (omega (arith, len)) rest)
 
 pub returns-then-chunks-summary-clause-has : goal.returns-then-chunks-summary-clause-has
 returns-then-chunks-summary-clause-has g c =
@@ -36,7 +36,7 @@ returns-then-chunks-summary-clause-digits g c =
     let rest : (k : ℕ) → chunks * w + count ≤ k → is_used (map f c.merge_rest.new.blocks) k ≡ merge_of_values m (value_at w (map f ss) k) false = λ k from.
     use_past_others m w f _ (chunks * w) k _ c.args.others.now _ (λ x is. (g.met.B.BitBlock.number_law x is).0) c.requires.can.each (omega (arith, from, c.requires.in_others)) (omega (arith, from)) merged
     ∙ ap (λ used. merge_of_values m used false) (sym (c.requires.rest k (omega (arith, from)))) in
-    let made = says_kept w f _ (chunks * c.bits.result) _ _ _ _ (λ q below. c.merge_rest.ensures.has.merged.before q (omega (arith, below, start, c.requires.in_others))) c.merge_group-digits.ensures.says in
+    let made = says_kept w f _ (chunks * c.bits.result) _ _ _ _ (λ q below. c.merge_rest.ensures.has.before q (omega (arith, below, start, c.requires.in_others))) c.merge_group-digits.ensures.says in
     let alone : (j : ℕ) → j < w → is_one (f c.of_blocks-alone.result) j ≡ merge_of_values m (is_one (get_or (map f ss) chunks 0) j) false = λ j index.
     c.of_blocks-alone.ensures.digits j index
     ∙ ap₂ (merge_of_values m) (ap (λ n. is_one n j) c.block_at.ensures.of_number) (ap (λ n. is_one n j) c.zero.ensures.of_number ∙ is_one-zero j) in
@@ -81,7 +81,7 @@ merge_rest-requires-then-chunks-summary-clause-each g c = c.put_in.ensures.each
 pub returns-then-chunks-summary-clause-before : goal.returns-then-chunks-summary-clause-before
 returns-then-chunks-summary-clause-before g c = λ q first.
     let other : q ≢ c.args.chunks = omega arith in
-    c.merge_rest-then-chunks-summary.ensures.has.merged.before q (omega arith)
+    c.merge_rest-then-chunks-summary.ensures.has.before q (omega arith)
     ∙ ap (λ ns. get_or ns q 0) c.put_in.ensures.numbers
     ∙ get_or-set_other (map g.B.BitBlock.number c.args.summary.now) c.args.chunks q _ 0 other
 

@@ -1,6 +1,6 @@
-use Rattle.std.proofs.Common.{◌≡◌, ◌+◌, length, refl, arith}
-use Rattle.bit_blocks.proofs.MergeLemmas.{merged_none, merged_more}
-use Rattle.bit_blocks.proofs.packed.block_merges.merge_first.Goals as goal
+use Rattle.std.proofs.Common.{◌≡◌, ◌+◌, refl, arith}
+use Rattle.bit_blocks.proofs.BlockMergeLemmas.{merged_more, merged_none}
+use Rattle.bit_blocks.proofs.packed.block_merges.merge_between.Goals as goal
 
 pub loop-k-init : goal.loop-k-init
 loop-k-init g c = record { has = merged_none _ _ _ _ _ _ _ _ c.requires.can.each (omega arith); steps = omega arith }
@@ -13,5 +13,5 @@ loop-k-preserved g c = record {
 
 pub returns-clause-has : goal.returns-clause-has
 returns-clause-has g c =
-    let end : c.loop-k.k ≡ length c.args.others.now = omega arith in
+    let end : c.loop-k.k ≡ c.args.end = omega arith in
     rw end at c.loop-k.invariant.has

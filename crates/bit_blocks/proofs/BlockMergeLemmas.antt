@@ -1,32 +1,29 @@
 -- What a merge that says whether a block changed does, some blocks at a time, which blocks stay, and what that says of the
 -- list.
-use Rattle.std.proofs.{Math.Bool.or-false, Common.{◌≡◌, ℕ, ◌+◌, ◌*◌, ◌/◌, ◌%◌, ◌^◌, ◌<◌, ◌≤◌, ◌↔◌, Bool, false, true, not, ◌==◌, ◌&&◌, ◌||◌, List, map, length, get_or, set, take, All, refl, sym, ap, ap₂, ◌∙◌, arith, ⊎_elim, mod-lt, length-take, get_or-take, get_or-set_same, get_or-set_other}, lemmas.{Bool.{cases_eq, cases_lt, false≢true}, List.{get_or_past, length-map}, Nat.Bits.same_from_bits_below}}
+use Rattle.std.proofs.{Math.Bool.or-false, Common.{◌≡◌, ℕ, ◌+◌, ◌*◌, ◌/◌, ◌%◌, ◌^◌, ◌<◌, ◌≤◌, ◌↔◌, Bool, false, true, not, ◌==◌, ◌&&◌, ◌||◌, List, map, length, get_or, set, take, All, refl, sym, ap, ap₂, ◌∙◌, arith, ⊎_elim, mod-lt, length-take, get_or-take, get_or-set_same, get_or-set_other}, lemmas.{Bool.{cases_eq, cases_lt, false≢true, Decides.nat_tests}, List.{get_or_past, length-map}, Nat.Bits.same_from_bits_below}}
 use Rattle.std.specs.Prelude.{IfNone, IfSome, Option, None, Some, is_some}
-use Rattle.bit_blocks.specs.{declared.block.merge.Merge.{Merge, TheVariants.{Difference, Symmetric, Union}}, Merges.{merge_of_values, merge_of}, Digits.is_one, NotedMerges.{except_at, other_at, AreKept, HasMergedWith, Stay}, BlockMerges.HasMerged, Storage.{value_at, values_of, IsPacked, IsZeroFrom, is_used}}
+use Rattle.bit_blocks.specs.{declared.block.merge.Merge.{Merge, TheVariants.{Difference, Symmetric, Union}}, Merges.{merge_of_values, merge_of}, Digits.is_one, BlockMerges.{apart_at, except_at, other_at, AreKept, HasMerged, Stay}, Storage.{value_at, values_of, IsPacked, IsZeroFrom, is_used}}
 use Rattle.bit_blocks.proofs.{CompareLemmas.zero_from_digits, Masks.is_one-zero, MergeLemmas.{get_or-merged, length-merged, merge_of_values-none}, StorageLemmas.{get_or-values_of, get_or-values_of_zero_tail, same_digit, length-values_of, value_at-is, value_at-past, values_of-same}, UseLemmas.same_block, VectorLemmas.numbers_below}
 
 -- ---- the other digits
 
--- of a block that was made of those of both lists
-pub except_here : (os es : List ℕ) (k q j a b : ℕ) (d : Bool) → k ≡ q → a ≡ get_or os k 0 → b ≡ get_or es k 0 → d ≡ (is_one a j && not (is_one b j)) → d ≡ except_at os es q j
-except_here os es k q j a b d here first second is = is ∙ ap₂ (λ m n. is_one m j && not (is_one n j)) (first ∙ ap (λ p. get_or os p 0) here) (second ∙ ap (λ p. get_or es p 0) here)
+-- of a block that both lists have
+pub apart_here : (os es : List ℕ) (k j : ℕ) → k < length es → apart_at os es k j ≡ except_at os es k j
+apart_here os es k j within = grind (arith, nat_tests)
 
 -- past the end of the third list
 pub except_none : (os es : List ℕ) (k j : ℕ) → length es ≤ k → is_one (get_or os k 0) j ≡ except_at os es k j
 except_none os es k j past = grind (arith, get_or_past es k 0 past, is_one-zero)
 
 -- past the end of the second
-pub other_past : (os : List ℕ) (k j : ℕ) → length os ≤ k → false ≡ other_at os k j
-other_past os k j past = grind (arith, get_or_past os k 0 past, is_one-zero)
-
 pub except_past : (os es : List ℕ) (k j : ℕ) → length os ≤ k → false ≡ except_at os es k j
 except_past os es k j past = grind (arith, get_or_past os k 0 past, is_one-zero)
 
 -- ---- blocks that are merged some at a time
 
 module _ {X : Type 0} (m : Merge) (w : ℕ) (f : X → ℕ) (P : X → Type 0) where
-  pub with_none : (start end : ℕ) (other : ℕ → ℕ → Bool) (xs : List X) → All P xs → end ≤ start → HasMergedWith m w f P start end other xs xs
-  with_none start end other xs each le = record {
+  pub merged_none : (start end : ℕ) (other : ℕ → ℕ → Bool) (xs : List X) → All P xs → end ≤ start → HasMerged m w f P start end other xs xs
+  merged_none start end other xs each le = record {
     digit = λ k j from below index. absurd (omega arith);
     before = λ k h. refl;
     after = λ k h. refl;
@@ -34,10 +31,9 @@ module _ {X : Type 0} (m : Merge) (w : ℕ) (f : X → ℕ) (P : X → Type 0) w
     len = refl;
   }
 
-  -- some more of them
   -- where all of them stay
-  pub with_stay : (start end : ℕ) (other : ℕ → ℕ → Bool) (xs : List X) → All P xs → Stay m w f start end other xs → HasMergedWith m w f P start end other xs xs
-  with_stay start end other xs each stay = record {
+  pub merged_stay : (start end : ℕ) (other : ℕ → ℕ → Bool) (xs : List X) → All P xs → Stay m w f start end other xs → HasMerged m w f P start end other xs xs
+  merged_stay start end other xs each stay = record {
     digit = stay.digit;
     before = λ k first. refl;
     after = λ k past. refl;
@@ -45,40 +41,31 @@ module _ {X : Type 0} (m : Merge) (w : ℕ) (f : X → ℕ) (P : X → Type 0) w
     len = refl;
   }
 
-  pub merged_stay : (start end : ℕ) (xs os : List X) → All P xs → Stay m w f start end (other_at (map f os)) xs → HasMerged m w f P start end xs os xs
-  merged_stay start end xs os each stay = record {
-    merged = record { digit = stay.digit; before = λ k first. refl; after = λ k past. refl };
-    each = each;
-    len = refl;
-  }
-
   -- they stay where none changed
-  pub kept_stay : (start end : ℕ) (other : ℕ → ℕ → Bool) (xs ys : List X) → HasMergedWith m w f P start end other xs ys → AreKept (map f xs) (map f ys) → Stay m w f start end other xs
+  pub kept_stay : (start end : ℕ) (other : ℕ → ℕ → Bool) (xs ys : List X) → HasMerged m w f P start end other xs ys → AreKept (map f xs) (map f ys) → Stay m w f start end other xs
   kept_stay start end other xs ys is kept = record {
     digit = λ k j from below index. ap (λ n. is_one n j) (sym (kept k)) ∙ is.digit k j from below index;
   }
 
-  pub merged_kept_stay : (start end : ℕ) (xs os ys : List X) → HasMerged m w f P start end xs os ys → AreKept (map f xs) (map f ys) → Stay m w f start end (other_at (map f os)) xs
-  merged_kept_stay start end xs os ys is kept = record {
-    digit = λ k j from below index. ap (λ n. is_one n j) (sym (kept k)) ∙ is.merged.digit k j from below index;
-  }
-
-  pub with_more : (a b c : ℕ) (other : ℕ → ℕ → Bool) (xs ys zs : List X) → a ≤ b → b ≤ c → HasMergedWith m w f P a b other xs ys → HasMergedWith m w f P b c other ys zs → HasMergedWith m w f P a c other xs zs
-  with_more a b c other xs ys zs le also one two = record {
-    digit = λ k j from below index.
-        ⊎_elim
-        (λ early. ap (λ n. is_one n j) (two.before k early) ∙ one.digit k j from early index)
-        (λ late. two.digit k j late below index ∙ ap (λ n. merge_of_values m (is_one n j) (other k j)) (one.after k late))
-        (cases_lt k b);
-    before = λ k h. two.before k (omega arith) ∙ one.before k h;
-    after = λ k h. two.after k h ∙ one.after k (omega arith);
-    each = two.each;
-    len = two.len ∙ one.len;
-  }
+  -- some more of them
+  pub merged_more : (a b c p q : ℕ) (other : ℕ → ℕ → Bool) (xs ys zs : List X) → a ≤ b → b ≤ c → p ≡ b → q ≡ c → HasMerged m w f P a b other xs ys → HasMerged m w f P p q other ys zs → HasMerged m w f P a c other xs zs
+  merged_more a b c p q other xs ys zs le also from to one second =
+      let two = rw (from, to) at second in
+      record {
+        digit = λ k j from below index.
+            ⊎_elim
+            (λ early. ap (λ n. is_one n j) (two.before k early) ∙ one.digit k j from early index)
+            (λ late. two.digit k j late below index ∙ ap (λ n. merge_of_values m (is_one n j) (other k j)) (one.after k late))
+            (cases_lt k b);
+        before = λ k h. two.before k (omega arith) ∙ one.before k h;
+        after = λ k h. two.after k h ∙ one.after k (omega arith);
+        each = two.each;
+        len = two.len ∙ one.len;
+      }
 
   -- with the same other digits
-  pub with_same : (start end : ℕ) (d e : ℕ → ℕ → Bool) (xs ys : List X) → ((k j : ℕ) → start ≤ k → k < end → j < w → d k j ≡ e k j) → HasMergedWith m w f P start end d xs ys → HasMergedWith m w f P start end e xs ys
-  with_same start end d e xs ys same is = record {
+  pub merged_same : (start end : ℕ) (d e : ℕ → ℕ → Bool) (xs ys : List X) → ((k j : ℕ) → start ≤ k → k < end → j < w → d k j ≡ e k j) → HasMerged m w f P start end d xs ys → HasMerged m w f P start end e xs ys
+  merged_same start end d e xs ys same is = record {
     digit = λ k j from below index. is.digit k j from below index ∙ ap (merge_of_values m (is_one (get_or (map f xs) k 0) j)) (same k j from below index);
     before = is.before;
     after = is.after;
@@ -87,12 +74,12 @@ module _ {X : Type 0} (m : Merge) (w : ℕ) (f : X → ℕ) (P : X → Type 0) w
   }
 
   -- with the same ends
-  pub with_at : (p q a b : ℕ) (other : ℕ → ℕ → Bool) (xs ys : List X) → p ≡ a → q ≡ b → HasMergedWith m w f P p q other xs ys → HasMergedWith m w f P a b other xs ys
-  with_at p q a b other xs ys from to is = rw (sym from, sym to) is
+  pub merged_at : (p q a b : ℕ) (other : ℕ → ℕ → Bool) (xs ys : List X) → p ≡ a → q ≡ b → HasMerged m w f P p q other xs ys → HasMerged m w f P a b other xs ys
+  merged_at p q a b other xs ys from to is = rw (sym from, sym to) is
 
   -- one of them
-  pub with_put : (k a b n : ℕ) (xs ys : List X) → k < length xs → map f ys ≡ set (map f xs) k n → All P ys → length ys ≡ length xs → a ≡ get_or (map f xs) k 0 → ((j : ℕ) → j < w → is_one n j ≡ merge_of_values m (is_one a j) (is_one b j)) → HasMergedWith m w f P k (k + 1) (λ q j. is_one b j) xs ys
-  with_put k a b n xs ys within e each len read digits =
+  pub merged_put : (k a b n : ℕ) (xs ys : List X) → k < length xs → map f ys ≡ set (map f xs) k n → All P ys → length ys ≡ length xs → a ≡ get_or (map f xs) k 0 → ((j : ℕ) → j < w → is_one n j ≡ merge_of_values m (is_one a j) (is_one b j)) → HasMerged m w f P k (k + 1) (λ q j. is_one b j) xs ys
+  merged_put k a b n xs ys within e each len read digits =
       let written : get_or (map f ys) k 0 ≡ n = ap (λ ns. get_or ns k 0) e ∙ get_or-set_same (map f xs) k n 0 (rw length-map within) in
       let others : (q : ℕ) → (q ≡ k → ⊥) → get_or (map f ys) q 0 ≡ get_or (map f xs) q 0 = λ q there. ap (λ ns. get_or ns q 0) e ∙ get_or-set_other (map f xs) k q n 0 there in
       record {
@@ -108,13 +95,26 @@ module _ {X : Type 0} (m : Merge) (w : ℕ) (f : X → ℕ) (P : X → Type 0) w
         len = len;
       }
 
+  -- past the end of the others, a merge with them is one with none
+  pub merged_past_others : (start end : ℕ) (other : ℕ → ℕ → Bool) (xs ys : List X) → ((k j : ℕ) → start ≤ k → other k j ≡ false) → HasMerged m w f P start end (λ k j. false) xs ys → HasMerged m w f P start end other xs ys
+  merged_past_others start end other xs ys past is = merged_same start end (λ k j. false) other xs ys (λ k j from below index. sym (past k j from)) is
+
+  -- the same of a list
+  pub merged_with_none : (start end : ℕ) (xs os ys : List X) → length os ≤ start → HasMerged m w f P start end (λ k j. false) xs ys → HasMerged m w f P start end (other_at (map f os)) xs ys
+  merged_with_none start end xs os ys short is =
+      merged_past_others start end (other_at (map f os)) xs ys (λ k j from. grind (arith, get_or_past (map f os) k 0, length-map, is_one-zero)) is
+
   -- the value at each index, once all of them are merged
-  pub values_merged_except : (xs os ys : List X) (es : List ℕ) → 0 < w → length os ≤ length xs → HasMergedWith m w f P 0 (length xs) (except_at (map f os) es) xs ys → (i : ℕ) → value_at w (map f ys) i ≡ merge_of_values m (value_at w (map f xs) i) (value_at w (map f os) i && not (value_at w es i))
+  pub merges_of_values : (xs os ys : List X) → 0 < w → length os ≤ length xs → HasMerged m w f P 0 (length xs) (other_at (map f os)) xs ys → (i : ℕ) → value_at w (map f ys) i ≡ merge_of_values m (value_at w (map f xs) i) (value_at w (map f os) i)
+  merges_of_values xs os ys pos short is i =
+      grind (arith, value_at-is, value_at-past, is.digit (i / w) (i % w), mod-lt i pos, length-map, is.len, merge_of_values-none)
+
+  pub values_merged_except : (xs os ys : List X) (es : List ℕ) → 0 < w → length os ≤ length xs → HasMerged m w f P 0 (length xs) (except_at (map f os) es) xs ys → (i : ℕ) → value_at w (map f ys) i ≡ merge_of_values m (value_at w (map f xs) i) (value_at w (map f os) i && not (value_at w es i))
   values_merged_except xs os ys es pos short is i =
       grind (arith, value_at-is, value_at-past, is.digit (i / w) (i % w), mod-lt i pos, length-map, is.len, merge_of_values-none)
 
   -- the blocks hold a list of the same length
-  pub packed_merged : (xs os ys : List X) (es : List ℕ) (len short : ℕ) → 0 < w → length os ≤ length xs → short ≤ len → IsPacked w f P xs len → IsZeroFrom w (map f os) short → HasMergedWith m w f P 0 (length xs) (except_at (map f os) es) xs ys → IsPacked w f P ys len
+  pub packed_merged : (xs os ys : List X) (es : List ℕ) (len short : ℕ) → 0 < w → length os ≤ length xs → short ≤ len → IsPacked w f P xs len → IsZeroFrom w (map f os) short → HasMerged m w f P 0 (length xs) (except_at (map f os) es) xs ys → IsPacked w f P ys len
   packed_merged xs os ys es len short pos fewer shorter packed also is = record {
     each = is.each;
     count = is.len ∙ packed.count;
@@ -125,8 +125,8 @@ module _ {X : Type 0} (m : Merge) (w : ℕ) (f : X → ℕ) (P : X → Type 0) w
   }
 
 -- past the end of the others a union changes nothing
-pub with_rest : {X : Type 0} (w : ℕ) (f : X → ℕ) (P : X → Type 0) (a b c : ℕ) (os es : List ℕ) (xs ys : List X) → b ≤ c → ((k : ℕ) → b ≤ k → k < c → length os ≤ k) → HasMergedWith Union w f P a b (except_at os es) xs ys → HasMergedWith Union w f P a c (except_at os es) xs ys
-with_rest w f P a b c os es xs ys le past is = record {
+pub merged_rest : {X : Type 0} (w : ℕ) (f : X → ℕ) (P : X → Type 0) (a b c : ℕ) (os es : List ℕ) (xs ys : List X) → b ≤ c → ((k : ℕ) → b ≤ k → k < c → length os ≤ k) → HasMerged Union w f P a b (except_at os es) xs ys → HasMerged Union w f P a c (except_at os es) xs ys
+merged_rest w f P a b c os es xs ys le past is = record {
   digit = λ k j from below index.
       ⊎_elim
       (λ early. is.digit k j from early index)
@@ -182,35 +182,10 @@ module _ {X : Type 0} (m : Merge) (w : ℕ) (f : X → ℕ) where
     ),
   )
 
--- where a symmetric difference changes no block the others are 0
-other_none : (x y : Bool) → x ≡ merge_of_values Symmetric x y → y ≡ false
-other_none x false same = refl
-other_none true true same = same
-other_none false true same = sym same
-
-pub stay_zero : {X : Type 0} (w : ℕ) (f : X → ℕ) (end k : ℕ) (os : List ℕ) (xs : List X) → get_or os k 0 < 2 ^ w → k < end → Stay Symmetric w f 0 end (other_at os) xs → get_or os k 0 ≡ 0
-stay_zero w f end k os xs small below is =
-    zero_from_digits w _ small (λ j index. other_none (is_one (get_or (map f xs) k 0) j) (is_one (get_or os k 0) j) (is.digit k j (omega arith) below index))
-
 module _ {X : Type 0} (m : Merge) (w : ℕ) (f : X → ℕ) (P : X → Type 0) where
   -- the blocks after some that stay are merged, and so all are
-  pub merged_past_stay : (start end : ℕ) (xs os ys : List X) → start ≤ end → Stay m w f 0 start (other_at (map f os)) xs → HasMerged m w f P start end xs os ys → HasMerged m w f P 0 end xs os ys
-  merged_past_stay start end xs os ys le stay is = record {
-    merged = record {
-      digit = λ k j from below index.
-          ⊎_elim
-          (λ early. ap (λ n. is_one n j) (is.merged.before k early) ∙ stay.digit k j from early index)
-          (λ late. is.merged.digit k j late below index)
-          (cases_lt k start);
-      before = λ k h. absurd (omega arith);
-      after = is.merged.after;
-    };
-    each = is.each;
-    len = is.len;
-  }
-
-  pub with_past_stay : (start end : ℕ) (other : ℕ → ℕ → Bool) (xs ys : List X) → start ≤ end → Stay m w f 0 start other xs → HasMergedWith m w f P start end other xs ys → HasMergedWith m w f P 0 end other xs ys
-  with_past_stay start end other xs ys le stay is = record {
+  pub merged_past_stay : (start end : ℕ) (other : ℕ → ℕ → Bool) (xs ys : List X) → start ≤ end → Stay m w f 0 start other xs → HasMerged m w f P start end other xs ys → HasMerged m w f P 0 end other xs ys
+  merged_past_stay start end other xs ys le stay is = record {
     digit = λ k j from below index.
         ⊎_elim
         (λ early. ap (λ n. is_one n j) (is.before k early) ∙ stay.digit k j from early index)
@@ -251,6 +226,17 @@ none_then P Q (Some x) is then = tt
 pub some_not : (P Q : Type 0) (r : Option ℕ) → IfSome r (λ x. P → ⊥) → (Q → P) → IfSome r (λ x. Q → ⊥)
 some_not P Q None not then = tt
 some_not P Q (Some x) not then = λ is. not (then is)
+
+-- those before a change that was found stay as far as the others are the same
+pub stay_found : {X : Type 0} (m : Merge) (w : ℕ) (f : X → ℕ) (both : ℕ) (d e : ℕ → ℕ → Bool) (xs : List X) (r : Option ℕ) → IfSome r (λ x. x ≤ both) → IfSome r (λ x. Stay m w f 0 x d xs) → ((k j : ℕ) → k < both → d k j ≡ e k j) → IfSome r (λ x. Stay m w f 0 x e xs)
+stay_found m w f both d e xs None within stay same = tt
+stay_found m w f both d e xs (Some x) within stay same = stay_same m w f 0 x d e xs (λ k j _ below _. same k j (omega (arith, within))) stay
+
+-- with those before them
+pub stay_rest : {X : Type 0} (m : Merge) (w : ℕ) (f : X → ℕ) (both end : ℕ) (d e : ℕ → ℕ → Bool) (xs : List X) (r : Option ℕ) → IfSome r (λ x. x ≤ end) → IfSome r (λ x. Stay m w f both x d xs) → Stay m w f 0 both e xs → ((k j : ℕ) → both ≤ k → k < end → d k j ≡ e k j) → IfSome r (λ x. Stay m w f 0 x e xs)
+stay_rest m w f both end d e xs None within stay first same = tt
+stay_rest m w f both end d e xs (Some x) within stay first same =
+    stay_more m w f 0 both x e xs first (stay_same m w f both x d e xs (λ k j from below _. same k j from (omega (arith, within))) stay)
 
 -- ---- lists
 
@@ -297,7 +283,7 @@ used_kept w m o e n small also digits kept =
     grind (arith, still))
     (cases_eq m 0)
 
-pub used_of_union : {X : Type 0} (w : ℕ) (f : X → ℕ) (P : X → Type 0) (end : ℕ) (os es : List ℕ) (xs ys : List X) → ((x : X) → P x → f x < 2 ^ w) → All P xs → HasMergedWith Union w f P 0 end (except_at os es) xs ys → (k : ℕ) → (is_used os k ≡ true → is_used (map f xs) k ≡ true) → is_used (map f ys) k ≡ is_used (map f xs) k
+pub used_of_union : {X : Type 0} (w : ℕ) (f : X → ℕ) (P : X → Type 0) (end : ℕ) (os es : List ℕ) (xs ys : List X) → ((x : X) → P x → f x < 2 ^ w) → All P xs → HasMerged Union w f P 0 end (except_at os es) xs ys → (k : ℕ) → (is_used os k ≡ true → is_used (map f xs) k ≡ true) → is_used (map f ys) k ≡ is_used (map f xs) k
 used_of_union w f P end os es xs ys below each is k kept =
     ⊎_elim
     (λ inside. used_kept w (get_or (map f xs) k 0) (get_or os k 0) (get_or es k 0) (get_or (map f ys) k 0) (numbers_below w f P xs below each k) (numbers_below w f P ys below is.each k) (λ j index. is.digit k j (omega arith) inside index) kept)

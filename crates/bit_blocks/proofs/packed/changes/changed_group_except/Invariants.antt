@@ -1,6 +1,0 @@
-use Rattle.std.proofs.Common.{◌+◌, ◌*◌, map}
-use Rattle.bit_blocks.specs.NotedMerges.{except_at, Stay}
-use Rattle.bit_blocks.proofs.packed.changes.changed_group_except.Given as goal
-
-abbrev pub invariant-loop-group : goal.invariant-loop-group
-invariant-loop-group g l = Stay g.O.Operation.merge g.B.BitBlock.width g.B.BitBlock.number l.start (l.start + l.group * l.size) (except_at (map g.B.BitBlock.number l.others) (map g.B.BitBlock.number l.except)) l.blocks

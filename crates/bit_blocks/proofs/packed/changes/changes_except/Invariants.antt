@@ -1,9 +1,0 @@
-use Rattle.std.proofs.Common.{◌≡◌, ◌↔◌, map}
-use Rattle.bit_blocks.specs.NotedMerges.{except_at, Stay}
-use Rattle.bit_blocks.proofs.packed.changes.changes_except.Given as goal
-
-abbrev pub invariant-loop-k : goal.invariant-loop-k
-invariant-loop-k g l = record {
-  of_block : g.B.BitBlock.is_block l.change;
-  stay : (g.B.BitBlock.number l.change ≡ 0) ↔ Stay g.O.Operation.merge g.B.BitBlock.width g.B.BitBlock.number l.start l.k (except_at (map g.B.BitBlock.number l.others) (map g.B.BitBlock.number l.except)) l.blocks;
-}

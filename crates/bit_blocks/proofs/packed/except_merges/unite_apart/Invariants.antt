@@ -1,9 +1,0 @@
-use Rattle.std.proofs.Common.{◌≡◌, ◌+◌, map}
-use Rattle.bit_blocks.specs.{NotedMerges.{except_at, HasMergedWith}, declared.block.merge.Merge.TheVariants.Union}
-use Rattle.bit_blocks.proofs.packed.except_merges.unite_apart.Given as goal
-
-abbrev pub invariant-loop-k : goal.invariant-loop-k
-invariant-loop-k g l = record {
-  has : HasMergedWith Union g.B.BitBlock.width g.B.BitBlock.number g.B.BitBlock.is_block l.start l.k (except_at (map g.B.BitBlock.number l.others) (map g.B.BitBlock.number l.except)) l.fn.blocks l.blocks;
-  steps : l.steps + l.start ≡ l.fn.steps + l.k;
-}
