@@ -2,7 +2,7 @@
 use Rattle.std.proofs.Common.{◌≡◌, refl, ℕ, ◌+◌, ◌*◌, ◌/◌, ◌%◌, ◌<◌, ◌≤◌, min, Bool, true, false, not, ◌==◌, List, map, length, get_or, set, take, All, sym, ap, ap₂, ◌∙◌, arith, ⊎_elim, mod-lt, length-take, div-lt_iff_lt-mul, get_or-set_same, get_or-set_other, mul-le-mul_right}
 use Rattle.std.proofs.Math.Bool.{and-true, or-false}
 use Rattle.std.proofs.lemmas.{Bool.{cases_eq, cases_lt}, List.{get_or_past, length-map, take-map}}
-use Rattle.bit_blocks.specs.{Bits.{Bits, blocks_for}, Digits.is_one, BlockMerges.HasMerged, Merges.merge_of_values, Storage.{value_at, values_of, IsPacked, IsZeroFrom, is_used}, declared.block.merge.Merge.{Merge, TheVariants.{Difference, Intersection, Symmetric, Union}}}
+use Rattle.bit_blocks.specs.{Bits.{Bits, blocks_for}, Digits.is_one, BlockMerges.{other_at, HasMerged}, Merges.merge_of_values, Storage.{value_at, values_of, IsPacked, IsZeroFrom, is_used}, declared.block.merge.Merge.{Merge, TheVariants.{Difference, Intersection, Symmetric, Union}}}
 use Rattle.bit_blocks.proofs.{BitsLemmas.{block_past, blocks_for-below}, Masks.is_one-zero, MergeLemmas.merge_of_values-none, PackedLemmas.value_at-take, StorageLemmas.{get_or-values_of_zero_tail, length-values_of, value_at-index, value_at-is, value_at-past}}
 use Rattle.bit_words.specs.{Chunks.MergesBetween, Summary.IsSummary}
 use Rattle.bit_words.proofs.SummaryLemmas.{summary_of_blocks}
@@ -10,29 +10,27 @@ use Rattle.bit_words.proofs.SummaryLemmas.{summary_of_blocks}
 -- ---- the blocks
 
 -- past the end of the list there are none to merge
-pub merged_past : {X : Type 0} (m : Merge) (w start end wide : ℕ) (f : X → ℕ) (P : X → Type 0) (xs os ys : List X) → end ≤ wide → (end < wide → length xs ≤ end) → length os ≤ length xs → HasMerged m w f P start end xs os ys → HasMerged m w f P start wide xs os ys
+pub merged_past : {X : Type 0} (m : Merge) (w start end wide : ℕ) (f : X → ℕ) (P : X → Type 0) (xs os ys : List X) → end ≤ wide → (end < wide → length xs ≤ end) → length os ≤ length xs → HasMerged m w f P start end (other_at (map f os)) xs ys → HasMerged m w f P start wide (other_at (map f os)) xs ys
 merged_past m w start end wide f P xs os ys le past fewer is = record {
-  merged = record {
-    digit = λ k j from below index.
-        ⊎_elim
-        (λ early. is.merged.digit k j from early index)
-        (λ late.
-        let mine : get_or (map f xs) k 0 ≡ 0 = get_or_past (map f xs) k 0 (rw length-map (omega (arith, past, late, below))) in
-        let other : get_or (map f os) k 0 ≡ 0 = get_or_past (map f os) k 0 (rw length-map (omega (arith, past, late, below, fewer))) in
-        ap (λ n. is_one n j) (is.merged.after k late ∙ mine)
-        ∙ is_one-zero j
-        ∙ sym (ap₂ (merge_of_values m) (ap (λ n. is_one n j) mine ∙ is_one-zero j) (ap (λ n. is_one n j) other ∙ is_one-zero j) ∙ merge_of_values-none m))
-        (cases_lt k end);
-    before = is.merged.before;
-    after = λ k beyond. is.merged.after k (omega (arith, le, beyond));
-  };
+  digit = λ k j from below index.
+      ⊎_elim
+      (λ early. is.digit k j from early index)
+      (λ late.
+      let mine : get_or (map f xs) k 0 ≡ 0 = get_or_past (map f xs) k 0 (rw length-map (omega (arith, past, late, below))) in
+      let other : get_or (map f os) k 0 ≡ 0 = get_or_past (map f os) k 0 (rw length-map (omega (arith, past, late, below, fewer))) in
+      ap (λ n. is_one n j) (is.after k late ∙ mine)
+      ∙ is_one-zero j
+      ∙ sym (ap₂ (merge_of_values m) (ap (λ n. is_one n j) mine ∙ is_one-zero j) (ap (λ n. is_one n j) other ∙ is_one-zero j) ∙ merge_of_values-none m))
+      (cases_lt k end);
+  before = is.before;
+  after = λ k beyond. is.after k (omega (arith, le, beyond));
   each = is.each;
   len = is.len;
 }
 
 -- ---- the values
 
-module _ {X : Type 0} (m : Merge) (w start end len short count : ℕ) (f : X → ℕ) (P : X → Type 0) (xs os ys : List X) (pos : 0 < w) (first : IsPacked w f P xs len) (second : IsPacked w f P os short) (most : count ≡ min (length xs) (length os)) (fits : len < short → merge_of_values m false true ≡ false) (is : HasMerged m w f P start end xs (take count os) ys) where
+module _ {X : Type 0} (m : Merge) (w start end len short count : ℕ) (f : X → ℕ) (P : X → Type 0) (xs os ys : List X) (pos : 0 < w) (first : IsPacked w f P xs len) (second : IsPacked w f P os short) (most : count ≡ min (length xs) (length os)) (fits : len < short → merge_of_values m false true ≡ false) (is : HasMerged m w f P start end (other_at (map f (take count os))) xs ys) where
   -- past the end of the list nothing comes
   none_past : (i : ℕ) → len ≤ i → merge_of_values m false (value_at w (map f os) i) ≡ false
   none_past i past = grind (arith, second.tail.zero_tail i, merge_of_values-none m)
@@ -59,17 +57,17 @@ module _ {X : Type 0} (m : Merge) (w start end len short count : ℕ) (f : X →
   inside : (i : ℕ) → start * w ≤ i → i < end * w → value_at w (map f ys) i ≡ merge_of_values m (value_at w (map f xs) i) (value_at w (map f os) i)
   inside i from below =
       value_at-is w (map f ys) i
-      ∙ is.merged.digit (i / w) (i % w) (block_past w start i pos from) ((div-lt_iff_lt-mul pos).1 below) (mod-lt i pos)
+      ∙ is.digit (i / w) (i % w) (block_past w start i pos from) ((div-lt_iff_lt-mul pos).1 below) (mod-lt i pos)
       ∙ sym (ap₂ (merge_of_values m) (value_at-is w (map f xs) i) (value_at-is w (map f (take count os)) i))
       ∙ cut i
 
   before : (i : ℕ) → i < start * w → value_at w (map f ys) i ≡ value_at w (map f xs) i
   before i early =
-      value_at-is w (map f ys) i ∙ ap (λ n. is_one n (i % w)) (is.merged.before (i / w) ((div-lt_iff_lt-mul pos).1 early)) ∙ sym (value_at-is w (map f xs) i)
+      value_at-is w (map f ys) i ∙ ap (λ n. is_one n (i % w)) (is.before (i / w) ((div-lt_iff_lt-mul pos).1 early)) ∙ sym (value_at-is w (map f xs) i)
 
   after : (i : ℕ) → end * w ≤ i → value_at w (map f ys) i ≡ value_at w (map f xs) i
   after i late =
-      value_at-is w (map f ys) i ∙ ap (λ n. is_one n (i % w)) (is.merged.after (i / w) (block_past w end i pos late)) ∙ sym (value_at-is w (map f xs) i)
+      value_at-is w (map f ys) i ∙ ap (λ n. is_one n (i % w)) (is.after (i / w) (block_past w end i pos late)) ∙ sym (value_at-is w (map f xs) i)
 
   -- nor does a value come past the end of the list
   tail : IsZeroFrom w (map f ys) len
@@ -122,8 +120,8 @@ chunk_kept m start end xs ys other past = record {
 -- ---- the summary
 
 -- one block of it is made anew
-pub chunk_summary : {X : Type 0} (m : Merge) (w q n : ℕ) (f : X → ℕ) (P : X → Type 0) (xs os ys ss ts : List X) → 0 < w → HasMerged m w f P (q * w) ((q + 1) * w) xs os ys → IsSummary w f P xs ss → q < length ss → map f ts ≡ set (map f ss) q n → All P ts → length ts ≡ length ss → ((j : ℕ) → j < w → is_one n j ≡ is_used (map f ys) (q * w + j)) → IsSummary w f P ys ts
-chunk_summary m w q n f P xs os ys ss ts pos is summary within put each len digits =
+pub chunk_summary : {X : Type 0} (m : Merge) (w q n : ℕ) (f : X → ℕ) (P : X → Type 0) (other : ℕ → ℕ → Bool) (xs ys ss ts : List X) → 0 < w → HasMerged m w f P (q * w) ((q + 1) * w) other xs ys → IsSummary w f P xs ss → q < length ss → map f ts ≡ set (map f ss) q n → All P ts → length ts ≡ length ss → ((j : ℕ) → j < w → is_one n j ≡ is_used (map f ys) (q * w + j)) → IsSummary w f P ys ts
+chunk_summary m w q n f P other xs ys ss ts pos is summary within put each len digits =
     let old = summary.packed in
     summary_of_blocks w f P ys ts pos each (len ∙ old.count ∙ ap (blocks_for w) (sym is.len)) (omega (arith, old.fits, is.len)) (λ r j below index.
     ⊎_elim
@@ -131,13 +129,13 @@ chunk_summary m w q n f P xs os ys ss ts pos is summary within put each len digi
     ap (λ x. is_one x j) (ap (λ ns. get_or ns r 0) put ∙ ap (λ x. get_or (set (map f ss) q n) x 0) here ∙ get_or-set_same (map f ss) q n 0 (rw length-map within))
     ∙ digits j index
     ∙ ap (λ x. is_used (map f ys) (x * w + j)) (sym here))
-    (λ other.
+    (λ apart.
     let kept : get_or (map f ys) (r * w + j) 0 ≡ get_or (map f xs) (r * w + j) 0 =
     ⊎_elim
-    (λ early. is.merged.before (r * w + j) (omega (arith, index, mul-le-mul_right w (let l : r + 1 ≤ q = omega arith in l))))
-    (λ late. is.merged.after (r * w + j) (omega (arith, mul-le-mul_right w (let l : q + 1 ≤ r = omega (arith, other) in l))))
+    (λ early. is.before (r * w + j) (omega (arith, index, mul-le-mul_right w (let l : r + 1 ≤ q = omega arith in l))))
+    (λ late. is.after (r * w + j) (omega (arith, mul-le-mul_right w (let l : q + 1 ≤ r = omega (arith, apart) in l))))
     (cases_lt r q) in
-    ap (λ x. is_one x j) (ap (λ ns. get_or ns r 0) put ∙ get_or-set_other (map f ss) q r n 0 other)
+    ap (λ x. is_one x j) (ap (λ ns. get_or ns r 0) put ∙ get_or-set_other (map f ss) q r n 0 apart)
     ∙ sym (value_at-index w (map f ss) r j index)
     ∙ summary.digit (r * w + j)
     ∙ ap (λ x. not (x == 0)) (sym kept))

@@ -1,6 +1,6 @@
 // Merges of the blocks that one block of the summary is about: a chunk.
-ghost use Rattle.std.specs.Prelude.{◌≡◌, ℕ, ◌+◌, ◌*◌, ◌<◌, ◌≤◌, length, map};
-ghost use Rattle.bit_blocks.specs.{BlockMerges.{CanMerge, HasMerged}, Digits.is_one, Storage.is_used};
+ghost use Rattle.std.specs.Prelude.{◌≡◌, ℕ, ◌+◌, ◌*◌, ◌<◌, ◌≤◌, All, length, map};
+ghost use Rattle.bit_blocks.specs.{BlockMerges.{other_at, CanMerge, HasMerged}, Digits.is_one, Storage.is_used};
 ghost use Rattle.bit_words.specs.Summary.{IsStoredSummary};
 
 use crate::summary::merges::merge_chunk;
@@ -20,10 +20,11 @@ fn merge_between<B: BitBlock, O: Operation>(
     start: usize,
     end: usize,
 )
-    requires can { CanMerge B.is_block blocks.old others.now }
+    requires can { CanMerge B.is_block blocks.old (length others.now) (All B.is_block others.now) }
     requires forward { start ≤ end }
     requires within { end ≤ length blocks.old }
-    ensures has { HasMerged O.merge B.width B.number B.is_block start end blocks.old others.now blocks.new }
+    ensures has { HasMerged O.merge B.width B.number B.is_block start end (other_at (map B.number others.now))
+        blocks.old blocks.new }
 {
     for k in start..end {
         let merged = O::of_blocks(block_at(blocks, k), block_or_zero(others, k));
@@ -35,10 +36,10 @@ fn merge_between<B: BitBlock, O: Operation>(
 // where there are none. Returns what that block is then.
 #[inline]
 fn merge_full_or_part<B: BitBlock, O: Operation>(blocks: &mut [B], others: &[B], q: usize) -> B
-    requires can { CanMerge B.is_block blocks.old others.now }
+    requires can { CanMerge B.is_block blocks.old (length others.now) (All B.is_block others.now) }
     requires some { q * B.width < length blocks.old }
-    ensures has { HasMerged O.merge B.width B.number B.is_block (q * B.width) ((q + 1) * B.width) blocks.old
-        others.now blocks.new }
+    ensures has { HasMerged O.merge B.width B.number B.is_block (q * B.width) ((q + 1) * B.width)
+        (other_at (map B.number others.now)) blocks.old blocks.new }
     ensures of_block { B.is_block result }
     ensures digits { (j : ℕ) → j < B.width
         → is_one (B.number result) j ≡ is_used (map B.number blocks.new) (q * B.width + j) }
@@ -61,11 +62,11 @@ fn merge_in_chunk<B: BitBlock, O: Operation>(
     others: &[B],
     q: usize,
 )
-    requires can { CanMerge B.is_block blocks.old others.now }
+    requires can { CanMerge B.is_block blocks.old (length others.now) (All B.is_block others.now) }
     requires some { q * B.width < length blocks.old }
     requires summary { IsStoredSummary B.width B.number B.is_block blocks.old summary.old }
-    ensures has { HasMerged O.merge B.width B.number B.is_block (q * B.width) ((q + 1) * B.width) blocks.old
-        others.now blocks.new }
+    ensures has { HasMerged O.merge B.width B.number B.is_block (q * B.width) ((q + 1) * B.width)
+        (other_at (map B.number others.now)) blocks.old blocks.new }
     ensures summary { IsStoredSummary B.width B.number B.is_block blocks.new summary.new }
     ensures summary_len { length summary.new ≡ length summary.old }
 {
@@ -84,11 +85,11 @@ pub(crate) fn merge_chosen_in_chunk<B: BitBlock>(
     merge: Merge,
     q: usize,
 )
-    requires can { CanMerge B.is_block blocks.old others.now }
+    requires can { CanMerge B.is_block blocks.old (length others.now) (All B.is_block others.now) }
     requires some { q * B.width < length blocks.old }
     requires summary { IsStoredSummary B.width B.number B.is_block blocks.old summary.old }
-    ensures has { HasMerged merge B.width B.number B.is_block (q * B.width) ((q + 1) * B.width) blocks.old
-        others.now blocks.new }
+    ensures has { HasMerged merge B.width B.number B.is_block (q * B.width) ((q + 1) * B.width)
+        (other_at (map B.number others.now)) blocks.old blocks.new }
     ensures summary { IsStoredSummary B.width B.number B.is_block blocks.new summary.new }
     ensures summary_len { length summary.new ≡ length summary.old }
 {
