@@ -39,6 +39,8 @@ calls! {
         BitsFromElemGeneral "bits.from_elem_general" "snb"
         BitsFromBytes "bits.from_bytes" "s*"
         BitsFromBytesGeneral "bits.from_bytes_general" "s*"
+        UnionOf "union_of" "s"
+        IntersectionOf "intersection_of" "s"
     }
     Change {
         Insert "insert" "sn"

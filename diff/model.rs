@@ -180,6 +180,16 @@ impl Set for Model {
         })
     }
 
+    fn gathered(call: Call, sets: &[Model; 4]) -> Model {
+        let mut made = sets[0].clone();
+        for set in &sets[1..] {
+            let len = if call == Call::UnionOf { made.len.max(set.len) } else { made.len.min(set.len) };
+            made.merge(if call == Call::UnionOf { Call::UnionWith } else { Call::IntersectWith }, set);
+            made.len = len;
+        }
+        made
+    }
+
     fn changed(&mut self, line: &Line) -> Result<bool, Refused> {
         match line.call {
             Call::Insert => return self.insert(line.first),

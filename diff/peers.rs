@@ -114,6 +114,10 @@ impl<B: Block> Set for Peer<B> {
         }))
     }
 
+    fn gathered(_call: Call, _sets: &[Self; 4]) -> Self {
+        unreachable!("by the model")
+    }
+
     fn changed(&mut self, line: &Line) -> Result<bool, Refused> {
         let set = &mut self.0;
         match line.call {

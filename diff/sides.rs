@@ -21,6 +21,8 @@ pub trait Walk {
 /// A set of one side. Each function is the call of its name; those behind `bits` are calls of the bit vector.
 pub trait Set: Sized + Ord + Hash + Clone {
     fn made(line: &Line) -> Result<Self, Refused>;
+    /// The call that makes a set of all four.
+    fn gathered(call: Call, sets: &[Self; 4]) -> Self;
     fn changed(&mut self, line: &Line) -> Result<bool, Refused>;
     fn merged(&mut self, call: Call, other: &Self);
     fn append(&mut self, other: &mut Self);
@@ -147,6 +149,10 @@ impl Hasher for Feed {
 /// Makes the call of a line, and then says the lengths of both sets.
 pub fn answer<S: Set>(sets: &mut [S; 4], line: &Line, answers: &mut Answers) {
     match line.call.group() {
+        _ if matches!(line.call, Call::UnionOf | Call::IntersectionOf) => {
+            sets[line.set] = S::gathered(line.call, sets);
+            answers.truth(true);
+        }
         Group::Make => {
             let made = S::made(line).map(|set| sets[line.set] = set);
             answers.change(made.map(|()| true));
@@ -296,6 +302,7 @@ fn walk<S: Set>(set: &S, other: &S, line: &Line, answers: &mut Answers) {
         Call::Nth => return nth(set, line, answers),
         Call::Runs => {
             let found = runs(&set.elements(), line.first, line.second);
+            answers.bounds((0, Some(line.second.saturating_sub(line.first).div_ceil(2))));
             return answers.0.extend(found.iter().flat_map(|run| [run.0, run.1]));
         }
         _ => {}

@@ -54,6 +54,16 @@ fn has_runs<B: BitBlock>(rt: &impl Abort, alloc: Global) {
 }
 
 #[test]
+fn half_of_the_range_bounds_the_runs(rt: HostRuntime) {
+    let set: BitSet = set_of(&rt, rt.alloc(), &[1, 3, 4, 6]);
+    let mut walk = set.runs(0..7);
+    expect_eq(&rt, &walk.size_hint(), &(0, Some(4)));
+    expect_eq(&rt, &walk.next(), &Some(1..2));
+    expect_eq(&rt, &walk.size_hint(), &(0, Some(3)));
+    expect_eq(&rt, &set.runs(7..3).size_hint(), &(0, Some(0)));
+}
+
+#[test]
 fn each_run_is_as_long_as_it_can_be(rt: HostRuntime) {
     has_runs::<u8>(&rt, rt.alloc());
     has_runs::<Block24>(&rt, rt.alloc());

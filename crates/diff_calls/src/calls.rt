@@ -9,6 +9,13 @@ pub(crate) enum Making {
     FromBytes,
 }
 
+// What makes a set of all four sets.
+#[derive(Clone, Copy)]
+pub(crate) enum Gathering {
+    UnionOf,
+    IntersectionOf,
+}
+
 // What makes the bit vector of a set.
 #[derive(Clone, Copy)]
 pub(crate) enum Listing {
@@ -215,6 +222,7 @@ pub(crate) enum Call {
     Make(Making),
     MakeGeneral(Making),
     FromIter,
+    Gather(Gathering),
     List(Listing),
     ListGeneral(Listing),
     Change(Changing),
@@ -258,6 +266,8 @@ const CALLS: &[Call] = &[
     Call::ListGeneral(Listing::FromElem),
     Call::List(Listing::FromBytes),
     Call::ListGeneral(Listing::FromBytes),
+    Call::Gather(Gathering::UnionOf),
+    Call::Gather(Gathering::IntersectionOf),
     Call::Change(Changing::Insert),
     Call::Change(Changing::Remove),
     Call::Change(Changing::Extend),

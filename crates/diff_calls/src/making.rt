@@ -1,5 +1,5 @@
 // Sets and bit vectors that are made of bytes, of one truth value or of nothing, over blocks of any type.
-use crate::calls::{Listing, Making};
+use crate::calls::{Gathering, Listing, Making};
 use bit_set::bit_vec::{BitVec, BitsError};
 use bit_set::{BitBlock, BitSet, SetError};
 use std::alloc::{AllocError, Global};
@@ -43,6 +43,17 @@ pub(crate) fn made<B: BitBlock>(
         Making::WithCapacity => sized(BitSet::with_capacity_general(alloc, len)),
         Making::FromBytes => BitSet::from_bytes_general(alloc, bytes),
     }
+}
+
+pub(crate) fn gathered<B: BitBlock>(
+    alloc: Global,
+    gathering: Gathering,
+    sets: &[BitSet<B>],
+) -> Result<BitSet<B>, SetError> {
+    sized(match gathering {
+        Gathering::UnionOf => BitSet::union_of(alloc, sets),
+        Gathering::IntersectionOf => BitSet::intersection_of(alloc, sets),
+    })
 }
 
 // The set of a bit vector.

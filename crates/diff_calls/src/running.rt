@@ -6,7 +6,7 @@ use crate::calls::Call;
 use crate::changing::{change, combine, combine_and_tell, lessen, move_over, pop, through_bit_vec};
 use crate::lines::Line;
 use crate::looking::{ask_bits, count_bits, find_bit, look, tell_bits};
-use crate::making::{bytes_of, listed, made};
+use crate::making::{bytes_of, gathered, listed, made};
 use crate::matrices::run_matrices;
 use crate::reading::{ask, count, find, tell};
 use crate::walks::walk_over;
@@ -132,6 +132,9 @@ impl<B: Width> Sets<B> {
             Call::MakeGeneral(making) => {
                 self.put(name, made(alloc, making, len, bytes), answers);
             }
+            Call::Gather(gathering) => {
+                self.put(name, gathered(alloc, gathering, &self.sets), answers);
+            }
             Call::List(listing) => {
                 self.put(name, B::listed(alloc, listing, value, bytes), answers);
             }
@@ -205,6 +208,7 @@ impl<B: Width> Sets<B> {
             Call::Make(_)
             | Call::MakeGeneral(_)
             | Call::FromIter
+            | Call::Gather(_)
             | Call::List(_)
             | Call::ListGeneral(_) => self.make_of_bytes(alloc, line, answers),
             Call::Count(_) | Call::Ask(_) | Call::Find(_) | Call::Tell(_) | Call::Walk(_) => {

@@ -130,9 +130,11 @@ fn pass_over<B: BitBlock>(
     answers.number(walk.count());
 }
 
-// The start and the end of each run.
+// The bounds on the number of runs, and the start and the end of each.
 fn loop_over_runs<B: BitBlock>(set: &BitSet<B>, start: usize, end: usize, answers: &mut Answers) {
-    for run in set.runs(start..end) {
+    let walk = set.runs(start..end);
+    answers.bounds(walk.size_hint());
+    for run in walk {
         answers.number(run.start);
         answers.number(run.end);
     }

@@ -14,6 +14,8 @@ enum Making {
     FromBytes,
     FromIter,
     FromRanges,
+    UnionOf,
+    IntersectionOf,
     Clone,
     BitsFromElem,
     BitsFromBytes,
@@ -71,6 +73,29 @@ const ROWS: &[Row<OnSets<Making>>] = &[
             call: Making::FromRanges,
             capacity: Capacity::Exact,
             returned: State::Of(&[9, 450, 5000], 5001),
+            lent: LENT,
+            failed: FIRST,
+        },
+    },
+    // A copy of the other set comes first, which is the one set of the slice.
+    Row {
+        name: "union_of",
+        asks: &[Ask::Exact(5001), Ask::Exact(5001)],
+        call: OnSets {
+            call: Making::UnionOf,
+            capacity: Capacity::Exact,
+            returned: LENT,
+            lent: LENT,
+            failed: FIRST,
+        },
+    },
+    Row {
+        name: "intersection_of",
+        asks: &[Ask::Exact(5001), Ask::Exact(5001)],
+        call: OnSets {
+            call: Making::IntersectionOf,
+            capacity: Capacity::Exact,
+            returned: LENT,
             lent: LENT,
             failed: FIRST,
         },
@@ -232,6 +257,8 @@ fn copied_set<B: BitBlock>(
 ) -> Result<BitSet<B>, AllocError> {
     match call {
         Making::WithCapacity => BitSet::with_capacity_general(alloc, 5000),
+        Making::UnionOf => BitSet::union_of(alloc, &[lent.clone(alloc)?]),
+        Making::IntersectionOf => BitSet::intersection_of(alloc, &[lent.clone(alloc)?]),
         _ => lent.clone(alloc),
     }
 }
@@ -244,7 +271,9 @@ fn there_and_back<B: BitBlock>(alloc: Global, lent: &BitSet<B>) -> Result<BitSet
 
 fn new_set<B: BitBlock>(alloc: Global, call: Making, lent: &BitSet<B>) -> Result<BitSet<B>, Fault> {
     match call {
-        Making::WithCapacity | Making::Clone => Ok(copied_set(alloc, call, lent)?),
+        Making::WithCapacity | Making::UnionOf | Making::IntersectionOf | Making::Clone => {
+            Ok(copied_set(alloc, call, lent)?)
+        }
         Making::FromBytes => Ok(BitSet::from_bytes_general(alloc, &BYTES)?),
         Making::FromIter => Ok(set_of(alloc, &[9, 450, 5000])?),
         Making::FromRanges => Ok(BitSet::from_ranges(alloc, "9, 450,5000")?),

@@ -1,4 +1,4 @@
-// Operations in place that tell whether they changed the set.
+// Operations in place that tell whether they changed the set, and the ones that make a set of many.
 use crate::faults::Fault;
 use crate::work::{Sets, Work};
 use bit_set::BitSet;
@@ -11,6 +11,8 @@ pub enum Change {
     Difference,
     SymmetricDifference,
     UnionWithDifference,
+    UnionOf,
+    IntersectionOf,
 }
 
 impl Work for Change {
@@ -21,11 +23,13 @@ impl Work for Change {
             "difference_changes" => Change::Difference,
             "symmetric_difference_changes" => Change::SymmetricDifference,
             "union_with_difference" => Change::UnionWithDifference,
+            "union_of" => Change::UnionOf,
+            "intersection_of" => Change::IntersectionOf,
             _ => return None,
         })
     }
 
-    fn turn(self, alloc: Global, sets: &mut Sets, _n: usize) -> Result<usize, Fault> {
+    fn turn(self, alloc: Global, sets: &mut Sets, n: usize) -> Result<usize, Fault> {
         let Sets { set, other } = sets;
         Ok(usize::from(match self {
             Change::Union => set.union_changes(other)?,
@@ -35,6 +39,24 @@ impl Work for Change {
             Change::UnionWithDifference => {
                 set.union_with_difference(other, &BitSet::new_general(alloc))?
             }
+            Change::UnionOf => BitSet::union_of(alloc, &copies(alloc, set, other)?)?.contains(n / 2),
+            Change::IntersectionOf => {
+                BitSet::intersection_of(alloc, &copies(alloc, set, other)?)?.contains(n / 2)
+            }
         }))
     }
+}
+
+// Four copies, two of each set.
+fn copies(
+    alloc: Global,
+    set: &BitSet<u64>,
+    other: &BitSet<u64>,
+) -> Result<[BitSet<u64>; 4], Fault> {
+    Ok([
+        set.clone(alloc)?,
+        other.clone(alloc)?,
+        set.clone(alloc)?,
+        other.clone(alloc)?,
+    ])
 }
