@@ -11,3 +11,6 @@ pub returns-then-is_short-clause-summary : goal.returns-then-is_short-clause-sum
 returns-then-is_short-clause-summary g c =
     let few = c.is_short.ensures.short c.if-is_short.true in
     keeps_none _ _ _ _ _ (omega (arith, few, c.merge_each.ensures.has.len)) (c.requires.summary.short few)
+
+pub unite_long-requires-clause-other_summary : goal.unite_long-requires-clause-other_summary
+unite_long-requires-clause-other_summary g c = c.requires.other_summary.long (c.is_short-then-is_union.ensures.long (grind (arith, c.if-not-is_short.true)))
