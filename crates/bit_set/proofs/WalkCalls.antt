@@ -19,10 +19,13 @@ abbrev left_of : Walk → List ℕ
 left_of walk = walk.left
 
 -- what `rev` of a walk over one set gives
-pub gives_from_back : (w : ℕ) (s : _) (walk : Walk) {xs : List ℕ} → rev_source s ≡ walk → walk.left ≡ xs → YieldsList (rev_steps (AdvancesBack w)) (λ x. x) s (reverse xs)
+pub gives_from_back : (w : ℕ) (s : _) (walk : Walk) {xs : List ℕ} → rev_source s ≡ walk → walk.left ≡ xs
+    → YieldsList (rev_steps (AdvancesBack w)) (λ x. x) s (reverse xs)
 gives_from_back w s walk source same =
     subst (λ left. YieldsList (rev_steps (AdvancesBack w)) (λ x. x) s (reverse left)) (ap left_of source ∙ same)
-    (YieldsList-from_shown (rev_steps (AdvancesBack w)) (λ x. x) (λ it. reverse (left_of (rev_source it))) (λ a b h. ap (λ left. length (reverse left)) h.item.0) (λ a x b h. ap reverse h.item ∙ reverse-append (left_of (rev_source b)) (x ∷ [])) s)
+    (YieldsList-from_shown (rev_steps (AdvancesBack w)) (λ x. x) (λ it. reverse (left_of (rev_source it)))
+    (λ a b h. ap (λ left. length (reverse left)) h.item.0)
+    (λ a x b h. ap reverse h.item ∙ reverse-append (left_of (rev_source b)) (x ∷ [])) s)
 
 -- ---- `eq` compares lists
 
