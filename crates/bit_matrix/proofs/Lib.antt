@@ -1,3 +1,4 @@
+pub mod CallerLemmas
 pub mod TableLemmas
 pub mod RowLemmas
 pub mod PartLemmas

@@ -45,6 +45,21 @@ members-from_filter {g = g} test r made source callee called =
 pub gives_left : (w : ℕ) (s : Walk) {xs : List ℕ} → s.left ≡ xs → YieldsList (Advances w) (λ x. x) s xs
 gives_left w s same = subst (YieldsList (Advances w) (λ x. x) s) same (YieldsList-from_shown (Advances w) (λ x. x) (λ walk. walk.left) (λ a b h. ap length h.item.0) (λ a x b h. h.item) s)
 
+-- a set that `from_iter` makes of `set.iter().filter(..)`
+pub members-from_filtered_walk : {E F : Type 0} {g : Mut F (Bor ℕ × Unit {0}) Bool} {f : F} {s : _}
+    {xs : List ℕ} (w : ℕ) (test : ℕ → Bool) (walk : Walk) (r : Result Bits E)
+    → IfOk r (λ set. (items : List ℕ) × Drains (filter_steps (Advances w) g) s items
+    × (elements set.values ≡ put_all [] items) × (length set.values ≡ bound_of items)
+    × IsSameSet (elements set.values) items)
+    → filter_source s ≡ walk → walk.left ≡ xs → filter_callee s ≡ f
+    → ((x : ℕ) (b : Bool) (q : F) → CalledAt g f x b q → (q ≡ f) × (b ≡ test x))
+    → IfOk r (λ set. (m : ℕ) → has (elements set.values) m ≡ (has xs m && test m))
+members-from_filtered_walk {g = g} {s = s} {xs = xs} w test walk r made source left callee called =
+    let gives : YieldsList (filter_steps (Advances w) g) (λ x. x) s (filter test xs) =
+    YieldsList-from_filter g test (YieldsList-at source (gives_left w walk left)) callee called in
+    IfOk-weaker r _ _ (λ set same m. let kept = has-filter test xs m in same m ∙ grind (arith, nat_tests))
+    (set_of_chain {steps = filter_steps (Advances w) g} {s = s} r made gives)
+
 -- what a map finds under a set it finds under any set of the same members
 pub same_key : {V : Type 0} (a b : Bits) (map : BTreeMap Bits V) → IsSameSet (elements a.values) (elements b.values)
     → get_by (λ (t : Bits). order_of_sets (elements b.values) (elements t.values)) map ≡ get_by (λ (t : Bits). order_of_sets (elements a.values) (elements t.values)) map

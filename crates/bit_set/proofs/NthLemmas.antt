@@ -18,7 +18,8 @@ next_of_drop zero (y ∷ ys) rest x is = (let e = is in cc, let e = is in cc)
 next_of_drop (suc n) [] rest x is = absurd (let e = is in cc)
 next_of_drop (suc n) (y ∷ ys) rest x is = next_of_drop n ys rest x is
 
-none_of_drop : (d n : ℕ) (xs : List ℕ) → d ≤ n → drop d xs ≡ [] → (slice_get xs n ≡ None) × (drop (suc n) xs ≡ []) × (length xs ≤ n)
+none_of_drop : (d n : ℕ) (xs : List ℕ) → d ≤ n → drop d xs ≡ []
+    → (slice_get xs n ≡ None) × (drop (suc n) xs ≡ []) × (length xs ≤ n)
 none_of_drop zero n [] to none = grind arith
 none_of_drop zero n (y ∷ ys) to none = absurd (let e = none in cc)
 none_of_drop (suc d) zero xs to none = absurd (omega (arith, to))
@@ -172,7 +173,8 @@ module _ (w : ℕ) where
         };
       }
 
-  pub skips : (s u t : Walk) (n : ℕ) (r : Option ℕ) → IsAscending s.left → Passes w n s u → Advances w u r t → Skips w n s r t
+  pub skips : (s u t : Walk) (n : ℕ) (r : Option ℕ) → IsAscending s.left → Passes w n s u → Advances w u r t
+      → Skips w n s r t
   unfolding PullsBlocks PullsBlocksAlong
   skips s u t n None up so step = skips_to_end s u t n n so (omega arith) step
   skips s u t n (Some x) up so step =

@@ -1,5 +1,5 @@
--- Members by their places in an ascending list, by which std speaks of what a chain meets; and tests of lists by places.
-use Rattle.std.proofs.{Common.{◌≡◌, ℕ, zero, suc, ◌+◌, ◌<◌, ◌≤◌, ◌↔◌, Bool, true, false, All, Any, IsTrue, List, [], ◌∷◌, get_or, inl, inr, length, refl, arith}, lemmas.Bool.{cases_Bool, cases_eq, Decides.nat_tests}}
+-- Members by their places in an ascending list, by which std speaks of what a chain meets; tests of lists by places.
+use Rattle.std.proofs.{Common.{◌≡◌, ℕ, zero, suc, ◌+◌, ◌<◌, ◌≤◌, ◌↔◌, Bool, All, Any, IsTrue, List, [], ◌∷◌, get_or, inl, inr, length, refl, arith}, lemmas.Bool.{cases_Bool, cases_eq, Decides.nat_tests}}
 use Rattle.std.specs.List.{list_all, list_any}
 use Rattle.bit_set.specs.Sets.{AscendsFrom, IsAscending, has}
 
@@ -9,7 +9,8 @@ use Rattle.bit_set.specs.Sets.{AscendsFrom, IsAscending, has}
 pub at_place : (s : List ℕ) (k d : ℕ) → k < length s → (get_or s k d ≡ get_or s k d) × IsTrue (has s (get_or s k d))
 at_place [] k d within = absurd (omega arith)
 at_place (x ∷ xs) zero d within = (refl, grind (arith, nat_tests))
-at_place (x ∷ xs) (suc k) d within = let rest = at_place xs k d (omega arith) in (refl, grind (arith, nat_tests, rest.1))
+at_place (x ∷ xs) (suc k) d within =
+    let rest = at_place xs k d (omega arith) in (refl, grind (arith, nat_tests, rest.1))
 
 -- a member has a place
 pub has_place : (s : List ℕ) (x : ℕ) → IsTrue (has s x) → (k : ℕ) × (k < length s) × (get_or s k x ≡ x)
@@ -26,14 +27,20 @@ has_place (y ∷ ys) x is =
 later_from : (low : ℕ) (s : List ℕ) (k d : ℕ) → AscendsFrom low s → k < length s → low ≤ get_or s k d
 later_from low [] k d up within = absurd (omega arith)
 later_from low (x ∷ xs) zero d up within = up.0
-later_from low (x ∷ xs) (suc k) d up within = let rest = later_from (x + 1) xs k d up.1 (omega arith) in let from = up.0 in omega (arith, rest, from)
+later_from low (x ∷ xs) (suc k) d up within =
+    let rest = later_from (x + 1) xs k d up.1 (omega arith) in
+    let from = up.0 in
+    omega (arith, rest, from)
 
-in_order_from : (low : ℕ) (s : List ℕ) (j k d e : ℕ) → AscendsFrom low s → j < k → k < length s → get_or s j d < get_or s k e
+in_order_from : (low : ℕ) (s : List ℕ) (j k d e : ℕ) → AscendsFrom low s → j < k → k < length s
+    → get_or s j d < get_or s k e
 in_order_from low [] j k d e up less within = absurd (omega arith)
 in_order_from low (x ∷ xs) zero zero d e up less within = absurd (omega arith)
-in_order_from low (x ∷ xs) zero (suc k) d e up less within = let rest = later_from (x + 1) xs k e up.1 (omega arith) in omega (arith, rest)
+in_order_from low (x ∷ xs) zero (suc k) d e up less within =
+    let rest = later_from (x + 1) xs k e up.1 (omega arith) in omega (arith, rest)
 in_order_from low (x ∷ xs) (suc j) zero d e up less within = absurd (omega arith)
-in_order_from low (x ∷ xs) (suc j) (suc k) d e up less within = in_order_from (x + 1) xs j k d e up.1 (omega arith) (omega arith)
+in_order_from low (x ∷ xs) (suc j) (suc k) d e up less within =
+    in_order_from (x + 1) xs j k d e up.1 (omega arith) (omega arith)
 
 pub in_order : (s : List ℕ) (j k d e : ℕ) → IsAscending s → j < k → k < length s → get_or s j d < get_or s k e
 in_order s j k d e up less within = in_order_from 0 s j k d e up less within
@@ -69,7 +76,9 @@ module _ {X : Type 0} (p : X → Bool) where
   any_from_place : (xs : List X) → Any (λ x. IsTrue (p x)) xs → IsTrue (list_any p xs)
   any_from_place [] (k, x, within, at, passes) = absurd (omega arith)
   any_from_place (y ∷ ys) (zero, x, within, at, passes) = grind arith
-  any_from_place (y ∷ ys) (suc k, x, within, at, passes) = let rest = any_from_place ys (k, x, omega arith, at, passes) in grind (arith, rest)
+  any_from_place (y ∷ ys) (suc k, x, within, at, passes) =
+      let rest = any_from_place ys (k, x, omega arith, at, passes) in
+      grind (arith, rest)
 
   pub any_by_places : (xs : List X) → IsTrue (list_any p xs) ↔ Any (λ x. IsTrue (p x)) xs
   any_by_places xs = (one_at_place xs, any_from_place xs)

@@ -15,14 +15,17 @@ gives_left_of_two w s same = subst (YieldsList (AdvancesByEach w) (λ x. x) s) s
 pub gives_left_of_both : (w : ℕ) (s : BoundedWalk) {xs : List ℕ} → s.walk.left ≡ xs → YieldsList (AdvancesWithBound w) (λ x. x) s xs
 gives_left_of_both w s same = subst (YieldsList (AdvancesWithBound w) (λ x. x) s) same (YieldsList-from_shown (AdvancesWithBound w) (λ x. x) (λ it. it.walk.left) (λ a b h. ap length h.walk.item.0) (λ a x b h. h.walk.item) s)
 
--- what `rev` of a walk over one set gives
 abbrev left_of : Walk → List ℕ
 left_of walk = walk.left
 
-pub gives_from_back : (w : ℕ) (s : _) {xs : List ℕ} → left_of (rev_source s) ≡ xs → YieldsList (rev_steps (AdvancesBack w)) (λ x. x) s (reverse xs)
-gives_from_back w s same =
-    subst (λ left. YieldsList (rev_steps (AdvancesBack w)) (λ x. x) s (reverse left)) same
-    (YieldsList-from_shown (rev_steps (AdvancesBack w)) (λ x. x) (λ it. reverse (left_of (rev_source it))) (λ a b h. ap (λ left. length (reverse left)) h.item.0) (λ a x b h. ap reverse h.item ∙ reverse-append (left_of (rev_source b)) (x ∷ [])) s)
+-- what `rev` of a walk over one set gives
+pub gives_from_back : (w : ℕ) (s : _) (walk : Walk) {xs : List ℕ} → rev_source s ≡ walk → walk.left ≡ xs
+    → YieldsList (rev_steps (AdvancesBack w)) (λ x. x) s (reverse xs)
+gives_from_back w s walk source same =
+    subst (λ left. YieldsList (rev_steps (AdvancesBack w)) (λ x. x) s (reverse left)) (ap left_of source ∙ same)
+    (YieldsList-from_shown (rev_steps (AdvancesBack w)) (λ x. x) (λ it. reverse (left_of (rev_source it)))
+    (λ a b h. ap (λ left. length (reverse left)) h.item.0)
+    (λ a x b h. ap reverse h.item ∙ reverse-append (left_of (rev_source b)) (x ∷ [])) s)
 
 -- ---- `eq` compares lists
 

@@ -14,12 +14,15 @@ returns-then-row-self-clause-outside g c =
     let m = c.args.self.now in
     let rows = seen_rows g.met.B.BitBlock.width_law.positive c.self.invariant c.self.view_is in
     let columns = seen_columns g.met.B.BitBlock.width_law.positive c.self.invariant c.self.view_is in
-    let below = (seen_matrix g.met.B.BitBlock.width_law.positive c.self.invariant c.self.view_is).below c.args.row c.args.column in
-    let past = λ (h : length m.rows ≤ c.args.row). ap (λ row. has row c.args.column) (get_or_past m.rows c.args.row [] h) in
+    let matrix = seen_matrix g.met.B.BitBlock.width_law.positive c.self.invariant c.self.view_is in
+    let below = matrix.below c.args.row c.args.column in
+    let past = λ (h : length m.rows ≤ c.args.row).
+        ap (λ row. has row c.args.column) (get_or_past m.rows c.args.row [] h) in
     grind (arith, nat_tests, below, past)
 
 pub returns-then-row-self-clause-matrix : goal.returns-then-row-self-clause-matrix
-returns-then-row-self-clause-matrix g c = seen_matrix g.met.B.BitBlock.width_law.positive c.self.invariant c.self.view_is
+returns-then-row-self-clause-matrix g c =
+    seen_matrix g.met.B.BitBlock.width_law.positive c.self.invariant c.self.view_is
 
 pub contains-requires-clause-row : goal.contains-requires-clause-row
 contains-requires-clause-row g c = omega (arith, seen_rows g.met.B.BitBlock.width_law.positive c.self.invariant c.self.view_is)
