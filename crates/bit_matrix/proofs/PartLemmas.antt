@@ -6,9 +6,6 @@ use Rattle.bit_blocks.proofs.{BlockMergeLemmas.{merged_more, merged_none, merged
 use Rattle.bit_matrix.specs.Merges.{AreApart, IsMergedPart, IsNotedBlock, IsNotedMerge}
 use Rattle.bit_matrix.proofs.RowLemmas.{map-slice, same_block}
 
-pub none_merged : (m : Merge) (w read write : ℕ) (ms os : List ℕ) → IsMergedPart m w read write 0 ms os ms
-none_merged m w read write ms os = record { digit = λ k j below. absurd (omega arith); others = λ q apart. refl }
-
 -- one block more, whose merge x was written
 pub block_merged : (m : Merge) (w read write k x : ℕ) (ms os ns rs : List ℕ) → write + k < length ns → rs ≡ set ns (write + k) x → IsMergedPart m w read write k ms os ns
     → ((j : ℕ) → j < w → is_one x j ≡ merge_of_values m (is_one (get_or ms (write + k) 0) j) (is_one (get_or os (read + k) 0) j)) → IsMergedPart m w read write (k + 1) ms os rs

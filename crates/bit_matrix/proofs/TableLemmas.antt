@@ -1,8 +1,7 @@
 -- What the rows of a table have, and what becomes of them where its bits change.
 use Rattle.std.proofs.Common.{◌≡◌, ◌≢◌, ℕ, ◌+◌, ◌*◌, ◌/◌, ◌<◌, ◌≤◌, ◌==◌, Bool, false, ◌&&◌, if◌then◌else◌, nat_lt, List, [], length, get_or, set, replicate, sym, ap, ◌∙◌, arith, inl, inr}
 use Rattle.std.proofs.lemmas.{Bool.{cases_eq, cases_lt, eq-eqb, ne_eqb, true≢false, Decides.nat_tests}, Nat.{div_below, mul-add-lt, same_from_place}, List.{ext_get_or, get_or-set_other, get_or-set_same, get_or-replicate, get_or_past, length-replicate, length-set, FromFn.{length-map-range_with_len, get_or-map-range_with_len}}}
-use Rattle.bit_blocks.specs.{Bits.blocks_for, Storage.WritesValue}
-use Rattle.bit_blocks.proofs.BitsLemmas.{blocks_for-enough}
+use Rattle.bit_blocks.specs.Storage.{WritesValue}
 use Rattle.bit_set.specs.{Ranges.span, Sets.{IsAscending, has}}
 use Rattle.bit_set.proofs.{RangeLemmas.{IsAscending-span, has-span}, SetLemmas.{AscendsFrom-filter, has-filter, same_members}}
 use Rattle.bit_matrix.specs.{Matrices.{ChangesRow, IsMatrix, Matrix, has_at, matrix_of, row_of, with_row}, Tables.{IsCleanPast, bit_of, matrix_in, row_in, rows_in}}
@@ -17,13 +16,6 @@ pub block_within : (w stride rows r c : ℕ) → 0 < w → r < rows → c < stri
 block_within w stride rows r c pos row column =
     let below = bit_within w stride rows r c row column in
     div_below (r * (stride * w) + c) w (rows * stride) pos (omega (arith, below))
-
--- a row has a bit for each column
-pub columns_within : (w stride columns c : ℕ) → 0 < w → stride ≡ blocks_for w columns → c < columns → c < stride * w
-columns_within w stride columns c pos is below =
-    let enough = blocks_for-enough w columns pos in
-    let same = ap (λ n. n * w) is in
-    omega (arith, enough, same, below)
 
 -- ---- what a row has
 

@@ -1,6 +1,6 @@
 // Reads and writes of a vector of blocks, each by what it does to the bit at every index. They keep its length and
 // capacity unless they say otherwise, and know nothing of how many bits it holds.
-ghost use Rattle.std.specs.Prelude.{◌≡◌, ◌≢◌, ℕ, ◌<◌, ◌≤◌, ◌/◌, ◌%◌, ◌==◌, ◌&&◌, ◌||◌, ◌↔◌, All, IsTrue, length, map, set, get_or, nat_lt, nat_le, vec_len, vec_capacity, true, false};
+ghost use Rattle.std.specs.Prelude.{◌≡◌, ◌≢◌, ℕ, ◌<◌, ◌≤◌, ◌/◌, ◌%◌, ◌==◌, ◌&&◌, ◌||◌, All, length, map, set, get_or, nat_lt, nat_le, vec_len};
 ghost use Rattle.bit_blocks.specs.{Bits.blocks_for, Digits.is_one, Storage.{value_at, FillsFirst, WritesInPlace, WritesValue}};
 
 use crate::block::BitBlock;

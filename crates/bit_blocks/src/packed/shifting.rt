@@ -1,5 +1,5 @@
 // A list of bits moved up or down in place. Each block is made of the two that its bits come from, and written once.
-ghost use Rattle.std.specs.Prelude.{◌≡◌, ℕ, ◌+◌, ◌-◌, ◌*◌, ◌/◌, ◌^◌, ◌<◌, ◌≤◌, ◌&&◌, All, get_or, length, map, nat_le, nat_lt, vec_capacity};
+ghost use Rattle.std.specs.Prelude.{◌≡◌, ℕ, ◌+◌, ◌-◌, ◌*◌, ◌/◌, ◌^◌, ◌<◌, ◌&&◌, All, get_or, length, map, nat_le, nat_lt, vec_capacity};
 ghost use Rattle.bit_blocks.specs.{Digits.is_one, Shifts.{IsMovedDown, IsMovedUp}, Storage.{value_at, IsPacked}};
 
 use crate::block::BitBlock;

@@ -1,6 +1,6 @@
 // What is asked of the values from `start` on and below `end`: how many are true, and whether all are or none is. The
 // first and the last of their blocks are read through a mask.
-ghost use Rattle.std.specs.{Prelude.{◌≡◌, ℕ, ◌-◌, ◌*◌, ◌<◌, ◌≤◌, ◌↔◌, All, Bool, IsTrue, bit_and, drop, false, get_or, length, map, take, true}, Int.RustNames.count_ones, List.{count_by, range_with_len}};
+ghost use Rattle.std.specs.{Prelude.{◌≡◌, ℕ, ◌-◌, ◌*◌, ◌<◌, ◌≤◌, ◌↔◌, All, IsTrue, bit_and, drop, false, get_or, length, map, take, true}, Int.RustNames.count_ones, List.{count_by, range_with_len}};
 ghost use Rattle.bit_blocks.specs.{BlockMerges.MergesSpanToFalse, Digits.is_one, Merges.merge_of_values, Storage.value_at};
 
 use crate::block::BitBlock;

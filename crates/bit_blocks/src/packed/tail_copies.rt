@@ -1,5 +1,5 @@
 // A copy of the tail of a list, from an index on, at its own indexes: the bits before it are 0.
-ghost use Rattle.std.specs.Prelude.{◌≡◌, ℕ, ◌<◌, ◌≤◌, ◌++◌, ◌&&◌, All, IfOk, drop, false, length, map, nat_le, replicate, vec_len, vec_capacity};
+ghost use Rattle.std.specs.Prelude.{◌≡◌, ℕ, ◌<◌, ◌≤◌, ◌++◌, ◌&&◌, All, IfOk, drop, length, map, nat_le, replicate, vec_len, vec_capacity};
 ghost use Rattle.bit_blocks.specs.{Bits.blocks_for, Storage.value_at};
 
 use crate::block::BitBlock;

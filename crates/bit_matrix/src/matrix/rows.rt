@@ -1,7 +1,7 @@
 // Calls on whole rows. Each is one pass over the blocks of the row.
-ghost use Rattle.std.specs.{Prelude.{◌≡◌, ℕ, ◌*◌, ◌^◌, ◌<◌, ◌≤◌, ◌↔◌, ◌&&◌, ◌||◌, All, IsTrue, List, false, length, map, nat_le, nat_lt, not}, Iterator.{YieldsFirst, Runs.YieldsInOrder}};
+ghost use Rattle.std.specs.{Prelude.{◌≡◌, ℕ, ◌*◌, ◌^◌, ◌<◌, ◌≤◌, ◌↔◌, ◌&&◌, ◌||◌, All, IsTrue, List, false, length, map, not}, Iterator.{YieldsFirst, Runs.YieldsInOrder}};
 ghost use Rattle.bit_blocks.specs.{Bits.blocks_for, Storage.value_at};
-ghost use Rattle.bit_set.specs.{Members.{IsDisjoint, IsSubset}, Order.same_sets, Ranges.span, Sets.{difference, intersection, is_disjoint, is_subset, merge_of_sets, those_from, union}};
+ghost use Rattle.bit_set.specs.{Members.{IsDisjoint, IsSubset}, Order.same_sets, Sets.{difference, intersection, is_disjoint, is_subset, merge_of_sets, those_from, union}};
 ghost use Rattle.bit_matrix.specs.Matrices.{ChangesRow, IsMatrix, has_at, row_of, with_row};
 
 use crate::merges::merge_within;

@@ -1,5 +1,5 @@
 // Reading of a value, with every test that it must pass. Nothing here asks for memory.
-ghost use Rattle.std.specs.Prelude.{◌≡◌, ◌≢◌, ◌↔◌, ℕ, List, All, IsTrue, IfOk, IfErr, MatchOption, Some, length, map};
+ghost use Rattle.std.specs.Prelude.{◌≡◌, ◌↔◌, ℕ, All, IsTrue, IfOk, IfErr, MatchOption, Some, length};
 ghost use Rattle.bit_blocks.specs.Bits.{blocks_for};
 ghost use Rattle.serde_json.specs.View.{view, items_view};
 ghost use Rattle.bit_set.specs.{Json.{HasShape, HasZeroTail, IsFirstFault, Spells, members_in, number_in}, Entries.{AreParts, HasLength, IsEntry, numbers_of}};
@@ -42,7 +42,6 @@ fn parts(value: &Value) -> Option<(&[Value], &Value)>
 }
 
 // Whether the value is an object with just so many members.
-#[tactic(auto, using(crate::proofs::JsonLemmas::members_counted))]
 fn has_members(value: &Value, count: usize) -> bool
     ensures { IsTrue result ↔ (members_in (view value.now) ≡ Some count) }
 {

@@ -1,6 +1,5 @@
 // Calls that make a set, in place, what it and another become.
 ghost use Rattle.std.specs.Prelude.{◌≡◌, ◌-◌, ◌++◌, max, OnOk, length, replicate, false};
-ghost use Rattle.bit_blocks.specs.Merges.{merge_of};
 ghost use Rattle.bit_words.specs.Growth.{Grows};
 ghost use Rattle.bit_set.specs.{Members.{IsDifference, IsIntersection, IsMerged, IsSymmetricDifference, IsUnion}, Sets.{elements, union, intersection, difference, symmetric_difference, merge_of_sets}, Changes.Change};
 ghost use Rattle.bit_set.specs.Changes.{Changes, outcome_of_result};

@@ -1,5 +1,5 @@
 // Calls that change for how many values there is capacity, or how many blocks there are.
-ghost use Rattle.std.specs.Prelude.{◌≡◌, ℕ, ◌+◌, ◌*◌, ◌<◌, ◌≤◌, ◌↔◌, IsOk, OnErr, OnOk, Some, if◌then◌else◌, length, max, nat_le, slice_get, true};
+ghost use Rattle.std.specs.Prelude.{◌≡◌, ℕ, ◌+◌, ◌<◌, ◌≤◌, ◌↔◌, IsOk, OnErr, OnOk, Some, length, max, slice_get, true};
 ghost use Rattle.bit_blocks.specs.Bits.{blocks_for, capacity_of, whole_blocks, IsWithinCapacity};
 ghost use Rattle.bit_words.specs.Growth.{Grows};
 

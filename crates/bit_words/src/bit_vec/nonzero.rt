@@ -31,7 +31,7 @@ pub struct Nonzero<'a, B: BitBlock> {
 }
 
 impl<'a, B: BitBlock> Model for Nonzero<'a, B> {
-    ghost use Rattle.std.specs.Prelude.{◌+◌, ◌-◌, length};
+    ghost use Rattle.std.specs.Prelude.{◌+◌, ◌-◌};
     ghost use Rattle.bit_blocks.specs.Bits.{blocks_for};
     ghost use Rattle.bit_words.specs.{Nonzero.Nonzeros, Pending.{IsPending, left_from, next_at}};
 

@@ -1,5 +1,5 @@
 // Merges with a span, by which the summary follows.
-ghost use Rattle.std.specs.Prelude.{◌≡◌, ℕ, ◌*◌, ◌<◌, ◌≤◌, All, map, true, false, vec_len, vec_capacity, Bool};
+ghost use Rattle.std.specs.Prelude.{◌≡◌, ◌*◌, ◌<◌, ◌≤◌, All, map, true, false, vec_len, vec_capacity, Bool};
 ghost use Rattle.bit_blocks.specs.{BlockMerges.IsMergedSpan, Merges.merge_of_values, Storage.WritesInPlace, declared.block.merge.Merge.Merge};
 ghost use Rattle.bit_words.specs.Summary.{IsStoredSummary};
 
