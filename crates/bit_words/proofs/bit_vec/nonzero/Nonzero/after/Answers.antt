@@ -33,9 +33,9 @@ returns-clause-start g c =
     let xs = c.as_slice-blocks.result.now in
     let made = c.after-pending.ensures in
     same_walks xs
-        (made.left ∙ ap (λ n. left_from number next n xs) made.end ∙ ap (λ ys. nonzero_from number next (drop next ys)) (take_all (length xs) xs (omega arith)))
-        (omega (arith, c.tick.ensures, c.new-steps.ensures)) made.pulls
-        (ap (λ n. blocks_for w (n - (c.after-pending.result.index + w))) made.end ∙ made.count)
+    (made.left ∙ ap (λ n. left_from number next n xs) made.end ∙ ap (λ ys. nonzero_from number next (drop next ys)) (take_all (length xs) xs (omega arith)))
+    (omega (arith, c.tick.ensures, c.new-steps.ensures)) made.pulls
+    (ap (λ n. blocks_for w (n - (c.after-pending.result.index + w))) made.end ∙ made.count)
 
 pub after-pending-requires-clause-each : goal.after-pending-requires-clause-each
 after-pending-requires-clause-each g c = rw c.as_slice-blocks.ensures.value c.bits.invariant.packed.each
