@@ -171,15 +171,6 @@ module _ (node : ℕ) (via old new : Bits) where
       member : (v : ℕ) → has (elements new.values) v ≡ (has (elements old.values) v || has (elements via.values) v)
       member v = ap (λ s. has s v) is ∙ members (elements old.values) (elements via.values) v
 
-  pub unjoined : new ≡ old → has (elements old.values) node ≡ false → Joins node via old new
-  unjoined same absent = rw same (record {
-    keeps = λ v h. h;
-    only = λ v h. inl h;
-    adds = λ v h more. absurd (true≢false (sym h ∙ absent));
-    long = omega arith;
-    capacity = λ h. refl;
-  })
-
 -- ---- lengths and capacities
 
 pub record Spacious (m : ℕ) (first rows : List Bits) : Type 0 where

@@ -1,5 +1,5 @@
 // The nodes to which paths lead.
-ghost use Rattle.std.specs.Prelude.{◌≡◌, ◌≢◌, ◌+◌, ◌<◌, ◌^◌, ◌↔◌, ℕ, IfErr, IfOk, IsErrOf, IsOk, IsTrue, List, OnOk, Some, [], length, not, slice_index_or};
+ghost use Rattle.std.specs.Prelude.{◌≡◌, ◌≢◌, ◌+◌, ◌<◌, ◌^◌, ◌↔◌, ℕ, IfErr, IfOk, IsErrOf, IsOk, IsTrue, List, OnOk, Some, [], length, not};
 ghost use Rattle.std.specs.Iterator.{Drains, IsFinite, YieldsThen};
 ghost use Rattle.std.specs.List.{sum_by};
 ghost use Rattle.bit_set.specs.Faults.{IsInsertFault};
