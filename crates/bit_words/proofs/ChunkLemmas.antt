@@ -10,18 +10,23 @@ use Rattle.bit_words.proofs.SummaryLemmas.{summary_of_blocks}
 -- ---- the blocks
 
 -- past the end of the list there are none to merge
-pub merged_past : {X : Type 0} (m : Merge) (w start end wide : ℕ) (f : X → ℕ) (P : X → Type 0) (xs os ys : List X) → end ≤ wide → (end < wide → length xs ≤ end) → length os ≤ length xs → HasMerged m w f P start end xs os ys → HasMerged m w f P start wide xs os ys
+pub merged_past : {X : Type 0} (m : Merge) (w start end wide : ℕ) (f : X → ℕ) (P : X → Type 0) (xs os ys : List X)
+    → end ≤ wide → (end < wide → length xs ≤ end) → length os ≤ length xs → HasMerged m w f P start end xs os ys
+    → HasMerged m w f P start wide xs os ys
 merged_past m w start end wide f P xs os ys le past fewer is = record {
   merged = record {
     digit = λ k j from below index.
         ⊎_elim
         (λ early. is.merged.digit k j from early index)
         (λ late.
-        let mine : get_or (map f xs) k 0 ≡ 0 = get_or_past (map f xs) k 0 (rw length-map (omega (arith, past, late, below))) in
-        let other : get_or (map f os) k 0 ≡ 0 = get_or_past (map f os) k 0 (rw length-map (omega (arith, past, late, below, fewer))) in
+        let mine : get_or (map f xs) k 0 ≡ 0 = get_or_past (map f xs) k 0
+            (rw length-map (omega (arith, past, late, below))) in
+        let other : get_or (map f os) k 0 ≡ 0 = get_or_past (map f os) k 0
+            (rw length-map (omega (arith, past, late, below, fewer))) in
         ap (λ n. is_one n j) (is.merged.after k late ∙ mine)
         ∙ is_one-zero j
-        ∙ sym (ap₂ (merge_of_values m) (ap (λ n. is_one n j) mine ∙ is_one-zero j) (ap (λ n. is_one n j) other ∙ is_one-zero j) ∙ merge_of_values-none m))
+        ∙ sym (ap₂ (merge_of_values m) (ap (λ n. is_one n j) mine ∙ is_one-zero j)
+            (ap (λ n. is_one n j) other ∙ is_one-zero j) ∙ merge_of_values-none m))
         (cases_lt k end);
     before = is.merged.before;
     after = λ k beyond. is.merged.after k (omega (arith, le, beyond));
@@ -32,31 +37,41 @@ merged_past m w start end wide f P xs os ys le past fewer is = record {
 
 -- ---- the values
 
-module _ {X : Type 0} (m : Merge) (w start end len short count : ℕ) (f : X → ℕ) (P : X → Type 0) (xs os ys : List X) (pos : 0 < w) (first : IsPacked w f P xs len) (second : IsPacked w f P os short) (most : count ≡ min (length xs) (length os)) (fits : len < short → merge_of_values m false true ≡ false) (is : HasMerged m w f P start end xs (take count os) ys) where
+module _ {X : Type 0} (m : Merge) (w start end len short count : ℕ) (f : X → ℕ) (P : X → Type 0) (xs os ys : List X)
+    (pos : 0 < w) (first : IsPacked w f P xs len) (second : IsPacked w f P os short)
+    (most : count ≡ min (length xs) (length os)) (fits : len < short → merge_of_values m false true ≡ false)
+    (is : HasMerged m w f P start end xs (take count os) ys) where
   -- past the end of the list nothing comes
   none_past : (i : ℕ) → len ≤ i → merge_of_values m false (value_at w (map f os) i) ≡ false
   none_past i past = grind (arith, second.tail.zero_tail i, merge_of_values-none m)
 
   -- the others past its blocks are not read
-  cut : (i : ℕ) → merge_of_values m (value_at w (map f xs) i) (value_at w (map f (take count os)) i) ≡ merge_of_values m (value_at w (map f xs) i) (value_at w (map f os) i)
+  cut : (i : ℕ) → merge_of_values m (value_at w (map f xs) i)
+      (value_at w (map f (take count os)) i) ≡ merge_of_values m (value_at w (map f xs) i) (value_at w (map f os) i)
   cut i =
       let own = map f xs in
-      let taken : value_at w (map f (take count os)) i ≡ value_at w (take count (map f os)) i = ap (λ ns. value_at w ns i) (sym (take-map f count os)) in
+      let taken : value_at w (map f (take count os)) i ≡ value_at w (take count (map f os)) i =
+          ap (λ ns. value_at w ns i) (sym (take-map f count os)) in
       ⊎_elim
-      (λ (early : i / w < count). ap (merge_of_values m (value_at w own i)) (taken ∙ value_at-take w count (map f os) i early))
+      (λ (early : i / w < count). ap (merge_of_values m (value_at w own i))
+          (taken ∙ value_at-take w count (map f os) i early))
       (λ (late : count ≤ i / w).
-      let none : value_at w (map f (take count os)) i ≡ false = value_at-past w _ i (rw length-map (omega (arith, length-take count os))) in
+      let none : value_at w (map f (take count os)) i ≡ false = value_at-past w _ i
+          (rw length-map (omega (arith, length-take count os))) in
       ⊎_elim
       (λ (here : i / w < length os).
       let past : length xs ≤ i / w = omega arith in
       let mine : value_at w own i ≡ false = value_at-past w own i (rw length-map past) in
       let beyond : len ≤ i = blocks_for-below w len i pos (omega (arith, first.count, past)) in
-      ap₂ (merge_of_values m) mine none ∙ merge_of_values-none m ∙ sym (ap (λ b. merge_of_values m b (value_at w (map f os) i)) mine ∙ none_past i beyond))
-      (λ (nowhere : length os ≤ i / w). ap (merge_of_values m (value_at w own i)) (none ∙ sym (value_at-past w (map f os) i (rw length-map nowhere))))
+      ap₂ (merge_of_values m) mine none ∙ merge_of_values-none m
+          ∙ sym (ap (λ b. merge_of_values m b (value_at w (map f os) i)) mine ∙ none_past i beyond))
+      (λ (nowhere : length os ≤ i / w). ap (merge_of_values m (value_at w own i))
+          (none ∙ sym (value_at-past w (map f os) i (rw length-map nowhere))))
       (cases_lt (i / w) (length os)))
       (cases_lt (i / w) count)
 
-  inside : (i : ℕ) → start * w ≤ i → i < end * w → value_at w (map f ys) i ≡ merge_of_values m (value_at w (map f xs) i) (value_at w (map f os) i)
+  inside : (i : ℕ) → start * w ≤ i → i < end * w
+      → value_at w (map f ys) i ≡ merge_of_values m (value_at w (map f xs) i) (value_at w (map f os) i)
   inside i from below =
       value_at-is w (map f ys) i
       ∙ is.merged.digit (i / w) (i % w) (block_past w start i pos from) ((div-lt_iff_lt-mul pos).1 below) (mod-lt i pos)
@@ -65,11 +80,13 @@ module _ {X : Type 0} (m : Merge) (w start end len short count : ℕ) (f : X →
 
   before : (i : ℕ) → i < start * w → value_at w (map f ys) i ≡ value_at w (map f xs) i
   before i early =
-      value_at-is w (map f ys) i ∙ ap (λ n. is_one n (i % w)) (is.merged.before (i / w) ((div-lt_iff_lt-mul pos).1 early)) ∙ sym (value_at-is w (map f xs) i)
+      value_at-is w (map f ys) i ∙ ap (λ n. is_one n (i % w))
+          (is.merged.before (i / w) ((div-lt_iff_lt-mul pos).1 early)) ∙ sym (value_at-is w (map f xs) i)
 
   after : (i : ℕ) → end * w ≤ i → value_at w (map f ys) i ≡ value_at w (map f xs) i
   after i late =
-      value_at-is w (map f ys) i ∙ ap (λ n. is_one n (i % w)) (is.merged.after (i / w) (block_past w end i pos late)) ∙ sym (value_at-is w (map f xs) i)
+      value_at-is w (map f ys) i ∙ ap (λ n. is_one n (i % w))
+          (is.merged.after (i / w) (block_past w end i pos late)) ∙ sym (value_at-is w (map f xs) i)
 
   -- nor does a value come past the end of the list
   tail : IsZeroFrom w (map f ys) len
@@ -89,7 +106,9 @@ module _ {X : Type 0} (m : Merge) (w start end len short count : ℕ) (f : X →
   pub chunk_packed : IsPacked w f P ys len
   chunk_packed = record { each = is.each; count = is.len ∙ first.count; tail = tail; fits = first.fits }
 
-  pub chunk_values : (r s : ℕ) (v u : Bits) → record { values = values_of w (map f xs) len; capacity = r } ≡ v → record { values = values_of w (map f os) short; capacity = s } ≡ u → MergesBetween m (start * w) (end * w) v.values u.values (values_of w (map f ys) len)
+  pub chunk_values : (r s : ℕ) (v u : Bits) → record { values = values_of w (map f xs) len; capacity = r } ≡ v
+      → record { values = values_of w (map f os) short; capacity = s } ≡ u
+      → MergesBetween m (start * w) (end * w) v.values u.values (values_of w (map f ys) len)
   chunk_values r s v u view other_view =
       let mine : values_of w (map f xs) len ≡ v.values = ap (λ b. b.values) view in
       let theirs : values_of w (map f os) short ≡ u.values = ap (λ b. b.values) other_view in
@@ -110,11 +129,13 @@ kept_by_none Intersection a other = absurd (other refl)
 kept_by_none Difference a other = and-true a
 kept_by_none Symmetric a other = grind arith
 
-pub chunk_kept : (m : Merge) (start end : ℕ) (xs ys : List Bool) → (m ≡ Intersection → ⊥) → length ys ≤ start → MergesBetween m start end xs ys xs
+pub chunk_kept : (m : Merge) (start end : ℕ) (xs ys : List Bool) → (m ≡ Intersection → ⊥) → length ys ≤ start
+    → MergesBetween m start end xs ys xs
 chunk_kept m start end xs ys other past = record {
   len = refl;
   inside = λ i from below.
-      sym (ap (merge_of_values m (get_or xs i false)) (get_or_past ys i false (omega arith)) ∙ kept_by_none m (get_or xs i false) other);
+      sym (ap (merge_of_values m (get_or xs i false)) (get_or_past ys i false (omega arith))
+          ∙ kept_by_none m (get_or xs i false) other);
   before = λ i early. refl;
   after = λ i late. refl;
 }
@@ -122,20 +143,27 @@ chunk_kept m start end xs ys other past = record {
 -- ---- the summary
 
 -- one block of it is made anew
-pub chunk_summary : {X : Type 0} (m : Merge) (w q n : ℕ) (f : X → ℕ) (P : X → Type 0) (xs os ys ss ts : List X) → 0 < w → HasMerged m w f P (q * w) ((q + 1) * w) xs os ys → IsSummary w f P xs ss → q < length ss → map f ts ≡ set (map f ss) q n → All P ts → length ts ≡ length ss → ((j : ℕ) → j < w → is_one n j ≡ is_used (map f ys) (q * w + j)) → IsSummary w f P ys ts
+pub chunk_summary : {X : Type 0} (m : Merge) (w q n : ℕ) (f : X → ℕ) (P : X → Type 0) (xs os ys ss ts : List X)
+    → 0 < w → HasMerged m w f P (q * w) ((q + 1) * w) xs os ys → IsSummary w f P xs ss → q < length ss
+    → map f ts ≡ set (map f ss) q n → All P ts → length ts ≡ length ss
+    → ((j : ℕ) → j < w → is_one n j ≡ is_used (map f ys) (q * w + j)) → IsSummary w f P ys ts
 chunk_summary m w q n f P xs os ys ss ts pos is summary within put each len digits =
     let old = summary.packed in
-    summary_of_blocks w f P ys ts pos each (len ∙ old.count ∙ ap (blocks_for w) (sym is.len)) (omega (arith, old.fits, is.len)) (λ r j below index.
+    summary_of_blocks w f P ys ts pos each (len ∙ old.count ∙ ap (blocks_for w) (sym is.len))
+        (omega (arith, old.fits, is.len)) (λ r j below index.
     ⊎_elim
     (λ here.
-    ap (λ x. is_one x j) (ap (λ ns. get_or ns r 0) put ∙ ap (λ x. get_or (set (map f ss) q n) x 0) here ∙ get_or-set_same (map f ss) q n 0 (rw length-map within))
+    ap (λ x. is_one x j) (ap (λ ns. get_or ns r 0) put ∙ ap (λ x. get_or (set (map f ss) q n) x 0) here
+        ∙ get_or-set_same (map f ss) q n 0 (rw length-map within))
     ∙ digits j index
     ∙ ap (λ x. is_used (map f ys) (x * w + j)) (sym here))
     (λ other.
     let kept : get_or (map f ys) (r * w + j) 0 ≡ get_or (map f xs) (r * w + j) 0 =
     ⊎_elim
-    (λ early. is.merged.before (r * w + j) (omega (arith, index, mul-le-mul_right w (let l : r + 1 ≤ q = omega arith in l))))
-    (λ late. is.merged.after (r * w + j) (omega (arith, mul-le-mul_right w (let l : q + 1 ≤ r = omega (arith, other) in l))))
+    (λ early. is.merged.before (r * w + j)
+        (omega (arith, index, mul-le-mul_right w (let l : r + 1 ≤ q = omega arith in l))))
+    (λ late. is.merged.after (r * w + j)
+        (omega (arith, mul-le-mul_right w (let l : q + 1 ≤ r = omega (arith, other) in l))))
     (cases_lt r q) in
     ap (λ x. is_one x j) (ap (λ ns. get_or ns r 0) put ∙ get_or-set_other (map f ss) q r n 0 other)
     ∙ sym (value_at-index w (map f ss) r j index)

@@ -5,12 +5,16 @@ use Rattle.bit_words.proofs.bit_vec.BitVec.chunk_count.{Given.Over, Goals.After-
 use Rattle.bit_words.proofs.bit_vec.BitVec.chunk_count.Goals as goal
 
 -- how many there are
-count : (g : Over) (c : After-block_count g) → c.block_count.result ≡ blocks_for g.B.BitBlock.width (blocks_for g.B.BitBlock.width (length c.args.self.now.values))
+count : (g : Over) (c : After-block_count g)
+    → c.block_count.result ≡ blocks_for g.B.BitBlock.width
+    (blocks_for g.B.BitBlock.width (length c.args.self.now.values))
 count g c =
     let w = g.B.BitBlock.width in
-    let blocks : c.len.result ≡ length c.self.inside.blocks.items = omega (arith, c.len.ensures, c.self.inside.blocks.ok.0) in
+    let blocks : c.len.result ≡ length c.self.inside.blocks.items =
+        omega (arith, c.len.ensures, c.self.inside.blocks.ok.0) in
     c.block_count.ensures
-    ∙ ap (blocks_for w) (blocks ∙ c.self.invariant.packed.count ∙ ap (blocks_for w) (sym (length_from_view _ _ _ _ _ c.self.view_is)))
+    ∙ ap (blocks_for w) (blocks ∙ c.self.invariant.packed.count
+        ∙ ap (blocks_for w) (sym (length_from_view _ _ _ _ _ c.self.view_is)))
 
 pub returns-clause-value : goal.returns-clause-value
 returns-clause-value g c = count g (goal.at.returns-clause-value g c).After-block_count

@@ -8,9 +8,12 @@ loop-k-init g c = record { has = merged_none _ _ _ _ _ _ _ _ c.requires.can.each
 pub loop-k-preserved : goal.loop-k-preserved
 loop-k-preserved g c =
     let k = c.loop-k.k in
-    let one = merged_put _ g.B.BitBlock.width g.B.BitBlock.number _ k _ _ _ _ c.args.others.now _ (omega arith) c.put_in.ensures.numbers c.put_in.ensures.each c.put_in.ensures.len c.block_at.ensures.of_number c.block_or_zero.ensures.of_number c.of_blocks-merged.ensures.digits in
+    let one = merged_put _ g.B.BitBlock.width g.B.BitBlock.number _ k _ _ _ _ c.args.others.now _
+        (omega arith) c.put_in.ensures.numbers c.put_in.ensures.each c.put_in.ensures.len
+        c.block_at.ensures.of_number c.block_or_zero.ensures.of_number c.of_blocks-merged.ensures.digits in
     record {
-      has = merged_more _ _ _ _ c.args.start k (k + 1) _ _ _ _ _ _ c.loop-k.auto.k (omega arith) refl refl c.loop-k.invariant.has one;
+      has = merged_more _ _ _ _ c.args.start k (k + 1) _ _ _ _ _ _ c.loop-k.auto.k
+          (omega arith) refl refl c.loop-k.invariant.has one;
     }
 
 pub returns : goal.returns

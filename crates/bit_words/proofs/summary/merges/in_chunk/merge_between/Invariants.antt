@@ -3,5 +3,6 @@ use Rattle.bit_words.proofs.summary.merges.in_chunk.merge_between.Given as goal
 
 abbrev pub invariant-loop-k : goal.invariant-loop-k
 invariant-loop-k g l = record {
-  has : HasMerged g.O.Operation.merge g.B.BitBlock.width g.B.BitBlock.number g.B.BitBlock.is_block l.start l.k l.fn.blocks l.others l.blocks;
+  has : HasMerged g.O.Operation.merge g.B.BitBlock.width g.B.BitBlock.number g.B.BitBlock.is_block l.start l.k
+      l.fn.blocks l.others l.blocks;
 }
