@@ -83,7 +83,8 @@ not_ok : {T : Type 0} (r : Result T RangesError) (e : RangesError) (x : T) → r
 not_ok r e x one two = false≢true (ap is_ok (sym one ∙ two))
 
 -- where all items are read, the first is, and the others are
-first_read : (a : Result (Range ℕ) RangesError) (b : Result (List (Range ℕ)) RangesError) (rs : List (Range ℕ)) → before_ranges a b ≡ Ok rs
+first_read : (a : Result (Range ℕ) RangesError) (b : Result (List (Range ℕ)) RangesError) (rs : List (Range ℕ))
+    → before_ranges a b ≡ Ok rs
     → (r : Range ℕ) × (others : List (Range ℕ)) × (a ≡ Ok r) × (b ≡ Ok others) × (rs ≡ r ∷ others)
 first_read (Err e) b rs is = absurd (not_ok (Err e) e rs refl is)
 first_read (Ok r) (Err e) rs is = absurd (not_ok (Err e) e rs refl is)
@@ -93,7 +94,8 @@ first_read (Ok r) (Ok others) rs is = (r, others, refl, refl, same_ok (Ok (r ∷
 pub EndsAt : List ℕ → List (List ℕ) → ℕ → Type 0
 EndsAt text items end = record {
   fault : (e : RangesError) → ranges_of items ≡ Err e → ranges_in text ≡ Err e;
-  ranges : (rs : List (Range ℕ)) → ranges_of items ≡ Ok rs → (all : List (Range ℕ)) × (ranges_in text ≡ Ok all) × (end_of all ≡ max end (end_of rs));
+  ranges : (rs : List (Range ℕ)) → ranges_of items ≡ Ok rs
+      → (all : List (Range ℕ)) × (ranges_in text ≡ Ok all) × (end_of all ≡ max end (end_of rs));
 }
 
 pub ends_none : EndsAt [] [] 0
@@ -105,23 +107,28 @@ unfolding EndsAt
 ends_text [] some = absurd (some refl)
 ends_text (b ∷ bs) some = record { fault = λ e is. is; ranges = λ rs is. (rs, is, omega arith) }
 
-pub ends_fault : (text item : List ℕ) (items : List (List ℕ)) (end : ℕ) (e : RangesError) → EndsAt text (item ∷ items) end → range_of item ≡ Err e → ranges_in text ≡ Err e
+pub ends_fault : (text item : List ℕ) (items : List (List ℕ)) (end : ℕ) (e : RangesError)
+    → EndsAt text (item ∷ items) end → range_of item ≡ Err e → ranges_in text ≡ Err e
 unfolding EndsAt
 ends_fault text item items end e ends is = ends.fault e (rw is refl)
 
-pub ends_more : (text item : List ℕ) (items : List (List ℕ)) (end : ℕ) (r : Range ℕ) → EndsAt text (item ∷ items) end → range_of item ≡ Ok r → EndsAt text items (max end r.end)
+pub ends_more : (text item : List ℕ) (items : List (List ℕ)) (end : ℕ) (r : Range ℕ)
+    → EndsAt text (item ∷ items) end → range_of item ≡ Ok r → EndsAt text items (max end r.end)
 unfolding EndsAt
 ends_more text item items end r ends is = record {
   fault = λ e others. ends.fault e (rw (is, others) refl);
   ranges = λ rs others. let all = ends.ranges (r ∷ rs) (rw (is, others) refl) in (all.0, all.1, omega (arith, all.2));
 }
 
-pub ends_all : (text : List ℕ) (end : ℕ) → EndsAt text [] end → (rs : List (Range ℕ)) × (ranges_in text ≡ Ok rs) × (end ≡ end_of rs)
+pub ends_all : (text : List ℕ) (end : ℕ) → EndsAt text [] end
+    → (rs : List (Range ℕ)) × (ranges_in text ≡ Ok rs) × (end ≡ end_of rs)
 unfolding EndsAt
 ends_all text end ends = let all = ends.ranges [] refl in (all.0, all.1, omega (arith, all.2))
 
 -- where the items begin
-pub ends_first : (text : List ℕ) (rest : Option (Bor (List ℕ))) → IfSome rest (λ items. (items.now ≡ text) × (text ≢ [])) → IfNone rest (text ≡ []) → EndsAt text (items_left rest) 0
+pub ends_first : (text : List ℕ) (rest : Option (Bor (List ℕ)))
+    → IfSome rest (λ items. (items.now ≡ text) × (text ≢ [])) → IfNone rest (text ≡ [])
+    → EndsAt text (items_left rest) 0
 ends_first text None some none = subst (λ t. EndsAt t [] 0) (sym none) ends_none
 ends_first text (Some items) some none = subst (λ t. EndsAt text (items_of t) 0) (sym some.0) (ends_text text some.1)
 
@@ -133,7 +140,8 @@ Fills text items len s = record {
   left : List (Range ℕ);
   reads : ranges_of items ≡ Ok left;
   within : end_of left ≤ len;
-  members : (all : List (Range ℕ)) → ranges_in text ≡ Ok all → (n : ℕ) → in_ranges all n ≡ (has s n || in_ranges left n);
+  members : (all : List (Range ℕ)) → ranges_in text ≡ Ok all → (n : ℕ)
+      → in_ranges all n ≡ (has s n || in_ranges left n);
 }
 
 pub fills_none : (len : ℕ) (s : List ℕ) → HasNone s → Fills [] [] len s
@@ -145,7 +153,8 @@ fills_none len s none = record {
   members = λ all is n. rw (none n) (ap (λ rs. in_ranges rs n) (same_ok (Ok []) all [] is refl));
 }
 
-pub fills_text : (text : List ℕ) (len : ℕ) (s : List ℕ) → HasNone s → text ≢ [] → (rs : List (Range ℕ)) → ranges_in text ≡ Ok rs → end_of rs ≤ len → Fills text (items_of text) len s
+pub fills_text : (text : List ℕ) (len : ℕ) (s : List ℕ) → HasNone s → text ≢ [] → (rs : List (Range ℕ))
+    → ranges_in text ≡ Ok rs → end_of rs ≤ len → Fills text (items_of text) len s
 unfolding Fills
 fills_text [] len s none some rs is within = absurd (some refl)
 fills_text (b ∷ bs) len s none some rs is within = record {
@@ -156,21 +165,25 @@ fills_text (b ∷ bs) len s none some rs is within = record {
 }
 
 -- the range of the first item, which fits
-pub fills_first : (text item : List ℕ) (items : List (List ℕ)) (len : ℕ) (s : List ℕ) → Fills text (item ∷ items) len s → (r : Range ℕ) × (range_of item ≡ Ok r) × (r.end ≤ len)
+pub fills_first : (text item : List ℕ) (items : List (List ℕ)) (len : ℕ) (s : List ℕ)
+    → Fills text (item ∷ items) len s → (r : Range ℕ) × (range_of item ≡ Ok r) × (r.end ≤ len)
 unfolding Fills
 fills_first text item items len s fills =
     let parts = first_read (range_of item) (ranges_of items) fills.left fills.reads in
     (parts.0, parts.2, omega (arith, ap end_of parts.4, fills.within))
 
 -- so it needs no growth
-pub fills_end : (text item : List ℕ) (items : List (List ℕ)) (len : ℕ) (s : List ℕ) (r : Range ℕ) → Fills text (item ∷ items) len s → range_of item ≡ Ok r → span_end r.start r.end ≤ len
+pub fills_end : (text item : List ℕ) (items : List (List ℕ)) (len : ℕ) (s : List ℕ) (r : Range ℕ)
+    → Fills text (item ∷ items) len s → range_of item ≡ Ok r → span_end r.start r.end ≤ len
 fills_end text item items len s r fills is =
     let first = fills_first text item items len s fills in
     let same : first.0 ≡ r = same_ok (range_of item) first.0 r first.1 is in
     let end : r.end ≤ len = omega (arith, ap (λ x. x.end) same, first.2) in
     grind (arith, nat_tests)
 
-pub fills_more : (text item : List ℕ) (items : List (List ℕ)) (len : ℕ) (s t : List ℕ) (r : Range ℕ) → Fills text (item ∷ items) len s → range_of item ≡ Ok r → UpdatesRange (λ _. true) s t r.start r.end → Fills text items len t
+pub fills_more : (text item : List ℕ) (items : List (List ℕ)) (len : ℕ) (s t : List ℕ) (r : Range ℕ)
+    → Fills text (item ∷ items) len s → range_of item ≡ Ok r → UpdatesRange (λ _. true) s t r.start r.end
+    → Fills text items len t
 unfolding Fills
 fills_more text item items len s t r fills is put =
     let parts = first_read (range_of item) (ranges_of items) fills.left fills.reads in
@@ -180,18 +193,25 @@ fills_more text item items len s t r fills is put =
       reads = parts.3;
       within = omega (arith, ap end_of parts.4, fills.within);
       members = λ all also n.
-          fills.members all also n ∙ ap (λ rs. has s n || in_ranges rs n) (parts.4 ∙ ap (λ x. x ∷ parts.1) same) ∙ grind (arith, put n);
+          fills.members all also n ∙ ap (λ rs. has s n || in_ranges rs n) (parts.4 ∙ ap (λ x. x ∷ parts.1) same)
+              ∙ grind (arith, put n);
     }
 
-pub fills_all : (text : List ℕ) (len : ℕ) (s : List ℕ) → Fills text [] len s → (rs : List (Range ℕ)) → ranges_in text ≡ Ok rs → (n : ℕ) → has s n ≡ in_ranges rs n
+pub fills_all : (text : List ℕ) (len : ℕ) (s : List ℕ) → Fills text [] len s → (rs : List (Range ℕ))
+    → ranges_in text ≡ Ok rs → (n : ℕ) → has s n ≡ in_ranges rs n
 unfolding Fills
 fills_all text len s fills rs is n =
     let none : fills.left ≡ [] = same_ok (Ok []) fills.left [] fills.reads refl in
     sym (fills.members rs is n ∙ ap (λ xs. has s n || in_ranges xs n) none ∙ or-false (has s n))
 
-pub fills_first_items : (text : List ℕ) (rest : Option (Bor (List ℕ))) (len : ℕ) (s : List ℕ) → HasNone s → (rs : List (Range ℕ)) × (ranges_in text ≡ Ok rs) × (end_of rs ≤ len) → IfSome rest (λ items. (items.now ≡ text) × (text ≢ [])) → IfNone rest (text ≡ []) → Fills text (items_left rest) len s
-fills_first_items text None len s empty reads some none = subst (λ t. Fills t [] len s) (sym none) (fills_none len s empty)
-fills_first_items text (Some items) len s empty reads some none = subst (λ t. Fills text (items_of t) len s) (sym some.0) (fills_text text len s empty some.1 reads.0 reads.1 reads.2)
+pub fills_first_items : (text : List ℕ) (rest : Option (Bor (List ℕ))) (len : ℕ) (s : List ℕ) → HasNone s
+    → (rs : List (Range ℕ)) × (ranges_in text ≡ Ok rs) × (end_of rs ≤ len)
+    → IfSome rest (λ items. (items.now ≡ text) × (text ≢ [])) → IfNone rest (text ≡ [])
+    → Fills text (items_left rest) len s
+fills_first_items text None len s empty reads some none = subst (λ t. Fills t [] len s) (sym none)
+    (fills_none len s empty)
+fills_first_items text (Some items) len s empty reads some none = subst (λ t. Fills text (items_of t) len s)
+    (sym some.0) (fills_text text len s empty some.1 reads.0 reads.1 reads.2)
 
 pub next_items : (t item : List ℕ) (rest : Option (Bor (List ℕ))) → MatchOption rest (items_of t ≡ item ∷ []) (λ r. items_of t ≡ item ∷ items_of r.now) → items_of t ≡ item ∷ items_left rest
 next_items t item None is = is
@@ -213,7 +233,9 @@ of_either false r s one other = other
 of_number : (digits : List ℕ) → IsOfText (number_of digits)
 of_number digits =
     let value = digits_value 10 digits in
-    of_either (nat_lt 0 (length digits) && all_ascii_digits digits) (cond (nat_lt value greatest) (Ok value) (Err Number)) (Err Text) (of_either (nat_lt value greatest) (Ok value) (Err Number) tt tt) tt
+    of_either (nat_lt 0 (length digits) && all_ascii_digits digits)
+        (cond (nat_lt value greatest) (Ok value) (Err Number)) (Err Text)
+        (of_either (nat_lt value greatest) (Ok value) (Err Number) tt tt) tt
 
 of_between : (a b : Result ℕ RangesError) → IsOfText a → IsOfText b → IsOfText (range_between a b)
 of_between (Err Text) b first last = tt
@@ -224,11 +246,14 @@ of_between (Ok m) (Err Number) first last = tt
 of_between (Ok m) (Err (Memory fault)) first last = absurd last
 of_between (Ok m) (Ok n) first last = of_either (nat_le m n) (Ok (record { start = m; end = n + 1 })) (Err Text) tt tt
 
-of_parts : (item : List ℕ) (parts : Option (List ℕ × List ℕ)) → IsOfText (option_map_or (λ p. range_between (number_of p.0) (number_of p.1)) parts (range_between (number_of item) (number_of item)))
+of_parts : (item : List ℕ) (parts : Option (List ℕ × List ℕ))
+    → IsOfText (option_map_or (λ p. range_between (number_of p.0) (number_of p.1)) parts
+    (range_between (number_of item) (number_of item)))
 of_parts item None = of_between _ _ (of_number item) (of_number item)
 of_parts item (Some parts) = of_between _ _ (of_number parts.0) (of_number parts.1)
 
-of_before : (a : Result (Range ℕ) RangesError) (b : Result (List (Range ℕ)) RangesError) → IsOfText a → IsOfText b → IsOfText (before_ranges a b)
+of_before : (a : Result (Range ℕ) RangesError) (b : Result (List (Range ℕ)) RangesError) → IsOfText a → IsOfText b
+    → IsOfText (before_ranges a b)
 of_before (Err Text) b first rest = tt
 of_before (Err Number) b first rest = tt
 of_before (Err (Memory fault)) b first rest = absurd first

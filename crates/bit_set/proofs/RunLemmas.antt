@@ -94,16 +94,35 @@ module _ (s : List ℕ) (start end : ℕ) (up : IsAscending s) where
   rest_of_part : (past n : ℕ) → start ≤ past → has (those_in_range s past end) n ≡ (nat_le past n && has (those_in_range s start end) n)
   rest_of_part past n on = grind (arith, nat_tests, has-filter (in_range past end) s n, has-filter (in_range start end) s n, on)
 
-  pub passes_run : (first past : ℕ) (a t : RunsWalk) → record { members = those_in_range s start end; start = start; end = end } ≡ a → t ≡ record { members = those_in_range s past end; start = past; end = end } → start ≤ first → IsFirstRun (those_in_range s start end) (record { start = first; end = past }) → PassesRun a (Some (record { start = first; end = past })) t
+  pub passes_run : (first past : ℕ) (a t : RunsWalk)
+      → record { members = those_in_range s start end; start = start; end = end } ≡ a
+      → t ≡ record { members = those_in_range s past end; start = past; end = end } → start ≤ first
+      → IsFirstRun (those_in_range s start end) (record { start = first; end = past })
+      → PassesRun a (Some (record { start = first; end = past })) t
   passes_run first past a t old new on run =
       let rest = λ (n : ℕ). rest_of_part past n (omega (arith, on, run.some)) in
       let kept : those_in_range s past end ≡ those_from (those_in_range s start end) past = same_members _ _ (AscendsFrom-filter 0 _ s up) (AscendsFrom-filter 0 _ _ (AscendsFrom-filter 0 _ s up)) (λ n. rest n ∙ sym (has-filter (λ x. nat_le past x) (those_in_range s start end) n)) in
-      rw (← old, new) (record { item = runs_from_first (those_in_range s start end) _ first past (AscendsFrom-filter 0 _ s up) run kept; first = run; rest = rest; start = refl; end = refl })
+      rw (← old, new) (record {
+        item = runs_from_first (those_in_range s start end) _ first past (AscendsFrom-filter 0 _ s up) run kept;
+        first = run;
+        rest = rest;
+        start = refl;
+        end = refl;
+      })
 
-  pub passes_no_run : (a t : RunsWalk) → record { members = those_in_range s start end; start = start; end = end } ≡ a → t ≡ record { members = those_in_range s end end; start = end; end = end } → those_in_range s start end ≡ [] → PassesRun a None t
+  pub passes_no_run : (a t : RunsWalk)
+      → record { members = those_in_range s start end; start = start; end = end } ≡ a
+      → t ≡ record { members = those_in_range s end end; start = end; end = end } → those_in_range s start end ≡ []
+      → PassesRun a None t
   passes_no_run a t old new none =
       let ended : those_in_range s end end ≡ [] = same_members _ [] (AscendsFrom-filter 0 _ s up) tt (λ n. grind (arith, nat_tests, has-filter (in_range end end) s n)) in
-      rw (← old, new) (record { item = (ap runs_of none, ap runs_of ended); first = λ n. ap (λ ms. has ms n) none; rest = λ n. ap (λ ms. has ms n) ended; start = refl; end = refl })
+      rw (← old, new) (record {
+        item = (ap runs_of none, ap runs_of ended);
+        first = λ n. ap (λ ms. has ms n) none;
+        rest = λ n. ap (λ ms. has ms n) ended;
+        start = refl;
+        end = refl;
+      })
 
 -- each call gives the first of the runs that are left
 pub runs_in_order : YieldsInOrder PassesRun (λ walk. runs_of walk.members)
@@ -117,14 +136,16 @@ whole_range values =
 
 -- ---- how many there are
 
-few_from : (low b : ℕ) (rs : List (Range ℕ)) → AreApartFrom low rs → ((n : ℕ) → in_ranges rs n ≡ true → n < b) → length rs * 2 ≤ b + 1 - low
+few_from : (low b : ℕ) (rs : List (Range ℕ)) → AreApartFrom low rs → ((n : ℕ) → in_ranges rs n ≡ true → n < b)
+    → length rs * 2 ≤ b + 1 - low
 few_from low b [] apart below = omega arith
 few_from low b (r ∷ rs) apart below =
     let last : r.end - 1 < b = below (r.end - 1) (grind (arith, nat_tests, apart.1)) in
     let rest = few_from (r.end + 1) b rs apart.2 (λ n is. below n (grind (arith, is))) in
     omega (arith, apart.0, apart.1, last, rest)
 
-few_in : (a b : ℕ) (rs : List (Range ℕ)) → AreApartFrom 0 rs → ((n : ℕ) → in_ranges rs n ≡ true → (a ≤ n) × (n < b)) → length rs * 2 ≤ b + 1 - a
+few_in : (a b : ℕ) (rs : List (Range ℕ)) → AreApartFrom 0 rs → ((n : ℕ) → in_ranges rs n ≡ true → (a ≤ n) × (n < b))
+    → length rs * 2 ≤ b + 1 - a
 few_in a b [] apart within = omega arith
 few_in a b (r ∷ rs) apart within =
     let first = within r.start (grind (arith, nat_tests, apart.1)) in

@@ -26,10 +26,10 @@ pub enum RangesError {
 impl<B: BitBlock> BitSet<B> {
     /// The set that a text lists as Linux lists processors, `0-3, 5, 9-12`: numbers, and ranges from a first to a last
     /// number, with a comma between them and one space behind it or none. They may be in any order and overlap; numbers
-    /// may have leading zeros. The empty text is the empty set. The length is one more than the greatest number, and the
-    /// capacity that of its blocks. Two passes over the text, and one write of each block of a range. Fails at the first
-    /// item that is not so, whatever memory there is. A text without such an item fails only where memory for the blocks
-    /// runs out, and never the empty one.
+    /// may have leading zeros. The empty text is the empty set. The length is one more than the greatest number, and
+    /// the capacity that of its blocks. Two passes over the text, and one write of each block of a range. Fails at the
+    /// first item that is not so, whatever memory there is. A text without such an item fails only where memory for
+    /// the blocks runs out, and the empty one never does.
     ///
     /// ```
     /// let set: BitSet = BitSet::from_ranges(alloc, "0-3, 5,9-10")?;

@@ -133,7 +133,8 @@ impl<B: Width> Sets<B> {
                 self.put(name, made(alloc, making, len, bytes), answers);
             }
             Call::Gather(gathering) => {
-                self.put(name, gathered(alloc, gathering, &self.sets), answers);
+                let made = gathered(alloc, gathering, &self.sets);
+                self.put(name, made, answers);
             }
             Call::List(listing) => {
                 self.put(name, B::listed(alloc, listing, value, bytes), answers);
