@@ -55,7 +55,7 @@ below_most a n (s ∷ ss) le = let rest = below_most (max a (length s.values)) n
 pub none_longer : (Q : Type 0) (ss : List Bits) → All (λ s. longest ss < length s.values → Q) ss
 none_longer Q ss =
     All-weaker (λ s. length s.values ≤ longest ss) (λ s. longest ss < length s.values → Q)
-        (λ s le longer. absurd (omega arith)) ss (below_most 0 (longest ss) ss (omega arith)).1
+    (λ s le longer. absurd (omega arith)) ss (below_most 0 (longest ss) ss (omega arith)).1
 
 -- past the longest no list has a number
 none_past : (n : ℕ) (ss : List Bits) → All (λ s. length s.values ≤ n) ss
@@ -89,7 +89,7 @@ pub union_lists : (ss : List Bits) (v : List Bool) → HasSome ss (elements v)
     → elements v ≡ union_all (map (λ s. elements s.values) ss)
 union_lists ss v some =
     same_members (elements v) _ (IsAscending-elements v) (ascends-union_all [] (map (λ s. elements s.values) ss) tt)
-        (λ n. some n ∙ sym (has-union_all [] n ss))
+    (λ n. some n ∙ sym (has-union_all [] n ss))
 
 pub union_some : (ss : List Bits) (r : List ℕ) → HasSome ss r → (n : ℕ)
     → IsTrue (has r n) ↔ Any (λ s. IsTrue (has (elements s.values) n)) ss
@@ -117,8 +117,8 @@ pub intersection_lists : (ss : List Bits) (v : List Bool) → HasEach ss (elemen
 intersection_lists [] v each = none_from_members (elements v) each
 intersection_lists (s ∷ ss) v each =
     same_members (elements v) _ (IsAscending-elements v)
-        (ascends-intersection_all (elements s.values) (map (λ t. elements t.values) ss)
-        (IsAscending-elements s.values)) (λ n. each n ∙ sym (has-intersection_all (elements s.values) n ss))
+    (ascends-intersection_all (elements s.values) (map (λ t. elements t.values) ss)
+    (IsAscending-elements s.values)) (λ n. each n ∙ sym (has-intersection_all (elements s.values) n ss))
 
 pub intersection_each : (ss : List Bits) (r : List ℕ) → HasEach ss r → ss ≢ [] → (n : ℕ)
     → IsTrue (has r n) ↔ All (λ s. IsTrue (has (elements s.values) n)) ss

@@ -194,7 +194,7 @@ fills_more text item items len s t r fills is put =
       within = omega (arith, ap end_of parts.4, fills.within);
       members = λ all also n.
           fills.members all also n ∙ ap (λ rs. has s n || in_ranges rs n) (parts.4 ∙ ap (λ x. x ∷ parts.1) same)
-              ∙ grind (arith, put n);
+          ∙ grind (arith, put n);
     }
 
 pub fills_all : (text : List ℕ) (len : ℕ) (s : List ℕ) → Fills text [] len s → (rs : List (Range ℕ))
@@ -234,8 +234,8 @@ of_number : (digits : List ℕ) → IsOfText (number_of digits)
 of_number digits =
     let value = digits_value 10 digits in
     of_either (nat_lt 0 (length digits) && all_ascii_digits digits)
-        (cond (nat_lt value greatest) (Ok value) (Err Number)) (Err Text)
-        (of_either (nat_lt value greatest) (Ok value) (Err Number) tt tt) tt
+    (cond (nat_lt value greatest) (Ok value) (Err Number)) (Err Text)
+    (of_either (nat_lt value greatest) (Ok value) (Err Number) tt tt) tt
 
 of_between : (a b : Result ℕ RangesError) → IsOfText a → IsOfText b → IsOfText (range_between a b)
 of_between (Err Text) b first last = tt

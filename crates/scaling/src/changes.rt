@@ -39,7 +39,9 @@ impl Work for Change {
             Change::UnionWithDifference => {
                 set.union_with_difference(other, &BitSet::new_general(alloc))?
             }
-            Change::UnionOf => BitSet::union_of(alloc, &copies(alloc, set, other)?)?.contains(n / 2),
+            Change::UnionOf => BitSet::union_of(alloc, &copies(alloc, set, other)?)?.contains(
+                n / 2,
+            ),
             Change::IntersectionOf => {
                 BitSet::intersection_of(alloc, &copies(alloc, set, other)?)?.contains(n / 2)
             }

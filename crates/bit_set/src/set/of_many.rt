@@ -110,12 +110,7 @@ fn merged<B: BitBlock>(
 
 // The values of a chunk of the list become what they do by merges with those of the sets; the others stay.
 #[inline(always)]
-fn merge_chunk<B: BitBlock>(
-    bits: &mut BitVec<B>,
-    sets: &[BitSet<B>],
-    merge: Merge,
-    chunk: usize,
-)
+fn merge_chunk<B: BitBlock>(bits: &mut BitVec<B>, sets: &[BitSet<B>], merge: Merge, chunk: usize)
     requires some { chunk * B.width * B.width < length bits.old.values }
     requires fits { All (λ s. length bits.old.values < length s.values
         → merge_of_values merge false true ≡ false) sets.now }

@@ -17,7 +17,7 @@ returns-then-row-self-clause-outside g c =
     let matrix = seen_matrix g.met.B.BitBlock.width_law.positive c.self.invariant c.self.view_is in
     let below = matrix.below c.args.row c.args.column in
     let past = λ (h : length m.rows ≤ c.args.row).
-        ap (λ row. has row c.args.column) (get_or_past m.rows c.args.row [] h) in
+    ap (λ row. has row c.args.column) (get_or_past m.rows c.args.row [] h) in
     grind (arith, nat_tests, below, past)
 
 pub returns-then-row-self-clause-matrix : goal.returns-then-row-self-clause-matrix

@@ -18,14 +18,14 @@ fills : (g : Over) (c : After-first_item g)
     (length c.args.self.now.values) (elements c.items.self.values)
 fills g c =
     let items = next_items c.in-Some.items.now c.first_item.result.0.now c.first_item.result.1
-        c.first_item.ensures.items in
+    c.first_item.ensures.items in
     subst (λ is. Fills c.args.text.now is (length c.args.self.now.values) (elements c.items.self.values)) items
-        (rw c.in-Some.is at c.items.invariant.fills)
+    (rw c.in-Some.is at c.items.invariant.fills)
 
 pub unwrap-range-requires : goal.unwrap-range-requires
 unwrap-range-requires g c =
     let first = fills_first c.args.text.now c.first_item.result.0.now _ _ _
-        (fills g (goal.at.unwrap-range-requires g c).After-first_item) in
+    (fills g (goal.at.unwrap-range-requires g c).After-first_item) in
     ap is_ok (c.read_range.ensures ∙ first.1)
 
 -- the list is long enough
@@ -39,9 +39,9 @@ within g c left = fills_end c.args.text.now c.first_item.result.0.now _ _ _ c.un
 pub unwrap-requires : goal.unwrap-requires
 unwrap-requires g c =
     let end = within g (goal.at.unwrap-requires g c).After-insert_range
-        (fills g (goal.at.unwrap-requires g c).After-first_item) in
+    (fills g (goal.at.unwrap-requires g c).After-first_item) in
     c.insert_range.ensures.grows.succeeds
-        (omega (arith, end, c.items.invariant.len, c.insert_range.ensures.grows.holds_values))
+    (omega (arith, end, c.items.invariant.len, c.insert_range.ensures.grows.holds_values))
 
 pub items-preserved : goal.items-preserved
 items-preserved g c =
