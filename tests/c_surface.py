@@ -1,4 +1,4 @@
-"""Compares the public calls of BitSet with tests/c_surface.txt, and that with the header for C.
+"""Compares the public calls of BitSet and BitMatrix with tests/c_surface.txt, and that with the header for C.
 
 python3 c_surface.py TOP       writes a line for each difference, and ends with status 1 where there is one
 """
@@ -8,14 +8,19 @@ import sys
 from pathlib import Path
 
 
-# The names of the functions that the blocks `impl .. BitSet<..>` of the sources have, without those of a trait.
-def calls_of(sources):
+# A type, the crate that it is in, and what the names of its calls for C begin with. The list has the calls of the first by
+# their names alone, and those of the other behind its own.
+TYPES = [("BitSet", "bit_set", ""), ("BitMatrix", "bit_matrix", "BitMatrix::")]
+
+
+# The names of the functions that the blocks `impl .. NAME<..>` of the sources have, without those of a trait.
+def calls_of(sources, name):
     calls = set()
     for path in sorted(sources.rglob("*.rt")):
         inside = False
         for line in path.read_text().splitlines():
             if line.startswith("impl"):
-                inside = bool(re.match(r"impl(<[^>]*>)? BitSet<", line))
+                inside = bool(re.match(rf"impl(<[^>]*>)? {name}<", line))
             elif inside and (found := re.match(r"    pub fn (\w+)", line)):
                 calls.add(found.group(1))
     return calls
@@ -35,10 +40,14 @@ def main():
     top = Path(sys.argv[1])
     rows = listed(top / "tests" / "c_surface.txt")
     header = (top / "c" / "bit_set.h").read_text()
-    declared = set(re.findall(r"^[a-z].*\bbit_set_([a-z_]+)\(", header, re.MULTILINE))
-    faults = [f"{call} has no line in tests/c_surface.txt" for call in calls_of(top / "crates/bit_set/src") - set(rows)]
-    for call, names in rows.items():
-        faults += [f"{call}: bit_set.h has no bit_set_{name}" for name in names if name not in declared]
+    faults = []
+    for name, crate, before in TYPES:
+        calls = {before + call for call in calls_of(top / "crates" / crate / "src", name)}
+        faults += [f"{call} has no line in tests/c_surface.txt" for call in calls - set(rows)]
+        declared = set(re.findall(rf"^[a-z].*\b{crate}_([a-z_]+)\(", header, re.MULTILINE))
+        for call, names in rows.items():
+            if call.rpartition("::")[0] == before.rpartition("::")[0]:
+                faults += [f"{call}: bit_set.h has no {crate}_{each}" for each in names if each not in declared]
     print("\n".join(sorted(faults)), end="\n" if faults else "")
     return 1 if faults else 0
 

@@ -4,5 +4,8 @@ pub mod Bounds
 pub mod ByteDigits
 pub mod Filling
 pub mod Loans
+pub mod Nulls
+pub mod RowSearches
+pub mod Runs
 pub mod Sets
 pub mod Values
