@@ -389,6 +389,11 @@ size_t bit_matrix_next(const bit_matrix *matrix, size_t row, size_t from) BIT_SE
 size_t bit_matrix_copy_members(const bit_matrix *matrix, size_t row, size_t from, size_t *columns, size_t room)
     BIT_SET_CALL;
 
+/* Copies the blocks of the row from block `from` on, as `bit_set_copy_blocks` does those of a set. One step for each block,
+ * and one for each column that is in. */
+size_t bit_matrix_copy_blocks(const bit_matrix *matrix, size_t row, size_t from, bit_set_block *blocks, size_t room)
+    BIT_SET_CALL;
+
 /* Whether each column of the row is in the other row, and whether no column is in both. */
 bool bit_matrix_is_subset_row(const bit_matrix *matrix, size_t row, size_t other) BIT_SET_CALL;
 bool bit_matrix_is_disjoint_row(const bit_matrix *matrix, size_t row, size_t other) BIT_SET_CALL;
@@ -539,6 +544,12 @@ static inline size_t bit_matrix_checked_copy_members(const bit_matrix *matrix, s
     return bit_matrix_copy_members(matrix, row, from, columns, room);
 }
 
+static inline size_t bit_matrix_checked_copy_blocks(const bit_matrix *matrix, size_t row, size_t from,
+                                                    bit_set_block *blocks, size_t room) {
+    bit_matrix_stop_past_row(matrix, row, "copy_blocks");
+    return bit_matrix_copy_blocks(matrix, row, from, blocks, room);
+}
+
 static inline bool bit_matrix_checked_union_row_with(bit_matrix *matrix, const bit_set *set, size_t row) {
     size_t last = bit_set_last(set);
     bit_matrix_stop_past_row(matrix, row, "union_row_with");
@@ -571,6 +582,7 @@ static inline void bit_matrix_checked_insert_range(bit_matrix *matrix, size_t ro
 #define bit_matrix_row_to_set bit_matrix_checked_row_to_set
 #define bit_matrix_next bit_matrix_checked_next
 #define bit_matrix_copy_members bit_matrix_checked_copy_members
+#define bit_matrix_copy_blocks bit_matrix_checked_copy_blocks
 #define bit_matrix_union_row_with bit_matrix_checked_union_row_with
 #define bit_matrix_insert_range bit_matrix_checked_insert_range
 
