@@ -1,6 +1,6 @@
 /* Sets of whole numbers as bits, and matrices of bits, every call of which is proved. README.md of crates/bit_set_c says
- * what is proved, and by what it is linked. Here blocks have 64 bits. The calls are there over blocks of 32 bits and of 64, each in a header
- * of its own, and a program may use both; capacities come in whole blocks.
+ * what is proved, and by what it is linked. Here blocks have 64 bits. The calls are there over blocks of 32 bits and of
+ * 64, each in a header of its own, and a program may use both; capacities come in whole blocks.
  *
  *   Making and freeing      new, with_capacity, clone, from_bytes, from_members, split_off, copy_range, free
  *   Single numbers          insert, insert_members, remove, toggle, set, contains
@@ -431,7 +431,8 @@ void bit_matrix_reflexive_transitive_closure(bit_matrix *matrix) BIT_SET_CALL;
  * until nothing changes, with one pass over two rows for each edge. */
 bool bit_matrix_dominators(bit_matrix **out, const bit_matrix *graph, size_t entry) BIT_SET_MAY_FAIL;
 
-/* ---- The calls that owe two sets, or a row or a column that is there, where BIT_SET_CHECKED is defined: each looks first. */
+/* ---- The calls that owe two sets, or a row or a column that is there, where BIT_SET_CHECKED is defined: each looks
+ * first. */
 
 #ifdef BIT_SET_CHECKED
 

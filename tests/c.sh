@@ -2,7 +2,8 @@
 # Builds c/example.c over the library for C by the system's compilers, runs it, and runs it again with one request for
 # memory after another failing; the first over blocks of 32 bits too, and c/example.cc in C++. Holds the calls that make a
 # set to the memory that they may ask for, and makes random calls beside a table. Compares the prototypes of both headers
-# with what the library exports, and the calls of BitSet with these; and runs the Python module where there is a python3.
+# with what the library exports, and the calls of BitSet and BitMatrix with these; and runs the Python module where there is
+# a python3.
 #   tests/c.sh [FOLDER]      over the library that c/build wrote into the folder; where none is given it is built, over
 #                            the libraries as `rt ci` has just proved them here
 # The last line is 'N passed, M failed'.
@@ -212,7 +213,8 @@ for by in bit_set bit_set32; do
 done
 
 # The names that are declared are those that are exported.
-sed -n '/^static/d; s/^[a-z].*\(bit_\(set\|matrix\)\(32\)\?_[a-z_]*\)(.*/\1/p' "$library/bit_set.h" "$library/bit_set32.h" | sort > declared
+sed -n '/^static/d; s/^[a-z].*\(bit_\(set\|matrix\)\(32\)\?_[a-z_]*\)(.*/\1/p' \
+    "$library/bit_set.h" "$library/bit_set32.h" | sort > declared
 nm -g --defined-only "$library/libbit_set.a" | sed -n 's/.* T //p' | sort > exported
 if [ -s declared ] && cmp declared exported; then
     pass
@@ -222,12 +224,12 @@ else
 fi
 
 if command -v python3 > /dev/null; then
-    # Each public call of BitSet has one for C, or a reason why it has none.
+    # Each public call of BitSet and BitMatrix has one for C, and this one in the packages, or a reason why it has none.
     if python3 -B "$here/c_surface.py" "$top" > said 2>&1; then
         pass
     else
         cat said
-        fail 'the header lacks a call of BitSet'
+        fail 'the header lacks a call of BitSet or BitMatrix, or a package one of the header'
     fi
     if [ ! -f "$(python3 -c 'import sysconfig; print(sysconfig.get_path("include"))')/Python.h" ]; then
         echo 'left out: the Python module, without the headers of Python'

@@ -1,5 +1,6 @@
-/* Random calls for C on ranges, ends, single numbers, stretches, shifts and copies, and merges that say whether they changed
- * anything, each compared with a plain table of which numbers are in. It ends with status 1 at the first difference, and writes where that is. */
+/* Random calls for C on ranges, ends, single numbers, stretches, shifts and copies, and merges that say whether they
+ * changed anything, each compared with a plain table of which numbers are in. It ends with status 1 at the first
+ * difference, and writes where that is. */
 #include "bit_set.h"
 #include "c_draws.h"
 

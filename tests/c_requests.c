@@ -1,6 +1,6 @@
-/* How often each call for C that makes a set or a matrix asks for memory, and for how many bytes, held to what that takes:
- * the box, its blocks, and of a set, where these are many, their summary. Then each request fails in turn: the call returns
- * false, puts nothing out and keeps no memory. The set and the matrix that it was given stay as they were.
+/* How often each call for C that makes a set or a matrix asks for memory, and for how many bytes, held to what that
+ * takes: the box, its blocks, and of a set, where these are many, their summary. Then each request fails in turn: the
+ * call returns false, puts nothing out and keeps no memory. The set and the matrix that it was given stay as they were.
  *
  * Linked with -Wl,--wrap=malloc,--wrap=realloc,--wrap=free. It writes a line for each fault, and ends with status 1
  * where there is one. */
@@ -128,8 +128,8 @@ CALL(transposes, bit_matrix_transpose(&out->matrix, given->matrix))
 CALL(finds_dominators, bit_matrix_dominators(&out->matrix, given->matrix, 0))
 CALL(makes_of_row, bit_matrix_row_to_set(&out->set, given->matrix, 7))
 
-/* The calls, the length of the set that each is given, how many rows it makes, 0 of a set, and the length of what it takes
- * memory for, or of each row. */
+/* The calls, the length of the set that each is given, how many rows it makes, 0 of a set, and the length of what it
+ * takes memory for, or of each row. */
 static const struct row {
     const char *name;
     bool (*call)(struct pair *out, const struct pair *given);
@@ -175,8 +175,9 @@ static size_t count_of(const struct row *row, size_t at) {
     if (done && (asked > 1u + (blocks > 0) + (summary > 0) || bytes > most)) {
         fault(row->name, "asks for more memory than what it makes takes");
     }
-    if (!done && (live != before || bit_set_count(given.set) != (row->given > 0) || bit_set_length(given.set) != row->given ||
-                  bit_matrix_count_all(given.matrix) != ROWS)) {
+    bool stays = bit_set_count(given.set) == (row->given > 0) && bit_set_length(given.set) == row->given &&
+                 bit_matrix_count_all(given.matrix) == ROWS;
+    if (!done && (live != before || !stays)) {
         fault(row->name, "leaves another state where it found no memory");
     }
     free_both(&out);

@@ -5,6 +5,7 @@ pub mod ByteDigits
 pub mod Filling
 pub mod Loans
 pub mod Nulls
+pub mod Outcomes
 pub mod RowBlocks
 pub mod RowSearches
 pub mod Runs

@@ -1,5 +1,5 @@
 -- Columns that are put into the blocks of a row, one after another.
-use Rattle.std.proofs.Common.{◌≡◌, ◌≢◌, ℕ, ◌+◌, ◌-◌, ◌*◌, ◌/◌, ◌%◌, ◌<◌, ◌≤◌, ◌&&◌, ◌∙◌, List, [], ◌∷◌, ap, arith, false, true, get_or, get_or-set_other, get_or-set_same, length, nat_le, not, replicate, set, sym, ⊎_elim}
+use Rattle.std.proofs.Common.{◌≡◌, ◌≢◌, ℕ, ◌+◌, ◌-◌, ◌*◌, ◌/◌, ◌%◌, ◌<◌, ◌≤◌, ◌&&◌, ◌∙◌, List, ◌∷◌, ap, arith, false, true, get_or, get_or-set_other, get_or-set_same, length, nat_le, not, replicate, set, sym, ⊎_elim}
 use Rattle.std.proofs.lemmas.{Bool.cases_eq, Bool.Decides.nat_tests, List.get_or-replicate}
 use Rattle.bit_blocks.{proofs.Masks.is_one-zero, specs.Digits.is_one}
 use Rattle.bit_set.{proofs.SetLemmas.{has-below, has-filter}, specs.Sets.{IsAscending, has, those_from}}

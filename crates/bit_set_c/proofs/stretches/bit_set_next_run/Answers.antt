@@ -1,4 +1,3 @@
-use Rattle.std.proofs.Common.{refl}
 use Rattle.bit_set.specs.Sets.{elements}
 use Rattle.bit_set_c.proofs.Runs.{first_run, run_is_first}
 use Rattle.bit_set_c.proofs.stretches.bit_set_next_run.Goals as goal

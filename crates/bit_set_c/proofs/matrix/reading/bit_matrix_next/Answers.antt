@@ -1,4 +1,4 @@
-use Rattle.std.proofs.Common.{◌∙◌, sym, subst}
+use Rattle.std.proofs.Common.{sym, subst}
 use Rattle.std.specs.Prelude.{IfSome, ◌<◌}
 use Rattle.bit_matrix.specs.Matrices.{has_at, row_of}
 use Rattle.bit_blocks.specs.Searches.{FindsFrom}
