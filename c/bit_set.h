@@ -1,21 +1,30 @@
-/* Sets of whole numbers as bits, every call of which is proved. README.md of crates/bit_set_c says what is proved, and
- * by what it is linked. Here blocks have 64 bits. The calls are there over blocks of 32 bits and of 64, each in a header
- * of its own, and a program may use both; capacities come in whole blocks.
+/* Sets of whole numbers as bits, and matrices of bits, every call of which is proved. README.md of crates/bit_set_c says
+ * what is proved, and by what it is linked. Here blocks have 64 bits. The calls are there over blocks of 32 bits and of
+ * 64, each in a header of its own, and a program may use both; capacities come in whole blocks.
  *
- *   Making and freeing      new, with_capacity, clone, from_bytes, from_members, split_off, free
+ *   Making and freeing      new, with_capacity, clone, from_bytes, from_members, split_off, copy_range, free
  *   Single numbers          insert, insert_members, remove, toggle, set, contains
- *   Ends and searches       first, last, pop_first, pop_last, next, previous, next_missing, nth; BIT_SET_FOR_EACH
+ *   Ends and searches       first, last, pop_first, pop_last, next, previous, next_missing, nth, next_run, first_gap;
+ *                           BIT_SET_FOR_EACH, BIT_SET_FOR_EACH_RUN
  *   Ranges                  insert_range, toggle_range, remove_range, contains_all_in_range, contains_any_in_range,
  *                           count_in_range
  *   Copies                  copy_members, copy_members_back, copy_bytes, copy_blocks, put_blocks
  *   What a set says         count, is_empty, length, capacity, hash
- *   Two sets, read          is_subset, is_superset, is_disjoint, equals, compare, copy_union, copy_intersection,
- *                           copy_difference, copy_symmetric_difference
+ *   Two sets, read          is_subset, is_proper_subset, is_superset, is_disjoint, equals, compare, copy_union,
+ *                           copy_intersection, copy_difference, copy_symmetric_difference
  *   Two sets, in place      union_with, intersect_with, difference_with, symmetric_difference_with, union_changes,
  *                           intersection_changes, difference_changes, symmetric_difference_changes,
  *                           union_with_difference, append, copy
- *   A whole set             truncate, make_empty, reset
+ *   A whole set             truncate, make_empty, reset, shift_up, shift_down
  *   Capacity                reserve, reserve_exact, shrink_to_fit
+ *
+ * and those on matrices, whose names begin with bit_matrix_:
+ *
+ *   Making and freeing      new, from_set, clone, transpose, row_to_set, free
+ *   Rows and columns        rows, columns, contains, insert, remove, count, count_all, next; BIT_MATRIX_FOR_EACH
+ *   Whole rows              copy_members, copy_blocks, is_subset_row, is_disjoint_row, union_rows, intersect_rows,
+ *                           difference_rows, union_row_with, insert_range, fill_row, clear_row
+ *   Whole matrices          equals, transitive_closure, reflexive_transitive_closure, dominators
  *
  * What C owes, in Rust's words:
  *
@@ -25,6 +34,7 @@
  *                      written to the set.
  *   bit_set **         a place that holds NULL. A call that returns true puts a set there, which is to be freed once;
  *                      a call that returns false leaves NULL.
+ *   bit_matrix         the same as a bit_set: `bit_matrix *`, `const bit_matrix *` and `bit_matrix **`.
  *   T *, size_t        so many values one after another, none of them a part of a set, which only this call writes, or
  *                      with `const` no call. The pointer is never NULL, even to none.
  *
@@ -104,6 +114,9 @@ bool bit_set_from_members(bit_set **out, const size_t *members, size_t count) BI
 /* Parts a set: the members below `at` stay, and the others go into a set of their own. */
 bool bit_set_split_off(bit_set **out, bit_set *set, size_t at) BIT_SET_MAY_FAIL;
 
+/* A set of the members that are `start` or above and below `end`. Its length is at most `end`. */
+bool bit_set_copy_range(bit_set **out, const bit_set *set, size_t start, size_t end) BIT_SET_MAY_FAIL;
+
 /* Gives the memory back. Of NULL it does nothing. */
 void bit_set_free(bit_set *set);
 
@@ -158,10 +171,23 @@ size_t bit_set_next_missing(const bit_set *set, size_t from) BIT_SET_CALL;
  * blocks by their counts. */
 size_t bit_set_nth(const bit_set *set, size_t from, size_t n) BIT_SET_CALL;
 
+/* The first run of members from `from` on, which is the longest range of numbers that are all members: `*start` is its first
+ * one, and `*end` one more than its last. One that begins below `from` is cut there. False where no member is `from` or
+ * above; nothing is written then. Reads each block from that of `from` to that of `*end`. */
+bool bit_set_next_run(const bit_set *set, size_t from, size_t *start, size_t *end) BIT_SET_CALL;
+
+/* The least number that is `from` or above and at which `count` numbers in a row begin that are no members: `from` where
+ * `count` is 0. False where the numbers below SIZE_MAX do not suffice; nothing is written then. One pass at most. */
+bool bit_set_first_gap(const bit_set *set, size_t from, size_t count, size_t *gap) BIT_SET_CALL;
+
 /* A loop over the members in ascending order. `member` is a name of the loop's own. In it the set may be changed: the walk
  * goes on at the next member as the set is then. */
 #define BIT_SET_FOR_EACH(member, set)                                                                                  \
     for (size_t member = bit_set_first(set); member != BIT_SET_NONE; member = bit_set_next(set, member + 1))
+
+/* The same over the runs of members: `start` and `end` are two names of the loop's own. */
+#define BIT_SET_FOR_EACH_RUN(start, end, set)                                                                          \
+    for (size_t start = 0, end = 0; bit_set_next_run(set, end, &start, &end);)
 
 /* ---- Ranges: the numbers that are `start` or above and below `end`, and none where `end` is `start` or below. Each block
  * of the range is read or written once, and no other. */
@@ -219,8 +245,14 @@ uint64_t bit_set_hash(const bit_set *set) BIT_SET_CALL;
 
 /* ---- Two sets, which are read. In each of these both may be one set. One pass over both at most. */
 
+/* Whether each member is one of the other set, and the other way round. */
 bool bit_set_is_subset(const bit_set *set, const bit_set *other) BIT_SET_CALL;
 bool bit_set_is_superset(const bit_set *set, const bit_set *other) BIT_SET_CALL;
+
+/* Whether each member is one of the other set, which has one more at least. */
+bool bit_set_is_proper_subset(const bit_set *set, const bit_set *other) BIT_SET_CALL;
+
+/* Whether no member is one of the other set. */
 bool bit_set_is_disjoint(const bit_set *set, const bit_set *other) BIT_SET_CALL;
 
 /* Whether the members are the same. Lengths and capacities do not matter. */
@@ -264,7 +296,8 @@ bool bit_set_append(bit_set *set, bit_set *other) BIT_SET_MAY_FAIL;
 /* `set` becomes equal to `other`, with its length. */
 bool bit_set_copy(bit_set *set, const bit_set *other) BIT_SET_MAY_FAIL;
 
-/* ---- A whole set. None of these three takes memory. The second writes each block, and the other two one at most. */
+/* ---- A whole set. Of these `bit_set_shift_up` alone takes memory. The first and the third write one block at most, and
+ * the others each. */
 
 /* Keeps the members below `length`, and shortens the length to it. */
 void bit_set_truncate(bit_set *set, size_t length) BIT_SET_CALL;
@@ -274,6 +307,13 @@ void bit_set_make_empty(bit_set *set) BIT_SET_CALL;
 
 /* Takes every member out and makes the length 0; the capacity stays. */
 void bit_set_reset(bit_set *set) BIT_SET_CALL;
+
+/* Moves each member up: n becomes n + distance. The length becomes at least one more than the greatest. BIT_SET_YES, or
+ * BIT_SET_NO_MEMORY, or BIT_SET_NO_ELEMENT where a member would become SIZE_MAX or more. */
+int32_t bit_set_shift_up(bit_set *set, size_t distance) BIT_SET_MAY_FAIL;
+
+/* Moves each member down: n becomes n - distance, and those below the distance are gone. The length stays. */
+void bit_set_shift_down(bit_set *set, size_t distance) BIT_SET_CALL;
 
 /* ---- Capacity. Members and length stay, but for `bit_set_shrink_to_fit`. The blocks may move. */
 
@@ -287,7 +327,112 @@ bool bit_set_reserve_exact(bit_set *set, size_t length) BIT_SET_MAY_FAIL;
  * some of it stayed for want of memory; the length is the new one then too. */
 bool bit_set_shrink_to_fit(bit_set *set) BIT_SET_CALL;
 
-/* ---- The calls that owe two sets, where BIT_SET_CHECKED is defined: each compares its sets first. */
+/* ---- Matrices: rows of columns, each row a set, all in one piece of memory. The numbers of rows and columns stay as they
+ * are made. A row or a column that a call is given is C's to keep below them. Where BIT_SET_CHECKED is defined before this
+ * header, a call that is given another ends the process with a message.
+ *
+ * Only the calls that make a matrix or a set take memory. Those with a row take constant time, or make one pass over the
+ * blocks of the row, or of the two rows. */
+
+typedef struct bit_matrix bit_matrix;
+
+/* ---- Making and freeing matrices. `false` says too that a matrix would have more bits than SIZE_MAX, with each row at
+ * whole blocks. */
+
+/* So many rows with nothing in them. Writes each block once. */
+bool bit_matrix_new(bit_matrix **out, size_t rows, size_t columns) BIT_SET_MAY_FAIL;
+
+/* So many rows that each have the members of the set; there are as many columns as the set's length. Writes each block
+ * twice. */
+bool bit_matrix_from_set(bit_matrix **out, const bit_set *set, size_t rows) BIT_SET_MAY_FAIL;
+
+/* A matrix with the same rows. Copies each block. */
+bool bit_matrix_clone(bit_matrix **out, const bit_matrix *matrix) BIT_SET_MAY_FAIL;
+
+/* The matrix that has a row for each column, and in it the rows that have that column. Goes by squares of blocks, or, where
+ * less than every other block has a column in it on average, by what is in. */
+bool bit_matrix_transpose(bit_matrix **out, const bit_matrix *matrix) BIT_SET_MAY_FAIL;
+
+/* The set of the columns that are in the row. Its length is the number of columns. */
+bool bit_matrix_row_to_set(bit_set **out, const bit_matrix *matrix, size_t row) BIT_SET_MAY_FAIL;
+
+/* Gives the memory back. Of NULL it does nothing. */
+void bit_matrix_free(bit_matrix *matrix);
+
+/* ---- Rows and columns. Constant time, but for the counts, and for the next column, which passes over blocks of zeros. */
+
+size_t bit_matrix_rows(const bit_matrix *matrix) BIT_SET_CALL;
+size_t bit_matrix_columns(const bit_matrix *matrix) BIT_SET_CALL;
+
+/* Whether the column is in the row. */
+bool bit_matrix_contains(const bit_matrix *matrix, size_t row, size_t column) BIT_SET_CALL;
+
+/* Put the column in or take it out. Each returns whether that changed the row. */
+bool bit_matrix_insert(bit_matrix *matrix, size_t row, size_t column) BIT_SET_CALL;
+bool bit_matrix_remove(bit_matrix *matrix, size_t row, size_t column) BIT_SET_CALL;
+
+/* How many columns are in the row, and how many are in all rows together. */
+size_t bit_matrix_count(const bit_matrix *matrix, size_t row) BIT_SET_CALL;
+size_t bit_matrix_count_all(const bit_matrix *matrix) BIT_SET_CALL;
+
+/* The least column that is in the row and is `from` or above, or BIT_SET_NONE where there is none. */
+size_t bit_matrix_next(const bit_matrix *matrix, size_t row, size_t from) BIT_SET_CALL;
+
+/* A loop over the columns of a row, as BIT_SET_FOR_EACH is one over the members of a set. */
+#define BIT_MATRIX_FOR_EACH(column, matrix, row)                                                                       \
+    for (size_t column = bit_matrix_next(matrix, row, 0); column != BIT_SET_NONE;                                      \
+         column = bit_matrix_next(matrix, row, column + 1))
+
+/* ---- Whole rows. `row`, `read` and `write` may be one row. */
+
+/* Copies the columns of the row that are `from` or above, as `bit_set_copy_members` does of a set. */
+size_t bit_matrix_copy_members(const bit_matrix *matrix, size_t row, size_t from, size_t *columns, size_t room)
+    BIT_SET_CALL;
+
+/* Copies the blocks of the row from block `from` on, as `bit_set_copy_blocks` does those of a set. One step for each block,
+ * and one for each column that is in. */
+size_t bit_matrix_copy_blocks(const bit_matrix *matrix, size_t row, size_t from, bit_set_block *blocks, size_t room)
+    BIT_SET_CALL;
+
+/* Whether each column of the row is in the other row, and whether no column is in both. */
+bool bit_matrix_is_subset_row(const bit_matrix *matrix, size_t row, size_t other) BIT_SET_CALL;
+bool bit_matrix_is_disjoint_row(const bit_matrix *matrix, size_t row, size_t other) BIT_SET_CALL;
+
+/* Make the row `write` what is in it or in the row `read`, in both, or in it alone. Each returns whether that changed it. */
+bool bit_matrix_union_rows(bit_matrix *matrix, size_t read, size_t write) BIT_SET_CALL;
+bool bit_matrix_intersect_rows(bit_matrix *matrix, size_t read, size_t write) BIT_SET_CALL;
+bool bit_matrix_difference_rows(bit_matrix *matrix, size_t read, size_t write) BIT_SET_CALL;
+
+/* Puts the members of the set into the row, each of which must be below the number of columns. Returns whether that changed
+ * the row. */
+bool bit_matrix_union_row_with(bit_matrix *matrix, const bit_set *set, size_t row) BIT_SET_CALL;
+
+/* Puts the columns into the row that are `start` or above and below `end`, of which each must be one. None where `end` is
+ * `start` or below. Writes the blocks of the range. */
+void bit_matrix_insert_range(bit_matrix *matrix, size_t row, size_t start, size_t end) BIT_SET_CALL;
+
+/* Put each column in, or take each out. */
+void bit_matrix_fill_row(bit_matrix *matrix, size_t row) BIT_SET_CALL;
+void bit_matrix_clear_row(bit_matrix *matrix, size_t row) BIT_SET_CALL;
+
+/* ---- Whole matrices, and matrices as graphs: from each row an edge leads to each column that is in it, and a column that
+ * is no row has no edges of its own. */
+
+/* Whether the numbers of columns and the rows are the same. Both may be one matrix. */
+bool bit_matrix_equals(const bit_matrix *matrix, const bit_matrix *other) BIT_SET_CALL;
+
+/* Make each row the set of all to which a path leads from it: of one edge at least, or of any number of edges, also of none.
+ * Unites no row with another more than once. */
+void bit_matrix_transitive_closure(bit_matrix *matrix) BIT_SET_CALL;
+void bit_matrix_reflexive_transitive_closure(bit_matrix *matrix) BIT_SET_CALL;
+
+/* The dominators of each row: row v of the new matrix, which has as many rows and columns, has d where every path from
+ * `entry` to v goes through d. So the row of v has v and `entry`, and every d where no path leads to v. Goes over all edges
+ * until nothing changes, with one pass over two rows for each edge. */
+bool bit_matrix_dominators(bit_matrix **out, const bit_matrix *graph, size_t entry) BIT_SET_MAY_FAIL;
+
+/* ---- The calls that owe two sets, or a row or a column that is there, where BIT_SET_CHECKED is defined: each looks
+ * first. */
 
 #ifdef BIT_SET_CHECKED
 
@@ -336,6 +481,111 @@ static inline int32_t bit_set_checked_union_with_difference(bit_set *set, const 
 #define bit_set_union_with_difference bit_set_checked_union_with_difference
 #define bit_set_append bit_set_checked_append
 #define bit_set_copy bit_set_checked_copy
+
+static inline void bit_matrix_stop_past(size_t number, size_t count, const char *what, const char *call) {
+    if (number >= count) {
+        fprintf(stderr, "bit_matrix_%s: there is no %s %zu\n", call, what, number);
+        abort();
+    }
+}
+
+static inline void bit_matrix_stop_past_row(const bit_matrix *matrix, size_t row, const char *call) {
+    bit_matrix_stop_past(row, bit_matrix_rows(matrix), "row", call);
+}
+
+#define BIT_MATRIX_CHECK_ROW(call)                                                                                     \
+    static inline void bit_matrix_checked_##call(bit_matrix *matrix, size_t row) {                                     \
+        bit_matrix_stop_past_row(matrix, row, #call);                                                                  \
+        bit_matrix_##call(matrix, row);                                                                                \
+    }
+
+#define BIT_MATRIX_CHECK_ROWS(call, matrix_type)                                                                       \
+    static inline bool bit_matrix_checked_##call(matrix_type *matrix, size_t read, size_t write) {                     \
+        bit_matrix_stop_past_row(matrix, read, #call);                                                                 \
+        bit_matrix_stop_past_row(matrix, write, #call);                                                                \
+        return bit_matrix_##call(matrix, read, write);                                                                 \
+    }
+
+#define BIT_MATRIX_CHECK_COLUMN(call, matrix_type)                                                                     \
+    static inline bool bit_matrix_checked_##call(matrix_type *matrix, size_t row, size_t column) {                     \
+        bit_matrix_stop_past_row(matrix, row, #call);                                                                  \
+        bit_matrix_stop_past(column, bit_matrix_columns(matrix), "column", #call);                                     \
+        return bit_matrix_##call(matrix, row, column);                                                                 \
+    }
+
+BIT_MATRIX_CHECK_ROW(fill_row)
+BIT_MATRIX_CHECK_ROW(clear_row)
+BIT_MATRIX_CHECK_ROWS(is_subset_row, const bit_matrix)
+BIT_MATRIX_CHECK_ROWS(is_disjoint_row, const bit_matrix)
+BIT_MATRIX_CHECK_ROWS(union_rows, bit_matrix)
+BIT_MATRIX_CHECK_ROWS(intersect_rows, bit_matrix)
+BIT_MATRIX_CHECK_ROWS(difference_rows, bit_matrix)
+BIT_MATRIX_CHECK_COLUMN(contains, const bit_matrix)
+BIT_MATRIX_CHECK_COLUMN(insert, bit_matrix)
+BIT_MATRIX_CHECK_COLUMN(remove, bit_matrix)
+
+static inline bool bit_matrix_checked_row_to_set(bit_set **out, const bit_matrix *matrix, size_t row) {
+    bit_matrix_stop_past_row(matrix, row, "row_to_set");
+    return bit_matrix_row_to_set(out, matrix, row);
+}
+
+static inline size_t bit_matrix_checked_count(const bit_matrix *matrix, size_t row) {
+    bit_matrix_stop_past_row(matrix, row, "count");
+    return bit_matrix_count(matrix, row);
+}
+
+static inline size_t bit_matrix_checked_next(const bit_matrix *matrix, size_t row, size_t from) {
+    bit_matrix_stop_past_row(matrix, row, "next");
+    return bit_matrix_next(matrix, row, from);
+}
+
+static inline size_t bit_matrix_checked_copy_members(const bit_matrix *matrix, size_t row, size_t from, size_t *columns,
+                                                     size_t room) {
+    bit_matrix_stop_past_row(matrix, row, "copy_members");
+    return bit_matrix_copy_members(matrix, row, from, columns, room);
+}
+
+static inline size_t bit_matrix_checked_copy_blocks(const bit_matrix *matrix, size_t row, size_t from,
+                                                    bit_set_block *blocks, size_t room) {
+    bit_matrix_stop_past_row(matrix, row, "copy_blocks");
+    return bit_matrix_copy_blocks(matrix, row, from, blocks, room);
+}
+
+static inline bool bit_matrix_checked_union_row_with(bit_matrix *matrix, const bit_set *set, size_t row) {
+    size_t last = bit_set_last(set);
+    bit_matrix_stop_past_row(matrix, row, "union_row_with");
+    if (last != BIT_SET_NONE)
+        bit_matrix_stop_past(last, bit_matrix_columns(matrix), "column", "union_row_with");
+    return bit_matrix_union_row_with(matrix, set, row);
+}
+
+static inline void bit_matrix_checked_insert_range(bit_matrix *matrix, size_t row, size_t start, size_t end) {
+    bit_matrix_stop_past_row(matrix, row, "insert_range");
+    if (start < end)
+        bit_matrix_stop_past(end - 1, bit_matrix_columns(matrix), "column", "insert_range");
+    bit_matrix_insert_range(matrix, row, start, end);
+}
+
+#undef BIT_MATRIX_CHECK_ROW
+#undef BIT_MATRIX_CHECK_ROWS
+#undef BIT_MATRIX_CHECK_COLUMN
+#define bit_matrix_count bit_matrix_checked_count
+#define bit_matrix_fill_row bit_matrix_checked_fill_row
+#define bit_matrix_clear_row bit_matrix_checked_clear_row
+#define bit_matrix_is_subset_row bit_matrix_checked_is_subset_row
+#define bit_matrix_is_disjoint_row bit_matrix_checked_is_disjoint_row
+#define bit_matrix_union_rows bit_matrix_checked_union_rows
+#define bit_matrix_intersect_rows bit_matrix_checked_intersect_rows
+#define bit_matrix_difference_rows bit_matrix_checked_difference_rows
+#define bit_matrix_contains bit_matrix_checked_contains
+#define bit_matrix_insert bit_matrix_checked_insert
+#define bit_matrix_remove bit_matrix_checked_remove
+#define bit_matrix_row_to_set bit_matrix_checked_row_to_set
+#define bit_matrix_next bit_matrix_checked_next
+#define bit_matrix_copy_members bit_matrix_checked_copy_members
+#define bit_matrix_copy_blocks bit_matrix_checked_copy_blocks
+#define bit_matrix_union_row_with bit_matrix_checked_union_row_with
+#define bit_matrix_insert_range bit_matrix_checked_insert_range
 
 #endif
 

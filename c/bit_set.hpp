@@ -1,6 +1,6 @@
-// Sets of whole numbers for C++17, over bit_set.h: a class that owns its set and gives it back. A call that finds no memory
-// throws std::bad_alloc, and one that would put SIZE_MAX in throws std::out_of_range; nothing changed then. What has no
-// method here is called as in C, over `get()`.
+// Sets of whole numbers and matrices of bits for C++17, over bit_set.h: classes that own their set or matrix and give it
+// back. A call that finds no memory throws std::bad_alloc, and one that would put SIZE_MAX in throws std::out_of_range;
+// nothing changed then. What has no method here is called as in C, over `get()`.
 #ifndef BIT_SET_HPP
 #define BIT_SET_HPP
 
@@ -13,8 +13,14 @@
 #include <stdexcept>
 #include <utility>
 
+class BitMatrix;
+
 class BitSet {
     bit_set *set_ = nullptr;
+
+    friend BitMatrix;
+
+    explicit BitSet(bit_set *set) : set_(set) {}
 
     static void require(bool done) {
         if (!done)
@@ -130,6 +136,65 @@ public:
     friend bool operator!=(const BitSet &a, const BitSet &b) { return !(a == b); }
     // The order of the ascending lists of members.
     friend bool operator<(const BitSet &a, const BitSet &b) { return bit_set_compare(a.set_, b.set_) < 0; }
+};
+
+// A matrix of bits: rows of columns, each row a set. The numbers of both stay, and to keep below them is the caller's.
+class BitMatrix {
+    bit_matrix *matrix_ = nullptr;
+
+    explicit BitMatrix(bit_matrix *matrix) : matrix_(matrix) {}
+
+public:
+    BitMatrix(std::size_t rows, std::size_t columns) { BitSet::require(bit_matrix_new(&matrix_, rows, columns)); }
+    // So many rows, each with the members of the set; the columns are as many as its length.
+    BitMatrix(const BitSet &row, std::size_t rows) { BitSet::require(bit_matrix_from_set(&matrix_, row.get(), rows)); }
+    BitMatrix(const BitMatrix &other) { BitSet::require(bit_matrix_clone(&matrix_, other.matrix_)); }
+    // What was moved from is only to be assigned to or let go.
+    BitMatrix(BitMatrix &&other) noexcept : matrix_(std::exchange(other.matrix_, nullptr)) {}
+    BitMatrix &operator=(BitMatrix other) noexcept {
+        std::swap(matrix_, other.matrix_);
+        return *this;
+    }
+    ~BitMatrix() { bit_matrix_free(matrix_); }
+
+    bit_matrix *get() { return matrix_; }
+    const bit_matrix *get() const { return matrix_; }
+
+    std::size_t rows() const { return bit_matrix_rows(matrix_); }
+    std::size_t columns() const { return bit_matrix_columns(matrix_); }
+    bool contains(std::size_t row, std::size_t column) const { return bit_matrix_contains(matrix_, row, column); }
+    std::size_t count(std::size_t row) const { return bit_matrix_count(matrix_, row); }
+
+    // Each returns whether that changed the row; of two rows the second is written.
+    bool insert(std::size_t row, std::size_t column) { return bit_matrix_insert(matrix_, row, column); }
+    bool erase(std::size_t row, std::size_t column) { return bit_matrix_remove(matrix_, row, column); }
+    bool unite_rows(std::size_t read, std::size_t write) { return bit_matrix_union_rows(matrix_, read, write); }
+    bool intersect_rows(std::size_t read, std::size_t write) { return bit_matrix_intersect_rows(matrix_, read, write); }
+    bool subtract_rows(std::size_t read, std::size_t write) { return bit_matrix_difference_rows(matrix_, read, write); }
+
+    // The columns of a row as a set, and the matrix whose rows are the columns of this.
+    BitSet row(std::size_t row) const {
+        bit_set *set = nullptr;
+        BitSet::require(bit_matrix_row_to_set(&set, matrix_, row));
+        return BitSet(set);
+    }
+    BitMatrix transposed() const {
+        bit_matrix *matrix = nullptr;
+        BitSet::require(bit_matrix_transpose(&matrix, matrix_));
+        return BitMatrix(matrix);
+    }
+
+    // As a graph, in which an edge leads from a row to each of its columns: each row becomes all that a path of an edge or
+    // more leads to; and the matrix of what lies on every path from `entry` to each row.
+    void close() { bit_matrix_transitive_closure(matrix_); }
+    BitMatrix dominators(std::size_t entry) const {
+        bit_matrix *matrix = nullptr;
+        BitSet::require(bit_matrix_dominators(&matrix, matrix_, entry));
+        return BitMatrix(matrix);
+    }
+
+    friend bool operator==(const BitMatrix &a, const BitMatrix &b) { return bit_matrix_equals(a.matrix_, b.matrix_); }
+    friend bool operator!=(const BitMatrix &a, const BitMatrix &b) { return !(a == b); }
 };
 
 #endif

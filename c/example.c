@@ -1,4 +1,5 @@
-/* The primes below 100 by the sieve of Eratosthenes, and how many are not of the form 4n + 1. */
+/* The primes below 100 by the sieve of Eratosthenes, and how many are not of the form 4n + 1; and what a node of a graph
+ * reaches. */
 #include "bit_set.h"
 #include <stdio.h>
 
@@ -14,6 +15,17 @@ static bool sieve(bit_set *primes) {
     return true;
 }
 
+/* The closure of the graph whose edges lead from 0 to 2, from 2 to 1 and from 1 to 3. */
+static bool close_edges(bit_matrix **graph) {
+    if (!bit_matrix_new(graph, 4, 4))
+        return false;
+    bit_matrix_insert(*graph, 0, 2);
+    bit_matrix_insert(*graph, 2, 1);
+    bit_matrix_insert(*graph, 1, 3);
+    bit_matrix_transitive_closure(*graph);
+    return true;
+}
+
 static void print(const bit_set *set) {
     size_t members[8], from = 0, count;
     while ((count = bit_set_copy_members(set, from, members, 8)) > 0) {
@@ -26,7 +38,8 @@ static void print(const bit_set *set) {
 
 int main(void) {
     bit_set *primes = NULL, *others = NULL;
-    bool done = bit_set_new(&primes) && sieve(primes) && bit_set_clone(&others, primes);
+    bit_matrix *graph = NULL;
+    bool done = bit_set_new(&primes) && sieve(primes) && bit_set_clone(&others, primes) && close_edges(&graph);
     if (done) {
         for (size_t number = 1; number < LIMIT; number += 4)
             bit_set_remove(others, number);
@@ -34,7 +47,12 @@ int main(void) {
         print(primes);
         printf("%zu of them are not 4n + 1: subset %d, disjoint %d, compare %d\n", bit_set_count(others),
                bit_set_is_subset(others, primes), bit_set_is_disjoint(others, primes), bit_set_compare(others, primes));
+        printf("0 reaches");
+        BIT_MATRIX_FOR_EACH(node, graph, 0)
+            printf(" %zu", node);
+        printf("\n");
     }
+    bit_matrix_free(graph);
     bit_set_free(others);
     bit_set_free(primes);
     if (!done)

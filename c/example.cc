@@ -1,4 +1,5 @@
-// The primes below 100 by the sieve of Eratosthenes, and how many are not of the form 4n + 1: c/example.c in C++.
+// The primes below 100 by the sieve of Eratosthenes, and how many are not of the form 4n + 1, and what a node of a graph
+// reaches: c/example.c in C++.
 #include "bit_set.hpp"
 #include <cstdio>
 
@@ -19,11 +20,21 @@ int main() {
         for (std::size_t number = 1; number < LIMIT; number += 4)
             ones.insert(number);
         BitSet others = primes - ones;
+        BitMatrix graph(4, 4);
+        graph.insert(0, 2);
+        graph.insert(2, 1);
+        graph.insert(1, 3);
+        graph.close();
+        BitSet reached = graph.row(0);
         std::printf("%zu:", primes.size());
         for (std::size_t prime : primes)
             std::printf(" %zu", prime);
         std::printf("\n%zu of them are not 4n + 1: subset %d, disjoint %d, compare %d\n", others.size(),
                     others.is_subset(primes), others.is_disjoint(primes), bit_set_compare(others.get(), primes.get()));
+        std::printf("0 reaches");
+        for (std::size_t node : reached)
+            std::printf(" %zu", node);
+        std::printf("\n");
     } catch (const std::bad_alloc &) {
         std::fprintf(stderr, "no memory\n");
         return 3;

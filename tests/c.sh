@@ -2,7 +2,8 @@
 # Builds c/example.c over the library for C by the system's compilers, runs it, and runs it again with one request for
 # memory after another failing; the first over blocks of 32 bits too, and c/example.cc in C++. Holds the calls that make a
 # set to the memory that they may ask for, and makes random calls beside a table. Compares the prototypes of both headers
-# with what the library exports, and the calls of BitSet with these; and runs the Python module where there is a python3.
+# with what the library exports, and the calls of BitSet and BitMatrix with these; and runs the Python module where there is
+# a python3.
 #   tests/c.sh [FOLDER]      over the library that c/build wrote into the folder; where none is given it is built, over
 #                            the libraries as `rt ci` has just proved them here
 # The last line is 'N passed, M failed'.
@@ -48,6 +49,7 @@ cd "$room" || exit 1
 cat > written << 'END'
 25: 2 3 5 7 11 13 17 19 23 29 31 37 41 43 47 53 59 61 67 71 73 79 83 89 97
 14 of them are not 4n + 1: subset 1, disjoint 0, compare 1
+0 reaches 1 2 3
 END
 : > nothing
 echo 'no memory' > refused
@@ -69,6 +71,11 @@ run() {
     timeout 60 "$@" > wrote 2> said || ended=$?
 }
 
+# A program with this number in each name of a call, as in the header of other blocks.
+over_blocks() {
+    sed "s/bit_\(set\|matrix\)/bit_\1$1/g; s/BIT_\(SET\|MATRIX\)/BIT_\1$1/g" "$2"
+}
+
 warnings=(-Wall -Wextra -Werror -pedantic)
 if cc -std=c99 "${warnings[@]}" -O2 -I"$library" "$top/c/example.c" "$library/libbit_set.a" -o example 2> said; then
     run ./example
@@ -86,7 +93,7 @@ else
     fail 'cc does not build the example over the shared object'
 fi
 # The example reads the same where each name of a call is that of the other header.
-sed 's/bit_set/bit_set32/g' "$top/c/example.c" > example32.c
+over_blocks 32 "$top/c/example.c" > example32.c
 if cc -std=c99 "${warnings[@]}" -O2 -I"$library" example32.c "$library/libbit_set.a" -o example32 2> said; then
     run ./example32
     judge 'the example over blocks of 32 bits' 0 written nothing
@@ -123,7 +130,7 @@ if command -v c++ > /dev/null; then
         fail 'c++ does not build the example in C++'
     fi
 fi
-# A call that is given one set where it owes two stops where it is asked to.
+# A call that is given one set where it owes two, or a row that is not there, stops where it is asked to.
 cat > twice.c << 'END'
 #define BIT_SET_CHECKED
 #include "bit_set.h"
@@ -137,16 +144,29 @@ int main(void) {
     return bit_set_append(set, set);
 }
 END
-echo 'bit_set_append: the call was given one set where it owes two' > stopped
-if cc -std=c99 "${warnings[@]}" -I"$library" twice.c "$library/libbit_set.a" -o twice 2> said; then
-    # The shell that sees the signal says so on a stream of its own.
-    (ulimit -c 0 && ./twice 2> said) > wrote 2> ended_by
-    ended=$?
-    judge 'one set twice' 134 nothing stopped
-else
-    cat said
-    fail 'cc does not build a program over the header with its checks'
-fi
+cat > past.c << 'END'
+#define BIT_SET_CHECKED
+#include "bit_set.h"
+int main(void) {
+    bit_matrix *matrix = NULL;
+    if (!bit_matrix_new(&matrix, 2, 3) || !bit_matrix_insert(matrix, 1, 2))
+        return 3;
+    return bit_matrix_insert(matrix, 2, 1);
+}
+END
+echo 'bit_set_append: the call was given one set where it owes two' > stopped_twice
+echo 'bit_matrix_insert: there is no row 2' > stopped_past
+for name in twice past; do
+    if cc -std=c99 "${warnings[@]}" -I"$library" "$name.c" "$library/libbit_set.a" -o "$name" 2> said; then
+        # The shell that sees the signal says so on a stream of its own.
+        (ulimit -c 0 && "./$name" 2> said) > wrote 2> ended_by
+        ended=$?
+        judge "a call that must stop: $name" 134 nothing "stopped_$name"
+    else
+        cat said
+        fail 'cc does not build a program over the header with its checks'
+    fi
+done
 
 # Each request for memory failing in turn: nothing is written, and the status says so; past the last all is well.
 if cc -O1 -shared -fPIC -o shim.so "$here/shim.c"; then
@@ -172,18 +192,20 @@ fi
 # table.
 wrapped='-Wl,--wrap=malloc,--wrap=realloc,--wrap=free'
 for by in bit_set bit_set32; do
-    sed "s/bit_set/$by/g; s/BIT_SET/${by^^}/g" "$here/c_calls.c" > calls.c
-    if cc -std=c99 "${warnings[@]}" -O2 -I"$library" calls.c "$library/libbit_set.a" -o calls 2> said; then
-        run ./calls
-        judge "random calls of $by" 0 nothing nothing
-    else
-        cat said
-        fail 'cc does not build tests/c_calls.c'
-    fi
-    sed "s/bit_set/$by/g" "$here/c_requests.c" > requests.c
+    for calls in calls matrix; do
+        over_blocks "${by#bit_set}" "$here/c_$calls.c" > "c_$calls.c"
+        if cc -std=c99 "${warnings[@]}" -O2 -I"$library" -I"$here" "c_$calls.c" "$library/libbit_set.a" -o calls 2> said; then
+            run ./calls
+            judge "random calls of $by: $calls" 0 nothing nothing
+        else
+            cat said
+            fail "cc does not build tests/c_$calls.c"
+        fi
+    done
+    over_blocks "${by#bit_set}" "$here/c_requests.c" > requests.c
     if cc -std=c99 "${warnings[@]}" -O2 -I"$library" requests.c "$library/libbit_set.a" "$wrapped" -o requests 2> said; then
         run ./requests
-        judge "the memory of calls that make a $by" 0 nothing nothing
+        judge "the memory of calls that make a set or a matrix of $by" 0 nothing nothing
     else
         cat said
         fail 'cc does not build tests/c_requests.c'
@@ -191,7 +213,8 @@ for by in bit_set bit_set32; do
 done
 
 # The names that are declared are those that are exported.
-sed -n '/^static/d; s/^[a-z].*\(bit_set\(32\)\?_[a-z_]*\)(.*/\1/p' "$library/bit_set.h" "$library/bit_set32.h" | sort > declared
+sed -n '/^static/d; s/^[a-z].*\(bit_\(set\|matrix\)\(32\)\?_[a-z_]*\)(.*/\1/p' \
+    "$library/bit_set.h" "$library/bit_set32.h" | sort > declared
 nm -g --defined-only "$library/libbit_set.a" | sed -n 's/.* T //p' | sort > exported
 if [ -s declared ] && cmp declared exported; then
     pass
@@ -201,12 +224,12 @@ else
 fi
 
 if command -v python3 > /dev/null; then
-    # Each public call of BitSet has one for C, or a reason why it has none.
+    # Each public call of BitSet and BitMatrix has one for C, and this one in the packages, or a reason why it has none.
     if python3 -B "$here/c_surface.py" "$top" > said 2>&1; then
         pass
     else
         cat said
-        fail 'the header lacks a call of BitSet'
+        fail 'the header lacks a call of BitSet or BitMatrix, or a package one of the header'
     fi
     if [ ! -f "$(python3 -c 'import sysconfig; print(sysconfig.get_path("include"))')/Python.h" ]; then
         echo 'left out: the Python module, without the headers of Python'

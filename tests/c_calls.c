@@ -1,9 +1,9 @@
-/* Random calls for C on ranges, ends, single numbers and copies, and merges that say whether they changed anything, each
- * compared with a plain table of which numbers are in. It ends with status 1 at the first difference, and writes where that is. */
+/* Random calls for C on ranges, ends, single numbers, stretches, shifts and copies, and merges that say whether they
+ * changed anything, each compared with a plain table of which numbers are in. It ends with status 1 at the first
+ * difference, and writes where that is. */
 #include "bit_set.h"
+#include "c_draws.h"
 
-#include <stdio.h>
-#include <stdlib.h>
 #include <string.h>
 
 /* Each number is below it. So long a list stores a summary, over blocks of 64 bits too. */
@@ -11,21 +11,6 @@
 
 static bit_set *sets[3];
 static bool tables[3][LIMIT];
-static unsigned long state = 1;
-
-static size_t draw(size_t below) {
-    state = (state * 1103515245 + 12345) & 0x7fffffff;
-    return (state >> 8) % below;
-}
-
-static void check(bool holds, int line) {
-    if (!holds) {
-        printf("tests/c_calls.c:%d: another answer than the table's\n", line);
-        exit(1);
-    }
-}
-
-#define CHECK(holds) check(holds, __LINE__)
 
 static size_t next_in(const bool *table, size_t from, bool in) {
     while (from < LIMIT && table[from] != in)
@@ -101,6 +86,47 @@ static void searches(const bit_set *set, const bool *table) {
     CHECK(bit_set_nth(set, n, skipped) == member);
 }
 
+/* The first run from a number on, and the first gap of some length. */
+static void stretches(const bit_set *set, const bool *table) {
+    size_t n = draw(LIMIT), first = next_in(table, n, true), start = 7, end = 8;
+    CHECK(bit_set_next_run(set, n, &start, &end) == (first != SIZE_MAX));
+    size_t missing = first == SIZE_MAX ? SIZE_MAX : next_in(table, first, false);
+    CHECK(first == SIZE_MAX ? start == 7 && end == 8 : start == first && end == (missing == SIZE_MAX ? LIMIT : missing));
+    size_t count = draw(40), gap = n, found = 7;
+    for (size_t k = 0; k < count; k++)
+        if (gap + k < LIMIT && table[gap + k]) {
+            gap += k + 1;
+            k = SIZE_MAX;
+        }
+    CHECK(bit_set_first_gap(set, n, count, &found) && found == gap);
+    found = 7;
+    CHECK(!bit_set_first_gap(set, n + 1, SIZE_MAX - n, &found) && found == 7);
+}
+
+/* Moves all members up and down again, and copies a part. */
+static void shifts(bit_set *set, bool *table) {
+    size_t distance = draw(200), last = previous_in(table, LIMIT), start = draw(LIMIT), end = draw(LIMIT);
+    if (last != SIZE_MAX)
+        CHECK(bit_set_shift_up(set, SIZE_MAX - last) == BIT_SET_NO_ELEMENT);
+    if (last != SIZE_MAX && last + distance < LIMIT) {
+        CHECK(bit_set_shift_up(set, distance) == BIT_SET_YES);
+        memmove(table + distance, table, (last + 1) * sizeof *table);
+        memset(table, 0, distance * sizeof *table);
+    } else {
+        bit_set_shift_down(set, distance);
+        memmove(table, table + distance, (LIMIT - distance) * sizeof *table);
+        memset(table + LIMIT - distance, 0, distance * sizeof *table);
+    }
+    bit_set *part = NULL;
+    CHECK(bit_set_copy_range(&part, set, start, end));
+    CHECK(bit_set_count(part) == count_in(table, start, end) && bit_set_next(part, 0) == bit_set_first(part));
+    for (size_t n = start; n < end; n++)
+        CHECK(bit_set_contains(part, n) == table[n]);
+    CHECK(bit_set_is_proper_subset(part, set) == (bit_set_count(part) < bit_set_count(set)));
+    CHECK(!bit_set_is_proper_subset(set, part));
+    bit_set_free(part);
+}
+
 /* Copies from a number on, or from one down, and into blocks. Past what is copied nothing is written. */
 static void copies(bit_set *set, bool *table) {
     size_t members[9], n = draw(LIMIT), end = n;
@@ -157,10 +183,13 @@ int main(void) {
         single_numbers(sets[k], tables[k]);
         ends(sets[k], tables[k]);
         searches(sets[k], tables[k]);
+        stretches(sets[k], tables[k]);
         if (draw(8) == 0)
             ranges(sets[k], tables[k]);
         if (draw(8) == 0)
             copies(sets[k], tables[k]);
+        if (draw(8) == 0)
+            shifts(sets[k], tables[k]);
         if (draw(8) == 0)
             merges();
         if (draw(100) == 0) {

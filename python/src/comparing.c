@@ -39,8 +39,8 @@ static int compare_with_bit_set(PyObject *self, PyObject *other, int operation)
     case Py_NE: return !bit_set_equals(set, with);
     case Py_LE: return bit_set_is_subset(set, with);
     case Py_GE: return bit_set_is_subset(with, set);
-    case Py_LT: return bit_set_is_subset(set, with) && !bit_set_equals(set, with);
-    default: return bit_set_is_subset(with, set) && !bit_set_equals(set, with);
+    case Py_LT: return bit_set_is_proper_subset(set, with);
+    default: return bit_set_is_proper_subset(with, set);
     }
 }
 

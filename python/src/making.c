@@ -27,6 +27,16 @@ PyObject *set_copy(PyObject *self, PyObject *Py_UNUSED(none))
     return made ? made_if(bit_set_clone(&((BitSet *)made)->set, set_of(self)), made) : NULL;
 }
 
+PyObject *set_copy_range(PyObject *self, PyObject *arguments)
+{
+    size_t start, stop;
+    bool is_within;
+    if (!read_range(arguments, &start, &stop, &is_within))
+        return NULL;
+    PyObject *made = blank(Py_TYPE(self));
+    return made ? made_if(bit_set_copy_range(&((BitSet *)made)->set, set_of(self), start, stop), made) : NULL;
+}
+
 void set_dealloc(PyObject *self)
 {
     PyTypeObject *type = Py_TYPE(self);

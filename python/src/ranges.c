@@ -3,7 +3,7 @@
 
 /* Reads the bounds of a range. Where some number of it is below 0 or SIZE_MAX or more, `*is_within` is false, and the bounds
  * are those of the others. */
-static bool read_range(PyObject *arguments, size_t *start, size_t *stop, bool *is_within)
+bool read_range(PyObject *arguments, size_t *start, size_t *stop, bool *is_within)
 {
     PyObject *first, *last;
     int start_is = 0, stop_is = 0;

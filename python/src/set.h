@@ -73,6 +73,7 @@ enum reading read_number(PyObject *object, size_t *number);
 PyObject *as_bit_set(PyObject *members);
 PyObject *set_add(PyObject *self, PyObject *member);
 PyObject *set_copy(PyObject *self, PyObject *Py_UNUSED(none));
+PyObject *set_copy_range(PyObject *self, PyObject *arguments);
 PyObject *set_discard(PyObject *self, PyObject *member);
 PyObject *set_new(PyTypeObject *type, PyObject *Py_UNUSED(positional), PyObject *Py_UNUSED(named));
 PyObject *set_remove(PyObject *self, PyObject *member);
@@ -142,5 +143,12 @@ PyObject *set_pop_last(PyObject *self, PyObject *Py_UNUSED(none));
 PyObject *set_previous(PyObject *self, PyObject *end);
 PyObject *set_toggle(PyObject *self, PyObject *member);
 PyObject *set_toggle_range(PyObject *self, PyObject *arguments);
+bool read_range(PyObject *arguments, size_t *start, size_t *stop, bool *is_within);
+
+/* stretches.c */
+PyObject *set_first_gap(PyObject *self, PyObject *arguments);
+PyObject *set_next_run(PyObject *self, PyObject *from);
+PyObject *set_shift_down(PyObject *self, PyObject *distance);
+PyObject *set_shift_up(PyObject *self, PyObject *distance);
 
 #endif

@@ -1,14 +1,18 @@
--- What C owns of a set, and its parts, own what a box at the same types owns.
+-- What C owns of a set or of a matrix, and its parts, own what a box at the same types owns.
 use denote.Signature.{Slot, plain}
+use denote.RattleType.{RattleType}
 use Rattle.std.specs.contracts.alloc.Global as Heap
 use Rattle.std.specs.contracts.impls.GlobalAllocator.TheImpl.{ghosts}
-use Rattle.bit_set_c.specs.Block.{set_row}
-use Rattle.bit_set_c.specs.contracts.handed.Owned as Owned
+use Rattle.bit_set_c.specs.contracts.handed.matrices.OwnedMatrix as OwnedMatrix
+use Rattle.bit_set_c.specs.contracts.handed.sets.Owned as Owned
 use Rattle.bit_set_c.specs.contracts.parts.Parts as Parts
-pub use Rattle.bit_set_c.proofs.Sets.{E}
+pub use Rattle.bit_set_c.proofs.Sets.{matrix_box, set_box}
 
-abbrev pub FromParts : Slot 0
-FromParts = plain (λ _. Parts.the_row set_row Heap.the_row ghosts)
+abbrev pub FromParts : RattleType → Slot 0
+FromParts X = plain (λ _. Parts.the_row X Heap.the_row ghosts)
 
 abbrev pub FromOwned : Slot 0
 FromOwned = plain (λ _. Owned.the_row)
+
+abbrev pub FromOwnedMatrix : Slot 0
+FromOwnedMatrix = plain (λ _. OwnedMatrix.the_row)

@@ -4,5 +4,10 @@ pub mod Bounds
 pub mod ByteDigits
 pub mod Filling
 pub mod Loans
+pub mod Nulls
+pub mod Outcomes
+pub mod RowBlocks
+pub mod RowSearches
+pub mod Runs
 pub mod Sets
 pub mod Values

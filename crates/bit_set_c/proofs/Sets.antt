@@ -1,4 +1,4 @@
--- A set that C owns owns what a box at the same types owns.
+-- The laws of sets and of matrices in memory, and of the boxes that C owns of them.
 use mir.Syntax.{impl, tnil, dnil}
 use mathlib.Core.List.{[]}
 use mathlib.Core.Path.{refl}
@@ -7,7 +7,7 @@ use denote.Param.Shared.{copy_shared}
 use denote.Struct.Field.{u64-field}
 use denote.Struct.Laws.{u64-laws, u64-copy}
 use Rattle.std.proofs.BoxSteps.Form.{Bx}
-use Rattle.std.specs.Borrow.{u64}
+use Rattle.std.specs.Borrow.{RattleType, u64}
 use Rattle.std.specs.contracts.alloc.Global as Heap
 use Rattle.std.specs.contracts.impls.GlobalAllocator.TheImpl.{ghosts, dict}
 use Rattle.std.proofs.alloc.Global.TheLaws as heap
@@ -19,11 +19,21 @@ use Rattle.std.specs.contracts.prelude.U64BitXor.TheImpl as xor
 use Rattle.std.specs.contracts.prelude.U64Not.TheImpl as complement
 use Rattle.std.specs.contracts.prelude.U64Add.TheImpl as add
 use Rattle.std.specs.contracts.prelude.U64Sub.TheImpl as sub
-use Rattle.bit_set_c.specs.Block.{set_row}
+use Rattle.bit_set_c.specs.Block.{matrix_row, set_row}
 use Rattle.bit_set.proofs.set.BitSet.TheLaws as set
+use Rattle.bit_matrix.proofs.matrix.BitMatrix.TheLaws as matrix
 
 abbrev pub set_laws : Laws set_row
 set_laws = set.the_row_laws u64 block.ghosts eq.ghosts and.ghosts or.ghosts xor.ghosts complement.ghosts add.ghosts sub.ghosts (of_field u64-field u64-laws refl (copy_shared u64-field u64-copy))
 
-abbrev pub E : Bx
-E = record { row = set_row; laws = set_laws; al = record { row = Heap.the_row; laws = heap.the_row_laws; g = ghosts; d = dict; drops = impl [] tnil dnil } }
+abbrev pub matrix_laws : Laws matrix_row
+matrix_laws = matrix.the_row_laws u64 block.ghosts eq.ghosts and.ghosts or.ghosts xor.ghosts complement.ghosts add.ghosts sub.ghosts (of_field u64-field u64-laws refl (copy_shared u64-field u64-copy))
+
+abbrev box_of : (X : RattleType) → Laws X → Bx
+box_of X laws = record { row = X; laws = laws; al = record { row = Heap.the_row; laws = heap.the_row_laws; g = ghosts; d = dict; drops = impl [] tnil dnil } }
+
+abbrev pub set_box : Bx
+set_box = box_of set_row set_laws
+
+abbrev pub matrix_box : Bx
+matrix_box = box_of matrix_row matrix_laws

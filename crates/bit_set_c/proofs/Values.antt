@@ -1,13 +1,12 @@
--- What is held where there is a set.
-use Rattle.std.proofs.Common.{◌≡◌, refl, []}
+-- What is held where there is a value.
+use Rattle.std.proofs.Common.{◌≡◌, refl}
 use Rattle.std.specs.Prelude.{Option, Some, None, IsSome}
-use Rattle.bit_blocks.specs.Bits.{Bits}
 use borrow.Author.Tests.{clash}
 
-abbrev pub value_of : (o : Option Bits) → IsSome o → Bits
-value_of None s = record { values = []; capacity = 0 }
-value_of (Some b) s = b
+abbrev pub value_of : {D : Type 0} (o : Option D) → IsSome o → D
+value_of None s = absurd (clash s)
+value_of (Some v) s = v
 
-pub is_value : (o : Option Bits) (s : IsSome o) → o ≡ Some (value_of o s)
+pub is_value : {D : Type 0} (o : Option D) (s : IsSome o) → o ≡ Some (value_of o s)
 is_value None s = absurd (clash s)
-is_value (Some b) s = refl
+is_value (Some v) s = refl

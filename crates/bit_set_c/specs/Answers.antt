@@ -1,6 +1,7 @@
 -- What the answers of calls say to C.
 use Rattle.std.specs.Prelude.{ℕ, ℤ, zero, suc, pos, negsuc, Bool, true, false, ◌==◌, if◌then◌else◌, Option, Some, None, Result, Ok, Err, alloc_error, ⊤}
 use Rattle.std.specs.declared.alloc.AllocError.{AllocError}
+use Rattle.std.specs.declared.ops.Range.{Range}
 use Rattle.std.specs.declared.cmp.Ordering.{Ordering, TheVariants.{Less, Equal, Greater}}
 use Rattle.bit_words.specs.Bounds.{greatest}
 use Rattle.bit_set.specs.declared.faults.SetError.{SetError, TheVariants.{Element, Length, Memory}}
@@ -17,6 +18,13 @@ inserted (pos (suc zero)) = Ok true
 inserted (negsuc zero) = Err (Memory alloc_error)
 inserted (negsuc (suc zero)) = Err Element
 inserted answer = Err Length
+
+-- of a call that moves the members: 1 where it did, -1 for memory, -2 where one would be no element
+abbrev pub moved : ℤ → Result ⊤ SetError
+moved (pos (suc zero)) = Ok tt
+moved (negsuc zero) = Err (Memory alloc_error)
+moved (negsuc (suc zero)) = Err Element
+moved answer = Err Length
 
 -- of a call that changes a set: 1 where it did, 0 where not, -1 for memory
 abbrev pub changed : ℤ → Result Bool AllocError
@@ -39,3 +47,12 @@ abbrev pub order_answer : Ordering → ℤ
 order_answer Less = negsuc 0
 order_answer Equal = pos 0
 order_answer Greater = pos 1
+
+-- of a call that looks for a number, or for a range, and puts it out: what it found
+abbrev pub given : Bool → ℕ → Option ℕ
+given true n = Some n
+given false n = None
+
+abbrev pub given_range : Bool → ℕ → ℕ → Option (Range ℕ)
+given_range true start end = Some (record { start = start; end = end })
+given_range false start end = None

@@ -1,4 +1,4 @@
--- The blocks of the sets, as `src/block.rt` has them.
+-- The blocks of the sets and of the matrices, as `src/block.rt` has them.
 use Rattle.std.specs.Prelude.{ℕ}
 use Rattle.std.specs.Borrow.{RattleType, u64}
 use Rattle.bit_blocks.specs.contracts.block.integers.U64BitBlock.TheImpl as block
@@ -10,6 +10,7 @@ use Rattle.std.specs.contracts.prelude.U64Not.TheImpl as complement
 use Rattle.std.specs.contracts.prelude.U64Add.TheImpl as add
 use Rattle.std.specs.contracts.prelude.U64Sub.TheImpl as sub
 use Rattle.bit_set.specs.contracts.set.BitSet as set
+use Rattle.bit_matrix.specs.contracts.matrix.BitMatrix as matrix
 
 -- how many bits a block has
 abbrev pub width : ℕ
@@ -18,3 +19,7 @@ width = 64
 -- how memory keeps a set
 abbrev pub set_row : RattleType
 set_row = set.the_row u64 block.ghosts eq.ghosts and.ghosts or.ghosts xor.ghosts complement.ghosts add.ghosts sub.ghosts
+
+-- how memory keeps a matrix
+abbrev pub matrix_row : RattleType
+matrix_row = matrix.the_row u64 block.ghosts eq.ghosts and.ghosts or.ghosts xor.ghosts complement.ghosts add.ghosts sub.ghosts

@@ -1,4 +1,4 @@
-//! Sets of whole numbers for C: `c/bit_set.h` has the prototypes.
+//! Sets of whole numbers, and matrices of bits, for C: `c/bit_set.h` has the prototypes.
 #![tactic(auto)]
 
 mod block;
@@ -10,6 +10,7 @@ mod ends;
 mod handed;
 mod in_place;
 mod making;
+mod matrix;
 mod members;
 mod merges;
 mod noted_changes;
@@ -18,3 +19,5 @@ mod ranges;
 mod reading;
 mod relations;
 mod searching;
+mod shifting;
+mod stretches;

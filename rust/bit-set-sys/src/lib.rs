@@ -5,36 +5,47 @@
 #![no_std]
 #![deny(unsafe_op_in_unsafe_fn)]
 
+use core::marker::PhantomData;
+
 /// A set of the library's, which is used by a pointer alone.
 #[repr(C)]
 pub struct Set {
     private: [u8; 0],
 }
 
+/// A matrix of the library's, which is used by a pointer alone.
+#[repr(C)]
+pub struct Matrix {
+    private: [u8; 0],
+}
+
+/// What has the calls on matrices of such blocks.
+pub struct Rows<B>(PhantomData<B>);
+
 macro_rules! calls {
-    (over $($block:ident $prefix:literal),*; $list:tt) => {
-        calls!(trait $list);
-        $(calls!(impl $block $prefix $list);)*
+    ($calls:ident over $([$block:ty, $prefix:literal])*; $list:tt) => {
+        calls!(trait $calls $list);
+        $(calls!(impl $calls for $block, $prefix $list);)*
     };
-    (trait {
+    (trait $calls:ident {
         $($name:ident($($argument:ident: $type:ty),*) $(-> $result:ty)?;)*
         $([$copy:ident of $($set:ident),*])*
     }) => {
-        /// The calls on sets of such blocks.
+        /// The calls on sets or on matrices of such blocks.
         ///
         /// # Safety
         ///
         /// Each asks what the header asks.
-        pub trait Calls: Sized {
+        pub trait $calls: Sized {
             $(unsafe fn $name($($argument: $type),*) $(-> $result)?;)*
             $(unsafe fn $copy($($set: *const Set),*, from: usize, blocks: *mut Self, room: usize) -> usize;)*
         }
     };
-    (impl $block:ident $prefix:literal {
+    (impl $calls:ident for $block:ty, $prefix:literal {
         $($name:ident($($argument:ident: $type:ty),*) $(-> $result:ty)?;)*
         $([$copy:ident of $($set:ident),*])*
     }) => {
-        impl Calls for $block {
+        impl $calls for $block {
             $(
                 #[inline(always)]
                 unsafe fn $name($($argument: $type),*) $(-> $result)? {
@@ -63,13 +74,14 @@ macro_rules! calls {
 }
 
 calls! {
-    over u32 "bit_set32_", u64 "bit_set_"; {
+    Calls over [u32, "bit_set32_"] [u64, "bit_set_"]; {
         new(out: *mut *mut Set) -> bool;
         with_capacity(out: *mut *mut Set, length: usize) -> bool;
         clone(out: *mut *mut Set, set: *const Set) -> bool;
         from_bytes(out: *mut *mut Set, bytes: *const u8, count: usize) -> bool;
         from_members(out: *mut *mut Set, members: *const usize, count: usize) -> bool;
         split_off(out: *mut *mut Set, set: *mut Set, at: usize) -> bool;
+        copy_range(out: *mut *mut Set, set: *const Set, start: usize, end: usize) -> bool;
         free(set: *mut Set);
         insert(set: *mut Set, value: usize) -> i32;
         insert_members(set: *mut Set, members: *const usize, count: usize) -> usize;
@@ -85,6 +97,8 @@ calls! {
         previous(set: *const Set, end: usize) -> usize;
         next_missing(set: *const Set, from: usize) -> usize;
         nth(set: *const Set, from: usize, n: usize) -> usize;
+        next_run(set: *const Set, from: usize, start: *mut usize, end: *mut usize) -> bool;
+        first_gap(set: *const Set, from: usize, count: usize, gap: *mut usize) -> bool;
         insert_range(set: *mut Set, start: usize, end: usize) -> bool;
         toggle_range(set: *mut Set, start: usize, end: usize) -> bool;
         remove_range(set: *mut Set, start: usize, end: usize);
@@ -99,6 +113,7 @@ calls! {
         length(set: *const Set) -> usize;
         capacity(set: *const Set) -> usize;
         is_subset(set: *const Set, other: *const Set) -> bool;
+        is_proper_subset(set: *const Set, other: *const Set) -> bool;
         is_disjoint(set: *const Set, other: *const Set) -> bool;
         equals(set: *const Set, other: *const Set) -> bool;
         compare(set: *const Set, other: *const Set) -> i32;
@@ -117,6 +132,8 @@ calls! {
         truncate(set: *mut Set, length: usize);
         make_empty(set: *mut Set);
         reset(set: *mut Set);
+        shift_up(set: *mut Set, distance: usize) -> i32;
+        shift_down(set: *mut Set, distance: usize);
         reserve(set: *mut Set, length: usize) -> bool;
         reserve_exact(set: *mut Set, length: usize) -> bool;
         shrink_to_fit(set: *mut Set) -> bool;
@@ -125,5 +142,36 @@ calls! {
         [copy_intersection of set, other]
         [copy_difference of set, other]
         [copy_symmetric_difference of set, other]
+    }
+}
+
+calls! {
+    MatrixCalls over [Rows<u32>, "bit_matrix32_"] [Rows<u64>, "bit_matrix_"]; {
+        new(out: *mut *mut Matrix, rows: usize, columns: usize) -> bool;
+        from_set(out: *mut *mut Matrix, set: *const Set, rows: usize) -> bool;
+        clone(out: *mut *mut Matrix, matrix: *const Matrix) -> bool;
+        transpose(out: *mut *mut Matrix, matrix: *const Matrix) -> bool;
+        row_to_set(out: *mut *mut Set, matrix: *const Matrix, row: usize) -> bool;
+        free(matrix: *mut Matrix);
+        rows(matrix: *const Matrix) -> usize;
+        columns(matrix: *const Matrix) -> usize;
+        contains(matrix: *const Matrix, row: usize, column: usize) -> bool;
+        insert(matrix: *mut Matrix, row: usize, column: usize) -> bool;
+        remove(matrix: *mut Matrix, row: usize, column: usize) -> bool;
+        count(matrix: *const Matrix, row: usize) -> usize;
+        next(matrix: *const Matrix, row: usize, from: usize) -> usize;
+        is_subset_row(matrix: *const Matrix, row: usize, other: usize) -> bool;
+        is_disjoint_row(matrix: *const Matrix, row: usize, other: usize) -> bool;
+        union_rows(matrix: *mut Matrix, read: usize, write: usize) -> bool;
+        intersect_rows(matrix: *mut Matrix, read: usize, write: usize) -> bool;
+        difference_rows(matrix: *mut Matrix, read: usize, write: usize) -> bool;
+        union_row_with(matrix: *mut Matrix, set: *const Set, row: usize) -> bool;
+        insert_range(matrix: *mut Matrix, row: usize, start: usize, end: usize);
+        fill_row(matrix: *mut Matrix, row: usize);
+        clear_row(matrix: *mut Matrix, row: usize);
+        equals(matrix: *const Matrix, other: *const Matrix) -> bool;
+        transitive_closure(matrix: *mut Matrix);
+        reflexive_transitive_closure(matrix: *mut Matrix);
+        dominators(out: *mut *mut Matrix, graph: *const Matrix, entry: usize) -> bool;
     }
 }

@@ -71,6 +71,44 @@ impl<B: BitBlock> BitSet<B> {
         Self::found(unsafe { B::nth(self.read(), 0, n) })
     }
 
+    /// The first run of elements from `from` on: the longest range of numbers that are all elements.
+    pub fn next_run(&self, from: usize) -> Option<Range<usize>> {
+        let (mut start, mut end) = (0, 0);
+        unsafe { B::next_run(self.read(), from, &mut start, &mut end) }.then_some(start..end)
+    }
+
+    /// The least number that is `from` or above and at which `count` numbers in a row begin that are no elements.
+    pub fn first_gap(&self, from: usize, count: usize) -> Option<usize> {
+        let mut gap = 0;
+        unsafe { B::first_gap(self.read(), from, count, &mut gap) }.then_some(gap)
+    }
+
+    /// A set of the elements of the range.
+    pub fn copy_range(&self, range: Range<usize>) -> Self {
+        Self::made(|out| unsafe { B::copy_range(out, self.read(), range.start, range.end) })
+    }
+
+    /// Moves each element up by `distance`.
+    ///
+    /// # Panics
+    ///
+    /// Where one would become `usize::MAX`, which is no element, or more.
+    pub fn shift_up(&mut self, distance: usize) {
+        Self::changed(unsafe { B::shift_up(self.write(), distance) });
+    }
+
+    /// Moves each element down by `distance`; those below it are gone.
+    pub fn shift_down(&mut self, distance: usize) {
+        if !self.set.is_null() {
+            unsafe { B::shift_down(self.set, distance) }
+        }
+    }
+
+    /// Whether every element is one of `other`, which has one more at least.
+    pub fn is_proper_subset(&self, other: &Self) -> bool {
+        unsafe { B::is_proper_subset(self.read(), other.read()) }
+    }
+
     /// Puts each number of the range in. A range that ends at its start or below has none.
     pub fn insert_range(&mut self, range: Range<usize>) {
         require(unsafe { B::insert_range(self.write(), range.start, range.end) });

@@ -24,12 +24,18 @@ use std::sync::OnceLock;
 use bit_set_sys as raw;
 
 mod further;
+mod matrix;
 mod walks;
 
+pub use matrix::{BitMatrix, Row};
 pub use walks::{Difference, Intersection, Iter, SymmetricDifference, Union};
 
 /// A type of blocks that the library has.
 pub trait BitBlock: raw::Calls + 'static {
+    /// The calls on matrices.
+    #[doc(hidden)]
+    type Rows: raw::MatrixCalls;
+
     /// An empty set, which the calls that read are given for one that has none of its own.
     #[doc(hidden)]
     fn empty() -> &'static BitSet<Self>;
@@ -39,6 +45,8 @@ macro_rules! blocks {
     ($($block:ident),*) => {
         $(
             impl BitBlock for $block {
+                type Rows = raw::Rows<$block>;
+
                 fn empty() -> &'static BitSet<Self> {
                     static EMPTY: OnceLock<BitSet<$block>> = OnceLock::new();
                     EMPTY.get_or_init(BitSet::allocated)

@@ -216,3 +216,27 @@ fn threads_read_one_set() {
 fn the_greatest_number_is_no_element() {
     BitSet::new().insert(usize::MAX);
 }
+
+#[test]
+fn calls_on_stretches_and_shifts() {
+    let mut draws = Draws(5);
+    for _ in 0..2000 {
+        let model: BTreeSet<usize> = (0..draws.below(200)).map(|_| draws.below(300)).collect();
+        let mut set: BitSet = model.iter().copied().collect();
+        let (n, count, distance) = (draws.below(320), draws.below(6), draws.below(90));
+        let run = model.range(n..).next().map(|&start| start..(start..).find(|m| !model.contains(m)).unwrap());
+        assert_eq!(set.next_run(n), run);
+        let free = |gap: &usize| model.range(*gap..*gap + count).next().is_none();
+        assert_eq!(set.first_gap(n, count), (n..).find(free));
+        assert!(set.copy_range(n..n + distance).iter().eq(model.range(n..n + distance).copied()));
+        let lacks_some = model.range(n..).next().is_some();
+        assert_eq!(set.copy_range(0..n).is_proper_subset(&set), lacks_some);
+        assert!(!set.is_proper_subset(&set));
+        set.shift_up(distance);
+        assert!(set.iter().eq(model.iter().map(|m| m + distance)));
+        set.shift_down(distance + n);
+        assert!(set.iter().eq(model.range(n..).map(|m| m - n)));
+    }
+    assert_eq!(BitSet::new().first_gap(0, usize::MAX), Some(0));
+    assert_eq!(BitSet::new().next_run(0), None);
+}

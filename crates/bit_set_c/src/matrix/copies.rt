@@ -1,0 +1,103 @@
+// The columns of a row, and its blocks, copied out.
+ghost use Rattle.std.specs.Prelude.{◌≡◌, ℕ, ◌+◌, ◌*◌, ◌-◌, ◌<◌, ◌≤◌, drop, false, get_or, length, min, slice_index, take};
+ghost use Rattle.bit_blocks.specs.{Bits.blocks_for, Digits.is_one};
+ghost use Rattle.bit_set.specs.Sets.{those_from};
+ghost use Rattle.bit_matrix.specs.Matrices.{has_at, row_of};
+ghost use Rattle.bit_set_c.specs.{Block.width, Handed.IsAt};
+
+use crate::block::{Block, WIDTH};
+use crate::handed::SharedMatrix;
+use bit_blocks::block::masks::with_bit;
+use bit_matrix::BitMatrix;
+
+fn copy_columns(matrix: &BitMatrix<Block>, row: usize, from: usize, columns: &mut [usize]) -> usize
+    requires { row < length matrix.now.rows }
+    ensures count { result ≡ min (length columns.old) (length (those_from (row_of matrix.now row) from)) }
+    ensures values { take result columns.new ≡ take result (those_from (row_of matrix.now row) from) }
+    ensures others { drop result columns.new ≡ drop result columns.old }
+{
+    let mut done = 0;
+    for column in matrix.iter_from(row, from) {
+        if done == columns.len() {
+            return done;
+        }
+        columns[done] = column;
+        done += 1;
+    }
+    done
+}
+
+/// Copies the columns that are in the row and are `from` or above, in ascending order and as many as there is room for,
+/// and returns how many.
+#[unsafe(no_mangle)]
+pub extern "C" fn bit_matrix_copy_members(
+    matrix: &mut SharedMatrix,
+    row: usize,
+    from: usize,
+    columns: &mut [usize],
+) -> usize
+    requires here { IsAt matrix.ref_ptr matrix.old.at }
+    requires row { row < length matrix.old.cells.rows }
+    ensures count { result
+        ≡ min (length columns.old) (length (those_from (row_of matrix.old.cells row) from)) }
+    ensures values { take result columns.new ≡ take result (those_from (row_of matrix.old.cells row) from) }
+    ensures others { drop result columns.new ≡ drop result columns.old }
+    ensures kept { matrix.new ≡ matrix.old }
+{
+    copy_columns(matrix.get(), row, from, columns)
+}
+
+// Makes the blocks those of the row from one on; all of them are blocks of the row.
+fn put_columns(matrix: &BitMatrix<Block>, row: usize, from: usize, blocks: &mut [Block])
+    requires row { row < length matrix.now.rows }
+    requires inside { from * width ≤ matrix.now.columns }
+    ensures members { (k j : ℕ) → k < length blocks.old → j < width
+        → is_one (slice_index blocks.new k) j ≡ has_at matrix.now row ((from + k) * width + j) }
+    ensures len { length blocks.new ≡ length blocks.old }
+{
+    // For the proof alone: the columns are a `usize`.
+    prove!(matrix.columns() <= usize::MAX);
+    blocks.fill(0);
+    for column in matrix.iter_from(row, from * WIDTH) {
+        let k = column / WIDTH - from;
+        if k >= blocks.len() {
+            return;
+        }
+        blocks[k] = with_bit(blocks[k], column % WIDTH, true);
+    }
+}
+
+fn copy_row(matrix: &BitMatrix<Block>, row: usize, from: usize, blocks: &mut [Block]) -> usize
+    requires { row < length matrix.now.rows }
+    ensures count { result ≡ min (length blocks.old) (blocks_for width matrix.now.columns - from) }
+    ensures members { (k j : ℕ) → k < result → j < width
+        → is_one (slice_index blocks.new k) j ≡ has_at matrix.now row ((from + k) * width + j) }
+    ensures others { drop result blocks.new ≡ drop result blocks.old }
+{
+    let all = matrix.columns().div_ceil(WIDTH);
+    let count = blocks.len().min(all.saturating_sub(from));
+    if count > 0 {
+        put_columns(matrix, row, from, &mut blocks[..count]);
+    }
+    count
+}
+
+/// Copies the blocks of the row from one on, as many as there is room for, and returns how many. One step for each block,
+/// and one for each column that is in.
+#[unsafe(no_mangle)]
+pub extern "C" fn bit_matrix_copy_blocks(
+    matrix: &mut SharedMatrix,
+    row: usize,
+    from: usize,
+    blocks: &mut [Block],
+) -> usize
+    requires here { IsAt matrix.ref_ptr matrix.old.at }
+    requires row { row < length matrix.old.cells.rows }
+    ensures count { result ≡ min (length blocks.old) (blocks_for width matrix.old.cells.columns - from) }
+    ensures members { (k j : ℕ) → k < result → j < width
+        → is_one (slice_index blocks.new k) j ≡ has_at matrix.old.cells row ((from + k) * width + j) }
+    ensures others { drop result blocks.new ≡ drop result blocks.old }
+    ensures kept { matrix.new ≡ matrix.old }
+{
+    copy_row(matrix.get(), row, from, blocks)
+}

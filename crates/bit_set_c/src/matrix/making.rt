@@ -1,0 +1,143 @@
+// Calls that make a matrix, or a set of a row, and the one that frees a matrix.
+ghost use Rattle.std.specs.Prelude.{◌≡◌, ◌*◌, ◌<◌, IfSome, None, is_some, [], length};
+ghost use Rattle.bit_blocks.specs.Bits.{blocks_for, capacity_of};
+ghost use Rattle.bit_set.specs.{Members.IsSameSet, Sets.elements};
+ghost use Rattle.bit_matrix.specs.Matrices.{IsTransposed, matrix_of, row_of};
+ghost use Rattle.bit_set_c.specs.{Block.width, Handed.IsAt};
+
+use crate::block::Block;
+use crate::handed::{Owned, OwnedMatrix, Shared, SharedMatrix};
+use crate::making::boxed;
+use bit_matrix::BitMatrix;
+use std::alloc::Global;
+
+// Puts the matrix out in a box of its own, and returns whether there was memory for one.
+pub(crate) fn boxed_matrix(alloc: Global, out: &mut OwnedMatrix, matrix: BitMatrix<Block>) -> bool
+    requires empty { out.old.held ≡ None }
+    ensures made { result ≡ is_some out.new.held }
+    ensures value { IfSome out.new.held (λ held. held ≡ matrix) }
+{
+    match Box::new(alloc, matrix) {
+        Ok(matrix) => {
+            out.put(matrix);
+            true
+        }
+        Err(_) => false,
+    }
+}
+
+/// So many rows with nothing in them, or none where there is no memory or the rows, each at whole blocks, have more bits
+/// than a `usize` counts.
+#[unsafe(no_mangle)]
+pub extern "C" fn bit_matrix_new(
+    alloc: Global,
+    out: &mut OwnedMatrix,
+    rows: usize,
+    columns: usize,
+) -> bool
+    requires empty { out.old.held ≡ None }
+    ensures made { result ≡ is_some out.new.held }
+    ensures matrix { IfSome out.new.held (λ matrix. matrix ≡ matrix_of rows columns []) }
+    ensures too_large { usize.MAX < rows * (blocks_for width columns * width) → out.new.held ≡ None }
+{
+    match BitMatrix::new_general(alloc, rows, columns) {
+        Ok(matrix) => boxed_matrix(alloc, out, matrix),
+        Err(_) => false,
+    }
+}
+
+/// So many rows that each have the members of the set, and as many columns as the set's length; or none, as of
+/// `bit_matrix_new`.
+#[unsafe(no_mangle)]
+pub extern "C" fn bit_matrix_from_set(
+    alloc: Global,
+    out: &mut OwnedMatrix,
+    set: &mut Shared,
+    rows: usize,
+) -> bool
+    requires empty { out.old.held ≡ None }
+    requires here { IsAt set.ref_ptr set.old.at }
+    ensures made { result ≡ is_some out.new.held }
+    ensures matrix { IfSome out.new.held (λ matrix. matrix
+        ≡ matrix_of rows (length set.old.bits.values) (elements set.old.bits.values)) }
+    ensures too_large { usize.MAX < rows * (blocks_for width (length set.old.bits.values) * width)
+        → out.new.held ≡ None }
+    ensures kept { set.new ≡ set.old }
+{
+    match BitMatrix::from_row(alloc, set.get(), rows) {
+        Ok(matrix) => boxed_matrix(alloc, out, matrix),
+        Err(_) => false,
+    }
+}
+
+/// A matrix of its own with the same rows, or none where there is no memory.
+#[unsafe(no_mangle)]
+pub extern "C" fn bit_matrix_clone(
+    alloc: Global,
+    out: &mut OwnedMatrix,
+    matrix: &mut SharedMatrix,
+) -> bool
+    requires empty { out.old.held ≡ None }
+    requires here { IsAt matrix.ref_ptr matrix.old.at }
+    ensures made { result ≡ is_some out.new.held }
+    ensures matrix { IfSome out.new.held (λ copy. copy ≡ matrix.old.cells) }
+    ensures kept { matrix.new ≡ matrix.old }
+{
+    match matrix.get().clone(alloc) {
+        Ok(copy) => boxed_matrix(alloc, out, copy),
+        Err(_) => false,
+    }
+}
+
+/// The matrix that has a row for each column, and in it the rows that have that column; or none, as of `bit_matrix_new`.
+#[unsafe(no_mangle)]
+pub extern "C" fn bit_matrix_transpose(
+    alloc: Global,
+    out: &mut OwnedMatrix,
+    matrix: &mut SharedMatrix,
+) -> bool
+    requires empty { out.old.held ≡ None }
+    requires here { IsAt matrix.ref_ptr matrix.old.at }
+    ensures made { result ≡ is_some out.new.held }
+    ensures matrix { IfSome out.new.held (IsTransposed matrix.old.cells) }
+    ensures too_large { usize.MAX
+        < matrix.old.cells.columns * (blocks_for width (length matrix.old.cells.rows) * width)
+        → out.new.held ≡ None }
+    ensures kept { matrix.new ≡ matrix.old }
+{
+    match matrix.get().transpose(alloc) {
+        Ok(transposed) => boxed_matrix(alloc, out, transposed),
+        Err(_) => false,
+    }
+}
+
+/// The set of the columns that are in the row, of a length of all columns, or none where there is no memory.
+#[unsafe(no_mangle)]
+pub extern "C" fn bit_matrix_row_to_set(
+    alloc: Global,
+    out: &mut Owned,
+    matrix: &mut SharedMatrix,
+    row: usize,
+) -> bool
+    requires empty { out.old.held ≡ None }
+    requires here { IsAt matrix.ref_ptr matrix.old.at }
+    requires row { row < length matrix.old.cells.rows }
+    ensures made { result ≡ is_some out.new.held }
+    ensures elements { IfSome out.new.held (λ set. elements set.values ≡ row_of matrix.old.cells row) }
+    ensures members { IfSome out.new.held (λ set. IsSameSet (elements set.values) (row_of matrix.old.cells row)) }
+    ensures length { IfSome out.new.held (λ set. length set.values ≡ matrix.old.cells.columns) }
+    ensures capacity { IfSome out.new.held (λ set. set.capacity
+        ≡ capacity_of width (blocks_for width matrix.old.cells.columns)) }
+    ensures kept { matrix.new ≡ matrix.old }
+{
+    match matrix.get().row_to_set(alloc, row) {
+        Ok(set) => boxed(alloc, out, set),
+        Err(_) => false,
+    }
+}
+
+/// Gives the memory of a matrix back; of none there is nothing to do.
+#[unsafe(no_mangle)]
+pub extern "C" fn bit_matrix_free(matrix: OwnedMatrix) {
+    matrix.free();
+}
