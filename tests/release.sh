@@ -20,8 +20,8 @@ mkdir -p "${2:-${XDG_CACHE_HOME:-$HOME/.cache}/bit_set_roots}"
 roots="$(readlink -f "${2:-${XDG_CACHE_HOME:-$HOME/.cache}/bit_set_roots}")"
 room="$(mktemp -d)"
 trap 'rm -rf "$room"' EXIT
-version="$(basename "$release"/bit_set-*[0-9].tar.gz .tar.gz)"
-version="${version#bit_set-}"
+version="$(basename "$release"/bit-set-sys-*.crate .crate)"
+version="${version#bit-set-sys-}"
 # Some twelve calls each.
 rounds=85000
 cargo="$(command -v rustup > /dev/null && rustup which cargo 2> /dev/null || command -v cargo)"
@@ -64,7 +64,7 @@ done
 try_files
 try_root 11 bullseye python3,python3-pip
 try_root 12 bookworm python3,python3-pip
-try_root 13 trixie python3,python3-pip,cargo
+try_root 13 trixie python3,python3-pip,cargo,gcc-aarch64-linux-gnu,libc6-dev-arm64-cross
 try_here
 try_musl
 try_arm

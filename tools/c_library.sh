@@ -105,16 +105,32 @@ assemble() {
 }
 
 # Writes assembly for the source release: the calls that take memory under the names that mem.c has for them, what describes
-# frames where a program finds it as it runs, and over blocks of other bits than 64 each exported name with these in it.
+# frames where a program finds it as it runs, inner names of letters that older assemblers take too, and over blocks of other
+# bits than 64 each exported name with these in it.
 #   name_calls BITS < ASSEMBLY
 name_calls() {
     local text
-    text="$(sed 's/\brattle_\(alloc\|realloc\|dealloc\)\b/bit_set_c_\1/g; /^\t\.cfi_sections \.debug_frame$/d')"
+    text="$(sed 's/\brattle_\(alloc\|realloc\|dealloc\)\b/bit_set_c_\1/g; /^\t\.cfi_sections \.debug_frame$/d' | plain_names)"
     if [ "$1" = 64 ]; then
         echo "$text"
         return
     fi
     sed -f <(sed -n 's/^\t\.globl\t\(bit_[a-z]*\)\(_[a-z0-9_]*\)\b.*/s,\\b\1\2\\b,\1'"$1"'\2,g/p' <<< "$text") <<< "$text"
+}
+
+# Of "a::b::<#1f>" it makes a.b.1f. Two names that became one would be an error of the assembler's.
+plain_names() {
+    awk '{
+        line = ""
+        while (match($0, /"[^"]*::[^"]*"/)) {
+            name = substr($0, RSTART + 1, RLENGTH - 2)
+            gsub(/::(<#)?/, ".", name)
+            gsub(/[^A-Za-z0-9_.]/, "", name)
+            line = line substr($0, 1, RSTART - 1) name
+            $0 = substr($0, RSTART + RLENGTH)
+        }
+        print line $0
+    }'
 }
 
 # Proves the crate over blocks of 64 bits and of 32 at once, each by one process, and writes their assembly into the folder

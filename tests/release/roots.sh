@@ -14,6 +14,14 @@ make_root() {
     }
 }
 
+# Rust's own library for aarch64, of which only the files are taken.
+add_arm_rust() {
+    [ ! -d "$1/usr/lib/rustlib/aarch64-unknown-linux-gnu" ] || return 0
+    chroot "$1" env -i PATH=/usr/sbin:/usr/bin:/sbin:/bin LC_ALL=C sh -euc '
+        dpkg --add-architecture arm64 && apt-get update && cd /tmp && apt-get download libstd-rust-dev:arm64
+        dpkg-deb -x libstd-rust-dev*.deb / && rm libstd-rust-dev*.deb' >> "$1.log" 2>&1
+}
+
 #   try_root VERSION SUITE PACKAGES
 try_root() {
     local on="Debian $1"
@@ -26,11 +34,11 @@ try_root() {
     cp -a "$roots/$1" "$root"
     cp -r "$room/try" "$root/try"
     try "$on: there is no toolchain" inside '! command -v rt'
-    try_packages
+    try_packages "$1"
     try_module
     try_archive
     try_source
-    try_cargo
+    try_cargo "$1"
 }
 
 try_packages() {
@@ -84,4 +92,15 @@ try_cargo() {
     try "$on: the tests of Cargo's packages" inside '
         mkdir -p crates && for crate in *.crate; do tar xzf "$crate" -C crates; done
         cd crates/bit-set-[0-9]* && cargo test --offline && cd ../fixedbitset-* && cargo test --offline'
+    if ! [ -x "$root/usr/bin/aarch64-linux-gnu-gcc" ] || ! has qemu-aarch64-static || ! add_arm_rust "$roots/$1"; then
+        left_out "$on: Cargo's packages for aarch64"
+        return
+    fi
+    cp -rn "$roots/$1/usr/lib/rustlib" "$root/usr/lib"
+    cp "$(command -v qemu-aarch64-static)" "$root/usr/bin"
+    try "$on: the tests of Cargo's packages for aarch64" inside '
+        export CARGO_TARGET_AARCH64_UNKNOWN_LINUX_GNU_LINKER=aarch64-linux-gnu-gcc
+        export CARGO_TARGET_AARCH64_UNKNOWN_LINUX_GNU_RUNNER="qemu-aarch64-static -L /usr/aarch64-linux-gnu"
+        cd crates/bit-set-[0-9]* && cargo test --offline --target aarch64-unknown-linux-gnu --tests
+        cd ../fixedbitset-* && cargo test --offline --target aarch64-unknown-linux-gnu --tests'
 }

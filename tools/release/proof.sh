@@ -27,20 +27,20 @@ END
         done
         cat << END
 
-The words with =trusted say that the libraries below, which were proved one after another by the same prover, were not
-proved again in that run.
+The words with =trusted say that what the same prover had proved before was not proved again in that run: the libraries
+below, and of this one what is the same for another processor.
 
 What is trusted: the prover and its statements of the standard library; the compiler that made src/*/*.s from what was
 proved, and the assembler, compiler and linker that make a library of these; src/mem.c and the allocator; that the caller
 keeps what the header asks, which no C compiler checks. bit_set.hpp, and the Rust and Python packages, are tested and not
 proved. The repository's README.md says more.
 
-To check it again, with the toolchain, in a checkout of the commit:
+To check it again, with the toolchain, in a new clone of the repository at this commit:
 
-    ./gate && ./release FOLDER
+    ./release FOLDER
 
-The first proves all from nothing, tests included. The second makes these files again, whose SHA256SUMS are the same by the
-same compilers; src/*/*.s are the same by any.
+That proves all of it from nothing, and makes these files again. src/*/*.s are the same then, and by the same compilers all
+else is, as SHA256SUMS says.
 END
     } > "$2"
 }
