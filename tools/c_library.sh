@@ -154,7 +154,8 @@ assemble_both() {
 # The headers, of which that over blocks of 32 bits is made of the other.
 write_headers() {
     cp "$top"/c/*.h "$top"/c/*.hpp "$1"
-    sed 's/bit_set/bit_set32/g; s/bit_set32_c\b/bit_set_c/; s/BIT_SET/BIT_SET32/g; s/uint64_t bit_set32_block/uint32_t bit_set32_block/
+    sed 's/bit_\(set\|matrix\)/bit_\132/g; s/bit_set32_c\b/bit_set_c/; s/BIT_\(SET\|MATRIX\)/BIT_\132/g
+        s/uint64_t bit_set32_block/uint32_t bit_set32_block/
         s/blocks have 64 bits/blocks have 32 bits/; s,n % 64,n % 32,; s,n / 64,n / 32,' "$top/c/bit_set.h" > "$1/bit_set32.h"
 }
 
@@ -164,6 +165,6 @@ write_source() {
     cp "$top"/c/source/{Makefile,CMakeLists.txt,README.md} "$top"/LICENSE-* "$top/CHANGELOG.md" "$1"
     cp "$top/c/source/mem.c" "$1/src"
     cp "$top"/c/example.* "$1/examples"
-    cp "$top/tests/c_calls.c" "$1/tests/calls.c"
+    cp "$top"/tests/c_*.[ch] "$1/tests"
     write_headers "$1/include"
 }

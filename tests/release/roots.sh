@@ -55,7 +55,7 @@ try_packages() {
         try "$on: the loader takes the object for v3" inside 'ldd ./shared | grep -F glibc-hwcaps/x86-64-v3/libbit_set.so'
     fi
     try "$on: random calls over the shared object" inside '
-        gcc -O2 bit_set-$VERSION/tests/calls.c $(pkg-config --cflags --libs bit_set) -o calls && ./calls $ROUNDS'
+        gcc -O2 bit_set-$VERSION/tests/c_calls.c $(pkg-config --cflags --libs bit_set) -o calls && ./calls $ROUNDS'
     try "$on: the tests of Python over the package" inside 'python3 bit_set-$VERSION/python/tests.py'
     try "$on: the packages are removed" inside 'dpkg --purge python3-bit-set libbit-set-dev libbit-set0 && ! ls /usr/lib/*/libbit_set*'
 }

@@ -13,7 +13,7 @@ expect_marks 'after runs that were ended' '30 TERM' 11 1
 library="$room/library"
 mkdir -p "$library/crates" "$library/tests"
 cp -r "$top"/{c,tools,gate,crates.txt,CHANGELOG.md} "$top"/LICENSE-* "$library"
-cp "$top/tests/c_calls.c" "$library/tests"
+cp "$top"/tests/c_*.[ch] "$library/tests"
 (cd "$top/crates" && tar cf - --exclude=out bit_set_c) | tar xf - -C "$library/crates"
 expect 'c/build fails' "$library/c/build" "$room/built"
 for file in libbit_set.a libbit_set.so bit_set.h bit_set32.h bit_set.pc; do
