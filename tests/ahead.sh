@@ -15,7 +15,8 @@ passing+=("$room")
 export TMPDIR="$room"
 chmod 711 "$room"
 kept="$(dirname "$(dirname "$(rt doc | head -n 1)")")/rattle-kept"
-if [ "${CI:-}" != true ] && mkdir -p -m 700 "$kept" 2> /dev/null && [ -O "$kept" ]; then
+# rt makes the folder itself, where it can.
+if [ "${CI:-}" != true ] && { [ -O "$kept" ] || { [ ! -e "$kept" ] && [ -w "$(dirname "$kept")" ]; }; }; then
     for crate in graph_walks refusals; do
         run_group rt ci "$crate" < /dev/null > "$room/said" 2>&1
         echo "ahead: $crate: $(tail -n 1 "$room/said")"

@@ -12,6 +12,7 @@
 - docs/SPEED.md has the tables that bench/tables makes of the figures in docs/speed.
 - Each public function of `bit_words` and `bit_set` but the laws is called by `diff_calls`, or diff/README.md names it.
 - Each link of a document leads to a file, and to a heading where it names one.
+- Each name in docs/PROVING.md, of a function, a law, a lemma or a clause, is a word of some source or proof.
 
 It prints a line for each quote that does not agree, and at the end 'N passed, M failed'.
 """
@@ -241,6 +242,18 @@ def check_calls(check, root):
         check.expect(is_known, "diff/README.md", f"no script calls {name}")
 
 
+def check_names(check, root, document):
+    """The names that a document has by themselves between backticks."""
+    words = set()
+    for source in [*root.glob("crates/*/src/**/*.rt"), *root.glob("crates/*/proofs/**/*.antt"), *root.glob("crates/*/specs/**/*.antt")]:
+        words.update(re.findall(r"[\w-]+", source.read_text(encoding="utf-8")))
+    parts = f" {' '.join(words)} "
+    for number, line in enumerate(document.read_text(encoding="utf-8").splitlines(), 1):
+        for name in re.findall(r"`(?:laws::)?([A-Za-z_][\w-]*)`", line):
+            is_known = name in words or f"-{name} " in parts or f" {name}-" in parts
+            check.expect(is_known, f"{document.relative_to(root)}:{number}", f"nothing is named {name}")
+
+
 def main():
     root = Path(sys.argv[1])
     check = Check()
@@ -261,6 +274,7 @@ def main():
         check_comments(check, root, source, tests)
         if source.relative_to(root).parts[1] in WITH_EXAMPLES and source.stem != "laws":
             check_each_has_example(check, root, source)
+    check_names(check, root, root / "docs/PROVING.md")
     check_tables(check, root)
     check_calls(check, root)
     print(f"{check.passed} passed, {check.failed} failed")
