@@ -4,6 +4,12 @@
 try_here() {
     try 'here there is no toolchain' bare sh -c '! command -v rt'
     try_readme
+    try_frames
+    if has cmake; then
+        try 'CMake' bare sh -ec "cp -r '$source' '$room/cmake' && cd '$room/cmake' && cmake -B made && cmake --build made && cd made && ctest"
+    else
+        left_out 'CMake, which is not here'
+    fi
     if [ -z "$cargo" ]; then
         left_out 'Cargo, which is not here'
         return
@@ -37,6 +43,23 @@ try_readme() {
     python3 -m zipfile -e "$release/bit_set-$version-cp38-abi3-manylinux_2_17_x86_64.whl" "$at/wheel"
     try 'README: the example of Python' bare sh -ec "
         [ \"\$(PYTHONPATH='$at/wheel' python3 '$at/example.py')\" = '41 0 20' ]"
+}
+
+# That what is below a call of the library is found through its frames, and that the processor can demand marks.
+try_frames() {
+    local at="$room/frames"
+    mkdir -p "$at"
+    tar xzf "$release/bit_set-$version-linux-x86_64.tar.gz" -C "$at" --strip-components=1
+    try 'frames are found through the library' bare sh -ec "
+        cd '$at' && cc -Wl,--wrap=malloc -rdynamic -Iinclude '$here/release/frames.c' lib/libbit_set.a -o frames && ./frames"
+    try 'the shared objects ask for IBT and SHSTK' asks_for_marks "$at"/lib/libbit_set.so.* "$at"/lib/glibc-hwcaps/*/libbit_set.so.*
+}
+
+asks_for_marks() {
+    local file
+    for file in "$@"; do
+        readelf -nW "$file" | grep 'x86 feature: IBT, SHSTK' || return
+    done
 }
 
 # The first block of this language in README.
