@@ -5,16 +5,17 @@
 #   tests/release.sh FOLDER [ROOTS]      ROOTS keeps the roots, which debootstrap makes where they are not there
 # It is to be run by root, for chroot. What cannot be tried for want of a program it says. The last line is
 # 'N passed, M failed'.
+# shellcheck disable=SC2034,SC2154  # what the parts read and set
 set -uo pipefail
 unset CDPATH
 here="$(dirname "$(readlink -f "${BASH_SOURCE[0]}")")"
 passed=0
 failed=0
 
-[ $# -ge 1 ] && [ $# -le 2 ] && [[ "$1" != -* ]] || {
+if [ $# -lt 1 ] || [ $# -gt 2 ] || [[ "$1" = -* ]]; then
     echo 'usage: tests/release.sh FOLDER [ROOTS]' >&2
     exit 2
-}
+fi
 release="$(readlink -f "$1")"
 mkdir -p "${2:-${XDG_CACHE_HOME:-$HOME/.cache}/bit_set_roots}"
 roots="$(readlink -f "${2:-${XDG_CACHE_HOME:-$HOME/.cache}/bit_set_roots}")"
@@ -24,7 +25,8 @@ version="$(basename "$release"/bit-set-sys-*.crate .crate)"
 version="${version#bit-set-sys-}"
 # Some twelve calls each.
 rounds=85000
-cargo="$(command -v rustup > /dev/null && rustup which cargo 2> /dev/null || command -v cargo)"
+# Cargo itself, where the command is one that chooses a version.
+cargo="$(rustup which cargo 2> /dev/null)" || cargo="$(command -v cargo)"
 # What runs here finds no toolchain either.
 path="/usr/bin:/bin${cargo:+:${cargo%/*}}"
 

@@ -1,6 +1,6 @@
 # What c/build and release share: the crate bit_set_c, proved and compiled to assembly, and the source release that is made
 # of it. To be sourced after tools/ending.sh, by a script with a function `stop` and a folder `room` of its own.
-# shellcheck shell=bash
+# shellcheck shell=bash disable=SC2034
 
 top="$(dirname "$(dirname "$(readlink -f "${BASH_SOURCE[0]}")")")"
 crates="$top/crates"
@@ -20,6 +20,7 @@ lock() {
 # The libraries that the crate stands on, the highest first.
 libraries_below() {
     local name
+    # shellcheck disable=SC2013  # each word is a name
     for name in $(sed -n 's/^bit_set_c staticlib: *//p' "$top/crates.txt"); do
         [ ! -d "$crates/$name" ] || echo "$name"
     done
@@ -40,10 +41,10 @@ copy_crate() {
     [ "$1" = 64 ] || (cd "$2" && sed -i "s/u64/u$1/g; s/U64/U$1/g; s/64/$1/g" src/block.rt specs/Block.antt proofs/Sets.antt)
 }
 
-# Makes a folder that stands for the toolchain's, for a target. In the place of clang it has a script that also writes what
-# it is given as assembly, in the same way, into the file `assembly`. There frames are described for debuggers, and on x86-64
-# each place where a call may arrive is marked, which the processor can then demand: the notes that ask for it are a part of
-# the module `notes.bc`, since clang takes them from no option where it is given a module.
+# Makes a folder that stands for the toolchain's, for a target. In the place of clang it has a script that also writes
+# what it is given as assembly, in the same way, into the file `assembly`. There frames are described for debuggers, and on
+# x86-64 each place where a call may arrive is marked, which the processor can then demand: the notes that ask for it are
+# in the module `notes.bc`, since clang takes them from no option where it is given a module.
 make_toolchain() {
     local folder="$1" target="$2" file notes=''
     mkdir -p "$folder/bin"
@@ -53,7 +54,8 @@ make_toolchain() {
     done
     if [[ "$target" = x86_64-* ]]; then
         echo 'typedef int nothing;' > "$folder/notes.c"
-        "$kit/toolchain/bin/clang" --target="$target" -fcf-protection=full -emit-llvm -c "$folder/notes.c" -o "$folder/notes.bc"
+        "$kit/toolchain/bin/clang" --target="$target" -fcf-protection=full -emit-llvm -c "$folder/notes.c" \
+            -o "$folder/notes.bc"
         notes="-Xclang -mlink-bitcode-file -Xclang $folder/notes.bc"
     fi
     cat > "$folder/bin/clang" << END
@@ -72,8 +74,8 @@ END
     chmod +x "$folder/bin/clang"
 }
 
-# Proves the crate in a folder for a processor, over the libraries as they are proved, and writes its assembly. What it says
-# goes to FILE.said, with the verdict as the last line.
+# Proves the crate in a folder for a processor, over the libraries as they are proved, and writes its assembly. What is
+# said goes to FILE.said, with the verdict as the last line.
 #   assemble CRATE PROCESSOR FILE [KEPT]      KEPT is a folder that keeps what is proved for the next processor or run
 assemble() {
     local crate="$1" processor="$2" file="$3" name made words
@@ -104,9 +106,9 @@ assemble() {
     cp "$made/assembly" "$file"
 }
 
-# Writes assembly for the source release: the calls that take memory under the names that mem.c has for them, what describes
-# frames where a program finds it as it runs, inner names of letters that older assemblers take too, and over blocks of other
-# bits than 64 each exported name with these in it.
+# Writes assembly for the source release: the calls that take memory under the names that mem.c has for them, what
+# describes frames where a program finds it as it runs, inner names of letters that older assemblers take too, and over
+# blocks of other bits than 64 each exported name with these in it.
 #   name_calls BITS < ASSEMBLY
 name_calls() {
     local text
@@ -115,7 +117,8 @@ name_calls() {
         echo "$text"
         return
     fi
-    sed -f <(sed -n 's/^\t\.globl\t\(bit_[a-z]*\)\(_[a-z0-9_]*\)\b.*/s,\\b\1\2\\b,\1'"$1"'\2,g/p' <<< "$text") <<< "$text"
+    local exported='s/^\t\.globl\t\(bit_[a-z]*\)\(_[a-z0-9_]*\)\b.*/s,\\b\1\2\\b,\1'"$1"'\2,g/p'
+    sed -f <(sed -n "$exported" <<< "$text") <<< "$text"
 }
 
 # Of "a::b::<#1f>" it makes a.b.1f. Two names that became one would be an error of the assembler's.
@@ -133,8 +136,8 @@ plain_names() {
     }'
 }
 
-# Proves the crate over blocks of 64 bits and of 32 at once, each by one process, and writes their assembly into the folder
-# of the processor that the source release has in SOURCE. The copies of the crate stay in CRATES.
+# Proves the crate over blocks of 64 bits and of 32 at once, each by one process, and writes their assembly into the
+# folder of the processor that the source release has in SOURCE. The copies of the crate stay in CRATES.
 #   assemble_both PROCESSOR CRATES SOURCE [KEPT]
 assemble_both() {
     local processor="$1" copies="$2" source="$3" bits beside=() keeping

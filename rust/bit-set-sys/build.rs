@@ -1,5 +1,5 @@
-//! Links the library: that in the folder that the variable BIT_SET_LIBRARY_DIR names, as `c/build` or a release has it, or
-//! else the one that this package has in it for the processor that is built for.
+//! Links the library: that in the folder that the variable BIT_SET_LIBRARY_DIR names, as `c/build` or a release has it,
+//! or else the one that this package has in it for the processor that is built for.
 use std::env;
 use std::path::Path;
 
@@ -27,8 +27,12 @@ fn own_library() -> Option<String> {
     let of_target = |name: &str| env::var(format!("CARGO_CFG_TARGET_{name}")).unwrap_or_default();
     let (machine, features) = (of_target("ARCH"), of_target("FEATURE"));
     let has = |feature: &&str| features.split(',').any(|found| found == *feature);
-    let (processor, ..) =
-        PROCESSORS.iter().find(|(_, of, needs)| *of == machine && of_target("OS") == "linux" && needs.iter().all(|it| has(it)))?;
-    let folder = Path::new(&env::var("CARGO_MANIFEST_DIR").ok()?).join("lib").join(processor);
-    folder.join("libbit_set.a").is_file().then(|| folder.display().to_string())
+    let fits = |needs: &[&str]| of_target("OS") == "linux" && needs.iter().all(|it| has(it));
+    let libraries = Path::new(&env::var("CARGO_MANIFEST_DIR").ok()?).join("lib");
+    PROCESSORS
+        .iter()
+        .filter(|(_, of, needs)| *of == machine && fits(needs))
+        .map(|(processor, ..)| libraries.join(processor))
+        .find(|folder| folder.join("libbit_set.a").is_file())
+        .map(|folder| folder.display().to_string())
 }

@@ -1,8 +1,8 @@
 # The files of a release as they are. To be sourced by tests/release.sh.
-# shellcheck shell=bash disable=SC2154
+# shellcheck shell=bash disable=SC2034,SC2154
 
 try_files() {
-    try 'the sums' bare sh -c "cd '$release' && sha256sum -c SHA256SUMS && [ \$(wc -l < SHA256SUMS) -eq \$((\$(ls | wc -l) - 1)) ]"
+    try 'the sums' sums
     try 'PROOF.txt has a verdict for each processor' verdicts
     if has lintian; then
         try 'lintian' lintian --allow-root --fail-on error --tag-display-limit 0 "$release"/*.deb
@@ -16,7 +16,13 @@ try_files() {
     cp "$release"/* "$room/try"
 }
 
+# Of each file but their own.
+sums() {
+    (cd "$release" && sha256sum -c SHA256SUMS && [ "$(cut -d ' ' -f 3 SHA256SUMS)" = "$(LC_ALL=C ls -I SHA256SUMS)" ])
+}
+
 # Eight, of which each says that all is proved.
 verdicts() {
-    grep -q '^Commit: *[0-9a-f]\{40\}$' "$release/PROOF.txt" && [ "$(grep -c ' bits  logic=proved ' "$release/PROOF.txt")" -eq 8 ]
+    grep -q '^Commit: *[0-9a-f]\{40\}$' "$release/PROOF.txt" \
+        && [ "$(grep -c ' bits  logic=proved ' "$release/PROOF.txt")" -eq 8 ]
 }

@@ -6,7 +6,8 @@ try_here() {
     try_readme
     try_frames
     if has cmake; then
-        try 'CMake' bare sh -ec "cp -r '$source' '$room/cmake' && cd '$room/cmake' && cmake -B made && cmake --build made && cd made && ctest"
+        try 'CMake' bare sh -ec "
+            cp -r '$source' '$room/cmake' && cd '$room/cmake' && cmake -B made && cmake --build made && cd made && ctest"
     else
         left_out 'CMake, which is not here'
     fi
@@ -52,7 +53,7 @@ try_frames() {
     tar xzf "$release/bit_set-$version-linux-x86_64.tar.gz" -C "$at" --strip-components=1
     try 'frames are found through the library' bare sh -ec "
         cd '$at' && cc -Wl,--wrap=malloc -rdynamic -Iinclude '$here/release/frames.c' lib/libbit_set.a -o frames && ./frames"
-    try 'the shared objects ask for IBT and SHSTK' asks_for_marks "$at"/lib/libbit_set.so.* "$at"/lib/glibc-hwcaps/*/libbit_set.so.*
+    try 'the shared objects ask for IBT and SHSTK' asks_for_marks "$at"/lib/libbit_set.so.* "$at"/lib/glibc-hwcaps/*/*.so.*
 }
 
 asks_for_marks() {
@@ -63,7 +64,9 @@ asks_for_marks() {
 }
 
 # The first block of this language in README.
-example_of() { awk -v first="\`\`\`$1" '$0 == "```" { inside = 0 } inside; $0 == first && !seen++ { inside = 1 }' "$here/../README.md"; }
+example_of() {
+    awk -v first="\`\`\`$1" '$0 == "```" { inside = 0 } inside; $0 == first && !seen++ { inside = 1 }' "$here/../README.md"
+}
 
 try_musl() {
     if ! has musl-gcc; then

@@ -1,5 +1,5 @@
 # Roots of Debian, in which what was released is installed and used. To be sourced by tests/release.sh.
-# shellcheck shell=bash disable=SC2154
+# shellcheck shell=bash disable=SC2016,SC2154
 
 # Makes the root of this name where there is none.
 #   make_root NAME SUITE PACKAGES WORD..

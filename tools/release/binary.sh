@@ -10,8 +10,8 @@ make_binary() {
     pack "$tree" "$folder/bit_set-$version-linux-$machine.tar.gz"
 }
 
-# Installs the library into a folder, and beside it that for each newer processor, where the loader of glibc 2.33 and later
-# looks for it.
+# Installs the library into a folder, and beside it that for each newer processor, where the loader of glibc 2.33 and
+# later looks for it.
 #   install_into MACHINE FOLDER WORD..
 install_into() {
     local machine="$1" tree="$2" base others processor at

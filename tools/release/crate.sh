@@ -1,8 +1,9 @@
 # The Cargo packages, which are built with no toolchain and no network. To be sourced by release.
 # shellcheck shell=bash disable=SC2154
 
-# Writes bit-set-sys with the library in it, and the packages over it, each as Cargo's registries have packages. A package
-# with another's API has that one's version, and this library's behind it. Unpacked beside one another they find each other.
+# Writes bit-set-sys with the library in it, and the packages over it, each as Cargo's registries have packages. A
+# package with another's API has that one's version, and this library's behind it. Unpacked beside one another they find
+# each other.
 make_crates() {
     local machine processor tree
     local sys="bit-set-sys-$version" trees="$room/crates-made"
@@ -27,12 +28,12 @@ version_of() { sed -n 's/^version = "\(.*\)"$/\1/p' "$source/rust/$1/Cargo.toml"
 # Copies a package, under a version.
 #   crate NAME VERSION
 crate() {
-    local tree="$trees/$1-$2"
+    local tree="$trees/$1-$2" set_version
+    set_version="$(version_of bit-set)"
     mkdir -p "$tree"
     cp -r "$source/rust/$1/." "$tree"
     cp "$source"/LICENSE-* "$tree"
     sed -i "s/^version = .*/version = \"$2\"/
         s,path = \"\.\./bit-set-sys\",version = \"=$version\"\, path = \"../$sys\",
-        s,path = \"\.\./bit-set\",version = \"=$(version_of bit-set)\"\, path = \"../bit-set-$(version_of bit-set)+$version\"," \
-        "$tree/Cargo.toml"
+        s,path = \"\.\./bit-set\",version = \"=$set_version\"\, path = \"../bit-set-$set_version+$version\"," "$tree/Cargo.toml"
 }

@@ -1,5 +1,5 @@
 # The Debian packages libbit-setABI, libbit-set-dev and python3-bit-set. To be sourced by release.
-# shellcheck shell=bash disable=SC2154
+# shellcheck shell=bash disable=SC2001,SC2154
 
 maintainer='The bit_set authors <maintainers@users.noreply.vindauke.example>'
 
@@ -93,7 +93,9 @@ describe() {
 }
 
 # In kilobytes: a block for each file, of which none here is large.
-size_of() { find "$1" -type f -printf '%s\n' | awk '{ kilobytes += int(($1 + 1023) / 1024) } END { print kilobytes + 0 }'; }
+size_of() {
+    find "$1" -type f -printf '%s\n' | awk '{ kilobytes += int(($1 + 1023) / 1024) } END { print kilobytes + 0 }'
+}
 
 build_package() {
     local tree="$1"

@@ -20,7 +20,8 @@ def main():
     folder, wheel = Path(sys.argv[1]), sys.argv[2]
     moment = time.gmtime(int(os.environ["SOURCE_DATE_EPOCH"]))[:6]
     # Installers look for the files about the package at the end.
-    paths = sorted((path for path in folder.rglob("*") if path.is_file()), key=lambda path: (".dist-info" in str(path), str(path)))
+    files = (path for path in folder.rglob("*") if path.is_file())
+    paths = sorted(files, key=lambda path: (".dist-info" in str(path), str(path)))
     rows = []
     with zipfile.ZipFile(wheel, "w", zipfile.ZIP_DEFLATED) as archive:
 
