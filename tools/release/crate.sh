@@ -32,7 +32,7 @@ crate() {
     set_version="$(version_of bit-set)"
     mkdir -p "$tree"
     cp -r "$source/rust/$1/." "$tree"
-    cp "$source"/LICENSE-* "$tree"
+    cp "$source"/{LICENSE-*,PROOF.txt} "$tree"
     sed -i "s/^version = .*/version = \"$2\"/
         s,path = \"\.\./bit-set-sys\",version = \"=$version\"\, path = \"../$sys\",
         s,path = \"\.\./bit-set\",version = \"=$set_version\"\, path = \"../bit-set-$set_version+$version\"," "$tree/Cargo.toml"

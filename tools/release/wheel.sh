@@ -19,6 +19,7 @@ make_wheel() {
     newest="$(newest_glibc "$tree"/bit_set/*.so)"
     [ "$(printf '%s\n' "$newest" 2.17 | sort -V | tail -n 1)" = 2.17 ] || stop "the wheel for $machine needs glibc $newest"
     mkdir -p "$information/licenses"
+    cp "$source/PROOF.txt" "$information"
     cp "$source"/LICENSE-* "$information/licenses"
     cat > "$information/METADATA" << END
 Metadata-Version: 2.1
