@@ -1,5 +1,5 @@
-# What c/build and release share: the crate bit_set_c, proved and compiled to assembly, and the source release that is made
-# of it. To be sourced after tools/ending.sh, by a script with a function `stop` and a folder `room` of its own.
+# What c/build and release share: the crate bit_set_c, proved and compiled to assembly, and the source release that is
+# made of it. To be sourced after tools/ending.sh.
 # shellcheck shell=bash disable=SC2034
 
 top="$(dirname "$(dirname "$(readlink -f "${BASH_SOURCE[0]}")")")"
@@ -38,7 +38,9 @@ prove_below() {
 copy_crate() {
     mkdir -p "$2/out"
     (cd "$crates/bit_set_c" && cp -r src specs proofs "$2")
-    [ "$1" = 64 ] || (cd "$2" && sed -i "s/u64/u$1/g; s/U64/U$1/g; s/64/$1/g" src/block.rt specs/Block.antt proofs/Sets.antt)
+    if [ "$1" != 64 ]; then
+        (cd "$2" && sed -i "s/u64/u$1/g; s/U64/U$1/g; s/64/$1/g" src/block.rt specs/Block.antt proofs/Sets.antt)
+    fi
 }
 
 # Makes a folder that stands for the toolchain's, for a target. In the place of clang it has a script that also writes
@@ -56,7 +58,7 @@ make_toolchain() {
         echo 'typedef int nothing;' > "$folder/notes.c"
         "$kit/toolchain/bin/clang" --target="$target" -fcf-protection=full -emit-llvm -c "$folder/notes.c" \
             -o "$folder/notes.bc"
-        notes="-Xclang -mlink-bitcode-file -Xclang $folder/notes.bc"
+        notes="-Xclang -mlink-bitcode-file -Xclang '$folder/notes.bc'"
     fi
     cat > "$folder/bin/clang" << END
 #!/usr/bin/env bash
@@ -64,12 +66,12 @@ words=()
 for word in "\$@"; do
     case "\$word" in
         -c) word=-S ;;
-        *.o) word=$folder/assembly ;;
+        *.o) word='$folder/assembly' ;;
     esac
     words+=("\$word")
 done
-$kit/toolchain/bin/clang "\${words[@]}" -fno-addrsig -fforce-dwarf-frame $notes || exit
-exec $kit/toolchain/bin/clang "\$@"
+"$kit/toolchain/bin/clang" "\${words[@]}" -fno-addrsig -fforce-dwarf-frame $notes || exit
+exec "$kit/toolchain/bin/clang" "\$@"
 END
     chmod +x "$folder/bin/clang"
 }
@@ -96,8 +98,8 @@ assemble() {
     words+=(--antt-project "$kit/rattle/logic/antt-project.json" --logic-built "$kit/logic_built")
     made="$crate/out/$processor"
     make_toolchain "$made" "$target"
-    if ! (cd "$crate" && "$kit/bin/rattle" build "${words[@]}" --toolchain "$made" -o "$made/libbit_set_c.a" src/lib.rt) \
-        > "$file.said" 2>&1; then
+    words+=(--toolchain "$made" -o "$made/libbit_set_c.a" src/lib.rt)
+    if ! (cd "$crate" && "$kit/bin/rattle" build "${words[@]}") > "$file.said" 2>&1; then
         cat "$file.said" >&2
         echo "${0##*/}: the library is not proved or not built for $processor" >&2
         return 1
@@ -111,8 +113,8 @@ assemble() {
 # blocks of other bits than 64 each exported name with these in it.
 #   name_calls BITS < ASSEMBLY
 name_calls() {
-    local text
-    text="$(sed 's/\brattle_\(alloc\|realloc\|dealloc\)\b/bit_set_c_\1/g; /^\t\.cfi_sections \.debug_frame$/d' | plain_names)"
+    local text memory='s/\brattle_\(alloc\|realloc\|dealloc\)\b/bit_set_c_\1/g'
+    text="$(sed "$memory; /^\t\.cfi_sections \.debug_frame\$/d" | plain_names)"
     if [ "$1" = 64 ]; then
         echo "$text"
         return
