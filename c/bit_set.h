@@ -63,7 +63,11 @@
 extern "C" {
 #endif
 
-#define BIT_SET_VERSION "0.11.1"
+#define BIT_SET_VERSION "0.12.0"
+
+/* The number at the end of the shared object's name. Another one says that programs are to be built anew: a call is gone, or
+ * means something else. */
+#define BIT_SET_ABI 0
 
 /* A call that takes pointers, none of which may be NULL; and one that may fail too, so that its answer is to be read. */
 #if defined(__GNUC__) || defined(__clang__)

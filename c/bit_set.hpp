@@ -7,6 +7,7 @@
 #include "bit_set.h"
 
 #include <cstddef>
+#include <cstdint>
 #include <initializer_list>
 #include <iterator>
 #include <new>

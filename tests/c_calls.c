@@ -1,6 +1,7 @@
 /* Random calls for C on ranges, ends, single numbers, stretches, shifts and copies, and merges that say whether they
  * changed anything, each compared with a plain table of which numbers are in. It ends with status 1 at the first
- * difference, and writes where that is. */
+ * difference, and writes where that is.
+ *   c_calls [ROUNDS]      of some twelve calls each; 5000 where it is not said */
 #include "bit_set.h"
 #include "c_draws.h"
 
@@ -175,10 +176,11 @@ static void merges(void) {
     CHECK(merge(call) == changed);
 }
 
-int main(void) {
+int main(int count, char **words) {
+    size_t rounds = count > 1 ? strtoul(words[1], NULL, 10) : 5000;
     for (size_t k = 0; k < 3; k++)
         CHECK(bit_set_new(&sets[k]));
-    for (size_t round = 0; round < 5000; round++) {
+    for (size_t round = 0; round < rounds; round++) {
         size_t k = draw(3);
         single_numbers(sets[k], tables[k]);
         ends(sets[k], tables[k]);

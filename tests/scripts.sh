@@ -73,11 +73,10 @@ take_seconds() { echo "$1" > "$STAND_INS/seconds"; }
 # The stand-ins as a toolchain, whose commands are on the PATH.
 set_up_toolchain() {
     export STAND_INS="$room/toolchain" TMPDIR="$room/temporary"
-    mkdir -p "$STAND_INS/kit"/{bin,c,rlibs,toolchain} "$TMPDIR"
-    cp "$here/stand_ins"/* "$STAND_INS/kit/bin"
+    mkdir -p "$STAND_INS/kit"/{bin,rlibs,toolchain/bin,toolchain/lib} "$TMPDIR"
+    cp "$here/stand_ins"/r* "$STAND_INS/kit/bin"
+    cp "$here/stand_ins/clang" "$STAND_INS/kit/toolchain/bin"
     echo 'kit of stand-ins' > "$STAND_INS/kit/KIT-ID"
-    echo 'int bit_set_memory;' > "$room/memory.c"
-    cc -c "$room/memory.c" -o "$room/memory.o" && ar rcs "$STAND_INS/kit/c/liblibc_c.a" "$room/memory.o"
     PATH="$STAND_INS/kit/bin:$PATH"
     take_seconds 0.1
     forget_calls

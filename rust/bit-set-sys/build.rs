@@ -1,9 +1,38 @@
-//! Links what `c/build` wrote into the folder that the variable BIT_SET_LIBRARY_DIR names.
+//! Links the library: that in the folder that the variable BIT_SET_LIBRARY_DIR names, as `c/build` or a release has it,
+//! or else the one that this package has in it for the processor that is built for.
+use std::env;
+use std::path::Path;
+
+/// The processors that a released package has a library for, the newest first, and the features that each needs.
+const PROCESSORS: [(&str, &str, &[&str]); 4] = [
+    ("x86-64-v3", "x86_64", &["avx2", "bmi1", "bmi2", "fma", "lzcnt", "movbe"]),
+    ("x86-64-v2", "x86_64", &["popcnt", "sse4.2"]),
+    ("x86-64", "x86_64", &[]),
+    ("aarch64", "aarch64", &[]),
+];
+
 fn main() {
     println!("cargo:rerun-if-env-changed=BIT_SET_LIBRARY_DIR");
-    let folder = std::env::var("BIT_SET_LIBRARY_DIR")
+    let folder = env::var("BIT_SET_LIBRARY_DIR")
+        .ok()
+        .or_else(own_library)
         .expect("BIT_SET_LIBRARY_DIR is not set: it names the folder into which c/build wrote libbit_set.a");
     println!("cargo:rerun-if-changed={folder}/libbit_set.a");
     println!("cargo:rustc-link-search=native={folder}");
     println!("cargo:rustc-link-lib=static=bit_set");
+}
+
+/// The folder in this package with the library for what Cargo builds for, if there is one.
+fn own_library() -> Option<String> {
+    let of_target = |name: &str| env::var(format!("CARGO_CFG_TARGET_{name}")).unwrap_or_default();
+    let (machine, features) = (of_target("ARCH"), of_target("FEATURE"));
+    let has = |feature: &&str| features.split(',').any(|found| found == *feature);
+    let fits = |needs: &[&str]| of_target("OS") == "linux" && needs.iter().all(|it| has(it));
+    let libraries = Path::new(&env::var("CARGO_MANIFEST_DIR").ok()?).join("lib");
+    PROCESSORS
+        .iter()
+        .filter(|(_, of, needs)| *of == machine && fits(needs))
+        .map(|(processor, ..)| libraries.join(processor))
+        .find(|folder| folder.join("libbit_set.a").is_file())
+        .map(|folder| folder.display().to_string())
 }

@@ -10,7 +10,7 @@ set_up_repository() {
     local crate
     mkdir -p "$repository/tools" "$repository/crates"/{low,mid,bitset}/{src,specs,proofs}
     cp "$top"/{bitset,look,needed} "$repository"
-    cp "$top"/tools/* "$repository/tools"
+    cp "$top/tools/ending.sh" "$repository/tools"
     printf '%s\n' 'low:' 'mid: low' 'bitset: mid' > "$repository/crates.txt"
     echo '# none' > "$repository/left_out.txt"
     for crate in low mid bitset; do

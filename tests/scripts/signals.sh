@@ -11,10 +11,9 @@ expect_marks 'after runs that were ended' '30 TERM' 11 1
 
 # A repository with the library for C, and with tests that only begin.
 library="$room/library"
-mkdir -p "$library/crates" "$library/tools" "$library/tests"
-cp -r "$top/c" "$library"
-cp "$top"/tools/* "$library/tools"
-cp "$top/gate" "$library"
+mkdir -p "$library/crates" "$library/tests"
+cp -r "$top"/{c,tools,gate,crates.txt,CHANGELOG.md} "$top"/LICENSE-* "$library"
+cp "$top"/tests/c_*.[ch] "$library/tests"
 (cd "$top/crates" && tar cf - --exclude=out bit_set_c) | tar xf - -C "$library/crates"
 expect 'c/build fails' "$library/c/build" "$room/built"
 for file in libbit_set.a libbit_set.so bit_set.h bit_set32.h bit_set.pc; do

@@ -1,0 +1,74 @@
+#!/usr/bin/env bash
+# Tries what ./release wrote where no toolchain is and no network: in roots of Debian 11, 12 and 13, with musl, and as
+# programs for aarch64 under qemu. It installs the packages, builds the examples, runs the tests of Python and Rust, and
+# makes a million random calls beside a plain table for each processor. It is not a part of the gate.
+#   tests/release.sh FOLDER [ROOTS]      ROOTS keeps the roots, which debootstrap makes where they are not there
+# It is to be run by root, for chroot. What cannot be tried for want of a program it says. The last line is
+# 'N passed, M failed'.
+# shellcheck disable=SC2034,SC2154  # what the parts read and set
+set -uo pipefail
+unset CDPATH
+here="$(dirname "$(readlink -f "${BASH_SOURCE[0]}")")"
+passed=0
+failed=0
+
+if [ $# -lt 1 ] || [ $# -gt 2 ] || [[ "$1" = -* ]]; then
+    echo 'usage: tests/release.sh FOLDER [ROOTS]' >&2
+    exit 2
+fi
+release="$(readlink -f "$1")"
+mkdir -p "${2:-${XDG_CACHE_HOME:-$HOME/.cache}/bit_set_roots}"
+roots="$(readlink -f "${2:-${XDG_CACHE_HOME:-$HOME/.cache}/bit_set_roots}")"
+room="$(mktemp -d)"
+trap 'rm -rf "$room"' EXIT
+version="$(basename "$release"/bit-set-sys-*.crate .crate)"
+version="${version#bit-set-sys-}"
+# Some twelve calls each.
+rounds=85000
+# Cargo itself, where the command is one that chooses a version.
+cargo="$(rustup which cargo 2> /dev/null)" || cargo="$(command -v cargo)"
+# What runs here finds no toolchain either.
+path="/usr/bin:/bin${cargo:+:${cargo%/*}}"
+
+# Counts whether a command succeeds, and shows what it says where it does not.
+try() {
+    local what="$1"
+    shift
+    if "$@" > "$room/said" 2>&1 < /dev/null; then
+        echo "passed: $what"
+        passed=$((passed + 1))
+    else
+        tail -n 20 "$room/said"
+        echo "FAILED: $what"
+        failed=$((failed + 1))
+    fi
+}
+
+left_out() { echo "left out: $1"; }
+has() { command -v "$1" > /dev/null; }
+
+# Runs a command here without the toolchain and without a network.
+bare() { unshare --net env -i PATH="$path" HOME="$room" TMPDIR="$room" LC_ALL=C.UTF-8 "$@"; }
+
+# Runs lines of shell in the root that is tried, in a folder with what was released and its source.
+inside() {
+    unshare --net chroot "$root" env -i PATH=/usr/sbin:/usr/bin:/sbin:/bin HOME=/root LC_ALL=C.UTF-8 \
+        VERSION="$version" ROUNDS="$rounds" sh -euc "cd /try; $1"
+}
+
+# What runs a program for aarch64 here, over a root or what the cross compiler has.
+on_arm() { bare qemu-aarch64-static -L "${sysroot:-/usr/aarch64-linux-gnu}" "$@"; }
+
+for part in files roots machines; do
+    # shellcheck source=/dev/null
+    . "$here/release/$part.sh"
+done
+try_files
+try_root 11 bullseye python3,python3-pip
+try_root 12 bookworm python3,python3-pip
+try_root 13 trixie python3,python3-pip,cargo,gcc-aarch64-linux-gnu,libc6-dev-arm64-cross
+try_here
+try_musl
+try_arm
+echo "$passed passed, $failed failed"
+[ "$failed" -eq 0 ]

@@ -1,0 +1,175 @@
+# What c/build and release share: the crate bit_set_c, proved and compiled to assembly, and the source release that is
+# made of it. To be sourced after tools/ending.sh.
+# shellcheck shell=bash disable=SC2034
+
+top="$(dirname "$(dirname "$(readlink -f "${BASH_SOURCE[0]}")")")"
+crates="$top/crates"
+kit="$(dirname "$(rt doc | head -n 1)")"
+version="$(sed -n 's/^#define BIT_SET_VERSION "\(.*\)"$/\1/p' "$top/c/bit_set.h")"
+
+# Waits until no other run writes into a folder. The provers have this lock too.
+lock() {
+    local locked
+    exec {locked}< "$1"
+    if ! flock -n "$locked"; then
+        echo "${0##*/}: another run writes into $1: waiting for its end" >&2
+        run_group flock "$locked"
+    fi
+}
+
+# The libraries that the crate stands on, the highest first.
+libraries_below() {
+    local name
+    # shellcheck disable=SC2013  # each word is a name
+    for name in $(sed -n 's/^bit_set_c staticlib: *//p' "$top/crates.txt"); do
+        [ ! -d "$crates/$name" ] || echo "$name"
+    done
+}
+
+prove_below() {
+    local name
+    for name in $(libraries_below); do
+        (cd "$crates/$name" && rt lib) < /dev/null >&2
+    done
+}
+
+# Copies the crate over blocks of 64 bits or of 32: three files say which blocks there are.
+#   copy_crate BITS FOLDER
+copy_crate() {
+    mkdir -p "$2/out"
+    (cd "$crates/bit_set_c" && cp -r src specs proofs "$2")
+    if [ "$1" != 64 ]; then
+        (cd "$2" && sed -i "s/u64/u$1/g; s/U64/U$1/g; s/64/$1/g" src/block.rt specs/Block.antt proofs/Sets.antt)
+    fi
+}
+
+# Makes a folder that stands for the toolchain's, for a target. In the place of clang it has a script that also writes
+# what it is given as assembly, in the same way, into the file `assembly`. There frames are described for debuggers, and on
+# x86-64 each place where a call may arrive is marked, which the processor can then demand: the notes that ask for it are
+# in the module `notes.bc`, since clang takes them from no option where it is given a module.
+make_toolchain() {
+    local folder="$1" target="$2" file notes=''
+    mkdir -p "$folder/bin"
+    ln -s "$kit/toolchain/lib" "$folder/lib"
+    for file in "$kit"/toolchain/bin/*; do
+        [ "${file##*/}" = clang ] || ln -s "$file" "$folder/bin"
+    done
+    if [[ "$target" = x86_64-* ]]; then
+        echo 'typedef int nothing;' > "$folder/notes.c"
+        "$kit/toolchain/bin/clang" --target="$target" -fcf-protection=full -emit-llvm -c "$folder/notes.c" \
+            -o "$folder/notes.bc"
+        notes="-Xclang -mlink-bitcode-file -Xclang '$folder/notes.bc'"
+    fi
+    cat > "$folder/bin/clang" << END
+#!/usr/bin/env bash
+words=()
+for word in "\$@"; do
+    case "\$word" in
+        -c) word=-S ;;
+        *.o) word='$folder/assembly' ;;
+    esac
+    words+=("\$word")
+done
+"$kit/toolchain/bin/clang" "\${words[@]}" -fno-addrsig -fforce-dwarf-frame $notes || exit
+exec "$kit/toolchain/bin/clang" "\$@"
+END
+    chmod +x "$folder/bin/clang"
+}
+
+# Proves the crate in a folder for a processor, over the libraries as they are proved, and writes its assembly. What is
+# said goes to FILE.said, with the verdict as the last line.
+#   assemble CRATE PROCESSOR FILE [KEPT]      KEPT is a folder that keeps what is proved for the next processor or run
+assemble() {
+    local crate="$1" processor="$2" file="$3" name made words
+    local target=x86_64-unknown-linux-gnu cpu="$processor"
+    if [ "$processor" = aarch64 ]; then
+        target=aarch64-unknown-linux-gnu
+        cpu=generic
+    fi
+    words=(--crate-name bit_set_c --crate-type staticlib --links bit_set_c= --target "$target" --cpu "$cpu")
+    if [ $# -ge 4 ]; then
+        mkdir -p "$4"
+        words+=(--incremental "$4")
+    fi
+    for name in $(libraries_below); do
+        words+=(--extern "$name=$crates/$name/out/rlib/$name.rlib" -L "dependency=$crates/$name/out/rlib")
+    done
+    words+=(--extern "std=$kit/rlibs/std.rlib" -L "dependency=$kit/rlibs")
+    words+=(--antt-project "$kit/rattle/logic/antt-project.json" --logic-built "$kit/logic_built")
+    made="$crate/out/$processor"
+    make_toolchain "$made" "$target"
+    words+=(--toolchain "$made" -o "$made/libbit_set_c.a" src/lib.rt)
+    if ! (cd "$crate" && "$kit/bin/rattle" build "${words[@]}") > "$file.said" 2>&1; then
+        cat "$file.said" >&2
+        echo "${0##*/}: the library is not proved or not built for $processor" >&2
+        return 1
+    fi
+    tail -n 1 "$file.said" >&2
+    cp "$made/assembly" "$file"
+}
+
+# Writes assembly for the source release: the calls that take memory under the names that mem.c has for them, what
+# describes frames where a program finds it as it runs, inner names of letters that older assemblers take too, and over
+# blocks of other bits than 64 each exported name with these in it.
+#   name_calls BITS < ASSEMBLY
+name_calls() {
+    local text memory='s/\brattle_\(alloc\|realloc\|dealloc\)\b/bit_set_c_\1/g'
+    text="$(sed "$memory; /^\t\.cfi_sections \.debug_frame\$/d" | plain_names)"
+    if [ "$1" = 64 ]; then
+        echo "$text"
+        return
+    fi
+    local exported='s/^\t\.globl\t\(bit_[a-z]*\)\(_[a-z0-9_]*\)\b.*/s,\\b\1\2\\b,\1'"$1"'\2,g/p'
+    sed -f <(sed -n "$exported" <<< "$text") <<< "$text"
+}
+
+# Of "a::b::<#1f>" it makes a.b.1f. Two names that became one would be an error of the assembler's.
+plain_names() {
+    awk '{
+        line = ""
+        while (match($0, /"[^"]*::[^"]*"/)) {
+            name = substr($0, RSTART + 1, RLENGTH - 2)
+            gsub(/::(<#)?/, ".", name)
+            gsub(/[^A-Za-z0-9_.]/, "", name)
+            line = line substr($0, 1, RSTART - 1) name
+            $0 = substr($0, RSTART + RLENGTH)
+        }
+        print line $0
+    }'
+}
+
+# Proves the crate over blocks of 64 bits and of 32 at once, each by one process, and writes their assembly into the
+# folder of the processor that the source release has in SOURCE. The copies of the crate stay in CRATES.
+#   assemble_both PROCESSOR CRATES SOURCE [KEPT]
+assemble_both() {
+    local processor="$1" copies="$2" source="$3" bits beside=() keeping
+    mkdir -p "$source/src/$processor"
+    for bits in 32 64; do
+        [ -d "$copies/$bits" ] || copy_crate "$bits" "$copies/$bits"
+        keeping=(${4:+"$4/$bits"})
+        start_group assemble "$copies/$bits" "$processor" "$copies/$bits/$processor.s" "${keeping[@]}" < /dev/null
+        beside+=("$!")
+    done
+    wait_group "${beside[0]}"
+    wait_group "${beside[1]}"
+    name_calls 64 < "$copies/64/$processor.s" > "$source/src/$processor/bit_set.s"
+    name_calls 32 < "$copies/32/$processor.s" > "$source/src/$processor/bit_set32.s"
+}
+
+# The headers, of which that over blocks of 32 bits is made of the other.
+write_headers() {
+    cp "$top"/c/*.h "$top"/c/*.hpp "$1"
+    sed 's/bit_\(set\|matrix\)/bit_\132/g; s/bit_set32_c\b/bit_set_c/; s/BIT_\(SET\|MATRIX\)/BIT_\132/g
+        s/uint64_t bit_set32_block/uint32_t bit_set32_block/
+        s/blocks have 64 bits/blocks have 32 bits/; s,n % 64,n % 32,; s,n / 64,n / 32,' "$top/c/bit_set.h" > "$1/bit_set32.h"
+}
+
+# Writes all of the source release into a folder but for its assembly.
+write_source() {
+    mkdir -p "$1"/{include,src,examples,tests}
+    cp "$top"/c/source/{Makefile,CMakeLists.txt,README.md} "$top"/LICENSE-* "$top/CHANGELOG.md" "$1"
+    cp "$top/c/source/mem.c" "$1/src"
+    cp "$top"/c/example.* "$1/examples"
+    cp "$top"/tests/c_*.[ch] "$1/tests"
+    write_headers "$1/include"
+}

@@ -1,0 +1,36 @@
+# The wheels for Python 3.8 and later. To be sourced by release.
+# shellcheck shell=bash disable=SC2154
+
+# Builds the package `bit_set` into a folder by the source release's script.
+#   python_module MACHINE FOLDER LINK..      LINK is what says to the linker where the library is
+python_module() {
+    mkdir -p "$2"
+    CC="$(tool_of "$1" gcc)" "$source/python/build" "$source/include" "${@:2}" < /dev/null
+}
+
+# It has the library for each processor of its kind in it, and needs nothing but glibc 2.17 or later.
+#   make_wheel MACHINE
+make_wheel() {
+    local machine="$1" tree="$room/wheel-$1" base tag="cp38-abi3-manylinux_2_17_$1" newest
+    read -r base _ <<< "$(processors_of "$machine")"
+    local information="$tree/bit_set-$version.dist-info"
+    python_module "$machine" "$tree" "$source/build/$base/libbit_set.a"
+    "$(tool_of "$machine" strip)" --strip-unneeded "$tree"/bit_set/*.so
+    newest="$(newest_glibc "$tree"/bit_set/*.so)"
+    [ "$(printf '%s\n' "$newest" 2.17 | sort -V | tail -n 1)" = 2.17 ] || stop "the wheel for $machine needs glibc $newest"
+    mkdir -p "$information/licenses"
+    cp "$source/PROOF.txt" "$information"
+    cp "$source"/LICENSE-* "$information/licenses"
+    cat > "$information/METADATA" << END
+Metadata-Version: 2.1
+Name: bit_set
+Version: $version
+Summary: Sets of whole numbers as bits, over a library of which every call is proved
+License: MIT OR Apache-2.0
+Requires-Python: >=3.8
+Classifier: Programming Language :: Python :: 3
+Classifier: Operating System :: POSIX :: Linux
+END
+    printf '%s\n' 'Wheel-Version: 1.0' 'Generator: bit_set' 'Root-Is-Purelib: false' "Tag: $tag" > "$information/WHEEL"
+    python3 "$top/tools/release/wheel.py" "$tree" "$folder/bit_set-$version-$tag.whl"
+}
