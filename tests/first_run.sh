@@ -28,7 +28,7 @@ look_below() {
             words+=(--extern "$name=$kit/rlibs/$name.rlib")
         fi
     done
-    "$top/needed" "$1" "$room/$1"
+    "$top/tools/needed" "$1" "$room/$1"
     if [ "$1" != bitset ]; then
         words+=(--lib "$1:$used=../$1/src/lib.rt")
     fi

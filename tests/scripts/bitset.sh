@@ -9,10 +9,10 @@ mark() { echo "// mark: $2" > "$repository/crates/$1/src/marks.rt"; }
 set_up_repository() {
     local crate
     mkdir -p "$repository/tools" "$repository/crates"/{low,mid,bitset}/{src,specs,proofs}
-    cp "$top"/{bitset,look,needed} "$repository"
-    cp "$top/tools/ending.sh" "$repository/tools"
+    cp "$top"/{bitset,look} "$repository"
+    cp "$top"/tools/{ending.sh,needed} "$repository/tools"
     printf '%s\n' 'low:' 'mid: low' 'bitset: mid' > "$repository/crates.txt"
-    echo '# none' > "$repository/left_out.txt"
+    echo '# none' > "$repository/tools/left_out.txt"
     for crate in low mid bitset; do
         mark "$crate" 1
         echo '// a source' | tee "$repository/crates/$crate/src/lib.rt" > "$repository/crates/$crate/src/main.rt"

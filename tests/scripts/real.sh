@@ -5,7 +5,7 @@
 repository="$room/repository"
 proved="$top/crates"
 mkdir -p "$repository" "$room/bin"
-(cd "$top" && tar cf - --exclude=out bitset needed left_out.txt crates.txt tools crates) | tar xf - -C "$repository"
+(cd "$top" && tar cf - --exclude=out bitset crates.txt tools crates) | tar xf - -C "$repository"
 
 cat > "$room/bin/rattle" << REAL
 #!/usr/bin/env bash
