@@ -88,8 +88,8 @@ close                         two       32  260  15000000
 transitive_closure            two       32  340  12000000
 reflexive_transitive_closure  two       32  330  12000000
 dominators                    two       32   25    510000
-transpose                     many      32  270    900000
-transpose                     full      32   55    900000
+transpose                     many      32  170    560000
+transpose                     full      32   38    560000
 solve                         two       64   18   3000000
 solve_back                    two       64   18   3000000
 END
