@@ -79,4 +79,8 @@ take-first (suc n) x xs pos = let less : n ≡ suc n - 1 = omega arith in ap (λ
 pub ruleset set_steps = (nat_tests, has-filter, filter_none, filter_all, length-filter-le, take-first, append_assoc, append-nil)
 
 -- all that callers use, for `grind`: a crate names it once, at its root
-pub ruleset calls = (set_steps, at_place, has_place, in_order, IsAscending-elements, all_by_places, any_by_places)
+pub ruleset calls = (set_steps, at_place, has_place, in_order, IsAscending-elements)
+
+-- the same for loops over a row of sets whose contract says `All` or `Any`, and whose invariant `list_all` or `list_any`:
+-- with these two beside the places a loop over one set may stay open
+pub ruleset rows = (set_steps, all_by_places, any_by_places)
