@@ -13,8 +13,8 @@ Commit:             $commit
 Toolchain:          $(rt version)
 Checksum of logic:  $(sed -n 's/.* sum=\([0-9a-f]\{64\}\)$/\1/p' "$1/64/x86-64.s.said" | head -n 1)
 
-Every call of include/bit_set.h is proved to return what its contract says, for all sets and all numbers, and to read and
-write nothing but what it was given. The contracts are those of crates/bit_set_c at this commit. The prover's verdict, for
+Every call of include/bit_set.h is proved to return what its contract says, for all sets, matrices and numbers, and to read
+and write nothing but what it was given. The contracts are those of crates/bit_set_c at this commit. The prover's verdict, for
 each processor, over blocks of 64 bits and of 32:
 
 END

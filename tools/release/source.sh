@@ -13,7 +13,7 @@ make_source() {
         done
     done
     write_proof "$room/crates" "$made/PROOF.txt"
-    (cd "$top" && git archive HEAD python rust) | tar x -C "$made"
+    (cd "$top" && git archive "$commit" python rust) | tar x -C "$made"
     pack "$made" "$folder/bit_set-$version.tar.gz"
     cp -p "$made/PROOF.txt" "$folder"
     tar xzf "$folder/bit_set-$version.tar.gz" -C "$room"
