@@ -59,7 +59,10 @@ fn a_chunk_that_is_merged(rt: HostRuntime) -> Result<(), Fail> {
     other.set(71, true);
     // Of 72 values, over blocks of 8 bits, those at 5 and 70 are true, and in `other` those at 6 and 71.
     bits.merge_chunk_with(&other, Merge::Union, 1);
-    assert_eq!(rt; bits.storage(), [0b0010_0000, 0, 0, 0, 0, 0, 0, 0, 0b1100_0000].as_slice());
+    assert_eq!(rt;
+        bits.storage(),
+        [0b0010_0000, 0, 0, 0, 0, 0, 0, 0, 0b1100_0000].as_slice()
+    );
     Ok(())
 }
 
