@@ -40,6 +40,20 @@ def as_in_documents(line):
     return line.replace("!(rt; ", "!(")
 
 
+def in_one_line(lines):
+    """The lines, of which a macro for tests that is laid out over several is one again."""
+    found, call = [], []
+    for line in lines:
+        if call or line.endswith("!(rt;"):
+            call.append(line)
+        else:
+            found.append(line)
+        if call and line == ");":
+            found.append(" ".join(call[:-1]) + ");")
+            call = []
+    return found
+
+
 def is_in(wanted, lines):
     """Whether the wanted lines are among these, one after another."""
     first = wanted[0]
@@ -259,7 +273,7 @@ def main():
     check = Check()
     sources = {path: lines_of(path.read_text(encoding="utf-8")) for path in sorted(root.glob("crates/*/src/**/*.rt"))}
     # A test passes `rt`, by which it prints, to `assert!`; no example does.
-    tests = [[as_in_documents(line) for line in lines] for lines in sources.values() if "#[test]" in lines]
+    tests = [[as_in_documents(line) for line in in_one_line(lines)] for lines in sources.values() if "#[test]" in lines]
     documents = [root / "README.md", *sorted(root.glob("crates/*/CALLING.md"))]
     for document in documents:
         check_examples(check, root, document, [*sources.values(), *tests])
