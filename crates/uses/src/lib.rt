@@ -1,5 +1,5 @@
 //! Uses of `bit_set`, and one of `bit_matrix`, as a caller writes them.
-#![tactic(auto)]
+#![tactic(auto, using(bit_set::proofs::CallerLemmas::calls))]
 
 ghost use Rattle.std.specs.Prelude.{◌≡◌, ℕ, ◌<◌, ◌≤◌, ◌%◌, ◌==◌, ◌&&◌, ◌||◌, ◌↔◌, ◌∷◌, if◌then◌else◌, not, nat_lt, false, All, IfNone, IfOk, IfSome, IsOk, OnOk, IsTrue, Some, length};
 ghost use Rattle.bit_set.specs.Members.{HasNone, IsSameSet, IsUnion};
@@ -9,11 +9,22 @@ use bit_set::{BitBlock, BitSet, SetError, laws};
 use std::alloc::{AllocError, AllocFailed, Global};
 use std::collections::BTreeMap;
 
+pub mod allocating;
 pub mod bits;
 pub mod chains;
+pub mod closing;
 pub mod commands;
+pub mod complements;
+pub mod filling;
+pub mod filtering;
+pub mod from_the_back;
 pub mod loops;
 pub mod matrices;
+pub mod merging;
+pub mod reading;
+pub mod relations;
+pub mod searching;
+pub mod selecting;
 pub mod worklists;
 
 /// The even numbers below `n`.

@@ -1,0 +1,34 @@
+//! Sets that are filled, and out of which numbers are taken.
+ghost use Rattle.std.specs.Prelude.{◌≡◌, ℕ, ◌*◌, ◌<◌, ◌%◌, ◌==◌, ◌&&◌, nat_le, nat_lt, not, IfOk};
+ghost use Rattle.bit_set.specs.Sets.{elements, has};
+
+use bit_set::{BitBlock, BitSet, SetError};
+use std::alloc::Global;
+
+/// The numbers below `n`, but for those from `low` on and below `high`.
+pub fn with_hole<B: BitBlock>(
+    alloc: Global,
+    n: usize,
+    low: usize,
+    high: usize,
+) -> Result<BitSet<B>, SetError>
+    ensures { IfOk result (λ set. (x : ℕ) → has (elements set.values) x
+        ≡ (nat_lt x n && not (nat_le low x && nat_lt x high))) }
+{
+    let mut set = BitSet::new_general(alloc);
+    set.insert_range(0..n)?;
+    set.remove_range(low..high);
+    Ok(set)
+}
+
+/// The multiples of three below `3 * n`.
+pub fn threes<B: BitBlock>(alloc: Global, n: usize) -> Result<BitSet<B>, SetError>
+    requires { n < 1000 }
+    ensures { IfOk result (λ set. (x : ℕ) → has (elements set.values) x ≡ (x % 3 == 0 && nat_lt x (3 * n))) }
+{
+    let mut set = BitSet::new_general(alloc);
+    for k in 0..n {
+        set.insert(3 * k)?;
+    }
+    Ok(set)
+}
