@@ -81,9 +81,9 @@ intersection_changes          many   65536   17     49000
 difference_changes            many   65536   17     49000
 symmetric_difference_changes  many   65536   17    110000
 union_with_difference         many   65536   17     95000
-union_of                      many   65536   17    700000
-union_of                      two    65536   17    700000
-intersection_of               many   65536   17    700000
+union_of                      many   65536   17   1070000
+union_of                      two    65536   17   1070000
+intersection_of               many   65536   17   1070000
 close                         two       32  260  15000000
 transitive_closure            two       32  340  12000000
 reflexive_transitive_closure  two       32  330  12000000
