@@ -78,7 +78,10 @@ impl Draw {
                 line.first = usize::MAX - self.random.below(2);
             }
             Call::InsertRange | Call::ToggleRange => self.range(line, set),
-            Call::ShiftUp if is_far => line.first = usize::MAX - self.random.below(300),
+            // So far that the greatest element cannot be moved: a little less would want more memory than there is.
+            Call::ShiftUp if is_far => {
+                line.first = usize::MAX - self.random.below(set.elements.last().map_or(1, |last| last + 1));
+            }
             Call::ShiftUp | Call::ShiftDown => line.first = self.random.below(300),
             Call::FirstGap if is_far => {
                 line.first = self.element(set);
