@@ -1,8 +1,8 @@
 -- What a merge that says whether a block changed does, some blocks at a time, which blocks stay, and what that says of the
 -- list.
-use Rattle.std.proofs.{Math.Bool.or-false, Common.{◌≡◌, ℕ, ◌+◌, ◌*◌, ◌/◌, ◌%◌, ◌^◌, ◌<◌, ◌≤◌, ◌↔◌, Bool, false, true, not, ◌==◌, ◌&&◌, ◌||◌, List, map, length, get_or, set, take, All, refl, sym, ap, ap₂, ◌∙◌, arith, ⊎_elim, mod-lt, length-take, get_or-take, get_or-set_same, get_or-set_other}, lemmas.{Bool.{cases_eq, cases_lt, false≢true, Decides.nat_tests}, List.{get_or_past, length-map}, Nat.Bits.same_from_bits_below}}
-use Rattle.std.specs.Prelude.{IfNone, IfSome, Option, None, Some, is_some}
-use Rattle.bit_blocks.specs.{declared.block.merge.Merge.{Merge, TheVariants.{Difference, Symmetric, Union}}, Merges.{merge_of_values, merge_of}, Digits.is_one, BlockMerges.{apart_at, except_at, other_at, AreKept, HasMerged, Stay}, Storage.{value_at, values_of, IsPacked, IsZeroFrom, is_used}}
+use Rattle.std.proofs.{Math.Bool.or-false, Common.{◌≡◌, ℕ, ◌+◌, ◌*◌, ◌/◌, ◌%◌, ◌^◌, ◌<◌, ◌≤◌, ◌↔◌, Bool, false, true, not, ◌==◌, ◌&&◌, ◌||◌, List, map, length, get_or, set, take, All, refl, sym, ap, ◌∙◌, arith, ⊎_elim, mod-lt, length-take, get_or-take, get_or-set_same, get_or-set_other}, lemmas.{Bool.{cases_eq, cases_lt, false≢true, Decides.nat_tests}, List.{get_or_past, length-map}, Nat.Bits.same_from_bits_below}}
+use Rattle.std.specs.{Prelude.{MatchOption, Option, None, Some, is_some}, Option.unwrap_or}
+use Rattle.bit_blocks.specs.{declared.block.merge.Merge.{Merge, TheVariants.{Difference, Union}}, Merges.{merge_of_values, merge_of}, Digits.is_one, BlockMerges.{apart_at, except_at, merge_at, other_at, AreKept, AreOthers, FindsDifference, HasMerged, Stay}, Storage.{value_at, values_of, IsPacked, IsZeroFrom, is_used}}
 use Rattle.bit_blocks.proofs.{CompareLemmas.zero_from_digits, Masks.is_one-zero, MergeLemmas.{get_or-merged, length-merged, merge_of_values-none}, StorageLemmas.{get_or-values_of, get_or-values_of_zero_tail, same_digit, length-values_of, value_at-is, value_at-past, values_of-same}, UseLemmas.same_block, VectorLemmas.numbers_below}
 
 -- ---- the other digits
@@ -138,49 +138,171 @@ merged_rest w f P a b c os es xs ys le past is = record {
   len = is.len;
 }
 
--- ---- blocks that stay
+-- ---- blocks that are others
 
-module _ {X : Type 0} (m : Merge) (w : ℕ) (f : X → ℕ) where
-  pub stay_none : (start end : ℕ) (other : ℕ → ℕ → Bool) (xs : List X) → end ≤ start → Stay m w f start end other xs
-  stay_none start end other xs le = record { digit = λ k j from below index. absurd (omega arith) }
+module _ {X : Type 0} (w : ℕ) (f : X → ℕ) where
+  pub same_none : (start end : ℕ) (other : ℕ → ℕ → Bool) (xs : List X) → end ≤ start → AreOthers w f start end other xs
+  same_none start end other xs le = record { digit = λ k j from below index. absurd (omega arith) }
 
-  pub stay_more : (a b c : ℕ) (other : ℕ → ℕ → Bool) (xs : List X) → Stay m w f a b other xs → Stay m w f b c other xs → Stay m w f a c other xs
-  stay_more a b c other xs one two = record {
+  pub same_more : (a b c : ℕ) (other : ℕ → ℕ → Bool) (xs : List X) → AreOthers w f a b other xs → AreOthers w f b c other xs
+      → AreOthers w f a c other xs
+  same_more a b c other xs one two = record {
     digit = λ k j from below index. ⊎_elim (λ early. one.digit k j from early index) (λ late. two.digit k j late below index) (cases_lt k b);
   }
 
   -- those among them
-  pub stay_part : (a b c d : ℕ) (other : ℕ → ℕ → Bool) (xs : List X) → a ≤ b → c ≤ d → Stay m w f a d other xs → Stay m w f b c other xs
-  stay_part a b c d other xs le also is = record { digit = λ k j from below index. is.digit k j (omega arith) (omega arith) index }
+  pub same_part : (a b c d : ℕ) (other : ℕ → ℕ → Bool) (xs : List X) → a ≤ b → c ≤ d → AreOthers w f a d other xs
+      → AreOthers w f b c other xs
+  same_part a b c d other xs le also is = record { digit = λ k j from below index. is.digit k j (omega arith) (omega arith) index }
 
-  pub stay_same : (start end : ℕ) (d e : ℕ → ℕ → Bool) (xs : List X) → ((k j : ℕ) → start ≤ k → k < end → j < w → d k j ≡ e k j) → Stay m w f start end d xs → Stay m w f start end e xs
-  stay_same start end d e xs same is = record {
-    digit = λ k j from below index. is.digit k j from below index ∙ ap (merge_of_values m (is_one (get_or (map f xs) k 0) j)) (same k j from below index);
-  }
+  -- with the same digits
+  pub same_as : (start end : ℕ) (d e : ℕ → ℕ → Bool) (xs : List X)
+      → ((k j : ℕ) → start ≤ k → k < end → j < w → d k j ≡ e k j)
+      → AreOthers w f start end d xs → AreOthers w f start end e xs
+  same_as start end d e xs same is = record { digit = λ k j from below index. is.digit k j from below index ∙ same k j from below index }
 
-  -- a block stays just where it is what it merges to
-  pub stay_one : (k a b n : ℕ) (xs : List X) → a ≡ get_or (map f xs) k 0 → a < 2 ^ w → n < 2 ^ w → ((j : ℕ) → j < w → is_one n j ≡ merge_of_values m (is_one a j) (is_one b j)) → (a ≡ n) ↔ Stay m w f k (k + 1) (λ q j. is_one b j) xs
-  stay_one k a b n xs read small also digits = (
+  -- one of them
+  pub same_one : (k a n : ℕ) (other : ℕ → ℕ → Bool) (xs : List X) → a ≡ get_or (map f xs) k 0 → a < 2 ^ w → n < 2 ^ w
+      → ((j : ℕ) → j < w → is_one n j ≡ other k j) → (a ≡ n) ↔ AreOthers w f k (k + 1) other xs
+  same_one k a n other xs read small also digits = (
     λ e. record {
       digit = λ q j from below index.
           let here : q ≡ k = omega arith in
-          let there : get_or (map f xs) q 0 ≡ a = ap (λ p. get_or (map f xs) p 0) here ∙ sym read in
-          ap (λ x. is_one x j) (there ∙ e) ∙ digits j index ∙ ap (λ x. merge_of_values m (is_one x j) (is_one b j)) (sym there);
+          ap (λ p. is_one (get_or (map f xs) p 0) j) here
+          ∙ ap (λ x. is_one x j) (sym read ∙ e)
+          ∙ digits j index
+          ∙ ap (λ p. other p j) (sym here);
     },
-    λ is. same_from_bits_below w a n small also (λ j index. same_digit a n j (ap (λ x. is_one x j) read ∙ is.digit k j (omega arith) (omega arith) index ∙ ap (λ x. merge_of_values m (is_one x j) (is_one b j)) (sym read) ∙ sym (digits j index))),
+    λ is. same_from_bits_below w a n small also (λ j index.
+        same_digit a n j (ap (λ x. is_one x j) read ∙ is.digit k j (omega arith) (omega arith) index ∙ sym (digits j index))),
   )
 
-  -- one more of them, where a block says of those so far whether one changed
-  pub stay_so_far : (a k s t : ℕ) (d other : ℕ → ℕ → Bool) (xs : List X) → a ≤ k → ((q j : ℕ) → k ≤ q → q < k + 1 → j < w → d q j ≡ other q j) → (s ≡ 0) ↔ Stay m w f a k other xs → (t ≡ 0) ↔ ((s ≡ 0) × Stay m w f k (k + 1) d xs) → (t ≡ 0) ↔ Stay m w f a (k + 1) other xs
-  stay_so_far a k s t d other xs le same before now = (
-    λ none.
-        let both = now.0 none in
-        stay_more a k (k + 1) other xs (before.0 both.0) (stay_same k (k + 1) d other xs same both.1),
+  -- one more of them, where a block says of those so far whether one differs
+  pub same_so_far : (a k s t m n : ℕ) (other : ℕ → ℕ → Bool) (xs : List X) → a ≤ k → (m ≡ n) ↔ AreOthers w f k (k + 1) other xs
+      → (s ≡ 0) ↔ AreOthers w f a k other xs → (t ≡ 0) ↔ ((s ≡ 0) × (m ≡ n)) → (t ≡ 0) ↔ AreOthers w f a (k + 1) other xs
+  same_so_far a k s t m n other xs le one before now = (
+    λ none. let both = now.0 none in same_more a k (k + 1) other xs (before.0 both.0) (one.0 both.1),
     λ is. now.1 (
-      before.1 (stay_part a a k (k + 1) other xs (omega arith) (omega arith) is),
-      stay_same k (k + 1) other d xs (λ q j from below index. sym (same q j from below index)) (stay_part a k (k + 1) (k + 1) other xs le (omega arith) is),
+      before.1 (same_part a a k (k + 1) other xs (omega arith) (omega arith) is),
+      one.1 (same_part a k (k + 1) (k + 1) other xs le (omega arith) is),
     ),
   )
+
+  -- ---- where they first differ
+
+  -- those before the place, or before the end where there is none, are the others
+  pub same_before : (end : ℕ) (d : ℕ → ℕ → Bool) (xs : List X) (r : Option ℕ) → FindsDifference w f 0 end d xs r
+      → AreOthers w f 0 (unwrap_or r end) d xs
+  same_before end d xs None is = is.none
+  same_before end d xs (Some place) is = is.same
+
+  -- from digits that are the same
+  pub finds_as : (start end : ℕ) (d e : ℕ → ℕ → Bool) (xs : List X) (r : Option ℕ) → start ≤ end
+      → ((k j : ℕ) → start ≤ k → k < end → j < w → d k j ≡ e k j)
+      → FindsDifference w f start end d xs r → FindsDifference w f start end e xs r
+  finds_as start end d e xs None le same is =
+      record { within = tt; same = tt; differs = tt; none = same_as start end d e xs same is.none }
+  finds_as start end d e xs (Some place) le same is = record {
+    within = is.within;
+    same = same_as start place d e xs (λ k j from below index. same k j from (omega (arith, is.within)) index) is.same;
+    differs = λ all. is.differs (same_as start end e d xs (λ k j from below index. sym (same k j from below index)) all);
+    none = tt;
+  }
+
+  -- a place that was found stands, however far the search would go
+  pub finds_first : (start end far : ℕ) (d : ℕ → ℕ → Bool) (xs : List X) (r : Option ℕ) → end ≤ far → is_some r ≡ true
+      → FindsDifference w f start end d xs r → FindsDifference w f start far d xs r
+  finds_first start end far d xs None le some is = absurd (false≢true some)
+  finds_first start end far d xs (Some place) le some is = record {
+    within = omega (arith, is.within);
+    same = is.same;
+    differs = λ all. is.differs (same_part start start end far d xs (omega arith) le all);
+    none = tt;
+  }
+
+  -- where none was found, those before the end are the others
+  pub all_same : (start end : ℕ) (d : ℕ → ℕ → Bool) (xs : List X) (r : Option ℕ) → is_some r ≡ false
+      → FindsDifference w f start end d xs r → AreOthers w f start end d xs
+  all_same start end d xs None none is = is.none
+  all_same start end d xs (Some place) none is = absurd (false≢true (sym none))
+
+  -- with those before them, which are the others
+  pub finds_next : (start from end : ℕ) (d : ℕ → ℕ → Bool) (xs : List X) (r : Option ℕ) → start ≤ from
+      → AreOthers w f start from d xs → FindsDifference w f from end d xs r → FindsDifference w f start end d xs r
+  finds_next start from end d xs None le before is =
+      record { within = tt; same = tt; differs = tt; none = same_more start from end d xs before is.none }
+  finds_next start from end d xs (Some place) le before is = record {
+    within = is.within;
+    same = same_more start from place d xs before is.same;
+    differs = λ all. is.differs (same_part start from end end d xs le (omega arith) all);
+    none = tt;
+  }
+
+  -- with those past them, which are the others
+  pub finds_further : (start end far : ℕ) (d : ℕ → ℕ → Bool) (xs : List X) (r : Option ℕ) → end ≤ far
+      → AreOthers w f end far d xs → FindsDifference w f start end d xs r → FindsDifference w f start far d xs r
+  finds_further start end far d xs None le past is =
+      record { within = tt; same = tt; differs = tt; none = same_more start end far d xs is.none past }
+  finds_further start end far d xs (Some place) le past is = finds_first start end far d xs (Some place) le refl is
+
+  -- those before a place are the others, and some from there on are not
+  pub finds_place : (start place end : ℕ) (d : ℕ → ℕ → Bool) (xs : List X) → start ≤ place → place ≤ end
+      → AreOthers w f start place d xs → (AreOthers w f place end d xs → ⊥) → FindsDifference w f start end d xs (Some place)
+  finds_place start place end d xs le also before not = record {
+    within = also;
+    same = before;
+    differs = λ all. not (same_part start place end end d xs le (omega arith) all);
+    none = tt;
+  }
+
+-- the blocks of another list, which are the same just where their numbers are
+module _ {X : Type 0} (w : ℕ) (f : X → ℕ) (P : X → Type 0) where
+  pub same_numbers : (a b : ℕ) (xs ys : List X) → ((x : X) → P x → f x < 2 ^ w) → All P xs → All P ys
+      → AreOthers w f a b (other_at (map f ys)) xs ↔ ((k : ℕ) → a ≤ k → k < b → get_or (map f xs) k 0 ≡ get_or (map f ys) k 0)
+  same_numbers a b xs ys law each also = (
+    λ is k from below.
+        same_from_bits_below w _ _ (numbers_below w f P xs law each k) (numbers_below w f P ys law also k) (λ j index. same_digit _ _ j (is.digit k j from below index)),
+    λ same. record { digit = λ k j from below index. ap (λ n. is_one n j) (same k from below) },
+  )
+
+  -- blocks that are zeros
+  pub zeros_same : (a b : ℕ) (xs : List X) → ((x : X) → P x → f x < 2 ^ w) → All P xs → AreOthers w f a b (λ k j. false) xs
+      → (k : ℕ) → a ≤ k → k < b → get_or (map f xs) k 0 ≡ 0
+  zeros_same a b xs law each is k from below = zero_from_digits w _ (numbers_below w f P xs law each k) (λ j index. is.digit k j from below index)
+
+-- what an answer tells that says of a first mismatch, by whether there is none
+pub none_tells : (P Q : Type 0) (R : ℕ → Type 0) (r : Option ℕ) (b : Bool) → not b ≡ is_some r → MatchOption r P R → (P → Q)
+    → ((k : ℕ) → R k → Q → ⊥) → (b ≡ true) ↔ Q
+none_tells P Q R None true is all then not_all = (λ _. then all, λ _. refl)
+none_tells P Q R None false is all then not_all = absurd (false≢true (sym is))
+none_tells P Q R (Some k) true is one then not_all = absurd (false≢true is)
+none_tells P Q R (Some k) false is one then not_all = (λ none. absurd (false≢true none), λ all. absurd (not_all k one all))
+
+-- the same of blocks that stay
+module _ {X : Type 0} (m : Merge) (w : ℕ) (f : X → ℕ) where
+  pub stay_none : (start end : ℕ) (other : ℕ → ℕ → Bool) (xs : List X) → end ≤ start → Stay m w f start end other xs
+  stay_none start end other xs le = same_none w f start end (merge_at m f xs other) xs le
+
+  pub stay_part : (a b c d : ℕ) (other : ℕ → ℕ → Bool) (xs : List X) → a ≤ b → c ≤ d → Stay m w f a d other xs → Stay m w f b c other xs
+  stay_part a b c d other xs le also is = same_part w f a b c d (merge_at m f xs other) xs le also is
+
+  pub stay_more : (a b c : ℕ) (other : ℕ → ℕ → Bool) (xs : List X) → Stay m w f a b other xs → Stay m w f b c other xs → Stay m w f a c other xs
+  stay_more a b c other xs one two = same_more w f a b c (merge_at m f xs other) xs one two
+
+  -- with the same other digits
+  pub stay_as : (start end : ℕ) (d e : ℕ → ℕ → Bool) (xs : List X) → ((k j : ℕ) → start ≤ k → k < end → j < w → d k j ≡ e k j)
+      → (k j : ℕ) → start ≤ k → k < end → j < w → merge_at m f xs d k j ≡ merge_at m f xs e k j
+  stay_as start end d e xs same k j from below index = ap (merge_of_values m (is_one (get_or (map f xs) k 0) j)) (same k j from below index)
+
+  pub stay_same : (start end : ℕ) (d e : ℕ → ℕ → Bool) (xs : List X) → ((k j : ℕ) → start ≤ k → k < end → j < w → d k j ≡ e k j)
+      → Stay m w f start end d xs → Stay m w f start end e xs
+  stay_same start end d e xs same is = same_as w f start end (merge_at m f xs d) (merge_at m f xs e) xs (stay_as start end d e xs same) is
+
+  -- a block stays just where it is what it merges to
+  pub stay_one : (k a b n : ℕ) (xs : List X) → a ≡ get_or (map f xs) k 0 → a < 2 ^ w → n < 2 ^ w
+      → ((j : ℕ) → j < w → is_one n j ≡ merge_of_values m (is_one a j) (is_one b j)) → (a ≡ n) ↔ Stay m w f k (k + 1) (λ q j. is_one b j) xs
+  stay_one k a b n xs read small also digits =
+      same_one w f k a n (merge_at m f xs (λ q j. is_one b j)) xs read small also (λ j index. digits j index ∙ ap (λ x. merge_of_values m (is_one x j) (is_one b j)) read)
 
 module _ {X : Type 0} (m : Merge) (w : ℕ) (f : X → ℕ) (P : X → Type 0) where
   -- the blocks after some that stay are merged, and so all are
@@ -198,45 +320,12 @@ module _ {X : Type 0} (m : Merge) (w : ℕ) (f : X → ℕ) (P : X → Type 0) w
   }
 
 -- past the end of the others a union changes no block
-pub stay_past_others : {X : Type 0} (w : ℕ) (f : X → ℕ) (a b c : ℕ) (os es : List ℕ) (xs : List X) → length os ≤ b → Stay Union w f a b (except_at os es) xs → Stay Union w f a c (except_at os es) xs
-stay_past_others w f a b c os es xs past is = record {
+pub stay_past_others : {X : Type 0} (w : ℕ) (f : X → ℕ) (b c : ℕ) (os es : List ℕ) (xs : List X) → length os ≤ b
+    → Stay Union w f b c (except_at os es) xs
+stay_past_others w f b c os es xs past = record {
   digit = λ k j from below index.
-      ⊎_elim
-      (λ early. is.digit k j from early index)
-      (λ late. sym (or-false (is_one (get_or (map f xs) k 0) j)) ∙ ap (λ b. is_one (get_or (map f xs) k 0) j || b) (except_past os es k j (omega arith)))
-      (cases_lt k b);
+      sym (or-false (is_one (get_or (map f xs) k 0) j)) ∙ ap (λ b. is_one (get_or (map f xs) k 0) j || b) (except_past os es k j (omega arith));
 }
-
--- a clause about no change, of an answer that says where one begins
-pub none_where_some : (P : Type 0) (r : Option ℕ) → is_some r ≡ true → IfNone r P
-none_where_some P None some = absurd (false≢true some)
-none_where_some P (Some x) some = tt
-
--- the same clause, of an answer that says that there is none
-pub where_none : (P : Type 0) (r : Option ℕ) → is_some r ≡ false → IfNone r P → P
-where_none P None none is = is
-where_none P (Some x) none is = absurd (false≢true (sym none))
-
--- what follows from such a clause
-pub none_then : (P Q : Type 0) (r : Option ℕ) → IfNone r P → (P → Q) → IfNone r Q
-none_then P Q None is then = then is
-none_then P Q (Some x) is then = tt
-
--- what follows from a clause that refutes something of an answer that says where a change begins
-pub some_not : (P Q : Type 0) (r : Option ℕ) → IfSome r (λ x. P → ⊥) → (Q → P) → IfSome r (λ x. Q → ⊥)
-some_not P Q None not then = tt
-some_not P Q (Some x) not then = λ is. not (then is)
-
--- those before a change that was found stay as far as the others are the same
-pub stay_found : {X : Type 0} (m : Merge) (w : ℕ) (f : X → ℕ) (both : ℕ) (d e : ℕ → ℕ → Bool) (xs : List X) (r : Option ℕ) → IfSome r (λ x. x ≤ both) → IfSome r (λ x. Stay m w f 0 x d xs) → ((k j : ℕ) → k < both → d k j ≡ e k j) → IfSome r (λ x. Stay m w f 0 x e xs)
-stay_found m w f both d e xs None within stay same = tt
-stay_found m w f both d e xs (Some x) within stay same = stay_same m w f 0 x d e xs (λ k j _ below _. same k j (omega (arith, within))) stay
-
--- with those before them
-pub stay_rest : {X : Type 0} (m : Merge) (w : ℕ) (f : X → ℕ) (both end : ℕ) (d e : ℕ → ℕ → Bool) (xs : List X) (r : Option ℕ) → IfSome r (λ x. x ≤ end) → IfSome r (λ x. Stay m w f both x d xs) → Stay m w f 0 both e xs → ((k j : ℕ) → both ≤ k → k < end → d k j ≡ e k j) → IfSome r (λ x. Stay m w f 0 x e xs)
-stay_rest m w f both end d e xs None within stay first same = tt
-stay_rest m w f both end d e xs (Some x) within stay first same =
-    stay_more m w f 0 both x e xs first (stay_same m w f both x d e xs (λ k j from below _. same k j from (omega (arith, within))) stay)
 
 -- ---- lists
 

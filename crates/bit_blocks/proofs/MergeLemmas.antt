@@ -1,8 +1,7 @@
 -- What the merge of two lists is at every index.
-use Rattle.std.proofs.Common.{◌≡◌, ℕ, zero, suc, ◌+◌, ◌/◌, ◌%◌, ◌<◌, ◌≤◌, max, Bool, false, List, [], ◌∷◌, map, length, get_or, set, All, refl, sym, arith, mod-lt, get_or-set_same, get_or-set_other}
-use Rattle.std.proofs.lemmas.List.{get_or_past, length-map}
+use Rattle.std.proofs.Common.{◌≡◌, ℕ, zero, suc, ◌≤◌, max, Bool, false, List, [], ◌∷◌, length, get_or, refl, sym, arith}
 use Rattle.bit_blocks.{specs.{declared.block.merge.Merge.Merge, Merges.{merge_of_values, merge_of}, Storage.{value_at, values_of, IsZeroFrom}}, proofs.StorageLemmas.length-values_of}
-use Rattle.bit_blocks.proofs.StorageLemmas.{values_of-same, get_or-values_of_zero_tail, value_at-is, value_at-past}
+use Rattle.bit_blocks.proofs.StorageLemmas.{values_of-same, get_or-values_of_zero_tail}
 
 -- ---- two lists
 

@@ -1,5 +1,5 @@
 -- Blocks that are 0.
-use Rattle.std.proofs.Common.{◌≡◌, ℕ, suc, ◌+◌, ◌-◌, ◌*◌, ◌/◌, ◌%◌, ◌<◌, List, [], ◌∷◌, map, drop, take, get_or, get_or-take, get_or-drop, All, sym, ap, ◌∙◌, arith, mod-lt, div-add-mod'}
+use Rattle.std.proofs.Common.{◌≡◌, ℕ, suc, ◌+◌, ◌*◌, ◌/◌, ◌%◌, ◌<◌, List, [], ◌∷◌, map, drop, take, get_or, get_or-take, get_or-drop, All, sym, ap, ◌∙◌, arith, mod-lt, div-add-mod'}
 use Rattle.std.proofs.lemmas.List.{drop-map, take-map, Elements.{All-nil, All-cons}}
 use Rattle.bit_blocks.{specs.Storage.value_at, proofs.StorageLemmas.{value_at-is, value_at-index}}
 

@@ -2,11 +2,13 @@
 //! `i / B::bits()`. A list of bits is kept so, and its bits past the length are 0; so is any table of bits.
 // Nothing here knows of a summary.
 pub mod access;
+pub mod becoming;
 pub mod block_merges;
 pub mod bytes;
 pub mod changes;
 pub mod comparing;
 pub mod copies;
+pub mod differences;
 pub mod groups;
 pub mod inclusion;
 pub mod nonzero;

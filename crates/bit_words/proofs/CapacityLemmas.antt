@@ -1,9 +1,11 @@
 -- How far a list is true, and the blocks that this takes.
-use Rattle.std.proofs.Common.{◌≡◌, ◌≢◌, ℕ, zero, suc, ◌+◌, ◌-◌, ◌*◌, ◌/◌, ◌^◌, ◌<◌, ◌≤◌, max, Bool, false, List, [], ◌∷◌, length, get_or, take, refl, ap, ◌∙◌, arith, length-take, le_of_mul-le-mul_right, mul-le-mul_right}
+use Rattle.std.proofs.Common.{◌≡◌, ◌≢◌, ℕ, zero, suc, ◌+◌, ◌-◌, ◌*◌, ◌/◌, ◌^◌, ◌<◌, ◌≤◌, max, Bool, false, List, [], ◌∷◌, length, get_or, take, refl, ap, ◌∙◌, arith, length-take}
+use Rattle.std.proofs.Common.{le_of_mul-le-mul_right, mul-le-mul_right}
 use Rattle.std.proofs.lemmas.{Bool.Decides.nat_tests, Nat.le-div}
 use Rattle.bit_blocks.specs.{Bits.{Bits, blocks_for, capacity_of, true_end, whole_blocks}, Storage.{value_at, values_of, IsZeroFrom}}
 use Rattle.bit_words.specs.Summary.{shared_capacity, short_count, stored_for}
-use Rattle.bit_blocks.proofs.{BitsLemmas.{blocks_for-enough, blocks_for-least, whole_before}, CompareLemmas.zero_from_digits, StorageLemmas.{value_at-is, value_at-past, value_at-index}, PackedLemmas.value_at-take}
+use Rattle.bit_blocks.proofs.{BitsLemmas.{blocks_for-enough, blocks_for-least, whole_before}, CompareLemmas.zero_from_digits, StorageLemmas.{value_at-is, value_at-past, value_at-index}}
+use Rattle.bit_blocks.proofs.PackedLemmas.{value_at-take}
 use Rattle.bit_blocks.proofs.{VectorLemmas.length_from_view, Masks.is_one-zero}
 
 -- ---- how far a list is true
@@ -23,7 +25,8 @@ pub blocks_for-whole : (w c : ℕ) → 0 < w → blocks_for w (c * w) ≡ c
 blocks_for-whole w c pos = omega (arith, blocks_for-least w (c * w) c pos (omega arith), le_of_mul-le-mul_right (blocks_for-enough w (c * w) pos) pos)
 
 -- the last block that is not 0 holds the last true value
-pub used_blocks-true_end : (w : ℕ) (ms : List ℕ) (count : ℕ) (xs : List Bool) → 0 < w → ((k : ℕ) → get_or ms k 0 < 2 ^ w) → ((i : ℕ) → get_or xs i false ≡ value_at w ms i) → ((k : ℕ) → count ≤ k → get_or ms k 0 ≡ 0) → (0 < count → get_or ms (count - 1) 0 ≢ 0) → blocks_for w (true_end xs) ≡ count
+pub used_blocks-true_end : (w : ℕ) (ms : List ℕ) (count : ℕ) (xs : List Bool) → 0 < w → ((k : ℕ) → get_or ms k 0 < 2 ^ w) → ((i : ℕ) → get_or xs i false ≡ value_at w ms i)
+    → ((k : ℕ) → count ≤ k → get_or ms k 0 ≡ 0) → (0 < count → get_or ms (count - 1) 0 ≢ 0) → blocks_for w (true_end xs) ≡ count
 used_blocks-true_end w ms count xs pos small same zeros last =
     let low = blocks_for-least w (true_end xs) count pos (true_end-least xs (count * w) (λ i past. grind (arith, same i, value_at-is, is_one-zero, zeros (i / w), le-div count i w pos))) in
     let none : blocks_for w (true_end xs) < count → get_or ms (count - 1) 0 ≡ 0 = λ less. zero_from_digits w _ (small (count - 1)) (λ j index.
@@ -98,6 +101,8 @@ pub shared_whole : (w count blocks summary : ℕ) → 0 < w → blocks ≡ count
 shared_whole w count blocks summary pos first second = omega (arith, shared_for_summary w count summary pos (omega arith))
 
 -- the capacity of a copy, which is that of the blocks and of what is stored of their summary
-pub capacity_of_copy : (w n r count blocks summary : ℕ) (ms : List ℕ) (v : Bits) → 0 < w → record { values = values_of w ms n; capacity = r } ≡ v → count ≡ blocks_for w n → blocks ≡ count → summary ≡ stored_for w count → capacity_of w (shared_capacity w blocks summary) ≡ capacity_of w (blocks_for w (length v.values))
+pub capacity_of_copy : (w n r count blocks summary : ℕ) (ms : List ℕ)
+    (v : Bits) → 0 < w → record { values = values_of w ms n; capacity = r } ≡ v → count ≡ blocks_for w n → blocks ≡ count → summary ≡ stored_for w count → capacity_of w
+    (shared_capacity w blocks summary) ≡ capacity_of w (blocks_for w (length v.values))
 capacity_of_copy w n r count blocks summary ms v pos e is first second =
     rw (length_from_view w n r ms v e) (ap (capacity_of w) (shared_whole w count blocks summary pos first second ∙ is))

@@ -1,5 +1,6 @@
 -- A walk that ends in a block: what is left before it, and the block itself.
-use Rattle.std.proofs.Common.{◌≡◌, ℕ, ◌+◌, ◌-◌, ◌<◌, ◌≤◌, ◌==◌, false, if◌then◌else◌, List, [], ◌∷◌, ◌++◌, map, drop, take, length, slice_get, Some, All, min, max, refl, sym, ap, subst, ◌∙◌, ◌⊎◌, inl, inr, arith}
+use Rattle.std.proofs.Common.{◌≡◌, ℕ, ◌+◌, ◌-◌, ◌<◌, ◌≤◌, ◌==◌, false, if◌then◌else◌, List, [], ◌∷◌, ◌++◌, map, drop, take, length, slice_get, Some, All, min, max, refl, sym, ap, subst, ◌∙◌}
+use Rattle.std.proofs.Common.{◌⊎◌, inl, inr, arith}
 use Rattle.std.proofs.lemmas.{Bool.{cond_both, eqb-true, cases_lt, Decides.nat_tests}, List.{append-nil, length-drop, length-take, Elements.{All-nil, All-cons}}}
 use Rattle.bit_blocks.specs.{Digits.is_one, Storage.is_used}
 use Rattle.bit_words.specs.{Nonzero.nonzero_from, Pending.{first_true, IsInHand, left_from, next_at}}
@@ -45,7 +46,8 @@ module _ {X : Type 0} (number : X → ℕ) where
   split-left : (p k end : ℕ) (x : X) (xs : List X) → p ≤ k → k < end → end ≤ length xs → slice_get xs k ≡ Some x → IsSplitAt p k end k (number x) xs
   split-left p k end x xs from before to at =
       let rest = left_from number (k + 1) end xs in
-      let whole : left_from number p end xs ≡ left_from number p k xs ++ (if number x == 0 then rest else (k, x) ∷ rest) = left-split number p k end xs from (omega (arith, before)) to ∙ ap (λ ys. left_from number p k xs ++ ys) (left-here number k end x xs before to at) in
+      let whole : left_from number p end xs ≡ left_from number p k xs ++ (if number x == 0 then rest else (k, x) ∷ rest) = left-split number p k end xs from (omega (arith, before)) to
+      ∙ ap (λ ys. left_from number p k xs ++ ys) (left-here number k end x xs before to at) in
       cond_both (number x == 0) rest ((k, x) ∷ rest) (λ ys. left_from number p end xs ≡ left_from number p k xs ++ ys → IsSplitAt p k end k (number x) xs)
       (λ none split. record {
         at = [];
@@ -71,7 +73,8 @@ module _ {X : Type 0} (number : X → ℕ) where
     at = [];
     past = left_from number (k + 1) end xs;
     split = left-split number p k end xs from (omega (arith, before)) to
-        ∙ ap (λ ys. left_from number p k xs ++ ys) (left-passed number k (k + 1) end xs (omega arith) (λ j reached below _. ap (is_used (map number xs)) (let e : j ≡ k = omega (arith, reached, below) in e) ∙ none));
+        ∙ ap (λ ys. left_from number p k xs ++ ys)
+        (left-passed number k (k + 1) end xs (omega arith) (λ j reached below _. ap (is_used (map number xs)) (let e : j ≡ k = omega (arith, reached, below) in e) ∙ none));
     before = left-before p k xs from;
     after = left-above k (k + 1) end xs (omega arith);
     entry = inl (refl, refl);
@@ -105,7 +108,8 @@ module _ {X : Type 0} (number : X → ℕ) where
 
   module _ (w : ℕ) (is_block : X → Type 0) where
     -- a block whose bit is not pending is 0, or none of those that are left
-    unset_is_zero : (index end k : ℕ) (pending : X) (xs : List X) → IsInHand w number is_block index end pending xs → next_at w index (number pending) ≤ k → k < end → k < index + w → is_one (number pending) (k - index) ≡ false → is_used (map number xs) k ≡ false
+    unset_is_zero : (index end k : ℕ) (pending : X) (xs : List X) → IsInHand w number is_block index end pending xs → next_at w index (number pending) ≤ k → k < end → k < index + w
+        → is_one (number pending) (k - index) ≡ false → is_used (map number xs) k ≡ false
     unset_is_zero index end k pending xs is from before within unset =
         let first = first_true (is_one (number pending)) w in
         let d = k - index in
@@ -116,7 +120,8 @@ module _ {X : Type 0} (number : X → ℕ) where
         grind (arith, nat_tests, e, unset, same, covered, from)
 
     -- it has none of the blocks that are left
-    pub split-without : (index end k to : ℕ) (pending : X) (xs : List X) → IsInHand w number is_block index end pending xs → to ≡ min (max k index) end → (k < end → index ≤ k → (k < index + w) × (is_one (number pending) (k - index) ≡ false)) → IsSplitAt (next_at w index (number pending)) k end to 0 xs
+    pub split-without : (index end k to : ℕ) (pending : X) (xs : List X) → IsInHand w number is_block index end pending xs → to ≡ min (max k index) end
+        → (k < end → index ≤ k → (k < index + w) × (is_one (number pending) (k - index) ≡ false)) → IsSplitAt (next_at w index (number pending)) k end to 0 xs
     split-without index end k to pending xs is to_is out =
         let p = next_at w index (number pending) in
         elim (cases_lt k p) [
@@ -130,7 +135,8 @@ module _ {X : Type 0} (number : X → ℕ) where
           ]
         ]
 
-    pub split-with : (index end k to : ℕ) (x pending : X) (xs : List X) → IsInHand w number is_block index end pending xs → to ≡ min (max k index) end → (next_at w index (number pending) ≤ k) × (k < end) → slice_get xs k ≡ Some x → IsSplitAt (next_at w index (number pending)) k end to (number x) xs
+    pub split-with : (index end k to : ℕ) (x pending : X) (xs : List X) → IsInHand w number is_block index end pending xs → to ≡ min (max k index) end
+        → (next_at w index (number pending) ≤ k) × (k < end) → slice_get xs k ≡ Some x → IsSplitAt (next_at w index (number pending)) k end to (number x) xs
     split-with index end k to x pending xs is to_is left at =
         let to_k : to ≡ k = omega (arith, to_is, left) in
         rw to_k (split-left (next_at w index (number pending)) k end x xs left.0 left.1 is.ends at)

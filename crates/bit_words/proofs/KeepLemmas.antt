@@ -1,5 +1,6 @@
 -- A list of which one block was cut down to some of its ones.
-use Rattle.std.{specs.Global.Vec, proofs.Common.{◌≡◌, ◌≢◌, ℕ, ◌+◌, ◌*◌, ◌/◌, ◌%◌, ◌<◌, false, not, ◌&&◌, ◌==◌, List, length, get_or, map, set, sym, ap, ◌∙◌, arith, ⊎_elim, mod-lt, div-add-mod', lt_of_mul-lt-mul_right}}
+use Rattle.std.specs.Global.{Vec}
+use Rattle.std.proofs.Common.{◌≡◌, ◌≢◌, ℕ, ◌+◌, ◌*◌, ◌/◌, ◌%◌, ◌<◌, false, not, ◌&&◌, ◌==◌, List, length, get_or, map, set, sym, ap, ◌∙◌, arith, ⊎_elim, mod-lt, div-add-mod', lt_of_mul-lt-mul_right}
 use Rattle.std.proofs.lemmas.{Bool.{cases_eq}, List.{get_or-set_other, get_or-set_same}}
 use Rattle.bit_blocks.specs.{Bits.{Bits, blocks_for}, Digits.{IsBoth, is_one}, Storage.{value_at, values_of, IsPacked, IsZeroFrom, WritesInPlace, WritesValue, is_used}}
 use Rattle.bit_words.specs.{Kept.KeepsInBlock, Summary.IsSummary}
@@ -37,7 +38,8 @@ kept_less w k m ms ns pos kept i none =
 kept_tail : (w k m n : ℕ) (ms ns : List ℕ) → 0 < w → KeptBlock w k m ms ns → IsZeroFrom w ms n → IsZeroFrom w ns n
 kept_tail w k m n ms ns pos kept tail = record { zero_tail = λ i past. kept_less w k m ms ns pos kept i (tail.zero_tail i past) }
 
-pub kept_packed : {X : Type 0} (w k m n : ℕ) (f : X → ℕ) (P : X → Type 0) (xs ys : Vec X) → 0 < w → IsPacked w f P xs.items n → KeptBlock w k m (map f xs.items) (map f ys.items) → WritesInPlace P xs ys → IsPacked w f P ys.items n
+pub kept_packed : {X : Type 0} (w k m n : ℕ) (f : X → ℕ) (P : X → Type 0) (xs ys : Vec X) → 0 < w → IsPacked w f P xs.items n → KeptBlock w k m (map f xs.items) (map f ys.items)
+    → WritesInPlace P xs ys → IsPacked w f P ys.items n
 kept_packed w k m n f P xs ys pos packed kept in_place = record {
   each = in_place.each;
   count = omega (arith, xs.ok.0, ys.ok.0, in_place.len, packed.count);
@@ -45,7 +47,8 @@ kept_packed w k m n f P xs ys pos packed kept in_place = record {
   fits = packed.fits;
 }
 
-pub kept_values : (w k m n r : ℕ) (ms ns : List ℕ) (v : Bits) → 0 < w → record { values = values_of w ms n; capacity = r } ≡ v → IsZeroFrom w ms n → KeptBlock w k m ms ns → KeepsInBlock w k m v.values (values_of w ns n)
+pub kept_values : (w k m n r : ℕ) (ms ns : List ℕ)
+    (v : Bits) → 0 < w → record { values = values_of w ms n; capacity = r } ≡ v → IsZeroFrom w ms n → KeptBlock w k m ms ns → KeepsInBlock w k m v.values (values_of w ns n)
 kept_values w k m n r ms ns v pos view tail kept =
     let same : values_of w ms n ≡ v.values = ap (λ u. u.values) view in
     let after = kept_tail w k m n ms ns pos kept tail in
@@ -60,7 +63,8 @@ kept_values w k m n r ms ns v pos view tail kept =
     })
 
 -- the summary, of which the bit of that block is set anew
-pub kept_summary : {X : Type 0} (w k b : ℕ) (f : X → ℕ) (P : X → Type 0) (xs ys old new : Vec X) → k < length ys.items → map f ys.items ≡ set (map f xs.items) k b → WritesInPlace P xs ys → IsSummary w f P xs.items old.items
+pub kept_summary : {X : Type 0} (w k b : ℕ) (f : X → ℕ) (P : X → Type 0) (xs ys old new : Vec X) → k < length ys.items → map f ys.items ≡ set (map f xs.items) k b → WritesInPlace P xs ys
+    → IsSummary w f P xs.items old.items
     → WritesValue w (map f old.items) (map f new.items) k (is_used (map f ys.items) k) → WritesInPlace P old new → IsSummary w f P ys.items new.items
 kept_summary w k b f P xs ys old new within is in_place summary updated summary_in_place =
     let len : length ys.items ≡ length xs.items = omega (arith, xs.ok.0, ys.ok.0, in_place.len) in

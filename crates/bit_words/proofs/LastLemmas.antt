@@ -1,5 +1,6 @@
 -- The last block that a walk has left, and what is left without it.
-use Rattle.std.proofs.Common.{◌≡◌, ℕ, suc, ◌+◌, ◌-◌, ◌*◌, ◌/◌, ◌%◌, ◌^◌, ◌<◌, ◌≤◌, Bool, true, false, nat_lt, ◌&&◌, if◌then◌else◌, ◌==◌, List, [], ◌∷◌, ◌++◌, map, length, take, Option, Some, None, refl, ap, sym, ◌∙◌, arith, min, mod-lt, div-add-mod', lt_of_mul-lt-mul_right}
+use Rattle.std.proofs.Common.{◌≡◌, ℕ, suc, ◌+◌, ◌-◌, ◌*◌, ◌/◌, ◌%◌, ◌^◌, ◌<◌, ◌≤◌, Bool, true, false, nat_lt, ◌&&◌, if◌then◌else◌, ◌==◌, List, [], ◌∷◌, ◌++◌, map, length, take, Option, Some}
+use Rattle.std.proofs.Common.{None, refl, ap, sym, ◌∙◌, arith, min, mod-lt, div-add-mod', lt_of_mul-lt-mul_right}
 use Rattle.std.{proofs.{lemmas.{Bool.Decides.nat_tests, List.length-map}, Math.Nat.div-lt_iff_lt-mul}, specs.Option.unwrap_or}
 use Rattle.bit_blocks.specs.{Bits.blocks_for, Digits.is_one, Highest.IsHighest, Searches.FindsBefore, Storage.{value_at, is_used}}
 use Rattle.bit_words.specs.Pending.{FindsLast, FindsLastPending, first_true, IsInHand, IsLastPending, IsPending, IsStoredFrom, left_from, next_at}
@@ -29,7 +30,8 @@ chunk_goes_on w count pos past within =
 -- ---- the search by a summary
 
 -- a search of the blocks from `start` on
-pub last_from_start : {X : Type 0} (number : X → ℕ) (xs : List X) (start end : ℕ) (r : Option ℕ) (k : ℕ) → FindsBefore (λ j. is_used (map number xs) (start + j)) (end - start) r → r ≡ Some k → IsLastPending number xs start end (start + k)
+pub last_from_start : {X : Type 0} (number : X → ℕ) (xs : List X) (start end : ℕ) (r : Option ℕ) (k : ℕ) → FindsBefore (λ j. is_used (map number xs) (start + j)) (end - start) r
+    → r ≡ Some k → IsLastPending number xs start end (start + k)
 last_from_start number xs start end None k found is = absurd (let e = is in cc)
 last_from_start number xs start end (Some j) k found is = let same : k ≡ j = (let e = is in cc) in rw same (record {
   reached = omega arith;
@@ -39,7 +41,8 @@ last_from_start number xs start end (Some j) k found is = let same : k ≡ j = (
       ap (is_used (map number xs)) (sym e) ∙ found.between (i - start) (omega (arith, past)) (omega (arith, past, below));
 })
 
-pub none_from_start : {X : Type 0} (number : X → ℕ) (xs : List X) (start end : ℕ) (r : Option ℕ) → FindsBefore (λ j. is_used (map number xs) (start + j)) (end - start) r → r ≡ None → (j : ℕ) → start ≤ j → j < end → is_used (map number xs) j ≡ false
+pub none_from_start : {X : Type 0} (number : X → ℕ) (xs : List X) (start end : ℕ) (r : Option ℕ) → FindsBefore (λ j. is_used (map number xs) (start + j)) (end - start) r → r ≡ None
+    → (j : ℕ) → start ≤ j → j < end → is_used (map number xs) j ≡ false
 none_from_start number xs start end None found is = λ j from below.
     let e : start + (j - start) ≡ j = omega (arith, from) in
     ap (is_used (map number xs)) (sym e) ∙ found (j - start) (omega (arith, from, below))
@@ -47,7 +50,8 @@ none_from_start number xs start end (Some k) found is = absurd (let e = is in cc
 
 module _ {X : Type 0} (w : ℕ) (number : X → ℕ) (is_block : X → Type 0) where
   -- a place at which what is stored of a summary is true is a `usize`
-  pub stored_fits : (start end i : ℕ) (xs summary : List X) → 0 < w → w ≤ start → end ≤ length xs → length xs < 2 ^ 64 → IsStoredFrom w number is_block start end xs summary → value_at w (map number summary) i ≡ true → i < 2 ^ 64
+  pub stored_fits : (start end i : ℕ) (xs summary : List X) → 0 < w → w ≤ start → end ≤ length xs → length xs < 2 ^ 64 → IsStoredFrom w number is_block start end xs summary
+      → value_at w (map number summary) i ≡ true → i < 2 ^ 64
   stored_fits start end i xs summary pos chunk ends fits is one =
       let here : i / w < length summary = grind (arith, value_at-past w (map number summary) i, length-map summary number) in
       let below : i < length summary * w = (div-lt_iff_lt-mul pos).0 here in
@@ -65,7 +69,8 @@ module _ {X : Type 0} (w : ℕ) (number : X → ℕ) (is_block : X → Type 0) w
   pub first_reached : (f : ℕ → Bool) (n i : ℕ) → f i ≡ true → first_true f n ≤ i
   first_reached f n i here = grind (arith, before_first f n i)
 
-  pub last_in_hand : (index end i : ℕ) (pending : X) (xs : List X) → IsInHand w number is_block index end pending xs → IsHighest (number pending) i → i < w → ((j : ℕ) → index + w ≤ j → j < end → is_used (map number xs) j ≡ false)
+  pub last_in_hand : (index end i : ℕ) (pending : X) (xs : List X) → IsInHand w number is_block index end pending xs → IsHighest (number pending) i → i < w
+      → ((j : ℕ) → index + w ≤ j → j < end → is_used (map number xs) j ≡ false)
       → IsLastPending number xs (next_at w index (number pending)) end (index + i)
   last_in_hand index end i pending xs is high within past =
       let m = number pending in
@@ -96,7 +101,8 @@ module _ {X : Type 0} (w : ℕ) (number : X → ℕ) (is_block : X → Type 0) w
         grind (arith, nat_tests, cut i (omega (arith, after, within)), cut j within, is.covers i j after within, used);
   }
 
-  pub left-cut_at : (index end to : ℕ) (pending rest : X) (xs : List X) → IsInHand w number is_block index end pending xs → to ≤ end → ((j : ℕ) → j < w → is_one (number rest) j ≡ (nat_lt j (to - index) && is_one (number pending) j))
+  pub left-cut_at : (index end to : ℕ) (pending rest : X) (xs : List X) → IsInHand w number is_block index end pending xs → to ≤ end
+      → ((j : ℕ) → j < w → is_one (number rest) j ≡ (nat_lt j (to - index) && is_one (number pending) j))
       → left_from number (next_at w index (number rest)) to xs ≡ left_from number (next_at w index (number pending)) to xs
   left-cut_at index end to pending rest xs is before cut =
       let m = number pending in
@@ -117,21 +123,24 @@ module _ {X : Type 0} (w : ℕ) (number : X → ℕ) (is_block : X → Type 0) w
     pub cut : (j : ℕ) → j < w → is_one (number rest) j ≡ (nat_lt j (to - index) && is_one (number pending) j)
     pub left : kept ≡ take (blocks_for w (to - (index + w))) summary
 
-  pub IsPending-cut_at : (index end to : ℕ) (pending rest : X) (xs summary left : List X) → 0 < w → index ≤ to → to ≤ end → IsCutAt index end to pending rest xs summary left → IsPending w number is_block index to rest xs left
+  pub IsPending-cut_at : (index end to : ℕ) (pending rest : X) (xs summary left : List X) → 0 < w → index ≤ to → to ≤ end → IsCutAt index end to pending rest xs summary left
+      → IsPending w number is_block index to rest xs left
   IsPending-cut_at index end to pending rest xs summary left pos from before is = record {
     hand = IsInHand-cut_at index end to pending rest xs is.before.hand from before is.of_block is.cut;
     stored = stored_kept w number is_block (index + w) end to (blocks_for w (to - (index + w))) xs summary left pos is.before.stored before refl is.left;
   }
 
   -- the block that was found is within what is left
-  pub found_within : (index end m : ℕ) (found : Option ℕ) (xs : List X) → index ≤ end → FindsLastPending number xs (next_at w index m) end found → (index ≤ unwrap_or found index) × (unwrap_or found index ≤ end)
+  pub found_within : (index end m : ℕ) (found : Option ℕ) (xs : List X) → index ≤ end → FindsLastPending number xs (next_at w index m) end found
+      → (index ≤ unwrap_or found index) × (unwrap_or found index ≤ end)
   found_within index end m None xs within finds = (omega arith, within)
   found_within index end m (Some k) xs within finds = (omega (arith, finds.reached), omega (arith, finds.before))
 
   some_is : {A : Type 0} {x : A} → Some x ≡ None → ⊥
   some_is none = absurd (let e = none in cc)
 
-  pub FindsLast-cut_at : (index end to : ℕ) (pending rest : X) (xs summary left : List X) (found : Option ℕ) → IsCutAt index end to pending rest xs summary left → to ≡ unwrap_or found index → FindsLastPending number xs (next_at w index (number pending)) end found
+  pub FindsLast-cut_at : (index end to : ℕ) (pending rest : X) (xs summary left : List X) (found : Option ℕ) → IsCutAt index end to pending rest xs summary left → to ≡ unwrap_or found index
+      → FindsLastPending number xs (next_at w index (number pending)) end found
       → FindsLast w number xs index (number pending) end found (number rest) to
   FindsLast-cut_at index end to pending rest xs summary left None is to_is none =
       let p = next_at w index (number pending) in
@@ -159,7 +168,8 @@ module _ {X : Type 0} (w : ℕ) (number : X → ℕ) (is_block : X → Type 0) w
 
   -- ---- the last block, where that is past the block in hand
 
-  without_last : (index end to : ℕ) (pending : X) (xs summary kept : List X) → index + w < end → to ≡ end - 1 → IsPending w number is_block index end pending xs summary → kept ≡ take (blocks_for w (to - (index + w))) summary → IsCutAt index end to pending pending xs summary kept
+  without_last : (index end to : ℕ) (pending : X) (xs summary kept : List X) → index + w < end → to ≡ end - 1 → IsPending w number is_block index end pending xs summary
+      → kept ≡ take (blocks_for w (to - (index + w))) summary → IsCutAt index end to pending pending xs summary kept
   without_last index end to pending xs summary kept past to_is is kept_is = record {
     before = is;
     of_block = is.hand.of_block;
@@ -167,11 +177,13 @@ module _ {X : Type 0} (w : ℕ) (number : X → ℕ) (is_block : X → Type 0) w
     left = kept_is;
   }
 
-  pub IsPending-last : (index end to : ℕ) (pending : X) (xs summary kept : List X) → 0 < w → index + w < end → to ≡ end - 1 → IsPending w number is_block index end pending xs summary → kept ≡ take (blocks_for w (to - (index + w))) summary → IsPending w number is_block index to pending xs kept
+  pub IsPending-last : (index end to : ℕ) (pending : X) (xs summary kept : List X) → 0 < w → index + w < end → to ≡ end - 1 → IsPending w number is_block index end pending xs summary
+      → kept ≡ take (blocks_for w (to - (index + w))) summary → IsPending w number is_block index to pending xs kept
   IsPending-last index end to pending xs summary kept pos past to_is is kept_is =
       IsPending-cut_at index end to pending pending xs summary kept pos (omega (arith, to_is, past)) (omega (arith, to_is)) (without_last index end to pending xs summary kept past to_is is kept_is)
 
-  pub FindsLast-last : (index end to : ℕ) (pending : X) (xs summary kept : List X) → index + w < end → to ≡ end - 1 → IsPending w number is_block index end pending xs summary → kept ≡ take (blocks_for w (to - (index + w))) summary → FindsLast w number xs index (number pending) end (Some to) (number pending) to
+  pub FindsLast-last : (index end to : ℕ) (pending : X) (xs summary kept : List X) → index + w < end → to ≡ end - 1 → IsPending w number is_block index end pending xs summary
+      → kept ≡ take (blocks_for w (to - (index + w))) summary → FindsLast w number xs index (number pending) end (Some to) (number pending) to
   FindsLast-last index end to pending xs summary kept past to_is is kept_is =
       FindsLast-cut_at index end to pending pending xs summary kept (Some to) (without_last index end to pending xs summary kept past to_is is kept_is) refl (record {
         reached = let most = first_most (is_one (number pending)) w in omega (arith, most, past, to_is);

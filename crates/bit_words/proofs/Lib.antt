@@ -4,6 +4,8 @@ pub mod SummarySpanLemmas
 pub mod RangeLemmas
 pub mod MovedLemmas
 pub mod RangeQueryLemmas
+pub mod MergedOnesLemmas
+pub mod ComparedLemmas
 pub mod KeepLemmas
 pub mod ChunkLemmas
 pub mod CapacityLemmas
@@ -11,8 +13,11 @@ pub mod SameCapacity
 pub mod SummaryLemmas
 pub mod SummaryZeros
 pub mod UsedLemmas
+pub mod TouchedLemmas
+pub mod FusedLemmas
 pub mod SummaryMergeLemmas
 pub mod StartLemmas
+pub mod LowByteLemmas
 pub mod LastLemmas
 pub mod CutLemmas
 pub mod NextAtLemmas

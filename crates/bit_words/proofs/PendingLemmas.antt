@@ -1,6 +1,11 @@
 -- The walk over the blocks that are not 0, by the pending bits of a summary.
-use Rattle.std.proofs.Common.{◌≡◌, ◌≢◌, ℕ, zero, suc, ◌+◌, ◌-◌, ◌*◌, ◌/◌, ◌%◌, ◌^◌, ◌<◌, ◌≤◌, true, false, not, leb, nat_lt, ◌&&◌, if◌then◌else◌, ◌==◌, List, [], ◌∷◌, ◌++◌, map, drop, take, length, slice_get, Some, get_or, get_or-take, All, refl, sym, ap, subst, ◌∙◌, ⊎_elim, arith, max, min, mul-le-mul_right, div-mul-le_self, length-take}
-use Rattle.std.proofs.{lemmas.{Bool.{true≢false, cases_lt, cond_both, Decides.nat_tests}, List.{append-nil, drop_more, drop_all, drop-append-le, drop-map, get_or_past, length-drop, length-map, length-take-le, take_all, take-append-drop, take-map, take-take, Elements.{All-drop, All-take}}, Option.get_or_from_slice_get}, Math.{Nat.div-lt_iff_lt-mul, Seq.drop-drop}}
+use Rattle.std.proofs.Common.{◌≡◌, ◌≢◌, ℕ, zero, suc, ◌+◌, ◌-◌, ◌*◌, ◌/◌, ◌%◌, ◌^◌, ◌<◌, ◌≤◌, true, false, not, leb, nat_lt, ◌&&◌, if◌then◌else◌, ◌==◌, List, [], ◌∷◌, ◌++◌, map, drop, take}
+use Rattle.std.proofs.Common.{length, slice_get, Some, get_or, get_or-take, All, refl, sym, ap, subst, ◌∙◌, ⊎_elim, arith, max, min, mul-le-mul_right, div-mul-le_self, length-take}
+use Rattle.std.proofs.lemmas.Bool.{true≢false, cases_lt, cond_both, Decides.nat_tests}
+use Rattle.std.proofs.lemmas.List.{append-nil, drop_more, drop_all, drop-append-le, drop-map, get_or_past, length-drop, length-map, length-take-le, take_all, take-append-drop, take-map}
+use Rattle.std.proofs.lemmas.List.{take-take, Elements.{All-drop, All-take}}
+use Rattle.std.proofs.lemmas.Option.{get_or_from_slice_get}
+use Rattle.std.proofs.Math.{Nat.div-lt_iff_lt-mul, Seq.drop-drop}
 use Rattle.std.proofs.lemmas.Grind.{div_ceil_times}
 use Rattle.bit_blocks.specs.{Bits.blocks_for, Digits.is_one, Lowest.{IsLowest, IsCleared}, Storage.{value_at, is_used}}
 use Rattle.bit_words.specs.{Nonzero.nonzero_from, Pending.{CoversUsed, IsInHand, IsLastPending, IsStoredFrom, left_from, next_at}}
@@ -36,9 +41,11 @@ module _ {X : Type 0} (number : X → ℕ) where
   left-ended p end xs past = ap (nonzero_from number p) (drop_all p (take end xs) (let most = length-take end xs in omega (arith, most, past)))
 
   -- a block that comes, or is 0
-  pub left-here : (k end : ℕ) (x : X) (xs : List X) → k < end → end ≤ length xs → slice_get xs k ≡ Some x → left_from number k end xs ≡ (if number x == 0 then left_from number (k + 1) end xs else (k, x) ∷ left_from number (k + 1) end xs)
+  pub left-here : (k end : ℕ) (x : X) (xs : List X) → k < end → end ≤ length xs → slice_get xs k ≡ Some x
+      → left_from number k end xs ≡ (if number x == 0 then left_from number (k + 1) end xs else (k, x) ∷ left_from number (k + 1) end xs)
   left-here k end x xs before to at =
-      ap (nonzero_from number k) (drop_more (take end xs) k x (let most = length-take end xs in omega (arith, most, before, to)) ∙ ap (λ y. y ∷ drop (k + 1) (take end xs)) (get_or-take end xs k x before ∙ get_or_from_slice_get xs k x x at))
+      ap (nonzero_from number k)
+      (drop_more (take end xs) k x (let most = length-take end xs in omega (arith, most, before, to)) ∙ ap (λ y. y ∷ drop (k + 1) (take end xs)) (get_or-take end xs k x before ∙ get_or_from_slice_get xs k x x at))
 
   -- those before a block, and those from it on
   nonzero-append : (k : ℕ) (xs ys : List X) → nonzero_from number k (xs ++ ys) ≡ nonzero_from number k xs ++ nonzero_from number (k + length xs) ys
@@ -58,7 +65,8 @@ module _ {X : Type 0} (number : X → ℕ) where
       ∙ ap (λ j. nonzero_from number p front ++ nonzero_from number j back) at
 
   -- the last block before the end that may be not 0 comes last, or is 0
-  pub left-last : (p end k : ℕ) (x : X) (xs : List X) → IsLastPending number xs p end k → end ≤ length xs → slice_get xs k ≡ Some x → left_from number p end xs ≡ (if number x == 0 then left_from number p k xs else left_from number p k xs ++ (k, x) ∷ [])
+  pub left-last : (p end k : ℕ) (x : X) (xs : List X) → IsLastPending number xs p end k → end ≤ length xs → slice_get xs k ≡ Some x
+      → left_from number p end xs ≡ (if number x == 0 then left_from number p k xs else left_from number p k xs ++ (k, x) ∷ [])
   left-last p end k x xs last to at =
       let past : left_from number (k + 1) end xs ≡ [] =
       left-passed (k + 1) (k + 1 + end) end xs (omega arith) (λ j over _ before. last.between j (omega (arith, over)) before) ∙ left-ended (k + 1 + end) end xs (omega arith) in
@@ -66,13 +74,16 @@ module _ {X : Type 0} (number : X → ℕ) where
       left-here k end x xs last.before to at ∙ ap (λ ys. if number x == 0 then ys else (k, x) ∷ ys) past in
       left-split p k end xs last.reached (omega (arith, last.before)) to
       ∙ ap (λ ys. left_from number p k xs ++ ys) here
-      ∙ cond_both (number x == 0) [] ((k, x) ∷ []) (λ ys. left_from number p k xs ++ ys ≡ (if number x == 0 then left_from number p k xs else left_from number p k xs ++ (k, x) ∷ [])) (λ none. append-nil (left_from number p k xs) ∙ ap (λ b. if b then left_from number p k xs else left_from number p k xs ++ (k, x) ∷ []) (sym none)) (λ some. ap (λ b. if b then left_from number p k xs else left_from number p k xs ++ (k, x) ∷ []) (sym some))
+      ∙ cond_both (number x == 0) [] ((k, x) ∷ []) (λ ys. left_from number p k xs ++ ys ≡ (if number x == 0 then left_from number p k xs else left_from number p k xs ++ (k, x) ∷ []))
+      (λ none. append-nil (left_from number p k xs) ∙ ap (λ b. if b then left_from number p k xs else left_from number p k xs ++ (k, x) ∷ []) (sym none))
+      (λ some. ap (λ b. if b then left_from number p k xs else left_from number p k xs ++ (k, x) ∷ []) (sym some))
 
 -- ---- the block of the summary in hand
 
 module _ {X : Type 0} (w : ℕ) (number : X → ℕ) (is_block : X → Type 0) where
   -- The digits of m are about the blocks from `start` on, and have none of a block before the one at `from`.
-  pub left-covered : (start from end m : ℕ) (xs : List X) → start ≤ from → from ≤ start + w → ((j : ℕ) → j < from - start → is_one m j ≡ false) → ((j : ℕ) → j < w → from ≤ start + j → start + j < end → is_used (map number xs) (start + j) ≡ true → is_one m j ≡ true)
+  pub left-covered : (start from end m : ℕ) (xs : List X) → start ≤ from → from ≤ start + w → ((j : ℕ) → j < from - start → is_one m j ≡ false)
+      → ((j : ℕ) → j < w → from ≤ start + j → start + j < end → is_used (map number xs) (start + j) ≡ true → is_one m j ≡ true)
       → left_from number (next_at w start m) end xs ≡ left_from number from end xs
   left-covered start from end m xs on to none covers =
       let least = first_least (is_one m) w (from - start) (omega (arith, to)) none in
@@ -94,10 +105,12 @@ module _ {X : Type 0} (w : ℕ) (number : X → ℕ) (is_block : X → Type 0) w
             ap (λ b. b == 1) (cleared.kept j to (λ e. omega (arith, e, past))) ∙ is.covers i j (omega (arith, past)) to (is_one-bit 1 m i low.one) before used),
       )
 
-  pub IsInHand-taken : (index end i : ℕ) (pending rest : X) (xs : List X) → IsInHand w number is_block index end pending xs → is_block rest → IsLowest (number pending) i → IsCleared w (number pending) i (number rest) → IsInHand w number is_block index end rest xs
+  pub IsInHand-taken : (index end i : ℕ) (pending rest : X) (xs : List X) → IsInHand w number is_block index end pending xs → is_block rest → IsLowest (number pending) i
+      → IsCleared w (number pending) i (number rest) → IsInHand w number is_block index end rest xs
   IsInHand-taken index end i pending rest xs is block low cleared =
       let kept : (k : ℕ) → k < w → k ≢ i → is_one (number rest) k ≡ is_one (number pending) k = λ k below other. ap (λ b. b == 1) (cleared.kept k below other) in
-      let was : (k : ℕ) → k < w → is_one (number rest) k ≡ true → is_one (number pending) k ≡ true × i < k = λ k within one. grind (arith, nat_tests, cleared.kept k within, cleared.cleared, low.zeros k) in
+      let was : (k : ℕ) → k < w → is_one (number rest) k ≡ true → is_one
+      (number pending) k ≡ true × i < k = λ k within one. grind (arith, nat_tests, cleared.kept k within, cleared.cleared, low.zeros k) in
       record {
         each = is.each;
         of_block = block;
@@ -111,7 +124,8 @@ module _ {X : Type 0} (w : ℕ) (number : X → ℕ) (is_block : X → Type 0) w
       }
 
   -- a used up block is about any blocks
-  pub IsInHand-zero : (index end : ℕ) (pending : X) (xs : List X) → All is_block xs → length xs < 2 ^ 64 → is_block pending → number pending ≡ 0 → index ≤ end → end ≤ length xs → IsInHand w number is_block index end pending xs
+  pub IsInHand-zero : (index end : ℕ) (pending : X) (xs : List X) → All is_block xs → length xs < 2 ^ 64 → is_block pending → number pending ≡ 0 → index ≤ end → end ≤ length xs
+      → IsInHand w number is_block index end pending xs
   IsInHand-zero index end pending xs each fits block none within ends =
       let nothing : (j : ℕ) → is_one (number pending) j ≡ true → ⊥ = λ j one. true≢false (sym one ∙ ap (λ n. is_one n j) none ∙ is_one-zero j) in
       record {
@@ -139,7 +153,8 @@ module _ {X : Type 0} (w : ℕ) (number : X → ℕ) (is_block : X → Type 0) w
   }
 
   -- its first blocks are pulled
-  pub stored_past : (n start to end : ℕ) (xs summary left : List X) → 0 < w → to ≡ start + n * w → IsStoredFrom w number is_block start end xs summary → (short_count w < length xs → n ≤ length summary) → left ≡ drop n summary → IsStoredFrom w number is_block to end xs left
+  pub stored_past : (n start to end : ℕ) (xs summary left : List X) → 0 < w → to ≡ start + n * w → IsStoredFrom w number is_block start end xs summary
+      → (short_count w < length xs → n ≤ length summary) → left ≡ drop n summary → IsStoredFrom w number is_block to end xs left
   stored_past n start to end xs summary left pos at is there left_is =
       let count : length left ≡ length summary - n = ap length left_is ∙ length-drop n summary in
       let whole : n ≤ length summary → length summary * w ≡ n * w + length left * w = λ within.
@@ -163,11 +178,13 @@ module _ {X : Type 0} (w : ℕ) (number : X → ℕ) (is_block : X → Type 0) w
   count_by n start to count pos at within = grind (arith, blocks_for-past w n (count - start) pos within)
 
   -- they are so many of those that were to come
-  pub count_past : (n start to end : ℕ) (xs summary : List X) → 0 < w → to ≡ start + n * w → IsStoredFrom w number is_block start end xs summary → n ≤ length summary → blocks_for w (end - start) ≡ n + blocks_for w (end - to)
+  pub count_past : (n start to end : ℕ) (xs summary : List X) → 0 < w → to ≡ start + n * w → IsStoredFrom w number is_block start end xs summary → n ≤ length summary
+      → blocks_for w (end - start) ≡ n + blocks_for w (end - to)
   count_past n start to end xs summary pos at is there = count_by n start to end pos at (grind (arith, pos, is.no_more, mul-le-mul_right w there))
 
   -- blocks of it that are 0 are about blocks that are
-  pub zeros_passed : (n start to end : ℕ) (xs summary : List X) → 0 < w → to ≡ start + n * w → IsStoredFrom w number is_block start end xs summary → n ≤ length summary → ((k : ℕ) → k < n → get_or (map number summary) k 0 ≡ 0) → left_from number start end xs ≡ left_from number to end xs
+  pub zeros_passed : (n start to end : ℕ) (xs summary : List X) → 0 < w → to ≡ start + n * w → IsStoredFrom w number is_block start end xs summary → n ≤ length summary
+      → ((k : ℕ) → k < n → get_or (map number summary) k 0 ≡ 0) → left_from number start end xs ≡ left_from number to end xs
   zeros_passed n start to end xs summary pos at is there zeros = left-passed number start to end xs (omega (arith, at)) (λ k reached below before.
       let j = k - start in
       let chunk : j / w < n = (div-lt_iff_lt-mul pos).1 (omega (arith, at, below, reached)) in
@@ -187,7 +204,8 @@ module _ {X : Type 0} (w : ℕ) (number : X → ℕ) (is_block : X → Type 0) w
   stored_some start end xs summary is more long = grind (arith, is.enough long)
 
   -- only so many are kept as say of the blocks before a block
-  pub stored_kept : (start end to count : ℕ) (xs summary left : List X) → 0 < w → IsStoredFrom w number is_block start end xs summary → to ≤ end → count ≡ blocks_for w (to - start) → left ≡ take count summary → IsStoredFrom w number is_block start to xs left
+  pub stored_kept : (start end to count : ℕ) (xs summary left : List X) → 0 < w → IsStoredFrom w number is_block start end xs summary → to ≤ end → count ≡ blocks_for w (to - start)
+      → left ≡ take count summary → IsStoredFrom w number is_block start to xs left
   stored_kept start end to count xs summary left pos is before count_is left_is =
       let kept : length left ≡ min count (length summary) = ap length left_is ∙ length-take count summary in
       let most = mul-le-mul_right w (let e : length left ≤ count = omega (arith, kept) in e) in
@@ -210,7 +228,8 @@ module _ {X : Type 0} (w : ℕ) (number : X → ℕ) (is_block : X → Type 0) w
   -- ---- digits that cover the blocks that are not 0
 
   -- digits that say exactly which blocks are not 0, as far as a block before which they end
-  pub CoversUsed-exact : (start end m r : ℕ) (xs : List X) → start ≤ end → ((j : ℕ) → j < w → start + j < end → is_one m j ≡ is_used (map number xs) (start + j)) → ((j : ℕ) → j < w → is_one r j ≡ (nat_lt j (end - start) && is_one m j)) → CoversUsed w number xs start end r
+  pub CoversUsed-exact : (start end m r : ℕ) (xs : List X) → start ≤ end → ((j : ℕ) → j < w → start + j < end → is_one m j ≡ is_used (map number xs) (start + j))
+      → ((j : ℕ) → j < w → is_one r j ≡ (nat_lt j (end - start) && is_one m j)) → CoversUsed w number xs start end r
   CoversUsed-exact start end m r xs to digits cut = record {
     inside = λ j within one. grind (arith, nat_tests, cut j within);
     covers = λ j within before used. grind (arith, nat_tests, cut j within, digits j within before);
@@ -224,7 +243,8 @@ module _ {X : Type 0} (w : ℕ) (number : X → ℕ) (is_block : X → Type 0) w
   }
 
   -- the digits of the next stored block
-  pub CoversUsed-stored : (start end r : ℕ) (next : X) (xs summary rest : List X) → start ≤ end → summary ≡ next ∷ rest → IsStoredFrom w number is_block start end xs summary → ((j : ℕ) → j < w → is_one r j ≡ (nat_lt j (end - start) && is_one (number next) j)) → CoversUsed w number xs start end r
+  pub CoversUsed-stored : (start end r : ℕ) (next : X) (xs summary rest : List X) → start ≤ end → summary ≡ next ∷ rest → IsStoredFrom w number is_block start end xs summary
+      → ((j : ℕ) → j < w → is_one r j ≡ (nat_lt j (end - start) && is_one (number next) j)) → CoversUsed w number xs start end r
   CoversUsed-stored start end r next xs summary rest to more is cut = CoversUsed-exact start end (number next) r xs to (λ j within before.
       let e : 0 * w + j ≡ j = omega arith in
       let said = (rw more at is.digit) (long_by_stored xs summary is.short (rw more (omega arith))) j before in
@@ -238,7 +258,8 @@ module _ {X : Type 0} (w : ℕ) (number : X → ℕ) (is_block : X → Type 0) w
     pub of_block : is_block pending
     pub cut : (j : ℕ) → j < w → is_one (number pending) j ≡ (leb (d + 1) j && is_one (number used) j)
 
-  pub IsInHand-cut : (start end d : ℕ) (used pending : X) (xs : List X) → All is_block xs → length xs < 2 ^ 64 → start ≤ end → end ≤ length xs → IsCutPast start end d used pending xs → IsInHand w number is_block start end pending xs
+  pub IsInHand-cut : (start end d : ℕ) (used pending : X) (xs : List X) → All is_block xs → length xs < 2 ^ 64 → start ≤ end → end ≤ length xs → IsCutPast start end d used pending xs
+      → IsInHand w number is_block start end pending xs
   IsInHand-cut start end d used pending xs each fits to_end ends is = record {
     each = each;
     of_block = is.of_block;
@@ -249,7 +270,8 @@ module _ {X : Type 0} (w : ℕ) (number : X → ℕ) (is_block : X → Type 0) w
     covers = λ i j after to one before some. grind (arith, nat_tests, is.cut i (omega (arith, after, to)), is.cut j to, is.covers.covers j to before some);
   }
 
-  pub left-cut : (start end d first : ℕ) (used pending : X) (xs : List X) → d < w → first ≡ start + d → IsCutPast start end d used pending xs → left_from number (next_at w start (number pending)) end xs ≡ left_from number (first + 1) end xs
+  pub left-cut : (start end d first : ℕ) (used pending : X) (xs : List X) → d < w → first ≡ start + d → IsCutPast start end d used pending xs
+      → left_from number (next_at w start (number pending)) end xs ≡ left_from number (first + 1) end xs
   left-cut start end d first used pending xs within first_is is =
       left-covered start (first + 1) end (number pending) xs (omega (arith, first_is)) (omega (arith, first_is, within))
       (λ j below. is.cut j (omega (arith, below, first_is, within)) ∙ ap (λ b. b && is_one (number used) j) (let test : leb (d + 1) j ≡ false = grind (arith, nat_tests) in test))

@@ -1,5 +1,6 @@
 -- The ones of the blocks that a walk has left.
-use Rattle.std.proofs.{Common.{◌≡◌, ℕ, ◌+◌, ◌-◌, ◌*◌, ◌<◌, ◌≤◌, not, ◌==◌, List, [], ◌∷◌, map, drop, take, length, length-take, get_or, get_or-take, count_ones, refl, sym, ap, ◌∙◌, arith}, lemmas.List.{drop-take, length-drop, take-map, Sums.sum_by-cons}}
+use Rattle.std.proofs.Common.{◌≡◌, ℕ, ◌+◌, ◌-◌, ◌*◌, ◌<◌, ◌≤◌, not, ◌==◌, List, [], ◌∷◌, map, drop, take, length, length-take, get_or, get_or-take, count_ones, refl, sym, ap, ◌∙◌, arith}
+use Rattle.std.proofs.lemmas.List.{drop-take, length-drop, take-map, Sums.sum_by-cons}
 use Rattle.std.proofs.{lemmas.{List.Sums.sum_by-take-drop, Bool.Decides.nat_tests}, Math.Seq.drop-drop}
 use Rattle.bit_blocks.specs.{Digits.is_one, Lowest.IsLowest, Storage.{ones_in, value_at, is_used}}
 use Rattle.bit_words.specs.{Nonzero.{nonzero_from, ones_left}, Pending.{IsStoredFrom, next_at}, Summary.short_count}
@@ -50,7 +51,8 @@ module _ {X : Type 0} (w : ℕ) (number : X → ℕ) (is_block : X → Type 0) w
       omega (arith, whole, chunk, rest, left)
 
   -- what the blocks of the summary that are left say
-  pub tells_rest : (index end : ℕ) (xs summary : List X) → end ≤ length xs → IsStoredFrom w number is_block (index + w) end xs summary → short_count w < length (drop w (drop index (take end xs))) → (k : ℕ) → k < length (drop w (drop index (take end xs)))
+  pub tells_rest : (index end : ℕ) (xs summary : List X) → end ≤ length xs → IsStoredFrom w number is_block (index + w) end xs summary
+      → short_count w < length (drop w (drop index (take end xs))) → (k : ℕ) → k < length (drop w (drop index (take end xs)))
       → value_at w (map number summary) k ≡ is_used (map number (drop w (drop index (take end xs)))) k
   tells_rest index end xs summary ends is long k within =
       let ys = take end xs in
@@ -59,11 +61,13 @@ module _ {X : Type 0} (w : ℕ) (number : X → ℕ) (is_block : X → Type 0) w
       let whole = length-take end xs in
       let inside : index + w + k < end = omega (arith, within, most, all, whole, ends) in
       is.digit (omega (arith, long, most, all, whole)) k inside
-      ∙ ap (λ m. not (m == 0)) (sym (get_or-take end (map number xs) (index + w + k) 0 inside) ∙ ap (λ ms. get_or ms (index + w + k) 0) (take-map number end xs) ∙ sym (dropped number (index + w) k ys))
+      ∙ ap (λ m. not (m == 0))
+      (sym (get_or-take end (map number xs) (index + w + k) 0 inside) ∙ ap (λ ms. get_or ms (index + w + k) 0) (take-map number end xs) ∙ sym (dropped number (index + w) k ys))
       ∙ ap (λ zs. is_used (map number zs) k) (sym (drop-drop w index ys))
 
   -- and for how many blocks these are
-  pub enough_rest : (index end : ℕ) (xs summary : List X) → end ≤ length xs → IsStoredFrom w number is_block (index + w) end xs summary → short_count w < length (drop w (drop index (take end xs))) → length (drop w (drop index (take end xs))) ≤ length summary * w
+  pub enough_rest : (index end : ℕ) (xs summary : List X) → end ≤ length xs → IsStoredFrom w number is_block (index + w) end xs summary
+      → short_count w < length (drop w (drop index (take end xs))) → length (drop w (drop index (take end xs))) ≤ length summary * w
   enough_rest index end xs summary ends is long =
       let most = length-drop w (drop index (take end xs)) in
       let all = length-drop index (take end xs) in

@@ -1,6 +1,9 @@
 -- A walk passes over whole chunks of blocks.
-use Rattle.std.proofs.Common.{◌≡◌, ℕ, suc, ◌+◌, ◌-◌, ◌*◌, ◌^◌, ◌<◌, ◌≤◌, not, ◌==◌, List, [], ◌∷◌, ◌++◌, map, drop, take, length, length-take, slice_get, Some, All, get_or, get_or-take, count_ones, refl, sym, ap, subst, ◌∙◌, arith}
-use Rattle.std.{proofs.{lemmas.{Bool.Decides.nat_tests, List.{drop-take, length-drop, take-append-drop, take-map, take-take, Sums.{sum_by-append, sum_by-cons, sum_by-take-drop}}, Nat.Bits.bit_at-lt}, Math.Seq.{drop-drop}}, specs.{Int.bit_at, List.{range_with_len, sum_by}}}
+use Rattle.std.proofs.Common.{◌≡◌, ℕ, suc, ◌+◌, ◌-◌, ◌*◌, ◌^◌, ◌<◌, ◌≤◌, not, ◌==◌, List, [], ◌∷◌, ◌++◌, map, drop, take, length, length-take, slice_get, Some, All, get_or, get_or-take}
+use Rattle.std.proofs.Common.{count_ones, refl, sym, ap, subst, ◌∙◌, arith}
+use Rattle.std.proofs.lemmas.{Bool.Decides.nat_tests, List.{drop-take, length-drop, take-append-drop, take-map, take-take, Sums.{sum_by-append, sum_by-cons, sum_by-take-drop}}, Nat.Bits.bit_at-lt}
+use Rattle.std.proofs.Math.Seq.{drop-drop}
+use Rattle.std.specs.{Int.bit_at, List.{range_with_len, sum_by}}
 use Rattle.bit_blocks.specs.{Bits.blocks_for, Digits.is_one, Storage.{ones_in, is_used}}
 use Rattle.bit_words.specs.{Nonzero.{Nonzeros, SkipsBlocks, nonzero_from, ones_left}, Pending.{IsNextChunk, IsPending, left_from, next_at}}
 use Rattle.bit_blocks.proofs.{OnesLemmas.ones_are_digits, StorageLemmas.value_at-index, ZeroLemmas.dropped}
@@ -41,7 +44,8 @@ module _ {X : Type 0} (number : X → ℕ) where
       omega (arith, is.passed, rest, sum_by-take-drop (λ (entry : ℕ × X). count_ones (number entry.1)) s.left is.count)
 
   -- As many blocks are not 0 as there are ones that say so.
-  used_counted : (k p m : ℕ) (xs : List X) → ((j : ℕ) → j < length xs → is_one m (p + j) ≡ is_used (map number xs) j) → length (nonzero_from number k xs) ≡ sum_by (bit_at m) (range_with_len p (length xs))
+  used_counted : (k p m : ℕ) (xs : List X) → ((j : ℕ) → j < length xs → is_one m (p + j) ≡ is_used (map number xs) j)
+      → length (nonzero_from number k xs) ≡ sum_by (bit_at m) (range_with_len p (length xs))
   used_counted k p m [] same = refl
   used_counted k p m (x ∷ xs) same =
       let here : is_one m p ≡ not (number x == 0) = ap (is_one m) (let e : p ≡ p + 0 = omega arith in e) ∙ same 0 (omega arith) in
@@ -69,7 +73,8 @@ module _ {X : Type 0} (w : ℕ) (number : X → ℕ) (is_block : X → Type 0) w
     pub walk : IsPending w number is_block (index + w) end pending xs (drop 1 summary)
     pub one_less : blocks_for w (end - (index + w)) ≡ 1 + blocks_for w (end - (index + w + w))
 
-  pub past_chunk : (index end : ℕ) (pending used : X) (xs summary : List X) → 0 < w → ((x : X) → is_block x → number x < 2 ^ w) → IsPending w number is_block index end pending xs summary → IsNextChunk w number index end pending summary used → IsPastChunk index end pending used xs summary
+  pub past_chunk : (index end : ℕ) (pending used : X) (xs summary : List X) → 0 < w → ((x : X) → is_block x → number x < 2 ^ w) → IsPending w number is_block index end pending xs summary
+      → IsNextChunk w number index end pending summary used → IsPastChunk index end pending used xs summary
   past_chunk index end pending used xs summary pos small is next =
       let p = index + w in
       let hand = is.hand in
@@ -84,14 +89,16 @@ module _ {X : Type 0} (w : ℕ) (number : X → ℕ) (is_block : X → Type 0) w
       ∙ sym (value_at-index w (map number summary) 0 j within)
       ∙ is.stored.digit long (0 * w + j) (omega (arith, within, next.whole))
       ∙ ap (is_used (map number xs)) (let e : p + (0 * w + j) ≡ p + j = omega arith in e)
-      ∙ ap (λ m. not (m == 0)) (sym (get_or-take (p + w) (map number xs) (p + j) 0 (omega (arith, within))) ∙ ap (λ ms. get_or ms (p + j) 0) (take-map number (p + w) xs) ∙ sym (dropped number p j (take (p + w) xs))) in
+      ∙ ap (λ m. not (m == 0))
+      (sym (get_or-take (p + w) (map number xs) (p + j) 0 (omega (arith, within))) ∙ ap (λ ms. get_or ms (p + j) 0) (take-map number (p + w) xs) ∙ sym (dropped number p j (take (p + w) xs))) in
       record {
         chunk = left_from number p (p + w) xs;
         split =
             ap (λ q. left_from number q end xs) (next_at-zero w index (number pending) next.used_up)
             ∙ left-split number p (p + w) end xs (omega arith) next.whole hand.ends
             ∙ ap (λ q. left_from number p (p + w) xs ++ left_from number q end xs) (sym (next_at-zero w p (number pending) next.used_up));
-        count = used_counted number p 0 (number used) ys digit ∙ ap (λ n. sum_by (bit_at (number used)) (range_with_len 0 n)) many ∙ sym (ones_are_digits w (number used) (small used (first_lawful is_block used summary next.first is.stored.each)));
+        count = used_counted number p 0 (number used) ys digit ∙ ap (λ n. sum_by (bit_at (number used)) (range_with_len 0 n)) many
+            ∙ sym (ones_are_digits w (number used) (small used (first_lawful is_block used summary next.first is.stored.each)));
         ones = ones_nonzero w number is_block p ys ∙ ap (ones_in number) (drop-take p w xs);
         walk = record {
           hand = IsInHand-zero w number is_block p end pending xs hand.each hand.fits hand.of_block next.used_up (omega (arith, next.whole)) hand.ends;

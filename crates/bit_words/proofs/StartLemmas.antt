@@ -1,6 +1,9 @@
 -- Where a search of the summary for the first true value may start.
-use Rattle.std.proofs.{Common.{◌≡◌, ℕ, ◌+◌, ◌*◌, ◌/◌, ◌^◌, ◌<◌, ◌≤◌, Bool, true, false, ◌==◌, List, map, length, get_or, set, All, refl, sym, ap, ◌∙◌, arith, ⊎_elim, div-add-mod', div-lt_iff_lt-mul, mul-le-mul_right}, lemmas.{Bool.cases_lt, Nat.{div-mul-add, mod-mul-add}}}
-use Rattle.bit_blocks.{specs.{Digits.is_one, Lowest.{IsCleared, IsLowest}, Mismatches.IsFirstNonzeroBlock, Searches.IsFirstFrom, Storage.{value_at, IsZeroFrom, WritesValue, is_used}}, proofs.{ChangeLemmas.put_bit, CompareLemmas.zero_from_digits, SearchLemmas.{first_past_none, unused}, StorageLemmas.value_at-index}}
+use Rattle.std.proofs.Common.{◌≡◌, ℕ, ◌+◌, ◌*◌, ◌/◌, ◌^◌, ◌<◌, ◌≤◌, Bool, true, false, ◌==◌, List, map, length, get_or, set, All, refl, sym, ap, ◌∙◌, arith, ⊎_elim, div-add-mod'}
+use Rattle.std.proofs.Common.{div-lt_iff_lt-mul, mul-le-mul_right}
+use Rattle.std.proofs.lemmas.{Bool.cases_lt, Nat.{div-mul-add, mod-mul-add}}
+use Rattle.bit_blocks.specs.{Digits.is_one, Lowest.{IsCleared, IsLowest}, Mismatches.IsFirstNonzeroBlock, Searches.IsFirstFrom, Storage.{value_at, IsZeroFrom, WritesValue, is_used}}
+use Rattle.bit_blocks.proofs.{ChangeLemmas.put_bit, CompareLemmas.zero_from_digits, SearchLemmas.{first_past_none, unused}, StorageLemmas.value_at-index}
 use Rattle.bit_words.specs.Summary.{short_count, IsFalseBefore, IsSummary}
 use Rattle.bit_blocks.proofs.{UseLemmas.{unused_from_false, used_from_zero}, VectorLemmas.numbers_below}
 use Rattle.bit_words.proofs.SummaryZeros.{zero_from_chunk}
@@ -15,7 +18,8 @@ pub false_before_less : (w chunk : ℕ) (ms ns : List ℕ) → ((i : ℕ) → va
 false_before_less w chunk ms ns less start = record { falses = λ i below. less i (start.falses i below) }
 
 -- where one value is written
-pub false_before_written : (w i q start chunk : ℕ) (b : Bool) (ms ns : List ℕ) → q ≡ i / w / w → WritesValue w ms ns i b → chunk ≤ start → (b ≡ true → chunk ≤ q) → IsFalseBefore w ms start → IsFalseBefore w ns chunk
+pub false_before_written : (w i q start chunk : ℕ) (b : Bool) (ms ns : List ℕ) → q ≡ i / w / w → WritesValue w ms ns i b → chunk ≤ start → (b ≡ true → chunk ≤ q) → IsFalseBefore w ms start
+    → IsFalseBefore w ns chunk
 false_before_written w i q start chunk b ms ns at written back reached before = record {
   falses = λ j below. grind (arith, written.same, written.others j, before.falses j, reached, ap (λ k. k / w / w));
 }
@@ -33,7 +37,8 @@ module _ {X : Type 0} (w : ℕ) (f : X → ℕ) (P : X → Type 0) (xs ss : List
       before.falses ((q * w + j) * w + t) (rw (div-mul-add (q * w + j) w t inside, div-mul-add q w j index) low)))
 
   -- so none is used where those from it on are 0 as well
-  pub no_chunk : (start : ℕ) → ((x : X) → P x → f x < 2 ^ w) → All P xs → IsFalseBefore w (map f xs) start → ((q : ℕ) → start ≤ q → get_or (map f ss) q 0 ≡ 0) → (i : ℕ) → value_at w (map f xs) i ≡ false
+  pub no_chunk : (start : ℕ) → ((x : X) → P x → f x < 2 ^ w) → All P xs → IsFalseBefore w (map f xs) start → ((q : ℕ) → start ≤ q → get_or (map f ss) q 0 ≡ 0) → (i : ℕ)
+      → value_at w (map f xs) i ≡ false
   no_chunk start below each before none i =
       ⊎_elim
       (λ (low : i / w / w < start). before.falses i low)
@@ -41,7 +46,8 @@ module _ {X : Type 0} (w : ℕ) (f : X → ℕ) (P : X → Type 0) (xs ss : List
       (cases_lt (i / w / w) start)
 
   -- and the first that is not from it on is the first
-  pub first_chunk : (start chunk : ℕ) → ((x : X) → P x → f x < 2 ^ w) → All P xs → IsFalseBefore w (map f xs) start → IsFirstNonzeroBlock (map f ss) start chunk → IsFirstNonzeroBlock (map f ss) 0 chunk
+  pub first_chunk : (start chunk : ℕ) → ((x : X) → P x → f x < 2 ^ w) → All P xs → IsFalseBefore w (map f xs) start → IsFirstNonzeroBlock (map f ss) start chunk
+      → IsFirstNonzeroBlock (map f ss) 0 chunk
   first_chunk start chunk below each before first = record {
     reached = omega arith;
     below = λ q from low. ⊎_elim (λ (early : q < start). chunk_before start q below each before early) (λ (late : start ≤ q). first.below q late low) (cases_lt q start);
@@ -78,7 +84,9 @@ cut_less w n ms ns kept tail i none =
     ⊎_elim (λ (inside : i < n). kept i inside ∙ none) (λ (past : n ≤ i). tail.zero_tail i past) (cases_lt i n)
 
 -- the start stays only where no value becomes true
-pub grown_start : (w n m chunk old result : ℕ) (bit : Bool) {ms ns : List ℕ} → (0 < result → (result ≡ chunk) × (bit ≡ false) × (short_count w < old)) → ((i : ℕ) → i < n → value_at w ns i ≡ value_at w ms i) → ((i : ℕ) → n ≤ i → i < m → value_at w ns i ≡ bit) → IsZeroFrom w ns m → (short_count w < old → IsFalseBefore w ms chunk) → IsFalseBefore w ns result
+pub grown_start : (w n m chunk old result : ℕ) (bit : Bool) {ms ns : List ℕ} → (0 < result → (result ≡ chunk) × (bit ≡ false) × (short_count w < old))
+    → ((i : ℕ) → i < n → value_at w ns i ≡ value_at w ms i) → ((i : ℕ) → n ≤ i → i < m → value_at w ns i ≡ bit) → IsZeroFrom w ns m → (short_count w < old → IsFalseBefore w ms chunk)
+    → IsFalseBefore w ns result
 grown_start w n m chunk old result bit {ms} {ns} kept_start kept added tail before = record {
   falses = λ i below.
       let stays = kept_start (omega (arith, below)) in
@@ -93,7 +101,8 @@ pub true_within : (w n i : ℕ) (ms : List ℕ) → IsZeroFrom w ms n → value_
 true_within w n i ms tail one = grind (arith, tail.zero_tail i)
 
 -- the lowest 1 of a block is left or made 0
-pub lowest_left : (w k b i m r n : ℕ) (ms ns : List ℕ) (left : Bool) → 0 < w → b ≡ w → i < w → k < length ms → m ≡ get_or ms k 0 → ns ≡ set ms k n → IsLowest m i → IsCleared w m i r → (left ≡ true → n ≡ m) → (left ≡ false → n ≡ r) → WritesValue w ms ns (k * b + i) left
+pub lowest_left : (w k b i m r n : ℕ) (ms ns : List ℕ) (left : Bool) → 0 < w → b ≡ w → i < w → k < length ms → m ≡ get_or ms k 0 → ns ≡ set ms k n → IsLowest m i → IsCleared w m i r
+    → (left ≡ true → n ≡ m) → (left ≡ false → n ≡ r) → WritesValue w ms ns (k * b + i) left
 lowest_left w k b i m r n ms ns true pos wide index within read is low cleared stays goes =
     rw wide (put_bit w ms ns (k * w + i) k i m n true pos (sym (div-mul-add k w i index)) (sym (mod-mul-add k w i index)) within read is (ap (λ x. is_one x i) (stays refl) ∙ ap (λ d. d == 1) low.one) (λ j below other. ap (λ x. is_one x j) (stays refl)))
 lowest_left w k b i m r n ms ns false pos wide index within read is low cleared stays goes =

@@ -20,6 +20,7 @@ module _ {X : Type 0} (w : ℕ) (number : X → ℕ) (is_block : X → Type 0) w
   )
 
   -- past the chunks of which the summary has a bit
-  pub zero_past_chunks : (xs summary : List X) (chunks end k : ℕ) → 0 < w → IsSummary w number is_block xs summary → ((q : ℕ) → chunks ≤ q → get_or (map number summary) q 0 ≡ 0) → end ≡ min (min (chunks * w) (2 ^ 64 - 1)) (length xs) → end ≤ k → get_or (map number xs) k 0 ≡ 0
+  pub zero_past_chunks : (xs summary : List X) (chunks end k : ℕ) → 0 < w → IsSummary w number is_block xs summary → ((q : ℕ) → chunks ≤ q → get_or (map number summary) q 0 ≡ 0)
+      → end ≡ min (min (chunks * w) (2 ^ 64 - 1)) (length xs) → end ≤ k → get_or (map number xs) k 0 ≡ 0
   zero_past_chunks xs summary chunks end k pos is none at past =
       grind (arith, is.packed.fits, le-div chunks k w pos, λ (chunk : chunks ≤ k / w). zero_from_chunk xs summary is k (none (k / w) chunk), get_or_past, length-map)

@@ -1,11 +1,13 @@
 -- Which of the blocks of a list a block of its summary says are not 0, as it is made.
-use Rattle.std.proofs.{Common.{◌≡◌, ◌≢◌, ℕ, ◌+◌, ◌-◌, ◌<◌, ◌≤◌, Bool, false, ◌&&◌, ◌||◌, ◌==◌, nat_lt, nat_le, List, map, min, length, get_or, sym, ap, ap₂, ◌∙◌, arith, ⊎_elim}, Math.Bool.or-false, lemmas.{Bool.{cases_eq, cases_lt, Decides.nat_tests}, List.{get_or_past, length-map}}}
+use Rattle.std.proofs.Common.{◌≡◌, ◌≢◌, ℕ, ◌+◌, ◌-◌, ◌<◌, ◌≤◌, Bool, false, ◌&&◌, ◌||◌, ◌==◌, nat_lt, nat_le, List, map, min, length, get_or, sym, ap, ap₂, ◌∙◌, arith, ⊎_elim}
+use Rattle.std.proofs.{Math.Bool.or-false, lemmas.{Bool.{cases_eq, cases_lt, Decides.nat_tests}, List.{get_or_past, length-map}}}
 use Rattle.bit_blocks.{specs.{Digits.{IsEither, IsShiftedLeft, is_one}, Storage.is_used}, proofs.{Masks.is_one-either, TestLemmas.{above_and, before_and, below_and, from_and}}}
 use Rattle.bit_words.specs.Summary.{SaysUsed}
 
 module _ {X : Type 0} (w : ℕ) (f : X → ℕ) (P : X → Type 0) where
   -- of one block more
-  pub says_more : (start k : ℕ) (xs : List X) (m n : X) → SaysUsed w f P xs start k m → P n → is_one (f n) k ≡ is_used (map f xs) (start + k) → ((q : ℕ) → q < w → q ≢ k → is_one (f n) q ≡ is_one (f m) q) → SaysUsed w f P xs start (k + 1) n
+  pub says_more : (start k : ℕ) (xs : List X) (m n : X) → SaysUsed w f P xs start k m → P n → is_one (f n) k ≡ is_used (map f xs) (start + k)
+      → ((q : ℕ) → q < w → q ≢ k → is_one (f n) q ≡ is_one (f m) q) → SaysUsed w f P xs start (k + 1) n
   says_more start k xs m n before of_block here others =
       let used : ℕ → Bool = λ q. is_used (map f xs) (start + q) in
       record {
@@ -20,7 +22,8 @@ module _ {X : Type 0} (w : ℕ) (f : X → ℕ) (P : X → Type 0) where
       }
 
   -- of a group more, whose digits are moved to their place
-  pub says_group : (start from k c d : ℕ) (xs : List X) (m p s r : X) → from ≡ start + k → d ≡ k + c → SaysUsed w f P xs start k m → SaysUsed w f P xs from c p → IsShiftedLeft w (f p) k (f s) → IsEither w (f m) (f s) (f r) → P r → SaysUsed w f P xs start d r
+  pub says_group : (start from k c d : ℕ) (xs : List X) (m p s r : X) → from ≡ start + k → d ≡ k + c → SaysUsed w f P xs start k m → SaysUsed w f P xs from c p
+      → IsShiftedLeft w (f p) k (f s) → IsEither w (f m) (f s) (f r) → P r → SaysUsed w f P xs start d r
   says_group start from k c d xs m p s r e last before group moved either of_block =
       let used : ℕ → Bool = is_used (map f xs) in record {
         of_block = of_block;
@@ -50,7 +53,9 @@ module _ {X : Type 0} (w : ℕ) (f : X → ℕ) (P : X → Type 0) where
 
 -- ---- a block of the summary, in which c bits from i on are put, and the others stay
 
-module _ {X : Type 0} (w i c start : ℕ) (f : X → ℕ) (P : X → Type 0) (xs : List X) (b low high kept p s r : X) (lows : (j : ℕ) → j < w → is_one (f low) j ≡ (nat_lt j i && is_one (f b) j)) (highs : (j : ℕ) → j < w → is_one (f high) j ≡ (nat_le (i + c) j && is_one (f b) j)) (ends : IsEither w (f low) (f high) (f kept)) (says : SaysUsed w f P xs start c p) (moved : IsShiftedLeft w (f p) i (f s)) (all : IsEither w (f kept) (f s) (f r)) where
+module _ {X : Type 0} (w i c start : ℕ) (f : X → ℕ) (P : X → Type 0) (xs : List X) (b low high kept p s r : X) (lows : (j : ℕ) → j < w → is_one (f low) j ≡ (nat_lt j i && is_one (f b) j))
+    (highs : (j : ℕ) → j < w → is_one (f high) j ≡ (nat_le (i + c) j && is_one (f b) j)) (ends : IsEither w (f low) (f high) (f kept)) (says : SaysUsed w f P xs start c p)
+    (moved : IsShiftedLeft w (f p) i (f s)) (all : IsEither w (f kept) (f s) (f r)) where
   -- what each of its digits comes from
   put_digit : (j : ℕ) (x y z : Bool) → j < w → (nat_lt j i && is_one (f b) j) ≡ x → (nat_le (i + c) j && is_one (f b) j) ≡ y → is_one (f s) j ≡ z → is_one (f r) j ≡ ((x || y) || z)
   put_digit j x y z within one two three =
@@ -62,7 +67,8 @@ module _ {X : Type 0} (w i c start : ℕ) (f : X → ℕ) (P : X → Type 0) (xs
       let used = is_used (map f xs) (start + j) in
       let order : j + i ≡ i + j = omega arith in
       let digit : is_one (f s) (i + j) ≡ is_one (f p) j = rw order at (ap (λ x. x == 1) (moved.moved j (omega arith))) in
-      put_digit (i + j) false false used (omega arith) (above_and i (i + j) _ (omega arith)) (before_and (i + c) (i + j) _ (omega arith)) (digit ∙ says.digit j (omega arith) ∙ below_and c j used below)
+      put_digit (i + j) false false used (omega arith) (above_and i (i + j) _ (omega arith)) (before_and (i + c) (i + j) _ (omega arith))
+      (digit ∙ says.digit j (omega arith) ∙ below_and c j used below)
 
   pub put_below : (j : ℕ) → j < i → j < w → is_one (f r) j ≡ is_one (f b) j
   put_below j under within =
@@ -72,4 +78,5 @@ module _ {X : Type 0} (w i c start : ℕ) (f : X → ℕ) (P : X → Type 0) (xs
   put_above j over within =
       let back : j - i + i ≡ j = omega arith in
       let digit : is_one (f s) j ≡ is_one (f p) (j - i) = rw back at (ap (λ x. x == 1) (moved.moved (j - i) (omega arith))) in
-      put_digit j false (is_one (f b) j) false within (above_and i j _ (omega arith)) (from_and (i + c) j _ over) (digit ∙ says.digit (j - i) (omega arith) ∙ above_and c (j - i) _ (omega arith)) ∙ or-false _
+      put_digit j false (is_one (f b) j) false within (above_and i j _ (omega arith)) (from_and (i + c) j _ over)
+      (digit ∙ says.digit (j - i) (omega arith) ∙ above_and c (j - i) _ (omega arith)) ∙ or-false _

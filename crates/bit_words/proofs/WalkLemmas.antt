@@ -31,7 +31,8 @@ module _ {X : Type 0} (s t u : Nonzeros X) where
     summary = (omega (arith, summary_pulls, none.summary, none.ended), summary_left);
   }
 
-  pub pulled_none : (r : Option (ℕ × X)) → is_some r ≡ false → TakesFirst s r t → u.blocks ≡ t.blocks → u.left ≡ [] → u.pulls ≡ t.pulls + 1 → u.summary_pulls ≡ t.summary_pulls + 1 → u.summary_left ≡ 0 → PullsNonzero s r u
+  pub pulled_none : (r : Option (ℕ × X)) → is_some r ≡ false → TakesFirst s r t → u.blocks ≡ t.blocks → u.left ≡ [] → u.pulls ≡ t.pulls + 1 → u.summary_pulls ≡ t.summary_pulls + 1
+      → u.summary_left ≡ 0 → PullsNonzero s r u
   pulled_none None none = pulled_end
   pulled_none (Some entry) none = absurd (true≢false none)
 
@@ -52,6 +53,7 @@ module _ {X : Type 0} (s t u : Nonzeros X) where
     summary_left = omega (arith, summary_left, none.summary_left);
   }
 
-  pub pulled_last_none : (r : Option (ℕ × X)) → is_some r ≡ false → TakesLast s r t → u.blocks ≡ t.blocks → u.left ≡ t.left → u.pulls ≡ t.pulls + 1 → u.summary_pulls ≡ t.summary_pulls → u.summary_left ≡ t.summary_left → PullsLast s r u
+  pub pulled_last_none : (r : Option (ℕ × X)) → is_some r ≡ false → TakesLast s r t → u.blocks ≡ t.blocks → u.left ≡ t.left → u.pulls ≡ t.pulls + 1 → u.summary_pulls ≡ t.summary_pulls
+      → u.summary_left ≡ t.summary_left → PullsLast s r u
   pulled_last_none None none = pulled_last_end
   pulled_last_none (Some entry) none = absurd (true≢false none)

@@ -6,3 +6,4 @@ pub mod Nonzero
 pub mod Kept
 pub mod Chunks
 pub mod Growth
+pub mod MergedOnes

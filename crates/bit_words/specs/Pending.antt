@@ -1,5 +1,6 @@
 -- How a walk over the blocks that are not 0 finds them by the summary. No public clause cites this.
-use Rattle.std.specs.Prelude.{◌≡◌, ℕ, zero, suc, ◌+◌, ◌-◌, ◌*◌, ◌^◌, ◌<◌, ◌≤◌, ◌==◌, Bool, true, if◌then◌else◌, List, [], ◌∷◌, ◌++◌, map, drop, take, length, All, Option, None, Some, MatchOption, IfSome, false, slice_get}
+use Rattle.std.specs.Prelude.{◌≡◌, ℕ, zero, suc, ◌+◌, ◌-◌, ◌*◌, ◌^◌, ◌<◌, ◌≤◌, ◌==◌, Bool, true, if◌then◌else◌, List, [], ◌∷◌, ◌++◌, map, drop, take, length, All, Option, None, Some}
+use Rattle.std.specs.Prelude.{MatchOption, IfSome, false, slice_get}
 use Rattle.bit_blocks.specs.{Bits.blocks_for, Digits.is_one, Storage.{value_at, is_used}}
 use Rattle.bit_words.specs.{Nonzero.nonzero_from, Summary.short_count}
 

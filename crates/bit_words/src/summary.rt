@@ -16,14 +16,19 @@ use bit_blocks::packed::groups::{GROUP, LONG_GROUP};
 use bit_blocks::packed::resizing::{append_bits, repeated_bit, truncate_bits};
 use std::alloc::{AllocError, Global};
 
+pub(crate) mod changes;
+pub(crate) mod clearing;
+pub(crate) mod comparing;
 pub(crate) mod copies;
+pub(crate) mod counts;
+pub(crate) mod inclusion;
 pub(crate) mod merges;
-pub(crate) mod noted_merges;
 pub(crate) mod queries;
 pub(crate) mod remaking;
 pub(crate) mod searching;
 pub(crate) mod shared_capacity;
 pub(crate) mod spans;
+pub(crate) mod summarized;
 pub(crate) mod taking;
 
 #[inline]
@@ -80,8 +85,17 @@ pub(crate) fn follow_one(start: &mut usize, chunk: usize, bit: bool)
     ensures value { start.new ≡ (if bit then min start.old chunk else start.old) }
 {
     if bit && chunk < *start {
-        *start = chunk;
+        move_back(start, chunk);
     }
+}
+
+// Few values become true before all others: a call of its own, so that no other one stores where the search starts.
+#[cold]
+#[inline(never)]
+fn move_back(start: &mut usize, chunk: usize)
+    ensures { start.new ≡ chunk }
+{
+    *start = chunk;
 }
 
 // Where a search of the summary starts once values `bit` were appended to a list of `old` blocks: where it started, if

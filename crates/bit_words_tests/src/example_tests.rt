@@ -205,9 +205,18 @@ fn ten_values_written(rt: &impl Abort, alloc: Global) -> Result<(), AllocError> 
     Ok(())
 }
 
+fn ten_values_written_low(rt: &impl Abort, alloc: Global) -> Result<(), AllocError> {
+    let bits = list_of::<u32>(rt, alloc, 10, &[1, 9]);
+    // Of 10 values, those at 1 and 9 are true.
+    let bytes = bits.to_bytes_lsb(alloc)?;
+    expect_eq(rt, &bytes.as_slice(), &[2, 2].as_slice());
+    Ok(())
+}
+
 #[test]
 fn a_list_is_written_as_bytes(rt: HostRuntime) {
     ok(&rt, ten_values_written(&rt, rt.alloc()));
+    ok(&rt, ten_values_written_low(&rt, rt.alloc()));
 }
 
 fn a_merge_twice(rt: &impl Abort, bits: &mut BitVec, other: BitVec) {
@@ -235,10 +244,79 @@ fn a_transfer(rt: &impl Abort, live: &mut BitVec, live_after: BitVec, assigned: 
     }
 }
 
+fn a_find(rt: &impl Abort, found: &mut BitVec, wanted: BitVec, at_hand: BitVec) {
+    if wanted.len() <= found.len() {
+        // found |= wanted & at_hand
+        let grew = found.unite_intersection(&wanted, &at_hand);
+        expect(rt, grew && found.first_one_from(3) == Some(4));
+    }
+}
+
+#[test]
+fn what_is_wanted_and_at_hand_is_united(rt: HostRuntime) {
+    let mut found = list_of(&rt, rt.alloc(), 10, &[2]);
+    let wanted = list_of(&rt, rt.alloc(), 10, &[4, 5]);
+    let at_hand = list_of(&rt, rt.alloc(), 10, &[4]);
+    a_find(&rt, &mut found, wanted, at_hand);
+}
+
+fn a_remainder(rt: &impl Abort, left: &mut BitVec, asked: BitVec, given: BitVec) {
+    if asked.len() <= left.len() {
+        // left = asked & !given
+        let differs = left.become_difference(&asked, &given);
+        expect(rt, differs && left.first_one_from(0) == Some(5));
+    }
+}
+
+#[test]
+fn what_was_given_is_not_left(rt: HostRuntime) {
+    let mut left = list_of(&rt, rt.alloc(), 10, &[2]);
+    let asked = list_of(&rt, rt.alloc(), 10, &[4, 5]);
+    let given = list_of(&rt, rt.alloc(), 10, &[4]);
+    a_remainder(&rt, &mut left, asked, given);
+}
+
 #[test]
 fn what_is_assigned_is_not_united(rt: HostRuntime) {
     let mut live = list_of(&rt, rt.alloc(), 10, &[2]);
     let live_after = list_of(&rt, rt.alloc(), 10, &[4, 5]);
     let assigned = list_of(&rt, rt.alloc(), 10, &[4]);
     a_transfer(&rt, &mut live, live_after, assigned);
+}
+
+fn same_ones(rt: &impl Abort, bits: &BitVec, other: BitVec) {
+    // Of three values that at 1 is true, and so it is of 40 in `other`.
+    expect(rt, bits.has_same_blocks(&other));
+}
+
+fn another_third_block(rt: &impl Abort, bits: &BitVec, other: BitVec) {
+    // Of 100 values, over blocks of 32 bits, that at 70 is true, and none in `other`.
+    expect_eq(rt, &bits.first_mismatching_block(&other), &Some(2));
+}
+
+fn counts_of_merges(rt: &impl Abort, bits: &BitVec, other: BitVec) {
+    // Of ten values, those at 1 and 8 are true, and of 100 in `other` those at 1 and 70.
+    expect_eq(rt, &bits.count_merged(&other, Merge::Union), &3);
+    expect_eq(rt, &bits.count_merged(&other, Merge::Difference), &1);
+}
+
+#[test]
+fn two_lists_that_are_compared(rt: HostRuntime) {
+    let bits = list_of(&rt, rt.alloc(), 3, &[1]);
+    let other = list_of(&rt, rt.alloc(), 40, &[1]);
+    same_ones(&rt, &bits, other);
+}
+
+#[test]
+fn two_lists_that_differ(rt: HostRuntime) {
+    let bits = list_of(&rt, rt.alloc(), 100, &[70]);
+    let other = list_of(&rt, rt.alloc(), 100, &[]);
+    another_third_block(&rt, &bits, other);
+}
+
+#[test]
+fn two_lists_whose_merge_is_counted(rt: HostRuntime) {
+    let bits = list_of(&rt, rt.alloc(), 10, &[1, 8]);
+    let other = list_of(&rt, rt.alloc(), 100, &[1, 70]);
+    counts_of_merges(&rt, &bits, other);
 }

@@ -4,8 +4,8 @@ use bit_blocks::packed::{
     intersection_is_zero, merge_span, ones_in_span, or_mismatch, push_copies, put_in, replace_bit,
     same, span_merges_to_false,
 };
-use bit_words::bit_vec::Steps;
 use bit_words::bit_vec::operation::{Difference, Union};
+use bit_words::bit_vec::{Steps, count_merged_blocks};
 use std::test::Fail;
 
 #[test]
@@ -72,4 +72,9 @@ fn a_span_that_is_filled(rt: HostRuntime) -> Result<(), Fail> {
     merge_span::<u8, Union>(&mut blocks, 3, 10);
     assert_eq!(rt; blocks[0], 0b1111_1000);
     Ok(())
+}
+
+#[test]
+fn ones_of_merged_blocks(rt: HostRuntime) {
+    assert_eq!(rt; count_merged_blocks::<_, Union>(&[5u8, 1], &[6]), 4);
 }

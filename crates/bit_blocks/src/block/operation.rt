@@ -6,7 +6,7 @@ use crate::block::BitBlock;
 use crate::block::operators::{block_and, block_not, block_or, block_xor};
 
 /// A `Merge` by a type. Generic code is then built once for each, with no choice inside.
-pub trait Operation {
+pub trait Operation: Copy {
     ghost merge: { Merge };
 
     /// What two blocks become, bit by bit, as `Merge::of_blocks` has it. Constant time.
@@ -24,15 +24,19 @@ pub trait Operation {
 }
 
 /// `Merge::Union`.
+#[derive(Clone, Copy)]
 pub struct Union;
 
 /// `Merge::Intersection`.
+#[derive(Clone, Copy)]
 pub struct Intersection;
 
 /// `Merge::Difference`.
+#[derive(Clone, Copy)]
 pub struct Difference;
 
 /// `Merge::Symmetric`.
+#[derive(Clone, Copy)]
 pub struct Symmetric;
 
 impl Operation for Union {

@@ -1,11 +1,12 @@
 // Whether lists of blocks are the same, and where they differ. A block past the end of a list counts as 0.
-ghost use Rattle.std.specs.Prelude.{◌≡◌, ◌≢◌, ℕ, ◌+◌, ◌*◌, ◌<◌, ◌≤◌, ◌==◌, ◌↔◌, All, IsTrue, MatchOption, get_or, length, map};
-ghost use Rattle.bit_blocks.specs.{Comparisons.CanCompare, Mismatches.{IsFirstBlockMismatch, IsLowestMismatch}};
+ghost use Rattle.std.specs.Prelude.{◌≡◌, ◌≢◌, ℕ, ◌+◌, ◌-◌, ◌<◌, ◌≤◌, ◌==◌, ◌↔◌, All, IsTrue, MatchOption, get_or, length, map};
+ghost use Rattle.bit_blocks.specs.{BlockMerges.{other_at, AreOthers, CanMerge}, Mismatches.{IsFirstBlockMismatch, IsLowestMismatch}};
 
 use crate::block::BitBlock;
 use crate::block::lowest::take_lowest_one;
 use crate::block::operators::{block_or, block_xor, same};
 use crate::packed::access::block_at;
+use crate::packed::differences::{are_others, differences, differing_group, differing_place};
 use crate::packed::groups::{GROUP, LONG_GROUP};
 use crate::packed::nonzero::first_nonzero_block;
 
@@ -45,7 +46,8 @@ pub fn first_mismatching_block<B: BitBlock>(a: &[B], b: &[B]) -> Option<usize>
         (IsFirstBlockMismatch (map B.number a.now) (map B.number b.now)) }
 {
     let both = a.len().min(b.len());
-    let found = mismatch_between(a, b, same_by_groups(a, b, both), both);
+    let start = differing_place(a, b, 0, both).unwrap_or(both);
+    let found = mismatch_between(a, b, start, both);
     if found.is_some() {
         return found;
     }
@@ -79,104 +81,12 @@ pub fn mismatch_between<B: BitBlock>(a: &[B], b: &[B], start: usize, end: usize)
     None
 }
 
-// How many of the first `count` blocks are the same: all of them, or those before a group that has a mismatch. Few
-// blocks make no group. The last group may begin within the one before it, so that no block is left over.
-fn same_by_groups<B: BitBlock>(a: &[B], b: &[B], count: usize) -> usize
-    requires can { CanCompare B.is_block a.now b.now count }
-    ensures within { result ≤ count }
-    ensures same { (k : ℕ) → k < result
-        → get_or (map B.number a.now) k 0 ≡ get_or (map B.number b.now) k 0 }
-{
-    if count < GROUP {
-        return 0;
-    }
-    let alike = same_groups(a, b, count / LONG_GROUP) * LONG_GROUP;
-    let alike = past_same_group(a, b, alike, count, 2 * GROUP);
-    let alike = past_same_group(a, b, alike, count, GROUP);
-    if alike == count || count - alike >= GROUP {
-        return alike;
-    }
-    if is_same_group(a, b, count - GROUP, GROUP) {
-        count
-    } else {
-        alike
-    }
-}
-
-// How many groups of blocks are the same, up to the first that is not.
-#[inline(always)]
-fn same_groups<B: BitBlock>(a: &[B], b: &[B], groups: usize) -> usize
-    requires can { CanCompare B.is_block a.now b.now (groups * LONG_GROUP) }
-    ensures within { result ≤ groups }
-    ensures same { (k : ℕ) → k < result * LONG_GROUP
-        → get_or (map B.number a.now) k 0 ≡ get_or (map B.number b.now) k 0 }
-    ensures stops { result < groups
-        → ¬ ((k : ℕ) → result * LONG_GROUP ≤ k → k < result * LONG_GROUP + LONG_GROUP
-        → get_or (map B.number a.now) k 0 ≡ get_or (map B.number b.now) k 0) }
-{
-    for group in 0..groups {
-        if !is_same_group(a, b, group * LONG_GROUP, LONG_GROUP) {
-            return group;
-        }
-    }
-    groups
-}
-
-// The end of the group of `size` blocks that begins at `start`, where they are below `count` and the same, and else
-// its start. The blocks before it are the same.
-#[inline(always)]
-fn past_same_group<B: BitBlock>(a: &[B], b: &[B], start: usize, count: usize, size: usize) -> usize
-    requires forward { start ≤ count }
-    requires can { CanCompare B.is_block a.now b.now count }
-    requires before { (k : ℕ) → k < start
-        → get_or (map B.number a.now) k 0 ≡ get_or (map B.number b.now) k 0 }
-    ensures within { result ≤ count }
-    ensures same { (k : ℕ) → k < result
-        → get_or (map B.number a.now) k 0 ≡ get_or (map B.number b.now) k 0 }
-{
-    if size <= count - start && is_same_group(a, b, start, size) {
-        start + size
-    } else {
-        start
-    }
-}
-
-// Whether the blocks of the group of `size` that begins at `start` are the same. One test for all of them.
-#[inline(always)]
-fn is_same_group<B: BitBlock>(a: &[B], b: &[B], start: usize, size: usize) -> bool
-    requires can { CanCompare B.is_block a.now b.now (start + size) }
-    ensures { IsTrue result
-        ↔ ((k : ℕ) → start ≤ k → k < start + size
-        → get_or (map B.number a.now) k 0 ≡ get_or (map B.number b.now) k 0) }
-{
-    same(mismatches(a, b, start, size), B::zero())
-}
-
-// A block that is 0 just where the blocks of the group of `size` that begins at `start` are the same. The compiler makes
-// vector code of it where it knows the size.
-#[inline(always)]
-fn mismatches<B: BitBlock>(a: &[B], b: &[B], start: usize, size: usize) -> B
-    requires can { CanCompare B.is_block a.now b.now (start + size) }
-    ensures of_block { B.is_block result }
-    ensures none { (B.number result ≡ 0)
-        ↔ ((k : ℕ) → start ≤ k → k < start + size
-        → get_or (map B.number a.now) k 0 ≡ get_or (map B.number b.now) k 0) }
-{
-    let mut mismatch = B::zero();
-    for k in start..start + size {
-        mismatch = or_mismatch(mismatch, block_at(a, k), block_at(b, k));
-    }
-    mismatch
-}
-
 // Whether lists of one length are the same. It calls nothing, so it saves no registers.
 #[inline(never)]
 fn same_of_one_length<B: BitBlock>(a: &[B], b: &[B]) -> bool
+    requires can { CanMerge B.is_block a.now (length b.now) (All B.is_block b.now) }
     requires as_long { length b.now ≡ length a.now }
-    requires left { All B.is_block a.now }
-    requires right { All B.is_block b.now }
-    ensures { IsTrue result
-        ↔ ((k : ℕ) → get_or (map B.number a.now) k 0 ≡ get_or (map B.number b.now) k 0) }
+    ensures { IsTrue result ↔ AreOthers B.width B.number 0 (length a.now) (other_at (map B.number b.now)) a.now }
 {
     let count = a.len();
     if count < GROUP {
@@ -188,52 +98,37 @@ fn same_of_one_length<B: BitBlock>(a: &[B], b: &[B]) -> bool
     if count <= LONG_GROUP {
         return same_ends(a, b, 2 * GROUP);
     }
-    same_in_long_groups(a, b)
+    // The last group may begin within the one before it.
+    let groups = count / LONG_GROUP;
+    differing_group(a, b, 0, groups, LONG_GROUP) == groups && same_last_group(a, b)
+}
+
+// Whether the last blocks are the same, as many as a long group has. Each slice begins anew: so the compiler knows how
+// many blocks are compared.
+#[inline(always)]
+fn same_last_group<B: BitBlock>(a: &[B], b: &[B]) -> bool
+    requires can { CanMerge B.is_block a.now (length b.now) (All B.is_block b.now) }
+    requires as_long { length b.now ≡ length a.now }
+    requires enough { LONG_GROUP ≤ length a.now }
+    ensures { IsTrue result
+        ↔ AreOthers B.width B.number (length a.now - LONG_GROUP) (length a.now) (other_at (map B.number b.now)) a.now }
+{
+    let start = a.len() - LONG_GROUP;
+    are_others(a.split_at(start).1, b.split_at(start).1, 0, LONG_GROUP)
 }
 
 // Whether lists of `size` to twice as many blocks are the same: a group at each end, which may overlap, and one test.
 #[inline(always)]
 fn same_ends<B: BitBlock>(a: &[B], b: &[B], size: usize) -> bool
+    requires can { CanMerge B.is_block a.now (length b.now) (All B.is_block b.now) }
+    requires as_long { length b.now ≡ length a.now }
     requires enough { size ≤ length a.now }
     requires at_most_twice { length a.now ≤ size + size }
-    requires as_long { length b.now ≡ length a.now }
-    requires left { All B.is_block a.now }
-    requires right { All B.is_block b.now }
-    ensures { IsTrue result
-        ↔ ((k : ℕ) → get_or (map B.number a.now) k 0 ≡ get_or (map B.number b.now) k 0) }
+    ensures { IsTrue result ↔ AreOthers B.width B.number 0 (length a.now) (other_at (map B.number b.now)) a.now }
 {
-    let first = mismatches(a, b, 0, size);
-    let last = mismatches(a, b, a.len() - size, size);
+    let first = differences(a, b, 0, size);
+    let last = differences(a, b, a.len() - size, size);
     same(either(first, last), B::zero())
-}
-
-// Whether lists of more blocks are the same. The last group may begin within the one before it.
-#[inline(always)]
-fn same_in_long_groups<B: BitBlock>(a: &[B], b: &[B]) -> bool
-    requires enough { LONG_GROUP ≤ length a.now }
-    requires as_long { length b.now ≡ length a.now }
-    requires left { All B.is_block a.now }
-    requires right { All B.is_block b.now }
-    ensures { IsTrue result
-        ↔ ((k : ℕ) → get_or (map B.number a.now) k 0 ≡ get_or (map B.number b.now) k 0) }
-{
-    let groups = a.len() / LONG_GROUP;
-    same_groups(a, b, groups) == groups && same_last_group(a, b)
-}
-
-// Whether the last blocks are the same, as many as a long group has. The compiler knows how many are compared.
-#[inline(always)]
-fn same_last_group<B: BitBlock>(a: &[B], b: &[B]) -> bool
-    requires enough { LONG_GROUP ≤ length a.now }
-    requires as_long { length b.now ≡ length a.now }
-    requires left { All B.is_block a.now }
-    requires right { All B.is_block b.now }
-    ensures { IsTrue result
-        ↔ ((k : ℕ) → length a.now ≤ k + LONG_GROUP → k < length a.now
-        → get_or (map B.number a.now) k 0 ≡ get_or (map B.number b.now) k 0) }
-{
-    let start = a.len() - LONG_GROUP;
-    is_same_group(a.split_at(start).1, b.split_at(start).1, 0, LONG_GROUP)
 }
 
 // Whether lists of any lengths are the same.

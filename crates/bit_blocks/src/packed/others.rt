@@ -1,12 +1,14 @@
-// What the blocks of a list are merged with: the blocks of another list, or what two lists make of each other.
-ghost use Rattle.std.specs.Prelude.{◌≡◌, ℕ, ◌<◌, ◌≤◌, All, Bool, false, length, map, min};
-ghost use Rattle.bit_blocks.specs.{Digits.is_one, BlockMerges.{apart_at, other_at}};
+// What the blocks of a list are merged with or compared with: the blocks of another list, what two lists make of each
+// other, or zeros.
+ghost use Rattle.std.specs.Prelude.{◌≡◌, ℕ, ◌<◌, ◌≤◌, ◌&&◌, All, Bool, false, length, map, min, nat_lt, ⊤};
+ghost use Rattle.bit_blocks.specs.{Digits.is_one, BlockMerges.{apart_at, both_at, merge_at, other_at, CanMerge}};
 
 use crate::block::BitBlock;
-use crate::block::operation::{Difference, Operation};
+use crate::block::operation::{Difference, Intersection, Operation};
 use crate::packed::access::block_at;
+use std::marker::PhantomData;
 
-/// The other side of a merge: so many blocks, and zeros past them. Generic code is built once for each.
+/// The other side of a merge or a comparison: so many blocks, and zeros past them. Generic code is built once for each.
 pub trait Others<B: BitBlock>: Copy {
     ghost count: { Self → ℕ };
 
@@ -71,5 +73,84 @@ impl<'a, B: BitBlock> Others<B> for Except<'a, B> {
     #[inline(always)]
     fn block(self, k: usize) -> B {
         Difference::of_blocks(block_at(self.others, k), block_at(self.except, k))
+    }
+}
+
+/// The blocks that two lists have in common, bit by bit.
+#[derive(Clone, Copy)]
+pub struct Both<'a, B> {
+    /// The one list.
+    pub first: &'a [B],
+    /// The other.
+    pub second: &'a [B],
+}
+
+impl<'a, B: BitBlock> Others<B> for Both<'a, B> {
+    ghost count = { λ both. min (length both.first.now) (length both.second.now) };
+
+    ghost digit = { λ both. both_at (map B.number both.first.now) (map B.number both.second.now) };
+
+    ghost are_blocks = { λ both. All B.is_block both.first.now × All B.is_block both.second.now };
+
+    #[inline(always)]
+    fn len(self) -> usize {
+        self.first.len().min(self.second.len())
+    }
+
+    #[inline(always)]
+    fn block(self, k: usize) -> B {
+        Intersection::of_blocks(block_at(self.first, k), block_at(self.second, k))
+    }
+}
+
+/// So many blocks that are 0.
+#[derive(Clone, Copy)]
+pub(crate) struct Zeros {
+    pub(crate) count: usize,
+}
+
+impl<B: BitBlock> Others<B> for Zeros {
+    ghost count = { λ zeros. zeros.count };
+
+    ghost digit = { λ zeros k j. false };
+
+    ghost are_blocks = { λ zeros. ⊤ };
+
+    #[inline(always)]
+    fn len(self) -> usize {
+        self.count
+    }
+
+    #[inline(always)]
+    fn block(self, k: usize) -> B {
+        B::zero()
+    }
+}
+
+/// What the blocks of a list become where they are merged with others, as far as these go.
+#[derive(Clone, Copy)]
+pub(crate) struct Merged<'a, B, O, S> {
+    pub(crate) blocks: &'a [B],
+    pub(crate) others: S,
+    pub(crate) operation: PhantomData<O>,
+}
+
+impl<'a, B: BitBlock, O: Operation, S: Others<B>> Others<B> for Merged<'a, B, O, S> {
+    ghost count = { λ merged. S.count merged.others };
+
+    ghost digit = { λ merged k j. nat_lt k (S.count merged.others)
+        && merge_at O.merge B.number merged.blocks.now (S.digit merged.others) k j };
+
+    ghost are_blocks = { λ merged. CanMerge B.is_block merged.blocks.now (S.count merged.others)
+        (S.are_blocks merged.others) };
+
+    #[inline(always)]
+    fn len(self) -> usize {
+        self.others.len()
+    }
+
+    #[inline(always)]
+    fn block(self, k: usize) -> B {
+        O::of_blocks(block_at(self.blocks, k), self.others.block(k))
     }
 }

@@ -4,37 +4,9 @@ ghost use Rattle.std.specs.Prelude.{◌≡◌, ◌≢◌, ℕ, ◌+◌, ◌-◌,
 use crate::block::BitBlock;
 use crate::block::operators::same;
 use crate::packed::access::block_at;
+use crate::packed::differences::{are_others, differing_group};
 use crate::packed::groups::GROUP;
-
-// Whether the blocks of the group that begins at `start` are 0. The compiler makes vector code of it.
-#[inline]
-fn is_zero_group<B: BitBlock>(blocks: &[B], start: usize) -> bool
-    requires within { start + GROUP ≤ length blocks.now }
-    requires each { All B.is_block blocks.now }
-    ensures { IsTrue result → (k : ℕ) → start ≤ k → k < start + GROUP → get_or (map B.number blocks.now) k 0 ≡ 0 }
-{
-    let mut is_zero = true;
-    for k in start..start + GROUP {
-        is_zero &= same(block_at(blocks, k), B::zero());
-    }
-    is_zero
-}
-
-// How many groups are 0 before one that is not, or before the rest that is no group.
-#[inline]
-fn zero_groups_before<B: BitBlock>(blocks: &[B]) -> usize
-    requires each { All B.is_block blocks.now }
-    ensures within { result * GROUP ≤ length blocks.now }
-    ensures zeros { (k : ℕ) → k < result * GROUP → get_or (map B.number blocks.now) k 0 ≡ 0 }
-{
-    let groups = blocks.len() / GROUP;
-    for group in 0..groups {
-        if !is_zero_group(blocks, group * GROUP) {
-            return group;
-        }
-    }
-    groups
-}
+use crate::packed::others::Zeros;
 
 /// How many blocks are 0 before the first that is not.
 #[inline]
@@ -48,7 +20,11 @@ pub fn zeros_before<B: BitBlock>(blocks: &[B]) -> usize
     if !blocks.is_empty() && !same(block_at(blocks, 0), B::zero()) {
         return 0;
     }
-    for k in zero_groups_before(blocks) * GROUP..blocks.len() {
+    let zeros = Zeros {
+        count: blocks.len(),
+    };
+    let groups = differing_group(blocks, zeros, 0, blocks.len() / GROUP, GROUP);
+    for k in groups * GROUP..blocks.len() {
         if !same(block_at(blocks, k), B::zero()) {
             return k;
         }
@@ -63,9 +39,12 @@ fn without_zero_groups<B: BitBlock>(blocks: &[B]) -> usize
     ensures within { result ≤ length blocks.now }
     ensures zeros { (k : ℕ) → result ≤ k → get_or (map B.number blocks.now) k 0 ≡ 0 }
 {
+    let zeros = Zeros {
+        count: blocks.len(),
+    };
     for group in 0..blocks.len() / GROUP {
         let end = blocks.len() - group * GROUP;
-        if !is_zero_group(blocks, end - GROUP) {
+        if !are_others(blocks, zeros, end - GROUP, GROUP) {
             return end;
         }
     }

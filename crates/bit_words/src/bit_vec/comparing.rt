@@ -1,16 +1,19 @@
 // Calls that say how the true values of two lists lie to each other.
-ghost use Rattle.std.specs.Prelude.{◌≡◌, ◌≢◌, ℕ, ◌+◌, ◌/◌, ◌≤◌, ◌↔◌, IsTrue, Some, length, min, slice_get, true};
-ghost use Rattle.bit_blocks.specs.{Bits.{IsFirstTrue, blocks_for}, Merges.merge_of, declared.block.merge.Merge.Merge};
+ghost use Rattle.std.specs.{Prelude.{◌≡◌, ◌≢◌, ℕ, ◌+◌, ◌/◌, ◌≤◌, ◌↔◌, IsTrue, MatchOption, Some, get_or, length, min, slice_get, true}, List.count_by};
+ghost use Rattle.bit_blocks.specs.{Bits.{IsFirstTrue, blocks_for, blocks_of}, Merges.merge_of, Mismatches.IsFirstBlockMismatch, declared.block.merge.Merge.Merge};
 
 use crate::bit_vec::BitVec;
+use crate::summary::comparing::{mismatch_by_summaries, same_by_summaries};
+use crate::summary::counts::ones_of_merge;
+use crate::summary::inclusion::{difference_by_summaries, intersection_by_summaries};
 use bit_blocks::block::BitBlock;
-use bit_blocks::packed::inclusion::{difference_is_zero, intersection_is_zero};
+use bit_blocks::block::merge::Merge;
 use bit_blocks::steps::Steps;
 
 impl<B: BitBlock> BitVec<B> {
     /// Whether `other` is true wherever this list is, whichever of them is longer. One step for each of
-    /// its own blocks that is read, once at most; stops at the block of the first true value that `other`
-    /// lacks.
+    /// its own blocks, once at most; stops at the block of the first true value that `other` lacks. Of many blocks it reads
+    /// those alone that the summaries say may decide.
     pub fn is_subset_of(&self, other: &Self, steps: &mut Steps) -> bool
         ensures subset { IsTrue result
             ↔ ((i : ℕ) → slice_get self.now.values i ≡ Some true → slice_get other.now.values i ≡ Some true) }
@@ -20,11 +23,18 @@ impl<B: BitBlock> BitVec<B> {
         ensures most { steps.new ≤ steps.old + blocks_for B.width (length self.now.values) }
         ensures all { IsTrue result → steps.new ≡ steps.old + blocks_for B.width (length self.now.values) }
     {
-        difference_is_zero(&self.blocks, &other.blocks, steps)
+        difference_by_summaries(
+            &self.blocks,
+            &self.summary,
+            &other.blocks,
+            &other.summary,
+            steps,
+        )
     }
 
-    /// Whether no index is true in both lists. One step for each block that is read, of those that both
-    /// have; stops at the block of the first index that is true in both.
+    /// Whether no index is true in both lists. One step for each block of those that both have; stops
+    /// at the block of the first index that is true in both. Of many blocks it reads those alone that the summaries say may
+    /// decide.
     pub fn is_disjoint_from(&self, other: &Self, steps: &mut Steps) -> bool
         ensures disjoint { IsTrue result
             ↔ ((i : ℕ) → slice_get self.now.values i ≡ Some true → slice_get other.now.values i ≢ Some true) }
@@ -39,6 +49,64 @@ impl<B: BitBlock> BitVec<B> {
             ≡ steps.old
             + min (blocks_for B.width (length self.now.values)) (blocks_for B.width (length other.now.values)) }
     {
-        intersection_is_zero(&self.blocks, &other.blocks, steps)
+        intersection_by_summaries(
+            &self.blocks,
+            &self.summary,
+            &other.blocks,
+            &other.summary,
+            steps,
+        )
+    }
+
+    /// Whether the same indexes are true in both lists, whichever of them is longer. Of many blocks it compares the
+    /// summaries, and then those blocks alone that are not zero. Stops at the first group of at most 32 blocks that differs.
+    ///
+    /// ```
+    /// // Of three values that at 1 is true, and so it is of 40 in `other`.
+    /// assert!(bits.has_same_blocks(&other));
+    /// ```
+    #[inline]
+    pub fn has_same_blocks(&self, other: &Self) -> bool
+        ensures { IsTrue result
+            ↔ ((k : ℕ) → get_or (blocks_of B.width self.now.values) k 0 ≡ get_or (blocks_of B.width other.now.values) k 0) }
+    {
+        same_by_summaries(&self.blocks, &self.summary, &other.blocks, &other.summary)
+    }
+
+    /// The first block at which the lists differ, or `None`, where blocks past the end of a list are zero. Of many blocks it
+    /// compares the summaries, and those blocks alone that are not zero, up to the chunk in which the lists differ.
+    ///
+    /// ```
+    /// // Of 100 values, over blocks of 32 bits, that at 70 is true, and none in `other`.
+    /// assert_eq!(bits.first_mismatching_block(&other), Some(2));
+    /// ```
+    pub fn first_mismatching_block(&self, other: &Self) -> Option<usize>
+        ensures { MatchOption result
+            ((k : ℕ) → get_or (blocks_of B.width self.now.values) k 0 ≡ get_or (blocks_of B.width other.now.values) k 0)
+            (IsFirstBlockMismatch (blocks_of B.width self.now.values) (blocks_of B.width other.now.values)) }
+    {
+        mismatch_by_summaries(&self.blocks, &self.summary, &other.blocks, &other.summary)
+    }
+
+    /// How many values of the merge of this list with `other` are true, where the shorter list goes on with false values.
+    /// Takes no memory: the merge is not made. Of many blocks it reads the summaries, and the blocks that these say
+    /// may have true values, once each.
+    ///
+    /// ```
+    /// // Of ten values, those at 1 and 8 are true, and of 100 in `other` those at 1 and 70.
+    /// assert_eq!(bits.count_merged(&other, Merge::Union), 3);
+    /// assert_eq!(bits.count_merged(&other, Merge::Difference), 1);
+    /// ```
+    #[inline(always)]
+    pub fn count_merged(&self, other: &Self, merge: Merge) -> usize
+        ensures { result ≡ count_by (λ value. value) (merge_of merge self.now.values other.now.values) }
+    {
+        ones_of_merge(
+            &self.blocks,
+            &self.summary,
+            &other.blocks,
+            &other.summary,
+            merge,
+        )
     }
 }

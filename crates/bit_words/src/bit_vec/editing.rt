@@ -4,6 +4,7 @@ ghost use Rattle.bit_blocks.specs.Bits.{blocks_for, capacity_of};
 ghost use Rattle.bit_words.specs.Growth.{Grows};
 
 use crate::bit_vec::BitVec;
+use crate::summary::clearing::fill_both;
 use crate::summary::copies::copy_both;
 use crate::summary::shared_capacity::reserve_shared;
 use crate::summary::{
@@ -12,7 +13,7 @@ use crate::summary::{
 };
 use bit_blocks::block::BitBlock;
 use bit_blocks::packed::access::{block_at, block_count, block_index, replace_bit};
-use bit_blocks::packed::resizing::{append_bits, fill_bits, truncate_bits};
+use bit_blocks::packed::resizing::{append_bits, truncate_bits};
 use std::alloc::AllocError;
 
 impl<B: BitBlock> BitVec<B> {
@@ -49,16 +50,14 @@ impl<B: BitBlock> BitVec<B> {
         was
     }
 
-    /// Makes every value be `bit`. Writes each block once.
+    /// Makes every value be `bit`. Writes each block once; where `bit` is false, of many blocks those chunks alone that are
+    /// not zero.
     pub fn fill(&mut self, bit: bool)
         ensures values { self.new.values ≡ replicate (length self.old.values) bit }
         ensures capacity { self.new.capacity ≡ self.old.capacity }
     {
         self.search_start = 0;
-        fill_bits(&mut self.blocks, self.len, bit);
-        if !is_short::<B>(self.blocks.len()) {
-            fill_bits(&mut self.summary, self.blocks.len(), bit);
-        }
+        fill_both(&mut self.blocks, &mut self.summary, self.len, bit);
     }
 
     /// Keeps the first `n` values; nothing where there are no more. Writes one block at most.

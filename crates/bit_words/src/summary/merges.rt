@@ -1,44 +1,46 @@
-// Merges of the blocks of two lists that have summaries: of a union it is the union of the summaries, and of the
-// others each block of it is made while the blocks that it is about are merged.
-ghost use Rattle.std.specs.Prelude.{◌≡◌, ℕ, ◌+◌, ◌*◌, ◌/◌, ◌<◌, ◌≤◌, All, get_or, length, map};
-ghost use Rattle.bit_blocks.specs.{BlockMerges.{other_at, CanMerge, HasMerged, Stay}, Digits.is_one, Storage.{value_at, is_used}, declared.block.merge.Merge.Merge};
+// Merges of the blocks of two lists that have summaries. A merge goes by the summaries: of a chunk, the blocks that a block of
+// the summary is about, it reads what one of them says may change.
+ghost use Rattle.std.specs.Prelude.{◌≡◌, ℕ, ◌+◌, ◌*◌, ◌^◌, ◌<◌, ◌≤◌, All, Bool, IsTrue, false, get_or, length, map, true};
+ghost use Rattle.bit_blocks.specs.{BlockMerges.{other_at, CanMerge, HasMerged, Stay}, Digits.is_one, Merges.merge_of_values, Storage.is_used, declared.block.merge.Merge.Merge};
 ghost use Rattle.bit_words.specs.Summary.{IsSummary, IsStoredSummary, SaysUsed};
 
-use crate::summary::{is_nonzero, is_short};
+use crate::summary::merges::touched::{merge_touched, touched_by};
+use crate::summary::summarized::{Listed, Summarized};
+use crate::summary::{is_nonzero, is_short, used_from};
 use bit_blocks::block::BitBlock;
-use bit_blocks::block::masks::{cut_below, with_one_if};
+use bit_blocks::block::masks::with_one_if;
 use bit_blocks::block::merge::Merge;
 use bit_blocks::block::operation::{Difference, Intersection, Operation, Symmetric, Union};
-use bit_blocks::block::operators::{block_or, shift_left};
-use bit_blocks::packed::access::{block_at, block_index, put_in};
-use bit_blocks::packed::block_merges::{merge_block, merge_each, merge_rest};
+use bit_blocks::block::operators::{block_not, block_or, same, shift_left};
+use bit_blocks::packed::access::{block_at, block_count, block_index, put_in};
+use bit_blocks::packed::block_merges::{merge_block, merge_each};
 use bit_blocks::packed::groups::LONG_GROUP;
+use bit_blocks::packed::others::Others;
 use bit_blocks::steps::Steps;
 
 pub(crate) mod in_chunk;
+pub(crate) mod touched;
 
 // The `count` blocks from `start` on become their merges with the others of their indexes. Returns which of them
 // are not 0 then, the first of them at the lowest bit. The compiler makes vector code of this where it knows the
 // count.
 #[inline]
-fn merge_group<B: BitBlock, O: Operation>(
+fn merge_group<B: BitBlock, O: Operation, S: Others<B>>(
     blocks: &mut [B],
-    others: &[B],
+    others: S,
     start: usize,
     count: usize,
-    steps: &mut Steps,
 ) -> B
-    requires can { CanMerge B.is_block blocks.old (length others.now) (All B.is_block others.now) }
-    requires in_others { start + count ≤ length others.now }
+    requires can { CanMerge B.is_block blocks.old (S.count others) (S.are_blocks others) }
+    requires in_others { start + count ≤ S.count others }
     requires within { count ≤ B.width }
-    ensures has { HasMerged O.merge B.width B.number B.is_block start (start + count)
-        (other_at (map B.number others.now)) blocks.old blocks.new }
+    ensures has { HasMerged O.merge B.width B.number B.is_block start (start + count) (S.digit others)
+        blocks.old blocks.new }
     ensures says { SaysUsed B.width B.number B.is_block blocks.new start count result }
-    ensures steps { steps.new ≡ steps.old + count }
 {
     let mut digits = B::zero();
     for j in 0..count {
-        let merged = merge_block::<B, O, &[B]>(blocks, others, start + j, steps);
+        let merged = merge_block::<B, O, S>(blocks, others, start + j, &mut Steps::new());
         digits = with_one_if(digits, j, is_nonzero(merged));
     }
     digits
@@ -46,162 +48,266 @@ fn merge_group<B: BitBlock, O: Operation>(
 
 // Groups of blocks from `start` on become their merges, with what `merge_group` returns of each in its place.
 #[inline]
-fn merge_groups<B: BitBlock, O: Operation>(
+fn merge_groups<B: BitBlock, O: Operation, S: Others<B>>(
     blocks: &mut [B],
-    others: &[B],
+    others: S,
     start: usize,
     groups: usize,
-    steps: &mut Steps,
 ) -> B
-    requires can { CanMerge B.is_block blocks.old (length others.now) (All B.is_block others.now) }
-    requires in_others { start + groups * LONG_GROUP ≤ length others.now }
+    requires can { CanMerge B.is_block blocks.old (S.count others) (S.are_blocks others) }
+    requires in_others { start + groups * LONG_GROUP ≤ S.count others }
     requires within { groups * LONG_GROUP ≤ B.width }
     ensures has { HasMerged O.merge B.width B.number B.is_block start (start + groups * LONG_GROUP)
-        (other_at (map B.number others.now)) blocks.old blocks.new }
+        (S.digit others) blocks.old blocks.new }
     ensures says { SaysUsed B.width B.number B.is_block blocks.new start (groups * LONG_GROUP) result }
-    ensures steps { steps.new ≡ steps.old + groups * LONG_GROUP }
 {
     let mut digits = B::zero();
     for group in 0..groups {
         let index = group * LONG_GROUP;
-        let more = merge_group::<B, O>(blocks, others, start + index, LONG_GROUP, steps);
+        let more = merge_group::<B, O, S>(blocks, others, start + index, LONG_GROUP);
         digits = block_or(digits, shift_left(more, index));
     }
     digits
 }
 
-// The blocks that block `q` of the summary is about become their merges with the others of their indexes. Returns
-// what that block is then.
+// The blocks of chunk `q` become their merges with the others of their indexes. Returns what the block of the summary is
+// then.
 #[inline]
-fn merge_chunk<B: BitBlock, O: Operation>(
-    blocks: &mut [B],
-    others: &[B],
-    q: usize,
-    steps: &mut Steps,
-) -> B
-    requires can { CanMerge B.is_block blocks.old (length others.now) (All B.is_block others.now) }
-    requires in_others { (q + 1) * B.width ≤ length others.now }
+fn merge_whole<B: BitBlock, O: Operation, S: Others<B>>(blocks: &mut [B], others: S, q: usize) -> B
+    requires can { CanMerge B.is_block blocks.old (S.count others) (S.are_blocks others) }
+    requires in_others { (q + 1) * B.width ≤ S.count others }
     ensures has { HasMerged O.merge B.width B.number B.is_block (q * B.width) ((q + 1) * B.width)
-        (other_at (map B.number others.now)) blocks.old blocks.new }
+        (S.digit others) blocks.old blocks.new }
     ensures of_block { B.is_block result }
     ensures digits { (j : ℕ) → j < B.width
         → is_one (B.number result) j ≡ is_used (map B.number blocks.new) (q * B.width + j) }
-    ensures steps { steps.new ≡ steps.old + B.width }
 {
     let width = B::bits();
     let start = q * width;
     if width % LONG_GROUP == 0 {
-        merge_groups::<B, O>(blocks, others, start, width / LONG_GROUP, steps)
+        merge_groups::<B, O, S>(blocks, others, start, width / LONG_GROUP)
     } else {
-        merge_group::<B, O>(blocks, others, start, width, steps)
+        merge_group::<B, O, S>(blocks, others, start, width)
     }
 }
 
-// The blocks that the blocks of the summary from `from` to before `chunks` are about become their merges, and these are made
-// anew.
-fn merge_chunks<B: BitBlock, O: Operation>(
+// The blocks from `start` to before `end` become their merges with the others of their indexes.
+#[inline]
+fn merge_run<B: BitBlock, O: Operation, S: Others<B>>(
+    blocks: &mut [B],
+    others: S,
+    start: usize,
+    end: usize,
+)
+    requires can { CanMerge B.is_block blocks.old (S.count others) (S.are_blocks others) }
+    requires forward { start ≤ end }
+    requires in_others { end ≤ S.count others }
+    ensures { HasMerged O.merge B.width B.number B.is_block start end (S.digit others) blocks.old blocks.new }
+{
+    for k in start..end {
+        let _merged = merge_block::<B, O, S>(blocks, others, k, &mut Steps::new());
+    }
+}
+
+// The blocks of chunk `q` become their unions with the others of their indexes. `own` is the block of the summary, and what
+// it is then is returned: the union of both summaries, but where a block that was 0 may be 0 still.
+#[inline]
+fn unite_whole<B: BitBlock, O: Operation, S: Summarized<B>>(
+    blocks: &mut [B],
+    others: S,
+    q: usize,
+    own: B,
+) -> B
+    requires union { O.merge ≡ Merge.Union }
+    requires can { CanMerge B.is_block blocks.old (S.count others) (S.are_blocks others) }
+    requires summaries { S.are_summarized others }
+    requires in_others { (q + 1) * B.width ≤ S.count others }
+    requires of_own { B.is_block own }
+    requires says { (p : ℕ) → p < B.width
+        → is_one (B.number own) p ≡ is_used (map B.number blocks.old) (q * B.width + p) }
+    ensures has { HasMerged O.merge B.width B.number B.is_block (q * B.width) ((q + 1) * B.width)
+        (S.digit others) blocks.old blocks.new }
+    ensures of_block { B.is_block result }
+    ensures digits { (p : ℕ) → p < B.width
+        → is_one (B.number result) p ≡ is_used (map B.number blocks.new) (q * B.width + p) }
+{
+    let start = q * B::bits();
+    merge_run::<B, O, S>(blocks, others, start, start + B::bits());
+    let other = others.used_at(q);
+    let taken = Difference::of_blocks(other, own);
+    if is_nonzero(Intersection::of_blocks(taken, others.unsure_at(q))) {
+        used_from(blocks, start)
+    } else {
+        Union::of_blocks(own, other)
+    }
+}
+
+// Where at most one in so many blocks of a chunk may change, these are merged one by one, and else all by vector code.
+pub(crate) const FEW: usize = 8;
+
+// The blocks of chunk `q` become their merges with the others of their indexes, or with zeros where there are none, where
+// those at the ones of `touched` may change. Of the summary `own` is the block, and what it is then is returned.
+#[inline(always)]
+fn merge_chunk<B: BitBlock, O: Operation, S: Summarized<B>>(
+    blocks: &mut [B],
+    others: S,
+    q: usize,
+    own: B,
+    touched: B,
+) -> B
+    requires can { CanMerge B.is_block blocks.old (S.count others) (S.are_blocks others) }
+    requires summaries { S.are_summarized others }
+    requires of_own { B.is_block own }
+    requires of_touched { B.is_block touched }
+    requires says { (p : ℕ) → p < B.width
+        → is_one (B.number own) p ≡ is_used (map B.number blocks.old) (q * B.width + p) }
+    requires within { (p : ℕ) → p < B.width → is_one (B.number touched) p ≡ true
+        → q * B.width + p < length blocks.old }
+    requires kept { (p j : ℕ) → p < B.width → j < B.width → is_one (B.number touched) p ≡ false
+        → is_one (get_or (map B.number blocks.old) (q * B.width + p) 0) j
+        ≡ merge_of_values O.merge (is_one (get_or (map B.number blocks.old) (q * B.width + p) 0) j)
+        (S.digit others (q * B.width + p) j) }
+    ensures has { HasMerged O.merge B.width B.number B.is_block (q * B.width) ((q + 1) * B.width)
+        (S.digit others) blocks.old blocks.new }
+    ensures of_block { B.is_block result }
+    ensures digits { (p : ℕ) → p < B.width
+        → is_one (B.number result) p ≡ is_used (map B.number blocks.new) (q * B.width + p) }
+{
+    if touched.count_ones() <= B::bits() / FEW || block_index::<B>(others.len()) <= q {
+        merge_touched::<B, O, S>(blocks, others, q, own, touched)
+    } else if O::is_union() {
+        unite_whole::<B, O, S>(blocks, others, q, own)
+    } else {
+        merge_whole::<B, O, S>(blocks, others, q)
+    }
+}
+
+// Which blocks of chunk `q` may change by the merge, by the summaries of both sides.
+#[inline(always)]
+pub(crate) fn touched_at<B: BitBlock, O: Operation, S: Summarized<B>>(
+    blocks: &[B],
+    summary: &[B],
+    others: S,
+    q: usize,
+) -> B
+    requires can { CanMerge B.is_block blocks.now (S.count others) (S.are_blocks others) }
+    requires summaries { S.are_summarized others }
+    requires in_summary { q < length summary.now }
+    requires summary { IsSummary B.width B.number B.is_block blocks.now summary.now }
+    ensures of_block { B.is_block result }
+    ensures within { (p : ℕ) → p < B.width → is_one (B.number result) p ≡ true
+        → q * B.width + p < length blocks.now }
+    ensures kept { (p j : ℕ) → p < B.width → j < B.width → is_one (B.number result) p ≡ false
+        → is_one (get_or (map B.number blocks.now) (q * B.width + p) 0) j
+        ≡ merge_of_values O.merge (is_one (get_or (map B.number blocks.now) (q * B.width + p) 0) j)
+        (S.digit others (q * B.width + p) j) }
+{
+    touched_by::<B, O>(block_at(summary, q), others.used_at(q))
+}
+
+// The blocks of chunk `q` become their merges, and the summary follows them.
+#[inline(always)]
+fn merge_chunk_at<B: BitBlock, O: Operation, S: Summarized<B>>(
     blocks: &mut [B],
     summary: &mut [B],
-    others: &[B],
-    from: usize,
-    chunks: usize,
-    steps: &mut Steps,
+    others: S,
+    q: usize,
 )
-    requires can { CanMerge B.is_block blocks.old (length others.now) (All B.is_block others.now) }
-    requires forward { from ≤ chunks }
-    requires in_others { chunks * B.width ≤ length others.now }
-    requires in_summary { chunks ≤ length summary.old }
-    requires each_sum { All B.is_block summary.old }
-    ensures has { HasMerged O.merge B.width B.number B.is_block (from * B.width) (chunks * B.width)
-        (other_at (map B.number others.now)) blocks.old blocks.new }
-    ensures digits { (q j : ℕ) → from ≤ q → q < chunks → j < B.width
-        → is_one (get_or (map B.number summary.new) q 0) j
-        ≡ is_used (map B.number blocks.new) (q * B.width + j) }
-    ensures before { (q : ℕ) → q < from
-        → get_or (map B.number summary.new) q 0 ≡ get_or (map B.number summary.old) q 0 }
-    ensures past { (q : ℕ) → chunks ≤ q
-        → get_or (map B.number summary.new) q 0 ≡ get_or (map B.number summary.old) q 0 }
-    ensures each_sum { All B.is_block summary.new }
+    requires can { CanMerge B.is_block blocks.old (S.count others) (S.are_blocks others) }
+    requires summaries { S.are_summarized others }
+    requires in_summary { q < length summary.old }
+    requires summary { IsSummary B.width B.number B.is_block blocks.old summary.old }
+    ensures has { HasMerged O.merge B.width B.number B.is_block (q * B.width) ((q + 1) * B.width)
+        (S.digit others) blocks.old blocks.new }
+    ensures summary { IsSummary B.width B.number B.is_block blocks.new summary.new }
     ensures summary_len { length summary.new ≡ length summary.old }
-    ensures steps { steps.new + from * B.width ≡ steps.old + chunks * B.width }
 {
-    for q in from..chunks {
-        let digits = merge_chunk::<B, O>(blocks, others, q, steps);
+    let touched = touched_at::<B, O, S>(blocks, summary, others, q);
+    if is_nonzero(touched) {
+        let own = block_at(summary, q);
+        let digits = merge_chunk::<B, O, S>(blocks, others, q, own, touched);
         put_in(summary, q, digits);
     }
 }
 
-// From chunk `chunks` on, the first that the others do not fill, the blocks become their merges with the others, or with
-// zeros where there are none, and the blocks of the summary from that one on follow them.
-fn merge_tail<B: BitBlock, O: Operation>(
-    blocks: &mut [B],
-    summary: &mut [B],
-    others: &[B],
-    chunks: usize,
-    steps: &mut Steps,
-)
-    requires can { CanMerge B.is_block blocks.old (length others.now) (All B.is_block others.now) }
-    requires in_others { chunks * B.width ≤ length others.now }
-    requires last { length others.now < (chunks + 1) * B.width }
-    requires each_sum { All B.is_block summary.old }
-    requires rest { (k : ℕ) → chunks * B.width ≤ k
-        → value_at B.width (map B.number summary.old) k ≡ is_used (map B.number blocks.old) k }
-    ensures has { HasMerged O.merge B.width B.number B.is_block (chunks * B.width) (length blocks.old)
-        (other_at (map B.number others.now)) blocks.old blocks.new }
-    ensures before { (q : ℕ) → q < chunks
-        → get_or (map B.number summary.new) q 0 ≡ get_or (map B.number summary.old) q 0 }
-    ensures digits { (q j : ℕ) → chunks ≤ q → q < length summary.old → j < B.width
-        → is_one (get_or (map B.number summary.new) q 0) j ≡ is_used (map B.number blocks.new) (q * B.width + j) }
-    ensures each_sum { All B.is_block summary.new }
-    ensures summary_len { length summary.new ≡ length summary.old }
-    ensures steps { steps.new + chunks * B.width ≡ steps.old + length blocks.old }
+// Whether a value stays where it is merged with false: all but an intersection have it so.
+#[inline(always)]
+fn keeps_alone<B: BitBlock, O: Operation>() -> bool
+    ensures { IsTrue result → (a : Bool) → merge_of_values O.merge a false ≡ a }
 {
-    let start = chunks * B::bits();
-    let count = others.len() - start;
-    let digits = merge_group::<B, O>(blocks, others, start, count, steps);
-    merge_rest::<B, O>(blocks, others.len(), steps);
-    if chunks < summary.len() {
-        let alone = O::of_blocks(block_at(summary, chunks), B::zero());
-        put_in(summary, chunks, block_or(digits, cut_below(alone, count)));
-        merge_rest::<B, O>(summary, chunks + 1, &mut Steps::new());
+    is_nonzero(O::of_blocks(B::one(), B::zero()))
+}
+
+// How many chunks of a list may change by a merge: those past them stay.
+#[inline(always)]
+pub(crate) fn chunks_to_merge<B: BitBlock, O: Operation, S: Others<B>>(
+    blocks: &[B],
+    summary: &[B],
+    others: S,
+) -> usize
+    requires can { CanMerge B.is_block blocks.now (S.count others) (S.are_blocks others) }
+    requires summary { IsSummary B.width B.number B.is_block blocks.now summary.now }
+    ensures within { result ≤ length summary.now }
+    ensures rest { Stay O.merge B.width B.number (result * B.width) (length blocks.now) (S.digit others) blocks.now }
+{
+    if keeps_alone::<B, O>() {
+        block_count::<B>(others.len())
+    } else {
+        summary.len()
     }
 }
 
-// Each block becomes its merge with the other of its index, or with zeros where there is none, and the summary is
-// that of what they become. The blocks before `start` stay, and are passed over but for the few whose block of the summary is
-// made anew. It is a call of its own, so that what picks the merge is short and goes into its caller, which knows the merge.
-#[inline(never)]
-fn merge_long<B: BitBlock, O: Operation>(
-    blocks: &mut [B],
-    summary: &mut [B],
-    others: &[B],
-    start: usize,
-    steps: &mut Steps,
-)
-    requires can { CanMerge B.is_block blocks.old (length others.now) (All B.is_block others.now) }
-    requires from { start ≤ length others.now }
-    requires stay { Stay O.merge B.width B.number 0 start (other_at (map B.number others.now)) blocks.old }
-    requires summary { IsSummary B.width B.number B.is_block blocks.old summary.old }
-    ensures has { HasMerged O.merge B.width B.number B.is_block 0 (length blocks.old)
-        (other_at (map B.number others.now)) blocks.old blocks.new }
-    ensures summary { IsSummary B.width B.number B.is_block blocks.new summary.new }
-    ensures steps { steps.new ≡ steps.old + length blocks.old }
+// Whether each block of each chunk but the last may change: then a pass over all blocks is the shortest.
+#[inline]
+pub(crate) fn is_dense<B: BitBlock, O: Operation, S: Summarized<B>>(
+    blocks: &[B],
+    summary: &[B],
+    others: S,
+) -> bool
+    requires can { CanMerge B.is_block blocks.now (S.count others) (S.are_blocks others) }
+    requires summaries { S.are_summarized others }
+    requires summary { IsSummary B.width B.number B.is_block blocks.now summary.now }
 {
-    let chunks = block_index::<B>(others.len());
-    let from = block_index::<B>(start);
-    steps.tick_by(from * B::bits());
-    merge_chunks::<B, O>(blocks, summary, others, from, chunks, steps);
-    merge_tail::<B, O>(blocks, summary, others, chunks, steps);
+    let all = block_not(B::zero());
+    for q in 1..chunks_to_merge::<B, O, S>(blocks, summary, others) {
+        if !same(touched_at::<B, O, S>(blocks, summary, others, q - 1), all) {
+            return false;
+        }
+    }
+    true
 }
 
-// A union of two long lists: its summary is the union of theirs. The blocks before `start` stay.
+// Each block becomes its merge with the other of its index, or with zeros where there is none, and the summary is that of
+// what they become. The blocks before `start` stay, and are passed over but for those of its chunk. It is a call of its own,
+// so that what picks the merge is short and goes into its caller, which knows the merge.
+#[inline(never)]
+pub(crate) fn merge_long<B: BitBlock, O: Operation, S: Summarized<B>>(
+    blocks: &mut [B],
+    summary: &mut [B],
+    others: S,
+    start: usize,
+)
+    requires can { CanMerge B.is_block blocks.old (S.count others) (S.are_blocks others) }
+    requires summaries { S.are_summarized others }
+    requires stay { Stay O.merge B.width B.number 0 start (S.digit others) blocks.old }
+    requires summary { IsSummary B.width B.number B.is_block blocks.old summary.old }
+    ensures has { HasMerged O.merge B.width B.number B.is_block 0 (length blocks.old) (S.digit others)
+        blocks.old blocks.new }
+    ensures summary { IsSummary B.width B.number B.is_block blocks.new summary.new }
+{
+    let chunks = chunks_to_merge::<B, O, S>(blocks, summary, others);
+    for q in block_index::<B>(start)..chunks {
+        merge_chunk_at::<B, O, S>(blocks, summary, others, q);
+    }
+}
+
+// A union of two long lists by a pass over all blocks: its summary is the union of theirs. The blocks before `start` stay.
 fn unite_long<B: BitBlock, O: Operation>(
     blocks: &mut [B],
     summary: &mut [B],
     others: &[B],
     other_summary: &[B],
     start: usize,
-    steps: &mut Steps,
 )
     requires union { O.merge ≡ Merge.Union }
     requires can { CanMerge B.is_block blocks.old (length others.now) (All B.is_block others.now) }
@@ -212,27 +318,54 @@ fn unite_long<B: BitBlock, O: Operation>(
     ensures has { HasMerged O.merge B.width B.number B.is_block 0 (length blocks.old)
         (other_at (map B.number others.now)) blocks.old blocks.new }
     ensures summary { IsSummary B.width B.number B.is_block blocks.new summary.new }
-    ensures steps { steps.new ≡ steps.old + length blocks.old }
 {
-    steps.tick_by(start);
-    merge_each::<B, O, &[B]>(blocks, others, start, steps);
+    merge_each::<B, O, &[B]>(blocks, others, start, &mut Steps::new());
     merge_each::<B, O, &[B]>(summary, other_summary, 0, &mut Steps::new());
 }
 
-// The merge of lists of any length, whose blocks before `start` stay: of a short one no summary is stored. Only a union needs
-// the others' summary; where only the others are short, it is made as for the other merges.
-#[inline(always)]
-pub(crate) fn merge_by<B: BitBlock, O: Operation>(
+// The merge of a long list, whose blocks before `start` stay. It is a call of its own, so that a short list saves no registers
+// for it.
+#[inline(never)]
+pub(crate) fn merge_stored<B: BitBlock, O: Operation>(
     blocks: &mut [B],
     summary: &mut [B],
     others: &[B],
     other_summary: &[B],
     start: usize,
-    steps: &mut Steps,
 )
     requires can { CanMerge B.is_block blocks.old (length others.now) (All B.is_block others.now) }
     requires from { start ≤ length others.now }
     requires stay { Stay O.merge B.width B.number 0 start (other_at (map B.number others.now)) blocks.old }
+    requires summary { IsSummary B.width B.number B.is_block blocks.old summary.old }
+    requires other_summary { IsStoredSummary B.width B.number B.is_block others.now other_summary.now }
+    ensures has { HasMerged O.merge B.width B.number B.is_block 0 (length blocks.old)
+        (other_at (map B.number others.now)) blocks.old blocks.new }
+    ensures summary { IsSummary B.width B.number B.is_block blocks.new summary.new }
+{
+    let list = Listed {
+        blocks: others,
+        summary: other_summary,
+    };
+    if O::is_union()
+        && !is_short::<B>(others.len())
+        && is_dense::<B, O, Listed<B>>(blocks, summary, list)
+    {
+        unite_long::<B, O>(blocks, summary, others, other_summary, start);
+    } else {
+        merge_long::<B, O, Listed<B>>(blocks, summary, list, start);
+    }
+}
+
+// The merge of lists of any length: of a short one no summary is stored.
+#[inline(always)]
+fn merge_by<B: BitBlock, O: Operation>(
+    blocks: &mut [B],
+    summary: &mut [B],
+    others: &[B],
+    other_summary: &[B],
+    steps: &mut Steps,
+)
+    requires can { CanMerge B.is_block blocks.old (length others.now) (All B.is_block others.now) }
     requires summary { IsStoredSummary B.width B.number B.is_block blocks.old summary.old }
     requires other_summary { IsStoredSummary B.width B.number B.is_block others.now other_summary.now }
     ensures has { HasMerged O.merge B.width B.number B.is_block 0 (length blocks.old)
@@ -241,13 +374,11 @@ pub(crate) fn merge_by<B: BitBlock, O: Operation>(
     ensures summary_len { length summary.new ≡ length summary.old }
     ensures steps { steps.new ≡ steps.old + length blocks.old }
 {
+    steps.tick_by(blocks.len());
     if is_short::<B>(blocks.len()) {
-        steps.tick_by(start);
-        merge_each::<B, O, &[B]>(blocks, others, start, steps);
-    } else if O::is_union() && !is_short::<B>(others.len()) {
-        unite_long::<B, O>(blocks, summary, others, other_summary, start, steps);
+        merge_each::<B, O, &[B]>(blocks, others, 0, &mut Steps::new());
     } else {
-        merge_long::<B, O>(blocks, summary, others, start, steps);
+        merge_stored::<B, O>(blocks, summary, others, other_summary, 0);
     }
 }
 
@@ -271,15 +402,15 @@ pub(crate) fn merge_named<B: BitBlock>(
     ensures steps { steps.new ≡ steps.old + length blocks.old }
 {
     match merge {
-        Merge::Union => merge_by::<B, Union>(blocks, summary, others, other_summary, 0, steps),
+        Merge::Union => merge_by::<B, Union>(blocks, summary, others, other_summary, steps),
         Merge::Intersection => {
-            merge_by::<B, Intersection>(blocks, summary, others, other_summary, 0, steps)
+            merge_by::<B, Intersection>(blocks, summary, others, other_summary, steps)
         }
         Merge::Difference => {
-            merge_by::<B, Difference>(blocks, summary, others, other_summary, 0, steps)
+            merge_by::<B, Difference>(blocks, summary, others, other_summary, steps)
         }
         Merge::Symmetric => {
-            merge_by::<B, Symmetric>(blocks, summary, others, other_summary, 0, steps)
+            merge_by::<B, Symmetric>(blocks, summary, others, other_summary, steps)
         }
     }
 }

@@ -1,9 +1,9 @@
 // What is found faster by a summary: the ones of the blocks, and the last block that is not 0. Changes nothing.
-ghost use Rattle.std.specs.Prelude.{◌≡◌, ℕ, ◌*◌, ◌^◌, ◌<◌, ◌≤◌, ◌↔◌, All, IsTrue, get_or, length, map, take, drop, ◌≢◌, ◌-◌};
-ghost use Rattle.bit_blocks.specs.Storage.{value_at, ones_in, is_used};
+ghost use Rattle.std.specs.Prelude.{◌≡◌, ℕ, ◌+◌, ◌*◌, ◌^◌, ◌<◌, ◌≤◌, ◌↔◌, All, IsTrue, get_or, length, map, take, drop, ◌≢◌, ◌-◌};
+ghost use Rattle.bit_blocks.specs.{Digits.is_one, Storage.{value_at, ones_in, is_used}};
 ghost use Rattle.bit_words.specs.Summary.{short_count, IsStoredSummary};
 
-use crate::summary::is_short;
+use crate::summary::{is_short, used_from};
 use bit_blocks::block::BitBlock;
 use bit_blocks::block::operators::same;
 use bit_blocks::packed::access::block_at;
@@ -69,7 +69,7 @@ fn ones_of_runs<B: BitBlock>(blocks: &[B], summary: &[B]) -> usize
 
 // How many blocks of a summary come before the first that is 0.
 #[inline]
-fn chunks_before_zero<B: BitBlock>(summary: &[B]) -> usize
+pub(crate) fn chunks_before_zero<B: BitBlock>(summary: &[B]) -> usize
     requires each { All B.is_block summary.now }
     ensures within { result ≤ length summary.now }
     ensures end { get_or (map B.number summary.now) result 0 ≡ 0 }
@@ -84,7 +84,7 @@ fn chunks_before_zero<B: BitBlock>(summary: &[B]) -> usize
 
 // The blocks that the first blocks of a summary are about, or all where there are fewer, and the others.
 #[inline]
-fn first_chunks<B: BitBlock>(blocks: &[B], chunks: usize) -> (&[B], &[B])
+pub(crate) fn first_chunks<B: BitBlock>(blocks: &[B], chunks: usize) -> (&[B], &[B])
     ensures first { result.0.now ≡ take (chunks * B.width) blocks.now }
     ensures rest { result.1.now ≡ drop (chunks * B.width) blocks.now }
 {
@@ -98,6 +98,24 @@ pub(crate) fn first_blocks<B: BitBlock>(blocks: &[B]) -> (&[B], &[B])
     ensures rest { result.1.now ≡ drop B.width blocks.now }
 {
     first_chunks(blocks, 1)
+}
+
+// Which of the blocks that block `q` of a summary is about are not 0: that block, or what it would be where the summary has
+// none, since it is not stored or the blocks end before.
+#[inline]
+pub(crate) fn summary_at<B: BitBlock>(blocks: &[B], summary: &[B], q: usize) -> B
+    requires each { All B.is_block blocks.now }
+    requires summary { IsStoredSummary B.width B.number B.is_block blocks.now summary.now }
+    requires fits { q * B.width < 2 ^ 64 }
+    ensures of_block { B.is_block result }
+    ensures digits { (j : ℕ) → j < B.width
+        → is_one (B.number result) j ≡ is_used (map B.number blocks.now) (q * B.width + j) }
+{
+    if q < summary.len() {
+        block_at(summary, q)
+    } else {
+        used_from(blocks, blocks.len().min(q * B::bits()))
+    }
 }
 
 // How many blocks there are up to the last that is not 0. Where a summary is stored it says among which to look.

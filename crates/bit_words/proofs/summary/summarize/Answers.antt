@@ -27,4 +27,5 @@ used_from-requires-clause-in_bounds g c =
 
 pub returns-clause-summary : goal.returns-clause-summary
 returns-clause-summary g c =
-    summary_of_blocks _ _ _ _ _ g.met.B.BitBlock.width_law.positive c.loop-q.invariant.in_place.each (omega (arith, c.loop-q.invariant.in_place.len)) (omega arith) (λ q j below index. c.loop-q.invariant.done q j (omega arith) (omega arith) index)
+    summary_of_blocks _ _ _ _ _ g.met.B.BitBlock.width_law.positive c.loop-q.invariant.in_place.each (omega (arith, c.loop-q.invariant.in_place.len)) (omega arith)
+    (λ q j below index. c.loop-q.invariant.done q j (omega arith) (omega arith) index)

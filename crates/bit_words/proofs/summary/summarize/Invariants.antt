@@ -4,6 +4,7 @@ use Rattle.bit_words.proofs.summary.summarize.Given as goal
 
 abbrev pub invariant-loop-q : goal.invariant-loop-q
 invariant-loop-q g l = record {
-  done : (q j : ℕ) → 0 ≤ q → q < l.q → j < g.B.BitBlock.width → is_one (get_or (map g.B.BitBlock.number l.summary.items) q 0) j ≡ is_used (map g.B.BitBlock.number l.blocks) (q * g.B.BitBlock.width + j);
+  done : (q j : ℕ) → 0 ≤ q → q < l.q → j < g.B.BitBlock.width
+      → is_one (get_or (map g.B.BitBlock.number l.summary.items) q 0) j ≡ is_used (map g.B.BitBlock.number l.blocks) (q * g.B.BitBlock.width + j);
   in_place : WritesInPlace g.B.BitBlock.is_block l.fn.summary l.summary;
 }

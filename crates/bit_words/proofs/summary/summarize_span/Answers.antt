@@ -1,4 +1,5 @@
-use Rattle.std.proofs.{Common.{◌≡◌, ℕ, ◌+◌, ◌-◌, ◌*◌, ◌/◌, ◌<◌, ◌≤◌, ◌∙◌, ap, get_or, length, map, max, min, vec_len, arith, refl, ⊎_elim, div-lt_iff_lt-mul, lt_of_mul-lt-mul_right}, lemmas.{Bool.cases_eq, List.length-map}}
+use Rattle.std.proofs.Common.{◌≡◌, ℕ, ◌+◌, ◌-◌, ◌*◌, ◌/◌, ◌<◌, ◌≤◌, ◌∙◌, ap, get_or, length, map, max, min, vec_len, arith, refl, ⊎_elim, div-lt_iff_lt-mul, lt_of_mul-lt-mul_right}
+use Rattle.std.proofs.lemmas.{Bool.cases_eq, List.length-map}
 use Rattle.bit_blocks.{specs.{Bits.blocks_for, Digits.is_one}, proofs.{BitsLemmas.{blocks_for-above, whole_before}, ChangeLemmas.{div_le, written_other}}}
 use Rattle.bit_words.proofs.SummarySpanLemmas.{bit_above, bit_below, made_bit}
 use Rattle.bit_words.proofs.summary.summarize_span.{Given.Over, Goals.After-put_block}
@@ -25,7 +26,8 @@ begun g c = whole_before g.B.BitBlock.width c.args.end c.loop-q.q g.met.B.BitBlo
 -- block q of the summary is there
 inside : (g : Over) (c : After-put_block g) → c.loop-q.q < length (map g.B.BitBlock.number c.loop-q.summary.items)
 inside g c =
-    rw length-map (omega (arith, held g.B.BitBlock.width c.args.end c.loop-q.q (vec_len c.args.summary.now) g.met.B.BitBlock.width_law.positive (omega (arith, c.block_count-q-end.ensures)) c.requires.in_summary, c.loop-q.invariant.in_place.len, c.loop-q.summary.ok.0))
+    rw length-map
+    (omega (arith, held g.B.BitBlock.width c.args.end c.loop-q.q (vec_len c.args.summary.now) g.met.B.BitBlock.width_law.positive (omega (arith, c.block_count-q-end.ensures)) c.requires.in_summary, c.loop-q.invariant.in_place.len, c.loop-q.summary.ok.0))
 
 -- what it was
 own_is : (g : Over) (c : After-put_block g) → g.B.BitBlock.number c.block_at-own.result ≡ get_or (map g.B.BitBlock.number c.loop-q.summary.items) c.loop-q.q 0
@@ -55,10 +57,12 @@ loop-q-preserved g c =
           (λ other. written_other w ss _ q _ k put other ∙ c.loop-q.invariant.made k low high (omega arith))
           (cases_eq (k / w) q);
       before = λ k low.
-          bit_below w c.args.first c.args.end q start index c.min-count.result ms ss _ _ pos put (inside g c) begins (start_is g c) at many forward (λ j h. c.with_used_bits.ensures.below j h ∙ ap (λ m. is_one m j) (own_is g c)) k low
+          bit_below w c.args.first c.args.end q start index c.min-count.result ms ss _ _ pos put (inside g c) begins (start_is g c) at many forward
+          (λ j h. c.with_used_bits.ensures.below j h ∙ ap (λ m. is_one m j) (own_is g c)) k low
           ∙ c.loop-q.invariant.before k low;
       after = λ k high.
-          bit_above w c.args.first c.args.end q start index c.min-count.result ms ss _ _ pos put (inside g c) begins (start_is g c) at many forward (λ j h within. c.with_used_bits.ensures.above j h within ∙ ap (λ m. is_one m j) (own_is g c)) k high
+          bit_above w c.args.first c.args.end q start index c.min-count.result ms ss _ _ pos put (inside g c) begins (start_is g c) at many forward
+          (λ j h within. c.with_used_bits.ensures.above j h within ∙ ap (λ m. is_one m j) (own_is g c)) k high
           ∙ c.loop-q.invariant.after k high;
       in_place = grind (arith, c.put_block.ensures.in_place, c.loop-q.invariant.in_place);
     }

@@ -3,14 +3,13 @@ ghost use Rattle.std.specs.Prelude.{◌≡◌, ℕ, ◌+◌, ◌*◌, ◌<◌, �
 ghost use Rattle.bit_blocks.specs.{BlockMerges.{other_at, CanMerge, HasMerged}, Digits.is_one, Storage.is_used};
 ghost use Rattle.bit_words.specs.Summary.{IsStoredSummary};
 
-use crate::summary::merges::merge_chunk;
+use crate::summary::merges::merge_whole;
+use crate::summary::merges::touched::merge_any;
 use crate::summary::{is_short, used_from};
 use bit_blocks::block::BitBlock;
 use bit_blocks::block::merge::Merge;
 use bit_blocks::block::operation::{Difference, Intersection, Operation, Symmetric, Union};
-use bit_blocks::packed::access::{block_at, put_in};
-use bit_blocks::packed::nonzero::block_or_zero;
-use bit_blocks::steps::Steps;
+use bit_blocks::packed::access::put_in;
 
 // The blocks from `start` on and before `end` become their merges with the others of their indexes, or with zeros where
 // there are none.
@@ -27,8 +26,7 @@ fn merge_between<B: BitBlock, O: Operation>(
         blocks.old blocks.new }
 {
     for k in start..end {
-        let merged = O::of_blocks(block_at(blocks, k), block_or_zero(others, k));
-        put_in(blocks, k, merged);
+        let _merged = merge_any::<B, O, &[B]>(blocks, others, k);
     }
 }
 
@@ -47,7 +45,7 @@ fn merge_full_or_part<B: BitBlock, O: Operation>(blocks: &mut [B], others: &[B],
     let width = B::bits();
     let start = q * width;
     if others.len().saturating_sub(start) >= width {
-        return merge_chunk::<B, O>(blocks, others, q, &mut Steps::new());
+        return merge_whole::<B, O, &[B]>(blocks, others, q);
     }
     let count = (blocks.len() - start).min(width);
     merge_between::<B, O>(blocks, others, start, start + count);

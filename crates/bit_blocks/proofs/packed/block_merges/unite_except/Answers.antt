@@ -1,4 +1,4 @@
-use Rattle.std.proofs.{Common.{◌≡◌, ◌+◌, map, length, refl, arith}, lemmas.List.length-map}
+use Rattle.std.proofs.{Common.{map, length, refl, arith}, lemmas.List.length-map}
 use Rattle.bit_blocks.{specs.BlockMerges.except_at, proofs.BlockMergeLemmas.{apart_here, except_none, merged_more, merged_rest, merged_same}}
 use Rattle.bit_blocks.proofs.packed.block_merges.unite_except.Goals as goal
 

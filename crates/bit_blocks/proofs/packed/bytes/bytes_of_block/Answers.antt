@@ -17,5 +17,5 @@ slice_bounds-result-start g c =
     let order : c.args.k * (c.bits-step.result / 8) ≤ c.min-end.result = omega (arith, below g (goal.at.slice_bounds-result-start g c).After-bits-step) in search rules
 
 pub returns-clause-values : goal.returns-clause-values
-returns-clause-values g c =
-    part-values _ _ _ _ _ _ (whole_bytes _ _ g.met.B.BitBlock.width_law c.bits-step.ensures) refl c.min-end.ensures (below g (goal.at.returns-clause-values g c).After-bits-step)
+returns-clause-values g c = λ place.
+    part-values _ _ _ place _ _ _ (whole_bytes _ _ g.met.B.BitBlock.width_law c.bits-step.ensures) refl c.min-end.ensures (below g (goal.at.returns-clause-values g c).After-bits-step)

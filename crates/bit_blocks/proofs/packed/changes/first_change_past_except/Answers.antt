@@ -1,35 +1,20 @@
-use Rattle.std.proofs.{Common.{◌≡◌, ℕ, ◌≤◌, ◌<◌, map, length, get_or, sym, ◌∙◌, arith}, lemmas.{List.length-map, Option.IfSome_then}}
-use Rattle.bit_blocks.{specs.{Digits.is_one, BlockMerges.{apart_at, except_at, other_at}}, proofs.BlockMergeLemmas.{apart_here, none_then, none_where_some, some_not, stay_found, stay_more, stay_part, stay_past_others, stay_rest, stay_same, except_none, where_none}}
+use Rattle.std.proofs.{Common.{◌≤◌, map, length, sym, ◌∙◌, arith}, lemmas.List.{length-map}}
+use Rattle.bit_blocks.{specs.{declared.block.merge.Merge.TheVariants.{Union}, BlockMerges.{except_at, merge_at}}, proofs.BlockMergeLemmas.{apart_here, all_same, except_none, finds_as, finds_further, finds_next, stay_as, stay_past_others}}
 use Rattle.bit_blocks.proofs.packed.changes.first_change_past_except.Goals as goal
-
-pub returns-then-is_some : goal.returns-then-is_some
-returns-then-is_some g c =
-    let os = map g.B.BitBlock.number c.args.others.now in
-    let es = map g.B.BitBlock.number c.args.except.now in
-    let both = c.len-both.result in
-    let found = c.first_changed-found in
-    let here : (k j : ℕ) → k < both → apart_at os es k j ≡ except_at os es k j = λ k j below. apart_here os es k j (omega (arith, length-map c.args.except.now g.B.BitBlock.number)) in
-    record {
-      within = IfSome_then _ {Q = λ first. first ≤ length c.args.others.now} found.ensures.within (λ first within. omega arith);
-      stay = stay_found _ _ _ both _ _ _ _ found.ensures.within found.ensures.stay here;
-      changes = some_not _ _ _ found.ensures.changes (λ all. stay_same _ _ _ 0 both _ _ _ (λ k j _ below _. sym (here k j below)) (stay_part _ _ _ 0 0 both (length c.args.blocks.now) _ _ (omega arith) (omega (arith, c.requires.can.fewer)) all));
-      none = none_where_some _ _ (sym c.is_some.ensures ∙ c.if-is_some.true);
-    }
 
 pub returns : goal.returns
 returns g c =
+    let w = g.B.BitBlock.width in
     let f = g.B.BitBlock.number in
+    let xs = c.args.blocks.now in
     let os = map f c.args.others.now in
     let es = map f c.args.except.now in
     let both = c.len-both.result in
-    let apart = stay_same _ _ _ 0 both _ (except_at os es) _ (λ k j _ below _. apart_here os es k j (omega (arith, length-map c.args.except.now f))) (where_none _ _ (sym c.is_some.ensures ∙ c.if-is_some.false) c.first_changed-found.ensures.none) in
-    let past : (k j : ℕ) → both ≤ k → k < length c.args.others.now → is_one (get_or os k 0) j ≡ except_at os es k j = λ k j from below. except_none os es k j (omega (arith, length-map c.args.except.now f)) in
-    record {
-      within = c.first_changed.ensures.within;
-      stay = stay_rest _ _ _ both (length c.args.others.now) _ _ _ _ c.first_changed.ensures.within c.first_changed.ensures.stay apart past;
-      changes = some_not _ _ _ c.first_changed.ensures.changes (λ all.
-          stay_same _ _ _ both _ (except_at os es) (other_at os) _ (λ k j from below _. sym (past k j from below)) (stay_part _ _ _ 0 both _ (length c.args.blocks.now) _ _ (omega arith) (omega (arith, c.requires.can.fewer)) all));
-      none = none_then _ _ _ c.first_changed.ensures.none (λ stay.
-          stay_past_others _ f 0 (length c.args.others.now) _ os es _ (omega (arith, length-map c.args.others.now f))
-          (stay_more _ _ _ 0 both _ _ _ apart (stay_same _ _ _ both _ (other_at os) (except_at os es) _ (λ k j from below _. past k j from below) stay)));
-    }
+    let end = length c.args.others.now in
+    let goal_at = except_at os es in
+    let short : both ≤ end = omega arith in
+    let first = all_same w f 0 both _ xs _ (sym c.is_some.ensures ∙ c.if-is_some.false) (finds_as w f 0 both _ (merge_at Union f xs goal_at) xs _ (omega arith) (stay_as Union w f 0 both _ goal_at xs (λ k j _ below _. apart_here os es k j (omega (arith, length-map c.args.except.now f)))) c.changing_place-found.ensures) in
+    let second = finds_as w f both end _ (merge_at Union f xs goal_at) xs _ short (stay_as Union w f both end _ goal_at xs (λ k j from below _. except_none os es k j (omega (arith, from, below, length-map c.args.except.now f)))) c.changing_place.ensures in
+    let next = finds_next w f 0 both end _ xs _ (omega arith) first second in
+    let all = finds_further w f 0 end (length xs) _ xs _ c.requires.can.fewer (stay_past_others w f end (length xs) os es xs (omega (arith, length-map c.args.others.now f))) next in
+    record { within = next.within; stay = all.same; changes = all.differs; none = all.none }

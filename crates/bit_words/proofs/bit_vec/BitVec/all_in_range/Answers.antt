@@ -20,6 +20,7 @@ span_merges_to_false-requires g c =
 
 pub returns : goal.returns
 returns g c =
-    let zero : IsTrue c.span_merges_to_false.result ↔ MergesSpanToFalse Difference g.B.BitBlock.width c.args.range.start c.args.range.end (map g.B.BitBlock.number c.self.inside.blocks.items) = rw c.deref.ensures.value at c.span_merges_to_false.ensures in
+    let zero : IsTrue c.span_merges_to_false.result ↔ MergesSpanToFalse Difference g.B.BitBlock.width c.args.range.start c.args.range.end
+    (map g.B.BitBlock.number c.self.inside.blocks.items) = rw c.deref.ensures.value at c.span_merges_to_false.ensures in
     let all = all_in_view _ c.args.range.start c.args.range.end _ _ _ _ c.self.view_is c.self.invariant.packed.tail in
     (λ yes. all.0 (zero.0 yes), λ each. zero.1 (all.1 each))

@@ -23,6 +23,7 @@ span_merges_to_false-requires g c =
 
 pub returns : goal.returns
 returns g c =
-    let zero : IsTrue c.span_merges_to_false.result ↔ MergesSpanToFalse Intersection g.B.BitBlock.width c.args.range.start c.min-end.result (map g.B.BitBlock.number c.self.inside.blocks.items) = rw c.deref.ensures.value at c.span_merges_to_false.ensures in
+    let zero : IsTrue c.span_merges_to_false.result ↔ MergesSpanToFalse Intersection g.B.BitBlock.width c.args.range.start c.min-end.result
+    (map g.B.BitBlock.number c.self.inside.blocks.items) = rw c.deref.ensures.value at c.span_merges_to_false.ensures in
     let none = none_in_view _ c.args.range.start c.args.range.end _ _ c.min-end.result _ _ c.self.view_is c.self.invariant.packed.tail c.min-end.ensures in
     (λ no. none.0 (zero.0 (was _ no)), λ each. ap not (zero.1 (none.1 each)))

@@ -7,4 +7,5 @@ pub returns-clause-fits : goal.returns-clause-fits
 returns-clause-fits g c = stored_within_capacity _ _ _ _ _ _ _ _ _ g.met.B.BitBlock.width_law.positive c.self.invariant (omega arith) (omega arith) c.self.view_is
 
 pub returns-clause-whole : goal.returns-clause-whole
-returns-clause-whole g c = is_capacity_of_blocks _ _ _ _ _ _ _ c.self.invariant.packed (stored_within _ _ _ _ _ _ _ _ g.met.B.BitBlock.width_law.positive c.self.invariant (omega arith) (omega arith)) c.self.view_is
+returns-clause-whole g c = is_capacity_of_blocks _ _ _ _ _ _ _ c.self.invariant.packed
+    (stored_within _ _ _ _ _ _ _ _ g.met.B.BitBlock.width_law.positive c.self.invariant (omega arith) (omega arith)) c.self.view_is

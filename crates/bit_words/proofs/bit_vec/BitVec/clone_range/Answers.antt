@@ -31,7 +31,8 @@ invariant_of-result g c =
     let taken = blocks_taken g.B.BitBlock.width c.args.range.end c.self.inside.len c.block_count-count.result c.self.inside.blocks.items g.met.B.BitBlock.width_law.positive within c.self.invariant.packed.count c.block_count-count.ensures in
     let long = (rw c.deref.ensures.value at c.in_ok-blocks.ensures.len) ∙ taken in
     record {
-      packed = part_packed g.B.BitBlock.width c.args.range.start c.args.range.end g.B.BitBlock.number g.B.BitBlock.is_block c.in_ok-blocks.blocks.items c.clear_from.new.blocks.items (omega (arith, within, c.self.invariant.packed.fits)) c.clear_from.ensures.in_place.each (omega (arith, c.clear_from.ensures.in_place.len, long)) c.clear_from.ensures.values;
+      packed = part_packed g.B.BitBlock.width c.args.range.start c.args.range.end g.B.BitBlock.number g.B.BitBlock.is_block c.in_ok-blocks.blocks.items c.clear_from.new.blocks.items
+          (omega (arith, within, c.self.invariant.packed.fits)) c.clear_from.ensures.in_place.each (omega (arith, c.clear_from.ensures.in_place.len, long)) c.clear_from.ensures.values;
       summary = rw c.deref-2.ensures.value at c.in_ok-summary.ensures.summary;
       start = λ _. false_before_none _ _;
     }

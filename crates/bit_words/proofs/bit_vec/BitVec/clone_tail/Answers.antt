@@ -30,12 +30,14 @@ copy_summary_from-requires g c =
           tail_unused w c.args.at q _ (map f c.in_ok-blocks.blocks.items) (below _ law copied.each q) copied.values (omega (arith, before, c.block_index.ensures));
       after = λ long q after.
           (c.self.invariant.summary.long (omega (arith, long, len))).digit q
-          ∙ tail_kept w c.args.at q (map f c.self.inside.blocks.items) (map f c.in_ok-blocks.blocks.items) pos (below _ law c.self.invariant.packed.each q) (below _ law copied.each q) kept (omega (arith, after, c.block_index.ensures));
+          ∙ tail_kept w c.args.at q (map f c.self.inside.blocks.items) (map f c.in_ok-blocks.blocks.items) pos (below _ law c.self.invariant.packed.each q) (below _ law copied.each q) kept
+          (omega (arith, after, c.block_index.ensures));
     })
 
 pub invariant_of-result : goal.invariant_of-result
 invariant_of-result g c = record {
-  packed = tail_packed g.B.BitBlock.width _ c.args.at g.B.BitBlock.number _ c.self.inside.blocks.items _ c.self.invariant.packed c.in_ok-blocks.ensures.each (omega (arith, c.in_ok-blocks.ensures.len, c.deref.ensures.len)) (rw c.deref.ensures.value at c.in_ok-blocks.ensures.values);
+  packed = tail_packed g.B.BitBlock.width _ c.args.at g.B.BitBlock.number _ c.self.inside.blocks.items _ c.self.invariant.packed c.in_ok-blocks.ensures.each
+      (omega (arith, c.in_ok-blocks.ensures.len, c.deref.ensures.len)) (rw c.deref.ensures.value at c.in_ok-blocks.ensures.values);
   summary = rw c.deref-3.ensures.value at c.in_ok-summary.ensures.summary;
   start = λ _. false_before_none _ _;
 }

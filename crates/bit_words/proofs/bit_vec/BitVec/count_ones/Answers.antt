@@ -5,7 +5,8 @@ use Rattle.bit_words.proofs.bit_vec.BitVec.count_ones.Goals.{After-self}
 use Rattle.bit_words.proofs.bit_vec.BitVec.count_ones.Goals as goal
 
 -- the ones of the blocks are the true values
-ones : (g : Over) (c : After-self g) → ones_in g.B.BitBlock.number c.self.inside.blocks.items ≡ count_by (λ value. value) (values_of g.B.BitBlock.width (map g.B.BitBlock.number c.self.inside.blocks.items) c.self.inside.len)
+ones : (g : Over) (c : After-self g)
+    → ones_in g.B.BitBlock.number c.self.inside.blocks.items ≡ count_by (λ value. value) (values_of g.B.BitBlock.width (map g.B.BitBlock.number c.self.inside.blocks.items) c.self.inside.len)
 ones g c =
     let pos = g.met.B.BitBlock.width_law.positive in
     ones_in-values g.B.BitBlock.number _ _ _ pos (packed_blocks _ _ _ _ _ pos (λ x is. (g.met.B.BitBlock.number_law x is).0) c.self.invariant.packed)

@@ -12,7 +12,9 @@ used : (g : Over) (c : After-used_by_summary-count g) → blocks_for g.B.BitBloc
 used g c =
     let f = g.B.BitBlock.number in
     let w = g.B.BitBlock.width in
-    used_blocks-true_end w (map f c.self.inside.blocks.items) c.used_by_summary-count.result c.args.self.now.values g.met.B.BitBlock.width_law.positive (numbers_below w f _ _ (λ x is. (g.met.B.BitBlock.number_law x is).0) c.self.invariant.packed.each) (value_in_view _ _ _ _ _ c.self.view_is c.self.invariant.packed.tail) (rw c.deref.ensures.value at c.used_by_summary-count.ensures.zeros) (rw c.deref.ensures.value at c.used_by_summary-count.ensures.last)
+    used_blocks-true_end w (map f c.self.inside.blocks.items) c.used_by_summary-count.result c.args.self.now.values g.met.B.BitBlock.width_law.positive
+    (numbers_below w f _ _ (λ x is. (g.met.B.BitBlock.number_law x is).0) c.self.invariant.packed.each) (value_in_view _ _ _ _ _ c.self.view_is c.self.invariant.packed.tail)
+    (rw c.deref.ensures.value at c.used_by_summary-count.ensures.zeros) (rw c.deref.ensures.value at c.used_by_summary-count.ensures.last)
 
 pub used_by_summary-count-requires : goal.used_by_summary-count-requires
 used_by_summary-count-requires g c = record {
@@ -55,12 +57,14 @@ invariant_of-self g c =
       packed = record {
         each = c.truncate_blocks.ensures.each;
         count = omega arith;
-        tail = zero_tail_cut w c.used_by_summary-count.result (map g.B.BitBlock.number c.self.inside.blocks.items) _ c.in-Some.len g.met.B.BitBlock.width_law.positive len c.truncate_blocks.ensures.numbers;
+        tail = zero_tail_cut w c.used_by_summary-count.result
+            (map g.B.BitBlock.number c.self.inside.blocks.items) _ c.in-Some.len g.met.B.BitBlock.width_law.positive len c.truncate_blocks.ensures.numbers;
         fits = omega (arith, c.in-Some.ensures);
       };
       summary = rw c.deref-3.ensures.value at c.cut_summary.ensures.summary;
       start = λ many.
-          false_before_less _ _ _ _ (λ i none. value_at-cut w c.used_by_summary-count.result (map g.B.BitBlock.number c.self.inside.blocks.items) _ c.truncate_blocks.ensures.numbers (rw c.deref.ensures.value at c.used_by_summary-count.ensures.zeros) i ∙ none) (c.self.invariant.start (omega (arith, many, c.truncate_blocks.ensures.len, c.used_by_summary-count.ensures)));
+          false_before_less _ _ _ _
+          (λ i none. value_at-cut w c.used_by_summary-count.result (map g.B.BitBlock.number c.self.inside.blocks.items) _ c.truncate_blocks.ensures.numbers (rw c.deref.ensures.value at c.used_by_summary-count.ensures.zeros) i ∙ none) (c.self.invariant.start (omega (arith, many, c.truncate_blocks.ensures.len, c.used_by_summary-count.ensures)));
     }
 
 pub returns : goal.returns

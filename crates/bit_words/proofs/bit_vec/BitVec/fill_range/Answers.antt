@@ -1,5 +1,6 @@
 use Rattle.std.proofs.Common.{◌≡◌, ℕ, List, ◌∙◌, Bool, true, false, refl, sym, ap, arith}
-use Rattle.bit_blocks.{specs.{declared.block.merge.Merge.TheVariants.{Difference, Union}, BlockMerges.IsMergedSpan, Merges.merge_of_values, Ranges.changed_in_range, Storage.value_at}, proofs.VectorLemmas.length_from_view}
+use Rattle.bit_blocks.specs.{declared.block.merge.Merge.TheVariants.{Difference, Union}, BlockMerges.IsMergedSpan, Merges.merge_of_values, Ranges.changed_in_range, Storage.value_at}
+use Rattle.bit_blocks.proofs.VectorLemmas.{length_from_view}
 use Rattle.bit_words.proofs.{RangeLemmas.{changed-none, values_of-changed}, SameCapacity.same_capacity, SummarySpanLemmas.{end_in_blocks, span_packed}}
 use Rattle.bit_words.proofs.StartLemmas.{false_before_less, false_before_none}
 use Rattle.bit_words.proofs.bit_vec.BitVec.fill_range.Goals as goal
@@ -17,7 +18,8 @@ less w a b ms ns span i none = grind (arith, span.inside i, span.before i, span.
 pub fill_span-requires : goal.fill_span-requires
 fill_span-requires g c = record {
   some = c.if-range.false;
-  within = end_in_blocks _ _ c.self.inside.len _ _ c.self.inside.blocks g.met.B.BitBlock.width_law.positive (omega (arith, length_from_view _ _ _ _ _ c.self.view_is, c.requires c.if-range.false)) c.self.invariant.packed;
+  within = end_in_blocks _ _ c.self.inside.len _ _ c.self.inside.blocks g.met.B.BitBlock.width_law.positive
+      (omega (arith, length_from_view _ _ _ _ _ c.self.view_is, c.requires c.if-range.false)) c.self.invariant.packed;
   each = c.self.invariant.packed.each;
   keeps = refl;
   fills = λ x. set true x refl;
@@ -27,7 +29,8 @@ fill_span-requires g c = record {
 pub fill_span-requires-else-bit : goal.fill_span-requires-else-bit
 fill_span-requires-else-bit g c = record {
   some = c.if-range.false;
-  within = end_in_blocks _ _ c.self.inside.len _ _ c.self.inside.blocks g.met.B.BitBlock.width_law.positive (omega (arith, length_from_view _ _ _ _ _ c.self.view_is, c.requires c.if-range.false)) c.self.invariant.packed;
+  within = end_in_blocks _ _ c.self.inside.len _ _ c.self.inside.blocks g.met.B.BitBlock.width_law.positive
+      (omega (arith, length_from_view _ _ _ _ _ c.self.view_is, c.requires c.if-range.false)) c.self.invariant.packed;
   each = c.self.invariant.packed.each;
   keeps = refl;
   fills = λ x. cleared false x refl;
@@ -36,26 +39,30 @@ fill_span-requires-else-bit g c = record {
 
 pub invariant_of-self : goal.invariant_of-self
 invariant_of-self g c = record {
-  packed = span_packed _ _ _ _ _ _ _ c.self.inside.blocks c.fill_span.new.blocks (omega (arith, length_from_view _ _ _ _ _ c.self.view_is, c.requires c.if-range.false)) c.self.invariant.packed c.fill_span.ensures.span c.fill_span.ensures.in_place;
+  packed = span_packed _ _ _ _ _ _ _ c.self.inside.blocks c.fill_span.new.blocks
+      (omega (arith, length_from_view _ _ _ _ _ c.self.view_is, c.requires c.if-range.false)) c.self.invariant.packed c.fill_span.ensures.span c.fill_span.ensures.in_place;
   summary = c.fill_span.ensures.summary;
   start = λ _. false_before_none _ _;
 }
 
 pub invariant_of-self-else-bit : goal.invariant_of-self-else-bit
 invariant_of-self-else-bit g c = record {
-  packed = span_packed _ _ _ _ _ _ _ c.self.inside.blocks c.fill_span-else-bit.new.blocks (omega (arith, length_from_view _ _ _ _ _ c.self.view_is, c.requires c.if-range.false)) c.self.invariant.packed c.fill_span-else-bit.ensures.span c.fill_span-else-bit.ensures.in_place;
+  packed = span_packed _ _ _ _ _ _ _ c.self.inside.blocks c.fill_span-else-bit.new.blocks
+      (omega (arith, length_from_view _ _ _ _ _ c.self.view_is, c.requires c.if-range.false)) c.self.invariant.packed c.fill_span-else-bit.ensures.span c.fill_span-else-bit.ensures.in_place;
   summary = c.fill_span-else-bit.ensures.summary;
   start = λ many. false_before_less _ _ _ _ (less _ _ _ _ _ c.fill_span-else-bit.ensures.span) (c.self.invariant.start (omega (arith, many, c.fill_span-else-bit.ensures.in_place.len)));
 }
 
 pub returns-then-bit-clause-values : goal.returns-then-bit-clause-values
 returns-then-bit-clause-values g c =
-    values_of-changed _ (λ _. c.args.bit) _ _ _ _ _ _ (λ x. set c.args.bit x c.if-bit.true) (omega (arith, length_from_view _ _ _ _ _ c.self.view_is, c.requires c.if-range.false)) c.fill_span.ensures.span
+    values_of-changed _ (λ _. c.args.bit) _ _ _ _ _ _ (λ x. set c.args.bit x c.if-bit.true)
+    (omega (arith, length_from_view _ _ _ _ _ c.self.view_is, c.requires c.if-range.false)) c.fill_span.ensures.span
     ∙ ap (λ v. changed_in_range (λ _. c.args.bit) c.args.range.start c.args.range.end v.values) c.self.view_is
 
 pub returns-else-bit-clause-values : goal.returns-else-bit-clause-values
 returns-else-bit-clause-values g c =
-    values_of-changed _ (λ _. c.args.bit) _ _ _ _ _ _ (λ x. cleared c.args.bit x c.if-bit.false) (omega (arith, length_from_view _ _ _ _ _ c.self.view_is, c.requires c.if-range.false)) c.fill_span-else-bit.ensures.span
+    values_of-changed _ (λ _. c.args.bit) _ _ _ _ _ _ (λ x. cleared c.args.bit x c.if-bit.false)
+    (omega (arith, length_from_view _ _ _ _ _ c.self.view_is, c.requires c.if-range.false)) c.fill_span-else-bit.ensures.span
     ∙ ap (λ v. changed_in_range (λ _. c.args.bit) c.args.range.start c.args.range.end v.values) c.self.view_is
 
 pub returns-then-range : goal.returns-then-range

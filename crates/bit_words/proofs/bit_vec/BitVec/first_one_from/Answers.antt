@@ -12,4 +12,5 @@ first_one_by_summary-requires g c = record {
 pub returns : goal.returns
 returns g c =
     let ms = map g.B.BitBlock.number c.self.inside.blocks.items in
-    finds_from_same (value_at g.B.BitBlock.width ms) (λ i. get_or c.args.self.now.values i false) _ _ (λ i. sym (value_in_view _ _ _ ms _ c.self.view_is c.self.invariant.packed.tail i)) (rw c.deref.ensures.value at c.first_one_by_summary.ensures)
+    finds_from_same (value_at g.B.BitBlock.width ms) (λ i. get_or c.args.self.now.values i false) _ _ (λ i. sym (value_in_view _ _ _ ms _ c.self.view_is c.self.invariant.packed.tail i))
+    (rw c.deref.ensures.value at c.first_one_by_summary.ensures)

@@ -14,7 +14,8 @@ returns-then-n-self-clause-first g c =
 pub returns-clause-first : goal.returns-clause-first
 returns-clause-first g c =
     let ms = map g.B.BitBlock.number c.self.inside.blocks.items in
-    finds_from_same (λ i. not (value_at g.B.BitBlock.width ms i)) (λ i. not (get_or c.args.self.now.values i false)) _ (Some c.first_zero.result) (λ i. ap not (sym (value_in_view _ _ _ ms _ c.self.view_is c.self.invariant.packed.tail i)))
+    finds_from_same (λ i. not (value_at g.B.BitBlock.width ms i)) (λ i. not (get_or c.args.self.now.values i false)) _ (Some c.first_zero.result)
+    (λ i. ap not (sym (value_in_view _ _ _ ms _ c.self.view_is c.self.invariant.packed.tail i)))
     (rw c.deref.ensures.value at c.first_zero.ensures)
 
 pub returns-clause-within : goal.returns-clause-within

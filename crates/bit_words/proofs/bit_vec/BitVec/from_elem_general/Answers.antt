@@ -36,7 +36,9 @@ uniform_summary-requires g c =
     rw c.deref.ensures.value (record {
       blocks = packed.each;
       uniform = λ k within.
-          use_of_values w c.args.n k (map f c.in_ok-blocks.blocks.items) c.args.bit g.met.B.BitBlock.width_law.positive (numbers_below w f _ _ (λ x is. (g.met.B.BitBlock.number_law x is).0) packed.each k) (omega (arith, packed.count)) (λ i from inside. c.in_ok-blocks.ensures.filled i inside) packed.tail.zero_tail;
+          use_of_values w c.args.n k (map f c.in_ok-blocks.blocks.items) c.args.bit g.met.B.BitBlock.width_law.positive
+          (numbers_below w f _ _ (λ x is. (g.met.B.BitBlock.number_law x is).0) packed.each k) (omega (arith, packed.count))
+          (λ i from inside. c.in_ok-blocks.ensures.filled i inside) packed.tail.zero_tail;
     })
 
 pub invariant_of-result : goal.invariant_of-result
@@ -51,7 +53,8 @@ returns g c =
     let w = g.B.BitBlock.width in
     let packed = c.in_ok-blocks.ensures.packed in
     let summary = rw (c.deref.ensures.value, packed.count) at c.in_ok-summary.ensures.capacity in
-    let whole : shared_capacity w (vec_capacity c.in_ok-blocks.blocks) (vec_capacity c.in_ok-summary.summary) ≡ blocks_for w c.args.n = shared_whole w _ _ _ g.met.B.BitBlock.width_law.positive c.in_ok-blocks.ensures.capacity summary in
+    let whole : shared_capacity w (vec_capacity c.in_ok-blocks.blocks)
+    (vec_capacity c.in_ok-summary.summary) ≡ blocks_for w c.args.n = shared_whole w _ _ _ g.met.B.BitBlock.width_law.positive c.in_ok-blocks.ensures.capacity summary in
     record {
       values = values_of-replicate _ _ _ _ c.in_ok-blocks.ensures.filled;
       holds_values = rw whole (le-capacity_of w (blocks_for w c.args.n) c.args.n g.met.B.BitBlock.width_law.positive packed.fits (omega arith));

@@ -22,7 +22,8 @@ invariant_of-self g c =
 
 pub returns-then-block_count-len : goal.returns-then-block_count-len
 returns-then-block_count-len g c =
-    let enough = stored_within g.B.BitBlock.width _ (vec_capacity c.self.inside.blocks) (vec_capacity c.self.inside.summary) _ _ _ _ g.met.B.BitBlock.width_law.positive c.self.invariant (omega arith) (omega arith) in
+    let enough = stored_within g.B.BitBlock.width _ (vec_capacity c.self.inside.blocks) (vec_capacity c.self.inside.summary) _ _ _ _ g.met.B.BitBlock.width_law.positive c.self.invariant
+    (omega arith) (omega arith) in
     record {
       ok =
           values_of-append _ _ _ _ _ c.args.bit (λ i _. refl) (λ i past _. c.self.invariant.packed.tail.zero_tail i past ∙ sym c.if-not-bit.true)

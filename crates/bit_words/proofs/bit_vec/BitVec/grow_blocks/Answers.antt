@@ -55,14 +55,16 @@ append_to_summary-requires g c =
 pub returns : goal.returns
 returns g c =
     let w = g.B.BitBlock.width in
-    let kept : shared_capacity w (vec_capacity c.append_bits.new.blocks) (vec_capacity c.append_to_summary.new.summary) ≡ shared_capacity w (vec_capacity c.reserve_shared.new.blocks) (vec_capacity c.reserve_shared.new.summary) = ap₂ (shared_capacity w) c.append_bits.ensures.capacity (c.append_to_summary.ensures.capacity ∙ c.store_summary.ensures.capacity) in
+    let kept : shared_capacity w (vec_capacity c.append_bits.new.blocks) (vec_capacity c.append_to_summary.new.summary) ≡ shared_capacity w (vec_capacity c.reserve_shared.new.blocks)
+    (vec_capacity c.reserve_shared.new.summary) = ap₂ (shared_capacity w) c.append_bits.ensures.capacity (c.append_to_summary.ensures.capacity ∙ c.store_summary.ensures.capacity) in
     record {
       ok =
           values_of-append _ _ _ _ _ _ (rw c.reserve_shared.ensures.items at c.append_bits.ensures.kept) c.append_bits.ensures.added
           ∙ ap (λ v. v.values ++ replicate c.args.n c.args.bit) c.self.view_is;
       grows =
           Grows-blocks _ _ _ _ _ _ _ _ _ _ _ _ _ _ _ g.met.B.BitBlock.width_law.positive c.self.invariant (omega arith) (omega arith) c.self.view_is
-          (omega (arith, c.requires)) c.block_count-count.ensures (omega (arith, length_from_view _ _ _ _ _ c.self.view_is)) (ap (capacity_of w) kept) tt c.in_ok-reserve_shared.ensures.capacity.reserves;
+          (omega (arith, c.requires)) c.block_count-count.ensures (omega (arith, length_from_view _ _ _ _ _ c.self.view_is))
+          (ap (capacity_of w) kept) tt c.in_ok-reserve_shared.ensures.capacity.reserves;
     }
 
 pub invariant_of-self : goal.invariant_of-self
@@ -87,5 +89,7 @@ invariant_of-self-2 g c =
       packed = c.append_bits.ensures.packed;
       summary = rw c.deref-2.ensures.value at c.append_to_summary.ensures.summary;
       start = λ _.
-          grown_start _ _ _ _ _ _ _ c.start_after_growth-self-inside.ensures.stays (rw c.reserve_shared.ensures.items at c.append_bits.ensures.kept) c.append_bits.ensures.added c.append_bits.ensures.packed.tail (λ many. c.self.invariant.start (omega (arith, many, c.deref.ensures.len, items)));
+          grown_start _ _ _ _ _ _ _ c.start_after_growth-self-inside.ensures.stays
+          (rw c.reserve_shared.ensures.items at c.append_bits.ensures.kept) c.append_bits.ensures.added c.append_bits.ensures.packed.tail
+          (λ many. c.self.invariant.start (omega (arith, many, c.deref.ensures.len, items)));
     }

@@ -7,14 +7,16 @@ use Rattle.bit_words.proofs.bit_vec.BitVec.negate_range.Goals as goal
 pub negate_span-requires : goal.negate_span-requires
 negate_span-requires g c = record {
   some = c.if-range.true;
-  within = end_in_blocks _ _ c.self.inside.len _ _ c.self.inside.blocks g.met.B.BitBlock.width_law.positive (omega (arith, length_from_view _ _ _ _ _ c.self.view_is, c.requires c.if-range.true)) c.self.invariant.packed;
+  within = end_in_blocks _ _ c.self.inside.len _ _ c.self.inside.blocks g.met.B.BitBlock.width_law.positive
+      (omega (arith, length_from_view _ _ _ _ _ c.self.view_is, c.requires c.if-range.true)) c.self.invariant.packed;
   each = c.self.invariant.packed.each;
   summary = c.self.invariant.summary;
 }
 
 pub invariant_of-self : goal.invariant_of-self
 invariant_of-self g c = record {
-  packed = span_packed _ _ _ _ _ _ _ c.self.inside.blocks c.negate_span.new.blocks (omega (arith, length_from_view _ _ _ _ _ c.self.view_is, c.requires c.if-range.true)) c.self.invariant.packed c.negate_span.ensures.span c.negate_span.ensures.in_place;
+  packed = span_packed _ _ _ _ _ _ _ c.self.inside.blocks c.negate_span.new.blocks
+      (omega (arith, length_from_view _ _ _ _ _ c.self.view_is, c.requires c.if-range.true)) c.self.invariant.packed c.negate_span.ensures.span c.negate_span.ensures.in_place;
   summary = c.negate_span.ensures.summary;
   start = λ _. false_before_none _ _;
 }

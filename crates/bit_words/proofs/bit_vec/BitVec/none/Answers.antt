@@ -9,5 +9,6 @@ returns g c =
     let zeros = rw c.deref.ensures.value at c.are_zero_by_summary.ensures in
     rw (← c.self.view_is) (
       λ none. all_false_from_zero w c.self.inside.len f xs (zeros.0 none),
-      λ falses. zeros.1 (zero_from_all_false w c.self.inside.len f g.B.BitBlock.is_block xs g.met.B.BitBlock.width_law.positive (λ x is. (g.met.B.BitBlock.number_law x is).0) c.self.invariant.packed falses),
+      λ falses. zeros.1
+          (zero_from_all_false w c.self.inside.len f g.B.BitBlock.is_block xs g.met.B.BitBlock.width_law.positive (λ x is. (g.met.B.BitBlock.number_law x is).0) c.self.invariant.packed falses),
     )

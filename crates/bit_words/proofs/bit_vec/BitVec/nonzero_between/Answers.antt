@@ -14,7 +14,8 @@ first_is : (g : _) (c : After-between g) → c.min.result ≡ min c.args.first (
 first_is g c =
     let number = g.B.BitBlock.number in
     let blocks = c.between.result.0.blocks in
-    let count : length c.storage.result.now ≡ length blocks = sym (length-map c.storage.result.now number) ∙ ap length (c.storage.ensures.numbers ∙ sym c.between.ensures.blocks) ∙ length-map blocks number in
+    let count : length c.storage.result.now ≡ length blocks = sym (length-map c.storage.result.now number) ∙ ap length (c.storage.ensures.numbers ∙ sym c.between.ensures.blocks)
+    ∙ length-map blocks number in
     omega (arith, count, c.min.ensures, c.saturating_sub-end.ensures)
 
 pub returns-clause-cut : goal.returns-clause-cut

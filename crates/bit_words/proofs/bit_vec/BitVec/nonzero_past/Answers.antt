@@ -11,6 +11,7 @@ after-requires g c =
 pub returns-clause-start : goal.returns-clause-start
 returns-clause-start g c =
     let number = g.B.BitBlock.number in
-    let count : length c.storage.result.now ≡ length c.after.result.blocks = sym (length-map c.storage.result.now number) ∙ ap length (c.storage.ensures.numbers ∙ sym c.after.ensures.blocks) ∙ length-map c.after.result.blocks number in
+    let count : length c.storage.result.now ≡ length c.after.result.blocks = sym (length-map c.storage.result.now number)
+    ∙ ap length (c.storage.ensures.numbers ∙ sym c.after.ensures.blocks) ∙ length-map c.after.result.blocks number in
     let first : c.min.result ≡ min c.args.index (length c.after.result.blocks - 1) = omega (arith, count, c.min.ensures, c.saturating_sub-last.ensures) in
     subst (λ k. StartsPast g.B.BitBlock.width number k c.after.result) first c.after.ensures.start

@@ -27,7 +27,8 @@ many g c =
     omega (arith, long)
 
 -- and the block is in one of its blocks
-in_chunks : (g : Over) (c : Else-is_short g) → c.args.i / g.B.BitBlock.width < length c.self.inside.blocks.items → c.args.i / g.B.BitBlock.width / g.B.BitBlock.width < length c.self.inside.summary.items
+in_chunks : (g : Over) (c : Else-is_short g) → c.args.i / g.B.BitBlock.width < length c.self.inside.blocks.items
+    → c.args.i / g.B.BitBlock.width / g.B.BitBlock.width < length c.self.inside.summary.items
 in_chunks g c inside =
     let above = blocks_for-above g.B.BitBlock.width (length c.self.inside.blocks.items) (c.args.i / g.B.BitBlock.width) g.met.B.BitBlock.width_law.positive inside in
     omega (arith, above, (c.self.invariant.summary.long (many g c)).packed.count)
@@ -45,7 +46,8 @@ invariant_of-self g c =
     let value = c.replace_bit.ensures.value in
     let in_place = c.replace_bit.ensures.in_place in
     record {
-      packed = replaced_packed g.B.BitBlock.width c.self.inside.len c.args.i g.B.BitBlock.number g.B.BitBlock.is_block c.self.inside.blocks c.replace_bit.new.blocks _ (in_list g (goal.at.invariant_of-self g c).After-self) c.self.invariant.packed value in_place;
+      packed = replaced_packed g.B.BitBlock.width c.self.inside.len c.args.i g.B.BitBlock.number g.B.BitBlock.is_block c.self.inside.blocks c.replace_bit.new.blocks _
+          (in_list g (goal.at.invariant_of-self g c).After-self) c.self.invariant.packed value in_place;
       summary = keeps_none _ _ _ _ _ (omega arith) (c.self.invariant.summary.short few);
       start = λ many. absurd (omega (arith, many, few, in_place.len));
     }
@@ -107,10 +109,12 @@ invariant_of-self-2 g c =
     let long = many g at.Else-is_short in
     let was = c.replace_bit-was.ensures in
     record {
-      packed = replaced_packed w c.self.inside.len c.args.i g.B.BitBlock.number g.B.BitBlock.is_block c.self.inside.blocks c.replace_bit-was.new.blocks _ (in_list g at.After-self) c.self.invariant.packed was.value was.in_place;
+      packed = replaced_packed w c.self.inside.len c.args.i g.B.BitBlock.number g.B.BitBlock.is_block c.self.inside.blocks c.replace_bit-was.new.blocks _
+          (in_list g at.After-self) c.self.invariant.packed was.value was.in_place;
       summary = keeps_all _ _ _ _ _ (omega arith) (
           changed_summary w c.args.i c.block_index-k.result _ _ g.B.BitBlock.number g.B.BitBlock.is_block c.self.inside.blocks c.replace_bit-was.new.blocks c.self.inside.summary c.update_summary_bit.new.summary g.met.B.BitBlock.width_law.positive (λ x is. (g.met.B.BitBlock.number_law x is).0)
-          c.self.invariant.packed.each c.block_index-k.ensures (omega (arith, inside)) was.value was.in_place (c.self.invariant.summary.long long) (ap (λ m. not (m == 0)) number) c.update_summary_bit.ensures.value c.update_summary_bit.ensures.in_place);
+          c.self.invariant.packed.each c.block_index-k.ensures (omega (arith, inside)) was.value was.in_place (c.self.invariant.summary.long long)
+          (ap (λ m. not (m == 0)) number) c.update_summary_bit.ensures.value c.update_summary_bit.ensures.in_place);
       start = λ _.
           let chunk = rw c.block_index-k.ensures at c.block_index-chunk.ensures in
           false_before_written _ _ _ _ _ _ _ _ chunk was.value c.follow_one.ensures.back c.follow_one.ensures.reached (c.self.invariant.start long);

@@ -12,8 +12,10 @@ own_capacity g c =
     let len : c.len.result ≡ count = omega (arith, ap length c.shrink_shared_capacity.ensures.items, c.self.invariant.packed.count) in
     c.saturating_mul.ensures ∙ ap (λ n. min (n * c.bits.result) (2 ^ 64 - 1)) len ∙ ap (λ n. min (count * n) (2 ^ 64 - 1)) c.bits.ensures
 
-lowered : (g : Over) (c : After-shrink_shared_capacity g) → capacity_of g.B.BitBlock.width (shared_capacity g.B.BitBlock.width (vec_capacity c.shrink_shared_capacity.new.blocks) (vec_capacity c.shrink_shared_capacity.new.summary)) ≤ c.args.self.now.capacity
-lowered g c = rw (capacity_from_view _ _ _ c.self.view_is) (capacity_le g.B.BitBlock.width _ _ (shared_le g.B.BitBlock.width _ _ _ _ c.shrink_shared_capacity.ensures.capacity c.shrink_shared_capacity.ensures.summary_capacity))
+lowered : (g : Over) (c : After-shrink_shared_capacity g)
+    → capacity_of g.B.BitBlock.width (shared_capacity g.B.BitBlock.width (vec_capacity c.shrink_shared_capacity.new.blocks) (vec_capacity c.shrink_shared_capacity.new.summary)) ≤ c.args.self.now.capacity
+lowered g c = rw (capacity_from_view _ _ _ c.self.view_is)
+    (capacity_le g.B.BitBlock.width _ _ (shared_le g.B.BitBlock.width _ _ _ _ c.shrink_shared_capacity.ensures.capacity c.shrink_shared_capacity.ensures.summary_capacity))
 
 pub invariant_of-self : goal.invariant_of-self
 invariant_of-self g c = rw (c.shrink_shared_capacity.ensures.items, c.shrink_shared_capacity.ensures.summary) c.self.invariant
@@ -31,7 +33,9 @@ returns g c =
     let shrunk = c.shrink_shared_capacity in
     let count = blocks_for w c.self.inside.len in
     let shared : ℕ = shared_capacity w (vec_capacity shrunk.new.blocks) (vec_capacity shrunk.new.summary) in
-    let enough : length c.self.inside.blocks.items ≤ shared = shared_enough w (vec_capacity shrunk.new.blocks) (vec_capacity shrunk.new.summary) (length c.self.inside.blocks.items) g.met.B.BitBlock.width_law.positive shrunk.ensures.holds (omega (arith, shrunk.ensures.holds_summary, stored_length _ _ _ _ _ c.self.invariant.summary)) in
+    let enough : length c.self.inside.blocks.items ≤ shared = shared_enough w (vec_capacity shrunk.new.blocks) (vec_capacity shrunk.new.summary)
+    (length c.self.inside.blocks.items) g.met.B.BitBlock.width_law.positive shrunk.ensures.holds
+    (omega (arith, shrunk.ensures.holds_summary, stored_length _ _ _ _ _ c.self.invariant.summary)) in
     let least = capacity_le w count shared (omega (arith, enough, c.self.invariant.packed.count)) in
     record {
       values = rw shrunk.ensures.items (ap (λ v. v.values) c.self.view_is);
@@ -56,6 +60,8 @@ returns-then-capacity-saturating_mul g c =
       fits = c.capacity.ensures.fits;
       empty = λ none.
           let none_left = c.shrink_shared_capacity.ensures.empty (none_stored _ _ _ _ _ _ _ _ g.met.B.BitBlock.width_law.positive c.self.invariant c.self.view_is none).0 in
-          let capacity : c.capacity.result ≡ capacity_of w 0 = c.capacity.ensures.value ∙ ap (capacity_of w) (let shared : shared_capacity w (vec_capacity c.shrink_shared_capacity.new.blocks) (vec_capacity c.shrink_shared_capacity.new.summary) ≡ 0 = omega (arith, none_left) in shared) in
+          let capacity : c.capacity.result ≡ capacity_of w 0 = c.capacity.ensures.value
+          ∙ ap (capacity_of w)
+          (let shared : shared_capacity w (vec_capacity c.shrink_shared_capacity.new.blocks) (vec_capacity c.shrink_shared_capacity.new.summary) ≡ 0 = omega (arith, none_left) in shared) in
           absurd (omega (arith, capacity));
     }

@@ -13,7 +13,8 @@ many g c = let long = c.is_short.ensures.long c.if-is_short.false in omega (arit
 pub returns-in_err-i-clause-first : goal.returns-in_err-i-clause-first
 returns-in_err-i-clause-first g c =
     let ms = map g.B.BitBlock.number c.self.inside.blocks.items in
-    rw c.from_residual.ensures (finds_from_same (value_at g.B.BitBlock.width ms) (λ i. get_or c.args.self.now.values i false) 0 None (λ i. sym (value_in_view _ _ _ ms _ c.self.view_is c.self.invariant.packed.tail i)) (rw c.deref.ensures.value at c.in_err-i.ensures))
+    rw c.from_residual.ensures
+    (finds_from_same (value_at g.B.BitBlock.width ms) (λ i. get_or c.args.self.now.values i false) 0 None (λ i. sym (value_in_view _ _ _ ms _ c.self.view_is c.self.invariant.packed.tail i)) (rw c.deref.ensures.value at c.in_err-i.ensures))
 
 pub returns-in_err-i-clause-values : goal.returns-in_err-i-clause-values
 returns-in_err-i-clause-values g c = rw c.from_residual.ensures refl
@@ -36,7 +37,8 @@ invariant_of-self g c =
     let short = c.is_short.ensures.short c.if-is_short.true in
     let in_place = c.replace_bit-was.ensures.in_place in
     record {
-      packed = replaced_packed g.B.BitBlock.width c.self.inside.len c.in_ok-i.i g.B.BitBlock.number g.B.BitBlock.is_block c.self.inside.blocks c.replace_bit-was.new.blocks _ (true_within _ _ _ _ c.self.invariant.packed.tail found.passes) c.self.invariant.packed c.replace_bit-was.ensures.value in_place;
+      packed = replaced_packed g.B.BitBlock.width c.self.inside.len c.in_ok-i.i g.B.BitBlock.number g.B.BitBlock.is_block c.self.inside.blocks c.replace_bit-was.new.blocks _
+          (true_within _ _ _ _ c.self.invariant.packed.tail found.passes) c.self.invariant.packed c.replace_bit-was.ensures.value in_place;
       summary = keeps_none _ _ _ _ _ (omega (arith, short, in_place.len)) (c.self.invariant.summary.short (omega (arith, short)));
       start = λ long. absurd (omega (arith, long, short, in_place.len));
     }
@@ -44,7 +46,8 @@ invariant_of-self g c =
 pub returns-then-is_short-clause-first : goal.returns-then-is_short-clause-first
 returns-then-is_short-clause-first g c =
     let ms = map g.B.BitBlock.number c.self.inside.blocks.items in
-    finds_from_same (value_at g.B.BitBlock.width ms) (λ i. get_or c.args.self.now.values i false) 0 (Some c.in_ok-i.i) (λ i. sym (value_in_view _ _ _ ms _ c.self.view_is c.self.invariant.packed.tail i)) (rw c.deref.ensures.value at c.in_ok-i.ensures)
+    finds_from_same (value_at g.B.BitBlock.width ms) (λ i. get_or c.args.self.now.values i false) 0 (Some c.in_ok-i.i)
+    (λ i. sym (value_in_view _ _ _ ms _ c.self.view_is c.self.invariant.packed.tail i)) (rw c.deref.ensures.value at c.in_ok-i.ensures)
 
 pub returns-then-is_short-clause-values : goal.returns-then-is_short-clause-values
 returns-then-is_short-clause-values g c =
@@ -56,10 +59,12 @@ pub returns-then-is_short-clause-capacity : goal.returns-then-is_short-clause-ca
 returns-then-is_short-clause-capacity g c = same_capacity _ _ _ _ _ _ c.replace_bit-was.ensures.in_place.capacity refl (ap (λ v. v.capacity) c.self.view_is)
 
 -- where each block of the summary from the start on is 0, no value is true
-none : (g : Over) (c : Else-is_short g) → ((q : ℕ) → c.self.inside.search_start ≤ q → get_or (map g.B.BitBlock.number c.self.inside.summary.items) q 0 ≡ 0) → (i : ℕ) → value_at g.B.BitBlock.width (map g.B.BitBlock.number c.self.inside.blocks.items) i ≡ false
+none : (g : Over) (c : Else-is_short g) → ((q : ℕ) → c.self.inside.search_start ≤ q → get_or (map g.B.BitBlock.number c.self.inside.summary.items) q 0 ≡ 0) → (i : ℕ)
+    → value_at g.B.BitBlock.width (map g.B.BitBlock.number c.self.inside.blocks.items) i ≡ false
 none g c zeros =
     let long = many g c in
-    no_chunk g.B.BitBlock.width g.B.BitBlock.number g.B.BitBlock.is_block c.self.inside.blocks.items c.self.inside.summary.items g.met.B.BitBlock.width_law.positive (c.self.invariant.summary.long long) c.self.inside.search_start (λ x is. (g.met.B.BitBlock.number_law x is).0) c.self.invariant.packed.each (c.self.invariant.start long) zeros
+    no_chunk g.B.BitBlock.width g.B.BitBlock.number g.B.BitBlock.is_block c.self.inside.blocks.items c.self.inside.summary.items g.met.B.BitBlock.width_law.positive
+    (c.self.invariant.summary.long long) c.self.inside.search_start (λ x is. (g.met.B.BitBlock.number_law x is).0) c.self.invariant.packed.each (c.self.invariant.start long) zeros
 
 pub invariant_of-self-in_default : goal.invariant_of-self-in_default
 invariant_of-self-in_default g c = record {
@@ -86,7 +91,9 @@ take_first_of_chunk-requires g c =
     record {
       each = c.self.invariant.packed.each;
       summary = c.self.invariant.summary.long long;
-      first = first_chunk g.B.BitBlock.width g.B.BitBlock.number g.B.BitBlock.is_block c.self.inside.blocks.items c.self.inside.summary.items g.met.B.BitBlock.width_law.positive (c.self.invariant.summary.long long) c.self.inside.search_start _ (λ x is. (g.met.B.BitBlock.number_law x is).0) c.self.invariant.packed.each (c.self.invariant.start long) (rw c.deref-2.ensures.value at c.in-Some.ensures);
+      first = first_chunk g.B.BitBlock.width g.B.BitBlock.number g.B.BitBlock.is_block c.self.inside.blocks.items c.self.inside.summary.items g.met.B.BitBlock.width_law.positive
+          (c.self.invariant.summary.long long) c.self.inside.search_start _ (λ x is. (g.met.B.BitBlock.number_law x is).0) c.self.invariant.packed.each (c.self.invariant.start long)
+          (rw c.deref-2.ensures.value at c.in-Some.ensures);
       fits = value_fits _ _ _ c.self.invariant.packed.tail c.self.invariant.packed.fits;
     }
 
@@ -97,24 +104,29 @@ invariant_of-self-2 g c =
     let long = many g (goal.at.invariant_of-self-2 g c).Else-is_short in
     let taken = c.take_first_of_chunk.ensures in
     let is = c.self.invariant.summary.long long in
-    let first = first_chunk w f g.B.BitBlock.is_block c.self.inside.blocks.items c.self.inside.summary.items g.met.B.BitBlock.width_law.positive is c.self.inside.search_start _ (λ x is. (g.met.B.BitBlock.number_law x is).0) c.self.invariant.packed.each (c.self.invariant.start long) (rw c.deref-2.ensures.value at c.in-Some.ensures) in
+    let first = first_chunk w f g.B.BitBlock.is_block c.self.inside.blocks.items c.self.inside.summary.items g.met.B.BitBlock.width_law.positive is c.self.inside.search_start _
+    (λ x is. (g.met.B.BitBlock.number_law x is).0) c.self.invariant.packed.each (c.self.invariant.start long) (rw c.deref-2.ensures.value at c.in-Some.ensures) in
     record {
-      packed = replaced_packed w c.self.inside.len c.take_first_of_chunk.result f g.B.BitBlock.is_block c.self.inside.blocks c.take_first_of_chunk.new.blocks _ (true_within _ _ _ _ c.self.invariant.packed.tail taken.first.passes) c.self.invariant.packed taken.value taken.in_place;
+      packed = replaced_packed w c.self.inside.len c.take_first_of_chunk.result f g.B.BitBlock.is_block c.self.inside.blocks c.take_first_of_chunk.new.blocks _
+          (true_within _ _ _ _ c.self.invariant.packed.tail taken.first.passes) c.self.invariant.packed taken.value taken.in_place;
       summary = keeps_all _ _ _ _ _ (omega (arith, long, taken.in_place.len)) taken.summary;
       start = λ _.
-          false_before_written w c.take_first_of_chunk.result _ c.in-Some.chunk c.in-Some.chunk false (map f c.self.inside.blocks.items) _ refl taken.value (omega arith) (λ one. absurd (true≢false (sym one)))
+          false_before_written w c.take_first_of_chunk.result _ c.in-Some.chunk c.in-Some.chunk false (map f c.self.inside.blocks.items) _ refl taken.value (omega arith)
+          (λ one. absurd (true≢false (sym one)))
           (false_before_chunk w f g.B.BitBlock.is_block c.self.inside.blocks.items c.self.inside.summary.items g.met.B.BitBlock.width_law.positive is c.in-Some.chunk first);
     }
 
 pub returns-clause-first : goal.returns-clause-first
 returns-clause-first g c =
     let ms = map g.B.BitBlock.number c.self.inside.blocks.items in
-    finds_from_same (value_at g.B.BitBlock.width ms) (λ i. get_or c.args.self.now.values i false) 0 (Some c.take_first_of_chunk.result) (λ i. sym (value_in_view _ _ _ ms _ c.self.view_is c.self.invariant.packed.tail i)) c.take_first_of_chunk.ensures.first
+    finds_from_same (value_at g.B.BitBlock.width ms) (λ i. get_or c.args.self.now.values i false) 0 (Some c.take_first_of_chunk.result)
+    (λ i. sym (value_in_view _ _ _ ms _ c.self.view_is c.self.invariant.packed.tail i)) c.take_first_of_chunk.ensures.first
 
 pub returns-clause-values : goal.returns-clause-values
 returns-clause-values g c =
     let taken = c.take_first_of_chunk.ensures in
-    values_of-set _ _ _ _ _ _ (true_within _ _ _ _ c.self.invariant.packed.tail taken.first.passes) taken.value.same taken.value.others ∙ ap (λ v. set v.values c.take_first_of_chunk.result false) c.self.view_is
+    values_of-set _ _ _ _ _ _ (true_within _ _ _ _ c.self.invariant.packed.tail taken.first.passes) taken.value.same taken.value.others
+    ∙ ap (λ v. set v.values c.take_first_of_chunk.result false) c.self.view_is
 
 pub returns-clause-capacity : goal.returns-clause-capacity
 returns-clause-capacity g c =

@@ -29,7 +29,8 @@ invariant_of-self g c = record {
   summary = rw c.deref.ensures.value at c.cut_summary.ensures.summary;
   start = λ many.
       let le = blocks_for-le g.B.BitBlock.width c.args.n c.self.inside.len g.met.B.BitBlock.width_law.positive (omega arith) in
-      false_before_less _ _ _ _ (cut_less _ _ _ _ c.truncate_bits.ensures.kept c.truncate_bits.ensures.packed.tail) (c.self.invariant.start (omega (arith, many, le, c.truncate_bits.ensures.packed.count, c.self.invariant.packed.count)));
+      false_before_less _ _ _ _ (cut_less _ _ _ _ c.truncate_bits.ensures.kept c.truncate_bits.ensures.packed.tail)
+      (c.self.invariant.start (omega (arith, many, le, c.truncate_bits.ensures.packed.count, c.self.invariant.packed.count)));
 }
 
 pub returns-clause-capacity : goal.returns-clause-capacity
@@ -46,4 +47,7 @@ cut_summary-requires-clause-before g c = λ long k.
     let f = g.B.BitBlock.number in
     rw c.deref.ensures.value (λ before.
     (c.self.invariant.summary.long (omega (arith, long))).digit k
-    ∙ kept_use w c.args.n k (map f c.self.inside.blocks.items) (map f c.truncate_bits.new.blocks.items) g.met.B.BitBlock.width_law.positive (numbers_below w f _ _ (λ x is. (g.met.B.BitBlock.number_law x is).0) c.self.invariant.packed.each k) (numbers_below w f _ _ (λ x is. (g.met.B.BitBlock.number_law x is).0) c.truncate_bits.ensures.packed.each k) c.truncate_bits.ensures.kept (omega (arith, before, c.truncate_bits.ensures.packed.count)))
+    ∙ kept_use w c.args.n k (map f c.self.inside.blocks.items) (map f c.truncate_bits.new.blocks.items) g.met.B.BitBlock.width_law.positive
+    (numbers_below w f _ _ (λ x is. (g.met.B.BitBlock.number_law x is).0) c.self.invariant.packed.each k)
+    (numbers_below w f _ _ (λ x is. (g.met.B.BitBlock.number_law x is).0) c.truncate_bits.ensures.packed.each k) c.truncate_bits.ensures.kept
+    (omega (arith, before, c.truncate_bits.ensures.packed.count)))

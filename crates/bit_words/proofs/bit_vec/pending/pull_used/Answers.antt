@@ -10,7 +10,8 @@ returns-in-Some g c =
     let pulled = c.in-Some.ensures.steps in
     record {
       of_block = c.clear_from.ensures.of_block;
-      digits = CoversUsed-stored g.B.BitBlock.width g.B.BitBlock.number g.B.BitBlock.is_block c.args.start c.args.end (g.B.BitBlock.number c.clear_from.result) c.in-Some.used c.args.blocks.now c.args.summary.now.left c.next-pulled.new.self.left c.requires.in_bounds pulled.item c.requires.stored c.clear_from.ensures.digits;
+      digits = CoversUsed-stored g.B.BitBlock.width g.B.BitBlock.number g.B.BitBlock.is_block c.args.start c.args.end
+          (g.B.BitBlock.number c.clear_from.result) c.in-Some.used c.args.blocks.now c.args.summary.now.left c.next-pulled.new.self.left c.requires.in_bounds pulled.item c.requires.stored c.clear_from.ensures.digits;
       left = sym (ap (drop 1) pulled.item);
       pulls = pulled.counted;
     }
@@ -26,7 +27,9 @@ returns-in-NonzeroPastZero g c =
     let pulled = c.in_default.ensures.steps in
     record {
       of_block = c.clear_from-in-NonzeroPastZero.ensures.of_block;
-      digits = CoversUsed-exact g.B.BitBlock.width g.B.BitBlock.number g.B.BitBlock.is_block c.args.start c.args.end (g.B.BitBlock.number c.used_from.result) (g.B.BitBlock.number c.clear_from-in-NonzeroPastZero.result) c.args.blocks.now c.requires.in_bounds (λ j within _. c.used_from.ensures.digits j within) c.clear_from-in-NonzeroPastZero.ensures.digits;
+      digits = CoversUsed-exact g.B.BitBlock.width g.B.BitBlock.number g.B.BitBlock.is_block c.args.start c.args.end (g.B.BitBlock.number c.used_from.result)
+          (g.B.BitBlock.number c.clear_from-in-NonzeroPastZero.result) c.args.blocks.now c.requires.in_bounds
+          (λ j within _. c.used_from.ensures.digits j within) c.clear_from-in-NonzeroPastZero.ensures.digits;
       left = pulled.item.1 ∙ sym (ap (drop 1) pulled.item.0);
       pulls = pulled.counted;
     }
@@ -36,7 +39,8 @@ returns-in_default-unstored g c =
     let pulled = c.in_default.ensures.steps in
     record {
       of_block = c.ones_for.ensures.of_block;
-      digits = CoversUsed-all g.B.BitBlock.width g.B.BitBlock.number g.B.BitBlock.is_block c.args.start c.args.end (g.B.BitBlock.number c.ones_for.result) c.args.blocks.now c.requires.in_bounds c.ones_for.ensures.digits;
+      digits = CoversUsed-all g.B.BitBlock.width g.B.BitBlock.number g.B.BitBlock.is_block c.args.start c.args.end
+          (g.B.BitBlock.number c.ones_for.result) c.args.blocks.now c.requires.in_bounds c.ones_for.ensures.digits;
       left = pulled.item.1 ∙ sym (ap (drop 1) pulled.item.0);
       pulls = pulled.counted;
     }

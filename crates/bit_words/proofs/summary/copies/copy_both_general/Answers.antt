@@ -34,7 +34,8 @@ returns-clause-summary g c = c.replace_both.ensures.summary
 pub returns-clause-exact : goal.returns-clause-exact
 returns-clause-exact g c =
     both_on_ok c.replace_both.result (λ first second.
-    shared_whole g.B.BitBlock.width (length c.args.from.now) _ _ g.met.B.BitBlock.width_law.positive first (second ∙ c.requires.count) ∙ capacity_raised _ _ (c.have_capacity.ensures.no c.if-have_capacity.false)) c.replace_both.ensures.capacity c.replace_both.ensures.summary_capacity
+    shared_whole g.B.BitBlock.width (length c.args.from.now) _ _ g.met.B.BitBlock.width_law.positive first (second ∙ c.requires.count)
+    ∙ capacity_raised _ _ (c.have_capacity.ensures.no c.if-have_capacity.false)) c.replace_both.ensures.capacity c.replace_both.ensures.summary_capacity
 
 pub returns-clause-err : goal.returns-clause-err
 returns-clause-err g c = c.replace_both.ensures.err

@@ -12,7 +12,6 @@ loop-j-preserved g c =
     record {
       has = merged_more _ _ _ _ start (start + j) (start + (j + 1)) (start + j) (start + j + 1) _ _ _ _ (omega arith) (omega arith) refl (omega arith) c.loop-j.invariant.has one;
       says = says_more _ _ _ start j _ _ _ (says_kept _ _ _ start j _ _ _ one.before c.loop-j.invariant.says) c.with_one_if-digits.ensures.of_block (c.with_one_if-digits.ensures.same ∙ used) c.with_one_if-digits.ensures.others;
-      steps = omega arith;
     }
 
 pub merge_block-merged-requires-clause-can : goal.merge_block-merged-requires-clause-can
@@ -23,6 +22,3 @@ returns-clause-has g c = let end : c.loop-j.j ≡ c.args.count = omega arith in 
 
 pub returns-clause-says : goal.returns-clause-says
 returns-clause-says g c = let end : c.loop-j.j ≡ c.args.count = omega arith in rw end at c.loop-j.invariant.says
-
-pub returns-clause-steps : goal.returns-clause-steps
-returns-clause-steps g c = let end : c.loop-j.j ≡ c.args.count = omega arith in rw end at c.loop-j.invariant.steps

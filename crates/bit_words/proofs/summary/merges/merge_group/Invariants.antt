@@ -1,11 +1,10 @@
-use Rattle.std.proofs.Common.{◌≡◌, ◌+◌, map}
-use Rattle.bit_blocks.specs.BlockMerges.{other_at, HasMerged}
+use Rattle.std.proofs.Common.{◌≡◌, ◌+◌}
+use Rattle.bit_blocks.specs.BlockMerges.{HasMerged}
 use Rattle.bit_words.specs.Summary.{SaysUsed}
 use Rattle.bit_words.proofs.summary.merges.merge_group.Given as goal
 
 abbrev pub invariant-loop-j : goal.invariant-loop-j
 invariant-loop-j g l = record {
-  has : HasMerged g.O.Operation.merge g.B.BitBlock.width g.B.BitBlock.number g.B.BitBlock.is_block l.start (l.start + l.j) (other_at (map g.B.BitBlock.number l.others)) l.fn.blocks l.blocks;
+  has : HasMerged g.O.Operation.merge g.B.BitBlock.width g.B.BitBlock.number g.B.BitBlock.is_block l.start (l.start + l.j) (g.S.Others.digit l.others) l.fn.blocks l.blocks;
   says : SaysUsed g.B.BitBlock.width g.B.BitBlock.number g.B.BitBlock.is_block l.blocks l.start l.j l.digits;
-  steps : l.steps ≡ l.fn.steps + l.j;
 }

@@ -11,7 +11,6 @@ loop-group-preserved g c =
     record {
       has = merged_more _ _ _ _ start (start + index) (start + (c.loop-group.group + 1) * 32) (start + index) (start + index + 32) _ _ _ _ (omega arith) (omega arith) refl (omega arith) c.loop-group.invariant.has some;
       says = says_group _ _ _ start (start + index) index 32 _ _ _ _ _ _ refl (omega arith) (says_kept _ _ _ start index _ _ _ some.before c.loop-group.invariant.says) c.merge_group-more.ensures.says c.shift_left.ensures.of_digits c.block_or-digits.ensures.of_digits c.block_or-digits.ensures.of_block;
-      steps = omega arith;
     }
 
 pub merge_group-more-requires-clause-can : goal.merge_group-more-requires-clause-can
@@ -22,6 +21,3 @@ returns-clause-has g c = let end : c.loop-group.group ≡ c.args.groups = omega 
 
 pub returns-clause-says : goal.returns-clause-says
 returns-clause-says g c = let end : c.loop-group.group ≡ c.args.groups = omega arith in rw end at c.loop-group.invariant.says
-
-pub returns-clause-steps : goal.returns-clause-steps
-returns-clause-steps g c = let end : c.loop-group.group ≡ c.args.groups = omega arith in rw end at c.loop-group.invariant.steps

@@ -23,4 +23,5 @@ returns-clause-last g c = λ some none.
     let xs = c.args.blocks.now in
     let end = c.min-end.result in
     let most = length-take end xs in
-    c.used_blocks-2.ensures.last some (front_read g.B.BitBlock.width g.B.BitBlock.number g.B.BitBlock.is_block xs end (c.used_blocks-2.result - 1) (omega (arith, some, most, c.used_blocks-2.ensures.within)) ∙ none)
+    c.used_blocks-2.ensures.last some
+    (front_read g.B.BitBlock.width g.B.BitBlock.number g.B.BitBlock.is_block xs end (c.used_blocks-2.result - 1) (omega (arith, some, most, c.used_blocks-2.ensures.within)) ∙ none)

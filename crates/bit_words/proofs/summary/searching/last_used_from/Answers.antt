@@ -9,9 +9,11 @@ last_one-requires-clause-fits g c = λ i.
 
 pub returns-else-is_short : goal.returns-else-is_short
 returns-else-is_short g c =
-    finds_before_below (value_at g.B.BitBlock.width (map g.B.BitBlock.number c.args.summary.now)) (λ j. is_used (map g.B.BitBlock.number c.args.blocks.now) (c.args.start + j)) _ _ (λ j below. c.requires.stored.digit (c.is_short.ensures.long c.if-is_short.false) j (omega (arith, below, c.requires.within))) c.last_one.ensures
+    finds_before_below (value_at g.B.BitBlock.width (map g.B.BitBlock.number c.args.summary.now)) (λ j. is_used (map g.B.BitBlock.number c.args.blocks.now) (c.args.start + j)) _ _
+    (λ j below. c.requires.stored.digit (c.is_short.ensures.long c.if-is_short.false) j (omega (arith, below, c.requires.within))) c.last_one.ensures
 
 pub returns-then-is_short : goal.returns-then-is_short
 returns-then-is_short g c =
     let number = g.B.BitBlock.number in
-    finds_before_same (is_used (map number c.split_at.result.1.now)) (λ j. is_used (map number c.args.blocks.now) (c.args.start + j)) _ _ (λ j. ap (λ ys. is_used (map number ys) j) c.split_at.ensures.back ∙ ap (λ m. not (m == 0)) (dropped number c.args.start j c.args.blocks.now)) c.last_used.ensures
+    finds_before_same (is_used (map number c.split_at.result.1.now)) (λ j. is_used (map number c.args.blocks.now) (c.args.start + j)) _ _
+    (λ j. ap (λ ys. is_used (map number ys) j) c.split_at.ensures.back ∙ ap (λ m. not (m == 0)) (dropped number c.args.start j c.args.blocks.now)) c.last_used.ensures

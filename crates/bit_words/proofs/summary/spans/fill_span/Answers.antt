@@ -30,7 +30,8 @@ merge_span-requires-2-clause-within g c =
     let w = g.B.BitBlock.width in
     let pos = g.met.B.BitBlock.width_law.positive in
     let long = c.is_short.ensures.long c.if-is_short.false in
-    let enough : length c.args.blocks.now.items ≤ vec_len c.args.summary.now * w = rw c.args.summary.now.ok.0 (stored_enough w _ _ _ _ pos c.requires.summary (omega (arith, long, c.merge_span.ensures.in_place.len))) in
+    let enough : length c.args.blocks.now.items ≤ vec_len c.args.summary.now * w = rw c.args.summary.now.ok.0
+    (stored_enough w _ _ _ _ pos c.requires.summary (omega (arith, long, c.merge_span.ensures.in_place.len))) in
     omega (arith, enough, in_list w (c.args.end - 1) c.args.end (vec_len c.args.blocks.now) _ pos (omega arith) c.requires.within c.args.blocks.now.ok.0, c.block_index-last.ensures)
 
 pub merge_span-requires-2-clause-each : goal.merge_span-requires-2-clause-each
@@ -38,7 +39,8 @@ merge_span-requires-2-clause-each g c = stored_each _ _ _ _ _ c.requires.summary
 
 pub update_summary_at-requires-clause-in_bounds : goal.update_summary_at-requires-clause-in_bounds
 update_summary_at-requires-clause-in_bounds g c =
-    rw (c.deref.ensures.value, c.block_index-first.ensures) (in_list g.B.BitBlock.width c.args.start c.args.end (vec_len c.args.blocks.now) _ g.met.B.BitBlock.width_law.positive c.requires.some c.requires.within (omega (arith, c.merge_span.ensures.in_place.len)))
+    rw (c.deref.ensures.value, c.block_index-first.ensures)
+    (in_list g.B.BitBlock.width c.args.start c.args.end (vec_len c.args.blocks.now) _ g.met.B.BitBlock.width_law.positive c.requires.some c.requires.within (omega (arith, c.merge_span.ensures.in_place.len)))
 
 pub update_summary_at-requires-clause-each : goal.update_summary_at-requires-clause-each
 update_summary_at-requires-clause-each g c = c.merge_span-2.ensures.in_place.each
@@ -48,7 +50,8 @@ update_summary_at-requires-clause-blocks g c = rw c.deref.ensures.value c.merge_
 
 pub update_summary_at-requires-2-clause-in_bounds : goal.update_summary_at-requires-2-clause-in_bounds
 update_summary_at-requires-2-clause-in_bounds g c =
-    rw (c.deref-2.ensures.value, c.block_index-last.ensures) (in_list g.B.BitBlock.width (c.args.end - 1) c.args.end (vec_len c.args.blocks.now) _ g.met.B.BitBlock.width_law.positive (omega arith) c.requires.within (omega (arith, c.merge_span.ensures.in_place.len)))
+    rw (c.deref-2.ensures.value, c.block_index-last.ensures)
+    (in_list g.B.BitBlock.width (c.args.end - 1) c.args.end (vec_len c.args.blocks.now) _ g.met.B.BitBlock.width_law.positive (omega arith) c.requires.within (omega (arith, c.merge_span.ensures.in_place.len)))
 
 pub update_summary_at-requires-2-clause-each : goal.update_summary_at-requires-2-clause-each
 update_summary_at-requires-2-clause-each g c = c.update_summary_at.ensures.in_place.each
@@ -79,11 +82,13 @@ in_summary g c i below =
 
 pub update_summary_at-requires-clause-in_summary : goal.update_summary_at-requires-clause-in_summary
 update_summary_at-requires-clause-in_summary g c =
-    rw c.block_index-first.ensures (omega (arith, c.merge_span-2.ensures.in_place.len, in_summary g (goal.at.update_summary_at-requires-clause-in_summary g c).After-merge_span-2 c.args.start c.requires.some))
+    rw c.block_index-first.ensures
+    (omega (arith, c.merge_span-2.ensures.in_place.len, in_summary g (goal.at.update_summary_at-requires-clause-in_summary g c).After-merge_span-2 c.args.start c.requires.some))
 
 pub update_summary_at-requires-2-clause-in_summary : goal.update_summary_at-requires-2-clause-in_summary
 update_summary_at-requires-2-clause-in_summary g c =
-    rw c.block_index-last.ensures (omega (arith, c.merge_span-2.ensures.in_place.len, c.update_summary_at.ensures.in_place.len, in_summary g (goal.at.update_summary_at-requires-2-clause-in_summary g c).After-merge_span-2 (c.args.end - 1) (omega arith)))
+    rw c.block_index-last.ensures
+    (omega (arith, c.merge_span-2.ensures.in_place.len, c.update_summary_at.ensures.in_place.len, in_summary g (goal.at.update_summary_at-requires-2-clause-in_summary g c).After-merge_span-2 (c.args.end - 1) (omega arith)))
 
 pub returns-clause-summary : goal.returns-clause-summary
 returns-clause-summary g c =

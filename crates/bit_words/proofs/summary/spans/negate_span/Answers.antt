@@ -27,7 +27,8 @@ summarize_span-requires-clause-in_blocks g c =
 pub summarize_span-requires-clause-in_summary : goal.summarize_span-requires-clause-in_summary
 summarize_span-requires-clause-in_summary g c =
     let at = (goal.at.summarize_span-requires-clause-in_summary g c).After-block_index-last in
-    let enough : length c.args.blocks.now.items ≤ vec_len c.args.summary.now * g.B.BitBlock.width = rw c.args.summary.now.ok.0 (stored_enough g.B.BitBlock.width _ _ _ _ g.met.B.BitBlock.width_law.positive c.requires.summary (many g at)) in
+    let enough : length c.args.blocks.now.items ≤ vec_len c.args.summary.now * g.B.BitBlock.width = rw c.args.summary.now.ok.0
+    (stored_enough g.B.BitBlock.width _ _ _ _ g.met.B.BitBlock.width_law.positive c.requires.summary (many g at)) in
     omega (arith, enough, in_list g at)
 
 pub returns-clause-summary : goal.returns-clause-summary

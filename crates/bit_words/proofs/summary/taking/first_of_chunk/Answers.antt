@@ -17,4 +17,5 @@ first_of_block-requires-2-clause-used g c = (block g (goal.at.first_of_block-req
 
 pub returns : goal.returns
 returns g c =
-    first_of_first g.B.BitBlock.width _ _ (map g.B.BitBlock.number c.args.blocks.now) g.met.B.BitBlock.width_law.positive (block g (goal.at.returns g c).After-first_of_block) c.first_of_block-2.ensures
+    first_of_first g.B.BitBlock.width _ _ (map g.B.BitBlock.number c.args.blocks.now) g.met.B.BitBlock.width_law.positive
+    (block g (goal.at.returns g c).After-first_of_block) c.first_of_block-2.ensures

@@ -4,9 +4,11 @@ use Rattle.bit_words.proofs.StartLemmas.{lowest_left}
 use Rattle.bit_words.proofs.summary.taking.take_first_of_block.{Given.Over, Goals.After-bits}
 use Rattle.bit_words.proofs.summary.taking.take_first_of_block.Goals as goal
 
-found : (g : Over) (c : After-bits g) → IsFirstFrom (value_at g.B.BitBlock.width (map g.B.BitBlock.number c.args.blocks.now.items)) (c.args.k * g.B.BitBlock.width) (c.args.k * c.bits.result + c.take_lowest_one-index.result)
+found : (g : Over) (c : After-bits g)
+    → IsFirstFrom (value_at g.B.BitBlock.width (map g.B.BitBlock.number c.args.blocks.now.items)) (c.args.k * g.B.BitBlock.width) (c.args.k * c.bits.result + c.take_lowest_one-index.result)
 found g c =
-    first_of_whole g.B.BitBlock.width (map g.B.BitBlock.number c.args.blocks.now.items) c.args.k _ c.bits.result c.take_lowest_one-index.result (rw c.deref.ensures.value at c.block_at-block.ensures.of_number) c.bits.ensures c.take_lowest_one-index.ensures.within c.take_lowest_one-index.ensures.lowest
+    first_of_whole g.B.BitBlock.width (map g.B.BitBlock.number c.args.blocks.now.items) c.args.k _ c.bits.result c.take_lowest_one-index.result
+    (rw c.deref.ensures.value at c.block_at-block.ensures.of_number) c.bits.ensures c.take_lowest_one-index.ensures.within c.take_lowest_one-index.ensures.lowest
 
 pub overflow_mul-result : goal.overflow_mul-result
 overflow_mul-result g c = omega (arith, c.requires.fits _ (found g (goal.at.overflow_mul-result g c).After-bits).passes)
@@ -23,5 +25,6 @@ returns-clause-of_block g c = rw c.bits.ensures (div-mul-add c.args.k g.B.BitBlo
 pub returns-clause-value : goal.returns-clause-value
 returns-clause-value g c =
     let taken = c.take_lowest_one-index in
-    lowest_left g.B.BitBlock.width c.args.k c.bits.result taken.result _ _ _ (map g.B.BitBlock.number c.args.blocks.now.items) _ _ g.met.B.BitBlock.width_law.positive c.bits.ensures taken.ensures.within (rw length-map (omega arith))
+    lowest_left g.B.BitBlock.width c.args.k c.bits.result taken.result _ _ _
+    (map g.B.BitBlock.number c.args.blocks.now.items) _ _ g.met.B.BitBlock.width_law.positive c.bits.ensures taken.ensures.within (rw length-map (omega arith))
     (rw c.deref.ensures.value at c.block_at-block.ensures.of_number) c.put_block.ensures.numbers taken.ensures.lowest taken.ensures.cleared (λ one. absurd (true≢false (sym one))) (λ _. refl)

@@ -81,14 +81,17 @@ returns-clause-capacity g c = c.put_block.ensures.in_place.capacity
 
 pub returns-clause-first : goal.returns-clause-first
 returns-clause-first g c =
-    first_of_first g.B.BitBlock.width _ _ (map g.B.BitBlock.number c.args.blocks.now.items) g.met.B.BitBlock.width_law.positive (block g (goal.at.returns-clause-first g c).After-take_lowest_one) c.take_first_of_block-i.ensures.first
+    first_of_first g.B.BitBlock.width _ _ (map g.B.BitBlock.number c.args.blocks.now.items) g.met.B.BitBlock.width_law.positive
+    (block g (goal.at.returns-clause-first g c).After-take_lowest_one) c.take_first_of_block-i.ensures.first
 
 -- the bit of that block in the summary is left where the block is not 0 now
-left : (g : Over) (c : After-put_block g) → WritesValue g.B.BitBlock.width (map g.B.BitBlock.number c.args.summary.now.items) (map g.B.BitBlock.number c.put_block.new.blocks.items) (c.args.chunk * c.bits.result + c.take_lowest_one.result) c.is_nonzero.result
+left : (g : Over) (c : After-put_block g)
+    → WritesValue g.B.BitBlock.width (map g.B.BitBlock.number c.args.summary.now.items) (map g.B.BitBlock.number c.put_block.new.blocks.items) (c.args.chunk * c.bits.result + c.take_lowest_one.result) c.is_nonzero.result
 left g c =
     let f = g.B.BitBlock.number in
     let taken = c.take_lowest_one in
-    lowest_left g.B.BitBlock.width c.args.chunk c.bits.result taken.result _ _ _ (map f c.args.summary.now.items) _ _ g.met.B.BitBlock.width_law.positive c.bits.ensures taken.ensures.within (grind (arith, c.requires.first.here, get_or_past))
+    lowest_left g.B.BitBlock.width c.args.chunk c.bits.result taken.result _ _ _ (map f c.args.summary.now.items) _ _ g.met.B.BitBlock.width_law.positive c.bits.ensures taken.ensures.within
+    (grind (arith, c.requires.first.here, get_or_past))
     (rw c.deref.ensures.value at c.block_at-used.ensures.of_number) c.put_block.ensures.numbers taken.ensures.lowest taken.ensures.cleared
     (elim c.if-is_nonzero.branch [ then-is_nonzero w ↦ λ one. ap f w.left-is | else-is_nonzero w ↦ λ one. absurd (true≢false (sym one ∙ w.if-is_nonzero.false)) ])
     (elim c.if-is_nonzero.branch [ then-is_nonzero w ↦ λ none. absurd (true≢false (sym w.if-is_nonzero.true ∙ none)) | else-is_nonzero w ↦ λ none. ap f w.left-is ])
@@ -99,4 +102,5 @@ returns-clause-summary g c =
     let taken = c.take_first_of_block-i.ensures in
     let number = rw c.deref-2.ensures.value at c.block_at.ensures.of_number in
     changed_summary g.B.BitBlock.width c.take_first_of_block-i.result _ false c.is_nonzero.result g.B.BitBlock.number g.B.BitBlock.is_block c.args.blocks.now c.take_first_of_block-i.new.blocks c.args.summary.now c.put_block.new.blocks g.met.B.BitBlock.width_law.positive (λ x is. (g.met.B.BitBlock.number_law x is).0)
-    c.requires.each (sym taken.of_block) (inside g at.After-take_lowest_one) taken.value taken.in_place c.requires.summary (c.is_nonzero.ensures ∙ ap (λ m. not (m == 0)) number) (left g at.After-put_block) c.put_block.ensures.in_place
+    c.requires.each (sym taken.of_block) (inside g at.After-take_lowest_one) taken.value taken.in_place c.requires.summary (c.is_nonzero.ensures ∙ ap (λ m. not (m == 0)) number)
+    (left g at.After-put_block) c.put_block.ensures.in_place

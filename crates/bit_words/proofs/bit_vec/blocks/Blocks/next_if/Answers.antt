@@ -1,4 +1,5 @@
-use Rattle.std.proofs.{Common.{ℕ, ◌≡◌, ◌+◌, ◌<◌, ◌≤◌, ◌∙◌, Bool, true, false, not, None, Some, List, [], ◌∷◌, get_or, drop, length, sym, ap, ap₂, arith}, lemmas.{Bool.true≢false, List.{length-drop, get_or-drop, drop_all}}}
+use Rattle.std.proofs.Common.{ℕ, ◌≡◌, ◌+◌, ◌<◌, ◌≤◌, ◌∙◌, Bool, true, false, not, None, Some, List, [], ◌∷◌, get_or, drop, length, sym, ap, ap₂, arith}
+use Rattle.std.proofs.lemmas.{Bool.true≢false, List.{length-drop, get_or-drop, drop_all}}
 use Rattle.std.{proofs.lemmas.List.drop_more, specs.Bool.then_some}
 use Rattle.bit_words.proofs.bit_vec.blocks.Blocks.next_if.{Given.Over, Goals.{Joined-wanted, then-wanted, else-wanted, then-wanted-2, else-wanted-2}}
 use Rattle.bit_words.proofs.bit_vec.blocks.Blocks.next_if.Goals as goal
@@ -8,7 +9,8 @@ use mir.Val.{bool_byte}
 joined : (g : Over) (c : Joined-wanted g) → (c.if-wanted.self-inside.at ≡ c.self.inside.at) × (c.if-wanted.self-inside.blocks.now ≡ c.self.inside.blocks.now)
     × (c.args.wanted ≡ true → c.if-wanted.self-inside.steps ≡ c.self.inside.steps + 1) × (c.args.wanted ≡ false → c.if-wanted.self-inside ≡ c.self.inside)
 joined g c = elim c.if-wanted.branch [
-  | then-wanted w ↦ (ap (λ s. s.at) w.self-inside-is, ap (λ s. s.blocks.now) w.self-inside-is, λ on. ap (λ s. s.steps) w.self-inside-is ∙ w.tick.ensures, λ off. absurd (true≢false (sym w.if-wanted.true ∙ off)))
+  | then-wanted w ↦
+      (ap (λ s. s.at) w.self-inside-is, ap (λ s. s.blocks.now) w.self-inside-is, λ on. ap (λ s. s.steps) w.self-inside-is ∙ w.tick.ensures, λ off. absurd (true≢false (sym w.if-wanted.true ∙ off)))
   | else-wanted w ↦ (ap (λ s. s.at) w.self-inside-is, ap (λ s. s.blocks.now) w.self-inside-is, λ on. absurd (true≢false (sym on ∙ w.if-wanted.false)), λ off. w.self-inside-is)
 ]
 
@@ -23,12 +25,14 @@ returns g c =
     let i = c.if-wanted.self-inside.at in
     let xs = c.if-wanted.self-inside.blocks.now in
     let given : c.args.wanted ≡ true → c.if-wanted-2.result ≡ c.in-Some.next.now = elim c.if-wanted-2.branch [ then-wanted-2 w ↦ λ on. w.result-is | else-wanted-2 w ↦ λ on. absurd (true≢false (sym on ∙ w.if-wanted-2.false)) ] in
-    let zero : c.args.wanted ≡ false → g.B.BitBlock.is_block c.if-wanted-2.result × (g.B.BitBlock.number c.if-wanted-2.result ≡ 0) = elim c.if-wanted-2.branch [ then-wanted-2 w ↦ λ off. absurd (true≢false (sym w.if-wanted-2.true ∙ off)) | else-wanted-2 w ↦ λ off. rw w.result-is (w.zero-else-wanted-2.ensures.of_block, w.zero-else-wanted-2.ensures.of_number) ] in
+    let zero : c.args.wanted ≡ false → g.B.BitBlock.is_block c.if-wanted-2.result ×
+    (g.B.BitBlock.number c.if-wanted-2.result ≡ 0) = elim c.if-wanted-2.branch [ then-wanted-2 w ↦ λ off. absurd (true≢false (sym w.if-wanted-2.true ∙ off)) | else-wanted-2 w ↦ λ off. rw w.result-is (w.zero-else-wanted-2.ensures.of_block, w.zero-else-wanted-2.ensures.of_number) ] in
     record {
       pulled = λ on.
           let one : c.from.result ≡ 1 = c.from.ensures ∙ ap bool_byte on in
           record {
-            item = rw (given on) (sym (ap (λ s. s.left) c.self.view_is) ∙ sym (ap₂ drop at blocks) ∙ sym c.as_slice.ensures ∙ from_first i c.from.result xs c.as_slice.result.now _ c.as_slice.ensures c.in-Some.ensures.item.3.0 c.in-Some.ensures.item.1 one);
+            item = rw (given on)
+                (sym (ap (λ s. s.left) c.self.view_is) ∙ sym (ap₂ drop at blocks) ∙ sym c.as_slice.ensures ∙ from_first i c.from.result xs c.as_slice.result.now _ c.as_slice.ensures c.in-Some.ensures.item.3.0 c.in-Some.ensures.item.1 one);
             counted = omega (arith, counted on, ap (λ s. s.pulls) c.self.view_is);
           };
       zeros = λ off. zero off;

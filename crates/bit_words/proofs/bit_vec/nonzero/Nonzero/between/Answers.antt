@@ -1,7 +1,8 @@
 use Rattle.std.proofs.Common.{◌≡◌, ℕ, ◌+◌, ◌-◌, ◌*◌, ◌/◌, ◌<◌, ◌≤◌, ◌++◌, All, not, ◌==◌, Bool, true, false, drop, length, min, max, take_all, refl, sym, ap, ap₂, subst, ◌∙◌, arith}
 use Rattle.std.proofs.lemmas.{Bool.Decides.nat_tests, List.Elements.All-get_or, Option.{get_or_from_slice_get, slice_get_within}}
 use Rattle.bit_blocks.{specs.Bits.blocks_for, proofs.{BitsLemmas.blocks_for-le, UseLemmas.packed_blocks, VectorLemmas.length_from_view}}
-use Rattle.bit_words.{specs.{Nonzero.nonzero_from, Pending.{left_from, next_at}}, proofs.{CutLemmas.{IsSplitAt, split-with, split-without}, GrowthLemmas.stored_within_capacity, LastLemmas.{IsPending-cut_at, left-cut_at}, PendingLemmas.summary_left-cut}}
+use Rattle.bit_words.specs.{Nonzero.nonzero_from, Pending.{left_from, next_at}}
+use Rattle.bit_words.proofs.{CutLemmas.{IsSplitAt, split-with, split-without}, GrowthLemmas.stored_within_capacity, LastLemmas.{IsPending-cut_at, left-cut_at}, PendingLemmas.summary_left-cut}
 use Rattle.bit_words.proofs.bit_vec.nonzero.Nonzero.between.Goals.{After-clear_from-block, After-keep_before, then-may_have, else-may_have}
 use Rattle.bit_words.proofs.bit_vec.nonzero.Nonzero.between.Goals as goal
 use mir.Val.{bool_byte}
@@ -11,7 +12,8 @@ one_if_some true m is = grind (arith, nat_tests, is)
 one_if_some false m is = grind (arith, nat_tests, is)
 
 -- what is left before the last block, of it and past it
-parts : (g : _) (c : After-keep_before g) → IsSplitAt g.B.BitBlock.number (next_at g.B.BitBlock.width c.after-pending.result.index (g.B.BitBlock.number c.after-pending.result.bits)) c.args.last c.after-pending.result.end c.min-end.result (g.B.BitBlock.number c.if-may_have.whole) c.as_slice-blocks.result.now
+parts : (g : _) (c : After-keep_before g)
+    → IsSplitAt g.B.BitBlock.number (next_at g.B.BitBlock.width c.after-pending.result.index (g.B.BitBlock.number c.after-pending.result.bits)) c.args.last c.after-pending.result.end c.min-end.result (g.B.BitBlock.number c.if-may_have.whole) c.as_slice-blocks.result.now
 parts g c =
     let w = g.B.BitBlock.width in
     let number = g.B.BitBlock.number in
@@ -19,8 +21,10 @@ parts g c =
     let is = c.after-pending.ensures.walk.hand in
     let to = c.min-end.ensures ∙ ap (λ n. min n it.end) c.max.ensures in
     elim c.if-may_have.branch [
-      | then-may_have b ↦ rw b.whole-is (split-with number w g.B.BitBlock.is_block it.index it.end c.args.last c.min-end.result b.at-whole.result it.bits c.as_slice-blocks.result.now is to (grind (arith, c.may_have.ensures.left, b.if-may_have.true)) b.at-whole.ensures)
-      | else-may_have b ↦ rw (b.whole-is, b.zero-whole.ensures.of_number) (split-without number w g.B.BitBlock.is_block it.index it.end c.args.last c.min-end.result it.bits c.as_slice-blocks.result.now is to (c.may_have.ensures.out b.if-may_have.false))
+      | then-may_have b ↦ rw b.whole-is
+          (split-with number w g.B.BitBlock.is_block it.index it.end c.args.last c.min-end.result b.at-whole.result it.bits c.as_slice-blocks.result.now is to (grind (arith, c.may_have.ensures.left, b.if-may_have.true)) b.at-whole.ensures)
+      | else-may_have b ↦ rw (b.whole-is, b.zero-whole.ensures.of_number)
+          (split-without number w g.B.BitBlock.is_block it.index it.end c.args.last c.min-end.result it.bits c.as_slice-blocks.result.now is to (c.may_have.ensures.out b.if-may_have.false))
     ]
 
 pub after-pending-requires-clause-inside : goal.after-pending-requires-clause-inside
@@ -42,14 +46,16 @@ clear_from-block-requires g c =
     ]
 
 -- what is left is what was before the last block
-same : (g : _) (c : After-keep_before g) → left_from g.B.BitBlock.number (next_at g.B.BitBlock.width c.keep_before.new.self.index (g.B.BitBlock.number c.keep_before.new.self.bits)) c.keep_before.new.self.end c.as_slice-blocks.result.now
+same : (g : _) (c : After-keep_before g)
+    → left_from g.B.BitBlock.number (next_at g.B.BitBlock.width c.keep_before.new.self.index (g.B.BitBlock.number c.keep_before.new.self.bits)) c.keep_before.new.self.end c.as_slice-blocks.result.now
     ≡ left_from g.B.BitBlock.number (next_at g.B.BitBlock.width c.after-pending.result.index (g.B.BitBlock.number c.after-pending.result.bits)) c.min-end.result c.as_slice-blocks.result.now
 same g c =
     let w = g.B.BitBlock.width in
     let number = g.B.BitBlock.number in
     let it = c.after-pending.result in
     ap₂ (λ index end. left_from number (next_at w index (number c.keep_before.new.self.bits)) end c.as_slice-blocks.result.now) c.keep_before.ensures.index c.keep_before.ensures.end
-    ∙ left-cut_at w number g.B.BitBlock.is_block it.index it.end c.min-end.result it.bits c.keep_before.new.self.bits c.as_slice-blocks.result.now c.after-pending.ensures.walk.hand (omega (arith, c.min-end.ensures)) c.keep_before.ensures.digits
+    ∙ left-cut_at w number g.B.BitBlock.is_block it.index it.end c.min-end.result it.bits c.keep_before.new.self.bits c.as_slice-blocks.result.now c.after-pending.ensures.walk.hand
+    (omega (arith, c.min-end.ensures)) c.keep_before.ensures.digits
 
 pub returns-clause-blocks : goal.returns-clause-blocks
 returns-clause-blocks g c =
@@ -62,7 +68,8 @@ pub returns-clause-summary : goal.returns-clause-summary
 returns-clause-summary g c =
     let made = c.after-pending.ensures in
     let new = c.keep_before.new.self in
-    summary_left-cut g.B.BitBlock.width (c.args.first / g.B.BitBlock.width) c.args.last new.index new.end g.met.B.BitBlock.width_law.positive (c.keep_before.ensures.index ∙ made.index) (omega (arith, c.keep_before.ensures.end, c.min-end.ensures, c.max.ensures, c.keep_before.ensures.index))
+    summary_left-cut g.B.BitBlock.width (c.args.first / g.B.BitBlock.width) c.args.last new.index new.end g.met.B.BitBlock.width_law.positive (c.keep_before.ensures.index ∙ made.index)
+    (omega (arith, c.keep_before.ensures.end, c.min-end.ensures, c.max.ensures, c.keep_before.ensures.index))
 
 pub returns-clause-cut : goal.returns-clause-cut
 returns-clause-cut g c =
@@ -79,7 +86,8 @@ returns-clause-cut g c =
     let all : nonzero_from number next (drop next xs) ≡ left_from number (next_at w it.index (number it.bits)) it.end xs =
     sym (made.left ∙ ap (λ n. left_from number next n xs) made.end ∙ ap (λ ys. nonzero_from number next (drop next ys)) (take_all (length xs) xs (omega arith))) in
     let before = ap (λ n. blocks_for w (n - (it.index + w))) made.end ∙ made.count in
-    let most = blocks_for-le w (new.end - (new.index + w)) (it.end - (it.index + w)) g.met.B.BitBlock.width_law.positive (omega (arith, c.keep_before.ensures.end, c.keep_before.ensures.index, c.min-end.ensures)) in
+    let most = blocks_for-le w (new.end - (new.index + w)) (it.end - (it.index + w)) g.met.B.BitBlock.width_law.positive
+    (omega (arith, c.keep_before.ensures.end, c.keep_before.ensures.index, c.min-end.ensures)) in
     record {
       at = split.at;
       past = split.past;
@@ -90,7 +98,8 @@ returns-clause-cut g c =
       entry = split.entry;
       digit = c.clear_from-block.ensures.digits;
       same = refl;
-      counted = let one = one_if_some c.is_nonzero.result (number c.clear_from-block.result) c.is_nonzero.ensures in omega (arith, c.tick_by.ensures, c.tick.ensures, c.new-steps.ensures, c.from.ensures, one);
+      counted = let one = one_if_some c.is_nonzero.result
+          (number c.clear_from-block.result) c.is_nonzero.ensures in omega (arith, c.tick_by.ensures, c.tick.ensures, c.new-steps.ensures, c.from.ensures, one);
       summary = c.keep_before.ensures.pulls ∙ made.pulls;
       summary_left = omega (arith, most, before);
     }

@@ -22,7 +22,8 @@ invariant_of-self g c =
     let empty = stored_ended w number is_block start end xs it.pending.summary.left c.self.invariant.stored past in
     record {
       hand = c.self.invariant.hand;
-      stored = subst (IsStoredFrom w number is_block start end xs) (empty ∙ sym (none_past_end it.pending.summary.left c.next-end.new.self.left c.next-end.result c.next-end.ensures.steps.item empty)) c.self.invariant.stored;
+      stored = subst (IsStoredFrom w number is_block start end xs)
+          (empty ∙ sym (none_past_end it.pending.summary.left c.next-end.new.self.left c.next-end.result c.next-end.ensures.steps.item empty)) c.self.invariant.stored;
     }
 
 pub returns : goal.returns

@@ -48,7 +48,8 @@ ones_of-requires g c =
     let lowest = c.take_lowest_one.ensures in
     let all = left-ones_split g.B.BitBlock.width g.B.BitBlock.number is_block at c.take_lowest_one.result _ _ _ lowest.lowest lowest.within (ap (λ walk. walk.left) c.self.view_is) in
     rw (c.split_at-3.ensures.back, chunk_is g (goal.at.ones_of-requires g c).After-first_blocks) (record {
-      each = All-drop is_block c.take_lowest_one.result _ (All-take is_block g.B.BitBlock.width (drop at ys) (All-drop is_block at ys (All-take is_block c.self.inside.pending.end c.self.inside.blocks.now c.self.invariant.hand.each)));
+      each = All-drop is_block c.take_lowest_one.result _
+          (All-take is_block g.B.BitBlock.width (drop at ys) (All-drop is_block at ys (All-take is_block c.self.inside.pending.end c.self.inside.blocks.now c.self.invariant.hand.each)));
       fits = omega (arith, all, c.requires.fits);
     })
 
@@ -57,9 +58,12 @@ both : (g : Over) (c : After-ones_of g) → c.ones_by_summary-ones.result + c.on
 both g c =
     let number = g.B.BitBlock.number in
     let lowest = c.take_lowest_one.ensures in
-    let all = left-ones_split g.B.BitBlock.width number g.B.BitBlock.is_block c.self.inside.pending.index c.take_lowest_one.result _ _ _ lowest.lowest lowest.within (ap (λ walk. walk.left) c.self.view_is) in
-    let rest = c.ones_by_summary-ones.ensures ∙ ap (ones_in number) (c.first_blocks.ensures.rest ∙ ap (drop g.B.BitBlock.width) (c.split_at-2.ensures.back ∙ ap (drop c.self.inside.pending.index) c.split_at.ensures.front)) in
-    let chunk = c.ones_of.ensures ∙ ap (ones_in number) (c.split_at-3.ensures.back ∙ ap (drop c.take_lowest_one.result) (c.first_blocks.ensures.first ∙ ap (take g.B.BitBlock.width) (c.split_at-2.ensures.back ∙ ap (drop c.self.inside.pending.index) c.split_at.ensures.front))) in
+    let all = left-ones_split g.B.BitBlock.width number g.B.BitBlock.is_block c.self.inside.pending.index c.take_lowest_one.result _ _ _ lowest.lowest lowest.within
+    (ap (λ walk. walk.left) c.self.view_is) in
+    let rest = c.ones_by_summary-ones.ensures
+    ∙ ap (ones_in number) (c.first_blocks.ensures.rest ∙ ap (drop g.B.BitBlock.width) (c.split_at-2.ensures.back ∙ ap (drop c.self.inside.pending.index) c.split_at.ensures.front)) in
+    let chunk = c.ones_of.ensures ∙ ap (ones_in number)
+    (c.split_at-3.ensures.back ∙ ap (drop c.take_lowest_one.result) (c.first_blocks.ensures.first ∙ ap (take g.B.BitBlock.width) (c.split_at-2.ensures.back ∙ ap (drop c.self.inside.pending.index) c.split_at.ensures.front))) in
     omega (arith, all, rest, chunk)
 
 pub overflow_add-result : goal.overflow_add-result
@@ -87,4 +91,5 @@ split_at-requires-3 g c =
     let lowest = c.take_lowest_one.ensures in
     let ys = take it.pending.end it.blocks.now in
     let inside = c.self.invariant.hand.inside i lowest.within (is_one-bit 1 (g.B.BitBlock.number it.pending.bits) i lowest.lowest.one) in
-    rw (chunk_is g (goal.at.split_at-requires-3 g c).After-first_blocks) (omega (arith, inside, c.self.invariant.hand.ends, lowest.within, length-take g.B.BitBlock.width (drop it.pending.index ys), length-drop it.pending.index ys, length-take it.pending.end it.blocks.now))
+    rw (chunk_is g (goal.at.split_at-requires-3 g c).After-first_blocks)
+    (omega (arith, inside, c.self.invariant.hand.ends, lowest.within, length-take g.B.BitBlock.width (drop it.pending.index ys), length-drop it.pending.index ys, length-take it.pending.end it.blocks.now))

@@ -69,7 +69,8 @@ returns g c = record {
     end =
         let is = c.self.view_is in
         let pulls = ap (λ v. v.pulls) is in
-        pulled_last_end c.args.self.now c.take_last.new.self _ c.in_default.ensures.steps (ap (λ v. v.blocks) is) (ap (λ v. v.left) is) (omega (arith, c.tick.ensures, pulls)) (ap (λ v. v.summary_pulls) is) (ap (λ v. v.summary_left) is);
+        pulled_last_end c.args.self.now c.take_last.new.self _ c.in_default.ensures.steps (ap (λ v. v.blocks) is) (ap (λ v. v.left) is) (omega (arith, c.tick.ensures, pulls))
+        (ap (λ v. v.summary_pulls) is) (ap (λ v. v.summary_left) is);
     other_used_up = grind (arith, nat_tests, c.is_nonzero-2.ensures, c.if-is_nonzero-2.false);
     hand_stays = refl;
     other_stays = refl;

@@ -6,9 +6,11 @@ use Rattle.bit_words.proofs.{SkipLemmas.{IsPastChunk, past_chunk}, bit_vec.nonze
 use Rattle.bit_words.proofs.bit_vec.nonzero.Nonzero.skip_chunk.Goals as goal
 
 -- the chunk, and what is past it
-past : (g : Over) (c : After-first_blocks g) → IsPastChunk g.B.BitBlock.width g.B.BitBlock.number g.B.BitBlock.is_block c.self.inside.pending.index c.self.inside.pending.end c.self.inside.pending.bits c.in_ok-next_chunk.field-0 c.self.inside.blocks.now c.self.inside.pending.summary.left
+past : (g : Over) (c : After-first_blocks g)
+    → IsPastChunk g.B.BitBlock.width g.B.BitBlock.number g.B.BitBlock.is_block c.self.inside.pending.index c.self.inside.pending.end c.self.inside.pending.bits c.in_ok-next_chunk.field-0 c.self.inside.blocks.now c.self.inside.pending.summary.left
 past g c =
-    past_chunk g.B.BitBlock.width g.B.BitBlock.number g.B.BitBlock.is_block _ _ _ _ _ _ g.met.B.BitBlock.width_law.positive (λ x is. (g.met.B.BitBlock.number_law x is).0) c.self.invariant c.in_ok-next_chunk.ensures
+    past_chunk g.B.BitBlock.width g.B.BitBlock.number g.B.BitBlock.is_block _ _ _ _ _ _ g.met.B.BitBlock.width_law.positive
+    (λ x is. (g.met.B.BitBlock.number_law x is).0) c.self.invariant c.in_ok-next_chunk.ensures
 
 -- its ones are some of those that are left
 counted : (g : Over) (c : After-first_blocks g) → ones_in g.B.BitBlock.number c.first_blocks.result.0.now ≡ ones_left g.B.BitBlock.number (past g c).chunk
@@ -17,7 +19,8 @@ counted g c =
     let start = ap (λ b. c.self.inside.pending.index + b) c.bits-2.ensures in
     ap (ones_in g.B.BitBlock.number) (c.first_blocks.ensures.first ∙ ap (take w) (c.split_at.ensures.back ∙ ap (λ p. drop p c.self.inside.blocks.now) start)) ∙ sym (past g c).ones
 
-parts : (g : Over) (c : After-first_blocks g) → c.args.self.now.left ≡ (past g c).chunk ++ left_from g.B.BitBlock.number (next_at g.B.BitBlock.width (c.self.inside.pending.index + g.B.BitBlock.width) (g.B.BitBlock.number c.self.inside.pending.bits)) c.self.inside.pending.end c.self.inside.blocks.now
+parts : (g : Over) (c : After-first_blocks g)
+    → c.args.self.now.left ≡ (past g c).chunk ++ left_from g.B.BitBlock.number (next_at g.B.BitBlock.width (c.self.inside.pending.index + g.B.BitBlock.width) (g.B.BitBlock.number c.self.inside.pending.bits)) c.self.inside.pending.end c.self.inside.blocks.now
 parts g c = sym (ap (λ v. v.left) c.self.view_is) ∙ (past g c).split
 
 pub ones_of-ones-requires-clause-fits : goal.ones_of-ones-requires-clause-fits

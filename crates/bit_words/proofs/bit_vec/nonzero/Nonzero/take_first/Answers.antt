@@ -12,7 +12,8 @@ lawful : (g : Over) (c : After-at-block g) → g.B.BitBlock.is_block c.at-block.
 lawful g c =
     let x = c.at-block.result in
     let k = c.in-Some.k in
-    subst g.B.BitBlock.is_block (get_or_from_slice_get c.loop-k.self-inside.blocks.now k x x c.at-block.ensures) (c.loop-k.invariant.walk.hand.each k x (omega (arith, c.in-Some.ensures.found.inside, c.in-Some.ensures.walk.hand.ends)))
+    subst g.B.BitBlock.is_block (get_or_from_slice_get c.loop-k.self-inside.blocks.now k x x c.at-block.ensures)
+    (c.loop-k.invariant.walk.hand.each k x (omega (arith, c.in-Some.ensures.found.inside, c.in-Some.ensures.walk.hand.ends)))
 
 -- what is pulled of the summary came out of it
 kept : (g : Over) (c : After-at-block g) →
@@ -29,9 +30,11 @@ kept g c =
 item : (g : Over) (c : After-at-block g) (zero : Bool) → (g.B.BitBlock.number c.at-block.result == 0) ≡ zero
     → c.args.self.now.left
     ≡ (if zero then left_from g.B.BitBlock.number (next_at g.B.BitBlock.width c.next_block.new.self.index (g.B.BitBlock.number c.next_block.new.self.bits)) c.next_block.new.self.end c.loop-k.self-inside.blocks.now
-    else (c.in-Some.k, c.at-block.result) ∷ left_from g.B.BitBlock.number (next_at g.B.BitBlock.width c.next_block.new.self.index (g.B.BitBlock.number c.next_block.new.self.bits)) c.next_block.new.self.end c.loop-k.self-inside.blocks.now)
+    else (c.in-Some.k, c.at-block.result) ∷ left_from g.B.BitBlock.number
+    (next_at g.B.BitBlock.width c.next_block.new.self.index (g.B.BitBlock.number c.next_block.new.self.bits)) c.next_block.new.self.end c.loop-k.self-inside.blocks.now)
 item g c zero test =
-    let rest = left_from g.B.BitBlock.number (next_at g.B.BitBlock.width c.next_block.new.self.index (g.B.BitBlock.number c.next_block.new.self.bits)) c.next_block.new.self.end c.loop-k.self-inside.blocks.now in
+    let rest = left_from g.B.BitBlock.number
+    (next_at g.B.BitBlock.width c.next_block.new.self.index (g.B.BitBlock.number c.next_block.new.self.bits)) c.next_block.new.self.end c.loop-k.self-inside.blocks.now in
     let it = c.loop-k.self-inside.pending in
     sym c.loop-k.invariant.same
     ∙ ap (λ end. left_from g.B.BitBlock.number (next_at g.B.BitBlock.width it.index (g.B.BitBlock.number it.bits)) end c.loop-k.self-inside.blocks.now) (sym c.in-Some.ensures.end)

@@ -1,4 +1,5 @@
-use Rattle.std.proofs.{Common.{◌≡◌, ℕ, ◌+◌, ◌-◌, ◌≤◌, Bool, true, false, not, ◌==◌, [], ◌∷◌, ◌++◌, if◌then◌else◌, length, refl, sym, ap, subst, ◌∙◌, arith}, lemmas.{Bool.eqb-false, Option.get_or_from_slice_get}}
+use Rattle.std.proofs.Common.{◌≡◌, ℕ, ◌+◌, ◌-◌, ◌≤◌, Bool, true, false, not, ◌==◌, [], ◌∷◌, ◌++◌, if◌then◌else◌, length, refl, sym, ap, subst, ◌∙◌, arith}
+use Rattle.std.proofs.lemmas.{Bool.eqb-false, Option.get_or_from_slice_get}
 use Rattle.bit_blocks.{specs.Bits.blocks_for, proofs.BitsLemmas.blocks_for-le}
 use Rattle.bit_words.{specs.Pending.{left_from, next_at}, proofs.bit_vec.nonzero.Nonzero.take_last.{Given.Over, Goals.After-at-block}}
 use Rattle.bit_words.proofs.bit_vec.nonzero.Nonzero.take_last.Goals as goal
@@ -12,21 +13,26 @@ lawful : (g : Over) (c : After-at-block g) → g.B.BitBlock.is_block c.at-block.
 lawful g c =
     let x = c.at-block.result in
     let k = c.in-Some.k in
-    subst g.B.BitBlock.is_block (get_or_from_slice_get c.loop-k.self-inside.blocks.now k x x c.at-block.ensures) (c.loop-k.invariant.walk.hand.each k x (omega (arith, c.in-Some.ensures.found.inside, c.loop-k.invariant.walk.hand.ends)))
+    subst g.B.BitBlock.is_block (get_or_from_slice_get c.loop-k.self-inside.blocks.now k x x c.at-block.ensures)
+    (c.loop-k.invariant.walk.hand.each k x (omega (arith, c.in-Some.ensures.found.inside, c.loop-k.invariant.walk.hand.ends)))
 
 -- no more of the summary is to be pulled
 fewer : (g : Over) (c : After-at-block g) → blocks_for g.B.BitBlock.width (c.last_block.new.self.end - (c.last_block.new.self.index + g.B.BitBlock.width)) ≤ c.args.self.now.summary_left
 fewer g c =
     let w = g.B.BitBlock.width in
-    let most = blocks_for-le w (c.last_block.new.self.end - (c.last_block.new.self.index + w)) (c.loop-k.self-inside.pending.end - (c.loop-k.self-inside.pending.index + w)) g.met.B.BitBlock.width_law.positive (omega (arith, c.in-Some.ensures.found.fewer, c.in-Some.ensures.index)) in
+    let most = blocks_for-le w (c.last_block.new.self.end - (c.last_block.new.self.index + w))
+    (c.loop-k.self-inside.pending.end - (c.loop-k.self-inside.pending.index + w)) g.met.B.BitBlock.width_law.positive
+    (omega (arith, c.in-Some.ensures.found.fewer, c.in-Some.ensures.index)) in
     omega (arith, most, c.loop-k.invariant.fewer)
 
 -- it comes, or is 0
 item : (g : Over) (c : After-at-block g) (zero : Bool) → (g.B.BitBlock.number c.at-block.result == 0) ≡ zero →
-    let rest = left_from g.B.BitBlock.number (next_at g.B.BitBlock.width c.last_block.new.self.index (g.B.BitBlock.number c.last_block.new.self.bits)) c.last_block.new.self.end c.loop-k.self-inside.blocks.now in
+    let rest = left_from g.B.BitBlock.number
+    (next_at g.B.BitBlock.width c.last_block.new.self.index (g.B.BitBlock.number c.last_block.new.self.bits)) c.last_block.new.self.end c.loop-k.self-inside.blocks.now in
     c.args.self.now.left ≡ (if zero then rest else rest ++ (c.in-Some.k, c.at-block.result) ∷ [])
 item g c zero test =
-    let left = λ (index : ℕ). left_from g.B.BitBlock.number (next_at g.B.BitBlock.width index (g.B.BitBlock.number c.last_block.new.self.bits)) c.last_block.new.self.end c.loop-k.self-inside.blocks.now in
+    let left = λ (index : ℕ). left_from g.B.BitBlock.number
+    (next_at g.B.BitBlock.width index (g.B.BitBlock.number c.last_block.new.self.bits)) c.last_block.new.self.end c.loop-k.self-inside.blocks.now in
     sym c.loop-k.invariant.same
     ∙ c.in-Some.ensures.found.item c.at-block.result c.at-block.ensures
     ∙ ap (λ b. if b then left c.loop-k.self-inside.pending.index else left c.loop-k.self-inside.pending.index ++ (c.in-Some.k, c.at-block.result) ∷ []) test
@@ -95,6 +101,8 @@ returns-clause-steps g c =
       counted = before.counted;
       summary = c.in_default.ensures.pulls ∙ before.pulled;
       summary_left =
-          let most = blocks_for-le w (c.last_block.new.self.end - (c.last_block.new.self.index + w)) (c.loop-k.self-inside.pending.end - (c.loop-k.self-inside.pending.index + w)) g.met.B.BitBlock.width_law.positive (omega (arith, c.in_default.ensures.found.fewer, c.in_default.ensures.index)) in
+          let most = blocks_for-le w (c.last_block.new.self.end - (c.last_block.new.self.index + w))
+          (c.loop-k.self-inside.pending.end - (c.loop-k.self-inside.pending.index + w)) g.met.B.BitBlock.width_law.positive
+          (omega (arith, c.in_default.ensures.found.fewer, c.in_default.ensures.index)) in
           omega (arith, most, before.fewer);
     }

@@ -4,7 +4,8 @@ use Rattle.bit_words.proofs.bit_vec.pending.Pending.after.{Given.Over, Goals.Aft
 use Rattle.bit_words.proofs.bit_vec.pending.Pending.after.Goals as goal
 
 -- what is stored of the summary from the block for the first one on
-stored : (g : Over) (c : After-over-rest g) → IsStoredFrom g.B.BitBlock.width g.B.BitBlock.number g.B.BitBlock.is_block (c.args.first / g.B.BitBlock.width * g.B.BitBlock.width) (length c.args.blocks.now) c.args.blocks.now c.over-rest.result.left
+stored : (g : Over) (c : After-over-rest g)
+    → IsStoredFrom g.B.BitBlock.width g.B.BitBlock.number g.B.BitBlock.is_block (c.args.first / g.B.BitBlock.width * g.B.BitBlock.width) (length c.args.blocks.now) c.args.blocks.now c.over-rest.result.left
 stored g c =
     let w = g.B.BitBlock.width in
     let pos = g.met.B.BitBlock.width_law.positive in
@@ -12,7 +13,8 @@ stored g c =
     let summary = c.args.summary.now in
     let q = c.args.first / w in
     let all = stored_from_all w g.B.BitBlock.number g.B.BitBlock.is_block xs summary pos c.requires.summary in
-    let there : short_count w < length xs → q ≤ length summary = λ long. let less = (div-lt_iff_lt-mul {k = w} pos).1 (let most : c.args.first < length summary * w = omega (arith, all.enough long, c.requires.inside, long) in most) in omega (arith, less) in
+    let there : short_count w < length xs → q ≤ length summary = λ long. let less = (div-lt_iff_lt-mul {k = w} pos).1
+    (let most : c.args.first < length summary * w = omega (arith, all.enough long, c.requires.inside, long) in most) in omega (arith, less) in
     stored_past w g.B.BitBlock.number g.B.BitBlock.is_block q 0 (q * w) (length xs) xs summary c.over-rest.result.left pos (omega arith) all there
     (c.over-rest.ensures.left
     ∙ c.split_at.ensures.back

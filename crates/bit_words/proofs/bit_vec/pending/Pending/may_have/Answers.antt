@@ -12,5 +12,6 @@ returns-then-digit-bits-clause-left g c past =
 pub returns-else-digit-bits-clause-left : goal.returns-else-digit-bits-clause-left
 returns-else-digit-bits-clause-left g c one =
     let digit = c.args.k - c.args.self.now.index in
-    let reached = λ (is : is_one (g.B.BitBlock.number c.args.self.now.bits) digit ≡ true). first_reached g.B.BitBlock.width g.B.BitBlock.number g.B.BitBlock.is_block (is_one (g.B.BitBlock.number c.args.self.now.bits)) g.B.BitBlock.width digit is in
+    let reached = λ (is : is_one (g.B.BitBlock.number c.args.self.now.bits) digit ≡ true). first_reached g.B.BitBlock.width g.B.BitBlock.number g.B.BitBlock.is_block
+    (is_one (g.B.BitBlock.number c.args.self.now.bits)) g.B.BitBlock.width digit is in
     grind (arith, nat_tests, reached, one, c.has_one_at.ensures, c.if-k-self.false, c.if-k-self-2.false)

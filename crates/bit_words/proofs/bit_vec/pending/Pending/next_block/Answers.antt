@@ -2,7 +2,8 @@ use Rattle.std.proofs.{Common.{◌≡◌, ℕ, ◌+◌, ◌-◌, ◌*◌, ◌<�
 use Rattle.std.proofs.lemmas.Bool.Decides.{nat_tests}
 use Rattle.bit_blocks.{specs.Bits.blocks_for, proofs.Masks.is_one-bit}
 use Rattle.bit_words.{specs.Pending.{IsPending, left_from, next_at}, proofs.NextAtLemmas.next_at-lowest}
-use Rattle.bit_words.proofs.{NextAtLemmas.next_at-zero, PendingLemmas.{IsInHand-taken, IsInHand-zero, count_by, count_past, left-covered, left-ended, left-here, left-taken, stored_past, stored_some, zeros_passed}}
+use Rattle.bit_words.proofs.NextAtLemmas.{next_at-zero}
+use Rattle.bit_words.proofs.PendingLemmas.{IsInHand-taken, IsInHand-zero, count_by, count_past, left-covered, left-ended, left-here, left-taken, stored_past, stored_some, zeros_passed}
 use Rattle.bit_words.proofs.bit_vec.pending.Pending.next_block.{Given.Over, Goals.After-bits}
 use Rattle.bit_words.proofs.bit_vec.pending.Pending.next_block.Goals as goal
 
@@ -113,10 +114,12 @@ loop-self-preserved g c =
           inside = digits.inside;
           covers = λ i j after to one before used. digits.covers j to before used;
         };
-        stored = stored_past w number is_block 1 start (start + w) end xs left c.pull_used-self.new.summary.left pos (omega arith) to.walk.stored (stored_some w number is_block start end xs left to.walk.stored more) pull.left;
+        stored = stored_past w number is_block 1 start (start + w) end xs left c.pull_used-self.new.summary.left pos (omega arith) to.walk.stored
+            (stored_some w number is_block start end xs left to.walk.stored more) pull.left;
       };
       end = before.end;
-      same = before.same ∙ to.same ∙ sym (left-covered w number is_block start start end (number c.pull_used-self.result) xs (omega arith) (omega arith) (λ j below. absurd (omega (arith, below))) (λ j to _ before used. digits.covers j to before used));
+      same = before.same ∙ to.same ∙ sym
+          (left-covered w number is_block start start end (number c.pull_used-self.result) xs (omega arith) (omega arith) (λ j below. absurd (omega (arith, below))) (λ j to _ before used. digits.covers j to before used));
       onward = omega (arith, before.onward, to.at);
       pulled = omega (arith, before.pulled, pull.pulls, c.pass_zero_chunks.ensures.pulls, to.count, count_by w number is_block 1 start (start + w) end pos (omega arith) (omega (arith, more)));
       goes_on = omega (arith, before.goes_on, pull.pulls, c.pass_zero_chunks.ensures.pulls);

@@ -1,9 +1,0 @@
-use Rattle.std.proofs.Common.{◌≡◌, ◌↔◌, false}
-use Rattle.bit_blocks.specs.BlockMerges.{Stay}
-use Rattle.bit_blocks.proofs.packed.changes.stay_past.Given as goal
-
-abbrev pub invariant-loop-k : goal.invariant-loop-k
-invariant-loop-k g l = record {
-  of_block : g.B.BitBlock.is_block l.change;
-  stay : (g.B.BitBlock.number l.change ≡ 0) ↔ Stay g.O.Operation.merge g.B.BitBlock.width g.B.BitBlock.number l.start l.k (λ k j. false) l.blocks;
-}

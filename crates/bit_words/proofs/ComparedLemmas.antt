@@ -1,0 +1,114 @@
+-- Where two lists of blocks differ, run by run of their chunks.
+use Rattle.std.proofs.Common.{◌≡◌, ℕ, ◌+◌, ◌-◌, ◌*◌, ◌/◌, ◌%◌, ◌^◌, ◌<◌, ◌≤◌, ◌==◌, Bool, false, true, not, Option, None, Some, MatchOption, is_some, unwrap_or, div-lt_iff_lt-mul, List, map}
+use Rattle.std.proofs.Common.{drop, take, get_or, length, length-take, sym, ap, ◌∙◌, ⊎_elim, arith}
+use Rattle.std.proofs.lemmas.{Bool.{cases_lt, false≢true}, List.{get_or_past, length-map}, Nat.le-div}
+use Rattle.bit_blocks.specs.{Digits.is_one, Mismatches.IsFirstBlockMismatch, Storage.value_at}
+use Rattle.bit_blocks.proofs.{BitsLemmas.blocks_for-enough, CompareLemmas.digit_from_zero, StorageLemmas.{value_at-is, value_at-past}, UseLemmas.{same_block, zero_from_unused}}
+use Rattle.bit_blocks.proofs.{VectorLemmas.numbers_below, ZeroLemmas.{dropped, front_read}}
+use Rattle.bit_words.specs.Summary.{IsSummary}
+
+module _ {X : Type 0} (w q count : ℕ) (number : X → ℕ) (is_block : X → Type 0) where
+  -- block k of the blocks that `count` chunks from chunk q on have
+  pub run_read : (k : ℕ) (xs rest run : List X) → rest ≡ drop (q * w) xs → run ≡ take (count * w) rest → k < count * w → get_or (map number run) k 0 ≡ get_or (map number xs) (q * w + k) 0
+  run_read k xs rest run from is within =
+      ap (λ ys. get_or (map number ys) k 0) (is ∙ ap (take (count * w)) from)
+      ∙ front_read w number is_block (drop (q * w) xs) (count * w) k within
+      ∙ dropped number (q * w) k xs
+
+  -- past them there is none
+  run_past : (k : ℕ) (rest run : List X) → run ≡ take (count * w) rest → count * w ≤ k → get_or (map number run) k 0 ≡ 0
+  run_past k rest run is past =
+      let few = ap length is ∙ length-take (count * w) rest in
+      get_or_past (map number run) k 0 (omega (arith, few, length-map run number))
+
+  module _ (xs ys rest other_rest run other_run : List X) (from : rest ≡ drop (q * w) xs) (is : run ≡ take (count * w) rest) (other_from : other_rest ≡ drop (q * w) ys)
+      (other_is : other_run ≡ take (count * w) other_rest) (before : (k : ℕ) → k < q * w → get_or (map number xs) k 0 ≡ get_or (map number ys) k 0) where
+    pub same_run : ((k : ℕ) → get_or (map number run) k 0 ≡ get_or (map number other_run) k 0) → (k : ℕ) → k < (q + count) * w → get_or (map number xs) k 0 ≡ get_or (map number ys) k 0
+    same_run same k below =
+        ⊎_elim
+        (before k)
+        (λ (reached : q * w ≤ k).
+        let place : q * w + (k - q * w) ≡ k = omega arith in
+        let end : (q + count) * w ≡ q * w + count * w = omega arith in
+        let within : k - q * w < count * w = omega arith in
+        rw place at (sym (run_read (k - q * w) xs rest run from is within) ∙ same (k - q * w) ∙ run_read (k - q * w) ys other_rest other_run other_from other_is within))
+        (cases_lt k (q * w))
+
+    pub first_run : (k : ℕ) → IsFirstBlockMismatch (map number run) (map number other_run) k → IsFirstBlockMismatch (map number xs) (map number ys) (q * w + k)
+    first_run k first =
+        let within : k < count * w =
+        ⊎_elim
+        (λ below. below)
+        (λ past. absurd (first.here (run_past k rest run is past ∙ sym (run_past k other_rest other_run other_is past))))
+        (cases_lt k (count * w)) in
+        record {
+          below = λ j low.
+              ⊎_elim
+              (before j)
+              (λ (reached : q * w ≤ j).
+              let place : q * w + (j - q * w) ≡ j = omega arith in
+              rw place at (sym (run_read (j - q * w) xs rest run from is (omega arith)) ∙ first.below (j - q * w) (omega arith) ∙ run_read (j - q * w) ys other_rest other_run other_from other_is (omega arith)))
+              (cases_lt j (q * w));
+          here = λ same. first.here (run_read k xs rest run from is within ∙ same ∙ sym (run_read k ys other_rest other_run other_from other_is within));
+        }
+
+-- ---- options
+
+pub from_none : {A : Type 0} (o : Option A) (P : Type 0) (Q : A → Type 0) → is_some o ≡ false → MatchOption o P Q → P
+from_none None P Q is match = match
+from_none (Some x) P Q is match = absurd (false≢true (sym is))
+
+pub for_none : {A : Type 0} (o : Option A) (P R : Type 0) (Q : A → Type 0) → (P → R) → MatchOption o P Q → MatchOption o R Q
+for_none None P R Q more match = more match
+for_none (Some x) P R Q more match = match
+
+-- ---- by summaries
+
+-- what zeros of a summary say
+pub zero_chunks : {X : Type 0} (w q n : ℕ) (number : X → ℕ) (ss rest : List X) → 0 < w → rest ≡ drop q ss → ((j : ℕ) → j < n → get_or (map number rest) j 0 ≡ 0) → (k : ℕ) → q * w ≤ k
+    → k < (q + n) * w → value_at w (map number ss) k ≡ false
+zero_chunks w q n number ss rest pos is zeros k reached below =
+    let first : q ≤ k / w = le-div q k w pos reached in
+    let last : k / w < q + n = (div-lt_iff_lt-mul pos).1 below in
+    let place : q + (k / w - q) ≡ k / w = omega arith in
+    let zero = rw place at (sym (dropped number q (k / w - q) ss) ∙ ap (λ ys. get_or (map number ys) (k / w - q) 0) (sym is) ∙ zeros (k / w - q) (omega arith)) in
+    value_at-is w (map number ss) k ∙ digit_from_zero (get_or (map number ss) (k / w) 0) (k % w) zero
+
+-- a summary has a bit of each block
+pub summary_enough : {X : Type 0} (w : ℕ) (number : X → ℕ) (is_block : X → Type 0) (xs ss : List X) → 0 < w → IsSummary w number is_block xs ss → length xs ≤ length ss * w
+summary_enough w number is_block xs ss pos is =
+    let whole = ap (λ k. k * w) is.packed.count in
+    omega (arith, blocks_for-enough w (length xs) pos, whole)
+
+module _ {X : Type 0} (w : ℕ) (number : X → ℕ) (is_block : X → Type 0) (xs ys ss ts : List X) (pos : 0 < w) (own : IsSummary w number is_block xs ss) (other : IsSummary w number is_block ys ts) where
+  -- blocks of which neither summary has a bit
+  pub both_zero : (k : ℕ) → get_or (map number ss) (k / w) 0 ≡ get_or (map number ts) (k / w) 0 → value_at w (map number ss) k ≡ false → get_or (map number xs) k 0 ≡ get_or (map number ys) k 0
+  both_zero k same none =
+      let also : value_at w (map number ts) k ≡ false = value_at-is w (map number ts) k ∙ ap (λ m. is_one m (k % w)) (sym same) ∙ sym (value_at-is w (map number ss) k) ∙ none in
+      zero_from_unused _ (sym (own.digit k) ∙ none) ∙ sym (zero_from_unused _ (sym (other.digit k) ∙ also))
+
+  -- it is enough to look where a summary reaches
+  pub same_everywhere : ((q : ℕ) → get_or (map number ss) q 0 ≡ get_or (map number ts) q 0) → ((k : ℕ) → k < length ss * w → get_or (map number xs) k 0 ≡ get_or (map number ys) k 0)
+      → (k : ℕ) → get_or (map number xs) k 0 ≡ get_or (map number ys) k 0
+  same_everywhere alike each k =
+      ⊎_elim
+      (each k)
+      (λ past. both_zero k (alike (k / w)) (value_at-past w (map number ss) k (rw length-map (le-div (length ss) k w pos past))))
+      (cases_lt k (length ss * w))
+
+  -- lists of the same blocks have the same summary
+  pub same_summaries : ((x : X) → is_block x → number x < 2 ^ w) → ((k : ℕ) → get_or (map number xs) k 0 ≡ get_or (map number ys) k 0) → (q : ℕ)
+      → get_or (map number ss) q 0 ≡ get_or (map number ts) q 0
+  same_summaries below same q =
+      same_block w (map number ss) (map number ts) q (numbers_below w number is_block ss below own.packed.each q) (numbers_below w number is_block ts below other.packed.each q)
+      (λ j index. own.digit (q * w + j) ∙ ap (λ m. not (m == 0)) (same (q * w + j)) ∙ sym (other.digit (q * w + j)))
+
+pub none_since : (o : Option ℕ) (b : Bool) (ms ns : List ℕ) (P : Type 0) → is_some o ≡ not b → MatchOption o P (IsFirstBlockMismatch ms ns) → ((k : ℕ) → get_or ms k 0 ≡ get_or ns k 0) → b ≡ true
+none_since None b ms ns P is match same = grind arith
+none_since (Some k) b ms ns P is match same = absurd (match.here (same k))
+
+-- up to where they differ, blocks are the same
+pub same_below : (o : Option ℕ) (most end : ℕ) (ms ns : List ℕ) → end ≡ unwrap_or o most → MatchOption o ((k : ℕ) → get_or ms k 0 ≡ get_or ns k 0) (IsFirstBlockMismatch ms ns) → (k : ℕ)
+    → k < end → get_or ms k 0 ≡ get_or ns k 0
+same_below None most end ms ns is match k below = match k
+same_below (Some at) most end ms ns is match k below = match.below k (omega (arith, is))

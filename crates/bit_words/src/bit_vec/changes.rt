@@ -1,0 +1,120 @@
+// Calls that merge one or two other lists into the list in one pass, and say whether it changed.
+ghost use Rattle.std.specs.Prelude.{◌≡◌, ◌≤◌, ◌↔◌, false, length, replicate, take};
+ghost use Rattle.bit_blocks.specs.{Merges.merge_of, declared.block.merge.Merge.Merge};
+
+use crate::bit_vec::BitVec;
+use crate::summary::changes::{become_difference, change_named, unite_common, unite_difference};
+use crate::summary::summarized::{Common, Listed};
+use bit_blocks::block::BitBlock;
+use bit_blocks::block::merge::Merge;
+
+impl<B: BitBlock> BitVec<B> {
+    /// Each value becomes its merge with that of `other`, as [`merge_blocks`](Self::merge_blocks) has it, and whether a
+    /// value changed is returned. The other must not be longer. One pass, and no memory. Blocks are written from
+    /// the first group on of which one changes: that group is read twice.
+    ///
+    /// ```
+    /// // Some value of `other` is true that is not in `bits`.
+    /// assert!(bits.merge_changes(&other, Merge::Union));
+    /// ```
+    #[inline(always)]
+    pub fn merge_changes(&mut self, other: &Self, merge: Merge) -> bool
+        requires { length other.now.values ≤ length self.old.values }
+        ensures values { self.new.values ≡ merge_of merge self.old.values other.now.values }
+        ensures kept { (result ≡ false) ↔ (self.new.values ≡ self.old.values) }
+        ensures capacity { self.new.capacity ≡ self.old.capacity }
+    {
+        self.search_start = 0;
+        change_named(
+            self.blocks.as_mut_slice(),
+            self.summary.as_mut_slice(),
+            &other.blocks,
+            &other.summary,
+            merge,
+        )
+    }
+
+    /// What is true in `other` and not in `except` becomes true, and whether a value changed is returned. The other must
+    /// not be longer; `except` is false past its end, and may be. One pass over the three lists, and no memory. Blocks
+    /// are written from the first group on of which one changes: that group is read twice.
+    ///
+    /// ```
+    /// // live |= live_after & !assigned
+    /// let grew = live.unite_difference(&live_after, &assigned);
+    /// ```
+    pub fn unite_difference(&mut self, other: &Self, except: &Self) -> bool
+        requires { length other.now.values ≤ length self.old.values }
+        ensures values { self.new.values ≡ merge_of Merge.Union self.old.values
+            (merge_of Merge.Difference other.now.values (take (length other.now.values) except.now.values)) }
+        ensures kept { (result ≡ false) ↔ (self.new.values ≡ self.old.values) }
+        ensures capacity { self.new.capacity ≡ self.old.capacity }
+    {
+        self.search_start = 0;
+        unite_difference(
+            self.blocks.as_mut_slice(),
+            self.summary.as_mut_slice(),
+            &other.blocks,
+            &other.summary,
+            &except.blocks,
+            &except.summary,
+        )
+    }
+
+    /// What is true both in `other` and in `also` becomes true, and whether a value changed is returned. `other` must not be
+    /// longer than the list; `also` may be, and is false past its end. One pass, and no memory. Blocks are written from the
+    /// first group on of which one changes: that group is read twice.
+    ///
+    /// ```
+    /// // found |= wanted & at_hand
+    /// let grew = found.unite_intersection(&wanted, &at_hand);
+    /// ```
+    pub fn unite_intersection(&mut self, other: &Self, also: &Self) -> bool
+        requires { length other.now.values ≤ length self.old.values }
+        ensures values { self.new.values ≡ merge_of Merge.Union self.old.values
+            (merge_of Merge.Intersection other.now.values (take (length other.now.values) also.now.values)) }
+        ensures kept { (result ≡ false) ↔ (self.new.values ≡ self.old.values) }
+        ensures capacity { self.new.capacity ≡ self.old.capacity }
+    {
+        self.search_start = 0;
+        let common = Common {
+            first: Listed {
+                blocks: &other.blocks,
+                summary: &other.summary,
+            },
+            second: Listed {
+                blocks: &also.blocks,
+                summary: &also.summary,
+            },
+        };
+        unite_common(
+            self.blocks.as_mut_slice(),
+            self.summary.as_mut_slice(),
+            common,
+        )
+    }
+
+    /// Each value becomes whether it is true in `other` and not in `except`, and whether a value changed is returned. `other`
+    /// must not be longer than the list, whose values past its end become false; `except` may be, and is false past its end.
+    /// One pass over the three lists, and no memory. Blocks are written from the first group on of which one changes: that
+    /// group is read twice, and the summary is then made anew.
+    ///
+    /// ```
+    /// // left = asked & !given
+    /// let differs = left.become_difference(&asked, &given);
+    /// ```
+    pub fn become_difference(&mut self, other: &Self, except: &Self) -> bool
+        requires { length other.now.values ≤ length self.old.values }
+        ensures values { self.new.values ≡ merge_of Merge.Union (replicate (length self.old.values) false)
+            (merge_of Merge.Difference other.now.values (take (length other.now.values) except.now.values)) }
+        ensures kept { (result ≡ false) ↔ (self.new.values ≡ self.old.values) }
+        ensures capacity { self.new.capacity ≡ self.old.capacity }
+    {
+        self.search_start = 0;
+        become_difference(
+            self.blocks.as_mut_slice(),
+            &mut self.summary,
+            &other.blocks,
+            &except.blocks,
+        )
+    }
+}

@@ -1,0 +1,262 @@
+// How many ones the merge of two lists of blocks has. The merge is not made, and where a summary is stored it says which
+// blocks are read.
+ghost use Rattle.std.specs.Prelude.{◌≡◌, ℕ, ◌+◌, ◌*◌, ◌^◌, ◌<◌, ◌≤◌, ◌||◌, All, false, true, length, map, max, min};
+ghost use Rattle.bit_blocks.specs.{Digits.is_one, Merges.merge_of_values, declared.block.merge.Merge.Merge};
+ghost use Rattle.bit_words.specs.{MergedOnes.{merged_ones, CoversMerged}, Summary.IsStoredSummary};
+
+use crate::summary::queries::summary_at;
+use crate::summary::{is_nonzero, is_short};
+use bit_blocks::block::BitBlock;
+use bit_blocks::block::lowest::take_lowest_one;
+use bit_blocks::block::merge::Merge;
+use bit_blocks::block::operation::{Difference, Intersection, Operation, Symmetric, Union};
+use bit_blocks::block::operators::{block_or, same};
+use bit_blocks::packed::access::{block_at, block_count, block_index};
+use bit_blocks::packed::nonzero::block_or_zero;
+
+// Where so many of the blocks of a chunk have to be read, or more, all of them are, in one loop without a branch.
+const MANY: usize = 4;
+
+// The ones of block `k` of the merge. A block past the end of a list is 0.
+#[inline(always)]
+pub(crate) fn ones_at<B: BitBlock, O: Operation>(blocks: &[B], others: &[B], k: usize) -> usize
+    requires each { All B.is_block blocks.now }
+    requires others { All B.is_block others.now }
+    ensures { result
+        ≡ merged_ones O.merge B.width (map B.number blocks.now) (map B.number others.now) k (k + 1) }
+{
+    O::of_blocks(block_or_zero(blocks, k), block_or_zero(others, k)).count_ones()
+}
+
+// The ones of the merge from block `first` on and before block `end`, where both lists have all of these.
+#[inline(always)]
+fn ones_of_both<B: BitBlock, O: Operation>(
+    blocks: &[B],
+    others: &[B],
+    first: usize,
+    end: usize,
+) -> usize
+    requires forward { first ≤ end }
+    requires within { end ≤ length blocks.now }
+    requires within_others { end ≤ length others.now }
+    requires each { All B.is_block blocks.now }
+    requires others { All B.is_block others.now }
+    requires fits { merged_ones O.merge B.width (map B.number blocks.now) (map B.number others.now) first end < 2 ^ 64 }
+    ensures { result ≡ merged_ones O.merge B.width (map B.number blocks.now) (map B.number others.now) first end }
+{
+    let mut ones = 0;
+    for k in first..end {
+        ones += O::of_blocks(block_at(blocks, k), block_at(others, k)).count_ones();
+    }
+    ones
+}
+
+// The same where a list may end before.
+#[inline]
+fn ones_of_either<B: BitBlock, O: Operation>(
+    blocks: &[B],
+    others: &[B],
+    first: usize,
+    end: usize,
+) -> usize
+    requires forward { first ≤ end }
+    requires each { All B.is_block blocks.now }
+    requires others { All B.is_block others.now }
+    requires fits { merged_ones O.merge B.width (map B.number blocks.now) (map B.number others.now) first end < 2 ^ 64 }
+    ensures { result ≡ merged_ones O.merge B.width (map B.number blocks.now) (map B.number others.now) first end }
+{
+    let mut ones = 0;
+    for k in first..end {
+        ones += ones_at::<B, O>(blocks, others, k);
+    }
+    ones
+}
+
+// The ones of the merge from block `start` on, of as many blocks as one has bits. Reads those at which `used` has a 1.
+fn ones_of_used<B: BitBlock, O: Operation>(
+    blocks: &[B],
+    others: &[B],
+    start: usize,
+    used: B,
+) -> usize
+    requires each { All B.is_block blocks.now }
+    requires others { All B.is_block others.now }
+    requires of_block { B.is_block used }
+    requires covers { CoversMerged O.merge B.width (map B.number blocks.now) (map B.number others.now) start
+        (B.number used) }
+    requires fits { merged_ones O.merge B.width (map B.number blocks.now) (map B.number others.now) start
+        (start + B.width) < 2 ^ 64 }
+    ensures { result
+        ≡ merged_ones O.merge B.width (map B.number blocks.now) (map B.number others.now) start (start + B.width) }
+{
+    let mut ones = 0;
+    let mut rest = used;
+    while rest != B::zero() {
+        let index = take_lowest_one(&mut rest);
+        ones += ones_at::<B, O>(blocks, others, start + index);
+    }
+    ones
+}
+
+// Which blocks of a chunk have to be read, where `own` and `other` have a 1 for each that is not 0 in either list.
+#[inline(always)]
+pub(crate) fn may_have_ones<B: BitBlock, O: Operation>(own: B, other: B) -> B
+    requires of_own { B.is_block own }
+    requires of_other { B.is_block other }
+    ensures of_block { B.is_block result }
+    ensures digits { (j : ℕ) → j < B.width → is_one (B.number result) j
+        ≡ (merge_of_values O.merge (is_one (B.number own) j) false
+        || (merge_of_values O.merge false (is_one (B.number other) j)
+        || merge_of_values O.merge (is_one (B.number own) j) (is_one (B.number other) j))) }
+{
+    let zero = B::zero();
+    let alone = block_or(O::of_blocks(zero, other), O::of_blocks(own, other));
+    block_or(O::of_blocks(own, zero), alone)
+}
+
+// The ones of the merge from block `start` on, of as many blocks as one has bits. Those at which `used` has a 0 have none, and
+// `is_whole` says whether both lists have all of these blocks.
+#[inline]
+pub(crate) fn ones_of_chunk<B: BitBlock, O: Operation>(
+    blocks: &[B],
+    others: &[B],
+    start: usize,
+    used: B,
+    is_whole: bool,
+) -> usize
+    requires each { All B.is_block blocks.now }
+    requires others { All B.is_block others.now }
+    requires of_block { B.is_block used }
+    requires covers { CoversMerged O.merge B.width (map B.number blocks.now) (map B.number others.now) start
+        (B.number used) }
+    requires whole { is_whole ≡ true → (start + B.width ≤ length blocks.now) × (start + B.width ≤ length others.now) }
+    requires fits { merged_ones O.merge B.width (map B.number blocks.now) (map B.number others.now) start
+        (start + B.width) < 2 ^ 64 }
+    ensures { result
+        ≡ merged_ones O.merge B.width (map B.number blocks.now) (map B.number others.now) start (start + B.width) }
+{
+    // Most often in a list with few ones.
+    if !is_nonzero(used) {
+        return 0;
+    }
+    let width = B::bits();
+    if is_whole && used.count_ones() >= width / MANY {
+        ones_of_both::<B, O>(blocks, others, start, start + width)
+    } else {
+        ones_of_used::<B, O>(blocks, others, start, used)
+    }
+}
+
+// The ones of the merge of lists of which one stores a summary at least. Passes over chunks of zeros by the summaries.
+#[inline(never)]
+fn ones_of_long<B: BitBlock, O: Operation>(
+    blocks: &[B],
+    summary: &[B],
+    others: &[B],
+    other_summary: &[B],
+) -> usize
+    requires each { All B.is_block blocks.now }
+    requires others { All B.is_block others.now }
+    requires summary { IsStoredSummary B.width B.number B.is_block blocks.now summary.now }
+    requires other_summary { IsStoredSummary B.width B.number B.is_block others.now other_summary.now }
+    requires fits { (n : ℕ)
+        → merged_ones O.merge B.width (map B.number blocks.now) (map B.number others.now) 0 n < 2 ^ 64 }
+    ensures { (n : ℕ) → length blocks.now ≤ n → length others.now ≤ n
+        → result ≡ merged_ones O.merge B.width (map B.number blocks.now) (map B.number others.now) 0 n }
+{
+    let whole = block_index::<B>(blocks.len().min(others.len()));
+    let mut ones = 0;
+    for q in 0..block_count::<B>(blocks.len().max(others.len())) {
+        let own = summary_at(blocks, summary, q);
+        let used = may_have_ones::<B, O>(own, summary_at(others, other_summary, q));
+        ones += ones_of_chunk::<B, O>(blocks, others, q * B::bits(), used, q < whole);
+    }
+    ones
+}
+
+// The ones of the merge past block `both`, the end of the shorter list. That is merged as an empty one, so that the
+// compiler takes out a loop that adds none.
+#[inline(always)]
+fn ones_of_rest<B: BitBlock, O: Operation>(blocks: &[B], others: &[B], both: usize) -> usize
+    requires each { All B.is_block blocks.now }
+    requires others { All B.is_block others.now }
+    requires end { both ≡ min (length blocks.now) (length others.now) }
+    requires fits { merged_ones O.merge B.width (map B.number blocks.now) (map B.number others.now) both
+        (max (length blocks.now) (length others.now)) < 2 ^ 64 }
+    ensures { result ≡ merged_ones O.merge B.width (map B.number blocks.now) (map B.number others.now) both
+        (max (length blocks.now) (length others.now)) }
+{
+    if blocks.len() > both {
+        ones_of_either::<B, O>(blocks, &[], both, blocks.len())
+    } else {
+        ones_of_either::<B, O>(&[], others, both, others.len())
+    }
+}
+
+/// How many ones the merge of two lists of blocks has, of which the shorter goes on with zeros. Reads each block once.
+///
+/// ```
+/// assert_eq!(count_merged_blocks::<_, Union>(&[5u8, 1], &[6]), 4);
+/// ```
+#[inline(always)]
+pub fn count_merged_blocks<B: BitBlock, O: Operation>(blocks: &[B], others: &[B]) -> usize
+    requires each { All B.is_block blocks.now }
+    requires others { All B.is_block others.now }
+    requires fits { merged_ones O.merge B.width (map B.number blocks.now) (map B.number others.now) 0
+        (max (length blocks.now) (length others.now)) < 2 ^ 64 }
+    ensures { result ≡ merged_ones O.merge B.width (map B.number blocks.now) (map B.number others.now) 0
+        (max (length blocks.now) (length others.now)) }
+{
+    let both = blocks.len().min(others.len());
+    ones_of_both::<B, O>(blocks, others, 0, both) + ones_of_rest::<B, O>(blocks, others, both)
+}
+
+// The ones of the merge of lists of any length.
+#[inline(always)]
+fn ones_by<B: BitBlock, O: Operation>(
+    blocks: &[B],
+    summary: &[B],
+    others: &[B],
+    other_summary: &[B],
+) -> usize
+    requires each { All B.is_block blocks.now }
+    requires others { All B.is_block others.now }
+    requires summary { IsStoredSummary B.width B.number B.is_block blocks.now summary.now }
+    requires other_summary { IsStoredSummary B.width B.number B.is_block others.now other_summary.now }
+    requires fits { (n : ℕ)
+        → merged_ones O.merge B.width (map B.number blocks.now) (map B.number others.now) 0 n < 2 ^ 64 }
+    ensures { (n : ℕ) → length blocks.now ≤ n → length others.now ≤ n
+        → result ≡ merged_ones O.merge B.width (map B.number blocks.now) (map B.number others.now) 0 n }
+{
+    if is_short::<B>(blocks.len().max(others.len())) {
+        count_merged_blocks::<B, O>(blocks, others)
+    } else {
+        ones_of_long::<B, O>(blocks, summary, others, other_summary)
+    }
+}
+
+// The ones of the merge that is named. Here it becomes a type.
+#[inline(always)]
+pub(crate) fn ones_of_merge<B: BitBlock>(
+    blocks: &[B],
+    summary: &[B],
+    others: &[B],
+    other_summary: &[B],
+    merge: Merge,
+) -> usize
+    requires each { All B.is_block blocks.now }
+    requires others { All B.is_block others.now }
+    requires summary { IsStoredSummary B.width B.number B.is_block blocks.now summary.now }
+    requires other_summary { IsStoredSummary B.width B.number B.is_block others.now other_summary.now }
+    requires fits { (n : ℕ)
+        → merged_ones merge B.width (map B.number blocks.now) (map B.number others.now) 0 n < 2 ^ 64 }
+    ensures { (n : ℕ) → length blocks.now ≤ n → length others.now ≤ n
+        → result ≡ merged_ones merge B.width (map B.number blocks.now) (map B.number others.now) 0 n }
+{
+    match merge {
+        Merge::Union => ones_by::<B, Union>(blocks, summary, others, other_summary),
+        Merge::Intersection => ones_by::<B, Intersection>(blocks, summary, others, other_summary),
+        Merge::Difference => ones_by::<B, Difference>(blocks, summary, others, other_summary),
+        Merge::Symmetric => ones_by::<B, Symmetric>(blocks, summary, others, other_summary),
+    }
+}
